@@ -1,0 +1,49 @@
+//! A list of words.
+
+ghost use Rattle.std.specs.Prelude.{ℕ, List, [], ◌∷◌, ◌++◌, ◌≡◌, OnOk, OnErr};
+
+use crate::memory::NoMemory;
+use crate::word::Word;
+use std::alloc::Global;
+use std::marker::Model;
+
+/// A list of words that grows at its end, seen as a list of numbers.
+#[derive(Drop)]
+pub struct Words {
+    items: Vec<Word>,
+}
+
+impl Model for Words {
+    ghost use Rattle.std.specs.Prelude.{ℕ, List};
+
+    ghost Value = { List ℕ };
+
+    ghost view = { λ w. w.items.items };
+}
+
+impl Words {
+    /// An empty list.
+    pub fn new(alloc: Global) -> Words
+        ensures { result ≡ [] }
+    {
+        Words {
+            items: Vec::new(alloc),
+        }
+    }
+
+    /// Adds a word at the end. Where no memory is found, nothing changes.
+    pub fn push(&mut self, x: Word) -> Result<(), NoMemory>
+        ensures ok { OnOk result (self.new ≡ self.old ++ x ∷ []) }
+        ensures err { OnErr result (self.new ≡ self.old) }
+    {
+        self.items.push(x)?;
+        Ok(())
+    }
+
+    /// The words in order.
+    pub fn slice(&self) -> &[Word]
+        ensures { result.now ≡ self.now }
+    {
+        self.items.as_slice()
+    }
+}
