@@ -1,0 +1,21 @@
+//! Descriptors of the Honeywell 6180, and the rights that they give.
+//!
+//! A segment is found by its segment descriptor word (SDW), a page by its page table word (PTW), the descriptor
+//! segment by the descriptor segment base register (DBR). Pointer registers and the pairs ITS and ITP name words of
+//! segments. Each is a record that is read from words and written to words, with no bit lost that has a name.
+//!
+//! Source: Multics Processor Manual AL39, "Addressing -- segmentation and paging" and "Access control"; for the
+//! ring rules, Schroeder and Saltzer, "A hardware architecture for implementing protection rings" (1972).
+#![tactic(auto)]
+
+pub mod dbr;
+pub mod pairs;
+pub mod pointer;
+pub mod ptw;
+pub mod sdw;
+
+pub use dbr::Dbr;
+pub use pairs::{Itp, Its};
+pub use pointer::Ptr;
+pub use ptw::Ptw;
+pub use sdw::Sdw;
