@@ -1,0 +1,29 @@
+//! How a run ends.
+
+use crate::outcome::{Fault, Stop};
+
+/// Why a link was refused.
+#[derive(Clone, Copy, PartialEq, Eq, Debug)]
+pub enum LinkCode {
+    /// The place is no link of a laid linkage section.
+    L1,
+    /// The name has no candidate.
+    L2,
+    /// The candidate does not define the entry.
+    L3,
+    /// The candidate may not be used in this ring.
+    L4,
+    /// The candidate is no object segment; the number of its refusal.
+    L5(u8),
+    /// No room for the linkage section; its place and its length.
+    L6(u32, u32),
+}
+
+/// What ended a run.
+#[derive(Clone, Copy, PartialEq, Eq, Debug)]
+pub enum End {
+    Fault(Fault),
+    Stop(Stop),
+    Link(LinkCode),
+    Console,
+}

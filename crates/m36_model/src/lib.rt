@@ -1,0 +1,22 @@
+//! The machine in definitions: what a place, an address, a step and a run are, and what the audit and isolation say.
+//!
+//! `src/` has the records that the definitions and the code share. `specs/` has the rules, one a module, in the
+//! order and the words of the manual. A step is a program over a store: it depends on the registers alone and asks
+//! the store for each reference; the list of core words is one such store.
+//!
+//! Source: Multics Processor Manual AL39; for the ring rules, Schroeder and Saltzer (1972).
+#![tactic(auto)]
+
+pub mod effects;
+pub mod endings;
+pub mod outcome;
+pub mod place;
+pub mod record;
+pub mod registers;
+
+pub use effects::{Effect36, Formed, Held, Operand36, Tally};
+pub use endings::{End, LinkCode};
+pub use outcome::{Fault, Final, Halt, Outcome, Stop};
+pub use place::{At, Kind, Reference, Refs};
+pub use record::StepRecord;
+pub use registers::{Ind, Ppr, Regs};

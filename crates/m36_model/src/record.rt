@@ -1,0 +1,22 @@
+//! The record of one step.
+
+use crate::outcome::{Final, Outcome};
+use crate::place::Refs;
+use crate::registers::{Ppr, Regs};
+use m36_word::Word;
+
+/// What one step did.
+#[derive(Debug, Drop)]
+pub struct StepRecord {
+    /// The completed references, in order.
+    pub refs: Refs,
+    /// The registers after the step.
+    pub after: Regs,
+    /// The instruction's word; None where its fetch was refused.
+    pub word: Option<Word>,
+    /// The end of the address chain; None where none was formed or it did not end.
+    pub at: Option<Final>,
+    pub outcome: Outcome,
+    /// Where the instruction stood.
+    pub ppr: Ppr,
+}

@@ -1,0 +1,73 @@
+//! The registers of the processor.
+
+ghost use Rattle.m36_model.specs.Registers.{RegsFields};
+
+use m36_desc::{Dbr, Ptr};
+use m36_word::Word;
+use std::marker::Model;
+
+/// The procedure pointer register: which instruction stands, and in which ring.
+#[derive(Clone, Copy, PartialEq, Eq, Debug)]
+pub struct Ppr {
+    /// The instruction counter, a word number; 18 bits.
+    pub ic: u32,
+    /// The procedure segment; 15 bits.
+    pub psr: u16,
+    /// The procedure ring; 3 bits.
+    pub prr: u8,
+}
+
+impl Model for Ppr {
+    ghost use Rattle.std.specs.Prelude.{◌<◌, ◌^◌};
+    ghost use Rattle.m36_model.specs.Fields.{PprFields};
+
+    ghost Value = { PprFields };
+
+    ghost view = { λ p. record { psr = p.psr; prr = p.prr; ic = p.ic } };
+
+    ghost invariant = { λ p. (p.ic < 2 ^ 18) × (p.psr < 2 ^ 15) × (p.prr < 2 ^ 3) };
+
+    ghost inverse = { λ p. record { psr = p.psr; prr = p.prr; ic = p.ic } };
+}
+
+/// The indicators.
+#[derive(Clone, Copy, PartialEq, Eq, Debug)]
+pub struct Ind {
+    pub zero: bool,
+    pub negative: bool,
+    pub carry: bool,
+    pub overflow: bool,
+    /// The overflow mask: an overflow gives no fault while it is on.
+    pub mask: bool,
+    /// Tally runout.
+    pub tally: bool,
+}
+
+/// All registers of the processor.
+#[derive(Clone, Copy, PartialEq, Eq, Debug)]
+pub struct Regs {
+    /// The accumulator.
+    pub a: Word,
+    /// The quotient register.
+    pub q: Word,
+    /// The index registers X0 to X7; 18 bits each.
+    pub x: [u32; 8],
+    /// The pointer registers PR0 to PR7.
+    pub pr: [Ptr; 8],
+    pub dbr: Dbr,
+    pub ppr: Ppr,
+    pub ind: Ind,
+}
+
+impl Model for Regs {
+    ghost use Rattle.std.specs.Prelude.{ℕ, ◌<◌, ◌^◌, slice_index};
+    ghost use Rattle.m36_model.specs.Registers.{RegsFields};
+
+    ghost Value = { RegsFields };
+
+    ghost view = { λ r. record { a = r.a; q = r.q; x = r.x; pr = r.pr; ind = r.ind; ppr = r.ppr; dbr = r.dbr } };
+
+    ghost invariant = { λ r. (k : ℕ) → slice_index r.x k < 2 ^ 18 };
+
+    ghost inverse = { λ r. record { a = r.a; q = r.q; x = r.x; pr = r.pr; ind = r.ind; ppr = r.ppr; dbr = r.dbr } };
+}
