@@ -23,6 +23,7 @@ impl Pair {
     }
 
     /// The pair as a number of 72 bits in two's complement.
+    #[tactic(auto, unfolding(crate::specs::Signed::signed))]
     pub fn signed(self) -> i128
         ensures { result ≡ signed (2 ^ 71) (number_of self) }
     {

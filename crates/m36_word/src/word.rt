@@ -58,6 +58,7 @@ impl Word {
     }
 
     /// The word as a number in two's complement, from -2^35 to 2^35 - 1.
+    #[tactic(auto, unfolding(crate::specs::Signed::signed))]
     pub fn signed(self) -> i64
         ensures { result ≡ signed (2 ^ 35) self }
     {
