@@ -1,10 +1,10 @@
 -- Facts on a number that is a part above a field, the field, and a part below it.
-use Rattle.std.proofs.Common.{ℕ, ◌≡◌, ◌+◌, ◌-◌, ◌*◌, ◌/◌, ◌%◌, ◌^◌, ◌<◌, ◌≤◌, ◌⊎◌, inl, inr, ⊎_elim, sym, ap, refl, ◌∙◌, subst, arith}
+use Rattle.std.proofs.Common.{ℕ, ◌≡◌, ◌+◌, ◌-◌, ◌*◌, ◌/◌, ◌%◌, ◌^◌, ◌<◌, ◌≤◌, inl, inr, sym, ap, ◌∙◌, subst, arith}
 use Rattle.std.specs.Int.{bit_at}
 use Rattle.std.proofs.lemmas.Nat.{shr-shr, shr_high, mod_low, shr_split, shr_below, shl_below, shl_whole, one_shl, pow_pos, pow-add, mod_below, mul-add-lt}
 use Rattle.std.proofs.lemmas.Nat.Bits.{bit_at_cat_low, bit_at_cat_high}
 use Rattle.std.proofs.Math.Nat.{pow-le-pow_right}
-use Rattle.m36_word.specs.Field.{with_field, bit, GetsWhatWasPut, KeepsOtherBits, ReplacesFirstPut}
+use Rattle.m36_word.specs.Field.{with_field, GetsWhatWasPut, KeepsOtherBits, ReplacesFirstPut}
 
 -- the part above the field
 part_above : (q v r len k : ℕ) → v < 2 ^ len → r < 2 ^ k → ((q * 2 ^ len + v) * 2 ^ k + r) / 2 ^ (k + len) ≡ q
@@ -49,9 +49,9 @@ same_bit_above a b k i same above =
 pub keeps_other_bits : KeepsOtherBits
 keeps_other_bits w first len v i some inside fits within apart =
     elim apart [
-        inl before ↦ same_bit_above (with_field w first len v) w (36 - first) (36 - i - 1) (kept_above w first len v inside fits) (omega arith)
-        | inr behind ↦ same_bit_below (with_field w first len v) w (36 - first - len) (36 - i - 1) (kept_below w first len v) (omega arith)
-        ]
+      | inl before ↦ same_bit_above (with_field w first len v) w (36 - first) (36 - i - 1) (kept_above w first len v inside fits) (omega arith)
+      | inr behind ↦ same_bit_below (with_field w first len v) w (36 - first - len) (36 - i - 1) (kept_below w first len v) (omega arith)
+    ]
 
 pub replaces_first_put : ReplacesFirstPut
 replaces_first_put w first len v u some inside fits fits_again =
@@ -89,13 +89,15 @@ above_fits w first len v in_word inside fits =
 pub put_below : (w first len v : ℕ) → w < 2 ^ 36 → first + len ≤ 36 → v < 2 ^ len → with_field w first len v < 2 ^ 36
 put_below w first len v in_word inside fits =
     let e : 2 ^ 36 ≡ 2 ^ (36 - first - len) * 2 ^ (first + len) =
-        ap (λ n. 2 ^ n) (let whole : 36 ≡ 36 - first - len + (first + len) = omega arith in whole) ∙ pow-add 2 (36 - first - len) (first + len) in
+    ap (λ n. 2 ^ n) (let whole : 36 ≡ 36 - first - len + (first + len) = omega arith in whole) ∙ pow-add 2 (36 - first - len) (first + len) in
     rw e (mul-add-lt (w / 2 ^ (36 - first) * 2 ^ len + v) (2 ^ (36 - first - len)) (w % 2 ^ (36 - first - len)) (2 ^ (first + len)) (sum_above w first len v in_word inside fits) (mod_below w (2 ^ (36 - first - len)) (pow_pos (36 - first - len))))
 
 -- what `put` computes is the word with the field replaced
 pub put_is : (w first len v : ℕ) → w < 2 ^ 36 → 1 ≤ len → first + len ≤ 36 → v < 2 ^ len
     → (w / 2 ^ (36 - first) * 2 ^ len % 2 ^ 64 + v) * 2 ^ (36 - first - len) % 2 ^ 64 + w % (1 * 2 ^ (36 - first - len) % 2 ^ 64) ≡ with_field w first len v
 put_is w first len v in_word some inside fits =
-    rw (shift_above w first len in_word inside,
-        shl_whole (w / 2 ^ (36 - first) * 2 ^ len + v) (first + len) (36 - first - len) 64 (sum_above w first len v in_word inside fits) (omega arith),
-        one_shl (36 - first - len) 64 (omega arith))
+    rw (
+      shift_above w first len in_word inside,
+      shl_whole (w / 2 ^ (36 - first) * 2 ^ len + v) (first + len) (36 - first - len) 64 (sum_above w first len v in_word inside fits) (omega arith),
+      one_shl (36 - first - len) 64 (omega arith),
+    )

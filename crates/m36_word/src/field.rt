@@ -9,7 +9,7 @@ use crate::word::Word;
 pub struct Field<const FIRST: u32, const LEN: u32>;
 
 impl<const FIRST: u32, const LEN: u32> Field<FIRST, LEN> {
-    /// The field's value.
+    /// The field's value, below 2^LEN. The field lies within the word.
     pub fn get(w: Word) -> u64
         requires some { 1 ≤ LEN }
         requires inside { FIRST + LEN ≤ 36 }
@@ -19,7 +19,7 @@ impl<const FIRST: u32, const LEN: u32> Field<FIRST, LEN> {
         (w.value() >> (36 - FIRST - LEN)) % (1 << LEN)
     }
 
-    /// The word with the field's value replaced.
+    /// The word with the field's value replaced by a number below 2^LEN, and every other bit as it was.
     pub fn put(w: Word, v: u64) -> Word
         requires some { 1 ≤ LEN }
         requires inside { FIRST + LEN ≤ 36 }

@@ -7,7 +7,7 @@ ghost use Rattle.m36_word.specs.Pairs.{number_of, pair_of};
 use crate::word::Word;
 
 /// Two words that are read and written together. As a number, the even word is the more significant.
-#[derive(Clone, Copy, PartialEq, Eq, Debug)]
+#[derive(Clone, Copy, PartialEq, Eq, PartialOrd, Ord, Hash, Default, Debug)]
 pub struct Pair {
     pub even: Word,
     pub odd: Word,

@@ -8,7 +8,7 @@ ghost use Rattle.m36_word.specs.Signed.{signed};
 use std::marker::Model;
 
 /// A word of 36 bits, seen as a number below 2^36.
-#[derive(Clone, Copy, PartialEq, Eq, Debug)]
+#[derive(Clone, Copy, PartialEq, Eq, PartialOrd, Ord, Hash, Default, Debug)]
 pub struct Word {
     value: u64,
 }

@@ -8,7 +8,7 @@ use std::alloc::Global;
 use std::marker::Model;
 
 /// A list of words that grows at its end, seen as a list of numbers.
-#[derive(Drop)]
+#[derive(Debug, Drop)]
 pub struct Words {
     items: Vec<Word>,
 }
