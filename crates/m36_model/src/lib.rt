@@ -16,7 +16,7 @@ pub mod registers;
 
 pub use effects::{Effect36, Formed, Held, Operand36, Tally};
 pub use endings::{End, LinkCode};
-pub use outcome::{Fault, Final, Halt, Outcome, Stop};
+pub use outcome::{Fault, Final, Halt, Outcome, Refusal, Stop};
 pub use place::{At, Kind, Reference, Refs};
 pub use record::StepRecord;
 pub use registers::{Ind, Ppr, Regs};

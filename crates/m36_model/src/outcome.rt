@@ -4,6 +4,15 @@ use crate::place::At;
 use m36_word::Word;
 use std::marker::Model;
 
+/// Why a reference is refused, before it is said at which word.
+#[derive(Clone, Copy, PartialEq, Eq, Debug)]
+pub struct Refusal {
+    /// The fault: 1 store, 16 to 19 directed faults 0 to 3, 20 access violation.
+    pub number: u8,
+    /// The access violation, and 0 where the number is not 20.
+    pub acv: u8,
+}
+
 /// A fault: its number, for an access violation (number 20) which one, and the word concerned.
 #[derive(Clone, Copy, PartialEq, Eq, Debug)]
 pub struct Fault {

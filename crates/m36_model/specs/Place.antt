@@ -1,0 +1,172 @@
+-- Places of words in core: how a descriptor is found, how a word is found by it, and which marks a reference sets.
+-- Multics Processor Manual AL39, "Address appending", "Segment descriptor word", "Page table word".
+use Rattle.std.specs.Prelude.{ℕ, ◌+◌, ◌*◌, ◌/◌, ◌%◌, ◌^◌, Bool, true, false, ◌&&◌, nat_lt, if◌then◌else◌, List, [], ◌∷◌, ◌++◌, length, slice_get, slice_index, slice_set, Option, Some, None, option_map, Result, Ok, Err}
+use Rattle.m36_word.specs.Bits.{is_on}
+use Rattle.m36_word.specs.Field.{field}
+use Rattle.m36_desc.specs.Fields.{SdwFields, PtwFields, DbrFields}
+use Rattle.m36_desc.specs.Descriptors.{sdw_of, ptw_of}
+use Rattle.m36_desc.specs.Access.{in_order}
+use Rattle.m36_model.specs.Act.{RequestKind, Fetch, Indirect, Odd, Read, Write, Transfer, Call, Locate}
+use Rattle.m36_model.specs.Store.{Spot, Core_word, violation, within}
+use Rattle.m36_model.specs.declared.outcome.Refusal.{Refusal}
+
+-- a table word or a place at or past the end of core
+abbrev pub store_fault : Refusal
+store_fault = record { number = 1; acv = 0 }
+
+-- the directed fault that a descriptor with F off names
+abbrev pub directed : ℕ → Refusal
+directed fc = record { number = 16 + fc; acv = 0 }
+
+-- sums of addresses wrap
+abbrev pub wrapped : ℕ → ℕ
+wrapped a = a % 2 ^ 24
+
+-- a page's frame begins at the PTW's address with its low four bits zero, times 64
+abbrev pub frame_at : PtwFields → ℕ
+frame_at p = (p.addr / 16) * 1024
+
+-- a place by a PTW
+abbrev pub in_frame_by : Bool → PtwFields → ℕ → Result ℕ Refusal
+in_frame_by true p offset = Ok (wrapped (frame_at p + offset))
+in_frame_by false p offset = Err (directed p.fc)
+
+abbrev pub in_frame : Option PtwFields → ℕ → Result ℕ Refusal
+in_frame None offset = Err store_fault
+in_frame (Some p) offset = in_frame_by p.f p offset
+
+abbrev pub ptw_at : List ℕ → ℕ → Option PtwFields
+ptw_at core a = option_map ptw_of (slice_get core a)
+
+-- the address of the descriptor segment's PTW for a segment
+abbrev pub directory_at : DbrFields → ℕ → ℕ
+directory_at dbr seg = wrapped (dbr.addr + (2 * seg) / 1024)
+
+-- the address of a segment's PTW for a page
+abbrev pub page_at : SdwFields → ℕ → ℕ
+page_at d page = wrapped (d.addr + page)
+
+-- the descriptor segment has a descriptor for the segment, whose number has 15 bits
+abbrev pub in_bounds : DbrFields → ℕ → Bool
+in_bounds dbr seg = nat_lt (2 * seg) (16 * (dbr.bnd + 1)) && nat_lt seg (2 ^ 15)
+
+-- the address of the descriptor's even word
+abbrev pub sdw_place_by : Bool → Bool → DbrFields → ℕ → Option PtwFields → Result ℕ Refusal
+sdw_place_by false unpaged dbr seg p = Err (violation 15)
+sdw_place_by true true dbr seg p = Ok (wrapped (dbr.addr + 2 * seg))
+sdw_place_by true false dbr seg p = in_frame p ((2 * seg) % 1024)
+
+abbrev pub sdw_place : List ℕ → DbrFields → ℕ → Result ℕ Refusal
+sdw_place core dbr seg = sdw_place_by (in_bounds dbr seg) dbr.unpaged dbr seg (ptw_at core (directory_at dbr seg))
+
+-- the descriptor in two words; both stand in core before F is looked at
+abbrev pub live_by : Bool → ℕ → ℕ → Result SdwFields Refusal
+live_by true even odd = Ok (sdw_of even odd)
+live_by false even odd = Err (directed (field even 34 2))
+
+abbrev pub sdw_words : Option ℕ → Option ℕ → Result SdwFields Refusal
+sdw_words None odd = Err store_fault
+sdw_words (Some even) None = Err store_fault
+sdw_words (Some even) (Some odd) = live_by (is_on even 33) even odd
+
+abbrev pub sdw_at : List ℕ → Result ℕ Refusal → Result SdwFields Refusal
+sdw_at core (Err e) = Err e
+sdw_at core (Ok a) = sdw_words (slice_get core a) (slice_get core (wrapped (a + 1)))
+
+-- the descriptor of a live segment
+unfoldable pub core_sdw : List ℕ → DbrFields → ℕ → Result SdwFields Refusal
+core_sdw core dbr seg = sdw_at core (sdw_place core dbr seg)
+
+-- the place lies in core
+abbrev pub inside_core_by : Bool → ℕ → Result Spot Refusal
+inside_core_by true a = Ok (Core_word a)
+inside_core_by false a = Err store_fault
+
+abbrev pub inside_core : ℕ → Result ℕ Refusal → Result Spot Refusal
+inside_core size (Ok a) = inside_core_by (nat_lt a size) a
+inside_core size (Err e) = Err e
+
+-- the place of a word within the bound, by the descriptor
+abbrev pub word_place_by : Bool → SdwFields → ℕ → Option PtwFields → Result ℕ Refusal
+word_place_by true d w p = Ok (wrapped (d.addr + w))
+word_place_by false d w p = in_frame p (w % 1024)
+
+unfoldable pub core_spot : List ℕ → DbrFields → SdwFields → ℕ → ℕ → Result Spot Refusal
+core_spot core dbr d seg w =
+    inside_core (length core) (word_place_by d.unpaged d w (ptw_at core (page_at d (w / 1024))))
+
+-- The place of a word of a segment, whoever asks for it: descriptor, brackets in order, bound, place.
+abbrev pub place_within : Bool → Result Spot Refusal → Result Spot Refusal
+place_within true spot = spot
+place_within false spot = Err (violation 15)
+
+abbrev pub place_ordered : Bool → Result Spot Refusal → Result Spot Refusal
+place_ordered true spot = spot
+place_ordered false spot = Err (violation 0)
+
+abbrev pub place_by : List ℕ → DbrFields → ℕ → ℕ → Result SdwFields Refusal → Result Spot Refusal
+place_by core dbr seg w (Ok d) = place_ordered (in_order d) (place_within (within d w) (core_spot core dbr d seg w))
+place_by core dbr seg w (Err e) = Err e
+
+unfoldable pub place : List ℕ → DbrFields → ℕ → ℕ → Result Spot Refusal
+place core dbr seg w = place_by core dbr seg w (core_sdw core dbr seg)
+
+-- The first ring bracket of a segment: descriptor and brackets in order.
+abbrev pub first_ring_of : Bool → SdwFields → Result ℕ Refusal
+first_ring_of true d = Ok d.r1
+first_ring_of false d = Err (violation 0)
+
+abbrev pub first_ring_by : Result SdwFields Refusal → Result ℕ Refusal
+first_ring_by (Ok d) = first_ring_of (in_order d) d
+first_ring_by (Err e) = Err e
+
+unfoldable pub first_ring : List ℕ → DbrFields → ℕ → Result ℕ Refusal
+first_ring core dbr seg = first_ring_by (core_sdw core dbr seg)
+
+-- a mark to be set in the PTW at an address: the used bit, and with it the modified bit where modified is on
+pub record Mark : Type 0 where
+  pub address : ℕ
+  pub modified : Bool
+
+-- a PTW with its used bit (26) on, and with its modified bit (29) on
+unfoldable pub with_used : ℕ → ℕ
+with_used w = (w / 1024 * 1024 + 512) + w % 512
+
+unfoldable pub with_modified : ℕ → ℕ
+with_modified w = (w / 128 * 128 + 64) + w % 64
+
+abbrev pub marked_word : Bool → ℕ → ℕ
+marked_word true w = with_modified (with_used w)
+marked_word false w = with_used w
+
+-- a Write sets the modified bit of the segment's own PTW
+abbrev pub is_write : RequestKind → Bool
+is_write Write = true
+is_write Fetch = false
+is_write Indirect = false
+is_write Odd = false
+is_write Read = false
+is_write Transfer = false
+is_write Call = false
+is_write Locate = false
+
+abbrev pub directory_marks : DbrFields → ℕ → List Mark
+directory_marks dbr seg = if dbr.unpaged then [] else record { address = directory_at dbr seg; modified = false } ∷ []
+
+abbrev pub page_marks : Bool → ℕ → Result SdwFields Refusal → List Mark
+page_marks write w (Err e) = []
+page_marks write w (Ok d) = if d.unpaged then [] else record { address = page_at d (w / 1024); modified = write } ∷ []
+
+-- the marks of a reference: one for each PTW that it passes
+unfoldable pub marks : List ℕ → DbrFields → RequestKind → ℕ → ℕ → List Mark
+marks core dbr kind seg w = directory_marks dbr seg ++ page_marks (is_write kind) w (core_sdw core dbr seg)
+
+abbrev pub with_mark : List ℕ → Mark → List ℕ
+with_mark core m = slice_set core m.address (marked_word m.modified (slice_index core m.address))
+
+unfoldable pub with_marks : List ℕ → List Mark → List ℕ
+with_marks core [] = core
+with_marks core (m ∷ more) = with_marks (with_mark core m) more
+
+unfoldable pub core_marked : List ℕ → DbrFields → RequestKind → ℕ → ℕ → List ℕ
+core_marked core dbr kind seg w = with_marks core (marks core dbr kind seg w)

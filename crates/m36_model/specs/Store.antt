@@ -1,0 +1,241 @@
+-- A store, how it serves the requests of a step, and a run of a program over it.
+-- Multics Processor Manual AL39, "Address appending" and "Access control".
+use Rattle.std.specs.Prelude.{ℕ, zero, suc, ◌+◌, ◌-◌, ◌*◌, ◌/◌, ◌%◌, ◌^◌, Bool, true, false, not, ◌&&◌, ◌==◌, nat_le, if◌then◌else◌, List, [], ◌∷◌, ◌++◌, map, length, slice_get, Option, Some, None, Result, Ok, Err}
+use Rattle.m36_desc.specs.Fields.{SdwFields, DbrFields}
+use Rattle.m36_desc.specs.Access.{first_of, in_order, read_rows, write_rows, fetch_rows, transfer_rows, call_rows}
+use Rattle.m36_model.specs.Fields.{AtFields}
+use Rattle.m36_model.specs.Registers.{RegsFields}
+use Rattle.m36_model.specs.Act.{Whole, Left, Right, RequestKind, Fetch, Indirect, Odd, Read, Write, Transfer, Call, Locate, Part, Put, Request, Answer, Act, done, ask}
+use Rattle.m36_model.specs.declared.outcome.Fault.{Fault}
+use Rattle.m36_model.specs.declared.outcome.Refusal.{Refusal}
+use Rattle.m36_model.specs.declared.place.Reference.{Reference}
+use Rattle.m36_model.specs.declared.place.Kind.TheVariants as reference
+
+-- where a word lies in a store: its address in core, or in a flat store the word of the segment itself
+pub data Spot : Type 0 where
+  Core_word : ℕ → Spot
+  Segment_word : (seg word : ℕ) → Spot
+
+-- a word to be written at a spot
+pub record Change : Type 0 where
+  pub spot : Spot
+  pub part : Part
+  pub value : ℕ
+
+-- a word with a part of it written; a half stands right-justified in the value
+abbrev pub written : Part → ℕ → ℕ → ℕ
+written Whole old v = v
+written Left old v = v * 2 ^ 18 + old % 2 ^ 18
+written Right old v = (old / 2 ^ 18) * 2 ^ 18 + v
+
+-- the access violation of this number
+abbrev pub violation : ℕ → Refusal
+violation acv = record { number = 20; acv = acv }
+
+-- the fault of a refusal, at a word
+abbrev pub fault_by : Refusal → AtFields → Fault
+fault_by why at = record { at = at; number = why.number; acv = why.acv }
+
+-- the table words by which one segment is found: the PTW of the descriptor segment's page, the SDW, and the PTWs of its
+-- pages within its bound. Each is an address and the word there, of a PTW but for its marks; none past the end of core
+pub record SegTable : Type 0 where
+  pub directory : List (ℕ × Option ℕ)
+  pub sdw : List (ℕ × Option ℕ)
+  pub pages : List (ℕ × Option ℕ)
+
+-- the tables of a store but for marks
+pub record Tables : Type 0 where
+  pub dbr : DbrFields
+  pub size : ℕ
+  pub of : ℕ → SegTable
+
+-- what a store answers, and how it is changed
+pub record Store (S : Type 0) : Type 0 where
+  pub sdw : S → DbrFields → ℕ → Result SdwFields Refusal  -- the descriptor of a segment
+  pub spot : S → DbrFields → SdwFields → ℕ → ℕ → Result Spot Refusal  -- where a word within the bound lies
+  pub word : S → Spot → ℕ
+  pub marked : S → DbrFields → RequestKind → ℕ → ℕ → S  -- with the marks of a reference
+  pub put : S → List Change → S  -- with these words written, in order
+  pub tables : S → DbrFields → Tables
+
+-- the rows of refusals by kind of reference, with the ring of the reference, the ring of execution, and whether the
+-- segment is the one that executes
+abbrev pub rows : RequestKind → SdwFields → ℕ → ℕ → Bool → ℕ → List (Bool × ℕ)
+rows Fetch d trr prr same word = fetch_rows d prr
+rows Indirect d trr prr same word = read_rows d trr same
+rows Odd d trr prr same word = read_rows d trr same
+rows Read d trr prr same word = read_rows d trr same
+rows Write d trr prr same word = write_rows d trr
+rows Transfer d trr prr same word = transfer_rows d trr prr
+rows Call d trr prr same word = call_rows d trr prr same word
+rows Locate d trr prr same word = (not (in_order d), 0) ∷ []
+
+-- brackets in order and rights: the violation, if any
+unfoldable pub denied : RequestKind → SdwFields → ℕ → ℕ → Bool → ℕ → Option ℕ
+denied kind d trr prr same word = first_of (rows kind d trr prr same word)
+
+-- the word is within the bound, which counts blocks of 16 words
+abbrev pub within : SdwFields → ℕ → Bool
+within d word = nat_le (word / 16) d.bound
+
+-- places of n words of a segment from a word on; the first word that is refused
+abbrev pub placed_next : Result (List Spot) (ℕ × Refusal) → Spot → Result (List Spot) (ℕ × Refusal)
+placed_next (Ok spots) spot = Ok (spot ∷ spots)
+placed_next (Err e) spot = Err e
+
+abbrev pub placed_one : Bool → ℕ → Result Spot Refusal → Result (List Spot) (ℕ × Refusal) → Result (List Spot) (ℕ × Refusal)
+placed_one false word spot rest = Err (word, violation 15)
+placed_one true word (Err e) rest = Err (word, e)
+placed_one true word (Ok spot) rest = placed_next rest spot
+
+unfoldable pub spots_of : {S : Type 0} → Store S → S → DbrFields → SdwFields → ℕ → ℕ → ℕ → Result (List Spot) (ℕ × Refusal)
+spots_of o s dbr d seg word zero = Ok []
+spots_of o s dbr d seg word (suc n) =
+    placed_one (within d word) word (o.spot s dbr d seg word) (spots_of o s dbr d seg (word + 1) n)
+
+-- a Transfer and a CALL6 touch no page of the target
+abbrev pub bound_only : Bool → ℕ → Result (List Spot) (ℕ × Refusal)
+bound_only true word = Ok []
+bound_only false word = Err (word, violation 15)
+
+-- the kinds that examine a target and stop at its bound
+abbrev pub is_target : RequestKind → Bool
+is_target Transfer = true
+is_target Call = true
+is_target Fetch = false
+is_target Indirect = false
+is_target Odd = false
+is_target Read = false
+is_target Write = false
+is_target Locate = false
+
+abbrev pub places_by : Bool → Result (List Spot) (ℕ × Refusal) → Result (List Spot) (ℕ × Refusal) → Result (List Spot) (ℕ × Refusal)
+places_by true target spots = target
+places_by false target spots = spots
+
+unfoldable pub places : {S : Type 0} → Store S → S → DbrFields → SdwFields → Request → Result (List Spot) (ℕ × Refusal)
+places o s dbr d q =
+    places_by (is_target q.kind) (bound_only (within d q.at.word) q.at.word) (spots_of o s dbr d q.at.seg q.at.word q.count)
+
+-- the kinds that read the words
+abbrev pub reads : RequestKind → Bool
+reads Fetch = true
+reads Indirect = true
+reads Odd = true
+reads Read = true
+reads Write = false
+reads Transfer = false
+reads Call = false
+reads Locate = false
+
+-- the kinds that set marks and stand among the references of a step
+abbrev pub touches : RequestKind → Bool
+touches Transfer = false
+touches Call = false
+touches Locate = false
+touches Fetch = true
+touches Indirect = true
+touches Odd = true
+touches Read = true
+touches Write = true
+
+-- where a step stands: its store, the spots that its Writes have claimed, and its completed references, oldest first
+pub record Mid (S : Type 0) : Type 0 where
+  pub store : S
+  pub claims : List Spot
+  pub refs : List Reference
+
+-- the changes that puts mean; a number under which nothing is claimed means none
+abbrev pub change_of : Put → Option Spot → List Change → List Change
+change_of p None rest = rest
+change_of p (Some spot) rest = record { spot = spot; part = p.part; value = p.value } ∷ rest
+
+unfoldable pub changes : List Spot → List Put → List Change
+changes claims [] = []
+changes claims (p ∷ puts) = change_of p (slice_get claims p.claim) (changes claims puts)
+
+-- a reply, and where the step stands after it
+pub record Served (S : Type 0) : Type 0 where
+  pub reply : Result Answer Fault
+  pub mid : Mid S
+
+abbrev pub refused : {S : Type 0} → Mid S → Request → ℕ → Refusal → Served S
+refused m q word why =
+    record { reply = Err (fault_by why (record { seg = q.at.seg; word = word; ring = q.at.ring })); mid = m }
+
+abbrev pub after_marks : {S : Type 0} → Store S → S → DbrFields → Request → S
+after_marks o s dbr q = if touches q.kind then o.marked s dbr q.kind q.at.seg q.at.word else s
+
+-- an odd word joins the even one before it: together they are one reference to two words
+abbrev pub with_odd : Request → List Reference → List Reference
+with_odd q [] = []
+with_odd q (e ∷ []) =
+    record { kind = reference.Indirect; at = record { seg = q.at.seg; word = q.at.word - 1; ring = q.at.ring }; count = 2 } ∷ []
+with_odd q (e ∷ f ∷ refs) = e ∷ with_odd q (f ∷ refs)
+
+abbrev pub with_reference : RequestKind → Request → List Reference → List Reference
+with_reference Fetch q refs = refs ++ record { kind = reference.Fetch; at = q.at; count = q.count } ∷ []
+with_reference Indirect q refs = refs ++ record { kind = reference.Indirect; at = q.at; count = q.count } ∷ []
+with_reference Odd q refs = with_odd q refs
+with_reference Read q refs = refs ++ record { kind = reference.Read; at = q.at; count = q.count } ∷ []
+with_reference Write q refs = refs ++ record { kind = reference.Write; at = q.at; count = q.count } ∷ []
+with_reference Transfer q refs = refs
+with_reference Call q refs = refs
+with_reference Locate q refs = refs
+
+abbrev pub with_claims : RequestKind → List Spot → List Spot → List Spot
+with_claims Write spots claims = claims ++ spots
+with_claims Fetch spots claims = claims
+with_claims Indirect spots claims = claims
+with_claims Odd spots claims = claims
+with_claims Read spots claims = claims
+with_claims Transfer spots claims = claims
+with_claims Call spots claims = claims
+with_claims Locate spots claims = claims
+
+-- what a Locate is told: the place in core of its word
+abbrev pub located : RequestKind → List Spot → ℕ
+located Locate (Core_word a ∷ spots) = a
+located _ _ = 0
+
+abbrev pub serve_places : {S : Type 0} → Store S → RegsFields → Mid S → Request → SdwFields → Result (List Spot) (ℕ × Refusal) → Served S
+serve_places o g m q d (Err e) = refused m q e.0 e.1
+serve_places o g m q d (Ok spots) =
+    let s = after_marks o m.store g.dbr q in
+    record {
+      reply = Ok (record {
+        sdw = d;
+        first = length m.claims;
+        place = located q.kind spots;
+        words = if reads q.kind then map (o.word (o.put s (changes m.claims q.pending))) spots else [];
+      });
+      mid = record { store = s; claims = with_claims q.kind spots m.claims; refs = with_reference q.kind q m.refs };
+    }
+
+abbrev pub serve_rights : {S : Type 0} → Store S → RegsFields → Mid S → Request → SdwFields → Option ℕ → Served S
+serve_rights o g m q d (Some acv) = refused m q q.at.word (violation acv)
+serve_rights o g m q d None = serve_places o g m q d (places o m.store g.dbr d q)
+
+abbrev pub serve_sdw : {S : Type 0} → Store S → RegsFields → Mid S → Request → Result SdwFields Refusal → Served S
+serve_sdw o g m q (Err why) = refused m q q.at.word why
+serve_sdw o g m q (Ok d) =
+    serve_rights o g m q d (denied q.kind d q.at.ring g.ppr.prr (q.at.seg == g.ppr.psr) q.at.word)
+
+-- a reference: descriptor, brackets, rights, bound and place in this order, then its marks, then its words
+unfoldable pub serve : {S : Type 0} → Store S → RegsFields → Mid S → Request → Served S
+serve o g m q = serve_sdw o g m q (o.sdw m.store g.dbr q.at.seg)
+
+-- what a program gives, and where the step stands then
+pub record Ran (A S : Type 0) : Type 0 where
+  pub value : A
+  pub mid : Mid S
+
+-- a program over a store, from where the step stands
+unfoldable pub run : {A S : Type 0} → Store S → RegsFields → Act A → Mid S → Ran A S
+run o g (done a) m = record { value = a; mid = m }
+run o g (ask q next) m = let t = serve o g m q in run o g (next t.reply) t.mid
+
+-- the registers and the store
+pub record State (S : Type 0) : Type 0 where
+  pub regs : RegsFields
+  pub store : S
