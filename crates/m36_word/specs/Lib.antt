@@ -1,3 +1,4 @@
+pub mod Bits
 pub mod Field
 pub mod Pairs
 pub mod Signed
