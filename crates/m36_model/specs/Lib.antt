@@ -4,3 +4,7 @@ pub mod Act
 pub mod Store
 pub mod Place
 pub mod Core
+pub mod Sight
+pub mod Agree
+pub mod Audit
+pub mod StoreLaw

@@ -5,9 +5,8 @@ use Rattle.m36_word.specs.Bits.{is_on}
 use Rattle.m36_word.specs.Field.{field}
 use Rattle.m36_desc.specs.Fields.{SdwFields, PtwFields, DbrFields}
 use Rattle.m36_desc.specs.Descriptors.{sdw_of, ptw_of}
-use Rattle.m36_desc.specs.Access.{in_order}
 use Rattle.m36_model.specs.Act.{RequestKind, Fetch, Indirect, Odd, Read, Write, Transfer, Call, Locate}
-use Rattle.m36_model.specs.Store.{Spot, Core_word, violation, within}
+use Rattle.m36_model.specs.Store.{Spot, Core_word, violation}
 use Rattle.m36_model.specs.declared.outcome.Refusal.{Refusal}
 
 -- a table word or a place at or past the end of core
@@ -94,34 +93,6 @@ word_place_by false d w p = in_frame p (w % 1024)
 unfoldable pub core_spot : List ℕ → DbrFields → SdwFields → ℕ → ℕ → Result Spot Refusal
 core_spot core dbr d seg w =
     inside_core (length core) (word_place_by d.unpaged d w (ptw_at core (page_at d (w / 1024))))
-
--- The place of a word of a segment, whoever asks for it: descriptor, brackets in order, bound, place.
-abbrev pub place_within : Bool → Result Spot Refusal → Result Spot Refusal
-place_within true spot = spot
-place_within false spot = Err (violation 15)
-
-abbrev pub place_ordered : Bool → Result Spot Refusal → Result Spot Refusal
-place_ordered true spot = spot
-place_ordered false spot = Err (violation 0)
-
-abbrev pub place_by : List ℕ → DbrFields → ℕ → ℕ → Result SdwFields Refusal → Result Spot Refusal
-place_by core dbr seg w (Ok d) = place_ordered (in_order d) (place_within (within d w) (core_spot core dbr d seg w))
-place_by core dbr seg w (Err e) = Err e
-
-unfoldable pub place : List ℕ → DbrFields → ℕ → ℕ → Result Spot Refusal
-place core dbr seg w = place_by core dbr seg w (core_sdw core dbr seg)
-
--- The first ring bracket of a segment: descriptor and brackets in order.
-abbrev pub first_ring_of : Bool → SdwFields → Result ℕ Refusal
-first_ring_of true d = Ok d.r1
-first_ring_of false d = Err (violation 0)
-
-abbrev pub first_ring_by : Result SdwFields Refusal → Result ℕ Refusal
-first_ring_by (Ok d) = first_ring_of (in_order d) d
-first_ring_by (Err e) = Err e
-
-unfoldable pub first_ring : List ℕ → DbrFields → ℕ → Result ℕ Refusal
-first_ring core dbr seg = first_ring_by (core_sdw core dbr seg)
 
 -- a mark to be set in the PTW at an address: the used bit, and with it the modified bit where modified is on
 pub record Mark : Type 0 where

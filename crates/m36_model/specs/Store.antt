@@ -78,6 +78,38 @@ denied kind d trr prr same word = first_of (rows kind d trr prr same word)
 abbrev pub within : SdwFields → ℕ → Bool
 within d word = nat_le (word / 16) d.bound
 
+-- the descriptor gives the word a place: its brackets are in order, and the word is within its bound
+abbrev pub placed : SdwFields → ℕ → Bool
+placed d word = in_order d && within d word
+
+-- the place of a word of a segment, whoever asks for it: descriptor, brackets in order, bound, and where it lies
+abbrev pub place_within : Bool → Result Spot Refusal → Result Spot Refusal
+place_within true spot = spot
+place_within false spot = Err (violation 15)
+
+abbrev pub place_ordered : Bool → Result Spot Refusal → Result Spot Refusal
+place_ordered true spot = spot
+place_ordered false spot = Err (violation 0)
+
+abbrev pub place_by : Result SdwFields Refusal → (SdwFields → Result Spot Refusal) → ℕ → Result Spot Refusal
+place_by (Ok d) spot word = place_ordered (in_order d) (place_within (within d word) (spot d))
+place_by (Err e) spot word = Err e
+
+unfoldable pub place : {S : Type 0} → Store S → S → DbrFields → ℕ → ℕ → Result Spot Refusal
+place o s dbr seg word = place_by (o.sdw s dbr seg) (λ d. o.spot s dbr d seg word) word
+
+-- the first ring bracket of a segment: descriptor, and brackets in order
+abbrev pub first_ring_of : Bool → SdwFields → Result ℕ Refusal
+first_ring_of true d = Ok d.r1
+first_ring_of false d = Err (violation 0)
+
+abbrev pub first_ring_by : Result SdwFields Refusal → Result ℕ Refusal
+first_ring_by (Ok d) = first_ring_of (in_order d) d
+first_ring_by (Err e) = Err e
+
+unfoldable pub first_ring : {S : Type 0} → Store S → S → DbrFields → ℕ → Result ℕ Refusal
+first_ring o s dbr seg = first_ring_by (o.sdw s dbr seg)
+
 -- places of n words of a segment from a word on; the first word that is refused
 abbrev pub placed_next : Result (List Spot) (ℕ × Refusal) → Spot → Result (List Spot) (ℕ × Refusal)
 placed_next (Ok spots) spot = Ok (spot ∷ spots)

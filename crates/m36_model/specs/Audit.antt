@@ -1,0 +1,136 @@
+-- The six conditions of the audit, each by the places that break it, and what the audit finds.
+use Rattle.std.specs.Prelude.{◌≡◌, ◌≢◌, ℕ, ◌+◌, ◌*◌, ◌/◌, ◌<◌, ◌≤◌, ◌⊎◌, Bool, true, false, ◌&&◌, ◌==◌, List, [], ◌∷◌, ◌++◌, length, Option, Some, None, Result, Ok, Err}
+use Rattle.m36_desc.specs.Fields.{SdwFields, DbrFields}
+use Rattle.m36_desc.specs.Access.{in_order}
+use Rattle.m36_model.specs.Store.{Core_word, place}
+use Rattle.m36_model.specs.Place.{wrapped, in_bounds, sdw_place, directory_at, page_at, core_sdw}
+use Rattle.m36_model.specs.Core.{core_store}
+use Rattle.m36_model.specs.declared.outcome.Refusal.{Refusal}
+
+-- a core word that holds a half of a descriptor in bounds
+pub record IsSdwWord (core : List ℕ) (dbr : DbrFields) (seg a : ℕ) : Type 0 where
+  pub even : ℕ
+  pub found : sdw_place core dbr seg ≡ Ok even
+  pub half : (a ≡ even) ⊎ (a ≡ wrapped (even + 1))
+
+-- a PTW of a paged descriptor segment by which a descriptor in bounds is looked for
+pub record IsDirectoryWord (dbr : DbrFields) (seg a : ℕ) : Type 0 where
+  pub bounds : in_bounds dbr seg ≡ true
+  pub paged : dbr.unpaged ≡ false
+  pub found : a ≡ directory_at dbr seg
+
+-- a PTW of a live paged segment for a page that begins within its bound
+pub record IsPageWord (core : List ℕ) (dbr : DbrFields) (seg page a : ℕ) : Type 0 where
+  pub sdw : SdwFields
+  pub live : core_sdw core dbr seg ≡ Ok sdw
+  pub paged : sdw.unpaged ≡ false
+  pub begins : page ≤ sdw.bound / 64
+  pub found : a ≡ page_at sdw page
+
+-- the descriptors, the page table of the descriptor segment, and the page table of each live paged segment
+pub data Table : Type 0 where
+  Sdws : Table
+  Directory : Table
+  Pages : (seg : ℕ) → Table
+
+-- the core word at an address is a word of a table
+abbrev pub IsOf : List ℕ → DbrFields → Table → ℕ → Type 0
+IsOf core dbr Sdws a = (seg : ℕ) × IsSdwWord core dbr seg a
+IsOf core dbr Directory a = (seg : ℕ) × IsDirectoryWord dbr seg a
+IsOf core dbr (Pages seg) a = (page : ℕ) × IsPageWord core dbr seg page a
+
+-- a word of a segment that lies at an address in core
+abbrev pub IsSegmentWord : List ℕ → DbrFields → ℕ → ℕ → ℕ → Type 0
+IsSegmentWord core dbr seg w a = place core_store core dbr seg w ≡ Ok (Core_word a)
+
+-- First condition: each live segment has its ring brackets in order. A segment breaks it.
+pub record IsOutOfOrder (core : List ℕ) (dbr : DbrFields) (seg : ℕ) : Type 0 where
+  pub sdw : SdwFields
+  pub live : core_sdw core dbr seg ≡ Ok sdw
+  pub out : in_order sdw ≡ false
+
+-- Second condition: no core word is a word of two tables. A core word breaks it.
+pub record IsInTwoTables (core : List ℕ) (dbr : DbrFields) (a : ℕ) : Type 0 where
+  pub inside : a < length core
+  pub table : Table
+  pub other : Table
+  pub of : IsOf core dbr table a
+  pub of_other : IsOf core dbr other a
+  pub differ : table ≢ other
+
+-- Third condition: no word of a segment lies on a table word. A core word breaks it.
+pub record IsTableAndSegment (core : List ℕ) (dbr : DbrFields) (a : ℕ) : Type 0 where
+  pub table : Table
+  pub of : IsOf core dbr table a
+  pub seg : ℕ
+  pub w : ℕ
+  pub word : IsSegmentWord core dbr seg w a
+
+-- Fourth condition: no two words of segments lie on one core word. A core word breaks it.
+pub record IsInTwoSegments (core : List ℕ) (dbr : DbrFields) (a : ℕ) : Type 0 where
+  pub seg : ℕ
+  pub w : ℕ
+  pub word : IsSegmentWord core dbr seg w a
+  pub other_seg : ℕ
+  pub other_w : ℕ
+  pub other_word : IsSegmentWord core dbr other_seg other_w a
+  pub differ : (seg ≢ other_seg) ⊎ (w ≢ other_w)
+
+-- a live segment that rings outside its read bracket may call
+pub record IsCallable (core : List ℕ) (dbr : DbrFields) (seg : ℕ) (sdw : SdwFields) : Type 0 where
+  pub live : core_sdw core dbr seg ≡ Ok sdw
+  pub executable : sdw.executable ≡ true
+  pub outer : sdw.r2 < sdw.r3
+
+-- Fifth condition: each live segment with E on and R3 greater than R2 is a gate. A segment breaks it.
+pub record IsNoGate (core : List ℕ) (dbr : DbrFields) (seg : ℕ) : Type 0 where
+  pub sdw : SdwFields
+  pub callable : IsCallable core dbr seg sdw
+  pub open_everywhere : sdw.no_gate ≡ true
+
+-- the segment is live with R and W on, and its first two brackets are this ring
+abbrev pub is_stack_of : ℕ → Result SdwFields Refusal → Bool
+is_stack_of ring (Ok d) = (d.readable && d.writable) && (d.r1 == ring && d.r2 == ring)
+is_stack_of ring (Err e) = false
+
+-- Sixth condition: each live segment with E on and R3 greater than R2 has a stack in the ring that a call enters. A
+-- segment breaks it.
+pub record HasNoStack (core : List ℕ) (dbr : DbrFields) (seg : ℕ) : Type 0 where
+  pub sdw : SdwFields
+  pub callable : IsCallable core dbr seg sdw
+  pub missing : is_stack_of sdw.r2 (core_sdw core dbr (8 * dbr.stack + sdw.r2)) ≡ false
+
+-- all six conditions hold
+pub record IsAudited (core : List ℕ) (dbr : DbrFields) : Type 0 where
+  pub first : (seg : ℕ) → IsOutOfOrder core dbr seg → ⊥
+  pub second : (a : ℕ) → IsInTwoTables core dbr a → ⊥
+  pub third : (a : ℕ) → IsTableAndSegment core dbr a → ⊥
+  pub fourth : (a : ℕ) → IsInTwoSegments core dbr a → ⊥
+  pub fifth : (seg : ℕ) → IsNoGate core dbr seg → ⊥
+  pub sixth : (seg : ℕ) → HasNoStack core dbr seg → ⊥
+
+-- what is found of one condition: nothing where it holds, and else the least place that breaks it
+abbrev pub Finds : (ℕ → Type 0) → Option ℕ → Type 0
+Finds Breaks None = (p : ℕ) → Breaks p → ⊥
+Finds Breaks (Some p) = Breaks p × ((q : ℕ) → Breaks q → p ≤ q)
+
+-- a finding with the number of its condition
+abbrev pub noted : ℕ → Option ℕ → List (ℕ × ℕ)
+noted condition None = []
+noted condition (Some p) = (condition, p) ∷ []
+
+-- the findings of an audit: one for each condition that fails, in order
+pub record AreFindings (core : List ℕ) (dbr : DbrFields) (findings : List (ℕ × ℕ)) : Type 0 where
+  pub first : Option ℕ
+  pub finds_first : Finds (IsOutOfOrder core dbr) first
+  pub second : Option ℕ
+  pub finds_second : Finds (IsInTwoTables core dbr) second
+  pub third : Option ℕ
+  pub finds_third : Finds (IsTableAndSegment core dbr) third
+  pub fourth : Option ℕ
+  pub finds_fourth : Finds (IsInTwoSegments core dbr) fourth
+  pub fifth : Option ℕ
+  pub finds_fifth : Finds (IsNoGate core dbr) fifth
+  pub sixth : Option ℕ
+  pub finds_sixth : Finds (HasNoStack core dbr) sixth
+  pub listed : findings ≡ noted 1 first ++ noted 2 second ++ noted 3 third ++ noted 4 fourth ++ noted 5 fifth ++ noted 6 sixth
