@@ -8,3 +8,6 @@ pub mod Sight
 pub mod Agree
 pub mod Audit
 pub mod StoreLaw
+pub mod Modification
+pub mod Tally
+pub mod Chain

@@ -1,0 +1,122 @@
+-- Address modification: the points of an address chain, and what the tag of a point does.
+-- Multics Processor Manual AL39, "Effective address formation", "Address modification features" and "Tag field".
+use Rattle.std.specs.Prelude.{ℕ, ◌+◌, ◌-◌, ◌*◌, ◌/◌, ◌%◌, ◌^◌, Bool, ◌||◌, ◌==◌, if◌then◌else◌, Option, Some, None, slice_index, slice_index_or}
+use Rattle.m36_word.specs.Field.{field}
+use Rattle.m36_desc.specs.Fields.{PtrFields}
+use Rattle.m36_model.specs.Fields.{AtFields, FinalFields}
+use Rattle.m36_model.specs.Registers.{RegsFields}
+use Rattle.m36_model.specs.declared.outcome.Halt.{Halt}
+use Rattle.m36_model.specs.declared.outcome.Halt.TheVariants as halt
+use Rattle.m36_model.specs.declared.outcome.Stop.TheVariants as stop
+
+-- A point of a chain: segment TSR, ring TRR, address y, bit number, tag and perhaps a held register, of which the chain
+-- keeps the value. The last field is the word that carried the tag, with the ring that a fault tag names: the greater of
+-- TRR and R1 of that word's segment.
+pub record Point : Type 0 where
+  pub seg : ℕ
+  pub ring : ℕ
+  pub y : ℕ
+  pub bit : ℕ
+  pub tag : ℕ
+  pub held : Option ℕ
+  pub carrier : AtFields
+
+-- the instruction that is executed: the place of the faults that name no other word
+abbrev pub here : RegsFields → AtFields
+here g = record { seg = g.ppr.psr; word = g.ppr.ic; ring = g.ppr.prr }
+
+-- a fault other than an access violation, at a place
+abbrev pub fault_at : ℕ → AtFields → Halt
+fault_at number at = halt.Fault (record { at = at; number = number; acv = 0 })
+
+-- a register that no number names
+abbrev pub no_ptr : PtrFields
+no_ptr = record { seg = 0; ring = 0; word = 0; bit = 0 }
+
+-- pointer register n
+abbrev pub ptr : RegsFields → ℕ → PtrFields
+ptr g n = slice_index_or g.pr n no_ptr
+
+-- The value of the register that Td names: none (which is 0), au, qu, ic, al, ql, x0 to x7. Td 3 and 7, du and dl, name a
+-- direct operand and no register.
+unfoldable pub index_of : RegsFields → ℕ → ℕ
+index_of g td =
+    if td == 0 then 0
+    else if td == 1 then field g.a 0 18
+    else if td == 2 then field g.q 0 18
+    else if td == 4 then g.ppr.ic
+    else if td == 5 then field g.a 18 18
+    else if td == 6 then field g.q 18 18
+    else slice_index g.x (td - 8)
+
+abbrev pub direct_upper : ℕ
+direct_upper = 3
+
+abbrev pub direct_lower : ℕ
+direct_lower = 7
+
+-- du and dl
+abbrev pub is_direct : ℕ → Bool
+is_direct td = (td == direct_upper) || (td == direct_lower)
+
+-- what the tag of a point does
+pub data Move : Type 0 where
+  -- the chain ends here
+  Ends : FinalFields → Move
+  -- the tag gives a fault or a stop, and no word is read
+  Fails : Halt → Move
+  -- the indirect word at this word number is read, and from then on this register is held
+  Reads : (word : ℕ) → (held : Option ℕ) → Move
+  -- the tally word at y is read
+  Counts : Move
+
+-- the end of a chain at a word of the point's segment, and at a direct operand: then the place is that of the point itself
+abbrev pub ends_at : Point → ℕ → Move
+ends_at p word = Ends (record { at = record { seg = p.seg; word = word; ring = p.ring }; bit = p.bit; direct = None })
+
+abbrev pub ends_direct : Point → ℕ → Move
+ends_direct p operand = Ends (record { at = record { seg = p.seg; word = p.y; ring = p.ring }; bit = p.bit; direct = Some operand })
+
+-- Register modification (R). With a held register the chain ends at y plus that register, whatever Td is. Without one, du
+-- ends it with y as bits 0 to 17 of a direct operand and dl with y as bits 18 to 35; any other Td ends it at y plus the
+-- register that Td names.
+abbrev pub move_register : RegsFields → Point → ℕ → Option ℕ → Move
+move_register g p td (Some held) = ends_at p ((p.y + held) % 2 ^ 18)
+move_register g p td None =
+    if td == direct_upper then ends_direct p (p.y * 2 ^ 18)
+    else if td == direct_lower then ends_direct p p.y
+    else ends_at p ((p.y + index_of g td) % 2 ^ 18)
+
+-- Register then indirect (RI). The indirect word is at y plus the register; a held register stays. du and dl are an illegal
+-- procedure (this project's choice).
+abbrev pub move_register_then_indirect : RegsFields → Point → ℕ → Move
+move_register_then_indirect g p td =
+    if is_direct td then Fails (fault_at 10 (here g)) else Reads ((p.y + index_of g td) % 2 ^ 18) p.held
+
+-- Indirect then register (IR). The indirect word is at y; the register is held in place of any earlier one, and none is held as 0. du
+-- and dl are an illegal procedure (this project's choice).
+abbrev pub move_indirect_then_register : RegsFields → Point → ℕ → Move
+move_indirect_then_register g p td =
+    if is_direct td then Fails (fault_at 10 (here g)) else Reads p.y (Some (index_of g td))
+
+-- Indirect then tally (IT). Fault tags 1, 2 and 3 (octal 40, 46, 47) are told at the word that carried the tag. The pair
+-- tags ITP and ITS (41, 43) count only in the even word of a pair that RI or IR has reached; here they are an illegal procedure
+-- (this project's choice). SD, I, AD, DI and ID (44, 51, 53, 54, 56) read a tally word. The others stop the machine.
+abbrev pub move_indirect_then_tally : RegsFields → Point → ℕ → Move
+move_indirect_then_tally g p td =
+    if td == 0o0 then Fails (fault_at 3 p.carrier)
+    else if td == 0o6 then Fails (fault_at 24 p.carrier)
+    else if td == 0o7 then Fails (fault_at 25 p.carrier)
+    else if (td == 0o1) || (td == 0o3) then Fails (fault_at 10 (here g))
+    else if (td == 0o4) || (td == 0o11) || (td == 0o13) || (td == 0o14) || (td == 0o16) then Counts
+    else Fails (halt.Stop stop.Tag)
+
+-- The tag has Tm in its first two bits (R, RI, IT, IR) and Td in the other four.
+unfoldable pub move_of_point : RegsFields → Point → Move
+move_of_point g p =
+    let tm = p.tag / 16 in
+    let td = p.tag % 16 in
+    if tm == 0 then move_register g p td p.held
+    else if tm == 1 then move_register_then_indirect g p td
+    else if tm == 2 then move_indirect_then_tally g p td
+    else move_indirect_then_register g p td
