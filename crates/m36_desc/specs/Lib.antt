@@ -1,3 +1,5 @@
 pub mod Fields
 pub mod Descriptors
+pub mod Widths
+pub mod RoundTrips
 pub mod Access

@@ -1,5 +1,9 @@
 //! The descriptor segment base register.
 
+ghost use Rattle.std.specs.Prelude.{◌≡◌};
+ghost use Rattle.m36_desc.specs.Descriptors.{dbr_of, dbr_even, dbr_odd};
+
+use m36_word::{Field, Pair, Word};
 use std::marker::Model;
 
 /// The descriptor segment base register: where the descriptor segment lies, how far it reaches, and where the
@@ -27,4 +31,32 @@ impl Model for Dbr {
     ghost invariant = { λ d. (d.addr < 2 ^ 24) × (d.bnd < 2 ^ 14) × (d.stack < 2 ^ 12) };
 
     ghost inverse = { λ d. record { addr = d.addr; bnd = d.bnd; unpaged = d.unpaged; stack = d.stack } };
+}
+
+impl Dbr {
+    /// The register that a pair of words is loaded into.
+    pub fn of_words(p: Pair) -> Dbr
+        ensures { result ≡ dbr_of p.even p.odd }
+    {
+        Dbr {
+            addr: Field::<0, 24>::get(p.even) as u32,
+            bnd: Field::<1, 14>::get(p.odd) as u16,
+            stack: Field::<24, 12>::get(p.odd) as u16,
+            unpaged: Field::<19, 1>::get(p.odd) == 1,
+        }
+    }
+
+    /// The pair of words that the register is stored as, with all other bits zero.
+    #[tactic(auto, using(crate::proofs::RoundTrips::comes_back))]
+    pub fn to_words(&self) -> Pair
+        ensures even { result.even ≡ dbr_even self.now }
+        ensures odd { result.odd ≡ dbr_odd self.now }
+        ensures back { dbr_of result.even result.odd ≡ self.now }
+    {
+        let odd = ((self.bnd as u64) << 21) + ((self.unpaged as u64) << 16) + self.stack as u64;
+        Pair {
+            even: Word::low((self.addr as u64) << 12),
+            odd: Word::low(odd),
+        }
+    }
 }

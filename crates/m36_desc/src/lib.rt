@@ -8,14 +8,21 @@
 //! ring rules, Schroeder and Saltzer, "A hardware architecture for implementing protection rings" (1972).
 #![tactic(auto)]
 
+pub mod access;
 pub mod dbr;
+pub mod laws;
 pub mod pairs;
 pub mod pointer;
 pub mod ptw;
 pub mod sdw;
 
+pub use access::{Acv, call_ring, may_fetch, may_read, may_transfer, may_write};
 pub use dbr::Dbr;
-pub use pairs::{Itp, Its};
+pub use laws::{descriptor_laws, field_widths, word_widths};
+pub use pairs::{ITP_TAG, ITS_TAG, Itp, Its};
 pub use pointer::Ptr;
 pub use ptw::Ptw;
 pub use sdw::Sdw;
+
+#[cfg(test)]
+mod tests;

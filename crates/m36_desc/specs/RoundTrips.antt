@@ -1,0 +1,23 @@
+-- What is written to words is read back.
+use Rattle.std.specs.Prelude.{◌≡◌}
+use Rattle.m36_desc.specs.Fields.{SdwFields, PtwFields, DbrFields, PtrFields, ItsFields, ItpFields}
+use Rattle.m36_desc.specs.Widths.{IsSdw, IsPtw, IsDbr, IsPtr, IsIts, IsItp}
+use Rattle.m36_desc.specs.Descriptors.{sdw_of, sdw_even, sdw_odd, ptw_of, ptw_word, dbr_of, dbr_even, dbr_odd, ptr_of, ptr_even, ptr_odd, its_of, its_even, its_odd, itp_of, itp_even, itp_odd}
+
+abbrev pub SdwComesBack : Type 0
+SdwComesBack = (s : SdwFields) → IsSdw s → sdw_of (sdw_even s) (sdw_odd s) ≡ s
+
+abbrev pub PtwComesBack : Type 0
+PtwComesBack = (p : PtwFields) → IsPtw p → ptw_of (ptw_word p) ≡ p
+
+abbrev pub DbrComesBack : Type 0
+DbrComesBack = (d : DbrFields) → IsDbr d → dbr_of (dbr_even d) (dbr_odd d) ≡ d
+
+abbrev pub PtrComesBack : Type 0
+PtrComesBack = (p : PtrFields) → IsPtr p → ptr_of (ptr_even p) (ptr_odd p) ≡ p
+
+abbrev pub ItsComesBack : Type 0
+ItsComesBack = (p : ItsFields) → IsIts p → its_of (its_even p) (its_odd p) ≡ p
+
+abbrev pub ItpComesBack : Type 0
+ItpComesBack = (p : ItpFields) → IsItp p → itp_of (itp_even p) (itp_odd p) ≡ p

@@ -1,0 +1,86 @@
+-- The widths of a descriptor's fields.
+use Rattle.std.specs.Prelude.{ℕ, ◌^◌, ◌<◌}
+use Rattle.m36_desc.specs.Fields.{SdwFields, PtwFields, DbrFields, PtrFields, ItsFields, ItpFields}
+use Rattle.m36_desc.specs.Descriptors.{sdw_of, sdw_even, sdw_odd, ptw_of, ptw_word, dbr_of, dbr_even, dbr_odd, ptr_of, ptr_even, ptr_odd, its_of, its_even, its_odd, itp_of, itp_even, itp_odd, packed_of}
+
+pub record IsSdw (s : SdwFields) : Type 0 where
+  pub addr : s.addr < 2 ^ 24
+  pub r1 : s.r1 < 2 ^ 3
+  pub r2 : s.r2 < 2 ^ 3
+  pub r3 : s.r3 < 2 ^ 3
+  pub fc : s.fc < 2 ^ 2
+  pub bound : s.bound < 2 ^ 14
+  pub limit : s.limit < 2 ^ 14
+
+pub record IsPtw (p : PtwFields) : Type 0 where
+  pub addr : p.addr < 2 ^ 18
+  pub fc : p.fc < 2 ^ 2
+
+pub record IsDbr (d : DbrFields) : Type 0 where
+  pub addr : d.addr < 2 ^ 24
+  pub bnd : d.bnd < 2 ^ 14
+  pub stack : d.stack < 2 ^ 12
+
+pub record IsPtr (p : PtrFields) : Type 0 where
+  pub seg : p.seg < 2 ^ 15
+  pub ring : p.ring < 2 ^ 3
+  pub word : p.word < 2 ^ 18
+  pub bit : p.bit < 2 ^ 6
+
+pub record IsIts (p : ItsFields) : Type 0 where
+  pub seg : p.seg < 2 ^ 15
+  pub ring : p.ring < 2 ^ 3
+  pub word : p.word < 2 ^ 18
+  pub bit : p.bit < 2 ^ 6
+  pub tag : p.tag < 2 ^ 6
+
+pub record IsItp (p : ItpFields) : Type 0 where
+  pub pr : p.pr < 2 ^ 3
+  pub word : p.word < 2 ^ 18
+  pub bit : p.bit < 2 ^ 6
+  pub tag : p.tag < 2 ^ 6
+
+-- Whatever words are read, each field is within its width.
+abbrev pub SdwFits : Type 0
+SdwFits = (even odd : ℕ) → IsSdw (sdw_of even odd)
+
+abbrev pub PtwFits : Type 0
+PtwFits = (w : ℕ) → IsPtw (ptw_of w)
+
+abbrev pub DbrFits : Type 0
+DbrFits = (even odd : ℕ) → IsDbr (dbr_of even odd)
+
+abbrev pub PtrFits : Type 0
+PtrFits = (even odd : ℕ) → IsPtr (ptr_of even odd)
+
+abbrev pub ItsFits : Type 0
+ItsFits = (even odd : ℕ) → IsIts (its_of even odd)
+
+abbrev pub ItpFits : Type 0
+ItpFits = (even odd : ℕ) → IsItp (itp_of even odd)
+
+abbrev pub PackedFits : Type 0
+PackedFits = (w ring : ℕ) → ring < 2 ^ 3 → IsPtr (packed_of w ring)
+
+-- The words of a descriptor within its widths have 36 bits.
+pub record AreWords (first second : ℕ) : Type 0 where
+  pub even : first < 2 ^ 36
+  pub odd : second < 2 ^ 36
+
+abbrev pub SdwWords : Type 0
+SdwWords = (s : SdwFields) → IsSdw s → AreWords (sdw_even s) (sdw_odd s)
+
+abbrev pub PtwWords : Type 0
+PtwWords = (p : PtwFields) → IsPtw p → ptw_word p < 2 ^ 36
+
+abbrev pub DbrWords : Type 0
+DbrWords = (d : DbrFields) → IsDbr d → AreWords (dbr_even d) (dbr_odd d)
+
+abbrev pub PtrWords : Type 0
+PtrWords = (p : PtrFields) → IsPtr p → AreWords (ptr_even p) (ptr_odd p)
+
+abbrev pub ItsWords : Type 0
+ItsWords = (p : ItsFields) → IsIts p → AreWords (its_even p) (its_odd p)
+
+abbrev pub ItpWords : Type 0
+ItpWords = (p : ItpFields) → IsItp p → AreWords (itp_even p) (itp_odd p)

@@ -1,0 +1,98 @@
+//! The rights that a segment descriptor gives to a reference.
+
+ghost use Rattle.std.specs.Prelude.{◌≡◌, ◌<◌, ◌^◌, IfOk, [], ◌∷◌};
+ghost use Rattle.m36_desc.specs.Access.{first_of, allowed, read_rows, write_rows, fetch_rows, transfer_rows, call_rows, ring_called, order_row};
+
+use crate::sdw::Sdw;
+
+/// An access violation, by its number from 0 to 15.
+#[derive(Clone, Copy, PartialEq, Eq, Debug)]
+pub struct Acv(pub u8);
+
+/// Whether a word may be read in ring `trr`. `same` says that the segment is the one that executes.
+pub fn may_read(s: &Sdw, trr: u8, same: bool) -> Result<(), Acv>
+    ensures { result ≡ allowed tt (first_of (read_rows s.now trr same)) }
+{
+    brackets_in_order(s)?;
+    if s.r2 < trr {
+        return Err(Acv(3));
+    }
+    if !s.readable && !same {
+        return Err(Acv(4));
+    }
+    Ok(())
+}
+
+/// Whether a word may be written in ring `trr`.
+pub fn may_write(s: &Sdw, trr: u8) -> Result<(), Acv>
+    ensures { result ≡ allowed tt (first_of (write_rows s.now trr)) }
+{
+    brackets_in_order(s)?;
+    if s.r1 < trr {
+        return Err(Acv(5));
+    }
+    if !s.writable {
+        return Err(Acv(6));
+    }
+    Ok(())
+}
+
+/// Whether an instruction may be fetched in ring `prr`.
+pub fn may_fetch(s: &Sdw, prr: u8) -> Result<(), Acv>
+    ensures { result ≡ allowed tt (first_of (fetch_rows s.now prr)) }
+{
+    brackets_in_order(s)?;
+    if prr < s.r1 || s.r2 < prr {
+        return Err(Acv(1));
+    }
+    if !s.executable {
+        return Err(Acv(2));
+    }
+    Ok(())
+}
+
+/// Whether a transfer may go there in ring `trr` from ring `prr`.
+pub fn may_transfer(s: &Sdw, trr: u8, prr: u8) -> Result<(), Acv>
+    ensures { result ≡ allowed tt (first_of (transfer_rows s.now trr prr)) }
+{
+    may_fetch(s, trr)?;
+    if trr != prr {
+        return Err(Acv(12));
+    }
+    Ok(())
+}
+
+/// The ring in which a call to a word goes on, where it is allowed in ring `trr` from ring `prr`. `same` says that
+/// the segment is the one that executes.
+pub fn call_ring(s: &Sdw, trr: u8, prr: u8, same: bool, word: u32) -> Result<u8, Acv>
+    ensures answer { result ≡ allowed (ring_called s.now trr) (first_of (call_rows s.now trr prr same word)) }
+    ensures ring { IfOk result (λ ring. ring < 2 ^ 3) }
+{
+    brackets_in_order(s)?;
+    if !s.executable {
+        return Err(Acv(2));
+    }
+    if !s.no_gate && !same && word >= s.limit as u32 {
+        return Err(Acv(7));
+    }
+    if s.r3 < trr {
+        return Err(Acv(8));
+    }
+    if trr < s.r1 {
+        return Err(Acv(9));
+    }
+    if prr < trr && prr < s.r2 {
+        return Err(Acv(10));
+    }
+    Ok(trr.min(s.r2))
+}
+
+fn brackets_in_order(s: &Sdw) -> Result<(), Acv>
+    ensures { result ≡ allowed tt (first_of (order_row s.now ∷ [])) }
+{
+    if s.r1 <= s.r2 && s.r2 <= s.r3 {
+        Ok(())
+    } else {
+        Err(Acv(0))
+    }
+}
