@@ -1,8 +1,8 @@
 -- What is written to words is read back: each field alone, and then the record of them.
 use Rattle.std.proofs.Common.{◌≡◌, ℕ, ◌≤◌, ◌==◌, Bool, true, false, refl, arith}
 use Rattle.m36_word.specs.Bits.{of_bit}
-use Rattle.m36_desc.specs.Fields.{SdwFields, PtwFields, DbrFields, PtrFields, ItsFields, ItpFields}
-use Rattle.m36_desc.specs.Widths.{IsSdw, IsPtw, IsDbr, IsPtr, IsIts, IsItp}
+use Rattle.m36_desc.specs.Fields.{SdwFields}
+use Rattle.m36_desc.specs.Widths.{IsSdw}
 use Rattle.m36_desc.specs.Descriptors.{sdw_of, sdw_even, sdw_odd, ptw_of, ptw_word, dbr_of, dbr_even, dbr_odd, ptr_of, ptr_even, ptr_odd, its_of, its_even, its_odd, itp_of, itp_even, itp_odd}
 use Rattle.m36_desc.specs.RoundTrips.{SdwComesBack, PtwComesBack, DbrComesBack, PtrComesBack, ItsComesBack, ItpComesBack}
 

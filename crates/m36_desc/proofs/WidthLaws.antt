@@ -1,7 +1,5 @@
 -- The widths of what is read from words, and of the words that are made.
-use Rattle.std.proofs.Common.{ℕ, ◌<◌, ◌-◌, ◌/◌, ◌%◌, ◌^◌, ◌==◌, Bool, true, false, arith, if◌then◌else◌}
-use Rattle.m36_desc.specs.Fields.{SdwFields, PtwFields, DbrFields, PtrFields, ItsFields, ItpFields}
-use Rattle.m36_desc.specs.Descriptors.{unpacked_segment}
+use Rattle.std.proofs.Common.{ℕ, ◌<◌, ◌-◌, ◌/◌, ◌%◌, ◌^◌, Bool, true, false, arith, if◌then◌else◌}
 use Rattle.m36_desc.specs.Widths.{SdwFits, PtwFits, DbrFits, PtrFits, ItsFits, ItpFits, PackedFits, SdwWords, PtwWords, DbrWords, PtrWords, ItsWords, ItpWords}
 use Rattle.m36_desc.proofs.RoundTrips.{bit_small}
 

@@ -5,7 +5,6 @@
 use Rattle.std.specs.Prelude.{ℕ, ◌+◌, ◌-◌, ◌*◌, ◌^◌, ◌==◌, if◌then◌else◌}
 use Rattle.m36_word.specs.Field.{field}
 use Rattle.m36_word.specs.Bits.{is_on, of_bit}
-use Rattle.m36_word.specs.declared.pair.Pair.{Pair}
 use Rattle.m36_desc.specs.Fields.{SdwFields, PtwFields, DbrFields, PtrFields, ItsFields, ItpFields}
 
 -- Segment descriptor word. Even word: ADDR 0-23, R1 24-26, R2 27-29, R3 30-32, F 33, FC 34-35.

@@ -1,7 +1,7 @@
 //! The rights that a segment descriptor gives to a reference.
 
-ghost use Rattle.std.specs.Prelude.{◌≡◌, ◌<◌, ◌^◌, IfOk, [], ◌∷◌};
-ghost use Rattle.m36_desc.specs.Access.{first_of, allowed, read_rows, write_rows, fetch_rows, transfer_rows, call_rows, ring_called, order_row};
+ghost use Rattle.std.specs.Prelude.{◌≡◌, ◌<◌, ◌^◌, IfOk, not, [], ◌∷◌};
+ghost use Rattle.m36_desc.specs.Access.{first_of, allowed, read_rows, write_rows, fetch_rows, transfer_rows, call_rows, ring_called, in_order};
 
 use crate::sdw::Sdw;
 
@@ -88,7 +88,7 @@ pub fn call_ring(s: &Sdw, trr: u8, prr: u8, same: bool, word: u32) -> Result<u8,
 }
 
 fn brackets_in_order(s: &Sdw) -> Result<(), Acv>
-    ensures { result ≡ allowed tt (first_of (order_row s.now ∷ [])) }
+    ensures { result ≡ allowed tt (first_of ((not (in_order s.now), 0) ∷ [])) }
 {
     if s.r1 <= s.r2 && s.r2 <= s.r3 {
         Ok(())
