@@ -11,3 +11,17 @@ pub mod StoreLaw
 pub mod Modification
 pub mod Tally
 pub mod Chain
+pub mod Arithmetic
+pub mod Shifts
+pub mod Booleans
+pub mod Results
+pub mod Loads
+pub mod Stores
+pub mod Sums
+pub mod Products
+pub mod Compares
+pub mod Logic
+pub mod ShiftEffects
+pub mod Pointers
+pub mod CallReturn
+pub mod Privileged

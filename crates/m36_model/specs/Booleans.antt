@@ -1,0 +1,49 @@
+-- Boolean operations, bit by bit.
+-- Multics Processor Manual AL39, "Boolean operation instructions".
+use Rattle.std.specs.Prelude.{ℕ, zero, suc, ◌+◌, ◌*◌, ◌/◌, ◌%◌, ◌^◌, Bool, true, false, not, ◌&&◌, ◌||◌, ◌==◌, List, [], ◌∷◌, length}
+use Rattle.m36_word.specs.Bits.{of_bit}
+
+-- the bits of a number of k bits, the first one first
+unfoldable pub bits_of : ℕ → ℕ → List Bool
+bits_of zero v = []
+bits_of (suc k) v = (v / 2 ^ k % 2 == 1) ∷ bits_of k v
+
+-- the number that bits write out
+unfoldable pub number_from : List Bool → ℕ
+number_from [] = 0
+number_from (b ∷ bits) = of_bit b * 2 ^ length bits + number_from bits
+
+-- one operation on each pair of bits
+unfoldable pub each_bit : (Bool → Bool → Bool) → List Bool → List Bool → List Bool
+each_bit f [] bits = []
+each_bit f (a ∷ more) [] = []
+each_bit f (a ∷ more) (b ∷ bits) = f a b ∷ each_bit f more bits
+
+unfoldable pub bitwise : (Bool → Bool → Bool) → ℕ → ℕ → ℕ → ℕ
+bitwise f k x y = number_from (each_bit f (bits_of k x) (bits_of k y))
+
+abbrev pub and_bit : Bool → Bool → Bool
+and_bit a b = a && b
+
+abbrev pub or_bit : Bool → Bool → Bool
+or_bit a b = a || b
+
+abbrev pub xor_bit : Bool → Bool → Bool
+xor_bit true b = not b
+xor_bit false b = b
+
+abbrev pub and_not_bit : Bool → Bool → Bool
+and_not_bit a b = a && not b
+
+-- and, or, exclusive or, and "the first and not the second" of numbers of k bits
+unfoldable pub and_of : ℕ → ℕ → ℕ → ℕ
+and_of k x y = bitwise and_bit k x y
+
+unfoldable pub or_of : ℕ → ℕ → ℕ → ℕ
+or_of k x y = bitwise or_bit k x y
+
+unfoldable pub xor_of : ℕ → ℕ → ℕ → ℕ
+xor_of k x y = bitwise xor_bit k x y
+
+unfoldable pub and_not_of : ℕ → ℕ → ℕ → ℕ
+and_not_of k x y = bitwise and_not_bit k x y

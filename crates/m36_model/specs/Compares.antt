@@ -1,0 +1,36 @@
+-- Comparisons and tests, which change indicators alone.
+-- Multics Processor Manual AL39, "Fixed-point comparison instructions", "Fixed-point miscellaneous instructions", "Boolean
+-- comparative AND and NOT instructions".
+use Rattle.std.specs.Prelude.{ℕ, ◌^◌, [], ◌∷◌, Result}
+use Rattle.m36_model.specs.Registers.{RegsFields}
+use Rattle.m36_model.specs.Arithmetic.{comparison}
+use Rattle.m36_model.specs.Booleans.{and_of, xor_of, and_not_of}
+use Rattle.m36_model.specs.Results.{EffectFields, Working, half, width, value, with_indicators, zn, compared, completes, completes_with}
+
+-- CMPA, CMPQ, CMPAQ, CMPX: register and value are compared
+unfoldable pub compare : Working → ℕ → RegsFields → Result EffectFields ℕ
+compare r v g = completes (with_indicators (compared (comparison (half r) (value r g) v) g.ind) g)
+
+-- a number of a width is tested
+abbrev pub test : ℕ → ℕ → RegsFields → Result EffectFields ℕ
+test h v g = completes (with_indicators (zn h v g.ind) g)
+
+-- SZN: the word is tested
+unfoldable pub test_word : ℕ → RegsFields → Result EffectFields ℕ
+test_word v g = test (2 ^ 35) v g
+
+-- SZNC: the word is tested, and becomes 0
+unfoldable pub test_and_clear : ℕ → RegsFields → Result EffectFields ℕ
+test_and_clear v g = completes_with (with_indicators (zn (2 ^ 35) v g.ind) g) (0 ∷ [])
+
+-- CMK: A and the word, where Q has no mask bit, are tested for difference
+unfoldable pub compare_masked : ℕ → RegsFields → Result EffectFields ℕ
+compare_masked v g = test (2 ^ 35) (and_not_of 36 (xor_of 36 g.a v) g.q) g
+
+-- CANA, CANQ, CANAQ, CANX: register and value, bit by bit, are tested
+unfoldable pub test_and : Working → ℕ → RegsFields → Result EffectFields ℕ
+test_and r v g = test (half r) (and_of (width r) (value r g) v) g
+
+-- CNAA, CNAQ, CNAAQ, CNAX: register and not value
+unfoldable pub test_and_not : Working → ℕ → RegsFields → Result EffectFields ℕ
+test_and_not r v g = test (half r) (and_not_of (width r) (value r g) v) g

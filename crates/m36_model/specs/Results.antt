@@ -1,0 +1,147 @@
+-- What an effect is given and what it gives: operands, working registers, indicators.
+-- Multics Processor Manual AL39, "Processor registers" and "Indicator register".
+use Rattle.std.specs.Prelude.{ℕ, ◌+◌, ◌*◌, ◌/◌, ◌%◌, ◌^◌, Bool, false, ◌||◌, ◌==◌, List, [], ◌∷◌, Result, Ok, Err, slice_index, slice_set}
+use Rattle.m36_word.specs.Field.{field}
+use Rattle.m36_word.specs.Pairs.{number_of}
+use Rattle.m36_word.specs.declared.pair.Pair.{Pair}
+use Rattle.m36_desc.specs.Fields.{PtrFields}
+use Rattle.m36_model.specs.Registers.{RegsFields}
+use Rattle.m36_model.specs.Arithmetic.{SumFields, ComparisonFields, is_negative}
+use Rattle.m36_model.specs.declared.effects.Held.{Held}
+use Rattle.m36_model.specs.declared.effects.Held.TheVariants as held
+use Rattle.m36_model.specs.declared.effects.Operand36.{Operand36}
+use Rattle.m36_model.specs.declared.effects.Effect36.{Effect36}
+use Rattle.m36_model.specs.declared.registers.Ind.{Ind}
+
+-- The operand of an effect: the words that were read; for pairs and blocks R1 of their segment, for CALL6 the new ring; for
+-- ABSA the place in core.
+pub record OperandFields : Type 0 where
+  pub got : List ℕ
+  pub ring : ℕ
+  pub place : ℕ
+
+-- What an effect gives: the new registers, the words to write, and whether it has put overflow on. A half to write stands
+-- right-justified in its word.
+pub record EffectFields : Type 0 where
+  pub regs : RegsFields
+  pub put : List ℕ
+  pub overflow : Bool
+
+-- the words of the code's operands and results
+abbrev pub words_of_pairs : List Pair → List ℕ
+words_of_pairs [] = []
+words_of_pairs (p ∷ pairs) = p.even ∷ p.odd ∷ words_of_pairs pairs
+
+abbrev pub words_of_held : Held → List ℕ
+words_of_held held.Empty = []
+words_of_held (held.One w) = w ∷ []
+words_of_held (held.Two p) = p.even ∷ p.odd ∷ []
+words_of_held (held.Block b) = words_of_pairs b
+
+abbrev pub operand_fields : Operand36 → OperandFields
+operand_fields o = record { got = words_of_held o.got; ring = o.ring; place = o.place }
+
+abbrev pub effect_fields : Effect36 → EffectFields
+effect_fields e = record { regs = e.regs; put = words_of_held e.put; overflow = e.overflow }
+
+-- the operand word Y, its two halves, and an operand pair as a number
+abbrev pub word : OperandFields → ℕ
+word o = slice_index o.got 0
+
+abbrev pub upper : OperandFields → ℕ
+upper o = field (word o) 0 18
+
+abbrev pub lower : OperandFields → ℕ
+lower o = field (word o) 18 18
+
+abbrev pub pair : OperandFields → ℕ
+pair o = slice_index o.got 0 * 2 ^ 36 + slice_index o.got 1
+
+-- The registers that arithmetic works on: the accumulator, the quotient register, both as one number of 72 bits, and an index
+-- register.
+pub data Working : Type 0 where
+  A : Working
+  Q : Working
+  AQ : Working
+  X : (n : ℕ) → Working
+
+-- its width, and half of its range
+abbrev pub width : Working → ℕ
+width A = 36
+width Q = 36
+width AQ = 72
+width (X n) = 18
+
+abbrev pub half : Working → ℕ
+half A = 2 ^ 35
+half Q = 2 ^ 35
+half AQ = 2 ^ 71
+half (X n) = 2 ^ 17
+
+abbrev pub value : Working → RegsFields → ℕ
+value A g = g.a
+value Q g = g.q
+value AQ g = g.a * 2 ^ 36 + g.q
+value (X n) g = slice_index g.x n
+
+unfoldable pub with_value : Working → ℕ → RegsFields → RegsFields
+with_value A v g = record g { a = v }
+with_value Q v g = record g { q = v }
+with_value AQ v g = record g { a = v / 2 ^ 36; q = v % 2 ^ 36 }
+with_value (X n) v g = record g { x = slice_set g.x n v }
+
+-- the operand in the register's width: the word, the pair, or bits 0 to 17 of the word
+abbrev pub operand : Working → OperandFields → ℕ
+operand A o = word o
+operand Q o = word o
+operand AQ o = pair o
+operand (X n) o = upper o
+
+-- the words that hold a number of the register's width
+abbrev pub words : Working → ℕ → List ℕ
+words A v = v ∷ []
+words Q v = v ∷ []
+words AQ v = v / 2 ^ 36 ∷ v % 2 ^ 36 ∷ []
+words (X n) v = v ∷ []
+
+-- Indicators. Zero is on where the result is 0 and negative where its first bit is on; an indicator that is not named stays.
+-- Overflow is put on and never off.
+unfoldable pub zn : ℕ → ℕ → Ind → Ind
+zn h v i = record i { zero = v == 0; negative = is_negative h v }
+
+unfoldable pub zn_carry : SumFields → Ind → Ind
+zn_carry s i = record i { zero = s.zero; negative = s.negative; carry = s.carry }
+
+unfoldable pub zn_overflow : SumFields → Ind → Ind
+zn_overflow s i = record i { zero = s.zero; negative = s.negative; overflow = i.overflow || s.overflow }
+
+unfoldable pub zn_carry_overflow : SumFields → Ind → Ind
+zn_carry_overflow s i =
+    record i { zero = s.zero; negative = s.negative; carry = s.carry; overflow = i.overflow || s.overflow }
+
+unfoldable pub compared : ComparisonFields → Ind → Ind
+compared c i = record i { zero = c.zero; negative = c.negative; carry = c.carry }
+
+abbrev pub with_zero : Bool → Ind → Ind
+with_zero z i = record i { zero = z }
+
+abbrev pub with_indicators : Ind → RegsFields → RegsFields
+with_indicators i g = record g { ind = i }
+
+-- The instruction counter moves on by 1.
+unfoldable pub moved_on : RegsFields → RegsFields
+moved_on g = record g { ppr = record g.ppr { ic = (g.ppr.ic + 1) % 2 ^ 18 } }
+
+-- An effect on registers that moves on to the next instruction: alone, with words to write, and with overflow.
+abbrev pub completes : RegsFields → Result EffectFields ℕ
+completes g = Ok (record { regs = moved_on g; put = []; overflow = false })
+
+abbrev pub completes_with : RegsFields → List ℕ → Result EffectFields ℕ
+completes_with g put = Ok (record { regs = moved_on g; put = put; overflow = false })
+
+abbrev pub completes_or_overflows : RegsFields → List ℕ → Bool → Result EffectFields ℕ
+completes_or_overflows g put overflow = Ok (record { regs = moved_on g; put = put; overflow = overflow })
+
+-- a register takes a value, with the indicators as they are to be
+abbrev pub takes : Working → ℕ → Ind → RegsFields → RegsFields
+takes r v i g = with_indicators i (with_value r v g)

@@ -1,0 +1,33 @@
+-- Shift instructions: the count is the computed address modulo 128.
+-- Multics Processor Manual AL39, "Fixed-point data movement shift instructions".
+use Rattle.std.specs.Prelude.{ℕ, Bool, Result}
+use Rattle.m36_model.specs.Registers.{RegsFields}
+use Rattle.m36_model.specs.Shifts.{count_of, left_shift, left_shift_carry, copying_right_shift, plain_right_shift, rotation}
+use Rattle.m36_model.specs.Results.{EffectFields, Working, half, width, value, takes, zn, completes}
+use Rattle.m36_model.specs.declared.registers.Ind.{Ind}
+
+abbrev pub with_carry : Bool → Ind → Ind
+with_carry c i = record i { carry = c }
+
+-- ALS, QLS, LLS: carry is put on or off
+unfoldable pub shift_left : Working → ℕ → RegsFields → Result EffectFields ℕ
+shift_left r address g =
+    let v = left_shift (width r) (value r g) (count_of address) in
+    let c = left_shift_carry (width r) (value r g) (count_of address) in
+    completes (takes r v (with_carry c (zn (half r) v g.ind)) g)
+
+-- ARS, QRS, LRS
+unfoldable pub shift_right : Working → ℕ → RegsFields → Result EffectFields ℕ
+shift_right r address g =
+    let v = copying_right_shift (width r) (value r g) (count_of address) in
+    completes (takes r v (zn (half r) v g.ind) g)
+
+-- ARL, QRL, LRL
+unfoldable pub shift_right_logical : Working → ℕ → RegsFields → Result EffectFields ℕ
+shift_right_logical r address g =
+    let v = plain_right_shift (value r g) (count_of address) in completes (takes r v (zn (half r) v g.ind) g)
+
+-- ALR, QLR, LLR
+unfoldable pub rotate_left : Working → ℕ → RegsFields → Result EffectFields ℕ
+rotate_left r address g =
+    let v = rotation (width r) (value r g) (count_of address) in completes (takes r v (zn (half r) v g.ind) g)

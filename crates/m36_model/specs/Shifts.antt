@@ -1,0 +1,34 @@
+-- Shifts of numbers of k bits by a count, which is the address modulo 128.
+-- Multics Processor Manual AL39, "Fixed-point data movement shift instructions"; the carry of a left shift as written here
+-- is this project's choice.
+use Rattle.std.specs.Prelude.{ℕ, ◌+◌, ◌-◌, ◌*◌, ◌/◌, ◌%◌, ◌^◌, Bool, not, ◌&&◌, ◌==◌, pos}
+use Rattle.std.specs.Int.{int_div_euclid}
+use Rattle.m36_word.specs.Signed.{signed}
+use Rattle.m36_model.specs.Arithmetic.{modulo}
+
+abbrev pub count_of : ℕ → ℕ
+count_of address = address % 128
+
+-- a left shift: zeros come in
+unfoldable pub left_shift : ℕ → ℕ → ℕ → ℕ
+left_shift k v c = v * 2 ^ c % 2 ^ k
+
+-- Bits 0 to c of the number followed by zeros without end, as a number.
+unfoldable pub first_bits : ℕ → ℕ → ℕ → ℕ
+first_bits k v c = v * 2 ^ (c + 1) / 2 ^ k
+
+-- Carry is on exactly where two of these bits differ: they are neither all zeros nor all ones.
+unfoldable pub left_shift_carry : ℕ → ℕ → ℕ → Bool
+left_shift_carry k v c = not (first_bits k v c == 0) && not (first_bits k v c == 2 ^ (c + 1) - 1)
+
+-- a right shift into which the first bit is copied: the signed value over 2^c, cut downward
+unfoldable pub copying_right_shift : ℕ → ℕ → ℕ → ℕ
+copying_right_shift k v c = modulo (int_div_euclid (signed (2 ^ (k - 1)) v) (pos (2 ^ c))) (2 ^ k)
+
+-- a right shift: zeros come in
+unfoldable pub plain_right_shift : ℕ → ℕ → ℕ
+plain_right_shift v c = v / 2 ^ c
+
+-- a rotation to the left, by the count modulo the width
+unfoldable pub rotation : ℕ → ℕ → ℕ → ℕ
+rotation k v c = v * 2 ^ (c % k) % 2 ^ k + v / 2 ^ (k - c % k)

@@ -1,0 +1,64 @@
+-- Additions and subtractions. Multics Processor Manual AL39, "Fixed-point addition instructions", "Fixed-point subtraction
+-- instructions", "Fixed-point negate instructions".
+use Rattle.std.specs.Prelude.{ℕ, ◌+◌, ◌-◌, ◌^◌, Bool, false, not, nat_lt, if◌then◌else◌, [], Result}
+use Rattle.m36_model.specs.Registers.{RegsFields}
+use Rattle.m36_model.specs.Arithmetic.{SumFields, sum, difference, negation}
+use Rattle.m36_model.specs.Results.{EffectFields, Working, A, half, value, words, takes, with_indicators, zn_carry, zn_overflow, zn_carry_overflow, completes, completes_or_overflows}
+
+-- a result that goes into the register, with carry and overflow, and one with carry alone
+unfoldable pub into_register : Working → SumFields → RegsFields → Result EffectFields ℕ
+into_register r s g = completes_or_overflows (takes r s.value (zn_carry_overflow s g.ind) g) [] s.overflow
+
+unfoldable pub into_register_logical : Working → SumFields → RegsFields → Result EffectFields ℕ
+into_register_logical r s g = completes (takes r s.value (zn_carry s g.ind) g)
+
+-- a result that goes into the operand
+unfoldable pub into_operand : Working → SumFields → RegsFields → Result EffectFields ℕ
+into_operand r s g =
+    completes_or_overflows (with_indicators (zn_carry_overflow s g.ind) g) (words r s.value) s.overflow
+
+-- ADA, ADQ, ADAQ, ADX, ADL: register plus value
+unfoldable pub add : Working → ℕ → RegsFields → Result EffectFields ℕ
+add r v g = into_register r (sum (half r) (value r g) v false) g
+
+-- ADLA, ADLQ, ADLAQ, ADLX: the same without overflow
+unfoldable pub add_logical : Working → ℕ → RegsFields → Result EffectFields ℕ
+add_logical r v g = into_register_logical r (sum (half r) (value r g) v false) g
+
+-- AWCA, AWCQ: register plus value, plus 1 where carry is on
+unfoldable pub add_with_carry : Working → ℕ → RegsFields → Result EffectFields ℕ
+add_with_carry r v g = into_register r (sum (half r) (value r g) v g.ind.carry) g
+
+-- ADL: a word as a pair, its sign extended
+unfoldable pub sign_extended : ℕ → ℕ
+sign_extended w = if nat_lt w (2 ^ 35) then w else (w + (2 ^ 72 - 2 ^ 36))
+
+-- SBA, SBQ, SBAQ, SBX: register minus value
+unfoldable pub subtract : Working → ℕ → RegsFields → Result EffectFields ℕ
+subtract r v g = into_register r (difference (half r) (value r g) v false) g
+
+-- SBLA, SBLQ, SBLAQ, SBLX: the same without overflow
+unfoldable pub subtract_logical : Working → ℕ → RegsFields → Result EffectFields ℕ
+subtract_logical r v g = into_register_logical r (difference (half r) (value r g) v false) g
+
+-- SWCA, SWCQ: register minus value, and minus 1 where carry is off
+unfoldable pub subtract_with_carry : Working → ℕ → RegsFields → Result EffectFields ℕ
+subtract_with_carry r v g = into_register r (difference (half r) (value r g) v (not g.ind.carry)) g
+
+-- AOS: the word becomes itself plus 1
+unfoldable pub add_one_to_storage : ℕ → RegsFields → Result EffectFields ℕ
+add_one_to_storage v g = into_operand A (sum (half A) v 1 false) g
+
+-- ASA, ASQ, ASX: the operand becomes register plus operand
+unfoldable pub add_to_storage : Working → ℕ → RegsFields → Result EffectFields ℕ
+add_to_storage r v g = into_operand r (sum (half r) (value r g) v false) g
+
+-- SSA, SSQ, SSX: the operand becomes register minus operand
+unfoldable pub subtract_stored : Working → ℕ → RegsFields → Result EffectFields ℕ
+subtract_stored r v g = into_operand r (difference (half r) (value r g) v false) g
+
+-- NEG, NEGL: the register becomes its negative
+unfoldable pub negate : Working → RegsFields → Result EffectFields ℕ
+negate r g =
+    let s = negation (half r) (value r g) in
+    completes_or_overflows (takes r s.value (zn_overflow s g.ind) g) [] s.overflow
