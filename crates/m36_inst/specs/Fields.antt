@@ -1,0 +1,16 @@
+-- What contracts see of an instruction's word: its fields, as numbers and tests.
+use Rattle.std.specs.Prelude.{ℕ, Bool, ◌^◌, ◌<◌}
+
+pub record InstFields : Type 0 where
+  pub y : ℕ
+  pub code : ℕ
+  pub bit27 : Bool
+  pub inhibit : Bool
+  pub by_pr : Bool
+  pub tag : ℕ
+
+-- each number is below 2 to the power of its width
+pub record IsInst (i : InstFields) : Type 0 where
+  pub y : i.y < 2 ^ 18
+  pub code : i.code < 2 ^ 9
+  pub tag : i.tag < 2 ^ 6

@@ -1,0 +1,5 @@
+pub mod Fields
+pub mod Instruction
+pub mod Operands
+pub mod Table
+pub mod Lookup

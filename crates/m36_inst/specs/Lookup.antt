@@ -1,0 +1,45 @@
+-- The instruction of an operation code with bit 27, and the code of a name.
+use Rattle.std.specs.Prelude.{ℕ, Bool, true, false, not, ◌&&◌, ◌==◌, nat_eq, List, Option, option_map}
+use Rattle.std.specs.List.{find}
+use Rattle.std.specs.Cmp.Lexicographic.{pointwise}
+use Rattle.m36_inst.specs.Operands.{operand_of, takes_direct, is_privileged}
+use Rattle.m36_inst.specs.Table.{Entry, table}
+use Rattle.m36_inst.specs.declared.effect.Effect.{Effect}
+use Rattle.m36_inst.specs.declared.row.Row.{Row}
+
+abbrev pub same_bit : Bool → Bool → Bool
+same_bit true b = b
+same_bit false b = not b
+
+abbrev pub has_code : ℕ → Bool → Entry → Bool
+has_code code bit27 e = (e.code == code) && same_bit e.bit27 bit27
+
+abbrev pub has_name : List ℕ → Entry → Bool
+has_name name e = pointwise nat_eq e.name name
+
+-- the entry of the table with a code, and the one with a name
+unfoldable pub entry_at : ℕ → Bool → Option Entry
+entry_at code bit27 = find (has_code code bit27) table
+
+unfoldable pub entry_named : List ℕ → Option Entry
+entry_named name = find (has_name name) table
+
+-- what the processor has to know of an instruction: all but the register hangs on the effect
+abbrev pub row_of : Effect → ℕ → Row
+row_of effect reg =
+    record {
+      effect = effect;
+      reg = reg;
+      operand = operand_of effect;
+      direct = takes_direct effect;
+      privileged = is_privileged effect;
+    }
+
+abbrev pub row_at : ℕ → Bool → Option Row
+row_at code bit27 = option_map (λ e. row_of e.effect e.reg) (entry_at code bit27)
+
+abbrev pub name_at : ℕ → Bool → Option (List ℕ)
+name_at code bit27 = option_map (λ e. e.name) (entry_at code bit27)
+
+abbrev pub code_named : List ℕ → Option (ℕ × Bool)
+code_named name = option_map (λ e. (e.code, e.bit27)) (entry_named name)
