@@ -2,7 +2,7 @@
 -- for a word, 2^71 for a pair. Numbers from half on count as negative.
 -- Multics Processor Manual AL39, "Number representation" and the fixed point instructions; carry and overflow as written
 -- here are this project's choice.
-use Rattle.std.specs.Prelude.{ℕ, ◌+◌, ◌-◌, ◌*◌, ◌%◌, ◌^◌, Bool, false, not, ◌&&◌, ◌||◌, ◌==◌, nat_lt, nat_le, ℤ, pos, ◌+ℤ◌, ◌-ℤ◌, ◌*ℤ◌, int_lt, int_le, int_div, int_rem, unsigned_abs}
+use Rattle.std.specs.Prelude.{ℕ, ◌+◌, ◌-◌, ◌*◌, ◌%◌, ◌^◌, Bool, false, not, ◌&&◌, ◌||◌, ◌==◌, nat_le, ℤ, pos, ◌+ℤ◌, ◌-ℤ◌, ◌*ℤ◌, int_lt, int_le, int_div, int_rem, unsigned_abs}
 use Rattle.std.specs.Int.{int_rem_euclid}
 use Rattle.m36_word.specs.Bits.{of_bit}
 use Rattle.m36_word.specs.Signed.{signed}

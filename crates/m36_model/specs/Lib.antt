@@ -25,3 +25,10 @@ pub mod ShiftEffects
 pub mod Pointers
 pub mod CallReturn
 pub mod Privileged
+pub mod Transfers
+pub mod Effect
+pub mod FirstPoint
+pub mod Step
+pub mod Worked
+pub mod WorkedAddresses
+pub mod WorkedCalls

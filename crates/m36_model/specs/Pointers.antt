@@ -1,13 +1,13 @@
 -- Pointer register instructions. Multics Processor Manual AL39, "Pointer register data movement load instructions", "Pointer
 -- register data movement store instructions", "Effective address to AQ", "Store control double".
-use Rattle.std.specs.Prelude.{ℕ, ◌+◌, ◌*◌, ◌%◌, ◌^◌, max, Bool, true, false, ◌&&◌, ◌==◌, List, [], ◌∷◌, Result, Ok, Err, slice_index, slice_set}
+use Rattle.std.specs.Prelude.{ℕ, ◌+◌, ◌*◌, ◌%◌, ◌^◌, max, Bool, true, false, ◌&&◌, ◌==◌, List, [], ◌∷◌, Result, Err, slice_index, slice_set}
 use Rattle.m36_word.specs.Field.{field}
 use Rattle.m36_desc.specs.Fields.{PtrFields}
 use Rattle.m36_desc.specs.Descriptors.{ptr_of, ptr_even, ptr_odd, packed_of}
 use Rattle.m36_model.specs.Fields.{FinalFields}
 use Rattle.m36_model.specs.Registers.{RegsFields}
 use Rattle.m36_model.specs.Modification.{ptr}
-use Rattle.m36_model.specs.Results.{OperandFields, EffectFields, with_indicators, with_zero, completes, completes_with}
+use Rattle.m36_model.specs.Results.{OperandFields, EffectFields, with_zero, completes, completes_with}
 
 unfoldable pub with_pr : ℕ → PtrFields → RegsFields → RegsFields
 with_pr n p g = record g { pr = slice_set g.pr n p }

@@ -1,6 +1,6 @@
 -- Multiplication and division. Multics Processor Manual AL39, "Fixed-point multiplication instructions", "Fixed-point
 -- division instructions".
-use Rattle.std.specs.Prelude.{ℕ, Bool, true, false, Result, Ok, Err}
+use Rattle.std.specs.Prelude.{ℕ, Bool, true, false, Result, Err}
 use Rattle.m36_model.specs.Registers.{RegsFields}
 use Rattle.m36_model.specs.Arithmetic.{product, quotient, remainder, is_divide_check}
 use Rattle.m36_model.specs.Results.{EffectFields, A, Q, AQ, half, with_value, takes, zn, completes}

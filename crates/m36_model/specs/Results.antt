@@ -1,10 +1,8 @@
 -- What an effect is given and what it gives: operands, working registers, indicators.
 -- Multics Processor Manual AL39, "Processor registers" and "Indicator register".
-use Rattle.std.specs.Prelude.{ℕ, ◌+◌, ◌*◌, ◌/◌, ◌%◌, ◌^◌, Bool, false, ◌||◌, ◌==◌, List, [], ◌∷◌, Result, Ok, Err, slice_index, slice_set}
+use Rattle.std.specs.Prelude.{ℕ, ◌+◌, ◌*◌, ◌/◌, ◌%◌, ◌^◌, Bool, false, ◌||◌, ◌==◌, List, [], ◌∷◌, Result, Ok, slice_index, slice_set}
 use Rattle.m36_word.specs.Field.{field}
-use Rattle.m36_word.specs.Pairs.{number_of}
 use Rattle.m36_word.specs.declared.pair.Pair.{Pair}
-use Rattle.m36_desc.specs.Fields.{PtrFields}
 use Rattle.m36_model.specs.Registers.{RegsFields}
 use Rattle.m36_model.specs.Arithmetic.{SumFields, ComparisonFields, is_negative}
 use Rattle.m36_model.specs.declared.effects.Held.{Held}

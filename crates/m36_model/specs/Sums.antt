@@ -1,6 +1,6 @@
 -- Additions and subtractions. Multics Processor Manual AL39, "Fixed-point addition instructions", "Fixed-point subtraction
 -- instructions", "Fixed-point negate instructions".
-use Rattle.std.specs.Prelude.{ℕ, ◌+◌, ◌-◌, ◌^◌, Bool, false, not, nat_lt, if◌then◌else◌, [], Result}
+use Rattle.std.specs.Prelude.{ℕ, ◌+◌, ◌-◌, ◌^◌, false, not, nat_lt, if◌then◌else◌, [], Result}
 use Rattle.m36_model.specs.Registers.{RegsFields}
 use Rattle.m36_model.specs.Arithmetic.{SumFields, sum, difference, negation}
 use Rattle.m36_model.specs.Results.{EffectFields, Working, A, half, value, words, takes, with_indicators, zn_carry, zn_overflow, zn_carry_overflow, completes, completes_or_overflows}

@@ -13,6 +13,7 @@ pub mod outcome;
 pub mod place;
 pub mod record;
 pub mod registers;
+pub mod worked;
 
 pub use effects::{Effect36, Formed, Held, Operand36, Tally};
 pub use endings::{End, LinkCode};

@@ -1,0 +1,123 @@
+-- The worked steps, by computation. `everything` opens each definition that a step computes with.
+use Rattle.std.proofs.Common.{refl}
+use Rattle.m36_word.specs.Signed.{signed}
+use Rattle.m36_inst.specs.Lookup.{entry_at}
+use Rattle.m36_model.specs.Act.{and_then}
+use Rattle.m36_model.specs.Arithmetic.{modulo, sum_value, sum_carry, sum_overflow, sum, difference_value, difference_carry, difference_overflow, difference, negation, is_less, comparison, product, quotient, remainder, is_divide_check}
+use Rattle.m36_model.specs.Booleans.{bits_of, number_from, each_bit, bitwise, and_of, or_of, xor_of, and_not_of}
+use Rattle.m36_model.specs.CallReturn.{call, return_to}
+use Rattle.m36_model.specs.Chain.{found, chain}
+use Rattle.m36_model.specs.Compares.{compare, test_word, test_and_clear, compare_masked, test_and, test_and_not}
+use Rattle.m36_model.specs.Core.{core_put}
+use Rattle.m36_model.specs.Effect.{exec}
+use Rattle.m36_model.specs.FirstPoint.{first_point}
+use Rattle.m36_model.specs.Loads.{load, load_complement, load_and_clear, indicators_of, load_indicators}
+use Rattle.m36_model.specs.Logic.{and_register, or_register, xor_register, and_storage, or_storage, xor_storage}
+use Rattle.m36_model.specs.Modification.{index_of, move_of_point}
+use Rattle.m36_model.specs.Place.{core_sdw, core_spot, with_used, with_modified, marks, with_marks, core_marked}
+use Rattle.m36_model.specs.Pointers.{with_pr, load_pointer, load_base_pointer, store_pointer, store_base_pointer, store_pointers, load_pointers, load_packed, load_address_pair, store_control}
+use Rattle.m36_model.specs.Privileged.{load_dbr, store_dbr, load_absolute_address}
+use Rattle.m36_model.specs.Products.{multiply, divide}
+use Rattle.m36_model.specs.Results.{with_value, zn, zn_carry, zn_overflow, zn_carry_overflow, compared, moved_on}
+use Rattle.m36_model.specs.ShiftEffects.{shift_left, shift_right, shift_right_logical, rotate_left}
+use Rattle.m36_model.specs.Shifts.{left_shift, first_bits, left_shift_carry, copying_right_shift, plain_right_shift, rotation}
+use Rattle.m36_model.specs.Step.{tallied, operate, decode, program, record_of, state_after}
+use Rattle.m36_model.specs.Store.{denied, spots_of, places, changes, serve, run}
+use Rattle.m36_model.specs.Stores.{store, store_zero, indicators_half, store_indicators, store_where_zero, store_where_equal}
+use Rattle.m36_model.specs.Sums.{into_register, into_register_logical, into_operand, add, add_logical, add_with_carry, sign_extended, subtract, subtract_logical, subtract_with_carry, add_one_to_storage, add_to_storage, subtract_stored, negate}
+use Rattle.m36_model.specs.Tally.{tally}
+use Rattle.m36_model.specs.Transfers.{is_taken, gone_to, transfer_where, transfer_on_overflow, transfer_and_set_index, transfer_and_set_pointer}
+use Rattle.m36_model.specs.WorkedAddresses.{LoadReadsItsWord, StopFollows, LastWordOfTheBoundIsRead, WordPastTheBoundIsNot, PairTakesTheBracketOfItsSegment, SeventeenthIndirectWordLocksUp, SixteenIndirectWordsAreServed, IndexIsHeldOverTheIndirectWord, TallyWordsCount, LoadSeesTheNewTallyWord, StoreComesAfterTheTallyWord, RefusedTallyWordChangesNothing}
+use Rattle.m36_model.specs.WorkedCalls.{CallThroughAGate, CallPastTheLimiter, CallFromAboveTheBracket, OutwardCall, CallWithRaisedRing, CallWithinTheRing, ReturnTakesThePairsRing, ReturnTakesTheGreatestRing, PackedPointerWithAWrongBitNumber, OneTakesTheLock}
+
+everything : Unit {0}
+unfolding signed entry_at and_then modulo sum_value sum_carry sum_overflow sum difference_value difference_carry difference_overflow difference negation is_less comparison product quotient remainder is_divide_check bits_of number_from each_bit bitwise and_of or_of xor_of and_not_of call return_to found chain compare test_word test_and_clear compare_masked test_and test_and_not core_put exec first_point load load_complement load_and_clear indicators_of load_indicators and_register or_register xor_register and_storage or_storage xor_storage index_of move_of_point core_sdw core_spot with_used with_modified marks with_marks core_marked with_pr load_pointer load_base_pointer store_pointer store_base_pointer store_pointers load_pointers load_packed load_address_pair store_control load_dbr store_dbr load_absolute_address multiply divide with_value zn zn_carry zn_overflow zn_carry_overflow compared moved_on shift_left shift_right shift_right_logical rotate_left left_shift first_bits left_shift_carry copying_right_shift plain_right_shift rotation tallied operate decode program record_of state_after denied spots_of places changes serve run store store_zero indicators_half store_indicators store_where_zero store_where_equal into_register into_register_logical into_operand add add_logical add_with_carry sign_extended subtract subtract_logical subtract_with_carry add_one_to_storage add_to_storage subtract_stored negate tally is_taken gone_to transfer_where transfer_on_overflow transfer_and_set_index transfer_and_set_pointer
+everything = tt
+
+pub load_reads_its_word : LoadReadsItsWord
+unfolding everything
+load_reads_its_word = refl
+
+pub stop_follows : StopFollows
+unfolding everything
+stop_follows = refl
+
+pub last_word_of_the_bound_is_read : LastWordOfTheBoundIsRead
+unfolding everything
+last_word_of_the_bound_is_read = refl
+
+pub word_past_the_bound_is_not : WordPastTheBoundIsNot
+unfolding everything
+word_past_the_bound_is_not = refl
+
+pub pair_takes_the_bracket_of_its_segment : PairTakesTheBracketOfItsSegment
+unfolding everything
+pair_takes_the_bracket_of_its_segment = (refl, refl, refl)
+
+pub seventeenth_indirect_word_locks_up : SeventeenthIndirectWordLocksUp
+unfolding everything
+seventeenth_indirect_word_locks_up = refl
+
+pub sixteen_indirect_words_are_served : SixteenIndirectWordsAreServed
+unfolding everything
+sixteen_indirect_words_are_served = (refl, refl)
+
+pub index_is_held_over_the_indirect_word : IndexIsHeldOverTheIndirectWord
+unfolding everything
+index_is_held_over_the_indirect_word = refl
+
+pub tally_words_count : TallyWordsCount
+unfolding everything
+tally_words_count = (refl, refl, refl, refl, refl)
+
+pub load_sees_the_new_tally_word : LoadSeesTheNewTallyWord
+unfolding everything
+load_sees_the_new_tally_word = (refl, refl, refl, refl)
+
+pub store_comes_after_the_tally_word : StoreComesAfterTheTallyWord
+unfolding everything
+store_comes_after_the_tally_word = (refl, refl)
+
+pub refused_tally_word_changes_nothing : RefusedTallyWordChangesNothing
+unfolding everything
+refused_tally_word_changes_nothing = (refl, refl)
+
+pub call_through_a_gate : CallThroughAGate
+unfolding everything
+call_through_a_gate = (refl, refl, refl)
+
+pub call_past_the_limiter : CallPastTheLimiter
+unfolding everything
+call_past_the_limiter = refl
+
+pub call_from_above_the_bracket : CallFromAboveTheBracket
+unfolding everything
+call_from_above_the_bracket = refl
+
+pub outward_call : OutwardCall
+unfolding everything
+outward_call = refl
+
+pub call_with_raised_ring : CallWithRaisedRing
+unfolding everything
+call_with_raised_ring = refl
+
+pub call_within_the_ring : CallWithinTheRing
+unfolding everything
+call_within_the_ring = (refl, refl, refl)
+
+pub return_takes_the_pairs_ring : ReturnTakesThePairsRing
+unfolding everything
+return_takes_the_pairs_ring = (refl, refl, refl)
+
+pub return_takes_the_greatest_ring : ReturnTakesTheGreatestRing
+unfolding everything
+return_takes_the_greatest_ring = refl
+
+pub packed_pointer_with_a_wrong_bit_number : PackedPointerWithAWrongBitNumber
+unfolding everything
+packed_pointer_with_a_wrong_bit_number = (refl, refl)
+
+pub one_takes_the_lock : OneTakesTheLock
+unfolding everything
+one_takes_the_lock = (refl, refl, refl, refl)

@@ -1,0 +1,29 @@
+use Rattle.m36_model.proofs.worked.worked_steps.Goals as goal
+use Rattle.m36_model.proofs.Computed.{load_reads_its_word, stop_follows, last_word_of_the_bound_is_read, word_past_the_bound_is_not, pair_takes_the_bracket_of_its_segment, seventeenth_indirect_word_locks_up, sixteen_indirect_words_are_served, index_is_held_over_the_indirect_word, tally_words_count, load_sees_the_new_tally_word, store_comes_after_the_tally_word, refused_tally_word_changes_nothing, call_through_a_gate, call_past_the_limiter, call_from_above_the_bracket, outward_call, call_with_raised_ring, call_within_the_ring, return_takes_the_pairs_ring, return_takes_the_greatest_ring, packed_pointer_with_a_wrong_bit_number, one_takes_the_lock}
+
+pub returns : goal.returns
+returns c =
+    record {
+      load_reads_its_word = load_reads_its_word;
+      stop_follows = stop_follows;
+      last_word_of_the_bound_is_read = last_word_of_the_bound_is_read;
+      word_past_the_bound_is_not = word_past_the_bound_is_not;
+      pair_takes_the_bracket_of_its_segment = pair_takes_the_bracket_of_its_segment;
+      seventeenth_indirect_word_locks_up = seventeenth_indirect_word_locks_up;
+      sixteen_indirect_words_are_served = sixteen_indirect_words_are_served;
+      index_is_held_over_the_indirect_word = index_is_held_over_the_indirect_word;
+      tally_words_count = tally_words_count;
+      load_sees_the_new_tally_word = load_sees_the_new_tally_word;
+      store_comes_after_the_tally_word = store_comes_after_the_tally_word;
+      refused_tally_word_changes_nothing = refused_tally_word_changes_nothing;
+      call_through_a_gate = call_through_a_gate;
+      call_past_the_limiter = call_past_the_limiter;
+      call_from_above_the_bracket = call_from_above_the_bracket;
+      outward_call = outward_call;
+      call_with_raised_ring = call_with_raised_ring;
+      call_within_the_ring = call_within_the_ring;
+      return_takes_the_pairs_ring = return_takes_the_pairs_ring;
+      return_takes_the_greatest_ring = return_takes_the_greatest_ring;
+      packed_pointer_with_a_wrong_bit_number = packed_pointer_with_a_wrong_bit_number;
+      one_takes_the_lock = one_takes_the_lock;
+    }

@@ -1,0 +1,64 @@
+-- Transfers. Multics Processor Manual AL39, "Transfer of control instructions".
+use Rattle.std.specs.Prelude.{ℕ, ◌+◌, ◌%◌, ◌^◌, Bool, true, false, not, ◌&&◌, ◌||◌, [], Result, Ok}
+use Rattle.m36_desc.specs.Fields.{PtrFields}
+use Rattle.m36_inst.specs.declared.effect.Effect.{Effect}
+use Rattle.m36_inst.specs.declared.effect.Effect.TheVariants as effect
+use Rattle.m36_model.specs.Fields.{FinalFields}
+use Rattle.m36_model.specs.Registers.{RegsFields}
+use Rattle.m36_model.specs.Pointers.{with_pr}
+use Rattle.m36_model.specs.Results.{EffectFields, X, with_value, completes}
+
+-- Whether a transfer is taken, by the indicators. One that is not taken examines no target (this project's choice).
+unfoldable pub is_taken : Effect → RegsFields → Bool
+is_taken effect.Tze g = g.ind.zero
+is_taken effect.Tnz g = not g.ind.zero
+is_taken effect.Tmi g = g.ind.negative
+is_taken effect.Tpl g = not g.ind.negative
+is_taken effect.Trc g = g.ind.carry
+is_taken effect.Tnc g = not g.ind.carry
+is_taken effect.Tmoz g = g.ind.negative || g.ind.zero
+is_taken effect.Tpnz g = not g.ind.negative && not g.ind.zero
+is_taken effect.Tov g = g.ind.overflow
+is_taken effect.Ttf g = not g.ind.tally
+is_taken _ g = true
+
+-- the procedure segment becomes that of the final address, and the instruction counter its word; the ring stays
+unfoldable pub gone_to : FinalFields → RegsFields → RegsFields
+gone_to f g = record g { ppr = record g.ppr { psr = f.at.seg; ic = f.at.word } }
+
+abbrev pub goes_to : FinalFields → RegsFields → Result EffectFields ℕ
+goes_to f g = Ok (record { regs = gone_to f g; put = []; overflow = false })
+
+-- TRA and the conditional transfers
+abbrev pub transfer_by : Bool → FinalFields → RegsFields → Result EffectFields ℕ
+transfer_by true f g = goes_to f g
+transfer_by false f g = completes g
+
+unfoldable pub transfer_where : Bool → FinalFields → RegsFields → Result EffectFields ℕ
+transfer_where taken f g = transfer_by taken f g
+
+-- TOV: overflow goes off when the transfer is taken
+abbrev pub without_overflow : RegsFields → RegsFields
+without_overflow g = record g { ind = record g.ind { overflow = false } }
+
+abbrev pub transfer_on_overflow_by : Bool → FinalFields → RegsFields → Result EffectFields ℕ
+transfer_on_overflow_by true f g = goes_to f (without_overflow g)
+transfer_on_overflow_by false f g = completes g
+
+unfoldable pub transfer_on_overflow : Bool → FinalFields → RegsFields → Result EffectFields ℕ
+transfer_on_overflow taken f g = transfer_on_overflow_by taken f g
+
+-- the word of the next instruction
+abbrev pub next_word : RegsFields → ℕ
+next_word g = (g.ppr.ic + 1) % 2 ^ 18
+
+-- TSX: the index register becomes the word of the next instruction
+unfoldable pub transfer_and_set_index : ℕ → FinalFields → RegsFields → Result EffectFields ℕ
+transfer_and_set_index n f g = goes_to f (with_value (X n) (next_word g) g)
+
+-- TSP: the pointer register becomes the place of the next instruction in the procedure ring
+abbrev pub return_pointer : RegsFields → PtrFields
+return_pointer g = record { seg = g.ppr.psr; ring = g.ppr.prr; word = next_word g; bit = 0 }
+
+unfoldable pub transfer_and_set_pointer : ℕ → FinalFields → RegsFields → Result EffectFields ℕ
+transfer_and_set_pointer n f g = goes_to f (with_pr n (return_pointer g) g)

@@ -1,0 +1,30 @@
+//! Steps worked out by hand, each computed from the definitions.
+
+ghost use Rattle.m36_model.specs.WorkedAddresses.{LoadReadsItsWord, StopFollows, LastWordOfTheBoundIsRead, WordPastTheBoundIsNot, PairTakesTheBracketOfItsSegment, SeventeenthIndirectWordLocksUp, SixteenIndirectWordsAreServed, IndexIsHeldOverTheIndirectWord, TallyWordsCount, LoadSeesTheNewTallyWord, StoreComesAfterTheTallyWord, RefusedTallyWordChangesNothing};
+ghost use Rattle.m36_model.specs.WorkedCalls.{CallThroughAGate, CallPastTheLimiter, CallFromAboveTheBracket, OutwardCall, CallWithRaisedRing, CallWithinTheRing, ReturnTakesThePairsRing, ReturnTakesTheGreatestRing, PackedPointerWithAWrongBitNumber, OneTakesTheLock};
+
+/// Each worked step is what the definitions compute.
+pub fn worked_steps()
+    ensures load_reads_its_word { LoadReadsItsWord }
+    ensures stop_follows { StopFollows }
+    ensures last_word_of_the_bound_is_read { LastWordOfTheBoundIsRead }
+    ensures word_past_the_bound_is_not { WordPastTheBoundIsNot }
+    ensures pair_takes_the_bracket_of_its_segment { PairTakesTheBracketOfItsSegment }
+    ensures seventeenth_indirect_word_locks_up { SeventeenthIndirectWordLocksUp }
+    ensures sixteen_indirect_words_are_served { SixteenIndirectWordsAreServed }
+    ensures index_is_held_over_the_indirect_word { IndexIsHeldOverTheIndirectWord }
+    ensures tally_words_count { TallyWordsCount }
+    ensures load_sees_the_new_tally_word { LoadSeesTheNewTallyWord }
+    ensures store_comes_after_the_tally_word { StoreComesAfterTheTallyWord }
+    ensures refused_tally_word_changes_nothing { RefusedTallyWordChangesNothing }
+    ensures call_through_a_gate { CallThroughAGate }
+    ensures call_past_the_limiter { CallPastTheLimiter }
+    ensures call_from_above_the_bracket { CallFromAboveTheBracket }
+    ensures outward_call { OutwardCall }
+    ensures call_with_raised_ring { CallWithRaisedRing }
+    ensures call_within_the_ring { CallWithinTheRing }
+    ensures return_takes_the_pairs_ring { ReturnTakesThePairsRing }
+    ensures return_takes_the_greatest_ring { ReturnTakesTheGreatestRing }
+    ensures packed_pointer_with_a_wrong_bit_number { PackedPointerWithAWrongBitNumber }
+    ensures one_takes_the_lock { OneTakesTheLock }
+{}
