@@ -1,0 +1,47 @@
+-- Digits read one by one.
+use Rattle.std.proofs.Common.{ℕ, zero, suc, ◌≡◌, ◌≢◌, ◌+◌, ◌-◌, ◌*◌, ◌/◌, ◌%◌, ◌^◌, ◌<◌, ◌≤◌, min, Bool, true, false, not, ◌&&◌, List, [], ◌∷◌, ◌++◌, length, map, drop, take, get_or, None, Some, leb, ltb, refl, sym, ap, ◌∙◌, inl, inr, arith}
+use Rattle.std.specs.List.{position, position_or_len}
+use Rattle.std.specs.Int.Digits.{number_from_digits}
+use Rattle.std.proofs.lemmas.Bool.{cases_lt, and_parts, leb-true, ltb-true, lt-ltb, not-false, cond-true}
+use Rattle.std.proofs.lemmas.Int.Digits.{number_more}
+use Rattle.std.proofs.lemmas.List.{length-map, take-map, get_or-map}
+use Rattle.std.proofs.lemmas.List.Sums.{fails_before_first}
+use Rattle.std.proofs.Math.Nat.{min-eq_left, min-eq_right, le-mul_of_pos_right}
+use Rattle.m36_text.specs.Reading.{first_other, is_digit, number_of}
+
+some≢none : {n : ℕ} → Some n ≡ None → ⊥
+some≢none e = cc
+
+pub capped : (x b d c : ℕ) → 1 ≤ b → min (min x c * b + d) c ≡ min (x * b + d) c
+capped x b d c some =
+    elim (cases_lt c x) [
+      | inl over ↦ let cap : c ≤ c * b = le-mul_of_pos_right c some in let all : x ≤ x * b = le-mul_of_pos_right x some in let e : min x c ≡ c = omega arith in rw e (omega arith)
+      | inr under ↦ rw (min-eq_left under)
+    ]
+
+pub number_none : (base : ℕ) → number_of base [] ≡ 0
+unfolding number_of
+number_none base = refl
+
+pub number_step : (base : ℕ) (text : List ℕ) (i : ℕ) → i < length text
+    → number_of base (take (i + 1) text) ≡ number_of base (take i text) * base + (get_or text i 0 - 48)
+unfolding number_of
+number_step base text i within =
+    let digit : ℕ → ℕ = λ byte. byte - 48 in
+    rw (← take-map digit (i + 1) text, ← take-map digit i text, number_more base (map digit text) i (rw (length-map text digit) within), get_or-map digit text i 0 0 within)
+
+is_within : (base byte : ℕ) → is_digit base byte ≡ true → (48 ≤ byte) × (byte < 48 + base)
+is_within base byte e =
+    let both = and_parts (leb 48 byte) (ltb byte (48 + base)) e in
+    (leb-true 48 byte both.0, ltb-true byte (48 + base) both.1)
+
+-- where no byte is other than a digit, each is one
+pub all_digits : (base : ℕ) (text : List ℕ) (k : ℕ) → first_other base text ≡ None → k < length text
+    → (48 ≤ get_or text k 0) × (get_or text k 0 < 48 + base)
+unfolding first_other
+all_digits base text k none within =
+    let other : ℕ → Bool = λ byte. not (is_digit base byte) in
+    elim (cases_lt k (position_or_len other text)) [
+      | inl before ↦ is_within base (get_or text k 0) (not-false (is_digit base (get_or text k 0)) (fails_before_first other text k 0 before))
+      | inr found ↦ absurd (some≢none (sym (cond-true (ltb (position_or_len other text) (length text)) (Some (position_or_len other text)) None (lt-ltb (position_or_len other text) (length text) (omega arith))) ∙ none))
+    ]

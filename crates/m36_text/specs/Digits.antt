@@ -1,0 +1,21 @@
+-- Numbers written in digits.
+use Rattle.std.specs.Prelude.{ℕ, zero, suc, ◌+◌, ◌/◌, ◌%◌, ◌^◌, List, [], ◌∷◌, map}
+use Rattle.std.specs.Int.Digits.{digits_of}
+
+-- so many digits of a number in a base, the most significant first
+unfoldable pub digits : ℕ → ℕ → ℕ → List ℕ
+digits base zero v = []
+digits base (suc places) v = v / base ^ places % base ∷ digits base places v
+
+-- the digits 0 to 9 are the characters 60 to 71 (octal)
+abbrev pub character : ℕ → ℕ
+character digit = 48 + digit
+
+-- a number in octal, with so many places
+unfoldable pub octal_text : ℕ → ℕ → List ℕ
+octal_text places v = map character (digits 8 places v)
+
+-- a number in decimal, without leading zeros; the number zero is one digit
+unfoldable pub decimal_text : ℕ → List ℕ
+decimal_text zero = character 0 ∷ []
+decimal_text (suc v) = map character (digits_of 10 (suc v))

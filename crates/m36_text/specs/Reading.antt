@@ -1,0 +1,45 @@
+-- Texts of digits read as numbers.
+use Rattle.std.specs.Prelude.{ℕ, ◌+◌, ◌-◌, ◌^◌, ◌<◌, ◌≤◌, ◌≡◌, ◌≢◌, Bool, ◌&&◌, not, nat_lt, nat_le, if◌then◌else◌, List, [], ◌∷◌, map, length, slice_index, Option, Some, None, Result, Ok, Err}
+use Rattle.std.specs.List.{position}
+use Rattle.std.specs.Int.Digits.{number_from_digits}
+use Rattle.m36_text.specs.Digits.{octal_text, decimal_text}
+use Rattle.m36_text.specs.declared.reading.NumberFault.{NumberFault}
+use Rattle.m36_text.specs.declared.reading.NumberFault.TheVariants.{T1, T2}
+
+-- a byte is a digit of a base up to ten
+abbrev pub is_digit : ℕ → ℕ → Bool
+is_digit base byte = nat_le 48 byte && nat_lt byte (48 + base)
+
+-- the place of the first byte that is no digit
+unfoldable pub first_other : ℕ → List ℕ → Option ℕ
+first_other base text = position (λ byte. not (is_digit base byte)) text
+
+-- the number that digits write
+unfoldable pub number_of : ℕ → List ℕ → ℕ
+number_of base text = number_from_digits base (map (λ byte. byte - 48) text)
+
+-- a text as a number of at most max: T1 with the place of the first byte that is no digit, and with 0 where there is
+-- no byte; T2 where all are digits and the number is over max
+abbrev pub judged : Option ℕ → ℕ → ℕ → Result ℕ NumberFault
+judged (Some place) v max = Err (T1 place)
+judged None v max = if nat_le v max then Ok v else Err T2
+
+unfoldable pub number_read : ℕ → List ℕ → ℕ → Result ℕ NumberFault
+number_read base [] max = Err (T1 0)
+number_read base (byte ∷ text) max = judged (first_other base (byte ∷ text)) (number_of base (byte ∷ text)) max
+
+-- A number that was written in octal, in places enough for it, is read as itself.
+abbrev pub ReadsOctal : Type 0
+ReadsOctal = (places v max : ℕ) → 1 ≤ places → v < 8 ^ places → v ≤ max → number_read 8 (octal_text places v) max ≡ Ok v
+
+-- A number that was written in decimal is read as itself.
+abbrev pub ReadsDecimal : Type 0
+ReadsDecimal = (v max : ℕ) → v ≤ max → number_read 10 (decimal_text v) max ≡ Ok v
+
+-- Octal texts have their places.
+abbrev pub HasPlaces : Type 0
+HasPlaces = (places v : ℕ) → length (octal_text places v) ≡ places
+
+-- Decimal texts of more than one digit do not begin with a zero.
+abbrev pub HasNoLeadingZero : Type 0
+HasNoLeadingZero = (v : ℕ) → 10 ≤ v → slice_index (decimal_text v) 0 ≢ 48

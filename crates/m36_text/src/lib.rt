@@ -1,0 +1,15 @@
+//! Texts of the simulator: numbers in octal and decimal, words packed into bytes, and short names.
+//!
+//! What is promised: a number is written in exactly the digits that its clause names, and a text is read as a number
+//! exactly where all its bytes are digits and the number is within the limit; packing and unpacking are inverse.
+//! Only `pack`, `unpack` and `Names` take memory.
+//!
+//! Source: Multics Processor Manual AL39, "Number representation" (octal words of twelve digits); the packing of 36-bit
+//! words into bytes, most significant bit first, is this project's own.
+#![tactic(auto)]
+
+pub mod numerals;
+pub mod reading;
+
+pub use numerals::{decimal, octal};
+pub use reading::{NumberFault, read_decimal, read_octal};

@@ -1,0 +1,69 @@
+//! Texts read as numbers.
+
+ghost use Rattle.std.specs.Prelude.{ℕ, ◌≡◌, ◌+◌, ◌-◌, ◌^◌, ◌<◌, ◌≤◌, length, drop, min, None};
+ghost use Rattle.m36_text.specs.Reading.{first_other, is_digit, number_of, number_read};
+
+/// Why a text is not read as a number.
+#[derive(Clone, Copy, Debug, PartialEq, Eq)]
+pub enum NumberFault {
+    /// The place of the first byte that is no digit, counted from 0; 0 too where there is no byte.
+    T1(usize),
+    /// All bytes are digits, and the number is over the limit.
+    T2,
+}
+
+/// The number that octal digits write, at most `max`.
+pub fn read_octal(t: &[u8], max: u64) -> Result<u64, NumberFault>
+    ensures { result ≡ number_read 8 t.now max }
+{
+    read_number(8, t, max)
+}
+
+/// The number that decimal digits write, at most `max`. Leading zeros are allowed.
+pub fn read_decimal(t: &[u8], max: u64) -> Result<u64, NumberFault>
+    ensures { result ≡ number_read 10 t.now max }
+{
+    read_number(10, t, max)
+}
+
+#[tactic(auto, unfolding(crate::specs::Reading::number_read))]
+fn read_number(base: u8, t: &[u8], max: u64) -> Result<u64, NumberFault>
+    requires { (1 ≤ base) × (base ≤ 10) }
+    ensures { result ≡ number_read base t.now max }
+{
+    if t.is_empty() {
+        return Err(NumberFault::T1(0));
+    }
+    if let Some(place) = place_of_other(base, t) {
+        return Err(NumberFault::T1(place));
+    }
+    let over = max as u128 + 1;
+    let value = capped_value(base, t, over);
+    if value < over {
+        Ok(value as u64)
+    } else {
+        Err(NumberFault::T2)
+    }
+}
+
+#[tactic(auto, unfolding(crate::specs::Reading::first_other))]
+fn place_of_other(base: u8, t: &[u8]) -> Option<usize>
+    requires { (1 ≤ base) × (base ≤ 10) }
+    ensures { result ≡ first_other base t.now }
+{
+    t.iter().position(|byte| !(48 <= *byte && *byte < 48 + base))
+}
+
+// The number that digits write, or `cap` where it is that or more.
+fn capped_value(base: u8, t: &[u8], cap: u128) -> u128
+    requires base { (1 ≤ base) × (base ≤ 10) }
+    requires cap { cap ≤ 2 ^ 64 }
+    requires digits { first_other base t.now ≡ None }
+    ensures { result ≡ min (number_of base t.now) cap }
+{
+    let mut value = 0;
+    for byte in t {
+        value = (value * base as u128 + (*byte - b'0') as u128).min(cap);
+    }
+    value
+}
