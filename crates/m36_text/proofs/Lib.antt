@@ -1,2 +1,6 @@
 pub mod DigitLaws
+pub mod DigitNumbers
+pub mod NumeralLaws
+pub mod PackingInverse
+pub mod PackingLaws
 pub mod ReadingLaws

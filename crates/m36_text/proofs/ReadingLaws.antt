@@ -1,12 +1,11 @@
 -- Digits read one by one.
-use Rattle.std.proofs.Common.{ℕ, zero, suc, ◌≡◌, ◌≢◌, ◌+◌, ◌-◌, ◌*◌, ◌/◌, ◌%◌, ◌^◌, ◌<◌, ◌≤◌, min, Bool, true, false, not, ◌&&◌, List, [], ◌∷◌, ◌++◌, length, map, drop, take, get_or, None, Some, leb, ltb, refl, sym, ap, ◌∙◌, inl, inr, arith}
-use Rattle.std.specs.List.{position, position_or_len}
-use Rattle.std.specs.Int.Digits.{number_from_digits}
+use Rattle.std.proofs.Common.{ℕ, ◌≡◌, ◌+◌, ◌-◌, ◌*◌, ◌<◌, ◌≤◌, min, Bool, true, not, List, [], length, map, take, get_or, None, Some, leb, ltb, refl, sym, ◌∙◌, inl, inr, arith}
+use Rattle.std.specs.List.{position_or_len}
 use Rattle.std.proofs.lemmas.Bool.{cases_lt, and_parts, leb-true, ltb-true, lt-ltb, not-false, cond-true}
 use Rattle.std.proofs.lemmas.Int.Digits.{number_more}
 use Rattle.std.proofs.lemmas.List.{length-map, take-map, get_or-map}
 use Rattle.std.proofs.lemmas.List.Sums.{fails_before_first}
-use Rattle.std.proofs.Math.Nat.{min-eq_left, min-eq_right, le-mul_of_pos_right}
+use Rattle.std.proofs.Math.Nat.{min-eq_left, le-mul_of_pos_right}
 use Rattle.m36_text.specs.Reading.{first_other, is_digit, number_of}
 
 some≢none : {n : ℕ} → Some n ≡ None → ⊥

@@ -1,3 +1,3 @@
 pub mod Digits
-
+pub mod Packing
 pub mod Reading

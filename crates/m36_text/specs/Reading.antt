@@ -40,6 +40,6 @@ ReadsDecimal = (v max : ℕ) → v ≤ max → number_read 10 (decimal_text v) m
 abbrev pub HasPlaces : Type 0
 HasPlaces = (places v : ℕ) → length (octal_text places v) ≡ places
 
--- Decimal texts of more than one digit do not begin with a zero.
+-- The decimal text of a number other than zero does not begin with a zero.
 abbrev pub HasNoLeadingZero : Type 0
-HasNoLeadingZero = (v : ℕ) → 10 ≤ v → slice_index (decimal_text v) 0 ≢ 48
+HasNoLeadingZero = (v : ℕ) → 1 ≤ v → slice_index (decimal_text v) 0 ≢ 48

@@ -8,8 +8,14 @@
 //! words into bytes, most significant bit first, is this project's own.
 #![tactic(auto)]
 
+pub mod naming;
 pub mod numerals;
+pub mod packing;
 pub mod reading;
+#[cfg(test)]
+mod tests;
 
+pub use naming::{Name, Names};
 pub use numerals::{decimal, octal};
-pub use reading::{NumberFault, read_decimal, read_octal};
+pub use packing::{PackFault, pack, packing_laws, unpack};
+pub use reading::{NumberFault, numeral_laws, read_decimal, read_octal};

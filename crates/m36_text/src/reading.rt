@@ -1,7 +1,7 @@
 //! Texts read as numbers.
 
 ghost use Rattle.std.specs.Prelude.{ℕ, ◌≡◌, ◌+◌, ◌-◌, ◌^◌, ◌<◌, ◌≤◌, length, drop, min, None};
-ghost use Rattle.m36_text.specs.Reading.{first_other, is_digit, number_of, number_read};
+ghost use Rattle.m36_text.specs.Reading.{first_other, number_of, number_read, ReadsOctal, ReadsDecimal, HasPlaces, HasNoLeadingZero};
 
 /// Why a text is not read as a number.
 #[derive(Clone, Copy, Debug, PartialEq, Eq)]
@@ -51,7 +51,8 @@ fn place_of_other(base: u8, t: &[u8]) -> Option<usize>
     requires { (1 ≤ base) × (base ≤ 10) }
     ensures { result ≡ first_other base t.now }
 {
-    t.iter().position(|byte| !(48 <= *byte && *byte < 48 + base))
+    t.iter()
+        .position(|byte| !(48 <= *byte && *byte < 48 + base))
 }
 
 // The number that digits write, or `cap` where it is that or more.
@@ -67,3 +68,13 @@ fn capped_value(base: u8, t: &[u8], cap: u128) -> u128
     }
     value
 }
+
+/// The laws of written numbers: a number that was written is read as itself, an octal text has its places, and the
+/// decimal text of a number other than zero does not begin with a zero.
+#[tactic(auto, using(crate::proofs::NumeralLaws::reads_octal, crate::proofs::NumeralLaws::reads_decimal, crate::proofs::DigitLaws::length_octal, crate::proofs::NumeralLaws::has_no_leading_zero))]
+pub fn numeral_laws()
+    ensures octal { ReadsOctal }
+    ensures decimal { ReadsDecimal }
+    ensures places { HasPlaces }
+    ensures leading { HasNoLeadingZero }
+{}

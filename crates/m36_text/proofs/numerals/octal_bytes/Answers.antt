@@ -1,4 +1,4 @@
-use Rattle.std.proofs.Common.{◌≡◌, refl, ◌/◌, ◌^◌, length, arith, sym, ap, ◌∙◌, length-set}
+use Rattle.std.proofs.Common.{refl, ◌/◌, arith, sym, ap, ◌∙◌, length-set}
 use Rattle.m36_text.proofs.DigitLaws.{octal_none, octal_written, octal_left}
 use Rattle.m36_text.proofs.numerals.octal_bytes.Goals as goal
 

@@ -1,4 +1,4 @@
-use Rattle.std.proofs.Common.{ℕ, ◌≡◌, ◌≤◌, ◌+◌, ◌-◌, ◌*◌, min, take, get_or, sym, arith, ◌∙◌, ap}
+use Rattle.std.proofs.Common.{ℕ, ◌+◌, ◌-◌, ◌*◌, min, take, get_or, sym, arith, ◌∙◌, ap}
 use Rattle.m36_text.proofs.ReadingLaws.{capped, number_none, number_step, all_digits}
 use Rattle.m36_text.specs.Reading.{number_of}
 use Rattle.m36_text.proofs.reading.capped_value.Goals as goal

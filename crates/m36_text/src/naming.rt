@@ -1,0 +1,97 @@
+//! Names of segments, directories, symbols and users.
+
+ghost use Rattle.std.specs.Prelude.{ℕ, List, [], ◌∷◌, ◌++◌, ◌≡◌, ◌≤◌, length, OnOk, OnErr};
+ghost use Rattle.std.specs.Option.{SomeIff};
+
+use arrayvec::ArrayVec;
+use m36_word::NoMemory;
+use std::alloc::Global;
+use std::marker::Model;
+
+/// A name of at most 32 bytes, seen as a list of numbers. It takes no memory.
+#[derive(PartialEq, Eq, PartialOrd, Ord, Hash, Default, Debug, Drop)]
+pub struct Name {
+    items: ArrayVec<u8, 32>,
+}
+
+impl Model for Name {
+    ghost use Rattle.std.specs.Prelude.{ℕ, List};
+
+    ghost Value = { List ℕ };
+
+    ghost view = { λ n. n.items.items };
+
+    ghost inverse = { λ l. record { items = record { items = l } } };
+}
+
+impl Name {
+    /// The name of these bytes; None exactly where there are more than 32.
+    pub fn new(t: &[u8]) -> Option<Name>
+        ensures { SomeIff result (length t.now ≤ 32) t.now }
+    {
+        let mut items = ArrayVec::new();
+        match items.try_extend_from_slice(t) {
+            Ok(()) => Some(Name { items }),
+            Err(_) => None,
+        }
+    }
+
+    /// The bytes in order, at most 32.
+    pub fn bytes(&self) -> &[u8]
+        ensures value { result.now ≡ self.now }
+        ensures fits { length self.now ≤ 32 }
+    {
+        self.items.as_slice()
+    }
+
+    /// The same name again.
+    pub fn copied(&self) -> Name
+        ensures { result ≡ self.now }
+    {
+        match Name::new(self.bytes()) {
+            Some(name) => name,
+            None => unreachable!(),
+        }
+    }
+}
+
+/// A list of names that grows at its end, seen as a list of lists of numbers.
+#[derive(Debug, Drop)]
+pub struct Names {
+    items: Vec<Name>,
+}
+
+impl Model for Names {
+    ghost use Rattle.std.specs.Prelude.{ℕ, List};
+
+    ghost Value = { List (List ℕ) };
+
+    ghost view = { λ n. n.items.items };
+}
+
+impl Names {
+    /// An empty list.
+    pub fn new(alloc: Global) -> Names
+        ensures { result ≡ [] }
+    {
+        Names {
+            items: Vec::new(alloc),
+        }
+    }
+
+    /// Adds a name at the end. Where no memory is found, nothing changes.
+    pub fn push(&mut self, x: Name) -> Result<(), NoMemory>
+        ensures ok { OnOk result (self.new ≡ self.old ++ x ∷ []) }
+        ensures err { OnErr result (self.new ≡ self.old) }
+    {
+        self.items.push(x)?;
+        Ok(())
+    }
+
+    /// The names in order.
+    pub fn items(&self) -> &[Name]
+        ensures { result.now ≡ self.now }
+    {
+        self.items.as_slice()
+    }
+}

@@ -1,0 +1,184 @@
+//! Words packed into bytes.
+
+ghost use Rattle.std.specs.Prelude.{ℕ, ◌≡◌, ◌+◌, ◌-◌, ◌*◌, ◌/◌, ◌%◌, ◌^◌, ◌<◌, ◌≤◌, ◌⊎◌, List, [], ◌∷◌, ◌++◌, length, drop, IfOk, OnOk};
+ghost use Rattle.m36_text.specs.Digits.{digits};
+ghost use Rattle.m36_text.specs.Packing.{packed, bits_of, last_word, words_of, unpacked, UnpackSays, UnpacksWhatWasPacked, PacksWhatWasUnpacked, UnpacksIntoWords};
+ghost use Rattle.m36_text.specs.declared.packing.PackFault.TheVariants as fault;
+
+use m36_outside::Text;
+use m36_word::{NoMemory, Pair, Word, Words};
+use std::alloc::Global;
+
+/// Why bytes are not unpacked.
+#[derive(Clone, Copy, Debug, PartialEq, Eq)]
+pub enum PackFault {
+    /// The count of the bytes, which is that of no packed words: modulo 9 it is neither 0 nor 5.
+    T3(usize),
+    /// The place of the last byte, counted from 0, whose last four bits are behind the last word and not zero.
+    T4(usize),
+    /// No memory was found.
+    NoMemory,
+}
+
+impl From<NoMemory> for PackFault {
+    ghost from_gives = { λ _ given. given ≡ fault.NoMemory };
+
+    fn from(_cause: NoMemory) -> PackFault {
+        PackFault::NoMemory
+    }
+}
+
+/// The words as bytes, in order and the most significant bit first; an odd count of words is followed by four zero
+/// bits. The error is want of memory alone.
+pub fn pack(alloc: Global, w: &[Word]) -> Result<Text, NoMemory>
+    ensures { IfOk result (λ text. text ≡ packed w.now) }
+{
+    let mut text = Text::new(alloc);
+    let mut rest = w;
+    while rest.len() >= 2 {
+        text.append(&nine_bytes(first_pair(rest)))?;
+        rest = &rest[2..];
+    }
+    append_last(&mut text, rest)?;
+    Ok(text)
+}
+
+#[tactic(auto, using(crate::proofs::PackingLaws::nothing_packed, crate::proofs::PackingLaws::packed_one))]
+fn append_last(text: &mut Text, words: &[Word]) -> Result<(), NoMemory>
+    requires { length words.now < 2 }
+    ensures { OnOk result (text.new ≡ text.old ++ packed words.now) }
+{
+    if words.is_empty() {
+        return Ok(());
+    }
+    text.append(&five_bytes(words[0].value() * 16))
+}
+
+// The first two words as one number of 72 bits.
+#[tactic(auto, using(crate::proofs::PackingLaws::packed_pair))]
+fn first_pair(words: &[Word]) -> u128
+    requires { 2 ≤ length words.now }
+    ensures { packed words.now ≡ digits 256 9 result ++ packed (drop 2 words.now) }
+{
+    let pair = Pair {
+        even: words[0],
+        odd: words[1],
+    };
+    pair.value()
+}
+
+#[tactic(auto, unfolding(crate::specs::Digits::digits))]
+fn nine_bytes(bits: u128) -> [u8; 9]
+    ensures { result ≡ digits 256 9 bits }
+{
+    [
+        ((bits >> 64) % 256) as u8,
+        ((bits >> 56) % 256) as u8,
+        ((bits >> 48) % 256) as u8,
+        ((bits >> 40) % 256) as u8,
+        ((bits >> 32) % 256) as u8,
+        ((bits >> 24) % 256) as u8,
+        ((bits >> 16) % 256) as u8,
+        ((bits >> 8) % 256) as u8,
+        (bits % 256) as u8,
+    ]
+}
+
+#[tactic(auto, unfolding(crate::specs::Digits::digits))]
+fn five_bytes(bits: u64) -> [u8; 5]
+    ensures { result ≡ digits 256 5 bits }
+{
+    [
+        ((bits >> 32) % 256) as u8,
+        ((bits >> 24) % 256) as u8,
+        ((bits >> 16) % 256) as u8,
+        ((bits >> 8) % 256) as u8,
+        (bits % 256) as u8,
+    ]
+}
+
+/// The words of packed bytes. The error is T3 exactly where the count of the bytes modulo 9 is neither 0 nor 5, T4
+/// exactly where it is 5 and the last four bits are not zero, or want of memory.
+#[tactic(auto, unfolding(crate::specs::Packing::unpacked))]
+pub fn unpack(alloc: Global, t: &[u8]) -> Result<Words, PackFault>
+    ensures { UnpackSays result (unpacked t.now) }
+{
+    match t.len() % 9 {
+        0 => {}
+        5 => {
+            let last = t.len() - 1;
+            if t[last] % 16 != 0 {
+                return Err(PackFault::T4(last));
+            }
+        }
+        _ => return Err(PackFault::T3(t.len())),
+    }
+    Ok(whole_words(alloc, t)?)
+}
+
+#[tactic(auto, using(crate::proofs::PackingLaws::words_last))]
+fn whole_words(alloc: Global, t: &[u8]) -> Result<Words, NoMemory>
+    requires { (length t.now % 9 ≡ 0) ⊎ (length t.now % 9 ≡ 5) }
+    ensures { IfOk result (λ words. words ≡ words_of (length t.now / 9) t.now) }
+{
+    let mut words = Words::new(alloc);
+    let mut rest = t;
+    while rest.len() >= 9 {
+        push_group(&mut words, rest)?;
+        rest = &rest[9..];
+    }
+    push_last(&mut words, rest)?;
+    Ok(words)
+}
+
+fn push_last(words: &mut Words, bytes: &[u8]) -> Result<(), NoMemory>
+    requires { (length bytes.now ≡ 0) ⊎ (length bytes.now ≡ 5) }
+    ensures { OnOk result (words.new ≡ words.old ++ last_word bytes.now) }
+{
+    if bytes.is_empty() {
+        return Ok(());
+    }
+    words.push(Word::low((number(bytes) / 16) as u64))
+}
+
+// The words of the first nine bytes.
+fn push_group(words: &mut Words, bytes: &[u8]) -> Result<(), NoMemory>
+    requires { 9 ≤ length bytes.now }
+    ensures { OnOk result (words.new ++ words_of (length (drop 9 bytes.now) / 9) (drop 9 bytes.now)
+        ≡ words.old ++ words_of (length bytes.now / 9) bytes.now) }
+{
+    push_pair(words, number(&bytes[..9]))?;
+    Ok(())
+}
+
+fn push_pair(words: &mut Words, bits: u128) -> Result<(), NoMemory>
+    requires { bits < 2 ^ 72 }
+    ensures { OnOk result (words.new ≡ words.old ++ bits / 2 ^ 36 ∷ bits % 2 ^ 36 ∷ []) }
+{
+    let pair = Pair::of_value(bits);
+    words.push(pair.even)?;
+    words.push(pair.odd)?;
+    Ok(())
+}
+
+// The number that bytes write, the most significant first.
+#[tactic(auto, using(crate::proofs::PackingLaws::bits_none, crate::proofs::PackingLaws::bits_more, crate::proofs::PackingLaws::fits_more))]
+fn number(bytes: &[u8]) -> u128
+    requires { length bytes.now ≤ 9 }
+    ensures value { result ≡ bits_of bytes.now }
+    ensures bound { result < 256 ^ length bytes.now }
+{
+    let mut value = 0;
+    for byte in bytes {
+        value = value * 256 + *byte as u128;
+    }
+    value
+}
+
+/// The laws of packing: packed words are unpacked as themselves; bytes that are unpacked give words, and those are
+/// packed into the same bytes.
+pub fn packing_laws()
+    ensures unpack { UnpacksWhatWasPacked }
+    ensures pack { PacksWhatWasUnpacked }
+    ensures words { UnpacksIntoWords }
+{}
