@@ -32,3 +32,4 @@ pub mod Step
 pub mod Worked
 pub mod WorkedAddresses
 pub mod WorkedCalls
+pub mod FirstPath
