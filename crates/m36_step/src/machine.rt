@@ -1,0 +1,42 @@
+//! The machine.
+
+ghost use Rattle.std.specs.Prelude.{◌≡◌, IfOk};
+
+use std::alloc::Global;
+use std::marker::Model;
+
+use m36_model::{Regs, StepRecord};
+use m36_word::{NoMemory, Word};
+
+/// The registers and the core of a machine.
+#[derive(Drop)]
+pub struct Machine {
+    core: Vec<Word>,
+    regs: Regs,
+}
+
+impl Model for Machine {
+    ghost use Rattle.std.specs.Prelude.{ℕ, List};
+    ghost use Rattle.m36_model.specs.Store.{State};
+
+    ghost Value = { State (List ℕ) };
+
+    ghost view = { λ m. record { regs = m.regs; store = m.core.items } };
+}
+
+impl Machine {
+    /// A machine with these core words and registers.
+    pub fn new(alloc: Global, core: &[Word], regs: Regs) -> Result<Machine, NoMemory>
+        ensures { IfOk result (λ m. m ≡ record { regs = regs; store = core.now }) }
+    {
+        let core = Vec::from_slice(alloc, core)?;
+        Ok(Machine { core, regs })
+    }
+
+    /// The registers as they stand.
+    pub fn regs(&self) -> &Regs
+        ensures { result.now ≡ self.now.regs }
+    {
+        &self.regs
+    }
+}
