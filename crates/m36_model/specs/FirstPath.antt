@@ -1,7 +1,6 @@
 -- The machine as far as it is built: six instructions in ring 0, in unpaged segments of rings 0, with neither pointer
 -- register nor modification. Whatever needs more is the stop `unbuilt`, and then nothing has changed.
 use Rattle.std.specs.Prelude.{ℕ, ℤ, pos, ◌+◌, ◌+ℤ◌, ◌*◌, ◌/◌, ◌%◌, ◌^◌, Bool, true, false, not, ◌&&◌, ◌==◌, nat_le, int_le, int_lt, ◌-ℤ◌, if◌then◌else◌, List, [], ◌∷◌, Option, Some, None, Result, Ok, Err, slice_index}
-
 use Rattle.m36_word.specs.Field.{field}
 use Rattle.m36_word.specs.Signed.{signed}
 use Rattle.m36_desc.specs.Fields.{SdwFields, DbrFields}

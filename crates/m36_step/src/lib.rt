@@ -8,8 +8,10 @@
 //! Source: Multics Processor Manual AL39, "Machine instructions" and "Address appending".
 #![tactic(auto)]
 
+mod execute;
 mod instruction;
 pub mod machine;
 mod reference;
+mod stepped;
 
 pub use machine::Machine;

@@ -1,12 +1,14 @@
 //! The machine.
 
 ghost use Rattle.std.specs.Prelude.{◌≡◌, IfOk};
+ghost use Rattle.m36_model.specs.FirstPath.{first_record, first_after};
 
-use std::alloc::Global;
-use std::marker::Model;
-
+use crate::execute::next;
+use crate::stepped::Stepped;
 use m36_model::{Regs, StepRecord};
 use m36_word::{NoMemory, Word};
+use std::alloc::Global;
+use std::marker::Model;
 
 /// The registers and the core of a machine.
 #[derive(Drop)]
@@ -38,5 +40,20 @@ impl Machine {
         ensures { result.now ≡ self.now.regs }
     {
         &self.regs
+    }
+
+    /// One step. The record is that of the written step, and the machine is left in the state after it.
+    #[tactic(auto, unfolding(m36_model::specs::FirstPath::first_record, m36_model::specs::FirstPath::first_after))]
+    pub fn step(&mut self) -> StepRecord
+        ensures told { result ≡ first_record self.old }
+        ensures state { self.new ≡ first_after self.old }
+    {
+        let stepped = next(self.core.as_slice(), &self.regs);
+        let Stepped { told, store } = stepped;
+        if let Some(store) = store {
+            self.core[store.place as usize] = store.word;
+        }
+        self.regs = told.after;
+        told
     }
 }

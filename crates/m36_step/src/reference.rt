@@ -1,12 +1,17 @@
 //! References to core: the descriptor of a segment, the rights, and the place of a word.
 
-ghost use Rattle.std.specs.Prelude.{◌≡◌, ◌<◌, ◌^◌, ◌==◌, length, slice_get, true, IfSome, IsTrue, ◌↔◌};
+ghost use Rattle.std.specs.Prelude.{ℕ, ◌≡◌, ◌<◌, ◌^◌, ◌==◌, length, slice_get, true, false, IfSome, is_none};
 ghost use Rattle.std.specs.Result.{result_ok};
+ghost use Rattle.std.specs.Option.{option_map};
+ghost use Rattle.m36_desc.specs.Fields.{DbrFields};
 ghost use Rattle.m36_model.specs.FirstPath.{plain_sdw, is_plain};
 ghost use Rattle.m36_model.specs.Place.{core_sdw, in_bounds};
-ghost use Rattle.m36_step.specs.Found.{denied_by, plain_spot, found_by};
+ghost use Rattle.m36_step.specs.Found.{kind_of, Admits, Serves, ServesTransfer};
+ghost use Rattle.m36_model.specs.Store.{denied, within, is_target, Core_word};
+ghost use Rattle.m36_model.specs.Place.{core_spot};
 
 use m36_desc::{Dbr, Sdw, may_fetch, may_read, may_transfer, may_write};
+use m36_model::Regs;
 use m36_word::{Field, Pair, Word};
 
 /// What a reference is made for.
@@ -71,4 +76,82 @@ pub fn descriptor(core: &[Word], dbr: Dbr, seg: u16) -> Option<Sdw>
 {
     let sdw = live(core, dbr, seg)?;
     if is_plain(&sdw) { Some(sdw) } else { None }
+}
+
+#[tactic(auto, unfolding(m36_model::specs::Store::denied))]
+fn is_permitted(s: &Sdw, right: Right, ring: u8, word: u32) -> bool
+    ensures { result ≡ is_none (denied (kind_of right) s.now ring ring true word) }
+{
+    match right {
+        Right::Fetch => may_fetch(s, ring).is_ok(),
+        Right::Read => may_read(s, ring, true).is_ok(),
+        Right::Write => may_write(s, ring).is_ok(),
+        Right::Transfer => may_transfer(s, ring, ring).is_ok(),
+    }
+}
+
+fn is_within(s: &Sdw, word: u32) -> bool
+    ensures { result ≡ within s.now word }
+{
+    word / 16 <= s.bound as u32
+}
+
+/// The place in core of a word of an unpaged segment.
+#[tactic(auto, unfolding(m36_model::specs::Place::core_spot))]
+fn spot(core: &[Word], s: &Sdw, word: u32) -> Option<u32>
+    requires unpaged { s.now.unpaged ≡ true }
+    requires word { word < 2 ^ 18 }
+    ensures value { (dbr : DbrFields) (seg : ℕ) → option_map Core_word result ≡ result_ok (core_spot core.now dbr s.now seg word) }
+    ensures inside { IfSome result (λ a. a < length core.now) }
+{
+    let a = (s.addr + word) % (1 << 24);
+    if (a as usize) < core.len() {
+        Some(a)
+    } else {
+        None
+    }
+}
+
+/// The descriptor of the segment that executes, where it admits a reference to the word.
+
+fn admitted(core: &[Word], regs: &Regs, right: Right, word: u32) -> Option<Sdw>
+    requires unpaged { regs.now.dbr.unpaged ≡ true }
+    requires word { word < 2 ^ 18 }
+    ensures plain { IfSome result (λ d. d.unpaged ≡ true) }
+    ensures served { Admits (kind_of right) result core.now regs.now word }
+{
+    let ppr = regs.ppr;
+    let sdw = descriptor(core, regs.dbr, ppr.psr)?;
+    if !is_permitted(&sdw, right, ppr.prr, word) {
+        return None;
+    }
+    if !is_within(&sdw, word) {
+        return None;
+    }
+    Some(sdw)
+}
+
+/// A transfer to a word of the segment that executes. It touches no word; None where it is refused, or the segment is
+/// not plain.
+
+pub fn transfer(core: &[Word], regs: &Regs, word: u32) -> bool
+    requires unpaged { regs.now.dbr.unpaged ≡ true }
+    requires word { word < 2 ^ 18 }
+    ensures served { ServesTransfer result core.now regs.now word }
+{
+    admitted(core, regs, Right::Transfer, word).is_some()
+}
+
+/// A reference to one word of the segment that executes. None where it is refused, or the segment is not plain.
+
+pub fn refer(core: &[Word], regs: &Regs, right: Right, word: u32) -> Option<Found>
+    requires unpaged { regs.now.dbr.unpaged ≡ true }
+    requires word { word < 2 ^ 18 }
+    requires right { is_target (kind_of right) ≡ false }
+    ensures served { Serves (kind_of right) result core.now regs.now word }
+    ensures inside { IfSome result (λ f. f.place < length core.now) }
+{
+    let sdw = admitted(core, regs, right, word)?;
+    let place = spot(core, &sdw, word)?;
+    Some(Found { place, sdw })
 }
