@@ -29,6 +29,7 @@ use Rattle.m36_model.specs.Tally.{tally}
 use Rattle.m36_model.specs.Transfers.{is_taken, gone_to, transfer_where, transfer_on_overflow, transfer_and_set_index, transfer_and_set_pointer}
 use Rattle.m36_model.specs.WorkedAddresses.{LoadReadsItsWord, StopFollows, LastWordOfTheBoundIsRead, WordPastTheBoundIsNot, PairTakesTheBracketOfItsSegment, SeventeenthIndirectWordLocksUp, SixteenIndirectWordsAreServed, IndexIsHeldOverTheIndirectWord, TallyWordsCount, LoadSeesTheNewTallyWord, StoreComesAfterTheTallyWord, RefusedTallyWordChangesNothing}
 use Rattle.m36_model.specs.WorkedCalls.{CallThroughAGate, CallPastTheLimiter, CallFromAboveTheBracket, OutwardCall, CallWithRaisedRing, CallWithinTheRing, ReturnTakesThePairsRing, ReturnTakesTheGreatestRing, PackedPointerWithAWrongBitNumber, OneTakesTheLock}
+use Rattle.m36_model.specs.WorkedEffects.{ComparisonIsSigned, OverflowStoresAndFaults, MaskedOverflowGoesOn, LeastNumberHasNoNegative, SquareOfTheLeastNumber, QuotientIsCutTowardZero, DivisionByZeroIsRefused, LeftShiftSetsCarry, RightShiftCopiesTheSign, RotationComesRound, TransferSetsTheIndex}
 
 everything : Unit {0}
 unfolding signed entry_at and_then modulo sum_value sum_carry sum_overflow sum difference_value difference_carry difference_overflow difference negation is_less comparison product quotient remainder is_divide_check bits_of number_from each_bit bitwise and_of or_of xor_of and_not_of call return_to found chain compare test_word test_and_clear compare_masked test_and test_and_not core_put exec first_point load load_complement load_and_clear indicators_of load_indicators and_register or_register xor_register and_storage or_storage xor_storage index_of move_of_point core_sdw core_spot with_used with_modified marks with_marks core_marked with_pr load_pointer load_base_pointer store_pointer store_base_pointer store_pointers load_pointers load_packed load_address_pair store_control load_dbr store_dbr load_absolute_address multiply divide with_value zn zn_carry zn_overflow zn_carry_overflow compared moved_on shift_left shift_right shift_right_logical rotate_left left_shift first_bits left_shift_carry copying_right_shift plain_right_shift rotation tallied operate decode program record_of state_after denied spots_of places changes serve run store store_zero indicators_half store_indicators store_where_zero store_where_equal into_register into_register_logical into_operand add add_logical add_with_carry sign_extended subtract subtract_logical subtract_with_carry add_one_to_storage add_to_storage subtract_stored negate tally is_taken gone_to transfer_where transfer_on_overflow transfer_and_set_index transfer_and_set_pointer
@@ -121,3 +122,47 @@ packed_pointer_with_a_wrong_bit_number = (refl, refl)
 pub one_takes_the_lock : OneTakesTheLock
 unfolding everything
 one_takes_the_lock = (refl, refl, refl, refl)
+
+pub comparison_is_signed : ComparisonIsSigned
+unfolding everything
+comparison_is_signed = refl
+
+pub overflow_stores_and_faults : OverflowStoresAndFaults
+unfolding everything
+overflow_stores_and_faults = (refl, refl)
+
+pub masked_overflow_goes_on : MaskedOverflowGoesOn
+unfolding everything
+masked_overflow_goes_on = (refl, refl)
+
+pub least_number_has_no_negative : LeastNumberHasNoNegative
+unfolding everything
+least_number_has_no_negative = refl
+
+pub square_of_the_least_number : SquareOfTheLeastNumber
+unfolding everything
+square_of_the_least_number = refl
+
+pub quotient_is_cut_toward_zero : QuotientIsCutTowardZero
+unfolding everything
+quotient_is_cut_toward_zero = refl
+
+pub division_by_zero_is_refused : DivisionByZeroIsRefused
+unfolding everything
+division_by_zero_is_refused = refl
+
+pub left_shift_sets_carry : LeftShiftSetsCarry
+unfolding everything
+left_shift_sets_carry = refl
+
+pub right_shift_copies_the_sign : RightShiftCopiesTheSign
+unfolding everything
+right_shift_copies_the_sign = refl
+
+pub rotation_comes_round : RotationComesRound
+unfolding everything
+rotation_comes_round = refl
+
+pub transfer_sets_the_index : TransferSetsTheIndex
+unfolding everything
+transfer_sets_the_index = refl

@@ -5,6 +5,9 @@ use Rattle.m36_word.specs.Field.{field}
 use Rattle.m36_desc.specs.Descriptors.{its_of, itp_of, its_tag, itp_tag}
 use Rattle.m36_model.specs.Fields.{AtFields, FinalFields}
 use Rattle.m36_model.specs.Registers.{RegsFields}
+use Rattle.m36_model.specs.Store.{Spot, Core_word}
+use Rattle.m36_model.specs.declared.effects.Formed.{Formed}
+use Rattle.m36_model.specs.declared.effects.Tally.{Tally}
 use Rattle.m36_model.specs.declared.outcome.Halt.{Halt}
 use Rattle.m36_model.specs.Act.{RequestKind, Indirect, Odd, Write, Whole, Put, Request, Answer, Act, done, refer}
 use Rattle.m36_model.specs.Modification.{Point, Move, Ends, Fails, Reads, Counts, move_of_point, ptr, fault_at}
@@ -140,3 +143,22 @@ chain_exhausted p Counts = done (Err (lockup p p.y))
 unfoldable pub chain : ℕ → RegsFields → Point → Formation
 chain zero g p = chain_exhausted p (move_of_point g p)
 chain (suc n) g p = chain_by (chain n g) g p (move_of_point g p)
+
+-- The code's formed address. Where it has a tally word, that is the first claim of the step, and its place in core is the spot.
+abbrev pub tally_put : Tally → Put
+tally_put t = record { claim = 0; part = Whole; value = t.word }
+
+abbrev pub pending_of : Option Tally → List Put
+pending_of None = []
+pending_of (Some t) = tally_put t ∷ []
+
+abbrev pub runout_of : Option Tally → Option Bool
+runout_of None = None
+runout_of (Some t) = Some t.runout
+
+abbrev pub chain_end_fields : Formed → ChainEnd
+chain_end_fields f = record { last = f.last; pending = pending_of f.tally; runout = runout_of f.tally }
+
+abbrev pub claimed_by : Option Tally → ℕ → List Spot
+claimed_by None place = []
+claimed_by (Some t) place = Core_word place ∷ []

@@ -3,12 +3,15 @@
 -- the order of the instruction table; the parts have the equations.
 -- Of MME, DRL and DIS, which form no address, no step asks the effect.
 -- Multics Processor Manual AL39, "Machine instructions".
-use Rattle.std.specs.Prelude.{ℕ, Bool, true, false, Result, Err}
+use Rattle.std.specs.Prelude.{ℕ, Bool, true, false, Result, Ok, Err}
 use Rattle.m36_inst.specs.declared.effect.Effect.{Effect}
 use Rattle.m36_inst.specs.declared.effect.Effect.TheVariants as effect
 use Rattle.m36_model.specs.Fields.{FinalFields}
 use Rattle.m36_model.specs.Registers.{RegsFields}
-use Rattle.m36_model.specs.Results.{OperandFields, EffectFields, A, Q, AQ, X, operand, word, lower, completes}
+use Rattle.m36_model.specs.declared.effects.Effect36.{Effect36}
+use Rattle.m36_model.specs.declared.outcome.Fault.{Fault}
+use Rattle.m36_model.specs.Modification.{here}
+use Rattle.m36_model.specs.Results.{OperandFields, EffectFields, effect_fields, A, Q, AQ, X, operand, word, lower, completes}
 use Rattle.m36_model.specs.Loads.{load, load_complement, load_and_clear, address_in_upper, load_indicators}
 use Rattle.m36_model.specs.Stores.{store, store_zero, store_indicators, store_where_zero, store_where_equal}
 use Rattle.m36_model.specs.Sums.{add, add_logical, add_with_carry, sign_extended, subtract, subtract_logical, subtract_with_carry, add_one_to_storage, add_to_storage, subtract_stored, negate}
@@ -164,3 +167,12 @@ exec effect.Sdbr n g f o = store_dbr g
 exec effect.Cams n g f o = completes g
 exec effect.Camp n g f o = completes g
 exec effect.Absa n g f o = load_absolute_address o g
+
+-- The answer of the code's effects: a refusal is a fault at the instruction.
+abbrev pub answer_fields : Result Effect36 Fault → Result EffectFields Fault
+answer_fields (Ok e) = Ok (effect_fields e)
+answer_fields (Err f) = Err f
+
+abbrev pub refused_here : RegsFields → Result EffectFields ℕ → Result EffectFields Fault
+refused_here g (Ok e) = Ok e
+refused_here g (Err number) = Err (record { at = here g; number = number; acv = 0 })

@@ -33,3 +33,4 @@ pub mod Worked
 pub mod WorkedAddresses
 pub mod WorkedCalls
 pub mod FirstPath
+pub mod WorkedEffects

@@ -2,6 +2,7 @@
 
 ghost use Rattle.m36_model.specs.WorkedAddresses.{LoadReadsItsWord, StopFollows, LastWordOfTheBoundIsRead, WordPastTheBoundIsNot, PairTakesTheBracketOfItsSegment, SeventeenthIndirectWordLocksUp, SixteenIndirectWordsAreServed, IndexIsHeldOverTheIndirectWord, TallyWordsCount, LoadSeesTheNewTallyWord, StoreComesAfterTheTallyWord, RefusedTallyWordChangesNothing};
 ghost use Rattle.m36_model.specs.WorkedCalls.{CallThroughAGate, CallPastTheLimiter, CallFromAboveTheBracket, OutwardCall, CallWithRaisedRing, CallWithinTheRing, ReturnTakesThePairsRing, ReturnTakesTheGreatestRing, PackedPointerWithAWrongBitNumber, OneTakesTheLock};
+ghost use Rattle.m36_model.specs.WorkedEffects.{ComparisonIsSigned, OverflowStoresAndFaults, MaskedOverflowGoesOn, LeastNumberHasNoNegative, SquareOfTheLeastNumber, QuotientIsCutTowardZero, DivisionByZeroIsRefused, LeftShiftSetsCarry, RightShiftCopiesTheSign, RotationComesRound, TransferSetsTheIndex};
 
 /// Each worked step is what the definitions compute.
 pub fn worked_steps()
@@ -27,4 +28,15 @@ pub fn worked_steps()
     ensures return_takes_the_greatest_ring { ReturnTakesTheGreatestRing }
     ensures packed_pointer_with_a_wrong_bit_number { PackedPointerWithAWrongBitNumber }
     ensures one_takes_the_lock { OneTakesTheLock }
+    ensures comparison_is_signed { ComparisonIsSigned }
+    ensures overflow_stores_and_faults { OverflowStoresAndFaults }
+    ensures masked_overflow_goes_on { MaskedOverflowGoesOn }
+    ensures least_number_has_no_negative { LeastNumberHasNoNegative }
+    ensures square_of_the_least_number { SquareOfTheLeastNumber }
+    ensures quotient_is_cut_toward_zero { QuotientIsCutTowardZero }
+    ensures division_by_zero_is_refused { DivisionByZeroIsRefused }
+    ensures left_shift_sets_carry { LeftShiftSetsCarry }
+    ensures right_shift_copies_the_sign { RightShiftCopiesTheSign }
+    ensures rotation_comes_round { RotationComesRound }
+    ensures transfer_sets_the_index { TransferSetsTheIndex }
 {}

@@ -1,0 +1,112 @@
+-- Worked effects: sums, comparisons, products, shifts, a call of a subroutine.
+use Rattle.std.specs.Prelude.{ℕ, ◌≡◌, ◌^◌, false, true, List, [], ◌∷◌, replicate, slice_set, Ok, Err}
+use Rattle.m36_model.specs.Registers.{RegsFields}
+use Rattle.m36_model.specs.Store.{State}
+use Rattle.m36_model.specs.Arithmetic.{comparison}
+use Rattle.m36_model.specs.Results.{A}
+use Rattle.m36_model.specs.Loads.{load_complement}
+use Rattle.m36_model.specs.Products.{multiply, divide}
+use Rattle.m36_model.specs.ShiftEffects.{shift_left, shift_right, rotate_left}
+use Rattle.m36_model.specs.Worked.{core_of, at_instruction, no_indicators, at_word, faults, outcome_of_step, registers_after}
+use Rattle.m36_model.specs.declared.outcome.Outcome.TheVariants.{Next}
+
+-- 400000000000 against 1: the signed value is less, and the difference, which wraps, has carry.
+abbrev pub ComparisonIsSigned : Type 0
+ComparisonIsSigned = comparison (2 ^ 35) 0o400000000000 1 ≡ record { zero = false; negative = true; carry = true }
+
+-- `ada 1` of A 377777777777 and 1: the sum is stored and the instruction counter moves on; then the overflow fault is given, but not
+-- while the mask is on.
+abbrev pub sum_core : List ℕ
+sum_core =
+    core_of 0o100 ((0o2, 0o000000400004) ∷ (0o3, 0o000006300000) ∷ (0o40, 0o000001075000) ∷ (0o41, 1) ∷ [])
+
+abbrev pub at_sum : State (List ℕ)
+at_sum = record { regs = record (at_instruction 1 0 0) { a = 0o377777777777 }; store = sum_core }
+
+abbrev pub at_masked_sum : State (List ℕ)
+at_masked_sum = record { regs = record at_sum.regs { ind = record no_indicators { mask = true } }; store = sum_core }
+
+abbrev pub OverflowStoresAndFaults : Type 0
+OverflowStoresAndFaults =
+    (outcome_of_step at_sum ≡ faults 13 (at_word 1 0 0)) × (registers_after at_sum ≡ record (at_instruction 1 0 1) {
+      a = 0o400000000000;
+      ind = record no_indicators { negative = true; overflow = true };
+    })
+
+abbrev pub MaskedOverflowGoesOn : Type 0
+MaskedOverflowGoesOn =
+    (outcome_of_step at_masked_sum ≡ Next) × (registers_after at_masked_sum ≡ record (at_instruction 1 0 1) {
+      a = 0o400000000000;
+      ind = record no_indicators { negative = true; overflow = true; mask = true };
+    })
+
+-- the registers with a number in A, and in Q
+abbrev pub with_a : ℕ → RegsFields
+with_a v = record (at_instruction 1 0 0) { a = v }
+
+abbrev pub with_q : ℕ → RegsFields
+with_q v = record (at_instruction 1 0 0) { q = v }
+
+-- the least number is its own negative, and overflows
+abbrev pub LeastNumberHasNoNegative : Type 0
+LeastNumberHasNoNegative = load_complement A 0o400000000000 (with_a 0) ≡ Ok (record {
+  regs = record (at_instruction 1 0 1) {
+    a = 0o400000000000;
+    ind = record no_indicators { negative = true; overflow = true };
+  };
+  put = [];
+  overflow = true;
+})
+
+-- the square of the least number, and divisions that cut toward zero
+abbrev pub SquareOfTheLeastNumber : Type 0
+SquareOfTheLeastNumber = multiply 0o400000000000 (with_q 0o400000000000) ≡ Ok (record {
+  regs = record (at_instruction 1 0 1) { a = 0o200000000000 };
+  put = [];
+  overflow = false;
+})
+
+abbrev pub QuotientIsCutTowardZero : Type 0
+QuotientIsCutTowardZero = divide 0o777777777775 (with_q 7) ≡ Ok (record {
+  regs = record (at_instruction 1 0 1) { a = 1; q = 0o777777777776; ind = record no_indicators { negative = true } };
+  put = [];
+  overflow = false;
+})
+
+abbrev pub DivisionByZeroIsRefused : Type 0
+DivisionByZeroIsRefused = divide 0 (with_q 7) ≡ Err 14
+
+-- shifts by 1
+abbrev pub LeftShiftSetsCarry : Type 0
+LeftShiftSetsCarry = shift_left A 1 (with_a 0o200000000000) ≡ Ok (record {
+  regs = record (at_instruction 1 0 1) {
+    a = 0o400000000000;
+    ind = record no_indicators { negative = true; carry = true };
+  };
+  put = [];
+  overflow = false;
+})
+
+abbrev pub RightShiftCopiesTheSign : Type 0
+RightShiftCopiesTheSign = shift_right A 1 (with_a 0o400000000000) ≡ Ok (record {
+  regs = record (at_instruction 1 0 1) { a = 0o600000000000; ind = record no_indicators { negative = true } };
+  put = [];
+  overflow = false;
+})
+
+abbrev pub RotationComesRound : Type 0
+RotationComesRound = rotate_left A 1 (with_a 0o400000000001) ≡ Ok (record {
+  regs = record (at_instruction 1 0 1) { a = 3 };
+  put = [];
+  overflow = false;
+})
+
+-- `tsx1 5` at word 3 leaves the word of the next instruction in X1
+abbrev pub subroutine_core : List ℕ
+subroutine_core = core_of 0o100 ((0o2, 0o000000400004) ∷ (0o3, 0o000006300000) ∷ (0o43, 0o000005701000) ∷ [])
+
+abbrev pub at_subroutine : State (List ℕ)
+at_subroutine = record { regs = at_instruction 1 0 3; store = subroutine_core }
+
+abbrev pub TransferSetsTheIndex : Type 0
+TransferSetsTheIndex = registers_after at_subroutine ≡ record (at_instruction 1 0 5) { x = slice_set (replicate 8 0) 1 4 }
