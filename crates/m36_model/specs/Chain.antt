@@ -11,7 +11,7 @@ use Rattle.m36_model.specs.declared.effects.Tally.{Tally}
 use Rattle.m36_model.specs.declared.outcome.Halt.{Halt}
 use Rattle.m36_model.specs.Act.{RequestKind, Indirect, Odd, Write, Whole, Put, Request, Answer, Act, done, refer}
 use Rattle.m36_model.specs.Modification.{Point, Move, Ends, Fails, Reads, Counts, move_of_point, ptr, fault_at}
-use Rattle.m36_model.specs.Tally.{tally, tally_address, indirect_only}
+use Rattle.m36_model.specs.Tally.{Counted, tally, tally_address, indirect_only}
 
 -- What a chain gives: the final address, the tally word that is still to be written, and the tally runout indicator where
 -- a tag has set it.
@@ -108,16 +108,18 @@ tally_final p address = record { at = at_point p address; bit = p.bit; direct = 
 
 -- I leaves its word. The other four reference it as a Write at the same ring; its new value is written when the
 -- instruction completes.
+abbrev pub tally_end : Point → ℕ → Counted → ChainEnd
+tally_end p claim counted =
+    record {
+      last = tally_final p counted.address;
+      pending = record { claim = claim; part = Whole; value = counted.word } ∷ [];
+      runout = Some counted.runs_out;
+    }
+
 abbrev pub after_tally : Point → ℕ → Answer → Bool → Formation
 after_tally p td a true = ends_plain (tally_final p (tally_address (slice_index a.words 0)))
 after_tally p td a false =
-    refer (indirect Write p p.y) (λ b.
-    let counted = tally td (slice_index a.words 0) in
-    done (Ok (record {
-      last = tally_final p counted.address;
-      pending = record { claim = b.first; part = Whole; value = counted.word } ∷ [];
-      runout = Some counted.runs_out;
-    })))
+    refer (indirect Write p p.y) (λ b. done (Ok (tally_end p b.first (tally td (slice_index a.words 0)))))
 
 -- the chain from a point on, where its indirect word may be read
 abbrev pub chain_by : (Point → Formation) → RegsFields → Point → Move → Formation

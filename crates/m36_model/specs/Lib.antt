@@ -34,3 +34,4 @@ pub mod WorkedAddresses
 pub mod WorkedCalls
 pub mod FirstPath
 pub mod WorkedEffects
+pub mod ChainList

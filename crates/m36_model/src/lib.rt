@@ -9,6 +9,7 @@
 
 pub mod effects;
 pub mod endings;
+pub mod laws;
 pub mod outcome;
 pub mod place;
 pub mod record;
