@@ -1,9 +1,9 @@
 -- How the program of a step runs over the store of the first machine.
-use Rattle.std.proofs.Common.{ℕ, ◌≡◌, ◌==◌, ◌&&◌, List, [], ◌∷◌, ◌++◌, Option, Some, None, Result, Ok, Err, true, false, Bool, length, slice_index, slice_set, refl, sym, ap, ◌∙◌}
+use Rattle.std.proofs.Common.{ℕ, ◌≡◌, ◌==◌, ◌&&◌, List, [], Option, Some, None, Result, Err, true, false, Bool, slice_index, refl, ap, ◌∙◌}
 use Rattle.m36_word.specs.Field.{field}
 use Rattle.m36_model.specs.Registers.{RegsFields}
-use Rattle.m36_model.specs.Act.{RequestKind, Fetch, Read, Write, Transfer, Request, Answer, Act, done, ask}
-use Rattle.m36_model.specs.Store.{Spot, Core_word, Mid, Ran, Served, serve, run, changes}
+use Rattle.m36_model.specs.Act.{RequestKind, Fetch, Read, Write, Transfer, Request, Answer, Act, ask}
+use Rattle.m36_model.specs.Store.{Mid, Served, serve, run, changes}
 use Rattle.m36_model.specs.Core.{core_put}
 use Rattle.m36_model.specs.FirstPath as first
 use Rattle.m36_model.specs.FirstPath.{FirstEnding, plain_store, executed, first_program, operation_of, record_by, state_by, unbuilt, final_of, operand_at, one_word}
@@ -12,12 +12,11 @@ use Rattle.m36_model.specs.declared.outcome.Outcome.TheVariants.{Next, Stopped}
 use Rattle.m36_model.specs.declared.outcome.Stop.TheVariants.{Dis, Unbuilt}
 use Rattle.m36_model.specs.declared.place.Reference.{Reference}
 use Rattle.m36_model.specs.declared.place.Kind.TheVariants as reference
-use Rattle.m36_model.specs.declared.record.StepRecord.{StepRecord}
 use Rattle.m36_step.specs.declared.stepped.Stepped.{Stepped}
 use Rattle.m36_step.specs.declared.stepped.Store.{Store}
 use Rattle.m36_step.specs.declared.reference.Found.{Found}
-use Rattle.m36_step.specs.Found.{standing, request_of, served_of, Refuses, ServesWord, ServesTarget}
-use Rattle.m36_step.specs.Stepped.{Ends, with_store, one_more}
+use Rattle.m36_step.specs.Found.{standing, request_of, Refuses, ServesWord, ServesTarget}
+use Rattle.m36_step.specs.Stepped.{Ends, one_more}
 
 -- a request that was served goes on with its reply
 pub run_ask : {A : Type 0} (g : RegsFields) (q : Request) (next : Result Answer Fault → Act A) (m : Mid (List ℕ)) (t : Served (List ℕ)) → serve plain_store g m q ≡ t → run plain_store g (ask q next) m ≡ run plain_store g (next t.reply) t.mid

@@ -1,11 +1,11 @@
 -- How the store of the first machine serves a request for one word of the segment that executes.
-use Rattle.std.proofs.Common.{ℕ, ◌≡◌, ◌==◌, ◌<◌, ◌&&◌, List, [], ◌∷◌, ◌++◌, Option, Some, None, Result, Ok, Err, true, false, Bool, length, slice_index, refl, sym, ap, ◌∙◌, arith, eq-eqb, is_none, is_some}
+use Rattle.std.proofs.Common.{ℕ, ◌≡◌, ◌==◌, ◌&&◌, List, [], ◌++◌, Option, Some, None, Result, Ok, Err, true, false, Bool, refl, sym, ap, ◌∙◌, eq-eqb, is_none, is_some}
 use Rattle.std.specs.Option.{option_map}
 use Rattle.std.specs.Result.{result_ok}
 use Rattle.m36_desc.specs.Fields.{SdwFields, DbrFields}
 use Rattle.m36_model.specs.Registers.{RegsFields}
-use Rattle.m36_model.specs.Act.{RequestKind, Fetch, Read, Write, Transfer, Request}
-use Rattle.m36_model.specs.Store.{changes, Spot, Core_word, Mid, Served, serve, serve_places, refused, spots_of, places, reads, is_target, within, denied, violation, placed_one, places_by}
+use Rattle.m36_model.specs.Act.{RequestKind, Transfer}
+use Rattle.m36_model.specs.Store.{changes, Spot, Core_word, serve, serve_places, refused, spots_of, places, is_target, within, denied, violation, placed_one, places_by}
 use Rattle.m36_model.specs.Place.{core_spot, core_marked, core_sdw, Mark, marks, with_marks, directory_marks, page_marks, is_write}
 use Rattle.m36_model.specs.Core.{core_put}
 use Rattle.m36_model.specs.FirstPath.{plain_store, plain_sdw, plain_of, plain_by, is_plain}
@@ -14,8 +14,7 @@ use Rattle.m36_model.specs.declared.outcome.Refusal.{Refusal}
 use Rattle.m36_model.specs.declared.place.Reference.{Reference}
 use Rattle.m36_step.specs.declared.reference.Right.{Right}
 use Rattle.m36_step.specs.declared.reference.Right.TheVariants as right
-use Rattle.m36_step.specs.declared.reference.Found.{Found}
-use Rattle.m36_step.specs.Found.{kind_of, standing, request_of, served_of, Refuses, ByDescriptor, Admits, ServesWord, Serves, ServesTarget, ServesTransfer}
+use Rattle.m36_step.specs.Found.{kind_of, standing, request_of, served_of, Refuses, ByDescriptor, Admits, ServesWord, ServesTarget, ServesTransfer}
 
 pub ok_of : {A E : Type 0} (r : Result A E) (a : A) → result_ok r ≡ Some a → r ≡ Ok a
 ok_of (Ok b) a e = cc

@@ -1,9 +1,8 @@
 -- What a reference of the first machine finds, and what the store then serves.
-use Rattle.std.specs.Prelude.{ℕ, ◌≡◌, ◌==◌, List, [], ◌∷◌, Option, Some, None, Result, Ok, Err, true, false, Bool, length, slice_index, if◌then◌else◌}
+use Rattle.std.specs.Prelude.{ℕ, ◌≡◌, List, [], ◌∷◌, Option, Some, None, Ok, Err, true, false, Bool, length, slice_index, if◌then◌else◌}
 use Rattle.m36_desc.specs.Fields.{SdwFields}
-use Rattle.m36_model.specs.Fields.{AtFields}
 use Rattle.m36_model.specs.Registers.{RegsFields}
-use Rattle.m36_model.specs.Act.{RequestKind, Fetch, Read, Write, Transfer, Request, Answer}
+use Rattle.m36_model.specs.Act.{RequestKind, Fetch, Read, Write, Transfer, Request}
 use Rattle.m36_model.specs.Store.{Spot, Core_word, Mid, Served, serve, serve_places, placed_one, places_by, is_target, reads, with_claims, with_reference}
 use Rattle.m36_model.specs.Place.{core_spot}
 use Rattle.m36_model.specs.FirstPath.{plain_store, one_word}

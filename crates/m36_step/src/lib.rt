@@ -13,5 +13,7 @@ mod instruction;
 pub mod machine;
 mod reference;
 mod stepped;
+#[cfg(test)]
+mod tests;
 
 pub use machine::Machine;

@@ -1,5 +1,4 @@
 -- The machine stops, in a privileged segment by DIS.
-use Rattle.std.proofs.Common.{Some, refl, sym}
 use Rattle.m36_step.proofs.Runs.{ends_unbuilt, ends_dis}
 use Rattle.m36_step.proofs.execute.halt.Goals as goal
 
