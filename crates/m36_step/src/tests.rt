@@ -4,7 +4,7 @@ ghost use Rattle.std.specs.Prelude.{◌^◌, ◌<◌};
 
 use crate::machine::Machine;
 use m36_desc::{Dbr, Ptr};
-use m36_model::{Ind, Outcome, Ppr, Regs, Stop};
+use m36_model::{Ind, Outcome, Ppr, Regs, StepRecord, Stop};
 use m36_word::Word;
 use std::test::Fail;
 
@@ -109,11 +109,18 @@ fn six_instructions(rt: HostRuntime) -> Result<(), Fail> {
         (10, 8, 2),
     ];
     for (a, ic, references) in expected {
-        let told = machine.step();
-        assert!(rt; told.outcome == Outcome::Next);
-        assert_eq!(rt; told.after.a.value(), a);
-        assert_eq!(rt; told.after.ppr.ic, ic);
-        assert_eq!(rt; told.refs.len(), references);
+        let StepRecord {
+            refs,
+            after,
+            word: _,
+            at: _,
+            outcome,
+            ppr: _,
+        } = machine.step();
+        assert!(rt; outcome == Outcome::Next);
+        assert_eq!(rt; after.a.value(), a);
+        assert_eq!(rt; after.ppr.ic, ic);
+        assert_eq!(rt; refs.len(), references);
     }
     let told = machine.step();
     assert!(rt; told.outcome == Outcome::Stopped(Stop::Dis));
