@@ -4,6 +4,12 @@
 //! the parts above know of the world.
 #![tactic(auto)]
 
+pub mod folder;
+pub mod lines;
+pub mod sink;
 pub mod text;
 
+pub use folder::{Folder, ReadAnswer, WriteAnswer};
+pub use lines::{Lines, Piece};
+pub use sink::{Put, Sink};
 pub use text::Text;

@@ -1,0 +1,3 @@
+pub mod Completes
+pub mod Grown
+pub mod Risen

@@ -1,0 +1,33 @@
+-- What the answers of a read say.
+use Rattle.std.specs.Prelude.{ℕ, ◌≡◌, ◌≤◌, ◌<◌, List, length, Option, Some, None, ⊤}
+use Rattle.m36_outside.specs.Counts.{Rose}
+use Rattle.m36_outside.specs.declared.folder.ReadAnswer.{ReadAnswer}
+use Rattle.m36_outside.specs.declared.folder.ReadAnswer.TheVariants.{Read, Absent, TooLarge, Failed, NoMemory}
+
+-- the greatest length of a file that is read, 16 MiB
+abbrev pub file_limit : ℕ
+file_limit = 16777216
+
+-- what the answer says of the named file, where the folder tells its files
+abbrev pub ReadSays : ReadAnswer → Option (List ℕ) → Type 0
+ReadSays (Read bytes) file = file ≡ Some bytes
+ReadSays Absent file = file ≡ None
+ReadSays TooLarge file = (bytes : List ℕ) × (file ≡ Some bytes) × (file_limit < length bytes)
+ReadSays Failed file = ⊤
+ReadSays NoMemory file = ⊤
+
+-- what is read is within the limit
+abbrev pub IsWithinLimit : ReadAnswer → Type 0
+IsWithinLimit (Read bytes) = length bytes ≤ file_limit
+IsWithinLimit Absent = ⊤
+IsWithinLimit TooLarge = ⊤
+IsWithinLimit Failed = ⊤
+IsWithinLimit NoMemory = ⊤
+
+-- A failed read made the count of faults rise, and every other read left it.
+abbrev pub ReadHasCause : ReadAnswer → ℕ → ℕ → Type 0
+ReadHasCause (Read bytes) old new = new ≡ old
+ReadHasCause Absent old new = new ≡ old
+ReadHasCause TooLarge old new = new ≡ old
+ReadHasCause Failed old new = Rose old new
+ReadHasCause NoMemory old new = new ≡ old

@@ -1,0 +1,33 @@
+//! A place for the output.
+
+ghost use Rattle.std.specs.Prelude.{ℕ, ◌≡◌, ◌≤◌, ◌<◌, ◌^◌, List, Option};
+ghost use Rattle.m36_outside.specs.Put.{PutSays, PutHasCause};
+
+/// The answer of a put.
+#[derive(Clone, Copy, PartialEq, Eq, Debug)]
+pub enum Put {
+    /// The whole piece was written.
+    Done,
+    /// A first part of the piece was written, or nothing of it. The count of faults rose.
+    Failed,
+}
+
+/// A place for the output, to which pieces are added at its end.
+///
+/// A sink may tell what is written, as one in memory does, or tell nothing, as a real output. Whether it tells it never
+/// changes. Its count of faults never falls, is below 2^64, and stays where it is once it has reached 2^64 - 1.
+pub trait Sink {
+    /// All that is written, where it is told.
+    ghost written: { Self → Option (List ℕ) };
+
+    /// How many puts failed.
+    ghost faults: { Self → ℕ };
+
+    /// Writes a piece behind all that is written. A sink that takes nothing of a piece that is not empty has failed.
+    fn put(&mut self, piece: &[u8]) -> Put
+        ensures says { PutSays result (written self.old) (written self.new) piece.now }
+
+        ensures cause { PutHasCause result (faults self.old) (faults self.new) }
+        ensures count { faults self.old ≤ faults self.new }
+        ensures count_bound { faults self.new < 2 ^ 64 };
+}
