@@ -1,3 +1,4 @@
 pub mod Completes
+mod FilesNamed
 pub mod Grown
 pub mod Risen

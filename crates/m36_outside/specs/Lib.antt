@@ -1,4 +1,6 @@
+pub mod CallPlan
 pub mod Counts
+pub mod FileList
 pub mod Files
 pub mod Piece
 pub mod Put

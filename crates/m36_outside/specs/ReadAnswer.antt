@@ -31,3 +31,11 @@ ReadHasCause Absent old new = new ≡ old
 ReadHasCause TooLarge old new = new ≡ old
 ReadHasCause Failed old new = Rose old new
 ReadHasCause NoMemory old new = new ≡ old
+
+-- the answer is not Failed
+abbrev pub IsNoFault : ReadAnswer → Type 0
+IsNoFault (Read bytes) = ⊤
+IsNoFault Absent = ⊤
+IsNoFault TooLarge = ⊤
+IsNoFault Failed = ⊥
+IsNoFault NoMemory = ⊤

@@ -4,6 +4,9 @@
 //! the parts above know of the world.
 #![tactic(auto)]
 
+mod calls;
+mod faults;
+mod file_list;
 pub mod folder;
 pub mod lines;
 pub mod sink;

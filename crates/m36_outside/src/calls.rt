@@ -1,0 +1,45 @@
+//! Numbered calls, some of which are to fail.
+
+ghost use Rattle.std.specs.Prelude.{◌≡◌, IfOk};
+ghost use Rattle.m36_outside.specs.CallPlan.{next_fails, after_call};
+
+use m36_word::NoMemory;
+use std::alloc::Global;
+use std::marker::Model;
+
+/// Counts the calls of an object in memory from 1 to 2^32 - 1, which every later call has too, and knows the numbers of
+/// those that are to fail.
+#[derive(Drop)]
+pub struct Calls {
+    failing: Vec<u32>,
+    last: u32,
+}
+
+impl Model for Calls {
+    ghost use Rattle.m36_outside.specs.CallPlan.{CallPlan};
+
+    ghost Value = { CallPlan };
+
+    ghost view = { λ c. record { failing = c.failing.items; last = c.last } };
+}
+
+impl Calls {
+    /// No call yet, and the numbers of the calls that are to fail. The error is want of memory alone.
+    pub fn new(alloc: Global, failing: &[u32]) -> Result<Calls, NoMemory>
+        ensures { IfOk result (λ calls. calls ≡ record { failing = failing.now; last = 0 }) }
+    {
+        Ok(Calls {
+            failing: Vec::from_slice(alloc, failing)?,
+            last: 0,
+        })
+    }
+
+    /// Counts one more call, and tells whether it is to fail.
+    pub fn next_fails(&mut self) -> bool
+        ensures fails { result ≡ next_fails self.old }
+        ensures after { self.new ≡ after_call self.old }
+    {
+        self.last = self.last.saturating_add(1);
+        self.failing.as_slice().contains(&self.last)
+    }
+}

@@ -1,0 +1,117 @@
+//! A list of named files in memory.
+
+ghost use Rattle.std.specs.Prelude.{◌≡◌, [], Some, None, MatchOption, OnOk, OnErr};
+ghost use Rattle.std.specs.List.{position_or_len};
+ghost use Rattle.m36_outside.specs.Files.{with_file};
+ghost use Rattle.m36_outside.specs.FileList.{file_named, has_name};
+ghost use Rattle.m36_outside.specs.ReadAnswer.{ReadSays, IsWithinLimit, IsNoFault};
+
+use crate::folder::ReadAnswer;
+use crate::text::Text;
+use m36_word::NoMemory;
+use std::alloc::Global;
+use std::marker::Model;
+
+/// The greatest length of a file that is read, 16 MiB.
+const FILE_LIMIT: usize = 1 << 24;
+
+/// One file.
+#[derive(Drop)]
+pub struct NamedFile {
+    pub name: Text,
+    pub content: Text,
+}
+
+/// Files in the order in which their names came, seen as a list of them. No name stands twice.
+#[derive(Drop)]
+pub struct FileList {
+    files: Vec<NamedFile>,
+}
+
+impl Model for FileList {
+    ghost use Rattle.std.specs.Prelude.{List};
+    ghost use Rattle.m36_outside.specs.declared.file_list.NamedFile.{NamedFile};
+
+    ghost Value = { List NamedFile };
+
+    ghost view = { λ l. l.files.items };
+}
+
+impl FileList {
+    /// No files.
+    pub fn new(alloc: Global) -> FileList
+        ensures { result ≡ [] }
+    {
+        FileList {
+            files: Vec::new(alloc),
+        }
+    }
+
+    /// What the list takes its memory from.
+    pub fn allocator(&self) -> Global {
+        *self.files.allocator()
+    }
+
+    /// The content of the file of this name.
+    #[tactic(auto, using(crate::proofs::FilesNamed::files_named))]
+    pub fn find(&self, name: &[u8]) -> Option<&Text>
+        ensures { MatchOption result (file_named self.now name.now ≡ None) (λ text. file_named self.now name.now ≡ Some text.now) }
+    {
+        let place = place_of(self.files.as_slice(), name);
+        if place < self.files.len() {
+            Some(&self.files[place].content)
+        } else {
+            None
+        }
+    }
+
+    /// Reads a file. The answer is never Failed.
+    pub fn read(&self, alloc: Global, name: &[u8]) -> ReadAnswer
+        ensures says { ReadSays result (file_named self.now name.now) }
+        ensures limit { IsWithinLimit result }
+        ensures sure { IsNoFault result }
+    {
+        let Some(text) = self.find(name) else {
+            return ReadAnswer::Absent;
+        };
+        let bytes = text.bytes();
+        if bytes.len() > FILE_LIMIT {
+            return ReadAnswer::TooLarge;
+        }
+        match Text::from_bytes(alloc, bytes) {
+            Ok(copy) => ReadAnswer::Read(copy),
+            Err(NoMemory) => ReadAnswer::NoMemory,
+        }
+    }
+
+    /// Puts a file in, in place of the one of this name that may be there. Where no memory is found, nothing changes.
+    #[tactic(auto, using(crate::proofs::FilesNamed::files_named))]
+    pub fn set(&mut self, alloc: Global, name: &[u8], content: &[u8]) -> Result<(), NoMemory>
+        ensures ok { OnOk result (file_named self.new ≡ with_file name.now (Some content.now) (file_named self.old)) }
+        ensures err { OnErr result (self.new ≡ self.old) }
+    {
+        let content = Text::from_bytes(alloc, content)?;
+        let place = place_of(self.files.as_slice(), name);
+        if place < self.files.len() {
+            let file = &mut self.files[place];
+            file.content = content;
+        } else {
+            let name = Text::from_bytes(alloc, name)?;
+            self.files.push(NamedFile { name, content })?;
+        }
+        Ok(())
+    }
+}
+
+/// The place of the first file of this name, or the length of the list where there is none.
+#[tactic(auto, using(crate::proofs::FilesNamed::places))]
+fn place_of(files: &[NamedFile], name: &[u8]) -> usize
+    ensures { result ≡ position_or_len (has_name name.now) files.now }
+{
+    for (place, file) in files.iter().enumerate() {
+        if name == file.name.bytes() {
+            return place;
+        }
+    }
+    files.len()
+}
