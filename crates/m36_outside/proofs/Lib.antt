@@ -1,4 +1,5 @@
 pub mod Completes
+pub mod FilesKept
 mod FilesNamed
 pub mod Grown
 pub mod Risen

@@ -2,6 +2,7 @@ pub mod CallPlan
 pub mod Counts
 pub mod FileList
 pub mod Files
+pub mod MemFolder
 pub mod Piece
 pub mod Put
 pub mod ReadAnswer

@@ -9,10 +9,12 @@ mod faults;
 mod file_list;
 pub mod folder;
 pub mod lines;
+pub mod memory_folder;
 pub mod sink;
 pub mod text;
 
 pub use folder::{Folder, ReadAnswer, WriteAnswer};
 pub use lines::{Lines, Piece};
+pub use memory_folder::MemFolder;
 pub use sink::{Put, Sink};
 pub use text::Text;

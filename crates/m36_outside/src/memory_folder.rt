@@ -1,0 +1,114 @@
+//! A folder in memory, whose calls fail where a test wants it.
+
+ghost use Rattle.std.specs.Prelude.{[], ◌≡◌, ◌≤◌, ◌<◌, ◌^◌, ◌↔◌, Some, IsTrue, IfOk, OnOk, OnErr, IfSome};
+ghost use Rattle.m36_outside.specs.CallPlan.{next_fails};
+ghost use Rattle.m36_outside.specs.Files.{with_file};
+ghost use Rattle.m36_outside.specs.FileList.{file_named};
+ghost use Rattle.m36_outside.specs.ReadAnswer.{ReadSays, IsWithinLimit, ReadHasCause};
+ghost use Rattle.m36_outside.specs.WriteAnswer.{WriteSays, WriteHasCause};
+
+use crate::calls::Calls;
+use crate::faults::raise;
+use crate::file_list::FileList;
+use crate::folder::{Folder, ReadAnswer, WriteAnswer};
+use m36_word::NoMemory;
+use std::alloc::Global;
+use std::marker::Model;
+
+/// Files in memory. It tells them.
+///
+/// Its reads are numbered from 1 to 2^32 - 1, which every later read has too, and so are its writes. The calls whose
+/// numbers were listed fail, and change no file.
+#[derive(Drop)]
+pub struct MemFolder {
+    files: FileList,
+    reads: Calls,
+    writes: Calls,
+    read_faults: u64,
+    write_faults: u64,
+}
+
+impl Model for MemFolder {
+    ghost use Rattle.std.specs.Prelude.{◌<◌, ◌^◌};
+    ghost use Rattle.m36_outside.specs.MemFolder.{MemFolderFields};
+
+    ghost Value = { MemFolderFields };
+
+    ghost view = { λ f. record { files = f.files; reads = f.reads; writes = f.writes; read_faults = f.read_faults; write_faults = f.write_faults } };
+
+    ghost invariant = { λ f. (f.read_faults < 2 ^ 64) × (f.write_faults < 2 ^ 64) };
+}
+
+impl MemFolder {
+    /// A folder without files, and the numbers of the reads and writes that are to fail. The error is want of memory
+    /// alone.
+    pub fn new(alloc: Global, fail_reads: &[u32], fail_writes: &[u32]) -> Result<MemFolder, NoMemory>
+        ensures { IfOk result (λ folder. folder ≡ record { files = []; reads = record { failing = fail_reads.now; last = 0 }; writes = record { failing = fail_writes.now; last = 0 }; read_faults = 0; write_faults = 0 }) }
+    {
+        Ok(MemFolder {
+            files: FileList::new(alloc),
+            reads: Calls::new(alloc, fail_reads)?,
+            writes: Calls::new(alloc, fail_writes)?,
+            read_faults: 0,
+            write_faults: 0,
+        })
+    }
+
+    /// Puts a file in, in place of the one of this name that may be there. It counts as no write. Where no memory is
+    /// found, nothing changes.
+    pub fn add(&mut self, name: &[u8], content: &[u8]) -> Result<(), NoMemory>
+        ensures ok { OnOk result (file_named self.new.files ≡ with_file name.now (Some content.now) (file_named self.old.files)) }
+        ensures rest { self.new ≡ record self.old { files = self.new.files } }
+        ensures err { OnErr result (self.new ≡ self.old) }
+    {
+        let alloc = self.files.allocator();
+        self.files.set(alloc, name, content)
+    }
+}
+
+impl Folder for MemFolder {
+    ghost use Rattle.m36_outside.specs.MemFolder.{after_read, after_write};
+
+    ghost files = { λ f. Some (file_named f.files) };
+
+    ghost read_faults = { λ f. f.read_faults };
+
+    ghost write_faults = { λ f. f.write_faults };
+
+    fn read(&mut self, alloc: Global, name: &[u8]) -> ReadAnswer
+        ensures told { ReadSays result (file_named self.old.files name.now) }
+        ensures limit { IsWithinLimit result }
+        ensures cause { ReadHasCause result self.old.read_faults self.new.read_faults }
+        ensures count { self.old.read_faults ≤ self.new.read_faults }
+        ensures count_bound { self.new.read_faults < 2 ^ 64 }
+
+        ensures fails { (result ≡ ReadAnswer.Failed) ↔ IsTrue (next_fails self.old.reads) }
+        ensures after { self.new ≡ after_read self.old }
+    {
+        if self.reads.next_fails() {
+            self.read_faults = raise(self.read_faults);
+            return ReadAnswer::Failed;
+        }
+        self.files.read(alloc, name)
+    }
+
+    #[tactic(auto, using(crate::proofs::FilesKept::differs_by_nothing))]
+    fn write(&mut self, alloc: Global, name: &[u8], content: &[u8]) -> WriteAnswer
+        ensures says { WriteSays result (Some (file_named self.old.files)) (Some (file_named self.new.files)) name.now content.now }
+        ensures cause { WriteHasCause result self.old.write_faults self.new.write_faults }
+        ensures count { self.old.write_faults ≤ self.new.write_faults }
+        ensures count_bound { self.new.write_faults < 2 ^ 64 }
+
+        ensures fails { (result ≡ WriteAnswer.Failed) ↔ IsTrue (next_fails self.old.writes) }
+        ensures after { self.new ≡ after_write self.old self.new.files }
+    {
+        if self.writes.next_fails() {
+            self.write_faults = raise(self.write_faults);
+            return WriteAnswer::Failed;
+        }
+        match self.files.set(alloc, name, content) {
+            Ok(()) => WriteAnswer::Written,
+            Err(NoMemory) => WriteAnswer::NoMemory,
+        }
+    }
+}
