@@ -1,6 +1,6 @@
 -- Laws of output that grows: how what two calls wrote, one after the other, makes what both wrote.
-use Rattle.std.proofs.Common.{◌≡◌, ℕ, List, [], ◌++◌, Option, Some, None, refl, sym, ap, ◌∙◌}
-use Rattle.std.proofs.lemmas.List.{append-nil, append_assoc}
+use Rattle.std.proofs.Common.{◌≡◌, ℕ, List, [], ◌++◌, Option, Some, None, take, drop, refl, sym, ap, ◌∙◌}
+use Rattle.std.proofs.lemmas.List.{append-nil, append_assoc, take-append-drop}
 use Rattle.m36_outside.specs.Written.{appended, Grew, GrewWithin}
 
 -- adding nothing changes nothing
@@ -48,6 +48,15 @@ grew_longer old new x y cut = record {
     rest = cut.rest ++ y;
     whole = ap (λ z. z ++ y) cut.whole ∙ append_assoc cut.part cut.rest y;
     grew = cut.grew;
+  }
+
+-- the first bytes of a text are a part of it
+pub within_front : (old new x : List ℕ) (n : ℕ) → new ≡ old ++ take n x → GrewWithin (Some old) (Some new) x
+within_front old new x n grown = record {
+    part = take n x;
+    rest = drop n x;
+    whole = sym (take-append-drop n x);
+    grew = ap (λ w. Some w) grown;
   }
 
 -- what a function that puts several texts takes by `using`

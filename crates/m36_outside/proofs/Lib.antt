@@ -3,3 +3,4 @@ pub mod FilesKept
 mod FilesNamed
 pub mod Grown
 pub mod Risen
+mod Taken

@@ -3,6 +3,8 @@ pub mod Counts
 pub mod FileList
 pub mod Files
 pub mod MemFolder
+pub mod MemLines
+pub mod MemSink
 pub mod Piece
 pub mod Put
 pub mod ReadAnswer

@@ -1,0 +1,18 @@
+-- Input in memory: what is left of it, and which of its calls fail.
+use Rattle.std.specs.Prelude.{ℕ, List, drop, length, min, if◌then◌else◌}
+use Rattle.m36_outside.specs.Counts.{raised}
+use Rattle.m36_outside.specs.CallPlan.{CallPlan, next_fails, after_call}
+
+pub record MemLinesFields : Type 0 where
+  pub left : List ℕ
+  pub calls : CallPlan
+  pub faults : ℕ
+
+-- The input after a call with a buffer of so many bytes: a call whose number is listed takes nothing, and every other
+-- one takes as many bytes as there are and as there is room for.
+abbrev pub after_piece : MemLinesFields → ℕ → MemLinesFields
+after_piece lines room = record {
+    left = if next_fails lines.calls then lines.left else drop (min room (length lines.left)) lines.left;
+    calls = after_call lines.calls;
+    faults = if next_fails lines.calls then raised lines.faults else lines.faults;
+  }

@@ -1,0 +1,31 @@
+-- A place for output in memory: what it holds, how much it may hold, and which of its calls fail.
+use Rattle.std.specs.Prelude.{ℕ, Bool, List, [], ◌++◌, ◌-◌, ◌||◌, length, take, nat_lt, if◌then◌else◌}
+use Rattle.m36_outside.specs.Counts.{raised}
+use Rattle.m36_outside.specs.CallPlan.{CallPlan, next_fails, after_call}
+
+pub record MemSinkFields : Type 0 where
+  pub bytes : List ℕ
+  pub room : ℕ
+  pub puts : CallPlan
+  pub faults : ℕ
+
+-- how many more bytes it may hold
+abbrev pub room_left : MemSinkFields → ℕ
+room_left sink = sink.room - length sink.bytes
+
+-- A put fails where its number is listed, or where the piece goes past the room.
+abbrev pub put_fails : MemSinkFields → List ℕ → Bool
+put_fails sink piece = next_fails sink.puts || nat_lt (room_left sink) (length piece)
+
+-- what is taken of a piece: nothing by a put whose number is listed, and else as much as there is room for
+abbrev pub taken : MemSinkFields → List ℕ → List ℕ
+taken sink piece = if next_fails sink.puts then [] else take (room_left sink) piece
+
+-- the place after a put
+abbrev pub after_put : MemSinkFields → List ℕ → MemSinkFields
+after_put sink piece = record {
+    bytes = sink.bytes ++ taken sink piece;
+    room = sink.room;
+    puts = after_call sink.puts;
+    faults = if put_fails sink piece then raised sink.faults else sink.faults;
+  }

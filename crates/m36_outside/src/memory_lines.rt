@@ -1,0 +1,76 @@
+//! Input in memory, whose calls fail where a test wants it.
+
+ghost use Rattle.std.specs.Prelude.{◌≡◌, ◌≤◌, ◌<◌, ◌^◌, ◌↔◌, Some, IsTrue, IfOk, length};
+ghost use Rattle.m36_outside.specs.CallPlan.{next_fails};
+ghost use Rattle.m36_outside.specs.Piece.{PieceSays, PieceHasCause};
+
+use crate::calls::Calls;
+use crate::faults::raise;
+use crate::lines::{Lines, Piece};
+use crate::unread::Unread;
+use m36_word::NoMemory;
+use std::alloc::Global;
+use std::marker::Model;
+
+/// Input in memory. It tells what is left.
+///
+/// Its calls are numbered from 1 to 2^32 - 1, which every later call has too. The calls whose numbers were listed fail,
+/// and take nothing. A piece fills the buffer, where so much is left.
+#[derive(Drop)]
+pub struct MemLines {
+    unread: Unread,
+    calls: Calls,
+    faults: u64,
+}
+
+impl Model for MemLines {
+    ghost use Rattle.std.specs.Prelude.{◌<◌, ◌^◌};
+    ghost use Rattle.m36_outside.specs.MemLines.{MemLinesFields};
+
+    ghost Value = { MemLinesFields };
+
+    ghost view = { λ l. record { left = l.unread; calls = l.calls; faults = l.faults } };
+
+    ghost invariant = { λ l. l.faults < 2 ^ 64 };
+}
+
+impl MemLines {
+    /// Input of these bytes, and the numbers of the calls that are to fail. The error is want of memory alone.
+    pub fn new(alloc: Global, content: &[u8], fail: &[u32]) -> Result<MemLines, NoMemory>
+        ensures { IfOk result (λ lines. lines ≡ record { left = content.now; calls = record { failing = fail.now; last = 0 }; faults = 0 }) }
+    {
+        Ok(MemLines {
+            unread: Unread::new(alloc, content)?,
+            calls: Calls::new(alloc, fail)?,
+            faults: 0,
+        })
+    }
+}
+
+impl Lines for MemLines {
+    ghost use Rattle.m36_outside.specs.MemLines.{after_piece};
+
+    ghost left = { λ l. Some l.left };
+
+    ghost faults = { λ l. l.faults };
+
+    fn next_piece(&mut self, into: &mut [u8]) -> Piece
+        requires room { 1 ≤ length into.old }
+        ensures says { PieceSays result (Some self.old.left) (Some self.new.left) into.new }
+        ensures cause { PieceHasCause result self.old.faults self.new.faults }
+        ensures count { self.old.faults ≤ self.new.faults }
+        ensures count_bound { self.new.faults < 2 ^ 64 }
+
+        ensures fails { (result ≡ Piece.Failed) ↔ IsTrue (next_fails self.old.calls) }
+        ensures after { self.new ≡ after_piece self.old (length into.old) }
+    {
+        if self.calls.next_fails() {
+            self.faults = raise(self.faults);
+            return Piece::Failed;
+        }
+        match self.unread.take(into) {
+            0 => Piece::End,
+            count => Piece::Got(count),
+        }
+    }
+}

@@ -1,0 +1,98 @@
+//! A place for output in memory, whose calls fail where a test wants it.
+
+ghost use Rattle.std.specs.Prelude.{[], ◌≡◌, ◌+◌, ◌≤◌, ◌<◌, ◌^◌, ◌++◌, ◌↔◌, Some, IsTrue, IfOk, length, vec_len, vec_capacity};
+ghost use Rattle.m36_outside.specs.Put.{PutSays, PutHasCause};
+
+use crate::calls::Calls;
+use crate::faults::raise;
+use crate::sink::{Put, Sink};
+use m36_word::NoMemory;
+use std::alloc::Global;
+use std::marker::Model;
+
+/// Output in memory. It tells what is written.
+///
+/// Its puts are numbered from 1 to 2^32 - 1, which every later put has too. A put whose number was listed fails and
+/// takes nothing. A piece that goes past the room fails too, and as much of it is taken as there is room for.
+#[derive(Drop)]
+pub struct MemSink {
+    bytes: Vec<u8>,
+    puts: Calls,
+    room: usize,
+    faults: u64,
+}
+
+impl Model for MemSink {
+    ghost use Rattle.std.specs.Prelude.{◌≤◌, ◌<◌, ◌^◌, vec_len, vec_capacity};
+    ghost use Rattle.m36_outside.specs.MemSink.{MemSinkFields};
+
+    ghost Value = { MemSinkFields };
+
+    ghost view = { λ s. record { bytes = s.bytes.items; room = s.room; puts = s.puts; faults = s.faults } };
+
+    ghost invariant = { λ s. (vec_len s.bytes ≤ s.room) × (s.room ≤ vec_capacity s.bytes) × (s.faults < 2 ^ 64) };
+}
+
+impl MemSink {
+    /// Nothing written yet, room for so many bytes, and the numbers of the puts that are to fail. All memory is taken
+    /// here. The error is want of it alone.
+    pub fn new(alloc: Global, room: usize, fail: &[u32]) -> Result<MemSink, NoMemory>
+        ensures { IfOk result (λ sink. sink ≡ record { bytes = []; room = room; puts = record { failing = fail.now; last = 0 }; faults = 0 }) }
+    {
+        Ok(MemSink {
+            bytes: Vec::with_capacity(alloc, room)?,
+            puts: Calls::new(alloc, fail)?,
+            room,
+            faults: 0,
+        })
+    }
+
+    /// All that is written.
+    pub fn bytes(&self) -> &[u8]
+        ensures { result.now ≡ self.now.bytes }
+    {
+        self.bytes.as_slice()
+    }
+}
+
+impl Sink for MemSink {
+    ghost use Rattle.m36_outside.specs.MemSink.{put_fails, after_put};
+
+    ghost written = { λ s. Some s.bytes };
+
+    ghost faults = { λ s. s.faults };
+
+    #[tactic(auto, using(crate::proofs::Grown::within_front))]
+    fn put(&mut self, piece: &[u8]) -> Put
+        ensures says { PutSays result (Some self.old.bytes) (Some self.new.bytes) piece.now }
+        ensures cause { PutHasCause result self.old.faults self.new.faults }
+        ensures count { self.old.faults ≤ self.new.faults }
+        ensures count_bound { self.new.faults < 2 ^ 64 }
+
+        ensures fails { (result ≡ Put.Failed) ↔ IsTrue (put_fails self.old piece.now) }
+        ensures after { self.new ≡ after_put self.old piece.now }
+    {
+        if self.puts.next_fails() {
+            self.faults = raise(self.faults);
+            return Put::Failed;
+        }
+        let left = self.room - self.bytes.len();
+        if piece.len() > left {
+            add_within(&mut self.bytes, &piece[..left]);
+            self.faults = raise(self.faults);
+            return Put::Failed;
+        }
+        add_within(&mut self.bytes, piece);
+        Put::Done
+    }
+}
+
+/// Adds bytes at the end of a list that has room for them.
+fn add_within(bytes: &mut Vec<u8>, more: &[u8])
+    requires { vec_len bytes.old + length more.now ≤ vec_capacity bytes.old }
+    ensures items { bytes.new.items ≡ bytes.old.items ++ more.now }
+    ensures len { vec_len bytes.new ≡ vec_len bytes.old + length more.now }
+    ensures capacity { vec_capacity bytes.old ≤ vec_capacity bytes.new }
+{
+    bytes.extend_from_slice(more).unwrap();
+}

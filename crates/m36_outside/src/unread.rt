@@ -1,0 +1,62 @@
+//! Bytes in memory that are taken from the beginning on.
+
+ghost use Rattle.std.specs.Prelude.{◌≡◌, ◌≤◌, ◌++◌, IfOk, length, min, take, drop};
+
+use crate::text::Text;
+use m36_word::NoMemory;
+use std::alloc::Global;
+use std::marker::Model;
+
+/// Bytes of which some are taken already, seen as the list of those that are left.
+#[derive(Drop)]
+pub struct Unread {
+    content: Text,
+    taken: usize,
+}
+
+impl Model for Unread {
+    ghost use Rattle.std.specs.Prelude.{ℕ, List, ◌≤◌, drop, length};
+
+    ghost Value = { List ℕ };
+
+    ghost view = { λ u. drop u.taken u.content };
+
+    ghost invariant = { λ u. u.taken ≤ length u.content };
+}
+
+impl Unread {
+    /// These bytes, of which none is taken yet. The error is want of memory alone.
+    pub fn new(alloc: Global, bytes: &[u8]) -> Result<Unread, NoMemory>
+        ensures { IfOk result (λ unread. unread ≡ bytes.now) }
+    {
+        Ok(Unread {
+            content: Text::from_bytes(alloc, bytes)?,
+            taken: 0,
+        })
+    }
+
+    /// Moves the next bytes to the beginning of a buffer: as many as are left and as there is room for. It tells how many.
+    #[tactic(auto, using(crate::proofs::Taken::taken))]
+    pub fn take(&mut self, into: &mut [u8]) -> usize
+        ensures count { result ≡ min (length into.old) (length self.old) }
+        ensures moved { self.old ≡ take result into.new ++ self.new }
+        ensures rest { self.new ≡ drop result self.old }
+    {
+        let count = copy_from(self.content.bytes(), self.taken, into);
+        self.taken += count;
+        count
+    }
+}
+
+/// Copies bytes of the first list, from a place on, to the beginning of the second: as many as there are and as there is
+/// room for. It tells how many.
+fn copy_from(from: &[u8], place: usize, into: &mut [u8]) -> usize
+    requires { place ≤ length from.now }
+    ensures count { result ≡ min (length into.old) (length (drop place from.now)) }
+    ensures same { take result into.new ≡ take result (drop place from.now) }
+{
+    let left = &from[place..];
+    let count = into.len().min(left.len());
+    into[..count].copy_from_slice(&left[..count]);
+    count
+}
