@@ -1,4 +1,5 @@
 pub mod Completes
+mod Consumed
 pub mod FilesKept
 mod FilesNamed
 pub mod Grown

@@ -1,4 +1,5 @@
 pub mod CallPlan
+pub mod Chunk
 pub mod Counts
 pub mod FileList
 pub mod Files

@@ -6,14 +6,11 @@ ghost use Rattle.m36_outside.specs.Files.{with_file};
 ghost use Rattle.m36_outside.specs.FileList.{file_named, has_name};
 ghost use Rattle.m36_outside.specs.ReadAnswer.{ReadSays, IsWithinLimit, IsNoFault};
 
-use crate::folder::ReadAnswer;
+use crate::folder::{FILE_LIMIT, ReadAnswer};
 use crate::text::Text;
 use m36_word::NoMemory;
 use std::alloc::Global;
 use std::marker::Model;
-
-/// The greatest length of a file that is read, 16 MiB.
-const FILE_LIMIT: usize = 1 << 24;
 
 /// One file.
 #[derive(Drop)]

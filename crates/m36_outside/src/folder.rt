@@ -8,6 +8,9 @@ ghost use Rattle.m36_outside.specs.WriteAnswer.{WriteSays, WriteHasCause};
 use crate::text::Text;
 use std::alloc::Global;
 
+/// The greatest length of a file that is read, 16 MiB.
+pub const FILE_LIMIT: usize = 1 << 24;
+
 /// The answer of a read.
 #[derive(Drop)]
 pub enum ReadAnswer {

@@ -12,6 +12,7 @@ pub mod lines;
 pub mod memory_folder;
 pub mod memory_lines;
 pub mod memory_sink;
+mod reading;
 pub mod sink;
 pub mod sure_folder;
 pub mod sure_lines;

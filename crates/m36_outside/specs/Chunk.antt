@@ -1,0 +1,28 @@
+-- What one read of a file adds to what was read of it.
+use Rattle.std.specs.Prelude.{ℕ, ◌≡◌, ◌≤◌, ◌<◌, List, [], ◌++◌, length, Option, ⊤}
+use Rattle.std.specs.Io.KnownBytes.{Consumes, IsAtEnd}
+use Rattle.m36_outside.specs.ReadAnswer.{file_limit}
+use Rattle.m36_outside.specs.declared.reading.Chunk.{Chunk}
+use Rattle.m36_outside.specs.declared.reading.Chunk.TheVariants.{More, End, TooLarge, Failed, NoMemory}
+
+-- Bytes moved from what the reader had left, where that is known, to the end of the text.
+pub record Moves (old new : Option (List ℕ)) (before after : List ℕ) : Type 0 where
+  pub got : List ℕ
+  pub taken : Consumes old new got
+  pub added : after ≡ before ++ got
+
+-- what the answer says of what is left and of what was read, before and after
+abbrev pub ChunkSays : Chunk → Option (List ℕ) → Option (List ℕ) → List ℕ → List ℕ → Type 0
+ChunkSays More old new before after = Moves old new before after × (length after ≤ file_limit)
+ChunkSays End old new before after = Moves old new before after × IsAtEnd new × (after ≡ before)
+ChunkSays TooLarge old new before after = Moves old new before after × (file_limit < length after)
+ChunkSays Failed old new before after = ⊤
+ChunkSays NoMemory old new before after = ⊤
+
+-- what the answer says where these bytes were read and are added
+abbrev pub AddSays : Chunk → List ℕ → List ℕ → List ℕ → Type 0
+AddSays More before after got = (after ≡ before ++ got) × (length after ≤ file_limit)
+AddSays End before after got = ⊥
+AddSays TooLarge before after got = (after ≡ before ++ got) × (file_limit < length after)
+AddSays Failed before after got = ⊥
+AddSays NoMemory before after got = after ≡ before

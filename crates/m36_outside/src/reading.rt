@@ -1,0 +1,87 @@
+//! Loops over the reads of std, which may give less than was asked for.
+
+ghost use Rattle.std.specs.Prelude.{◌≡◌, ◌+◌, ◌≤◌, ◌<◌, Some, None, IfSome, length};
+ghost use Rattle.m36_outside.specs.Piece.{PieceSays};
+ghost use Rattle.m36_outside.specs.ReadAnswer.{ReadSays, IsWithinLimit, file_limit};
+ghost use Rattle.m36_outside.specs.Chunk.{ChunkSays, AddSays};
+
+use crate::folder::{FILE_LIMIT, ReadAnswer};
+use crate::lines::Piece;
+use crate::text::Text;
+use m36_word::NoMemory;
+use std::alloc::Global;
+use std::io::{ErrorKind, Read};
+
+/// How many bytes are asked for at once.
+const CHUNK: usize = 8192;
+
+/// The answer of one read.
+#[derive(Clone, Copy, PartialEq, Eq)]
+pub enum Chunk {
+    /// Bytes were added, or none where a signal broke in.
+    More,
+    /// The end was reached.
+    End,
+    /// Bytes were added, and now there are too many.
+    TooLarge,
+    /// The read failed.
+    Failed,
+    /// No memory was found for the bytes.
+    NoMemory,
+}
+
+/// Reads to the end, and takes at most one byte past the limit. The answer is never Absent.
+#[tactic(auto, using(crate::proofs::Consumed::consumed))]
+pub fn read_whole<R: Read>(from: &mut R, alloc: Global) -> ReadAnswer
+    ensures told { IfSome (R.remaining from.old) (λ bytes. ReadSays result (Some bytes)) }
+    ensures limit { IsWithinLimit result }
+{
+    let mut text = Text::new(alloc);
+    for _ in 0..u64::MAX {
+        match read_chunk(from, &mut text) {
+            Chunk::More => {}
+            Chunk::End => return ReadAnswer::Read(text),
+            Chunk::TooLarge => return ReadAnswer::TooLarge,
+            Chunk::Failed => return ReadAnswer::Failed,
+            Chunk::NoMemory => return ReadAnswer::NoMemory,
+        }
+    }
+    ReadAnswer::Failed
+}
+
+/// Reads once, and adds what was read.
+fn read_chunk<R: Read>(from: &mut R, text: &mut Text) -> Chunk
+    requires { length text.old ≤ file_limit }
+    ensures { ChunkSays result (R.remaining from.old) (R.remaining from.new) text.old text.new }
+{
+    let mut buffer = [0; CHUNK];
+    let room = room_after(text.bytes());
+    match from.read(&mut buffer[..room]) {
+        Ok(0) => Chunk::End,
+        Ok(count) => add_chunk(&buffer[..count], text),
+        Err(e) if e.kind() == ErrorKind::Interrupted => Chunk::More,
+        Err(_) => Chunk::Failed,
+    }
+}
+
+/// How many bytes to ask for: at least one, and no more than one past the limit.
+fn room_after(text: &[u8]) -> usize
+    requires { length text.now ≤ file_limit }
+    ensures some { 1 ≤ result }
+    ensures most { result ≤ 8192 }
+    ensures limit { length text.now + result ≤ file_limit + 1 }
+{
+    CHUNK.min(FILE_LIMIT + 1 - text.len())
+}
+
+/// Adds what was read.
+fn add_chunk(got: &[u8], text: &mut Text) -> Chunk
+    requires some { 1 ≤ length got.now }
+    ensures { AddSays result text.old text.new got.now }
+{
+    match text.append(got) {
+        Ok(()) if text.bytes().len() > FILE_LIMIT => Chunk::TooLarge,
+        Ok(()) => Chunk::More,
+        Err(NoMemory) => Chunk::NoMemory,
+    }
+}
