@@ -1,8 +1,9 @@
 -- Laws of a reader whose bytes are known: what was read is what it had, from the beginning on.
-use Rattle.std.proofs.Common.{◌≡◌, ℕ, ◌<◌, ◌+◌, List, [], ◌++◌, length, Option, Some, None, IfSome, refl, sym, ap, ◌∙◌, arith, length-append}
+use Rattle.std.proofs.Common.{◌≡◌, ℕ, ◌<◌, ◌≤◌, ◌+◌, List, [], ◌++◌, length, take, Option, Some, None, IfSome, refl, sym, ap, ◌∙◌, arith, length-append}
 use Rattle.std.proofs.lemmas.List.{append-nil, append_assoc}
 use Rattle.std.specs.Io.KnownBytes.{Consumes, Keeps, IsAtEnd}
 use Rattle.m36_outside.specs.Chunk.{Moves}
+use Rattle.m36_outside.specs.Piece.{Moved}
 use Rattle.m36_outside.specs.ReadAnswer.{file_limit}
 
 -- nothing was read yet
@@ -39,3 +40,51 @@ consumes_too_much (Some all) (Some left) text first more =
     (all, refl, omega (arith, ap length first, length-append text left))
 
 pub ruleset consumed = (consumes_none, consumes_more, consumes_all, consumes_too_much)
+
+-- a read that gave bytes, after reads that gave none
+pub piece_got :
+    (start now next : Option (List ℕ)) (count : ℕ) (into : List ℕ)
+    → Keeps start now → Consumes now next (take count into) → 1 ≤ count → count ≤ length into
+    → IfSome start (λ left. Moved (Some left) next count into)
+piece_got None now next count into first more some room = tt
+piece_got (Some left) None next count into first more some room = absurd first
+piece_got (Some left) (Some same) None count into first more some room = absurd more
+piece_got (Some left) (Some same) (Some rest) count into first more some room =
+    record { some = some; room = room; left = ap (λ l. Some l) (sym first ∙ more) }
+
+-- a read that found the end, after reads that gave none
+pub piece_end :
+    (start now next : Option (List ℕ)) (into : List ℕ)
+    → Keeps start now → Consumes now next (take 0 into) → IsAtEnd next
+    → IfSome start (λ left. (left ≡ []) × (next ≡ Some left))
+piece_end None now next into first more end = tt
+piece_end (Some left) None next into first more end = absurd first
+piece_end (Some left) (Some same) None into first more end = absurd more
+piece_end (Some left) (Some same) (Some rest) into first more end =
+    let all : left ≡ rest = sym first ∙ more in (all ∙ end, ap (λ l. Some l) (sym all))
+
+-- a read that failed, after reads that gave none
+pub piece_failed :
+    (start now next : Option (List ℕ))
+    → Keeps start now → Keeps now next → IfSome start (λ left. next ≡ Some left)
+piece_failed None now next first more = tt
+piece_failed (Some left) None next first more = absurd first
+piece_failed (Some left) (Some same) None first more = absurd more
+piece_failed (Some left) (Some same) (Some rest) first more = ap (λ l. Some l) (more ∙ first)
+
+-- reads that gave none leave all as it is
+pub keeps_on : (start now next : Option (List ℕ)) → Keeps start now → Keeps now next → Keeps start next
+keeps_on None now next first more = tt
+keeps_on (Some left) None next first more = absurd first
+keeps_on (Some left) (Some same) None first more = absurd more
+keeps_on (Some left) (Some same) (Some rest) first more = more ∙ first
+
+pub keeps_all : (now : Option (List ℕ)) → Keeps now now
+keeps_all None = tt
+keeps_all (Some left) = refl
+
+-- a piece of bytes that are not told
+pub piece_untold : (count : ℕ) (into : List ℕ) → 1 ≤ count → count ≤ length into → Moved None None count into
+piece_untold count into some room = record { some = some; room = room; left = refl }
+
+pub ruleset pieces = (piece_got, piece_end, piece_failed, piece_untold, keeps_on, keeps_all)

@@ -1,3 +1,4 @@
+mod Appended
 pub mod Completes
 mod Consumed
 pub mod FilesKept

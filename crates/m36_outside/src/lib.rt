@@ -19,6 +19,7 @@ pub mod sure_lines;
 pub mod sure_sink;
 pub mod text;
 mod unread;
+mod writing;
 
 pub use folder::{Folder, ReadAnswer, WriteAnswer};
 pub use lines::{Lines, Piece};

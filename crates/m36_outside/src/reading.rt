@@ -16,7 +16,7 @@ use std::io::{ErrorKind, Read};
 const CHUNK: usize = 8192;
 
 /// The answer of one read.
-#[derive(Clone, Copy, PartialEq, Eq)]
+#[derive(Clone, Copy)]
 pub enum Chunk {
     /// Bytes were added, or none where a signal broke in.
     More,
@@ -49,7 +49,7 @@ pub fn read_whole<R: Read>(from: &mut R, alloc: Global) -> ReadAnswer
     ReadAnswer::Failed
 }
 
-/// Reads once, and adds what was read.
+/// Reads once, and adds what was read. A read that a signal broke off is made again by the caller.
 fn read_chunk<R: Read>(from: &mut R, text: &mut Text) -> Chunk
     requires { length text.old ≤ file_limit }
     ensures { ChunkSays result (R.remaining from.old) (R.remaining from.new) text.old text.new }
@@ -84,4 +84,22 @@ fn add_chunk(got: &[u8], text: &mut Text) -> Chunk
         Ok(()) => Chunk::More,
         Err(NoMemory) => Chunk::NoMemory,
     }
+}
+
+/// Reads the next bytes, as many as one read gives.
+#[tactic(auto, using(crate::proofs::Consumed::pieces))]
+pub fn read_piece<R: Read>(from: &mut R, into: &mut [u8]) -> Piece
+    requires room { 1 ≤ length into.old }
+    ensures told { IfSome (R.remaining from.old) (λ left. PieceSays result (Some left) (R.remaining from.new) into.new) }
+    ensures size { PieceSays result None None into.new }
+{
+    for _ in 0..u64::MAX {
+        match from.read(into) {
+            Ok(0) => return Piece::End,
+            Ok(count) => return Piece::Got(count),
+            Err(e) if e.kind() == ErrorKind::Interrupted => {}
+            Err(_) => return Piece::Failed,
+        }
+    }
+    Piece::Failed
 }
