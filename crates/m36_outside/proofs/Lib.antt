@@ -1,4 +1,5 @@
 mod Appended
+mod Causes
 pub mod Completes
 mod Consumed
 pub mod FilesKept

@@ -1,6 +1,7 @@
 pub mod CallPlan
 pub mod Chunk
 pub mod Counts
+pub mod FaultCounts
 pub mod FileList
 pub mod Files
 pub mod MemFolder
