@@ -115,3 +115,60 @@ fn name_of_file(name: &[u8]) -> Option<&str>
     }
     std::str::from_utf8(name).ok()
 }
+
+#[cfg(test)]
+mod tests {
+    use super::*;
+    use crate::folder::FILE_LIMIT;
+    use std::fs;
+    use std::test::Fail;
+
+    #[test]
+    fn keeps_a_file(rt: HostRuntime) -> Result<(), Fail> {
+        let alloc = rt.alloc();
+        let mut folder = DirFolder::new(rt.clone()?);
+        let name = b"m36_outside_file";
+        assert!(rt; matches!(folder.read(alloc, name), ReadAnswer::Absent));
+        for content in [b"bare words\n".as_slice(), b"", b"\0\xff"] {
+            assert_eq!(rt; folder.write(alloc, name, content), WriteAnswer::Written);
+            match folder.read(alloc, name) {
+                ReadAnswer::Read(text) => assert!(rt; text.bytes() == content),
+                _ => assert!(rt; false, "the file is not read"),
+            }
+        }
+        fs::remove_file(&rt, "m36_outside_file")?;
+        Ok(())
+    }
+
+    #[test]
+    fn limits_a_file(rt: HostRuntime) -> Result<(), Fail> {
+        let alloc = rt.alloc();
+        let mut folder = DirFolder::new(rt.clone()?);
+        let name = b"m36_outside_large";
+        let content = vec![in alloc; b'x'; FILE_LIMIT + 1]?;
+        assert_eq!(rt; folder.write(alloc, name, &content), WriteAnswer::Written);
+        assert!(rt; matches!(folder.read(alloc, name), ReadAnswer::TooLarge));
+        assert_eq!(rt; folder.write(alloc, name, &content[1..]), WriteAnswer::Written);
+        match folder.read(alloc, name) {
+            ReadAnswer::Read(text) => assert_eq!(rt; text.bytes().len(), FILE_LIMIT),
+            _ => assert!(rt; false, "the file is not read"),
+        }
+        fs::remove_file(&rt, "m36_outside_large")?;
+        Ok(())
+    }
+
+    #[test]
+    fn refuses_names(rt: HostRuntime) -> Result<(), Fail> {
+        let alloc = rt.alloc();
+        let mut folder = DirFolder::new(rt.clone()?);
+        for name in [b"".as_slice(), b"/dev/null", b"./x", b"\xff"] {
+            assert!(rt; matches!(folder.read(alloc, name), ReadAnswer::Absent));
+            assert_eq!(rt; folder.write(alloc, name, b"x"), WriteAnswer::Failed);
+        }
+        for name in [b".".as_slice(), b"a\0b"] {
+            assert!(rt; matches!(folder.read(alloc, name), ReadAnswer::Failed));
+            assert_eq!(rt; folder.write(alloc, name, b"x"), WriteAnswer::Failed);
+        }
+        Ok(())
+    }
+}

@@ -4,6 +4,8 @@
 //! the parts above know of the world.
 #![tactic(auto)]
 
+#[cfg(test)]
+mod caller;
 mod calls;
 pub mod directory;
 mod faults;

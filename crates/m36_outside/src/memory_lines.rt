@@ -74,3 +74,21 @@ impl Lines for MemLines {
         }
     }
 }
+
+#[cfg(test)]
+mod tests {
+    use super::*;
+
+    #[test]
+    fn gives_pieces(rt: HostRuntime) -> Result<(), NoMemory> {
+        let mut lines = MemLines::new(rt.alloc(), b"step\nquit\n", &[2])?;
+        let mut buffer = [0; 7];
+        assert_eq!(rt; lines.next_piece(&mut buffer), Piece::Got(7));
+        assert!(rt; buffer.as_slice() == b"step\nqu".as_slice());
+        assert_eq!(rt; lines.next_piece(&mut buffer), Piece::Failed);
+        assert_eq!(rt; lines.next_piece(&mut buffer), Piece::Got(3));
+        assert!(rt; &buffer[..3] == b"it\n".as_slice());
+        assert_eq!(rt; lines.next_piece(&mut buffer), Piece::End);
+        Ok(())
+    }
+}

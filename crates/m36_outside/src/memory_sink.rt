@@ -96,3 +96,20 @@ fn add_within(bytes: &mut Vec<u8>, more: &[u8])
 {
     bytes.extend_from_slice(more).unwrap();
 }
+
+#[cfg(test)]
+mod tests {
+    use super::*;
+
+    #[test]
+    fn fails_past_its_room(rt: HostRuntime) -> Result<(), NoMemory> {
+        let mut out = MemSink::new(rt.alloc(), 5, &[2])?;
+        assert_eq!(rt; out.put(b"abc"), Put::Done);
+        assert_eq!(rt; out.put(b"x"), Put::Failed);
+        assert_eq!(rt; out.put(b"d"), Put::Done);
+        assert_eq!(rt; out.put(b"efg"), Put::Failed);
+        assert_eq!(rt; out.put(b""), Put::Done);
+        assert!(rt; out.bytes() == b"abcde".as_slice());
+        Ok(())
+    }
+}

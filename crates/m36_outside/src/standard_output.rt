@@ -51,3 +51,17 @@ impl<R: Print + Drop> Sink for StdSink<R> {
         }
     }
 }
+
+#[cfg(test)]
+mod tests {
+    use super::*;
+    use std::alloc::AllocError;
+
+    #[test]
+    fn puts(rt: HostRuntime) -> Result<(), AllocError> {
+        let mut out = StdSink::new(rt.clone()?);
+        assert_eq!(rt; out.put(b"end dis 2\n"), Put::Done);
+        assert_eq!(rt; out.put(b""), Put::Done);
+        Ok(())
+    }
+}
