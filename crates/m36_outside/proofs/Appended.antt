@@ -29,11 +29,11 @@ appends_kept None now next bytes done first more = tt
 appends_kept (Some held) None next bytes done first more = absurd first
 appends_kept (Some held) (Some part) None bytes done first more = absurd more
 appends_kept (Some held) (Some part) (Some whole) bytes done first more = record {
-    part = take done bytes;
-    rest = drop done bytes;
-    whole = sym (take-append-drop done bytes);
-    grew = ap (λ l. Some l) (more ∙ first);
-  }
+  part = take done bytes;
+  rest = drop done bytes;
+  whole = sym (take-append-drop done bytes);
+  grew = ap (λ l. Some l) (more ∙ first);
+}
 
 -- the last write failed or was never made
 pub appends_part :

@@ -17,9 +17,9 @@ pub completes_rest :
     (now next start : Option (List ℕ)) (before piece left all : List ℕ)
     → Completes now start before all → before ≡ piece ++ left → Grew now next piece → Completes next start left all
 completes_rest now next start before piece left all run begins grown = record {
-    whole = λ new rest. run.whole new (subst (λ t. Grew now new t) (sym begins) (grew_on now next new piece left grown rest));
-    cut = λ new rest. run.cut new (subst (λ t. GrewWithin now new t) (sym begins) (grew_more now next new piece left grown rest));
-  }
+  whole = λ new rest. run.whole new (subst (λ t. Grew now new t) (sym begins) (grew_on now next new piece left grown rest));
+  cut = λ new rest. run.cut new (subst (λ t. GrewWithin now new t) (sym begins) (grew_more now next new piece left grown rest));
+}
 
 -- the last piece was written whole
 pub completes_whole :

@@ -17,17 +17,17 @@ pub with_file-other :
     → (other ≡ name → ⊥) → with_file name content files other ≡ files other
 unfolding with_file
 with_file-other files name other content differs = elim (cases_Bool (bytes_eq other name)) [
-    inl e ↦ absurd (differs ((bytes_decides other name).0 e))
+  | inl e ↦ absurd (differs ((bytes_decides other name).0 e))
   | inr e ↦ rw e refl
-  ]
+]
 
 -- a file put in as it is changes nothing
 with_file_at : (files : Files) (name other : List ℕ) → with_file name (files name) files other ≡ files other
 unfolding with_file
 with_file_at files name other = elim (cases_Bool (bytes_eq other name)) [
-    inl e ↦ rw e (ap files (sym ((bytes_decides other name).0 e)))
+  | inl e ↦ rw e (ap files (sym ((bytes_decides other name).0 e)))
   | inr e ↦ rw e refl
-  ]
+]
 
 pub with_file_as_is : (files : Files) (name : List ℕ) → with_file name (files name) files ≡ files
 with_file_as_is files name = λ i other. with_file_at files name other i

@@ -51,11 +51,11 @@ other_name :
     (name other : List ℕ) (file : NamedFile)
     → has_name name file ≡ false → has_name other file ≡ true → bytes_eq other name ≡ false
 other_name name other file differs found = elim (cases_Bool (bytes_eq other name)) [
-    inl e ↦ let same : other ≡ name = (bytes_decides other name).0 e in
+  | inl e ↦ let same : other ≡ name = (bytes_decides other name).0 e in
       let both : has_name other file ≡ has_name name file = ap (λ n. has_name n file) same in
       absurd (true≢false (sym found ∙ both ∙ differs))
   | inr e ↦ e
-  ]
+]
 
 -- the file at the place of its name is what a look-up finds
 pub named_at :
@@ -64,14 +64,14 @@ pub named_at :
     → file_named files name ≡ Some file.content
 named_at [] name at file place inside is = absurd (omega arith)
 named_at (x ∷ xs) name at file place inside is = elim (cases_Bool (has_name name x)) [
-    inl e ↦ let first : at ≡ 0 = rw e at place in
+  | inl e ↦ let first : at ≡ 0 = rw e at place in
       let same : file ≡ x = rw first at is in
       rw e (ap (λ f. Some f.content) (sym same))
   | inr e ↦ let later : at ≡ 1 + position_or_len (has_name name) xs = rw e at place in
       let next : at ≡ suc (position_or_len (has_name name) xs) = omega arith in
       let same : file ≡ get_or xs (position_or_len (has_name name) xs) file = rw next at is in
       rw e (named_at xs name (position_or_len (has_name name) xs) file refl (omega arith) same)
-  ]
+]
 
 -- past the last place there is none
 pub named_none :
@@ -79,10 +79,10 @@ pub named_none :
     → length files ≤ position_or_len (has_name name) files → file_named files name ≡ None
 named_none [] name past = refl
 named_none (x ∷ xs) name past = elim (cases_Bool (has_name name x)) [
-    inl e ↦ let few : length (x ∷ xs) ≤ 0 = rw e at past in absurd (omega arith)
+  | inl e ↦ let few : length (x ∷ xs) ≤ 0 = rw e at past in absurd (omega arith)
   | inr e ↦ let more : length (x ∷ xs) ≤ 1 + position_or_len (has_name name) xs = rw e at past in
       rw e (named_none xs name (omega arith))
-  ]
+]
 
 -- another content at the place of a name
 pub named_set :
@@ -92,7 +92,7 @@ pub named_set :
 unfolding with_file
 named_set [] name content at file other place inside is = absurd (omega arith)
 named_set (x ∷ xs) name content at file other place inside is = elim (cases_Bool (has_name name x)) [
-    inl e ↦ let first : at ≡ 0 = rw e at place in
+  | inl e ↦ let first : at ≡ 0 = rw e at place in
       let same : file ≡ x = rw first at is in
       let named : file.name ≡ name = ap (λ f. f.name) same ∙ sym (same_name name x e) in
       let held : x.name ≡ name = sym (same_name name x e) in
@@ -102,7 +102,7 @@ named_set (x ∷ xs) name content at file other place inside is = elim (cases_Bo
       let same : file ≡ get_or xs (position_or_len (has_name name) xs) file = rw next at is in
       let rest = named_set xs name content (position_or_len (has_name name) xs) file other refl (omega arith) same in
       rw (next, rest) (apart (has_name other x) (bytes_eq other name) (Some x.content) (Some content) (file_named xs other) (other_name name other x e))
-  ]
+]
 
 -- a file of a name that had none
 pub named_push :
@@ -112,11 +112,11 @@ pub named_push :
 unfolding with_file
 named_push [] name content other past = refl
 named_push (x ∷ xs) name content other past = elim (cases_Bool (has_name name x)) [
-    inl e ↦ let few : length (x ∷ xs) ≤ 0 = rw e at past in absurd (omega arith)
+  | inl e ↦ let few : length (x ∷ xs) ≤ 0 = rw e at past in absurd (omega arith)
   | inr e ↦ let more : length (x ∷ xs) ≤ 1 + position_or_len (has_name name) xs = rw e at past in
       let rest = named_push xs name content other (omega arith) in
       rw rest (apart (has_name other x) (bytes_eq other name) (Some x.content) (Some content) (file_named xs other) (other_name name other x e))
-  ]
+]
 
 -- the same of all names at once, in the form in which code meets them
 pub set_named :

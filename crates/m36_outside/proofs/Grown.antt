@@ -34,30 +34,30 @@ pub grew_more :
     (old now new : Option (List ℕ)) (x y : List ℕ)
     → Grew old now x → GrewWithin now new y → GrewWithin old new (x ++ y)
 grew_more old now new x y first second = record {
-    part = x ++ second.part;
-    rest = second.rest;
-    whole = ap (λ z. x ++ z) second.whole ∙ sym (append_assoc x second.part second.rest);
-    grew = grew_on old now new x second.part first second.grew;
-  }
+  part = x ++ second.part;
+  rest = second.rest;
+  whole = ap (λ z. x ++ z) second.whole ∙ sym (append_assoc x second.part second.rest);
+  grew = grew_on old now new x second.part first second.grew;
+}
 
 -- a part of one text is a part of a longer one
 pub grew_longer :
     (old new : Option (List ℕ)) (x y : List ℕ) → GrewWithin old new x → GrewWithin old new (x ++ y)
 grew_longer old new x y cut = record {
-    part = cut.part;
-    rest = cut.rest ++ y;
-    whole = ap (λ z. z ++ y) cut.whole ∙ append_assoc cut.part cut.rest y;
-    grew = cut.grew;
-  }
+  part = cut.part;
+  rest = cut.rest ++ y;
+  whole = ap (λ z. z ++ y) cut.whole ∙ append_assoc cut.part cut.rest y;
+  grew = cut.grew;
+}
 
 -- the first bytes of a text are a part of it
 pub within_front : (old new x : List ℕ) (n : ℕ) → new ≡ old ++ take n x → GrewWithin (Some old) (Some new) x
 within_front old new x n grown = record {
-    part = take n x;
-    rest = drop n x;
-    whole = sym (take-append-drop n x);
-    grew = ap (λ w. Some w) grown;
-  }
+  part = take n x;
+  rest = drop n x;
+  whole = sym (take-append-drop n x);
+  grew = ap (λ w. Some w) grown;
+}
 
 -- what a function that puts several texts takes by `using`
 pub ruleset output = (grew_by_nothing, grew_on, grew_within, within_nothing, grew_more, grew_longer)

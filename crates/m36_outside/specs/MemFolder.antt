@@ -14,19 +14,19 @@ pub record MemFolderFields : Type 0 where
 -- the folder after a read: one more read is counted, and a fault where it was to fail
 abbrev pub after_read : MemFolderFields → MemFolderFields
 after_read folder = record {
-    files = folder.files;
-    reads = after_call folder.reads;
-    writes = folder.writes;
-    read_faults = if next_fails folder.reads then raised folder.read_faults else folder.read_faults;
-    write_faults = folder.write_faults;
-  }
+  files = folder.files;
+  reads = after_call folder.reads;
+  writes = folder.writes;
+  read_faults = if next_fails folder.reads then raised folder.read_faults else folder.read_faults;
+  write_faults = folder.write_faults;
+}
 
 -- the folder after a write that left these files: one more write is counted, and a fault where it was to fail
 abbrev pub after_write : MemFolderFields → List NamedFile → MemFolderFields
 after_write folder files = record {
-    files = files;
-    reads = folder.reads;
-    writes = after_call folder.writes;
-    read_faults = folder.read_faults;
-    write_faults = if next_fails folder.writes then raised folder.write_faults else folder.write_faults;
-  }
+  files = files;
+  reads = folder.reads;
+  writes = after_call folder.writes;
+  read_faults = folder.read_faults;
+  write_faults = if next_fails folder.writes then raised folder.write_faults else folder.write_faults;
+}

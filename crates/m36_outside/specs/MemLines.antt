@@ -12,7 +12,7 @@ pub record MemLinesFields : Type 0 where
 -- one takes as many bytes as there are and as there is room for.
 abbrev pub after_piece : MemLinesFields → ℕ → MemLinesFields
 after_piece lines room = record {
-    left = if next_fails lines.calls then lines.left else drop (min room (length lines.left)) lines.left;
-    calls = after_call lines.calls;
-    faults = if next_fails lines.calls then raised lines.faults else lines.faults;
-  }
+  left = if next_fails lines.calls then lines.left else drop (min room (length lines.left)) lines.left;
+  calls = after_call lines.calls;
+  faults = if next_fails lines.calls then raised lines.faults else lines.faults;
+}

@@ -24,8 +24,8 @@ taken sink piece = if next_fails sink.puts then [] else take (room_left sink) pi
 -- the place after a put
 abbrev pub after_put : MemSinkFields → List ℕ → MemSinkFields
 after_put sink piece = record {
-    bytes = sink.bytes ++ taken sink piece;
-    room = sink.room;
-    puts = after_call sink.puts;
-    faults = if put_fails sink piece then raised sink.faults else sink.faults;
-  }
+  bytes = sink.bytes ++ taken sink piece;
+  room = sink.room;
+  puts = after_call sink.puts;
+  faults = if put_fails sink piece then raised sink.faults else sink.faults;
+}

@@ -14,7 +14,12 @@ use m36_word::NoMemory;
 use std::alloc::Global;
 
 /// Puts a file's content twice.
-fn put_file_twice<F: Folder, S: Sink>(alloc: Global, name: &[u8], folder: &mut F, out: &mut S) -> Result<Put, ReadAnswer>
+fn put_file_twice<F: Folder, S: Sink>(
+    alloc: Global,
+    name: &[u8],
+    folder: &mut F,
+    out: &mut S,
+) -> Result<Put, ReadAnswer>
     ensures says { IfSome (F.files folder.old) (λ files. MatchResult result
         (λ put. PutSays put (S.written out.old) (S.written out.new) (unwrap_or (files name.now) [] ++ unwrap_or (files name.now) []))
         (λ answer. ReadSays answer (files name.now) × (S.written out.new ≡ S.written out.old))) }

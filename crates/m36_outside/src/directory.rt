@@ -148,7 +148,10 @@ mod tests {
         let content = vec![in alloc; b'x'; FILE_LIMIT + 1]?;
         assert_eq!(rt; folder.write(alloc, name, &content), WriteAnswer::Written);
         assert!(rt; matches!(folder.read(alloc, name), ReadAnswer::TooLarge));
-        assert_eq!(rt; folder.write(alloc, name, &content[1..]), WriteAnswer::Written);
+        assert_eq!(rt;
+            folder.write(alloc, name, &content[1..]),
+            WriteAnswer::Written
+        );
         match folder.read(alloc, name) {
             ReadAnswer::Read(text) => assert_eq!(rt; text.bytes().len(), FILE_LIMIT),
             _ => assert!(rt; false, "the file is not read"),

@@ -42,7 +42,11 @@ impl Model for MemFolder {
 impl MemFolder {
     /// A folder without files, and the numbers of the reads and writes that are to fail. The error is want of memory
     /// alone.
-    pub fn new(alloc: Global, fail_reads: &[u32], fail_writes: &[u32]) -> Result<MemFolder, NoMemory>
+    pub fn new(
+        alloc: Global,
+        fail_reads: &[u32],
+        fail_writes: &[u32],
+    ) -> Result<MemFolder, NoMemory>
         ensures { IfOk result (λ folder. folder ≡ record { files = []; reads = record { failing = fail_reads.now; last = 0 }; writes = record { failing = fail_writes.now; last = 0 }; read_faults = 0; write_faults = 0 }) }
     {
         Ok(MemFolder {
@@ -130,7 +134,10 @@ mod tests {
         assert_eq!(rt; folder.write(alloc, b"main", b"y"), WriteAnswer::Written);
         assert_eq!(rt; folder.write(alloc, b"main", b"z"), WriteAnswer::Failed);
         assert!(rt; is_read_as(folder.read(alloc, b"main"), b"y"));
-        assert_eq!(rt; folder.write(alloc, b"boot", b"frames 25\n"), WriteAnswer::Written);
+        assert_eq!(rt;
+            folder.write(alloc, b"boot", b"frames 25\n"),
+            WriteAnswer::Written
+        );
         assert!(rt; is_read_as(folder.read(alloc, b"boot"), b"frames 25\n"));
         assert!(rt; is_read_as(folder.read(alloc, b"main"), b"y"));
         Ok(())
