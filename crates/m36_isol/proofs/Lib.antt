@@ -1,0 +1,5 @@
+pub mod Program
+pub mod Rights
+pub mod Alike
+pub mod Spots
+pub mod Serve

@@ -1,0 +1,122 @@
+-- What an allowed reference tells of the descriptor.
+use Rattle.std.proofs.Common.{◌≡◌, refl, inl, inr}
+use Rattle.std.specs.Prelude.{ℕ, ◌<◌, ◌≤◌, ◌⊎◌, Bool, true, false, not, ◌&&◌, ◌||◌, ◌==◌, nat_le, List, [], ◌∷◌, None}
+use Rattle.std.proofs.lemmas.Bool.{ltb-false, leb-false}
+use Rattle.m36_desc.specs.Fields.{SdwFields}
+use Rattle.m36_desc.specs.Access.{first_of, in_order, read_rows}
+use Rattle.m36_model.specs.Act.{RequestKind, Fetch, Indirect, Odd, Read, Write, Transfer, Call, Locate}
+use Rattle.m36_model.specs.Store.{rows, denied}
+
+-- no row's condition holds
+abbrev NoneHold : List (Bool × ℕ) → Type 0
+NoneHold [] = Unit {0}
+NoneHold (row ∷ more) = (row.0 ≡ false) × NoneHold more
+
+none_holds : (condition : Bool) (n : ℕ) (more : List (Bool × ℕ)) → (first_of more ≡ None → NoneHold more) → first_of ((condition, n) ∷ more) ≡ None → NoneHold ((condition, n) ∷ more)
+none_holds true n more rest h = cc
+none_holds false n more rest h = (refl, rest h)
+
+none_hold : (list : List (Bool × ℕ)) → first_of list ≡ None → NoneHold list
+none_hold [] h = tt
+none_hold (row ∷ more) h = none_holds row.0 row.1 more (none_hold more) h
+
+not_false : (b : Bool) → not b ≡ false → b ≡ true
+not_false true h = refl
+not_false false h = cc
+
+-- every allowed reference finds the brackets in order
+pub denied_order : (kind : RequestKind) (d : SdwFields) (trr prr : ℕ) (same : Bool) (word : ℕ) → denied kind d trr prr same word ≡ None → in_order d ≡ true
+unfolding denied
+denied_order Fetch d trr prr same word h = not_false _ (none_hold (rows Fetch d trr prr same word) h).0
+denied_order Indirect d trr prr same word h = not_false _ (none_hold (rows Indirect d trr prr same word) h).0
+denied_order Odd d trr prr same word h = not_false _ (none_hold (rows Odd d trr prr same word) h).0
+denied_order Read d trr prr same word h = not_false _ (none_hold (rows Read d trr prr same word) h).0
+denied_order Write d trr prr same word h = not_false _ (none_hold (rows Write d trr prr same word) h).0
+denied_order Transfer d trr prr same word h = not_false _ (none_hold (rows Transfer d trr prr same word) h).0
+denied_order Call d trr prr same word h = not_false _ (none_hold (rows Call d trr prr same word) h).0
+denied_order Locate d trr prr same word h = not_false _ (none_hold (rows Locate d trr prr same word) h).0
+
+pub record MayFetch (d : SdwFields) (prr : ℕ) : Type 0 where
+  pub low : d.r1 ≤ prr
+  pub high : prr ≤ d.r2
+  pub executable : d.executable ≡ true
+
+pub fetch_rights : (d : SdwFields) (trr prr : ℕ) (same : Bool) (word : ℕ) → denied Fetch d trr prr same word ≡ None → MayFetch d prr
+unfolding denied
+fetch_rights d trr prr same word h =
+    let k = none_hold (rows Fetch d trr prr same word) h in
+    record {
+      low = ltb-false prr d.r1 k.1.0;
+      high = ltb-false d.r2 prr k.1.1.0;
+      executable = not_false d.executable k.1.1.1.0;
+    }
+
+-- a reader stands in the read bracket, and the segment is readable or executes
+pub record MayRead (d : SdwFields) (trr : ℕ) (same : Bool) : Type 0 where
+  pub high : trr ≤ d.r2
+  pub opens : (d.readable ≡ true) ⊎ (same ≡ true)
+
+readable_or : (readable same : Bool) → (not readable && not same) ≡ false → (readable ≡ true) ⊎ (same ≡ true)
+readable_or true same h = inl refl
+readable_or false true h = inr refl
+readable_or false false h = cc
+
+readers : (d : SdwFields) (trr : ℕ) (same : Bool) → first_of (read_rows d trr same) ≡ None → MayRead d trr same
+readers d trr same h =
+    let k = none_hold (read_rows d trr same) h in
+    record { high = ltb-false d.r2 trr k.1.0; opens = readable_or d.readable same k.1.1.0 }
+
+pub read_rights : (d : SdwFields) (trr prr : ℕ) (same : Bool) (word : ℕ) → denied Read d trr prr same word ≡ None → MayRead d trr same
+unfolding denied
+read_rights d trr prr same word h = readers d trr same h
+
+pub indirect_rights : (d : SdwFields) (trr prr : ℕ) (same : Bool) (word : ℕ) → denied Indirect d trr prr same word ≡ None → MayRead d trr same
+unfolding denied
+indirect_rights d trr prr same word h = readers d trr same h
+
+pub odd_rights : (d : SdwFields) (trr prr : ℕ) (same : Bool) (word : ℕ) → denied Odd d trr prr same word ≡ None → MayRead d trr same
+unfolding denied
+odd_rights d trr prr same word h = readers d trr same h
+
+pub record MayWrite (d : SdwFields) (trr : ℕ) : Type 0 where
+  pub high : trr ≤ d.r1
+  pub writable : d.writable ≡ true
+
+pub write_rights : (d : SdwFields) (trr prr : ℕ) (same : Bool) (word : ℕ) → denied Write d trr prr same word ≡ None → MayWrite d trr
+unfolding denied
+write_rights d trr prr same word h =
+    let k = none_hold (rows Write d trr prr same word) h in
+    record { high = ltb-false d.r1 trr k.1.0; writable = not_false d.writable k.1.1.0 }
+
+pub record MayTransfer (d : SdwFields) (trr prr : ℕ) : Type 0 where
+  pub high : trr ≤ d.r2
+  pub executable : d.executable ≡ true
+
+pub transfer_rights : (d : SdwFields) (trr prr : ℕ) (same : Bool) (word : ℕ) → denied Transfer d trr prr same word ≡ None → MayTransfer d trr prr
+unfolding denied
+transfer_rights d trr prr same word h =
+    let k = none_hold (rows Transfer d trr prr same word) h in
+    record { high = ltb-false d.r2 trr k.1.1.0; executable = not_false d.executable k.1.1.1.0 }
+
+-- a caller stands between the first and the third bracket, and enters another segment's gate below its limiter
+pub record MayCall (d : SdwFields) (trr : ℕ) (same : Bool) (word : ℕ) : Type 0 where
+  pub executable : d.executable ≡ true
+  pub entry : d.no_gate ≡ false → same ≡ false → word < d.limit
+  pub high : trr ≤ d.r3
+  pub low : d.r1 ≤ trr
+
+entry_by : (no_gate same : Bool) (limit word : ℕ) → (not no_gate && (not same && nat_le limit word)) ≡ false → no_gate ≡ false → same ≡ false → word < limit
+entry_by true same limit word h gate other = cc
+entry_by false true limit word h gate other = cc
+entry_by false false limit word h gate other = leb-false limit word h
+
+pub call_rights : (d : SdwFields) (trr prr : ℕ) (same : Bool) (word : ℕ) → denied Call d trr prr same word ≡ None → MayCall d trr same word
+unfolding denied
+call_rights d trr prr same word h =
+    let k = none_hold (rows Call d trr prr same word) h in
+    record {
+      executable = not_false d.executable k.1.0;
+      entry = entry_by d.no_gate same d.limit word k.1.1.0;
+      high = ltb-false d.r3 trr k.1.1.1.0;
+      low = ltb-false trr d.r1 k.1.1.1.1.0;
+    }
