@@ -3,3 +3,8 @@ pub mod Rights
 pub mod Alike
 pub mod Spots
 pub mod Serve
+pub mod Lists
+pub mod CoreTables
+pub mod Places
+pub mod CoreMarks
+pub mod CoreLaw

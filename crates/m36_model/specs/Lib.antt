@@ -35,3 +35,4 @@ pub mod WorkedCalls
 pub mod FirstPath
 pub mod WorkedEffects
 pub mod ChainList
+pub mod CoreLaw
