@@ -8,3 +8,5 @@ pub mod CoreTables
 pub mod Places
 pub mod CoreMarks
 pub mod CoreLaw
+pub mod EffectParts
+pub mod Effects
