@@ -10,3 +10,4 @@ pub mod CoreMarks
 pub mod CoreLaw
 pub mod EffectParts
 pub mod Effects
+pub mod Chains
