@@ -87,6 +87,7 @@ module _ (core : List ℕ) (dbr : DbrFields) where
       descriptor seg b k true e =
           absurd (h.descriptor x here seg (subst (λ (c : ℕ). IsSdwWord core dbr seg c) (eqb-true b a e) k))
       descriptor seg b k false e = get_set_other now a b v (eqb-false b a e) ∙ m.descriptors seg b k
+
       ptw : (b : ℕ) → IsPtwWord core dbr b → (t : Bool) → (b == a) ≡ t → option_map unmarked (slice_get (slice_set now a v) b) ≡ option_map unmarked (slice_get core b)
       ptw b k true e =
           let same = eqb-true b a e in

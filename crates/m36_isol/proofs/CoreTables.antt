@@ -196,9 +196,9 @@ module _ (core : List ℕ) (dbr : DbrFields) (now : List ℕ) (h : HasTables cor
   page_of d (suc n) page low e =
       let more : pages_to now d n ≡ pages_to core d n = cc in
       ⊎_elim
-        (λ here. subst (λ (k : ℕ). option_map unmarked (slice_get now (page_at d k)) ≡ option_map unmarked (slice_get core (page_at d k))) (sym here) (first_entry _ _ _ _ e))
-        (λ below. page_of d n page (le_of_suc-le-suc below) more)
-        (eq-or-lt_of_le low)
+      (λ here. subst (λ (k : ℕ). option_map unmarked (slice_get now (page_at d k)) ≡ option_map unmarked (slice_get core (page_at d k))) (sym here) (first_entry _ _ _ _ e))
+      (λ below. page_of d n page (le_of_suc-le-suc below) more)
+      (eq-or-lt_of_le low)
 
   pages_of : (d : SdwFields) (page : ℕ) → page ≤ d.bound / 64 → (u : Bool) → u ≡ false → (if u then [] else pages_to now d (d.bound / 64)) ≡ (if u then [] else pages_to core d (d.bound / 64)) → option_map unmarked (slice_get now (page_at d page)) ≡ option_map unmarked (slice_get core (page_at d page))
   pages_of d page begins true paged e = cc

@@ -34,12 +34,15 @@ call_effect : (g : RegsFields) (f : FinalFields) (o : OperandFields) → OfOk (I
 unfolding call with_pr
 call_effect g f o =
     record {
-      ring = inr (inl (refl, record {
-        ring = refl;
-        target = (refl, refl);
-        pointer = λ h. get_set g.pr 7 _ (omega arith);
-        overflow = refl;
-      }));
+      ring = inr (inl (
+        refl,
+        record {
+          ring = refl;
+          target = (refl, refl);
+          pointer = λ h. get_set g.pr 7 _ (omega arith);
+          overflow = refl;
+        },
+      ));
       dbr = inl refl;
       count = refl;
       pointers = λ h. length-set g.pr 7 _ ∙ h;

@@ -70,9 +70,9 @@ module _ {S : Type 0} (o : Store S) (g : RegsFields) (Has : S → Type 0) (Lies 
   reader : (seg ring : ℕ) (d : SdwFields) → L.sdws seg ≡ Ok d → MayRead d ring (seg == g.ppr.psr) → r ≤ ring → Sees L.sdws r g.ppr.psr → Sees L.sdws r seg
   reader seg ring d live m high executes =
       ⊎_elim
-        (λ readable. record { sdw = d; live = live; opens = or_left d.readable d.executable readable; high = le_trans high m.high })
-        (λ same. subst (λ (s : ℕ). Sees L.sdws r s) (sym (eqb-true seg g.ppr.psr same)) executes)
-        m.opens
+      (λ readable. record { sdw = d; live = live; opens = or_left d.readable d.executable readable; high = le_trans high m.high })
+      (λ same. subst (λ (s : ℕ). Sees L.sdws r s) (sym (eqb-true seg g.ppr.psr same)) executes)
+      m.opens
 
   fetcher : (seg : ℕ) (d : SdwFields) → L.sdws seg ≡ Ok d → MayFetch d g.ppr.prr → Sees L.sdws r seg
   fetcher seg d live m =

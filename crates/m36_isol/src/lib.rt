@@ -1,10 +1,31 @@
-//! The laws of isolation.
+//! The laws on which isolation rests.
+//!
+//! Each law is a function that takes nothing and does nothing. Its contract is the law: a statement on the definitions
+//! of the machine alone, for all states. The proofs go over stores in general (what a store owes is the first law) and
+//! over programs that ask them (a step is such a program); so the laws of a step are proved by kinds of operands and by
+//! rules of the address chain, and only what an effect changes goes over all instructions.
+//!
+//! Source: Schroeder and Saltzer, "A hardware architecture for implementing protection rings" (1972); Multics Processor
+//! Manual AL39, "Access control".
 #![tactic(auto)]
 
-ghost use Rattle.std.specs.Prelude.{◌≡◌, ℕ, List};
+ghost use Rattle.std.specs.Prelude.{ℕ, List};
+ghost use Rattle.m36_desc.specs.Fields.{DbrFields};
+ghost use Rattle.m36_model.specs.Core.{core_store};
+ghost use Rattle.m36_model.specs.Audit.{IsAudited};
+ghost use Rattle.m36_model.specs.StoreLaw.{Lawful};
+ghost use Rattle.m36_model.specs.CoreLaw.{HasTables, IsSegmentSpot, IsMarkedFrom};
+ghost use Rattle.m36_model.specs.Laws.{EffectLaw};
 
-/// A stand-in while the laws are written.
+/// Core as a store owes what the laws want, where the audit conditions hold: descriptors and places are by the tables
+/// but for marks; a word at the place of a segment word is its content; marks and words written at segment words change
+/// neither tables nor other words.
 pub fn law_store()
-    ensures { (core : List ℕ) → core ≡ core }
-{
-}
+    ensures { (core : List ℕ) (dbr : DbrFields) → IsAudited core dbr → Lawful core_store dbr (HasTables core dbr) (IsSegmentSpot core dbr) (IsMarkedFrom core dbr) }
+{}
+
+/// An effect changes the ring in CALL6 and RTCD alone and the DBR in LDBR alone, and puts as many words as its operand
+/// kind writes.
+pub fn law_effect()
+    ensures { EffectLaw }
+{}

@@ -125,4 +125,4 @@ pub record ExecutesLdbr (e : StepRecord) : Type 0 where
 -- A step in any ring that executes no LDBR keeps the audit conditions.
 abbrev pub KeptLaw : Type 0
 KeptLaw =
-    (s : State (List ℕ)) → HasPointers s.regs → IsAudited s.store s.regs.dbr → (ExecutesLdbr (record_of core_store s) → ⊥) → IsAudited (state_after core_store s).store (state_after core_store s).regs.dbr
+    (s : State (List ℕ)) → IsAudited s.store s.regs.dbr → (ExecutesLdbr (record_of core_store s) → ⊥) → IsAudited (state_after core_store s).store (state_after core_store s).regs.dbr

@@ -36,3 +36,6 @@ pub mod FirstPath
 pub mod WorkedEffects
 pub mod ChainList
 pub mod CoreLaw
+pub mod Run
+pub mod Isolation
+pub mod Laws
