@@ -3,3 +3,4 @@ pub mod Instruction
 pub mod Operands
 pub mod Table
 pub mod Lookup
+pub mod Named

@@ -1,11 +1,11 @@
 -- The instruction of an operation code with bit 27, and the code of a name.
-use Rattle.std.specs.Prelude.{ℕ, Bool, true, false, not, ◌&&◌, ◌==◌, nat_eq, List, Option, option_map}
+use Rattle.std.specs.Prelude.{ℕ, ◌≡◌, ◌^◌, ◌<◌, ◌↔◌, Bool, true, false, not, ◌&&◌, ◌==◌, nat_eq, List, Option, Some, option_map, IsSome}
 use Rattle.std.specs.List.{find}
 use Rattle.std.specs.Cmp.Lexicographic.{pointwise}
 use Rattle.m36_inst.specs.Operands.{operand_of, takes_direct, is_privileged}
 use Rattle.m36_inst.specs.Table.{Entry, table}
 use Rattle.m36_inst.specs.declared.effect.Effect.{Effect}
-use Rattle.m36_inst.specs.declared.row.Row.{Row}
+use Rattle.m36_inst.specs.declared.rows.Row.{Row}
 
 abbrev pub same_bit : Bool → Bool → Bool
 same_bit true b = b
@@ -41,5 +41,32 @@ row_at code bit27 = option_map (λ e. row_of e.effect e.reg) (entry_at code bit2
 abbrev pub name_at : ℕ → Bool → Option (List ℕ)
 name_at code bit27 = option_map (λ e. e.name) (entry_at code bit27)
 
+abbrev pub code_of : Entry → ℕ × Bool
+code_of e = (e.code, e.bit27)
+
 abbrev pub code_named : List ℕ → Option (ℕ × Bool)
-code_named name = option_map (λ e. (e.code, e.bit27)) (entry_named name)
+code_named name = option_map code_of (entry_named name)
+
+-- how an operand is referenced, whether it may be direct and whether the instruction is privileged are as its effect has it
+pub record IsRow (row : Row) : Type 0 where
+  pub operand : row.operand ≡ operand_of row.effect
+  pub direct : row.direct ≡ takes_direct row.effect
+  pub privileged : row.privileged ≡ is_privileged row.effect
+  pub reg : row.reg < 8
+
+-- Names and codes are one to one: a code with bit 27 has a name exactly where that name has this code with bit 27.
+abbrev pub OneToOne : Type 0
+OneToOne =
+    (code : ℕ) (bit27 : Bool) (name : List ℕ) → (name_at code bit27 ≡ Some name) ↔ (code_named name ≡ Some (code, bit27))
+
+-- A code with a name has a row, and a code with a row has a name.
+abbrev pub RowsHaveNames : Type 0
+RowsHaveNames = (code : ℕ) (bit27 : Bool) → IsSome (row_at code bit27) ↔ IsSome (name_at code bit27)
+
+-- A code with a row has nine bits.
+pub record IsRowAt (code : ℕ) (row : Row) : Type 0 where
+  pub code_fits : code < 2 ^ 9
+  pub parts : IsRow row
+
+abbrev pub RowsFit : Type 0
+RowsFit = (code : ℕ) (bit27 : Bool) (row : Row) → row_at code bit27 ≡ Some row → IsRowAt code row

@@ -6,14 +6,17 @@
 //! Source: Multics Processor Manual AL39, "Machine instruction format", "Machine instructions" and "Operation code map".
 #![tactic(auto)]
 
+mod codes;
 pub mod effect;
 pub mod inst;
 pub mod laws;
+pub mod lookup;
 pub mod operand;
-pub mod row;
+pub mod rows;
 
 pub use effect::Effect;
 pub use inst::Inst;
-pub use laws::instruction_laws;
+pub use laws::{instruction_laws, table_laws};
+pub use lookup::{by_name, name_of, row};
 pub use operand::Operand;
-pub use row::Row;
+pub use rows::Row;

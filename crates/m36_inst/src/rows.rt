@@ -16,3 +16,10 @@ pub struct Row {
     /// It is for privileged segments in ring 0.
     pub privileged: bool,
 }
+
+/// A row with its mnemonic, which has blanks behind it to five characters.
+#[derive(Clone, Copy)]
+pub(crate) struct Named {
+    pub(crate) row: Row,
+    pub(crate) name: [u8; 5],
+}

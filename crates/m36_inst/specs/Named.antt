@@ -1,0 +1,25 @@
+-- An instruction as the processor's own table has it: what it has to know, and the name with blanks behind it to five
+-- characters, the length of the longest name.
+use Rattle.std.specs.Prelude.{ℕ, Bool, List, ◌++◌, ◌==◌, ◌<◌, ◌≤◌, length, take, replicate}
+use Rattle.std.specs.List.{before_first, All}
+use Rattle.m36_inst.specs.Lookup.{row_of}
+use Rattle.m36_inst.specs.Table.{Entry}
+use Rattle.m36_inst.specs.declared.rows.Named.{Named}
+
+abbrev pub padded : List ℕ → List ℕ
+padded name = take 5 (name ++ replicate 5 0x20)
+
+abbrev pub named_of : Entry → Named
+named_of e = record { row = row_of e.effect e.reg; name = padded e.name }
+
+-- the characters before the first blank
+abbrev pub is_blank : ℕ → Bool
+is_blank b = b == 0x20
+
+abbrev pub text_of : List ℕ → List ℕ
+text_of name = before_first is_blank name
+
+-- a name has up to five characters of ASCII
+pub record IsPlain (name : List ℕ) : Type 0 where
+  pub short : length name ≤ 5
+  pub ascii : All (λ b. b < 128) name
