@@ -14,7 +14,7 @@ use Rattle.m36_desc.specs.Access.{ring_called}
 use Rattle.m36_inst.specs.Instruction.{inst_of}
 use Rattle.m36_inst.specs.Operands.{operand_of, is_privileged, takes_direct}
 use Rattle.m36_inst.specs.Lookup.{row_at}
-use Rattle.m36_inst.specs.declared.row.Row.{Row}
+use Rattle.m36_inst.specs.declared.rows.Row.{Row}
 use Rattle.m36_inst.specs.declared.effect.Effect.{Effect}
 use Rattle.m36_inst.specs.declared.effect.Effect.TheVariants as effect
 use Rattle.m36_inst.specs.declared.operand.Operand.{Operand}
