@@ -42,6 +42,12 @@ UnpackSays (Err (T3 count)) definition = definition ≡ Err (T3 count)
 UnpackSays (Err (T4 place)) definition = definition ≡ Err (T4 place)
 UnpackSays (Err NoMemory) definition = Unit {0}
 
+-- what a fault tells of so many bytes
+abbrev pub IsOfCount : ℕ → PackFault → Type 0
+IsOfCount count (T3 given) = given ≡ count
+IsOfCount count (T4 place) = place + 1 ≡ count
+IsOfCount count NoMemory = Unit {0}
+
 -- Words that were packed are unpacked as themselves.
 abbrev pub UnpacksWhatWasPacked : Type 0
 UnpacksWhatWasPacked = (words : List ℕ) → All (λ word. word < 2 ^ 36) words → unpacked (packed words) ≡ Ok words

@@ -28,6 +28,11 @@ unfoldable pub number_read : ℕ → List ℕ → ℕ → Result ℕ NumberFault
 number_read base [] max = Err (T1 0)
 number_read base (byte ∷ text) max = judged (first_other base (byte ∷ text)) (number_of base (byte ∷ text)) max
 
+-- what a fault tells lies within a text of so many bytes
+abbrev pub IsWithin : ℕ → NumberFault → Type 0
+IsWithin count (T1 place) = place ≤ count
+IsWithin count T2 = Unit {0}
+
 -- A number that was written in octal, in places enough for it, is read as itself.
 abbrev pub ReadsOctal : Type 0
 ReadsOctal = (places v max : ℕ) → 1 ≤ places → v < 8 ^ places → v ≤ max → number_read 8 (octal_text places v) max ≡ Ok v

@@ -1,8 +1,8 @@
 //! Words packed into bytes.
 
-ghost use Rattle.std.specs.Prelude.{ℕ, ◌≡◌, ◌+◌, ◌-◌, ◌*◌, ◌/◌, ◌%◌, ◌^◌, ◌<◌, ◌≤◌, ◌⊎◌, List, [], ◌∷◌, ◌++◌, length, drop, IfOk, OnOk};
+ghost use Rattle.std.specs.Prelude.{ℕ, ◌≡◌, ◌+◌, ◌-◌, ◌*◌, ◌/◌, ◌%◌, ◌^◌, ◌<◌, ◌≤◌, ◌⊎◌, List, [], ◌∷◌, ◌++◌, length, drop, IfOk, IfErr, OnOk};
 ghost use Rattle.m36_text.specs.Digits.{digits};
-ghost use Rattle.m36_text.specs.Packing.{packed, bits_of, last_word, words_of, unpacked, UnpackSays, UnpacksWhatWasPacked, PacksWhatWasUnpacked, UnpacksIntoWords};
+ghost use Rattle.m36_text.specs.Packing.{packed, bits_of, last_word, words_of, unpacked, UnpackSays, IsOfCount, UnpacksWhatWasPacked, PacksWhatWasUnpacked, UnpacksIntoWords};
 ghost use Rattle.m36_text.specs.declared.packing.PackFault.TheVariants as fault;
 
 use m36_outside::Text;
@@ -101,7 +101,8 @@ fn five_bytes(bits: u64) -> [u8; 5]
 /// exactly where it is 5 and the last four bits are not zero, or want of memory.
 #[tactic(auto, unfolding(crate::specs::Packing::unpacked))]
 pub fn unpack(alloc: Global, t: &[u8]) -> Result<Words, PackFault>
-    ensures { UnpackSays result (unpacked t.now) }
+    ensures says { UnpackSays result (unpacked t.now) }
+    ensures place { IfErr result (IsOfCount (length t.now)) }
 {
     match t.len() % 9 {
         0 => {}

@@ -1,7 +1,7 @@
 //! Texts read as numbers.
 
-ghost use Rattle.std.specs.Prelude.{ℕ, ◌≡◌, ◌+◌, ◌-◌, ◌^◌, ◌<◌, ◌≤◌, length, drop, min, None};
-ghost use Rattle.m36_text.specs.Reading.{first_other, number_of, number_read, ReadsOctal, ReadsDecimal, HasPlaces, HasNoLeadingZero};
+ghost use Rattle.std.specs.Prelude.{ℕ, ◌≡◌, ◌+◌, ◌-◌, ◌^◌, ◌<◌, ◌≤◌, length, min, None, IfOk, IfErr, IfSome};
+ghost use Rattle.m36_text.specs.Reading.{first_other, number_of, number_read, IsWithin, ReadsOctal, ReadsDecimal, HasPlaces, HasNoLeadingZero};
 
 /// Why a text is not read as a number.
 #[derive(Clone, Copy, Debug, PartialEq, Eq)]
@@ -14,14 +14,18 @@ pub enum NumberFault {
 
 /// The number that octal digits write, at most `max`.
 pub fn read_octal(t: &[u8], max: u64) -> Result<u64, NumberFault>
-    ensures { result ≡ number_read 8 t.now max }
+    ensures value { result ≡ number_read 8 t.now max }
+    ensures bound { IfOk result (λ v. v ≤ max) }
+    ensures place { IfErr result (IsWithin (length t.now)) }
 {
     read_number(8, t, max)
 }
 
 /// The number that decimal digits write, at most `max`. Leading zeros are allowed.
 pub fn read_decimal(t: &[u8], max: u64) -> Result<u64, NumberFault>
-    ensures { result ≡ number_read 10 t.now max }
+    ensures value { result ≡ number_read 10 t.now max }
+    ensures bound { IfOk result (λ v. v ≤ max) }
+    ensures place { IfErr result (IsWithin (length t.now)) }
 {
     read_number(10, t, max)
 }
@@ -29,7 +33,9 @@ pub fn read_decimal(t: &[u8], max: u64) -> Result<u64, NumberFault>
 #[tactic(auto, unfolding(crate::specs::Reading::number_read))]
 fn read_number(base: u8, t: &[u8], max: u64) -> Result<u64, NumberFault>
     requires { (1 ≤ base) × (base ≤ 10) }
-    ensures { result ≡ number_read base t.now max }
+    ensures value { result ≡ number_read base t.now max }
+    ensures bound { IfOk result (λ v. v ≤ max) }
+    ensures place { IfErr result (IsWithin (length t.now)) }
 {
     if t.is_empty() {
         return Err(NumberFault::T1(0));
@@ -49,7 +55,8 @@ fn read_number(base: u8, t: &[u8], max: u64) -> Result<u64, NumberFault>
 #[tactic(auto, unfolding(crate::specs::Reading::first_other))]
 fn place_of_other(base: u8, t: &[u8]) -> Option<usize>
     requires { (1 ≤ base) × (base ≤ 10) }
-    ensures { result ≡ first_other base t.now }
+    ensures value { result ≡ first_other base t.now }
+    ensures within { IfSome result (λ place. place < length t.now) }
 {
     t.iter()
         .position(|byte| !(48 <= *byte && *byte < 48 + base))
