@@ -1,6 +1,7 @@
 //! A list of words.
 
-ghost use Rattle.std.specs.Prelude.{ℕ, List, [], ◌∷◌, ◌++◌, ◌≡◌, OnOk, OnErr};
+ghost use Rattle.std.specs.Prelude.{ℕ, List, [], ◌∷◌, ◌++◌, ◌≡◌, ◌<◌, ◌^◌, OnOk, OnErr};
+ghost use Rattle.std.specs.List.{All};
 
 use crate::memory::NoMemory;
 use crate::word::Word;
@@ -14,11 +15,14 @@ pub struct Words {
 }
 
 impl Model for Words {
-    ghost use Rattle.std.specs.Prelude.{ℕ, List};
+    ghost use Rattle.std.specs.Prelude.{ℕ, List, ◌<◌, ◌^◌};
+    ghost use Rattle.std.specs.List.{All};
 
     ghost Value = { List ℕ };
 
     ghost view = { λ w. w.items.items };
+
+    ghost invariant = { λ w. All (λ word. word < 2 ^ 36) w.items.items };
 }
 
 impl Words {
@@ -36,13 +40,16 @@ impl Words {
         ensures ok { OnOk result (self.new ≡ self.old ++ x ∷ []) }
         ensures err { OnErr result (self.new ≡ self.old) }
     {
+        // Its bound is what the list keeps of each word.
+        let _value = x.value();
         self.items.push(x)?;
         Ok(())
     }
 
     /// The words in order.
     pub fn slice(&self) -> &[Word]
-        ensures { result.now ≡ self.now }
+        ensures value { result.now ≡ self.now }
+        ensures below { All (λ word. word < 2 ^ 36) self.now }
     {
         self.items.as_slice()
     }
