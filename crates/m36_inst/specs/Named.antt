@@ -1,8 +1,8 @@
 -- An instruction as the processor's own table has it: what it has to know, and the name with blanks behind it to five
 -- characters, the length of the longest name.
-use Rattle.std.specs.Prelude.{ℕ, Bool, List, ◌++◌, ◌==◌, ◌<◌, ◌≤◌, length, take, replicate}
-use Rattle.std.specs.List.{before_first, All}
-use Rattle.m36_inst.specs.Lookup.{row_of}
+use Rattle.std.specs.Prelude.{ℕ, Bool, List, ◌++◌, ◌==◌, ◌<◌, ◌≤◌, length, take, replicate, map, Option, option_map}
+use Rattle.std.specs.List.{before_first, range_with_len, All}
+use Rattle.m36_inst.specs.Lookup.{entry_at, row_of}
 use Rattle.m36_inst.specs.Table.{Entry}
 use Rattle.m36_inst.specs.declared.rows.Named.{Named}
 
@@ -11,6 +11,13 @@ padded name = take 5 (name ++ replicate 5 0x20)
 
 abbrev pub named_of : Entry → Named
 named_of e = record { row = row_of e.effect e.reg; name = padded e.name }
+
+-- what stands at a code with bit 27, and at 64 codes from one on
+abbrev pub place_of : Bool → ℕ → Option Named
+place_of bit27 code = option_map named_of (entry_at code bit27)
+
+unfoldable pub block : Bool → ℕ → List (Option Named)
+block bit27 base = map (place_of bit27) (range_with_len base 64)
 
 -- the characters before the first blank
 abbrev pub is_blank : ℕ → Bool

@@ -131,6 +131,7 @@ operand_of effect.Tnc = operand.T
 operand_of effect.Tmoz = operand.T
 operand_of effect.Tpnz = operand.T
 operand_of effect.Tov = operand.T
+operand_of effect.Ttf = operand.T
 operand_of effect.TsxN = operand.T
 operand_of effect.TspN = operand.T
 operand_of effect.Call6 = operand.Call6
@@ -144,7 +145,6 @@ operand_of effect.Sdbr = operand.W2
 operand_of effect.Cams = operand.A
 operand_of effect.Camp = operand.A
 operand_of effect.Absa = operand.A
-operand_of effect.Ttf = operand.T
 
 -- the instructions that only a privileged segment may execute, in ring 0
 abbrev pub is_privileged : Effect → Bool

@@ -1,8 +1,8 @@
 //! The table by operation code: sixteen blocks of 64 codes, whose rows macros write.
 
-ghost use Rattle.std.specs.Prelude.{◌≡◌, true, false, option_map, IfSome};
-ghost use Rattle.m36_inst.specs.Lookup.{entry_at, row_at, name_at, IsRow};
-ghost use Rattle.m36_inst.specs.Named.{named_of, text_of, IsPlain};
+ghost use Rattle.std.specs.Prelude.{◌≡◌, ◌<◌, ◌*◌, true, false, option_map, IfSome};
+ghost use Rattle.m36_inst.specs.Lookup.{row_at, name_at, IsRow};
+ghost use Rattle.m36_inst.specs.Named.{place_of, block, text_of, IsPlain};
 
 use crate::rows::Named;
 
@@ -64,48 +64,51 @@ pub(crate) fn named(code: u16, bit27: bool) -> Option<Named>
     place(code, bit27)
 }
 
+#[tactic(auto, using(crate::proofs::Blocks::in_block, crate::proofs::Entries::none_above))]
 fn place(code: u16, bit27: bool) -> Option<Named>
-    ensures { result ≡ option_map named_of (entry_at code bit27) }
+    ensures { result ≡ place_of bit27 code }
 {
-    if bit27 {
-        with_bit_27_on(code)
+    if code >= 512 {
+        return None;
+    }
+    let block = if bit27 {
+        block_on(code / 64)
     } else {
-        with_bit_27_off(code)
+        block_off(code / 64)
+    };
+    block[(code % 64) as usize]
+}
+
+fn block_off(high: u16) -> &'static [Option<Named>; 64]
+    requires { high < 8 }
+    ensures { result.now ≡ block false (64 * high) }
+{
+    match high {
+        0 => codes_000(),
+        1 => codes_100(),
+        2 => codes_200(),
+        3 => codes_300(),
+        4 => codes_400(),
+        5 => codes_500(),
+        6 => codes_600(),
+        7 => codes_700(),
+        _ => unreachable!(),
     }
 }
 
-#[tactic(auto, using(crate::proofs::Entries::none_above))]
-fn with_bit_27_off(code: u16) -> Option<Named>
-    ensures { result ≡ option_map named_of (entry_at code false) }
+fn block_on(high: u16) -> &'static [Option<Named>; 64]
+    requires { high < 8 }
+    ensures { result.now ≡ block true (64 * high) }
 {
-    let low = code % 64;
-    match code / 64 {
-        0 => codes_000(low),
-        1 => codes_100(low),
-        2 => codes_200(low),
-        3 => codes_300(low),
-        4 => codes_400(low),
-        5 => codes_500(low),
-        6 => codes_600(low),
-        7 => codes_700(low),
-        _ => None,
-    }
-}
-
-#[tactic(auto, using(crate::proofs::Entries::none_above))]
-fn with_bit_27_on(code: u16) -> Option<Named>
-    ensures { result ≡ option_map named_of (entry_at code true) }
-{
-    let low = code % 64;
-    match code / 64 {
-        0 => codes_000_on(low),
-        1 => codes_100_on(low),
-        2 => codes_200_on(low),
-        3 => codes_300_on(low),
-        4 => codes_400_on(low),
-        5 => codes_500_on(low),
-        6 => codes_600_on(low),
-        7 => codes_700_on(low),
-        _ => None,
+    match high {
+        0 => codes_000_on(),
+        1 => codes_100_on(),
+        2 => codes_200_on(),
+        3 => codes_300_on(),
+        4 => codes_400_on(),
+        5 => codes_500_on(),
+        6 => codes_600_on(),
+        7 => codes_700_on(),
+        _ => unreachable!(),
     }
 }

@@ -20,3 +20,6 @@ pub use laws::{instruction_laws, table_laws};
 pub use lookup::{by_name, name_of, row};
 pub use operand::Operand;
 pub use rows::Row;
+
+#[cfg(test)]
+mod tests;

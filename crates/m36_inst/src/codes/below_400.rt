@@ -1,8 +1,7 @@
 //! Operation codes 000 to 377 with bit 27 off.
 
-ghost use Rattle.std.specs.Prelude.{◌≡◌, ◌<◌, ◌+◌, true, false, option_map};
-ghost use Rattle.m36_inst.specs.Lookup.{entry_at};
-ghost use Rattle.m36_inst.specs.Named.{named_of};
+ghost use Rattle.std.specs.Prelude.{◌≡◌, true, false};
+ghost use Rattle.m36_inst.specs.Named.{block};
 
 use crate::effect::Effect;
 use crate::operand::Operand;
@@ -70,11 +69,10 @@ static ROWS_000: [Option<Named>; 64] = rows![
 ];
 
 #[tactic(auto, using(crate::proofs::Blocks::codes_000))]
-pub(crate) fn codes_000(low: u16) -> Option<Named>
-    requires { low < 64 }
-    ensures { result ≡ option_map named_of (entry_at (0o000 + low) false) }
+pub(crate) fn codes_000() -> &'static [Option<Named>; 64]
+    ensures { result.now ≡ block false 0o000 }
 {
-    ROWS_000[low as usize]
+    &ROWS_000
 }
 
 static ROWS_100: [Option<Named>; 64] = rows![
@@ -142,11 +140,10 @@ static ROWS_100: [Option<Named>; 64] = rows![
 ];
 
 #[tactic(auto, using(crate::proofs::Blocks::codes_100))]
-pub(crate) fn codes_100(low: u16) -> Option<Named>
-    requires { low < 64 }
-    ensures { result ≡ option_map named_of (entry_at (0o100 + low) false) }
+pub(crate) fn codes_100() -> &'static [Option<Named>; 64]
+    ensures { result.now ≡ block false 0o100 }
 {
-    ROWS_100[low as usize]
+    &ROWS_100
 }
 
 static ROWS_200: [Option<Named>; 64] = rows![
@@ -224,11 +221,10 @@ static ROWS_200: [Option<Named>; 64] = rows![
 ];
 
 #[tactic(auto, using(crate::proofs::Blocks::codes_200))]
-pub(crate) fn codes_200(low: u16) -> Option<Named>
-    requires { low < 64 }
-    ensures { result ≡ option_map named_of (entry_at (0o200 + low) false) }
+pub(crate) fn codes_200() -> &'static [Option<Named>; 64]
+    ensures { result.now ≡ block false 0o200 }
 {
-    ROWS_200[low as usize]
+    &ROWS_200
 }
 
 static ROWS_300: [Option<Named>; 64] = rows![
@@ -299,9 +295,8 @@ static ROWS_300: [Option<Named>; 64] = rows![
 ];
 
 #[tactic(auto, using(crate::proofs::Blocks::codes_300))]
-pub(crate) fn codes_300(low: u16) -> Option<Named>
-    requires { low < 64 }
-    ensures { result ≡ option_map named_of (entry_at (0o300 + low) false) }
+pub(crate) fn codes_300() -> &'static [Option<Named>; 64]
+    ensures { result.now ≡ block false 0o300 }
 {
-    ROWS_300[low as usize]
+    &ROWS_300
 }

@@ -1,8 +1,7 @@
 //! Operation codes with bit 27 on.
 
-ghost use Rattle.std.specs.Prelude.{◌≡◌, ◌<◌, ◌+◌, true, false, option_map};
-ghost use Rattle.m36_inst.specs.Lookup.{entry_at};
-ghost use Rattle.m36_inst.specs.Named.{named_of};
+ghost use Rattle.std.specs.Prelude.{◌≡◌, true, false};
+ghost use Rattle.m36_inst.specs.Named.{block};
 
 use crate::effect::Effect;
 use crate::operand::Operand;
@@ -28,11 +27,10 @@ static ROWS_000_ON: [Option<Named>; 64] = rows![
 ];
 
 #[tactic(auto, using(crate::proofs::Blocks::codes_000_on))]
-pub(crate) fn codes_000_on(low: u16) -> Option<Named>
-    requires { low < 64 }
-    ensures { result ≡ option_map named_of (entry_at (0o000 + low) true) }
+pub(crate) fn codes_000_on() -> &'static [Option<Named>; 64]
+    ensures { result.now ≡ block true 0o000 }
 {
-    ROWS_000_ON[low as usize]
+    &ROWS_000_ON
 }
 
 static ROWS_100_ON: [Option<Named>; 64] = rows![
@@ -55,11 +53,10 @@ static ROWS_100_ON: [Option<Named>; 64] = rows![
 ];
 
 #[tactic(auto, using(crate::proofs::Blocks::codes_100_on))]
-pub(crate) fn codes_100_on(low: u16) -> Option<Named>
-    requires { low < 64 }
-    ensures { result ≡ option_map named_of (entry_at (0o100 + low) true) }
+pub(crate) fn codes_100_on() -> &'static [Option<Named>; 64]
+    ensures { result.now ≡ block true 0o100 }
 {
-    ROWS_100_ON[low as usize]
+    &ROWS_100_ON
 }
 
 static ROWS_200_ON: [Option<Named>; 64] = rows![
@@ -86,11 +83,10 @@ static ROWS_200_ON: [Option<Named>; 64] = rows![
 ];
 
 #[tactic(auto, using(crate::proofs::Blocks::codes_200_on))]
-pub(crate) fn codes_200_on(low: u16) -> Option<Named>
-    requires { low < 64 }
-    ensures { result ≡ option_map named_of (entry_at (0o200 + low) true) }
+pub(crate) fn codes_200_on() -> &'static [Option<Named>; 64]
+    ensures { result.now ≡ block true 0o200 }
 {
-    ROWS_200_ON[low as usize]
+    &ROWS_200_ON
 }
 
 static ROWS_300_ON: [Option<Named>; 64] = rows![
@@ -121,11 +117,10 @@ static ROWS_300_ON: [Option<Named>; 64] = rows![
 ];
 
 #[tactic(auto, using(crate::proofs::Blocks::codes_300_on))]
-pub(crate) fn codes_300_on(low: u16) -> Option<Named>
-    requires { low < 64 }
-    ensures { result ≡ option_map named_of (entry_at (0o300 + low) true) }
+pub(crate) fn codes_300_on() -> &'static [Option<Named>; 64]
+    ensures { result.now ≡ block true 0o300 }
 {
-    ROWS_300_ON[low as usize]
+    &ROWS_300_ON
 }
 
 static ROWS_400_ON: [Option<Named>; 64] = rows![
@@ -148,11 +143,10 @@ static ROWS_400_ON: [Option<Named>; 64] = rows![
 ];
 
 #[tactic(auto, using(crate::proofs::Blocks::codes_400_on))]
-pub(crate) fn codes_400_on(low: u16) -> Option<Named>
-    requires { low < 64 }
-    ensures { result ≡ option_map named_of (entry_at (0o400 + low) true) }
+pub(crate) fn codes_400_on() -> &'static [Option<Named>; 64]
+    ensures { result.now ≡ block true 0o400 }
 {
-    ROWS_400_ON[low as usize]
+    &ROWS_400_ON
 }
 
 static ROWS_500_ON: [Option<Named>; 64] = rows![
@@ -177,11 +171,10 @@ static ROWS_500_ON: [Option<Named>; 64] = rows![
 ];
 
 #[tactic(auto, using(crate::proofs::Blocks::codes_500_on))]
-pub(crate) fn codes_500_on(low: u16) -> Option<Named>
-    requires { low < 64 }
-    ensures { result ≡ option_map named_of (entry_at (0o500 + low) true) }
+pub(crate) fn codes_500_on() -> &'static [Option<Named>; 64]
+    ensures { result.now ≡ block true 0o500 }
 {
-    ROWS_500_ON[low as usize]
+    &ROWS_500_ON
 }
 
 static ROWS_600_ON: [Option<Named>; 64] = rows![
@@ -211,11 +204,10 @@ static ROWS_600_ON: [Option<Named>; 64] = rows![
 ];
 
 #[tactic(auto, using(crate::proofs::Blocks::codes_600_on))]
-pub(crate) fn codes_600_on(low: u16) -> Option<Named>
-    requires { low < 64 }
-    ensures { result ≡ option_map named_of (entry_at (0o600 + low) true) }
+pub(crate) fn codes_600_on() -> &'static [Option<Named>; 64]
+    ensures { result.now ≡ block true 0o600 }
 {
-    ROWS_600_ON[low as usize]
+    &ROWS_600_ON
 }
 
 static ROWS_700_ON: [Option<Named>; 64] = rows![
@@ -238,9 +230,8 @@ static ROWS_700_ON: [Option<Named>; 64] = rows![
 ];
 
 #[tactic(auto, using(crate::proofs::Blocks::codes_700_on))]
-pub(crate) fn codes_700_on(low: u16) -> Option<Named>
-    requires { low < 64 }
-    ensures { result ≡ option_map named_of (entry_at (0o700 + low) true) }
+pub(crate) fn codes_700_on() -> &'static [Option<Named>; 64]
+    ensures { result.now ≡ block true 0o700 }
 {
-    ROWS_700_ON[low as usize]
+    &ROWS_700_ON
 }

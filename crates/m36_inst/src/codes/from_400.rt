@@ -1,8 +1,7 @@
 //! Operation codes 400 to 777 with bit 27 off.
 
-ghost use Rattle.std.specs.Prelude.{◌≡◌, ◌<◌, ◌+◌, true, false, option_map};
-ghost use Rattle.m36_inst.specs.Lookup.{entry_at};
-ghost use Rattle.m36_inst.specs.Named.{named_of};
+ghost use Rattle.std.specs.Prelude.{◌≡◌, true, false};
+ghost use Rattle.m36_inst.specs.Named.{block};
 
 use crate::effect::Effect;
 use crate::operand::Operand;
@@ -38,11 +37,10 @@ static ROWS_400: [Option<Named>; 64] = rows![
 ];
 
 #[tactic(auto, using(crate::proofs::Blocks::codes_400))]
-pub(crate) fn codes_400(low: u16) -> Option<Named>
-    requires { low < 64 }
-    ensures { result ≡ option_map named_of (entry_at (0o400 + low) false) }
+pub(crate) fn codes_400() -> &'static [Option<Named>; 64]
+    ensures { result.now ≡ block false 0o400 }
 {
-    ROWS_400[low as usize]
+    &ROWS_400
 }
 
 static ROWS_500: [Option<Named>; 64] = rows![
@@ -71,11 +69,10 @@ static ROWS_500: [Option<Named>; 64] = rows![
 ];
 
 #[tactic(auto, using(crate::proofs::Blocks::codes_500))]
-pub(crate) fn codes_500(low: u16) -> Option<Named>
-    requires { low < 64 }
-    ensures { result ≡ option_map named_of (entry_at (0o500 + low) false) }
+pub(crate) fn codes_500() -> &'static [Option<Named>; 64]
+    ensures { result.now ≡ block false 0o500 }
 {
-    ROWS_500[low as usize]
+    &ROWS_500
 }
 
 static ROWS_600: [Option<Named>; 64] = rows![
@@ -147,11 +144,10 @@ static ROWS_600: [Option<Named>; 64] = rows![
 ];
 
 #[tactic(auto, using(crate::proofs::Blocks::codes_600))]
-pub(crate) fn codes_600(low: u16) -> Option<Named>
-    requires { low < 64 }
-    ensures { result ≡ option_map named_of (entry_at (0o600 + low) false) }
+pub(crate) fn codes_600() -> &'static [Option<Named>; 64]
+    ensures { result.now ≡ block false 0o600 }
 {
-    ROWS_600[low as usize]
+    &ROWS_600
 }
 
 static ROWS_700: [Option<Named>; 64] = rows![
@@ -223,9 +219,8 @@ static ROWS_700: [Option<Named>; 64] = rows![
 ];
 
 #[tactic(auto, using(crate::proofs::Blocks::codes_700))]
-pub(crate) fn codes_700(low: u16) -> Option<Named>
-    requires { low < 64 }
-    ensures { result ≡ option_map named_of (entry_at (0o700 + low) false) }
+pub(crate) fn codes_700() -> &'static [Option<Named>; 64]
+    ensures { result.now ≡ block false 0o700 }
 {
-    ROWS_700[low as usize]
+    &ROWS_700
 }
