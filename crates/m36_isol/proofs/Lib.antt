@@ -11,3 +11,5 @@ pub mod CoreLaw
 pub mod EffectParts
 pub mod Effects
 pub mod Chains
+pub mod Operations
+pub mod Programs
