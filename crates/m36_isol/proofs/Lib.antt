@@ -13,3 +13,5 @@ pub mod Effects
 pub mod Chains
 pub mod Operations
 pub mod Programs
+pub mod Contents
+pub mod OneStep
