@@ -15,3 +15,4 @@ pub mod Operations
 pub mod Programs
 pub mod Contents
 pub mod OneStep
+pub mod StepLaws
