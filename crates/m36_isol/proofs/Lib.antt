@@ -16,3 +16,4 @@ pub mod Programs
 pub mod Contents
 pub mod OneStep
 pub mod StepLaws
+pub mod Windows
