@@ -184,7 +184,7 @@ module _ (core : List ℕ) (dbr : DbrFields) (now : List ℕ) (h : HasTables cor
       let odd = descriptors_of seg (wrapped (a + 1)) (record { even = a; found = found; half = inr refl }) in
       cc
 
-  descriptor_of : (seg : ℕ) → core_sdw now dbr seg ≡ core_sdw core dbr seg
+  pub descriptor_of : (seg : ℕ) → core_sdw now dbr seg ≡ core_sdw core dbr seg
   unfolding core_sdw
   descriptor_of seg =
       ap (sdw_at now) (place_of seg (in_bounds dbr seg) dbr.unpaged refl refl) ∙ found_by seg (sdw_place core dbr seg) refl

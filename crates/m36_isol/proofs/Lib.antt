@@ -17,3 +17,5 @@ pub mod Contents
 pub mod OneStep
 pub mod StepLaws
 pub mod Windows
+pub mod AuditedBy
+pub mod CoreIsolated

@@ -87,13 +87,13 @@ module _ {S : Type 0} (o : Store S) (T : Tables) (g : RegsFields) (B : Backed o 
       each_map (IsAllowedReference B.law.sdws r) (IsWithin o r here) (λ e h. allowed_within e.at.seg e.kind h) _ k.mid.allowed
 
   -- the DBR stays above ring 0
-  dbr_stays : 1 ≤ r → (state_after o here).regs.dbr ≡ g.dbr
+  pub dbr_stays : 1 ≤ r → (state_after o here).regs.dbr ≡ g.dbr
   unfolding state_after
   dbr_stays some =
       let k = one_run o g B.Has B.Lies B.Near B.law B.guarded r low store has_here in
       ⊎_elim (λ same. same) (λ loads. let zero_ring = loads.lowest in absurd (omega arith)) k.post.dbr
 
-  tables_by : (state_after o here).regs.dbr ≡ g.dbr → tables_of o (state_after o here) ≡ T
+  pub tables_by : (state_after o here).regs.dbr ≡ g.dbr → tables_of o (state_after o here) ≡ T
   unfolding state_after
   tables_by same =
       let k = after_has o g B.Has B.Lies B.Near B.law B.guarded r low store has_here in
@@ -148,7 +148,7 @@ module _ {S : Type 0} (o : Store S) (T : Tables) (g : RegsFields) (B : Backed o 
             stack_ring = stack.brackets;
           }
 
-  pointers_stay : HasPointers g → HasPointers (state_after o here).regs
+  pub pointers_stay : HasPointers g → HasPointers (state_after o here).regs
   unfolding state_after
   pointers_stay h = (one_run o g B.Has B.Lies B.Near B.law B.guarded r low store has_here).post.pointers h
 

@@ -1,0 +1,95 @@
+-- The laws over the list of core words.
+use Rattle.std.proofs.Common.{◌≡◌, refl, sym, ◌∙◌, ap, subst, inl, inr, ⊎_elim, arith}
+use Rattle.std.specs.Prelude.{ℕ, ◌+◌, ◌*◌, ◌<◌, ◌≤◌, ◌≢◌, Bool, true, false, List, [], ◌∷◌, slice_index, slice_set, Result, Ok, Err}
+use Rattle.std.proofs.lemmas.List.{get_or-set_other}
+use Rattle.m36_desc.specs.Fields.{SdwFields, DbrFields}
+use Rattle.m36_model.specs.Registers.{RegsFields}
+use Rattle.m36_model.specs.Act.{Part}
+use Rattle.m36_model.specs.Store.{Spot, Core_word, Segment_word, Change, Store, State, Tables}
+use Rattle.m36_model.specs.Place.{core_sdw}
+use Rattle.m36_model.specs.Core.{core_store, core_put, put_one, core_tables}
+use Rattle.m36_model.specs.Sight.{tables_of, content}
+use Rattle.m36_model.specs.Step.{record_of, state_after}
+use Rattle.m36_model.specs.Audit.{IsAudited, is_stack_of}
+use Rattle.m36_model.specs.StoreLaw.{Each, IsGuarded}
+use Rattle.m36_model.specs.CoreLaw.{HasTables, IsSegmentSpot, IsMarkedFrom, IsButMarked}
+use Rattle.m36_model.specs.Isolation.{HasPointers, AreIsolated, Isolated}
+use Rattle.m36_model.specs.Laws.{IsAbove, SightLaw, ReachLaw, FallLaw, AgreeLaw, MarksAlterNothing, IsReachable, CoreReachLaw, ExecutesLdbr, KeptLaw}
+use Rattle.m36_isol.proofs.Alike.{IsReached}
+use Rattle.m36_isol.proofs.Spots.{each_map}
+use Rattle.m36_isol.proofs.Places.{place_is}
+use Rattle.m36_isol.proofs.CoreTables.{descriptor_of}
+use Rattle.m36_isol.proofs.CoreLaw.{lawful}
+use Rattle.m36_isol.proofs.OneStep.{one_run, reached_writes}
+use Rattle.m36_isol.proofs.StepLaws.{Backed, sight_law, reach_law, fall_law, agree_law, marks_law, pointers_stay, tables_by}
+use Rattle.m36_isol.proofs.AuditedBy.{same_dbr, audited_by}
+use Rattle.m36_isol.proofs.Windows.{windows_kept, AreKept}
+
+not_true : (b : Bool) → (b ≡ true → ⊥) → b ≡ false
+not_true true h = absurd (h refl)
+not_true false h = refl
+
+not_false : (b : Bool) → (b ≡ false → ⊥) → b ≡ true
+not_false true h = refl
+not_false false h = absurd (h refl)
+
+module _ (core : List ℕ) (dbr : DbrFields) (audited : IsAudited core dbr) where
+  -- the descriptors of which the store's law speaks are those in core
+  descriptor : (seg : ℕ) → core_sdw core dbr seg ≡ (lawful core dbr audited).sdws seg
+  descriptor seg = (lawful core dbr audited).sdw_is core refl seg
+
+  gate_by : (seg : ℕ) (d : SdwFields) → (lawful core dbr audited).sdws seg ≡ Ok d → d.executable ≡ true → d.r2 < d.r3 → d.no_gate ≡ false
+  gate_by seg d live executable outer =
+      not_true d.no_gate (λ e. audited.fifth seg (record { sdw = d; callable = record { live = descriptor seg ∙ live; executable = executable; outer = outer }; open_everywhere = e }))
+
+  stack_by : (seg : ℕ) (d : SdwFields) → (lawful core dbr audited).sdws seg ≡ Ok d → d.executable ≡ true → d.r2 < d.r3 → is_stack_of d.r2 ((lawful core dbr audited).sdws (8 * dbr.stack + d.r2)) ≡ true
+  stack_by seg d live executable outer =
+      not_false _ (λ e. audited.sixth seg (record {
+        sdw = d;
+        callable = record { live = descriptor seg ∙ live; executable = executable; outer = outer };
+        missing = ap (is_stack_of d.r2) (descriptor (8 * dbr.stack + d.r2)) ∙ e;
+      }))
+
+  backed_here : Backed core_store (core_tables core dbr) dbr
+  backed_here =
+      record {
+        Has = HasTables core dbr;
+        Lies = IsSegmentSpot core dbr;
+        Near = IsMarkedFrom core dbr;
+        law = lawful core dbr audited;
+        guarded = record { gates = gate_by; stacks = stack_by };
+        has = λ s h. h;
+        tables = λ s h. h;
+      }
+
+  pub backed : (s : State (List ℕ)) → tables_of core_store s ≡ core_tables core dbr → Backed core_store (core_tables core dbr) s.regs.dbr
+  backed s h =
+      subst (λ (d : DbrFields). Backed core_store (core_tables core dbr) d) (sym (same_dbr core s.store dbr s.regs.dbr h)) backed_here
+
+  -- descriptors are by the tables
+  by_tables : (s : State (List ℕ)) → tables_of core_store s ≡ core_tables core dbr → (seg : ℕ) → core_sdw s.store s.regs.dbr seg ≡ core_sdw core dbr seg
+  by_tables s h seg =
+      let e = same_dbr core s.store dbr s.regs.dbr h in
+      ap (λ (d : DbrFields). core_sdw s.store d seg) e ∙ descriptor_of core dbr s.store (subst (λ (d : DbrFields). core_tables s.store d ≡ core_tables core dbr) e h) seg
+
+  pub core_sight : SightLaw core_store (core_tables core dbr)
+  core_sight = sight_law core_store (core_tables core dbr) backed
+
+  pub core_reach : ReachLaw core_store (core_tables core dbr)
+  core_reach = reach_law core_store (core_tables core dbr) backed
+
+  pub core_fall : FallLaw core_store (core_tables core dbr)
+  core_fall = fall_law core_store (core_tables core dbr) backed
+
+  pub core_agree : AgreeLaw core_store (core_tables core dbr)
+  core_agree = agree_law core_store (core_tables core dbr) backed
+
+  pointers_after : (r : ℕ) (s : State (List ℕ)) → IsAbove core_store (core_tables core dbr) r s → HasPointers (state_after core_store s).regs
+  pointers_after r s above =
+      pointers_stay core_store (core_tables core dbr) s.regs (backed s above.tables) r above.low s.store above.tables above.pointers
+
+  pub core_isolated : Isolated core_store (core_tables core dbr)
+  core_isolated r some most a b pointers tables tables_other low agree n =
+      let T = core_tables core dbr in
+      let k = windows_kept core_store T r some core_reach core_fall core_agree (λ s t h l seg. by_tables s h seg ∙ sym (by_tables t l seg)) (pointers_after r) n a b a b tables tables_other (record { pointers = pointers; tables = tables; low = low }) agree (λ seg w none. refl) (λ seg w none. refl) in
+      record { told = k.told; agree = k.agree; kept = k.kept; kept_other = k.kept_other }
