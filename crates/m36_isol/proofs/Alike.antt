@@ -1,11 +1,11 @@
 -- What is known of a step between two requests, and what a program shows before it makes one.
 use Rattle.std.proofs.Common.{◌≡◌}
-use Rattle.std.specs.Prelude.{ℕ, ◌≤◌, ◌==◌, ◌||◌, true, List, None, Result, Ok}
+use Rattle.std.specs.Prelude.{ℕ, ◌≤◌, ◌==◌, ◌||◌, true, None, Result, Ok}
 use Rattle.m36_desc.specs.Fields.{SdwFields}
 use Rattle.m36_model.specs.Registers.{RegsFields}
 use Rattle.m36_model.specs.Act.{RequestKind, Fetch, Indirect, Odd, Read, Write, Transfer, Call, Locate, Request, Answer}
 use Rattle.m36_model.specs.Store.{Spot, Store, Mid, denied}
-use Rattle.m36_model.specs.StoreLaw.{Each, IsWord, Lawful}
+use Rattle.m36_model.specs.StoreLaw.{Each, IsWord}
 use Rattle.m36_model.specs.declared.outcome.Refusal.{Refusal}
 use Rattle.m36_model.specs.declared.place.Kind.{Kind}
 use Rattle.m36_model.specs.declared.place.Kind.TheVariants as reference

@@ -1,12 +1,11 @@
 -- The audit conditions are by the tables alone.
-use Rattle.std.proofs.Common.{◌≡◌, refl, sym, ◌∙◌, ap, subst}
-use Rattle.std.specs.Prelude.{ℕ, ◌+◌, ◌*◌, ◌<◌, Bool, true, false, List, length, Result, Ok, Err}
+use Rattle.std.proofs.Common.{◌≡◌, sym, ◌∙◌, ap, subst}
+use Rattle.std.specs.Prelude.{ℕ, ◌+◌, ◌*◌, ◌<◌, List, Ok}
 use Rattle.m36_desc.specs.Fields.{SdwFields, DbrFields}
-use Rattle.m36_model.specs.Store.{Spot, Core_word, Tables}
-use Rattle.m36_model.specs.Place.{core_sdw, core_spot}
+use Rattle.m36_model.specs.Store.{Core_word, Tables}
+use Rattle.m36_model.specs.Place.{core_sdw}
 use Rattle.m36_model.specs.Core.{core_store, core_tables}
-use Rattle.m36_model.specs.Audit.{Table, Sdws, Directory, Pages, IsOf, IsSegmentWord, IsOutOfOrder, IsInTwoTables, IsTableAndSegment, IsInTwoSegments, IsCallable, IsNoGate, is_stack_of, HasNoStack, IsAudited}
-use Rattle.m36_model.specs.declared.outcome.Refusal.{Refusal}
+use Rattle.m36_model.specs.Audit.{Table, Sdws, Directory, Pages, IsOf, IsSegmentWord, IsCallable, is_stack_of, IsAudited}
 use Rattle.m36_isol.proofs.Places.{place_is, place_parts}
 use Rattle.m36_isol.proofs.CoreTables.{Matches, matches, same_sdw_place, same_sdw, same_spot_of}
 use Rattle.m36_isol.proofs.CoreLaw.{placed_within}

@@ -1,10 +1,10 @@
 -- An address chain that begins in ring r or above stays there.
 use Rattle.std.proofs.Common.{◌≡◌, refl, sym, subst, arith}
-use Rattle.std.specs.Prelude.{ℕ, zero, suc, ◌+◌, ◌*◌, ◌/◌, ◌%◌, ◌^◌, ◌≤◌, max, Bool, true, false, ◌||◌, if◌then◌else◌, Option, Some, None, Result, Ok, Err, slice_index, ◌==◌}
+use Rattle.std.specs.Prelude.{ℕ, zero, suc, ◌+◌, ◌*◌, ◌/◌, ◌%◌, ◌^◌, ◌≤◌, max, Bool, true, false, ◌||◌, if◌then◌else◌, Option, Some, None, Result, slice_index, ◌==◌}
 use Rattle.m36_desc.specs.Fields.{SdwFields}
 use Rattle.m36_model.specs.Fields.{FinalFields}
 use Rattle.m36_model.specs.Registers.{RegsFields}
-use Rattle.m36_model.specs.Act.{Request, Answer, Indirect, Odd, Write}
+use Rattle.m36_model.specs.Act.{Answer, Indirect, Odd}
 use Rattle.m36_model.specs.Modification.{Point, Move, Ends, Fails, Reads, Counts, ends_at, ends_direct, direct_upper, direct_lower, is_direct, move_of_point, move_register, move_register_then_indirect, move_indirect_then_tally, move_indirect_then_register, index_of}
 use Rattle.m36_model.specs.Tally.{indirect_only}
 use Rattle.m36_model.specs.Chain.{ChainEnd, Formation, indirect, Found, Its, Itp, Plain, found, after_word, after_tally, chain_by, chain_exhausted, chain}

@@ -1,9 +1,9 @@
 -- The content of a segment is, by the tables, the words at its spots.
-use Rattle.std.proofs.Common.{◌≡◌, refl, sym, ◌∙◌, ap, subst}
-use Rattle.std.specs.Prelude.{ℕ, Bool, true, false, ◌&&◌, if◌then◌else◌, List, [], ◌∷◌, Option, Some, None, Result, Ok, Err}
+use Rattle.std.proofs.Common.{◌≡◌, refl, sym, ◌∙◌, ap}
+use Rattle.std.specs.Prelude.{ℕ, Bool, true, false, ◌&&◌, if◌then◌else◌, List, [], ◌∷◌, Some, Result, Ok, Err}
 use Rattle.m36_desc.specs.Fields.{SdwFields, DbrFields}
 use Rattle.m36_desc.specs.Access.{in_order}
-use Rattle.m36_model.specs.Store.{Spot, Change, Store, within, placed, place, place_by, place_ordered, place_within, written}
+use Rattle.m36_model.specs.Store.{Spot, Change, Store, within, place, place_by, place_ordered, place_within, written}
 use Rattle.m36_model.specs.Sight.{content_in, word_of}
 use Rattle.m36_model.specs.StoreLaw.{Each, same_spot, overlay, IsWord, Lawful}
 use Rattle.m36_model.specs.declared.outcome.Refusal.{Refusal}

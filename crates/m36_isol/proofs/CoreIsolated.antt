@@ -1,29 +1,22 @@
 -- The laws over the list of core words.
-use Rattle.std.proofs.Common.{◌≡◌, refl, sym, ◌∙◌, ap, subst, inl, inr, ⊎_elim, arith}
-use Rattle.std.specs.Prelude.{ℕ, ◌+◌, ◌*◌, ◌<◌, ◌≤◌, ◌≢◌, Bool, true, false, List, [], ◌∷◌, slice_index, slice_set, Result, Ok, Err}
-use Rattle.std.proofs.lemmas.List.{get_or-set_other}
+use Rattle.std.proofs.Common.{◌≡◌, refl, sym, ◌∙◌, ap, subst}
+use Rattle.std.specs.Prelude.{ℕ, ◌+◌, ◌*◌, ◌<◌, Bool, true, false, List, Ok}
 use Rattle.m36_desc.specs.Fields.{SdwFields, DbrFields}
-use Rattle.m36_model.specs.Registers.{RegsFields}
-use Rattle.m36_model.specs.Act.{Part}
-use Rattle.m36_model.specs.Store.{Spot, Core_word, Segment_word, Change, Store, State, Tables}
+use Rattle.m36_model.specs.Store.{State}
 use Rattle.m36_model.specs.Place.{core_sdw}
-use Rattle.m36_model.specs.Core.{core_store, core_put, put_one, core_tables}
-use Rattle.m36_model.specs.Sight.{tables_of, content}
-use Rattle.m36_model.specs.Step.{record_of, state_after}
+use Rattle.m36_model.specs.Core.{core_store, core_tables}
+use Rattle.m36_model.specs.Sight.{tables_of}
+use Rattle.m36_model.specs.Step.{state_after}
 use Rattle.m36_model.specs.Audit.{IsAudited, is_stack_of}
-use Rattle.m36_model.specs.StoreLaw.{Each, IsGuarded}
-use Rattle.m36_model.specs.CoreLaw.{HasTables, IsSegmentSpot, IsMarkedFrom, IsButMarked}
-use Rattle.m36_model.specs.Isolation.{HasPointers, AreIsolated, Isolated}
-use Rattle.m36_model.specs.Laws.{IsAbove, SightLaw, ReachLaw, FallLaw, AgreeLaw, MarksAlterNothing, IsReachable, CoreReachLaw, ExecutesLdbr, KeptLaw}
-use Rattle.m36_isol.proofs.Alike.{IsReached}
-use Rattle.m36_isol.proofs.Spots.{each_map}
-use Rattle.m36_isol.proofs.Places.{place_is}
+use Rattle.m36_model.specs.StoreLaw.{IsGuarded}
+use Rattle.m36_model.specs.CoreLaw.{HasTables, IsSegmentSpot, IsMarkedFrom}
+use Rattle.m36_model.specs.Isolation.{HasPointers, Isolated}
+use Rattle.m36_model.specs.Laws.{IsAbove, SightLaw, ReachLaw, FallLaw, AgreeLaw, MarksLaw}
 use Rattle.m36_isol.proofs.CoreTables.{descriptor_of}
 use Rattle.m36_isol.proofs.CoreLaw.{lawful}
-use Rattle.m36_isol.proofs.OneStep.{one_run, reached_writes}
-use Rattle.m36_isol.proofs.StepLaws.{Backed, sight_law, reach_law, fall_law, agree_law, marks_law, pointers_stay, tables_by}
-use Rattle.m36_isol.proofs.AuditedBy.{same_dbr, audited_by}
-use Rattle.m36_isol.proofs.Windows.{windows_kept, AreKept}
+use Rattle.m36_isol.proofs.StepLaws.{Backed, sight_law, reach_law, fall_law, agree_law, marks_law, pointers_stay}
+use Rattle.m36_isol.proofs.AuditedBy.{same_dbr}
+use Rattle.m36_isol.proofs.Windows.{windows_kept}
 
 not_true : (b : Bool) → (b ≡ true → ⊥) → b ≡ false
 not_true true h = absurd (h refl)
@@ -50,6 +43,9 @@ module _ (core : List ℕ) (dbr : DbrFields) (audited : IsAudited core dbr) wher
         missing = ap (is_stack_of d.r2) (descriptor (8 * dbr.stack + d.r2)) ∙ e;
       }))
 
+  pub guarded_by : IsGuarded dbr (lawful core dbr audited).sdws
+  guarded_by = record { gates = gate_by; stacks = stack_by }
+
   backed_here : Backed core_store (core_tables core dbr) dbr
   backed_here =
       record {
@@ -57,7 +53,7 @@ module _ (core : List ℕ) (dbr : DbrFields) (audited : IsAudited core dbr) wher
         Lies = IsSegmentSpot core dbr;
         Near = IsMarkedFrom core dbr;
         law = lawful core dbr audited;
-        guarded = record { gates = gate_by; stacks = stack_by };
+        guarded = guarded_by;
         has = λ s h. h;
         tables = λ s h. h;
       }
@@ -93,3 +89,6 @@ module _ (core : List ℕ) (dbr : DbrFields) (audited : IsAudited core dbr) wher
       let T = core_tables core dbr in
       let k = windows_kept core_store T r some core_reach core_fall core_agree (λ s t h l seg. by_tables s h seg ∙ sym (by_tables t l seg)) (pointers_after r) n a b a b tables tables_other (record { pointers = pointers; tables = tables; low = low }) agree (λ seg w none. refl) (λ seg w none. refl) in
       record { told = k.told; agree = k.agree; kept = k.kept; kept_other = k.kept_other }
+
+  pub core_marks : MarksLaw core_store (core_tables core dbr)
+  core_marks = marks_law core_store (core_tables core dbr) backed

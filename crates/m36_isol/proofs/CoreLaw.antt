@@ -1,21 +1,21 @@
 -- The list of core words as a store owes what the laws want, where the audit conditions hold of its tables.
-use Rattle.std.proofs.Common.{◌≡◌, refl, sym, ◌∙◌, ap, subst, inl, inr, ⊎_elim, arith, length-set, eqb-true}
-use Rattle.std.specs.Prelude.{ℕ, zero, suc, ◌+◌, ◌<◌, ◌≢◌, Bool, true, false, ◌&&◌, ◌==◌, if◌then◌else◌, List, [], ◌∷◌, length, slice_get, slice_index, slice_set, Option, Some, None, option_map, Result, Ok, Err}
+use Rattle.std.proofs.Common.{◌≡◌, refl, sym, ◌∙◌, ap, subst, inl, inr, ⊎_elim, length-set, eqb-true}
+use Rattle.std.specs.Prelude.{ℕ, ◌<◌, Bool, true, false, ◌&&◌, ◌==◌, if◌then◌else◌, List, [], ◌∷◌, length, slice_index, slice_set, Some, Result, Ok}
 use Rattle.std.proofs.lemmas.Bool.{eqb-false}
 use Rattle.std.proofs.lemmas.List.{get_or-set_same, get_or-set_other}
 use Rattle.m36_desc.specs.Fields.{SdwFields, DbrFields}
 use Rattle.m36_desc.specs.Access.{in_order}
 use Rattle.m36_model.specs.Act.{RequestKind, Part}
-use Rattle.m36_model.specs.Store.{Spot, Core_word, Segment_word, Change, Store, within, placed, written, place}
+use Rattle.m36_model.specs.Store.{Spot, Core_word, Segment_word, Change, within, placed, written}
 use Rattle.m36_model.specs.Sight.{content_in}
 use Rattle.m36_model.specs.Place.{core_sdw, core_spot, core_marked, marks}
 use Rattle.m36_model.specs.Core.{core_store, core_word, put_one, core_put}
-use Rattle.m36_model.specs.Audit.{IsSdwWord, Table, Sdws, Directory, Pages, IsAudited, IsSegmentWord}
+use Rattle.m36_model.specs.Audit.{Sdws, Directory, Pages, IsAudited, IsSegmentWord}
 use Rattle.m36_model.specs.StoreLaw.{Each, same_spot, overlay, IsWord, IsSpot, Lawful}
 use Rattle.m36_model.specs.CoreLaw.{HasTables, IsSegmentSpot, IsPtwWord, IsMarkedFrom}
 use Rattle.m36_model.specs.declared.outcome.Refusal.{Refusal}
 use Rattle.m36_isol.proofs.Spots.{each_map}
-use Rattle.m36_isol.proofs.Places.{IsPlaced, place_is, place_parts, content_placed, IsInside, core_spot_inside}
+use Rattle.m36_isol.proofs.Places.{place_is, place_parts, content_placed, core_spot_inside}
 use Rattle.m36_isol.proofs.CoreTables.{Matches, matches, has_tables, same_sdw, same_spot_of}
 use Rattle.m36_isol.proofs.CoreMarks.{IsHarmless, set_matches, marks_match, marks_near, marks_are_ptws, marked_self, marked_then}
 

@@ -1,15 +1,15 @@
 -- Marks and puts in core: the tables stay but for marks, and so do all words but those that are put.
-use Rattle.std.proofs.Common.{◌≡◌, refl, sym, ◌∙◌, ap, subst, inl, inr, ⊎_elim, arith, length-set, eqb-true, ne_eqb}
-use Rattle.std.specs.Prelude.{ℕ, zero, suc, ◌+◌, ◌*◌, ◌/◌, ◌%◌, ◌<◌, ◌≤◌, ◌≢◌, ◌⊎◌, Bool, true, false, ◌&&◌, ◌==◌, if◌then◌else◌, List, [], ◌∷◌, ◌++◌, length, slice_get, slice_index, slice_set, Option, Some, None, option_map, Result, Ok, Err}
+use Rattle.std.proofs.Common.{◌≡◌, refl, sym, ◌∙◌, ap, subst, inl, inr, arith, length-set, eqb-true}
+use Rattle.std.specs.Prelude.{ℕ, ◌/◌, ◌<◌, ◌≤◌, Bool, true, false, ◌==◌, if◌then◌else◌, List, [], ◌∷◌, length, slice_get, slice_index, slice_set, Option, Some, None, option_map, Result, Ok}
 use Rattle.std.proofs.lemmas.Bool.{eqb-false, leb-true}
 use Rattle.std.proofs.lemmas.List.{get_or-set_same, get_or-set_other}
 use Rattle.m36_isol.proofs.Spots.{each_append}
 use Rattle.m36_desc.specs.Fields.{SdwFields, DbrFields}
-use Rattle.m36_model.specs.Act.{RequestKind, Part}
-use Rattle.m36_model.specs.Store.{Spot, Core_word, Segment_word, Change, within, placed, written}
-use Rattle.m36_model.specs.Place.{with_used, with_modified, marked_word, Mark, directory_marks, page_marks, is_write, marks, with_mark, with_marks, core_marked, core_sdw, sdw_place, sdw_place_by, sdw_at, ptw_at, directory_at, page_at, in_bounds}
-use Rattle.m36_model.specs.Core.{unmarked, put_one, core_put}
-use Rattle.m36_model.specs.Audit.{IsSdwWord, IsDirectoryWord, IsPageWord, Table, Sdws, Directory, Pages, IsOf, IsInTwoTables, IsTableAndSegment, IsSegmentWord, IsAudited}
+use Rattle.m36_model.specs.Act.{RequestKind}
+use Rattle.m36_model.specs.Store.{within}
+use Rattle.m36_model.specs.Place.{with_used, with_modified, marked_word, Mark, directory_marks, page_marks, is_write, marks, with_mark, with_marks, core_sdw, sdw_place_by, sdw_at, ptw_at, directory_at, page_at, in_bounds}
+use Rattle.m36_model.specs.Core.{unmarked}
+use Rattle.m36_model.specs.Audit.{IsSdwWord, Sdws, Directory, Pages, IsAudited}
 use Rattle.m36_model.specs.StoreLaw.{Each}
 use Rattle.m36_model.specs.CoreLaw.{IsPtwWord, IsMarked, IsButMarked, IsMarkedFrom}
 use Rattle.m36_model.specs.declared.outcome.Refusal.{Refusal}

@@ -1,16 +1,14 @@
 -- Two cores with the same table words, but for marks, have the same descriptors and places; and equal tables are equal
 -- table words.
 use Rattle.std.proofs.Common.{◌≡◌, refl, sym, ◌∙◌, ap, subst, inl, inr, ⊎_elim, arith, eq-or-lt_of_le, le_of_suc-le-suc}
-use Rattle.std.specs.Prelude.{ℕ, zero, suc, ◌+◌, ◌*◌, ◌/◌, ◌%◌, ◌^◌, ◌<◌, ◌≤◌, ◌⊎◌, Bool, true, false, not, ◌&&◌, ◌==◌, if◌then◌else◌, List, [], ◌∷◌, length, slice_get, Option, Some, None, option_map, Result, Ok, Err}
+use Rattle.std.specs.Prelude.{ℕ, zero, suc, ◌+◌, ◌*◌, ◌/◌, ◌%◌, ◌≤◌, ◌⊎◌, Bool, true, false, not, ◌&&◌, ◌==◌, if◌then◌else◌, List, [], ◌∷◌, length, slice_get, Option, Some, None, option_map, Result, Ok, Err}
 use Rattle.std.proofs.lemmas.Bool.{leb-true}
-use Rattle.m36_word.specs.Bits.{is_on}
-use Rattle.m36_word.specs.Field.{field}
 use Rattle.m36_desc.specs.Fields.{SdwFields, PtwFields, DbrFields}
 use Rattle.m36_desc.specs.Descriptors.{ptw_of}
-use Rattle.m36_model.specs.Store.{Spot, Tables, SegTable, within}
-use Rattle.m36_model.specs.Place.{wrapped, in_frame, in_frame_by, ptw_at, directory_at, page_at, in_bounds, sdw_place, sdw_place_by, sdw_at, sdw_words, core_sdw, core_spot, inside_core, word_place_by}
+use Rattle.m36_model.specs.Store.{Tables, SegTable, within}
+use Rattle.m36_model.specs.Place.{wrapped, in_frame, in_frame_by, ptw_at, directory_at, page_at, in_bounds, sdw_place, sdw_place_by, sdw_at, core_sdw, core_spot, word_place_by}
 use Rattle.m36_model.specs.Core.{unmarked, ptw_entry, sdw_entry, sdw_entries, pages_to, page_entries, segment_table, core_tables}
-use Rattle.m36_model.specs.Audit.{IsSdwWord, IsDirectoryWord, IsPageWord}
+use Rattle.m36_model.specs.Audit.{IsSdwWord, IsPageWord}
 use Rattle.m36_model.specs.CoreLaw.{HasTables, IsPtwWord}
 use Rattle.m36_model.specs.declared.outcome.Refusal.{Refusal}
 

@@ -1,18 +1,18 @@
 -- The parts of effects: none but calls, returns, and loads of the DBR touch the ring or the DBR.
-use Rattle.std.proofs.Common.{◌≡◌, refl, sym, ◌∙◌, ap, arith, length-set}
-use Rattle.std.specs.Prelude.{ℕ, zero, suc, ◌+◌, ◌*◌, ◌/◌, ◌%◌, ◌^◌, ◌≤◌, ◌⊎◌, Bool, true, false, not, ◌&&◌, ◌||◌, ◌==◌, if◌then◌else◌, List, [], ◌∷◌, length, slice_set, Result, Ok, Err}
+use Rattle.std.proofs.Common.{◌≡◌, refl, ◌∙◌, length-set}
+use Rattle.std.specs.Prelude.{ℕ, Bool, true, false, List, [], ◌∷◌, length, Result, Ok, Err}
 use Rattle.m36_desc.specs.Fields.{PtrFields}
 use Rattle.m36_model.specs.Fields.{FinalFields}
 use Rattle.m36_model.specs.Registers.{RegsFields}
 use Rattle.m36_model.specs.declared.registers.Ind.{Ind}
 use Rattle.m36_model.specs.Arithmetic.{SumFields}
-use Rattle.m36_model.specs.Results.{OperandFields, EffectFields, Working, A, Q, AQ, X, words, with_value, with_indicators, moved_on, takes, completes, completes_with, completes_or_overflows}
+use Rattle.m36_model.specs.Results.{OperandFields, EffectFields, Working, A, Q, AQ, X, words, with_value, with_indicators, moved_on, takes, completes}
 use Rattle.m36_model.specs.Loads.{load, load_complement, load_and_clear, load_indicators}
 use Rattle.m36_model.specs.Stores.{store, store_zero, store_indicators, store_where_zero, store_where_equal}
 use Rattle.m36_model.specs.Sums.{into_register, into_register_logical, into_operand, add, add_logical, add_with_carry, subtract, subtract_logical, subtract_with_carry, add_one_to_storage, add_to_storage, subtract_stored, negate}
 use Rattle.m36_model.specs.Products.{multiply, divide, divide_by}
-use Rattle.m36_model.specs.Compares.{compare, test, test_word, test_and_clear, compare_masked, test_and, test_and_not}
-use Rattle.m36_model.specs.Logic.{bits_into_register, bits_into_operand, and_register, or_register, xor_register, and_storage, or_storage, xor_storage}
+use Rattle.m36_model.specs.Compares.{compare, test_word, test_and_clear, compare_masked, test_and, test_and_not}
+use Rattle.m36_model.specs.Logic.{and_register, or_register, xor_register, and_storage, or_storage, xor_storage}
 use Rattle.m36_model.specs.ShiftEffects.{shift_left, shift_right, shift_right_logical, rotate_left}
 use Rattle.m36_model.specs.Pointers.{with_pr, load_pointer, load_base_pointer, store_pointer, store_base_pointer, store_pointers, load_pointers, load_packed, load_packed_by, load_address_pair, store_control}
 use Rattle.m36_model.specs.Transfers.{gone_to, transfer_by, transfer_where, transfer_on_overflow_by, transfer_on_overflow, transfer_and_set_index, transfer_and_set_pointer}

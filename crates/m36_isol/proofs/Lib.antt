@@ -19,3 +19,4 @@ pub mod StepLaws
 pub mod Windows
 pub mod AuditedBy
 pub mod CoreIsolated
+pub mod CoreReach

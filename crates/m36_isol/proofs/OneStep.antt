@@ -1,17 +1,13 @@
 -- One step in ring r and above, of one state and of two that agree.
-use Rattle.std.proofs.Common.{◌≡◌, refl, sym, ◌∙◌, ap, subst, inl, inr, ⊎_elim, arith}
-use Rattle.std.specs.Prelude.{ℕ, ◌+◌, ◌*◌, ◌<◌, ◌≤◌, ◌⊎◌, Bool, true, false, ◌&&◌, ◌||◌, ◌==◌, List, [], ◌∷◌, slice_get, Option, Some, None, Result, Ok, Err}
-use Rattle.m36_desc.specs.Fields.{SdwFields, DbrFields}
+use Rattle.std.proofs.Common.{◌≡◌, refl, sym, ◌∙◌, ap, subst}
+use Rattle.std.specs.Prelude.{ℕ, ◌≤◌, Bool, true, false, List, []}
 use Rattle.m36_model.specs.Registers.{RegsFields}
-use Rattle.m36_model.specs.Act.{Request, Answer}
-use Rattle.m36_model.specs.Store.{Spot, Change, Store, Tables, Mid, Ran, State, run, changes, placed}
+use Rattle.m36_model.specs.Store.{Spot, Change, Store, Ran, run, changes}
 use Rattle.m36_model.specs.Sight.{content_in}
 use Rattle.m36_model.specs.Step.{Ending, program, step_record}
 use Rattle.m36_model.specs.StoreLaw.{Each, same_spot, overlay, IsWord, IsSpot, Lawful, IsGuarded}
-use Rattle.m36_model.specs.declared.outcome.Refusal.{Refusal}
-use Rattle.m36_model.specs.declared.record.StepRecord.{StepRecord}
 use Rattle.m36_isol.proofs.Program.{AreRan, run_alike}
-use Rattle.m36_isol.proofs.Alike.{Sees, Reaches, IsReached, IsAllowedReference, May, Known, IsKept, Alike, SeeEqual}
+use Rattle.m36_isol.proofs.Alike.{Sees, Reaches, IsReached, May, Known, Alike, SeeEqual}
 use Rattle.m36_isol.proofs.Spots.{each_change, each_map}
 use Rattle.m36_isol.proofs.Serve.{serve_alike}
 use Rattle.m36_isol.proofs.Programs.{IsEnded, program_meets}

@@ -1,7 +1,7 @@
 -- What an operation does in ring r and above: it stays there but for a gate call.
 use Rattle.std.proofs.Common.{◌≡◌, refl, sym, ◌∙◌, ap, subst, inl, inr, ⊎_elim, arith, le_trans, lt_irrefl, lt_of_lt_of_le, eqb-true, true≢false}
 use Rattle.std.proofs.lemmas.Bool.{cases_lt}
-use Rattle.std.specs.Prelude.{ℕ, zero, suc, ◌+◌, ◌*◌, ◌-◌, ◌%◌, ◌<◌, ◌≤◌, ◌⊎◌, Bool, true, false, ◌&&◌, ◌==◌, nat_lt, if◌then◌else◌, List, [], ◌∷◌, slice_get, Option, Some, None, Result, Ok, Err}
+use Rattle.std.specs.Prelude.{ℕ, ◌+◌, ◌*◌, ◌<◌, ◌≤◌, ◌⊎◌, Bool, true, false, ◌==◌, nat_lt, if◌then◌else◌, List, [], slice_get, Option, Some, None, Result, Ok, Err}
 use Rattle.m36_desc.specs.Fields.{SdwFields}
 use Rattle.m36_desc.specs.Access.{ring_called}
 use Rattle.m36_inst.specs.Operands.{operand_of, takes_direct}
@@ -9,27 +9,26 @@ use Rattle.m36_inst.specs.declared.effect.Effect.{Effect}
 use Rattle.m36_inst.specs.declared.effect.Effect.TheVariants as effect
 use Rattle.m36_inst.specs.declared.operand.Operand.{Operand}
 use Rattle.m36_inst.specs.declared.operand.Operand.TheVariants as kind
-use Rattle.m36_model.specs.Fields.{FinalFields}
 use Rattle.m36_model.specs.Registers.{RegsFields}
-use Rattle.m36_model.specs.Act.{Read, Write, Transfer, Call, Locate, Part, Put, Whole, Left, Right, Request, Answer}
+use Rattle.m36_model.specs.Act.{Part, Put, Whole, Left, Right}
 use Rattle.m36_model.specs.Modification.{ptr}
 use Rattle.m36_model.specs.Chain.{ChainEnd}
 use Rattle.m36_model.specs.Results.{OperandFields, EffectFields}
 use Rattle.m36_model.specs.Effect.{exec, is_absa}
 use Rattle.m36_model.specs.Transfers.{is_taken}
 use Rattle.m36_model.specs.CallReturn.{stack_segment, stack_pointer}
-use Rattle.m36_model.specs.Step.{Performed, Operation, performed, tallied, perform, no_operand, request_at, reading_word, reading_words, writing, changing, addressing, transferring, calling, by_kind, by_direct, direct_word, operate_on, operate}
+use Rattle.m36_model.specs.Step.{Performed, Operation, performed, tallied, no_operand, reading_word, reading_words, writing, changing, addressing, transferring, calling, by_kind, by_direct, operate_on, operate}
 use Rattle.m36_model.specs.StoreLaw.{IsGuarded}
 use Rattle.m36_model.specs.Audit.{is_stack_of}
 use Rattle.m36_model.specs.Isolation.{HasPointers}
-use Rattle.m36_model.specs.Laws.{IsCalled, IsEffect}
+use Rattle.m36_model.specs.Laws.{IsCalled}
 use Rattle.m36_model.specs.declared.outcome.Halt.{Halt}
 use Rattle.m36_model.specs.declared.outcome.Refusal.{Refusal}
 use Rattle.m36_isol.proofs.Program.{Meets, Either}
 use Rattle.m36_isol.proofs.Rights.{MayCall, call_rights}
 use Rattle.m36_isol.proofs.Alike.{Sees, May, Known}
 use Rattle.m36_isol.proofs.Effects.{effect_law}
-use Rattle.m36_isol.proofs.Chains.{InRing, AnyHalt}
+use Rattle.m36_isol.proofs.Chains.{AnyHalt}
 
 module _ (sdws : ℕ → Result SdwFields Refusal) (r : ℕ) (g : RegsFields) where
   -- a gate call, by the descriptors

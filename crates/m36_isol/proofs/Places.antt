@@ -1,10 +1,10 @@
 -- The place of a word, taken apart and put together.
-use Rattle.std.proofs.Common.{◌≡◌, refl, sym, ◌∙◌, ap, subst, arith}
-use Rattle.std.specs.Prelude.{ℕ, ◌<◌, Bool, true, false, ◌&&◌, List, length, nat_lt, Option, Some, None, Result, Ok, Err}
+use Rattle.std.proofs.Common.{◌≡◌, refl, ◌∙◌, ap}
+use Rattle.std.specs.Prelude.{ℕ, ◌<◌, Bool, true, false, ◌&&◌, List, length, nat_lt, Some, Result, Ok, Err}
 use Rattle.std.proofs.lemmas.Bool.{ltb-true}
 use Rattle.m36_desc.specs.Fields.{SdwFields, DbrFields}
 use Rattle.m36_desc.specs.Access.{in_order}
-use Rattle.m36_model.specs.Store.{Spot, Core_word, Segment_word, Store, within, placed, place, place_by, place_ordered, place_within}
+use Rattle.m36_model.specs.Store.{Spot, Core_word, Store, within, placed, place, place_by, place_ordered, place_within}
 use Rattle.m36_model.specs.Place.{core_spot, inside_core, inside_core_by}
 use Rattle.m36_model.specs.Sight.{content_in, word_of}
 use Rattle.m36_model.specs.declared.outcome.Refusal.{Refusal}

@@ -1,8 +1,8 @@
 -- Programs of a step: what holds of every run by the program's structure, and when two runs stay alike.
 use Rattle.std.proofs.Common.{◌≡◌, refl, subst}
-use Rattle.std.specs.Prelude.{Result, Ok, Err, List}
+use Rattle.std.specs.Prelude.{Result, Ok, Err}
 use Rattle.m36_model.specs.Registers.{RegsFields}
-use Rattle.m36_model.specs.Act.{Request, Answer, Act, done, ask, and_then, otherwise, either}
+use Rattle.m36_model.specs.Act.{Request, Answer, Act, done, ask, and_then}
 use Rattle.m36_model.specs.Store.{Store, Mid, Served, Ran, serve, run}
 use Rattle.m36_model.specs.declared.outcome.Fault.{Fault}
 use Rattle.m36_model.specs.declared.outcome.Halt.{Halt}

@@ -1,6 +1,6 @@
 -- The program of a step in ring r and above: it makes no reference below r, and ends there but for a gate call.
-use Rattle.std.proofs.Common.{◌≡◌, refl, sym, ◌∙◌, ap, subst, inl, inr, ⊎_elim, arith, le_trans, eqb-true}
-use Rattle.std.specs.Prelude.{ℕ, ◌+◌, ◌*◌, ◌<◌, ◌≤◌, ◌⊎◌, max, Bool, true, false, not, ◌&&◌, ◌||◌, ◌==◌, if◌then◌else◌, List, [], slice_get, slice_index, Option, Some, None, Result, Ok, Err}
+use Rattle.std.proofs.Common.{◌≡◌, refl, ◌∙◌, ap, inl, inr, ⊎_elim, arith, le_trans, eqb-true}
+use Rattle.std.specs.Prelude.{ℕ, ◌+◌, ◌*◌, ◌<◌, ◌≤◌, ◌⊎◌, Bool, true, false, not, ◌&&◌, ◌==◌, slice_get, slice_index, Option, Some, None, Result, Ok, Err}
 use Rattle.m36_desc.specs.Fields.{SdwFields}
 use Rattle.m36_inst.specs.Fields.{InstFields}
 use Rattle.m36_inst.specs.Instruction.{inst_of}
@@ -11,11 +11,11 @@ use Rattle.m36_inst.specs.declared.operand.Operand.{Operand}
 use Rattle.m36_inst.specs.declared.operand.Operand.TheVariants as kind
 use Rattle.m36_model.specs.Fields.{FinalFields}
 use Rattle.m36_model.specs.Registers.{RegsFields}
-use Rattle.m36_model.specs.Act.{Answer, Act, either}
+use Rattle.m36_model.specs.Act.{Act, either}
 use Rattle.m36_model.specs.Modification.{here, fault_at}
 use Rattle.m36_model.specs.FirstPoint.{first_point, first_point_by}
 use Rattle.m36_model.specs.Chain.{ChainEnd, chain}
-use Rattle.m36_model.specs.Step.{Performed, Ending, outcome_by, halted, completed, operate, operated, indirect_words, addressed, no_address, started, admitted, decode, decoded, fetched, program}
+use Rattle.m36_model.specs.Step.{Performed, Ending, outcome_by, halted, completed, operate, operated, indirect_words, addressed, no_address, started, admitted, decode, decoded, program}
 use Rattle.m36_model.specs.StoreLaw.{IsGuarded}
 use Rattle.m36_model.specs.Audit.{is_stack_of}
 use Rattle.m36_model.specs.Isolation.{HasPointers}
@@ -83,6 +83,7 @@ module _ (sdws : ℕ → Result SdwFields Refusal) (r : ℕ) (g : RegsFields) wh
     where
       ending : Ending
       ending = record { word = Some w; at = Some c.last; after = p.regs; puts = p.puts; outcome = outcome_by (p.overflow && not p.regs.ind.mask) g }
+
       gone : IsFallen sdws r g e c p → IsGone ending
       gone k =
           record {
@@ -104,6 +105,7 @@ module _ (sdws : ℕ → Result SdwFields Refusal) (r : ℕ) (g : RegsFields) wh
             pointer = k.pointer;
             stack = k.stack;
           }
+
       loaded : e ≡ effect.Ldbr → p.overflow ≡ false → LoadsDbr ending
       loaded is overflow =
           record {

@@ -1,23 +1,22 @@
 -- One request to two stores that stand alike: equal replies, and they stand alike again.
-use Rattle.std.proofs.Common.{◌≡◌, refl, sym, ◌∙◌, ap, subst, inl, inr, ⊎_elim, arith}
+use Rattle.std.proofs.Common.{◌≡◌, refl, sym, ◌∙◌, ap, subst, ⊎_elim}
 use Rattle.std.proofs.Math.Nat.{le_trans}
-use Rattle.std.specs.Prelude.{ℕ, zero, suc, ◌+◌, ◌-◌, ◌<◌, ◌≤◌, ◌⊎◌, Bool, true, false, ◌&&◌, ◌||◌, ◌==◌, List, [], ◌∷◌, ◌++◌, map, length, Option, Some, None, Result, Ok, Err}
+use Rattle.std.specs.Prelude.{ℕ, ◌+◌, ◌≤◌, Bool, true, false, ◌||◌, ◌==◌, List, [], ◌∷◌, ◌++◌, map, length, Option, Some, None, Result, Ok, Err}
 use Rattle.std.proofs.lemmas.Bool.{eqb-true}
-use Rattle.m36_desc.specs.Fields.{SdwFields, DbrFields}
+use Rattle.m36_desc.specs.Fields.{SdwFields}
 use Rattle.m36_desc.specs.Access.{in_order}
 use Rattle.m36_model.specs.Fields.{AtFields}
 use Rattle.m36_model.specs.Registers.{RegsFields}
-use Rattle.m36_model.specs.Act.{RequestKind, Fetch, Indirect, Odd, Read, Write, Transfer, Call, Locate, Part, Put, Request, Answer}
-use Rattle.m36_model.specs.Store.{Spot, Change, Store, Mid, Served, within, placed, spots_of, places, bound_only, changes, denied, serve, serve_sdw, serve_rights, serve_places, with_odd, with_reference, located}
+use Rattle.m36_model.specs.Act.{RequestKind, Fetch, Indirect, Odd, Read, Write, Transfer, Call, Locate, Put, Request, Answer}
+use Rattle.m36_model.specs.Store.{Spot, Change, Store, Mid, Served, spots_of, places, changes, denied, serve, serve_sdw, serve_rights, serve_places, with_odd, with_reference, located}
 use Rattle.m36_model.specs.StoreLaw.{Each, IsWord, IsSpot, Lawful, overlay}
 use Rattle.m36_model.specs.declared.outcome.Fault.{Fault}
 use Rattle.m36_model.specs.declared.outcome.Refusal.{Refusal}
 use Rattle.m36_model.specs.declared.place.Reference.{Reference}
-use Rattle.m36_model.specs.declared.place.Kind.TheVariants as reference
 use Rattle.m36_isol.proofs.Program.{AreServed}
 use Rattle.m36_isol.proofs.Rights.{denied_order, fetch_rights, read_rights, indirect_rights, odd_rights, write_rights, MayRead, MayFetch}
 use Rattle.m36_isol.proofs.Alike.{Sees, Reaches, IsReached, IsAllowedReference, May, MayRing, Known, IsKept, Alike, SeeEqual}
-use Rattle.m36_isol.proofs.Spots.{AreWords, Begins, same_spots, are_words, begins, each_append, each_change, each_map}
+use Rattle.m36_isol.proofs.Spots.{AreWords, same_spots, are_words, begins, each_append, each_change, each_map}
 
 or_left : (a b : Bool) → a ≡ true → (a || b) ≡ true
 or_left true b h = refl

@@ -1,13 +1,12 @@
 -- The spots of a reference, and the changes that puts mean.
 use Rattle.std.proofs.Common.{◌≡◌, refl, sym, ◌∙◌, subst, arith}
-use Rattle.std.specs.Prelude.{ℕ, zero, suc, ◌+◌, ◌<◌, ◌≤◌, Bool, true, false, ◌&&◌, List, [], ◌∷◌, ◌++◌, map, slice_get, Option, Some, None, Result, Ok, Err}
+use Rattle.std.specs.Prelude.{ℕ, zero, suc, ◌+◌, ◌≤◌, Bool, true, false, ◌&&◌, List, [], ◌∷◌, ◌++◌, slice_get, Option, Some, None, Result, Ok, Err}
 use Rattle.m36_desc.specs.Fields.{SdwFields, DbrFields}
 use Rattle.m36_desc.specs.Access.{in_order}
-use Rattle.m36_model.specs.Act.{Part, Put}
-use Rattle.m36_model.specs.Store.{Spot, Change, Store, within, placed, placed_one, placed_next, spots_of, changes, change_of}
-use Rattle.m36_model.specs.StoreLaw.{Each, IsWord, IsSpot, Lawful}
+use Rattle.m36_model.specs.Act.{Put}
+use Rattle.m36_model.specs.Store.{Spot, Change, Store, within, placed, placed_one, spots_of, changes, change_of}
+use Rattle.m36_model.specs.StoreLaw.{Each, IsWord, Lawful}
 use Rattle.m36_model.specs.declared.outcome.Refusal.{Refusal}
-use Rattle.m36_isol.proofs.Alike.{Sees, Reaches, IsReached}
 
 both_true : (a b : Bool) → a ≡ true → b ≡ true → (a && b) ≡ true
 both_true true true h k = refl

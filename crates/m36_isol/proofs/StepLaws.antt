@@ -1,24 +1,23 @@
 -- The laws of one step, over any store that owes what the laws want wherever its tables are T.
 use Rattle.std.proofs.Common.{◌≡◌, refl, sym, ◌∙◌, ap, subst, inl, inr, ⊎_elim, arith, eqb-true}
-use Rattle.std.specs.Prelude.{ℕ, ◌+◌, ◌*◌, ◌<◌, ◌≤◌, ◌⊎◌, Bool, true, false, ◌&&◌, ◌||◌, ◌==◌, List, [], ◌∷◌, slice_get, Option, Some, None, Result, Ok, Err}
+use Rattle.std.specs.Prelude.{ℕ, ◌+◌, ◌*◌, ◌<◌, ◌≤◌, ◌⊎◌, Bool, true, false, ◌&&◌, ◌==◌, [], Result, Ok, Err}
 use Rattle.m36_desc.specs.Fields.{SdwFields, DbrFields}
 use Rattle.m36_model.specs.Registers.{RegsFields}
-use Rattle.m36_model.specs.Store.{Spot, Change, Store, Tables, State, run, place}
+use Rattle.m36_model.specs.Store.{Spot, Store, Tables, State, run}
 use Rattle.m36_model.specs.Sight.{InSight, InReach, Unreached, content, content_in, tables_of}
 use Rattle.m36_model.specs.Agree.{Agree}
 use Rattle.m36_model.specs.Audit.{is_stack_of}
 use Rattle.m36_model.specs.Step.{program, record_of, state_after}
-use Rattle.m36_model.specs.StoreLaw.{Each, IsWord, Lawful, IsGuarded}
+use Rattle.m36_model.specs.StoreLaw.{Each, Lawful, IsGuarded}
 use Rattle.m36_model.specs.Isolation.{IsGateCall, HasPointers}
-use Rattle.m36_model.specs.Laws.{IsAbove, MayRefer, IsWithin, SightLaw, ReachLaw, FallLaw, MarksAlterNothing, IsAlike, AgreeLaw}
+use Rattle.m36_model.specs.Laws.{IsAbove, MayRefer, IsWithin, SightLaw, ReachLaw, FallLaw, MarksAlterNothing, MarksLaw, IsAlike, AgreeLaw, ExecutesLdbr}
 use Rattle.m36_model.specs.declared.outcome.Refusal.{Refusal}
 use Rattle.m36_model.specs.declared.place.Kind.{Kind}
 use Rattle.m36_model.specs.declared.place.Kind.TheVariants as reference
-use Rattle.m36_model.specs.declared.place.Reference.{Reference}
 use Rattle.m36_model.specs.declared.record.StepRecord.{StepRecord}
 use Rattle.m36_isol.proofs.Alike.{Sees, Reaches, IsAllowed, IsAllowedReference, SeeEqual}
 use Rattle.m36_isol.proofs.Spots.{each_map}
-use Rattle.m36_isol.proofs.Programs.{IsEnded, IsGone}
+use Rattle.m36_isol.proofs.Programs.{IsGone}
 use Rattle.m36_isol.proofs.Contents.{place_tables}
 use Rattle.m36_isol.proofs.OneStep.{one_run, after_has, unreached, same_record, after_content, see_equal}
 
@@ -92,6 +91,13 @@ module _ {S : Type 0} (o : Store S) (T : Tables) (g : RegsFields) (B : Backed o 
   dbr_stays some =
       let k = one_run o g B.Has B.Lies B.Near B.law B.guarded r low store has_here in
       ⊎_elim (λ same. same) (λ loads. let zero_ring = loads.lowest in absurd (omega arith)) k.post.dbr
+
+  -- the DBR stays but for an LDBR that completes
+  pub dbr_or : ((state_after o here).regs.dbr ≡ g.dbr) ⊎ ExecutesLdbr (record_of o here)
+  unfolding state_after record_of
+  dbr_or =
+      let k = one_run o g B.Has B.Lies B.Near B.law B.guarded r low store has_here in
+      ⊎_elim (λ same. inl same) (λ loads. inr (record { word = loads.word; fetched = loads.fetched; number = loads.number; loads = loads.loads; next = loads.next })) k.post.dbr
 
   pub tables_by : (state_after o here).regs.dbr ≡ g.dbr → tables_of o (state_after o here) ≡ T
   unfolding state_after
@@ -203,10 +209,13 @@ module _ {S : Type 0} (o : Store S) (T : Tables) (g : RegsFields) (B : Backed o 
     where
       stays_one : (state_after o one).regs.dbr ≡ g.dbr
       stays_one = dbr_stays o T g B r low store tables some
+
       stays_two : (state_after o two).regs.dbr ≡ g.dbr
       stays_two = dbr_stays o T g B r low other same some
+
       after_one : tables_of o (state_after o one) ≡ T
       after_one = tables_by o T g B r low store tables stays_one
+
       after_two : tables_of o (state_after o two) ≡ T
       after_two = tables_by o T g B r low other same stays_two
 
@@ -240,7 +249,7 @@ module _ {S : Type 0} (o : Store S) (T : Tables) (backs : (s : State S) → tabl
       marks_alike o T a.regs (backs a tables) 0 (omega arith) a.store other tables same (λ seg w sees. contents seg w)
 
   -- equal registers, tables but for marks, and content: nothing differs
-  pub marks_law : (a b : State S) → a.regs ≡ b.regs → tables_of o a ≡ T → tables_of o b ≡ T → ((seg w : ℕ) → content o a seg w ≡ content o b seg w) → MarksAlterNothing o a b
+  pub marks_law : MarksLaw o T
   marks_law a b regs tables same contents =
       let p = twin a b regs in
       subst (λ (x : State S). MarksAlterNothing o a x) p (marks_twin a b.store tables (subst (λ (x : State S). tables_of o x ≡ T) (sym p) same) (λ seg w. subst (λ (x : State S). content o a seg w ≡ content o x seg w) (sym p) (contents seg w)))

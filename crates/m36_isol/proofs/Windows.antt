@@ -1,7 +1,6 @@
 -- Whole windows, by induction on the count of steps.
-use Rattle.std.proofs.Common.{◌≡◌, refl, sym, ◌∙◌, ap, subst, arith, leb-true}
-use Rattle.std.specs.Prelude.{ℕ, zero, suc, ◌<◌, ◌≤◌, Bool, true, false, nat_le, List, [], ◌∷◌, map, Result, Ok}
-use Rattle.m36_desc.specs.Fields.{SdwFields}
+use Rattle.std.proofs.Common.{◌≡◌, refl, sym, ◌∙◌, subst, leb-true}
+use Rattle.std.specs.Prelude.{ℕ, zero, suc, ◌<◌, ◌≤◌, Bool, true, false, nat_le, List, [], ◌∷◌, map}
 use Rattle.m36_model.specs.Registers.{RegsFields}
 use Rattle.m36_model.specs.Store.{Store, Tables, State}
 use Rattle.m36_model.specs.Sight.{InReach, Unreached, tables_of}
@@ -9,8 +8,8 @@ use Rattle.m36_model.specs.Agree.{Agree}
 use Rattle.m36_model.specs.Step.{record_of, state_after}
 use Rattle.m36_model.specs.Run.{Visited, visit, is_next, only_if, visits, cut_below, window}
 use Rattle.m36_model.specs.StoreLaw.{Each}
-use Rattle.m36_model.specs.Isolation.{IsGateCall, EachTwo, IsKept, AreIsolated, HasPointers, Isolated}
-use Rattle.m36_model.specs.Laws.{IsAbove, IsAlike, ReachLaw, FallLaw, AgreeLaw}
+use Rattle.m36_model.specs.Isolation.{EachTwo, IsKept, HasPointers}
+use Rattle.m36_model.specs.Laws.{IsAbove, ReachLaw, FallLaw, AgreeLaw}
 use Rattle.m36_model.specs.declared.record.StepRecord.{StepRecord}
 
 pub after_is : {S : Type 0} (o : Store S) (s : State S) → (record_of o s).after ≡ (state_after o s).regs

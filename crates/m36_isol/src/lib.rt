@@ -11,11 +11,12 @@
 
 ghost use Rattle.std.specs.Prelude.{ℕ, List};
 ghost use Rattle.m36_desc.specs.Fields.{DbrFields};
-ghost use Rattle.m36_model.specs.Core.{core_store};
+ghost use Rattle.m36_model.specs.Core.{core_store, core_tables};
 ghost use Rattle.m36_model.specs.Audit.{IsAudited};
 ghost use Rattle.m36_model.specs.StoreLaw.{Lawful};
 ghost use Rattle.m36_model.specs.CoreLaw.{HasTables, IsSegmentSpot, IsMarkedFrom};
-ghost use Rattle.m36_model.specs.Laws.{EffectLaw};
+ghost use Rattle.m36_model.specs.Isolation.{Isolated};
+ghost use Rattle.m36_model.specs.Laws.{EffectLaw, SightLaw, ReachLaw, CoreReachLaw, FallLaw, MarksLaw, AgreeLaw, KeptLaw};
 
 /// Core as a store owes what the laws want, where the audit conditions hold: descriptors and places are by the tables
 /// but for marks; a word at the place of a segment word is its content; marks and words written at segment words change
@@ -28,4 +29,41 @@ pub fn law_store()
 /// kind writes.
 pub fn law_effect()
     ensures { EffectLaw }
+{}
+
+/// In ring r and above a step refers to segments in sight of r alone, and writes to segments in reach of r alone.
+pub fn law_sight()
+    ensures { (core : List ℕ) (dbr : DbrFields) → IsAudited core dbr → SightLaw core_store (core_tables core dbr) }
+{}
+
+/// In ring r and above a step changes no content outside the reach of r, and of core words those in reach alone, but
+/// for marks on page table words.
+pub fn law_reach()
+    ensures content { (core : List ℕ) (dbr : DbrFields) → IsAudited core dbr → ReachLaw core_store (core_tables core dbr) }
+    ensures words { (core : List ℕ) (dbr : DbrFields) → IsAudited core dbr → CoreReachLaw core dbr }
+{}
+
+/// From ring r and above a step ends below r by a gate call alone.
+pub fn law_fall()
+    ensures { (core : List ℕ) (dbr : DbrFields) → IsAudited core dbr → FallLaw core_store (core_tables core dbr) }
+{}
+
+/// Marks alter no descriptor, no place and no record.
+pub fn law_marks()
+    ensures { (core : List ℕ) (dbr : DbrFields) → IsAudited core dbr → MarksLaw core_store (core_tables core dbr) }
+{}
+
+/// In ring r and above one step of two states that agree tells the same, and leaves them agreeing.
+pub fn law_agree()
+    ensures { (core : List ℕ) (dbr : DbrFields) → IsAudited core dbr → AgreeLaw core_store (core_tables core dbr) }
+{}
+
+/// Where the audit conditions hold, the tables isolate each ring.
+pub fn law_window()
+    ensures { (core : List ℕ) (dbr : DbrFields) → IsAudited core dbr → Isolated core_store (core_tables core dbr) }
+{}
+
+/// A step in any ring that executes no LDBR keeps the audit conditions.
+pub fn law_kept()
+    ensures { KeptLaw }
 {}

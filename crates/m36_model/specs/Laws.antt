@@ -105,6 +105,10 @@ pub record MarksAlterNothing {S : Type 0} (o : Store S) (a b : State S) : Type 0
   pub places : (seg w : ℕ) → place o a.store a.regs.dbr seg w ≡ place o b.store b.regs.dbr seg w
   pub told : record_of o a ≡ record_of o b
 
+abbrev pub MarksLaw : {S : Type 0} → Store S → Tables → Type 0
+MarksLaw {S} o T =
+    (a b : State S) → a.regs ≡ b.regs → tables_of o a ≡ T → tables_of o b ≡ T → ((seg w : ℕ) → content o a seg w ≡ content o b seg w) → MarksAlterNothing o a b
+
 -- one step of two agreeing states: equal records, and they agree again
 pub record IsAlike {S : Type 0} (o : Store S) (T : Tables) (r : ℕ) (a b : State S) : Type 0 where
   pub told : record_of o a ≡ record_of o b
