@@ -31,7 +31,7 @@ use Rattle.m36_model.specs.WorkedAddresses.{LoadReadsItsWord, StopFollows, LastW
 use Rattle.m36_model.specs.WorkedCalls.{CallThroughAGate, CallPastTheLimiter, CallFromAboveTheBracket, OutwardCall, CallWithRaisedRing, CallWithinTheRing, ReturnTakesThePairsRing, ReturnTakesTheGreatestRing, PackedPointerWithAWrongBitNumber, OneTakesTheLock}
 use Rattle.m36_model.specs.WorkedEffects.{ComparisonIsSigned, OverflowStoresAndFaults, MaskedOverflowGoesOn, LeastNumberHasNoNegative, SquareOfTheLeastNumber, QuotientIsCutTowardZero, DivisionByZeroIsRefused, LeftShiftSetsCarry, RightShiftCopiesTheSign, RotationComesRound, TransferSetsTheIndex}
 
-everything : Unit {0}
+unfoldable pub everything : Unit {0}
 unfolding signed entry_at and_then modulo sum_value sum_carry sum_overflow sum difference_value difference_carry difference_overflow difference negation is_less comparison product quotient remainder is_divide_check bits_of number_from each_bit bitwise and_of or_of xor_of and_not_of call return_to found chain compare test_word test_and_clear compare_masked test_and test_and_not core_put exec first_point load load_complement load_and_clear indicators_of load_indicators and_register or_register xor_register and_storage or_storage xor_storage index_of move_of_point core_sdw core_spot with_used with_modified marks with_marks core_marked with_pr load_pointer load_base_pointer store_pointer store_base_pointer store_pointers load_pointers load_packed load_address_pair store_control load_dbr store_dbr load_absolute_address multiply divide with_value zn zn_carry zn_overflow zn_carry_overflow compared moved_on shift_left shift_right shift_right_logical rotate_left left_shift first_bits left_shift_carry copying_right_shift plain_right_shift rotation tallied operate decode program record_of state_after denied spots_of places changes serve run store store_zero indicators_half store_indicators store_where_zero store_where_equal into_register into_register_logical into_operand add add_logical add_with_carry sign_extended subtract subtract_logical subtract_with_carry add_one_to_storage add_to_storage subtract_stored negate tally is_taken gone_to transfer_where transfer_on_overflow transfer_and_set_index transfer_and_set_pointer
 everything = tt
 

@@ -39,3 +39,6 @@ pub mod CoreLaw
 pub mod Run
 pub mod Isolation
 pub mod Laws
+pub mod Completed
+pub mod OperandWords
+pub mod StepCases

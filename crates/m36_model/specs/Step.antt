@@ -28,7 +28,7 @@ use Rattle.m36_model.specs.Chain.{ChainEnd, chain}
 use Rattle.m36_model.specs.Results.{OperandFields, EffectFields}
 use Rattle.m36_model.specs.Transfers.{is_taken}
 use Rattle.m36_model.specs.Effect.{exec, is_absa}
-use Rattle.m36_model.specs.Store.{Store, Ran, State, run, changes}
+use Rattle.m36_model.specs.Store.{Store, Mid, Ran, State, run, changes}
 use Rattle.m36_model.specs.declared.outcome.Fault.{Fault}
 use Rattle.m36_model.specs.declared.outcome.Stop.TheVariants as stop
 use Rattle.m36_model.specs.declared.outcome.Halt.{Halt}
@@ -234,9 +234,12 @@ fetched g (Err f) = halted g None None (halt.Fault f)
 fetched g (Ok a) =
     decoded g (slice_index a.words 0) (a.sdw.privileged && (g.ppr.prr == 0)) (decode (slice_index a.words 0))
 
+abbrev pub fetch_request : RegsFields → Request
+fetch_request g = record { kind = Fetch; at = here g; count = 1; pending = [] }
+
 -- the program of one step, from the registers alone
 unfoldable pub program : RegsFields → Act Ending
-program g = ask (record { kind = Fetch; at = here g; count = 1; pending = [] }) (fetched g)
+program g = ask (fetch_request g) (fetched g)
 
 -- a step over a store: the record of it, and the state after it
 abbrev pub step_record : {S : Type 0} → RegsFields → Ran Ending S → StepRecord
@@ -254,8 +257,12 @@ step_record g t =
 abbrev pub stepped : {S : Type 0} → Store S → Ran Ending S → State S
 stepped o t = record { regs = t.value.after; store = o.put t.mid.store (changes t.mid.claims t.value.puts) }
 
+-- where a step begins: it has claimed nothing, and completed no reference
+abbrev pub start : {S : Type 0} → State S → Mid S
+start s = record { store = s.store; claims = []; refs = [] }
+
 abbrev pub ran : {S : Type 0} → Store S → State S → Ran Ending S
-ran o s = run o s.regs (program s.regs) (record { store = s.store; claims = []; refs = [] })
+ran o s = run o s.regs (program s.regs) (start s)
 
 unfoldable pub record_of : {S : Type 0} → Store S → State S → StepRecord
 record_of o s = step_record s.regs (ran o s)

@@ -1,0 +1,40 @@
+-- The references that a run completes, and what becomes of the store by them: the marks of each, in order, and no other
+-- change. Words are written only after the run.
+use Rattle.std.specs.Prelude.{ℕ, ◌≡◌, if◌then◌else◌, List, [], ◌∷◌, ◌++◌, Result, Ok, Err}
+use Rattle.m36_desc.specs.Fields.{DbrFields}
+use Rattle.m36_model.specs.Registers.{RegsFields}
+use Rattle.m36_model.specs.Act.{Request, Answer, Act, done, ask}
+use Rattle.m36_model.specs.Store.{Store, Mid, State, serve, touches, with_reference}
+use Rattle.m36_model.specs.Core.{core_store}
+use Rattle.m36_model.specs.Step.{program, start, ran}
+use Rattle.m36_model.specs.declared.outcome.Fault.{Fault}
+use Rattle.m36_model.specs.declared.place.Reference.{Reference}
+
+-- a request that is answered is completed; targets of transfers and calls, and the place that ABSA asks for, set no marks
+abbrev pub completed_by : Request → Result Answer Fault → List Request
+completed_by q (Ok a) = if touches q.kind then q ∷ [] else []
+completed_by q (Err f) = []
+
+unfoldable pub completed : {A S : Type 0} → Store S → RegsFields → Act A → Mid S → List Request
+completed o g (done a) m = []
+completed o g (ask q next) m =
+    let t = serve o g m q in completed_by q t.reply ++ completed o g (next t.reply) t.mid
+
+-- the store with the marks of requests, one after another
+unfoldable pub with_marks_of : {S : Type 0} → Store S → DbrFields → S → List Request → S
+with_marks_of o dbr s [] = s
+with_marks_of o dbr s (q ∷ more) = with_marks_of o dbr (o.marked s dbr q.kind q.at.seg q.at.word) more
+
+-- the references of requests, after earlier ones; the odd word of an indirect pair joins its even word
+unfoldable pub references_of : List Reference → List Request → List Reference
+references_of refs [] = refs
+references_of refs (q ∷ more) = references_of (with_reference q.kind q refs) more
+
+-- a run from where a step begins sets exactly the marks of the requests that it completes, and records these
+pub record IsMarked {S : Type 0} (o : Store S) (s : State S) : Type 0 where
+  pub marks : (ran o s).mid.store ≡ with_marks_of o s.regs.dbr s.store (completed o s.regs (program s.regs) (start s))
+  pub references : (ran o s).mid.refs ≡ references_of [] (completed o s.regs (program s.regs) (start s))
+
+-- In every step exactly the marks of the completed references are set before words are written.
+abbrev pub MarksOfCompletedReferences : Type 0
+MarksOfCompletedReferences = (s : State (List ℕ)) → IsMarked core_store s
