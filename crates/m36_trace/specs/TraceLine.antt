@@ -1,0 +1,78 @@
+-- The trace line of a step: its fields in order, parted by one space.
+use Rattle.std.specs.Prelude.{ℕ, Bool, List, [], ◌∷◌, ◌++◌, Option, Some, None, codes, if◌then◌else◌, ◌==◌}
+use Rattle.std.specs.List.{join_with_byte}
+use Rattle.std.specs.Fmt.{decimal}
+use Rattle.m36_text.specs.Numbers.{octal}
+use Rattle.m36_model.specs.Fields.{PprFields, AtFields, FinalFields}
+use Rattle.m36_model.specs.declared.registers.Ind.{Ind}
+use Rattle.m36_model.specs.declared.outcome.Fault.{Fault}
+use Rattle.m36_model.specs.declared.outcome.Stop.{Stop}
+use Rattle.m36_model.specs.declared.outcome.Stop.TheVariants.{Dis, Operation, Tag, Unbuilt}
+use Rattle.m36_model.specs.declared.outcome.Outcome.{Outcome}
+use Rattle.m36_model.specs.declared.outcome.Outcome.TheVariants.{Next, Faulted, Stopped}
+use Rattle.m36_model.specs.declared.record.StepRecord.{StepRecord}
+
+-- a segment and a word of it
+abbrev pub word_of_segment : ℕ → ℕ → List ℕ
+word_of_segment seg word = octal 5 seg ++ codes "|" ++ octal 6 word
+
+-- the instruction's word, or a dash where the fetch failed
+abbrev pub instruction_text : Option ℕ → List ℕ
+instruction_text (Some word) = octal 12 word
+instruction_text None = codes "-"
+
+-- the ring and the address
+abbrev pub address_text : AtFields → List ℕ
+address_text at = octal 1 at.ring ++ codes ":" ++ word_of_segment at.seg at.word
+
+-- an address, or the operand that the address itself is
+abbrev pub operand_text : AtFields → Option ℕ → List ℕ
+operand_text at (Some word) = codes "=" ++ octal 12 word
+operand_text at None = address_text at
+
+-- the final address, or a dash where none was formed
+abbrev pub final_text : Option FinalFields → List ℕ
+final_text (Some final) = operand_text final.at final.direct
+final_text None = codes "-"
+
+-- an indicator's letter where it is on, and a point where it is off
+abbrev pub letter : List ℕ → Bool → List ℕ
+letter name on = if on then name else codes "."
+
+-- zero, negative, carry, overflow, overflow mask, tally runout
+abbrev pub indicators_text : Ind → List ℕ
+indicators_text i =
+    letter (codes "z") i.zero ++ letter (codes "n") i.negative ++ letter (codes "c") i.carry ++ letter (codes "o") i.overflow ++ letter (codes "m") i.mask ++ letter (codes "t") i.tally
+
+-- a fault by its number, and an access violation by its own number too
+abbrev pub fault_text : Fault → List ℕ
+fault_text f =
+    if f.number == 20 then codes "fault " ++ decimal f.number ++ codes "." ++ decimal f.acv else codes "fault " ++ decimal f.number
+
+abbrev pub stop_text : Stop → List ℕ
+stop_text Dis = codes "dis"
+stop_text Operation = codes "stop operation"
+stop_text Tag = codes "stop tag"
+stop_text Unbuilt = codes "stop unbuilt"
+
+abbrev pub outcome_text : Outcome → List ℕ
+outcome_text Next = codes "next"
+outcome_text (Faulted f) = fault_text f
+outcome_text (Stopped s) = stop_text s
+
+-- the fields of step n; A, Q and the indicators are those after the step
+abbrev pub fields : ℕ → StepRecord → List (List ℕ)
+fields n r =
+    decimal n
+    ∷ octal 1 r.ppr.prr
+    ∷ word_of_segment r.ppr.psr r.ppr.ic
+    ∷ instruction_text r.word
+    ∷ final_text r.at
+    ∷ octal 12 r.after.a
+    ∷ octal 12 r.after.q
+    ∷ indicators_text r.after.ind
+    ∷ outcome_text r.outcome
+    ∷ []
+
+unfoldable pub line_of : ℕ → StepRecord → List ℕ
+line_of n r = join_with_byte 32 (fields n r)

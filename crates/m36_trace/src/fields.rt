@@ -1,0 +1,168 @@
+//! The fields of a trace line, each put at the end of a line that has room for it.
+
+ghost use Rattle.std.specs.Prelude.{◌≡◌, ◌+◌, ◌≤◌, ◌<◌, ◌^◌, ◌++◌, length, codes, if◌then◌else◌};
+ghost use Rattle.std.specs.Fmt.{decimal};
+ghost use Rattle.m36_text.specs.Numbers.{octal};
+ghost use Rattle.m36_trace.specs.TraceLine.{word_of_segment, instruction_text, address_text, operand_text, final_text, indicators_text, fault_text, stop_text, outcome_text};
+
+use arrayvec::ArrayString;
+use m36_model::{At, Fault, Final, Ind, Outcome, Stop};
+use m36_text::{decimal, octal};
+use m36_word::Word;
+
+/// Puts a number of so many octal digits.
+pub fn put_octal(line: &mut ArrayString<160>, v: u64, places: u32)
+    requires places { places ≤ 22 }
+    requires fits { v < 8 ^ places }
+    requires room { length line.old.bytes + places ≤ 160 }
+    ensures text { line.new.bytes ≡ line.old.bytes ++ octal places v }
+    ensures len { length line.new.bytes ≡ length line.old.bytes + places }
+{
+    line.push_str(octal(v, places).as_str());
+}
+
+/// Puts a word, which has twelve octal digits.
+pub fn put_word(line: &mut ArrayString<160>, word: Word)
+    requires room { length line.old.bytes + 12 ≤ 160 }
+    ensures text { line.new.bytes ≡ line.old.bytes ++ octal 12 word }
+    ensures len { length line.new.bytes ≡ length line.old.bytes + 12 }
+{
+    put_octal(line, word.value(), 12);
+}
+
+/// Puts a segment and a word of it.
+pub fn put_place(line: &mut ArrayString<160>, seg: u16, word: u32)
+    requires seg { seg < 2 ^ 15 }
+    requires word { word < 2 ^ 18 }
+    requires room { length line.old.bytes + 12 ≤ 160 }
+    ensures text { line.new.bytes ≡ line.old.bytes ++ word_of_segment seg word }
+    ensures len { length line.new.bytes ≡ length line.old.bytes + 12 }
+{
+    put_octal(line, seg as u64, 5);
+    line.push_str("|");
+    put_octal(line, word as u64, 6);
+}
+
+/// Puts the instruction's word.
+pub fn put_instruction(line: &mut ArrayString<160>, word: Option<Word>)
+    requires room { length line.old.bytes + 12 ≤ 160 }
+    ensures text { line.new.bytes ≡ line.old.bytes ++ instruction_text word }
+    ensures len { length line.new.bytes ≤ length line.old.bytes + 12 }
+{
+    match word {
+        Some(word) => put_word(line, word),
+        None => line.push_str("-"),
+    }
+}
+
+/// Puts an address with its ring.
+pub fn put_address(line: &mut ArrayString<160>, at: At)
+    requires room { length line.old.bytes + 14 ≤ 160 }
+    ensures text { line.new.bytes ≡ line.old.bytes ++ address_text at }
+    ensures len { length line.new.bytes ≡ length line.old.bytes + 14 }
+{
+    put_octal(line, at.ring as u64, 1);
+    line.push_str(":");
+    put_place(line, at.seg, at.word);
+}
+
+/// Puts the final address, or the operand that the address itself is.
+pub fn put_final(line: &mut ArrayString<160>, end: Option<Final>)
+    requires room { length line.old.bytes + 14 ≤ 160 }
+    ensures text { line.new.bytes ≡ line.old.bytes ++ final_text end }
+    ensures len { length line.new.bytes ≤ length line.old.bytes + 14 }
+{
+    match end {
+        Some(end) => put_operand(line, end.at, end.direct),
+        None => line.push_str("-"),
+    }
+}
+
+/// Puts an address, or an operand that an address is.
+pub fn put_operand(line: &mut ArrayString<160>, at: At, direct: Option<Word>)
+    requires room { length line.old.bytes + 14 ≤ 160 }
+    ensures text { line.new.bytes ≡ line.old.bytes ++ operand_text at direct }
+    ensures len { length line.new.bytes ≤ length line.old.bytes + 14 }
+{
+    match direct {
+        Some(word) => {
+            line.push_str("=");
+            put_word(line, word);
+        }
+        None => put_address(line, at),
+    }
+}
+
+/// Puts the letter of an indicator that is on, and a point for one that is off.
+pub fn put_indicator(line: &mut ArrayString<160>, name: &str, on: bool)
+    requires letter { length name.now ≡ 1 }
+    requires room { length line.old.bytes < 160 }
+    ensures text { line.new.bytes ≡ line.old.bytes ++ (if on then name.now else codes ".") }
+    ensures len { length line.new.bytes ≡ length line.old.bytes + 1 }
+{
+    line.push_str(if on { name } else { "." });
+}
+
+/// Puts the six indicators.
+pub fn put_indicators(line: &mut ArrayString<160>, ind: &Ind)
+    requires room { length line.old.bytes + 6 ≤ 160 }
+    ensures text { line.new.bytes ≡ line.old.bytes ++ indicators_text ind.now }
+    ensures len { length line.new.bytes ≡ length line.old.bytes + 6 }
+{
+    put_indicator(line, "z", ind.zero);
+    put_indicator(line, "n", ind.negative);
+    put_indicator(line, "c", ind.carry);
+    put_indicator(line, "o", ind.overflow);
+    put_indicator(line, "m", ind.mask);
+    put_indicator(line, "t", ind.tally);
+}
+
+/// Puts a decimal number below 256.
+#[tactic(auto, using(crate::proofs::Lines::length_decimal_byte))]
+pub fn put_byte(line: &mut ArrayString<160>, v: u8)
+    requires room { length line.old.bytes + 3 ≤ 160 }
+    ensures text { line.new.bytes ≡ line.old.bytes ++ decimal v }
+    ensures len { length line.new.bytes ≤ length line.old.bytes + 3 }
+{
+    line.push_str(decimal(v as u64).as_str());
+}
+
+/// Puts the number of a fault, and for an access violation which one.
+pub fn put_fault(line: &mut ArrayString<160>, fault: Fault)
+    requires room { length line.old.bytes + 13 ≤ 160 }
+    ensures text { line.new.bytes ≡ line.old.bytes ++ fault_text fault }
+    ensures len { length line.new.bytes ≤ length line.old.bytes + 13 }
+{
+    line.push_str("fault ");
+    put_byte(line, fault.number);
+    if fault.number == 20 {
+        line.push_str(".");
+        put_byte(line, fault.acv);
+    }
+}
+
+/// The name of a stop.
+pub fn stop_name(stop: Stop) -> &'static str
+    ensures text { result.now ≡ stop_text stop }
+    ensures len { length result.now ≤ 14 }
+{
+    match stop {
+        Stop::Dis => "dis",
+        Stop::Operation => "stop operation",
+        Stop::Tag => "stop tag",
+        Stop::Unbuilt => "stop unbuilt",
+    }
+}
+
+/// Puts the outcome.
+pub fn put_outcome(line: &mut ArrayString<160>, outcome: Outcome)
+    requires room { length line.old.bytes + 14 ≤ 160 }
+    ensures text { line.new.bytes ≡ line.old.bytes ++ outcome_text outcome }
+    ensures len { length line.new.bytes ≤ length line.old.bytes + 14 }
+{
+    match outcome {
+        Outcome::Next => line.push_str("next"),
+        Outcome::Faulted(fault) => put_fault(line, fault),
+        Outcome::Stopped(stop) => line.push_str(stop_name(stop)),
+    }
+}
