@@ -1,12 +1,6 @@
 -- Lemmas on the texts of a trace line.
-use Rattle.std.proofs.Common.{◌≡◌, ℕ, ◌<◌, ◌≤◌, ◌^◌, List, [], ◌∷◌, ◌++◌, length, arith, append_assoc}
-use Rattle.std.specs.Fmt.{decimal}
+use Rattle.std.proofs.Common.{◌≡◌, ℕ, List, [], ◌∷◌, ◌++◌, append_assoc}
 use Rattle.std.specs.List.{join_with_byte}
-use Rattle.std.proofs.lemmas.Fmt.{length-decimal-le}
-
--- a number of eight bits has at most three decimal digits
-pub length_decimal_byte : (v : ℕ) → v < 2 ^ 8 → length (decimal v) ≤ 3
-length_decimal_byte v h = length-decimal-le 3 v (omega arith) (omega arith) (omega arith)
 
 -- nine fields put one after the other, with a space after each but the last, are those fields joined
 pub put_in_turn :

@@ -1,8 +1,8 @@
 -- The trace line of a step: its fields in order, parted by one space.
 use Rattle.std.specs.Prelude.{ℕ, Bool, List, [], ◌∷◌, ◌++◌, Option, Some, None, codes, if◌then◌else◌, ◌==◌}
 use Rattle.std.specs.List.{join_with_byte}
-use Rattle.std.specs.Fmt.{decimal}
-use Rattle.m36_text.specs.Numbers.{octal}
+
+use Rattle.m36_text.specs.Digits.{octal_text, decimal_text}
 use Rattle.m36_model.specs.Fields.{PprFields, AtFields, FinalFields}
 use Rattle.m36_model.specs.declared.registers.Ind.{Ind}
 use Rattle.m36_model.specs.declared.outcome.Fault.{Fault}
@@ -14,20 +14,20 @@ use Rattle.m36_model.specs.declared.record.StepRecord.{StepRecord}
 
 -- a segment and a word of it
 abbrev pub word_of_segment : ℕ → ℕ → List ℕ
-word_of_segment seg word = octal 5 seg ++ codes "|" ++ octal 6 word
+word_of_segment seg word = octal_text 5 seg ++ codes "|" ++ octal_text 6 word
 
 -- the instruction's word, or a dash where the fetch failed
 abbrev pub instruction_text : Option ℕ → List ℕ
-instruction_text (Some word) = octal 12 word
+instruction_text (Some word) = octal_text 12 word
 instruction_text None = codes "-"
 
 -- the ring and the address
 abbrev pub address_text : AtFields → List ℕ
-address_text at = octal 1 at.ring ++ codes ":" ++ word_of_segment at.seg at.word
+address_text at = octal_text 1 at.ring ++ codes ":" ++ word_of_segment at.seg at.word
 
 -- an address, or the operand that the address itself is
 abbrev pub operand_text : AtFields → Option ℕ → List ℕ
-operand_text at (Some word) = codes "=" ++ octal 12 word
+operand_text at (Some word) = codes "=" ++ octal_text 12 word
 operand_text at None = address_text at
 
 -- the final address, or a dash where none was formed
@@ -47,7 +47,7 @@ indicators_text i =
 -- a fault by its number, and an access violation by its own number too
 abbrev pub fault_text : Fault → List ℕ
 fault_text f =
-    if f.number == 20 then codes "fault " ++ decimal f.number ++ codes "." ++ decimal f.acv else codes "fault " ++ decimal f.number
+    if f.number == 20 then codes "fault " ++ decimal_text f.number ++ codes "." ++ decimal_text f.acv else codes "fault " ++ decimal_text f.number
 
 abbrev pub stop_text : Stop → List ℕ
 stop_text Dis = codes "dis"
@@ -63,13 +63,13 @@ outcome_text (Stopped s) = stop_text s
 -- the fields of step n; A, Q and the indicators are those after the step
 abbrev pub fields : ℕ → StepRecord → List (List ℕ)
 fields n r =
-    decimal n
-    ∷ octal 1 r.ppr.prr
+    decimal_text n
+    ∷ octal_text 1 r.ppr.prr
     ∷ word_of_segment r.ppr.psr r.ppr.ic
     ∷ instruction_text r.word
     ∷ final_text r.at
-    ∷ octal 12 r.after.a
-    ∷ octal 12 r.after.q
+    ∷ octal_text 12 r.after.a
+    ∷ octal_text 12 r.after.q
     ∷ indicators_text r.after.ind
     ∷ outcome_text r.outcome
     ∷ []

@@ -1,36 +1,39 @@
 //! The fields of a trace line, each put at the end of a line that has room for it.
 
 ghost use Rattle.std.specs.Prelude.{◌≡◌, ◌+◌, ◌≤◌, ◌<◌, ◌^◌, ◌++◌, length, codes, if◌then◌else◌};
-ghost use Rattle.std.specs.Fmt.{decimal};
-ghost use Rattle.m36_text.specs.Numbers.{octal};
+
+ghost use Rattle.m36_text.specs.Digits.{octal_text, decimal_text};
 ghost use Rattle.m36_trace.specs.TraceLine.{word_of_segment, instruction_text, address_text, operand_text, final_text, indicators_text, fault_text, stop_text, outcome_text};
 
+use crate::digits::{place_digits, put_characters, ring_digit, word_digits};
 use arrayvec::ArrayString;
 use m36_model::{At, Fault, Final, Ind, Outcome, Stop};
-use m36_text::{decimal, octal};
+use m36_text::decimal;
 use m36_word::Word;
 
-/// Puts a number of so many octal digits.
-pub fn put_octal(line: &mut ArrayString<160>, v: u64, places: u32)
-    requires places { places ≤ 22 }
-    requires fits { v < 8 ^ places }
-    requires room { length line.old.bytes + places ≤ 160 }
-    ensures text { line.new.bytes ≡ line.old.bytes ++ octal places v }
-    ensures len { length line.new.bytes ≡ length line.old.bytes + places }
+/// Puts a ring, which has one digit.
+#[tactic(auto, using(m36_text::proofs::DigitLaws::octal_ascii))]
+pub fn put_ring(line: &mut ArrayString<160>, ring: u8)
+    requires ring { ring < 2 ^ 3 }
+    requires room { length line.old.bytes < 160 }
+    ensures text { line.new.bytes ≡ line.old.bytes ++ octal_text 1 ring }
+    ensures len { length line.new.bytes ≡ length line.old.bytes + 1 }
 {
-    line.push_str(octal(v, places).as_str());
+    put_characters(line, &ring_digit(ring));
 }
 
-/// Puts a word, which has twelve octal digits.
+/// Puts a word, which has twelve digits.
+#[tactic(auto, using(m36_text::proofs::DigitLaws::octal_ascii))]
 pub fn put_word(line: &mut ArrayString<160>, word: Word)
     requires room { length line.old.bytes + 12 ≤ 160 }
-    ensures text { line.new.bytes ≡ line.old.bytes ++ octal 12 word }
+    ensures text { line.new.bytes ≡ line.old.bytes ++ octal_text 12 word }
     ensures len { length line.new.bytes ≡ length line.old.bytes + 12 }
 {
-    put_octal(line, word.value(), 12);
+    put_characters(line, &word_digits(word));
 }
 
 /// Puts a segment and a word of it.
+#[tactic(auto, using(crate::proofs::Ascii::place_is_ascii))]
 pub fn put_place(line: &mut ArrayString<160>, seg: u16, word: u32)
     requires seg { seg < 2 ^ 15 }
     requires word { word < 2 ^ 18 }
@@ -38,9 +41,7 @@ pub fn put_place(line: &mut ArrayString<160>, seg: u16, word: u32)
     ensures text { line.new.bytes ≡ line.old.bytes ++ word_of_segment seg word }
     ensures len { length line.new.bytes ≡ length line.old.bytes + 12 }
 {
-    put_octal(line, seg as u64, 5);
-    line.push_str("|");
-    put_octal(line, word as u64, 6);
+    put_characters(line, &place_digits(seg, word));
 }
 
 /// Puts the instruction's word.
@@ -61,7 +62,7 @@ pub fn put_address(line: &mut ArrayString<160>, at: At)
     ensures text { line.new.bytes ≡ line.old.bytes ++ address_text at }
     ensures len { length line.new.bytes ≡ length line.old.bytes + 14 }
 {
-    put_octal(line, at.ring as u64, 1);
+    put_ring(line, at.ring);
     line.push_str(":");
     put_place(line, at.seg, at.word);
 }
@@ -117,27 +118,26 @@ pub fn put_indicators(line: &mut ArrayString<160>, ind: &Ind)
     put_indicator(line, "t", ind.tally);
 }
 
-/// Puts a decimal number below 256.
-#[tactic(auto, using(crate::proofs::Lines::length_decimal_byte))]
-pub fn put_byte(line: &mut ArrayString<160>, v: u8)
-    requires room { length line.old.bytes + 3 ≤ 160 }
-    ensures text { line.new.bytes ≡ line.old.bytes ++ decimal v }
-    ensures len { length line.new.bytes ≤ length line.old.bytes + 3 }
+/// Puts a decimal number.
+pub fn put_decimal(line: &mut ArrayString<160>, v: u64)
+    requires room { length line.old.bytes + 20 ≤ 160 }
+    ensures text { line.new.bytes ≡ line.old.bytes ++ decimal_text v }
+    ensures len { length line.new.bytes ≤ length line.old.bytes + 20 }
 {
-    line.push_str(decimal(v as u64).as_str());
+    line.push_str(decimal(v).as_str());
 }
 
 /// Puts the number of a fault, and for an access violation which one.
 pub fn put_fault(line: &mut ArrayString<160>, fault: Fault)
-    requires room { length line.old.bytes + 13 ≤ 160 }
+    requires room { length line.old.bytes + 47 ≤ 160 }
     ensures text { line.new.bytes ≡ line.old.bytes ++ fault_text fault }
-    ensures len { length line.new.bytes ≤ length line.old.bytes + 13 }
+    ensures len { length line.new.bytes ≤ length line.old.bytes + 47 }
 {
     line.push_str("fault ");
-    put_byte(line, fault.number);
+    put_decimal(line, fault.number as u64);
     if fault.number == 20 {
         line.push_str(".");
-        put_byte(line, fault.acv);
+        put_decimal(line, fault.acv as u64);
     }
 }
 
@@ -156,9 +156,9 @@ pub fn stop_name(stop: Stop) -> &'static str
 
 /// Puts the outcome.
 pub fn put_outcome(line: &mut ArrayString<160>, outcome: Outcome)
-    requires room { length line.old.bytes + 14 ≤ 160 }
+    requires room { length line.old.bytes + 47 ≤ 160 }
     ensures text { line.new.bytes ≡ line.old.bytes ++ outcome_text outcome }
-    ensures len { length line.new.bytes ≤ length line.old.bytes + 14 }
+    ensures len { length line.new.bytes ≤ length line.old.bytes + 47 }
 {
     match outcome {
         Outcome::Next => line.push_str("next"),

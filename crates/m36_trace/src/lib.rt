@@ -8,6 +8,7 @@
 //! The registers are those of the Honeywell 6180, Multics Processor Manual AL39; the line is this simulator's own.
 #![tactic(auto)]
 
+pub mod digits;
 pub mod fields;
 pub mod trace;
 

@@ -4,22 +4,21 @@ ghost use Rattle.std.specs.Prelude.{◌≡◌, ◌≤◌, length};
 ghost use Rattle.m36_trace.specs.TraceLine.{line_of};
 
 use crate::fields::{
-    put_final, put_indicators, put_instruction, put_octal, put_outcome, put_place, put_word,
+    put_decimal, put_final, put_indicators, put_instruction, put_outcome, put_place, put_ring, put_word,
 };
 use arrayvec::ArrayString;
 use m36_model::StepRecord;
-use m36_text::decimal;
 
-/// The trace line of step `n`, without a line feed. It has at most 111 bytes, so it always fits.
+/// The trace line of step `n`, without a line feed. It has at most 144 bytes, so it always fits.
 #[tactic(auto, unfolding(crate::specs::TraceLine::line_of), using(crate::proofs::Lines::put_in_turn))]
 pub fn line(n: u64, r: &StepRecord) -> ArrayString<160>
     ensures text { result.bytes ≡ line_of n r.now }
-    ensures len { length result.bytes ≤ 111 }
+    ensures len { length result.bytes ≤ 144 }
 {
     let mut line = ArrayString::new();
-    line.push_str(decimal(n).as_str());
+    put_decimal(&mut line, n);
     line.push_str(" ");
-    put_octal(&mut line, r.ppr.prr as u64, 1);
+    put_ring(&mut line, r.ppr.prr);
     line.push_str(" ");
     put_place(&mut line, r.ppr.psr, r.ppr.ic);
     line.push_str(" ");
