@@ -1,5 +1,5 @@
 -- The characters of digits are ASCII.
-use Rattle.std.proofs.Common.{ℕ, [], ◌∷◌, ◌++◌, List, arith}
+use Rattle.std.proofs.Common.{ℕ, [], ◌++◌, arith}
 use Rattle.std.specs.Str.{IsAscii}
 use Rattle.std.specs.Prelude.{codes}
 use Rattle.std.proofs.lemmas.Str.{IsAscii-append}

@@ -1,1 +1,2 @@
+pub mod EndLine
 pub mod TraceLine

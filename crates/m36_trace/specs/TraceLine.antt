@@ -1,9 +1,8 @@
 -- The trace line of a step: its fields in order, parted by one space.
 use Rattle.std.specs.Prelude.{ℕ, Bool, List, [], ◌∷◌, ◌++◌, Option, Some, None, codes, if◌then◌else◌, ◌==◌}
 use Rattle.std.specs.List.{join_with_byte}
-
 use Rattle.m36_text.specs.Digits.{octal_text, decimal_text}
-use Rattle.m36_model.specs.Fields.{PprFields, AtFields, FinalFields}
+use Rattle.m36_model.specs.Fields.{AtFields, FinalFields}
 use Rattle.m36_model.specs.declared.registers.Ind.{Ind}
 use Rattle.m36_model.specs.declared.outcome.Fault.{Fault}
 use Rattle.m36_model.specs.declared.outcome.Stop.{Stop}

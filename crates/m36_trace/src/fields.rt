@@ -1,7 +1,6 @@
 //! The fields of a trace line, each put at the end of a line that has room for it.
 
 ghost use Rattle.std.specs.Prelude.{◌≡◌, ◌+◌, ◌≤◌, ◌<◌, ◌^◌, ◌++◌, length, codes, if◌then◌else◌};
-
 ghost use Rattle.m36_text.specs.Digits.{octal_text, decimal_text};
 ghost use Rattle.m36_trace.specs.TraceLine.{word_of_segment, instruction_text, address_text, operand_text, final_text, indicators_text, fault_text, stop_text, outcome_text};
 

@@ -4,7 +4,8 @@ ghost use Rattle.std.specs.Prelude.{◌≡◌, ◌≤◌, length};
 ghost use Rattle.m36_trace.specs.TraceLine.{line_of};
 
 use crate::fields::{
-    put_decimal, put_final, put_indicators, put_instruction, put_outcome, put_place, put_ring, put_word,
+    put_decimal, put_final, put_indicators, put_instruction, put_outcome, put_place, put_ring,
+    put_word,
 };
 use arrayvec::ArrayString;
 use m36_model::StepRecord;

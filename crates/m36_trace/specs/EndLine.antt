@@ -1,0 +1,17 @@
+-- The end line of a run: how it ended, and the count of its steps.
+use Rattle.std.specs.Prelude.{ℕ, List, [], ◌∷◌, codes}
+use Rattle.std.specs.List.{join_with_byte}
+use Rattle.m36_text.specs.Digits.{decimal_text}
+use Rattle.m36_model.specs.declared.outcome.Outcome.{Outcome}
+use Rattle.m36_model.specs.declared.outcome.Outcome.TheVariants.{Next, Faulted, Stopped}
+use Rattle.m36_trace.specs.TraceLine.{fault_text, stop_text}
+
+-- a run whose last step could be followed by another has met its limit
+abbrev pub ending_text : Outcome → List ℕ
+ending_text Next = codes "limit"
+ending_text (Faulted fault) = fault_text fault
+ending_text (Stopped stop) = stop_text stop
+
+-- the line, without its line feed
+unfoldable pub end_line_of : Outcome → ℕ → List ℕ
+end_line_of outcome steps = join_with_byte 32 (codes "end" ∷ ending_text outcome ∷ decimal_text steps ∷ [])
