@@ -48,7 +48,7 @@ found_by_tag tag = if tag == its_tag then Its else if tag == itp_tag then Itp el
 unfoldable pub found : ℕ → ℕ → Found
 found word w = if word % 2 == 0 then found_by_tag (field w 30 6) else Plain
 
--- A plain indirect word gives y and the tag; segment, ring and bit number stay.
+-- A plain indirect word gives y and the tag; segment, ring and bit number stay (the bit number: this project's choice).
 abbrev pub plain_point : Point → ℕ → Option ℕ → ℕ → ℕ → Point
 plain_point p word held w r1 =
     record p {
@@ -93,7 +93,8 @@ itp_point g p word held even odd r1 =
     }
 
 -- The next point, once the word at the point's address is read. Of a pair the odd word is read with it, as part of the same
--- indirect word. R1 is that of the descriptor by which the first word was found.
+-- indirect word. R1 is that of the descriptor by which the first word was found. Where the odd word is refused, the even
+-- word stands as a completed reference (this project's choice).
 abbrev pub after_word : (Point → Formation) → RegsFields → Point → ℕ → Option ℕ → Answer → Found → Formation
 after_word next g p word held a Plain = next (plain_point p word held (slice_index a.words 0) a.sdw.r1)
 after_word next g p word held a Its =

@@ -1,7 +1,8 @@
 -- The effect of each instruction: the new registers and the words to write, by the instruction, the number in its name, the
 -- registers, the final address and the operand. Where it is refused, the number of the fault. One line an instruction, in
 -- the order of the instruction table; the parts have the equations.
--- Of MME, DRL and DIS, which form no address, no step asks the effect.
+-- Of MME, DRL and DIS, which form no address, no step asks the effect. Indicators and registers that an instruction's
+-- equations do not name stay; which indicators it sets is this project's choice.
 -- Multics Processor Manual AL39, "Machine instructions".
 use Rattle.std.specs.Prelude.{ℕ, Bool, true, false, Result, Ok, Err}
 use Rattle.m36_inst.specs.declared.effect.Effect.{Effect}

@@ -4,6 +4,8 @@
 //! order and the words of the manual. A step is a program over a store: it depends on the registers alone and asks
 //! the store for each reference; the list of core words is one such store.
 //!
+//! `docs/MANUAL.md` goes through the rules in plain words and names the module of each.
+//!
 //! Source: Multics Processor Manual AL39; for the ring rules, Schroeder and Saltzer (1972).
 #![tactic(auto)]
 
