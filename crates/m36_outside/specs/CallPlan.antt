@@ -7,6 +7,10 @@ pub record CallPlan : Type 0 where
   pub failing : List ℕ
   pub last : ℕ
 
+-- no call yet
+abbrev pub new_plan : List ℕ → CallPlan
+new_plan failing = record { failing = failing; last = 0 }
+
 -- Calls are numbered from 1 up to 2^32 - 1, and each later call has that number too.
 abbrev pub next_number : CallPlan → ℕ
 next_number plan = min (plan.last + 1) (2 ^ 32 - 1)

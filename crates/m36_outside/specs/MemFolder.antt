@@ -1,7 +1,7 @@
 -- A folder in memory: its files, and which of its calls fail.
-use Rattle.std.specs.Prelude.{ℕ, List, if◌then◌else◌}
+use Rattle.std.specs.Prelude.{ℕ, List, [], if◌then◌else◌}
 use Rattle.m36_outside.specs.Counts.{raised}
-use Rattle.m36_outside.specs.CallPlan.{CallPlan, next_fails, after_call}
+use Rattle.m36_outside.specs.CallPlan.{CallPlan, new_plan, next_fails, after_call}
 use Rattle.m36_outside.specs.declared.file_list.NamedFile.{NamedFile}
 
 pub record MemFolderFields : Type 0 where
@@ -10,6 +10,16 @@ pub record MemFolderFields : Type 0 where
   pub writes : CallPlan
   pub read_faults : ℕ
   pub write_faults : ℕ
+
+-- a folder without files, and the numbers of the reads and writes that are to fail
+abbrev pub new_folder : List ℕ → List ℕ → MemFolderFields
+new_folder reads writes = record {
+  files = [];
+  reads = new_plan reads;
+  writes = new_plan writes;
+  read_faults = 0;
+  write_faults = 0;
+}
 
 -- the folder after a read: one more read is counted, and a fault where it was to fail
 abbrev pub after_read : MemFolderFields → MemFolderFields

@@ -1,12 +1,16 @@
 -- Input in memory: what is left of it, and which of its calls fail.
 use Rattle.std.specs.Prelude.{ℕ, List, drop, length, min, if◌then◌else◌}
 use Rattle.m36_outside.specs.Counts.{raised}
-use Rattle.m36_outside.specs.CallPlan.{CallPlan, next_fails, after_call}
+use Rattle.m36_outside.specs.CallPlan.{CallPlan, new_plan, next_fails, after_call}
 
 pub record MemLinesFields : Type 0 where
   pub left : List ℕ
   pub calls : CallPlan
   pub faults : ℕ
+
+-- input of these bytes, and the numbers of the calls that are to fail
+abbrev pub new_lines : List ℕ → List ℕ → MemLinesFields
+new_lines content calls = record { left = content; calls = new_plan calls; faults = 0 }
 
 -- The input after a call with a buffer of so many bytes: a call whose number is listed takes nothing, and every other
 -- one takes as many bytes as there are and as there is room for.

@@ -1,7 +1,7 @@
 //! Numbered calls, some of which are to fail.
 
 ghost use Rattle.std.specs.Prelude.{◌≡◌, IfOk};
-ghost use Rattle.m36_outside.specs.CallPlan.{next_fails, after_call};
+ghost use Rattle.m36_outside.specs.CallPlan.{new_plan, next_fails, after_call};
 
 use m36_word::NoMemory;
 use std::alloc::Global;
@@ -26,7 +26,7 @@ impl Model for Calls {
 impl Calls {
     /// No call yet, and the numbers of the calls that are to fail. The error is want of memory alone.
     pub fn new(alloc: Global, failing: &[u32]) -> Result<Calls, NoMemory>
-        ensures { IfOk result (λ calls. calls ≡ record { failing = failing.now; last = 0 }) }
+        ensures { IfOk result (λ calls. calls ≡ new_plan failing.now) }
     {
         Ok(Calls {
             failing: Vec::from_slice(alloc, failing)?,

@@ -1,9 +1,7 @@
 //! The files of the current directory.
 
-ghost use Rattle.std.specs.Prelude.{ℕ, ◌≡◌, ◌≤◌, ◌<◌, ◌^◌, Option, None, MatchOption, Contains, IsUtf8};
-ghost use Rattle.m36_outside.specs.Files.{Files as KnownFiles};
-ghost use Rattle.m36_outside.specs.ReadAnswer.{IsWithinLimit, ReadHasCause};
-ghost use Rattle.m36_outside.specs.WriteAnswer.{WriteHasCause};
+ghost use Rattle.std.specs.Prelude.{◌≡◌, None, MatchOption, Contains, IsUtf8};
+ghost use Rattle.m36_outside.specs.ReadAnswer.{IsWithinLimit};
 
 use crate::faults::raise;
 use crate::folder::{Folder, ReadAnswer, WriteAnswer};
@@ -15,6 +13,9 @@ use std::fs::File;
 use std::io::ErrorKind;
 use std::marker::Model;
 use std::rt::Files;
+
+/// What parts the directories of a path.
+const SLASH: u8 = b'/';
 
 /// The files of the current directory. It tells nothing, and contracts see its two counts of faults.
 ///
@@ -108,9 +109,11 @@ fn write_file<R: Files>(rt: &R, name: &[u8], content: &[u8]) -> Put {
 
 /// The name as text, where it can be that of a file of the current directory: it is UTF-8 and has no slash.
 fn name_of_file(name: &[u8]) -> Option<&str>
-    ensures { MatchOption result (IsUtf8 name.now → Contains name.now 47) (λ text. (text.now ≡ name.now) × (Contains name.now 47 → ⊥)) }
+    ensures { MatchOption result
+        (IsUtf8 name.now → Contains name.now SLASH)
+        (λ text. (text.now ≡ name.now) × ¬ (Contains name.now SLASH)) }
 {
-    if name.contains(&b'/') {
+    if name.contains(&SLASH) {
         return None;
     }
     std::str::from_utf8(name).ok()

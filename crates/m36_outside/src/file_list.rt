@@ -52,7 +52,9 @@ impl FileList {
     /// The content of the file of this name.
     #[tactic(auto, using(crate::proofs::FilesNamed::files_named))]
     pub fn find(&self, name: &[u8]) -> Option<&Text>
-        ensures { MatchOption result (file_named self.now name.now ≡ None) (λ text. file_named self.now name.now ≡ Some text.now) }
+        ensures { MatchOption result
+            (file_named self.now name.now ≡ None)
+            (λ text. file_named self.now name.now ≡ Some text.now) }
     {
         let place = place_of(self.files.as_slice(), name);
         if place < self.files.len() {
@@ -84,7 +86,8 @@ impl FileList {
     /// Puts a file in, in place of the one of this name that may be there. Where no memory is found, nothing changes.
     #[tactic(auto, using(crate::proofs::FilesNamed::files_named))]
     pub fn set(&mut self, alloc: Global, name: &[u8], content: &[u8]) -> Result<(), NoMemory>
-        ensures ok { OnOk result (file_named self.new ≡ with_file name.now (Some content.now) (file_named self.old)) }
+        ensures ok { OnOk result
+            (file_named self.new ≡ with_file name.now (Some content.now) (file_named self.old)) }
         ensures err { OnErr result (self.new ≡ self.old) }
     {
         let content = Text::from_bytes(alloc, content)?;

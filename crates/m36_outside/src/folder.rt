@@ -12,7 +12,7 @@ use std::alloc::Global;
 pub const FILE_LIMIT: usize = 1 << 24;
 
 /// The answer of a read.
-#[derive(Drop)]
+#[derive(Drop, Debug)]
 pub enum ReadAnswer {
     /// The whole content of the file, of at most 16,777,216 bytes.
     Read(Text),

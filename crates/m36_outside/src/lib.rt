@@ -1,7 +1,30 @@
 //! The edge of the simulator to the outside world: files, lines of input and a place for the output.
 //!
-//! Every byte that the simulator takes in or gives out passes through three traits, and their contracts are all that
-//! the parts above know of the world.
+//! Every byte that the simulator takes in or gives out passes through three traits, and their contracts are all that the
+//! parts above know of the world. An object of these traits may tell what it holds, and whether it does never changes. What
+//! a contract says of content is said where the object tells it.
+//!
+//! - A [`Folder`] has files by their names. No read changes a file. A read gives the file's bytes; it answers Absent exactly
+//!   where there is no such file, and TooLarge exactly where the file has more than 16,777,216 bytes. A write sets the
+//!   named file alone, and where it failed no other file differs.
+//! - [`Lines`] are input that is taken in pieces, from the beginning on. The end is told exactly where nothing is left.
+//! - A [`Sink`] has what was written to it. A put adds the piece at the end, and where it failed a first part of the piece.
+//!
+//! A call answers Failed only where a count of faults rose in this call: it is greater after the call than before, or stands
+//! at 2^64 - 1, where every count ends. Counts never fall. Want of memory is the one answer that needs no cause; such a
+//! call has changed nothing.
+//!
+//! | In memory, with calls that fail at will | In memory, never failing | Of the system |
+//! |---|---|---|
+//! | [`MemFolder`] | [`SureFolder`] | [`DirFolder`], the files of the current directory |
+//! | [`MemLines`] | [`SureLines`] | [`StdLines`], the standard input |
+//! | [`MemSink`] | [`SureSink`] | [`StdSink`], the standard output |
+//!
+//! Those of the system tell nothing and are the trusted edge. Their loops over std's reads and writes are proved over every
+//! reader and writer; what std says of the system is taken as it is, and each of the three has a test.
+//!
+//! A caller composes these contracts by the laws in `proofs/`: `Grown` for several puts, `Completes` for puts in a loop,
+//! `Risen` for counts, and `FilesKept` for files. No part of the manual speaks of this.
 #![tactic(auto)]
 
 #[cfg(test)]
@@ -27,7 +50,7 @@ mod unread;
 mod writing;
 
 pub use directory::DirFolder;
-pub use folder::{Folder, ReadAnswer, WriteAnswer};
+pub use folder::{FILE_LIMIT, Folder, ReadAnswer, WriteAnswer};
 pub use lines::{Lines, Piece};
 pub use memory_folder::MemFolder;
 pub use memory_lines::MemLines;

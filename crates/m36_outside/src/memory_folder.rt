@@ -1,6 +1,6 @@
 //! A folder in memory, whose calls fail where a test wants it.
 
-ghost use Rattle.std.specs.Prelude.{[], ◌≡◌, ◌≤◌, ◌<◌, ◌^◌, ◌↔◌, Some, IsTrue, IfOk, OnOk, OnErr, IfSome};
+ghost use Rattle.std.specs.Prelude.{◌≡◌, ◌≤◌, ◌<◌, ◌^◌, ◌↔◌, Some, IsTrue, IfOk, OnOk, OnErr};
 ghost use Rattle.m36_outside.specs.CallPlan.{next_fails};
 ghost use Rattle.m36_outside.specs.Files.{with_file};
 ghost use Rattle.m36_outside.specs.FileList.{file_named};
@@ -34,12 +34,20 @@ impl Model for MemFolder {
 
     ghost Value = { MemFolderFields };
 
-    ghost view = { λ f. record { files = f.files; reads = f.reads; writes = f.writes; read_faults = f.read_faults; write_faults = f.write_faults } };
+    ghost view = { λ f. record {
+      files = f.files;
+      reads = f.reads;
+      writes = f.writes;
+      read_faults = f.read_faults;
+      write_faults = f.write_faults;
+    } };
 
     ghost invariant = { λ f. (f.read_faults < 2 ^ 64) × (f.write_faults < 2 ^ 64) };
 }
 
 impl MemFolder {
+    ghost use Rattle.m36_outside.specs.MemFolder.{new_folder};
+
     /// A folder without files, and the numbers of the reads and writes that are to fail. The error is want of memory
     /// alone.
     pub fn new(
@@ -47,7 +55,7 @@ impl MemFolder {
         fail_reads: &[u32],
         fail_writes: &[u32],
     ) -> Result<MemFolder, NoMemory>
-        ensures { IfOk result (λ folder. folder ≡ record { files = []; reads = record { failing = fail_reads.now; last = 0 }; writes = record { failing = fail_writes.now; last = 0 }; read_faults = 0; write_faults = 0 }) }
+        ensures { IfOk result (λ folder. folder ≡ new_folder fail_reads.now fail_writes.now) }
     {
         Ok(MemFolder {
             files: FileList::new(alloc),
@@ -61,7 +69,8 @@ impl MemFolder {
     /// Puts a file in, in place of the one of this name that may be there. It counts as no write. Where no memory is
     /// found, nothing changes.
     pub fn add(&mut self, name: &[u8], content: &[u8]) -> Result<(), NoMemory>
-        ensures ok { OnOk result (file_named self.new.files ≡ with_file name.now (Some content.now) (file_named self.old.files)) }
+        ensures ok { OnOk result
+            (file_named self.new.files ≡ with_file name.now (Some content.now) (file_named self.old.files)) }
         ensures rest { self.new ≡ record self.old { files = self.new.files } }
         ensures err { OnErr result (self.new ≡ self.old) }
     {
@@ -98,7 +107,8 @@ impl Folder for MemFolder {
 
     #[tactic(auto, using(crate::proofs::FilesKept::differs_by_nothing))]
     fn write(&mut self, alloc: Global, name: &[u8], content: &[u8]) -> WriteAnswer
-        ensures says { WriteSays result (Some (file_named self.old.files)) (Some (file_named self.new.files)) name.now content.now }
+        ensures says { WriteSays result
+            (Some (file_named self.old.files)) (Some (file_named self.new.files)) name.now content.now }
         ensures cause { WriteHasCause result self.old.write_faults self.new.write_faults }
         ensures count { self.old.write_faults ≤ self.new.write_faults }
         ensures count_bound { self.new.write_faults < 2 ^ 64 }

@@ -35,9 +35,11 @@ impl Model for MemLines {
 }
 
 impl MemLines {
+    ghost use Rattle.m36_outside.specs.MemLines.{new_lines};
+
     /// Input of these bytes, and the numbers of the calls that are to fail. The error is want of memory alone.
     pub fn new(alloc: Global, content: &[u8], fail: &[u32]) -> Result<MemLines, NoMemory>
-        ensures { IfOk result (λ lines. lines ≡ record { left = content.now; calls = record { failing = fail.now; last = 0 }; faults = 0 }) }
+        ensures { IfOk result (λ lines. lines ≡ new_lines content.now fail.now) }
     {
         Ok(MemLines {
             unread: Unread::new(alloc, content)?,

@@ -1,6 +1,6 @@
 //! A place for output in memory, whose calls fail where a test wants it.
 
-ghost use Rattle.std.specs.Prelude.{[], ◌≡◌, ◌+◌, ◌≤◌, ◌<◌, ◌^◌, ◌++◌, ◌↔◌, Some, IsTrue, IfOk, length, vec_len, vec_capacity};
+ghost use Rattle.std.specs.Prelude.{◌≡◌, ◌+◌, ◌≤◌, ◌<◌, ◌^◌, ◌++◌, ◌↔◌, Some, IsTrue, IfOk, length, vec_len, vec_capacity};
 ghost use Rattle.m36_outside.specs.Put.{PutSays, PutHasCause};
 
 use crate::calls::Calls;
@@ -34,10 +34,12 @@ impl Model for MemSink {
 }
 
 impl MemSink {
+    ghost use Rattle.m36_outside.specs.MemSink.{new_sink};
+
     /// Nothing written yet, room for so many bytes, and the numbers of the puts that are to fail. All memory is taken
     /// here. The error is want of it alone.
     pub fn new(alloc: Global, room: usize, fail: &[u32]) -> Result<MemSink, NoMemory>
-        ensures { IfOk result (λ sink. sink ≡ record { bytes = []; room = room; puts = record { failing = fail.now; last = 0 }; faults = 0 }) }
+        ensures { IfOk result (λ sink. sink ≡ new_sink room fail.now) }
     {
         Ok(MemSink {
             bytes: Vec::with_capacity(alloc, room)?,

@@ -90,7 +90,8 @@ fn add_chunk(got: &[u8], text: &mut Text) -> Chunk
 #[tactic(auto, using(crate::proofs::Consumed::pieces))]
 pub fn read_piece<R: Read>(from: &mut R, into: &mut [u8]) -> Piece
     requires room { 1 ≤ length into.old }
-    ensures told { IfSome (R.remaining from.old) (λ left. PieceSays result (Some left) (R.remaining from.new) into.new) }
+    ensures told { IfSome (R.remaining from.old)
+        (λ left. PieceSays result (Some left) (R.remaining from.new) into.new) }
     ensures size { PieceSays result None None into.new }
 {
     for _ in 0..u64::MAX {

@@ -1,7 +1,6 @@
 //! The standard input.
 
-ghost use Rattle.std.specs.Prelude.{ℕ, ◌≡◌, ◌≤◌, ◌<◌, ◌^◌, List, Option, None, length};
-ghost use Rattle.m36_outside.specs.Piece.{PieceHasCause};
+ghost use Rattle.std.specs.Prelude.{◌≡◌, None};
 
 use crate::faults::raise;
 use crate::lines::{Lines, Piece};

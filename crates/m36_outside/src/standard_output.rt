@@ -1,7 +1,6 @@
 //! The standard output.
 
-ghost use Rattle.std.specs.Prelude.{ℕ, ◌≡◌, ◌≤◌, ◌<◌, ◌^◌, List, Option, None};
-ghost use Rattle.m36_outside.specs.Put.{PutHasCause};
+ghost use Rattle.std.specs.Prelude.{◌≡◌, None};
 
 use crate::faults::raise;
 use crate::sink::{Put, Sink};

@@ -1,6 +1,6 @@
 //! A folder in memory that never fails.
 
-ghost use Rattle.std.specs.Prelude.{ℕ, [], ◌≡◌, ◌≤◌, ◌<◌, ◌^◌, Option, Some, IfOk, OnOk, OnErr};
+ghost use Rattle.std.specs.Prelude.{[], ◌≡◌, Some, IfOk, OnOk, OnErr};
 ghost use Rattle.m36_outside.specs.Files.{with_file};
 ghost use Rattle.m36_outside.specs.FileList.{file_named};
 ghost use Rattle.m36_outside.specs.ReadAnswer.{ReadSays, IsWithinLimit, ReadHasCause};
@@ -39,7 +39,8 @@ impl SureFolder {
 
     /// Puts a file in, in place of the one of this name that may be there. Where no memory is found, nothing changes.
     pub fn add(&mut self, name: &[u8], content: &[u8]) -> Result<(), NoMemory>
-        ensures ok { OnOk result (file_named self.new ≡ with_file name.now (Some content.now) (file_named self.old)) }
+        ensures ok { OnOk result
+            (file_named self.new ≡ with_file name.now (Some content.now) (file_named self.old)) }
         ensures err { OnErr result (self.new ≡ self.old) }
     {
         let alloc = self.files.allocator();
@@ -64,7 +65,8 @@ impl Folder for SureFolder {
     }
 
     fn write(&mut self, alloc: Global, name: &[u8], content: &[u8]) -> WriteAnswer
-        ensures says { WriteSays result (Some (file_named self.old)) (Some (file_named self.new)) name.now content.now }
+        ensures says { WriteSays result
+            (Some (file_named self.old)) (Some (file_named self.new)) name.now content.now }
         ensures cause { WriteHasCause result 0 0 }
     {
         match self.files.set(alloc, name, content) {

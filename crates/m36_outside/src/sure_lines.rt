@@ -1,6 +1,6 @@
 //! Input in memory that never fails.
 
-ghost use Rattle.std.specs.Prelude.{ℕ, ◌≡◌, ◌≤◌, ◌<◌, ◌^◌, List, Option, Some, IfOk, length, min, drop};
+ghost use Rattle.std.specs.Prelude.{◌≡◌, ◌≤◌, Some, IfOk, length, min, drop};
 ghost use Rattle.m36_outside.specs.Piece.{PieceSays, PieceHasCause};
 
 use crate::lines::{Lines, Piece};

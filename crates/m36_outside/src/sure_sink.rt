@@ -1,6 +1,6 @@
 //! A place for output that never fails.
 
-ghost use Rattle.std.specs.Prelude.{ℕ, ◌≡◌, ◌≤◌, ◌<◌, ◌^◌, List, Option, None};
+ghost use Rattle.std.specs.Prelude.{None};
 
 use crate::sink::{Put, Sink};
 

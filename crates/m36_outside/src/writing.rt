@@ -10,7 +10,8 @@ use std::io::{ErrorKind, Write};
 /// Writes all of these bytes, and flushes them. A writer that takes nothing has failed.
 #[tactic(auto, using(crate::proofs::Appended::appending))]
 pub fn write_whole<W: Write>(to: &mut W, bytes: &[u8]) -> Put
-    ensures { IfSome (W.contents to.old) (λ held. PutSays result (Some held) (W.contents to.new) bytes.now) }
+    ensures { IfSome (W.contents to.old)
+        (λ held. PutSays result (Some held) (W.contents to.new) bytes.now) }
 {
     let mut done = 0;
     for _ in 0..u64::MAX {
@@ -32,7 +33,9 @@ pub fn write_whole<W: Write>(to: &mut W, bytes: &[u8]) -> Put
 fn write_from<W: Write>(to: &mut W, bytes: &[u8], place: usize) -> Option<usize>
     requires { place ≤ length bytes.now }
     ensures some { IfSome result (λ count. count ≤ length bytes.now - place) }
-    ensures told { MatchOption result (Keeps (W.contents to.old) (W.contents to.new)) (λ count. Appends (W.contents to.old) (W.contents to.new) (take count (drop place bytes.now))) }
+    ensures told { MatchOption result
+        (Keeps (W.contents to.old) (W.contents to.new))
+        (λ count. Appends (W.contents to.old) (W.contents to.new) (take count (drop place bytes.now))) }
 {
     match to.write(&bytes[place..]) {
         Ok(0) => None,
