@@ -1,8 +1,8 @@
 -- Laws of files of which one is put in.
-use Rattle.std.proofs.Common.{◌≡◌, ℕ, Bool, true, false, cond, List, Option, Some, None, inl, inr, refl, sym, ap, ◌∙◌, bytes_eq}
+use Rattle.std.proofs.Common.{◌≡◌, ℕ, true, List, Option, Some, None, inl, inr, refl, sym, ap, bytes_eq}
 use Rattle.std.specs.Cmp.Lexicographic.{bytes_decides}
 use Rattle.std.proofs.lemmas.Bool.{cases_Bool}
-use Rattle.m36_outside.specs.Files.{Files, with_file, with_told_file}
+use Rattle.m36_outside.specs.Files.{Files, with_file}
 use Rattle.m36_outside.specs.WriteAnswer.{DiffersAtMost}
 
 -- the file that was put in is there

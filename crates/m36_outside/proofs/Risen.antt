@@ -1,5 +1,5 @@
 -- Laws of counts of faults, which never fall: a count that rose in an inner call rose in the outer call.
-use Rattle.std.proofs.Common.{◌≡◌, ℕ, ◌<◌, ◌≤◌, ◌-◌, ◌^◌, ◌⊎◌, arith, inl, inr, ⊎_elim}
+use Rattle.std.proofs.Common.{ℕ, ◌<◌, ◌≤◌, ◌^◌, arith, inl, inr}
 use Rattle.m36_outside.specs.Counts.{Rose}
 
 -- the outer call began earlier
