@@ -27,9 +27,9 @@ use Rattle.m36_model.specs.Stores.{store, store_zero, indicators_half, store_ind
 use Rattle.m36_model.specs.Sums.{into_register, into_register_logical, into_operand, add, add_logical, add_with_carry, sign_extended, subtract, subtract_logical, subtract_with_carry, add_one_to_storage, add_to_storage, subtract_stored, negate}
 use Rattle.m36_model.specs.Tally.{tally}
 use Rattle.m36_model.specs.Transfers.{is_taken, gone_to, transfer_where, transfer_on_overflow, transfer_and_set_index, transfer_and_set_pointer}
-use Rattle.m36_model.specs.WorkedAddresses.{LoadReadsItsWord, StopFollows, LastWordOfTheBoundIsRead, WordPastTheBoundIsNot, PairTakesTheBracketOfItsSegment, SeventeenthIndirectWordLocksUp, SixteenIndirectWordsAreServed, IndexIsHeldOverTheIndirectWord, TallyWordsCount, LoadSeesTheNewTallyWord, StoreComesAfterTheTallyWord, RefusedTallyWordChangesNothing}
+use Rattle.m36_model.specs.WorkedAddresses.{LoadReadsItsWord, StopFollows, LastWordOfTheBoundIsRead, WordPastTheBoundIsNot, PairTakesTheBracketOfItsSegment, SeventeenthIndirectWordLocksUp, SixteenIndirectWordsAreServed, IndexIsHeldOverTheIndirectWord, TallyWordsCount, LoadSeesTheNewTallyWord, StoreComesAfterTheTallyWord, RefusedTallyWordChangesNothing, DirectOperandIsTheAddress, DirectOperandsAreRefused, TagsOfTheInstruction, FaultTagTakesTheBracketOfItsSegment}
 use Rattle.m36_model.specs.WorkedCalls.{CallThroughAGate, CallPastTheLimiter, CallFromAboveTheBracket, OutwardCall, CallWithRaisedRing, CallWithinTheRing, ReturnTakesThePairsRing, ReturnTakesTheGreatestRing, PackedPointerWithAWrongBitNumber, OneTakesTheLock}
-use Rattle.m36_model.specs.WorkedEffects.{ComparisonIsSigned, OverflowStoresAndFaults, MaskedOverflowGoesOn, LeastNumberHasNoNegative, SquareOfTheLeastNumber, QuotientIsCutTowardZero, DivisionByZeroIsRefused, LeftShiftSetsCarry, RightShiftCopiesTheSign, RotationComesRound, TransferSetsTheIndex}
+use Rattle.m36_model.specs.WorkedEffects.{ComparisonIsSigned, OverflowStoresAndFaults, MaskedOverflowGoesOn, LeastNumberHasNoNegative, SquareOfTheLeastNumber, QuotientIsCutTowardZero, DivisionByZeroIsRefused, LeftShiftSetsCarry, RightShiftCopiesTheSign, RotationComesRound, TransferSetsTheIndex, BooleansGoBitByBit, LongShiftsCrossTheWords, SignIsExtended, IndicatorsAreLoaded, IndicatorsAreStored}
 
 unfoldable pub everything : Unit {0}
 unfolding signed entry_at and_then modulo sum_value sum_carry sum_overflow sum difference_value difference_carry difference_overflow difference negation is_less comparison product quotient remainder is_divide_check bits_of number_from each_bit bitwise and_of or_of xor_of and_not_of call return_to found chain compare test_word test_and_clear compare_masked test_and test_and_not core_put exec first_point load load_complement load_and_clear indicators_of load_indicators and_register or_register xor_register and_storage or_storage xor_storage index_of move_of_point core_sdw core_spot with_used with_modified marks with_marks core_marked with_pr load_pointer load_base_pointer store_pointer store_base_pointer store_pointers load_pointers load_packed load_address_pair store_control load_dbr store_dbr load_absolute_address multiply divide with_value zn zn_carry zn_overflow zn_carry_overflow compared moved_on shift_left shift_right shift_right_logical rotate_left left_shift first_bits left_shift_carry copying_right_shift plain_right_shift rotation tallied operate decode program record_of state_after denied spots_of places changes serve run store store_zero indicators_half store_indicators store_where_zero store_where_equal into_register into_register_logical into_operand add add_logical add_with_carry sign_extended subtract subtract_logical subtract_with_carry add_one_to_storage add_to_storage subtract_stored negate tally is_taken gone_to transfer_where transfer_on_overflow transfer_and_set_index transfer_and_set_pointer
@@ -82,6 +82,22 @@ store_comes_after_the_tally_word = (refl, refl)
 pub refused_tally_word_changes_nothing : RefusedTallyWordChangesNothing
 unfolding everything
 refused_tally_word_changes_nothing = (refl, refl)
+
+pub direct_operand_is_the_address : DirectOperandIsTheAddress
+unfolding everything
+direct_operand_is_the_address = (refl, refl, refl)
+
+pub direct_operands_are_refused : DirectOperandsAreRefused
+unfolding everything
+direct_operands_are_refused = (refl, refl, refl)
+
+pub tags_of_the_instruction : TagsOfTheInstruction
+unfolding everything
+tags_of_the_instruction = (refl, refl, refl, refl, refl)
+
+pub fault_tag_takes_the_bracket_of_its_segment : FaultTagTakesTheBracketOfItsSegment
+unfolding everything
+fault_tag_takes_the_bracket_of_its_segment = refl
 
 pub call_through_a_gate : CallThroughAGate
 unfolding everything
@@ -166,3 +182,23 @@ rotation_comes_round = refl
 pub transfer_sets_the_index : TransferSetsTheIndex
 unfolding everything
 transfer_sets_the_index = refl
+
+pub booleans_go_bit_by_bit : BooleansGoBitByBit
+unfolding everything
+booleans_go_bit_by_bit = (refl, refl, refl, refl, refl)
+
+pub long_shifts_cross_the_words : LongShiftsCrossTheWords
+unfolding everything
+long_shifts_cross_the_words = (refl, refl, refl, refl, refl, refl, refl, refl)
+
+pub sign_is_extended : SignIsExtended
+unfolding everything
+sign_is_extended = (refl, refl)
+
+pub indicators_are_loaded : IndicatorsAreLoaded
+unfolding everything
+indicators_are_loaded = (refl, refl, refl, refl, refl, refl)
+
+pub indicators_are_stored : IndicatorsAreStored
+unfolding everything
+indicators_are_stored = (refl, refl)

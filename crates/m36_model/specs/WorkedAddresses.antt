@@ -130,3 +130,27 @@ RefusedTallyWordChangesNothing =
       outcome = violates 6 (at_word 1 0o10 0);
       ppr = record { psr = 1; prr = 0; ic = 0 };
     }) × (state_after core_store (at_tally 0o000006300000 0o000010755056) ≡ at_tally 0o000006300000 0o000010755056)
+
+-- `lda 3,dl` has its operand in the address: no word is read.
+abbrev pub DirectOperandIsTheAddress : Type 0
+DirectOperandIsTheAddress =
+    ((registers_after (bound_state 0o000003235007)).a ≡ 3) × (references_of_step (bound_state 0o000003235007) ≡ referred Fetch 1 0 0 1 ∷ []) × (address_of_step (bound_state 0o000003235007) ≡ Some (record { at = at_word 1 3 0; bit = 0; direct = Some 3 }))
+
+-- `tze 3,du` with zero off is not taken, but its direct operand is refused all the same; `lprp4 3,dl` refuses one, and `nop 3,dl`
+-- takes it.
+abbrev pub DirectOperandsAreRefused : Type 0
+DirectOperandsAreRefused =
+    (outcome_of_step (bound_state 0o000003600003) ≡ faults 10 (at_word 1 0 0)) × (outcome_of_step (bound_state 0o000003764007) ≡ faults 10 (at_word 1 0 0)) × (outcome_of_step (bound_state 0o000003011007) ≡ Next)
+
+-- The tags of the instruction `lda 3` with tags 40, 41, 46, 47 and 50: three fault tags, told at the instruction; a pair's tag out
+-- of place; a modification that is not provided.
+abbrev pub TagsOfTheInstruction : Type 0
+TagsOfTheInstruction =
+    (outcome_of_step (bound_state 0o000003235040) ≡ faults 3 (at_word 1 0 0)) × (outcome_of_step (bound_state 0o000003235041) ≡ faults 10 (at_word 1 0 0)) × (outcome_of_step (bound_state 0o000003235046) ≡ faults 24 (at_word 1 0 0)) × (outcome_of_step (bound_state 0o000003235047) ≡ faults 25 (at_word 1 0 0)) × (outcome_of_step (bound_state 0o000003235050) ≡ Stopped stop.Tag)
+
+-- `lda pr0|0,*` again, through a word with tag 46 in the segment whose R1 is 4: the fault tag is told at that word, in ring 4.
+abbrev pub at_fault_tag : State (List ℕ)
+at_fault_tag = record { regs = at_pair.regs; store = slice_set pair_core 0o340 0o000000000046 }
+
+abbrev pub FaultTagTakesTheBracketOfItsSegment : Type 0
+FaultTagTakesTheBracketOfItsSegment = outcome_of_step at_fault_tag ≡ faults 24 (at_word 2 0 4)

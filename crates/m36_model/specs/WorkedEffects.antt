@@ -1,10 +1,14 @@
 -- Worked effects: sums, comparisons, products, shifts, a call of a subroutine.
-use Rattle.std.specs.Prelude.{ℕ, ◌≡◌, ◌^◌, false, true, List, [], ◌∷◌, replicate, slice_set, Ok, Err}
+use Rattle.std.specs.Prelude.{ℕ, ◌≡◌, ◌-◌, ◌^◌, false, true, List, [], ◌∷◌, replicate, slice_set, Ok, Err}
 use Rattle.m36_model.specs.Registers.{RegsFields}
 use Rattle.m36_model.specs.Store.{State}
 use Rattle.m36_model.specs.Arithmetic.{comparison}
 use Rattle.m36_model.specs.Results.{A}
-use Rattle.m36_model.specs.Loads.{load_complement}
+use Rattle.m36_model.specs.Booleans.{and_of, or_of, xor_of, and_not_of}
+use Rattle.m36_model.specs.Shifts.{left_shift, left_shift_carry, copying_right_shift, plain_right_shift, rotation}
+use Rattle.m36_model.specs.Loads.{load_complement, indicators_of}
+use Rattle.m36_model.specs.Stores.{indicators_half}
+use Rattle.m36_model.specs.Sums.{sign_extended}
 use Rattle.m36_model.specs.Products.{multiply, divide}
 use Rattle.m36_model.specs.ShiftEffects.{shift_left, shift_right, rotate_left}
 use Rattle.m36_model.specs.Worked.{core_of, at_instruction, no_indicators, at_word, faults, outcome_of_step, registers_after}
@@ -110,3 +114,26 @@ at_subroutine = record { regs = at_instruction 1 0 3; store = subroutine_core }
 
 abbrev pub TransferSetsTheIndex : Type 0
 TransferSetsTheIndex = registers_after at_subroutine ≡ record (at_instruction 1 0 5) { x = slice_set (replicate 8 0) 1 4 }
+
+-- 14 and 12 in octal, bit by bit
+abbrev pub BooleansGoBitByBit : Type 0
+BooleansGoBitByBit =
+    (and_of 36 0o14 0o12 ≡ 0o10) × (or_of 36 0o14 0o12 ≡ 0o16) × (xor_of 36 0o14 0o12 ≡ 0o6) × (and_not_of 36 0o14 0o12 ≡ 0o4) × (and_of 72 0o200000000000000000000000 (2 ^ 72 - 1) ≡ 0o200000000000000000000000)
+
+-- shifts of 72 bits by more than a word: the one bit of Q goes into A, and back; nothing is left after 72 or more
+abbrev pub LongShiftsCrossTheWords : Type 0
+LongShiftsCrossTheWords =
+    (left_shift 72 1 36 ≡ 2 ^ 36) × (plain_right_shift (2 ^ 36) 36 ≡ 1) × (left_shift 72 1 127 ≡ 0) × (copying_right_shift 72 (2 ^ 71) 127 ≡ 2 ^ 72 - 1) × (rotation 72 1 73 ≡ 2) × (left_shift_carry 36 0o777777777777 35 ≡ false) × (left_shift_carry 36 0o777777777777 36 ≡ true) × (left_shift_carry 36 0o400000000000 0 ≡ false)
+
+-- -1 as a word is -1 as a pair
+abbrev pub SignIsExtended : Type 0
+SignIsExtended = (sign_extended 0o777777777777 ≡ 2 ^ 72 - 1) × (sign_extended 0o377777777777 ≡ 0o377777777777)
+
+-- Each indicator has its bit, where LDI loads it and where STI stores it.
+abbrev pub IndicatorsAreLoaded : Type 0
+IndicatorsAreLoaded =
+    (indicators_of 0o400000 ≡ record no_indicators { zero = true }) × (indicators_of 0o200000 ≡ record no_indicators { negative = true }) × (indicators_of 0o100000 ≡ record no_indicators { carry = true }) × (indicators_of 0o040000 ≡ record no_indicators { overflow = true }) × (indicators_of 0o004000 ≡ record no_indicators { mask = true }) × (indicators_of 0o002000 ≡ record no_indicators { tally = true })
+
+abbrev pub IndicatorsAreStored : Type 0
+IndicatorsAreStored =
+    (indicators_half (record no_indicators { zero = true; negative = true; carry = true }) ≡ 0o700000) × (indicators_half (record no_indicators { overflow = true; mask = true; tally = true }) ≡ 0o046000)

@@ -1,5 +1,7 @@
 //! Places that a step refers to, and the references that it has completed.
 
+ghost use Rattle.std.specs.Prelude.{◌≡◌};
+
 use arrayvec::ArrayVec;
 use std::marker::Model;
 
@@ -50,7 +52,10 @@ pub struct Reference {
 }
 
 impl Default for Reference {
-    fn default() -> Reference {
+    /// What fills the places of a list that hold no reference yet.
+    fn default() -> Reference
+        ensures { result ≡ record { at = record { seg = 0; word = 0; ring = 0 }; kind = Kind.Fetch; count = 1 } }
+    {
         Reference {
             at: At {
                 word: 0,

@@ -1,8 +1,8 @@
 //! Steps worked out by hand, each computed from the definitions.
 
-ghost use Rattle.m36_model.specs.WorkedAddresses.{LoadReadsItsWord, StopFollows, LastWordOfTheBoundIsRead, WordPastTheBoundIsNot, PairTakesTheBracketOfItsSegment, SeventeenthIndirectWordLocksUp, SixteenIndirectWordsAreServed, IndexIsHeldOverTheIndirectWord, TallyWordsCount, LoadSeesTheNewTallyWord, StoreComesAfterTheTallyWord, RefusedTallyWordChangesNothing};
+ghost use Rattle.m36_model.specs.WorkedAddresses.{LoadReadsItsWord, StopFollows, LastWordOfTheBoundIsRead, WordPastTheBoundIsNot, PairTakesTheBracketOfItsSegment, SeventeenthIndirectWordLocksUp, SixteenIndirectWordsAreServed, IndexIsHeldOverTheIndirectWord, TallyWordsCount, LoadSeesTheNewTallyWord, StoreComesAfterTheTallyWord, RefusedTallyWordChangesNothing, DirectOperandIsTheAddress, DirectOperandsAreRefused, TagsOfTheInstruction, FaultTagTakesTheBracketOfItsSegment};
 ghost use Rattle.m36_model.specs.WorkedCalls.{CallThroughAGate, CallPastTheLimiter, CallFromAboveTheBracket, OutwardCall, CallWithRaisedRing, CallWithinTheRing, ReturnTakesThePairsRing, ReturnTakesTheGreatestRing, PackedPointerWithAWrongBitNumber, OneTakesTheLock};
-ghost use Rattle.m36_model.specs.WorkedEffects.{ComparisonIsSigned, OverflowStoresAndFaults, MaskedOverflowGoesOn, LeastNumberHasNoNegative, SquareOfTheLeastNumber, QuotientIsCutTowardZero, DivisionByZeroIsRefused, LeftShiftSetsCarry, RightShiftCopiesTheSign, RotationComesRound, TransferSetsTheIndex};
+ghost use Rattle.m36_model.specs.WorkedEffects.{ComparisonIsSigned, OverflowStoresAndFaults, MaskedOverflowGoesOn, LeastNumberHasNoNegative, SquareOfTheLeastNumber, QuotientIsCutTowardZero, DivisionByZeroIsRefused, LeftShiftSetsCarry, RightShiftCopiesTheSign, RotationComesRound, TransferSetsTheIndex, BooleansGoBitByBit, LongShiftsCrossTheWords, SignIsExtended, IndicatorsAreLoaded, IndicatorsAreStored};
 
 /// Each worked step is what the definitions compute.
 pub fn worked_steps()
@@ -18,6 +18,10 @@ pub fn worked_steps()
     ensures load_sees_the_new_tally_word { LoadSeesTheNewTallyWord }
     ensures store_comes_after_the_tally_word { StoreComesAfterTheTallyWord }
     ensures refused_tally_word_changes_nothing { RefusedTallyWordChangesNothing }
+    ensures direct_operand_is_the_address { DirectOperandIsTheAddress }
+    ensures direct_operands_are_refused { DirectOperandsAreRefused }
+    ensures tags_of_the_instruction { TagsOfTheInstruction }
+    ensures fault_tag_takes_the_bracket_of_its_segment { FaultTagTakesTheBracketOfItsSegment }
     ensures call_through_a_gate { CallThroughAGate }
     ensures call_past_the_limiter { CallPastTheLimiter }
     ensures call_from_above_the_bracket { CallFromAboveTheBracket }
@@ -39,4 +43,9 @@ pub fn worked_steps()
     ensures right_shift_copies_the_sign { RightShiftCopiesTheSign }
     ensures rotation_comes_round { RotationComesRound }
     ensures transfer_sets_the_index { TransferSetsTheIndex }
+    ensures booleans_go_bit_by_bit { BooleansGoBitByBit }
+    ensures long_shifts_cross_the_words { LongShiftsCrossTheWords }
+    ensures sign_is_extended { SignIsExtended }
+    ensures indicators_are_loaded { IndicatorsAreLoaded }
+    ensures indicators_are_stored { IndicatorsAreStored }
 {}
