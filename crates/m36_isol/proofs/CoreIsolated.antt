@@ -8,13 +8,13 @@ use Rattle.m36_model.specs.Core.{core_store, core_tables}
 use Rattle.m36_model.specs.Sight.{tables_of}
 use Rattle.m36_model.specs.Step.{state_after}
 use Rattle.m36_model.specs.Audit.{IsAudited, is_stack_of}
-use Rattle.m36_model.specs.StoreLaw.{IsGuarded}
+use Rattle.m36_isol.specs.Gates.{IsGuarded}
 use Rattle.m36_model.specs.CoreLaw.{HasTables, IsSegmentSpot, IsMarkedFrom}
 use Rattle.m36_model.specs.Isolation.{HasPointers, Isolated}
-use Rattle.m36_model.specs.Laws.{IsAbove, SightLaw, ReachLaw, FallLaw, AgreeLaw, MarksLaw}
+use Rattle.m36_model.specs.Laws.{IsAbove, SightLaw, DependsLaw, ReachLaw, FallLaw, AgreeLaw, MarksLaw}
 use Rattle.m36_isol.proofs.CoreTables.{descriptor_of}
 use Rattle.m36_isol.proofs.CoreLaw.{lawful}
-use Rattle.m36_isol.proofs.StepLaws.{Backed, sight_law, reach_law, fall_law, agree_law, marks_law, pointers_stay}
+use Rattle.m36_isol.proofs.StepLaws.{Backed, sight_law, depends_law, reach_law, fall_law, agree_law, marks_law, pointers_stay}
 use Rattle.m36_isol.proofs.AuditedBy.{same_dbr}
 use Rattle.m36_isol.proofs.Windows.{windows_kept}
 
@@ -27,24 +27,32 @@ not_false true h = refl
 not_false false h = absurd (h refl)
 
 module _ (core : List ℕ) (dbr : DbrFields) (audited : IsAudited core dbr) where
+  -- gates and stacks
+  gate_by : (seg : ℕ) (d : SdwFields) → core_sdw core dbr seg ≡ Ok d → d.executable ≡ true → d.r2 < d.r3 → d.no_gate ≡ false
+  gate_by seg d live executable outer =
+      not_true d.no_gate (λ e. audited.fifth seg (record { sdw = d; callable = record { live = live; executable = executable; outer = outer }; open_everywhere = e }))
+
+  stack_by : (seg : ℕ) (d : SdwFields) → core_sdw core dbr seg ≡ Ok d → d.executable ≡ true → d.r2 < d.r3 → is_stack_of d.r2 (core_sdw core dbr (8 * dbr.stack + d.r2)) ≡ true
+  stack_by seg d live executable outer =
+      not_false _ (λ e. audited.sixth seg (record { sdw = d; callable = record { live = live; executable = executable; outer = outer }; missing = e }))
+
+  pub core_gates : IsGuarded dbr (core_sdw core dbr)
+  core_gates =
+      record {
+        gates = λ seg d live executable outer. let gate = gate_by seg d live executable outer in cc;
+        stacks = stack_by;
+      }
+
   -- the descriptors of which the store's law speaks are those in core
   descriptor : (seg : ℕ) → core_sdw core dbr seg ≡ (lawful core dbr audited).sdws seg
   descriptor seg = (lawful core dbr audited).sdw_is core refl seg
 
-  gate_by : (seg : ℕ) (d : SdwFields) → (lawful core dbr audited).sdws seg ≡ Ok d → d.executable ≡ true → d.r2 < d.r3 → d.no_gate ≡ false
-  gate_by seg d live executable outer =
-      not_true d.no_gate (λ e. audited.fifth seg (record { sdw = d; callable = record { live = descriptor seg ∙ live; executable = executable; outer = outer }; open_everywhere = e }))
-
-  stack_by : (seg : ℕ) (d : SdwFields) → (lawful core dbr audited).sdws seg ≡ Ok d → d.executable ≡ true → d.r2 < d.r3 → is_stack_of d.r2 ((lawful core dbr audited).sdws (8 * dbr.stack + d.r2)) ≡ true
-  stack_by seg d live executable outer =
-      not_false _ (λ e. audited.sixth seg (record {
-        sdw = d;
-        callable = record { live = descriptor seg ∙ live; executable = executable; outer = outer };
-        missing = ap (is_stack_of d.r2) (descriptor (8 * dbr.stack + d.r2)) ∙ e;
-      }))
-
   pub guarded_by : IsGuarded dbr (lawful core dbr audited).sdws
-  guarded_by = record { gates = gate_by; stacks = stack_by }
+  guarded_by =
+      record {
+        gates = λ seg d live executable outer. core_gates.gates seg d (descriptor seg ∙ live) executable outer;
+        stacks = λ seg d live executable outer. ap (is_stack_of d.r2) (sym (descriptor (8 * dbr.stack + d.r2))) ∙ core_gates.stacks seg d (descriptor seg ∙ live) executable outer;
+      }
 
   backed_here : Backed core_store (core_tables core dbr) dbr
   backed_here =
@@ -70,6 +78,9 @@ module _ (core : List ℕ) (dbr : DbrFields) (audited : IsAudited core dbr) wher
 
   pub core_sight : SightLaw core_store (core_tables core dbr)
   core_sight = sight_law core_store (core_tables core dbr) backed
+
+  pub core_depends : DependsLaw core_store (core_tables core dbr)
+  core_depends = depends_law core_store (core_tables core dbr) backed
 
   pub core_reach : ReachLaw core_store (core_tables core dbr)
   core_reach = reach_law core_store (core_tables core dbr) backed

@@ -13,6 +13,7 @@ use Rattle.m36_model.specs.Audit.{IsSdwWord, Sdws, Directory, Pages, IsAudited}
 use Rattle.m36_model.specs.StoreLaw.{Each}
 use Rattle.m36_model.specs.CoreLaw.{IsPtwWord, IsMarked, IsButMarked, IsMarkedFrom}
 use Rattle.m36_model.specs.declared.outcome.Refusal.{Refusal}
+use Rattle.m36_isol.specs.MarkBits.{MarksKeepBits}
 use Rattle.m36_isol.proofs.Lists.{get_set_other, get_set_same, get_set_past, index_of_get, inside_of_get}
 use Rattle.m36_isol.proofs.CoreTables.{Matches, same_sdw}
 
@@ -47,9 +48,9 @@ unmarked_modified : (w : ℕ) → unmarked (with_modified (with_used w)) ≡ unm
 unfolding unmarked with_used with_modified
 unmarked_modified w = omega arith
 
-unmarked_word : (modified : Bool) (w : ℕ) → unmarked (marked_word modified w) ≡ unmarked w
-unmarked_word true w = unmarked_modified w
-unmarked_word false w = unmarked_used w
+pub unmarked_word : MarksKeepBits
+unmarked_word true w = let same = unmarked_modified w in omega arith
+unmarked_word false w = let same = unmarked_used w in omega arith
 
 is_marked : (modified : Bool) (w : ℕ) → IsMarked w (marked_word modified w)
 is_marked true w = inr refl

@@ -5,7 +5,8 @@ use Rattle.m36_model.specs.Registers.{RegsFields}
 use Rattle.m36_model.specs.Store.{Spot, Change, Store, Ran, run, changes}
 use Rattle.m36_model.specs.Sight.{content_in}
 use Rattle.m36_model.specs.Step.{Ending, program, step_record}
-use Rattle.m36_model.specs.StoreLaw.{Each, same_spot, overlay, IsWord, IsSpot, Lawful, IsGuarded}
+use Rattle.m36_model.specs.StoreLaw.{Each, same_spot, overlay, IsWord, IsSpot, Lawful}
+use Rattle.m36_isol.specs.Gates.{IsGuarded}
 use Rattle.m36_isol.proofs.Program.{AreRan, run_alike}
 use Rattle.m36_isol.proofs.Alike.{Sees, Reaches, IsReached, May, Known, Alike, SeeEqual}
 use Rattle.m36_isol.proofs.Spots.{each_change, each_map}
@@ -95,6 +96,11 @@ module _ {S : Type 0} (o : Store S) (g : RegsFields) (Has : S → Type 0) (Lies 
         let value = b.value in
         let claims = b.mid.claims in
         λ i. changes (claims i) (value i).puts
+
+    -- content that was equal stays equal, in sight or not
+    pub equal_stays : (seg w : ℕ) → content_in o s g.dbr seg w ≡ content_in o t g.dbr seg w → content_in o (after_run s) g.dbr seg w ≡ content_in o (after_run t) g.dbr seg w
+    equal_stays seg w e =
+        content_equal o g.dbr Has Lies Near L (after_run s) (after_run t) (after_has s h) (after_has t k) seg w (λ p word. after_word s h p (L.lies seg w p word) ∙ ap (overlay (writes_of s) p) (words_equal o g.dbr Has Lies Near L s t h k seg w p word e) ∙ ap (λ (c : List Change). overlay c p (o.word t p)) same_writes ∙ sym (after_word t k p (L.lies seg w p word)))
 
     after_equal : SeeEqual o L.sdws L.spots r (after_run s) (after_run t)
     after_equal seg w p sees word =

@@ -16,7 +16,7 @@ use Rattle.m36_model.specs.Modification.{here, fault_at}
 use Rattle.m36_model.specs.FirstPoint.{first_point, first_point_by}
 use Rattle.m36_model.specs.Chain.{ChainEnd, chain}
 use Rattle.m36_model.specs.Step.{Performed, Ending, outcome_by, halted, completed, operate, operated, indirect_words, addressed, no_address, started, admitted, decode, decoded, program}
-use Rattle.m36_model.specs.StoreLaw.{IsGuarded}
+use Rattle.m36_isol.specs.Gates.{IsGuarded}
 use Rattle.m36_model.specs.Audit.{is_stack_of}
 use Rattle.m36_model.specs.Isolation.{HasPointers}
 use Rattle.m36_model.specs.declared.outcome.Halt.{Halt}
@@ -25,7 +25,8 @@ use Rattle.m36_model.specs.declared.outcome.Stop.TheVariants as stop
 use Rattle.m36_model.specs.declared.outcome.Outcome.TheVariants.{Next}
 use Rattle.m36_model.specs.declared.outcome.Refusal.{Refusal}
 use Rattle.m36_isol.proofs.Program.{Meets, meets_then, Either}
-use Rattle.m36_isol.proofs.Rights.{fetch_rights, MayFetch}
+use Rattle.m36_isol.proofs.Rights.{fetch_rights}
+use Rattle.m36_isol.specs.Rights.{MayFetch}
 use Rattle.m36_isol.proofs.Alike.{Sees, May, Known}
 use Rattle.m36_isol.proofs.Serve.{or_right}
 use Rattle.m36_isol.proofs.Chains.{InRing, AnyHalt, chain_meets}

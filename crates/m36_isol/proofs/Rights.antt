@@ -1,11 +1,12 @@
 -- What an allowed reference tells of the descriptor.
-use Rattle.std.proofs.Common.{◌≡◌, refl, inl, inr}
-use Rattle.std.specs.Prelude.{ℕ, ◌<◌, ◌≤◌, ◌⊎◌, Bool, true, false, not, ◌&&◌, nat_le, List, [], ◌∷◌, None}
-use Rattle.std.proofs.lemmas.Bool.{ltb-false, leb-false}
+use Rattle.std.proofs.Common.{◌≡◌, refl, inl, inr, ⊎_elim, arith, eqb-true}
+use Rattle.std.specs.Prelude.{ℕ, ◌==◌, ◌<◌, ◌≤◌, ◌⊎◌, Bool, true, false, not, ◌&&◌, nat_le, List, [], ◌∷◌, None}
+use Rattle.std.proofs.lemmas.Bool.{ltb-false, leb-false, leb-true}
 use Rattle.m36_desc.specs.Fields.{SdwFields}
 use Rattle.m36_desc.specs.Access.{first_of, in_order, read_rows}
 use Rattle.m36_model.specs.Act.{RequestKind, Fetch, Indirect, Odd, Read, Write, Transfer, Call, Locate}
 use Rattle.m36_model.specs.Store.{rows, denied}
+use Rattle.m36_isol.specs.Rights.{IsOrdered, MayFetch, MayRead, MayWrite, MayTransfer, MayCall, RightsLaw}
 
 -- no row's condition holds
 abbrev NoneHold : List (Bool × ℕ) → Type 0
@@ -36,10 +37,18 @@ denied_order Transfer d trr prr same word h = not_false _ (none_hold (rows Trans
 denied_order Call d trr prr same word h = not_false _ (none_hold (rows Call d trr prr same word) h).0
 denied_order Locate d trr prr same word h = not_false _ (none_hold (rows Locate d trr prr same word) h).0
 
-pub record MayFetch (d : SdwFields) (prr : ℕ) : Type 0 where
-  pub low : d.r1 ≤ prr
-  pub high : prr ≤ d.r2
-  pub executable : d.executable ≡ true
+-- the order of the brackets in numbers
+order_by : (a b : Bool) → (a && b) ≡ true → (a ≡ true) × (b ≡ true)
+order_by true b h = (refl, h)
+order_by false b h = cc
+
+ordered : (d : SdwFields) → in_order d ≡ true → IsOrdered d
+ordered d h =
+    let k = order_by (nat_le d.r1 d.r2) (nat_le d.r2 d.r3) h in
+    record { first = leb-true d.r1 d.r2 k.0; second = leb-true d.r2 d.r3 k.1 }
+
+pub order_rights : (kind : RequestKind) (d : SdwFields) (trr prr : ℕ) (same : Bool) (word : ℕ) → denied kind d trr prr same word ≡ None → IsOrdered d
+order_rights kind d trr prr same word h = ordered d (denied_order kind d trr prr same word h)
 
 pub fetch_rights : (d : SdwFields) (trr prr : ℕ) (same : Bool) (word : ℕ) → denied Fetch d trr prr same word ≡ None → MayFetch d prr
 unfolding denied
@@ -51,11 +60,6 @@ fetch_rights d trr prr same word h =
       executable = not_false d.executable k.1.1.1.0;
     }
 
--- a reader stands in the read bracket, and the segment is readable or executes
-pub record MayRead (d : SdwFields) (trr : ℕ) (same : Bool) : Type 0 where
-  pub high : trr ≤ d.r2
-  pub opens : (d.readable ≡ true) ⊎ (same ≡ true)
-
 readable_or : (readable same : Bool) → (not readable && not same) ≡ false → (readable ≡ true) ⊎ (same ≡ true)
 readable_or true same h = inl refl
 readable_or false true h = inr refl
@@ -64,7 +68,10 @@ readable_or false false h = cc
 readers : (d : SdwFields) (trr : ℕ) (same : Bool) → first_of (read_rows d trr same) ≡ None → MayRead d trr same
 readers d trr same h =
     let k = none_hold (read_rows d trr same) h in
-    record { high = ltb-false d.r2 trr k.1.0; opens = readable_or d.readable same k.1.1.0 }
+    let order = ordered d (not_false (in_order d) k.0) in
+    let high = ltb-false d.r2 trr k.1.0 in
+    let opens = readable_or d.readable same k.1.1.0 in
+    record { high = omega arith; opens = ⊎_elim (λ readable. inl readable) (λ executing. inr (cc)) opens }
 
 pub read_rights : (d : SdwFields) (trr prr : ℕ) (same : Bool) (word : ℕ) → denied Read d trr prr same word ≡ None → MayRead d trr same
 unfolding denied
@@ -78,32 +85,24 @@ pub odd_rights : (d : SdwFields) (trr prr : ℕ) (same : Bool) (word : ℕ) → 
 unfolding denied
 odd_rights d trr prr same word h = readers d trr same h
 
-pub record MayWrite (d : SdwFields) (trr : ℕ) : Type 0 where
-  pub high : trr ≤ d.r1
-  pub writable : d.writable ≡ true
-
 pub write_rights : (d : SdwFields) (trr prr : ℕ) (same : Bool) (word : ℕ) → denied Write d trr prr same word ≡ None → MayWrite d trr
 unfolding denied
 write_rights d trr prr same word h =
     let k = none_hold (rows Write d trr prr same word) h in
-    record { high = ltb-false d.r1 trr k.1.0; writable = not_false d.writable k.1.1.0 }
-
-pub record MayTransfer (d : SdwFields) (trr prr : ℕ) : Type 0 where
-  pub high : trr ≤ d.r2
-  pub executable : d.executable ≡ true
+    let order = ordered d (not_false (in_order d) k.0) in
+    let high = ltb-false d.r1 trr k.1.0 in
+    record { high = omega arith; writable = not_false d.writable k.1.1.0 }
 
 pub transfer_rights : (d : SdwFields) (trr prr : ℕ) (same : Bool) (word : ℕ) → denied Transfer d trr prr same word ≡ None → MayTransfer d trr prr
 unfolding denied
 transfer_rights d trr prr same word h =
     let k = none_hold (rows Transfer d trr prr same word) h in
-    record { high = ltb-false d.r2 trr k.1.1.0; executable = not_false d.executable k.1.1.1.0 }
-
--- a caller stands between the first and the third bracket, and enters another segment's gate below its limiter
-pub record MayCall (d : SdwFields) (trr : ℕ) (same : Bool) (word : ℕ) : Type 0 where
-  pub executable : d.executable ≡ true
-  pub entry : d.no_gate ≡ false → same ≡ false → word < d.limit
-  pub high : trr ≤ d.r3
-  pub low : d.r1 ≤ trr
+    record {
+      low = ltb-false trr d.r1 k.1.0;
+      high = ltb-false d.r2 trr k.1.1.0;
+      executable = not_false d.executable k.1.1.1.0;
+      ring = eqb-true trr prr (not_false (trr == prr) k.1.1.1.1.0);
+    }
 
 entry_by : (no_gate same : Bool) (limit word : ℕ) → (not no_gate && (not same && nat_le limit word)) ≡ false → no_gate ≡ false → same ≡ false → word < limit
 entry_by true same limit word h gate other = cc
@@ -116,7 +115,20 @@ call_rights d trr prr same word h =
     let k = none_hold (rows Call d trr prr same word) h in
     record {
       executable = not_false d.executable k.1.0;
-      entry = entry_by d.no_gate same d.limit word k.1.1.0;
+      entry = λ gate other. let below = entry_by d.no_gate same d.limit word k.1.1.0 gate other in omega arith;
       high = ltb-false d.r3 trr k.1.1.1.0;
       low = ltb-false trr d.r1 k.1.1.1.1.0;
+    }
+
+pub rights_law : RightsLaw
+rights_law =
+    record {
+      order = order_rights;
+      fetch = fetch_rights;
+      indirect = indirect_rights;
+      odd = odd_rights;
+      read = read_rights;
+      write = write_rights;
+      transfer = transfer_rights;
+      call = call_rights;
     }

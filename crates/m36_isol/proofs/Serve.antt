@@ -14,7 +14,8 @@ use Rattle.m36_model.specs.declared.outcome.Fault.{Fault}
 use Rattle.m36_model.specs.declared.outcome.Refusal.{Refusal}
 use Rattle.m36_model.specs.declared.place.Reference.{Reference}
 use Rattle.m36_isol.proofs.Program.{AreServed}
-use Rattle.m36_isol.proofs.Rights.{denied_order, fetch_rights, read_rights, indirect_rights, odd_rights, write_rights, MayRead, MayFetch}
+use Rattle.m36_isol.proofs.Rights.{denied_order, fetch_rights, read_rights, indirect_rights, odd_rights, write_rights}
+use Rattle.m36_isol.specs.Rights.{MayRead, MayFetch}
 use Rattle.m36_isol.proofs.Alike.{Sees, Reaches, IsReached, IsAllowedReference, May, MayRing, Known, IsKept, Alike, SeeEqual}
 use Rattle.m36_isol.proofs.Spots.{AreWords, same_spots, are_words, begins, each_append, each_change, each_map}
 

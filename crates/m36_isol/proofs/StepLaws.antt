@@ -8,9 +8,10 @@ use Rattle.m36_model.specs.Sight.{InSight, InReach, Unreached, content, content_
 use Rattle.m36_model.specs.Agree.{Agree}
 use Rattle.m36_model.specs.Audit.{is_stack_of}
 use Rattle.m36_model.specs.Step.{program, record_of, state_after}
-use Rattle.m36_model.specs.StoreLaw.{Each, Lawful, IsGuarded}
+use Rattle.m36_model.specs.StoreLaw.{Each, Lawful}
+use Rattle.m36_isol.specs.Gates.{IsGuarded}
 use Rattle.m36_model.specs.Isolation.{IsGateCall, HasPointers}
-use Rattle.m36_model.specs.Laws.{IsAbove, MayRefer, IsWithin, SightLaw, ReachLaw, FallLaw, MarksAlterNothing, MarksLaw, IsAlike, AgreeLaw, ExecutesLdbr}
+use Rattle.m36_model.specs.Laws.{IsAbove, MayRefer, IsWithin, SightLaw, DependsLaw, ReachLaw, FallLaw, MarksAlterNothing, MarksLaw, IsAlike, AgreeLaw, ExecutesLdbr}
 use Rattle.m36_model.specs.declared.outcome.Refusal.{Refusal}
 use Rattle.m36_model.specs.declared.place.Kind.{Kind}
 use Rattle.m36_model.specs.declared.place.Kind.TheVariants as reference
@@ -19,7 +20,7 @@ use Rattle.m36_isol.proofs.Alike.{Sees, Reaches, IsAllowed, IsAllowedReference, 
 use Rattle.m36_isol.proofs.Spots.{each_map}
 use Rattle.m36_isol.proofs.Programs.{IsGone}
 use Rattle.m36_isol.proofs.Contents.{place_tables}
-use Rattle.m36_isol.proofs.OneStep.{one_run, after_has, unreached, same_record, after_content, see_equal}
+use Rattle.m36_isol.proofs.OneStep.{one_run, after_has, unreached, same_record, equal_stays, after_content, see_equal}
 
 -- what is known of a store where its tables are T
 pub record Backed {S : Type 0} (o : Store S) (T : Tables) (dbr : DbrFields) : Type 1 where
@@ -186,6 +187,11 @@ module _ {S : Type 0} (o : Store S) (T : Tables) (g : RegsFields) (B : Backed o 
   content_alike seg w sees =
       after_content o g B.Has B.Lies B.Near B.law B.guarded r low store other (B.has store tables) (B.has other same) equal_words seg w sees
 
+  words_alike : (seg w : ℕ) → content o one seg w ≡ content o two seg w → content_in o (state_after o one).store g.dbr seg w ≡ content_in o (state_after o two).store g.dbr seg w
+  unfolding state_after
+  words_alike seg w e =
+      equal_stays o g B.Has B.Lies B.Near B.law B.guarded r low store other (B.has store tables) (B.has other same) equal_words seg w e
+
   pub marks_alike : MarksAlterNothing o one two
   marks_alike =
       record {
@@ -204,6 +210,7 @@ module _ {S : Type 0} (o : Store S) (T : Tables) (g : RegsFields) (B : Backed o 
           tables = after_one ∙ sym after_two;
           contents = λ seg w sees. ap (λ (d : DbrFields). content_in o (state_after o one).store d seg w) stays_one ∙ content_alike seg w (sees_after o T g B r low store tables some seg sees) ∙ sym (ap (λ (d : DbrFields). content_in o (state_after o two).store d seg w) stays_two);
         };
+        words = λ seg w e. ap (λ (d : DbrFields). content_in o (state_after o one).store d seg w) stays_one ∙ words_alike seg w e ∙ sym (ap (λ (d : DbrFields). content_in o (state_after o two).store d seg w) stays_two);
         tables = after_one;
       }
     where
@@ -243,6 +250,15 @@ module _ {S : Type 0} (o : Store S) (T : Tables) (backs : (s : State S) → tabl
   agree_law r a b some above agree =
       let p = twin a b agree.regs in
       subst (λ (x : State S). IsAlike o T r a x) p (alike_twin r a b.store some above (subst (λ (x : State S). Agree o r a x) (sym p) agree))
+
+  told_twin : (r : ℕ) (a : State S) (other : S) → IsAbove o T r a → Agree o r a (record { regs = a.regs; store = other }) → record_of o a ≡ record_of o (record { regs = a.regs; store = other })
+  told_twin r a other above agree =
+      told_alike o T a.regs (backs a above.tables) r above.low a.store other above.tables (sym agree.tables ∙ above.tables) agree.contents
+
+  pub depends_law : DependsLaw o T
+  depends_law r a b above agree =
+      let p = twin a b agree.regs in
+      subst (λ (x : State S). record_of o a ≡ record_of o x) p (told_twin r a b.store above (subst (λ (x : State S). Agree o r a x) (sym p) agree))
 
   marks_twin : (a : State S) (other : S) → tables_of o a ≡ T → o.tables other a.regs.dbr ≡ T → ((seg w : ℕ) → content o a seg w ≡ content_in o other a.regs.dbr seg w) → MarksAlterNothing o a (record { regs = a.regs; store = other })
   marks_twin a other tables same contents =

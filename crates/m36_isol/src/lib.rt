@@ -16,13 +16,30 @@ ghost use Rattle.m36_model.specs.Audit.{IsAudited};
 ghost use Rattle.m36_model.specs.StoreLaw.{Lawful};
 ghost use Rattle.m36_model.specs.CoreLaw.{HasTables, IsSegmentSpot, IsMarkedFrom};
 ghost use Rattle.m36_model.specs.Isolation.{Isolated};
-ghost use Rattle.m36_model.specs.Laws.{EffectLaw, SightLaw, ReachLaw, CoreReachLaw, FallLaw, MarksLaw, AgreeLaw, KeptLaw};
+ghost use Rattle.m36_isol.specs.Rights.{RightsLaw};
+ghost use Rattle.m36_isol.specs.Gates.{GatesLaw};
+ghost use Rattle.m36_isol.specs.MarkBits.{MarksKeepBits};
+ghost use Rattle.m36_model.specs.Laws.{EffectLaw, DependsLaw, SightLaw, ReachLaw, CoreReachLaw, FallLaw, MarksLaw, AgreeLaw, KeptLaw};
+
+/// What an allowed reference tells of the brackets and the rights of its segment.
+pub fn law_rights()
+    ensures { RightsLaw }
+{
+}
+
+/// Where the audit conditions hold, a segment that rings outside its read bracket may call is a gate, and the ring that
+/// a call enters has a stack.
+pub fn law_gates()
+    ensures { GatesLaw }
+{
+}
 
 /// Core as a store owes what the laws want, where the audit conditions hold: descriptors and places are by the tables
 /// but for marks; a word at the place of a segment word is its content; marks and words written at segment words change
-/// neither tables nor other words.
+/// neither tables nor other words. A mark changes no other bit of its page table word.
 pub fn law_store()
-    ensures { (core : List ℕ) (dbr : DbrFields) → IsAudited core dbr → Lawful core_store dbr (HasTables core dbr) (IsSegmentSpot core dbr) (IsMarkedFrom core dbr) }
+    ensures marks { MarksKeepBits }
+    ensures store { (core : List ℕ) (dbr : DbrFields) → IsAudited core dbr → Lawful core_store dbr (HasTables core dbr) (IsSegmentSpot core dbr) (IsMarkedFrom core dbr) }
 {}
 
 /// An effect changes the ring in CALL6 and RTCD alone and the DBR in LDBR alone, and puts as many words as its operand
@@ -31,9 +48,11 @@ pub fn law_effect()
     ensures { EffectLaw }
 {}
 
-/// In ring r and above a step refers to segments in sight of r alone, and writes to segments in reach of r alone.
+/// In ring r and above a step refers to segments in sight of r alone, and writes to segments in reach of r alone; and
+/// what stands outside the sight of r alters no record.
 pub fn law_sight()
-    ensures { (core : List ℕ) (dbr : DbrFields) → IsAudited core dbr → SightLaw core_store (core_tables core dbr) }
+    ensures depends { (core : List ℕ) (dbr : DbrFields) → IsAudited core dbr → DependsLaw core_store (core_tables core dbr) }
+    ensures refers { (core : List ℕ) (dbr : DbrFields) → IsAudited core dbr → SightLaw core_store (core_tables core dbr) }
 {}
 
 /// In ring r and above a step changes no content outside the reach of r, and of core words those in reach alone, but

@@ -72,10 +72,13 @@ MayRefer o r s seg reference.Write = InReach o s r seg
 abbrev pub IsWithin : {S : Type 0} → Store S → ℕ → State S → Reference → Type 0
 IsWithin o r s e = MayRefer o r s e.at.seg e.kind
 
--- Each completed reference of a step is to a segment in sight, for a Write in reach. That nothing else is read follows
--- from what agreement says.
+-- Each completed reference of a step is to a segment in sight, for a Write in reach.
 abbrev pub SightLaw : {S : Type 0} → Store S → Tables → Type 0
 SightLaw {S} o T = (r : ℕ) (s : State S) → IsAbove o T r s → Each (IsWithin o r s) (record_of o s).refs.items
+
+-- What stands outside the sight of ring r alters no record.
+abbrev pub DependsLaw : {S : Type 0} → Store S → Tables → Type 0
+DependsLaw {S} o T = (r : ℕ) (a b : State S) → IsAbove o T r a → Agree o r a b → record_of o a ≡ record_of o b
 
 -- A step changes the content of no live segment outside reach.
 abbrev pub ReachLaw : {S : Type 0} → Store S → Tables → Type 0
@@ -113,6 +116,8 @@ MarksLaw {S} o T =
 pub record IsAlike {S : Type 0} (o : Store S) (T : Tables) (r : ℕ) (a b : State S) : Type 0 where
   pub told : record_of o a ≡ record_of o b
   pub agree : Agree o r (state_after o a) (state_after o b)
+  -- content that was equal stays equal, in sight or not: so the half of a word that a store keeps shows nowhere else
+  pub words : (seg w : ℕ) → content o a seg w ≡ content o b seg w → content o (state_after o a) seg w ≡ content o (state_after o b) seg w
   pub tables : tables_of o (state_after o a) ≡ T
 
 abbrev pub AgreeLaw : {S : Type 0} → Store S → Tables → Type 0

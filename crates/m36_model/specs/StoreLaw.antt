@@ -4,7 +4,6 @@ use Rattle.m36_desc.specs.Fields.{SdwFields, DbrFields}
 use Rattle.m36_model.specs.Act.{RequestKind}
 use Rattle.m36_model.specs.Store.{Spot, Core_word, Segment_word, Change, Store, written, placed}
 use Rattle.m36_model.specs.Sight.{content_in}
-use Rattle.m36_model.specs.Audit.{is_stack_of}
 use Rattle.m36_model.specs.declared.outcome.Refusal.{Refusal}
 
 abbrev pub Each : {A : Type 0} → (A → Type 0) → List A → Type 0
@@ -57,9 +56,3 @@ pub record Lawful {S : Type 0} (o : Store S) (dbr : DbrFields) (Has : S → Type
   -- and words written at words of segments change those alone.
   pub put_tables : (s : S) → Has s → (puts : List Change) → Each (IsSpot sdws spots) puts → Has (o.put s puts)
   pub put_word : (s : S) → Has s → (puts : List Change) → Each (IsSpot sdws spots) puts → (p : Spot) → Lies p → o.word (o.put s puts) p ≡ overlay puts p (o.word s p)
-
--- gates and stacks by the descriptors alone: a segment that rings outside its read bracket may call is a gate, and the
--- ring that a call enters has a stack
-pub record IsGuarded (dbr : DbrFields) (sdws : ℕ → Result SdwFields Refusal) : Type 0 where
-  pub gates : (seg : ℕ) (d : SdwFields) → sdws seg ≡ Ok d → d.executable ≡ true → d.r2 < d.r3 → d.no_gate ≡ false
-  pub stacks : (seg : ℕ) (d : SdwFields) → sdws seg ≡ Ok d → d.executable ≡ true → d.r2 < d.r3 → is_stack_of d.r2 (sdws (8 * dbr.stack + d.r2)) ≡ true

@@ -1,5 +1,9 @@
 use Rattle.m36_isol.proofs.CoreLaw.{lawful}
+use Rattle.m36_isol.proofs.CoreMarks.{unmarked_word}
 use Rattle.m36_isol.proofs.law_store.Goals as goal
 
-pub returns : goal.returns
-returns c = lawful
+pub returns-clause-marks : goal.returns-clause-marks
+returns-clause-marks c = unmarked_word
+
+pub returns-clause-store : goal.returns-clause-store
+returns-clause-store c = lawful

@@ -1,0 +1,50 @@
+-- What an allowed reference tells of the descriptor: the brackets and rights in plain terms, which the laws use.
+use Rattle.std.specs.Prelude.{◌≡◌, ℕ, ◌<◌, ◌≤◌, ◌⊎◌, Bool, true, false, None}
+use Rattle.m36_desc.specs.Fields.{SdwFields}
+use Rattle.m36_model.specs.Act.{RequestKind, Fetch, Indirect, Odd, Read, Write, Transfer, Call}
+use Rattle.m36_model.specs.Store.{denied}
+
+-- the brackets are in order, as for every allowed reference
+pub record IsOrdered (d : SdwFields) : Type 0 where
+  pub first : d.r1 ≤ d.r2
+  pub second : d.r2 ≤ d.r3
+
+-- an instruction is fetched within the execute bracket
+pub record MayFetch (d : SdwFields) (prr : ℕ) : Type 0 where
+  pub low : d.r1 ≤ prr
+  pub high : prr ≤ d.r2
+  pub executable : d.executable ≡ true
+
+-- a reader stands in the read bracket, and the segment is readable or the one that executes
+pub record MayRead (d : SdwFields) (trr : ℕ) (same : Bool) : Type 0 where
+  pub high : trr ≤ d.r2
+  pub opens : (d.readable ≡ true) ⊎ (same ≡ true)
+
+-- a writer stands in the write bracket
+pub record MayWrite (d : SdwFields) (trr : ℕ) : Type 0 where
+  pub high : trr ≤ d.r1
+  pub writable : d.writable ≡ true
+
+-- a transfer stays in its ring, within the execute bracket
+pub record MayTransfer (d : SdwFields) (trr prr : ℕ) : Type 0 where
+  pub low : d.r1 ≤ trr
+  pub high : trr ≤ d.r2
+  pub executable : d.executable ≡ true
+  pub ring : trr ≡ prr
+
+-- a caller stands between the first and the third bracket, and enters the gate of another segment below its limiter
+pub record MayCall (d : SdwFields) (trr : ℕ) (same : Bool) (word : ℕ) : Type 0 where
+  pub executable : d.executable ≡ true
+  pub entry : d.no_gate ≡ false → same ≡ false → word < d.limit
+  pub high : trr ≤ d.r3
+  pub low : d.r1 ≤ trr
+
+pub record RightsLaw : Type 0 where
+  pub order : (kind : RequestKind) (d : SdwFields) (trr prr : ℕ) (same : Bool) (word : ℕ) → denied kind d trr prr same word ≡ None → IsOrdered d
+  pub fetch : (d : SdwFields) (trr prr : ℕ) (same : Bool) (word : ℕ) → denied Fetch d trr prr same word ≡ None → MayFetch d prr
+  pub indirect : (d : SdwFields) (trr prr : ℕ) (same : Bool) (word : ℕ) → denied Indirect d trr prr same word ≡ None → MayRead d trr same
+  pub odd : (d : SdwFields) (trr prr : ℕ) (same : Bool) (word : ℕ) → denied Odd d trr prr same word ≡ None → MayRead d trr same
+  pub read : (d : SdwFields) (trr prr : ℕ) (same : Bool) (word : ℕ) → denied Read d trr prr same word ≡ None → MayRead d trr same
+  pub write : (d : SdwFields) (trr prr : ℕ) (same : Bool) (word : ℕ) → denied Write d trr prr same word ≡ None → MayWrite d trr
+  pub transfer : (d : SdwFields) (trr prr : ℕ) (same : Bool) (word : ℕ) → denied Transfer d trr prr same word ≡ None → MayTransfer d trr prr
+  pub call : (d : SdwFields) (trr prr : ℕ) (same : Bool) (word : ℕ) → denied Call d trr prr same word ≡ None → MayCall d trr same word
