@@ -20,3 +20,4 @@ pub mod Windows
 pub mod AuditedBy
 pub mod CoreIsolated
 pub mod CoreReach
+pub mod Findings

@@ -1,3 +1,4 @@
 pub mod Rights
 pub mod Gates
 pub mod MarkBits
+pub mod Findings

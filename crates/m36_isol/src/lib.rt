@@ -16,10 +16,17 @@ ghost use Rattle.m36_model.specs.Audit.{IsAudited};
 ghost use Rattle.m36_model.specs.StoreLaw.{Lawful};
 ghost use Rattle.m36_model.specs.CoreLaw.{HasTables, IsSegmentSpot, IsMarkedFrom};
 ghost use Rattle.m36_model.specs.Isolation.{Isolated};
+ghost use Rattle.m36_isol.specs.Findings.{FindingsLaw};
 ghost use Rattle.m36_isol.specs.Rights.{RightsLaw};
 ghost use Rattle.m36_isol.specs.Gates.{GatesLaw};
 ghost use Rattle.m36_isol.specs.MarkBits.{MarksKeepBits};
 ghost use Rattle.m36_model.specs.Laws.{EffectLaw, DependsLaw, SightLaw, ReachLaw, CoreReachLaw, FallLaw, MarksLaw, AgreeLaw, KeptLaw};
+
+/// An audit finds nothing exactly where all six conditions hold, and there is one list of findings.
+pub fn law_findings()
+    ensures { FindingsLaw }
+{
+}
 
 /// What an allowed reference tells of the brackets and the rights of its segment.
 pub fn law_rights()
