@@ -1,6 +1,6 @@
 -- The findings of an audit: none exactly where all conditions hold, and one list of them.
 use Rattle.std.proofs.Common.{◌≡◌, refl, sym, ◌∙◌, ap, subst, le_antisymm}
-use Rattle.std.specs.Prelude.{ℕ, ◌≤◌, List, [], ◌∷◌, ◌++◌, Option, Some, None}
+use Rattle.std.specs.Prelude.{ℕ, List, [], ◌∷◌, ◌++◌, Option, Some, None}
 use Rattle.m36_desc.specs.Fields.{DbrFields}
 use Rattle.m36_model.specs.Audit.{Finds, noted, AreFindings, IsAudited}
 use Rattle.m36_isol.specs.Findings.{FindingsLaw}

@@ -1,6 +1,6 @@
 -- What an allowed reference tells of the descriptor.
 use Rattle.std.proofs.Common.{◌≡◌, refl, inl, inr, ⊎_elim, arith, eqb-true}
-use Rattle.std.specs.Prelude.{ℕ, ◌==◌, ◌<◌, ◌≤◌, ◌⊎◌, Bool, true, false, not, ◌&&◌, nat_le, List, [], ◌∷◌, None}
+use Rattle.std.specs.Prelude.{ℕ, ◌==◌, ◌<◌, ◌⊎◌, Bool, true, false, not, ◌&&◌, nat_le, List, [], ◌∷◌, None}
 use Rattle.std.proofs.lemmas.Bool.{ltb-false, leb-false, leb-true}
 use Rattle.m36_desc.specs.Fields.{SdwFields}
 use Rattle.m36_desc.specs.Access.{first_of, in_order, read_rows}

@@ -1,7 +1,13 @@
 //! The laws on which isolation rests.
 //!
+//! Where the six audit conditions hold of the tables of a core, each ring from 1 to 7 is isolated: for any programs in
+//! that ring and above, up to the first fault, stop or gate call, no word changes that the ring may not write, and no
+//! step depends on a word that it may not read (`law_window`). The other functions are the facts on the way: of stores,
+//! of rights, of effects, of one step, of two states that look the same, and of the conditions themselves. The one
+//! premise beside the audit is that the processor has eight pointer registers, which its type gives.
+//!
 //! Each law is a function that takes nothing and does nothing. Its contract is the law: a statement on the definitions
-//! of the machine alone, for all states. The proofs go over stores in general (what a store owes is the first law) and
+//! of the machine alone, for all states. The proofs go over stores in general (what a store owes is `law_store`) and
 //! over programs that ask them (a step is such a program); so the laws of a step are proved by kinds of operands and by
 //! rules of the address chain, and only what an effect changes goes over all instructions.
 //!
@@ -25,21 +31,18 @@ ghost use Rattle.m36_model.specs.Laws.{EffectLaw, DependsLaw, SightLaw, ReachLaw
 /// An audit finds nothing exactly where all six conditions hold, and there is one list of findings.
 pub fn law_findings()
     ensures { FindingsLaw }
-{
-}
+{}
 
 /// What an allowed reference tells of the brackets and the rights of its segment.
 pub fn law_rights()
     ensures { RightsLaw }
-{
-}
+{}
 
 /// Where the audit conditions hold, a segment that rings outside its read bracket may call is a gate, and the ring that
 /// a call enters has a stack.
 pub fn law_gates()
     ensures { GatesLaw }
-{
-}
+{}
 
 /// Core as a store owes what the laws want, where the audit conditions hold: descriptors and places are by the tables
 /// but for marks; a word at the place of a segment word is its content; marks and words written at segment words change

@@ -257,6 +257,15 @@ serve_sdw o g m q (Ok d) =
 unfoldable pub serve : {S : Type 0} → Store S → RegsFields → Mid S → Request → Served S
 serve o g m q = serve_sdw o g m q (o.sdw m.store g.dbr q.at.seg)
 
+-- A word read outside of any step, by the ring rules, that sets no marks and stands among no references: so the services
+-- read.
+abbrev pub without_marks : {S : Type 0} → Store S → Store S
+without_marks o = record o { marked = λ s dbr kind seg word. s }
+
+unfoldable pub examined : {S : Type 0} → Store S → RegsFields → S → AtFields → Result Answer Fault
+examined o g s at =
+    (serve (without_marks o) g (record { store = s; claims = []; refs = [] }) (record { kind = Read; at = at; count = 1; pending = [] })).reply
+
 -- what a program gives, and where the step stands then
 pub record Ran (A S : Type 0) : Type 0 where
   pub value : A
