@@ -1,5 +1,5 @@
 -- The store Core: a list of words, in which descriptors and pages are found by tables.
-use Rattle.std.specs.Prelude.{ℕ, zero, suc, ◌+◌, ◌*◌, ◌/◌, ◌%◌, Bool, not, ◌&&◌, if◌then◌else◌, List, [], ◌∷◌, length, slice_get, slice_index, slice_set, Option, option_map, Result, Ok, Err}
+use Rattle.std.specs.Prelude.{ℕ, zero, suc, ◌+◌, ◌*◌, ◌/◌, ◌%◌, not, ◌&&◌, if◌then◌else◌, List, [], ◌∷◌, length, slice_get, slice_index, slice_set, Option, option_map, Result, Ok, Err}
 use Rattle.m36_desc.specs.Fields.{SdwFields, DbrFields}
 use Rattle.m36_model.specs.Act.{Part}
 use Rattle.m36_model.specs.Place.{wrapped, directory_at, page_at, in_bounds, sdw_place, core_sdw, core_spot, core_marked}

@@ -1,6 +1,6 @@
 -- Isolation: programs of a ring and above neither change words that the ring may not write nor depend on words that it
 -- may not read, until they fault, stop, or leave through a gate.
-use Rattle.std.specs.Prelude.{◌≡◌, ℕ, ◌+◌, ◌*◌, ◌<◌, ◌≤◌, true, false, ◌&&◌, List, [], ◌∷◌, map, length, slice_get, Option, Some, None, Ok}
+use Rattle.std.specs.Prelude.{◌≡◌, ℕ, ◌<◌, ◌≤◌, true, false, ◌&&◌, List, [], ◌∷◌, map, length, slice_get, Some}
 use Rattle.m36_desc.specs.Fields.{SdwFields}
 use Rattle.m36_inst.specs.declared.effect.Effect.TheVariants as effect
 use Rattle.m36_model.specs.Fields.{FinalFields}

@@ -1,6 +1,6 @@
 -- The laws on which isolation rests, as statements on one step.
-use Rattle.std.specs.Prelude.{◌≡◌, ℕ, ◌+◌, ◌<◌, ◌≤◌, ◌⊎◌, true, false, List, length, slice_get, slice_index, Option, Some, Result, Ok}
-use Rattle.m36_desc.specs.Fields.{SdwFields, DbrFields}
+use Rattle.std.specs.Prelude.{◌≡◌, ℕ, ◌<◌, ◌≤◌, ◌⊎◌, false, List, length, slice_get, slice_index, Some, Ok}
+use Rattle.m36_desc.specs.Fields.{DbrFields}
 use Rattle.m36_inst.specs.Operands.{operand_of}
 use Rattle.m36_inst.specs.declared.effect.Effect.{Effect}
 use Rattle.m36_inst.specs.declared.effect.Effect.TheVariants as effect

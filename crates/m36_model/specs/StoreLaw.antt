@@ -1,5 +1,5 @@
 -- What a store owes to the laws of isolation: three facts, by its tables alone.
-use Rattle.std.specs.Prelude.{◌≡◌, ℕ, ◌+◌, ◌*◌, ◌<◌, Bool, true, false, ◌&&◌, ◌==◌, if◌then◌else◌, List, [], ◌∷◌, Option, Some, Result, Ok, Err}
+use Rattle.std.specs.Prelude.{◌≡◌, ℕ, Bool, true, false, ◌&&◌, ◌==◌, if◌then◌else◌, List, [], ◌∷◌, Some, Result, Ok}
 use Rattle.m36_desc.specs.Fields.{SdwFields, DbrFields}
 use Rattle.m36_model.specs.Act.{RequestKind}
 use Rattle.m36_model.specs.Store.{Spot, Core_word, Segment_word, Change, Store, written, placed}
