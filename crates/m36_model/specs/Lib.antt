@@ -15,6 +15,7 @@ pub mod Arithmetic
 pub mod Shifts
 pub mod Booleans
 pub mod Results
+pub mod OperandHeld
 pub mod Loads
 pub mod Stores
 pub mod Sums

@@ -1,5 +1,9 @@
 //! What an effect is given, and what it gives.
 
+ghost use Rattle.std.specs.Prelude.{◌≡◌, [], ◌∷◌, Ok, IsTrue};
+ghost use Rattle.m36_model.specs.Results.{words_of_held, words_of_pairs, effect_fields, completes, completes_with};
+ghost use Rattle.m36_model.specs.OperandHeld.{is_word, is_pair, is_block};
+
 use crate::outcome::Final;
 use crate::place::At;
 use crate::registers::Regs;
@@ -12,6 +16,41 @@ pub enum Held {
     One(Word),
     Two(Pair),
     Block([Pair; 8]),
+}
+
+impl Held {
+    /// The word, where it is one.
+    pub fn word(&self) -> Word
+        requires { IsTrue (is_word self.now) }
+        ensures { words_of_held self.now ≡ result ∷ [] }
+    {
+        match self {
+            Held::One(word) => *word,
+            _ => unreachable!(),
+        }
+    }
+
+    /// The pair, where it is one.
+    pub fn pair(&self) -> Pair
+        requires { IsTrue (is_pair self.now) }
+        ensures { words_of_held self.now ≡ result.even ∷ result.odd ∷ [] }
+    {
+        match self {
+            Held::Two(pair) => *pair,
+            _ => unreachable!(),
+        }
+    }
+
+    /// The block of 16 words, where it is one.
+    pub fn block(&self) -> &[Pair; 8]
+        requires { IsTrue (is_block self.now) }
+        ensures { words_of_held self.now ≡ words_of_pairs result.now }
+    {
+        match self {
+            Held::Block(block) => block,
+            _ => unreachable!(),
+        }
+    }
 }
 
 /// The operand of an effect.
@@ -34,6 +73,29 @@ pub struct Effect36 {
     pub put: Held,
     /// An overflow is to be reported.
     pub overflow: bool,
+}
+
+impl Effect36 {
+    /// An effect that leaves these registers, but for the instruction counter, which moves on to the next instruction.
+    pub fn completed(regs: Regs) -> Effect36
+        ensures { Ok (effect_fields result) ≡ completes regs }
+    {
+        Effect36::completed_with(regs, Held::Empty)
+    }
+
+    /// The same with words to write.
+    #[tactic(auto, unfolding(crate::specs::Results::moved_on))]
+    pub fn completed_with(regs: Regs, put: Held) -> Effect36
+        ensures { Ok (effect_fields result) ≡ completes_with regs (words_of_held put) }
+    {
+        let mut after = regs;
+        after.ppr.ic = (regs.ppr.ic + 1) % (1 << 18);
+        Effect36 {
+            regs: after,
+            put,
+            overflow: false,
+        }
+    }
 }
 
 /// A tally word that an address has counted: where it stands, and its new value.

@@ -1,0 +1,34 @@
+-- Which words an effect is given, by how its instruction references its operand: the word, the pair or the block that it
+-- reads, and none where it reads nothing. A direct operand is a word.
+use Rattle.std.specs.Prelude.{Bool, true, false, IsTrue}
+use Rattle.m36_inst.specs.declared.operand.Operand.{Operand}
+use Rattle.m36_inst.specs.declared.operand.Operand.TheVariants as operand
+use Rattle.m36_model.specs.declared.effects.Held.{Held}
+use Rattle.m36_model.specs.declared.effects.Held.TheVariants as held
+
+abbrev pub is_empty : Held → Bool
+is_empty held.Empty = true
+is_empty _ = false
+
+abbrev pub is_word : Held → Bool
+is_word (held.One w) = true
+is_word _ = false
+
+abbrev pub is_pair : Held → Bool
+is_pair (held.Two p) = true
+is_pair _ = false
+
+abbrev pub is_block : Held → Bool
+is_block (held.Block b) = true
+is_block _ = false
+
+abbrev pub holds_for : Operand → Held → Bool
+holds_for operand.R got = is_word got
+holds_for operand.Rw got = is_word got
+holds_for operand.Rwl got = is_word got
+holds_for operand.R2 got = is_pair got
+holds_for operand.R16 got = is_block got
+holds_for _ got = is_empty got
+
+abbrev pub HoldsFor : Operand → Held → Type 0
+HoldsFor kind got = IsTrue (holds_for kind got)
