@@ -1,0 +1,39 @@
+-- Words that lie one after another: those of a pair or a block.
+use Rattle.std.specs.Prelude.{ℕ, zero, suc, ◌+◌, ◌<◌, true, List, [], ◌∷◌, Result, Ok, Err, nat_lt, slice_index}
+use Rattle.m36_desc.specs.Fields.{SdwFields}
+use Rattle.m36_model.specs.Fields.{AtFields}
+use Rattle.m36_model.specs.Store.{Spot, Core_word, placed_one, fault_by}
+use Rattle.m36_model.specs.Place.{wrapped, inside_core_by}
+use Rattle.m36_model.specs.declared.outcome.Fault.{Fault}
+use Rattle.m36_model.specs.declared.outcome.Refusal.{Refusal}
+
+-- the spots of so many words from a place on
+unfoldable pub run_from : ℕ → ℕ → List Spot
+run_from a zero = []
+run_from a (suc n) = Core_word a ∷ run_from (wrapped (a + 1)) n
+
+-- the words there
+unfoldable pub words_from : List ℕ → ℕ → ℕ → List ℕ
+words_from core a zero = []
+words_from core a (suc n) = slice_index core a ∷ words_from core (wrapped (a + 1)) n
+
+-- the run lies in core, or the first of its words that does not; word is the word number of the first
+unfoldable pub examined : ℕ → ℕ → ℕ → ℕ → Result (List Spot) (ℕ × Refusal)
+examined size word a zero = Ok []
+examined size word a (suc n) =
+    placed_one true word (inside_core_by (nat_lt a size) a) (examined size (word + 1) (wrapped (a + 1)) n)
+
+-- each word of the run lies in core
+unfoldable pub LiesIn : ℕ → ℕ → ℕ → Type 0
+LiesIn size a zero = Unit {0}
+LiesIn size a (suc n) = (a < size) × LiesIn size (wrapped (a + 1)) n
+
+-- a refusal of one of the words, told at it
+abbrev pub told_places : AtFields → Result (List Spot) (ℕ × Refusal) → Result (List Spot) Fault
+told_places at (Ok spots) = Ok spots
+told_places at (Err e) = Err (fault_by e.1 (record { seg = at.seg; word = e.0; ring = at.ring }))
+
+-- the run whose first place was found
+abbrev pub run_of : ℕ → Result ℕ Fault → Result (List Spot) Fault
+run_of count (Ok a) = Ok (run_from a count)
+run_of count (Err f) = Err f

@@ -1,0 +1,7 @@
+//! The descriptor walk: one reference to core at a time.
+#![tactic(auto)]
+
+mod descriptor;
+mod marks;
+mod place;
+mod refusal;
