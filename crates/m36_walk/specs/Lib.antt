@@ -1,3 +1,4 @@
 pub mod Memory
 pub mod Runs
 pub mod Tables
+pub mod Reached

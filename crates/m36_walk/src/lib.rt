@@ -4,4 +4,5 @@
 mod descriptor;
 mod marks;
 mod place;
+mod reference;
 mod refusal;

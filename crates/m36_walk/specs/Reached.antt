@@ -1,0 +1,52 @@
+-- What a reference to core gives: descriptor, rights and places in this order, or the first refusal, told at its word.
+use Rattle.std.specs.Prelude.{ℕ, Bool, ◌≡◌, ◌++◌, List, Result, Ok, Err}
+use Rattle.m36_desc.specs.Fields.{SdwFields, DbrFields}
+use Rattle.m36_desc.specs.declared.access.Acv.{Acv}
+use Rattle.m36_model.specs.Fields.{AtFields}
+use Rattle.m36_model.specs.Store.{Spot, violation, fault_by}
+use Rattle.m36_model.specs.Place.{directory_marks, page_marks, with_marks}
+use Rattle.m36_model.specs.declared.outcome.Fault.{Fault}
+use Rattle.m36_model.specs.declared.outcome.Refusal.{Refusal}
+use Rattle.m36_walk.specs.Runs.{run_from, told_places}
+use Rattle.m36_walk.specs.declared.reference.Found.{Found}
+
+-- a refusal, told at a word
+abbrev pub told : {A : Type 0} → AtFields → Result A Refusal → Result A Fault
+told at (Ok a) = Ok a
+told at (Err why) = Err (fault_by why at)
+
+-- an access violation, told at a word
+abbrev pub told_acv : {A : Type 0} → AtFields → Result A Acv → Result A Fault
+told_acv at (Ok a) = Ok a
+told_acv at (Err acv) = Err (fault_by (violation acv.0) at)
+
+-- a reference that is answered: the descriptor by which its words were found, and where they lie
+pub record Reached : Type 0 where
+  pub sdw : SdwFields
+  pub spots : List Spot
+
+abbrev pub reached_places : SdwFields → Result (List Spot) Fault → Result Reached Fault
+reached_places d (Ok spots) = Ok (record { sdw = d; spots = spots })
+reached_places d (Err f) = Err f
+
+abbrev pub reached_rights : SdwFields → Result Unit Fault → Result (List Spot) Fault → Result Reached Fault
+reached_rights d (Ok u) places = reached_places d places
+reached_rights d (Err f) places = Err f
+
+abbrev pub reached_sdw : (SdwFields → Result Unit Acv) → (SdwFields → Result (List Spot) (ℕ × Refusal)) → AtFields → Result SdwFields Fault → Result Reached Fault
+reached_sdw rights places at (Ok d) = reached_rights d (told_acv at (rights d)) (told_places at (places d))
+reached_sdw rights places at (Err f) = Err f
+
+-- by the descriptor of the segment, the rights that it gives, and the places of the words
+unfoldable pub reached : (SdwFields → Result Unit Acv) → (SdwFields → Result (List Spot) (ℕ × Refusal)) → Result SdwFields Refusal → AtFields → Result Reached Fault
+reached rights places sdw at = reached_sdw rights places at (told at sdw)
+
+-- as the code finds it: a run of so many words
+abbrev pub found_run : ℕ → Result Found Fault → Result Reached Fault
+found_run count (Ok f) = Ok (record { sdw = f.sdw; spots = run_from f.place count })
+found_run count (Err f) = Err f
+
+-- an answered reference has set its marks, and a refused one has changed nothing
+abbrev pub Marked : DbrFields → AtFields → Bool → List ℕ → List ℕ → Result Found Fault → Type 0
+Marked dbr at write old new (Ok f) = new ≡ with_marks old (directory_marks dbr at.seg ++ page_marks write at.word (Ok f.sdw))
+Marked dbr at write old new (Err f) = new ≡ old

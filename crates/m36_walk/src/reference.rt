@@ -1,0 +1,95 @@
+//! One reference: descriptor, rights, places, and then its marks.
+
+ghost use Rattle.std.specs.Prelude.{ℕ, ◌≡◌, ◌+◌, ◌/◌, ◌%◌, ◌<◌, ◌≤◌, ◌^◌, IfOk, OnOk, length, Result, true, false};
+ghost use Rattle.m36_desc.specs.Access.{allowed, first_of, read_rows, write_rows, fetch_rows};
+ghost use Rattle.m36_model.specs.Core.{core_store};
+ghost use Rattle.m36_model.specs.Place.{core_sdw, directory_at};
+ghost use Rattle.m36_model.specs.Store.{spots_of};
+ghost use Rattle.m36_walk.specs.Reached.{told, told_acv, reached, found_run, Marked};
+ghost use Rattle.m36_walk.specs.Runs.{LiesIn};
+ghost use Rattle.m36_walk.specs.Tables.{TableIn};
+
+use crate::descriptor::descriptor;
+use crate::marks::set_marks;
+use crate::place::places;
+use crate::refusal::{fault, violation};
+use m36_core::Core;
+use m36_desc::access::{may_fetch, may_read, may_write};
+use m36_desc::{Acv, Dbr, Sdw};
+use m36_model::{At, Fault};
+
+/// A reference that is answered: the descriptor by which its words were found, and the place of the first.
+pub(crate) struct Found {
+    pub(crate) sdw: Sdw,
+    pub(crate) place: u32,
+}
+
+/// The descriptor of the segment of a word.
+pub(crate) fn described(core: &Core, dbr: Dbr, at: At) -> Result<Sdw, Fault>
+    ensures value { result ≡ told at (core_sdw core.now dbr at.seg) }
+    ensures directory { OnOk result (TableIn (length core.now) dbr.unpaged (directory_at dbr at.seg)) }
+{
+    match descriptor(core, dbr, at.seg) {
+        Ok(sdw) => Ok(sdw),
+        Err(why) => Err(fault(why, at)),
+    }
+}
+
+/// What a descriptor says of a right, told at a word.
+pub(crate) fn permitted(answer: Result<(), Acv>, at: At) -> Result<(), Fault>
+    ensures { result ≡ told_acv at answer }
+{
+    match answer {
+        Ok(()) => Ok(()),
+        Err(Acv(acv)) => Err(fault(violation(acv), at)),
+    }
+}
+
+/// A reference that reads so many words, in the ring of `at`. `same` says that the segment is the one that executes.
+#[tactic(auto, unfolding(crate::specs::Reached::reached))]
+pub(crate) fn refer_read(core: &mut Core, dbr: Dbr, at: At, same: bool, count: u32) -> Result<Found, Fault>
+    requires some { 1 ≤ count }
+    requires block { at.word % 16 + count ≤ 16 }
+    ensures examined { reached (λ d. allowed tt (first_of (read_rows d at.ring same))) (λ d. spots_of core_store core.old dbr d at.seg at.word count) (core_sdw core.old dbr at.seg) at ≡ found_run count result }
+    ensures marked { Marked dbr at false core.old core.new result }
+    ensures inside { IfOk result (λ f. LiesIn (length core.new) f.place count) }
+    ensures len { length core.new ≡ length core.old }
+{
+    let sdw = described(core, dbr, at)?;
+    permitted(may_read(&sdw, at.ring, same), at)?;
+    let place = places(core, &sdw, at, count)?;
+    set_marks(core, dbr, &sdw, at.seg, at.word, false);
+    Ok(Found { sdw, place })
+}
+
+/// A reference that is to write so many words, in the ring of `at`.
+#[tactic(auto, unfolding(crate::specs::Reached::reached))]
+pub(crate) fn refer_write(core: &mut Core, dbr: Dbr, at: At, count: u32) -> Result<Found, Fault>
+    requires some { 1 ≤ count }
+    requires block { at.word % 16 + count ≤ 16 }
+    ensures examined { reached (λ d. allowed tt (first_of (write_rows d at.ring))) (λ d. spots_of core_store core.old dbr d at.seg at.word count) (core_sdw core.old dbr at.seg) at ≡ found_run count result }
+    ensures marked { Marked dbr at true core.old core.new result }
+    ensures inside { IfOk result (λ f. LiesIn (length core.new) f.place count) }
+    ensures len { length core.new ≡ length core.old }
+{
+    let sdw = described(core, dbr, at)?;
+    permitted(may_write(&sdw, at.ring), at)?;
+    let place = places(core, &sdw, at, count)?;
+    set_marks(core, dbr, &sdw, at.seg, at.word, true);
+    Ok(Found { sdw, place })
+}
+
+/// The fetch of an instruction, in the ring of `at`.
+#[tactic(auto, unfolding(crate::specs::Reached::reached))]
+pub(crate) fn refer_fetch(core: &mut Core, dbr: Dbr, at: At) -> Result<Found, Fault>
+    ensures examined { reached (λ d. allowed tt (first_of (fetch_rows d at.ring))) (λ d. spots_of core_store core.old dbr d at.seg at.word 1) (core_sdw core.old dbr at.seg) at ≡ found_run 1 result }
+    ensures marked { Marked dbr at false core.old core.new result }
+    ensures inside { IfOk result (λ f. LiesIn (length core.new) f.place 1) }
+    ensures len { length core.new ≡ length core.old }
+{
+    let sdw = described(core, dbr, at)?;
+    permitted(may_fetch(&sdw, at.ring), at)?;
+    let place = places(core, &sdw, at, 1)?;
+    set_marks(core, dbr, &sdw, at.seg, at.word, false);
+    Ok(Found { sdw, place })
+}
