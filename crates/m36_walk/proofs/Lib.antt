@@ -1,2 +1,3 @@
 pub mod Spots
 pub mod MarksInOrder
+pub mod Serving

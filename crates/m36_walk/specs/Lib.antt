@@ -2,3 +2,4 @@ pub mod Memory
 pub mod Runs
 pub mod Tables
 pub mod Reached
+pub mod Served

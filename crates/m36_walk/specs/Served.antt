@@ -1,0 +1,84 @@
+-- What a call of the walk says of a request of a step's program: the store of core words serves it so.
+use Rattle.std.specs.Prelude.{ℕ, ◌≡◌, ◌+◌, Bool, if◌then◌else◌, List, [], ◌∷◌, map, length, Option, Some, None, Result, Ok, Err}
+use Rattle.m36_desc.specs.Fields.{SdwFields}
+use Rattle.m36_desc.specs.Descriptors.{sdw_of}
+use Rattle.m36_model.specs.Fields.{AtFields}
+use Rattle.m36_model.specs.Registers.{RegsFields}
+use Rattle.m36_model.specs.Act.{RequestKind, Whole, Put, Request, Answer}
+use Rattle.m36_model.specs.Store.{Spot, Core_word, Change, Mid, Served, serve, changes, reads, located, with_claims, with_reference}
+use Rattle.m36_model.specs.Core.{core_store, core_word, core_put}
+use Rattle.m36_model.specs.Place.{core_sdw, wrapped}
+use Rattle.m36_model.specs.Step.{aligned, puts_from}
+use Rattle.m36_model.specs.declared.outcome.Fault.{Fault}
+use Rattle.m36_model.specs.declared.outcome.Refusal.{Refusal}
+use Rattle.m36_model.specs.declared.place.Reference.{Reference}
+use Rattle.m36_walk.specs.Memory.{Memory}
+use Rattle.m36_walk.specs.Reached.{Reached}
+use Rattle.m36_walk.specs.Runs.{run_from}
+
+-- where a step stands: core, what its Writes have claimed, and its completed references
+abbrev pub standing : List ℕ → List Spot → List Reference → Mid (List ℕ)
+standing core claims refs = record { store = core; claims = claims; refs = refs }
+
+-- the low bits of the address of a pair or a block are dropped
+abbrev pub aligned_at : ℕ → AtFields → AtFields
+aligned_at count at = record { seg = at.seg; word = aligned count at.word; ring = at.ring }
+
+-- a request for so many words, which sees these writes as made
+abbrev pub request : RequestKind → AtFields → ℕ → List Put → Request
+request kind at count pending = record { kind = kind; at = at; count = count; pending = pending }
+
+-- the descriptor of a segment; of a segment that has none it does not matter
+abbrev pub sdw_by : Result SdwFields Refusal → SdwFields
+sdw_by (Ok d) = d
+sdw_by (Err why) = sdw_of 0 0
+
+unfoldable pub sdw_in : Memory → ℕ → SdwFields
+sdw_in m seg = sdw_by (core_sdw m.core m.dbr seg)
+
+-- A reference that is answered leaves its store, its claims and its reference, and one that is refused nothing.
+abbrev pub served_by : Request → List ℕ → List Spot → List Reference → Result Reached Fault → Served (List ℕ)
+served_by q new claims refs (Err f) = record { reply = Err f; mid = standing new claims refs }
+served_by q new claims refs (Ok r) =
+    record {
+      reply = Ok (record {
+        sdw = r.sdw;
+        first = length claims;
+        place = located q.kind r.spots;
+        words = if reads q.kind then map (core_word (core_put new (changes claims q.pending))) r.spots else [];
+      });
+      mid = record {
+        store = new;
+        claims = with_claims q.kind r.spots claims;
+        refs = with_reference q.kind q refs;
+      };
+    }
+
+-- a reference that gives a place, by the descriptor that was found: a run of so many words from there
+abbrev pub at_place : SdwFields → ℕ → Result ℕ Fault → Result Reached Fault
+at_place d count (Ok a) = Ok (record { sdw = d; spots = run_from a count })
+at_place d count (Err f) = Err f
+
+-- a reference that examines a target and touches no word
+abbrev pub at_target : {A : Type 0} → SdwFields → Result A Fault → Result Reached Fault
+at_target d (Ok a) = Ok (record { sdw = d; spots = [] })
+at_target d (Err f) = Err f
+
+-- a reference whose words are told
+abbrev pub with_words : Request → SdwFields → List ℕ → List Spot → List Reference → Result (List ℕ) Fault → Served (List ℕ)
+with_words q d new claims refs (Err f) = record { reply = Err f; mid = standing new claims refs }
+with_words q d new claims refs (Ok words) =
+    record {
+      reply = Ok (record { sdw = d; first = length claims; place = 0; words = words });
+      mid = record { store = new; claims = claims; refs = with_reference q.kind q refs };
+    }
+
+-- Whatever the registers hold beside what Known says of them, and whatever the step has claimed and referred to before:
+-- the request is served so.
+abbrev pub Serves : (RegsFields → Type 0) → Memory → Request → (List Spot → List Reference → Served (List ℕ)) → Type 0
+Serves Known m q s =
+    (g : RegsFields) → g.dbr ≡ m.dbr → Known g → (claims : List Spot) (refs : List Reference) → serve core_store g (standing m.core claims refs) q ≡ s claims refs
+
+abbrev pub ok_map : {A B : Type 0} → (A → B) → Result A Fault → Result B Fault
+ok_map f (Ok a) = Ok (f a)
+ok_map f (Err e) = Err e
