@@ -1,3 +1,4 @@
 pub mod Spots
 pub mod MarksInOrder
 pub mod Serving
+pub mod ByKind

@@ -2,6 +2,7 @@
 use Rattle.std.proofs.Common.{ℕ, ◌≡◌, Bool, true, false, List, [], ◌∷◌, ◌++◌, Option, Some, None, Result, Ok, Err, ◌==◌, refl, ap, sym, ◌∙◌}
 use Rattle.m36_desc.specs.Fields.{SdwFields, DbrFields}
 use Rattle.m36_desc.specs.Access.{allowed}
+use Rattle.m36_desc.specs.declared.access.Acv.{Acv}
 use Rattle.m36_model.specs.Fields.{AtFields}
 use Rattle.m36_model.specs.Registers.{RegsFields}
 use Rattle.m36_model.specs.Act.{Request}
@@ -42,3 +43,28 @@ module _ (g : RegsFields) (core : List ℕ) (claims : List Spot) (refs : List Re
   pub served : serve core_store g (standing core claims refs) q ≡ answer (reached (λ d. allowed tt (rights d)) (λ d. places core_store core g.dbr d q) (core_sdw core g.dbr q.at.seg) q.at)
   unfolding serve reached
   served = by_sdw (core_sdw core g.dbr q.at.seg)
+
+  -- The rights and the places may be given by other words for them.
+  pub served_as : (R : SdwFields → Option ℕ) (P : SdwFields → Result (List Spot) (ℕ × Refusal)) (r : Result Reached Fault) → ((d : SdwFields) → rights d ≡ R d) → ((d : SdwFields) → places core_store core g.dbr d q ≡ P d)
+      → reached (λ d. allowed tt (R d)) P (core_sdw core g.dbr q.at.seg) q.at ≡ r
+      → serve core_store g (standing core claims refs) q ≡ answer r
+  served_as R P r e f h =
+      let at_once : reached (λ d. allowed tt (rights d)) (λ d. places core_store core g.dbr d q) (core_sdw core g.dbr q.at.seg) q.at ≡ r = (λ i. reached (λ d. allowed tt (e d i)) (λ d. f d i) (core_sdw core g.dbr q.at.seg) q.at) ∙ h in
+      served ∙ ap answer at_once
+
+-- An answered reference has found the descriptor of its segment.
+reached_places_sdw : (d : SdwFields) (p : Result (List Spot) Fault) (r : Reached) → reached_places d p ≡ Ok r → r.sdw ≡ d
+reached_places_sdw d (Ok spots) r e = cc
+reached_places_sdw d (Err f) r e = cc
+
+reached_rights_sdw : (d : SdwFields) (u : Result Unit Fault) (p : Result (List Spot) Fault) (r : Reached) → reached_rights d u p ≡ Ok r → r.sdw ≡ d
+reached_rights_sdw d (Ok u) p r e = reached_places_sdw d p r e
+reached_rights_sdw d (Err f) p r e = cc
+
+reached_by : (R : SdwFields → Result Unit Acv) (P : SdwFields → Result (List Spot) (ℕ × Refusal)) (s : Result SdwFields Refusal) (at : AtFields) (r : Reached) → reached_sdw R P at (told at s) ≡ Ok r → s ≡ Ok r.sdw
+reached_by R P (Ok d) at r e = ap Ok (sym (reached_rights_sdw d (told_acv at (R d)) (told_places at (P d)) r e))
+reached_by R P (Err why) at r e = cc
+
+pub reached_is : (R : SdwFields → Result Unit Acv) (P : SdwFields → Result (List Spot) (ℕ × Refusal)) (s : Result SdwFields Refusal) (at : AtFields) (r : Reached) → reached R P s at ≡ Ok r → s ≡ Ok r.sdw
+unfolding reached
+reached_is R P s at r e = reached_by R P s at r e
