@@ -2,3 +2,4 @@ pub mod Spots
 pub mod MarksInOrder
 pub mod Serving
 pub mod ByKind
+pub mod Blocks

@@ -3,3 +3,4 @@ pub mod Runs
 pub mod Tables
 pub mod Reached
 pub mod Served
+pub mod Words

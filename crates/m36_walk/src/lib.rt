@@ -6,3 +6,4 @@ mod marks;
 mod place;
 mod reference;
 mod refusal;
+mod words;

@@ -1,0 +1,23 @@
+use Rattle.std.proofs.Common.{◌≡◌, ◌-◌, ◌*◌, ◌+◌, ◌<◌, ◌^◌, length, slice_set, length-set, arith}
+use Rattle.m36_walk.specs.Runs.{words_from}
+use Rattle.m36_walk.specs.Words.{seen}
+use Rattle.m36_walk.proofs.Blocks.{pair_after, first_pair_lies, rest_lies, block_read_on, block_read_whole}
+use Rattle.m36_walk.proofs.words.seen_block.Goals as goal
+
+pub seen_pair-requires-clause-inside : goal.seen_pair-requires-clause-inside
+seen_pair-requires-clause-inside c = first_pair_lies _ _ (16 - 2 * c.loop-i.i) (omega arith) c.loop-i.invariant.lies
+
+pub loop-i-preserved : goal.loop-i-preserved
+loop-i-preserved c =
+    let after : c.wrapped-next.result ≡ pair_after c.loop-i.next = cc in
+    let left : 16 - 2 * c.loop-i.i ≡ (16 - 2 * (c.loop-i.i + 1)) + 2 = omega arith in
+    let inside : c.loop-i.i < length c.loop-i.pairs = omega arith in
+    record {
+      words = rw after (block_read_on (seen c.args.core.now c.args.pending.now) _ c.loop-i.next (16 - 2 * c.loop-i.i) (16 - 2 * (c.loop-i.i + 1)) c.loop-i.i c.loop-i.pairs c.seen_pair.result inside left c.seen_pair.ensures c.loop-i.invariant.words);
+      lies = rw after (rest_lies _ c.loop-i.next (16 - 2 * c.loop-i.i) (16 - 2 * (c.loop-i.i + 1)) left c.loop-i.invariant.lies);
+      next = c.wrapped-next.ensures.bound;
+      count = rw length-set c.loop-i.invariant.count;
+    }
+
+pub returns : goal.returns
+returns c = block_read_whole (seen c.args.core.now c.args.pending.now) _ c.loop-i.next (16 - 2 * c.loop-i.i) c.loop-i.i c.loop-i.pairs (omega arith) (omega arith) c.loop-i.invariant.words

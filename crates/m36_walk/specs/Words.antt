@@ -1,0 +1,30 @@
+-- Words as a reference sees them, and words as they are written.
+use Rattle.std.specs.Prelude.{ℕ, ◌+◌, List, [], ◌∷◌, Option, Some, None}
+use Rattle.m36_word.specs.declared.pair.Pair.{Pair}
+use Rattle.m36_model.specs.Act.{Part, Whole}
+use Rattle.m36_model.specs.Store.{Change, Core_word}
+use Rattle.m36_model.specs.Core.{core_put}
+use Rattle.m36_model.specs.Place.{wrapped}
+use Rattle.m36_walk.specs.declared.words.Pending.{Pending}
+
+-- a pending word is a change that is still to be made
+abbrev pub pending_changes : Option Pending → List Change
+pending_changes None = []
+pending_changes (Some p) = record { spot = Core_word p.place; part = Whole; value = p.word } ∷ []
+
+-- core as it is seen with the pending word written
+abbrev pub seen : List ℕ → Option Pending → List ℕ
+seen core pending = core_put core (pending_changes pending)
+
+-- words for the places of a run, one after another
+abbrev pub run_changes : ℕ → List ℕ → List Change
+run_changes a [] = []
+run_changes a (w ∷ words) = record { spot = Core_word a; part = Whole; value = w } ∷ run_changes (wrapped (a + 1)) words
+
+-- the words of pairs in order
+abbrev pub pair_words : Pair → List ℕ
+pair_words p = p.even ∷ p.odd ∷ []
+
+abbrev pub block_words : List Pair → List ℕ
+block_words [] = []
+block_words (p ∷ pairs) = p.even ∷ p.odd ∷ block_words pairs

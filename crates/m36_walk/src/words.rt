@@ -1,0 +1,93 @@
+//! The words at places that were found: one, a pair, or a block of 16.
+
+ghost use Rattle.std.specs.Prelude.{ℕ, ◌≡◌, ◌+◌, ◌<◌, ◌^◌, length, slice_index};
+ghost use Rattle.m36_model.specs.Core.{core_put};
+ghost use Rattle.m36_model.specs.Place.{wrapped};
+ghost use Rattle.m36_walk.specs.Runs.{LiesIn, words_from};
+ghost use Rattle.m36_walk.specs.Words.{seen, run_changes, pair_words, block_words};
+
+use crate::descriptor::wrapped;
+use m36_core::Core;
+use m36_word::{Pair, Word};
+
+/// A word that an instruction is still to write, and that its own references see as written.
+#[derive(Clone, Copy, PartialEq, Eq, Debug)]
+pub struct Pending {
+    pub word: Word,
+    /// The place in core where it will stand.
+    pub place: u32,
+}
+
+/// The word at a place.
+#[tactic(auto, unfolding(m36_model::specs::Core::core_put))]
+pub(crate) fn seen(core: &Core, pending: &Option<Pending>, a: u32) -> Word
+    requires { a < length core.now }
+    ensures { result ≡ slice_index (seen core.now pending.now) a }
+{
+    match *pending {
+        None => core.peek(a),
+        Some(p) => {
+            if p.place == a {
+                p.word
+            } else {
+                core.peek(a)
+            }
+        }
+    }
+}
+
+/// The pair from a place on.
+#[tactic(auto, unfolding(crate::specs::Runs::words_from, crate::specs::Runs::LiesIn))]
+pub(crate) fn seen_pair(core: &Core, pending: &Option<Pending>, a: u32) -> Pair
+    requires place { a < 2 ^ 24 }
+    requires inside { LiesIn (length core.now) a 2 }
+    ensures { words_from (seen core.now pending.now) a 2 ≡ pair_words result }
+{
+    let even = seen(core, pending, a);
+    let odd = seen(core, pending, wrapped(a + 1));
+    Pair { even, odd }
+}
+
+/// The block of 16 words from a place on.
+pub(crate) fn seen_block(core: &Core, pending: &Option<Pending>, a: u32) -> [Pair; 8]
+    requires place { a < 2 ^ 24 }
+    requires inside { LiesIn (length core.now) a 16 }
+    ensures { words_from (seen core.now pending.now) a 16 ≡ block_words result }
+{
+    let mut pairs = [Pair {
+        even: Word::ZERO,
+        odd: Word::ZERO,
+    }; 8];
+    let mut next = a;
+    for i in 0..8 {
+        pairs[i] = seen_pair(core, pending, next);
+        next = wrapped(wrapped(next + 1) + 1);
+    }
+    pairs
+}
+
+/// Writes a pair from a place on.
+#[tactic(auto, unfolding(m36_model::specs::Core::core_put, crate::specs::Runs::LiesIn))]
+pub(crate) fn put_pair(core: &mut Core, a: u32, pair: Pair)
+    requires place { a < 2 ^ 24 }
+    requires inside { LiesIn (length core.old) a 2 }
+    ensures put { core.new ≡ core_put core.old (run_changes a (pair_words pair)) }
+    ensures len { length core.new ≡ length core.old }
+{
+    core.poke(a, pair.even);
+    core.poke(wrapped(a + 1), pair.odd);
+}
+
+/// Writes a block of 16 words from a place on.
+pub(crate) fn put_block(core: &mut Core, a: u32, block: &[Pair; 8])
+    requires place { a < 2 ^ 24 }
+    requires inside { LiesIn (length core.old) a 16 }
+    ensures put { core.new ≡ core_put core.old (run_changes a (block_words block.now)) }
+    ensures len { length core.new ≡ length core.old }
+{
+    let mut next = a;
+    for pair in block {
+        put_pair(core, next, *pair);
+        next = wrapped(wrapped(next + 1) + 1);
+    }
+}
