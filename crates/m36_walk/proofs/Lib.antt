@@ -3,3 +3,4 @@ pub mod MarksInOrder
 pub mod Serving
 pub mod ByKind
 pub mod Blocks
+pub mod Told

@@ -4,7 +4,7 @@ use Rattle.m36_desc.specs.Fields.{SdwFields}
 use Rattle.m36_desc.specs.Descriptors.{sdw_of}
 use Rattle.m36_model.specs.Fields.{AtFields}
 use Rattle.m36_model.specs.Registers.{RegsFields}
-use Rattle.m36_model.specs.Act.{RequestKind, Whole, Put, Request, Answer}
+use Rattle.m36_model.specs.Act.{RequestKind, Read, Write, Whole, Put, Request, Answer}
 use Rattle.m36_model.specs.Store.{Spot, Core_word, Change, Mid, Served, serve, changes, reads, located, with_claims, with_reference}
 use Rattle.m36_model.specs.Core.{core_store, core_word, core_put}
 use Rattle.m36_model.specs.Place.{core_sdw, wrapped}
@@ -14,7 +14,14 @@ use Rattle.m36_model.specs.declared.outcome.Refusal.{Refusal}
 use Rattle.m36_model.specs.declared.place.Reference.{Reference}
 use Rattle.m36_walk.specs.Memory.{Memory}
 use Rattle.m36_walk.specs.Reached.{Reached}
-use Rattle.m36_walk.specs.Runs.{run_from}
+use Rattle.m36_walk.specs.Runs.{run_from, words_from}
+use Rattle.m36_walk.specs.Words.{pending_changes}
+use Rattle.m36_walk.specs.declared.words.Pending.{Pending}
+
+-- what is made of an answer
+abbrev pub ok_map : {A B : Type 0} → (A → B) → Result A Fault → Result B Fault
+ok_map f (Ok a) = Ok (f a)
+ok_map f (Err e) = Err e
 
 -- where a step stands: core, what its Writes have claimed, and its completed references
 abbrev pub standing : List ℕ → List Spot → List Reference → Mid (List ℕ)
@@ -79,6 +86,30 @@ abbrev pub Serves : (RegsFields → Type 0) → Memory → Request → (List Spo
 Serves Known m q s =
     (g : RegsFields) → g.dbr ≡ m.dbr → Known g → (claims : List Spot) (refs : List Reference) → serve core_store g (standing m.core claims refs) q ≡ s claims refs
 
-abbrev pub ok_map : {A B : Type 0} → (A → B) → Result A Fault → Result B Fault
-ok_map f (Ok a) = Ok (f a)
-ok_map f (Err e) = Err e
+-- the words of a run from a place on, with these changes made
+abbrev pub run_words : List ℕ → List Change → ℕ → Result ℕ Fault → Result (List ℕ) Fault
+run_words new changed count (Ok a) = Ok (words_from (core_put new changed) a count)
+run_words new changed count (Err e) = Err e
+
+-- a request of a kind that reads, by the place that was found
+abbrev pub ServesRun : (RegsFields → Type 0) → RequestKind → Memory → List ℕ → AtFields → ℕ → Result ℕ Fault → Type 0
+ServesRun Known kind m new at count place =
+    (g : RegsFields) → g.dbr ≡ m.dbr → Known g → (claims : List Spot) (refs : List Reference) (puts : List Put) (changed : List Change) → changes claims puts ≡ changed
+    → serve core_store g (standing m.core claims refs) (request kind at count puts) ≡ with_words (request kind at count puts) (sdw_in m at.seg) new claims refs (run_words new changed count place)
+
+-- a Write, by the place that was found
+abbrev pub ServesClaim : Memory → List ℕ → AtFields → ℕ → Result ℕ Fault → Type 0
+ServesClaim m new at count place =
+    (g : RegsFields) → g.dbr ≡ m.dbr → (claims : List Spot) (refs : List Reference) (puts : List Put)
+    → serve core_store g (standing m.core claims refs) (request Write at count puts) ≡ served_by (request Write at count puts) new claims refs (at_place (sdw_in m at.seg) count place)
+
+-- a request of this kind for one word, which is told
+abbrev pub ServesWord : (RegsFields → Type 0) → RequestKind → Memory → List ℕ → AtFields → Result ℕ Fault → Type 0
+ServesWord Known kind m new at word =
+    Serves Known m (request kind at 1 []) (λ claims refs. with_words (request kind at 1 []) (sdw_in m at.seg) new claims refs (ok_map (λ w. w ∷ []) word))
+
+-- a Read of so many words, which sees the pending word as written; of that the claims and puts of the step tell the same
+abbrev pub Reads : Memory → List ℕ → ℕ → AtFields → ℕ → Option Pending → Result (List ℕ) Fault → Type 0
+Reads m new psr at count pending words =
+    (g : RegsFields) → g.dbr ≡ m.dbr → g.ppr.psr ≡ psr → (claims : List Spot) (refs : List Reference) (puts : List Put) → changes claims puts ≡ pending_changes pending
+    → serve core_store g (standing m.core claims refs) (request Read at count puts) ≡ with_words (request Read at count puts) (sdw_in m at.seg) new claims refs words

@@ -4,6 +4,12 @@
 mod descriptor;
 mod marks;
 mod place;
+mod reads;
+mod refer;
 mod reference;
 mod refusal;
-mod words;
+pub mod walk;
+pub mod words;
+
+pub use walk::Walk;
+pub use words::Pending;

@@ -51,6 +51,7 @@ fn run_in_core(size: u32, at: At, place: u32, count: u32) -> Result<u32, Fault>
     requires block { at.word % 16 + count ≤ 16 }
     ensures value { told_places at (examined size at.word place count) ≡ run_of count result }
     ensures inside { IfOk result (λ a. LiesIn size a count) }
+    ensures bound { IfOk result (λ a. a < 2 ^ 24) }
 {
     if place + count <= size {
         return Ok(place);
@@ -65,6 +66,7 @@ fn first_outside(size: u32, at: At, place: u32, count: u32) -> Result<u32, Fault
     requires block { at.word % 16 + count ≤ 16 }
     ensures value { told_places at (examined size at.word place count) ≡ run_of count result }
     ensures inside { IfOk result (λ a. LiesIn size a count) }
+    ensures bound { IfOk result (λ a. a < 2 ^ 24) }
 {
     let mut left = count;
     let mut word = at.word;
@@ -87,6 +89,7 @@ pub(crate) fn places(core: &Core, sdw: &Sdw, at: At, count: u32) -> Result<u32, 
     requires block { at.word % 16 + count ≤ 16 }
     ensures value { (dbr : DbrFields) → told_places at (spots_of core_store core.now dbr sdw.now at.seg at.word count) ≡ run_of count result }
     ensures inside { IfOk result (λ a. LiesIn (length core.now) a count) }
+    ensures bound { IfOk result (λ a. a < 2 ^ 24) }
     ensures page { OnOk result (TableIn (length core.now) sdw.now.unpaged (page_at sdw.now (at.word / 1024))) }
 {
     if !within(sdw, at.word) {

@@ -1,6 +1,6 @@
 //! One reference: descriptor, rights, places, and then its marks.
 
-ghost use Rattle.std.specs.Prelude.{ℕ, ◌≡◌, ◌+◌, ◌/◌, ◌%◌, ◌<◌, ◌≤◌, ◌^◌, IfOk, OnOk, length, Result, true, false};
+ghost use Rattle.std.specs.Prelude.{ℕ, ◌≡◌, ◌+◌, ◌/◌, ◌%◌, ◌<◌, ◌≤◌, ◌^◌, ◌==◌, IfOk, OnOk, length, Result, true, false};
 ghost use Rattle.m36_desc.specs.Access.{allowed, first_of, read_rows, write_rows, fetch_rows};
 ghost use Rattle.m36_model.specs.Core.{core_store};
 ghost use Rattle.m36_model.specs.Place.{core_sdw, directory_at};
@@ -19,6 +19,7 @@ use m36_desc::{Acv, Dbr, Sdw};
 use m36_model::{At, Fault};
 
 /// A reference that is answered: the descriptor by which its words were found, and the place of the first.
+#[derive(Clone, Copy)]
 pub(crate) struct Found {
     pub(crate) sdw: Sdw,
     pub(crate) place: u32,
@@ -45,18 +46,19 @@ pub(crate) fn permitted(answer: Result<(), Acv>, at: At) -> Result<(), Fault>
     }
 }
 
-/// A reference that reads so many words, in the ring of `at`. `same` says that the segment is the one that executes.
+/// A reference that reads so many words in the ring of `at`, for an instruction of segment `psr`.
 #[tactic(auto, unfolding(crate::specs::Reached::reached))]
-pub(crate) fn refer_read(core: &mut Core, dbr: Dbr, at: At, same: bool, count: u32) -> Result<Found, Fault>
+pub(crate) fn find_read(core: &mut Core, dbr: Dbr, at: At, psr: u16, count: u32) -> Result<Found, Fault>
     requires some { 1 ≤ count }
     requires block { at.word % 16 + count ≤ 16 }
-    ensures examined { reached (λ d. allowed tt (first_of (read_rows d at.ring same))) (λ d. spots_of core_store core.old dbr d at.seg at.word count) (core_sdw core.old dbr at.seg) at ≡ found_run count result }
+    ensures examined { reached (λ d. allowed tt (first_of (read_rows d at.ring (at.seg == psr)))) (λ d. spots_of core_store core.old dbr d at.seg at.word count) (core_sdw core.old dbr at.seg) at ≡ found_run count result }
     ensures marked { Marked dbr at false core.old core.new result }
     ensures inside { IfOk result (λ f. LiesIn (length core.new) f.place count) }
+    ensures bound { IfOk result (λ f. f.place < 2 ^ 24) }
     ensures len { length core.new ≡ length core.old }
 {
     let sdw = described(core, dbr, at)?;
-    permitted(may_read(&sdw, at.ring, same), at)?;
+    permitted(may_read(&sdw, at.ring, at.seg == psr), at)?;
     let place = places(core, &sdw, at, count)?;
     set_marks(core, dbr, &sdw, at.seg, at.word, false);
     Ok(Found { sdw, place })
@@ -64,12 +66,13 @@ pub(crate) fn refer_read(core: &mut Core, dbr: Dbr, at: At, same: bool, count: u
 
 /// A reference that is to write so many words, in the ring of `at`.
 #[tactic(auto, unfolding(crate::specs::Reached::reached))]
-pub(crate) fn refer_write(core: &mut Core, dbr: Dbr, at: At, count: u32) -> Result<Found, Fault>
+pub(crate) fn find_write(core: &mut Core, dbr: Dbr, at: At, count: u32) -> Result<Found, Fault>
     requires some { 1 ≤ count }
     requires block { at.word % 16 + count ≤ 16 }
     ensures examined { reached (λ d. allowed tt (first_of (write_rows d at.ring))) (λ d. spots_of core_store core.old dbr d at.seg at.word count) (core_sdw core.old dbr at.seg) at ≡ found_run count result }
     ensures marked { Marked dbr at true core.old core.new result }
     ensures inside { IfOk result (λ f. LiesIn (length core.new) f.place count) }
+    ensures bound { IfOk result (λ f. f.place < 2 ^ 24) }
     ensures len { length core.new ≡ length core.old }
 {
     let sdw = described(core, dbr, at)?;
@@ -81,10 +84,11 @@ pub(crate) fn refer_write(core: &mut Core, dbr: Dbr, at: At, count: u32) -> Resu
 
 /// The fetch of an instruction, in the ring of `at`.
 #[tactic(auto, unfolding(crate::specs::Reached::reached))]
-pub(crate) fn refer_fetch(core: &mut Core, dbr: Dbr, at: At) -> Result<Found, Fault>
+pub(crate) fn find_fetch(core: &mut Core, dbr: Dbr, at: At) -> Result<Found, Fault>
     ensures examined { reached (λ d. allowed tt (first_of (fetch_rows d at.ring))) (λ d. spots_of core_store core.old dbr d at.seg at.word 1) (core_sdw core.old dbr at.seg) at ≡ found_run 1 result }
     ensures marked { Marked dbr at false core.old core.new result }
     ensures inside { IfOk result (λ f. LiesIn (length core.new) f.place 1) }
+    ensures bound { IfOk result (λ f. f.place < 2 ^ 24) }
     ensures len { length core.new ≡ length core.old }
 {
     let sdw = described(core, dbr, at)?;

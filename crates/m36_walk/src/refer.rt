@@ -1,0 +1,81 @@
+//! One reference, and how it serves a request of a step.
+
+ghost use Rattle.std.specs.Prelude.{ℕ, ◌≡◌, ◌+◌, ◌%◌, ◌<◌, ◌≤◌, ◌^◌, IfOk, length};
+ghost use Rattle.m36_model.specs.Act.{Fetch, Indirect, Odd, Read};
+ghost use Rattle.m36_walk.specs.Runs.{LiesIn};
+ghost use Rattle.m36_walk.specs.Served.{sdw_in, ok_map, ServesRun, ServesClaim};
+
+use crate::reference::{Found, find_fetch, find_read, find_write};
+use m36_core::Core;
+use m36_desc::Dbr;
+use m36_model::{At, Fault};
+
+/// A reference that is answered: the place in core of its first word, the first ring bracket of its segment, and
+/// whether the segment may execute privileged instructions.
+#[derive(Clone, Copy)]
+pub(crate) struct Reach {
+    pub(crate) place: u32,
+    pub(crate) ring: u8,
+    pub(crate) privileged: bool,
+}
+
+fn reach_of(found: &Found) -> Reach
+    ensures place { result.place ≡ found.now.place }
+    ensures ring { result.ring ≡ found.now.sdw.r1 }
+    ensures bound { result.ring < 2 ^ 3 }
+    ensures privileged { result.privileged ≡ found.now.sdw.privileged }
+{
+    Reach {
+        place: found.place,
+        ring: found.sdw.r1,
+        privileged: found.sdw.privileged,
+    }
+}
+
+/// Reads so many words in the ring of `at`, for an instruction of segment `psr`.
+pub(crate) fn refer_read(core: &mut Core, dbr: Dbr, at: At, psr: u16, count: u32) -> Result<Reach, Fault>
+    requires some { 1 ≤ count }
+    requires block { at.word % 16 + count ≤ 16 }
+    ensures read { ServesRun (λ g. g.ppr.psr ≡ psr) Read (record { core = core.old; dbr = dbr }) core.new at count (ok_map (λ r. r.place) result) }
+    ensures indirect { ServesRun (λ g. g.ppr.psr ≡ psr) Indirect (record { core = core.old; dbr = dbr }) core.new at count (ok_map (λ r. r.place) result) }
+    ensures odd { ServesRun (λ g. g.ppr.psr ≡ psr) Odd (record { core = core.old; dbr = dbr }) core.new at count (ok_map (λ r. r.place) result) }
+    ensures ring { IfOk result (λ r. r.ring ≡ (sdw_in (record { core = core.old; dbr = dbr }) at.seg).r1) }
+    ensures ring_bound { IfOk result (λ r. r.ring < 2 ^ 3) }
+    ensures inside { IfOk result (λ r. LiesIn (length core.new) r.place count) }
+    ensures bound { IfOk result (λ r. r.place < 2 ^ 24) }
+    ensures len { length core.new ≡ length core.old }
+{
+    match find_read(core, dbr, at, psr, count) {
+        Ok(found) => Ok(reach_of(&found)),
+        Err(fault) => Err(fault),
+    }
+}
+
+/// Examines so many words that are to be written, in the ring of `at`.
+pub(crate) fn refer_write(core: &mut Core, dbr: Dbr, at: At, count: u32) -> Result<u32, Fault>
+    requires some { 1 ≤ count }
+    requires block { at.word % 16 + count ≤ 16 }
+    ensures write { ServesClaim (record { core = core.old; dbr = dbr }) core.new at count result }
+    ensures inside { IfOk result (λ a. LiesIn (length core.new) a count) }
+    ensures bound { IfOk result (λ a. a < 2 ^ 24) }
+    ensures len { length core.new ≡ length core.old }
+{
+    match find_write(core, dbr, at, count) {
+        Ok(found) => Ok(found.place),
+        Err(fault) => Err(fault),
+    }
+}
+
+/// Fetches an instruction in the ring of `at`.
+pub(crate) fn refer_fetch(core: &mut Core, dbr: Dbr, at: At) -> Result<Reach, Fault>
+    ensures fetch { ServesRun (λ g. g.ppr.prr ≡ at.ring) Fetch (record { core = core.old; dbr = dbr }) core.new at 1 (ok_map (λ r. r.place) result) }
+    ensures privileged { IfOk result (λ r. r.privileged ≡ (sdw_in (record { core = core.old; dbr = dbr }) at.seg).privileged) }
+    ensures inside { IfOk result (λ r. LiesIn (length core.new) r.place 1) }
+    ensures bound { IfOk result (λ r. r.place < 2 ^ 24) }
+    ensures len { length core.new ≡ length core.old }
+{
+    match find_fetch(core, dbr, at) {
+        Ok(found) => Ok(reach_of(&found)),
+        Err(fault) => Err(fault),
+    }
+}

@@ -1,0 +1,55 @@
+//! The walk.
+
+ghost use Rattle.std.specs.Prelude.{ℕ, ◌≡◌, IfOk, IfErr, length};
+
+use m36_core::Core;
+use m36_desc::Dbr;
+use std::alloc::Global;
+use std::marker::Model;
+
+/// Core memory with the descriptor segment base register by which its segments are found. It is seen as both.
+#[derive(Drop)]
+pub struct Walk {
+    pub(crate) core: Core,
+    pub(crate) dbr: Dbr,
+}
+
+impl Model for Walk {
+    ghost use Rattle.m36_walk.specs.Memory.{Memory};
+
+    ghost Value = { Memory };
+
+    ghost view = { λ w. record { core = w.core; dbr = w.dbr } };
+}
+
+impl Walk {
+    /// A walk over core. The error hands core back, and is want of memory alone.
+    pub fn new(_alloc: Global, core: Core, dbr: Dbr) -> Result<Walk, Core>
+        ensures ok { IfOk result (λ walk. (walk.core ≡ core) × (walk.dbr ≡ dbr)) }
+        ensures err { IfErr result (λ back. back ≡ core) }
+    {
+        Ok(Walk { core, dbr })
+    }
+
+    /// Core as it stands.
+    pub fn core(&self) -> &Core
+        ensures { result.now ≡ self.now.core }
+    {
+        &self.core
+    }
+
+    /// The descriptor segment base register.
+    pub fn dbr(&self) -> Dbr
+        ensures { result ≡ self.now.dbr }
+    {
+        self.dbr
+    }
+
+    /// Loads the descriptor segment base register.
+    pub fn set_dbr(&mut self, d: Dbr)
+        ensures core { self.new.core ≡ self.old.core }
+        ensures dbr { self.new.dbr ≡ d }
+    {
+        self.dbr = d;
+    }
+}
