@@ -35,7 +35,7 @@ fn block_at(at: At) -> At
 
 impl Walk {
     /// Fetches the instruction at a word, in the ring of `at`. The bit tells whether it may be privileged.
-    #[tactic(auto, unfolding(crate::specs::Runs::words_from, crate::specs::Runs::LiesIn, m36_model::specs::Core::core_put))]
+    #[tactic(auto, unfolding(crate::specs::Runs::LiesIn))]
     pub fn fetch(&mut self, at: At) -> Result<(Word, bool), Fault>
         ensures serves { ServesWord (λ g. g.ppr.prr ≡ at.ring) Fetch self.old self.new.core at (ok_map (λ r. r.0) result) }
         ensures privileged { IfOk result (λ r. r.1 ≡ ((sdw_in self.old at.seg).privileged && (at.ring == 0))) }
@@ -49,7 +49,7 @@ impl Walk {
 
     /// Reads an indirect word in the ring of `at`, for an instruction of segment `psr`. With it goes the first ring
     /// bracket of its segment.
-    #[tactic(auto, unfolding(crate::specs::Runs::words_from, crate::specs::Runs::LiesIn, m36_model::specs::Core::core_put))]
+    #[tactic(auto, unfolding(crate::specs::Runs::LiesIn))]
     pub fn indirect(&mut self, at: At, psr: u16) -> Result<(Word, u8), Fault>
         ensures serves { ServesWord (λ g. g.ppr.psr ≡ psr) Indirect self.old self.new.core at (ok_map (λ r. r.0) result) }
         ensures ring { IfOk result (λ r. r.1 ≡ (sdw_in self.old at.seg).r1) }
@@ -59,5 +59,82 @@ impl Walk {
     {
         let found = refer_read(&mut self.core, self.dbr, at, psr, 1)?;
         Ok((self.core.peek(found.place), found.ring))
+    }
+
+    /// Reads the odd word of an indirect pair, as `indirect` reads the even one.
+    #[tactic(auto, unfolding(crate::specs::Runs::LiesIn))]
+    pub fn odd(&mut self, at: At, psr: u16) -> Result<Word, Fault>
+        ensures serves { ServesWord (λ g. g.ppr.psr ≡ psr) Odd self.old self.new.core at result }
+        ensures dbr { self.new.dbr ≡ self.old.dbr }
+        ensures len { length self.new.core ≡ length self.old.core }
+    {
+        let found = refer_read(&mut self.core, self.dbr, at, psr, 1)?;
+        Ok(self.core.peek(found.place))
+    }
+
+    /// Reads an operand word in the ring of `at`, for an instruction of segment `psr`. A pending word is seen as written.
+    #[tactic(auto, unfolding(crate::specs::Runs::LiesIn))]
+    pub fn operand(&mut self, at: At, psr: u16, pending: Option<Pending>) -> Result<Word, Fault>
+        ensures serves { Reads self.old self.new.core psr at 1 pending (ok_map (λ w. w ∷ []) result) }
+        ensures dbr { self.new.dbr ≡ self.old.dbr }
+        ensures len { length self.new.core ≡ length self.old.core }
+    {
+        let found = refer_read(&mut self.core, self.dbr, at, psr, 1)?;
+        Ok(seen(&self.core, &pending, found.place))
+    }
+
+    /// Reads the operand pair that holds a word, and the first ring bracket of its segment.
+    pub fn operand_pair(&mut self, at: At, psr: u16, pending: Option<Pending>) -> Result<(Pair, u8), Fault>
+        ensures serves { Reads self.old self.new.core psr (aligned_at 2 at) 2 pending (ok_map (λ r. pair_words r.0) result) }
+        ensures ring { IfOk result (λ r. r.1 ≡ (sdw_in self.old at.seg).r1) }
+        ensures bound { IfOk result (λ r. r.1 < 2 ^ 3) }
+        ensures dbr { self.new.dbr ≡ self.old.dbr }
+        ensures len { length self.new.core ≡ length self.old.core }
+    {
+        let found = refer_read(&mut self.core, self.dbr, pair_at(at), psr, 2)?;
+        Ok((seen_pair(&self.core, &pending, found.place), found.ring))
+    }
+
+    /// Reads the operand block that holds a word, and the first ring bracket of its segment.
+    pub fn operand_block(&mut self, at: At, psr: u16, pending: Option<Pending>) -> Result<([Pair; 8], u8), Fault>
+        ensures serves { Reads self.old self.new.core psr (aligned_at 16 at) 16 pending (ok_map (λ r. block_words r.0) result) }
+        ensures ring { IfOk result (λ r. r.1 ≡ (sdw_in self.old at.seg).r1) }
+        ensures bound { IfOk result (λ r. r.1 < 2 ^ 3) }
+        ensures dbr { self.new.dbr ≡ self.old.dbr }
+        ensures len { length self.new.core ≡ length self.old.core }
+    {
+        let found = refer_read(&mut self.core, self.dbr, block_at(at), psr, 16)?;
+        Ok((seen_block(&self.core, &pending, found.place), found.ring))
+    }
+
+    /// Reads a word in the ring of `at`, for an instruction of segment `psr`.
+    pub fn read(&mut self, at: At, psr: u16) -> Result<Word, Fault>
+        ensures serves { Reads self.old self.new.core psr at 1 None (ok_map (λ w. w ∷ []) result) }
+        ensures dbr { self.new.dbr ≡ self.old.dbr }
+        ensures len { length self.new.core ≡ length self.old.core }
+    {
+        self.operand(at, psr, None)
+    }
+
+    /// Reads the pair that holds a word. The low bit of the word number is not looked at.
+    pub fn read_pair(&mut self, at: At, psr: u16) -> Result<Pair, Fault>
+        ensures serves { Reads self.old self.new.core psr (aligned_at 2 at) 2 None (ok_map pair_words result) }
+        ensures dbr { self.new.dbr ≡ self.old.dbr }
+        ensures len { length self.new.core ≡ length self.old.core }
+    {
+        match self.operand_pair(at, psr, None) {
+            Ok((pair, _)) => Ok(pair),
+            Err(fault) => Err(fault),
+        }
+    }
+
+    /// Reads the block that holds a word. The low four bits of the word number are not looked at.
+    pub fn read_block(&mut self, at: At, psr: u16) -> Result<[Pair; 8], Fault>
+        ensures serves { Reads self.old self.new.core psr (aligned_at 16 at) 16 None (ok_map block_words result) }
+        ensures dbr { self.new.dbr ≡ self.old.dbr }
+        ensures len { length self.new.core ≡ length self.old.core }
+    {
+        let found = refer_read(&mut self.core, self.dbr, block_at(at), psr, 16)?;
+        Ok(seen_block(&self.core, &None, found.place))
     }
 }
