@@ -74,3 +74,8 @@ no_words X a (suc n) h = absurd (omega arith)
 
 pub block_read_whole : (X whole : List ℕ) (a n i : ℕ) (pairs : List Pair) → length pairs ≤ i → n ≤ 0 → whole ≡ block_words (take i pairs) ++ words_from X a n → whole ≡ block_words pairs
 block_read_whole X whole a n i pairs h k e = e ∙ rw (no_words X a n k, take_all i pairs h) (append-nil (block_words pairs))
+
+pub length-block_words : (pairs : List Pair) (n : ℕ) → length pairs ≡ n → length (block_words pairs) ≡ n + n
+length-block_words [] n h = omega arith
+length-block_words (p ∷ pairs) zero h = absurd (omega arith)
+length-block_words (p ∷ pairs) (suc n) h = omega (arith, length-block_words pairs n (omega arith))

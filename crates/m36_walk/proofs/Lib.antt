@@ -4,3 +4,4 @@ pub mod Serving
 pub mod ByKind
 pub mod Blocks
 pub mod Told
+pub mod Claims

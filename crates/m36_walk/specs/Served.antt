@@ -1,5 +1,5 @@
 -- What a call of the walk says of a request of a step's program: the store of core words serves it so.
-use Rattle.std.specs.Prelude.{ℕ, ◌≡◌, ◌+◌, Bool, if◌then◌else◌, List, [], ◌∷◌, map, length, Option, Some, None, Result, Ok, Err}
+use Rattle.std.specs.Prelude.{ℕ, ◌≡◌, ◌+◌, ◌⊎◌, Bool, if◌then◌else◌, List, [], ◌∷◌, map, length, Option, Some, None, Result, Ok, Err}
 use Rattle.m36_desc.specs.Fields.{SdwFields}
 use Rattle.m36_desc.specs.Descriptors.{sdw_of}
 use Rattle.m36_model.specs.Fields.{AtFields}
@@ -113,3 +113,25 @@ abbrev pub Reads : Memory → List ℕ → ℕ → AtFields → ℕ → Option P
 Reads m new psr at count pending words =
     (g : RegsFields) → g.dbr ≡ m.dbr → g.ppr.psr ≡ psr → (claims : List Spot) (refs : List Reference) (puts : List Put) → changes claims puts ≡ pending_changes pending
     → serve core_store g (standing m.core claims refs) (request Read at count puts) ≡ with_words (request Read at count puts) (sdw_in m at.seg) new claims refs words
+
+-- as many words as one reference has: a word, a pair, or a block
+abbrev pub IsCount : ℕ → Type 0
+IsCount n = (n ≡ 1) ⊎ ((n ≡ 2) ⊎ (n ≡ 16))
+
+-- words that are written where a Write has claimed their places
+abbrev pub written_by : Served (List ℕ) → List ℕ → List ℕ
+written_by s words = core_put s.mid.store (changes s.mid.claims (puts_from Whole 0 words))
+
+-- a reply without its answer
+abbrev pub replied : Served (List ℕ) → Result Unit Fault
+replied s = ok_map (λ a. tt) s.reply
+
+-- a Write of words on its own: it is served, and the words stand where it has claimed their places; where it is refused
+-- nothing has changed
+pub record IsWritten (s : Served (List ℕ)) (new words : List ℕ) (result : Result Unit Fault) : Type 0 where
+  pub told : result ≡ replied s
+  pub core : new ≡ written_by s words
+
+abbrev pub Writes : Memory → List ℕ → AtFields → ℕ → List ℕ → Result Unit Fault → Type 0
+Writes m new at count words result =
+    (g : RegsFields) → g.dbr ≡ m.dbr → IsWritten (serve core_store g (standing m.core [] []) (request Write at count [])) new words result

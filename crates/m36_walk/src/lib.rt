@@ -10,6 +10,7 @@ mod reference;
 mod refusal;
 pub mod walk;
 pub mod words;
+mod writes;
 
 pub use walk::Walk;
 pub use words::Pending;

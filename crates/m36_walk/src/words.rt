@@ -83,6 +83,7 @@ pub(crate) fn put_block(core: &mut Core, a: u32, block: &[Pair; 8])
     requires place { a < 2 ^ 24 }
     requires inside { LiesIn (length core.old) a 16 }
     ensures put { core.new ≡ core_put core.old (run_changes a (block_words block.now)) }
+    ensures words { length (block_words block.now) ≡ 16 }
     ensures len { length core.new ≡ length core.old }
 {
     let mut next = a;

@@ -1,0 +1,119 @@
+//! References that write.
+
+ghost use Rattle.std.specs.Prelude.{ℕ, ◌≡◌, ◌+◌, ◌%◌, ◌<◌, ◌≤◌, ◌^◌, [], ◌∷◌, IfOk, length, slice_set};
+ghost use Rattle.m36_model.specs.Core.{core_put};
+ghost use Rattle.m36_walk.specs.Runs.{LiesIn};
+ghost use Rattle.m36_walk.specs.Served.{aligned_at, IsCount, ServesClaim, Writes};
+ghost use Rattle.m36_walk.specs.Words.{run_changes, pair_words, block_words};
+
+use crate::reads::{block_at, pair_at};
+use crate::refer::refer_write;
+use crate::walk::Walk;
+use crate::words::{put_block, put_pair};
+use m36_model::{At, Fault};
+use m36_word::{Pair, Word};
+
+/// The first of so many words that a reference has.
+fn first_at(at: At, count: u8) -> At
+    requires { IsCount count }
+    ensures value { result ≡ aligned_at count at }
+    ensures block { result.word % 16 + count ≤ 16 }
+{
+    if count == 1 {
+        return at;
+    }
+    if count == 2 { pair_at(at) } else { block_at(at) }
+}
+
+impl Walk {
+    /// Examines a Write of 1, 2 or 16 words in the ring of `at`, sets its marks, and writes nothing. The answer is the
+    /// place of the first word; the others follow it modulo 2^24.
+    pub fn hold(&mut self, at: At, count: u8) -> Result<u32, Fault>
+        requires { IsCount count }
+        ensures serves { ServesClaim self.old self.new.core (aligned_at count at) count result }
+        ensures inside { IfOk result (λ a. LiesIn (length self.new.core) a count) }
+        ensures bound { IfOk result (λ a. a < 2 ^ 24) }
+        ensures dbr { self.new.dbr ≡ self.old.dbr }
+        ensures len { length self.new.core ≡ length self.old.core }
+    {
+        refer_write(&mut self.core, self.dbr, first_at(at, count), count as u32)
+    }
+
+    /// Writes one core word.
+    pub fn store(&mut self, place: u32, w: Word)
+        requires { place < length self.old.core }
+        ensures core { self.new.core ≡ slice_set self.old.core place w }
+        ensures dbr { self.new.dbr ≡ self.old.dbr }
+    {
+        self.core.poke(place, w);
+    }
+
+    /// Writes a pair from a place on.
+    pub fn store_pair(&mut self, place: u32, pair: Pair)
+        requires place { place < 2 ^ 24 }
+        requires inside { LiesIn (length self.old.core) place 2 }
+        ensures core { self.new.core ≡ core_put self.old.core (run_changes place (pair_words pair)) }
+        ensures dbr { self.new.dbr ≡ self.old.dbr }
+        ensures len { length self.new.core ≡ length self.old.core }
+    {
+        put_pair(&mut self.core, place, pair);
+    }
+
+    /// Writes a block from a place on.
+    pub fn store_block(&mut self, place: u32, block: &[Pair; 8])
+        requires place { place < 2 ^ 24 }
+        requires inside { LiesIn (length self.old.core) place 16 }
+        ensures core { self.new.core ≡ core_put self.old.core (run_changes place (block_words block.now)) }
+        ensures words { length (block_words block.now) ≡ 16 }
+        ensures dbr { self.new.dbr ≡ self.old.dbr }
+        ensures len { length self.new.core ≡ length self.old.core }
+    {
+        put_block(&mut self.core, place, block);
+    }
+
+    /// Writes a word in the ring of `at`.
+    #[tactic(auto, unfolding(crate::specs::Runs::LiesIn))]
+    pub fn write(&mut self, at: At, w: Word) -> Result<(), Fault>
+        ensures writes { Writes self.old self.new.core at 1 (w ∷ []) result }
+        ensures dbr { self.new.dbr ≡ self.old.dbr }
+        ensures len { length self.new.core ≡ length self.old.core }
+    {
+        match self.hold(at, 1) {
+            Ok(place) => {
+                self.store(place, w);
+                Ok(())
+            }
+            Err(fault) => Err(fault),
+        }
+    }
+
+    /// Writes the pair that holds a word. The low bit of the word number is not looked at.
+    pub fn write_pair(&mut self, at: At, p: Pair) -> Result<(), Fault>
+        ensures writes { Writes self.old self.new.core (aligned_at 2 at) 2 (pair_words p) result }
+        ensures dbr { self.new.dbr ≡ self.old.dbr }
+        ensures len { length self.new.core ≡ length self.old.core }
+    {
+        match self.hold(at, 2) {
+            Ok(place) => {
+                self.store_pair(place, p);
+                Ok(())
+            }
+            Err(fault) => Err(fault),
+        }
+    }
+
+    /// Writes the block that holds a word. The low four bits of the word number are not looked at.
+    pub fn write_block(&mut self, at: At, b: [Pair; 8]) -> Result<(), Fault>
+        ensures writes { Writes self.old self.new.core (aligned_at 16 at) 16 (block_words b) result }
+        ensures dbr { self.new.dbr ≡ self.old.dbr }
+        ensures len { length self.new.core ≡ length self.old.core }
+    {
+        match self.hold(at, 16) {
+            Ok(place) => {
+                self.store_block(place, &b);
+                Ok(())
+            }
+            Err(fault) => Err(fault),
+        }
+    }
+}
