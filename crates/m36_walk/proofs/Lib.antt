@@ -5,3 +5,4 @@ pub mod ByKind
 pub mod Blocks
 pub mod Told
 pub mod Claims
+pub mod Placing

@@ -135,3 +135,9 @@ pub record IsWritten (s : Served (List ℕ)) (new words : List ℕ) (result : Re
 abbrev pub Writes : Memory → List ℕ → AtFields → ℕ → List ℕ → Result Unit Fault → Type 0
 Writes m new at count words result =
     (g : RegsFields) → g.dbr ≡ m.dbr → IsWritten (serve core_store g (standing m.core [] []) (request Write at count [])) new words result
+
+-- a request that examines a target, or asks for a place: it changes nothing
+abbrev pub ServesAsked : (RegsFields → Type 0) → RequestKind → Memory → AtFields → Result Reached Fault → Type 0
+ServesAsked Known kind m at r =
+    (g : RegsFields) → g.dbr ≡ m.dbr → Known g → (claims : List Spot) (refs : List Reference) (puts : List Put)
+    → serve core_store g (standing m.core claims refs) (request kind at 1 puts) ≡ served_by (request kind at 1 puts) m.core claims refs r

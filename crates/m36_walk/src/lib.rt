@@ -8,6 +8,7 @@ mod reads;
 mod refer;
 mod reference;
 mod refusal;
+mod targets;
 pub mod walk;
 pub mod words;
 mod writes;

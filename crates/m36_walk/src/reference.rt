@@ -7,6 +7,7 @@ ghost use Rattle.m36_model.specs.Place.{core_sdw, directory_at};
 ghost use Rattle.m36_model.specs.Store.{spots_of};
 ghost use Rattle.m36_walk.specs.Reached.{told, told_acv, reached, found_run, Marked};
 ghost use Rattle.m36_walk.specs.Runs.{LiesIn};
+ghost use Rattle.m36_walk.specs.Served.{sdw_in};
 ghost use Rattle.m36_walk.specs.Tables.{TableIn};
 
 use crate::descriptor::descriptor;
@@ -26,8 +27,10 @@ pub(crate) struct Found {
 }
 
 /// The descriptor of the segment of a word.
+#[tactic(auto, unfolding(crate::specs::Served::sdw_in))]
 pub(crate) fn described(core: &Core, dbr: Dbr, at: At) -> Result<Sdw, Fault>
     ensures value { result ≡ told at (core_sdw core.now dbr at.seg) }
+    ensures sdw { IfOk result (λ d. sdw_in (record { core = core.now; dbr = dbr }) at.seg ≡ d) }
     ensures directory { OnOk result (TableIn (length core.now) dbr.unpaged (directory_at dbr at.seg)) }
 {
     match descriptor(core, dbr, at.seg) {

@@ -1,0 +1,99 @@
+//! References that touch no word: the target of a transfer or of a call, the place of a word, and a ring bracket.
+
+ghost use Rattle.std.specs.Prelude.{ℕ, ◌≡◌, ◌<◌, ◌^◌, ◌==◌, [], ◌∷◌, not, IfOk, length};
+ghost use Rattle.m36_desc.specs.Access.{allowed, first_of, in_order, transfer_rows, call_rows, ring_called};
+ghost use Rattle.m36_model.specs.Core.{core_store};
+ghost use Rattle.m36_model.specs.Place.{core_sdw};
+ghost use Rattle.m36_model.specs.Store.{Core_word, within, bound_only, spots_of, place, first_ring};
+ghost use Rattle.m36_walk.specs.Reached.{told_acv, told_order, reached};
+ghost use Rattle.m36_walk.specs.Runs.{LiesIn, told_places};
+ghost use Rattle.m36_walk.specs.Served.{sdw_in, at_place, at_target, ok_map};
+
+use crate::descriptor::descriptor;
+use crate::place::{places, within};
+use crate::reference::{described, permitted};
+use crate::refusal::{fault, violation};
+use m36_core::Core;
+use m36_desc::access::{call_ring, may_transfer};
+use m36_desc::{Acv, Dbr, Sdw};
+use m36_model::{At, Fault, Ppr, Refusal};
+
+/// The word of a target is within the bound.
+fn bounded(sdw: &Sdw, at: At) -> Result<(), Fault>
+    ensures { ok_map (λ u. []) result ≡ told_places at (bound_only (within sdw.now at.word) at.word) }
+{
+    if within(sdw, at.word) {
+        Ok(())
+    } else {
+        Err(fault(violation(15), at))
+    }
+}
+
+/// The target of a transfer in the ring of `at` from ring `prr`.
+#[tactic(auto, unfolding(crate::specs::Reached::reached))]
+pub(crate) fn find_transfer(core: &Core, dbr: Dbr, at: At, prr: u8) -> Result<(), Fault>
+    ensures { reached (λ d. allowed tt (first_of (transfer_rows d at.ring prr))) (λ d. bound_only (within d at.word) at.word) (core_sdw core.now dbr at.seg) at ≡ at_target (sdw_in (record { core = core.now; dbr = dbr }) at.seg) result }
+{
+    let sdw = described(core, dbr, at)?;
+    permitted(may_transfer(&sdw, at.ring, prr), at)?;
+    bounded(&sdw, at)
+}
+
+/// The ring that a call goes on in, told at its target.
+fn ring_permitted(answer: Result<u8, Acv>, at: At) -> Result<u8, Fault>
+    ensures { result ≡ told_acv at answer }
+{
+    match answer {
+        Ok(ring) => Ok(ring),
+        Err(Acv(acv)) => Err(fault(violation(acv), at)),
+    }
+}
+
+/// The target of CALL6 in the ring of `at` from `ppr`, and the ring in which the call goes on.
+#[tactic(auto, unfolding(crate::specs::Reached::reached))]
+pub(crate) fn find_call(core: &Core, dbr: Dbr, at: At, ppr: Ppr) -> Result<u8, Fault>
+    ensures target { reached (λ d. allowed tt (first_of (call_rows d at.ring ppr.prr (at.seg == ppr.psr) at.word))) (λ d. bound_only (within d at.word) at.word) (core_sdw core.now dbr at.seg) at ≡ at_target (sdw_in (record { core = core.now; dbr = dbr }) at.seg) result }
+    ensures ring { IfOk result (λ ring. ring ≡ ring_called (sdw_in (record { core = core.now; dbr = dbr }) at.seg) at.ring) }
+    ensures bound { IfOk result (λ ring. ring < 2 ^ 3) }
+{
+    let sdw = described(core, dbr, at)?;
+    let ring = ring_permitted(call_ring(&sdw, at.ring, ppr.prr, at.seg == ppr.psr, at.word), at)?;
+    bounded(&sdw, at)?;
+    Ok(ring)
+}
+
+/// The brackets of a segment are in order.
+fn ordered(sdw: &Sdw) -> Result<(), Refusal>
+    ensures { result ≡ told_order (in_order sdw.now) }
+{
+    if sdw.r1 <= sdw.r2 && sdw.r2 <= sdw.r3 {
+        Ok(())
+    } else {
+        Err(violation(0))
+    }
+}
+
+/// The place of a word, whoever asks for it.
+#[tactic(auto, unfolding(crate::specs::Reached::reached))]
+pub(crate) fn find_place(core: &Core, dbr: Dbr, at: At) -> Result<u32, Fault>
+    ensures asked { reached (λ d. allowed tt (first_of ((not (in_order d), 0) ∷ []))) (λ d. spots_of core_store core.now dbr d at.seg at.word 1) (core_sdw core.now dbr at.seg) at ≡ at_place (sdw_in (record { core = core.now; dbr = dbr }) at.seg) 1 result }
+    ensures inside { IfOk result (λ a. LiesIn (length core.now) a 1) }
+{
+    let sdw = described(core, dbr, at)?;
+    if let Err(why) = ordered(&sdw) {
+        return Err(fault(why, at));
+    }
+    places(core, &sdw, at, 1)
+}
+
+/// The first ring bracket of a segment.
+#[tactic(auto, unfolding(m36_model::specs::Store::first_ring))]
+pub(crate) fn find_first_ring(core: &Core, dbr: Dbr, seg: u16) -> Result<u8, Refusal>
+    requires { seg < 2 ^ 15 }
+    ensures value { result ≡ first_ring core_store core.now dbr seg }
+    ensures bound { IfOk result (λ ring. ring < 2 ^ 3) }
+{
+    let sdw = descriptor(core, dbr, seg)?;
+    ordered(&sdw)?;
+    Ok(sdw.r1)
+}
