@@ -6,3 +6,4 @@ pub mod Blocks
 pub mod Told
 pub mod Claims
 pub mod Placing
+pub mod Asked

@@ -1,6 +1,7 @@
 //! The descriptor walk: one reference to core at a time.
 #![tactic(auto)]
 
+mod asks;
 mod descriptor;
 mod marks;
 mod place;
