@@ -4,3 +4,4 @@ pub mod Tables
 pub mod Reached
 pub mod Served
 pub mod Words
+pub mod Lending

@@ -1,6 +1,7 @@
 //! The walk.
 
-ghost use Rattle.std.specs.Prelude.{ℕ, ◌≡◌, IfOk, IfErr, length};
+ghost use Rattle.std.specs.Prelude.{ℕ, ◌≡◌, IfOk, IfErr};
+ghost use Rattle.std.specs.Borrow.{sem};
 
 use m36_core::Core;
 use m36_desc::Dbr;
@@ -23,6 +24,8 @@ impl Model for Walk {
 }
 
 impl Walk {
+    ghost use Rattle.m36_walk.specs.Lending.{LendsCore};
+
     /// A walk over core. The error hands core back, and is want of memory alone.
     pub fn new(_alloc: Global, core: Core, dbr: Dbr) -> Result<Walk, Core>
         ensures ok { IfOk result (λ walk. (walk.core ≡ core) × (walk.dbr ≡ dbr)) }
@@ -36,6 +39,14 @@ impl Walk {
         ensures { result.now ≡ self.now.core }
     {
         &self.core
+    }
+
+    /// Core, to be written. Nothing that was read from it before is used again.
+    pub fn core_mut(&mut self) -> &mut Core
+        ensures* lends { sem 𝓛 (LendsCore self.entry result) }
+        ensures value { result.now ≡ self.old.core }
+    {
+        &mut self.core
     }
 
     /// The descriptor segment base register.
