@@ -1,5 +1,5 @@
 -- Requests that touch no word: the target of a transfer or of a call, and the place of a word.
-use Rattle.std.proofs.Common.{ℕ, ◌≡◌, Bool, true, false, not, List, [], ◌∷◌, Option, Result, Ok, Err, ◌==◌, refl, ap, sym, subst, ◌∙◌}
+use Rattle.std.proofs.Common.{ℕ, ◌≡◌, false, not, List, [], ◌∷◌, Option, Result, Ok, Err, ◌==◌, refl, ap, sym, subst, ◌∙◌}
 use Rattle.m36_desc.specs.Fields.{SdwFields, DbrFields}
 use Rattle.m36_desc.specs.Access.{allowed, first_of, in_order, transfer_rows, call_rows}
 use Rattle.m36_model.specs.Fields.{AtFields}

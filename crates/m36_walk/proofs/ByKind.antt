@@ -1,17 +1,17 @@
 -- Each kind of request to core, as the walk refers to it.
-use Rattle.std.proofs.Common.{ℕ, ◌≡◌, Bool, true, false, List, [], ◌∷◌, ◌++◌, Option, Some, None, Result, Ok, Err, ◌==◌, refl, ap, sym, subst, ◌∙◌}
+use Rattle.std.proofs.Common.{ℕ, ◌≡◌, true, false, List, Option, Result, Ok, Err, ◌==◌, refl, ap, sym, subst, ◌∙◌}
 use Rattle.m36_desc.specs.Fields.{SdwFields, DbrFields}
 use Rattle.m36_desc.specs.Access.{allowed, first_of, read_rows, write_rows, fetch_rows}
 use Rattle.m36_model.specs.Fields.{AtFields}
 use Rattle.m36_model.specs.Registers.{RegsFields}
-use Rattle.m36_model.specs.Act.{RequestKind, Fetch, Indirect, Odd, Read, Write, Put, Request}
-use Rattle.m36_model.specs.Store.{Spot, Served, serve, places, spots_of, denied, touches}
+use Rattle.m36_model.specs.Act.{Fetch, Indirect, Odd, Read, Write, Put, Request}
+use Rattle.m36_model.specs.Store.{Spot, serve, places, spots_of, denied, touches}
 use Rattle.m36_model.specs.Core.{core_store}
-use Rattle.m36_model.specs.Place.{core_sdw, core_marked, marks, is_write, with_marks, directory_marks, page_marks}
+use Rattle.m36_model.specs.Place.{core_sdw, core_marked, marks, is_write}
 use Rattle.m36_model.specs.declared.outcome.Fault.{Fault}
 use Rattle.m36_model.specs.declared.outcome.Refusal.{Refusal}
 use Rattle.m36_model.specs.declared.place.Reference.{Reference}
-use Rattle.m36_walk.specs.Reached.{Reached, reached, found_run, Marked}
+use Rattle.m36_walk.specs.Reached.{reached, found_run, Marked}
 use Rattle.m36_walk.specs.Runs.{run_from}
 use Rattle.m36_walk.specs.Served.{standing, request, served_by}
 use Rattle.m36_walk.specs.declared.reference.Found.{Found}

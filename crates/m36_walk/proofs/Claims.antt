@@ -1,9 +1,9 @@
 -- Words that are put into the places that a Write has claimed.
-use Rattle.std.proofs.Common.{ℕ, ◌≡◌, ◌+◌, List, [], ◌∷◌, ◌++◌, length, slice_get, Option, Some, None, Result, Ok, Err, refl, ap, sym, ◌∙◌, append_assoc, length-append, slice_set, subst, arith}
+use Rattle.std.proofs.Common.{ℕ, ◌≡◌, ◌+◌, List, [], ◌∷◌, ◌++◌, length, slice_get, Some, Ok, Err, refl, ap, sym, ◌∙◌, append_assoc, length-append, slice_set, subst}
 use Rattle.m36_desc.specs.Fields.{SdwFields}
 use Rattle.m36_model.specs.Fields.{AtFields}
 use Rattle.m36_model.specs.Act.{Whole, Write}
-use Rattle.m36_model.specs.Store.{Spot, Core_word, Change, Served, changes, change_of}
+use Rattle.m36_model.specs.Store.{Spot, Core_word, Served, changes}
 use Rattle.m36_model.specs.Core.{core_put}
 use Rattle.m36_model.specs.Place.{wrapped}
 use Rattle.m36_model.specs.Step.{puts_from}

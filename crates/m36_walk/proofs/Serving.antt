@@ -1,12 +1,12 @@
 -- A reference to core is served by its descriptor, its rights and its places, in the order in which the walk examines them.
-use Rattle.std.proofs.Common.{ℕ, ◌≡◌, Bool, true, false, List, [], ◌∷◌, ◌++◌, Option, Some, None, Result, Ok, Err, ◌==◌, refl, ap, sym, ◌∙◌}
+use Rattle.std.proofs.Common.{ℕ, ◌≡◌, List, Option, Some, None, Result, Ok, Err, ◌==◌, refl, ap, sym, ◌∙◌}
 use Rattle.m36_desc.specs.Fields.{SdwFields, DbrFields}
 use Rattle.m36_desc.specs.Access.{allowed}
 use Rattle.m36_desc.specs.declared.access.Acv.{Acv}
 use Rattle.m36_model.specs.Fields.{AtFields}
 use Rattle.m36_model.specs.Registers.{RegsFields}
 use Rattle.m36_model.specs.Act.{Request}
-use Rattle.m36_model.specs.Store.{Spot, Mid, Served, serve, serve_sdw, serve_rights, serve_places, places, denied, after_marks}
+use Rattle.m36_model.specs.Store.{Spot, Served, serve, serve_sdw, serve_rights, serve_places, places, denied, after_marks}
 use Rattle.m36_model.specs.Core.{core_store}
 use Rattle.m36_model.specs.Place.{core_sdw}
 use Rattle.m36_model.specs.declared.outcome.Fault.{Fault}

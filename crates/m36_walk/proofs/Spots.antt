@@ -1,10 +1,10 @@
 -- Within a block of 16 words places follow one another: so the places of a pair or block are a run from its first.
-use Rattle.std.proofs.Common.{ℕ, zero, suc, ◌+◌, ◌-◌, ◌/◌, ◌%◌, ◌^◌, ◌≤◌, ◌<◌, ◌≡◌, Bool, true, false, List, [], ◌∷◌, length, Option, Some, None, Result, Ok, Err, nat_lt, refl, ap, ◌∙◌, sub-one, lt-ltb, le-ltb, arith}
+use Rattle.std.proofs.Common.{ℕ, zero, suc, ◌+◌, ◌-◌, ◌/◌, ◌%◌, ◌^◌, ◌≤◌, ◌<◌, ◌≡◌, Bool, true, false, List, length, Option, Some, None, Result, Ok, Err, nat_lt, refl, ap, ◌∙◌, sub-one, lt-ltb, le-ltb, arith}
 use Rattle.m36_desc.specs.Fields.{SdwFields, PtwFields, DbrFields}
 use Rattle.m36_model.specs.Fields.{AtFields}
 use Rattle.m36_model.specs.Core.{core_store}
-use Rattle.m36_model.specs.Place.{wrapped, frame_at, ptw_at, page_at, in_frame_by, in_frame, word_place_by, core_spot, inside_core, inside_core_by, store_fault}
-use Rattle.m36_model.specs.Store.{Spot, Core_word, within, placed_one, placed_next, spots_of, violation, fault_by}
+use Rattle.m36_model.specs.Place.{wrapped, frame_at, ptw_at, page_at, in_frame_by, word_place_by, core_spot, inside_core_by, store_fault}
+use Rattle.m36_model.specs.Store.{Core_word, within, placed_one, placed_next, spots_of, violation, fault_by}
 use Rattle.m36_model.specs.declared.outcome.Refusal.{Refusal}
 use Rattle.m36_walk.specs.Runs.{run_from, examined, LiesIn, told_places}
 

@@ -1,18 +1,16 @@
 -- A reference that reads tells its words.
-use Rattle.std.proofs.Common.{ℕ, zero, suc, ◌≡◌, ◌+◌, Bool, List, [], ◌∷◌, ◌++◌, map, length, Option, Some, None, Result, Ok, Err, IfOk, true, false, ◌==◌, refl, ap, sym, ◌∙◌, slice_index}
+use Rattle.std.proofs.Common.{ℕ, zero, suc, ◌≡◌, ◌+◌, List, ◌∷◌, map, Option, Result, Ok, Err, IfOk, true, false, ◌==◌, refl, ap, sym, ◌∙◌, slice_index}
 use Rattle.m36_desc.specs.Fields.{SdwFields, DbrFields}
 use Rattle.m36_desc.specs.Access.{first_of, read_rows, write_rows, fetch_rows}
 use Rattle.m36_model.specs.Fields.{AtFields}
 use Rattle.m36_model.specs.Registers.{RegsFields}
-use Rattle.m36_model.specs.Act.{RequestKind, Fetch, Indirect, Odd, Read, Write, Put, Request}
-use Rattle.m36_model.specs.Store.{Spot, Core_word, Change, Served, serve, changes, with_reference}
+use Rattle.m36_model.specs.Act.{Fetch, Indirect, Odd, Read, Write, Put, Request}
+use Rattle.m36_model.specs.Store.{Spot, Change, serve, changes}
 use Rattle.m36_model.specs.Core.{core_store, core_word, core_put}
 use Rattle.m36_model.specs.Place.{core_sdw, wrapped}
 use Rattle.m36_model.specs.declared.outcome.Fault.{Fault}
-use Rattle.m36_model.specs.declared.outcome.Refusal.{Refusal}
 use Rattle.m36_model.specs.declared.place.Reference.{Reference}
-use Rattle.m36_walk.specs.Memory.{Memory}
-use Rattle.m36_walk.specs.Reached.{Reached, found_run, Marked}
+use Rattle.m36_walk.specs.Reached.{Marked}
 use Rattle.m36_walk.specs.Runs.{run_from, words_from}
 use Rattle.m36_walk.specs.Served.{standing, request, served_by, sdw_by, sdw_in, with_words, run_words, at_place, ok_map}
 use Rattle.m36_walk.specs.declared.reference.Found.{Found}

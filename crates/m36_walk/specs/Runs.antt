@@ -1,6 +1,5 @@
 -- Words that lie one after another: those of a pair or a block.
 use Rattle.std.specs.Prelude.{ℕ, zero, suc, ◌+◌, ◌<◌, true, List, [], ◌∷◌, Result, Ok, Err, nat_lt, slice_index}
-use Rattle.m36_desc.specs.Fields.{SdwFields}
 use Rattle.m36_model.specs.Fields.{AtFields}
 use Rattle.m36_model.specs.Store.{Spot, Core_word, placed_one, fault_by}
 use Rattle.m36_model.specs.Place.{wrapped, inside_core_by}

@@ -1,13 +1,13 @@
 -- What a call of the walk says of a request of a step's program: the store of core words serves it so.
-use Rattle.std.specs.Prelude.{ℕ, ◌≡◌, ◌+◌, ◌⊎◌, Bool, if◌then◌else◌, List, [], ◌∷◌, map, length, Option, Some, None, Result, Ok, Err}
+use Rattle.std.specs.Prelude.{ℕ, ◌≡◌, ◌⊎◌, if◌then◌else◌, List, [], ◌∷◌, map, length, Option, Result, Ok, Err}
 use Rattle.m36_desc.specs.Fields.{SdwFields}
 use Rattle.m36_desc.specs.Descriptors.{sdw_of}
 use Rattle.m36_model.specs.Fields.{AtFields}
 use Rattle.m36_model.specs.Registers.{RegsFields}
-use Rattle.m36_model.specs.Act.{RequestKind, Read, Write, Whole, Put, Request, Answer}
-use Rattle.m36_model.specs.Store.{Spot, Core_word, Change, Mid, Served, serve, changes, reads, located, with_claims, with_reference}
+use Rattle.m36_model.specs.Act.{RequestKind, Read, Write, Whole, Put, Request}
+use Rattle.m36_model.specs.Store.{Spot, Change, Mid, Served, serve, changes, reads, located, with_claims, with_reference}
 use Rattle.m36_model.specs.Core.{core_store, core_word, core_put}
-use Rattle.m36_model.specs.Place.{core_sdw, wrapped}
+use Rattle.m36_model.specs.Place.{core_sdw}
 use Rattle.m36_model.specs.Step.{aligned, puts_from}
 use Rattle.m36_model.specs.declared.outcome.Fault.{Fault}
 use Rattle.m36_model.specs.declared.outcome.Refusal.{Refusal}

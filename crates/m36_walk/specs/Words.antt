@@ -1,7 +1,7 @@
 -- Words as a reference sees them, and words as they are written.
 use Rattle.std.specs.Prelude.{ℕ, ◌+◌, List, [], ◌∷◌, Option, Some, None}
 use Rattle.m36_word.specs.declared.pair.Pair.{Pair}
-use Rattle.m36_model.specs.Act.{Part, Whole}
+use Rattle.m36_model.specs.Act.{Whole}
 use Rattle.m36_model.specs.Store.{Change, Core_word}
 use Rattle.m36_model.specs.Core.{core_put}
 use Rattle.m36_model.specs.Place.{wrapped}

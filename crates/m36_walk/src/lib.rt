@@ -1,4 +1,16 @@
-//! The descriptor walk: one reference to core at a time.
+//! The descriptor walk: one reference to core memory at a time.
+//!
+//! A reference names a word of a segment and a ring. It is examined in this order, and the first refusal is its fault:
+//! the descriptor of the segment, that its ring brackets are in order, the rights that it gives to the ring, the bound,
+//! and the place of the word in core. Then its marks are set in the page table words that it has passed, and then its
+//! words are read. Of a pair or a block each word is examined, in rising order, before anything is changed.
+//!
+//! The contract of each call that a step makes is that the store of core words serves the request so: `serves` says,
+//! whatever the step has claimed and referred to before, what the reply is and how core stands afterwards. A refused
+//! reference changes nothing. No call takes memory, and each finds its descriptors in core as it stands.
+//!
+//! Source: Multics Processor Manual AL39, "Address appending", "Segment descriptor word", "Page table word", "Access
+//! control".
 #![tactic(auto)]
 
 mod asks;
@@ -16,3 +28,6 @@ mod writes;
 
 pub use walk::Walk;
 pub use words::Pending;
+
+#[cfg(test)]
+mod tests;

@@ -74,37 +74,47 @@ impl Walk {
 
     /// Reads an operand word in the ring of `at`, for an instruction of segment `psr`. A pending word is seen as written.
     #[tactic(auto, unfolding(crate::specs::Runs::LiesIn))]
-    pub fn operand(&mut self, at: At, psr: u16, pending: Option<Pending>) -> Result<Word, Fault>
-        ensures serves { Reads self.old self.new.core psr at 1 pending (ok_map (λ w. w ∷ []) result) }
+    pub fn operand(&mut self, at: At, psr: u16, pending: &Option<Pending>) -> Result<Word, Fault>
+        ensures serves { Reads self.old self.new.core psr at 1 pending.now (ok_map (λ w. w ∷ []) result) }
         ensures dbr { self.new.dbr ≡ self.old.dbr }
         ensures len { length self.new.core ≡ length self.old.core }
     {
         let found = refer_read(&mut self.core, self.dbr, at, psr, 1)?;
-        Ok(seen(&self.core, &pending, found.place))
+        Ok(seen(&self.core, pending, found.place))
     }
 
     /// Reads the operand pair that holds a word, and the first ring bracket of its segment.
-    pub fn operand_pair(&mut self, at: At, psr: u16, pending: Option<Pending>) -> Result<(Pair, u8), Fault>
-        ensures serves { Reads self.old self.new.core psr (aligned_at 2 at) 2 pending (ok_map (λ r. pair_words r.0) result) }
+    pub fn operand_pair(
+        &mut self,
+        at: At,
+        psr: u16,
+        pending: &Option<Pending>,
+    ) -> Result<(Pair, u8), Fault>
+        ensures serves { Reads self.old self.new.core psr (aligned_at 2 at) 2 pending.now (ok_map (λ r. pair_words r.0) result) }
         ensures ring { IfOk result (λ r. r.1 ≡ (sdw_in self.old at.seg).r1) }
         ensures bound { IfOk result (λ r. r.1 < 2 ^ 3) }
         ensures dbr { self.new.dbr ≡ self.old.dbr }
         ensures len { length self.new.core ≡ length self.old.core }
     {
         let found = refer_read(&mut self.core, self.dbr, pair_at(at), psr, 2)?;
-        Ok((seen_pair(&self.core, &pending, found.place), found.ring))
+        Ok((seen_pair(&self.core, pending, found.place), found.ring))
     }
 
     /// Reads the operand block that holds a word, and the first ring bracket of its segment.
-    pub fn operand_block(&mut self, at: At, psr: u16, pending: Option<Pending>) -> Result<([Pair; 8], u8), Fault>
-        ensures serves { Reads self.old self.new.core psr (aligned_at 16 at) 16 pending (ok_map (λ r. block_words r.0) result) }
+    pub fn operand_block(
+        &mut self,
+        at: At,
+        psr: u16,
+        pending: &Option<Pending>,
+    ) -> Result<([Pair; 8], u8), Fault>
+        ensures serves { Reads self.old self.new.core psr (aligned_at 16 at) 16 pending.now (ok_map (λ r. block_words r.0) result) }
         ensures ring { IfOk result (λ r. r.1 ≡ (sdw_in self.old at.seg).r1) }
         ensures bound { IfOk result (λ r. r.1 < 2 ^ 3) }
         ensures dbr { self.new.dbr ≡ self.old.dbr }
         ensures len { length self.new.core ≡ length self.old.core }
     {
         let found = refer_read(&mut self.core, self.dbr, block_at(at), psr, 16)?;
-        Ok((seen_block(&self.core, &pending, found.place), found.ring))
+        Ok((seen_block(&self.core, pending, found.place), found.ring))
     }
 
     /// Reads a word in the ring of `at`, for an instruction of segment `psr`.
@@ -113,7 +123,7 @@ impl Walk {
         ensures dbr { self.new.dbr ≡ self.old.dbr }
         ensures len { length self.new.core ≡ length self.old.core }
     {
-        self.operand(at, psr, None)
+        self.operand(at, psr, &None)
     }
 
     /// Reads the pair that holds a word. The low bit of the word number is not looked at.
@@ -122,7 +132,7 @@ impl Walk {
         ensures dbr { self.new.dbr ≡ self.old.dbr }
         ensures len { length self.new.core ≡ length self.old.core }
     {
-        match self.operand_pair(at, psr, None) {
+        match self.operand_pair(at, psr, &None) {
             Ok((pair, _)) => Ok(pair),
             Err(fault) => Err(fault),
         }

@@ -33,7 +33,13 @@ fn reach_of(found: &Found) -> Reach
 }
 
 /// Reads so many words in the ring of `at`, for an instruction of segment `psr`.
-pub(crate) fn refer_read(core: &mut Core, dbr: Dbr, at: At, psr: u16, count: u32) -> Result<Reach, Fault>
+pub(crate) fn refer_read(
+    core: &mut Core,
+    dbr: Dbr,
+    at: At,
+    psr: u16,
+    count: u32,
+) -> Result<Reach, Fault>
     requires some { 1 ≤ count }
     requires block { at.word % 16 + count ≤ 16 }
     ensures read { ServesRun (λ g. g.ppr.psr ≡ psr) Read (record { core = core.old; dbr = dbr }) core.new at count (ok_map (λ r. r.place) result) }

@@ -51,7 +51,13 @@ pub(crate) fn permitted(answer: Result<(), Acv>, at: At) -> Result<(), Fault>
 
 /// A reference that reads so many words in the ring of `at`, for an instruction of segment `psr`.
 #[tactic(auto, unfolding(crate::specs::Reached::reached))]
-pub(crate) fn find_read(core: &mut Core, dbr: Dbr, at: At, psr: u16, count: u32) -> Result<Found, Fault>
+pub(crate) fn find_read(
+    core: &mut Core,
+    dbr: Dbr,
+    at: At,
+    psr: u16,
+    count: u32,
+) -> Result<Found, Fault>
     requires some { 1 ≤ count }
     requires block { at.word % 16 + count ≤ 16 }
     ensures examined { reached (λ d. allowed tt (first_of (read_rows d at.ring (at.seg == psr)))) (λ d. spots_of core_store core.old dbr d at.seg at.word count) (core_sdw core.old dbr at.seg) at ≡ found_run count result }

@@ -57,7 +57,10 @@ pub(crate) fn find_call(core: &Core, dbr: Dbr, at: At, ppr: Ppr) -> Result<u8, F
     ensures bound { IfOk result (λ ring. ring < 2 ^ 3) }
 {
     let sdw = described(core, dbr, at)?;
-    let ring = ring_permitted(call_ring(&sdw, at.ring, ppr.prr, at.seg == ppr.psr, at.word), at)?;
+    let ring = ring_permitted(
+        call_ring(&sdw, at.ring, ppr.prr, at.seg == ppr.psr, at.word),
+        at,
+    )?;
     bounded(&sdw, at)?;
     Ok(ring)
 }

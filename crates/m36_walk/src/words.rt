@@ -26,13 +26,7 @@ pub(crate) fn seen(core: &Core, pending: &Option<Pending>, a: u32) -> Word
 {
     match *pending {
         None => core.peek(a),
-        Some(p) => {
-            if p.place == a {
-                p.word
-            } else {
-                core.peek(a)
-            }
-        }
+        Some(p) => { if p.place == a { p.word } else { core.peek(a) } }
     }
 }
 

@@ -22,7 +22,11 @@ fn first_at(at: At, count: u8) -> At
     if count == 1 {
         return at;
     }
-    if count == 2 { pair_at(at) } else { block_at(at) }
+    if count == 2 {
+        pair_at(at)
+    } else {
+        block_at(at)
+    }
 }
 
 impl Walk {

@@ -6,12 +6,12 @@ use Rattle.m36_walk.proofs.place.first_outside.Given as goal
 -- What holds of the words that are left holds of them all.
 abbrev pub invariant-loop-left : goal.invariant-loop-left
 invariant-loop-left l = record {
-    refused : (e : ℕ × Refusal) → examined l.size l.word l.next l.left ≡ Err e → examined l.size l.fn.at.word l.place l.count ≡ Err e;
-    whole : examined l.size l.word l.next l.left ≡ Ok (run_from l.next l.left) → examined l.size l.fn.at.word l.place l.count ≡ Ok (run_from l.place l.count);
-    inside : LiesIn l.size l.next l.left → LiesIn l.size l.place l.count;
-    last : l.word + l.left ≤ 2 ^ 18;
-    next : l.next < 2 ^ 24;
-  }
+  refused : (e : ℕ × Refusal) → examined l.size l.word l.next l.left ≡ Err e → examined l.size l.fn.at.word l.place l.count ≡ Err e;
+  whole : examined l.size l.word l.next l.left ≡ Ok (run_from l.next l.left) → examined l.size l.fn.at.word l.place l.count ≡ Ok (run_from l.place l.count);
+  inside : LiesIn l.size l.next l.left → LiesIn l.size l.place l.count;
+  last : l.word + l.left ≤ 2 ^ 18;
+  next : l.next < 2 ^ 24;
+}
 
 abbrev pub decreases-loop-left : goal.decreases-loop-left
 decreases-loop-left l = l.left

@@ -1,5 +1,4 @@
-use Rattle.std.proofs.Common.{◌≡◌, ◌-◌, ◌*◌, ◌+◌, ◌<◌, ◌^◌, length, slice_set, length-set, arith}
-use Rattle.m36_walk.specs.Runs.{words_from}
+use Rattle.std.proofs.Common.{◌≡◌, ◌-◌, ◌*◌, ◌+◌, ◌<◌, length, length-set, arith}
 use Rattle.m36_walk.specs.Words.{seen}
 use Rattle.m36_walk.proofs.Blocks.{pair_after, first_pair_lies, rest_lies, block_read_on, block_read_whole}
 use Rattle.m36_walk.proofs.words.seen_block.Goals as goal

@@ -1,5 +1,5 @@
-use Rattle.std.proofs.Common.{◌∷◌, [], ◌∙◌, refl, Ok, Err}
-use Rattle.m36_walk.specs.Served.{sdw_in, aligned_at}
+use Rattle.std.proofs.Common.{◌∷◌, [], ◌∙◌, refl}
+use Rattle.m36_walk.specs.Served.{sdw_in}
 use Rattle.m36_walk.proofs.Claims.{put_one_word, written_refused, written_answered}
 use Rattle.m36_walk.proofs.walk.Walk.write.Goals as goal
 

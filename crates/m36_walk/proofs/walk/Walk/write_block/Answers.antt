@@ -1,4 +1,4 @@
-use Rattle.std.proofs.Common.{[], refl, Ok, Err}
+use Rattle.std.proofs.Common.{[]}
 use Rattle.m36_walk.specs.Served.{sdw_in, aligned_at}
 use Rattle.m36_walk.specs.Words.{block_words}
 use Rattle.m36_walk.proofs.Claims.{written_refused, written_answered}
