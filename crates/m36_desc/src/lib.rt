@@ -4,6 +4,11 @@
 //! segment by the descriptor segment base register (DBR). Pointer registers and the pairs ITS and ITP name words of
 //! segments. Each is a record that is read from words and written to words, with no bit lost that has a name.
 //!
+//! What is proved: each field is read from its place in the words and written to it, all bits without a name are
+//! written as zero, and what is written is read back. A reference is refused with an access violation exactly where
+//! a rule of its kind holds, and with that of the first such rule; a call that is allowed goes on in the ring that
+//! the ring rules say.
+//!
 //! Source: Multics Processor Manual AL39, "Addressing -- segmentation and paging" and "Access control"; for the
 //! ring rules, Schroeder and Saltzer, "A hardware architecture for implementing protection rings" (1972).
 #![tactic(auto)]
