@@ -1,8 +1,6 @@
 //! What an effect is given, and what it gives.
 
-ghost use Rattle.std.specs.Prelude.{◌≡◌, [], ◌∷◌, Ok, IsTrue};
-ghost use Rattle.m36_model.specs.Results.{words_of_held, words_of_pairs, effect_fields, completes, completes_with};
-ghost use Rattle.m36_model.specs.OperandHeld.{is_word, is_pair, is_block};
+ghost use Rattle.std.specs.Prelude.{◌≡◌, ◌<◌, ◌^◌, [], ◌∷◌, Ok, IsTrue};
 
 use crate::outcome::Final;
 use crate::place::At;
@@ -19,6 +17,9 @@ pub enum Held {
 }
 
 impl Held {
+    ghost use Rattle.m36_model.specs.Results.{words_of_held, words_of_pairs};
+    ghost use Rattle.m36_model.specs.OperandHeld.{is_word, is_pair, is_block};
+
     /// The word, where it is one.
     pub fn word(&self) -> Word
         requires { IsTrue (is_word self.now) }
@@ -58,10 +59,12 @@ impl Held {
 pub struct Operand36 {
     /// The words that were read.
     pub got: Held,
-    /// The place in core for ABSA, and else 0.
+    /// The place in core for ABSA, and else 0; 24 bits.
     pub place: u32,
-    /// The first ring bracket of the operand's segment for pairs and blocks, the new ring for CALL6, and else 0.
+    /// The first ring bracket of the operand's segment for pairs and blocks, the new ring for CALL6, and else 0; 3 bits.
     pub ring: u8,
+    ghost place_fits: { place < 2 ^ 24 },
+    ghost ring_fits: { ring < 2 ^ 3 },
 }
 
 /// What an effect gives.
@@ -76,6 +79,8 @@ pub struct Effect36 {
 }
 
 impl Effect36 {
+    ghost use Rattle.m36_model.specs.Results.{words_of_held, effect_fields, completes, completes_with};
+
     /// An effect that leaves these registers, but for the instruction counter, which moves on to the next instruction.
     pub fn completed(regs: Regs) -> Effect36
         ensures { Ok (effect_fields result) ≡ completes regs }
