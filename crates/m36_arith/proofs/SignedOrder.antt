@@ -1,0 +1,46 @@
+-- Signed sums, differences and order of numbers below twice a half, told by the numbers plus that half.
+use Rattle.std.proofs.Common.{ℕ, ◌≡◌, ◌+◌, ◌-◌, ◌*◌, ◌<◌, ◌≤◌, Bool, not, ◌&&◌, nat_lt, nat_le, ℤ, pos, ◌+ℤ◌, ◌-ℤ◌, ap, arith}
+use Rattle.std.specs.Prelude.{int_le, int_lt}
+use Rattle.std.proofs.lemmas.Int.{ints}
+use Rattle.m36_word.specs.Bits.{of_bit}
+use Rattle.m36_word.specs.Signed.{signed}
+use Rattle.m36_model.specs.Arithmetic.{in_range, sum_overflow, difference_overflow, is_less}
+
+-- a signed number plus half of the range
+biased_is : (half a x : ℕ) → (a < half → x ≡ a + half) → (half ≤ a → x + half ≡ a) → signed half a +ℤ pos half ≡ pos x
+unfolding signed
+biased_is half a x low high = grind (arith, ints)
+
+-- a signed number that fits, told by the number plus the whole range
+at_least : (half n : ℕ) (z : ℤ) → z +ℤ pos (2 * half) ≡ pos n → int_le (pos 0 -ℤ pos half) z ≡ nat_le half n
+at_least half n z e = grind (arith, ints)
+
+below : (half n : ℕ) (z : ℤ) → z +ℤ pos (2 * half) ≡ pos n → int_lt z (pos half) ≡ nat_lt n (3 * half)
+below half n z e = grind (arith, ints)
+
+fits_is : (half n : ℕ) (z : ℤ) → z +ℤ pos (2 * half) ≡ pos n → in_range half z ≡ (nat_le half n && nat_lt n (3 * half))
+fits_is half n z e = rw (at_least half n z e, below half n z e)
+
+sum_is : (half x y c : ℕ) (u v : ℤ) → u +ℤ pos half ≡ pos x → v +ℤ pos half ≡ pos y → u +ℤ v +ℤ pos c +ℤ pos (2 * half) ≡ pos (x + y + c)
+sum_is half x y c u v p q = omega (arith, ints)
+
+difference_is : (half x y c n : ℕ) (u v : ℤ) → u +ℤ pos half ≡ pos x → v +ℤ pos half ≡ pos y → n + (y + c) ≡ x + 2 * half → u -ℤ v -ℤ pos c +ℤ pos (2 * half) ≡ pos n
+difference_is half x y c n u v p q e = omega (arith, ints)
+
+less : (half x y : ℕ) (u v : ℤ) → u +ℤ pos half ≡ pos x → v +ℤ pos half ≡ pos y → int_lt u v ≡ nat_lt x y
+less half x y u v p q = grind (arith, ints)
+
+pub sum_overflow_is : (half a b : ℕ) (carry : Bool) (x y : ℕ) → (a < half → x ≡ a + half) → (half ≤ a → x + half ≡ a) → (b < half → y ≡ b + half) → (half ≤ b → y + half ≡ b) → sum_overflow half a b carry ≡ not (nat_le half (x + y + of_bit carry) && nat_lt (x + y + of_bit carry) (3 * half))
+unfolding sum_overflow
+sum_overflow_is half a b carry x y al ah bl bh =
+    ap not (fits_is half (x + y + of_bit carry) (signed half a +ℤ signed half b +ℤ pos (of_bit carry)) (sum_is half x y (of_bit carry) (signed half a) (signed half b) (biased_is half a x al ah) (biased_is half b y bl bh)))
+
+pub difference_overflow_is : (half a b : ℕ) (borrow : Bool) (x y : ℕ) → (a < half → x ≡ a + half) → (half ≤ a → x + half ≡ a) → (b < half → y ≡ b + half) → (half ≤ b → y + half ≡ b) → y + of_bit borrow ≤ 2 * half → difference_overflow half a b borrow ≡ not (nat_le half (x + 2 * half - (y + of_bit borrow)) && nat_lt (x + 2 * half - (y + of_bit borrow)) (3 * half))
+unfolding difference_overflow
+difference_overflow_is half a b borrow x y al ah bl bh fits =
+    ap not (fits_is half (x + 2 * half - (y + of_bit borrow)) (signed half a -ℤ signed half b -ℤ pos (of_bit borrow)) (difference_is half x y (of_bit borrow) (x + 2 * half - (y + of_bit borrow)) (signed half a) (signed half b) (biased_is half a x al ah) (biased_is half b y bl bh) (omega arith)))
+
+pub is_less_is : (half a b x y : ℕ) → (a < half → x ≡ a + half) → (half ≤ a → x + half ≡ a) → (b < half → y ≡ b + half) → (half ≤ b → y + half ≡ b) → is_less half a b ≡ nat_lt x y
+unfolding is_less
+is_less_is half a b x y al ah bl bh =
+    less half x y (signed half a) (signed half b) (biased_is half a x al ah) (biased_is half b y bl bh)

@@ -1,0 +1,2 @@
+pub mod PairNumber
+pub mod ShiftResult

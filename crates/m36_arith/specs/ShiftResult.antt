@@ -1,0 +1,30 @@
+-- What a shift gives: its number with zero and negative, and for a left shift the carry. Overflow is off, and so is the carry of
+-- every other shift. Multics Processor Manual AL39, "Fixed-point data movement shift instructions".
+use Rattle.std.specs.Prelude.{ℕ, ◌-◌, ◌^◌, Bool, false, ◌==◌}
+use Rattle.m36_model.specs.Arithmetic.{SumFields, is_negative}
+use Rattle.m36_model.specs.Shifts.{left_shift, left_shift_carry, copying_right_shift, plain_right_shift, rotation}
+use Rattle.m36_arith.specs.declared.shifts.Shift.{Shift}
+use Rattle.m36_arith.specs.declared.shifts.Shift.TheVariants as shift
+
+-- a number of k bits shifted by a count
+abbrev pub shifted : Shift → ℕ → ℕ → ℕ → ℕ
+shifted shift.Left k v c = left_shift k v c
+shifted shift.Right k v c = copying_right_shift k v c
+shifted shift.RightZero k v c = plain_right_shift v c
+shifted shift.Rotate k v c = rotation k v c
+
+abbrev pub shift_carry : Shift → ℕ → ℕ → ℕ → Bool
+shift_carry shift.Left k v c = left_shift_carry k v c
+shift_carry shift.Right k v c = false
+shift_carry shift.RightZero k v c = false
+shift_carry shift.Rotate k v c = false
+
+unfoldable pub shift_result : Shift → ℕ → ℕ → ℕ → SumFields
+shift_result op k v c =
+    record {
+      value = shifted op k v c;
+      zero = shifted op k v c == 0;
+      negative = is_negative (2 ^ (k - 1)) (shifted op k v c);
+      carry = shift_carry op k v c;
+      overflow = false;
+    }
