@@ -1,1 +1,4 @@
+pub mod BitByBit
+pub mod ShiftRules
 pub mod SignedOrder
+pub mod SignRules

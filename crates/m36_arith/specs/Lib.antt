@@ -1,2 +1,4 @@
+pub mod Division
 pub mod PairNumber
 pub mod ShiftResult
+pub mod Signs

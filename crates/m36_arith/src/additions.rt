@@ -5,7 +5,7 @@ ghost use Rattle.std.specs.Prelude.{◌≡◌, ◌^◌, ◌<◌};
 ghost use Rattle.m36_word.specs.Pairs.{number_of};
 ghost use Rattle.m36_model.specs.Arithmetic.{sum};
 
-use crate::overflows::{of_bit, sum_overflows};
+use crate::narrow::{of_bit, sum_overflows};
 use crate::sums::{Sum18, Sum36, Sum72};
 use crate::wide::{pair_of, wide_of_bit, wide_sum_overflows};
 use m36_word::{Pair, Word};

@@ -5,7 +5,7 @@ ghost use Rattle.std.specs.Prelude.{◌≡◌, ◌^◌, ◌<◌};
 ghost use Rattle.m36_word.specs.Pairs.{number_of};
 ghost use Rattle.m36_model.specs.Arithmetic.{comparison};
 
-use crate::overflows::is_less;
+use crate::narrow::is_less;
 use crate::wide::wide_is_less;
 use m36_word::{Pair, Word};
 use std::marker::Model;

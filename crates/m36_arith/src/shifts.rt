@@ -1,14 +1,108 @@
-//! Shifts.
+//! Shifts of words and pairs. Overflow is off after each, and so is carry but after a left shift.
+
+ghost use Rattle.std.specs.Prelude.{◌≡◌, ◌^◌, ◌<◌};
+ghost use Rattle.m36_word.specs.Pairs.{number_of};
+ghost use Rattle.m36_arith.specs.ShiftResult.{shifted, shift_carry, shift_result};
+
+use crate::pair_shifts;
+use crate::sums::{Sum36, Sum72};
+use crate::wide::pair_of;
+use crate::word_shifts;
+use m36_word::{Pair, Word};
 
 /// The ways of shifting.
 #[derive(Clone, Copy, PartialEq, Eq, Debug)]
 pub enum Shift {
-    /// Zeros come in from the right.
+    /// To the left; zeros come in. Carry tells whether two of the bits differ that were or became the first bit.
     Left,
-    /// The first bit is copied in from the left.
+    /// To the right; the first bit is copied in.
     Right,
-    /// Zeros come in from the left.
+    /// To the right; zeros come in.
     RightZero,
-    /// What leaves at the left comes in at the right.
+    /// To the left; what goes out comes in at the other end.
     Rotate,
+}
+
+fn shifted_word(op: Shift, v: u64, n: u32) -> u64
+    requires number { v < 2 ^ 36 }
+    requires count { n < 128 }
+    ensures value { result ≡ shifted op 36 v n }
+    ensures bound { result < 2 ^ 36 }
+{
+    match op {
+        Shift::Left => word_shifts::left(v, n),
+        Shift::Right => word_shifts::right(v, n),
+        Shift::RightZero => word_shifts::right_zero(v, n),
+        Shift::Rotate => word_shifts::rotated(v, n),
+    }
+}
+
+fn carry_of_word(op: Shift, v: u64, n: u32) -> bool
+    requires number { v < 2 ^ 36 }
+    requires count { n < 128 }
+    ensures { result ≡ shift_carry op 36 v n }
+{
+    match op {
+        Shift::Left => word_shifts::left_carries(v, n),
+        Shift::Right | Shift::RightZero | Shift::Rotate => false,
+    }
+}
+
+/// The word shifted by a count below 128.
+#[tactic(auto, unfolding(crate::specs::ShiftResult::shift_result))]
+pub fn shift36(op: Shift, v: Word, n: u32) -> Sum36
+    requires { n < 128 }
+    ensures { result ≡ shift_result op 36 v n }
+{
+    let number = v.value();
+    let value = shifted_word(op, number, n);
+    Sum36 {
+        value: Word::low(value),
+        zero: value == 0,
+        negative: value >= 1 << 35,
+        carry: carry_of_word(op, number, n),
+        overflow: false,
+    }
+}
+
+fn shifted_pair(op: Shift, v: u128, n: u32) -> u128
+    requires number { v < 2 ^ 72 }
+    requires count { n < 128 }
+    ensures value { result ≡ shifted op 72 v n }
+    ensures bound { result < 2 ^ 72 }
+{
+    match op {
+        Shift::Left => pair_shifts::left(v, n),
+        Shift::Right => pair_shifts::right(v, n),
+        Shift::RightZero => pair_shifts::right_zero(v, n),
+        Shift::Rotate => pair_shifts::rotated(v, n),
+    }
+}
+
+fn carry_of_pair(op: Shift, v: u128, n: u32) -> bool
+    requires number { v < 2 ^ 72 }
+    requires count { n < 128 }
+    ensures { result ≡ shift_carry op 72 v n }
+{
+    match op {
+        Shift::Left => pair_shifts::left_carries(v, n),
+        Shift::Right | Shift::RightZero | Shift::Rotate => false,
+    }
+}
+
+/// The pair shifted by a count below 128.
+#[tactic(auto, unfolding(crate::specs::ShiftResult::shift_result))]
+pub fn shift72(op: Shift, v: Pair, n: u32) -> Sum72
+    requires { n < 128 }
+    ensures { result ≡ shift_result op 72 (number_of v) n }
+{
+    let number = v.value();
+    let value = shifted_pair(op, number, n);
+    Sum72 {
+        value: pair_of(value),
+        zero: value == 0,
+        negative: value >= 1 << 71,
+        carry: carry_of_pair(op, number, n),
+        overflow: false,
+    }
 }

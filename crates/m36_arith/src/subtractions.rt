@@ -5,7 +5,7 @@ ghost use Rattle.std.specs.Prelude.{◌≡◌, ◌^◌, ◌<◌};
 ghost use Rattle.m36_word.specs.Pairs.{number_of};
 ghost use Rattle.m36_model.specs.Arithmetic.{difference, negation};
 
-use crate::overflows::{difference_overflows, of_bit};
+use crate::narrow::{difference_overflows, of_bit};
 use crate::sums::{Sum18, Sum36, Sum72};
 use crate::wide::{pair_of, wide_difference_overflows, wide_of_bit};
 use m36_word::{Pair, Word};

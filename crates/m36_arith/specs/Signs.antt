@@ -1,0 +1,6 @@
+-- A signed number by its sign and its magnitude.
+use Rattle.std.specs.Prelude.{ℕ, Bool, true, false, ℤ, pos, neg_ℤ}
+
+abbrev pub with_sign : Bool → ℕ → ℤ
+with_sign false m = pos m
+with_sign true m = neg_ℤ (pos m)

@@ -1,0 +1,35 @@
+//! Division of words.
+
+ghost use Rattle.std.specs.Prelude.{◌≡◌, ◌<◌, false};
+ghost use Rattle.m36_model.specs.Arithmetic.{is_divide_check};
+ghost use Rattle.m36_arith.specs.Division.{DivisionSays};
+
+use crate::signs::{differ, is_negative, magnitude, signed_word};
+use m36_word::Word;
+
+/// A division is refused: the second word is 0, or the quotient does not fit, as for the least number by -1.
+#[derive(Clone, Copy, PartialEq, Eq, Debug)]
+pub struct DivideCheck;
+
+#[tactic(auto, unfolding(m36_model::specs::Arithmetic::is_divide_check))]
+fn is_refused(q: Word, y: Word) -> bool
+    ensures value { result ≡ is_divide_check q y }
+    ensures divisor { result ≡ false → 0 < y }
+{
+    y.value() == 0 || (q.value() == 1 << 35 && y.value() == (1 << 36) - 1)
+}
+
+/// The quotient of two signed words, cut toward zero, and the remainder, which has the sign of the first.
+#[tactic(auto, using(crate::proofs::SignRules::quotient_is, crate::proofs::SignRules::remainder_is))]
+pub fn div(q: Word, y: Word) -> Result<(Word, Word), DivideCheck>
+    ensures { DivisionSays result q y }
+{
+    if is_refused(q, y) {
+        return Err(DivideCheck);
+    }
+    let dividend = magnitude(q);
+    let divisor = magnitude(y);
+    let quotient = signed_word(differ(is_negative(q), is_negative(y)), dividend / divisor);
+    let remainder = signed_word(is_negative(q), dividend % divisor);
+    Ok((quotient, remainder))
+}

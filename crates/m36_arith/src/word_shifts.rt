@@ -1,0 +1,90 @@
+//! Shifts of numbers of 36 bits.
+
+ghost use Rattle.std.specs.Prelude.{◌≡◌, ◌-◌, ◌/◌, ◌^◌, ◌<◌, ◌≤◌, ◌==◌, ◌&&◌, not};
+ghost use Rattle.m36_model.specs.Shifts.{left_shift, left_shift_carry, copying_right_shift, plain_right_shift, rotation};
+
+#[tactic(auto, unfolding(m36_model::specs::Shifts::left_shift), using(crate::proofs::ShiftRules::shifted_out))]
+pub fn left(v: u64, n: u32) -> u64
+    requires number { v < 2 ^ 36 }
+    requires count { n < 128 }
+    ensures value { result ≡ left_shift 36 v n }
+    ensures bound { result < 2 ^ 36 }
+{
+    if n < 36 { (v << n) % (1 << 36) } else { 0 }
+}
+
+/// So many ones.
+#[tactic(auto, using(std::proofs::lemmas::Nat::one_shl, std::proofs::lemmas::Nat::pow_pos))]
+fn ones(count: u32) -> u64
+    requires { count ≤ 36 }
+    ensures { result ≡ 2 ^ count - 1 }
+{
+    (1 << count) - 1
+}
+
+fn is_mixed(bits: u64, ones: u64) -> bool
+    ensures { result ≡ (not (bits == 0) && not (bits == ones)) }
+{
+    bits != 0 && bits != ones
+}
+
+/// Two of the bits 0 to n differ, where zeros follow the number. Past the width they do unless all are zero.
+#[tactic(auto, using(crate::proofs::ShiftRules::carry_within, crate::proofs::ShiftRules::carry_past))]
+pub fn left_carries(v: u64, n: u32) -> bool
+    requires number { v < 2 ^ 36 }
+    requires count { n < 128 }
+    ensures { result ≡ left_shift_carry 36 v n }
+{
+    if n < 36 {
+        is_mixed(v >> (35 - n), ones(n + 1))
+    } else {
+        v != 0
+    }
+}
+
+#[tactic(auto, using(crate::proofs::ShiftRules::all_out))]
+fn shifted_right(v: u64, n: u32) -> u64
+    requires number { v < 2 ^ 36 }
+    requires count { n < 128 }
+    ensures value { result ≡ v / 2 ^ n }
+    ensures bound { result < 2 ^ 36 }
+{
+    if n < 36 { v >> n } else { 0 }
+}
+
+#[tactic(auto, unfolding(m36_model::specs::Shifts::plain_right_shift))]
+pub fn right_zero(v: u64, n: u32) -> u64
+    requires number { v < 2 ^ 36 }
+    requires count { n < 128 }
+    ensures value { result ≡ plain_right_shift v n }
+    ensures bound { result < 2 ^ 36 }
+{
+    shifted_right(v, n)
+}
+
+/// The zeros of a negative number are shifted as the ones of any other.
+#[tactic(auto, using(crate::proofs::ShiftRules::copied_zeros, crate::proofs::ShiftRules::copied_ones))]
+pub fn right(v: u64, n: u32) -> u64
+    requires number { v < 2 ^ 36 }
+    requires count { n < 128 }
+    ensures value { result ≡ copying_right_shift 36 v n }
+    ensures bound { result < 2 ^ 36 }
+{
+    const ONES: u64 = (1 << 36) - 1;
+    if v < 1 << 35 {
+        shifted_right(v, n)
+    } else {
+        ONES - shifted_right(ONES - v, n)
+    }
+}
+
+#[tactic(auto, unfolding(m36_model::specs::Shifts::rotation), using(crate::proofs::ShiftRules::rotated_below))]
+pub fn rotated(v: u64, n: u32) -> u64
+    requires number { v < 2 ^ 36 }
+    requires count { n < 128 }
+    ensures value { result ≡ rotation 36 v n }
+    ensures bound { result < 2 ^ 36 }
+{
+    let by = n % 36;
+    (v << by) % (1 << 36) + (v >> (36 - by))
+}
