@@ -108,6 +108,7 @@ stays k v d within =
   where
     spread : (h a r b : ℕ) → (h * a + r) * b ≡ h * (a * b) + r * b
     spread h a r b = omega arith
+
     mul-lt_right : (r a b : ℕ) → r < a → 0 < b → r * b < a * b
     mul-lt_right r a b below some = omega (arith, mul-add-lt r b 0 a below some)
 

@@ -51,7 +51,10 @@ pub fn difference_overflows(half: u64, x: u64, y: u64, borrow: bool) -> bool
     requires second { y < 2 * half }
     ensures { result ≡ difference_overflow half x y borrow }
 {
-    is_outside(half, biased(half, x) + 2 * half - (biased(half, y) + of_bit(borrow)))
+    is_outside(
+        half,
+        biased(half, x) + 2 * half - (biased(half, y) + of_bit(borrow)),
+    )
 }
 
 /// The first number is less than the second, as signed numbers.

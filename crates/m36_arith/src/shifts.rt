@@ -4,10 +4,9 @@ ghost use Rattle.std.specs.Prelude.{◌≡◌, ◌^◌, ◌<◌};
 ghost use Rattle.m36_word.specs.Pairs.{number_of};
 ghost use Rattle.m36_arith.specs.ShiftResult.{shifted, shift_carry, shift_result};
 
-use crate::pair_shifts;
 use crate::sums::{Sum36, Sum72};
 use crate::wide::pair_of;
-use crate::word_shifts;
+use crate::{pair_shifts, word_shifts};
 use m36_word::{Pair, Word};
 
 /// The ways of shifting.

@@ -23,7 +23,11 @@ pub fn magnitude(w: Word) -> u64
     ensures some { 0 < w → 0 < result }
 {
     let value = w.value();
-    if value < 1 << 35 { value } else { (1 << 36) - value }
+    if value < 1 << 35 {
+        value
+    } else {
+        (1 << 36) - value
+    }
 }
 
 /// Two signs are not the same.

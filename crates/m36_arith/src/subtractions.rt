@@ -75,7 +75,14 @@ pub fn neg36(x: Word) -> Sum36
 pub fn neg72(x: Pair) -> Sum72
     ensures { result ≡ negation (2 ^ 71) (number_of x) }
 {
-    sub72(Pair { even: Word::ZERO, odd: Word::ZERO }, x, false)
+    sub72(
+        Pair {
+            even: Word::ZERO,
+            odd: Word::ZERO,
+        },
+        x,
+        false,
+    )
 }
 
 /// The negative of a half. It overflows for the least number alone.
