@@ -1,5 +1,5 @@
 -- Operations on machine words are the operations on their bits.
-use Rattle.std.proofs.Common.{ℕ, zero, suc, ◌≡◌, ◌+◌, ◌-◌, ◌*◌, ◌/◌, ◌%◌, ◌^◌, ◌<◌, ◌≤◌, min, max, Bool, true, false, not, ◌&&◌, ◌||◌, ◌==◌, List, [], ◌∷◌, length, refl, sym, ap, ◌∙◌, arith}
+use Rattle.std.proofs.Common.{ℕ, zero, suc, ◌≡◌, ◌+◌, ◌-◌, ◌*◌, ◌%◌, ◌^◌, ◌<◌, ◌≤◌, min, max, Bool, ◌==◌, length, refl, sym, ap, ◌∙◌, arith}
 use Rattle.std.specs.Prelude.{bit_and, bit_or, bit_xor}
 use Rattle.std.specs.Int.{Width, w32, w64, bit_at, bit_not}
 use mir.Val.{bits}
@@ -79,6 +79,12 @@ or_half x y fits fits_too = or_low 18 x y ∙ mod-eq_of_lt (or_lt 18 x y fits fi
 
 pub xor_half : (x y : ℕ) → x < 2 ^ 18 → y < 2 ^ 18 → xor_of 18 x y ≡ bit_xor x y
 xor_half x y fits fits_too = xor_low 18 x y ∙ mod-eq_of_lt (xor_lt 18 x y fits fits_too)
+
+pub or_below : (x y : ℕ) → x < 2 ^ 18 → y < 2 ^ 18 → bit_or x y < 2 ^ 18
+or_below x y fits fits_too = or_lt 18 x y fits fits_too
+
+pub xor_below : (x y : ℕ) → x < 2 ^ 18 → y < 2 ^ 18 → bit_xor x y < 2 ^ 18
+xor_below x y fits fits_too = xor_lt 18 x y fits fits_too
 
 pub and_not_half : (x y : ℕ) → x < 2 ^ 18 → y < 2 ^ 18 → and_not_of 18 x y ≡ bit_and x (4294967295 - y)
 and_not_half x y fits fits_too =

@@ -87,27 +87,30 @@ pub fn and_not72(x: Pair, y: Pair) -> Pair
 pub fn and18(x: u32, y: u32) -> u32
     requires first { x < 2 ^ 18 }
     requires second { y < 2 ^ 18 }
-    ensures { result ≡ and_of 18 x y }
+    ensures value { result ≡ and_of 18 x y }
+    ensures bound { result < 2 ^ 18 }
 {
     x & y
 }
 
 /// The bits that are on in either half.
-#[tactic(auto, using(crate::proofs::BitByBit::or_half))]
+#[tactic(auto, using(crate::proofs::BitByBit::or_half, crate::proofs::BitByBit::or_below))]
 pub fn or18(x: u32, y: u32) -> u32
     requires first { x < 2 ^ 18 }
     requires second { y < 2 ^ 18 }
-    ensures { result ≡ or_of 18 x y }
+    ensures value { result ≡ or_of 18 x y }
+    ensures bound { result < 2 ^ 18 }
 {
     x | y
 }
 
 /// The bits that differ in the two halves.
-#[tactic(auto, using(crate::proofs::BitByBit::xor_half))]
+#[tactic(auto, using(crate::proofs::BitByBit::xor_half, crate::proofs::BitByBit::xor_below))]
 pub fn xor18(x: u32, y: u32) -> u32
     requires first { x < 2 ^ 18 }
     requires second { y < 2 ^ 18 }
-    ensures { result ≡ xor_of 18 x y }
+    ensures value { result ≡ xor_of 18 x y }
+    ensures bound { result < 2 ^ 18 }
 {
     x ^ y
 }
@@ -117,7 +120,8 @@ pub fn xor18(x: u32, y: u32) -> u32
 pub fn and_not18(x: u32, y: u32) -> u32
     requires first { x < 2 ^ 18 }
     requires second { y < 2 ^ 18 }
-    ensures { result ≡ and_not_of 18 x y }
+    ensures value { result ≡ and_not_of 18 x y }
+    ensures bound { result < 2 ^ 18 }
 {
     x & !y
 }
