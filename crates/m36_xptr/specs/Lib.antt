@@ -1,0 +1,2 @@
+pub mod PointerInstructions
+pub mod Registers

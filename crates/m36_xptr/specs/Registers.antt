@@ -1,0 +1,14 @@
+-- The eight pointer registers and the eight pairs of a block.
+use Rattle.std.specs.Prelude.{ℕ, max}
+use Rattle.m36_word.specs.declared.pair.Pair.{Pair}
+use Rattle.m36_desc.specs.Fields.{PtrFields}
+use Rattle.m36_desc.specs.Descriptors.{ptr_of, ptr_even, ptr_odd}
+
+-- the ITS pair of a pointer
+abbrev pub pair_of_pointer : PtrFields → Pair
+pair_of_pointer p = record { even = ptr_even p; odd = ptr_odd p }
+
+-- the pointer of a pair in a ring that is at least another
+abbrev pub pointer_of_pair : ℕ → Pair → PtrFields
+pointer_of_pair ring p =
+    let pointer = ptr_of p.even p.odd in record pointer { ring = max ring pointer.ring }

@@ -1,0 +1,42 @@
+//! The instructions by what they do.
+
+ghost use Rattle.std.specs.Prelude.{◌≡◌, ◌<◌, IsTrue};
+ghost use Rattle.m36_inst.specs.Operands.{operand_of};
+ghost use Rattle.m36_model.specs.OperandHeld.{HoldsFor};
+ghost use Rattle.m36_model.specs.Results.{operand_fields};
+ghost use Rattle.m36_model.specs.Effect.{exec, answer_fields, refused_here};
+ghost use Rattle.m36_xptr.specs.PointerInstructions.{is_pointer};
+
+use crate::loads::{
+    load_address_pair, load_base_pointer, load_packed, load_pointer, load_pointers,
+};
+use crate::stores::{store_base_pointer, store_control, store_pointer, store_pointers};
+use m36_inst::{Effect, Row};
+use m36_model::{Effect36, Fault, Final, Operand36, Regs};
+
+/// The effect of a pointer register instruction: the new registers and the words to write, by the registers, the final
+/// address and the operand. The words of the operand are those that the instruction reads.
+///
+/// # Errors
+///
+/// Fault 5, command, at the instruction: LPRP is given no packed pointer.
+#[tactic(auto, unfolding(m36_model::specs::Effect::exec))]
+pub fn exec(row: &Row, regs: &Regs, f: &Final, operand: Operand36) -> Result<Effect36, Fault>
+    requires pointer { IsTrue (is_pointer row.now.effect) }
+    requires reg { row.now.reg < 8 }
+    requires got { HoldsFor (operand_of row.now.effect) operand.got }
+    ensures { answer_fields result ≡ refused_here regs.now (exec row.now.effect row.now.reg regs.now f.now (operand_fields operand)) }
+{
+    match row.effect {
+        Effect::EppN => Ok(load_pointer(regs, row.reg, f)),
+        Effect::EpbpN => Ok(load_base_pointer(regs, row.reg, f)),
+        Effect::SpriN => Ok(store_pointer(regs, row.reg)),
+        Effect::SpbpN => Ok(store_base_pointer(regs, row.reg)),
+        Effect::Spri => Ok(store_pointers(regs)),
+        Effect::Lpri => Ok(load_pointers(regs, f, &operand)),
+        Effect::LprpN => load_packed(regs, row.reg, f, operand.got.word()),
+        Effect::Epaq => Ok(load_address_pair(regs, f)),
+        Effect::Stcd => Ok(store_control(regs)),
+        _ => unreachable!(),
+    }
+}

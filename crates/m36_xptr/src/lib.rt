@@ -1,0 +1,19 @@
+//! Pointer register instructions of the Honeywell 6180.
+//!
+//! EPP and EPBP load a pointer register with the final address or the base of its segment, LPRI loads all eight from
+//! a block of ITS pairs, and LPRP one from a packed pointer. SPRI, in its two forms, and SPBP store pointer registers as ITS pairs. EPAQ puts the final
+//! address into A and Q, and STCD stores a pointer to the second instruction from here.
+//!
+//! [`exec`] gives exactly the effect that the instruction's equations say: the new registers and the words to write,
+//! or the fault.
+//!
+//! Source: Multics Processor Manual AL39, "Pointer register data movement load instructions", "Pointer register data
+//! movement store instructions", "Effective address to AQ" and "Store control double".
+#![tactic(auto)]
+
+mod execute;
+mod loads;
+mod registers;
+mod stores;
+
+pub use execute::exec;

@@ -1,0 +1,132 @@
+//! Loads of pointer registers, and of A and Q with an address.
+
+ghost use Rattle.std.specs.Prelude.{◌≡◌, ◌<◌, ◌^◌, max, Ok, IsTrue};
+ghost use Rattle.m36_desc.specs.Descriptors.{packed_of};
+ghost use Rattle.m36_model.specs.Modification.{here};
+ghost use Rattle.m36_model.specs.Effect.{answer_fields, refused_here};
+ghost use Rattle.m36_model.specs.OperandHeld.{is_block};
+ghost use Rattle.m36_model.specs.Results.{operand_fields, effect_fields};
+ghost use Rattle.m36_model.specs.Pointers.{load_pointer, load_base_pointer, load_pointers, pointers_in, load_packed, load_address_pair};
+
+use crate::registers::{pointers, with_pointer, with_pointers};
+use m36_desc::Ptr;
+use m36_model::{At, Effect36, Fault, Final, Operand36, Regs};
+use m36_word::{Field, Word};
+
+/// EPP: the final address.
+#[tactic(auto, unfolding(m36_model::specs::Pointers::load_pointer))]
+pub fn load_pointer(regs: &Regs, n: u8, f: &Final) -> Effect36
+    requires { n < 8 }
+    ensures { Ok (effect_fields result) ≡ load_pointer n regs.now f.now }
+{
+    let at = f.at;
+    let pointer = Ptr {
+        word: at.word,
+        seg: at.seg,
+        ring: at.ring,
+        bit: f.bit,
+    };
+    Effect36::completed(with_pointer(regs, n, pointer))
+}
+
+/// EPBP: the base of the final address's segment.
+#[tactic(auto, unfolding(m36_model::specs::Pointers::load_base_pointer))]
+pub fn load_base_pointer(regs: &Regs, n: u8, f: &Final) -> Effect36
+    requires { n < 8 }
+    ensures { Ok (effect_fields result) ≡ load_base_pointer n regs.now f.now }
+{
+    let at = f.at;
+    let base = Ptr {
+        word: 0,
+        seg: at.seg,
+        ring: at.ring,
+        bit: 0,
+    };
+    Effect36::completed(with_pointer(regs, n, base))
+}
+
+/// LPRI: all pointer registers from a block of ITS pairs.
+#[tactic(auto, unfolding(m36_model::specs::Pointers::load_pointers))]
+pub fn load_pointers(regs: &Regs, f: &Final, operand: &Operand36) -> Effect36
+    requires { IsTrue (is_block operand.now.got) }
+    ensures { Ok (effect_fields result) ≡ load_pointers regs.now f.now (operand_fields operand.now) }
+{
+    Effect36::completed(with_pointers(regs, raised_pointers(f, operand)))
+}
+
+/// The pointers of a block of ITS pairs, each in the greatest of its pair's ring, the ring of the reference and the
+/// first bracket of the block's segment.
+fn raised_pointers(f: &Final, operand: &Operand36) -> [Ptr; 8]
+    requires { IsTrue (is_block operand.now.got) }
+    ensures { result ≡ pointers_in (operand_fields operand.now) f.now }
+{
+    pointers(operand.got.block(), raised_ring(f, operand))
+}
+
+/// The ring of the reference, raised to the first bracket of the operand's segment.
+fn raised_ring(f: &Final, operand: &Operand36) -> u8
+    ensures ring { result ≡ max f.now.at.ring operand.now.ring }
+    ensures bound { result < 2 ^ 3 }
+{
+    let at = f.at;
+    at.ring.max(operand.ring)
+}
+
+/// LPRP: a packed pointer, in the ring of the reference. A word whose first two bits are both on is no packed pointer,
+/// and the fault is command.
+#[tactic(auto, unfolding(m36_model::specs::Pointers::load_packed))]
+pub fn load_packed(regs: &Regs, n: u8, f: &Final, word: Word) -> Result<Effect36, Fault>
+    requires { n < 8 }
+    ensures { answer_fields result ≡ refused_here regs.now (load_packed n word regs.now f.now) }
+{
+    if Field::<0, 2>::get(word) == 3 {
+        return Err(command(regs));
+    }
+    Ok(Effect36::completed(with_pointer(regs, n, unpacked(word, f))))
+}
+
+/// EPAQ: segment and ring of the final address in A, its word and bit in Q.
+#[tactic(auto, unfolding(m36_model::specs::Pointers::load_address_pair))]
+pub fn load_address_pair(regs: &Regs, f: &Final) -> Effect36
+    ensures { Ok (effect_fields result) ≡ load_address_pair regs.now f.now }
+{
+    let at = f.at;
+    let even = ((at.seg as u64) << 18) + at.ring as u64;
+    let odd = ((at.word as u64) << 18) + f.bit as u64;
+    let mut after = *regs;
+    after.a = Word::low(even);
+    after.q = Word::low(odd);
+    after.ind.zero = even == 0 && odd == 0;
+    Effect36::completed(after)
+}
+
+fn command(regs: &Regs) -> Fault
+    ensures { result ≡ record { at = here regs.now; number = 5; acv = 0 } }
+{
+    let ppr = regs.ppr;
+    let here = At {
+        word: ppr.ic,
+        seg: ppr.psr,
+        ring: ppr.prr,
+    };
+    Fault {
+        at: here,
+        number: 5,
+        acv: 0,
+    }
+}
+
+/// The pointer that a packed pointer means. Of the segment number it has 12 bits; where these are all ones, so are the
+/// three before them.
+fn unpacked(word: Word, f: &Final) -> Ptr
+    ensures { result ≡ packed_of word f.now.at.ring }
+{
+    let seg = Field::<6, 12>::get(word) as u16;
+    let at = f.at;
+    Ptr {
+        word: Field::<18, 18>::get(word) as u32,
+        seg: if seg == 0o7777 { 0o77777 } else { seg },
+        ring: at.ring,
+        bit: Field::<0, 6>::get(word) as u8,
+    }
+}
