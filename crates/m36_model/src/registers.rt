@@ -1,7 +1,9 @@
 //! The registers of the processor.
 
+ghost use Rattle.std.specs.Prelude.{◌≡◌, ◌<◌, ◌^◌};
 ghost use Rattle.m36_model.specs.Registers.{RegsFields};
 
+use crate::place::At;
 use m36_desc::{Dbr, Ptr};
 use m36_word::Word;
 use std::marker::Model;
@@ -70,4 +72,53 @@ impl Model for Regs {
     ghost invariant = { λ r. (k : ℕ) → slice_index r.x k < 2 ^ 18 };
 
     ghost inverse = { λ r. record { a = r.a; q = r.q; x = r.x; pr = r.pr; ind = r.ind; ppr = r.ppr; dbr = r.dbr } };
+}
+
+impl Regs {
+    ghost use Rattle.m36_model.specs.Modification.{here, ptr};
+    ghost use Rattle.m36_model.specs.Pointers.{with_pr};
+    ghost use Rattle.m36_model.specs.Results.{X, with_value};
+
+    /// Where the instruction that is executed stands, in the ring of execution.
+    pub fn here(&self) -> At
+        ensures { result ≡ here self.now }
+    {
+        let ppr = self.ppr;
+        At {
+            word: ppr.ic,
+            seg: ppr.psr,
+            ring: ppr.prr,
+        }
+    }
+
+    /// Pointer register `n`.
+    pub fn pointer(&self, n: u8) -> Ptr
+        requires { n < 8 }
+        ensures { result ≡ ptr self.now n }
+    {
+        self.pr[n as usize]
+    }
+
+    /// The registers with another pointer in pointer register `n`.
+    #[tactic(auto, unfolding(crate::specs::Pointers::with_pr))]
+    pub fn with_pointer(&self, n: u8, pointer: Ptr) -> Regs
+        requires { n < 8 }
+        ensures { result ≡ with_pr n pointer self.now }
+    {
+        let mut after = *self;
+        after.pr[n as usize] = pointer;
+        after
+    }
+
+    /// The registers with another value, of 18 bits, in index register `n`.
+    #[tactic(auto, unfolding(crate::specs::Results::with_value))]
+    pub fn with_index(&self, n: u8, value: u32) -> Regs
+        requires reg { n < 8 }
+        requires value { value < 2 ^ 18 }
+        ensures { result ≡ with_value (X n) value self.now }
+    {
+        let mut after = *self;
+        after.x[n as usize] = value;
+        after
+    }
 }
