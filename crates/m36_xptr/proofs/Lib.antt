@@ -1,2 +1,1 @@
 pub mod Eight
-pub mod Mapped

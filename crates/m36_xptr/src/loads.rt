@@ -8,9 +8,9 @@ ghost use Rattle.m36_model.specs.OperandHeld.{is_block};
 ghost use Rattle.m36_model.specs.Results.{operand_fields, effect_fields};
 ghost use Rattle.m36_model.specs.Pointers.{load_pointer, load_base_pointer, load_pointers, pointers_in, load_packed, load_address_pair};
 
-use crate::registers::{pointers, with_pointer, with_pointers};
+use crate::registers::{pointers, with_pointers};
 use m36_desc::Ptr;
-use m36_model::{At, Effect36, Fault, Final, Operand36, Regs};
+use m36_model::{Effect36, Fault, Final, Operand36, Regs};
 use m36_word::{Field, Word};
 
 /// EPP: the final address.
@@ -26,7 +26,7 @@ pub fn load_pointer(regs: &Regs, n: u8, f: &Final) -> Effect36
         ring: at.ring,
         bit: f.bit,
     };
-    Effect36::completed(with_pointer(regs, n, pointer))
+    Effect36::completed(regs.with_pointer(n, pointer))
 }
 
 /// EPBP: the base of the final address's segment.
@@ -42,7 +42,7 @@ pub fn load_base_pointer(regs: &Regs, n: u8, f: &Final) -> Effect36
         ring: at.ring,
         bit: 0,
     };
-    Effect36::completed(with_pointer(regs, n, base))
+    Effect36::completed(regs.with_pointer(n, base))
 }
 
 /// LPRI: all pointer registers from a block of ITS pairs.
@@ -82,7 +82,7 @@ pub fn load_packed(regs: &Regs, n: u8, f: &Final, word: Word) -> Result<Effect36
     if Field::<0, 2>::get(word) == 3 {
         return Err(command(regs));
     }
-    Ok(Effect36::completed(with_pointer(regs, n, unpacked(word, f))))
+    Ok(Effect36::completed(regs.with_pointer(n, unpacked(word, f))))
 }
 
 /// EPAQ: segment and ring of the final address in A, its word and bit in Q.
@@ -100,17 +100,12 @@ pub fn load_address_pair(regs: &Regs, f: &Final) -> Effect36
     Effect36::completed(after)
 }
 
+/// The fault of an operand that the instruction does not take.
 fn command(regs: &Regs) -> Fault
     ensures { result ≡ record { at = here regs.now; number = 5; acv = 0 } }
 {
-    let ppr = regs.ppr;
-    let here = At {
-        word: ppr.ic,
-        seg: ppr.psr,
-        ring: ppr.prr,
-    };
     Fault {
-        at: here,
+        at: regs.here(),
         number: 5,
         acv: 0,
     }

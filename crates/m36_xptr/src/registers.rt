@@ -1,8 +1,6 @@
 //! Pointer registers among the registers, and in words.
 
 ghost use Rattle.std.specs.Prelude.{◌≡◌, ◌<◌, ◌^◌, map, length};
-ghost use Rattle.m36_model.specs.Modification.{ptr};
-ghost use Rattle.m36_model.specs.Pointers.{with_pr};
 ghost use Rattle.m36_xptr.specs.Registers.{pair_of_pointer, pointer_of_pair};
 
 use m36_desc::Ptr;
@@ -16,25 +14,6 @@ const NULL: Ptr = Ptr {
     bit: 0,
 };
 
-/// Pointer register `n`.
-pub fn pointer(regs: &Regs, n: u8) -> Ptr
-    requires { n < 8 }
-    ensures { result ≡ ptr regs.now n }
-{
-    regs.pr[n as usize]
-}
-
-/// The registers with another pointer in pointer register `n`.
-#[tactic(auto, unfolding(m36_model::specs::Pointers::with_pr))]
-pub fn with_pointer(regs: &Regs, n: u8, pointer: Ptr) -> Regs
-    requires { n < 8 }
-    ensures { result ≡ with_pr n pointer regs.now }
-{
-    let mut after = *regs;
-    after.pr[n as usize] = pointer;
-    after
-}
-
 /// The registers with other pointers in all pointer registers.
 pub fn with_pointers(regs: &Regs, pointers: [Ptr; 8]) -> Regs
     ensures { result ≡ record regs.now { pr = pointers } }
@@ -45,7 +24,6 @@ pub fn with_pointers(regs: &Regs, pointers: [Ptr; 8]) -> Regs
 }
 
 /// The ITS pairs of all pointer registers.
-#[tactic(auto, using(crate::proofs::Mapped::all_mapped))]
 pub fn pairs(pointers: &[Ptr; 8]) -> [Pair; 8]
     ensures each { result ≡ map pair_of_pointer pointers.now }
     ensures count { length pointers.now ≡ 8 }
@@ -61,7 +39,6 @@ pub fn pairs(pointers: &[Ptr; 8]) -> [Pair; 8]
 }
 
 /// The pointers of eight ITS pairs, each in its own ring or in `ring`, whichever is greater.
-#[tactic(auto, using(crate::proofs::Mapped::all_mapped))]
 pub fn pointers(block: &[Pair; 8], ring: u8) -> [Ptr; 8]
     requires { ring < 2 ^ 3 }
     ensures each { result ≡ map (pointer_of_pair ring) block.now }

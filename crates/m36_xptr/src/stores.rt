@@ -4,7 +4,7 @@ ghost use Rattle.std.specs.Prelude.{◌≡◌, ◌<◌, Ok};
 ghost use Rattle.m36_model.specs.Results.{effect_fields};
 ghost use Rattle.m36_model.specs.Pointers.{store_pointer, store_base_pointer, store_pointers, store_control};
 
-use crate::registers::{pairs, pointer};
+use crate::registers::pairs;
 use m36_desc::Ptr;
 use m36_model::{Effect36, Held, Regs};
 use m36_word::{Pair, Word};
@@ -15,7 +15,7 @@ pub fn store_pointer(regs: &Regs, n: u8) -> Effect36
     requires { n < 8 }
     ensures { Ok (effect_fields result) ≡ store_pointer n regs.now }
 {
-    let pair = pointer(regs, n).to_words();
+    let pair = regs.pointer(n).to_words();
     Effect36::completed_with(*regs, Held::Two(pair))
 }
 
@@ -27,7 +27,7 @@ pub fn store_base_pointer(regs: &Regs, n: u8) -> Effect36
 {
     let pair = Pair {
         odd: Word::ZERO,
-        ..pointer(regs, n).to_words()
+        ..regs.pointer(n).to_words()
     };
     Effect36::completed_with(*regs, Held::Two(pair))
 }

@@ -1,0 +1,50 @@
+//! The instructions by what they do.
+
+ghost use Rattle.std.specs.Prelude.{◌≡◌, ◌<◌, IsTrue};
+ghost use Rattle.m36_inst.specs.Operands.{operand_of};
+ghost use Rattle.m36_model.specs.OperandHeld.{HoldsFor};
+ghost use Rattle.m36_model.specs.Results.{operand_fields};
+ghost use Rattle.m36_model.specs.Effect.{exec, answer_fields, refused_here};
+ghost use Rattle.m36_xfer.specs.ControlInstructions.{is_control};
+
+use crate::calls::{call, return_to};
+use crate::privileged::{load_absolute_address, load_dbr, store_dbr};
+use crate::transfers::{
+    is_taken, transfer_and_set_index, transfer_and_set_pointer, transfer_on_overflow,
+    transfer_where,
+};
+use m36_inst::{Effect, Row};
+use m36_model::{Effect36, Fault, Final, Operand36, Regs};
+
+/// The effect of a control instruction: the new registers and the words to write, by the registers, the final address
+/// and the operand. The words of the operand are those that the instruction reads. None of these refuses its operand.
+#[tactic(auto, unfolding(m36_model::specs::Effect::exec))]
+pub fn exec(row: &Row, regs: &Regs, f: &Final, operand: Operand36) -> Result<Effect36, Fault>
+    requires control { IsTrue (is_control row.now.effect) }
+    requires reg { row.now.reg < 8 }
+    requires got { HoldsFor (operand_of row.now.effect) operand.got }
+    ensures { answer_fields result ≡ refused_here regs.now (exec row.now.effect row.now.reg regs.now f.now (operand_fields operand)) }
+{
+    match row.effect {
+        Effect::Tra
+        | Effect::Tze
+        | Effect::Tnz
+        | Effect::Tmi
+        | Effect::Tpl
+        | Effect::Trc
+        | Effect::Tnc
+        | Effect::Tmoz
+        | Effect::Tpnz
+        | Effect::Ttf => Ok(transfer_where(is_taken(row.effect, regs), regs, f)),
+        Effect::Tov => Ok(transfer_on_overflow(is_taken(row.effect, regs), regs, f)),
+        Effect::TsxN => Ok(transfer_and_set_index(regs, row.reg, f)),
+        Effect::TspN => Ok(transfer_and_set_pointer(regs, row.reg, f)),
+        Effect::Call6 => Ok(call(regs, f, operand.ring)),
+        Effect::Rtcd => Ok(return_to(regs, f, &operand)),
+        Effect::Nop | Effect::Cams | Effect::Camp => Ok(Effect36::completed(*regs)),
+        Effect::Ldbr => Ok(load_dbr(regs, &operand)),
+        Effect::Sdbr => Ok(store_dbr(regs)),
+        Effect::Absa => Ok(load_absolute_address(regs, &operand)),
+        _ => unreachable!(),
+    }
+}

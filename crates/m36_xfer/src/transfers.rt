@@ -1,0 +1,110 @@
+//! Transfers of control.
+
+ghost use Rattle.std.specs.Prelude.{◌≡◌, ◌+◌, ◌%◌, ◌<◌, ◌^◌, Ok};
+ghost use Rattle.m36_model.specs.Results.{effect_fields};
+ghost use Rattle.m36_model.specs.Transfers.{is_taken, gone_to, goes_to, transfer_where, transfer_on_overflow, transfer_and_set_index, transfer_and_set_pointer, next_word, without_overflow};
+
+use m36_desc::Ptr;
+use m36_inst::Effect;
+use m36_model::{Effect36, Final, Held, Regs};
+
+/// Whether a transfer is taken, by the indicators. Every instruction but the conditional transfers is taken.
+#[tactic(auto, unfolding(m36_model::specs::Transfers::is_taken))]
+pub fn is_taken(effect: Effect, regs: &Regs) -> bool
+    ensures { result ≡ is_taken effect regs.now }
+{
+    let ind = regs.ind;
+    match effect {
+        Effect::Tze => ind.zero,
+        Effect::Tnz => !ind.zero,
+        Effect::Tmi => ind.negative,
+        Effect::Tpl => !ind.negative,
+        Effect::Trc => ind.carry,
+        Effect::Tnc => !ind.carry,
+        Effect::Tmoz => ind.negative || ind.zero,
+        Effect::Tpnz => !ind.negative && !ind.zero,
+        Effect::Tov => ind.overflow,
+        Effect::Ttf => !ind.tally,
+        _ => true,
+    }
+}
+
+/// TRA and the conditional transfers but TOV.
+#[tactic(auto, unfolding(m36_model::specs::Transfers::transfer_where))]
+pub fn transfer_where(taken: bool, regs: &Regs, f: &Final) -> Effect36
+    ensures { Ok (effect_fields result) ≡ transfer_where taken f.now regs.now }
+{
+    if taken {
+        goes_to(regs, f)
+    } else {
+        Effect36::completed(*regs)
+    }
+}
+
+/// TOV, which puts overflow off where it is taken.
+#[tactic(auto, unfolding(m36_model::specs::Transfers::transfer_on_overflow))]
+pub fn transfer_on_overflow(taken: bool, regs: &Regs, f: &Final) -> Effect36
+    ensures { Ok (effect_fields result) ≡ transfer_on_overflow taken f.now regs.now }
+{
+    if taken {
+        goes_to(&without_overflow(regs), f)
+    } else {
+        Effect36::completed(*regs)
+    }
+}
+
+/// TSX: the word of the next instruction goes to an index register.
+#[tactic(auto, unfolding(m36_model::specs::Transfers::transfer_and_set_index))]
+pub fn transfer_and_set_index(regs: &Regs, n: u8, f: &Final) -> Effect36
+    requires { n < 8 }
+    ensures { Ok (effect_fields result) ≡ transfer_and_set_index n f.now regs.now }
+{
+    goes_to(&regs.with_index(n, next_word(regs)), f)
+}
+
+/// TSP: the place of the next instruction goes to a pointer register.
+#[tactic(auto, unfolding(m36_model::specs::Transfers::transfer_and_set_pointer))]
+pub fn transfer_and_set_pointer(regs: &Regs, n: u8, f: &Final) -> Effect36
+    requires { n < 8 }
+    ensures { Ok (effect_fields result) ≡ transfer_and_set_pointer n f.now regs.now }
+{
+    let ppr = regs.ppr;
+    let next = Ptr {
+        word: next_word(regs),
+        seg: ppr.psr,
+        ring: ppr.prr,
+        bit: 0,
+    };
+    goes_to(&regs.with_pointer(n, next), f)
+}
+
+/// An effect that leaves these registers, but for the next instruction, which is that at the final address.
+#[tactic(auto, unfolding(m36_model::specs::Transfers::gone_to))]
+fn goes_to(regs: &Regs, f: &Final) -> Effect36
+    ensures { Ok (effect_fields result) ≡ goes_to f.now regs.now }
+{
+    let at = f.at;
+    let mut after = *regs;
+    after.ppr.psr = at.seg;
+    after.ppr.ic = at.word;
+    Effect36 {
+        regs: after,
+        put: Held::Empty,
+        overflow: false,
+    }
+}
+
+fn next_word(regs: &Regs) -> u32
+    ensures value { result ≡ next_word regs.now }
+    ensures bound { result < 2 ^ 18 }
+{
+    (regs.ppr.ic + 1) % (1 << 18)
+}
+
+fn without_overflow(regs: &Regs) -> Regs
+    ensures { result ≡ without_overflow regs.now }
+{
+    let mut after = *regs;
+    after.ind.overflow = false;
+    after
+}
