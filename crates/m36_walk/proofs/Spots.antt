@@ -1,12 +1,11 @@
 -- Within a block of 16 words places follow one another: so the places of a pair or block are a run from its first.
-use Rattle.std.proofs.Common.{ℕ, zero, suc, ◌+◌, ◌-◌, ◌/◌, ◌%◌, ◌^◌, ◌≤◌, ◌<◌, ◌≡◌, Bool, true, false, List, length, Option, Some, None, Result, Ok, Err, nat_lt, refl, ap, ◌∙◌, sub-one, lt-ltb, le-ltb, arith}
+use Rattle.std.proofs.Common.{ℕ, zero, suc, ◌+◌, ◌-◌, ◌/◌, ◌%◌, ◌^◌, ◌≤◌, ◌<◌, ◌≡◌, Bool, true, false, List, length, Option, Some, None, Result, Ok, Err, nat_lt, refl, ap, ◌∙◌, sub-one, add-zero, lt-ltb, le-ltb, arith}
 use Rattle.m36_desc.specs.Fields.{SdwFields, PtwFields, DbrFields}
-use Rattle.m36_model.specs.Fields.{AtFields}
 use Rattle.m36_model.specs.Core.{core_store}
 use Rattle.m36_model.specs.Place.{wrapped, frame_at, ptw_at, page_at, in_frame_by, word_place_by, core_spot, inside_core_by, store_fault}
-use Rattle.m36_model.specs.Store.{Core_word, within, placed_one, placed_next, spots_of, violation, fault_by}
+use Rattle.m36_model.specs.Store.{Core_word, within, placed_one, placed_next, spots_of, violation}
 use Rattle.m36_model.specs.declared.outcome.Refusal.{Refusal}
-use Rattle.m36_walk.specs.Runs.{run_from, examined, LiesIn, told_places}
+use Rattle.m36_walk.specs.Runs.{run_from, examined, LiesIn}
 
 -- where a word of the segment lies
 abbrev pub place_in : List ℕ → SdwFields → ℕ → Result ℕ Refusal
@@ -48,24 +47,22 @@ spots_run core dbr d seg (suc n) w a h e f =
     rw (e, f) (ap (placed_one true w (inside_core_by (nat_lt a (length core)) a)) rest)
 
 -- The words of a block are examined as a run from the place of the first.
-pub places_run : (core : List ℕ) (dbr : DbrFields) (d : SdwFields) (at : AtFields) (count a : ℕ) → 1 ≤ count → at.word % 16 + count ≤ 16 → within d at.word ≡ true → place_in core d at.word ≡ Ok a
-    → spots_of core_store core dbr d at.seg at.word count ≡ examined (length core) at.word a count
-places_run core dbr d at zero a h k e f = absurd (omega arith)
-places_run core dbr d at (suc n) a h k e f = spots_run core dbr d at.seg n at.word a k e f
+pub places_run : (core : List ℕ) (dbr : DbrFields) (d : SdwFields) (seg word count a : ℕ) → 1 ≤ count → word % 16 + count ≤ 16 → within d word ≡ true → place_in core d word ≡ Ok a
+    → spots_of core_store core dbr d seg word count ≡ examined (length core) word a count
+places_run core dbr d seg word zero a h k e f = absurd (omega arith)
+places_run core dbr d seg word (suc n) a h k e f = spots_run core dbr d seg n word a k e f
 
 -- The first word is past the bound.
-pub places_beyond : (core : List ℕ) (dbr : DbrFields) (d : SdwFields) (at : AtFields) (count : ℕ) → 1 ≤ count → within d at.word ≡ false
-    → told_places at (spots_of core_store core dbr d at.seg at.word count) ≡ Err (fault_by (violation 15) at)
+pub places_beyond : (core : List ℕ) (dbr : DbrFields) (d : SdwFields) (seg word count : ℕ) → 1 ≤ count → within d word ≡ false → spots_of core_store core dbr d seg word count ≡ Err (word + 0, violation 15)
 unfolding spots_of
-places_beyond core dbr d at zero h e = absurd (omega arith)
-places_beyond core dbr d at (suc n) h e = rw e refl
+places_beyond core dbr d seg word zero h e = absurd (omega arith)
+places_beyond core dbr d seg word (suc n) h e = rw (e, add-zero) refl
 
 -- The first word has no place.
-pub places_refused : (core : List ℕ) (dbr : DbrFields) (d : SdwFields) (at : AtFields) (count : ℕ) (why : Refusal) → 1 ≤ count → within d at.word ≡ true → place_in core d at.word ≡ Err why
-    → told_places at (spots_of core_store core dbr d at.seg at.word count) ≡ Err (fault_by why at)
+pub places_refused : (core : List ℕ) (dbr : DbrFields) (d : SdwFields) (seg word count : ℕ) (why : Refusal) → 1 ≤ count → within d word ≡ true → place_in core d word ≡ Err why → spots_of core_store core dbr d seg word count ≡ Err (word + 0, why)
 unfolding spots_of core_spot
-places_refused core dbr d at zero why h e f = absurd (omega arith)
-places_refused core dbr d at (suc n) why h e f = rw (e, f) refl
+places_refused core dbr d seg word zero why h e f = absurd (omega arith)
+places_refused core dbr d seg word (suc n) why h e f = rw (e, f, add-zero) refl
 
 -- A run, one word further on.
 further : (size word a n : ℕ) → a < size → examined size word a (suc n) ≡ placed_next (examined size (word + 1) (wrapped (a + 1)) n) (Core_word a)

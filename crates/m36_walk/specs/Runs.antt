@@ -5,6 +5,7 @@ use Rattle.m36_model.specs.Store.{Spot, Core_word, placed_one, fault_by}
 use Rattle.m36_model.specs.Place.{wrapped, inside_core_by}
 use Rattle.m36_model.specs.declared.outcome.Fault.{Fault}
 use Rattle.m36_model.specs.declared.outcome.Refusal.{Refusal}
+use Rattle.m36_walk.specs.declared.refusal.Refused.{Refused}
 
 -- the spots of so many words from a place on
 unfoldable pub run_from : ℕ → ℕ → List Spot
@@ -32,7 +33,7 @@ abbrev pub told_places : AtFields → Result (List Spot) (ℕ × Refusal) → Re
 told_places at (Ok spots) = Ok spots
 told_places at (Err e) = Err (fault_by e.1 (record { seg = at.seg; word = e.0; ring = at.ring }))
 
--- the run whose first place was found
-abbrev pub run_of : ℕ → Result ℕ Fault → Result (List Spot) Fault
-run_of count (Ok a) = Ok (run_from a count)
-run_of count (Err f) = Err f
+-- the run whose first place was found, or the word that is refused; word is the word number of the first
+abbrev pub run_by : ℕ → ℕ → Result ℕ Refused → Result (List Spot) (ℕ × Refusal)
+run_by word count (Ok a) = Ok (run_from a count)
+run_by word count (Err r) = Err (word + r.further, r.why)

@@ -96,6 +96,7 @@ fn live(pair: Pair) -> Result<Sdw, Refusal>
 }
 
 /// The descriptor of a live segment.
+#[inline(always)]
 #[tactic(auto, unfolding(m36_model::specs::Place::core_sdw))]
 pub(crate) fn descriptor(core: &Core, dbr: Dbr, seg: u16) -> Result<Sdw, Refusal>
     requires { seg < 2 ^ 15 }

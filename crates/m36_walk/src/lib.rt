@@ -27,7 +27,7 @@ pub mod words;
 mod writes;
 
 pub use walk::Walk;
-pub use words::Pending;
+pub use words::{Pending, Run};
 
 #[cfg(test)]
 mod tests;

@@ -6,6 +6,7 @@ ghost use Rattle.m36_walk.specs.Runs.{LiesIn};
 ghost use Rattle.m36_walk.specs.Served.{sdw_in, ok_map, ServesRun, ServesClaim};
 
 use crate::reference::{Found, find_fetch, find_read, find_write};
+use crate::words::Run;
 use m36_core::Core;
 use m36_desc::Dbr;
 use m36_model::{At, Fault};
@@ -58,16 +59,20 @@ pub(crate) fn refer_read(
 }
 
 /// Examines so many words that are to be written, in the ring of `at`.
-pub(crate) fn refer_write(core: &mut Core, dbr: Dbr, at: At, count: u32) -> Result<u32, Fault>
+pub(crate) fn refer_write(core: &mut Core, dbr: Dbr, at: At, count: u32) -> Result<Run, Fault>
     requires some { 1 ≤ count }
     requires block { at.word % 16 + count ≤ 16 }
-    ensures write { ServesClaim (record { core = core.old; dbr = dbr }) core.new at count result }
-    ensures inside { IfOk result (λ a. LiesIn (length core.new) a count) }
-    ensures bound { IfOk result (λ a. a < 2 ^ 24) }
+    ensures write { ServesClaim (record { core = core.old; dbr = dbr }) core.new at count (ok_map (λ r. r.place) result) }
+    ensures count { IfOk result (λ r. r.count ≡ count) }
+    ensures inside { IfOk result (λ r. LiesIn (length core.new) r.place count) }
+    ensures bound { IfOk result (λ r. r.place < 2 ^ 24) }
     ensures len { length core.new ≡ length core.old }
 {
     match find_write(core, dbr, at, count) {
-        Ok(found) => Ok(found.place),
+        Ok(found) => Ok(Run {
+            place: found.place,
+            count,
+        }),
         Err(fault) => Err(fault),
     }
 }

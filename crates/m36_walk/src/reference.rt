@@ -13,7 +13,7 @@ ghost use Rattle.m36_walk.specs.Tables.{TableIn};
 use crate::descriptor::descriptor;
 use crate::marks::set_marks;
 use crate::place::places;
-use crate::refusal::{fault, violation};
+use crate::refusal::{fault, fault_further, violation};
 use m36_core::Core;
 use m36_desc::access::{may_fetch, may_read, may_write};
 use m36_desc::{Acv, Dbr, Sdw};
@@ -27,6 +27,7 @@ pub(crate) struct Found {
 }
 
 /// The descriptor of the segment of a word.
+#[inline(always)]
 #[tactic(auto, unfolding(crate::specs::Served::sdw_in))]
 pub(crate) fn described(core: &Core, dbr: Dbr, at: At) -> Result<Sdw, Fault>
     ensures value { result ≡ told at (core_sdw core.now dbr at.seg) }
@@ -68,9 +69,13 @@ pub(crate) fn find_read(
 {
     let sdw = described(core, dbr, at)?;
     permitted(may_read(&sdw, at.ring, at.seg == psr), at)?;
-    let place = places(core, &sdw, at, count)?;
-    set_marks(core, dbr, &sdw, at.seg, at.word, false);
-    Ok(Found { sdw, place })
+    match places(core, &sdw, at.word, count) {
+        Ok(place) => {
+            set_marks(core, dbr, &sdw, at.seg, at.word, false);
+            Ok(Found { sdw, place })
+        }
+        Err(refused) => Err(fault_further(refused, at)),
+    }
 }
 
 /// A reference that is to write so many words, in the ring of `at`.
@@ -86,9 +91,13 @@ pub(crate) fn find_write(core: &mut Core, dbr: Dbr, at: At, count: u32) -> Resul
 {
     let sdw = described(core, dbr, at)?;
     permitted(may_write(&sdw, at.ring), at)?;
-    let place = places(core, &sdw, at, count)?;
-    set_marks(core, dbr, &sdw, at.seg, at.word, true);
-    Ok(Found { sdw, place })
+    match places(core, &sdw, at.word, count) {
+        Ok(place) => {
+            set_marks(core, dbr, &sdw, at.seg, at.word, true);
+            Ok(Found { sdw, place })
+        }
+        Err(refused) => Err(fault_further(refused, at)),
+    }
 }
 
 /// The fetch of an instruction, in the ring of `at`.
@@ -102,7 +111,11 @@ pub(crate) fn find_fetch(core: &mut Core, dbr: Dbr, at: At) -> Result<Found, Fau
 {
     let sdw = described(core, dbr, at)?;
     permitted(may_fetch(&sdw, at.ring), at)?;
-    let place = places(core, &sdw, at, 1)?;
-    set_marks(core, dbr, &sdw, at.seg, at.word, false);
-    Ok(Found { sdw, place })
+    match places(core, &sdw, at.word, 1) {
+        Ok(place) => {
+            set_marks(core, dbr, &sdw, at.seg, at.word, false);
+            Ok(Found { sdw, place })
+        }
+        Err(refused) => Err(fault_further(refused, at)),
+    }
 }

@@ -1,6 +1,6 @@
 //! Why a reference is refused.
 
-ghost use Rattle.std.specs.Prelude.{◌≡◌, ◌<◌, ◌^◌};
+ghost use Rattle.std.specs.Prelude.{◌≡◌, ◌+◌, ◌%◌, ◌<◌, ◌^◌};
 ghost use Rattle.m36_model.specs.Place.{store_fault, directed};
 ghost use Rattle.m36_model.specs.Store.{violation, fault_by};
 
@@ -40,4 +40,25 @@ pub(crate) fn fault(why: Refusal, at: At) -> Fault
         number: why.number,
         acv: why.acv,
     }
+}
+
+/// A refusal of one of the words of a reference, so many words past the first.
+#[derive(Clone, Copy)]
+pub(crate) struct Refused {
+    pub(crate) why: Refusal,
+    pub(crate) further: u8,
+}
+
+/// The fault of a refused word of a block, told at it.
+pub(crate) fn fault_further(refused: Refused, at: At) -> Fault
+    requires { at.word % 16 + refused.further < 16 }
+    ensures { result ≡ fault_by refused.why (record { seg = at.seg; word = at.word + refused.further; ring = at.ring }) }
+{
+    fault(
+        refused.why,
+        At {
+            word: at.word + refused.further as u32,
+            ..at
+        },
+    )
 }

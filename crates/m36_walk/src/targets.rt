@@ -12,7 +12,7 @@ ghost use Rattle.m36_walk.specs.Served.{sdw_in, at_place, at_target, ok_map};
 use crate::descriptor::descriptor;
 use crate::place::{places, within};
 use crate::reference::{described, permitted};
-use crate::refusal::{fault, violation};
+use crate::refusal::{fault, fault_further, violation};
 use m36_core::Core;
 use m36_desc::access::{call_ring, may_transfer};
 use m36_desc::{Acv, Dbr, Sdw};
@@ -86,7 +86,10 @@ pub(crate) fn find_place(core: &Core, dbr: Dbr, at: At) -> Result<u32, Fault>
     if let Err(why) = ordered(&sdw) {
         return Err(fault(why, at));
     }
-    places(core, &sdw, at, 1)
+    match places(core, &sdw, at.word, 1) {
+        Ok(place) => Ok(place),
+        Err(refused) => Err(fault_further(refused, at)),
+    }
 }
 
 /// The first ring bracket of a segment.

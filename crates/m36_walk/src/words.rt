@@ -18,6 +18,15 @@ pub struct Pending {
     pub place: u32,
 }
 
+/// Words in core, one after another modulo 2^24.
+#[derive(Clone, Copy, PartialEq, Eq, Debug)]
+pub struct Run {
+    /// The place of the first.
+    pub place: u32,
+    /// How many they are.
+    pub count: u32,
+}
+
 /// The word at a place.
 #[tactic(auto, unfolding(m36_model::specs::Core::core_put))]
 pub(crate) fn seen(core: &Core, pending: &Option<Pending>, a: u32) -> Word

@@ -3,13 +3,13 @@
 ghost use Rattle.std.specs.Prelude.{ℕ, ◌≡◌, ◌+◌, ◌%◌, ◌<◌, ◌≤◌, ◌^◌, [], ◌∷◌, IfOk, length, slice_set};
 ghost use Rattle.m36_model.specs.Core.{core_put};
 ghost use Rattle.m36_walk.specs.Runs.{LiesIn};
-ghost use Rattle.m36_walk.specs.Served.{aligned_at, IsCount, ServesClaim, Writes};
+ghost use Rattle.m36_walk.specs.Served.{aligned_at, IsCount, ok_map, ServesClaim, Writes};
 ghost use Rattle.m36_walk.specs.Words.{run_changes, pair_words, block_words};
 
 use crate::reads::{block_at, pair_at};
 use crate::refer::refer_write;
 use crate::walk::Walk;
-use crate::words::{put_block, put_pair};
+use crate::words::{Run, put_block, put_pair};
 use m36_model::{At, Fault};
 use m36_word::{Pair, Word};
 
@@ -30,8 +30,21 @@ fn first_at(at: At, count: u8) -> At
 }
 
 impl Walk {
-    /// Examines a Write of 1, 2 or 16 words in the ring of `at`, sets its marks, and writes nothing. The answer is the
-    /// place of the first word; the others follow it modulo 2^24.
+    /// Examines a Write of 1, 2 or 16 words in the ring of `at`, sets its marks, and writes nothing. The answer is where
+    /// the words stand.
+    pub fn claim(&mut self, at: At, count: u8) -> Result<Run, Fault>
+        requires { IsCount count }
+        ensures serves { ServesClaim self.old self.new.core (aligned_at count at) count (ok_map (λ r. r.place) result) }
+        ensures count { IfOk result (λ r. r.count ≡ count) }
+        ensures inside { IfOk result (λ r. LiesIn (length self.new.core) r.place count) }
+        ensures bound { IfOk result (λ r. r.place < 2 ^ 24) }
+        ensures dbr { self.new.dbr ≡ self.old.dbr }
+        ensures len { length self.new.core ≡ length self.old.core }
+    {
+        refer_write(&mut self.core, self.dbr, first_at(at, count), count as u32)
+    }
+
+    /// As `claim`. The answer is the place of the first word; the others follow it modulo 2^24.
     pub fn hold(&mut self, at: At, count: u8) -> Result<u32, Fault>
         requires { IsCount count }
         ensures serves { ServesClaim self.old self.new.core (aligned_at count at) count result }
@@ -40,7 +53,10 @@ impl Walk {
         ensures dbr { self.new.dbr ≡ self.old.dbr }
         ensures len { length self.new.core ≡ length self.old.core }
     {
-        refer_write(&mut self.core, self.dbr, first_at(at, count), count as u32)
+        match self.claim(at, count) {
+            Ok(words) => Ok(words.place),
+            Err(fault) => Err(fault),
+        }
     }
 
     /// Writes one core word.
@@ -82,9 +98,9 @@ impl Walk {
         ensures dbr { self.new.dbr ≡ self.old.dbr }
         ensures len { length self.new.core ≡ length self.old.core }
     {
-        match self.hold(at, 1) {
-            Ok(place) => {
-                self.store(place, w);
+        match self.claim(at, 1) {
+            Ok(words) => {
+                self.store(words.place, w);
                 Ok(())
             }
             Err(fault) => Err(fault),
@@ -97,9 +113,9 @@ impl Walk {
         ensures dbr { self.new.dbr ≡ self.old.dbr }
         ensures len { length self.new.core ≡ length self.old.core }
     {
-        match self.hold(at, 2) {
-            Ok(place) => {
-                self.store_pair(place, p);
+        match self.claim(at, 2) {
+            Ok(words) => {
+                self.store_pair(words.place, p);
                 Ok(())
             }
             Err(fault) => Err(fault),
@@ -112,9 +128,9 @@ impl Walk {
         ensures dbr { self.new.dbr ≡ self.old.dbr }
         ensures len { length self.new.core ≡ length self.old.core }
     {
-        match self.hold(at, 16) {
-            Ok(place) => {
-                self.store_block(place, &b);
+        match self.claim(at, 16) {
+            Ok(words) => {
+                self.store_block(words.place, &b);
                 Ok(())
             }
             Err(fault) => Err(fault),

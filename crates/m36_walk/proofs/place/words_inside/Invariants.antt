@@ -1,0 +1,17 @@
+use Rattle.std.proofs.Common.{ℕ, ◌≡◌, ◌+◌, ◌-◌, ◌<◌, ◌≤◌, ◌^◌, Ok, Err}
+use Rattle.m36_model.specs.declared.outcome.Refusal.{Refusal}
+use Rattle.m36_walk.specs.Runs.{run_from, examined, LiesIn}
+use Rattle.m36_walk.proofs.place.words_inside.Given as goal
+
+-- What holds of the words that are left holds of them all.
+abbrev pub invariant-loop-left : goal.invariant-loop-left
+invariant-loop-left l = record {
+  refused : (word : ℕ) (e : ℕ × Refusal) → examined l.size (word + (l.count - l.left)) l.next l.left ≡ Err e → examined l.size word l.place l.count ≡ Err e;
+  whole : (word : ℕ) → examined l.size (word + (l.count - l.left)) l.next l.left ≡ Ok (run_from l.next l.left) → examined l.size word l.place l.count ≡ Ok (run_from l.place l.count);
+  inside : LiesIn l.size l.next l.left → LiesIn l.size l.place l.count;
+  left : l.left ≤ l.count;
+  next : l.next < 2 ^ 24;
+}
+
+abbrev pub decreases-loop-left : goal.decreases-loop-left
+decreases-loop-left l = l.left
