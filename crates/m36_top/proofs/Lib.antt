@@ -1,0 +1,6 @@
+pub mod Splitting
+pub mod CoreWords
+pub mod LinesInTurn
+pub mod Numbers
+pub mod Placing
+pub mod PlacedLaws

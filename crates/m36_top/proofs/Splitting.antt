@@ -1,0 +1,76 @@
+-- Texts in parts, lines and words.
+use Rattle.std.proofs.Common.{◌≡◌, ℕ, ◌+◌, ◌-◌, ◌<◌, ◌≤◌, ◌==◌, Bool, true, false, cond, List, [], ◌∷◌, ◌++◌, length, take, drop, get_or, Some, None, Option, refl, sym, ap, ◌∙◌, arith, length-drop}
+use Rattle.std.specs.List.{slice_split, position, position_or_len, before_first, after_first}
+use Rattle.std.proofs.lemmas.Bool.{ltb-true, ltb-false}
+use Rattle.std.proofs.lemmas.Option.{cond_some}
+use Rattle.std.proofs.lemmas.List.Splits.{slice_split_first, slice_split_none, length-slice_split}
+use Rattle.std.proofs.lemmas.List.Sums.{fails_before_first}
+use Rattle.std.proofs.Math.Seq.{take-length}
+use Rattle.std.proofs.Math.Dec.{ltb}
+use Rattle.m36_top.specs.Lines.{cut_line, ended, lines_of, words_of, HasMore}
+
+-- a slice to its end is what is dropped before it
+rest_whole : (xs : List ℕ) (i : ℕ) → take (length xs - i) (drop i xs) ≡ drop i xs
+rest_whole xs i = ap (λ n. take n (drop i xs)) (sym (length-drop i xs)) ∙ take-length (drop i xs)
+
+cond_none : {A : Type 0} (b : Bool) (x : A) → cond b (Some x) None ≡ None → b ≡ false
+cond_none true x h = cc
+cond_none false x h = refl
+
+-- at the first place where a byte passes, the text is split
+pub split_there :
+    (p : ℕ → Bool) (xs : List ℕ) (i : ℕ)
+    → position p xs ≡ Some i
+    → slice_split p xs ≡ take i xs ∷ slice_split p (take (length xs - (i + 1)) (drop (i + 1) xs))
+split_there p xs i found =
+    let at = cond_some (ltb (position_or_len p xs) (length xs)) (position_or_len p xs) i found in
+    slice_split_first p xs 0 (ltb-true _ _ at.0) ∙ ap (λ k. take k xs ∷ slice_split p (drop (k + 1) xs)) at.1 ∙ ap (λ r. take i xs ∷ slice_split p r) (sym (rest_whole xs (i + 1)))
+
+-- where none passes, the text is one part
+pub split_nowhere : (p : ℕ → Bool) (xs : List ℕ) → position p xs ≡ None → slice_split p xs ≡ xs ∷ []
+split_nowhere p xs none =
+    let past : length xs ≤ position_or_len p xs = ltb-false _ _ (cond_none (ltb (position_or_len p xs) (length xs)) (position_or_len p xs) none) in
+    slice_split_none p xs (λ k d below. fails_before_first p xs k d (omega arith))
+
+pub ruleset splitting = (split_there, split_nowhere)
+
+-- there is a part at least
+ended_line : (line : List ℕ) (parts : List (List ℕ)) → 0 < length parts → ended (line ∷ parts) ≡ Some line ∷ ended parts
+ended_line line [] some = absurd (omega arith)
+ended_line line (next ∷ parts) some = refl
+
+-- a text that begins with a line
+pub lines_first :
+    (text line rest : List ℕ)
+    → slice_split (λ b. b == 10) text ≡ line ∷ slice_split (λ b. b == 10) rest
+    → lines_of text ≡ Some line ∷ lines_of rest
+unfolding lines_of
+lines_first text line rest e =
+    ap ended e ∙ ended_line line (slice_split (λ b. b == 10) rest) (omega (arith, length-slice_split (λ b. b == 10) rest))
+
+-- a text without a line feed
+pub lines_cut : (text : List ℕ) → slice_split (λ b. b == 10) text ≡ text ∷ [] → lines_of text ≡ cut_line text
+unfolding lines_of
+lines_cut text e = ap ended e
+
+pub ruleset lining = (lines_first, lines_cut)
+
+parts_some : (parts : List (List ℕ)) (line word : List ℕ) (words : List (List ℕ)) → 0 < length parts → words ≡ word ∷ parts → HasMore words
+parts_some [] line word words some e = absurd (omega arith)
+parts_some (next ∷ parts) line word words some e = record { first = word; second = next; others = parts; are = e }
+
+-- behind a space there is a word, perhaps an empty one
+pub has_more : (line word rest : List ℕ) → words_of line ≡ word ∷ words_of rest → HasMore (words_of line)
+unfolding words_of
+has_more line word rest e = parts_some (words_of rest) line word (words_of line) (omega (arith, length-slice_split (λ b. b == 32) rest)) e
+
+-- a line has one word at least
+pub words_some : (line : List ℕ) → 0 < length (words_of line)
+unfolding words_of
+words_some line = omega (arith, length-slice_split (λ b. b == 32) line)
+
+-- an empty text has no line
+pub lines_of_none : (text : List ℕ) → length text ≡ 0 → lines_of text ≡ []
+unfolding lines_of
+lines_of_none [] e = refl
+lines_of_none (b ∷ text) e = absurd (omega (arith, e))

@@ -1,0 +1,11 @@
+pub mod Words
+pub mod Lines
+pub mod PlacedWords
+pub mod BareImage
+pub mod ImageState
+pub mod InTurn
+pub mod Machine
+pub mod Run
+pub mod Output
+pub mod TopCall
+pub use Rattle.m36_trace.specs.TraceLine

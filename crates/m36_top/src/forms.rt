@@ -1,0 +1,103 @@
+//! The lines of a bare image, each read by its form. A line is given without its line feed.
+
+ghost use Rattle.std.specs.Prelude.{ℕ, ◌≡◌, ◌-◌, ◌^◌, ◌≤◌, ◌<◌, IfSome, IfOk};
+ghost use Rattle.m36_top.specs.Lines.{words_of};
+ghost use Rattle.m36_top.specs.BareImage.{octal_word, core_words, frames_read, dbr_words, start_words};
+
+use crate::scan::{first_word, only_word};
+use crate::status::Code;
+use m36_model::Ppr;
+use m36_text::{NumberFault, read_decimal, read_octal};
+use m36_word::{Pair, Word};
+
+/// The most frames of core.
+const MOST_FRAMES: u64 = 16384;
+
+/// Exactly so many octal digits as a number; `max` is the greatest that they can write.
+#[tactic(auto, unfolding(crate::specs::BareImage::octal_word), using(crate::proofs::Numbers::read_within))]
+pub fn octal_word(text: &[u8], places: usize, max: u64) -> Option<u64>
+    requires { max ≡ 8 ^ places - 1 }
+    ensures value { result ≡ octal_word places text.now }
+    ensures bound { IfSome result (λ v. v ≤ max) }
+{
+    if text.len() != places {
+        return None;
+    }
+    read_octal(text, max).ok()
+}
+
+/// Twelve octal digits as a word.
+pub fn word_of(text: &[u8]) -> Option<Word>
+    ensures { result ≡ octal_word 12 text.now }
+{
+    let value = octal_word(text, 12, 0o777777777777)?;
+    Some(Word::low(value))
+}
+
+/// The number of frames that a number of the line `core N` gives.
+pub fn frames_of(read: Result<u64, NumberFault>) -> Result<u32, Code>
+    requires { IfOk read (λ n. n ≤ 16384) }
+    ensures { result ≡ frames_read read }
+{
+    match read {
+        Ok(0) | Err(NumberFault::T2) => Err(Code::I2),
+        Ok(frames) => Ok(frames as u32),
+        Err(NumberFault::T1(_)) => Err(Code::I1),
+    }
+}
+
+/// The line `core N`: how many frames of core.
+#[tactic(auto, using(crate::proofs::Numbers::read_within))]
+pub fn core_line(line: &[u8]) -> Result<u32, Code>
+    ensures frames { result ≡ core_words (words_of line.now) }
+    ensures some { IfOk result (λ n. 1 ≤ n) }
+    ensures most { IfOk result (λ n. n ≤ 16384) }
+{
+    let (name, rest) = first_word(line);
+    let Some(rest) = rest else {
+        return Err(Code::I1);
+    };
+    let Some(frames) = only_word(rest) else {
+        return Err(Code::I1);
+    };
+    if name != b"core".as_slice() {
+        return Err(Code::I1);
+    }
+    frames_of(read_decimal(frames, MOST_FRAMES))
+}
+
+/// The line `dbr E O`: the words of the descriptor segment base register; none where it is not of its form.
+pub fn dbr_line(line: &[u8]) -> Option<Pair>
+    ensures { result ≡ dbr_words (words_of line.now) }
+{
+    let (name, rest) = first_word(line);
+    let (even, rest) = first_word(rest?);
+    let odd = only_word(rest?)?;
+    if name != b"dbr".as_slice() {
+        return None;
+    }
+    let even = word_of(even)?;
+    let odd = word_of(odd)?;
+    Some(Pair { even, odd })
+}
+
+/// The line `start S R I`: where the machine starts; none where it is not of its form.
+pub fn start_line(line: &[u8]) -> Option<Ppr>
+    ensures { result ≡ start_words (words_of line.now) }
+{
+    let (name, rest) = first_word(line);
+    let (seg, rest) = first_word(rest?);
+    let (ring, rest) = first_word(rest?);
+    let word = only_word(rest?)?;
+    if name != b"start".as_slice() {
+        return None;
+    }
+    let seg = octal_word(seg, 5, 0o77777)?;
+    let ring = octal_word(ring, 1, 0o7)?;
+    let word = octal_word(word, 6, 0o777777)?;
+    Some(Ppr {
+        ic: word as u32,
+        psr: seg as u16,
+        prr: ring as u8,
+    })
+}

@@ -1,0 +1,10 @@
+#![tactic(auto)]
+
+pub mod core_words;
+pub mod forms;
+pub mod placed;
+pub mod refusal;
+pub mod scan;
+pub mod status;
+
+pub use status::{Bad, Code, Status};

@@ -1,0 +1,57 @@
+//! The lines of a text, and the words of a line.
+
+ghost use Rattle.std.specs.Prelude.{ℕ, ◌≡◌, ◌==◌, List, [], ◌∷◌, Option, None, Some, MatchOption, IfSome, length, ◌<◌};
+ghost use Rattle.std.specs.List.{position, slice_split};
+ghost use Rattle.m36_top.specs.Lines.{lines_of, cut_line, words_of, HasMore};
+
+/// The first place of a byte in a text.
+pub fn place_of(text: &[u8], byte: u8) -> Option<usize>
+    ensures place { result ≡ position (λ b. b == byte) text.now }
+    ensures within { IfSome result (λ i. i < length text.now) }
+{
+    text.iter().position(|b| *b == byte)
+}
+
+/// A text up to a byte, and what stands behind it; none where the byte does not stand in the text.
+#[tactic(auto, using(crate::proofs::Splitting::splitting))]
+pub fn split_first(text: &[u8], byte: u8) -> Option<(&[u8], &[u8])>
+    ensures parts { MatchOption result (slice_split (λ b. b == byte) text.now ≡ text.now ∷ []) (λ parts. slice_split (λ b. b == byte) text.now ≡ parts.0.now ∷ slice_split (λ b. b == byte) parts.1.now) }
+    ensures shorter { IfSome result (λ parts. length parts.1.now < length text.now) }
+{
+    match place_of(text, byte) {
+        Some(end) => Some((&text[..end], &text[end + 1..])),
+        None => None,
+    }
+}
+
+/// The first line of a text, and what stands behind its line feed; none where no line feed is there.
+#[tactic(auto, using(crate::proofs::Splitting::lining))]
+pub fn first_line(text: &[u8]) -> Option<(&[u8], &[u8])>
+    ensures line { MatchOption result (lines_of text.now ≡ cut_line text.now) (λ parts. lines_of text.now ≡ Some parts.0.now ∷ lines_of parts.1.now) }
+    ensures shorter { IfSome result (λ parts. length parts.1.now < length text.now) }
+{
+    split_first(text, b'\n')
+}
+
+/// The first word of a line, and what stands behind the space after it.
+#[tactic(auto, unfolding(crate::specs::Lines::words_of))]
+pub fn first_word(line: &[u8]) -> (&[u8], Option<&[u8]>)
+    ensures { MatchOption result.1 (words_of line.now ≡ result.0.now ∷ []) (λ rest. words_of line.now ≡ result.0.now ∷ words_of rest.now) }
+{
+    match split_first(line, b' ') {
+        Some((word, rest)) => (word, Some(rest)),
+        None => (line, None),
+    }
+}
+
+/// The only word of a line; none where the line has more.
+#[tactic(auto, using(crate::proofs::Splitting::has_more))]
+pub fn only_word(line: &[u8]) -> Option<&[u8]>
+    ensures { MatchOption result (HasMore (words_of line.now)) (λ word. words_of line.now ≡ word.now ∷ []) }
+{
+    let (word, rest) = first_word(line);
+    match rest {
+        Some(_) => None,
+        None => Some(word),
+    }
+}
