@@ -49,6 +49,13 @@ impl Core {
         self.words.len() as u32
     }
 
+    /// All words, in order.
+    pub fn words(&self) -> &[Word]
+        ensures { result.now ≡ self.now }
+    {
+        self.words.as_slice()
+    }
+
     /// The word at a place.
     pub fn peek(&self, a: u32) -> Word
         requires { a < length self.now }

@@ -4,6 +4,8 @@ pub mod PlacedWords
 pub mod BareImage
 pub mod ImageState
 pub mod InTurn
+pub mod HeaderFields
+pub mod ImageSays
 pub mod Machine
 pub mod Run
 pub mod Output

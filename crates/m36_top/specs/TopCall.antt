@@ -12,8 +12,7 @@ use Rattle.m36_top.specs.declared.status.Status.TheVariants.{Done, Usage, ReadFa
 use Rattle.m36_top.specs.declared.status.Code.{Code}
 use Rattle.m36_top.specs.declared.status.Code.TheVariants.{F1, F2}
 use Rattle.m36_top.specs.declared.refusal.Refusal.{Refusal}
-use Rattle.m36_top.specs.BareImage.{Image, image_of}
-use Rattle.m36_top.specs.ImageState.{state_of}
+use Rattle.m36_top.specs.ImageState.{state_given}
 use Rattle.m36_top.specs.Run.{run, last_outcome}
 use Rattle.m36_top.specs.Output.{run_text, status_after}
 
@@ -33,13 +32,13 @@ step_limit = 100000
 unfoldable pub run_answer : ℕ → State (List ℕ) → Answer
 run_answer steps state = record { status = status_after (last_outcome (run steps state)); text = run_text steps state }
 
-abbrev pub image_answer : List ℕ → Result Image Refusal → Answer
-image_answer name (Ok image) = run_answer step_limit (state_of image)
-image_answer name (Err refusal) = refused name refusal.code refusal.line
+abbrev pub state_answer : List ℕ → Result (State (List ℕ)) Refusal → Answer
+state_answer name (Ok state) = run_answer step_limit state
+state_answer name (Err refusal) = refused name refusal.code refusal.line
 
 -- `bare FILE`, by what the folder answered for the file
 abbrev pub bare_answer : List ℕ → ReadAnswer → Answer
-bare_answer name (Read bytes) = image_answer name (image_of bytes)
+bare_answer name (Read bytes) = state_answer name (state_given bytes)
 bare_answer name Absent = refused name F1 0
 bare_answer name TooLarge = refused name F2 0
 bare_answer name Failed = record { status = ReadFault; text = [] }

@@ -2,6 +2,8 @@
 
 pub mod core_words;
 pub mod forms;
+pub mod header;
+pub mod image;
 pub mod placed;
 pub mod refusal;
 pub mod scan;
