@@ -1,3 +1,4 @@
+pub mod RunLaws
 pub mod Splitting
 pub mod CoreWords
 pub mod LinesInTurn

@@ -9,5 +9,7 @@ pub mod ImageSays
 pub mod Machine
 pub mod Run
 pub mod Output
+pub mod RunSays
 pub mod TopCall
+pub use Rattle.m36_trace.specs.EndLine
 pub use Rattle.m36_trace.specs.TraceLine

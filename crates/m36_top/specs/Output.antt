@@ -1,13 +1,13 @@
 -- The output of a run: its trace lines and its end line.
-use Rattle.std.specs.Prelude.{ℕ, ◌+◌, List, [], ◌∷◌, ◌++◌, length, codes}
-use Rattle.m36_text.specs.Digits.{decimal_text}
+use Rattle.std.specs.Prelude.{ℕ, ◌+◌, List, [], ◌∷◌, ◌++◌, length}
 use Rattle.m36_model.specs.Store.{State}
 use Rattle.m36_model.specs.declared.outcome.Outcome.{Outcome}
 use Rattle.m36_model.specs.declared.outcome.Outcome.TheVariants.{Next, Faulted, Stopped}
 use Rattle.m36_model.specs.declared.outcome.Stop.TheVariants.{Dis, Operation, Tag, Unbuilt}
 use Rattle.m36_model.specs.declared.endings.End.TheVariants as end
 use Rattle.m36_model.specs.declared.record.StepRecord.{StepRecord}
-use Rattle.m36_trace.specs.TraceLine.{line_of, fault_text, stop_text}
+use Rattle.m36_trace.specs.EndLine.{end_line_of}
+use Rattle.m36_trace.specs.TraceLine.{line_of}
 use Rattle.m36_top.specs.declared.status.Status.{Status}
 use Rattle.m36_top.specs.declared.status.Status.TheVariants.{Done, MachineStop, Steps}
 use Rattle.m36_top.specs.Run.{run, last_outcome}
@@ -16,29 +16,21 @@ use Rattle.m36_top.specs.Run.{run, last_outcome}
 abbrev pub as_line : List ℕ → List ℕ
 as_line text = text ++ 10 ∷ []
 
--- a trace line for each record, with the number of its step
+-- a trace line for each record, with the number of its step, of which the first is step n
 unfoldable pub trace_text : ℕ → List StepRecord → List ℕ
 trace_text n [] = []
-trace_text n (told ∷ records) = as_line (line_of n told) ++ trace_text (n + 1) records
+trace_text n (step ∷ steps) = as_line (line_of n step) ++ trace_text (n + 1) steps
 
--- how a run ended
-abbrev pub ending_text : Outcome → List ℕ
-ending_text Next = codes "limit"
-ending_text (Faulted fault) = fault_text fault
-ending_text (Stopped stop) = stop_text stop
-
--- the end line, with the count of steps
-unfoldable pub end_text : Outcome → ℕ → List ℕ
-end_text outcome steps = codes "end " ++ ending_text outcome ++ codes " " ++ decimal_text steps
-
-abbrev pub output_of : List StepRecord → List ℕ
-output_of records = trace_text 1 records ++ as_line (end_text (last_outcome records) (length records))
+-- what is written from there on where so many steps were taken before these
+abbrev pub output_from : ℕ → List StepRecord → List ℕ
+output_from taken steps =
+    trace_text (taken + 1) steps ++ as_line (end_line_of (last_outcome steps) (taken + length steps))
 
 -- what a run of at most so many steps writes
 unfoldable pub run_text : ℕ → State (List ℕ) → List ℕ
-run_text steps state = output_of (run steps state)
+run_text steps state = output_from 0 (run steps state)
 
--- the status by which a run ends: DIS is its one end without a fault or a stop of the machine
+-- the status by which a run ends: DIS is its one end without a fault or another stop
 abbrev pub status_after : Outcome → Status
 status_after Next = Steps
 status_after (Faulted fault) = MachineStop (end.Fault fault)

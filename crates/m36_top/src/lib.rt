@@ -6,7 +6,9 @@ pub mod header;
 pub mod image;
 pub mod placed;
 pub mod refusal;
+pub mod running;
 pub mod scan;
 pub mod status;
+pub mod words;
 
 pub use status::{Bad, Code, Status};
