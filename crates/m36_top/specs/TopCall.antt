@@ -1,17 +1,18 @@
 -- What the top call answers and writes.
-use Rattle.std.specs.Prelude.{ℕ, ◌≡◌, ⊤, Bool, nat_lt, List, [], length, Option, Some, None, IfSome, Result, Ok, Err, if◌then◌else◌}
+use Rattle.std.specs.Prelude.{ℕ, ◌≡◌, ◌⊎◌, ⊤, nat_lt, List, [], length, Option, Some, None, IfSome, Result, Ok, Err, if◌then◌else◌}
+use Rattle.m36_outside.specs.Counts.{Rose}
 use Rattle.m36_outside.specs.Files.{Files}
-use Rattle.m36_outside.specs.ReadAnswer.{ReadSays}
+use Rattle.m36_outside.specs.ReadAnswer.{ReadSays, IsWithinLimit, file_limit}
 use Rattle.m36_outside.specs.Written.{Grew, GrewWithin}
 use Rattle.m36_outside.specs.declared.folder.ReadAnswer.{ReadAnswer}
-use Rattle.m36_outside.specs.declared.folder.ReadAnswer.TheVariants.{Read, Absent, TooLarge, Failed} 
 use Rattle.m36_outside.specs.declared.folder.ReadAnswer.TheVariants as read
 use Rattle.m36_model.specs.Store.{State}
+use Rattle.m36_top.specs.declared.refusal.Refusal.{Refusal}
 use Rattle.m36_top.specs.declared.status.Status.{Status}
 use Rattle.m36_top.specs.declared.status.Status.TheVariants.{Done, Usage, ReadFault, WriteFault, BadFile, AuditNo, MachineStop, Steps, NoMemory}
 use Rattle.m36_top.specs.declared.status.Code.{Code}
 use Rattle.m36_top.specs.declared.status.Code.TheVariants.{F1, F2}
-use Rattle.m36_top.specs.declared.refusal.Refusal.{Refusal}
+use Rattle.m36_top.specs.Words.{bare_file}
 use Rattle.m36_top.specs.ImageState.{state_given}
 use Rattle.m36_top.specs.Run.{run, last_outcome}
 use Rattle.m36_top.specs.Output.{run_text, status_after}
@@ -21,7 +22,7 @@ pub record Answer : Type 0 where
   pub status : Status
   pub text : List ℕ
 
--- a refused file: its name, a code, and a place; nothing is written
+-- a refused file by its name, a code and a place; nothing is written
 abbrev pub refused : List ℕ → Code → ℕ → Answer
 refused name code at = record { status = BadFile (record { name = name; code = code; at = at; column = 0 }); text = [] }
 
@@ -36,10 +37,72 @@ abbrev pub state_answer : List ℕ → Result (State (List ℕ)) Refusal → Ans
 state_answer name (Ok state) = run_answer step_limit state
 state_answer name (Err refusal) = refused name refusal.code refusal.line
 
--- `bare FILE`, by what the folder answered for the file
+-- `bare FILE`, by what the folder answers for the file
 abbrev pub bare_answer : List ℕ → ReadAnswer → Answer
-bare_answer name (Read bytes) = state_answer name (state_given bytes)
-bare_answer name Absent = refused name F1 0
-bare_answer name TooLarge = refused name F2 0
-bare_answer name Failed = record { status = ReadFault; text = [] }
+bare_answer name (read.Read bytes) = state_answer name (state_given bytes)
+bare_answer name read.Absent = refused name F1 0
+bare_answer name read.TooLarge = refused name F2 0
+bare_answer name read.Failed = record { status = ReadFault; text = [] }
 bare_answer name read.NoMemory = record { status = NoMemory; text = [] }
+
+-- the statuses of a run
+abbrev pub IsRun : Status → Type 0
+IsRun Done = ⊤
+IsRun (MachineStop end) = ⊤
+IsRun Steps = ⊤
+IsRun Usage = ⊥
+IsRun ReadFault = ⊥
+IsRun WriteFault = ⊥
+IsRun (BadFile bad) = ⊥
+IsRun AuditNo = ⊥
+IsRun NoMemory = ⊥
+
+-- What a status says beside the answer that is due, of what is written before and after. With the statuses of a run the
+-- whole output is written, with WriteFault a first part of that of a run, and with every other nothing. Want of memory
+-- alone may stand in the place of any answer.
+abbrev pub Meets : Status → Answer → Option (List ℕ) → Option (List ℕ) → Type 0
+Meets Done due old new = (due.status ≡ Done) × Grew old new due.text
+Meets (MachineStop end) due old new = (due.status ≡ MachineStop end) × Grew old new due.text
+Meets Steps due old new = (due.status ≡ Steps) × Grew old new due.text
+Meets (BadFile bad) due old new = (due.status ≡ BadFile bad) × (new ≡ old)
+Meets ReadFault due old new = (due.status ≡ ReadFault) × (new ≡ old)
+Meets WriteFault due old new = IsRun due.status × GrewWithin old new due.text
+Meets NoMemory due old new = new ≡ old
+Meets Usage due old new = ⊥
+Meets AuditNo due old new = ⊥
+
+-- The folder gave some answer for the file, that of its files where it tells them, and the call meets it.
+pub record BareSays (name : List ℕ) (result : Status) (files : Option Files) (old new : Option (List ℕ)) : Type 0 where
+  pub given : ReadAnswer
+  pub told : IfSome files (λ f. ReadSays given (f name))
+  pub limit : IsWithinLimit given
+  pub meets : Meets result (bare_answer name given) old new
+
+-- What the top call answers, by the file that its words name.
+abbrev pub TopSays : Option (List ℕ) → Status → Option Files → Option (List ℕ) → Option (List ℕ) → Type 0
+TopSays None result files old new = (result ≡ Usage) × (new ≡ old)
+TopSays (Some name) result files old new = BareSays name result files old new
+
+-- A count of read faults rose in a call that answered ReadFault, and stands in any other.
+abbrev pub ReadCause : Status → ℕ → ℕ → Type 0
+ReadCause ReadFault old new = Rose old new
+ReadCause Done old new = new ≡ old
+ReadCause Usage old new = new ≡ old
+ReadCause WriteFault old new = new ≡ old
+ReadCause (BadFile bad) old new = new ≡ old
+ReadCause AuditNo old new = new ≡ old
+ReadCause (MachineStop end) old new = new ≡ old
+ReadCause Steps old new = new ≡ old
+ReadCause NoMemory old new = new ≡ old
+
+-- A count of write faults rose in a call that answered WriteFault, and stands in any other.
+abbrev pub WriteCause : Status → ℕ → ℕ → Type 0
+WriteCause WriteFault old new = Rose old new
+WriteCause Done old new = new ≡ old
+WriteCause Usage old new = new ≡ old
+WriteCause ReadFault old new = new ≡ old
+WriteCause (BadFile bad) old new = new ≡ old
+WriteCause AuditNo old new = new ≡ old
+WriteCause (MachineStop end) old new = new ≡ old
+WriteCause Steps old new = new ≡ old
+WriteCause NoMemory old new = new ≡ old

@@ -9,6 +9,7 @@ pub mod refusal;
 pub mod running;
 pub mod scan;
 pub mod status;
+pub mod top;
 pub mod words;
 
 pub use status::{Bad, Code, Status};

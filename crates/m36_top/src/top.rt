@@ -1,0 +1,132 @@
+//! The top call.
+
+ghost use Rattle.std.specs.Prelude.{ℕ, ◌≡◌, ◌≤◌, ◌<◌, ◌^◌, ◌↔◌, List, Option, None, IfOk, length};
+ghost use Rattle.m36_outside.specs.ReadAnswer.{file_limit};
+ghost use Rattle.m36_top.specs.Words.{bare_file};
+ghost use Rattle.m36_top.specs.ImageState.{state_given};
+ghost use Rattle.m36_top.specs.Output.{status_after};
+ghost use Rattle.m36_top.specs.TopCall.{Meets, refused, run_answer, step_limit, state_answer, BareSays, TopSays, ReadCause, WriteCause};
+
+use crate::image::{Image, ImageFault, read_image};
+use crate::running::{Ended, run};
+use crate::status::{Bad, Code, Status};
+use crate::words::bare_file;
+use m36_model::{End, Outcome, Stop};
+use m36_outside::{Folder, ReadAnswer, Sink, Text};
+use m36_step::Machine;
+use m36_word::NoMemory;
+use std::alloc::Global;
+
+/// The most steps of a run.
+pub const STEP_LIMIT: u32 = 100000;
+
+/// The status by which a run ends, by its last outcome.
+pub fn status_after(last: Outcome) -> Status
+    ensures value { result ≡ status_after last }
+    ensures read_cause { (count : ℕ) → ReadCause result count count }
+    ensures write_cause { (count : ℕ) → WriteCause result count count }
+{
+    match last {
+        Outcome::Next => Status::Steps,
+        Outcome::Faulted(fault) => Status::MachineStop(End::Fault(fault)),
+        Outcome::Stopped(Stop::Dis) => Status::Done,
+        Outcome::Stopped(stop) => Status::MachineStop(End::Stop(stop)),
+    }
+}
+
+/// Refuses a file, unless no memory is found for its name.
+pub fn refuse(alloc: Global, name: &[u8], code: Code, at: u32) -> Status
+    ensures says { (written : Option (List ℕ)) → Meets result (refused name.now code at) written written }
+    ensures read_cause { (count : ℕ) → ReadCause result count count }
+    ensures write_cause { (count : ℕ) → WriteCause result count count }
+{
+    match Text::from_bytes(alloc, name) {
+        Ok(name) => Status::BadFile(Bad {
+            name,
+            code,
+            at,
+            column: 0,
+        }),
+        Err(_) => Status::NoMemory,
+    }
+}
+
+// The machine of an image.
+fn machine_of(alloc: Global, image: &Image) -> Result<Machine, NoMemory>
+    ensures { IfOk result (λ machine. machine ≡ image.now) }
+{
+    Machine::new(alloc, image.core.words(), image.regs)
+}
+
+/// Runs the machine of an image.
+#[tactic(auto, using(crate::proofs::TopLaws::answers))]
+pub fn run_image<S: Sink>(alloc: Global, image: &Image, out: &mut S) -> Status
+    ensures says { Meets result (run_answer step_limit image.now) (S.written out.old) (S.written out.new) }
+    ensures read_cause { (count : ℕ) → ReadCause result count count }
+    ensures write_cause { WriteCause result (S.faults out.old) (S.faults out.new) }
+{
+    let mut machine = match machine_of(alloc, image) {
+        Ok(machine) => machine,
+        Err(_) => return Status::NoMemory,
+    };
+    match run(&mut machine, STEP_LIMIT, out) {
+        Ended::Cut => Status::WriteFault,
+        Ended::Whole(last) => status_after(last),
+    }
+}
+
+/// Runs the machine that the bytes of a file write out.
+#[tactic(auto, using(crate::proofs::TopLaws::answers))]
+pub fn run_bytes<S: Sink>(alloc: Global, name: &[u8], bytes: &[u8], out: &mut S) -> Status
+    requires { length bytes.now ≤ file_limit }
+    ensures says { Meets result (state_answer name.now (state_given bytes.now)) (S.written out.old) (S.written out.new) }
+    ensures read_cause { (count : ℕ) → ReadCause result count count }
+    ensures write_cause { WriteCause result (S.faults out.old) (S.faults out.new) }
+{
+    match read_image(alloc, bytes) {
+        Ok(image) => run_image(alloc, &image, out),
+        Err(ImageFault::Refused(refusal)) => refuse(alloc, name, refusal.code, refusal.line),
+        Err(ImageFault::NoMemory) => Status::NoMemory,
+    }
+}
+
+/// The command `bare FILE`.
+#[tactic(auto, using(crate::proofs::TopLaws::answers))]
+pub fn bare<F: Folder, S: Sink>(alloc: Global, name: &[u8], folder: &mut F, out: &mut S) -> Status
+    ensures says { BareSays name.now result (F.files folder.old) (S.written out.old) (S.written out.new) }
+    ensures read_cause { ReadCause result (F.read_faults folder.old) (F.read_faults folder.new) }
+    ensures write_cause { WriteCause result (S.faults out.old) (S.faults out.new) }
+    ensures files { F.files folder.new ≡ F.files folder.old }
+{
+    match folder.read(alloc, name) {
+        ReadAnswer::Read(text) => run_bytes(alloc, name, text.bytes(), out),
+        ReadAnswer::Absent => refuse(alloc, name, Code::F1, 0),
+        ReadAnswer::TooLarge => refuse(alloc, name, Code::F2, 0),
+        ReadAnswer::Failed => Status::ReadFault,
+        ReadAnswer::NoMemory => Status::NoMemory,
+    }
+}
+
+/// The simulator: does what the words of the command line ask for, and answers how that ended.
+///
+/// `words` leaves out the name of the program. The one command is `bare FILE`: it reads the file as a bare image, runs
+/// it for at most 100,000 steps, and writes a trace line for each and the end line.
+pub fn m36<F: Folder, S: Sink>(alloc: Global, words: &[Text], folder: &mut F, out: &mut S) -> Status
+    // What is answered and written, by the file that the folder gives.
+    ensures says { TopSays (bare_file words.now) result (F.files folder.old) (S.written out.old) (S.written out.new) }
+
+    // No file is written, and a fault has a cause outside.
+    ensures files { F.files folder.new ≡ F.files folder.old }
+    ensures read_cause { ReadCause result (F.read_faults folder.old) (F.read_faults folder.new) }
+    ensures write_cause { WriteCause result (S.faults out.old) (S.faults out.new) }
+
+    // Where the words are no command, nothing is touched.
+    ensures usage { (result ≡ Status.Usage) ↔ (bare_file words.now ≡ None) }
+    ensures folder_untouched { bare_file words.now ≡ None → folder.new ≡ folder.old }
+    ensures sink_untouched { bare_file words.now ≡ None → out.new ≡ out.old }
+{
+    match bare_file(words) {
+        Some(name) => bare(alloc, name, folder, out),
+        None => Status::Usage,
+    }
+}
