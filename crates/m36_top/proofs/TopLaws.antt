@@ -1,5 +1,12 @@
 -- Answers of the top call, from those of its parts.
-use Rattle.std.proofs.Common.{◌≡◌, ℕ, List, Option, refl, sym, ap, ◌∙◌}
+use Rattle.std.proofs.Common.{◌≡◌, ℕ, ◌≤◌, ◌<◌, List, [], length, cond, Option, Some, None, refl, sym, ap, subst, ◌∙◌, inl, inr}
+use Rattle.std.specs.Prelude.{IfSome}
+use Rattle.std.proofs.lemmas.Bool.{le-ltb, lt-ltb}
+use Rattle.m36_outside.specs.Counts.{Rose}
+use Rattle.m36_outside.specs.Files.{Files}
+use Rattle.m36_outside.specs.ReadAnswer.{ReadSays, IsWithinLimit, file_limit}
+use Rattle.m36_outside.specs.declared.folder.ReadAnswer.{ReadAnswer}
+use Rattle.m36_outside.specs.declared.folder.ReadAnswer.TheVariants as read
 use Rattle.m36_outside.specs.Written.{Grew, GrewWithin}
 use Rattle.m36_model.specs.Store.{State}
 use Rattle.m36_model.specs.declared.outcome.Outcome.{Outcome}
@@ -8,9 +15,10 @@ use Rattle.m36_model.specs.declared.outcome.Stop.TheVariants.{Dis, Operation, Ta
 use Rattle.m36_top.specs.Run.{run, last_outcome}
 use Rattle.m36_top.specs.Output.{run_text, status_after}
 use Rattle.m36_top.specs.RunSays.{RunSays}
-use Rattle.m36_top.specs.TopCall.{Answer, IsRun, Meets, ReadCause, WriteCause, run_answer}
+use Rattle.m36_top.specs.TopCall.{Answer, IsRun, Meets, MeetsFiles, AnswersDone, TopSays, ReadCause, WriteCause, read_of, answer_by, bare_answer, run_answer}
 use Rattle.m36_top.specs.declared.running.Ended.TheVariants.{Whole, Cut}
-use Rattle.m36_top.specs.declared.status.Status.TheVariants.{WriteFault}
+use Rattle.m36_top.specs.declared.status.Status.{Status}
+use Rattle.m36_top.specs.declared.status.Status.TheVariants.{Done, Usage, ReadFault, WriteFault, BadFile, AuditNo, MachineStop, Steps, NoMemory}
 
 -- a run that was written whole
 meets_whole :
@@ -63,3 +71,97 @@ whole_write (Stopped Tag) old new same = same
 whole_write (Stopped Unbuilt) old new same = same
 
 pub ruleset answers = (run_whole, run_cut, whole_read, whole_write)
+
+-- What is due by what the folder gave is due by its files, unless the read failed.
+met : (result : Status) (due : Answer) (old new : Option (List ℕ)) → Meets result due old new → MeetsFiles result due old new
+met Done due old new m = m
+met (MachineStop end) due old new m = m
+met Steps due old new m = m
+met (BadFile bad) due old new m = m
+met ReadFault due old new m = m.1
+met WriteFault due old new m = m
+met NoMemory due old new m = m
+met Usage due old new m = absurd m
+met AuditNo due old new m = absurd m
+
+met_read : (result : Status) (due : Answer) (old new : Option (List ℕ)) → Meets result (record { status = ReadFault; text = [] }) old new → MeetsFiles result due old new
+met_read Done due old new m = absurd (let h = m.0 in cc)
+met_read (MachineStop end) due old new m = absurd (let h = m.0 in cc)
+met_read Steps due old new m = absurd (let h = m.0 in cc)
+met_read (BadFile bad) due old new m = absurd (let h = m.0 in cc)
+met_read ReadFault due old new m = m.1
+met_read WriteFault due old new m = absurd m.0
+met_read NoMemory due old new m = m
+met_read Usage due old new m = absurd m
+met_read AuditNo due old new m = absurd m
+
+met_memory : (result : Status) (due : Answer) (old new : Option (List ℕ)) → Meets result (record { status = NoMemory; text = [] }) old new → MeetsFiles result due old new
+met_memory Done due old new m = absurd (let h = m.0 in cc)
+met_memory (MachineStop end) due old new m = absurd (let h = m.0 in cc)
+met_memory Steps due old new m = absurd (let h = m.0 in cc)
+met_memory (BadFile bad) due old new m = absurd (let h = m.0 in cc)
+met_memory ReadFault due old new m = m.1
+met_memory WriteFault due old new m = absurd m.0
+met_memory NoMemory due old new m = m
+met_memory Usage due old new m = absurd m
+met_memory AuditNo due old new m = absurd m
+
+-- an answer that a folder gives for a file is the one that it is to give
+read_is : (bytes : List ℕ) → length bytes ≤ file_limit → read_of (Some bytes) ≡ read.Read bytes
+read_is bytes within = ap (λ b. cond b read.TooLarge (read.Read bytes)) (le-ltb file_limit (length bytes) within)
+
+large_is : (bytes : List ℕ) → file_limit < length bytes → read_of (Some bytes) ≡ read.TooLarge
+large_is bytes over = ap (λ b. cond b read.TooLarge (read.Read bytes)) (lt-ltb file_limit (length bytes) over)
+
+by_given :
+    (given : ReadAnswer) (name : List ℕ) (files : Files) (result : Status) (old new : Option (List ℕ))
+    → ReadSays given (files name) → IsWithinLimit given → Meets result (bare_answer name given) old new
+    → MeetsFiles result (answer_by (Some name) files) old new
+by_given (read.Read bytes) name files result old new says within m =
+    subst (λ r. MeetsFiles result (bare_answer name r) old new) (sym (ap read_of says ∙ read_is bytes within)) (met result (bare_answer name (read.Read bytes)) old new m)
+by_given read.Absent name files result old new says within m =
+    subst (λ r. MeetsFiles result (bare_answer name r) old new) (sym (ap read_of says)) (met result (bare_answer name read.Absent) old new m)
+by_given read.TooLarge name files result old new says within m =
+    subst (λ r. MeetsFiles result (bare_answer name r) old new) (sym (ap read_of says.1 ∙ large_is says.0 says.2)) (met result (bare_answer name read.TooLarge) old new m)
+by_given read.Failed name files result old new says within m = met_read result (answer_by (Some name) files) old new m
+by_given read.NoMemory name files result old new says within m = met_memory result (answer_by (Some name) files) old new m
+
+usage_met : (result : Status) (old new : Option (List ℕ)) → result ≡ Usage → new ≡ old → MeetsFiles result (record { status = Usage; text = [] }) old new
+usage_met result old new is same = subst (λ s. MeetsFiles s (record { status = Usage; text = [] }) old new) (sym is) (refl, same)
+
+by_file :
+    (file : Option (List ℕ)) (result : Status) (files : Files) (old new : Option (List ℕ))
+    → TopSays file result (Some files) old new → MeetsFiles result (answer_by file files) old new
+by_file None result files old new says = usage_met result old new says.0 says.1
+by_file (Some name) result files old new says = by_given says.given name files result old new says.told says.limit says.meets
+
+pub by_files :
+    (file : Option (List ℕ)) (result : Status) (files : Option Files) (old new : Option (List ℕ))
+    → TopSays file result files old new → IfSome files (λ f. MeetsFiles result (answer_by file f) old new)
+by_files file result None old new says = tt
+by_files file result (Some files) old new says = by_file file result files old new says
+
+-- With no fault outside, a run that is due to end with DIS does.
+done_due :
+    (result : Status) (due : Answer) (old new : Option (List ℕ)) (r r' w w' : ℕ)
+    → MeetsFiles result due old new → ReadCause result r r' → WriteCause result w w'
+    → AnswersDone result due (Rose r r') (Rose w w')
+done_due Done due old new r r' w w' m read write is nr nw = inl refl
+done_due (MachineStop end) due old new r r' w w' m read write is nr nw = absurd (let h = m.0 in cc)
+done_due Steps due old new r r' w w' m read write is nr nw = absurd (let h = m.0 in cc)
+done_due (BadFile bad) due old new r r' w w' m read write is nr nw = absurd (let h = m.0 in cc)
+done_due Usage due old new r r' w w' m read write is nr nw = absurd (let h = m.0 in cc)
+done_due ReadFault due old new r r' w w' m read write is nr nw = absurd (nr read)
+done_due WriteFault due old new r r' w w' m read write is nr nw = absurd (nw write)
+done_due NoMemory due old new r r' w w' m read write is nr nw = inr refl
+done_due AuditNo due old new r r' w w' m read write is nr nw = absurd m
+
+pub all_done :
+    (file : Option (List ℕ)) (result : Status) (files : Option Files) (old new : Option (List ℕ)) (r r' w w' : ℕ)
+    → TopSays file result files old new → ReadCause result r r' → WriteCause result w w'
+    → IfSome files (λ f. AnswersDone result (answer_by file f) (Rose r r') (Rose w w'))
+all_done file result None old new r r' w w' says read write = tt
+all_done file result (Some files) old new r r' w w' says read write =
+    done_due result (answer_by file files) old new r r' w w' (by_file file result files old new says) read write
+
+pub ruleset calls = (by_files, all_done)

@@ -83,6 +83,36 @@ abbrev pub TopSays : Option (List ℕ) → Status → Option Files → Option (L
 TopSays None result files old new = (result ≡ Usage) × (new ≡ old)
 TopSays (Some name) result files old new = BareSays name result files old new
 
+-- Where the folder tells its files: what it is to answer for one,
+abbrev pub read_of : Option (List ℕ) → ReadAnswer
+read_of None = read.Absent
+read_of (Some bytes) = if nat_lt file_limit (length bytes) then read.TooLarge else read.Read bytes
+
+-- and what is due to the words, as the files are.
+abbrev pub answer_by : Option (List ℕ) → Files → Answer
+answer_by None files = record { status = Usage; text = [] }
+answer_by (Some name) files = bare_answer name (read_of (files name))
+
+abbrev pub answer_of : List (List ℕ) → Files → Answer
+answer_of words files = answer_by (bare_file words) files
+
+-- What a status says beside the answer that is due by the files. A read that failed yields to no file.
+abbrev pub MeetsFiles : Status → Answer → Option (List ℕ) → Option (List ℕ) → Type 0
+MeetsFiles Done due old new = (due.status ≡ Done) × Grew old new due.text
+MeetsFiles (MachineStop end) due old new = (due.status ≡ MachineStop end) × Grew old new due.text
+MeetsFiles Steps due old new = (due.status ≡ Steps) × Grew old new due.text
+MeetsFiles (BadFile bad) due old new = (due.status ≡ BadFile bad) × (new ≡ old)
+MeetsFiles Usage due old new = (due.status ≡ Usage) × (new ≡ old)
+MeetsFiles ReadFault due old new = new ≡ old
+MeetsFiles WriteFault due old new = IsRun due.status × GrewWithin old new due.text
+MeetsFiles NoMemory due old new = new ≡ old
+MeetsFiles AuditNo due old new = ⊥
+
+-- A run that is due to end with DIS, with no fault outside, does, unless want of memory stands in its place.
+abbrev pub AnswersDone : Status → Answer → Type 0 → Type 0 → Type 0
+AnswersDone result due read_rose write_rose =
+    due.status ≡ Done → ¬ read_rose → ¬ write_rose → (result ≡ Done) ⊎ (result ≡ NoMemory)
+
 -- A count of read faults rose in a call that answered ReadFault, and stands in any other.
 abbrev pub ReadCause : Status → ℕ → ℕ → Type 0
 ReadCause ReadFault old new = Rose old new

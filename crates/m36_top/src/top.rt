@@ -1,11 +1,12 @@
 //! The top call.
 
-ghost use Rattle.std.specs.Prelude.{ℕ, ◌≡◌, ◌≤◌, ◌<◌, ◌^◌, ◌↔◌, List, Option, None, IfOk, length};
+ghost use Rattle.std.specs.Prelude.{ℕ, ◌≡◌, ◌≤◌, ◌<◌, ◌^◌, ◌↔◌, List, Option, None, IfOk, IfSome, length};
+ghost use Rattle.m36_outside.specs.Counts.{Rose};
 ghost use Rattle.m36_outside.specs.ReadAnswer.{file_limit};
 ghost use Rattle.m36_top.specs.Words.{bare_file};
 ghost use Rattle.m36_top.specs.ImageState.{state_given};
 ghost use Rattle.m36_top.specs.Output.{status_after};
-ghost use Rattle.m36_top.specs.TopCall.{Meets, refused, run_answer, step_limit, state_answer, BareSays, TopSays, ReadCause, WriteCause};
+ghost use Rattle.m36_top.specs.TopCall.{Meets, refused, run_answer, step_limit, state_answer, BareSays, TopSays, answer_of, MeetsFiles, AnswersDone, ReadCause, WriteCause};
 
 use crate::image::{Image, ImageFault, read_image};
 use crate::running::{Ended, run};
@@ -107,13 +108,35 @@ pub fn bare<F: Folder, S: Sink>(alloc: Global, name: &[u8], folder: &mut F, out:
     }
 }
 
+// What the words ask for.
+fn answer<F: Folder, S: Sink>(alloc: Global, words: &[Text], folder: &mut F, out: &mut S) -> Status
+    ensures says { TopSays (bare_file words.now) result (F.files folder.old) (S.written out.old) (S.written out.new) }
+    ensures files { F.files folder.new ≡ F.files folder.old }
+    ensures read_cause { ReadCause result (F.read_faults folder.old) (F.read_faults folder.new) }
+    ensures write_cause { WriteCause result (S.faults out.old) (S.faults out.new) }
+    ensures usage { (result ≡ Status.Usage) ↔ (bare_file words.now ≡ None) }
+    ensures folder_untouched { bare_file words.now ≡ None → folder.new ≡ folder.old }
+    ensures sink_untouched { bare_file words.now ≡ None → out.new ≡ out.old }
+{
+    match bare_file(words) {
+        Some(name) => bare(alloc, name, folder, out),
+        None => Status::Usage,
+    }
+}
+
 /// The simulator: does what the words of the command line ask for, and answers how that ended.
 ///
 /// `words` leaves out the name of the program. The one command is `bare FILE`: it reads the file as a bare image, runs
 /// it for at most 100,000 steps, and writes a trace line for each and the end line.
+#[tactic(auto, using(crate::proofs::TopLaws::calls))]
 pub fn m36<F: Folder, S: Sink>(alloc: Global, words: &[Text], folder: &mut F, out: &mut S) -> Status
-    // What is answered and written, by the file that the folder gives.
+    // What is answered and written, by what the folder gives for the file, told or not.
     ensures says { TopSays (bare_file words.now) result (F.files folder.old) (S.written out.old) (S.written out.new) }
+
+    // What is answered and written, by the files that the folder tells.
+    ensures output { IfSome (F.files folder.old) (λ f. MeetsFiles result (answer_of words.now f) (S.written out.old) (S.written out.new)) }
+    ensures complete { IfSome (F.files folder.old) (λ f. AnswersDone result (answer_of words.now f)
+        (Rose (F.read_faults folder.old) (F.read_faults folder.new)) (Rose (S.faults out.old) (S.faults out.new))) }
 
     // No file is written, and a fault has a cause outside.
     ensures files { F.files folder.new ≡ F.files folder.old }
@@ -125,8 +148,5 @@ pub fn m36<F: Folder, S: Sink>(alloc: Global, words: &[Text], folder: &mut F, ou
     ensures folder_untouched { bare_file words.now ≡ None → folder.new ≡ folder.old }
     ensures sink_untouched { bare_file words.now ≡ None → out.new ≡ out.old }
 {
-    match bare_file(words) {
-        Some(name) => bare(alloc, name, folder, out),
-        None => Status::Usage,
-    }
+    answer(alloc, words, folder, out)
 }
