@@ -1,5 +1,7 @@
 //! How the top call ended.
 
+ghost use Rattle.std.specs.Prelude.{◌≡◌};
+
 use m36_model::End;
 use m36_outside::Text;
 
@@ -51,4 +53,59 @@ pub enum Status {
     Steps,
     /// No memory was found. No trace line was written.
     NoMemory,
+}
+
+impl Code {
+    ghost use Rattle.m36_top.specs.Names.{code_name};
+
+    /// The name of the code, as it is printed.
+    pub fn name(self) -> &'static str
+        ensures { result.now ≡ code_name self }
+    {
+        match self {
+            Code::F1 => "F1",
+            Code::F2 => "F2",
+            Code::I1 => "I1",
+            Code::I2 => "I2",
+            Code::I3 => "I3",
+        }
+    }
+}
+
+impl Status {
+    ghost use Rattle.m36_top.specs.Names.{status_name, status_number};
+
+    /// The name of the status, as it is printed.
+    pub fn name(&self) -> &'static str
+        ensures { result.now ≡ status_name self.now }
+    {
+        match self {
+            Status::Done => "Done",
+            Status::Usage => "Usage",
+            Status::ReadFault => "ReadFault",
+            Status::WriteFault => "WriteFault",
+            Status::BadFile(_) => "BadFile",
+            Status::AuditNo => "AuditNo",
+            Status::MachineStop(_) => "MachineStop",
+            Status::Steps => "Steps",
+            Status::NoMemory => "NoMemory",
+        }
+    }
+
+    /// The number of the status, with which the program ends.
+    pub fn number(&self) -> u8
+        ensures { result ≡ status_number self.now }
+    {
+        match self {
+            Status::Done => 0,
+            Status::Usage => 1,
+            Status::ReadFault => 2,
+            Status::WriteFault => 3,
+            Status::BadFile(_) => 4,
+            Status::AuditNo => 5,
+            Status::MachineStop(_) => 6,
+            Status::Steps => 7,
+            Status::NoMemory => 8,
+        }
+    }
 }

@@ -1,0 +1,69 @@
+//! The program `m36`: the simulator over the files of the current directory and the standard output.
+//!
+//! It takes the words of the command line, calls the simulator, prints one line to standard error unless the call
+//! answered Done, and ends with the number of the status. The line is `m36: ` and the name of the status; behind BadFile
+//! stand the name of the file, the code, the place and the column.
+#![tactic(auto)]
+
+use m36_outside::{DirFolder, StdSink, Text};
+use m36_top::{Status, m36};
+use std::env;
+use std::io;
+use std::io::ErrorKind;
+use std::process::ExitCode;
+use std::rt::Env;
+
+/// The words of the command line, without the name of the program. Words that are not UTF-8 are no command.
+fn words(rt: &(impl Env + AllocGlobal)) -> Result<Vec<Text>, Status> {
+    let alloc = rt.alloc();
+    let args = match env::args(rt) {
+        Ok(args) => args,
+        Err(e) if e.kind() == ErrorKind::OutOfMemory => return Err(Status::NoMemory),
+        Err(_) => return Err(Status::Usage),
+    };
+    let mut words = Vec::new(alloc);
+    for arg in args.skip(1) {
+        let word = Text::from_bytes(alloc, arg.as_bytes()).map_err(|_| Status::NoMemory)?;
+        words.push(word).map_err(|_| Status::NoMemory)?;
+    }
+    Ok(words)
+}
+
+/// Does what the words ask for.
+fn answer(rt: &HostRuntime) -> Result<Status, Status> {
+    let words = words(rt)?;
+    let mut folder = DirFolder::new(rt.clone().map_err(|_| Status::NoMemory)?);
+    let mut out = StdSink::new(rt.clone().map_err(|_| Status::NoMemory)?);
+    Ok(m36(rt.alloc(), words.as_slice(), &mut folder, &mut out))
+}
+
+/// Prints how the call ended.
+fn report(rt: &(impl Eprint + Alloc), status: &Status) -> io::Result<()> {
+    match status {
+        Status::BadFile(bad) => {
+            let name = std::str::from_utf8(bad.name.bytes()).unwrap_or("?");
+            let code = bad.code.name();
+            let at = bad.at;
+            let column = bad.column;
+            eprintln!(rt; "m36: BadFile {name} {code} {at} {column}")
+        }
+        _ => {
+            let name = status.name();
+            eprintln!(rt; "m36: {name}")
+        }
+    }
+}
+
+fn main(rt: HostRuntime) -> ExitCode {
+    let status = match answer(&rt) {
+        Ok(status) => status,
+        Err(status) => status,
+    };
+    match status {
+        Status::Done => {}
+        _ => {
+            let _ = report(&rt, &status);
+        }
+    }
+    ExitCode::from(status.number())
+}

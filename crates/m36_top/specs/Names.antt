@@ -1,0 +1,35 @@
+-- The names and numbers of statuses, and the names of codes.
+use Rattle.std.specs.Prelude.{ℕ, List, codes}
+use Rattle.m36_top.specs.declared.status.Status.{Status}
+use Rattle.m36_top.specs.declared.status.Status.TheVariants.{Done, Usage, ReadFault, WriteFault, BadFile, AuditNo, MachineStop, Steps, NoMemory}
+use Rattle.m36_top.specs.declared.status.Code.{Code}
+use Rattle.m36_top.specs.declared.status.Code.TheVariants.{F1, F2, I1, I2, I3}
+
+abbrev pub status_name : Status → List ℕ
+status_name Done = codes "Done"
+status_name Usage = codes "Usage"
+status_name ReadFault = codes "ReadFault"
+status_name WriteFault = codes "WriteFault"
+status_name (BadFile bad) = codes "BadFile"
+status_name AuditNo = codes "AuditNo"
+status_name (MachineStop end) = codes "MachineStop"
+status_name Steps = codes "Steps"
+status_name NoMemory = codes "NoMemory"
+
+abbrev pub status_number : Status → ℕ
+status_number Done = 0
+status_number Usage = 1
+status_number ReadFault = 2
+status_number WriteFault = 3
+status_number (BadFile bad) = 4
+status_number AuditNo = 5
+status_number (MachineStop end) = 6
+status_number Steps = 7
+status_number NoMemory = 8
+
+abbrev pub code_name : Code → List ℕ
+code_name F1 = codes "F1"
+code_name F2 = codes "F2"
+code_name I1 = codes "I1"
+code_name I2 = codes "I2"
+code_name I3 = codes "I3"
