@@ -7,11 +7,10 @@
 
 use m36_outside::{DirFolder, StdSink, Text};
 use m36_top::{Status, m36};
-use std::env;
-use std::io;
 use std::io::ErrorKind;
 use std::process::ExitCode;
 use std::rt::Env;
+use std::{env, io};
 
 /// The words of the command line, without the name of the program. Words that are not UTF-8 are no command.
 fn words(rt: &(impl Env + AllocGlobal)) -> Result<Vec<Text>, Status> {

@@ -1,12 +1,10 @@
 -- The first three lines of a bare image, read one after the other.
-use Rattle.std.proofs.Common.{◌≡◌, ℕ, List, [], ◌∷◌, drop, Option, Some, None, Result, Ok, Err, refl}
+use Rattle.std.proofs.Common.{◌≡◌, ℕ, List, [], ◌∷◌, Option, Some, None, Ok, Err, refl}
 use Rattle.m36_word.specs.declared.pair.Pair.{Pair}
-use Rattle.m36_model.specs.Fields.{PprFields}
 use Rattle.m36_top.specs.declared.status.Code.{Code}
 use Rattle.m36_top.specs.declared.status.Code.TheVariants.{I1}
-use Rattle.m36_top.specs.declared.refusal.Refusal.{Refusal}
-use Rattle.m36_top.specs.Lines.{cut_line, words_of, lines_of, line_at}
-use Rattle.m36_top.specs.BareImage.{core_words, core_line, dbr_words, dbr_line, start_words, start_line, header_codes, first_fault}
+use Rattle.m36_top.specs.Lines.{cut_line, words_of, line_at}
+use Rattle.m36_top.specs.BareImage.{core_words, dbr_words, start_words, header_codes, first_fault}
 
 cut_none : (text : List ℕ) → line_at (cut_line text) 1 ≡ None
 cut_none [] = refl

@@ -1,19 +1,18 @@
 -- The `at` lines of a bare image, read one after the other.
-use Rattle.std.proofs.Common.{◌≡◌, ℕ, zero, suc, ◌+◌, ◌<◌, ◌≤◌, Bool, true, false, cond, ◌&&◌, List, [], ◌∷◌, ◌++◌, length, drop, Option, Some, None, Result, Ok, Err, refl, sym, ap, subst, ◌∙◌, arith}
+use Rattle.std.proofs.Common.{◌≡◌, ℕ, zero, suc, ◌+◌, ◌<◌, ◌≤◌, Bool, true, false, cond, ◌&&◌, List, [], ◌∷◌, ◌++◌, length, Option, Some, None, Result, Ok, Err, refl, sym, ap, ◌∙◌, arith}
 use Rattle.std.specs.Prelude.{nat_le, nat_lt, IfSome, codes}
-use Rattle.std.specs.List.{list_all, filter_map}
+use Rattle.std.specs.List.{list_all}
 use Rattle.std.proofs.lemmas.List.Folds.{list_all-append}
 use Rattle.std.proofs.lemmas.Bool.{le-leb, leb-true}
 use Rattle.std.proofs.lemmas.Bool.Decides.{nat_tests}
 use Rattle.m36_top.specs.declared.status.Code.{Code}
-use Rattle.m36_top.specs.declared.status.Code.TheVariants.{I1, I3}
+use Rattle.m36_top.specs.declared.status.Code.TheVariants.{I3}
 use Rattle.m36_top.specs.declared.refusal.Refusal.{Refusal}
 use Rattle.m36_top.specs.PlacedWords.{PlacedWords}
 use Rattle.m36_top.specs.Words.{is_text}
 use Rattle.m36_top.specs.Lines.{words_of}
 use Rattle.m36_top.specs.BareImage.{octal_word, with_word, octal_words, one_to_eight, at_read, at_words, at_line, at_code, at_codes, addresses, numbers_from, first_fault}
-use Rattle.m36_top.specs.ImageState.{written_at, written_all}
-use Rattle.m36_top.specs.InTurn.{at_end, with_placed, AtLinesSay}
+use Rattle.m36_top.specs.InTurn.{at_end}
 
 -- The reading of `at` lines that remembers the address behind the last word alone.
 abbrev pub end_or : ℕ → Result ℕ Code → ℕ

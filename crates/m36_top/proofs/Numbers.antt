@@ -1,10 +1,9 @@
 -- Numbers that are read are within their limit.
-use Rattle.std.proofs.Common.{◌≡◌, ℕ, ◌≤◌, Bool, true, false, cond, List, [], ◌∷◌, Option, Some, None, Result, Ok, Err, refl, subst}
-use Rattle.std.specs.Prelude.{IfOk, nat_le}
+use Rattle.std.proofs.Common.{◌≡◌, ℕ, ◌≤◌, Bool, true, false, cond, List, [], ◌∷◌, Option, Some, None, Ok, Err, refl, subst}
+use Rattle.std.specs.Prelude.{nat_le}
 use Rattle.std.proofs.lemmas.Bool.{leb-true}
 use Rattle.m36_text.specs.Reading.{number_read, judged, first_other, number_of}
-use Rattle.m36_text.specs.declared.reading.NumberFault.{NumberFault}
-use Rattle.m36_text.specs.declared.reading.NumberFault.TheVariants.{T1, T2}
+use Rattle.m36_text.specs.declared.reading.NumberFault.TheVariants.{T2}
 
 chosen : {A E : Type 0} (b : Bool) (x z : A) (f : E) → cond b (Ok x) (Err f) ≡ Ok z → (b ≡ true) × (x ≡ z)
 chosen true x z f e = (refl, cc)

@@ -38,9 +38,9 @@ pub reading_more :
     (front : List ℕ) (left all : List (List ℕ)) (text : List ℕ) (texts : List (List ℕ)) (w : ℕ)
     → Reading front left all → left ≡ text ∷ texts → octal_word 12 text ≡ Some w → Reading (front ++ w ∷ []) texts all
 reading_more front left all text texts w so_far begins read = record {
-    count = omega (arith, so_far.count, ap length begins, length-append front (w ∷ []));
-    words = sym (behind_more front w (octal_words texts)) ∙ ap (λ o. behind front (with_word o (octal_words texts))) (sym read) ∙ ap (λ t. behind front (octal_words t)) (sym begins) ∙ so_far.words;
-  }
+  count = omega (arith, so_far.count, ap length begins, length-append front (w ∷ []));
+  words = sym (behind_more front w (octal_words texts)) ∙ ap (λ o. behind front (with_word o (octal_words texts))) (sym read) ∙ ap (λ t. behind front (octal_words t)) (sym begins) ∙ so_far.words;
+}
 
 -- what is not of the form is not of the count either
 none_of : (all : List (List ℕ)) → octal_words all ≡ None → one_to_eight all ≡ None

@@ -3,7 +3,6 @@ use Rattle.std.proofs.Common.{◌≡◌, ℕ, ◌+◌, ◌<◌, List, [], ◌∷
 use Rattle.std.specs.List.{filter_map, cons_option}
 use Rattle.m36_top.specs.declared.status.Code.{Code}
 use Rattle.m36_top.specs.declared.status.Code.TheVariants.{I1}
-use Rattle.m36_top.specs.declared.refusal.Refusal.{Refusal}
 use Rattle.m36_top.specs.PlacedWords.{PlacedWords}
 use Rattle.m36_top.specs.Lines.{words_of, cut_line}
 use Rattle.m36_top.specs.BareImage.{at_words, at_line, at_codes, first_fault}
@@ -44,10 +43,10 @@ pub placing_more :
     → length new ≡ length core
     → Placing start all new (n + 1) end lines
 placing_more start core new all left lines n next end line so_far begins ends put kept = record {
-    fault = sym (turn_begins (length start) n next (Some line) lines (Ok end) (ap (λ s. at_end s next (at_words (words_of line))) (sym so_far.len) ∙ ends)) ∙ ap (fault_in_turn (length start) n next) (sym begins) ∙ so_far.fault;
-    words = ap (λ c. written_all c (filter_map at_line lines)) put ∙ sym (written_more core (at_words (words_of line)) (filter_map at_line lines)) ∙ ap (λ t. written_all core (filter_map at_line t)) (sym begins) ∙ so_far.words;
-    len = kept ∙ so_far.len;
-  }
+  fault = sym (turn_begins (length start) n next (Some line) lines (Ok end) (ap (λ s. at_end s next (at_words (words_of line))) (sym so_far.len) ∙ ends)) ∙ ap (fault_in_turn (length start) n next) (sym begins) ∙ so_far.fault;
+  words = ap (λ c. written_all c (filter_map at_line lines)) put ∙ sym (written_more core (at_words (words_of line)) (filter_map at_line lines)) ∙ ap (λ t. written_all core (filter_map at_line t)) (sym begins) ∙ so_far.words;
+  len = kept ∙ so_far.len;
+}
 
 -- the next line has a code
 pub placing_code :

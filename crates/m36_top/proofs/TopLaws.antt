@@ -7,13 +7,13 @@ use Rattle.m36_outside.specs.Files.{Files}
 use Rattle.m36_outside.specs.ReadAnswer.{ReadSays, IsWithinLimit, file_limit}
 use Rattle.m36_outside.specs.declared.folder.ReadAnswer.{ReadAnswer}
 use Rattle.m36_outside.specs.declared.folder.ReadAnswer.TheVariants as read
-use Rattle.m36_outside.specs.Written.{Grew, GrewWithin}
+use Rattle.m36_outside.specs.Written.{Grew}
 use Rattle.m36_model.specs.Store.{State}
 use Rattle.m36_model.specs.declared.outcome.Outcome.{Outcome}
 use Rattle.m36_model.specs.declared.outcome.Outcome.TheVariants.{Next, Faulted, Stopped}
 use Rattle.m36_model.specs.declared.outcome.Stop.TheVariants.{Dis, Operation, Tag, Unbuilt}
 use Rattle.m36_top.specs.Run.{run, last_outcome}
-use Rattle.m36_top.specs.Output.{run_text, status_after}
+use Rattle.m36_top.specs.Output.{status_after}
 use Rattle.m36_top.specs.RunSays.{RunSays}
 use Rattle.m36_top.specs.TopCall.{Answer, IsRun, Meets, MeetsFiles, AnswersDone, TopSays, ReadCause, WriteCause, read_of, answer_by, bare_answer, run_answer}
 use Rattle.m36_top.specs.declared.running.Ended.TheVariants.{Whole, Cut}

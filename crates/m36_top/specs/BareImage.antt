@@ -9,7 +9,7 @@
 -- in this order; any number of `at` lines follows. I1 is a line not of its form, a missing line or a missing line feed.
 -- I2 is an N out of range. I3 is an `at` whose first address is not above every earlier address, or whose last address is
 -- outside core. The first line with a fault counts, and in it the least code.
-use Rattle.std.specs.Prelude.{ℕ, zero, suc, Bool, ◌+◌, ◌-◌, ◌*◌, ◌^◌, ◌&&◌, ◌==◌, nat_le, nat_lt, List, [], ◌∷◌, ◌++◌, length, drop, codes, Option, Some, None, Result, Ok, Err, unwrap_or, if◌then◌else◌}
+use Rattle.std.specs.Prelude.{ℕ, zero, suc, ◌+◌, ◌-◌, ◌*◌, ◌^◌, ◌&&◌, ◌==◌, nat_le, nat_lt, List, [], ◌∷◌, ◌++◌, length, drop, codes, Option, Some, None, Result, Ok, Err, unwrap_or, if◌then◌else◌}
 use Rattle.std.specs.List.{list_all, filter_map}
 use Rattle.std.specs.Result.{result_ok, result_unwrap_or}
 use Rattle.m36_word.specs.declared.pair.Pair.{Pair}

@@ -1,8 +1,6 @@
 -- The first three lines of a bare image.
 use Rattle.std.specs.Prelude.{ℕ, ◌≡◌, List, drop, Option, Some, Result, Ok, Err}
 use Rattle.std.specs.Borrow.{Bor}
-use Rattle.m36_word.specs.declared.pair.Pair.{Pair}
-use Rattle.m36_model.specs.Fields.{PprFields}
 use Rattle.m36_top.specs.declared.refusal.Refusal.{Refusal}
 use Rattle.m36_top.specs.declared.header.Header.{Header}
 use Rattle.m36_top.specs.Lines.{lines_of, line_at}

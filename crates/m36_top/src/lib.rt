@@ -24,6 +24,8 @@ pub mod refusal;
 mod running;
 mod scan;
 pub mod status;
+#[cfg(test)]
+mod tests;
 pub mod top;
 mod words;
 

@@ -1,5 +1,5 @@
 -- A line has a code, or none has and nothing is left.
-use Rattle.std.proofs.Common.{◌≡◌, [], length, sym}
+use Rattle.std.proofs.Common.{◌≡◌, [], sym}
 use Rattle.std.proofs.lemmas.Bool.{eqb-true}
 use Rattle.m36_top.specs.Lines.{lines_of}
 use Rattle.m36_top.proofs.Splitting.{lines_of_none}

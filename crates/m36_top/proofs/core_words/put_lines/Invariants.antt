@@ -8,6 +8,6 @@ decreases-lines l = length l.rest
 
 abbrev pub invariant-lines : goal.invariant-lines
 invariant-lines l = record {
-    placing : Placing l.fn.core (lines_of l.text) l.core l.number l.next (lines_of l.rest);
-    count : l.number + length l.rest ≤ 4 + length l.text;
-  }
+  placing : Placing l.fn.core (lines_of l.text) l.core l.number l.next (lines_of l.rest);
+  count : l.number + length l.rest ≤ 4 + length l.text;
+}

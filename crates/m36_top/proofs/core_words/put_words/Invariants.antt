@@ -4,6 +4,6 @@ use Rattle.m36_top.proofs.core_words.put_words.Given as goal
 
 abbrev pub invariant-loop-i : goal.invariant-loop-i
 invariant-loop-i l = record {
-    left : written_at l.core (l.first + l.i) (drop l.i l.words) ≡ written_at l.fn.core l.first l.words;
-    len : length l.core ≡ length l.fn.core;
-  }
+  left : written_at l.core (l.first + l.i) (drop l.i l.words) ≡ written_at l.fn.core l.first l.words;
+  len : length l.core ≡ length l.fn.core;
+}

@@ -1,5 +1,5 @@
 -- Eight words were read, and there is one more.
-use Rattle.std.proofs.Common.{◌≤◌, length, sym, arith}
+use Rattle.std.proofs.Common.{sym, arith}
 use Rattle.m36_top.proofs.Splitting.{words_some}
 use Rattle.m36_top.proofs.PlacedLaws.{reading_many}
 use Rattle.m36_top.proofs.placed.eight_words.Goals as goal

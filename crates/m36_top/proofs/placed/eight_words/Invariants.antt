@@ -5,6 +5,6 @@ use Rattle.m36_top.proofs.placed.eight_words.Given as goal
 
 abbrev pub invariant-loop : goal.invariant-loop
 invariant-loop l = record {
-    reading : Reading l.words.items (words_of l.rest) (words_of l.line);
-    count : length l.words.items ≡ l.counter;
-  }
+  reading : Reading l.words.items (words_of l.rest) (words_of l.line);
+  count : length l.words.items ≡ l.counter;
+}

@@ -1,5 +1,5 @@
 -- A step was taken, and another may follow.
-use Rattle.std.proofs.Common.{◌+◌, ◌<◌, ◌∙◌, arith}
+use Rattle.std.proofs.Common.{◌∙◌, arith}
 use Rattle.m36_top.proofs.RunLaws.{running_next}
 use Rattle.m36_top.proofs.running.run.Goals as goal
 

@@ -1,0 +1,287 @@
+//! Calls over files and output in memory. What is expected was worked out by hand.
+
+use crate::status::{Code, Status};
+use crate::top::m36;
+use m36_outside::{MemFolder, MemSink, Text};
+use m36_word::NoMemory;
+use std::alloc::Global;
+
+/// Loads the number 5, and halts.
+const LEAST: &[u8] = b"core 1
+dbr 000000000000 000000200000
+start 00001 0 000000
+at 00000002 000000400004 000006700000
+at 00000040 000002235000 000000616000 000000000005
+";
+
+const LEAST_OUTPUT: &[u8] =
+    b"1 0 00001|000000 000002235000 0:00001|000002 000000000005 000000000000 ...... next
+2 0 00001|000001 000000616000 - 000000000005 000000000000 ...... dis
+end dis 2
+";
+
+/// The same, but the load is modified by a register, which the machine has not got yet.
+const MODIFIED: &[u8] = b"core 1
+dbr 000000000000 000000200000
+start 00001 0 000000
+at 00000002 000000400004 000006700000
+at 00000040 000002235005 000000616000 000000000005
+";
+
+const MODIFIED_OUTPUT: &[u8] =
+    b"1 0 00001|000000 000002235005 - 000000000000 000000000000 ...... stop unbuilt
+end stop unbuilt 1
+";
+
+/// Transfers to itself.
+const ENDLESS: &[u8] = b"core 1
+dbr 000000000000 000000200000
+start 00001 0 000000
+at 00000002 000000400004 000006700000
+at 00000040 000000710000
+";
+
+fn words(alloc: Global, list: &[&[u8]]) -> Result<Vec<Text>, NoMemory> {
+    let mut words = Vec::new(alloc);
+    for word in list {
+        words.push(Text::from_bytes(alloc, word)?)?;
+    }
+    Ok(words)
+}
+
+// `bare f` over a folder with this file, where these reads and puts fail.
+fn ran(
+    alloc: Global,
+    image: &[u8],
+    fail_reads: &[u32],
+    fail_puts: &[u32],
+) -> Result<(Status, MemSink), NoMemory> {
+    let mut folder = MemFolder::new(alloc, fail_reads, &[])?;
+    folder.add(b"f", image)?;
+    let mut out = MemSink::new(alloc, 10_000_000, fail_puts)?;
+    let words = words(alloc, &[b"bare".as_slice(), b"f"])?;
+    let status = m36(alloc, words.as_slice(), &mut folder, &mut out);
+    Ok((status, out))
+}
+
+#[test]
+fn runs_the_least_image(rt: HostRuntime) -> Result<(), NoMemory> {
+    let (status, out) = ran(rt.alloc(), LEAST, &[], &[])?;
+    assert_eq!(rt; status.number(), 0);
+    assert!(rt; out.bytes() == LEAST_OUTPUT);
+    Ok(())
+}
+
+#[test]
+fn stops_at_what_is_not_built(rt: HostRuntime) -> Result<(), NoMemory> {
+    let (status, out) = ran(rt.alloc(), MODIFIED, &[], &[])?;
+    assert_eq!(rt; status.number(), 6);
+    assert!(rt; out.bytes() == MODIFIED_OUTPUT);
+    Ok(())
+}
+
+#[test]
+fn ends_at_the_limit(rt: HostRuntime) -> Result<(), NoMemory> {
+    let (status, out) = ran(rt.alloc(), ENDLESS, &[], &[])?;
+    assert_eq!(rt; status.number(), 7);
+    assert!(rt; out.bytes().ends_with(b"\nend limit 100000\n"));
+    assert!(rt;
+        out.bytes()
+            .starts_with(b"1 0 00001|000000 000000710000 0:00001|000000 ")
+    );
+    Ok(())
+}
+
+#[test]
+fn tells_a_cut_output(rt: HostRuntime) -> Result<(), NoMemory> {
+    for (put, whole) in [(1, 0), (2, 83), (3, 152)] {
+        let (status, out) = ran(rt.alloc(), LEAST, &[], &[put])?;
+        assert_eq!(rt; status.number(), 3);
+        assert_eq!(rt; out.bytes().len(), whole);
+        assert!(rt; LEAST_OUTPUT.starts_with(out.bytes()));
+    }
+    Ok(())
+}
+
+#[test]
+fn tells_a_failed_read(rt: HostRuntime) -> Result<(), NoMemory> {
+    let (status, out) = ran(rt.alloc(), LEAST, &[1], &[])?;
+    assert_eq!(rt; status.number(), 2);
+    assert!(rt; out.bytes().is_empty());
+    Ok(())
+}
+
+fn refusal(status: &Status) -> Option<(Code, u32)> {
+    match status {
+        Status::BadFile(bad) => Some((bad.code, bad.at)),
+        _ => None,
+    }
+}
+
+#[test]
+fn refuses_files(rt: HostRuntime) -> Result<(), NoMemory> {
+    let alloc = rt.alloc();
+    let mut folder = MemFolder::new(alloc, &[], &[])?;
+    let large = vec![in alloc; b'0'; 16777217]?;
+    folder.add(b"large", large.as_slice())?;
+    for (name, code) in [(b"large".as_slice(), Code::F2), (b"none", Code::F1)] {
+        let mut out = MemSink::new(alloc, 1000, &[])?;
+        let words = words(alloc, &[b"bare".as_slice(), name])?;
+        let status = m36(alloc, words.as_slice(), &mut folder, &mut out);
+        assert!(rt; refusal(&status) == Some((code, 0)));
+        if let Status::BadFile(bad) = &status {
+            assert!(rt; bad.name.bytes() == name);
+            assert_eq!(rt; bad.column, 0);
+        }
+        assert!(rt; out.bytes().is_empty());
+    }
+    Ok(())
+}
+
+const CORE: &[u8] = b"core 1\n";
+
+const DBR: &[u8] = b"dbr 000000000000 000000200000\n";
+
+const START: &[u8] = b"start 00001 0 000000\n";
+
+fn joined(alloc: Global, lines: &[&[u8]]) -> Result<Text, NoMemory> {
+    let mut image = Text::new(alloc);
+    for line in lines {
+        image.append(line)?;
+    }
+    Ok(image)
+}
+
+#[test]
+fn refuses_first_lines(rt: HostRuntime) -> Result<(), NoMemory> {
+    let alloc = rt.alloc();
+    for (line, code) in [
+        (b"".as_slice(), Code::I1),
+        (b"\n", Code::I1),
+        (b"core\n", Code::I1),
+        (b"core \n", Code::I1),
+        (b"core  1\n", Code::I1),
+        (b"core 1 \n", Code::I1),
+        (b" core 1\n", Code::I1),
+        (b"core 1x\n", Code::I1),
+        (b"core -1\n", Code::I1),
+        (b"core 1\r\n", Code::I1),
+        (b"Core 1\n", Code::I1),
+        (b"core 0\n", Code::I2),
+        (b"core 000\n", Code::I2),
+        (b"core 16385\n", Code::I2),
+        (b"core 18446744073709551617\n", Code::I2),
+    ] {
+        let image = joined(alloc, &[line, b"dbr\n".as_slice(), START])?;
+        let (status, out) = ran(alloc, image.bytes(), &[], &[])?;
+        assert!(rt; refusal(&status) == Some((code, 1)), "{line:?}");
+        assert!(rt; out.bytes().is_empty());
+    }
+    Ok(())
+}
+
+#[test]
+fn refuses_second_and_third_lines(rt: HostRuntime) -> Result<(), NoMemory> {
+    let alloc = rt.alloc();
+    for (second, third, line) in [
+        (b"".as_slice(), b"".as_slice(), 2),
+        (b"dbr 000000000000 000000200000", b"", 2),
+        (b"dbr 00000000000 000000200000\n", START, 2),
+        (b"dbr 000000000008 000000200000\n", START, 2),
+        (b"dbr 000000000000\n", START, 2),
+        (b"dbr 000000000000 000000200000 0\n", START, 2),
+        (START, DBR, 2),
+        (DBR, b"", 3),
+        (DBR, b"start 00001 0 000000", 3),
+        (DBR, b"start 1 0 000000\n", 3),
+        (DBR, b"start 00001 8 000000\n", 3),
+        (DBR, b"start 00001 0 0000000\n", 3),
+        (DBR, b"start 00001 0\n", 3),
+    ] {
+        let image = joined(alloc, &[b"core 0002\n".as_slice(), second, third])?;
+        let (status, _) = ran(alloc, image.bytes(), &[], &[])?;
+        assert!(rt;
+            refusal(&status) == Some((Code::I1, line)),
+            "{second:?} {third:?}"
+        );
+    }
+    Ok(())
+}
+
+// Core has 1,024 words, the last of which is 1777.
+#[test]
+fn refuses_words(rt: HostRuntime) -> Result<(), NoMemory> {
+    let alloc = rt.alloc();
+    for (lines, code, line) in [
+        (b"\n".as_slice(), Code::I1, 4),
+        (b"core 1\n", Code::I1, 4),
+        (b"at 00000010\n", Code::I1, 4),
+        (b"at 00000010 \n", Code::I1, 4),
+        (b"at 0000010 000000000001\n", Code::I1, 4),
+        (b"at 00000010 00000000001\n", Code::I1, 4),
+        (b"at 00000010 000000000001  000000000002\n", Code::I1, 4),
+        (
+            b"at 00000010 000000000001 000000000002 000000000003 000000000004 000000000005 000000000006 000000000007 000000000010 000000000011\n",
+            Code::I1,
+            4,
+        ),
+        (b"at 00002000 000000000001\n", Code::I3, 4),
+        (b"at 00002000 000000000001", Code::I1, 4),
+        (b"at 00001777 000000000001 000000000002\n", Code::I3, 4),
+        (b"at 77777777 000000000001\n", Code::I3, 4),
+        (
+            b"at 00000010 000000000001 000000000002\nat 00000011 000000000003\n",
+            Code::I3,
+            5,
+        ),
+        (
+            b"at 00000010 000000000001\nat 00000010 000000000003\n",
+            Code::I3,
+            5,
+        ),
+        (
+            b"at 00000010 000000000001\nat 00000007 000000000003\nat 1\n",
+            Code::I3,
+            5,
+        ),
+        (b"at 00001777 000000000001\nat 00000010 8\n", Code::I1, 5),
+    ] {
+        let image = joined(alloc, &[CORE, DBR, START, lines])?;
+        let (status, _) = ran(alloc, image.bytes(), &[], &[])?;
+        assert!(rt; refusal(&status) == Some((code, line)), "{lines:?}");
+    }
+    Ok(())
+}
+
+#[test]
+fn knows_its_words(rt: HostRuntime) -> Result<(), NoMemory> {
+    let alloc = rt.alloc();
+    for (list, number) in [
+        ([b"".as_slice(), b"", b""].as_slice(), 1),
+        (&[], 1),
+        (&[b"bare"], 1),
+        (&[b"run"], 1),
+        (&[b"f"], 1),
+        (&[b"f", b"bare"], 1),
+        (&[b"Bare", b"f"], 1),
+        (&[b"bare", b""], 1),
+        (&[b"bare", b".f"], 1),
+        (&[b"bare", b"f/g"], 1),
+        (&[b"bare", b"f\xff"], 1),
+        (&[b"bare", b"--help"], 1),
+        (&[b"bare", b"f", b"f"], 1),
+        (&[b"bare", b"ABCDEFGHIJKLMNOPQRSTUVWXYZ_.01234"], 1),
+        (&[b"bare", b"ABCDEFGHIJKLMNOPQRSTUVWXYZ_.0123"], 4),
+        (&[b"bare", b"a.z_9"], 4),
+        (&[b"bare", b"f"], 0),
+    ] {
+        let mut folder = MemFolder::new(alloc, &[], &[])?;
+        folder.add(b"f", LEAST)?;
+        let mut out = MemSink::new(alloc, 1000, &[])?;
+        let words = words(alloc, list)?;
+        let status = m36(alloc, words.as_slice(), &mut folder, &mut out);
+        assert_eq!(rt; status.number(), number, "{list:?}");
+        assert_eq!(rt; out.bytes().is_empty(), number != 0);
+    }
+    Ok(())
+}
