@@ -29,7 +29,7 @@ fn with_modified(w: Word) -> Word
 }
 
 /// Marks the page table word at an address as used, or as used and modified.
-fn mark(core: &mut Core, a: u32, modified: bool)
+pub(crate) fn mark(core: &mut Core, a: u32, modified: bool)
     requires { a < length core.old }
     ensures marked { core.new ≡ with_mark core.old (record { address = a; modified = modified }) }
     ensures len { length core.new ≡ length core.old }

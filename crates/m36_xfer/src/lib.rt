@@ -16,6 +16,8 @@
 mod calls;
 mod execute;
 mod privileged;
+#[cfg(test)]
+mod tests;
 mod transfers;
 
 pub use execute::exec;

@@ -1,5 +1,5 @@
 -- A list of eight is its eight elements: for the pointer registers, and for the pairs of a block.
-use Rattle.std.proofs.Common.{ℕ, suc, ◌≡◌, ◌+◌, ◌*◌, ◌<◌, ◌≤◌, List, [], ◌∷◌, length, get_or, drop, map, max, refl, ap, ap, sym, ◌∙◌, subst, arith}
+use Rattle.std.proofs.Common.{ℕ, suc, ◌≡◌, ◌<◌, ◌≤◌, List, [], ◌∷◌, length, get_or, drop, map, max, refl, ap, ap, sym, ◌∙◌, subst, arith}
 use Rattle.std.proofs.Math.Seq.{drop-cons}
 use Rattle.std.proofs.Math.ListN.{drop_of_length-le}
 use Rattle.m36_word.specs.declared.pair.Pair.{Pair}
@@ -9,7 +9,7 @@ use Rattle.m36_model.specs.Registers.{RegsFields}
 use Rattle.m36_model.specs.Modification.{no_ptr}
 use Rattle.m36_model.specs.Results.{OperandFields, words_of_pairs}
 use Rattle.m36_model.specs.Pointers.{pointer_block, pointers_in}
-use Rattle.m36_xptr.specs.Registers.{pair_of_pointer, pointer_of_pair}
+use Rattle.m36_xptr.specs.PointerPairs.{pair_of_pointer, pointer_of_pair}
 
 -- the rest of a list from an element on
 next : {A : Type 0} (xs rest : List A) (d : A) (i : ℕ) → i < length xs → drop (suc i) xs ≡ rest → drop i xs ≡ get_or xs i d ∷ rest

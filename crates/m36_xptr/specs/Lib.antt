@@ -1,2 +1,2 @@
 pub mod PointerInstructions
-pub mod Registers
+pub mod PointerPairs

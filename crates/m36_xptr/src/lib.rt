@@ -1,8 +1,9 @@
 //! Pointer register instructions of the Honeywell 6180.
 //!
 //! EPP and EPBP load a pointer register with the final address or the base of its segment, LPRI loads all eight from
-//! a block of ITS pairs, and LPRP one from a packed pointer. SPRI, in its two forms, and SPBP store pointer registers as ITS pairs. EPAQ puts the final
-//! address into A and Q, and STCD stores a pointer to the second instruction from here.
+//! a block of ITS pairs, and LPRP one from a packed pointer. SPRI, in its two forms, and SPBP store pointer registers
+//! as ITS pairs. EPAQ puts the final address into A and Q, and STCD stores a pointer to the second instruction from
+//! here.
 //!
 //! [`exec`] gives exactly the effect that the instruction's equations say: the new registers and the words to write,
 //! or the fault.
@@ -15,5 +16,7 @@ mod execute;
 mod loads;
 mod registers;
 mod stores;
+#[cfg(test)]
+mod tests;
 
 pub use execute::exec;

@@ -1,7 +1,7 @@
 //! Pointer registers among the registers, and in words.
 
 ghost use Rattle.std.specs.Prelude.{◌≡◌, ◌<◌, ◌^◌, map, length};
-ghost use Rattle.m36_xptr.specs.Registers.{pair_of_pointer, pointer_of_pair};
+ghost use Rattle.m36_xptr.specs.PointerPairs.{pair_of_pointer, pointer_of_pair};
 
 use m36_desc::Ptr;
 use m36_model::Regs;

@@ -1,5 +1,5 @@
 use Rattle.std.proofs.Common.{◌≡◌, map, take, length}
-use Rattle.m36_xptr.specs.Registers.{pair_of_pointer}
+use Rattle.m36_xptr.specs.PointerPairs.{pair_of_pointer}
 use Rattle.m36_xptr.proofs.registers.pairs.Given as goal
 
 -- so far the pairs are those of the pointers

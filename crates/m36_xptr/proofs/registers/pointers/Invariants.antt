@@ -1,5 +1,5 @@
 use Rattle.std.proofs.Common.{◌≡◌, map, take, length}
-use Rattle.m36_xptr.specs.Registers.{pointer_of_pair}
+use Rattle.m36_xptr.specs.PointerPairs.{pointer_of_pair}
 use Rattle.m36_xptr.proofs.registers.pointers.Given as goal
 
 -- so far the pointers are those of the pairs

@@ -1,4 +1,4 @@
--- The eight pointer registers and the eight pairs of a block.
+-- Pointers and their ITS pairs.
 use Rattle.std.specs.Prelude.{ℕ, max}
 use Rattle.m36_word.specs.declared.pair.Pair.{Pair}
 use Rattle.m36_desc.specs.Fields.{PtrFields}
@@ -8,7 +8,7 @@ use Rattle.m36_desc.specs.Descriptors.{ptr_of, ptr_even, ptr_odd}
 abbrev pub pair_of_pointer : PtrFields → Pair
 pair_of_pointer p = record { even = ptr_even p; odd = ptr_odd p }
 
--- the pointer of a pair in a ring that is at least another
+-- the pointer of a pair, in its ring or another, whichever is greater
 abbrev pub pointer_of_pair : ℕ → Pair → PtrFields
 pointer_of_pair ring p =
     let pointer = ptr_of p.even p.odd in record pointer { ring = max ring pointer.ring }

@@ -1,0 +1,213 @@
+//! Worked control instructions. Words are octal, as the manual lays out ITS pairs and descriptors.
+
+ghost use Rattle.std.specs.Prelude.{◌<◌, ◌^◌, IsTrue};
+ghost use Rattle.m36_inst.specs.Operands.{operand_of};
+ghost use Rattle.m36_model.specs.OperandHeld.{HoldsFor};
+ghost use Rattle.m36_xfer.specs.ControlInstructions.{is_control};
+
+use crate::{exec, is_absa, is_taken};
+use m36_desc::{Dbr, Ptr};
+use m36_inst::{Effect, Operand, Row};
+use m36_model::{At, Effect36, Fault, Final, Held, Ind, Operand36, Ppr, Regs};
+use m36_word::{Pair, Word};
+use std::test::Fail;
+
+const NOTHING_ON: Ind = Ind {
+    zero: false,
+    negative: false,
+    carry: false,
+    overflow: false,
+    mask: false,
+    tally: false,
+};
+
+/// At word 3 of segment 1 in a ring. Pointer registers point to segment 5 in that ring; stacks are segments 10 to 17.
+fn registers(ring: u8) -> Regs
+    requires { ring < 2 ^ 3 }
+{
+    let pointer = Ptr {
+        word: 0o22,
+        seg: 5,
+        ring,
+        bit: 9,
+    };
+    Regs {
+        a: Word::ZERO,
+        q: Word::ZERO,
+        x: [0; 8],
+        pr: [pointer; 8],
+        dbr: Dbr {
+            addr: 0,
+            bnd: 0,
+            stack: 1,
+            unpaged: true,
+        },
+        ppr: Ppr {
+            ic: 3,
+            psr: 1,
+            prr: ring,
+        },
+        ind: NOTHING_ON,
+    }
+}
+
+fn pair(even: u64, odd: u64) -> Pair {
+    Pair {
+        even: Word::low(even),
+        odd: Word::low(odd),
+    }
+}
+
+/// An instruction whose final address is word 1 of segment 3 in the ring of execution, with the ring of its operand.
+fn effect_of(effect: Effect, reg: u8, regs: &Regs, got: Held, ring: u8) -> Result<Effect36, Fault>
+    requires control { IsTrue (is_control effect) }
+    requires reg { reg < 8 }
+    requires got { HoldsFor (operand_of effect) got }
+    requires ring { ring < 2 ^ 3 }
+{
+    let row = Row {
+        effect,
+        operand: Operand::A,
+        reg,
+        direct: false,
+        privileged: false,
+    };
+    let at = At {
+        word: 1,
+        seg: 3,
+        ring: regs.ppr.prr,
+    };
+    let last = Final {
+        direct: None,
+        at,
+        bit: 0,
+    };
+    let operand = Operand36 {
+        got,
+        place: 0o40000000,
+        ring,
+    };
+    exec(&row, regs, &last, operand)
+}
+
+fn stands_at(regs: &Regs, seg: u16, ring: u8, word: u32) -> bool {
+    let ppr = regs.ppr;
+    ppr.psr == seg && ppr.prr == ring && ppr.ic == word
+}
+
+#[test]
+fn calls_and_returns(rt: HostRuntime) -> Result<(), Fail> {
+    // From ring 4 into ring 0: the stack of ring 0 is segment 10.
+    let called = effect_of(Effect::Call6, 0, &registers(4), Held::Empty, 0)?.regs;
+    assert!(rt; stands_at(&called, 3, 0, 1));
+    let stack = called.pr[7];
+    assert_eq!(rt;
+        (stack.seg, stack.ring, stack.word, stack.bit),
+        (0o10, 0, 0, 0)
+    );
+
+    // From ring 3 into ring 3: the stack is that of PR6.
+    let called = effect_of(Effect::Call6, 0, &registers(3), Held::Empty, 3)?.regs;
+    assert!(rt; stands_at(&called, 3, 3, 1));
+    let stack = called.pr[7];
+    assert_eq!(rt;
+        (stack.seg, stack.ring, stack.word, stack.bit),
+        (5, 3, 0, 0)
+    );
+
+    // Three returns to ring 4: by the pair's ring, by the ring of the reference, and by the first bracket of the pair's
+    // segment.
+    let to_ring_4 = Held::Two(pair(0o000001400043, 0o000002000000));
+    let to_ring_0 = Held::Two(pair(0o000001000043, 0o000002000000));
+    let returned = [
+        effect_of(Effect::Rtcd, 0, &registers(0), to_ring_4, 0)?.regs,
+        effect_of(Effect::Rtcd, 0, &registers(4), to_ring_0, 0)?.regs,
+        effect_of(Effect::Rtcd, 0, &registers(0), to_ring_0, 4)?.regs,
+    ];
+    for regs in returned {
+        assert!(rt; stands_at(&regs, 1, 4, 2));
+        for n in 0..8 {
+            let pointer = regs.pr[n];
+            assert_eq!(rt; (pointer.seg, pointer.ring), (5, 4));
+            assert_eq!(rt; (pointer.word, pointer.bit), (0o22, 9));
+        }
+    }
+    Ok(())
+}
+
+#[test]
+fn transfers_and_descriptor_base(rt: HostRuntime) -> Result<(), Fail> {
+    let gone = effect_of(Effect::TsxN, 1, &registers(4), Held::Empty, 0)?.regs;
+    assert_eq!(rt; gone.x[1], 4);
+    assert!(rt; stands_at(&gone, 3, 4, 1));
+
+    let gone = effect_of(Effect::TspN, 2, &registers(4), Held::Empty, 0)?.regs;
+    let back = gone.pr[2];
+    assert_eq!(rt; (back.seg, back.ring, back.word, back.bit), (1, 4, 4, 0));
+    assert!(rt; stands_at(&gone, 3, 4, 1));
+
+    let mut regs = registers(4);
+    let gone = effect_of(Effect::Tov, 0, &regs, Held::Empty, 0)?.regs;
+    assert!(rt; stands_at(&gone, 1, 4, 4));
+    regs.ind.overflow = true;
+    let gone = effect_of(Effect::Tov, 0, &regs, Held::Empty, 0)?.regs;
+    assert!(rt; stands_at(&gone, 3, 4, 1));
+    assert!(rt; gone.ind == NOTHING_ON);
+
+    let gone = effect_of(Effect::Nop, 0, &regs, Held::Empty, 0)?.regs;
+    assert!(rt; stands_at(&gone, 1, 4, 4));
+    assert!(rt; gone.ind == regs.ind);
+
+    let words = Held::Two(pair(0o000001000000, 0o000010200007));
+    let loaded = effect_of(Effect::Ldbr, 0, &registers(0), words, 0)?.regs;
+    let dbr = Dbr {
+        addr: 0o100,
+        bnd: 1,
+        stack: 7,
+        unpaged: true,
+    };
+    assert_eq!(rt; loaded.dbr, dbr);
+    let stored = effect_of(Effect::Sdbr, 0, &loaded, Held::Empty, 0)?;
+    assert_eq!(rt; stored.put, words);
+
+    let found = effect_of(Effect::Absa, 0, &loaded, Held::Empty, 0)?.regs;
+    assert_eq!(rt; found.a.value(), 0o400000000000);
+    assert!(rt; found.ind.negative && !found.ind.zero);
+    Ok(())
+}
+
+#[test]
+fn conditions(rt: HostRuntime) {
+    let off = registers(0);
+    let mut on = off;
+    on.ind = Ind {
+        zero: true,
+        negative: true,
+        carry: true,
+        overflow: true,
+        mask: false,
+        tally: true,
+    };
+    let taken_where_on = [
+        Effect::Tze,
+        Effect::Tmi,
+        Effect::Trc,
+        Effect::Tmoz,
+        Effect::Tov,
+    ];
+    for effect in taken_where_on {
+        assert!(rt; is_taken(effect, &on) && !is_taken(effect, &off));
+    }
+    let taken_where_off = [
+        Effect::Tnz,
+        Effect::Tpl,
+        Effect::Tnc,
+        Effect::Tpnz,
+        Effect::Ttf,
+    ];
+    for effect in taken_where_off {
+        assert!(rt; is_taken(effect, &off) && !is_taken(effect, &on));
+    }
+    assert!(rt; is_taken(Effect::Tra, &on) && is_taken(Effect::TsxN, &off));
+    assert!(rt; is_absa(Effect::Absa) && !is_absa(Effect::Eaa));
+}
