@@ -22,3 +22,6 @@ mod tallies;
 mod temporary;
 
 pub use chain::{effective, pending};
+
+#[cfg(test)]
+mod tests;
