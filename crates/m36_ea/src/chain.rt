@@ -7,7 +7,7 @@ ghost use Rattle.m36_walk.specs.Words.{pending_changes};
 ghost use Rattle.m36_ea.specs.Formed.{formed_from, ended, TallyLies};
 
 use crate::indirect::{count, follow, formed};
-use crate::modification::{Action, fault, modify};
+use crate::modification::{Action, action_of, fault};
 use crate::temporary::{Tpr, first};
 use m36_inst::Inst;
 use m36_model::{Formed, Halt, Refs, Regs};
@@ -42,10 +42,10 @@ pub fn effective(walk: &mut Walk, regs: &Regs, inst: &Inst, refs: &mut Refs) -> 
     let mut tpr = first(regs, inst);
     let mut left = INDIRECT_WORDS;
     loop {
-        match modify(regs, &tpr) {
+        match action_of(regs, &tpr) {
             Action::Ends(last) => return Ok(formed(last)),
             Action::Fails(halt) => return Err(halt),
-            Action::Reads(word, held) => {
+            Action::Reads { word, held } => {
                 if left == 0 {
                     return Err(lockup(&tpr, word));
                 }

@@ -17,6 +17,7 @@ use m36_word::{Field, Pair, Word};
 /// What an indirect word is.
 #[derive(Clone, Copy)]
 pub(crate) enum Format {
+    /// An address and a tag.
     Plain,
     /// The even word of an ITS pair.
     Its,

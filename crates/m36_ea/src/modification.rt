@@ -4,7 +4,7 @@ ghost use Rattle.std.specs.Prelude.{◌≡◌, ◌<◌, ◌%◌, ◌^◌};
 ghost use Rattle.m36_model.specs.Modification.{Ends, Fails, here, fault_at, is_direct, move_register, move_register_then_indirect, move_indirect_then_tally, move_indirect_then_register, move_of_point};
 ghost use Rattle.m36_ea.specs.Points.{move_is, IsInRange};
 
-use crate::registers::{index, instruction_at};
+use crate::registers::index;
 use crate::tallies::{
     ADD_DELTA, DECREMENT_INCREMENT, INCREMENT_DECREMENT, INDIRECT_ONLY, SUBTRACT_DELTA,
 };
@@ -20,16 +20,28 @@ pub(crate) enum Action {
     /// The tag gives a fault or a stop, and no word is read.
     Fails(Halt),
     /// The indirect word at this word number is read, and from then on this register is held.
-    Reads(u32, Option<u32>),
+    Reads { word: u32, held: Option<u32> },
     /// The tally word at the point's address is read.
     Counts,
 }
 
 /// The low four bits of the tags of a direct operand: in bits 0 to 17 of a word, and in bits 18 to 35.
-const DIRECT_UPPER: u8 = 3;
+const DIRECT_UPPER: u8 = 0o3;
 
-const DIRECT_LOWER: u8 = 7;
+const DIRECT_LOWER: u8 = 0o7;
 
+/// The low four bits of the fault tags, and of the tags of pairs.
+const FAULT_TAG_1: u8 = 0o0;
+
+const FAULT_TAG_2: u8 = 0o6;
+
+const FAULT_TAG_3: u8 = 0o7;
+
+const ITP: u8 = 0o1;
+
+const ITS: u8 = 0o3;
+
+/// No register is named, but a direct operand.
 fn names_direct(td: u8) -> bool
     ensures { result ≡ is_direct td }
 {
@@ -47,7 +59,7 @@ pub(crate) fn fault(number: u8, at: At) -> Fault
 fn illegal(regs: &Regs) -> Action
     ensures { move_is result ≡ Fails (fault_at 10 (here regs.now)) }
 {
-    Action::Fails(Halt::Fault(fault(10, instruction_at(regs))))
+    Action::Fails(Halt::Fault(fault(10, regs.here())))
 }
 
 /// Register modification: the end of the chain at y plus a register, or a direct operand.
@@ -75,7 +87,10 @@ fn register_then_indirect(regs: &Regs, tpr: &Tpr, td: u8) -> Action
     if names_direct(td) {
         return illegal(regs);
     }
-    Action::Reads((tpr.y + index(regs, td)) % (1 << 18), tpr.held)
+    Action::Reads {
+        word: (tpr.y + index(regs, td)) % (1 << 18),
+        held: tpr.held,
+    }
 }
 
 /// Indirect then register: the indirect word is at y, and the register is held.
@@ -87,7 +102,10 @@ fn indirect_then_register(regs: &Regs, tpr: &Tpr, td: u8) -> Action
     if names_direct(td) {
         return illegal(regs);
     }
-    Action::Reads(tpr.y, Some(index(regs, td)))
+    Action::Reads {
+        word: tpr.y,
+        held: Some(index(regs, td)),
+    }
 }
 
 /// Indirect then tally: the fault tags, the tags of pairs out of place, the tally words, and what is not provided.
@@ -96,10 +114,10 @@ fn indirect_then_tally(regs: &Regs, tpr: &Tpr, td: u8) -> Action
     ensures range { IsInRange result }
 {
     match td {
-        0 => Action::Fails(Halt::Fault(fault(3, tpr.carrier))),
-        6 => Action::Fails(Halt::Fault(fault(24, tpr.carrier))),
-        7 => Action::Fails(Halt::Fault(fault(25, tpr.carrier))),
-        1 | 3 => illegal(regs),
+        FAULT_TAG_1 => Action::Fails(Halt::Fault(fault(3, tpr.carrier))),
+        FAULT_TAG_2 => Action::Fails(Halt::Fault(fault(24, tpr.carrier))),
+        FAULT_TAG_3 => Action::Fails(Halt::Fault(fault(25, tpr.carrier))),
+        ITP | ITS => illegal(regs),
         SUBTRACT_DELTA | INDIRECT_ONLY | ADD_DELTA | DECREMENT_INCREMENT | INCREMENT_DECREMENT => {
             Action::Counts
         }
@@ -109,7 +127,7 @@ fn indirect_then_tally(regs: &Regs, tpr: &Tpr, td: u8) -> Action
 
 /// What the tag of the point does.
 #[tactic(auto, unfolding(m36_model::specs::Modification::move_of_point))]
-pub(crate) fn modify(regs: &Regs, tpr: &Tpr) -> Action
+pub(crate) fn action_of(regs: &Regs, tpr: &Tpr) -> Action
     ensures moves { move_is result ≡ move_of_point regs.now tpr.now }
     ensures range { IsInRange result }
 {

@@ -6,7 +6,6 @@ ghost use Rattle.m36_ea.specs.Points.{final_at};
 ghost use Rattle.m36_model.specs.FirstPoint.{first_point};
 ghost use Rattle.m36_inst.specs.Instruction.{pr_offset};
 
-use crate::registers::{greater, instruction_at, pointer};
 use m36_desc::{Itp, Its};
 use m36_inst::Inst;
 use m36_model::{At, Final, Regs};
@@ -50,7 +49,7 @@ impl Model for Tpr {
 pub(crate) fn first(regs: &Regs, inst: &Inst) -> Tpr
     ensures { result ≡ first_point regs.now inst.now }
 {
-    let here = instruction_at(regs);
+    let here = regs.here();
     let seg = here.seg;
     let ring = here.ring;
     let tag = inst.tag;
@@ -65,8 +64,8 @@ pub(crate) fn first(regs: &Regs, inst: &Inst) -> Tpr
             tag,
         };
     }
-    let base = pointer(regs, (inst.y >> 15) as u8);
-    let ring = greater(ring, base.ring);
+    let base = regs.pointer((inst.y >> 15) as u8);
+    let ring = ring.max(base.ring);
     Tpr {
         carrier: At { ring, ..here },
         held: None,
@@ -139,7 +138,7 @@ impl Tpr {
             carrier: At {
                 word,
                 seg: self.seg,
-                ring: greater(self.ring, r1),
+                ring: self.ring.max(r1),
             },
             held,
             y: Field::<0, 18>::get(w) as u32,
@@ -158,7 +157,7 @@ impl Tpr {
         ensures { result ≡ its_point self.now word held pair.even pair.odd r1 }
     {
         let its = Its::of_words(pair);
-        let ring = greater(greater(self.ring, r1), its.ring);
+        let ring = self.ring.max(r1).max(its.ring);
         Tpr {
             carrier: At {
                 word: word + 1,
@@ -189,8 +188,8 @@ impl Tpr {
         ensures { result ≡ itp_point regs.now self.now word held pair.even pair.odd r1 }
     {
         let itp = Itp::of_words(pair);
-        let base = pointer(regs, itp.pr);
-        let ring = greater(greater(self.ring, r1), base.ring);
+        let base = regs.pointer(itp.pr);
+        let ring = self.ring.max(r1).max(base.ring);
         Tpr {
             carrier: At {
                 word: word + 1,
