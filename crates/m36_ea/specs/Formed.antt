@@ -1,0 +1,39 @@
+-- A formed address: what the program of an address chain gives over core.
+use Rattle.std.specs.Prelude.{ℕ, ◌≡◌, ◌<◌, List, [], ◌∷◌, ◌++◌, Option, Some, None, Result, Ok, Err}
+use Rattle.m36_inst.specs.Fields.{InstFields}
+use Rattle.m36_model.specs.Registers.{RegsFields}
+use Rattle.m36_model.specs.Store.{Mid, Ran, run}
+use Rattle.m36_model.specs.Core.{core_store}
+use Rattle.m36_model.specs.Chain.{ChainEnd, Formation, chain, chain_end_fields, claimed_by}
+use Rattle.m36_model.specs.FirstPoint.{first_point}
+use Rattle.m36_model.specs.Step.{indirect_words}
+use Rattle.m36_model.specs.declared.effects.Formed.{Formed}
+use Rattle.m36_model.specs.declared.effects.Tally.{Tally}
+use Rattle.m36_model.specs.declared.outcome.Halt.{Halt}
+use Rattle.m36_model.specs.declared.place.Reference.{Reference}
+use Rattle.m36_model.specs.declared.place.Kind.TheVariants as reference
+use Rattle.m36_walk.specs.Served.{standing}
+
+-- the program that forms the address of an instruction
+abbrev pub formation : RegsFields → InstFields → Formation
+formation g i = chain indirect_words g (first_point g i)
+
+-- that program over core, in a step that has completed these references and claimed nothing
+abbrev pub formed_from : RegsFields → InstFields → List ℕ → List Reference → Ran (Result ChainEnd Halt) (List ℕ)
+formed_from g i core refs = run core_store g (formation g i) (standing core [] refs)
+
+-- how an answer of the code ends it: the address, the place of the tally word, if there is one, as the step's first claim, and
+-- core and the references as they stand
+abbrev pub ended : List ℕ → List Reference → Result Formed Halt → Ran (Result ChainEnd Halt) (List ℕ)
+ended core refs (Ok f) = record { value = Ok (chain_end_fields f); mid = standing core (claimed_by f.tally f.place) refs }
+ended core refs (Err h) = record { value = Err h; mid = standing core [] refs }
+
+-- this is the last of the references
+abbrev pub EndsIn : List Reference → Reference → Type 0
+EndsIn refs r = (before : List Reference) × (refs ≡ before ++ r ∷ [])
+
+-- A tally word lies in core, and was referenced last, as a Write. Without one the place is 0.
+abbrev pub TallyLies : Option Tally → ℕ → ℕ → List Reference → Type 0
+TallyLies None place size refs = place ≡ 0
+TallyLies (Some t) place size refs =
+    (place < size) × EndsIn refs (record { kind = reference.Write; at = t.at; count = 1 })

@@ -1,0 +1,81 @@
+//! The address chain, and the address that it ends at.
+
+ghost use Rattle.std.specs.Prelude.{◌≡◌, ◌+◌, ◌<◌, ◌≤◌, ◌^◌, IfOk, length, option_map};
+ghost use Rattle.m36_model.specs.Chain.{lockup, pending_of, claimed_by};
+ghost use Rattle.m36_model.specs.Store.{changes};
+ghost use Rattle.m36_walk.specs.Words.{pending_changes};
+ghost use Rattle.m36_ea.specs.Formed.{formed_from, ended, TallyLies};
+
+use crate::indirect::{count, follow, formed};
+use crate::modification::{Action, action_of, fault};
+use crate::temporary::{Tpr, first};
+use m36_inst::Inst;
+use m36_model::{Formed, Halt, Refs, Regs};
+use m36_walk::{Pending, Walk};
+
+/// How many indirect words an address may have.
+const INDIRECT_WORDS: u8 = 16;
+
+/// The lockup fault of an indirect word past the last that an address may have.
+fn lockup(tpr: &Tpr, word: u32) -> Halt
+    requires { word < 2 ^ 18 }
+    ensures { result ≡ lockup tpr.now word }
+{
+    Halt::Fault(fault(7, tpr.at(word)))
+}
+
+/// Forms the address of an instruction. `walk` has the descriptor segment of `regs`, and the step has at most 4 completed
+/// references; at most 17 are added.
+///
+/// The answer, core, and the completed references are those of the address chain. A fault or a stop is told as the chain
+/// tells it, and leaves core as it was but for the marks of the references that were completed. A tally word that was
+/// counted is not written yet: its new value and its place are in the answer, and its Write is the last of the references.
+pub fn effective(walk: &mut Walk, regs: &Regs, inst: &Inst, refs: &mut Refs) -> Result<Formed, Halt>
+    requires dbr { walk.old.dbr ≡ regs.now.dbr }
+    requires room { length refs.old.items ≤ 4 }
+    ensures forms { formed_from regs.now inst.now walk.old.core refs.old.items ≡ ended walk.new.core refs.new.items result }
+    ensures tally { IfOk result (λ f. TallyLies f.tally f.place (length walk.new.core) refs.new.items) }
+    ensures dbr { walk.new.dbr ≡ walk.old.dbr }
+    ensures len { length walk.new.core ≡ length walk.old.core }
+    ensures count { length refs.new.items ≤ length refs.old.items + 17 }
+{
+    let mut tpr = first(regs, inst);
+    let mut left = INDIRECT_WORDS;
+    loop {
+        match action_of(regs, &tpr) {
+            Action::Ends(last) => return Ok(formed(last)),
+            Action::Fails(halt) => return Err(halt),
+            Action::Reads { word, held } => {
+                if left == 0 {
+                    return Err(lockup(&tpr, word));
+                }
+                match follow(walk, regs, &tpr, word, held, refs) {
+                    Ok(next) => tpr = next,
+                    Err(fault) => return Err(Halt::Fault(fault)),
+                }
+            }
+            Action::Counts => {
+                if left == 0 {
+                    return Err(lockup(&tpr, tpr.y));
+                }
+                return match count(walk, regs, &tpr, refs) {
+                    Ok(formed) => Ok(formed),
+                    Err(fault) => Err(Halt::Fault(fault)),
+                };
+            }
+        }
+        left -= 1;
+    }
+}
+
+/// The tally word of an address, as the references of the operand are to see it.
+#[tactic(auto, unfolding(m36_model::specs::Store::changes))]
+pub fn pending(formed: &Formed) -> Option<Pending>
+    ensures value { result ≡ option_map (λ t. record { word = t.word; place = formed.now.place }) formed.now.tally }
+    ensures changes { changes (claimed_by formed.now.tally formed.now.place) (pending_of formed.now.tally) ≡ pending_changes result }
+{
+    formed.tally.map(|tally| Pending {
+        word: tally.word,
+        place: formed.place,
+    })
+}

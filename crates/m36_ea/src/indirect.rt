@@ -1,0 +1,178 @@
+//! Indirect words: plain ones, pairs, and tally words.
+
+ghost use Rattle.std.specs.Prelude.{◌≡◌, ◌+◌, ◌<◌, ◌≤◌, ◌^◌, [], ◌∷◌, ◌++◌, None, IfOk, IfSome, length};
+ghost use Rattle.m36_model.specs.Chain.{found};
+ghost use Rattle.m36_walk.specs.Served.{sdw_in, ok_map};
+ghost use Rattle.m36_ea.specs.Formed.{TallyLies};
+ghost use Rattle.m36_ea.specs.Points.{found_is, FollowsEven, ServesIndirect, ServesOdd, Follows, CountsTally};
+
+use crate::registers::procedure_segment;
+use crate::tallies::{INDIRECT_ONLY, address, tally};
+use crate::temporary::Tpr;
+use m36_desc::{ITP_TAG, ITS_TAG};
+use m36_model::{At, Fault, Final, Formed, Kind, Reference, Refs, Regs, Tally};
+use m36_walk::Walk;
+use m36_word::{Field, Pair, Word};
+
+/// What an indirect word is.
+#[derive(Clone, Copy)]
+pub(crate) enum Format {
+    /// An address and a tag.
+    Plain,
+    /// The even word of an ITS pair.
+    Its,
+    /// The even word of an ITP pair.
+    Itp,
+}
+
+/// The tags of pairs count at even word numbers alone.
+#[tactic(auto, unfolding(m36_model::specs::Chain::found))]
+fn format_of(word: u32, w: Word) -> Format
+    ensures found { found_is result ≡ found word w }
+    ensures even { FollowsEven word result }
+{
+    if word % 2 != 0 {
+        return Format::Plain;
+    }
+    match Field::<30, 6>::get(w) as u8 {
+        ITS_TAG => Format::Its,
+        ITP_TAG => Format::Itp,
+        _ => Format::Plain,
+    }
+}
+
+/// Adds a completed reference.
+fn complete(refs: &mut Refs, kind: Kind, at: At, count: u8)
+    requires { length refs.old.items < 40 }
+    ensures items { refs.new.items ≡ refs.old.items ++ record { kind = kind; at = at; count = count } ∷ [] }
+    ensures count { length refs.new.items ≡ length refs.old.items + 1 }
+{
+    refs.push(Reference { at, kind, count });
+}
+
+/// Reads an indirect word. With it goes the first ring bracket of its segment.
+fn indirect_word(walk: &mut Walk, regs: &Regs, tpr: &Tpr, word: u32) -> Result<(Word, u8), Fault>
+    requires dbr { walk.old.dbr ≡ regs.now.dbr }
+    requires word { word < 2 ^ 18 }
+    ensures serves { ServesIndirect regs.now tpr.now word walk.old walk.new.core (ok_map (λ r. r.0) result) }
+    ensures ring { IfOk result (λ r. r.1 ≡ (sdw_in walk.old tpr.now.seg).r1) }
+    ensures bound { IfOk result (λ r. r.1 < 2 ^ 3) }
+    ensures dbr { walk.new.dbr ≡ walk.old.dbr }
+    ensures len { length walk.new.core ≡ length walk.old.core }
+{
+    walk.indirect(tpr.at(word), procedure_segment(regs))
+}
+
+/// Reads the odd word of a pair, and completes the reference: to both words, or where the odd word is refused, to the
+/// even word alone.
+fn odd_word(
+    walk: &mut Walk,
+    regs: &Regs,
+    tpr: &Tpr,
+    word: u32,
+    refs: &mut Refs,
+) -> Result<Word, Fault>
+    requires dbr { walk.old.dbr ≡ regs.now.dbr }
+    requires room { length refs.old.items < 40 }
+    requires word { word + 1 < 2 ^ 18 }
+    ensures serves { ServesOdd regs.now tpr.now word walk.old refs.old.items walk.new.core refs.new.items result }
+    ensures dbr { walk.new.dbr ≡ walk.old.dbr }
+    ensures len { length walk.new.core ≡ length walk.old.core }
+    ensures count { length refs.new.items ≡ length refs.old.items + 1 }
+{
+    match walk.odd(tpr.at(word + 1), procedure_segment(regs)) {
+        Ok(odd) => {
+            complete(refs, Kind::Indirect, tpr.at(word), 2);
+            Ok(odd)
+        }
+        Err(fault) => {
+            complete(refs, Kind::Indirect, tpr.at(word), 1);
+            Err(fault)
+        }
+    }
+}
+
+/// Reads the indirect word at word number `word`, with the odd word of a pair, and goes on from it. The register is
+/// held from then on.
+pub(crate) fn follow(
+    walk: &mut Walk,
+    regs: &Regs,
+    tpr: &Tpr,
+    word: u32,
+    held: Option<u32>,
+    refs: &mut Refs,
+) -> Result<Tpr, Fault>
+    requires dbr { walk.old.dbr ≡ regs.now.dbr }
+    requires room { length refs.old.items < 40 }
+    requires word { word < 2 ^ 18 }
+    requires held { IfSome held (λ h. h < 2 ^ 18) }
+    ensures follows { Follows regs.now tpr.now word held walk.old.core refs.old.items walk.new.core refs.new.items result }
+    ensures dbr { walk.new.dbr ≡ walk.old.dbr }
+    ensures len { length walk.new.core ≡ length walk.old.core }
+    ensures count { length refs.new.items ≤ length refs.old.items + 1 }
+{
+    let (even, r1) = indirect_word(walk, regs, tpr, word)?;
+    match format_of(word, even) {
+        Format::Plain => {
+            complete(refs, Kind::Indirect, tpr.at(word), 1);
+            Ok(tpr.after_plain(word, held, even, r1))
+        }
+        Format::Its => {
+            let odd = odd_word(walk, regs, tpr, word, refs)?;
+            Ok(tpr.after_its(word, held, Pair { even, odd }, r1))
+        }
+        Format::Itp => {
+            let odd = odd_word(walk, regs, tpr, word, refs)?;
+            Ok(tpr.after_itp(regs, word, held, Pair { even, odd }, r1))
+        }
+    }
+}
+
+/// A formed address without a tally word.
+pub(crate) fn formed(last: Final) -> Formed
+    ensures { result ≡ record { last = last; tally = None; place = 0 } }
+{
+    Formed {
+        last,
+        tally: None,
+        place: 0,
+    }
+}
+
+/// Reads the tally word at the point's address, which ends the chain. All tags but I count it: they reference it as a
+/// Write, and give its new value.
+pub(crate) fn count(
+    walk: &mut Walk,
+    regs: &Regs,
+    tpr: &Tpr,
+    refs: &mut Refs,
+) -> Result<Formed, Fault>
+    requires dbr { walk.old.dbr ≡ regs.now.dbr }
+    requires room { length refs.old.items + 1 < 40 }
+    ensures counts { CountsTally regs.now tpr.now walk.old.core refs.old.items walk.new.core refs.new.items result }
+    ensures lies { IfOk result (λ f. TallyLies f.tally f.place (length walk.new.core) refs.new.items) }
+    ensures dbr { walk.new.dbr ≡ walk.old.dbr }
+    ensures len { length walk.new.core ≡ length walk.old.core }
+    ensures count { length refs.new.items ≤ length refs.old.items + 2 }
+{
+    let y = tpr.y;
+    let td = tpr.tag % 16;
+    let (word, _) = indirect_word(walk, regs, tpr, y)?;
+    let at = tpr.at(y);
+    complete(refs, Kind::Indirect, at, 1);
+    if td == INDIRECT_ONLY {
+        return Ok(formed(tpr.end_at(address(word))));
+    }
+    let place = walk.hold(at, 1)?;
+    complete(refs, Kind::Write, at, 1);
+    let counted = tally(td, word);
+    Ok(Formed {
+        last: tpr.end_at(counted.address),
+        tally: Some(Tally {
+            word: counted.word,
+            at,
+            runout: counted.runs_out,
+        }),
+        place,
+    })
+}

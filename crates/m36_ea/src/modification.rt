@@ -1,0 +1,141 @@
+//! Address modification: what the tag of a point does.
+
+ghost use Rattle.std.specs.Prelude.{◌≡◌, ◌<◌, ◌%◌, ◌^◌};
+ghost use Rattle.m36_model.specs.Modification.{Ends, Fails, here, fault_at, is_direct, move_register, move_register_then_indirect, move_indirect_then_tally, move_indirect_then_register, move_of_point};
+ghost use Rattle.m36_ea.specs.Points.{move_is, IsInRange};
+
+use crate::registers::index;
+use crate::tallies::{
+    ADD_DELTA, DECREMENT_INCREMENT, INCREMENT_DECREMENT, INDIRECT_ONLY, SUBTRACT_DELTA,
+};
+use crate::temporary::Tpr;
+use m36_model::{At, Fault, Final, Halt, Regs, Stop};
+use m36_word::Word;
+
+/// What the tag of a point does.
+#[derive(Clone, Copy)]
+pub(crate) enum Action {
+    /// The chain ends here.
+    Ends(Final),
+    /// The tag gives a fault or a stop, and no word is read.
+    Fails(Halt),
+    /// The indirect word at this word number is read, and from then on this register is held.
+    Reads { word: u32, held: Option<u32> },
+    /// The tally word at the point's address is read.
+    Counts,
+}
+
+/// The low four bits of the tags of a direct operand: in bits 0 to 17 of a word, and in bits 18 to 35.
+const DIRECT_UPPER: u8 = 0o3;
+
+const DIRECT_LOWER: u8 = 0o7;
+
+/// The low four bits of the fault tags, and of the tags of pairs.
+const FAULT_TAG_1: u8 = 0o0;
+
+const FAULT_TAG_2: u8 = 0o6;
+
+const FAULT_TAG_3: u8 = 0o7;
+
+const ITP: u8 = 0o1;
+
+const ITS: u8 = 0o3;
+
+/// No register is named, but a direct operand.
+fn names_direct(td: u8) -> bool
+    ensures { result ≡ is_direct td }
+{
+    td == DIRECT_UPPER || td == DIRECT_LOWER
+}
+
+/// A fault other than an access violation.
+pub(crate) fn fault(number: u8, at: At) -> Fault
+    ensures { result ≡ record { at = at; number = number; acv = 0 } }
+{
+    Fault { at, number, acv: 0 }
+}
+
+/// An illegal procedure, told at the instruction.
+fn illegal(regs: &Regs) -> Action
+    ensures { move_is result ≡ Fails (fault_at 10 (here regs.now)) }
+{
+    Action::Fails(Halt::Fault(fault(10, regs.here())))
+}
+
+/// Register modification: the end of the chain at y plus a register, or a direct operand.
+fn register(regs: &Regs, tpr: &Tpr, td: u8) -> Final
+    requires { td < 16 }
+    ensures { Ends result ≡ move_register regs.now tpr.now td tpr.now.held }
+{
+    let y = tpr.y;
+    match tpr.held {
+        Some(held) => tpr.end_at((y + held) % (1 << 18)),
+        None => match td {
+            DIRECT_UPPER => tpr.end_direct(Word::low((y as u64) << 18)),
+            DIRECT_LOWER => tpr.end_direct(Word::low(y as u64)),
+            _ => tpr.end_at((y + index(regs, td)) % (1 << 18)),
+        },
+    }
+}
+
+/// Register then indirect: the indirect word is at y plus a register.
+fn register_then_indirect(regs: &Regs, tpr: &Tpr, td: u8) -> Action
+    requires { td < 16 }
+    ensures moves { move_is result ≡ move_register_then_indirect regs.now tpr.now td }
+    ensures range { IsInRange result }
+{
+    if names_direct(td) {
+        return illegal(regs);
+    }
+    Action::Reads {
+        word: (tpr.y + index(regs, td)) % (1 << 18),
+        held: tpr.held,
+    }
+}
+
+/// Indirect then register: the indirect word is at y, and the register is held.
+fn indirect_then_register(regs: &Regs, tpr: &Tpr, td: u8) -> Action
+    requires { td < 16 }
+    ensures moves { move_is result ≡ move_indirect_then_register regs.now tpr.now td }
+    ensures range { IsInRange result }
+{
+    if names_direct(td) {
+        return illegal(regs);
+    }
+    Action::Reads {
+        word: tpr.y,
+        held: Some(index(regs, td)),
+    }
+}
+
+/// Indirect then tally: the fault tags, the tags of pairs out of place, the tally words, and what is not provided.
+fn indirect_then_tally(regs: &Regs, tpr: &Tpr, td: u8) -> Action
+    ensures moves { move_is result ≡ move_indirect_then_tally regs.now tpr.now td }
+    ensures range { IsInRange result }
+{
+    match td {
+        FAULT_TAG_1 => Action::Fails(Halt::Fault(fault(3, tpr.carrier))),
+        FAULT_TAG_2 => Action::Fails(Halt::Fault(fault(24, tpr.carrier))),
+        FAULT_TAG_3 => Action::Fails(Halt::Fault(fault(25, tpr.carrier))),
+        ITP | ITS => illegal(regs),
+        SUBTRACT_DELTA | INDIRECT_ONLY | ADD_DELTA | DECREMENT_INCREMENT | INCREMENT_DECREMENT => {
+            Action::Counts
+        }
+        _ => Action::Fails(Halt::Stop(Stop::Tag)),
+    }
+}
+
+/// What the tag of the point does.
+#[tactic(auto, unfolding(m36_model::specs::Modification::move_of_point))]
+pub(crate) fn action_of(regs: &Regs, tpr: &Tpr) -> Action
+    ensures moves { move_is result ≡ move_of_point regs.now tpr.now }
+    ensures range { IsInRange result }
+{
+    let td = tpr.tag % 16;
+    match tpr.tag / 16 {
+        0 => Action::Ends(register(regs, tpr, td)),
+        1 => register_then_indirect(regs, tpr, td),
+        2 => indirect_then_tally(regs, tpr, td),
+        _ => indirect_then_register(regs, tpr, td),
+    }
+}

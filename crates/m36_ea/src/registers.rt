@@ -1,0 +1,52 @@
+//! What an address takes from the registers.
+
+ghost use Rattle.std.specs.Prelude.{◌≡◌, ◌<◌, ◌^◌, false};
+ghost use Rattle.m36_word.specs.Field.{field};
+ghost use Rattle.m36_model.specs.Modification.{is_direct, index_of};
+
+use m36_model::Regs;
+use m36_word::{Field, Word};
+
+/// The segment of the instruction.
+pub(crate) fn procedure_segment(regs: &Regs) -> u16
+    ensures { result ≡ regs.now.ppr.psr }
+{
+    regs.ppr.psr
+}
+
+/// The register that the low four bits of a tag name, where they name no direct operand.
+#[tactic(auto, unfolding(m36_model::specs::Modification::index_of))]
+pub(crate) fn index(regs: &Regs, td: u8) -> u32
+    requires td { td < 16 }
+    requires register { is_direct td ≡ false }
+    ensures value { result ≡ index_of regs.now td }
+    ensures bound { result < 2 ^ 18 }
+{
+    if td >= 8 {
+        return regs.x[(td - 8) as usize];
+    }
+    match td {
+        0 => 0,
+        1 => upper(regs.a),
+        2 => upper(regs.q),
+        4 => regs.ppr.ic,
+        5 => lower(regs.a),
+        _ => lower(regs.q),
+    }
+}
+
+/// Bits 0 to 17.
+fn upper(w: Word) -> u32
+    ensures value { result ≡ field w 0 18 }
+    ensures bound { result < 2 ^ 18 }
+{
+    Field::<0, 18>::get(w) as u32
+}
+
+/// Bits 18 to 35.
+fn lower(w: Word) -> u32
+    ensures value { result ≡ field w 18 18 }
+    ensures bound { result < 2 ^ 18 }
+{
+    Field::<18, 18>::get(w) as u32
+}
