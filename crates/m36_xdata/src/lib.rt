@@ -1,0 +1,11 @@
+//! Data instructions.
+//!
+//! Source: Multics Processor Manual AL39, "Fixed-point instructions" and "Boolean instructions".
+#![tactic(auto)]
+
+mod bits;
+mod conditions;
+mod numbers;
+mod operands;
+mod registers;
+mod results;
