@@ -5,7 +5,9 @@
 
 mod bits;
 mod conditions;
+mod loads;
 mod numbers;
 mod operands;
 mod registers;
 mod results;
+mod stores;
