@@ -1,7 +1,8 @@
 //! The indicators that results set.
 
 ghost use Rattle.std.specs.Prelude.{◌≡◌, ◌||◌};
-ghost use Rattle.m36_model.specs.Results.{half, zn, zn_carry, zn_overflow, zn_carry_overflow, compared};
+ghost use Rattle.m36_model.specs.Results.{half, zn, zn_carry, zn_overflow, zn_carry_overflow, compared, with_zero};
+ghost use Rattle.m36_model.specs.ShiftEffects.{with_carry};
 ghost use Rattle.m36_xdata.specs.Registers.{working};
 ghost use Rattle.m36_xdata.specs.Results.{sum_fields};
 
@@ -79,4 +80,18 @@ pub fn compared(c: Compare, ind: Ind) -> Ind
         carry: c.carry,
         ..ind
     }
+}
+
+/// Only zero.
+pub fn with_zero(zero: bool, ind: Ind) -> Ind
+    ensures { result ≡ with_zero zero ind }
+{
+    Ind { zero, ..ind }
+}
+
+/// Only carry.
+pub fn with_carry(carry: bool, ind: Ind) -> Ind
+    ensures { result ≡ with_carry carry ind }
+{
+    Ind { carry, ..ind }
 }

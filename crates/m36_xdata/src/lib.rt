@@ -4,10 +4,15 @@
 #![tactic(auto)]
 
 mod bits;
+mod compares;
 mod conditions;
 mod loads;
+mod logic;
 mod numbers;
 mod operands;
+mod products;
 mod registers;
 mod results;
+mod shifts;
 mod stores;
+mod sums;

@@ -24,6 +24,20 @@ pub fn indicators(regs: &Regs) -> Ind
     regs.ind
 }
 
+/// The accumulator.
+pub fn accumulator(regs: &Regs) -> Word
+    ensures { result ≡ regs.now.a }
+{
+    regs.a
+}
+
+/// The quotient register.
+pub fn quotient(regs: &Regs) -> Word
+    ensures { result ≡ regs.now.q }
+{
+    regs.q
+}
+
 fn pair(regs: &Regs) -> Pair
     ensures { result ≡ record { even = regs.now.a; odd = regs.now.q } }
 {

@@ -3,14 +3,17 @@
 ghost use Rattle.std.specs.Prelude.{◌≡◌, ◌*◌, ◌^◌, ◌<◌, ◌==◌, IsTrue, length, if◌then◌else◌};
 ghost use Rattle.m36_word.specs.Bits.{of_bit};
 ghost use Rattle.m36_model.specs.OperandHeld.{is_word};
-ghost use Rattle.m36_model.specs.Results.{operand_fields, words_of_held, word, with_zero};
+ghost use Rattle.m36_model.specs.Results.{operand_fields, words_of_held, word};
 ghost use Rattle.m36_model.specs.Stores.{store, store_zero, indicators_half, store_indicators, store_where_zero, store_where_equal};
 ghost use Rattle.m36_xdata.specs.Registers.{working, IsRegister, PutsNumber};
 ghost use Rattle.m36_xdata.specs.Results.{Gives};
 ghost use Rattle.m36_xdata.specs.WordsPut.{IsHalf};
 
+use crate::conditions::with_zero;
 use crate::operands::{held, word_got};
-use crate::registers::{Register, indicators, moved_on, number_in, with_indicators};
+use crate::registers::{
+    Register, accumulator, indicators, moved_on, number_in, quotient, with_indicators,
+};
 use m36_model::{Effect36, Held, Ind, Operand36, Regs};
 use m36_word::Word;
 
@@ -70,24 +73,6 @@ pub fn store_indicators(regs: &Regs) -> Effect36
         put: Held::One(indicators_half(indicators(regs))),
         overflow: false,
     }
-}
-
-fn with_zero(zero: bool, ind: Ind) -> Ind
-    ensures { result ≡ with_zero zero ind }
-{
-    Ind { zero, ..ind }
-}
-
-fn accumulator(regs: &Regs) -> Word
-    ensures { result ≡ regs.now.a }
-{
-    regs.a
-}
-
-fn quotient(regs: &Regs) -> Word
-    ensures { result ≡ regs.now.q }
-{
-    regs.q
 }
 
 fn are_equal(first: Word, second: Word) -> bool
