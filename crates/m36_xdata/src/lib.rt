@@ -6,6 +6,7 @@
 mod bits;
 mod compares;
 mod conditions;
+mod execute;
 mod loads;
 mod logic;
 mod numbers;
@@ -16,3 +17,5 @@ mod results;
 mod shifts;
 mod stores;
 mod sums;
+
+pub use execute::exec;
