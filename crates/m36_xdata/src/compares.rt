@@ -24,7 +24,13 @@ pub fn compare(r: Register, given: &Operand36, regs: &Regs) -> Effect36
     ensures value { Gives result regs.now (compare (working r) (operand (working r) (operand_fields given.now)) regs.now) }
     ensures put { length (words_of_held result.put) ≡ 0 }
 {
-    sets(compared(comparison(r, number_in(r, regs), number_got(r, given)), indicators(regs)), regs)
+    sets(
+        compared(
+            comparison(r, number_in(r, regs), number_got(r, given)),
+            indicators(regs),
+        ),
+        regs,
+    )
 }
 
 /// SZN: the word is tested.
@@ -34,7 +40,14 @@ pub fn test_word(given: &Operand36, regs: &Regs) -> Effect36
     ensures value { Gives result regs.now (test_word (word (operand_fields given.now)) regs.now) }
     ensures put { length (words_of_held result.put) ≡ 0 }
 {
-    sets(zn(Register::A, number_got(Register::A, given), indicators(regs)), regs)
+    sets(
+        zn(
+            Register::A,
+            number_got(Register::A, given),
+            indicators(regs),
+        ),
+        regs,
+    )
 }
 
 /// SZNC: the word is tested, and becomes 0.
@@ -44,7 +57,11 @@ pub fn test_and_clear(given: &Operand36, regs: &Regs) -> Effect36
     ensures value { Gives result regs.now (test_and_clear (word (operand_fields given.now)) regs.now) }
     ensures put { length (words_of_held result.put) ≡ 1 }
 {
-    let ind = zn(Register::A, number_got(Register::A, given), indicators(regs));
+    let ind = zn(
+        Register::A,
+        number_got(Register::A, given),
+        indicators(regs),
+    );
     Effect36 {
         regs: with_indicators(ind, regs),
         put: Held::One(Word::ZERO),
@@ -59,7 +76,11 @@ pub fn compare_masked(given: &Operand36, regs: &Regs) -> Effect36
     ensures value { Gives result regs.now (compare_masked (word (operand_fields given.now)) regs.now) }
     ensures put { length (words_of_held result.put) ≡ 0 }
 {
-    let other = differing(Register::A, number_in(Register::A, regs), number_got(Register::A, given));
+    let other = differing(
+        Register::A,
+        number_in(Register::A, regs),
+        number_got(Register::A, given),
+    );
     let seen = first_alone(Register::A, other, number_in(Register::Q, regs));
     sets(zn(Register::A, seen, indicators(regs)), regs)
 }
@@ -72,7 +93,14 @@ pub fn test_and(r: Register, given: &Operand36, regs: &Regs) -> Effect36
     ensures value { Gives result regs.now (test_and (working r) (operand (working r) (operand_fields given.now)) regs.now) }
     ensures put { length (words_of_held result.put) ≡ 0 }
 {
-    sets(zn(r, both(r, number_in(r, regs), number_got(r, given)), indicators(regs)), regs)
+    sets(
+        zn(
+            r,
+            both(r, number_in(r, regs), number_got(r, given)),
+            indicators(regs),
+        ),
+        regs,
+    )
 }
 
 /// CNAA, CNAQ, CNAAQ, CNAX: register and not operand.
@@ -83,5 +111,12 @@ pub fn test_and_not(r: Register, given: &Operand36, regs: &Regs) -> Effect36
     ensures value { Gives result regs.now (test_and_not (working r) (operand (working r) (operand_fields given.now)) regs.now) }
     ensures put { length (words_of_held result.put) ≡ 0 }
 {
-    sets(zn(r, first_alone(r, number_in(r, regs), number_got(r, given)), indicators(regs)), regs)
+    sets(
+        zn(
+            r,
+            first_alone(r, number_in(r, regs), number_got(r, given)),
+            indicators(regs),
+        ),
+        regs,
+    )
 }

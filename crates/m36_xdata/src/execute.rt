@@ -8,23 +8,19 @@ ghost use Rattle.m36_model.specs.Effect.{exec, answer_fields, refused_here};
 ghost use Rattle.m36_xdata.specs.DataInstructions.{is_data};
 ghost use Rattle.m36_xdata.specs.WordsPut.{PutsFor};
 
-use crate::compares::{
-    compare, compare_masked, test_and, test_and_clear, test_and_not, test_word,
-};
+use crate::compares::{compare, compare_masked, test_and, test_and_clear, test_and_not, test_word};
 use crate::loads::{
-    load, load_address_to_a, load_address_to_index, load_address_to_q, load_and_clear, load_complement, load_indicators,
-    load_lower,
+    load, load_address_to_a, load_address_to_index, load_address_to_q, load_and_clear,
+    load_complement, load_indicators, load_lower,
 };
-use crate::logic::{
-    and_register, and_storage, or_register, or_storage, xor_register, xor_storage,
-};
+use crate::logic::{and_register, and_storage, or_register, or_storage, xor_register, xor_storage};
 use crate::products::{divide, multiply};
 use crate::registers::Register;
 use crate::shifts::{rotate_left, shift_left, shift_right, shift_right_logical};
 use crate::stores::{store, store_indicators, store_where_equal, store_where_zero, store_zero};
 use crate::sums::{
-    add, add_logical, add_low, add_one_to_storage, add_to_storage, add_with_carry, negate, subtract, subtract_logical,
-    subtract_stored, subtract_with_carry,
+    add, add_logical, add_low, add_one_to_storage, add_to_storage, add_with_carry, negate,
+    subtract, subtract_logical, subtract_stored, subtract_with_carry,
 };
 use m36_inst::{Effect, Row};
 use m36_model::{Effect36, Fault, Final, Operand36, Regs};

@@ -17,5 +17,7 @@ mod results;
 mod shifts;
 mod stores;
 mod sums;
+#[cfg(test)]
+mod tests;
 
 pub use execute::exec;

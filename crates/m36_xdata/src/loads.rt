@@ -54,7 +54,13 @@ pub fn load_complement(r: Register, given: &Operand36, regs: &Regs) -> Effect36
     ensures put { length (words_of_held result.put) ≡ 0 }
 {
     let s = negation(r, number_got(r, given));
-    takes(r, s.value, zn_overflow(s, indicators(regs)), s.overflow, regs)
+    takes(
+        r,
+        s.value,
+        zn_overflow(s, indicators(regs)),
+        s.overflow,
+        regs,
+    )
 }
 
 /// LDAC, LDQC: the register becomes the word, and the word becomes 0.

@@ -43,7 +43,11 @@ pub fn xor_register(r: Register, given: &Operand36, regs: &Regs) -> Effect36
     ensures value { Gives result regs.now (xor_register (working r) (operand (working r) (operand_fields given.now)) regs.now) }
     ensures put { length (words_of_held result.put) ≡ 0 }
 {
-    takes_tested(r, differing(r, number_in(r, regs), number_got(r, given)), regs)
+    takes_tested(
+        r,
+        differing(r, number_in(r, regs), number_got(r, given)),
+        regs,
+    )
 }
 
 /// Bits that go into the operand.
@@ -85,5 +89,9 @@ pub fn xor_storage(r: Register, given: &Operand36, regs: &Regs) -> Effect36
     ensures value { Gives result regs.now (xor_storage (working r) (operand (working r) (operand_fields given.now)) regs.now) }
     ensures put { PutsNumber r (words_of_held result.put) }
 {
-    bits_into_operand(r, differing(r, number_in(r, regs), number_got(r, given)), regs)
+    bits_into_operand(
+        r,
+        differing(r, number_in(r, regs), number_got(r, given)),
+        regs,
+    )
 }

@@ -9,7 +9,8 @@ ghost use Rattle.m36_xdata.specs.Results.{sum_fields};
 
 use crate::registers::Register;
 use m36_arith::{
-    Compare, Sum18, Sum36, Sum72, add18, add36, add72, cmp18, cmp36, cmp72, neg18, neg36, neg72, sub18, sub36, sub72,
+    Compare, Sum18, Sum36, Sum72, add18, add36, add72, cmp18, cmp36, cmp72, neg18, neg36, neg72,
+    sub18, sub36, sub72,
 };
 use m36_word::{Pair, Word};
 

@@ -49,7 +49,13 @@ pub fn shift_left(r: Register, f: &Final, regs: &Regs) -> Effect36
     ensures put { length (words_of_held result.put) ≡ 0 }
 {
     let s = shifted(r, Shift::Left, number_in(r, regs), count(f));
-    takes(r, s.value, with_carry(s.carry, zn(r, s.value, indicators(regs))), false, regs)
+    takes(
+        r,
+        s.value,
+        with_carry(s.carry, zn(r, s.value, indicators(regs))),
+        false,
+        regs,
+    )
 }
 
 /// ARS, QRS, LRS: to the right; the first bit is copied in.
@@ -60,7 +66,11 @@ pub fn shift_right(r: Register, f: &Final, regs: &Regs) -> Effect36
     ensures value { Gives result regs.now (shift_right (working r) f.now.at.word regs.now) }
     ensures put { length (words_of_held result.put) ≡ 0 }
 {
-    takes_tested(r, shifted(r, Shift::Right, number_in(r, regs), count(f)).value, regs)
+    takes_tested(
+        r,
+        shifted(r, Shift::Right, number_in(r, regs), count(f)).value,
+        regs,
+    )
 }
 
 /// ARL, QRL, LRL: to the right; zeros come in.
@@ -71,7 +81,11 @@ pub fn shift_right_logical(r: Register, f: &Final, regs: &Regs) -> Effect36
     ensures value { Gives result regs.now (shift_right_logical (working r) f.now.at.word regs.now) }
     ensures put { length (words_of_held result.put) ≡ 0 }
 {
-    takes_tested(r, shifted(r, Shift::RightZero, number_in(r, regs), count(f)).value, regs)
+    takes_tested(
+        r,
+        shifted(r, Shift::RightZero, number_in(r, regs), count(f)).value,
+        regs,
+    )
 }
 
 /// ALR, QLR, LLR: to the left; what goes out comes in at the other end.
@@ -82,5 +96,9 @@ pub fn rotate_left(r: Register, f: &Final, regs: &Regs) -> Effect36
     ensures value { Gives result regs.now (rotate_left (working r) f.now.at.word regs.now) }
     ensures put { length (words_of_held result.put) ≡ 0 }
 {
-    takes_tested(r, shifted(r, Shift::Rotate, number_in(r, regs), count(f)).value, regs)
+    takes_tested(
+        r,
+        shifted(r, Shift::Rotate, number_in(r, regs), count(f)).value,
+        regs,
+    )
 }

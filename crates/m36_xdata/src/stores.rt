@@ -57,7 +57,11 @@ fn indicators_half(ind: Ind) -> Word
     ensures bound { result < 2 ^ 18 }
 {
     Word::low(
-        bit(ind.zero, 17) + bit(ind.negative, 16) + bit(ind.carry, 15) + bit(ind.overflow, 14) + bit(ind.mask, 11)
+        bit(ind.zero, 17)
+            + bit(ind.negative, 16)
+            + bit(ind.carry, 15)
+            + bit(ind.overflow, 14)
+            + bit(ind.mask, 11)
             + bit(ind.tally, 10),
     )
 }

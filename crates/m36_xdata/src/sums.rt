@@ -28,7 +28,13 @@ fn into_register(r: Register, s: Computed, regs: &Regs) -> Effect36
     ensures value { Gives result regs.now (into_register (working r) (sum_fields s) regs.now) }
     ensures put { length (words_of_held result.put) ≡ 0 }
 {
-    takes(r, s.value, zn_carry_overflow(s, indicators(regs)), s.overflow, regs)
+    takes(
+        r,
+        s.value,
+        zn_carry_overflow(s, indicators(regs)),
+        s.overflow,
+        regs,
+    )
 }
 
 #[tactic(auto, unfolding(m36_model::specs::Sums::into_register_logical))]
@@ -47,7 +53,13 @@ fn into_operand(r: Register, s: Computed, regs: &Regs) -> Effect36
     ensures value { Gives result regs.now (into_operand (working r) (sum_fields s) regs.now) }
     ensures put { PutsNumber r (words_of_held result.put) }
 {
-    puts(r, s.value, zn_carry_overflow(s, indicators(regs)), s.overflow, regs)
+    puts(
+        r,
+        s.value,
+        zn_carry_overflow(s, indicators(regs)),
+        s.overflow,
+        regs,
+    )
 }
 
 #[tactic(auto, unfolding(m36_model::specs::Sums::add))]
@@ -100,7 +112,11 @@ pub fn add_logical(r: Register, given: &Operand36, regs: &Regs) -> Effect36
     ensures value { Gives result regs.now (add_logical (working r) (operand (working r) (operand_fields given.now)) regs.now) }
     ensures put { length (words_of_held result.put) ≡ 0 }
 {
-    into_register_logical(r, sum(r, number_in(r, regs), number_got(r, given), false), regs)
+    into_register_logical(
+        r,
+        sum(r, number_in(r, regs), number_got(r, given), false),
+        regs,
+    )
 }
 
 /// AWCA, AWCQ: register plus operand, plus 1 where carry is on.
@@ -111,7 +127,11 @@ pub fn add_with_carry(r: Register, given: &Operand36, regs: &Regs) -> Effect36
     ensures value { Gives result regs.now (add_with_carry (working r) (operand (working r) (operand_fields given.now)) regs.now) }
     ensures put { length (words_of_held result.put) ≡ 0 }
 {
-    into_register(r, sum(r, number_in(r, regs), number_got(r, given), carry(regs)), regs)
+    into_register(
+        r,
+        sum(r, number_in(r, regs), number_got(r, given), carry(regs)),
+        regs,
+    )
 }
 
 /// SBA, SBQ, SBAQ, SBX: register minus operand.
@@ -122,7 +142,11 @@ pub fn subtract(r: Register, given: &Operand36, regs: &Regs) -> Effect36
     ensures value { Gives result regs.now (subtract (working r) (operand (working r) (operand_fields given.now)) regs.now) }
     ensures put { length (words_of_held result.put) ≡ 0 }
 {
-    into_register(r, difference(r, number_in(r, regs), number_got(r, given), false), regs)
+    into_register(
+        r,
+        difference(r, number_in(r, regs), number_got(r, given), false),
+        regs,
+    )
 }
 
 /// SBLA, SBLQ, SBLAQ, SBLX: register minus operand, without overflow.
@@ -133,7 +157,11 @@ pub fn subtract_logical(r: Register, given: &Operand36, regs: &Regs) -> Effect36
     ensures value { Gives result regs.now (subtract_logical (working r) (operand (working r) (operand_fields given.now)) regs.now) }
     ensures put { length (words_of_held result.put) ≡ 0 }
 {
-    into_register_logical(r, difference(r, number_in(r, regs), number_got(r, given), false), regs)
+    into_register_logical(
+        r,
+        difference(r, number_in(r, regs), number_got(r, given), false),
+        regs,
+    )
 }
 
 /// SWCA, SWCQ: register minus operand, and minus 1 where carry is off.
@@ -144,7 +172,11 @@ pub fn subtract_with_carry(r: Register, given: &Operand36, regs: &Regs) -> Effec
     ensures value { Gives result regs.now (subtract_with_carry (working r) (operand (working r) (operand_fields given.now)) regs.now) }
     ensures put { length (words_of_held result.put) ≡ 0 }
 {
-    into_register(r, difference(r, number_in(r, regs), number_got(r, given), !carry(regs)), regs)
+    into_register(
+        r,
+        difference(r, number_in(r, regs), number_got(r, given), !carry(regs)),
+        regs,
+    )
 }
 
 /// AOS: the word becomes itself plus 1.
@@ -154,7 +186,11 @@ pub fn add_one_to_storage(given: &Operand36, regs: &Regs) -> Effect36
     ensures value { Gives result regs.now (add_one_to_storage (word (operand_fields given.now)) regs.now) }
     ensures put { length (words_of_held result.put) ≡ 1 }
 {
-    into_operand(Register::A, sum(Register::A, number_got(Register::A, given), 1, false), regs)
+    into_operand(
+        Register::A,
+        sum(Register::A, number_got(Register::A, given), 1, false),
+        regs,
+    )
 }
 
 /// ASA, ASQ, ASX: the operand becomes register plus operand.
@@ -165,7 +201,11 @@ pub fn add_to_storage(r: Register, given: &Operand36, regs: &Regs) -> Effect36
     ensures value { Gives result regs.now (add_to_storage (working r) (operand (working r) (operand_fields given.now)) regs.now) }
     ensures put { PutsNumber r (words_of_held result.put) }
 {
-    into_operand(r, sum(r, number_in(r, regs), number_got(r, given), false), regs)
+    into_operand(
+        r,
+        sum(r, number_in(r, regs), number_got(r, given), false),
+        regs,
+    )
 }
 
 /// SSA, SSQ, SSX: the operand becomes register minus operand.
@@ -176,7 +216,11 @@ pub fn subtract_stored(r: Register, given: &Operand36, regs: &Regs) -> Effect36
     ensures value { Gives result regs.now (subtract_stored (working r) (operand (working r) (operand_fields given.now)) regs.now) }
     ensures put { PutsNumber r (words_of_held result.put) }
 {
-    into_operand(r, difference(r, number_in(r, regs), number_got(r, given), false), regs)
+    into_operand(
+        r,
+        difference(r, number_in(r, regs), number_got(r, given), false),
+        regs,
+    )
 }
 
 /// NEG, NEGL: the register becomes its negative.
@@ -187,5 +231,11 @@ pub fn negate(r: Register, regs: &Regs) -> Effect36
     ensures put { length (words_of_held result.put) ≡ 0 }
 {
     let s = negation(r, number_in(r, regs));
-    takes(r, s.value, zn_overflow(s, indicators(regs)), s.overflow, regs)
+    takes(
+        r,
+        s.value,
+        zn_overflow(s, indicators(regs)),
+        s.overflow,
+        regs,
+    )
 }
