@@ -1,0 +1,4 @@
+pub mod DataInstructions
+pub mod Registers
+pub mod Results
+pub mod WordsPut

@@ -1,0 +1,41 @@
+-- The code's registers are those of the definitions.
+use Rattle.std.specs.Prelude.{◌≡◌, ℕ, ◌<◌, List, length, IsTrue}
+use Rattle.m36_model.specs.declared.effects.Held.{Held}
+use Rattle.m36_model.specs.OperandHeld.{is_word, is_pair}
+use Rattle.m36_model.specs.Results.{Working, A, Q, AQ, X}
+use Rattle.m36_xdata.specs.WordsPut.{IsHalf}
+use Rattle.m36_xdata.specs.declared.registers.Register.{Register}
+use Rattle.m36_xdata.specs.declared.registers.Register.TheVariants as register
+
+abbrev pub working : Register → Working
+working register.A = A
+working register.Q = Q
+working register.Aq = AQ
+working (register.X n) = X n
+
+-- There are eight index registers.
+abbrev pub IsRegister : Register → Type 0
+IsRegister register.A = Unit {0}
+IsRegister register.Q = Unit {0}
+IsRegister register.Aq = Unit {0}
+IsRegister (register.X n) = n < 8
+
+-- Words are shifted, and pairs; index registers are not.
+abbrev pub IsShifted : Register → Type 0
+IsShifted register.A = Unit {0}
+IsShifted register.Q = Unit {0}
+IsShifted register.Aq = Unit {0}
+IsShifted (register.X n) = ⊥
+
+-- the words that are read for an operand of a register's width, and those that hold such a number
+abbrev pub HoldsNumber : Register → Held → Type 0
+HoldsNumber register.A h = IsTrue (is_word h)
+HoldsNumber register.Q h = IsTrue (is_word h)
+HoldsNumber register.Aq h = IsTrue (is_pair h)
+HoldsNumber (register.X n) h = IsTrue (is_word h)
+
+abbrev pub PutsNumber : Register → List ℕ → Type 0
+PutsNumber register.A words = length words ≡ 1
+PutsNumber register.Q words = length words ≡ 1
+PutsNumber register.Aq words = length words ≡ 2
+PutsNumber (register.X n) words = IsHalf words

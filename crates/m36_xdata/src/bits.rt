@@ -1,0 +1,68 @@
+//! Boolean operations on numbers of a register's width.
+
+ghost use Rattle.std.specs.Prelude.{◌≡◌, ◌*◌, ◌<◌};
+ghost use Rattle.m36_model.specs.Booleans.{and_of, or_of, xor_of, and_not_of};
+ghost use Rattle.m36_model.specs.Results.{half, width};
+ghost use Rattle.m36_xdata.specs.Registers.{working};
+
+use crate::numbers::{pair, word};
+use crate::registers::Register;
+use m36_arith::{
+    and_not18, and_not36, and_not72, and18, and36, and72, or18, or36, or72, xor18, xor36, xor72,
+};
+
+/// The bits that are on in both numbers.
+pub fn both(r: Register, x: u128, y: u128) -> u128
+    requires first { x < 2 * half (working r) }
+    requires second { y < 2 * half (working r) }
+    ensures value { result ≡ and_of (width (working r)) x y }
+    ensures bound { result < 2 * half (working r) }
+{
+    match r {
+        Register::A | Register::Q => and36(word(x), word(y)).value() as u128,
+        Register::Aq => and72(pair(x), pair(y)).value(),
+        Register::X(_) => and18(x as u32, y as u32) as u128,
+    }
+}
+
+/// The bits that are on in either number.
+pub fn either(r: Register, x: u128, y: u128) -> u128
+    requires first { x < 2 * half (working r) }
+    requires second { y < 2 * half (working r) }
+    ensures value { result ≡ or_of (width (working r)) x y }
+    ensures bound { result < 2 * half (working r) }
+{
+    match r {
+        Register::A | Register::Q => or36(word(x), word(y)).value() as u128,
+        Register::Aq => or72(pair(x), pair(y)).value(),
+        Register::X(_) => or18(x as u32, y as u32) as u128,
+    }
+}
+
+/// The bits that differ in the two numbers.
+pub fn differing(r: Register, x: u128, y: u128) -> u128
+    requires first { x < 2 * half (working r) }
+    requires second { y < 2 * half (working r) }
+    ensures value { result ≡ xor_of (width (working r)) x y }
+    ensures bound { result < 2 * half (working r) }
+{
+    match r {
+        Register::A | Register::Q => xor36(word(x), word(y)).value() as u128,
+        Register::Aq => xor72(pair(x), pair(y)).value(),
+        Register::X(_) => xor18(x as u32, y as u32) as u128,
+    }
+}
+
+/// The bits that are on in the first number and off in the second.
+pub fn first_alone(r: Register, x: u128, y: u128) -> u128
+    requires first { x < 2 * half (working r) }
+    requires second { y < 2 * half (working r) }
+    ensures value { result ≡ and_not_of (width (working r)) x y }
+    ensures bound { result < 2 * half (working r) }
+{
+    match r {
+        Register::A | Register::Q => and_not36(word(x), word(y)).value() as u128,
+        Register::Aq => and_not72(pair(x), pair(y)).value(),
+        Register::X(_) => and_not18(x as u32, y as u32) as u128,
+    }
+}

@@ -1,0 +1,122 @@
+//! Comparisons and tests, which change indicators alone.
+
+ghost use Rattle.std.specs.Prelude.{◌≡◌, IsTrue, length};
+ghost use Rattle.m36_model.specs.OperandHeld.{is_word};
+ghost use Rattle.m36_model.specs.Results.{operand, operand_fields, words_of_held, word};
+ghost use Rattle.m36_model.specs.Compares.{compare, test_word, test_and_clear, compare_masked, test_and, test_and_not};
+ghost use Rattle.m36_xdata.specs.Registers.{working, IsRegister, HoldsNumber};
+ghost use Rattle.m36_xdata.specs.Results.{Gives};
+
+use crate::bits::{both, differing, first_alone};
+use crate::conditions::{compared, zn};
+use crate::numbers::comparison;
+use crate::operands::number_got;
+use crate::registers::{Register, indicators, number_in, with_indicators};
+use crate::results::sets;
+use m36_model::{Effect36, Held, Operand36, Regs};
+use m36_word::Word;
+
+/// CMPA, CMPQ, CMPAQ, CMPX: register and operand are compared.
+#[tactic(auto, unfolding(m36_model::specs::Compares::compare))]
+pub fn compare(r: Register, given: &Operand36, regs: &Regs) -> Effect36
+    requires register { IsRegister r }
+    requires got { HoldsNumber r given.now.got }
+    ensures value { Gives result regs.now (compare (working r) (operand (working r) (operand_fields given.now)) regs.now) }
+    ensures put { length (words_of_held result.put) ≡ 0 }
+{
+    sets(
+        compared(
+            comparison(r, number_in(r, regs), number_got(r, given)),
+            indicators(regs),
+        ),
+        regs,
+    )
+}
+
+/// SZN: the word is tested.
+#[tactic(auto, unfolding(m36_model::specs::Compares::test_word))]
+pub fn test_word(given: &Operand36, regs: &Regs) -> Effect36
+    requires { IsTrue (is_word given.now.got) }
+    ensures value { Gives result regs.now (test_word (word (operand_fields given.now)) regs.now) }
+    ensures put { length (words_of_held result.put) ≡ 0 }
+{
+    sets(
+        zn(
+            Register::A,
+            number_got(Register::A, given),
+            indicators(regs),
+        ),
+        regs,
+    )
+}
+
+/// SZNC: the word is tested, and becomes 0.
+#[tactic(auto, unfolding(m36_model::specs::Compares::test_and_clear))]
+pub fn test_and_clear(given: &Operand36, regs: &Regs) -> Effect36
+    requires { IsTrue (is_word given.now.got) }
+    ensures value { Gives result regs.now (test_and_clear (word (operand_fields given.now)) regs.now) }
+    ensures put { length (words_of_held result.put) ≡ 1 }
+{
+    let ind = zn(
+        Register::A,
+        number_got(Register::A, given),
+        indicators(regs),
+    );
+    Effect36 {
+        regs: with_indicators(ind, regs),
+        put: Held::One(Word::ZERO),
+        overflow: false,
+    }
+}
+
+/// CMK: A and the word, where Q has no mask bit, are tested for difference.
+#[tactic(auto, unfolding(m36_model::specs::Compares::compare_masked))]
+pub fn compare_masked(given: &Operand36, regs: &Regs) -> Effect36
+    requires { IsTrue (is_word given.now.got) }
+    ensures value { Gives result regs.now (compare_masked (word (operand_fields given.now)) regs.now) }
+    ensures put { length (words_of_held result.put) ≡ 0 }
+{
+    let other = differing(
+        Register::A,
+        number_in(Register::A, regs),
+        number_got(Register::A, given),
+    );
+    let seen = first_alone(Register::A, other, number_in(Register::Q, regs));
+    sets(zn(Register::A, seen, indicators(regs)), regs)
+}
+
+/// CANA, CANQ, CANAQ, CANX: register and operand, bit by bit, are tested.
+#[tactic(auto, unfolding(m36_model::specs::Compares::test_and))]
+pub fn test_and(r: Register, given: &Operand36, regs: &Regs) -> Effect36
+    requires register { IsRegister r }
+    requires got { HoldsNumber r given.now.got }
+    ensures value { Gives result regs.now (test_and (working r) (operand (working r) (operand_fields given.now)) regs.now) }
+    ensures put { length (words_of_held result.put) ≡ 0 }
+{
+    sets(
+        zn(
+            r,
+            both(r, number_in(r, regs), number_got(r, given)),
+            indicators(regs),
+        ),
+        regs,
+    )
+}
+
+/// CNAA, CNAQ, CNAAQ, CNAX: register and not operand.
+#[tactic(auto, unfolding(m36_model::specs::Compares::test_and_not))]
+pub fn test_and_not(r: Register, given: &Operand36, regs: &Regs) -> Effect36
+    requires register { IsRegister r }
+    requires got { HoldsNumber r given.now.got }
+    ensures value { Gives result regs.now (test_and_not (working r) (operand (working r) (operand_fields given.now)) regs.now) }
+    ensures put { length (words_of_held result.put) ≡ 0 }
+{
+    sets(
+        zn(
+            r,
+            first_alone(r, number_in(r, regs), number_got(r, given)),
+            indicators(regs),
+        ),
+        regs,
+    )
+}

@@ -1,0 +1,61 @@
+//! Operand words, as numbers of a register's width.
+
+ghost use Rattle.std.specs.Prelude.{◌≡◌, ◌*◌, ◌^◌, ◌<◌, IsTrue};
+ghost use Rattle.m36_model.specs.OperandHeld.{is_word, is_pair};
+ghost use Rattle.m36_model.specs.Results.{operand_fields, words_of_held, half, operand, words, word, pair, lower};
+ghost use Rattle.m36_xdata.specs.Registers.{working, HoldsNumber, PutsNumber};
+
+use crate::numbers;
+use crate::registers::Register;
+use m36_model::{Held, Operand36};
+use m36_word::{Field, Word};
+
+/// The word that was read.
+pub fn word_got(given: &Operand36) -> Word
+    requires { IsTrue (is_word given.now.got) }
+    ensures { result ≡ word (operand_fields given.now) }
+{
+    given.got.word()
+}
+
+fn pair_got(given: &Operand36) -> u128
+    requires { IsTrue (is_pair given.now.got) }
+    ensures value { result ≡ pair (operand_fields given.now) }
+    ensures bound { result < 2 ^ 72 }
+{
+    given.got.pair().value()
+}
+
+/// Bits 18 to 35 of the word that was read.
+pub fn lower_got(given: &Operand36) -> u128
+    requires { IsTrue (is_word given.now.got) }
+    ensures value { result ≡ lower (operand_fields given.now) }
+    ensures bound { result < 2 ^ 18 }
+{
+    Field::<18, 18>::get(word_got(given)) as u128
+}
+
+/// The operand of a register: the word, the pair, or bits 0 to 17 of the word.
+pub fn number_got(r: Register, given: &Operand36) -> u128
+    requires { HoldsNumber r given.now.got }
+    ensures value { result ≡ operand (working r) (operand_fields given.now) }
+    ensures bound { result < 2 * half (working r) }
+{
+    match r {
+        Register::A | Register::Q => word_got(given).value() as u128,
+        Register::Aq => pair_got(given),
+        Register::X(_) => Field::<0, 18>::get(word_got(given)) as u128,
+    }
+}
+
+/// The words to write that hold a number of a register's width.
+pub fn held(r: Register, v: u128) -> Held
+    requires { v < 2 * half (working r) }
+    ensures value { words_of_held result ≡ words (working r) v }
+    ensures put { PutsNumber r (words_of_held result) }
+{
+    match r {
+        Register::A | Register::Q | Register::X(_) => Held::One(numbers::word(v)),
+        Register::Aq => Held::Two(numbers::pair(v)),
+    }
+}

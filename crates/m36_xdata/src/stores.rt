@@ -1,0 +1,124 @@
+//! Stores.
+
+ghost use Rattle.std.specs.Prelude.{◌≡◌, ◌*◌, ◌^◌, ◌<◌, ◌==◌, IsTrue, length, if◌then◌else◌};
+ghost use Rattle.m36_word.specs.Bits.{of_bit};
+ghost use Rattle.m36_model.specs.OperandHeld.{is_word};
+ghost use Rattle.m36_model.specs.Results.{operand_fields, words_of_held, word};
+ghost use Rattle.m36_model.specs.Stores.{store, store_zero, indicators_half, store_indicators, store_where_zero, store_where_equal};
+ghost use Rattle.m36_xdata.specs.Registers.{working, IsRegister, PutsNumber};
+ghost use Rattle.m36_xdata.specs.Results.{Gives};
+ghost use Rattle.m36_xdata.specs.WordsPut.{IsHalf};
+
+use crate::conditions::with_zero;
+use crate::operands::{held, word_got};
+use crate::registers::{
+    Register, accumulator, indicators, moved_on, number_in, quotient, with_indicators,
+};
+use m36_model::{Effect36, Held, Ind, Operand36, Regs};
+use m36_word::Word;
+
+/// STA, STQ, STAQ, STX, SXL: the operand becomes the register.
+#[tactic(auto, unfolding(m36_model::specs::Stores::store))]
+pub fn store(r: Register, regs: &Regs) -> Effect36
+    requires { IsRegister r }
+    ensures value { Gives result regs.now (store (working r) regs.now) }
+    ensures put { PutsNumber r (words_of_held result.put) }
+{
+    Effect36 {
+        regs: moved_on(regs),
+        put: held(r, number_in(r, regs)),
+        overflow: false,
+    }
+}
+
+/// STZ: the word becomes 0.
+#[tactic(auto, unfolding(m36_model::specs::Stores::store_zero))]
+pub fn store_zero(regs: &Regs) -> Effect36
+    ensures value { Gives result regs.now (store_zero regs.now) }
+    ensures put { length (words_of_held result.put) ≡ 1 }
+{
+    Effect36 {
+        regs: moved_on(regs),
+        put: Held::One(Word::ZERO),
+        overflow: false,
+    }
+}
+
+fn bit(on: bool, place: u32) -> u64
+    requires { place < 18 }
+    ensures value { result ≡ of_bit on * 2 ^ place }
+{
+    if on { 1 << place } else { 0 }
+}
+
+#[tactic(auto, unfolding(m36_model::specs::Stores::indicators_half))]
+fn indicators_half(ind: Ind) -> Word
+    ensures value { result ≡ indicators_half ind }
+    ensures bound { result < 2 ^ 18 }
+{
+    Word::low(
+        bit(ind.zero, 17)
+            + bit(ind.negative, 16)
+            + bit(ind.carry, 15)
+            + bit(ind.overflow, 14)
+            + bit(ind.mask, 11)
+            + bit(ind.tally, 10),
+    )
+}
+
+/// STI: bits 18 to 35 of the word become the indicators.
+#[tactic(auto, unfolding(m36_model::specs::Stores::store_indicators))]
+pub fn store_indicators(regs: &Regs) -> Effect36
+    ensures value { Gives result regs.now (store_indicators regs.now) }
+    ensures put { IsHalf (words_of_held result.put) }
+{
+    Effect36 {
+        regs: moved_on(regs),
+        put: Held::One(indicators_half(indicators(regs))),
+        overflow: false,
+    }
+}
+
+fn are_equal(first: Word, second: Word) -> bool
+    ensures { result ≡ (first == second) }
+{
+    first.value() == second.value()
+}
+
+fn chosen(first: bool, a: Word, b: Word) -> Word
+    ensures { result ≡ (if first then a else b) }
+{
+    if first { a } else { b }
+}
+
+/// STAC: where the word is 0 it becomes A, and else stays; zero tells which.
+#[tactic(auto, unfolding(m36_model::specs::Stores::store_where_zero))]
+pub fn store_where_zero(given: &Operand36, regs: &Regs) -> Effect36
+    requires { IsTrue (is_word given.now.got) }
+    ensures value { Gives result regs.now (store_where_zero (word (operand_fields given.now)) regs.now) }
+    ensures put { length (words_of_held result.put) ≡ 1 }
+{
+    let old = word_got(given);
+    let free = are_equal(old, Word::ZERO);
+    Effect36 {
+        regs: with_indicators(with_zero(free, indicators(regs)), regs),
+        put: Held::One(chosen(free, accumulator(regs), old)),
+        overflow: false,
+    }
+}
+
+/// STACQ: where the word equals Q it becomes A, and else stays; zero tells which.
+#[tactic(auto, unfolding(m36_model::specs::Stores::store_where_equal))]
+pub fn store_where_equal(given: &Operand36, regs: &Regs) -> Effect36
+    requires { IsTrue (is_word given.now.got) }
+    ensures value { Gives result regs.now (store_where_equal (word (operand_fields given.now)) regs.now) }
+    ensures put { length (words_of_held result.put) ≡ 1 }
+{
+    let old = word_got(given);
+    let equal = are_equal(old, quotient(regs));
+    Effect36 {
+        regs: with_indicators(with_zero(equal, indicators(regs)), regs),
+        put: Held::One(chosen(equal, accumulator(regs), old)),
+        overflow: false,
+    }
+}

@@ -1,0 +1,241 @@
+//! Additions, subtractions and negations.
+
+ghost use Rattle.std.specs.Prelude.{◌≡◌, ◌*◌, ◌^◌, ◌<◌, IsTrue, length, not};
+ghost use Rattle.m36_model.specs.OperandHeld.{is_word};
+ghost use Rattle.m36_model.specs.Results.{AQ, half, operand, operand_fields, words_of_held, word};
+ghost use Rattle.m36_model.specs.Sums.{into_register, into_register_logical, into_operand, add, add_logical, add_with_carry, sign_extended, subtract, subtract_logical, subtract_with_carry, add_one_to_storage, add_to_storage, subtract_stored, negate};
+ghost use Rattle.m36_xdata.specs.Registers.{working, IsRegister, HoldsNumber, PutsNumber};
+ghost use Rattle.m36_xdata.specs.Results.{sum_fields, Gives};
+
+use crate::conditions::{zn_carry, zn_carry_overflow, zn_overflow};
+use crate::numbers::{Computed, difference, negation, sum};
+use crate::operands::{number_got, word_got};
+use crate::registers::{Register, indicators, number_in};
+use crate::results::{puts, takes};
+use m36_model::{Effect36, Operand36, Regs};
+use m36_word::Word;
+
+fn carry(regs: &Regs) -> bool
+    ensures { result ≡ regs.now.ind.carry }
+{
+    regs.ind.carry
+}
+
+#[tactic(auto, unfolding(m36_model::specs::Sums::into_register))]
+fn into_register(r: Register, s: Computed, regs: &Regs) -> Effect36
+    requires register { IsRegister r }
+    requires number { s.value < 2 * half (working r) }
+    ensures value { Gives result regs.now (into_register (working r) (sum_fields s) regs.now) }
+    ensures put { length (words_of_held result.put) ≡ 0 }
+{
+    takes(
+        r,
+        s.value,
+        zn_carry_overflow(s, indicators(regs)),
+        s.overflow,
+        regs,
+    )
+}
+
+#[tactic(auto, unfolding(m36_model::specs::Sums::into_register_logical))]
+fn into_register_logical(r: Register, s: Computed, regs: &Regs) -> Effect36
+    requires register { IsRegister r }
+    requires number { s.value < 2 * half (working r) }
+    ensures value { Gives result regs.now (into_register_logical (working r) (sum_fields s) regs.now) }
+    ensures put { length (words_of_held result.put) ≡ 0 }
+{
+    takes(r, s.value, zn_carry(s, indicators(regs)), false, regs)
+}
+
+#[tactic(auto, unfolding(m36_model::specs::Sums::into_operand))]
+fn into_operand(r: Register, s: Computed, regs: &Regs) -> Effect36
+    requires { s.value < 2 * half (working r) }
+    ensures value { Gives result regs.now (into_operand (working r) (sum_fields s) regs.now) }
+    ensures put { PutsNumber r (words_of_held result.put) }
+{
+    puts(
+        r,
+        s.value,
+        zn_carry_overflow(s, indicators(regs)),
+        s.overflow,
+        regs,
+    )
+}
+
+#[tactic(auto, unfolding(m36_model::specs::Sums::add))]
+fn add_number(r: Register, v: u128, regs: &Regs) -> Effect36
+    requires register { IsRegister r }
+    requires number { v < 2 * half (working r) }
+    ensures value { Gives result regs.now (add (working r) v regs.now) }
+    ensures put { length (words_of_held result.put) ≡ 0 }
+{
+    into_register(r, sum(r, number_in(r, regs), v, false), regs)
+}
+
+/// ADA, ADQ, ADAQ, ADX: register plus operand.
+pub fn add(r: Register, given: &Operand36, regs: &Regs) -> Effect36
+    requires register { IsRegister r }
+    requires got { HoldsNumber r given.now.got }
+    ensures value { Gives result regs.now (add (working r) (operand (working r) (operand_fields given.now)) regs.now) }
+    ensures put { length (words_of_held result.put) ≡ 0 }
+{
+    add_number(r, number_got(r, given), regs)
+}
+
+#[tactic(auto, unfolding(m36_model::specs::Sums::sign_extended))]
+fn sign_extended(w: Word) -> u128
+    ensures value { result ≡ sign_extended w }
+    ensures bound { result < 2 ^ 72 }
+{
+    let v = w.value() as u128;
+    if v < 1 << 35 {
+        v
+    } else {
+        v + ((1 << 72) - (1 << 36))
+    }
+}
+
+/// ADL: AQ plus the word with its sign extended.
+pub fn add_low(given: &Operand36, regs: &Regs) -> Effect36
+    requires { IsTrue (is_word given.now.got) }
+    ensures value { Gives result regs.now (add AQ (sign_extended (word (operand_fields given.now))) regs.now) }
+    ensures put { length (words_of_held result.put) ≡ 0 }
+{
+    add_number(Register::Aq, sign_extended(word_got(given)), regs)
+}
+
+/// ADLA, ADLQ, ADLAQ, ADLX: register plus operand, without overflow.
+#[tactic(auto, unfolding(m36_model::specs::Sums::add_logical))]
+pub fn add_logical(r: Register, given: &Operand36, regs: &Regs) -> Effect36
+    requires register { IsRegister r }
+    requires got { HoldsNumber r given.now.got }
+    ensures value { Gives result regs.now (add_logical (working r) (operand (working r) (operand_fields given.now)) regs.now) }
+    ensures put { length (words_of_held result.put) ≡ 0 }
+{
+    into_register_logical(
+        r,
+        sum(r, number_in(r, regs), number_got(r, given), false),
+        regs,
+    )
+}
+
+/// AWCA, AWCQ: register plus operand, plus 1 where carry is on.
+#[tactic(auto, unfolding(m36_model::specs::Sums::add_with_carry))]
+pub fn add_with_carry(r: Register, given: &Operand36, regs: &Regs) -> Effect36
+    requires register { IsRegister r }
+    requires got { HoldsNumber r given.now.got }
+    ensures value { Gives result regs.now (add_with_carry (working r) (operand (working r) (operand_fields given.now)) regs.now) }
+    ensures put { length (words_of_held result.put) ≡ 0 }
+{
+    into_register(
+        r,
+        sum(r, number_in(r, regs), number_got(r, given), carry(regs)),
+        regs,
+    )
+}
+
+/// SBA, SBQ, SBAQ, SBX: register minus operand.
+#[tactic(auto, unfolding(m36_model::specs::Sums::subtract))]
+pub fn subtract(r: Register, given: &Operand36, regs: &Regs) -> Effect36
+    requires register { IsRegister r }
+    requires got { HoldsNumber r given.now.got }
+    ensures value { Gives result regs.now (subtract (working r) (operand (working r) (operand_fields given.now)) regs.now) }
+    ensures put { length (words_of_held result.put) ≡ 0 }
+{
+    into_register(
+        r,
+        difference(r, number_in(r, regs), number_got(r, given), false),
+        regs,
+    )
+}
+
+/// SBLA, SBLQ, SBLAQ, SBLX: register minus operand, without overflow.
+#[tactic(auto, unfolding(m36_model::specs::Sums::subtract_logical))]
+pub fn subtract_logical(r: Register, given: &Operand36, regs: &Regs) -> Effect36
+    requires register { IsRegister r }
+    requires got { HoldsNumber r given.now.got }
+    ensures value { Gives result regs.now (subtract_logical (working r) (operand (working r) (operand_fields given.now)) regs.now) }
+    ensures put { length (words_of_held result.put) ≡ 0 }
+{
+    into_register_logical(
+        r,
+        difference(r, number_in(r, regs), number_got(r, given), false),
+        regs,
+    )
+}
+
+/// SWCA, SWCQ: register minus operand, and minus 1 where carry is off.
+#[tactic(auto, unfolding(m36_model::specs::Sums::subtract_with_carry))]
+pub fn subtract_with_carry(r: Register, given: &Operand36, regs: &Regs) -> Effect36
+    requires register { IsRegister r }
+    requires got { HoldsNumber r given.now.got }
+    ensures value { Gives result regs.now (subtract_with_carry (working r) (operand (working r) (operand_fields given.now)) regs.now) }
+    ensures put { length (words_of_held result.put) ≡ 0 }
+{
+    into_register(
+        r,
+        difference(r, number_in(r, regs), number_got(r, given), !carry(regs)),
+        regs,
+    )
+}
+
+/// AOS: the word becomes itself plus 1.
+#[tactic(auto, unfolding(m36_model::specs::Sums::add_one_to_storage))]
+pub fn add_one_to_storage(given: &Operand36, regs: &Regs) -> Effect36
+    requires { IsTrue (is_word given.now.got) }
+    ensures value { Gives result regs.now (add_one_to_storage (word (operand_fields given.now)) regs.now) }
+    ensures put { length (words_of_held result.put) ≡ 1 }
+{
+    into_operand(
+        Register::A,
+        sum(Register::A, number_got(Register::A, given), 1, false),
+        regs,
+    )
+}
+
+/// ASA, ASQ, ASX: the operand becomes register plus operand.
+#[tactic(auto, unfolding(m36_model::specs::Sums::add_to_storage))]
+pub fn add_to_storage(r: Register, given: &Operand36, regs: &Regs) -> Effect36
+    requires register { IsRegister r }
+    requires got { HoldsNumber r given.now.got }
+    ensures value { Gives result regs.now (add_to_storage (working r) (operand (working r) (operand_fields given.now)) regs.now) }
+    ensures put { PutsNumber r (words_of_held result.put) }
+{
+    into_operand(
+        r,
+        sum(r, number_in(r, regs), number_got(r, given), false),
+        regs,
+    )
+}
+
+/// SSA, SSQ, SSX: the operand becomes register minus operand.
+#[tactic(auto, unfolding(m36_model::specs::Sums::subtract_stored))]
+pub fn subtract_stored(r: Register, given: &Operand36, regs: &Regs) -> Effect36
+    requires register { IsRegister r }
+    requires got { HoldsNumber r given.now.got }
+    ensures value { Gives result regs.now (subtract_stored (working r) (operand (working r) (operand_fields given.now)) regs.now) }
+    ensures put { PutsNumber r (words_of_held result.put) }
+{
+    into_operand(
+        r,
+        difference(r, number_in(r, regs), number_got(r, given), false),
+        regs,
+    )
+}
+
+/// NEG, NEGL: the register becomes its negative.
+#[tactic(auto, unfolding(m36_model::specs::Sums::negate))]
+pub fn negate(r: Register, regs: &Regs) -> Effect36
+    requires { IsRegister r }
+    ensures value { Gives result regs.now (negate (working r) regs.now) }
+    ensures put { length (words_of_held result.put) ≡ 0 }
+{
+    let s = negation(r, number_in(r, regs));
+    takes(
+        r,
+        s.value,
+        zn_overflow(s, indicators(regs)),
+        s.overflow,
+        regs,
+    )
+}
