@@ -16,6 +16,7 @@ pub mod Shifts
 pub mod Booleans
 pub mod Results
 pub mod OperandHeld
+pub mod WordsPut
 pub mod Loads
 pub mod Stores
 pub mod Sums
@@ -33,7 +34,6 @@ pub mod Step
 pub mod Worked
 pub mod WorkedAddresses
 pub mod WorkedCalls
-pub mod FirstPath
 pub mod WorkedEffects
 pub mod ChainList
 pub mod CoreLaw

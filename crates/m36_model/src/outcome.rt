@@ -33,8 +33,6 @@ pub enum Stop {
     Operation,
     /// An indirect modification that is not provided.
     Tag,
-    /// Something that the machine has not got yet.
-    Unbuilt,
 }
 
 /// What ends a step before its effect.

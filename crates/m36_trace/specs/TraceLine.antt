@@ -6,7 +6,7 @@ use Rattle.m36_model.specs.Fields.{AtFields, FinalFields}
 use Rattle.m36_model.specs.declared.registers.Ind.{Ind}
 use Rattle.m36_model.specs.declared.outcome.Fault.{Fault}
 use Rattle.m36_model.specs.declared.outcome.Stop.{Stop}
-use Rattle.m36_model.specs.declared.outcome.Stop.TheVariants.{Dis, Operation, Tag, Unbuilt}
+use Rattle.m36_model.specs.declared.outcome.Stop.TheVariants.{Dis, Operation, Tag}
 use Rattle.m36_model.specs.declared.outcome.Outcome.{Outcome}
 use Rattle.m36_model.specs.declared.outcome.Outcome.TheVariants.{Next, Faulted, Stopped}
 use Rattle.m36_model.specs.declared.record.StepRecord.{StepRecord}
@@ -52,7 +52,6 @@ abbrev pub stop_text : Stop → List ℕ
 stop_text Dis = codes "dis"
 stop_text Operation = codes "stop operation"
 stop_text Tag = codes "stop tag"
-stop_text Unbuilt = codes "stop unbuilt"
 
 abbrev pub outcome_text : Outcome → List ℕ
 outcome_text Next = codes "next"

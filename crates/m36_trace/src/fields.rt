@@ -149,7 +149,6 @@ pub fn stop_name(stop: Stop) -> &'static str
         Stop::Dis => "dis",
         Stop::Operation => "stop operation",
         Stop::Tag => "stop tag",
-        Stop::Unbuilt => "stop unbuilt",
     }
 }
 

@@ -108,22 +108,6 @@ fn a_halt(rt: HostRuntime) {
 }
 
 #[test]
-fn an_unbuilt_stop(rt: HostRuntime) {
-    let record = told(
-        standing(0, 1, 0),
-        Some(Word::low(0o000002235005)),
-        None,
-        0,
-        OFF,
-        Outcome::Stopped(Stop::Unbuilt),
-    );
-    assert_eq!(rt;
-        line(1, &record).as_str(),
-        "1 0 00001|000000 000002235005 - 000000000000 000000000000 ...... stop unbuilt"
-    );
-}
-
-#[test]
 fn a_link_fault(rt: HostRuntime) {
     let here = At {
         word: 5,

@@ -1,4 +1,3 @@
 pub mod DataInstructions
 pub mod Registers
 pub mod Results
-pub mod WordsPut

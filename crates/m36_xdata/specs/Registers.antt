@@ -3,7 +3,7 @@ use Rattle.std.specs.Prelude.{◌≡◌, ℕ, ◌<◌, List, length, IsTrue}
 use Rattle.m36_model.specs.declared.effects.Held.{Held}
 use Rattle.m36_model.specs.OperandHeld.{is_word, is_pair}
 use Rattle.m36_model.specs.Results.{Working, A, Q, AQ, X}
-use Rattle.m36_xdata.specs.WordsPut.{IsHalf}
+use Rattle.m36_model.specs.WordsPut.{IsHalf}
 use Rattle.m36_xdata.specs.declared.registers.Register.{Register}
 use Rattle.m36_xdata.specs.declared.registers.Register.TheVariants as register
 

@@ -6,7 +6,7 @@ ghost use Rattle.m36_model.specs.OperandHeld.{HoldsFor};
 ghost use Rattle.m36_model.specs.Results.{operand_fields, words_of_held};
 ghost use Rattle.m36_model.specs.Effect.{exec, answer_fields, refused_here};
 ghost use Rattle.m36_xdata.specs.DataInstructions.{is_data};
-ghost use Rattle.m36_xdata.specs.WordsPut.{PutsFor};
+ghost use Rattle.m36_model.specs.WordsPut.{PutsFor};
 
 use crate::compares::{compare, compare_masked, test_and, test_and_clear, test_and_not, test_word};
 use crate::loads::{

@@ -7,7 +7,7 @@ ghost use Rattle.m36_model.specs.Results.{operand_fields, words_of_held, word};
 ghost use Rattle.m36_model.specs.Stores.{store, store_zero, indicators_half, store_indicators, store_where_zero, store_where_equal};
 ghost use Rattle.m36_xdata.specs.Registers.{working, IsRegister, PutsNumber};
 ghost use Rattle.m36_xdata.specs.Results.{Gives};
-ghost use Rattle.m36_xdata.specs.WordsPut.{IsHalf};
+ghost use Rattle.m36_model.specs.WordsPut.{IsHalf};
 
 use crate::conditions::with_zero;
 use crate::operands::{held, word_got};
