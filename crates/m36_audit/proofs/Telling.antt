@@ -1,0 +1,11 @@
+-- What is found by a test of a definition's answer.
+use Rattle.std.proofs.Common.{◌≡◌, sym, ◌∙◌}
+use Rattle.std.specs.Prelude.{Option, Some, None, Result, Ok, Err}
+use Rattle.std.specs.Result.{result_ok}
+use Rattle.m36_audit.specs.Live.{Tells}
+
+pub tells : {A E : Type 0} (found : Option A) (definition : Result A E) → found ≡ result_ok definition → Tells found definition
+tells None (Ok a) h = cc
+tells None (Err e) h = λ a k. cc
+tells (Some a) (Ok b) h = cc
+tells (Some a) (Err e) h = cc

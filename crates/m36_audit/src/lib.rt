@@ -1,0 +1,5 @@
+//! The auditor.
+#![tactic(auto)]
+
+mod descriptor;
+mod brackets;
