@@ -35,3 +35,15 @@ fn is_out_of_order(core: &Core, dbr: Dbr, seg: u32) -> bool
 {
     disordered(descriptor(core, dbr, seg))
 }
+
+/// The first live segment whose brackets are out of order.
+pub(crate) fn out_of_order(core: &Core, dbr: Dbr) -> Option<u32>
+    ensures { Finds (IsOutOfOrder core.now dbr) result }
+{
+    for seg in 0..segments(dbr) {
+        if is_out_of_order(core, dbr, seg) {
+            return Some(seg);
+        }
+    }
+    None
+}

@@ -1,5 +1,6 @@
 //! The auditor.
 #![tactic(auto)]
 
-mod descriptor;
 mod brackets;
+mod descriptor;
+mod gates;
