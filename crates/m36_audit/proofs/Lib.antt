@@ -1,3 +1,4 @@
 pub mod Telling
 pub mod Bounds
 pub mod Segments
+pub mod Marking
