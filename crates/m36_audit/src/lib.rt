@@ -4,3 +4,4 @@
 mod brackets;
 mod descriptor;
 mod gates;
+mod tables;
