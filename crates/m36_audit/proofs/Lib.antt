@@ -2,3 +2,4 @@ pub mod Telling
 pub mod Bounds
 pub mod Segments
 pub mod Marking
+pub mod TableWords
