@@ -1,5 +1,5 @@
 -- One more mark for a table at a word.
-use Rattle.std.proofs.Common.{◌≡◌, ◌≢◌, ℕ, ◌+◌, ◌<◌, ◌≤◌, length, get_or, set, refl, sym, ◌∙◌, ap, subst, inl, inr, arith, min}
+use Rattle.std.proofs.Common.{◌≡◌, ◌≢◌, ℕ, ◌<◌, ◌≤◌, length, refl, sym, ◌∙◌, ap, subst, inl, inr, arith, min}
 use Rattle.std.specs.Prelude.{◌⊎◌, Bool, true, false, ◌||◌, ◌==◌, List, Option, Some, None, slice_index, slice_set}
 use Rattle.std.proofs.lemmas.Bool.{cases_eq, cases_lt, eqb-true, eqb-false}
 use Rattle.std.proofs.lemmas.List.{get_or-set_same, get_or-set_other, length-set, set_past, get_or_past}
@@ -25,6 +25,7 @@ also_by A B (Some r) p there back here f =
     at : (q : ℕ) → A q ⊎ (q ≡ p) → min r p ≤ q
     at q (inl k) = let low = f.1 q k in omega arith
     at q (inr e) = omega arith
+
     pick : (r < p) ⊎ (p ≤ r) → B (min r p)
     pick (inl k) = let e : r ≡ min r p = omega arith in subst B e (there r f.0)
     pick (inr k) = let e : p ≡ min r p = omega arith in subst B e here
@@ -46,7 +47,6 @@ numbered Directory = omega arith
 numbered (Pages s) = omega arith
 
 module _ (V W : Table → ℕ → Type 0) (t0 : Table) (a0 : ℕ) (old : (t : Table) (a : ℕ) → V t a → W t a) (new : (t : Table) (a : ℕ) → W t a → V t a ⊎ ((t ≡ t0) × (a ≡ a0))) (here : W t0 a0) (size : ℕ) (tables : List ℕ) (least : Option ℕ) (m : AreMarked V size tables least) where
-
   was_by : (t : Table) (a : ℕ) → (a ≡ a0 → ⊥) → V t a ⊎ ((t ≡ t0) × (a ≡ a0)) → V t a
   was_by t a far (inl v) = v
   was_by t a far (inr e) = absurd (far e.1)

@@ -1,16 +1,14 @@
 -- The table words of one segment more are marked.
-use Rattle.std.proofs.Common.{◌≡◌, ℕ, ◌+◌, ◌*◌, ◌/◌, ◌<◌, ◌≤◌, ◌^◌, refl, sym, ◌∙◌, ap, subst, inl, inr, arith}
-use Rattle.std.specs.Prelude.{◌⊎◌, Bool, true, false, List, Option, Some, None, Result, Ok, Err}
-use Rattle.std.specs.Result.{result_ok}
-use Rattle.std.proofs.lemmas.Bool.{cases_lt}
+use Rattle.std.proofs.Common.{◌≡◌, ℕ, ◌+◌, ◌*◌, ◌/◌, ◌<◌, ◌≤◌, refl, sym, ◌∙◌, ap, subst, inl, inr, arith}
+use Rattle.std.specs.Prelude.{◌⊎◌, true, false, nat_lt, List, length, replicate, slice_index, Option, None, Ok}
+use Rattle.std.proofs.lemmas.Bool.{cases_lt, ltb-true}
+use Rattle.std.proofs.lemmas.List.{length-replicate, get_or-replicate, get_or_past}
 use Rattle.m36_desc.specs.Fields.{SdwFields, DbrFields}
 use Rattle.m36_desc.specs.Widths.{IsSdw}
 use Rattle.m36_model.specs.Place.{wrapped, in_bounds, directory_at, page_at, sdw_place, core_sdw}
-use Rattle.m36_model.specs.Audit.{IsSdwWord, IsDirectoryWord, IsPageWord, Table, Sdws, Directory, Pages}
-use Rattle.m36_audit.specs.TableMarks.{number, tables_marked, least_marked, AreMarked, SoFar, InTwo}
-use Rattle.m36_audit.specs.Live.{Tells}
-use Rattle.m36_audit.proofs.Telling.{tells}
-use Rattle.m36_audit.proofs.Bounds.{live_fits}
+use Rattle.m36_model.specs.Audit.{IsSdwWord, IsPageWord, IsOf, Table, Sdws, Directory, Pages}
+use Rattle.m36_audit.specs.TableMarks.{tables_marked, least_marked, AreMarked, SoFar, InTwo}
+use Rattle.m36_audit.proofs.Bounds.{live_fits, live_in_bounds, sdw_place_in_bounds}
 use Rattle.m36_audit.proofs.Marking.{marked_more, finds_same}
 
 -- marks for the same words
@@ -21,13 +19,19 @@ marked_same V W size tables least there back m =
       none = λ a inside e t w. m.none a inside e t (back t a w);
       some = λ a some. let k = m.some a some in record { table = k.table; of = there k.table a k.of; numbered = k.numbered };
       least_two = finds_same (InTwo V size) (InTwo W size) least
-        (λ a k. record { inside = k.inside; table = k.table; other = k.other; of = there k.table a k.of; of_other = there k.other a k.of_other; differ = k.differ })
-        (λ a k. record { inside = k.inside; table = k.table; other = k.other; of = back k.table a k.of; of_other = back k.other a k.of_other; differ = k.differ })
-        m.least_two;
+          (λ a k. record { inside = k.inside; table = k.table; other = k.other; of = there k.table a k.of; of_other = there k.other a k.of_other; differ = k.differ })
+          (λ a k. record { inside = k.inside; table = k.table; other = k.other; of = back k.table a k.of; of_other = back k.other a k.of_other; differ = k.differ })
+          m.least_two;
     }
 
-module _ (core : List ℕ) (dbr : DbrFields) (seg : ℕ) where
+-- the marks that a call left are those of one more mark
+pub marked_by : (V : Table → ℕ → Type 0) (size : ℕ) (tables : List ℕ) (least : Option ℕ) (table b a : ℕ) → b ≡ a → (after : List ℕ) (then : Option ℕ) → after ≡ tables_marked tables table b → then ≡ least_marked tables least table b → AreMarked V size (tables_marked tables table a) (least_marked tables least table a) → AreMarked V size after then
+marked_by V size tables least table b a same after then e f m =
+    let there : after ≡ tables_marked tables table a = e ∙ ap (tables_marked tables table) same in
+    let least_there : then ≡ least_marked tables least table a = f ∙ ap (least_marked tables least table) same in
+    subst (λ (l : List ℕ). AreMarked V size l then) (sym there) (subst (λ (o : Option ℕ). AreMarked V size (tables_marked tables table a) o) (sym least_there) m)
 
+module _ (core : List ℕ) (dbr : DbrFields) (seg : ℕ) where
   -- the words of one descriptor
   module _ (directories pages : ℕ) where
     sdw_before : (t : Table) (a : ℕ) → SoFar core dbr seg directories pages t a → SoFar core dbr (seg + 1) directories pages t a
@@ -41,6 +45,7 @@ module _ (core : List ℕ) (dbr : DbrFields) (seg : ℕ) where
       where
         here : (s a : ℕ) → s ≡ seg → IsSdwWord core dbr s a → ⊥
         here s a e k = none k.even (ap (λ (n : ℕ). sdw_place core dbr n) (sym e) ∙ k.found)
+
         back : (t : Table) (a : ℕ) → SoFar core dbr (seg + 1) directories pages t a → SoFar core dbr seg directories pages t a
         back Sdws a k = at (cases_lt k.0 seg)
           where
@@ -153,6 +158,7 @@ module _ (core : List ℕ) (dbr : DbrFields) (seg : ℕ) where
       where
         here : (s n a : ℕ) → s ≡ seg → page ≤ n → IsPageWord core dbr s n a → ⊥
         here s n a e le k = none n a le (subst (λ (x : ℕ). IsPageWord core dbr x n a) e k)
+
         back : (t : Table) (a : ℕ) → SoFar core dbr sdws directories (256 * (seg + 1)) t a → SoFar core dbr sdws directories (256 * seg + page) t a
         back Sdws a k = k
         back Directory a k = k
@@ -166,6 +172,38 @@ module _ (core : List ℕ) (dbr : DbrFields) (seg : ℕ) where
                 let same : s ≡ seg = omega arith in
                 let far : page ≤ k.0 = omega arith in
                 absurd (here s k.0 a same far k.2)
+
+    -- where a segment has no page at all
+    no_page_table : ((n a : ℕ) → IsPageWord core dbr seg n a → ⊥) → (size : ℕ) (tables : List ℕ) (least : Option ℕ) → AreMarked (SoFar core dbr sdws directories (256 * seg)) size tables least → AreMarked (SoFar core dbr sdws directories (256 * (seg + 1))) size tables least
+    no_page_table none size tables least m =
+        let e : 256 * seg ≡ 256 * seg + 0 = omega arith in
+        no_pages 0 (omega arith) (λ n a le k. none n a k) size tables least (subst (λ (p : ℕ). AreMarked (SoFar core dbr sdws directories p) size tables least) e m)
+
+    pub not_live : ((d : SdwFields) → core_sdw core dbr seg ≡ Ok d → ⊥) → (size : ℕ) (tables : List ℕ) (least : Option ℕ) → AreMarked (SoFar core dbr sdws directories (256 * seg)) size tables least → AreMarked (SoFar core dbr sdws directories (256 * (seg + 1))) size tables least
+    not_live dead size tables least m = no_page_table (λ n a k. dead k.sdw k.live) size tables least m
+
+    pub not_paged : (d : SdwFields) → core_sdw core dbr seg ≡ Ok d → d.unpaged ≡ true → (size : ℕ) (tables : List ℕ) (least : Option ℕ) → AreMarked (SoFar core dbr sdws directories (256 * seg)) size tables least → AreMarked (SoFar core dbr sdws directories (256 * (seg + 1))) size tables least
+    not_paged d live whole size tables least m = no_page_table none size tables least m
+      where
+        none : (n a : ℕ) → IsPageWord core dbr seg n a → ⊥
+        none n a k =
+            let there = k.live in
+            let paged = k.paged in
+            let same : k.sdw ≡ d = cc in
+            let says : k.sdw.unpaged ≡ true = ap (λ (x : SdwFields). x.unpaged) same ∙ whole in
+            cc
+
+    -- the pages that begin within the bound are all
+    pub pages_done : (d : SdwFields) → core_sdw core dbr seg ≡ Ok d → (page : ℕ) → page ≤ 256 → d.bound / 64 < page → (size : ℕ) (tables : List ℕ) (least : Option ℕ) → AreMarked (SoFar core dbr sdws directories (256 * seg + page)) size tables least → AreMarked (SoFar core dbr sdws directories (256 * (seg + 1))) size tables least
+    pages_done d live page few past size tables least m = no_pages page few none size tables least m
+      where
+        none : (n a : ℕ) → page ≤ n → IsPageWord core dbr seg n a → ⊥
+        none n a le k =
+            let there = k.live in
+            let begins = k.begins in
+            let same : k.sdw ≡ d = cc in
+            let bounds : k.sdw.bound ≡ d.bound = ap (λ (x : SdwFields). x.bound) same in
+            omega arith
 
     module _ (page : ℕ) (d : SdwFields) (live : core_sdw core dbr seg ≡ Ok d) (paged : d.unpaged ≡ false) (begins : page ≤ d.bound / 64) where
       page_small : page < 256
@@ -200,3 +238,47 @@ module _ (core : List ℕ) (dbr : DbrFields) (seg : ℕ) where
       pub page_more : (size : ℕ) (tables : List ℕ) (least : Option ℕ) → AreMarked (SoFar core dbr sdws directories (256 * seg + page)) size tables least → AreMarked (SoFar core dbr sdws directories (256 * seg + page + 1)) size (tables_marked tables (seg + 3) (page_at d page)) (least_marked tables least (seg + 3) (page_at d page))
       page_more size tables least m =
           marked_more (SoFar core dbr sdws directories (256 * seg + page)) (SoFar core dbr sdws directories (256 * seg + page + 1)) (Pages seg) (page_at d page) (pages_past (256 * seg + page) (256 * seg + page + 1) (omega arith)) page_new page_here size tables least m
+
+-- where every segment in bounds was looked at, every table word is marked
+module _ (core : List ℕ) (dbr : DbrFields) (n m : ℕ) (bounds : (q : ℕ) → in_bounds dbr q ≡ nat_lt q n) (enough : n ≤ m) where
+  below : (q : ℕ) → in_bounds dbr q ≡ true → q < m
+  below q h =
+      let lt : q < n = ltb-true q n (sym (bounds q) ∙ h) in
+      omega arith
+
+  sofar_is : (t : Table) (a : ℕ) → SoFar core dbr m m (256 * m) t a → IsOf core dbr t a
+  sofar_is Sdws a k = (k.0, k.2)
+  sofar_is Directory a k = (k.0, k.2)
+  sofar_is (Pages s) a k = (k.0, k.2)
+
+  is_sofar : (t : Table) (a : ℕ) → IsOf core dbr t a → SoFar core dbr m m (256 * m) t a
+  is_sofar Sdws a k = (k.0, below k.0 (sdw_place_in_bounds core dbr k.0 k.1.even k.1.found), k.1)
+  is_sofar Directory a k = (k.0, below k.0 k.1.bounds, k.1)
+  is_sofar (Pages s) a k =
+      let small = few_pages core dbr s m m s k.0 a k.1 in
+      let lt = below s (live_in_bounds core dbr s k.1.sdw k.1.live) in
+      (k.0, omega arith, k.1)
+
+  pub all_marked : (size : ℕ) (tables : List ℕ) (least : Option ℕ) → AreMarked (SoFar core dbr m m (256 * m)) size tables least → AreMarked (IsOf core dbr) size tables least
+  all_marked size tables least k = marked_same (SoFar core dbr m m (256 * m)) (IsOf core dbr) size tables least sofar_is is_sofar k
+
+nothing_so_far : (core : List ℕ) (dbr : DbrFields) (t : Table) (a : ℕ) → SoFar core dbr 0 0 0 t a → ⊥
+nothing_so_far core dbr Sdws a k = let lt = k.1 in omega arith
+nothing_so_far core dbr Directory a k = let lt = k.1 in omega arith
+nothing_so_far core dbr (Pages s) a k = let lt = k.1 in omega arith
+
+zeros : (size a : ℕ) → (a < size) ⊎ (size ≤ a) → slice_index (replicate size 0) a ≡ 0
+zeros size a (inl lt) = get_or-replicate size a 0 0 lt
+zeros size a (inr le) =
+    let past : length (replicate size 0) ≤ a = rw (length-replicate {A = ℕ} size 0) le in
+    get_or_past (replicate size 0) a 0 past
+
+-- no word has a mark
+pub nothing_marked : (core : List ℕ) (dbr : DbrFields) (size : ℕ) (tables : List ℕ) → tables ≡ replicate size 0 → AreMarked (SoFar core dbr 0 0 0) size tables None
+nothing_marked core dbr size tables e =
+    record {
+      len = ap length e ∙ length-replicate {A = ℕ} size 0;
+      none = λ a inside h t k. nothing_so_far core dbr t a k;
+      some = λ a h. absurd (h (ap (λ (l : List ℕ). slice_index l a) e ∙ zeros size a (cases_lt a size)));
+      least_two = λ a k. nothing_so_far core dbr k.table a k.of;
+    }

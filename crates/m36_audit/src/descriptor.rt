@@ -3,7 +3,7 @@
 ghost use Rattle.std.specs.Prelude.{ℕ, ◌≡◌, ◌+◌, ◌*◌, ◌/◌, ◌%◌, ◌<◌, ◌≤◌, ◌^◌, IfSome, length, nat_lt};
 ghost use Rattle.std.specs.Result.{result_ok};
 ghost use Rattle.m36_audit.specs.Live.{Tells};
-ghost use Rattle.m36_model.specs.Place.{wrapped, ptw_at, in_frame, directory_at, in_bounds, sdw_place, live_by, core_sdw};
+ghost use Rattle.m36_model.specs.Place.{wrapped, ptw_at, in_frame, directory_at, page_at, in_bounds, sdw_place, live_by, core_sdw};
 ghost use Rattle.m36_word.specs.Bits.{is_on};
 
 use m36_core::Core;
@@ -117,4 +117,13 @@ fn found(core: &Core, dbr: Dbr, seg: u32) -> Option<Sdw>
         even: core.peek(even),
         odd: core.peek(odd),
     })
+}
+
+/// The address of a segment's page table word for a page.
+pub(crate) fn page_at(sdw: &Sdw, page: u32) -> u32
+    requires { page < 256 }
+    ensures value { result ≡ page_at sdw.now page }
+    ensures bound { result < 2 ^ 24 }
+{
+    wrapped(sdw.addr + page)
 }

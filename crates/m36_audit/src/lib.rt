@@ -4,4 +4,5 @@
 mod brackets;
 mod descriptor;
 mod gates;
+mod table_words;
 mod tables;

@@ -1,23 +1,17 @@
 //! Which table each core word belongs to: the second condition.
 
-ghost use Rattle.std.specs.Prelude.{ℕ, ◌≡◌, ◌≢◌, ◌+◌, ◌*◌, ◌<◌, ◌≤◌, ◌^◌, Ok, false, IfOk, length, None, replicate};
-ghost use Rattle.m36_desc.specs.Fields.{SdwFields};
-ghost use Rattle.m36_model.specs.Audit.{Finds, IsInTwoTables, IsOf};
-ghost use Rattle.m36_model.specs.Place.{core_sdw};
-ghost use Rattle.m36_audit.specs.TableMarks.{tables_marked, least_marked, lesser, AreMarked, SoFar};
+ghost use Rattle.std.specs.Prelude.{ℕ, ◌≡◌, IfOk, replicate};
+ghost use Rattle.m36_audit.specs.TableMarks.{tables_marked, least_marked, lesser};
 
-use crate::descriptor::{descriptor, directory_at, sdw_place, segments, wrapped};
-use m36_core::Core;
-use m36_desc::{Dbr, Sdw};
 use m36_word::NoMemory;
 use std::alloc::Global;
 
 /// The mark of the descriptors.
-const SDWS: u16 = 1;
+pub(crate) const SDWS: u16 = 1;
 /// The mark of the page table of the descriptor segment.
-const DIRECTORY: u16 = 2;
+pub(crate) const DIRECTORY: u16 = 2;
 /// The mark of the page table of segment 0.
-const PAGES: u16 = 3;
+pub(crate) const PAGES: u16 = 3;
 
 /// For each core word the first table that it was seen to belong to, and the least word at which a second one was seen.
 #[derive(Drop)]
@@ -54,7 +48,7 @@ impl TableMarks {
 
     /// Marks a core word as one of a table. A word past the end of core is none.
     #[tactic(auto, unfolding(crate::specs::TableMarks::tables_marked, crate::specs::TableMarks::least_marked))]
-    fn mark(&mut self, table: u16, a: u32)
+    pub(crate) fn mark(&mut self, table: u16, a: u32)
         ensures tables { self.new.tables.items ≡ tables_marked self.old.tables.items table a }
         ensures least { self.new.least ≡ least_marked self.old.tables.items self.old.least table a }
     {
