@@ -3,3 +3,5 @@ pub mod Bounds
 pub mod Segments
 pub mod Marking
 pub mod TableWords
+pub mod Counting
+pub mod Covering
