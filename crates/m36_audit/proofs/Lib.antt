@@ -5,3 +5,4 @@ pub mod Marking
 pub mod TableWords
 pub mod Counting
 pub mod Covering
+pub mod SegmentWords
