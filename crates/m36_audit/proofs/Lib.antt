@@ -5,4 +5,5 @@ pub mod Marking
 pub mod TableWords
 pub mod Counting
 pub mod Covering
+pub mod RunWords
 pub mod SegmentWords
