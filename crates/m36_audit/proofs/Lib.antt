@@ -7,3 +7,4 @@ pub mod Counting
 pub mod Covering
 pub mod RunWords
 pub mod SegmentWords
+pub mod Conditions

@@ -1,17 +1,17 @@
 -- The words of segments are the words that the runs cover, each once for each run.
-use Rattle.std.proofs.Common.{◌≡◌, ◌≢◌, ℕ, zero, suc, ◌+◌, ◌-◌, ◌*◌, ◌/◌, ◌%◌, ◌^◌, ◌<◌, ◌≤◌, min, refl, sym, ◌∙◌, ap, subst, inl, inr, arith}
-use Rattle.std.specs.Prelude.{◌⊎◌, Bool, true, false, ◌&&◌, nat_lt, nat_le, List, length, Option, Some, None, option_map, slice_get, Result, Ok, Err}
-use Rattle.std.proofs.lemmas.Bool.{ltb-true, lt-ltb, leb-true, le-leb, and_parts, and_from, cases_eq, cases_lt}
+use Rattle.std.proofs.Common.{◌≡◌, ℕ, ◌+◌, ◌*◌, ◌/◌, ◌%◌, ◌^◌, ◌<◌, ◌≤◌, refl, sym, ◌∙◌, ap, subst, arith}
+use Rattle.std.specs.Prelude.{Bool, true, false, nat_lt, nat_le, List, length, Option, Some, None, Result, Ok, Err}
+use Rattle.std.proofs.lemmas.Bool.{ltb-true, lt-ltb, leb-true, le-leb, and_parts, and_from}
 use Rattle.m36_desc.specs.Fields.{SdwFields, PtwFields, DbrFields}
 use Rattle.m36_desc.specs.Access.{in_order}
 use Rattle.m36_desc.specs.Widths.{IsSdw, IsPtw}
 use Rattle.m36_model.specs.Core.{core_store}
-use Rattle.m36_model.specs.Store.{Spot, Core_word, within, placed, place}
+use Rattle.m36_model.specs.Store.{Core_word, within}
 use Rattle.m36_model.specs.Place.{wrapped, frame_at, in_frame, in_frame_by, ptw_at, page_at, word_place_by, inside_core, inside_core_by, core_sdw, core_spot}
 use Rattle.m36_model.specs.Audit.{IsSegmentWord}
 use Rattle.m36_model.specs.declared.outcome.Refusal.{Refusal}
-use Rattle.m36_isol.proofs.Places.{IsPlaced, place_is, place_parts}
-use Rattle.m36_audit.specs.Runs.{Run, words, page_run, page_run_by, run_by, run_ordered, run_of, run}
+use Rattle.m36_isol.proofs.Places.{place_is, place_parts}
+use Rattle.m36_audit.specs.Runs.{page_run, page_run_by, run_by, run_ordered, run_of, run}
 use Rattle.m36_audit.proofs.Bounds.{live_fits}
 use Rattle.m36_audit.proofs.RunWords.{Covers, covers_same, ptw_fits_at, whole_covers_at, whole_word, frame_covers, frame_word}
 
@@ -213,3 +213,21 @@ word_of_by core dbr k a (Ok d) live inside c = at (in_order d) refl c
 pub covered_word : (core : List ℕ) (dbr : DbrFields) (k a : ℕ) → a < length core → Covers (run core dbr k) a → WordOf core dbr k a
 unfolding run
 covered_word core dbr k a inside c = word_of_by core dbr k a (core_sdw core dbr (k / 256)) refl inside c
+
+-- a word of a segment is one of a live segment
+pub word_live : (core : List ℕ) (dbr : DbrFields) (seg w a : ℕ) → IsSegmentWord core dbr seg w a → (d : SdwFields) × (core_sdw core dbr seg ≡ Ok d)
+word_live core dbr seg w a h = let k = word_parts core dbr seg w a h in (k.sdw, k.live)
+
+pub record Numbered (seg number : ℕ) : Type 0 where
+  pub low : 256 * seg ≤ number
+  pub high : number < 256 * (seg + 1)
+
+-- its run is one of its segment's 256
+pub word_number : (core : List ℕ) (dbr : DbrFields) (seg w a : ℕ) → IsSegmentWord core dbr seg w a → Numbered seg (number_of core dbr seg w)
+unfolding number_of
+word_number core dbr seg w a h =
+    let k = word_parts core dbr seg w a h in
+    let fits = live_fits core dbr seg k.sdw k.live in
+    let piece = piece_live core dbr seg w k.sdw k.live in
+    let few = few_pieces k.sdw.unpaged k.sdw w fits k.bound in
+    record { low = omega arith; high = omega arith }
