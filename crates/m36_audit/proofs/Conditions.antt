@@ -10,7 +10,8 @@ use Rattle.m36_model.specs.Place.{in_frame, ptw_at, page_at, in_bounds, core_sdw
 use Rattle.m36_model.specs.Audit.{IsSegmentWord, IsOf, IsInTwoTables, IsTableAndSegment, IsInTwoSegments, Finds}
 use Rattle.m36_model.specs.declared.outcome.Refusal.{Refusal}
 use Rattle.m36_audit.specs.TableMarks.{InTwo, AreMarked}
-use Rattle.m36_audit.specs.Runs.{Run, words, whole_run, frame_run, page_run_by, run_by, run_ordered, run_of, run, covers, count_below, InOrder}
+use Rattle.m36_audit.specs.declared.run.Run.{Run}
+use Rattle.m36_audit.specs.Runs.{words, whole_run, frame_run, page_run_by, run_by, run_ordered, run_of, run, covers, count_below, InOrder}
 use Rattle.m36_audit.proofs.Bounds.{live_fits, live_in_bounds}
 use Rattle.m36_audit.proofs.Counting.{PassTwice, one, two, at_least_one, at_least_two}
 use Rattle.m36_audit.proofs.Marking.{finds_same}

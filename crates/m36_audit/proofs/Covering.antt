@@ -4,7 +4,8 @@ use Rattle.std.specs.Prelude.{◌⊎◌, Bool, false, nat_lt, nat_le, ◌==◌, 
 use Rattle.std.proofs.lemmas.Bool.{cases_eq, cases_lt, lt-ltb, le-ltb, le-leb, lt-leb, eq-eqb, ne_eqb}
 use Rattle.std.proofs.lemmas.List.{get_or-set_same, get_or-set_other, length-set}
 use Rattle.m36_word.specs.Bits.{of_bit}
-use Rattle.m36_audit.specs.Runs.{Run, count_below, begins_at, ends_at, covers, counted, AreCounted, begins_before, ends_before, AreOpen, InOrder}
+use Rattle.m36_audit.specs.declared.run.Run.{Run}
+use Rattle.m36_audit.specs.Runs.{count_below, begins_at, ends_at, covers, counted, AreCounted, begins_before, ends_before, AreOpen, InOrder}
 use Rattle.m36_audit.proofs.Counting.{count_most, count_more, count_sum, count_none, count_past}
 
 counted_at : (counts : List ℕ) (x a : ℕ) → a < length counts → slice_index (counted counts x) a ≡ slice_index counts a + of_bit (x == a)

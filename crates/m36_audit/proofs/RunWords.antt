@@ -7,7 +7,8 @@ use Rattle.m36_desc.specs.Descriptors.{ptw_of}
 use Rattle.m36_desc.specs.Widths.{IsSdw, IsPtw}
 use Rattle.m36_desc.proofs.WidthLaws.{ptw_fits}
 use Rattle.m36_model.specs.Place.{wrapped, frame_at, in_frame, in_frame_by, ptw_at}
-use Rattle.m36_audit.specs.Runs.{Run, words, whole_run, frame_run}
+use Rattle.m36_audit.specs.declared.run.Run.{Run}
+use Rattle.m36_audit.specs.Runs.{words, whole_run, frame_run}
 
 -- a run covers a word
 pub record Covers (o : Option Run) (a : ℕ) : Type 0 where

@@ -6,11 +6,7 @@ use Rattle.m36_desc.specs.Fields.{SdwFields, DbrFields}
 use Rattle.m36_desc.specs.Access.{in_order}
 use Rattle.m36_model.specs.Place.{ptw_at, page_at, in_frame, core_sdw}
 use Rattle.m36_model.specs.declared.outcome.Refusal.{Refusal}
-
--- core words from the first to the one before the end
-pub record Run : Type 0 where
-  pub first : ℕ
-  pub end : ℕ
+use Rattle.m36_audit.specs.declared.run.Run.{Run}
 
 -- how many words a segment has
 abbrev pub words : SdwFields → ℕ

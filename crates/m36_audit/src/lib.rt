@@ -5,4 +5,5 @@ mod brackets;
 mod descriptor;
 mod gates;
 mod table_words;
+mod run;
 mod tables;
