@@ -8,3 +8,4 @@ pub mod Covering
 pub mod RunWords
 pub mod SegmentWords
 pub mod Conditions
+pub mod SegmentRuns

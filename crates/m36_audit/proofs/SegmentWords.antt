@@ -145,14 +145,14 @@ piece_live : (core : List ℕ) (dbr : DbrFields) (seg w : ℕ) (d : SdwFields) �
 unfolding piece_of
 piece_live core dbr seg w d h = ap (λ (r : Result SdwFields Refusal). piece_of r w) h
 
-run_at : (core : List ℕ) (dbr : DbrFields) (seg piece : ℕ) → piece < 256 → run core dbr (256 * seg + piece) ≡ run_of core (core_sdw core dbr seg) piece
+pub run_at : (core : List ℕ) (dbr : DbrFields) (seg piece : ℕ) → piece < 256 → run core dbr (256 * seg + piece) ≡ run_of core (core_sdw core dbr seg) piece
 unfolding run
 run_at core dbr seg piece few =
     let one : (256 * seg + piece) / 256 ≡ seg = omega arith in
     let other : (256 * seg + piece) % 256 ≡ piece = omega arith in
     ap (λ (s : ℕ). run_of core (core_sdw core dbr s) ((256 * seg + piece) % 256)) one ∙ ap (run_of core (core_sdw core dbr seg)) other
 
-run_live : (core : List ℕ) (d : SdwFields) (r : Result SdwFields Refusal) (piece : ℕ) → r ≡ Ok d → in_order d ≡ true → run_of core r piece ≡ run_by d.unpaged core d piece
+pub run_live : (core : List ℕ) (d : SdwFields) (r : Result SdwFields Refusal) (piece : ℕ) → r ≡ Ok d → in_order d ≡ true → run_of core r piece ≡ run_by d.unpaged core d piece
 run_live core d r piece live order =
     ap (λ (x : Result SdwFields Refusal). run_of core x piece) live ∙ ap (λ (b : Bool). run_ordered b core d piece) order
 

@@ -6,4 +6,5 @@ mod descriptor;
 mod gates;
 mod table_words;
 mod run;
+mod segment_runs;
 mod tables;
