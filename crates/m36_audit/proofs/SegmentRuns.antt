@@ -1,15 +1,14 @@
 -- The runs of one segment more are counted.
-use Rattle.std.proofs.Common.{◌≡◌, ◌≢◌, ℕ, zero, suc, ◌+◌, ◌-◌, ◌*◌, ◌/◌, ◌%◌, ◌^◌, ◌<◌, ◌≤◌, min, refl, sym, ◌∙◌, ap, subst, inl, inr, arith}
-use Rattle.std.specs.Prelude.{◌⊎◌, Bool, true, false, ◌&&◌, nat_lt, nat_le, List, length, replicate, slice_index, Option, Some, None, Result, Ok, Err}
-use Rattle.std.proofs.lemmas.Bool.{ltb-true, lt-ltb, leb-true, le-leb, le-ltb, lt-leb, cases_lt}
-use Rattle.std.proofs.lemmas.List.{get_or_past}
-use Rattle.m36_desc.specs.Fields.{SdwFields, PtwFields, DbrFields}
+use Rattle.std.proofs.Common.{◌≡◌, ℕ, zero, suc, ◌+◌, ◌-◌, ◌*◌, ◌/◌, ◌%◌, ◌^◌, ◌<◌, ◌≤◌, refl, sym, ◌∙◌, ap, subst, inl, inr, arith}
+use Rattle.std.specs.Prelude.{◌⊎◌, Bool, true, false, nat_lt, List, length, replicate, slice_index, Option, Some, None, Result, Ok, Err}
+use Rattle.std.proofs.lemmas.Bool.{ltb-true, lt-leb, cases_lt}
+use Rattle.std.proofs.lemmas.List.{get_or_past, length-replicate, get_or-replicate}
+use Rattle.m36_desc.specs.Fields.{SdwFields, DbrFields}
 use Rattle.m36_desc.specs.Access.{in_order}
-use Rattle.m36_desc.specs.Widths.{IsSdw}
 use Rattle.m36_model.specs.Place.{in_bounds, core_sdw}
 use Rattle.m36_model.specs.declared.outcome.Refusal.{Refusal}
 use Rattle.m36_audit.specs.declared.run.Run.{Run}
-use Rattle.m36_audit.specs.Runs.{words, whole_run, page_run_by, page_run, run_by, run_ordered, run_of, run, counted, AreCounted}
+use Rattle.m36_audit.specs.Runs.{whole_run, page_run_by, page_run, run_by, run_ordered, run_of, run, counted, begins_at, ends_at, AreCounted}
 use Rattle.m36_audit.proofs.Bounds.{live_fits, live_in_bounds}
 use Rattle.m36_audit.proofs.Counting.{count_zero}
 use Rattle.m36_audit.proofs.Covering.{counted_more, counted_on, starts_most, stops_most}
@@ -70,12 +69,12 @@ module _ (core : List ℕ) (dbr : DbrFields) (seg : ℕ) where
     two_only (suc zero) h = absurd (omega arith)
     two_only (suc (suc n)) h = refl
 
-    pub first_whole : d.unpaged ≡ true → run core dbr (256 * seg) ≡ Some (record { first = d.addr; end = min (d.addr + words d) (2 ^ 24) })
+    pub first_whole : d.unpaged ≡ true → run core dbr (256 * seg) ≡ whole_run d 0
     first_whole whole =
         let e : 256 * seg ≡ 256 * seg + 0 = omega arith in
         ap (run core dbr) e ∙ live_at true whole 0 (omega arith)
 
-    pub second_whole : d.unpaged ≡ true → run core dbr (256 * seg + 1) ≡ Some (record { first = 0; end = (d.addr + words d) - 2 ^ 24 })
+    pub second_whole : d.unpaged ≡ true → run core dbr (256 * seg + 1) ≡ whole_run d 1
     second_whole whole = live_at true whole 1 (omega arith)
 
     pub whole_done : d.unpaged ≡ true → (size : ℕ) (starts stops : List ℕ) → AreCounted (run core dbr) (256 * seg + 1 + 1) size starts stops → AreCounted (run core dbr) (256 * (seg + 1)) size starts stops
@@ -114,3 +113,18 @@ module _ (core : List ℕ) (dbr : DbrFields) (n m : ℕ) (bounds : (q : ℕ) →
   pub all_counted : (size : ℕ) (starts stops : List ℕ) → AreCounted (run core dbr) (256 * m) size starts stops → AreCounted (run core dbr) (2 ^ 23) size starts stops
   all_counted size starts stops c =
       counted_on (run core dbr) (256 * m) (2 ^ 23) size starts stops (omega arith) (λ i low high. dead i low) c
+
+pub disorder_at : (core : List ℕ) (dbr : DbrFields) (seg : ℕ) (d : SdwFields) → core_sdw core dbr seg ≡ Ok d → in_order d ≡ false → (e : SdwFields) → core_sdw core dbr seg ≡ Ok e → in_order e ≡ false
+disorder_at core dbr seg d live off e live_too =
+    let same : e ≡ d = cc in
+    ap in_order same ∙ off
+
+-- no run is counted
+pub nothing_counted : (runs : ℕ → Option Run) (size : ℕ) (starts stops : List ℕ) → starts ≡ replicate size 0 → stops ≡ replicate size 0 → AreCounted runs 0 size starts stops
+nothing_counted runs size starts stops e f =
+    record {
+      starts_len = ap length e ∙ length-replicate {A = ℕ} size 0;
+      stops_len = ap length f ∙ length-replicate {A = ℕ} size 0;
+      begin = λ a inside. ap (λ (l : List ℕ). slice_index l a) e ∙ get_or-replicate size a 0 0 inside ∙ sym (count_zero (λ i. begins_at a (runs i)));
+      end = λ a inside. ap (λ (l : List ℕ). slice_index l a) f ∙ get_or-replicate size a 0 0 inside ∙ sym (count_zero (λ i. ends_at a (runs i)));
+    }

@@ -4,7 +4,7 @@
 mod brackets;
 mod descriptor;
 mod gates;
-mod table_words;
 mod run;
 mod segment_runs;
+mod table_words;
 mod tables;

@@ -3,7 +3,7 @@
 ghost use Rattle.std.specs.Prelude.{ℕ, ◌≡◌, ◌+◌, ◌*◌, ◌/◌, ◌<◌, ◌≤◌, ◌^◌, true, false, Ok, length};
 ghost use Rattle.m36_desc.specs.Access.{in_order};
 ghost use Rattle.m36_model.specs.Place.{core_sdw};
-ghost use Rattle.m36_audit.specs.Runs.{page_run, run, AreCounted};
+ghost use Rattle.m36_audit.specs.Runs.{whole_run, page_run, run, AreCounted};
 
 use crate::brackets::in_order;
 use crate::descriptor::{descriptor, in_frame, page_at, ptw_at, segments};
@@ -39,7 +39,27 @@ fn page_run(core: &Core, sdw: &Sdw, page: u32) -> Option<Run>
     }
 }
 
-/// Counts the two runs of an unpaged segment: up to the last address, and on from address 0.
+/// The words of an unpaged segment up to the last address.
+fn first_run(sdw: &Sdw) -> Run
+    ensures { Some result ≡ whole_run sdw.now 0 }
+{
+    Run {
+        first: sdw.addr,
+        end: (sdw.addr + words(sdw)).min(ADDRESSES),
+    }
+}
+
+/// The words of an unpaged segment past the last address, which go on at address 0.
+fn second_run(sdw: &Sdw) -> Run
+    ensures { Some result ≡ whole_run sdw.now 1 }
+{
+    Run {
+        first: 0,
+        end: (sdw.addr + words(sdw)).saturating_sub(ADDRESSES),
+    }
+}
+
+/// Counts the two runs of an unpaged segment.
 fn count_whole(counts: &mut RunCounts, core: &Core, dbr: Dbr, seg: u32, sdw: &Sdw)
     requires seg { seg < 2 ^ 15 }
     requires live { core_sdw core.now dbr seg ≡ Ok sdw.now }
@@ -48,15 +68,8 @@ fn count_whole(counts: &mut RunCounts, core: &Core, dbr: Dbr, seg: u32, sdw: &Sd
     requires before { AreCounted (run core.now dbr) (256 * seg) (length core.now) counts.old.starts.items counts.old.stops.items }
     ensures { AreCounted (run core.now dbr) (256 * (seg + 1)) (length core.now) counts.new.starts.items counts.new.stops.items }
 {
-    let end = sdw.addr + words(sdw);
-    counts.add(Run {
-        first: sdw.addr,
-        end: end.min(ADDRESSES),
-    });
-    counts.add(Run {
-        first: 0,
-        end: end.saturating_sub(ADDRESSES),
-    });
+    counts.add(first_run(sdw));
+    counts.add(second_run(sdw));
 }
 
 /// Counts the run of one page, where the page is in core.
@@ -66,6 +79,7 @@ fn count_page(counts: &mut RunCounts, core: &Core, dbr: Dbr, seg: u32, sdw: &Sdw
     requires order { in_order sdw.now ≡ true }
     requires paged { sdw.now.unpaged ≡ false }
     requires page { page ≤ sdw.now.bound / 64 }
+    requires few { page < 256 }
     requires before { AreCounted (run core.now dbr) (256 * seg + page) (length core.now) counts.old.starts.items counts.old.stops.items }
     ensures { AreCounted (run core.now dbr) (256 * seg + page + 1) (length core.now) counts.new.starts.items counts.new.stops.items }
 {

@@ -1,4 +1,4 @@
-use Rattle.std.proofs.Common.{◌+◌, ◌*◌, length}
+use Rattle.std.proofs.Common.{◌*◌, length}
 use Rattle.m36_audit.specs.Runs.{run, AreCounted}
 use Rattle.m36_audit.proofs.segment_runs.count_segments.Given as goal
 
