@@ -1,8 +1,9 @@
 -- The conditions on words are those of the counts and the marks.
 use Rattle.std.proofs.Common.{◌≡◌, ◌≢◌, ℕ, zero, suc, ◌+◌, ◌-◌, ◌*◌, ◌/◌, ◌%◌, ◌^◌, ◌<◌, ◌≤◌, min, refl, sym, ◌∙◌, ap, subst, inl, inr, arith}
-use Rattle.std.specs.Prelude.{◌⊎◌, Bool, true, false, nat_lt, nat_le, List, length, slice_index, Option, Some, None, Result, Ok, Err}
+use Rattle.std.specs.Bool.{Decides}
+use Rattle.std.specs.Prelude.{◌⊎◌, Bool, true, false, not, ◌==◌, ◌&&◌, nat_lt, nat_le, List, length, slice_index, Option, Some, None, Result, Ok, Err}
 use Rattle.std.specs.Result.{result_ok}
-use Rattle.std.proofs.lemmas.Bool.{ltb-true, lt-ltb, leb-true, le-leb, and_parts, and_from, cases_eq}
+use Rattle.std.proofs.lemmas.Bool.{ltb-true, lt-ltb, leb-true, le-leb, and_parts, and_from, eq-eqb, ne_eqb, cases_eq}
 use Rattle.m36_desc.specs.Fields.{SdwFields, DbrFields}
 use Rattle.m36_desc.specs.Access.{in_order}
 use Rattle.m36_desc.specs.Widths.{IsSdw}
@@ -11,7 +12,7 @@ use Rattle.m36_model.specs.Audit.{IsSegmentWord, IsOf, IsInTwoTables, IsTableAnd
 use Rattle.m36_model.specs.declared.outcome.Refusal.{Refusal}
 use Rattle.m36_audit.specs.TableMarks.{InTwo, AreMarked}
 use Rattle.m36_audit.specs.declared.run.Run.{Run}
-use Rattle.m36_audit.specs.Runs.{words, whole_run, frame_run, page_run_by, run_by, run_ordered, run_of, run, covers, count_below, InOrder}
+use Rattle.m36_audit.specs.Runs.{words, whole_run, frame_run, page_run_by, run_by, run_ordered, run_of, run, covers, coverage, InOrder}
 use Rattle.m36_audit.proofs.Bounds.{live_fits, live_in_bounds}
 use Rattle.m36_audit.proofs.Counting.{PassTwice, one, two, at_least_one, at_least_two}
 use Rattle.m36_audit.proofs.Marking.{finds_same}
@@ -33,10 +34,6 @@ is_covers (Some r) a k =
     let first : r.first ≤ a = subst (λ (x : Run). x.first ≤ a) same k.first in
     let end : a < r.end = subst (λ (x : Run). a < x.end) same k.end in
     and_from (nat_le r.first a) (nat_lt a r.end) (le-leb r.first a first) (lt-ltb a r.end end)
-
--- how many runs cover a word
-abbrev pub coverage : List ℕ → DbrFields → ℕ → ℕ
-coverage core dbr a = count_below (λ i. covers a (run core dbr i)) (2 ^ 23)
 
 -- segment numbers have 15 bits, so the numbers of runs have 23
 few_segments : (dbr : DbrFields) (seg : ℕ) → in_bounds dbr seg ≡ true → seg < 2 ^ 15
@@ -146,3 +143,42 @@ run_order core dbr seg (Ok d) piece r live h = ordered_order (in_order d) core d
 pub runs_in_order : (core : List ℕ) (dbr : DbrFields) → InOrder (run core dbr)
 unfolding run
 runs_in_order core dbr = record { each = λ i r h. run_order core dbr (i / 256) (core_sdw core dbr (i / 256)) (i % 256) r refl h }
+
+-- the test of the third condition
+pub on_table_decides : (core : List ℕ) (dbr : DbrFields) (tables : List ℕ) (least : Option ℕ) (a n mark : ℕ) → AreMarked (IsOf core dbr) (length core) tables least → a < length core → n ≡ coverage core dbr a → mark ≡ slice_index tables a → Decides (nat_lt 0 n && not (mark == 0)) (IsTableAndSegment core dbr a)
+on_table_decides core dbr tables least a n mark m inside e f = (
+  λ h.
+      let k = and_parts (nat_lt 0 n) (not (mark == 0)) h in
+      let some : 0 < n = ltb-true 0 n k.0 in
+      let covered : 1 ≤ coverage core dbr a = omega arith in
+      counted_table core dbr tables least a m inside covered (λ g. marked mark (f ∙ g) k.1),
+  λ k.
+      let counts = word_counts core dbr k.seg k.w a k.word in
+      let some : 0 < n = omega arith in
+      let taken = table_counted core dbr tables least a m k in
+      and_from (nat_lt 0 n) (not (mark == 0)) (lt-ltb 0 n some) (ap not (ne_eqb mark 0 (λ g. taken (sym f ∙ g)))),
+)
+  where
+    marked : (x : ℕ) → x ≡ 0 → not (x == 0) ≡ true → ⊥
+    marked x g h = let k = ap not (eq-eqb x 0 g) in cc
+
+-- the test of the fourth condition
+pub on_segment_decides : (core : List ℕ) (dbr : DbrFields) (a n : ℕ) → a < length core → n ≡ coverage core dbr a → Decides (nat_lt 1 n) (IsInTwoSegments core dbr a)
+on_segment_decides core dbr a n inside e = (
+  λ h.
+      let more : 1 < n = ltb-true 1 n h in
+      counted_two core dbr a inside (omega arith),
+  λ k.
+      let counts = two_counted core dbr a k in
+      lt-ltb 1 n (omega arith),
+)
+
+-- where no word of core breaks a condition that speaks of words in core, none does
+pub none_inside : (Breaks : ℕ → Type 0) (size n m : ℕ) → n ≡ size → n ≤ m → ((a : ℕ) → Breaks a → a < size) → ((a : ℕ) → a < m → Breaks a → ⊥) → Finds Breaks None
+none_inside Breaks size n m e le inside below = λ a k. let lt = inside a k in below a (omega arith) k
+
+pub third_inside : (core : List ℕ) (dbr : DbrFields) (a : ℕ) → IsTableAndSegment core dbr a → a < length core
+third_inside core dbr a k = word_inside core dbr k.seg k.w a k.word
+
+pub fourth_inside : (core : List ℕ) (dbr : DbrFields) (a : ℕ) → IsInTwoSegments core dbr a → a < length core
+fourth_inside core dbr a k = word_inside core dbr k.seg k.w a k.word

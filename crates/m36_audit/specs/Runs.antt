@@ -91,3 +91,7 @@ pub record AreOpen (runs : ℕ → Option Run) (n a open_runs : ℕ) : Type 0 wh
 -- no run ends before it begins
 pub record InOrder (runs : ℕ → Option Run) : Type 0 where
   pub each : (i : ℕ) (r : Run) → runs i ≡ Some r → r.first ≤ r.end
+
+-- how many of the runs of all segments cover a word; segment numbers have 15 bits, so there are 2^23 numbers of runs
+abbrev pub coverage : List ℕ → DbrFields → ℕ → ℕ
+coverage core dbr a = count_below (λ i. covers a (run core dbr i)) (2 ^ 23)

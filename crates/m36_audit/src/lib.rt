@@ -8,3 +8,4 @@ mod run;
 mod segment_runs;
 mod table_words;
 mod tables;
+mod words;
