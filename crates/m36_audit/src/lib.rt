@@ -8,4 +8,5 @@ mod run;
 mod segment_runs;
 mod table_words;
 mod tables;
+pub mod verdict;
 mod words;
