@@ -9,3 +9,4 @@ pub mod RunWords
 pub mod SegmentWords
 pub mod Conditions
 pub mod SegmentRuns
+pub mod Verdicts
