@@ -1,5 +1,5 @@
 -- A list of findings put together, and one with nothing in it.
-use Rattle.std.proofs.Common.{◌≡◌, ℕ, refl, sym, ◌∙◌, ap, subst}
+use Rattle.std.proofs.Common.{◌≡◌, ℕ, refl, ◌∙◌, ap, subst}
 use Rattle.std.specs.Prelude.{List, [], ◌∷◌, ◌++◌, ◌↔◌}
 use Rattle.m36_desc.specs.Fields.{DbrFields}
 use Rattle.m36_model.specs.Audit.{AreFindings, IsAudited}
@@ -21,6 +21,7 @@ no_pairs (f ∷ rest) h = cc
 
 -- where nothing is found all six conditions hold, and back
 pub nothing_found : FindingsLaw → (core : List ℕ) (dbr : DbrFields) (findings : List Finding) → AreFindings core dbr (pairs findings) → (findings ≡ []) ↔ IsAudited core dbr
-nothing_found law core dbr findings f =
-    (λ none. law.sound core dbr (subst (λ (l : List (ℕ × ℕ)). AreFindings core dbr l) (ap pairs none) f),
-    λ audited. no_pairs findings (law.complete core dbr (pairs findings) audited f))
+nothing_found law core dbr findings f = (
+  λ none. law.sound core dbr (subst (λ (l : List (ℕ × ℕ)). AreFindings core dbr l) (ap pairs none) f),
+  λ audited. no_pairs findings (law.complete core dbr (pairs findings) audited f),
+)

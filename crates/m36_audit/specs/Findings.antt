@@ -1,5 +1,5 @@
 -- The findings of a verdict, as the definitions list them.
-use Rattle.std.specs.Prelude.{◌≡◌, ℕ, List, [], map, ◌↔◌}
+use Rattle.std.specs.Prelude.{ℕ, List, map}
 use Rattle.m36_audit.specs.declared.verdict.Finding.{Finding}
 
 -- a finding as a condition and a place

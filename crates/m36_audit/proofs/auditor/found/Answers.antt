@@ -1,5 +1,4 @@
 use Rattle.std.proofs.Common.{ap}
-use Rattle.std.specs.Prelude.{[]}
 use Rattle.m36_model.specs.Audit.{noted}
 use Rattle.m36_audit.specs.Findings.{pairs}
 use Rattle.m36_audit.proofs.Conditions.{two_tables}
