@@ -1,1 +1,3 @@
 pub mod Operated
+pub mod References
+pub mod Reached
