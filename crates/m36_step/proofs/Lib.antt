@@ -1,3 +1,4 @@
 pub mod Reaching
 pub mod Groups
 pub mod Operations
+pub mod Direct

@@ -15,6 +15,7 @@ use Rattle.m36_model.specs.Registers.{RegsFields}
 use Rattle.m36_model.specs.Results.{OperandFields, EffectFields, effect_fields, operand_fields, words_of_held}
 use Rattle.m36_model.specs.Step.{Performed, puts_from, performed, tallied}
 use Rattle.m36_model.specs.Store.{Spot, Ran, run}
+use Rattle.m36_model.specs.WordsPut.{PutsFor}
 use Rattle.m36_model.specs.declared.effects.Effect36.{Effect36}
 use Rattle.m36_model.specs.declared.effects.Formed.{Formed}
 use Rattle.m36_model.specs.declared.outcome.Fault.{Fault}
@@ -141,3 +142,17 @@ by_refusal k g fault (Err number) h r = r
 pub refused_puts_nothing : (e : Effect) (n : ℕ) (g g' : RegsFields) (f : FinalFields) (o : OperandFields) (fault : Fault) → answer_fields (Err fault) ≡ refused_here g' (exec e n g f o) → words_written (operand_of e) ≡ 0
 refused_puts_nothing e n g g' f o fault h =
     by_refusal (words_written (operand_of e)) g' fault (exec e n g f o) h (refused_so e n g f o)
+
+-- how many words are put, by the operand kind
+pub puts_count : (k k' : Operand) (words : List ℕ) → k ≡ k' → PutsFor k' words → length words ≡ words_written k
+puts_count k k' words e p = rw e (count k' p)
+  where
+    count : (j : Operand) → PutsFor j words → length words ≡ words_written j
+    count kind.W p = p
+    count kind.W2 p = p
+    count kind.W16 p = p
+    count kind.Wl p = p.0
+    count kind.Wr p = p.0
+    count kind.Rw p = p
+    count kind.Rwl p = p.0
+    count _ p = p
