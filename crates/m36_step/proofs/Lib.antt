@@ -1,3 +1,1 @@
-pub mod Serving
-pub mod Overflow
-pub mod Runs
+pub mod Ends

@@ -1,2 +1,3 @@
-pub mod Found
-pub mod Stepped
+pub mod Ended
+pub mod Operated
+pub mod Lending
