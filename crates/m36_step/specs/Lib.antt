@@ -1,3 +1,3 @@
 pub mod Ended
-pub mod Operated
 pub mod Lending
+pub mod Operated
