@@ -47,7 +47,6 @@ fn completed(
 }
 
 /// The operation of an instruction whose address is formed: the operand, the effect, and the words that it writes.
-#[tactic(auto, using(crate::proofs::Ends::operation_refused, crate::proofs::Ends::operation_performed))]
 fn operated(
     walk: &mut Walk,
     regs: &Regs,
@@ -75,7 +74,6 @@ fn operated(
 }
 
 /// An instruction that forms an address.
-#[tactic(auto, using(crate::proofs::Ends::address_refused, crate::proofs::Ends::address_formed))]
 fn addressed(
     walk: &mut Walk,
     regs: &Regs,
@@ -110,7 +108,6 @@ fn no_address(regs: &Regs, effect: Effect) -> Halt
 }
 
 /// An instruction that nothing refuses before its address.
-#[tactic(auto, using(crate::proofs::Ends::starts_nothing, crate::proofs::Ends::ends_halted))]
 fn started(
     walk: &mut Walk,
     regs: &Regs,
@@ -133,7 +130,6 @@ fn started(
 }
 
 /// An instruction of the table, which may be privileged. The bit tells whether it may be executed then.
-#[tactic(auto, using(crate::proofs::Ends::ends_halted))]
 fn admitted(
     walk: &mut Walk,
     regs: &Regs,
@@ -157,7 +153,6 @@ fn admitted(
 }
 
 /// The instruction in a word. The bit tells whether it may be privileged.
-#[tactic(auto, using(crate::proofs::Ends::no_row, crate::proofs::Ends::a_row, crate::proofs::Ends::ends_halted))]
 fn decoded(walk: &mut Walk, regs: &Regs, word: Word, privileged: bool, refs: &mut Refs) -> Ended
     requires dbr { walk.old.dbr ≡ regs.now.dbr }
     requires room { length refs.old.items ≤ 4 }
@@ -172,7 +167,6 @@ fn decoded(walk: &mut Walk, regs: &Regs, word: Word, privileged: bool, refs: &mu
 }
 
 /// One step: it fetches the instruction that stands, and executes it.
-#[tactic(auto, using(crate::proofs::Ends::fetch_refused, crate::proofs::Ends::fetches))]
 pub(crate) fn execute(walk: &mut Walk, regs: &Regs, refs: &mut Refs) -> Ended
     requires dbr { walk.old.dbr ≡ regs.now.dbr }
     requires room { length refs.old.items ≤ 3 }
@@ -182,12 +176,13 @@ pub(crate) fn execute(walk: &mut Walk, regs: &Regs, refs: &mut Refs) -> Ended
     let here = regs.here();
     match walk.fetch(here) {
         Err(fault) => halted(regs, None, None, Halt::Fault(fault)),
-        Ok((word, privileged)) => {
+        Ok(fetched) => {
             refs.push(Reference {
                 at: here,
                 kind: Kind::Fetch,
                 count: 1,
             });
+            let (word, privileged) = fetched;
             decoded(walk, regs, word, privileged, refs)
         }
     }

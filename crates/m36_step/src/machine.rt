@@ -33,7 +33,6 @@ impl Model for Machine {
 
 /// One step of a walk and registers with the same descriptor segment base register.
 #[inline(always)]
-#[tactic(auto, using(crate::proofs::Ends::step_told, crate::proofs::Ends::step_left))]
 fn turn(walk: &mut Walk, regs: &mut Regs) -> StepRecord
     requires dbr { walk.old.dbr ≡ regs.old.dbr }
     ensures told { result ≡ record_of core_store (record { regs = regs.old; store = walk.old.core }) }
