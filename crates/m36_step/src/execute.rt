@@ -22,13 +22,7 @@ use m36_word::Word;
 
 /// The end of a step that has its effect. LDBR has changed the descriptor segment base register, and the walk goes on by
 /// it.
-fn completed(
-    walk: &mut Walk,
-    regs: &Regs,
-    word: Word,
-    last: Final,
-    effect: &Effect36,
-) -> Ended
+fn completed(walk: &mut Walk, regs: &Regs, word: Word, last: Final, effect: &Effect36) -> Ended
     requires dbr { walk.old.dbr ≡ regs.now.dbr }
     ensures end { result ≡ record { after = effect.now.regs; word = Some word; at = Some last; outcome = outcome_by (effect.now.overflow && not effect.now.regs.ind.mask) regs.now } }
     ensures core { walk.new.core ≡ walk.old.core }

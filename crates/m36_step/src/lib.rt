@@ -21,3 +21,6 @@ mod operated;
 mod writes;
 
 pub use machine::Machine;
+
+#[cfg(test)]
+mod tests;
