@@ -1,1 +1,5 @@
 pub mod Ends
+pub mod Reaching
+pub mod Groups
+pub mod Operations
+pub mod Direct

@@ -13,11 +13,16 @@
 //! "Address appending"; the order of the parts is this project's choice.
 #![tactic(auto)]
 
+mod effects;
 mod ended;
 mod execute;
 pub mod machine;
+mod operands;
 mod operate;
 mod operated;
+mod reach;
+mod references;
+mod targets;
 mod writes;
 
 pub use machine::Machine;

@@ -6,7 +6,9 @@ ghost use Rattle.m36_inst.specs.declared.operand.Operand.TheVariants.{N};
 ghost use Rattle.m36_ea.specs.Formed.{TallyLies};
 ghost use Rattle.m36_step.specs.Operated.{operation_from, operated_end, Lies};
 
+use crate::effects::effect;
 use crate::operated::Operated;
+use crate::reach::reach;
 use m36_inst::Row;
 use m36_model::{Formed, Halt, Refs, Regs};
 use m36_walk::Walk;
@@ -35,5 +37,15 @@ pub(crate) fn operate(
     ensures len { length walk.new.core ≡ length walk.old.core }
     ensures count { length refs.new.items ≤ length refs.old.items + 2 }
 {
-    unreachable!()
+    match reach(walk, regs, row, formed, refs) {
+        Ok(reached) => match effect(row, regs, formed, reached.operand) {
+            Ok(effect) => Ok(Operated {
+                effect,
+                place: reached.place,
+                part: reached.part,
+            }),
+            Err(fault) => Err(Halt::Fault(fault)),
+        },
+        Err(fault) => Err(Halt::Fault(fault)),
+    }
 }
