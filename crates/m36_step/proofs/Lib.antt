@@ -1,3 +1,4 @@
+pub mod Ends
 pub mod Reaching
 pub mod Groups
 pub mod Operations

@@ -1,3 +1,5 @@
+pub mod Ended
+pub mod Lending
 pub mod Operated
 pub mod References
 pub mod Reached
