@@ -13,6 +13,7 @@ ghost use Rattle.m36_step.specs.declared.operated.Part.TheVariants as part;
 ghost use Rattle.m36_step.specs.Reached.{ran_from, reached_end, part_for, DirectOperand};
 
 use crate::effects::taken;
+use crate::ended::fault_here;
 use crate::operands::{given, reach_block, reach_changed, reach_pair, reach_word, reach_written};
 use crate::operated::{Part, Reached};
 use crate::targets::{reach_address, reach_call, reach_target};
@@ -72,11 +73,7 @@ fn reach_direct(row: &Row, regs: &Regs, word: Word) -> Result<Reached, Fault>
     ensures whole { IfOk result (λ u. u.part ≡ part.Whole) }
 {
     if !row.direct {
-        return Err(Fault {
-            at: regs.here(),
-            number: 10,
-            acv: 0,
-        });
+        return Err(fault_here(regs, 10));
     }
     match row.operand {
         Operand::R => Ok(given(Held::One(word), 0)),
