@@ -1,22 +1,22 @@
 -- How the program of a step ends over core, part by part.
-use Rattle.std.proofs.Common.{ℕ, ◌≡◌, refl, sym, ap, ◌∙◌, Bool, true, false, not, ◌&&◌, ◌==◌, List, [], ◌∷◌, ◌++◌, Option, Some, None, Result, Ok, Err, option_map}
+use Rattle.std.proofs.Common.{ℕ, ◌≡◌, refl, sym, ap, ◌∙◌, Bool, not, ◌&&◌, ◌==◌, List, [], ◌∷◌, ◌++◌, Option, Some, None, Result, Ok, Err, option_map}
 use Rattle.m36_inst.specs.Fields.{InstFields}
 use Rattle.m36_inst.specs.Instruction.{inst_of}
-use Rattle.m36_inst.specs.Lookup.{row_at, IsRow}
+use Rattle.m36_inst.specs.Lookup.{row_at}
 use Rattle.m36_inst.specs.Operands.{operand_of, is_privileged}
 use Rattle.m36_inst.specs.declared.rows.Row.{Row}
 use Rattle.m36_inst.specs.declared.effect.Effect.{Effect}
 use Rattle.m36_inst.specs.declared.operand.Operand.{Operand}
 use Rattle.m36_inst.specs.declared.operand.Operand.TheVariants as kind
-use Rattle.m36_model.specs.Fields.{AtFields, FinalFields}
+use Rattle.m36_model.specs.Fields.{FinalFields}
 use Rattle.m36_model.specs.Registers.{RegsFields}
 use Rattle.m36_model.specs.Act.{Fetch, Act, either, otherwise}
-use Rattle.m36_model.specs.Store.{Spot, State, Mid, Served, Ran, serve, run, changes}
+use Rattle.m36_model.specs.Store.{Spot, State, Mid, Served, Ran, run, changes}
 use Rattle.m36_model.specs.Core.{core_store, core_put}
-use Rattle.m36_model.specs.Modification.{here, fault_at}
+use Rattle.m36_model.specs.Modification.{here}
 use Rattle.m36_model.specs.FirstPoint.{first_point}
-use Rattle.m36_model.specs.Chain.{ChainEnd, chain, chain_end_fields, claimed_by}
-use Rattle.m36_model.specs.Step.{Performed, Ending, outcome_of, outcome_by, halted, completed, operate, operated, indirect_words, addressed, no_address, started, admitted, effect_and_number, decode, decoded, fetch_request, fetched, program, record_of, state_after}
+use Rattle.m36_model.specs.Chain.{chain, chain_end_fields, claimed_by}
+use Rattle.m36_model.specs.Step.{Ending, outcome_of, outcome_by, halted, completed, operate, operated, indirect_words, addressed, no_address, started, admitted, effect_and_number, decode, decoded, fetched, program, record_of, state_after}
 use Rattle.m36_model.specs.declared.effects.Formed.{Formed}
 use Rattle.m36_model.specs.declared.outcome.Fault.{Fault}
 use Rattle.m36_model.specs.declared.outcome.Halt.{Halt}
@@ -24,10 +24,9 @@ use Rattle.m36_model.specs.declared.outcome.Halt.TheVariants as halt
 use Rattle.m36_model.specs.declared.outcome.Stop.TheVariants as stop
 use Rattle.m36_model.specs.declared.place.Reference.{Reference}
 use Rattle.m36_model.specs.declared.place.Kind.TheVariants as reference
-use Rattle.m36_model.specs.declared.record.StepRecord.{StepRecord}
 use Rattle.m36_model.proofs.ChainClaims.{run_then}
 use Rattle.m36_walk.specs.Memory.{Memory}
-use Rattle.m36_walk.specs.Served.{standing, sdw_in, request, with_words, ok_map, ServesWord}
+use Rattle.m36_walk.specs.Served.{standing, sdw_in, ServesWord}
 use Rattle.m36_ea.specs.Formed.{formed_from, ended}
 use Rattle.m36_step.specs.Ended.{End, end_of, given_end, EndsSo, EndsFormed}
 use Rattle.m36_step.specs.Operated.{claims_of, puts_of, operation_from, operated_end}

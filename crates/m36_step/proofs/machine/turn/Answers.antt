@@ -1,7 +1,6 @@
 use Rattle.std.proofs.Common.{ℕ, List, ap, sym}
 use Rattle.m36_model.specs.Registers.{RegsFields}
 use Rattle.m36_model.specs.Store.{State}
-use Rattle.m36_model.specs.declared.place.Reference.{Reference}
 use Rattle.m36_step.proofs.Ends.{step_told, step_left}
 use Rattle.m36_step.proofs.machine.turn.Goals as goal
 
