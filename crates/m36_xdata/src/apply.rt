@@ -1,12 +1,13 @@
 //! The effect of a change on registers.
 
-ghost use Rattle.std.specs.Prelude.{◌≡◌, ◌+◌, ◌%◌, ◌^◌};
-ghost use Rattle.m36_model.specs.Results.{A, Q, X, takes, with_indicators, moved_on, effect_fields, words_of_held};
+ghost use Rattle.std.specs.Prelude.{◌≡◌, ◌+◌, ◌%◌, ◌^◌, Ok, IfOk};
+ghost use Rattle.m36_model.specs.Effect.{answer_fields};
+ghost use Rattle.m36_model.specs.Results.{A, Q, X, takes, with_indicators, moved_on, words_of_held};
 ghost use Rattle.m36_xdata.specs.Changes.{changed, stored, taken};
 ghost use Rattle.m36_xdata.specs.declared.changes.Taken.TheVariants as taken_by;
 
 use crate::changes::{Change, NewIndex, Stored, Taken};
-use m36_model::{Effect36, Held, Ind, Regs};
+use m36_model::{Effect36, Fault, Held, Ind, Regs};
 use m36_word::{Pair, Word};
 
 /// The registers at the next instruction with these indicators.
@@ -87,14 +88,15 @@ fn held(put: Stored) -> Held
     }
 }
 
-/// The registers at the next instruction, with the change made, and the words to write.
-pub fn applied(c: &Change, regs: &Regs) -> Effect36
-    ensures value { effect_fields result ≡ changed c.now regs.now }
-    ensures put { words_of_held result.put ≡ stored c.now.put }
+/// The answer of an effect that is not refused: the registers at the next instruction, with the change made, and the words to
+/// write.
+pub fn applied(c: &Change, regs: &Regs) -> Result<Effect36, Fault>
+    ensures value { answer_fields result ≡ Ok (changed c.now regs.now) }
+    ensures put { IfOk result (λ e. words_of_held e.put ≡ stored c.now.put) }
 {
-    Effect36 {
+    Ok(Effect36 {
         regs: with_taken(c.taken, c.ind, regs),
         put: held(c.put),
         overflow: c.overflow,
-    }
+    })
 }

@@ -162,12 +162,12 @@ pub fn exec(row: &Row, regs: &Regs, f: &Final, operand: Operand36) -> Result<Eff
 {
     match row.effect {
         Effect::Div => match divide(&operand, regs) {
-            Ok(quotient) => Ok(applied(&quotient, regs)),
+            Ok(quotient) => applied(&quotient, regs),
             Err(f) => Err(f),
         },
         _ => {
             let whole = changed_by(row, regs, f, &operand);
-            Ok(applied(&whole, regs))
+            applied(&whole, regs)
         }
     }
 }
