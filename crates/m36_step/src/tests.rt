@@ -2,6 +2,10 @@
 
 ghost use Rattle.std.specs.Prelude.{◌<◌, ◌^◌};
 
+mod lines;
+mod more_lines;
+mod table;
+
 use crate::machine::Machine;
 use m36_core::Core;
 use m36_desc::{Dbr, Ptr};
