@@ -59,8 +59,8 @@ fn core(alloc: Global, paged: bool) -> Result<Core, NoMemory> {
 }
 
 /// Registers that hold nothing, at word 0 of segment 1 in ring 0.
-fn regs() -> Regs
-    ensures { result.dbr ≡ DBR }
+fn regs(dbr: Dbr) -> Regs
+    ensures { result.dbr ≡ dbr }
 {
     let pointer = Ptr {
         word: 0,
@@ -73,7 +73,7 @@ fn regs() -> Regs
         q: Word::ZERO,
         x: [0; 8],
         pr: [pointer; 8],
-        dbr: DBR,
+        dbr,
         ppr: Ppr {
             ic: 0,
             psr: 1,
@@ -92,9 +92,9 @@ fn regs() -> Regs
 
 /// The machine before its first step.
 pub fn machine(alloc: Global, paged: bool) -> Result<Machine, NoMemory> {
-    let regs = regs();
-    match Walk::new(alloc, core(alloc, paged)?, DBR) {
-        Ok(walk) => Ok(Machine::new(walk, regs)),
+    let dbr = DBR;
+    match Walk::new(alloc, core(alloc, paged)?, dbr) {
+        Ok(walk) => Ok(Machine::new(walk, regs(dbr))),
         Err(_core) => Err(NoMemory),
     }
 }
