@@ -4,6 +4,7 @@ ghost use Rattle.std.specs.Prelude.{◌<◌, ◌^◌};
 
 mod lines;
 mod more_lines;
+mod reading;
 mod table;
 
 use crate::machine::Machine;

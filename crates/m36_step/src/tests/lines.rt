@@ -1,4 +1,4 @@
-//! Loads, stores, arithmetic and comparisons, one a line, in the form that `table` says.
+//! Loads, stores, arithmetic and comparisons, one a line, in the form that `reading` says.
 
 /// Loads and stores.
 pub static LOADS: [&str; 76] = [

@@ -1,4 +1,4 @@
-//! Boolean instructions, shifts, pointer registers and control, one a line, in the form that `table` says.
+//! Boolean instructions, shifts, pointer registers and control, one a line, in the form that `reading` says.
 
 /// Boolean instructions and shifts.
 pub static BITS: [&str; 98] = [

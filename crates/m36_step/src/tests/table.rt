@@ -1,19 +1,12 @@
 //! Each instruction of the table once, over a core that was laid out by hand. The lines stand in `lines` and `more_lines`, and
-//! were worked out by hand from the manual.
-//!
-//! A line has the instruction's name, its word, what stands before it, `>`, and what the step changes: all that is not named
-//! stays, but for the instruction counter, which moves on by 1. Numbers are octal. The names are `a` and `q`; `x0` to
-//! `x7`; `p0` to `p7`, pointer registers as segment, ring, word and bit number; `i`, the indicators that are on: zero,
-//! negative, carry, overflow, mask, tally; `psr`, `prr` and `ic`; `d0` and `d1`, the two words of the descriptor segment
-//! base register; `y0` to `y17`, the words 200 to 217 of segment 1; `rings`, the rings of all pointer registers. `fault`
-//! is the number of a fault at the instruction, in decimal, and `stop=1` the stop of DIS. What does not stand before is 0, but
-//! that the instruction stands at word 100 of segment 1, which ring 0 may write and all rings may read and execute.
+//! were worked out by hand from the manual; `reading` says what they mean.
 
-ghost use Rattle.std.specs.Prelude.{◌≡◌, ◌<◌, ◌≤◌, ◌^◌, IfOk};
+ghost use Rattle.std.specs.Prelude.{◌≡◌, ◌<◌, ◌^◌};
 
 use crate::machine::Machine;
 use crate::tests::lines::{LOADS, SUMS};
 use crate::tests::more_lines::{BITS, CONTROL, POINTERS};
+use crate::tests::reading::{Line, Seen, read};
 use m36_core::Core;
 use m36_desc::{Dbr, Ptr};
 use m36_inst::{name_of, row};
@@ -22,146 +15,6 @@ use m36_walk::Walk;
 use m36_word::{NoMemory, Pair, Word};
 use std::alloc::Global;
 use std::process::Abort;
-
-/// Registers, the words that instructions refer to, and how a step ended.
-#[derive(Clone, Copy, PartialEq, Eq, Debug)]
-struct Seen {
-    x: [u64; 8],
-    /// Segment, ring, word and bit number as one number of 42 bits.
-    p: [u64; 8],
-    y: [u64; 16],
-    a: u64,
-    q: u64,
-    /// Zero is 1, negative 2, carry 4, overflow 8, mask 16, tally 32.
-    ind: u64,
-    psr: u64,
-    prr: u64,
-    ic: u64,
-    d0: u64,
-    d1: u64,
-    /// The sum of all core words but `y`.
-    others: u64,
-    /// 0 the next instruction follows, 1 stopped by DIS, 2 anything else; a fault's number and 100.
-    end: u64,
-}
-
-const START: Seen = Seen {
-    x: [0; 8],
-    p: [0; 8],
-    y: [0; 16],
-    a: 0,
-    q: 0,
-    ind: 0,
-    psr: 1,
-    prr: 0,
-    ic: 0o100,
-    d0: 0,
-    d1: 0o000170200001,
-    others: 0,
-    end: 0,
-};
-
-/// A line.
-#[derive(Clone, Copy)]
-struct Line {
-    before: Seen,
-    after: Seen,
-    word: u64,
-}
-
-/// A number in digits; what is no digit is passed over.
-fn number(text: &[u8], base: u64) -> u64
-    requires { base ≤ 10 }
-{
-    let mut v = 0;
-    for b in text {
-        if *b >= b'0' && *b <= b'9' {
-            v = v % (1 << 56) * base + (*b - b'0') as u64;
-        }
-    }
-    v
-}
-
-fn indicators(letters: &[u8]) -> u64 {
-    let mut v = 0;
-    for b in letters {
-        v |= match *b {
-            b'z' => 1,
-            b'n' => 2,
-            b'c' => 4,
-            b'o' => 8,
-            b'm' => 16,
-            b't' => 32,
-            _ => 64,
-        };
-    }
-    v
-}
-
-/// A pointer with its ring changed.
-fn in_ring(p: u64, ring: u64) -> u64 {
-    p & !(7 << 24) | ring % 8 << 24
-}
-
-/// What is seen, with a named part changed.
-fn with(seen: &Seen, name: &[u8], text: &[u8]) -> Seen {
-    let v = number(text, 8);
-    let mut after = *seen;
-    match name {
-        b"a" => after.a = v,
-        b"q" => after.q = v,
-        b"i" => after.ind = indicators(text),
-        b"ic" => after.ic = v,
-        b"psr" => after.psr = v,
-        b"prr" => after.prr = v,
-        b"d0" => after.d0 = v,
-        b"d1" => after.d1 = v,
-        b"stop" => after.end = v,
-        b"fault" => after.end = number(text, 10) % 100 + 100,
-        b"rings" => {
-            for p in after.p.iter_mut() {
-                *p = in_ring(*p, v);
-            }
-        }
-        [b'x', n] => after.x[(*n % 8) as usize] = v,
-        [b'p', n] => after.p[(*n % 8) as usize] = v,
-        [b'y', n] => after.y[(*n % 8) as usize] = v,
-        [b'y', b'1', n] => after.y[(*n % 8) as usize + 8] = v,
-        _ => after.end = 2,
-    }
-    after
-}
-
-fn moved_on(seen: &Seen) -> Seen {
-    let mut after = *seen;
-    after.ic = seen.ic % (1 << 18) + 1;
-    after
-}
-
-/// Reads a line.
-fn read(text: &str) -> Line {
-    let mut line = Line {
-        before: START,
-        after: START,
-        word: 0,
-    };
-    let mut is_after = false;
-    for part in text.split_whitespace() {
-        if part == ">" {
-            line.after = moved_on(&line.before);
-            is_after = true;
-        } else if let Some((name, v)) = part.split_once('=') {
-            if is_after {
-                line.after = with(&line.after, name.as_bytes(), v.as_bytes());
-            } else {
-                line.before = with(&line.before, name.as_bytes(), v.as_bytes());
-            }
-        } else {
-            line.word = number(part.as_bytes(), 8);
-        }
-    }
-    line
-}
 
 fn index(v: u64) -> u32
     ensures { result < 2 ^ 18 }
