@@ -1,5 +1,6 @@
 pub mod RunLaws
 pub mod Splitting
+pub mod WordLaws
 pub mod TopLaws
 pub mod CoreWords
 pub mod LinesInTurn

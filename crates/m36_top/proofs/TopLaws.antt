@@ -11,12 +11,13 @@ use Rattle.m36_outside.specs.Written.{Grew}
 use Rattle.m36_model.specs.Store.{State}
 use Rattle.m36_model.specs.declared.outcome.Outcome.{Outcome}
 use Rattle.m36_model.specs.declared.outcome.Outcome.TheVariants.{Next, Faulted, Stopped}
-use Rattle.m36_model.specs.declared.outcome.Stop.TheVariants.{Dis, Operation, Tag, Unbuilt}
+use Rattle.m36_model.specs.declared.outcome.Stop.TheVariants.{Dis, Operation, Tag}
 use Rattle.m36_top.specs.Run.{run, last_outcome}
 use Rattle.m36_top.specs.Output.{status_after}
 use Rattle.m36_top.specs.RunSays.{RunSays}
-use Rattle.m36_top.specs.TopCall.{Answer, IsRun, Meets, MeetsFiles, AnswersDone, TopSays, ReadCause, WriteCause, read_of, answer_by, bare_answer, run_answer}
+use Rattle.m36_top.specs.TopCall.{Answer, IsRun, Meets, MeetsFiles, Completes, TopSays, ReadCause, WriteCause, file_of, read_of, answer_by, read_answer, run_answer}
 use Rattle.m36_top.specs.declared.running.Ended.TheVariants.{Whole, Cut}
+use Rattle.m36_top.specs.declared.command.Command.{Command}
 use Rattle.m36_top.specs.declared.status.Status.{Status}
 use Rattle.m36_top.specs.declared.status.Status.TheVariants.{Done, Usage, ReadFault, WriteFault, BadFile, AuditNo, MachineStop, Steps, NoMemory}
 
@@ -29,7 +30,6 @@ meets_whole (Faulted fault) due old new is grew = (is, grew)
 meets_whole (Stopped Dis) due old new is grew = (is, grew)
 meets_whole (Stopped Operation) due old new is grew = (is, grew)
 meets_whole (Stopped Tag) due old new is grew = (is, grew)
-meets_whole (Stopped Unbuilt) due old new is grew = (is, grew)
 
 pub run_whole :
     (steps : ℕ) (state : State (List ℕ)) (last : Outcome) (old new : Option (List ℕ))
@@ -45,7 +45,6 @@ is_run (Faulted fault) = tt
 is_run (Stopped Dis) = tt
 is_run (Stopped Operation) = tt
 is_run (Stopped Tag) = tt
-is_run (Stopped Unbuilt) = tt
 
 pub run_cut :
     (steps : ℕ) (state : State (List ℕ)) (old new : Option (List ℕ))
@@ -60,7 +59,6 @@ whole_read (Faulted fault) count = refl
 whole_read (Stopped Dis) count = refl
 whole_read (Stopped Operation) count = refl
 whole_read (Stopped Tag) count = refl
-whole_read (Stopped Unbuilt) count = refl
 
 pub whole_write : (last : Outcome) (old new : ℕ) → new ≡ old → WriteCause (status_after last) old new
 whole_write Next old new same = same
@@ -68,7 +66,6 @@ whole_write (Faulted fault) old new same = same
 whole_write (Stopped Dis) old new same = same
 whole_write (Stopped Operation) old new same = same
 whole_write (Stopped Tag) old new same = same
-whole_write (Stopped Unbuilt) old new same = same
 
 pub ruleset answers = (run_whole, run_cut, whole_read, whole_write)
 
@@ -114,54 +111,54 @@ large_is : (bytes : List ℕ) → file_limit < length bytes → read_of (Some by
 large_is bytes over = ap (λ b. cond b read.TooLarge (read.Read bytes)) (lt-ltb file_limit (length bytes) over)
 
 by_given :
-    (given : ReadAnswer) (name : List ℕ) (files : Files) (result : Status) (old new : Option (List ℕ))
-    → ReadSays given (files name) → IsWithinLimit given → Meets result (bare_answer name given) old new
-    → MeetsFiles result (answer_by (Some name) files) old new
-by_given (read.Read bytes) name files result old new says within m =
-    subst (λ r. MeetsFiles result (bare_answer name r) old new) (sym (ap read_of says ∙ read_is bytes within)) (met result (bare_answer name (read.Read bytes)) old new m)
-by_given read.Absent name files result old new says within m =
-    subst (λ r. MeetsFiles result (bare_answer name r) old new) (sym (ap read_of says)) (met result (bare_answer name read.Absent) old new m)
-by_given read.TooLarge name files result old new says within m =
-    subst (λ r. MeetsFiles result (bare_answer name r) old new) (sym (ap read_of says.1 ∙ large_is says.0 says.2)) (met result (bare_answer name read.TooLarge) old new m)
-by_given read.Failed name files result old new says within m = met_read result (answer_by (Some name) files) old new m
-by_given read.NoMemory name files result old new says within m = met_memory result (answer_by (Some name) files) old new m
+    (given : ReadAnswer) (command : Command) (files : Files) (result : Status) (old new : Option (List ℕ))
+    → ReadSays given (files (file_of command)) → IsWithinLimit given → Meets result (read_answer command given) old new
+    → MeetsFiles result (answer_by (Some command) files) old new
+by_given (read.Read bytes) command files result old new says within m =
+    subst (λ r. MeetsFiles result (read_answer command r) old new) (sym (ap read_of says ∙ read_is bytes within)) (met result (read_answer command (read.Read bytes)) old new m)
+by_given read.Absent command files result old new says within m =
+    subst (λ r. MeetsFiles result (read_answer command r) old new) (sym (ap read_of says)) (met result (read_answer command read.Absent) old new m)
+by_given read.TooLarge command files result old new says within m =
+    subst (λ r. MeetsFiles result (read_answer command r) old new) (sym (ap read_of says.1 ∙ large_is says.0 says.2)) (met result (read_answer command read.TooLarge) old new m)
+by_given read.Failed command files result old new says within m = met_read result (answer_by (Some command) files) old new m
+by_given read.NoMemory command files result old new says within m = met_memory result (answer_by (Some command) files) old new m
 
 usage_met : (result : Status) (old new : Option (List ℕ)) → result ≡ Usage → new ≡ old → MeetsFiles result (record { status = Usage; text = [] }) old new
 usage_met result old new is same = subst (λ s. MeetsFiles s (record { status = Usage; text = [] }) old new) (sym is) (refl, same)
 
-by_file :
-    (file : Option (List ℕ)) (result : Status) (files : Files) (old new : Option (List ℕ))
-    → TopSays file result (Some files) old new → MeetsFiles result (answer_by file files) old new
-by_file None result files old new says = usage_met result old new says.0 says.1
-by_file (Some name) result files old new says = by_given says.given name files result old new says.told says.limit says.meets
+by_command :
+    (command : Option Command) (result : Status) (files : Files) (old new : Option (List ℕ))
+    → TopSays command result (Some files) old new → MeetsFiles result (answer_by command files) old new
+by_command None result files old new says = usage_met result old new says.0 says.1
+by_command (Some command) result files old new says = by_given says.given command files result old new says.told says.limit says.meets
 
 pub by_files :
-    (file : Option (List ℕ)) (result : Status) (files : Option Files) (old new : Option (List ℕ))
-    → TopSays file result files old new → IfSome files (λ f. MeetsFiles result (answer_by file f) old new)
-by_files file result None old new says = tt
-by_files file result (Some files) old new says = by_file file result files old new says
+    (command : Option Command) (result : Status) (files : Option Files) (old new : Option (List ℕ))
+    → TopSays command result files old new → IfSome files (λ f. MeetsFiles result (answer_by command f) old new)
+by_files command result None old new says = tt
+by_files command result (Some files) old new says = by_command command result files old new says
 
--- With no fault outside, a run that is due to end with DIS does.
-done_due :
+-- With no fault outside, what is due is answered.
+due_answered :
     (result : Status) (due : Answer) (old new : Option (List ℕ)) (r r' w w' : ℕ)
     → MeetsFiles result due old new → ReadCause result r r' → WriteCause result w w'
-    → AnswersDone result due (Rose r r') (Rose w w')
-done_due Done due old new r r' w w' m read write is nr nw = inl refl
-done_due (MachineStop end) due old new r r' w w' m read write is nr nw = absurd (let h = m.0 in cc)
-done_due Steps due old new r r' w w' m read write is nr nw = absurd (let h = m.0 in cc)
-done_due (BadFile bad) due old new r r' w w' m read write is nr nw = absurd (let h = m.0 in cc)
-done_due Usage due old new r r' w w' m read write is nr nw = absurd (let h = m.0 in cc)
-done_due ReadFault due old new r r' w w' m read write is nr nw = absurd (nr read)
-done_due WriteFault due old new r r' w w' m read write is nr nw = absurd (nw write)
-done_due NoMemory due old new r r' w w' m read write is nr nw = inr refl
-done_due AuditNo due old new r r' w w' m read write is nr nw = absurd m
+    → Completes result due (Rose r r') (Rose w w')
+due_answered Done due old new r r' w w' m read write nr nw = inr (sym m.0)
+due_answered (MachineStop end) due old new r r' w w' m read write nr nw = inr (sym m.0)
+due_answered Steps due old new r r' w w' m read write nr nw = inr (sym m.0)
+due_answered (BadFile bad) due old new r r' w w' m read write nr nw = inr (sym m.0)
+due_answered Usage due old new r r' w w' m read write nr nw = inr (sym m.0)
+due_answered ReadFault due old new r r' w w' m read write nr nw = absurd (nr read)
+due_answered WriteFault due old new r r' w w' m read write nr nw = absurd (nw write)
+due_answered NoMemory due old new r r' w w' m read write nr nw = inl refl
+due_answered AuditNo due old new r r' w w' m read write nr nw = absurd m
 
-pub all_done :
-    (file : Option (List ℕ)) (result : Status) (files : Option Files) (old new : Option (List ℕ)) (r r' w w' : ℕ)
-    → TopSays file result files old new → ReadCause result r r' → WriteCause result w w'
-    → IfSome files (λ f. AnswersDone result (answer_by file f) (Rose r r') (Rose w w'))
-all_done file result None old new r r' w w' says read write = tt
-all_done file result (Some files) old new r r' w w' says read write =
-    done_due result (answer_by file files) old new r r' w w' (by_file file result files old new says) read write
+pub all_answered :
+    (command : Option Command) (result : Status) (files : Option Files) (old new : Option (List ℕ)) (r r' w w' : ℕ)
+    → TopSays command result files old new → ReadCause result r r' → WriteCause result w w'
+    → IfSome files (λ f. Completes result (answer_by command f) (Rose r r') (Rose w w'))
+all_answered command result None old new r r' w w' says read write = tt
+all_answered command result (Some files) old new r r' w w' says read write =
+    due_answered result (answer_by command files) old new r r' w w' (by_command command result files old new says) read write
 
-pub ruleset calls = (by_files, all_done)
+pub ruleset calls = (by_files, all_answered)

@@ -12,7 +12,9 @@ use Rattle.m36_top.specs.declared.status.Status.{Status}
 use Rattle.m36_top.specs.declared.status.Status.TheVariants.{Done, Usage, ReadFault, WriteFault, BadFile, AuditNo, MachineStop, Steps, NoMemory}
 use Rattle.m36_top.specs.declared.status.Code.{Code}
 use Rattle.m36_top.specs.declared.status.Code.TheVariants.{F1, F2}
-use Rattle.m36_top.specs.Words.{bare_file}
+use Rattle.m36_top.specs.declared.command.Command.{Command}
+use Rattle.m36_top.specs.declared.command.Command.TheVariants.{Bare}
+use Rattle.m36_top.specs.Words.{command_of}
 use Rattle.m36_top.specs.ImageState.{state_given}
 use Rattle.m36_top.specs.Run.{run, last_outcome}
 use Rattle.m36_top.specs.Output.{run_text, status_after}
@@ -26,24 +28,30 @@ pub record Answer : Type 0 where
 abbrev pub refused : List ℕ → Code → ℕ → Answer
 refused name code at = record { status = BadFile (record { name = name; code = code; at = at; column = 0 }); text = [] }
 
--- a run takes at most so many steps
-abbrev pub step_limit : ℕ
-step_limit = 100000
-
+-- what a run of at most so many steps is to answer and to write
 unfoldable pub run_answer : ℕ → State (List ℕ) → Answer
 run_answer steps state = record { status = status_after (last_outcome (run steps state)); text = run_text steps state }
 
-abbrev pub state_answer : List ℕ → Result (State (List ℕ)) Refusal → Answer
-state_answer name (Ok state) = run_answer step_limit state
-state_answer name (Err refusal) = refused name refusal.code refusal.line
+-- the file that a command reads
+abbrev pub file_of : Command → List ℕ
+file_of (Bare bare) = bare.file
 
--- `bare FILE`, by what the folder answers for the file
-abbrev pub bare_answer : List ℕ → ReadAnswer → Answer
-bare_answer name (read.Read bytes) = state_answer name (state_given bytes)
-bare_answer name read.Absent = refused name F1 0
-bare_answer name read.TooLarge = refused name F2 0
-bare_answer name read.Failed = record { status = ReadFault; text = [] }
-bare_answer name read.NoMemory = record { status = NoMemory; text = [] }
+-- a command on the state that its file writes out
+abbrev pub state_answer : Command → State (List ℕ) → Answer
+state_answer (Bare bare) state = run_answer bare.steps state
+
+-- a command, by what its file writes out
+abbrev pub image_answer : Command → Result (State (List ℕ)) Refusal → Answer
+image_answer command (Ok state) = state_answer command state
+image_answer command (Err refusal) = refused (file_of command) refusal.code refusal.line
+
+-- a command, by what the folder answers for its file
+abbrev pub read_answer : Command → ReadAnswer → Answer
+read_answer command (read.Read bytes) = image_answer command (state_given bytes)
+read_answer command read.Absent = refused (file_of command) F1 0
+read_answer command read.TooLarge = refused (file_of command) F2 0
+read_answer command read.Failed = record { status = ReadFault; text = [] }
+read_answer command read.NoMemory = record { status = NoMemory; text = [] }
 
 -- the statuses of a run
 abbrev pub IsRun : Status → Type 0
@@ -72,16 +80,16 @@ Meets Usage due old new = ⊥
 Meets AuditNo due old new = ⊥
 
 -- The folder gave some answer for the file, that of its files where it tells them, and the call meets it.
-pub record BareSays (name : List ℕ) (result : Status) (files : Option Files) (old new : Option (List ℕ)) : Type 0 where
+pub record CommandSays (command : Command) (result : Status) (files : Option Files) (old new : Option (List ℕ)) : Type 0 where
   pub given : ReadAnswer
-  pub told : IfSome files (λ f. ReadSays given (f name))
+  pub told : IfSome files (λ f. ReadSays given (f (file_of command)))
   pub limit : IsWithinLimit given
-  pub meets : Meets result (bare_answer name given) old new
+  pub meets : Meets result (read_answer command given) old new
 
--- What the top call answers, by the file that its words name.
-abbrev pub TopSays : Option (List ℕ) → Status → Option Files → Option (List ℕ) → Option (List ℕ) → Type 0
+-- What the top call answers, by the command that its words are.
+abbrev pub TopSays : Option Command → Status → Option Files → Option (List ℕ) → Option (List ℕ) → Type 0
 TopSays None result files old new = (result ≡ Usage) × (new ≡ old)
-TopSays (Some name) result files old new = BareSays name result files old new
+TopSays (Some command) result files old new = CommandSays command result files old new
 
 -- Where the folder tells its files: what it is to answer for one,
 abbrev pub read_of : Option (List ℕ) → ReadAnswer
@@ -89,12 +97,12 @@ read_of None = read.Absent
 read_of (Some bytes) = if nat_lt file_limit (length bytes) then read.TooLarge else read.Read bytes
 
 -- and what is due to the words, as the files are.
-abbrev pub answer_by : Option (List ℕ) → Files → Answer
+abbrev pub answer_by : Option Command → Files → Answer
 answer_by None files = record { status = Usage; text = [] }
-answer_by (Some name) files = bare_answer name (read_of (files name))
+answer_by (Some command) files = read_answer command (read_of (files (file_of command)))
 
 abbrev pub answer_of : List (List ℕ) → Files → Answer
-answer_of words files = answer_by (bare_file words) files
+answer_of words files = answer_by (command_of words) files
 
 -- What a status says beside the answer that is due by the files. A read that failed yields to no file.
 abbrev pub MeetsFiles : Status → Answer → Option (List ℕ) → Option (List ℕ) → Type 0
@@ -108,10 +116,10 @@ MeetsFiles WriteFault due old new = IsRun due.status × GrewWithin old new due.t
 MeetsFiles NoMemory due old new = new ≡ old
 MeetsFiles AuditNo due old new = ⊥
 
--- A run that is due to end with DIS, with no fault outside, does, unless want of memory stands in its place.
-abbrev pub AnswersDone : Status → Answer → Type 0 → Type 0 → Type 0
-AnswersDone result due read_rose write_rose =
-    due.status ≡ Done → ¬ read_rose → ¬ write_rose → (result ≡ Done) ⊎ (result ≡ NoMemory)
+-- With no fault outside the answer is the one that is due, unless want of memory stands in its place.
+abbrev pub Completes : Status → Answer → Type 0 → Type 0 → Type 0
+Completes result due read_rose write_rose =
+    ¬ read_rose → ¬ write_rose → (result ≡ NoMemory) ⊎ (result ≡ due.status)
 
 -- A count of read faults rose in a call that answered ReadFault, and stands in any other.
 abbrev pub ReadCause : Status → ℕ → ℕ → Type 0

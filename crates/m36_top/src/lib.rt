@@ -15,10 +15,12 @@
 //! Files, texts and statuses are this simulator's own; the machine is that of the Multics Processor Manual AL39.
 #![tactic(auto)]
 
+pub mod command;
 mod core_words;
 mod forms;
 mod header;
 pub mod image;
+mod names;
 mod placed;
 pub mod refusal;
 mod running;
@@ -27,9 +29,11 @@ pub mod status;
 #[cfg(test)]
 mod tests;
 pub mod top;
-mod words;
+pub mod words;
 
+pub use command::{BareRun, Command};
 pub use image::{Image, ImageFault, read_image};
 pub use refusal::Refusal;
 pub use status::{Bad, Code, Status};
 pub use top::m36;
+pub use words::command_of;

@@ -2,10 +2,9 @@
 use Rattle.std.proofs.Common.{subst}
 use Rattle.m36_top.specs.RunSays.{RunSays}
 use Rattle.m36_top.specs.declared.running.Ended.TheVariants.{Cut}
-use Rattle.m36_top.specs.TopCall.{step_limit}
 use Rattle.m36_top.proofs.TopLaws.{run_cut}
 use Rattle.m36_top.proofs.top.run_image.Goals as goal
 
 pub returns-in-Cut-clause-says : goal.returns-in-Cut-clause-says
 returns-in-Cut-clause-says g c =
-    run_cut step_limit c.args.image.now _ _ (subst (λ s. RunSays Cut step_limit s (g.S.Sink.written c.args.out.now) (g.S.Sink.written c.run.new.out)) c.in-Ok.ensures c.in-Cut.ensures.says)
+    run_cut c.args.steps c.args.image _ _ (subst (λ s. RunSays Cut c.args.steps s (g.S.Sink.written c.args.out.now) (g.S.Sink.written c.run.new.out)) c.in-Ok.ensures c.in-Cut.ensures.says)
