@@ -20,17 +20,32 @@ const LEAST_OUTPUT: &[u8] =
 end dis 2
 ";
 
-/// The same, but the load is modified by a register, which the machine has not got yet.
-const MODIFIED: &[u8] = b"core 1
+/// A segment with a page, in which a zero is stored.
+const PAGED: &[u8] = b"core 2
 dbr 000000000000 000000200000
 start 00001 0 000000
-at 00000002 000000400004 000006700000
-at 00000040 000002235005 000000616000 000000000005
+at 00000002 000001000004 000007500000
+at 00000100 000020000004
+at 00002000 000002755000 000000616000
 ";
 
-const MODIFIED_OUTPUT: &[u8] =
-    b"1 0 00001|000000 000002235005 - 000000000000 000000000000 ...... stop unbuilt
-end stop unbuilt 1
+const PAGED_OUTPUT: &[u8] =
+    b"1 0 00001|000000 000002755000 0:00001|000002 000000000000 000000000000 ...... next
+2 0 00001|000001 000000616000 - 000000000000 000000000000 ...... dis
+end dis 2
+";
+
+/// A ring without the right to execute.
+const FOREIGN: &[u8] = b"core 3
+dbr 000000000000 000000200000
+start 00001 4 000000
+at 00000002 000001004444 000005100000
+at 00000100 000040000004
+";
+
+const FOREIGN_OUTPUT: &[u8] =
+    b"1 4 00001|000000 - - 000000000000 000000000000 ...... fault 20.2
+end fault 20.2 1
 ";
 
 /// Transfers to itself.
@@ -73,10 +88,12 @@ fn runs_the_least_image(rt: HostRuntime) -> Result<(), NoMemory> {
 }
 
 #[test]
-fn stops_at_what_is_not_built(rt: HostRuntime) -> Result<(), NoMemory> {
-    let (status, out) = ran(rt.alloc(), MODIFIED, &[], &[])?;
-    assert_eq!(rt; status.number(), 6);
-    assert!(rt; out.bytes() == MODIFIED_OUTPUT);
+fn runs_a_page_and_a_fault(rt: HostRuntime) -> Result<(), NoMemory> {
+    for (image, number, output) in [(PAGED, 0, PAGED_OUTPUT), (FOREIGN, 6, FOREIGN_OUTPUT)] {
+        let (status, out) = ran(rt.alloc(), image, &[], &[])?;
+        assert_eq!(rt; status.number(), number);
+        assert!(rt; out.bytes() == output);
+    }
     Ok(())
 }
 
@@ -253,35 +270,75 @@ fn refuses_words(rt: HostRuntime) -> Result<(), NoMemory> {
     Ok(())
 }
 
+// What these words answer over the least image as the file `f`, and how much is written.
+fn asked(alloc: Global, list: &[&[u8]]) -> Result<(u8, usize), NoMemory> {
+    let mut folder = MemFolder::new(alloc, &[], &[])?;
+    folder.add(b"f", LEAST)?;
+    let mut out = MemSink::new(alloc, 1000, &[])?;
+    let words = words(alloc, list)?;
+    let status = m36(alloc, words.as_slice(), &mut folder, &mut out);
+    Ok((status.number(), out.bytes().len()))
+}
+
+#[test]
+fn refuses_words(rt: HostRuntime) -> Result<(), NoMemory> {
+    for list in [
+        [b"".as_slice(), b"", b""].as_slice(),
+        &[],
+        &[b"bare"],
+        &[b"run", b"run"],
+        &[b"f"],
+        &[b"f", b"bare"],
+        &[b"Bare", b"f"],
+        &[b"bare", b""],
+        &[b"bare", b".f"],
+        &[b"bare", b"f/g"],
+        &[b"bare", b"f\xff"],
+        &[b"bare", b"--help"],
+        &[b"bare", b"f", b"f"],
+        &[b"bare", b"ABCDEFGHIJKLMNOPQRSTUVWXYZ_.01234"],
+        &[b"bare", b"f", b"--steps"],
+        &[b"bare", b"f", b"--steps", b""],
+        &[b"bare", b"f", b"--steps="],
+        &[b"bare", b"f", b"--steps=-1"],
+        &[b"bare", b"f", b"--steps", b"10000001"],
+        &[b"bare", b"f", b"--steps=000000001"],
+        &[b"bare", b"f", b"--steps=1", b"--steps", b"1"],
+        &[b"bare", b"f", b"--step", b"1"],
+        &[b"bare", b"--steps", b"--", b"f"],
+        &[b"bare", b"--steps", b"f"],
+        &[b"bare", b"f", b"--unaudited", b"--unaudited"],
+        &[b"bare", b"f", b"--unaudited=1"],
+        &[b"bare", b"--", b"--", b"f"],
+        &[b"bare", b"f", b"--", b"--unaudited"],
+        &[b"--unaudited", b"bare", b"f"],
+        &[b"--", b"bare", b"f"],
+    ] {
+        let (number, written) = asked(rt.alloc(), list)?;
+        assert_eq!(rt; number, 1, "{list:?}");
+        assert_eq!(rt; written, 0);
+    }
+    Ok(())
+}
+
 #[test]
 fn knows_its_words(rt: HostRuntime) -> Result<(), NoMemory> {
-    let alloc = rt.alloc();
-    for (list, number) in [
-        ([b"".as_slice(), b"", b""].as_slice(), 1),
-        (&[], 1),
-        (&[b"bare"], 1),
-        (&[b"run"], 1),
-        (&[b"f"], 1),
-        (&[b"f", b"bare"], 1),
-        (&[b"Bare", b"f"], 1),
-        (&[b"bare", b""], 1),
-        (&[b"bare", b".f"], 1),
-        (&[b"bare", b"f/g"], 1),
-        (&[b"bare", b"f\xff"], 1),
-        (&[b"bare", b"--help"], 1),
-        (&[b"bare", b"f", b"f"], 1),
-        (&[b"bare", b"ABCDEFGHIJKLMNOPQRSTUVWXYZ_.01234"], 1),
-        (&[b"bare", b"ABCDEFGHIJKLMNOPQRSTUVWXYZ_.0123"], 4),
-        (&[b"bare", b"a.z_9"], 4),
-        (&[b"bare", b"f"], 0),
+    for (list, number, written) in [
+        ([b"bare".as_slice(), b"f"].as_slice(), 0, 162),
+        (&[b"bare", b"ABCDEFGHIJKLMNOPQRSTUVWXYZ_.0123"], 4, 0),
+        (&[b"bare", b"a.z_9"], 4, 0),
+        (&[b"bare", b"f", b"--steps", b"0"], 7, 12),
+        (&[b"bare", b"--steps=1", b"f"], 7, 95),
+        (&[b"bare", b"--steps", b"2", b"f"], 0, 162),
+        (&[b"bare", b"f", b"--steps=10000000"], 0, 162),
+        (&[b"bare", b"f", b"--steps=00000001"], 7, 95),
+        (&[b"bare", b"--unaudited", b"f", b"--steps=0"], 7, 12),
+        (&[b"bare", b"--", b"f"], 0, 162),
+        (&[b"bare", b"f", b"--"], 0, 162),
+        (&[b"bare", b"--steps=0", b"--", b"f"], 7, 12),
     ] {
-        let mut folder = MemFolder::new(alloc, &[], &[])?;
-        folder.add(b"f", LEAST)?;
-        let mut out = MemSink::new(alloc, 1000, &[])?;
-        let words = words(alloc, list)?;
-        let status = m36(alloc, words.as_slice(), &mut folder, &mut out);
-        assert_eq!(rt; status.number(), number, "{list:?}");
-        assert_eq!(rt; out.bytes().is_empty(), number != 0);
+        let answer = asked(rt.alloc(), list)?;
+        assert!(rt; answer == (number, written), "{list:?}");
     }
     Ok(())
 }
