@@ -3,3 +3,4 @@ pub mod Reaching
 pub mod Groups
 pub mod Operations
 pub mod Direct
+pub mod Writing

@@ -1,13 +1,12 @@
 -- How an operation ends, once its operand is there and its effect is known.
-use Rattle.std.proofs.Common.{ℕ, ◌≡◌, ◌∙◌, refl, sym, ap, subst, Bool, true, false, List, [], ◌∷◌, ◌++◌, length, append-nil, Result, Ok, Err, Option, Some, None, ◌⊎◌, inl, inr, IsTrue, arith}
-use Rattle.m36_inst.specs.Operands.{operand_of, takes_direct, is_one_word}
+use Rattle.std.proofs.Common.{ℕ, ◌≡◌, ◌∙◌, refl, sym, ap, List, [], ◌∷◌, ◌++◌, length, append-nil, Result, Ok, Err, arith}
+use Rattle.m36_inst.specs.Operands.{operand_of}
 use Rattle.m36_inst.specs.declared.effect.Effect.{Effect}
 use Rattle.m36_inst.specs.declared.effect.Effect.TheVariants as effect
 use Rattle.m36_inst.specs.declared.operand.Operand.{Operand}
 use Rattle.m36_inst.specs.declared.operand.Operand.TheVariants as kind
 use Rattle.m36_model.specs.Act.{Part, Put}
 use Rattle.m36_model.specs.Chain.{chain_end_fields, claimed_by}
-use Rattle.m36_model.specs.Core.{core_store}
 use Rattle.m36_model.specs.Effect.{exec, answer_fields, refused_here}
 use Rattle.m36_model.specs.Fields.{FinalFields}
 use Rattle.m36_model.specs.Laws.{words_written}
@@ -25,7 +24,7 @@ use Rattle.m36_model.specs.declared.place.Reference.{Reference}
 use Rattle.m36_model.proofs.Computed.{everything}
 use Rattle.m36_walk.specs.Runs.{run_from}
 use Rattle.m36_walk.specs.Served.{standing}
-use Rattle.m36_step.specs.Operated.{formed_mid, part_of, operated_end}
+use Rattle.m36_step.specs.Operated.{part_of, operated_end}
 use Rattle.m36_step.specs.Reached.{unwritten_end, written_end, reached_end}
 use Rattle.m36_step.specs.declared.operated.Operated.{Operated}
 use Rattle.m36_step.specs.declared.operated.Reached.{Reached}

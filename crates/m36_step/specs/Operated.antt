@@ -1,5 +1,5 @@
 -- An operation: what the program of an operand and its effect gives over core, and the words that it leaves to be written.
-use Rattle.std.specs.Prelude.{ℕ, ◌≡◌, ◌<◌, ◌^◌, List, ◌++◌, length, Option, Some, None, Result, Ok, Err}
+use Rattle.std.specs.Prelude.{ℕ, ◌<◌, ◌^◌, List, ◌++◌, length, Option, Some, None, Result, Ok, Err}
 use Rattle.m36_inst.specs.declared.effect.Effect.{Effect}
 use Rattle.m36_model.specs.Act.{Part, Whole, Left, Right, Put}
 use Rattle.m36_model.specs.Chain.{chain_end_fields, pending_of, claimed_by}
@@ -63,6 +63,12 @@ abbrev pub PartFits : code.Part → List ℕ → Type 0
 PartFits part.Whole words = Unit {0}
 PartFits part.Left words = IsHalf words
 PartFits part.Right words = IsHalf words
+
+-- a half has 18 bits
+abbrev pub PartHolds : code.Part → ℕ → Type 0
+PartHolds part.Whole w = Unit {0}
+PartHolds part.Left w = w < 2 ^ 18
+PartHolds part.Right w = w < 2 ^ 18
 
 -- the words to be written lie in a core of this size
 pub record Lies (size : ℕ) (f : Formed) (o : Operated) : Type 0 where

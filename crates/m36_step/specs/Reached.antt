@@ -4,7 +4,7 @@ use Rattle.m36_inst.specs.Operands.{operand_of, takes_direct}
 use Rattle.m36_inst.specs.declared.effect.Effect.{Effect}
 use Rattle.m36_inst.specs.declared.operand.Operand.{Operand}
 use Rattle.m36_inst.specs.declared.operand.Operand.TheVariants as kind
-use Rattle.m36_model.specs.Chain.{ChainEnd, chain_end_fields, claimed_by}
+use Rattle.m36_model.specs.Chain.{chain_end_fields, claimed_by}
 use Rattle.m36_model.specs.Core.{core_store}
 use Rattle.m36_model.specs.Registers.{RegsFields}
 use Rattle.m36_model.specs.Modification.{here}

@@ -1,4 +1,4 @@
-use Rattle.std.proofs.Common.{◌≡◌, ◌∙◌}
+use Rattle.std.proofs.Common.{◌∙◌}
 use Rattle.m36_model.specs.Chain.{chain_end_fields}
 use Rattle.m36_model.specs.Results.{operand_fields, words_of_held}
 use Rattle.m36_model.specs.Step.{tallied}
