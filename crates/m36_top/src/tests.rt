@@ -281,7 +281,7 @@ fn asked(alloc: Global, list: &[&[u8]]) -> Result<(u8, usize), NoMemory> {
 }
 
 #[test]
-fn refuses_words(rt: HostRuntime) -> Result<(), NoMemory> {
+fn refuses_lists_of_words(rt: HostRuntime) -> Result<(), NoMemory> {
     for list in [
         [b"".as_slice(), b"", b""].as_slice(),
         &[],
