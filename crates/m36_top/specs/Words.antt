@@ -1,6 +1,7 @@
 -- The words of the command line.
 --
 --     bare FILE [--steps N] [--unaudited]
+--     audit FILE
 --
 -- The first word is the command. Operands and options follow it in any order, and an option stands at most once. Behind
 -- `--`, which may stand once, each word is an operand. `--steps N` may be written `--steps=N`; the value of `--steps` is
@@ -9,7 +10,7 @@
 -- is a command.
 use Rattle.std.specs.Prelude.{ℕ, Bool, true, false, not, ◌&&◌, ◌||◌, ◌==◌, nat_le, nat_eq, List, [], ◌∷◌, length, take, drop, slice_index, codes, Option, Some, None, unwrap_or, if◌then◌else◌}
 use Rattle.std.specs.List.{list_all}
-use Rattle.std.specs.Option.{option_map, option_and_then}
+use Rattle.std.specs.Option.{is_none, option_map, option_and_then}
 use Rattle.std.specs.Result.{result_ok}
 use Rattle.std.specs.Cmp.Lexicographic.{pointwise}
 use Rattle.m36_text.specs.Reading.{number_read}
@@ -17,7 +18,7 @@ use Rattle.m36_top.specs.declared.words.Given.{Given}
 use Rattle.m36_top.specs.declared.words.Expects.{Expects}
 use Rattle.m36_top.specs.declared.words.Expects.TheVariants as expects
 use Rattle.m36_top.specs.declared.command.Command.{Command}
-use Rattle.m36_top.specs.declared.command.Command.TheVariants.{Bare}
+use Rattle.m36_top.specs.declared.command.Command.TheVariants.{Bare, Audit}
 
 -- whether a text is this one
 abbrev pub is_text : List ℕ → List ℕ → Bool
@@ -93,16 +94,23 @@ with_words g (word ∷ words) = option_and_then (λ h. with_words h words) (with
 abbrev pub nothing : Given
 nothing = record { operand = None; steps = None; unaudited = false; expects = expects.Any }
 
--- The commands by their words, each with what it makes of its operands and options. All options go with `bare`.
+-- The commands by their words, each with what it makes of its operands and options. All options go with `bare`, and none
+-- with `audit`.
 abbrev pub bare : Given → Option Command
 bare g =
     option_map (λ file. Bare (record { file = file; steps = unwrap_or g.steps 100000; unaudited = g.unaudited })) g.operand
+
+abbrev pub has_no_option : Given → Bool
+has_no_option g = is_none g.steps && not g.unaudited
+
+abbrev pub audit : Given → Option Command
+audit g = if has_no_option g then option_map (λ file. Audit file) g.operand else None
 
 abbrev pub Entry : Type 0
 Entry = List ℕ × (Given → Option Command)
 
 abbrev pub commands : List Entry
-commands = (codes "bare", bare) ∷ []
+commands = (codes "bare", bare) ∷ (codes "audit", audit) ∷ []
 
 -- the command of a word
 abbrev pub command_in : List Entry → List ℕ → Given → Option Command

@@ -20,10 +20,12 @@ pub struct BareRun {
 pub enum Command {
     /// `bare FILE`: audits the machine of an image, and runs it.
     Bare(BareRun),
+    /// `audit FILE`: audits the machine of an image.
+    Audit(Name),
 }
 
 impl Command {
-    ghost use Rattle.m36_top.specs.TopCall.{file_of};
+    ghost use Rattle.m36_top.specs.Answers.{file_of};
 
     /// The file that the command reads.
     pub fn file(&self) -> &[u8]
@@ -31,6 +33,7 @@ impl Command {
     {
         match self {
             Command::Bare(bare) => bare.file.bytes(),
+            Command::Audit(file) => file.bytes(),
         }
     }
 }

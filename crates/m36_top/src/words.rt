@@ -1,7 +1,7 @@
 //! The words of the command line.
 
 ghost use Rattle.std.specs.Prelude.{ℕ, ◌≡◌, ◌≤◌, true, length, drop, IfSome};
-ghost use Rattle.m36_top.specs.Words.{steps_of, with_operand, with_steps, with_unaudited, expecting, is_steps_with_value, with_any, with_word, ended_by, with_words, nothing, bare, commands, command_in, command_of};
+ghost use Rattle.m36_top.specs.Words.{steps_of, with_operand, with_steps, with_unaudited, expecting, is_steps_with_value, with_any, with_word, ended_by, with_words, nothing, bare, has_no_option, audit, commands, command_in, command_of};
 
 use crate::command::{BareRun, Command};
 use crate::names::operand_of;
@@ -187,12 +187,32 @@ fn bare(given: Given) -> Option<Command>
     }))
 }
 
+fn has_no_option(given: &Given) -> bool
+    ensures { result ≡ has_no_option given.now }
+{
+    given.steps.is_none() && !given.unaudited
+}
+
+// `audit FILE`
+fn audit(given: Given) -> Option<Command>
+    ensures { result ≡ audit given }
+{
+    if has_no_option(&given) {
+        Some(Command::Audit(given.operand?))
+    } else {
+        None
+    }
+}
+
 // The command of a word.
 fn command_in(word: &[u8], given: Given) -> Option<Command>
     ensures { result ≡ command_in commands word.now given }
 {
     if word == b"bare".as_slice() {
         return bare(given);
+    }
+    if word == b"audit".as_slice() {
+        return audit(given);
     }
     None
 }
