@@ -1,0 +1,12 @@
+pub mod Telling
+pub mod Bounds
+pub mod Segments
+pub mod Marking
+pub mod TableWords
+pub mod Counting
+pub mod Covering
+pub mod RunWords
+pub mod SegmentWords
+pub mod Conditions
+pub mod SegmentRuns
+pub mod Verdicts

@@ -1,0 +1,7 @@
+use Rattle.std.proofs.Common.{length, arith}
+use Rattle.m36_audit.proofs.SegmentRuns.{all_counted}
+use Rattle.m36_audit.proofs.segment_runs.count_segments.Goals as goal
+
+pub returns : goal.returns
+returns c =
+    all_counted c.args.core.now c.args.dbr c.segments-seg-end.result c.loop-seg.seg c.segments-seg-end.ensures.value c.loop-seg-test.false (omega arith) (length c.args.core.now) c.loop-seg.counts.starts.items c.loop-seg.counts.stops.items c.loop-seg.invariant

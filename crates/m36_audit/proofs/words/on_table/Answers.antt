@@ -1,0 +1,19 @@
+use Rattle.std.proofs.Common.{below_more, length}
+use Rattle.m36_model.specs.Audit.{IsTableAndSegment}
+use Rattle.m36_audit.proofs.Segments.{found_first, not_broken}
+use Rattle.m36_audit.proofs.Conditions.{none_inside, third_inside}
+use Rattle.m36_audit.proofs.words.on_table.Goals as goal
+
+pub returns-then-is_on_table : goal.returns-then-is_on_table
+returns-then-is_on_table c =
+    found_first (IsTableAndSegment c.args.core.now c.args.dbr) c.loop-a.a (c.is_on_table.ensures.0 c.if-is_on_table.true) c.loop-a.invariant.none
+
+pub returns : goal.returns
+returns c =
+    none_inside (IsTableAndSegment c.args.core.now c.args.dbr) (length c.args.core.now) c.len-a-end.result c.loop-a.a c.len-a-end.ensures.value c.loop-a-test.false (third_inside c.args.core.now c.args.dbr) c.loop-a.invariant.none
+
+pub loop-a-preserved : goal.loop-a-preserved
+loop-a-preserved c = record {
+  opened = c.open_at-open_runs.ensures.after;
+  none = below_more _ _ c.loop-a.invariant.none (not_broken (IsTableAndSegment c.args.core.now c.args.dbr c.loop-a.a) c.is_on_table.result c.is_on_table.ensures c.if-is_on_table.false);
+}

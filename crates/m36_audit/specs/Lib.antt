@@ -1,0 +1,4 @@
+pub mod Live
+pub mod TableMarks
+pub mod Runs
+pub mod Findings

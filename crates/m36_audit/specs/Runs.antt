@@ -1,0 +1,97 @@
+-- The words of the segments as runs of core words, one for each page and two for each unpaged segment.
+use Rattle.std.specs.Prelude.{◌≡◌, ℕ, zero, suc, ◌+◌, ◌-◌, ◌*◌, ◌/◌, ◌%◌, ◌^◌, ◌<◌, ◌≤◌, min, Bool, true, false, nat_lt, nat_le, ◌==◌, ◌&&◌, List, length, slice_index, slice_set, Option, Some, None, Result, Ok, Err}
+use Rattle.std.specs.Result.{result_ok}
+use Rattle.m36_word.specs.Bits.{of_bit}
+use Rattle.m36_desc.specs.Fields.{SdwFields, DbrFields}
+use Rattle.m36_desc.specs.Access.{in_order}
+use Rattle.m36_model.specs.Place.{ptw_at, page_at, in_frame, core_sdw}
+use Rattle.m36_model.specs.declared.outcome.Refusal.{Refusal}
+use Rattle.m36_audit.specs.declared.run.Run.{Run}
+
+-- how many words a segment has
+abbrev pub words : SdwFields → ℕ
+words d = 16 * (d.bound + 1)
+
+-- an unpaged segment: its words up to the last address, and those past it, which go on at address 0
+abbrev pub whole_run : SdwFields → ℕ → Option Run
+whole_run d zero = Some (record { first = d.addr; end = min (d.addr + words d) (2 ^ 24) })
+whole_run d (suc zero) = Some (record { first = 0; end = (d.addr + words d) - 2 ^ 24 })
+whole_run d (suc (suc n)) = None
+
+-- a page in core
+abbrev pub frame_run : Option ℕ → ℕ → Option Run
+frame_run None count = None
+frame_run (Some frame) count = Some (record { first = frame; end = frame + min 1024 count })
+
+-- a page of a paged segment
+abbrev pub page_run_by : Bool → List ℕ → SdwFields → ℕ → Option Run
+page_run_by false core d page = None
+page_run_by true core d page = frame_run (result_ok (in_frame (ptw_at core (page_at d page)) 0)) (words d - 1024 * page)
+
+abbrev pub page_run : List ℕ → SdwFields → ℕ → Option Run
+page_run core d page = page_run_by (nat_le page (d.bound / 64)) core d page
+
+abbrev pub run_by : Bool → List ℕ → SdwFields → ℕ → Option Run
+run_by true core d piece = whole_run d piece
+run_by false core d piece = page_run core d piece
+
+-- a segment whose brackets are out of order has no words
+abbrev pub run_ordered : Bool → List ℕ → SdwFields → ℕ → Option Run
+run_ordered false core d piece = None
+run_ordered true core d piece = run_by d.unpaged core d piece
+
+abbrev pub run_of : List ℕ → Result SdwFields Refusal → ℕ → Option Run
+run_of core (Err e) piece = None
+run_of core (Ok d) piece = run_ordered (in_order d) core d piece
+
+-- the runs of all segments by numbers, 256 of them for each segment
+unfoldable pub run : List ℕ → DbrFields → ℕ → Option Run
+run core dbr k = run_of core (core_sdw core dbr (k / 256)) (k % 256)
+
+-- how many numbers below n pass a test
+unfoldable pub count_below : (ℕ → Bool) → ℕ → ℕ
+count_below test zero = 0
+count_below test (suc n) = count_below test n + of_bit (test n)
+
+abbrev pub begins_at : ℕ → Option Run → Bool
+begins_at a None = false
+begins_at a (Some r) = r.first == a
+
+abbrev pub ends_at : ℕ → Option Run → Bool
+ends_at a None = false
+ends_at a (Some r) = r.end == a
+
+abbrev pub covers : ℕ → Option Run → Bool
+covers a None = false
+covers a (Some r) = nat_le r.first a && nat_lt a r.end
+
+-- one more at a word; a word past the end of core is none
+abbrev pub counted : List ℕ → ℕ → List ℕ
+counted counts a = slice_set counts a (slice_index counts a + 1)
+
+-- for each core word how many of the first n runs begin there, and how many end there
+pub record AreCounted (runs : ℕ → Option Run) (n size : ℕ) (starts stops : List ℕ) : Type 0 where
+  pub starts_len : length starts ≡ size
+  pub stops_len : length stops ≡ size
+  pub begin : (a : ℕ) → a < size → slice_index starts a ≡ count_below (λ i. begins_at a (runs i)) n
+  pub end : (a : ℕ) → a < size → slice_index stops a ≡ count_below (λ i. ends_at a (runs i)) n
+
+abbrev pub begins_before : ℕ → Option Run → Bool
+begins_before a None = false
+begins_before a (Some r) = nat_lt r.first a
+
+abbrev pub ends_before : ℕ → Option Run → Bool
+ends_before a None = false
+ends_before a (Some r) = nat_lt r.end a
+
+-- so many of the first n runs have begun before a word and not ended before it
+pub record AreOpen (runs : ℕ → Option Run) (n a open_runs : ℕ) : Type 0 where
+  pub sum : open_runs + count_below (λ i. ends_before a (runs i)) n ≡ count_below (λ i. begins_before a (runs i)) n
+
+-- no run ends before it begins
+pub record InOrder (runs : ℕ → Option Run) : Type 0 where
+  pub each : (i : ℕ) (r : Run) → runs i ≡ Some r → r.first ≤ r.end
+
+-- how many of the runs of all segments cover a word; segment numbers have 15 bits, so there are 2^23 numbers of runs
+abbrev pub coverage : List ℕ → DbrFields → ℕ → ℕ
+coverage core dbr a = count_below (λ i. covers a (run core dbr i)) (2 ^ 23)

@@ -1,0 +1,76 @@
+//! The audit of a core and a descriptor segment base register.
+
+ghost use Rattle.std.specs.Prelude.{ℕ, [], ◌≡◌, ◌^◌, ◌↔◌, IfOk, None, length, replicate};
+ghost use Rattle.m36_model.specs.Audit.{IsOf, AreFindings, IsAudited};
+ghost use Rattle.m36_model.specs.Core.{core_store, core_tables};
+ghost use Rattle.m36_model.specs.Isolation.{Isolated};
+ghost use Rattle.m36_audit.specs.Findings.{pairs};
+ghost use Rattle.m36_audit.specs.TableMarks.{AreMarked};
+ghost use Rattle.m36_audit.specs.Runs.{run, AreCounted};
+
+use crate::brackets::out_of_order;
+use crate::gates::{no_gate, no_stack};
+use crate::run::RunCounts;
+use crate::segment_runs::count_segments;
+use crate::table_words::mark_tables;
+use crate::tables::TableMarks;
+use crate::verdict::{Verdict, note};
+use crate::words::{on_segment, on_table};
+use arrayvec::ArrayVec;
+use m36_core::Core;
+use m36_desc::Dbr;
+use m36_isol::{law_findings, law_window};
+use m36_word::NoMemory;
+use std::alloc::Global;
+
+/// The findings by the marks and the counts, one condition after another.
+fn found(marks: &TableMarks, counts: &RunCounts, core: &Core, dbr: Dbr) -> Verdict
+    requires marked { AreMarked (IsOf core.now dbr) (length core.now) marks.now.tables.items marks.now.least }
+    requires counted { AreCounted (run core.now dbr) (2 ^ 23) (length core.now) counts.now.starts.items counts.now.stops.items }
+    ensures { AreFindings core.now dbr (pairs result.findings.items) }
+{
+    let first = out_of_order(core, dbr);
+    let second = marks.least;
+    let third = on_table(marks, counts, core, dbr);
+    let fourth = on_segment(counts, core, dbr);
+    let fifth = no_gate(core, dbr);
+    let sixth = no_stack(core, dbr);
+    let mut findings = ArrayVec::new();
+    note(&mut findings, 1, first);
+    note(&mut findings, 2, second);
+    note(&mut findings, 3, third);
+    note(&mut findings, 4, fourth);
+    note(&mut findings, 5, fifth);
+    note(&mut findings, 6, sixth);
+    Verdict { findings }
+}
+
+/// The findings, where there is a place for a mark and two counts for each core word, all of them zero.
+fn judged(marks: &mut TableMarks, counts: &mut RunCounts, core: &Core, dbr: Dbr) -> Verdict
+    requires tables { marks.old.tables.items ≡ replicate (length core.now) 0 }
+    requires least { marks.old.least ≡ None }
+    requires starts { counts.old.starts.items ≡ replicate (length core.now) 0 }
+    requires stops { counts.old.stops.items ≡ replicate (length core.now) 0 }
+    ensures { AreFindings core.now dbr (pairs result.findings.items) }
+{
+    mark_tables(marks, core, dbr);
+    count_segments(counts, core, dbr);
+    found(marks, counts, core, dbr)
+}
+
+/// Decides the six audit conditions of the tables that a descriptor segment base register gives a core. The findings
+/// have for each condition that fails its number and the least segment, or core word, that breaks it, in order. Where
+/// there is none, all six hold, and the tables isolate each ring from 1 to 7. The error is want of memory alone, and
+/// that is taken before anything is looked at.
+pub fn audit(alloc: Global, core: &Core, dbr: Dbr) -> Result<Verdict, NoMemory>
+    ensures findings { IfOk result (λ v. AreFindings core.now dbr (pairs v.findings.items)) }
+    ensures audited { IfOk result (λ v. (v.findings.items ≡ []) ↔ IsAudited core.now dbr) }
+    ensures isolated { IfOk result (λ v. v.findings.items ≡ [] → Isolated core_store (core_tables core.now dbr)) }
+{
+    let size = core.len();
+    let mut marks = TableMarks::new(alloc, size)?;
+    let mut counts = RunCounts::new(alloc, size)?;
+    law_findings();
+    law_window();
+    Ok(judged(&mut marks, &mut counts, core, dbr))
+}

@@ -1,0 +1,44 @@
+//! The auditor: whether the tables of a core image isolate its rings.
+//!
+//! A processor keeps its rings apart by segment descriptors, page tables and the rules of access. Whether they do it rests
+//! on the tables themselves: a page table that lies in a writable segment, or two segments on one core word, undo every
+//! rule. `audit` looks at the tables that a descriptor segment base register gives a core, and decides six conditions:
+//!
+//! 1. each live segment has its ring brackets in order;
+//! 2. no core word is a word of two tables;
+//! 3. no word of a segment lies on a table word;
+//! 4. no two words of segments lie on one core word;
+//! 5. each segment that rings outside its read bracket may call is a gate;
+//! 6. and the ring that such a call enters has a stack of its own.
+//!
+//! The contract of `audit`: its findings are, for each condition that fails and in this order, the least segment (1, 5, 6)
+//! or the least core word (2, 3, 4) that breaks it, and nothing else (`findings`). There is none exactly where all six hold
+//! (`audited`), and then each ring from 1 to 7 is isolated (`isolated`): whatever stands in rings r and above, up to a
+//! fault, a stop or a gate call no word changes that ring r may not write, and nothing is told that ring r may not read.
+//! `yes` tells whether there is none. The only other answer is want of memory, before anything is looked at.
+//!
+//! What it costs: memory for a mark and two counts for each core word, and work that grows with the words of core, of the
+//! descriptors and of the page tables, and not with the words of the segments. Each table word is marked with the table it
+//! belongs to. Segment words are never looked at one by one: a page or an unpaged segment is a run of core words, for each
+//! core word it is counted how many runs begin and end there, and one pass over core keeps how many are open.
+//!
+//! Source: Multics Processor Manual AL39, "Addressing -- segmentation and paging", "Access control"; Schroeder and Saltzer,
+//! "A hardware architecture for implementing protection rings" (1972). The six conditions are this project's choice.
+#![tactic(auto)]
+
+pub mod auditor;
+mod brackets;
+mod descriptor;
+mod gates;
+mod run;
+mod segment_runs;
+mod table_words;
+mod tables;
+pub mod verdict;
+mod words;
+
+pub use auditor::audit;
+pub use verdict::{Finding, Verdict};
+
+#[cfg(test)]
+mod tests;

@@ -1,0 +1,57 @@
+//! What an audit finds.
+
+ghost use Rattle.std.specs.Prelude.{ℕ, [], ◌≡◌, ◌++◌, ◌+◌, ◌<◌, ◌≤◌};
+ghost use Rattle.std.specs.Bool.{Decides};
+ghost use Rattle.arrayvec.specs.ArrayVec.{array_vec_len};
+ghost use Rattle.m36_model.specs.Audit.{noted};
+ghost use Rattle.m36_audit.specs.Findings.{pairs};
+
+use arrayvec::ArrayVec;
+
+/// A condition that fails, and the least place that breaks it.
+#[derive(Clone, Copy, PartialEq, Eq, Debug)]
+pub struct Finding {
+    /// Of the first, fifth and sixth condition a segment number of 15 bits; of the others an address of a core word.
+    pub place: u32,
+    /// 1 to 6.
+    pub condition: u8,
+}
+
+impl Default for Finding {
+    /// What fills the places of a list that hold no finding yet.
+    fn default() -> Finding
+        ensures { result ≡ record { place = 0; condition = 0 } }
+    {
+        Finding {
+            place: 0,
+            condition: 0,
+        }
+    }
+}
+
+/// The findings of an audit: one for each condition that fails, in order.
+#[derive(Debug, Drop)]
+pub struct Verdict {
+    pub findings: ArrayVec<Finding, 6>,
+}
+
+impl Verdict {
+    /// Whether nothing was found.
+    pub fn yes(&self) -> bool
+        ensures { Decides result (self.now.findings.items ≡ []) }
+    {
+        self.findings.is_empty()
+    }
+}
+
+/// Notes what was found of a condition.
+pub(crate) fn note(findings: &mut ArrayVec<Finding, 6>, condition: u8, found: Option<u32>)
+    requires room { array_vec_len findings.old < 6 }
+    ensures listed { pairs findings.new.items ≡ pairs findings.old.items ++ noted condition found }
+    ensures len { array_vec_len findings.new ≤ array_vec_len findings.old + 1 }
+{
+    match found {
+        Some(place) => findings.push(Finding { place, condition }),
+        None => {}
+    }
+}
