@@ -2,8 +2,10 @@
 #![tactic(auto)]
 
 pub mod bytes;
+pub mod expression;
 pub mod pieces;
 pub mod span;
 pub mod tokens;
 
+pub use expression::{Atom, Expr, Term};
 pub use span::{Span, Spans};
