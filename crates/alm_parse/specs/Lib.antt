@@ -2,3 +2,4 @@ pub mod Bytes
 pub mod Tokens
 pub mod Pieces
 pub mod Expressions
+pub mod Modifiers

@@ -3,6 +3,7 @@
 
 pub mod bytes;
 pub mod expression;
+pub mod modifiers;
 pub mod pieces;
 pub mod span;
 pub mod tokens;
