@@ -3,3 +3,5 @@ pub mod Tokens
 pub mod Pieces
 pub mod Expressions
 pub mod Modifiers
+pub mod Refusals
+pub mod Bodies

@@ -1,12 +1,16 @@
 //! The parser of assembly language sources.
 #![tactic(auto)]
 
+pub mod args;
+pub mod body;
 pub mod bytes;
 pub mod expression;
 pub mod modifiers;
 pub mod pieces;
+pub mod refusal;
 pub mod span;
 pub mod tokens;
 
+pub use args::{Arg, Args};
 pub use expression::{Atom, Expr, Term};
 pub use span::{Span, Spans};
