@@ -5,3 +5,5 @@ pub mod Expressions
 pub mod Modifiers
 pub mod Refusals
 pub mod Bodies
+pub mod Operands
+pub mod Numerals

@@ -6,6 +6,8 @@ pub mod body;
 pub mod bytes;
 pub mod expression;
 pub mod modifiers;
+pub mod numerals;
+pub mod operand;
 pub mod pieces;
 pub mod refusal;
 pub mod span;
