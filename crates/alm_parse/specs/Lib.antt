@@ -7,3 +7,5 @@ pub mod Refusals
 pub mod Bodies
 pub mod Operands
 pub mod Numerals
+pub mod Members
+pub mod Pairs
