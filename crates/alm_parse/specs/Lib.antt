@@ -9,3 +9,8 @@ pub mod Operands
 pub mod Numerals
 pub mod Members
 pub mod Pairs
+pub mod Characters
+pub mod Heads
+pub mod Operations
+pub mod Rows
+pub mod Lines
