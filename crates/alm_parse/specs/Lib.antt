@@ -14,3 +14,5 @@ pub mod Heads
 pub mod Operations
 pub mod Rows
 pub mod Lines
+pub mod SourceFields
+pub mod Sources

@@ -1,8 +1,10 @@
 //! The lines of a source.
 
 ghost use Rattle.std.specs.Prelude.{ℕ, ◌≡◌, ◌^◌, ◌<◌, Option, Result, IfSome, IfOk, IfErr, length};
+ghost use Rattle.std.specs.List.{All};
+ghost use Rattle.alm_parse.specs.Heads.{IsMark};
 ghost use Rattle.alm_parse.specs.Lines.{missing, args_with, operand_for, args_of, is_no_symbol, label_refusal, line_of, line_given};
-ghost use Rattle.alm_parse.specs.Refusals.{Reads};
+ghost use Rattle.alm_parse.specs.Refusals.{Reads, IsInside, HaltsInside};
 
 use crate::args::Args;
 use crate::characters::characters_args;
@@ -31,7 +33,8 @@ pub struct Line36 {
 
 // Whether an operation may stand without an operand.
 fn missing(operation: Operation, at: u32) -> Option<Refusal>
-    ensures { result ≡ missing operation at }
+    ensures value { result ≡ missing operation at }
+    ensures place { IfSome result (λ refusal. refusal.place ≡ at) }
 {
     match operation {
         Operation::Instruction | Operation::Bare | Operation::End => None,
@@ -57,7 +60,8 @@ fn args_with(
 ) -> Result<Args, Halt>
     requires text { length text.now < 2 ^ 32 }
     requires inside { operand.from < length text.now }
-    ensures { Reads result (args_with operation text.now operand) }
+    ensures value { Reads result (args_with operation text.now operand) }
+    ensures inside { IfErr result (HaltsInside (length text.now)) }
 {
     match operation {
         Operation::Instruction => operand_args(alloc, text, operand),
@@ -94,8 +98,10 @@ fn args_of(
     op: u32,
     rest: Span,
 ) -> Result<Args, Halt>
-    requires { length text.now < 2 ^ 32 }
-    ensures { Reads result (args_of operation text.now op rest) }
+    requires text { length text.now < 2 ^ 32 }
+    requires inside { op < length text.now }
+    ensures value { Reads result (args_of operation text.now op rest) }
+    ensures inside { IfErr result (HaltsInside (length text.now)) }
 {
     match operand_for(operation, text, rest) {
         Some(operand) => args_with(alloc, operation, text, operand),
@@ -113,9 +119,11 @@ fn is_no_symbol(text: &[u8], span: Span) -> bool
 }
 
 /// The refusal of the first label that is no symbol.
-#[tactic(auto, unfolding(crate::specs::Lines::label_refusal))]
+#[tactic(auto, using(crate::proofs::Inside::mark_inside), unfolding(crate::specs::Lines::label_refusal))]
 fn label_refusal(text: &[u8], labels: &[Span]) -> Option<Refusal>
-    ensures { result ≡ label_refusal text.now labels.now }
+    requires { All (IsMark (length text.now)) labels.now }
+    ensures value { result ≡ label_refusal text.now labels.now }
+    ensures inside { IfSome result (IsInside (length text.now)) }
 {
     match labels.iter().find(|label| is_no_symbol(text, **label)) {
         Some(label) => Some(told(text, label.from, Code::E2)),
@@ -140,7 +148,8 @@ fn line_of(row: Row, head: Head, args: Args) -> Line36
 #[tactic(auto, unfolding(crate::specs::Lines::line_given))]
 pub fn read_line(alloc: Global, text: &[u8], row: Row) -> Result<Line36, Halt>
     requires { length text.now < 2 ^ 32 }
-    ensures { Reads result (line_given text.now row) }
+    ensures value { Reads result (line_given text.now row) }
+    ensures inside { IfErr result (HaltsInside (length text.now)) }
 {
     let head = head_of(alloc, text, row.span)?;
     if let Some(refusal) = label_refusal(text, head.labels.items()) {

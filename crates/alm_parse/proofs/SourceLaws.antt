@@ -1,0 +1,77 @@
+-- A source, line by line.
+use Rattle.std.proofs.Common.{◌≡◌, ℕ, ◌+◌, ◌<◌, ◌≤◌, Bool, true, false, cond, List, [], ◌∷◌, ◌++◌, length, drop, get_or, Result, Ok, Err, refl, sym, ap, ◌∙◌, arith, drop-cons, add-one}
+use Rattle.std.proofs.Math.ListN.{drop_of_length-le}
+use Rattle.alm_parse.specs.declared.refusal.Code.{Code}
+use Rattle.alm_parse.specs.declared.refusal.Code.TheVariants as code
+use Rattle.alm_parse.specs.declared.refusal.Refusal.{Refusal}
+use Rattle.alm_parse.specs.declared.rows.Row.{Row}
+use Rattle.alm_parse.specs.declared.line.Line36.{Line36}
+use Rattle.alm_parse.specs.declared.fault.AlmFault.{AlmFault}
+use Rattle.alm_parse.specs.declared.fault.AlmFault.TheVariants.{E1, E2, E3, E4, E5, E6, E7, E8, NoMemory}
+use Rattle.alm_parse.specs.Lines.{line_given}
+use Rattle.alm_parse.specs.Rows.{rows_of}
+use Rattle.alm_parse.specs.Sources.{fault_by, fault_of, names_end, continued, read_lines, with_text, parsed, Refuses}
+
+read_row :
+    (text : List ℕ) (before : List Line36) (rows : List Row) (i : ℕ) (d : Row) → i < length rows
+    → read_lines text before (drop i rows)
+    ≡ continued text (get_or rows i d) before (λ more. read_lines text more (drop (i + 1) rows)) (line_given text (get_or rows i d))
+unfolding read_lines
+read_row text before rows i d within = rw (add-one i, drop-cons rows i d) refl
+
+-- a line is refused
+pub read_refused :
+    (text : List ℕ) (before : List Line36) (rows : List Row) (i : ℕ) (row : Row) (refusal : Refusal) → i < length rows
+    → row ≡ get_or rows i row → line_given text row ≡ Err refusal
+    → read_lines text before (drop i rows) ≡ Err (fault_of row refusal)
+read_refused text before rows i row refusal within at e =
+    read_row text before rows i row within ∙ ap (λ r. continued text r before (λ more. read_lines text more (drop (i + 1) rows)) (line_given text r)) (sym at) ∙ ap (continued text row before (λ more. read_lines text more (drop (i + 1) rows))) e
+
+-- a line is the last that is read
+pub read_end :
+    (text : List ℕ) (before : List Line36) (rows : List Row) (i : ℕ) (row : Row) (line : Line36) → i < length rows
+    → row ≡ get_or rows i row → line_given text row ≡ Ok line → names_end text line.op ≡ true
+    → read_lines text before (drop i rows) ≡ Ok (before ++ line ∷ [])
+read_end text before rows i row line within at e last =
+    read_row text before rows i row within ∙ ap (λ r. continued text r before (λ more. read_lines text more (drop (i + 1) rows)) (line_given text r)) (sym at) ∙ ap (continued text row before (λ more. read_lines text more (drop (i + 1) rows))) e ∙ ap (λ b. cond b (Ok (before ++ line ∷ [])) (read_lines text (before ++ line ∷ []) (drop (i + 1) rows))) last
+
+-- others follow it
+pub read_on :
+    (text : List ℕ) (before : List Line36) (rows : List Row) (i : ℕ) (row : Row) (line : Line36) → i < length rows
+    → row ≡ get_or rows i row → line_given text row ≡ Ok line → names_end text line.op ≡ false
+    → read_lines text before (drop i rows) ≡ read_lines text (before ++ line ∷ []) (drop (i + 1) rows)
+read_on text before rows i row line within at e last =
+    read_row text before rows i row within ∙ ap (λ r. continued text r before (λ more. read_lines text more (drop (i + 1) rows)) (line_given text r)) (sym at) ∙ ap (continued text row before (λ more. read_lines text more (drop (i + 1) rows))) e ∙ ap (λ b. cond b (Ok (before ++ line ∷ [])) (read_lines text (before ++ line ∷ []) (drop (i + 1) rows))) last
+
+pub read_all :
+    (text : List ℕ) (before : List Line36) (rows : List Row) (i : ℕ) → length rows ≤ i → read_lines text before (drop i rows) ≡ Ok before
+unfolding read_lines
+read_all text before rows i past = rw (drop_of_length-le rows past) refl
+
+refuses_by : {A : Type 0} (c : Code) (line column : ℕ) (definition : Result A AlmFault) → definition ≡ Err (fault_by c line column) → Refuses (fault_by c line column) definition
+refuses_by code.E1 line column definition e = e
+refuses_by code.E2 line column definition e = e
+refuses_by code.E3 line column definition e = e
+refuses_by code.E4 line column definition e = e
+
+-- a refusal is told as it is
+pub refuses_told : {A : Type 0} (row : Row) (refusal : Refusal) (definition : Result A AlmFault) → definition ≡ Err (fault_of row refusal) → Refuses (fault_of row refusal) definition
+refuses_told row refusal definition e = refuses_by refusal.code row.number _ definition e
+
+pub ruleset steps = (read_refused, read_end, read_on, read_all, refuses_told)
+
+with_refused : (text : List ℕ) (fault : AlmFault) → read_lines text [] (rows_of text) ≡ Err fault → parsed text ≡ Err fault
+unfolding parsed
+with_refused text fault e = ap (with_text text) e
+
+-- what refuses the lines refuses the source
+pub refuses_all : (text : List ℕ) (fault : AlmFault) → Refuses fault (read_lines text [] (rows_of text)) → Refuses fault (parsed text)
+refuses_all text NoMemory h = tt
+refuses_all text (E1 line column) h = with_refused text (E1 line column) h
+refuses_all text (E2 line column) h = with_refused text (E2 line column) h
+refuses_all text (E3 line column) h = with_refused text (E3 line column) h
+refuses_all text (E4 line column) h = with_refused text (E4 line column) h
+refuses_all text (E5 line column) h = with_refused text (E5 line column) h
+refuses_all text (E6 line column) h = with_refused text (E6 line column) h
+refuses_all text (E7 line column) h = with_refused text (E7 line column) h
+refuses_all text (E8 line column) h = with_refused text (E8 line column) h
