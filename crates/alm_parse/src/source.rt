@@ -92,7 +92,7 @@ fn names_end(text: &[u8], op: Option<Span>) -> bool
     }
 }
 
-#[tactic(auto, using(crate::proofs::SourceLaws::steps))]
+#[tactic(auto, using(crate::proofs::SourceLaws::read_all))]
 fn read_lines(alloc: Global, text: &[u8], rows: &[Row]) -> Result<Lines, AlmFault>
     requires { length text.now < 2 ^ 32 }
     ensures { ParseSays result (read_lines text.now [] rows.now) }
@@ -114,9 +114,9 @@ fn read_lines(alloc: Global, text: &[u8], rows: &[Row]) -> Result<Lines, AlmFaul
     Ok(lines)
 }
 
-#[tactic(auto, using(crate::proofs::SourceLaws::refuses_all), unfolding(crate::specs::Sources::parsed))]
 /// Reads a source. It is refused exactly where it is not of the language, with the first of the codes E1 to E4 in the
 /// order of the text, and the least of them at one place; or where no memory is found.
+#[tactic(auto, using(crate::proofs::SourceLaws::refuses_all), unfolding(crate::specs::Sources::parsed))]
 pub fn parse(alloc: Global, text: &[u8]) -> Result<Lines36, AlmFault>
     requires { length text.now < 2 ^ 32 }
     ensures says { ParseSays result (parsed text.now) }
