@@ -5,3 +5,5 @@ pub mod Packed
 pub mod RowLaws
 pub mod Slices
 pub mod SourceLaws
+pub mod SpanLines
+pub mod SpanParts

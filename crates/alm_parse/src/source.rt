@@ -1,6 +1,7 @@
 //! A whole source.
 
-ghost use Rattle.std.specs.Prelude.{ℕ, List, [], ◌∷◌, ◌++◌, ◌≡◌, ◌^◌, ◌<◌, length, OnOk, OnErr, IfOk};
+ghost use Rattle.std.specs.Prelude.{ℕ, List, [], ◌∷◌, ◌++◌, ◌≡◌, ◌^◌, ◌<◌, length, OnOk, OnErr, IfOk, All};
+ghost use Rattle.alm_parse.specs.Spans.{LineIn};
 ghost use Rattle.alm_parse.specs.Sources.{names_end, read_lines, parsed, ParseSays};
 
 use crate::fault::{AlmFault, fault_of};
@@ -114,12 +115,10 @@ fn read_lines(alloc: Global, text: &[u8], rows: &[Row]) -> Result<Lines, AlmFaul
     Ok(lines)
 }
 
-/// Reads a source. It is refused exactly where it is not of the language, with the first of the codes E1 to E4 in the
-/// order of the text, and the least of them at one place; or where no memory is found.
 #[tactic(auto, using(crate::proofs::SourceLaws::refuses_all), unfolding(crate::specs::Sources::parsed))]
-pub fn parse(alloc: Global, text: &[u8]) -> Result<Lines36, AlmFault>
+fn read_source(alloc: Global, text: &[u8]) -> Result<Lines36, AlmFault>
     requires { length text.now < 2 ^ 32 }
-    ensures says { ParseSays result (parsed text.now) }
+    ensures { ParseSays result (parsed text.now) }
 {
     let rows = rows_of(alloc, text)?;
     let lines = match read_lines(alloc, text, rows.items()) {
@@ -128,4 +127,15 @@ pub fn parse(alloc: Global, text: &[u8]) -> Result<Lines36, AlmFault>
     };
     let text = Text::from_bytes(alloc, text)?;
     Ok(Lines36 { text, lines })
+}
+
+/// Reads a source. It is refused exactly where it is not of the language, with the first of the codes E1 to E4 in the
+/// order of the text, and the least of them at one place; or where no memory is found.
+#[tactic(auto, using(crate::proofs::SpanLines::spans_say))]
+pub fn parse(alloc: Global, text: &[u8]) -> Result<Lines36, AlmFault>
+    requires { length text.now < 2 ^ 32 }
+    ensures says { ParseSays result (parsed text.now) }
+    ensures spans { IfOk result (λ source. All (LineIn (length text.now)) source.lines) }
+{
+    read_source(alloc, text)
 }
