@@ -20,11 +20,13 @@ pub mod refusal;
 pub mod rows;
 pub mod source;
 pub mod span;
+#[cfg(test)]
+mod tests;
 pub mod tokens;
 
 pub use args::{Arg, Args};
 pub use expression::{Atom, Expr, Term};
-pub use line::Line36;
 pub use fault::AlmFault;
+pub use line::Line36;
 pub use source::{Lines36, parse};
 pub use span::{Span, Spans};

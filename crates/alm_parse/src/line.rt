@@ -52,12 +52,7 @@ fn missing(operation: Operation, at: u32) -> Option<Refusal>
     }
 }
 
-fn args_with(
-    alloc: Global,
-    operation: Operation,
-    text: &[u8],
-    operand: Span,
-) -> Result<Args, Halt>
+fn args_with(alloc: Global, operation: Operation, text: &[u8], operand: Span) -> Result<Args, Halt>
     requires text { length text.now < 2 ^ 32 }
     requires inside { operand.from < length text.now }
     ensures value { Reads result (args_with operation text.now operand) }

@@ -11,21 +11,21 @@ loop-byte-preserved c =
     let within : c.loop-byte.at < length c.args.text.now = omega arith in
     elim c.match-turn_of.branch [
       | in-Label+in_ok-push-in-Label w ↦ record {
-          place = omega arith;
-          begun = omega arith;
-          marks = marks_more (length c.args.text.now) c.loop-byte.labels c.match-turn_of.labels c.loop-byte.from c.loop-byte.at c.loop-byte.invariant.marks c.loop-byte.invariant.begun within (grind (arith, common_steps));
-          whole = grind (arith, common_steps, heads);
-        }
+        place = omega arith;
+        begun = omega arith;
+        marks = marks_more (length c.args.text.now) c.loop-byte.labels c.match-turn_of.labels c.loop-byte.from c.loop-byte.at c.loop-byte.invariant.marks c.loop-byte.invariant.begun within (grind (arith, common_steps));
+        whole = grind (arith, common_steps, heads);
+      }
       | in-Skip w ↦ record {
-          place = omega arith;
-          begun = omega arith;
-          marks = subst (λ more. All (IsMark (length c.args.text.now)) more) (sym w.labels-is) c.loop-byte.invariant.marks;
-          whole = grind (arith, common_steps, heads);
-        }
+        place = omega arith;
+        begun = omega arith;
+        marks = subst (λ more. All (IsMark (length c.args.text.now)) more) (sym w.labels-is) c.loop-byte.invariant.marks;
+        whole = grind (arith, common_steps, heads);
+      }
       | in-Go w ↦ record {
-          place = omega arith;
-          begun = omega arith;
-          marks = subst (λ more. All (IsMark (length c.args.text.now)) more) (sym w.labels-is) c.loop-byte.invariant.marks;
-          whole = grind (arith, common_steps, heads);
-        }
+        place = omega arith;
+        begun = omega arith;
+        marks = subst (λ more. All (IsMark (length c.args.text.now)) more) (sym w.labels-is) c.loop-byte.invariant.marks;
+        whole = grind (arith, common_steps, heads);
+      }
     ]

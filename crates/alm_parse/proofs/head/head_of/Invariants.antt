@@ -5,8 +5,8 @@ use Rattle.alm_parse.proofs.head.head_of.Given as goal
 
 abbrev pub invariant-loop-byte : goal.invariant-loop-byte
 invariant-loop-byte l = record {
-    place : l.at ≡ l.fn.line.from + l.byte-index;
-    begun : l.from ≤ l.at;
-    marks : All (IsMark (length l.text)) l.labels;
-    whole : head_from l.labels l.from l.at (drop l.byte-index l.byte-items) ≡ head_of l.text l.fn.line;
-  }
+  place : l.at ≡ l.fn.line.from + l.byte-index;
+  begun : l.from ≤ l.at;
+  marks : All (IsMark (length l.text)) l.labels;
+  whole : head_from l.labels l.from l.at (drop l.byte-index l.byte-items) ≡ head_of l.text l.fn.line;
+}

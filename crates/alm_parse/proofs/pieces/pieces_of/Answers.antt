@@ -6,10 +6,10 @@ use Rattle.alm_parse.proofs.pieces.pieces_of.Goals.{then-parts+in_ok-push, else-
 
 pub loop-byte-preserved : goal.loop-byte-preserved
 loop-byte-preserved c = record {
-    place = omega arith;
-    whole =
+  place = omega arith;
+  whole =
       elim c.if-parts.branch [
         | then-parts+in_ok-push w ↦ grind (arith, common_steps, cuts)
         | else-parts w ↦ grind (arith, common_steps, cuts)
       ];
-  }
+}

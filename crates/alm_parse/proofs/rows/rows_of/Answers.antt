@@ -8,17 +8,17 @@ pub loop-byte-preserved : goal.loop-byte-preserved
 loop-byte-preserved c =
     elim c.if-byte-eq10.branch [
       | then-byte-eq10+in_ok-push w ↦ record {
-          place = omega arith;
-          begun = omega arith;
-          counted = omega arith;
-          whole = grind (arith, common_steps, row_steps);
-        }
+        place = omega arith;
+        begun = omega arith;
+        counted = omega arith;
+        whole = grind (arith, common_steps, row_steps);
+      }
       | else-byte-eq10 w ↦ record {
-          place = omega arith;
-          begun = omega arith;
-          counted = omega arith;
-          whole = grind (arith, common_steps, row_steps);
-        }
+        place = omega arith;
+        begun = omega arith;
+        counted = omega arith;
+        whole = grind (arith, common_steps, row_steps);
+      }
     ]
 
 pub returns-then-from-at : goal.returns-then-from-at
