@@ -1,6 +1,12 @@
 pub mod RunLaws
 pub mod Splitting
+pub mod WordLaws
+pub mod AuditTexts
+pub mod AuditAnswers
 pub mod TopLaws
+pub mod FileAnswers
+pub mod YesIsolates
+pub mod Calls
 pub mod CoreWords
 pub mod LinesInTurn
 pub mod Headers

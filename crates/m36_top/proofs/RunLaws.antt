@@ -1,9 +1,10 @@
 -- A run, step by step: what is left of its output, and how it will have ended.
-use Rattle.std.proofs.Common.{◌≡◌, ℕ, zero, suc, ◌+◌, ◌-◌, ◌<◌, false, List, [], ◌∷◌, ◌++◌, length, Option, refl, sym, ap, subst, ◌∙◌, arith, append_assoc, add-zero}
+use Rattle.std.proofs.Common.{◌≡◌, ℕ, zero, suc, ◌+◌, ◌-◌, ◌<◌, Bool, true, false, List, [], ◌∷◌, ◌++◌, map, length, Option, refl, sym, ap, subst, ◌∙◌, arith, append_assoc, add-zero}
 use Rattle.m36_outside.specs.Written.{Grew, GrewWithin}
 use Rattle.m36_outside.proofs.Completes.{Completes, completes_all, completes_rest, completes_whole, completes_cut, completes_cut_last}
 use Rattle.m36_model.specs.Store.{State}
-use Rattle.m36_model.specs.Run.{is_next, only_if}
+use Rattle.m36_model.specs.Core.{core_store}
+use Rattle.m36_model.specs.Run.{Visited, visits, is_next, only_if}
 use Rattle.m36_model.specs.declared.outcome.Outcome.{Outcome}
 use Rattle.m36_model.specs.declared.outcome.Outcome.TheVariants.{Next}
 use Rattle.m36_model.specs.declared.record.StepRecord.{StepRecord}
@@ -17,17 +18,28 @@ use Rattle.m36_top.specs.declared.running.Ended.{Ended}
 use Rattle.m36_top.specs.declared.running.Ended.TheVariants.{Whole, Cut}
 
 -- a run of at least one step
+told_only_if :
+    (b : Bool) (steps : List (Visited (List ℕ)))
+    → map (λ v. v.told) (only_if b steps) ≡ only_if b (map (λ v. v.told) steps)
+told_only_if true steps = refl
+told_only_if false steps = refl
+
+run_more :
+    (left : ℕ) (s : State (List ℕ)) → run (suc left) s ≡ told s ∷ only_if (is_next (told s).outcome) (run left (after s))
+unfolding run visits
+run_more left s =
+    ap (λ steps. told s ∷ steps) (told_only_if (is_next (told s).outcome) (visits core_store left (after s)))
+
 run_begins :
     (left : ℕ) (s : State (List ℕ))
     → 0 < left → run left s ≡ told s ∷ only_if (is_next (told s).outcome) (run (left - 1) (after s))
-unfolding run
 run_begins zero s some = absurd (omega arith)
 run_begins (suc left) s some =
     let rest : left ≡ suc left - 1 = omega arith in
-    ap (λ n. told s ∷ only_if (is_next (told s).outcome) (run n (after s))) rest
+    run_more left s ∙ ap (λ n. told s ∷ only_if (is_next (told s).outcome) (run n (after s))) rest
 
 run_none : (s : State (List ℕ)) → run 0 s ≡ []
-unfolding run
+unfolding run visits
 run_none s = refl
 
 -- after Next the rest of the run follows

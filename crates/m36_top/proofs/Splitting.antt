@@ -10,7 +10,7 @@ use Rattle.std.proofs.Math.Dec.{ltb}
 use Rattle.m36_top.specs.Lines.{cut_line, ended, lines_of, words_of, HasMore}
 
 -- a slice to its end is what is dropped before it
-rest_whole : (xs : List ℕ) (i : ℕ) → take (length xs - i) (drop i xs) ≡ drop i xs
+pub rest_whole : (xs : List ℕ) (i : ℕ) → take (length xs - i) (drop i xs) ≡ drop i xs
 rest_whole xs i = ap (λ n. take n (drop i xs)) (sym (length-drop i xs)) ∙ take-length (drop i xs)
 
 cond_none : {A : Type 0} (b : Bool) (x : A) → cond b (Some x) None ≡ None → b ≡ false

@@ -1,5 +1,5 @@
 -- Answers of the top call, from those of its parts.
-use Rattle.std.proofs.Common.{◌≡◌, ℕ, ◌≤◌, ◌<◌, List, [], length, cond, Option, Some, None, refl, sym, ap, subst, ◌∙◌, inl, inr}
+use Rattle.std.proofs.Common.{◌≡◌, ℕ, ◌≤◌, ◌<◌, Bool, true, false, List, [], ◌∷◌, ◌++◌, length, cond, Option, Some, None, Result, Ok, Err, refl, sym, ap, subst, ◌∙◌, inl, inr, arith}
 use Rattle.std.specs.Prelude.{IfSome}
 use Rattle.std.proofs.lemmas.Bool.{le-ltb, lt-ltb}
 use Rattle.m36_outside.specs.Counts.{Rose}
@@ -7,161 +7,79 @@ use Rattle.m36_outside.specs.Files.{Files}
 use Rattle.m36_outside.specs.ReadAnswer.{ReadSays, IsWithinLimit, file_limit}
 use Rattle.m36_outside.specs.declared.folder.ReadAnswer.{ReadAnswer}
 use Rattle.m36_outside.specs.declared.folder.ReadAnswer.TheVariants as read
-use Rattle.m36_outside.specs.Written.{Grew}
 use Rattle.m36_model.specs.Store.{State}
-use Rattle.m36_model.specs.declared.outcome.Outcome.{Outcome}
-use Rattle.m36_model.specs.declared.outcome.Outcome.TheVariants.{Next, Faulted, Stopped}
-use Rattle.m36_model.specs.declared.outcome.Stop.TheVariants.{Dis, Operation, Tag, Unbuilt}
-use Rattle.m36_top.specs.Run.{run, last_outcome}
-use Rattle.m36_top.specs.Output.{status_after}
-use Rattle.m36_top.specs.RunSays.{RunSays}
-use Rattle.m36_top.specs.TopCall.{Answer, IsRun, Meets, MeetsFiles, AnswersDone, TopSays, ReadCause, WriteCause, read_of, answer_by, bare_answer, run_answer}
-use Rattle.m36_top.specs.declared.running.Ended.TheVariants.{Whole, Cut}
+use Rattle.m36_model.specs.Audit.{AreFindings}
+use Rattle.m36_top.specs.declared.command.Command.{Command}
+use Rattle.m36_top.specs.declared.refusal.Refusal.{Refusal}
+use Rattle.m36_top.specs.declared.status.Code.TheVariants.{F1, F2}
 use Rattle.m36_top.specs.declared.status.Status.{Status}
 use Rattle.m36_top.specs.declared.status.Status.TheVariants.{Done, Usage, ReadFault, WriteFault, BadFile, AuditNo, MachineStop, Steps, NoMemory}
+use Rattle.m36_top.specs.ImageState.{state_given}
+use Rattle.m36_top.specs.Answers.{Answer, unwritten, refused, file_of, state_answer, read_of, IsIsolated, IsStateDue, IsImageDue, IsReadDue, IsCommandDue}
+use Rattle.m36_top.specs.TopCall.{Meets, Met, Says, CommandSays, TopSays, SaysFiles, Completes, ReadCause, WriteCause}
 
--- a run that was written whole
-meets_whole :
-    (last : Outcome) (due : Answer) (old new : Option (List ℕ))
-    → due.status ≡ status_after last → Grew old new due.text → Meets (status_after last) due old new
-meets_whole Next due old new is grew = (is, grew)
-meets_whole (Faulted fault) due old new is grew = (is, grew)
-meets_whole (Stopped Dis) due old new is grew = (is, grew)
-meets_whole (Stopped Operation) due old new is grew = (is, grew)
-meets_whole (Stopped Tag) due old new is grew = (is, grew)
-meets_whole (Stopped Unbuilt) due old new is grew = (is, grew)
+-- a status that meets an answer that is due says so
+pub says_due :
+    (IsDue : Answer → Type 0) (due : Answer) (result : Status) (old new : Option (List ℕ))
+    → IsDue due → Meets result due old new → Says IsDue result old new
+says_due IsDue due NoMemory old new is m = m
+says_due IsDue due Done old new is m = record { due = due; is_due = is; meets = m }
+says_due IsDue due AuditNo old new is m = record { due = due; is_due = is; meets = m }
+says_due IsDue due (MachineStop end) old new is m = record { due = due; is_due = is; meets = m }
+says_due IsDue due Steps old new is m = record { due = due; is_due = is; meets = m }
+says_due IsDue due (BadFile bad) old new is m = record { due = due; is_due = is; meets = m }
+says_due IsDue due Usage old new is m = absurd m
+says_due IsDue due ReadFault old new is m = record { due = due; is_due = is; meets = m }
+says_due IsDue due WriteFault old new is m = record { due = due; is_due = is; meets = m }
 
-pub run_whole :
-    (steps : ℕ) (state : State (List ℕ)) (last : Outcome) (old new : Option (List ℕ))
-    → RunSays (Whole last) steps state old new → Meets (status_after last) (run_answer steps state) old new
-unfolding run_answer
-run_whole steps state last old new says =
-    meets_whole last (run_answer steps state) old new (ap status_after says.0) says.1
+-- the answer by what the audit of a state has found
+pub state_says :
+    (command : Command) (state : State (List ℕ)) (findings : List (ℕ × ℕ)) (result : Status) (old new : Option (List ℕ))
+    → AreFindings state.store state.regs.dbr findings
+    → (findings ≡ [] → IsIsolated state.store state.regs.dbr)
+    → Meets result (state_answer command state findings) old new
+    → Says (IsStateDue command state) result old new
+state_says command state findings result old new found isolated m =
+    says_due (IsStateDue command state) (state_answer command state findings) result old new (record { findings = findings; found = found; isolated = isolated; answer = refl }) m
 
--- a run whose output was cut off
-is_run : (last : Outcome) → IsRun (status_after last)
-is_run Next = tt
-is_run (Faulted fault) = tt
-is_run (Stopped Dis) = tt
-is_run (Stopped Operation) = tt
-is_run (Stopped Tag) = tt
-is_run (Stopped Unbuilt) = tt
+-- the answer by the state that a file writes out
+pub image_says :
+    (command : Command) (given : Result (State (List ℕ)) Refusal) (state : State (List ℕ)) (result : Status) (old new : Option (List ℕ))
+    → given ≡ Ok state → Says (IsStateDue command state) result old new → Says (IsImageDue command given) result old new
+image_says command given state result old new e says =
+    subst (λ g. Says (IsImageDue command g) result old new) (sym e) says
 
-pub run_cut :
-    (steps : ℕ) (state : State (List ℕ)) (old new : Option (List ℕ))
-    → RunSays Cut steps state old new → Meets WriteFault (run_answer steps state) old new
-unfolding run_answer
-run_cut steps state old new says = (is_run (last_outcome (run steps state)), says)
+-- the answer where a file is refused
+pub refused_says :
+    (command : Command) (given : Result (State (List ℕ)) Refusal) (refusal : Refusal) (result : Status) (old new : Option (List ℕ))
+    → given ≡ Err refusal → Meets result (refused (file_of command) refusal.code refusal.line) old new
+    → Says (IsImageDue command given) result old new
+refused_says command given refusal result old new e m =
+    subst (λ g. Says (IsImageDue command g) result old new) (sym e) (says_due (IsImageDue command (Err refusal)) (refused (file_of command) refusal.code refusal.line) result old new refl m)
 
--- neither fault is the status of a run that was written whole
-pub whole_read : (last : Outcome) (count : ℕ) → ReadCause (status_after last) count count
-whole_read Next count = refl
-whole_read (Faulted fault) count = refl
-whole_read (Stopped Dis) count = refl
-whole_read (Stopped Operation) count = refl
-whole_read (Stopped Tag) count = refl
-whole_read (Stopped Unbuilt) count = refl
+-- the answer where the folder has no such file, or one that is too large
+pub absent_says :
+    (command : Command) (name refused_name : List ℕ) (files : Option Files) (result : Status) (old new : Option (List ℕ))
+    → name ≡ file_of command → refused_name ≡ file_of command → IfSome files (λ f. ReadSays read.Absent (f name))
+    → Meets result (refused refused_name F1 0) old new
+    → CommandSays command result files old new
+absent_says command name refused_name files result old new is same told m = record {
+  given = read.Absent;
+  told = subst (λ n. IfSome files (λ f. ReadSays read.Absent (f n))) is told;
+  limit = tt;
+  says = says_due (IsReadDue command read.Absent) (refused (file_of command) F1 0) result old new refl (subst (λ n. Meets result (refused n F1 0) old new) same m);
+}
 
-pub whole_write : (last : Outcome) (old new : ℕ) → new ≡ old → WriteCause (status_after last) old new
-whole_write Next old new same = same
-whole_write (Faulted fault) old new same = same
-whole_write (Stopped Dis) old new same = same
-whole_write (Stopped Operation) old new same = same
-whole_write (Stopped Tag) old new same = same
-whole_write (Stopped Unbuilt) old new same = same
+pub large_says :
+    (command : Command) (name refused_name : List ℕ) (files : Option Files) (result : Status) (old new : Option (List ℕ))
+    → name ≡ file_of command → refused_name ≡ file_of command → IfSome files (λ f. ReadSays read.TooLarge (f name))
+    → Meets result (refused refused_name F2 0) old new
+    → CommandSays command result files old new
+large_says command name refused_name files result old new is same told m = record {
+  given = read.TooLarge;
+  told = subst (λ n. IfSome files (λ f. ReadSays read.TooLarge (f n))) is told;
+  limit = tt;
+  says = says_due (IsReadDue command read.TooLarge) (refused (file_of command) F2 0) result old new refl (subst (λ n. Meets result (refused n F2 0) old new) same m);
+}
 
-pub ruleset answers = (run_whole, run_cut, whole_read, whole_write)
-
--- What is due by what the folder gave is due by its files, unless the read failed.
-met : (result : Status) (due : Answer) (old new : Option (List ℕ)) → Meets result due old new → MeetsFiles result due old new
-met Done due old new m = m
-met (MachineStop end) due old new m = m
-met Steps due old new m = m
-met (BadFile bad) due old new m = m
-met ReadFault due old new m = m.1
-met WriteFault due old new m = m
-met NoMemory due old new m = m
-met Usage due old new m = absurd m
-met AuditNo due old new m = absurd m
-
-met_read : (result : Status) (due : Answer) (old new : Option (List ℕ)) → Meets result (record { status = ReadFault; text = [] }) old new → MeetsFiles result due old new
-met_read Done due old new m = absurd (let h = m.0 in cc)
-met_read (MachineStop end) due old new m = absurd (let h = m.0 in cc)
-met_read Steps due old new m = absurd (let h = m.0 in cc)
-met_read (BadFile bad) due old new m = absurd (let h = m.0 in cc)
-met_read ReadFault due old new m = m.1
-met_read WriteFault due old new m = absurd m.0
-met_read NoMemory due old new m = m
-met_read Usage due old new m = absurd m
-met_read AuditNo due old new m = absurd m
-
-met_memory : (result : Status) (due : Answer) (old new : Option (List ℕ)) → Meets result (record { status = NoMemory; text = [] }) old new → MeetsFiles result due old new
-met_memory Done due old new m = absurd (let h = m.0 in cc)
-met_memory (MachineStop end) due old new m = absurd (let h = m.0 in cc)
-met_memory Steps due old new m = absurd (let h = m.0 in cc)
-met_memory (BadFile bad) due old new m = absurd (let h = m.0 in cc)
-met_memory ReadFault due old new m = m.1
-met_memory WriteFault due old new m = absurd m.0
-met_memory NoMemory due old new m = m
-met_memory Usage due old new m = absurd m
-met_memory AuditNo due old new m = absurd m
-
--- an answer that a folder gives for a file is the one that it is to give
-read_is : (bytes : List ℕ) → length bytes ≤ file_limit → read_of (Some bytes) ≡ read.Read bytes
-read_is bytes within = ap (λ b. cond b read.TooLarge (read.Read bytes)) (le-ltb file_limit (length bytes) within)
-
-large_is : (bytes : List ℕ) → file_limit < length bytes → read_of (Some bytes) ≡ read.TooLarge
-large_is bytes over = ap (λ b. cond b read.TooLarge (read.Read bytes)) (lt-ltb file_limit (length bytes) over)
-
-by_given :
-    (given : ReadAnswer) (name : List ℕ) (files : Files) (result : Status) (old new : Option (List ℕ))
-    → ReadSays given (files name) → IsWithinLimit given → Meets result (bare_answer name given) old new
-    → MeetsFiles result (answer_by (Some name) files) old new
-by_given (read.Read bytes) name files result old new says within m =
-    subst (λ r. MeetsFiles result (bare_answer name r) old new) (sym (ap read_of says ∙ read_is bytes within)) (met result (bare_answer name (read.Read bytes)) old new m)
-by_given read.Absent name files result old new says within m =
-    subst (λ r. MeetsFiles result (bare_answer name r) old new) (sym (ap read_of says)) (met result (bare_answer name read.Absent) old new m)
-by_given read.TooLarge name files result old new says within m =
-    subst (λ r. MeetsFiles result (bare_answer name r) old new) (sym (ap read_of says.1 ∙ large_is says.0 says.2)) (met result (bare_answer name read.TooLarge) old new m)
-by_given read.Failed name files result old new says within m = met_read result (answer_by (Some name) files) old new m
-by_given read.NoMemory name files result old new says within m = met_memory result (answer_by (Some name) files) old new m
-
-usage_met : (result : Status) (old new : Option (List ℕ)) → result ≡ Usage → new ≡ old → MeetsFiles result (record { status = Usage; text = [] }) old new
-usage_met result old new is same = subst (λ s. MeetsFiles s (record { status = Usage; text = [] }) old new) (sym is) (refl, same)
-
-by_file :
-    (file : Option (List ℕ)) (result : Status) (files : Files) (old new : Option (List ℕ))
-    → TopSays file result (Some files) old new → MeetsFiles result (answer_by file files) old new
-by_file None result files old new says = usage_met result old new says.0 says.1
-by_file (Some name) result files old new says = by_given says.given name files result old new says.told says.limit says.meets
-
-pub by_files :
-    (file : Option (List ℕ)) (result : Status) (files : Option Files) (old new : Option (List ℕ))
-    → TopSays file result files old new → IfSome files (λ f. MeetsFiles result (answer_by file f) old new)
-by_files file result None old new says = tt
-by_files file result (Some files) old new says = by_file file result files old new says
-
--- With no fault outside, a run that is due to end with DIS does.
-done_due :
-    (result : Status) (due : Answer) (old new : Option (List ℕ)) (r r' w w' : ℕ)
-    → MeetsFiles result due old new → ReadCause result r r' → WriteCause result w w'
-    → AnswersDone result due (Rose r r') (Rose w w')
-done_due Done due old new r r' w w' m read write is nr nw = inl refl
-done_due (MachineStop end) due old new r r' w w' m read write is nr nw = absurd (let h = m.0 in cc)
-done_due Steps due old new r r' w w' m read write is nr nw = absurd (let h = m.0 in cc)
-done_due (BadFile bad) due old new r r' w w' m read write is nr nw = absurd (let h = m.0 in cc)
-done_due Usage due old new r r' w w' m read write is nr nw = absurd (let h = m.0 in cc)
-done_due ReadFault due old new r r' w w' m read write is nr nw = absurd (nr read)
-done_due WriteFault due old new r r' w w' m read write is nr nw = absurd (nw write)
-done_due NoMemory due old new r r' w w' m read write is nr nw = inr refl
-done_due AuditNo due old new r r' w w' m read write is nr nw = absurd m
-
-pub all_done :
-    (file : Option (List ℕ)) (result : Status) (files : Option Files) (old new : Option (List ℕ)) (r r' w w' : ℕ)
-    → TopSays file result files old new → ReadCause result r r' → WriteCause result w w'
-    → IfSome files (λ f. AnswersDone result (answer_by file f) (Rose r r') (Rose w w'))
-all_done file result None old new r r' w w' says read write = tt
-all_done file result (Some files) old new r r' w w' says read write =
-    done_due result (answer_by file files) old new r r' w w' (by_file file result files old new says) read write
-
-pub ruleset calls = (by_files, all_done)
+pub ruleset dues = (says_due, state_says, image_says, refused_says)

@@ -11,6 +11,8 @@ pub mod Machine
 pub mod Run
 pub mod Output
 pub mod RunSays
+pub mod AuditText
+pub mod Answers
 pub mod TopCall
 pub use Rattle.m36_trace.specs.EndLine
 pub use Rattle.m36_trace.specs.TraceLine

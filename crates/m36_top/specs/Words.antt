@@ -1,7 +1,24 @@
--- The words of the command line. The set known is `bare FILE`.
-use Rattle.std.specs.Prelude.{ℕ, Bool, not, ◌&&◌, ◌||◌, ◌==◌, nat_le, nat_eq, List, [], ◌∷◌, length, slice_index, codes, Option, Some, None, if◌then◌else◌}
+-- The words of the command line.
+--
+--     bare FILE [--steps N] [--unaudited]
+--     audit FILE
+--
+-- The first word is the command. Operands and options follow it in any order, and an option stands at most once. Behind
+-- `--`, which may stand once, each word is an operand. `--steps N` may be written `--steps=N`; the value of `--steps` is
+-- the next word, whatever it is. FILE is 1 to 32 characters of `A-Z a-z 0-9 _ .`, of which the first is no point. N is
+-- one to eight decimal digits, at most 10,000,000; without it a run takes at most 100,000 steps. No other list of words
+-- is a command.
+use Rattle.std.specs.Prelude.{ℕ, Bool, true, false, not, ◌&&◌, ◌||◌, ◌==◌, nat_le, nat_eq, List, [], ◌∷◌, length, take, drop, slice_index, codes, Option, Some, None, unwrap_or, if◌then◌else◌}
 use Rattle.std.specs.List.{list_all}
+use Rattle.std.specs.Option.{is_none, option_map, option_and_then}
+use Rattle.std.specs.Result.{result_ok}
 use Rattle.std.specs.Cmp.Lexicographic.{pointwise}
+use Rattle.m36_text.specs.Reading.{number_read}
+use Rattle.m36_top.specs.declared.words.Given.{Given}
+use Rattle.m36_top.specs.declared.words.Expects.{Expects}
+use Rattle.m36_top.specs.declared.words.Expects.TheVariants as expects
+use Rattle.m36_top.specs.declared.command.Command.{Command}
+use Rattle.m36_top.specs.declared.command.Command.TheVariants.{Bare, Audit}
 
 -- whether a text is this one
 abbrev pub is_text : List ℕ → List ℕ → Bool
@@ -17,7 +34,90 @@ abbrev pub is_file_name : List ℕ → Bool
 is_file_name name =
     nat_le 1 (length name) && nat_le (length name) 32 && not (slice_index name 0 == 46) && list_all is_name_character name
 
--- the file that the words `bare FILE` name; none where the words are any others
-abbrev pub bare_file : List (List ℕ) → Option (List ℕ)
-bare_file (command ∷ file ∷ []) = if is_text (codes "bare") command && is_file_name file then Some file else None
-bare_file _ = None
+-- operands: the files of all commands
+abbrev pub operand_of : List ℕ → Option (List ℕ)
+operand_of word = if is_file_name word then Some word else None
+
+-- N: one to eight digits
+unfoldable pub steps_of : List ℕ → Option ℕ
+steps_of text = if nat_le (length text) 8 then result_ok (number_read 10 text 10000000) else None
+
+-- what is given once at most, and is of its form
+abbrev pub given_once : {A : Type 0} → Option A → Option A → Option A
+given_once None new = new
+given_once (Some old) new = None
+
+-- What the words so far give, and one more. None is given for a word that makes the list no command.
+abbrev pub with_operand : Given → List ℕ → Option Given
+with_operand g word = option_map (λ name. record g { operand = Some name }) (given_once g.operand (operand_of word))
+
+abbrev pub with_steps : Given → List ℕ → Option Given
+with_steps g text = option_map (λ n. record g { steps = Some n }) (given_once g.steps (steps_of text))
+
+abbrev pub with_unaudited : Given → Option Given
+with_unaudited g = if g.unaudited then None else Some (record g { unaudited = true })
+
+abbrev pub expecting : Given → Expects → Given
+expecting g e = record g { expects = e }
+
+-- `--steps=` and a value
+abbrev pub is_steps_with_value : List ℕ → Bool
+is_steps_with_value word = nat_le 8 (length word) && is_text (codes "--steps=") (take 8 word)
+
+-- options by their words, and operands
+abbrev pub with_any : Given → List ℕ → Option Given
+with_any g word =
+    if is_text (codes "--") word then Some (expecting g expects.Operand)
+    else if is_text (codes "--steps") word then Some (expecting g expects.Steps)
+    else if is_text (codes "--unaudited") word then with_unaudited g
+    else if is_steps_with_value word then with_steps g (drop 8 word)
+    else with_operand g word
+
+abbrev pub word_by : Expects → Given → List ℕ → Option Given
+word_by expects.Any g word = with_any g word
+word_by expects.Steps g word = with_steps (expecting g expects.Any) word
+word_by expects.Operand g word = with_operand g word
+
+unfoldable pub with_word : Given → List ℕ → Option Given
+with_word g word = word_by g.expects g word
+
+-- At the end no value may be missing.
+abbrev pub ended_by : Expects → Given → Option Given
+ended_by expects.Any g = Some g
+ended_by expects.Steps g = None
+ended_by expects.Operand g = Some g
+
+unfoldable pub with_words : Given → List (List ℕ) → Option Given
+with_words g [] = ended_by g.expects g
+with_words g (word ∷ words) = option_and_then (λ h. with_words h words) (with_word g word)
+
+abbrev pub nothing : Given
+nothing = record { operand = None; steps = None; unaudited = false; expects = expects.Any }
+
+-- The commands by their words, each with what it makes of its operands and options. All options go with `bare`, and none
+-- with `audit`.
+abbrev pub bare : Given → Option Command
+bare g =
+    option_map (λ file. Bare (record { file = file; steps = unwrap_or g.steps 100000; unaudited = g.unaudited })) g.operand
+
+abbrev pub has_no_option : Given → Bool
+has_no_option g = is_none g.steps && not g.unaudited
+
+abbrev pub audit : Given → Option Command
+audit g = if has_no_option g then option_map (λ file. Audit file) g.operand else None
+
+abbrev pub Entry : Type 0
+Entry = List ℕ × (Given → Option Command)
+
+abbrev pub commands : List Entry
+commands = (codes "bare", bare) ∷ (codes "audit", audit) ∷ []
+
+-- the command of a word
+abbrev pub command_in : List Entry → List ℕ → Given → Option Command
+command_in [] word g = None
+command_in (entry ∷ entries) word g = if is_text entry.0 word then entry.1 g else command_in entries word g
+
+-- what a list of words asks for; none where it is no command
+unfoldable pub command_of : List (List ℕ) → Option Command
+command_of [] = None
+command_of (word ∷ words) = option_and_then (command_in commands word) (with_words nothing words)

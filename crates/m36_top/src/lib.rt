@@ -1,24 +1,35 @@
 //! The simulator as one call: the words of the command line, a folder of files and a place for the output in; a status
 //! out.
 //!
-//! The one command is `bare FILE`. The file is a bare image, a text that writes out the core of a machine, its descriptor
-//! segment base register and where it starts. The machine is run for at most 100,000 steps. A trace line is written for
-//! each step, and an end line.
+//! `bare FILE` and `audit FILE` read a bare image, a text that writes out the core of a machine, its descriptor segment
+//! base register and where it starts. Both audit it and write what the audit finds. `bare` then runs the machine, unless
+//! the audit has failed and `--unaudited` is not given, for at most 100,000 steps or as many as `--steps` gives. A trace
+//! line is written for each step, and an end line.
 //!
-//! What [`m36`] promises, whatever its arguments: each trace line that is written is the line of the written step of the
-//! state that the step before left, from the image of the file on. What is written is a first part of the stated output,
-//! and the whole of it where the call answers Done, MachineStop or Steps. Each answer comes exactly where it is due, in
-//! the order words, file, image, run; a fault has its cause outside; and want of memory alone may stand in the place of
-//! an answer, with nothing written. `specs/BareImage.antt` has the grammar of images, `specs/Output.antt` the output and
-//! `specs/TopCall.antt` the answers.
+//! What [`m36`] promises, whatever its arguments:
+//!
+//! - Each trace line that is written is the line of the written step of the state that the step before left, from the
+//!   image of the file on.
+//! - Where `audit yes` is written, the tables of the image isolate each ring from 1: whatever stands in it and above,
+//!   until a fault, a stop or a gate call, no word outside its write brackets changes, and none outside its read brackets
+//!   affects a step.
+//! - What is written is a first part of the stated output, and the whole of it where the call answers Done, AuditNo,
+//!   MachineStop or Steps. Each answer comes exactly where it is due, in the order words, file, image, audit, run; a fault
+//!   has its cause outside; and want of memory alone may stand in the place of an answer, with nothing written.
+//!
+//! `specs/Words.antt` has the set of commands, `specs/BareImage.antt` the grammar of images, `specs/AuditText.antt` and
+//! `specs/Output.antt` the output, `specs/Answers.antt` what is due and `specs/TopCall.antt` what the call says of it.
 //!
 //! Files, texts and statuses are this simulator's own; the machine is that of the Multics Processor Manual AL39.
 #![tactic(auto)]
 
+pub mod command;
 mod core_words;
+mod findings;
 mod forms;
 mod header;
 pub mod image;
+mod names;
 mod placed;
 pub mod refusal;
 mod running;
@@ -27,9 +38,13 @@ pub mod status;
 #[cfg(test)]
 mod tests;
 pub mod top;
-mod words;
+#[cfg(test)]
+mod word_tests;
+pub mod words;
 
+pub use command::{BareRun, Command};
 pub use image::{Image, ImageFault, read_image};
 pub use refusal::Refusal;
 pub use status::{Bad, Code, Status};
 pub use top::m36;
+pub use words::command_of;

@@ -35,9 +35,9 @@ pub struct Bad {
 /// How the top call ended.
 #[derive(Drop)]
 pub enum Status {
-    /// The output is written whole, and the machine executed DIS.
+    /// The output is written whole. The machine executed DIS, or the audit alone was asked for and passes.
     Done,
-    /// The words are not `bare FILE`. Nothing was read or written.
+    /// The words are no command. Nothing was read or written.
     Usage,
     /// The file could not be read.
     ReadFault,
@@ -45,13 +45,13 @@ pub enum Status {
     WriteFault,
     /// The file is refused.
     BadFile(Bad),
-    /// The audit fails.
+    /// The audit fails, and the machine was not to be run all the same. What it finds is written whole.
     AuditNo,
     /// The machine ended with a fault, or stopped otherwise than by DIS.
     MachineStop(End),
     /// All steps that are allowed were taken, and none ended the run.
     Steps,
-    /// No memory was found. No trace line was written.
+    /// No memory was found. Nothing was written.
     NoMemory,
 }
 

@@ -7,30 +7,32 @@ use m36_word::NoMemory;
 use std::alloc::Global;
 
 /// Loads the number 5, and halts.
-const LEAST: &[u8] = b"core 1
+pub(crate) const LEAST: &[u8] = b"core 1
 dbr 000000000000 000000200000
 start 00001 0 000000
 at 00000002 000000400004 000006700000
 at 00000040 000002235000 000000616000 000000000005
 ";
 
-const LEAST_OUTPUT: &[u8] =
-    b"1 0 00001|000000 000002235000 0:00001|000002 000000000005 000000000000 ...... next
+const LEAST_OUTPUT: &[u8] = b"audit yes
+1 0 00001|000000 000002235000 0:00001|000002 000000000005 000000000000 ...... next
 2 0 00001|000001 000000616000 - 000000000005 000000000000 ...... dis
 end dis 2
 ";
 
-/// The same, but the load is modified by a register, which the machine has not got yet.
-const MODIFIED: &[u8] = b"core 1
+/// A segment with a page, in which a zero is stored.
+const PAGED: &[u8] = b"core 2
 dbr 000000000000 000000200000
 start 00001 0 000000
-at 00000002 000000400004 000006700000
-at 00000040 000002235005 000000616000 000000000005
+at 00000002 000001000004 000007500000
+at 00000100 000020000004
+at 00002000 000002755000 000000616000
 ";
 
-const MODIFIED_OUTPUT: &[u8] =
-    b"1 0 00001|000000 000002235005 - 000000000000 000000000000 ...... stop unbuilt
-end stop unbuilt 1
+const PAGED_OUTPUT: &[u8] = b"audit yes
+1 0 00001|000000 000002755000 0:00001|000002 000000000000 000000000000 ...... next
+2 0 00001|000001 000000616000 - 000000000000 000000000000 ...... dis
+end dis 2
 ";
 
 /// Transfers to itself.
@@ -41,7 +43,7 @@ at 00000002 000000400004 000006700000
 at 00000040 000000710000
 ";
 
-fn words(alloc: Global, list: &[&[u8]]) -> Result<Vec<Text>, NoMemory> {
+pub(crate) fn words(alloc: Global, list: &[&[u8]]) -> Result<Vec<Text>, NoMemory> {
     let mut words = Vec::new(alloc);
     for word in list {
         words.push(Text::from_bytes(alloc, word)?)?;
@@ -49,9 +51,10 @@ fn words(alloc: Global, list: &[&[u8]]) -> Result<Vec<Text>, NoMemory> {
     Ok(words)
 }
 
-// `bare f` over a folder with this file, where these reads and puts fail.
-fn ran(
+// What these words come to over a folder with this file as `f`, where these reads and puts fail.
+fn answered(
     alloc: Global,
+    list: &[&[u8]],
     image: &[u8],
     fail_reads: &[u32],
     fail_puts: &[u32],
@@ -59,24 +62,105 @@ fn ran(
     let mut folder = MemFolder::new(alloc, fail_reads, &[])?;
     folder.add(b"f", image)?;
     let mut out = MemSink::new(alloc, 10_000_000, fail_puts)?;
-    let words = words(alloc, &[b"bare".as_slice(), b"f"])?;
+    let words = words(alloc, list)?;
     let status = m36(alloc, words.as_slice(), &mut folder, &mut out);
     Ok((status, out))
 }
 
+fn ran(
+    alloc: Global,
+    image: &[u8],
+    fail_reads: &[u32],
+    fail_puts: &[u32],
+) -> Result<(Status, MemSink), NoMemory> {
+    answered(
+        alloc,
+        &[b"bare".as_slice(), b"f"],
+        image,
+        fail_reads,
+        fail_puts,
+    )
+}
+
 #[test]
-fn runs_the_least_image(rt: HostRuntime) -> Result<(), NoMemory> {
-    let (status, out) = ran(rt.alloc(), LEAST, &[], &[])?;
-    assert_eq!(rt; status.number(), 0);
-    assert!(rt; out.bytes() == LEAST_OUTPUT);
+fn runs_images(rt: HostRuntime) -> Result<(), NoMemory> {
+    for (image, output) in [(LEAST, LEAST_OUTPUT), (PAGED, PAGED_OUTPUT)] {
+        let (status, out) = ran(rt.alloc(), image, &[], &[])?;
+        assert_eq!(rt; status.number(), 0);
+        assert!(rt; out.bytes() == output);
+    }
+    Ok(())
+}
+
+// Segment 1 lies on its own page table.
+const LAID: &[u8] = b"core 3
+dbr 000000000000 000000200000
+start 00001 4 000000
+at 00000002 000001004444 000005100000 000001007774 000005300000
+at 00000100 000040000004
+";
+
+// The page table of segment 1 lies on a descriptor.
+const SHARED_TABLE: &[u8] = b"core 3
+dbr 000000000000 000000200000
+start 00001 4 000000
+at 00000002 000000104444 000005100000
+at 00000010 000040000000
+";
+
+// Two segments have one page.
+const SHARED_PAGE: &[u8] = b"core 3
+dbr 000000000000 000000200000
+start 00001 4 000000
+at 00000002 000001004444 000005100000 000001014444 000005100000
+at 00000100 000040000004 000040000004
+";
+
+// Brackets out of order, an open segment that outer rings may call, and no stack for them: segments 1, 2 and 2.
+const SEGMENTS: &[u8] = b"core 1
+dbr 000000000000 000000200000
+start 00001 4 000000
+at 00000002 000000405444 000005300000 000000400054 000003300000
+";
+
+#[test]
+fn audits_images(rt: HostRuntime) -> Result<(), NoMemory> {
+    for (image, number, output) in [
+        (LEAST, 0, b"audit yes\n".as_slice()),
+        (PAGED, 0, b"audit yes\n"),
+        (LAID, 5, b"audit no A3 00000100\n"),
+        (SHARED_TABLE, 5, b"audit no A2 00000010\n"),
+        (SHARED_PAGE, 5, b"audit no A4 00004000\n"),
+        (
+            SEGMENTS,
+            5,
+            b"audit no A1 00001\naudit no A5 00002\naudit no A6 00002\n",
+        ),
+    ] {
+        for command in [b"audit".as_slice(), b"bare"] {
+            if number == 5 || command == b"audit".as_slice() {
+                let (status, out) = answered(rt.alloc(), &[command, b"f"], image, &[], &[])?;
+                assert_eq!(rt; status.number(), number);
+                assert!(rt; out.bytes() == output);
+            }
+        }
+    }
     Ok(())
 }
 
 #[test]
-fn stops_at_what_is_not_built(rt: HostRuntime) -> Result<(), NoMemory> {
-    let (status, out) = ran(rt.alloc(), MODIFIED, &[], &[])?;
+fn runs_an_image_that_fails_its_audit(rt: HostRuntime) -> Result<(), NoMemory> {
+    let list = [b"bare".as_slice(), b"f", b"--unaudited"];
+    let (status, out) = answered(rt.alloc(), &list, LAID, &[], &[])?;
     assert_eq!(rt; status.number(), 6);
-    assert!(rt; out.bytes() == MODIFIED_OUTPUT);
+    assert!(rt;
+        out.bytes()
+            == b"audit no A3 00000100
+1 4 00001|000000 - - 000000000000 000000000000 ...... fault 20.2
+end fault 20.2 1
+"
+                .as_slice()
+    );
     Ok(())
 }
 
@@ -86,19 +170,24 @@ fn ends_at_the_limit(rt: HostRuntime) -> Result<(), NoMemory> {
     assert_eq!(rt; status.number(), 7);
     assert!(rt; out.bytes().ends_with(b"\nend limit 100000\n"));
     assert!(rt;
-        out.bytes()
-            .starts_with(b"1 0 00001|000000 000000710000 0:00001|000000 ")
+        out.bytes().starts_with(b"audit yes\n1 0 00001|000000 000000710000 0:00001|000000 ")
     );
     Ok(())
 }
 
 #[test]
 fn tells_a_cut_output(rt: HostRuntime) -> Result<(), NoMemory> {
-    for (put, whole) in [(1, 0), (2, 83), (3, 152)] {
+    for (put, whole) in [(1, 0), (2, 10), (3, 93), (4, 162)] {
         let (status, out) = ran(rt.alloc(), LEAST, &[], &[put])?;
         assert_eq!(rt; status.number(), 3);
         assert_eq!(rt; out.bytes().len(), whole);
         assert!(rt; LEAST_OUTPUT.starts_with(out.bytes()));
+    }
+    let list = [b"audit".as_slice(), b"f"];
+    for (put, whole) in [(1, 0), (2, 18), (3, 36)] {
+        let (status, out) = answered(rt.alloc(), &list, SEGMENTS, &[], &[put])?;
+        assert_eq!(rt; status.number(), 3);
+        assert_eq!(rt; out.bytes().len(), whole);
     }
     Ok(())
 }
@@ -249,39 +338,6 @@ fn refuses_words(rt: HostRuntime) -> Result<(), NoMemory> {
         let image = joined(alloc, &[CORE, DBR, START, lines])?;
         let (status, _) = ran(alloc, image.bytes(), &[], &[])?;
         assert!(rt; refusal(&status) == Some((code, line)), "{lines:?}");
-    }
-    Ok(())
-}
-
-#[test]
-fn knows_its_words(rt: HostRuntime) -> Result<(), NoMemory> {
-    let alloc = rt.alloc();
-    for (list, number) in [
-        ([b"".as_slice(), b"", b""].as_slice(), 1),
-        (&[], 1),
-        (&[b"bare"], 1),
-        (&[b"run"], 1),
-        (&[b"f"], 1),
-        (&[b"f", b"bare"], 1),
-        (&[b"Bare", b"f"], 1),
-        (&[b"bare", b""], 1),
-        (&[b"bare", b".f"], 1),
-        (&[b"bare", b"f/g"], 1),
-        (&[b"bare", b"f\xff"], 1),
-        (&[b"bare", b"--help"], 1),
-        (&[b"bare", b"f", b"f"], 1),
-        (&[b"bare", b"ABCDEFGHIJKLMNOPQRSTUVWXYZ_.01234"], 1),
-        (&[b"bare", b"ABCDEFGHIJKLMNOPQRSTUVWXYZ_.0123"], 4),
-        (&[b"bare", b"a.z_9"], 4),
-        (&[b"bare", b"f"], 0),
-    ] {
-        let mut folder = MemFolder::new(alloc, &[], &[])?;
-        folder.add(b"f", LEAST)?;
-        let mut out = MemSink::new(alloc, 1000, &[])?;
-        let words = words(alloc, list)?;
-        let status = m36(alloc, words.as_slice(), &mut folder, &mut out);
-        assert_eq!(rt; status.number(), number, "{list:?}");
-        assert_eq!(rt; out.bytes().is_empty(), number != 0);
     }
     Ok(())
 }

@@ -1,25 +1,32 @@
 //! The top call.
 
-ghost use Rattle.std.specs.Prelude.{ℕ, ◌≡◌, ◌≤◌, ◌<◌, ◌^◌, ◌↔◌, List, Option, None, IfOk, IfSome, length};
+ghost use Rattle.std.specs.Prelude.{ℕ, ◌≡◌, ◌≤◌, ◌<◌, ◌^◌, ◌↔◌, ◌||◌, List, [], Option, None, IfOk, IfSome, length};
+ghost use Rattle.m36_model.specs.Audit.{AreFindings};
+ghost use Rattle.m36_audit.specs.Findings.{pairs};
 ghost use Rattle.m36_outside.specs.Counts.{Rose};
 ghost use Rattle.m36_outside.specs.ReadAnswer.{file_limit};
-ghost use Rattle.m36_top.specs.Words.{bare_file};
+ghost use Rattle.m36_top.specs.Words.{command_of};
 ghost use Rattle.m36_top.specs.ImageState.{state_given};
 ghost use Rattle.m36_top.specs.Output.{status_after};
-ghost use Rattle.m36_top.specs.TopCall.{Meets, refused, run_answer, step_limit, state_answer, BareSays, TopSays, answer_of, MeetsFiles, AnswersDone, ReadCause, WriteCause};
+ghost use Rattle.m36_top.specs.AuditText.{audit_text};
+ghost use Rattle.m36_top.specs.Answers.{refused, behind, run_answer, passes, audit_answer, bare_by, state_answer, IsIsolated, IsStateDue, IsImageDue, IsDue};
+ghost use Rattle.m36_top.specs.TopCall.{Meets, Says, CommandSays, TopSays, SaysFiles, Completes, YesIsolates, ReadCause, WriteCause};
 
+use crate::command::{BareRun, Command};
+use crate::findings::put_audit;
 use crate::image::{Image, ImageFault, read_image};
 use crate::running::{Ended, run};
 use crate::status::{Bad, Code, Status};
-use crate::words::bare_file;
+use crate::words::command_of;
+use m36_audit::{Finding, Verdict, audit};
+use m36_core::Core;
+use m36_desc::Dbr;
 use m36_model::{End, Outcome, Stop};
-use m36_outside::{Folder, ReadAnswer, Sink, Text};
+use m36_outside::{Folder, Put, ReadAnswer, Sink, Text};
 use m36_step::Machine;
+use m36_walk::Walk;
 use m36_word::NoMemory;
 use std::alloc::Global;
-
-/// The most steps of a run.
-pub const STEP_LIMIT: u32 = 100000;
 
 /// The status by which a run ends, by its last outcome.
 pub fn status_after(last: Outcome) -> Status
@@ -52,17 +59,28 @@ pub fn refuse(alloc: Global, name: &[u8], code: Code, at: u32) -> Status
     }
 }
 
-// The machine of an image.
-fn machine_of(alloc: Global, image: &Image) -> Result<Machine, NoMemory>
-    ensures { IfOk result (λ machine. machine ≡ image.now) }
+// The machine of an image. Core is handed on, and not copied.
+fn machine_of(alloc: Global, image: Image) -> Result<Machine, NoMemory>
+    ensures { IfOk result (λ machine. machine ≡ image) }
 {
-    Machine::new(alloc, image.core.words(), image.regs)
+    let Image { core, regs } = image;
+    match Walk::new(alloc, core, regs.dbr) {
+        Ok(walk) => Ok(Machine::new(walk, regs)),
+        Err(_core) => Err(NoMemory),
+    }
 }
 
-/// Runs the machine of an image.
-#[tactic(auto, using(crate::proofs::TopLaws::answers))]
-pub fn run_image<S: Sink>(alloc: Global, image: &Image, out: &mut S) -> Status
-    ensures says { Meets result (run_answer step_limit image.now) (S.written out.old) (S.written out.new) }
+/// Puts the audit text, and then runs the machine of an image for at most so many steps. Nothing is put before memory is
+/// found for the machine.
+#[tactic(auto, using(crate::proofs::AuditAnswers::answers))]
+pub fn run_audited<S: Sink>(
+    alloc: Global,
+    findings: &[Finding],
+    image: Image,
+    steps: u32,
+    out: &mut S,
+) -> Status
+    ensures says { Meets result (behind (audit_text (pairs findings.now)) (run_answer steps image)) (S.written out.old) (S.written out.new) }
     ensures read_cause { (count : ℕ) → ReadCause result count count }
     ensures write_cause { WriteCause result (S.faults out.old) (S.faults out.new) }
 {
@@ -70,39 +88,147 @@ pub fn run_image<S: Sink>(alloc: Global, image: &Image, out: &mut S) -> Status
         Ok(machine) => machine,
         Err(_) => return Status::NoMemory,
     };
-    match run(&mut machine, STEP_LIMIT, out) {
-        Ended::Cut => Status::WriteFault,
-        Ended::Whole(last) => status_after(last),
+    match put_audit(findings, out) {
+        Put::Failed => Status::WriteFault,
+        Put::Done => match run(&mut machine, steps, out) {
+            Ended::Cut => Status::WriteFault,
+            Ended::Whole(last) => status_after(last),
+        },
     }
 }
 
-/// Runs the machine that the bytes of a file write out.
-#[tactic(auto, using(crate::proofs::TopLaws::answers))]
-pub fn run_bytes<S: Sink>(alloc: Global, name: &[u8], bytes: &[u8], out: &mut S) -> Status
+/// Puts the audit text, and answers whether the audit passes.
+#[tactic(auto, using(crate::proofs::AuditAnswers::answers))]
+pub fn answer_audit<S: Sink>(findings: &[Finding], out: &mut S) -> Status
+    ensures says { Meets result (audit_answer (pairs findings.now)) (S.written out.old) (S.written out.new) }
+    ensures read_cause { (count : ℕ) → ReadCause result count count }
+    ensures write_cause { WriteCause result (S.faults out.old) (S.faults out.new) }
+{
+    match put_audit(findings, out) {
+        Put::Failed => Status::WriteFault,
+        Put::Done => {
+            if findings.is_empty() {
+                Status::Done
+            } else {
+                Status::AuditNo
+            }
+        }
+    }
+}
+
+// Whether the machine is run.
+#[tactic(auto, using(crate::proofs::AuditAnswers::passing))]
+fn is_run(findings: &[Finding], bare: &BareRun) -> bool
+    ensures { result ≡ (passes (pairs findings.now) || bare.now.unaudited) }
+{
+    findings.is_empty() || bare.unaudited
+}
+
+// The command `bare FILE` on an image, by what its audit has found.
+fn answer_bare<S: Sink>(
+    alloc: Global,
+    bare: &BareRun,
+    findings: &[Finding],
+    image: Image,
+    out: &mut S,
+) -> Status
+    ensures says { Meets result (bare_by (passes (pairs findings.now) || bare.now.unaudited) bare.now.steps image (pairs findings.now)) (S.written out.old) (S.written out.new) }
+    ensures read_cause { (count : ℕ) → ReadCause result count count }
+    ensures write_cause { WriteCause result (S.faults out.old) (S.faults out.new) }
+{
+    if is_run(findings, bare) {
+        run_audited(alloc, findings, image, bare.steps, out)
+    } else {
+        answer_audit(findings, out)
+    }
+}
+
+/// Does what a command says with an image, by what its audit has found.
+pub fn answer_found<S: Sink>(
+    alloc: Global,
+    command: &Command,
+    findings: &[Finding],
+    image: Image,
+    out: &mut S,
+) -> Status
+    ensures says { Meets result (state_answer command.now image (pairs findings.now)) (S.written out.old) (S.written out.new) }
+    ensures read_cause { (count : ℕ) → ReadCause result count count }
+    ensures write_cause { WriteCause result (S.faults out.old) (S.faults out.new) }
+{
+    match command {
+        Command::Bare(bare) => answer_bare(alloc, bare, findings, image, out),
+        Command::Audit(_) => answer_audit(findings, out),
+    }
+}
+
+// The audit of a core.
+fn audited(alloc: Global, core: &Core, dbr: Dbr) -> Result<Verdict, NoMemory>
+    ensures found { IfOk result (λ v. AreFindings core.now dbr (pairs v.findings.items)) }
+    ensures isolated { IfOk result (λ v. pairs v.findings.items ≡ [] → IsIsolated core.now dbr) }
+{
+    let verdict = audit(alloc, core, dbr)?;
+    Ok(verdict)
+}
+
+// The audit of an image.
+fn findings_in(alloc: Global, image: &Image) -> Result<Verdict, NoMemory>
+    ensures found { IfOk result (λ v. AreFindings image.now.store image.now.regs.dbr (pairs v.findings.items)) }
+    ensures isolated { IfOk result (λ v. pairs v.findings.items ≡ [] → IsIsolated image.now.store image.now.regs.dbr) }
+{
+    let regs = &image.regs;
+    audited(alloc, &image.core, regs.dbr)
+}
+
+/// Audits an image, and does what a command says with it.
+#[tactic(auto, using(crate::proofs::TopLaws::dues))]
+pub fn with_image<S: Sink>(alloc: Global, command: &Command, image: Image, out: &mut S) -> Status
+    ensures says { Says (IsStateDue command.now image) result (S.written out.old) (S.written out.new) }
+    ensures read_cause { (count : ℕ) → ReadCause result count count }
+    ensures write_cause { WriteCause result (S.faults out.old) (S.faults out.new) }
+{
+    match findings_in(alloc, &image) {
+        Ok(verdict) => answer_found(alloc, command, verdict.findings.as_slice(), image, out),
+        Err(_) => Status::NoMemory,
+    }
+}
+
+/// Does what a command says with the bytes of its file.
+#[tactic(auto, using(crate::proofs::TopLaws::dues))]
+pub fn with_bytes<S: Sink>(alloc: Global, command: &Command, bytes: &[u8], out: &mut S) -> Status
     requires { length bytes.now ≤ file_limit }
-    ensures says { Meets result (state_answer name.now (state_given bytes.now)) (S.written out.old) (S.written out.new) }
+    ensures says { Says (IsImageDue command.now (state_given bytes.now)) result (S.written out.old) (S.written out.new) }
     ensures read_cause { (count : ℕ) → ReadCause result count count }
     ensures write_cause { WriteCause result (S.faults out.old) (S.faults out.new) }
 {
     match read_image(alloc, bytes) {
-        Ok(image) => run_image(alloc, &image, out),
-        Err(ImageFault::Refused(refusal)) => refuse(alloc, name, refusal.code, refusal.line),
+        Ok(image) => with_image(alloc, command, image, out),
+        Err(ImageFault::Refused(refusal)) => refuse(
+            alloc,
+            command.file(),
+            refusal.code,
+            refusal.line,
+        ),
         Err(ImageFault::NoMemory) => Status::NoMemory,
     }
 }
 
-/// The command `bare FILE`.
-#[tactic(auto, using(crate::proofs::TopLaws::answers))]
-pub fn bare<F: Folder, S: Sink>(alloc: Global, name: &[u8], folder: &mut F, out: &mut S) -> Status
-    ensures says { BareSays name.now result (F.files folder.old) (S.written out.old) (S.written out.new) }
+/// Reads the file of a command, and does what the command says with it.
+#[tactic(auto, using(crate::proofs::TopLaws::dues))]
+pub fn perform<F: Folder, S: Sink>(
+    alloc: Global,
+    command: &Command,
+    folder: &mut F,
+    out: &mut S,
+) -> Status
+    ensures says { CommandSays command.now result (F.files folder.old) (S.written out.old) (S.written out.new) }
     ensures read_cause { ReadCause result (F.read_faults folder.old) (F.read_faults folder.new) }
     ensures write_cause { WriteCause result (S.faults out.old) (S.faults out.new) }
     ensures files { F.files folder.new ≡ F.files folder.old }
 {
-    match folder.read(alloc, name) {
-        ReadAnswer::Read(text) => run_bytes(alloc, name, text.bytes(), out),
-        ReadAnswer::Absent => refuse(alloc, name, Code::F1, 0),
-        ReadAnswer::TooLarge => refuse(alloc, name, Code::F2, 0),
+    match folder.read(alloc, command.file()) {
+        ReadAnswer::Read(text) => with_bytes(alloc, command, text.bytes(), out),
+        ReadAnswer::Absent => refuse(alloc, command.file(), Code::F1, 0),
+        ReadAnswer::TooLarge => refuse(alloc, command.file(), Code::F2, 0),
         ReadAnswer::Failed => Status::ReadFault,
         ReadAnswer::NoMemory => Status::NoMemory,
     }
@@ -110,33 +236,37 @@ pub fn bare<F: Folder, S: Sink>(alloc: Global, name: &[u8], folder: &mut F, out:
 
 // What the words ask for.
 fn answer<F: Folder, S: Sink>(alloc: Global, words: &[Text], folder: &mut F, out: &mut S) -> Status
-    ensures says { TopSays (bare_file words.now) result (F.files folder.old) (S.written out.old) (S.written out.new) }
+    ensures says { TopSays (command_of words.now) result (F.files folder.old) (S.written out.old) (S.written out.new) }
     ensures files { F.files folder.new ≡ F.files folder.old }
     ensures read_cause { ReadCause result (F.read_faults folder.old) (F.read_faults folder.new) }
     ensures write_cause { WriteCause result (S.faults out.old) (S.faults out.new) }
-    ensures usage { (result ≡ Status.Usage) ↔ (bare_file words.now ≡ None) }
-    ensures folder_untouched { bare_file words.now ≡ None → folder.new ≡ folder.old }
-    ensures sink_untouched { bare_file words.now ≡ None → out.new ≡ out.old }
+    ensures usage { (result ≡ Status.Usage) ↔ (command_of words.now ≡ None) }
+    ensures folder_untouched { command_of words.now ≡ None → folder.new ≡ folder.old }
+    ensures sink_untouched { command_of words.now ≡ None → out.new ≡ out.old }
 {
-    match bare_file(words) {
-        Some(name) => bare(alloc, name, folder, out),
+    match command_of(words) {
+        Some(command) => perform(alloc, &command, folder, out),
         None => Status::Usage,
     }
 }
 
 /// The simulator: does what the words of the command line ask for, and answers how that ended.
 ///
-/// `words` leaves out the name of the program. The one command is `bare FILE`: it reads the file as a bare image, runs
-/// it for at most 100,000 steps, and writes a trace line for each and the end line.
-#[tactic(auto, using(crate::proofs::TopLaws::calls))]
+/// `words` leaves out the name of the program. `audit FILE` reads the file as a bare image, audits it, and writes the
+/// audit text. `bare FILE` does so too; where the audit passes, or `--unaudited` is given, it then runs the image for at
+/// most the steps that `--steps` gives, 100,000 by default, and writes a trace line for each and the end line.
+#[tactic(auto, using(crate::proofs::Calls::calls))]
 pub fn m36<F: Folder, S: Sink>(alloc: Global, words: &[Text], folder: &mut F, out: &mut S) -> Status
     // What is answered and written, by what the folder gives for the file, told or not.
-    ensures says { TopSays (bare_file words.now) result (F.files folder.old) (S.written out.old) (S.written out.new) }
+    ensures says { TopSays (command_of words.now) result (F.files folder.old) (S.written out.old) (S.written out.new) }
 
     // What is answered and written, by the files that the folder tells.
-    ensures output { IfSome (F.files folder.old) (λ f. MeetsFiles result (answer_of words.now f) (S.written out.old) (S.written out.new)) }
-    ensures complete { IfSome (F.files folder.old) (λ f. AnswersDone result (answer_of words.now f)
+    ensures output { IfSome (F.files folder.old) (λ f. SaysFiles (IsDue words.now f) result (S.written out.old) (S.written out.new)) }
+    ensures complete { IfSome (F.files folder.old) (λ f. Completes result (IsDue words.now f)
         (Rose (F.read_faults folder.old) (F.read_faults folder.new)) (Rose (S.faults out.old) (S.faults out.new))) }
+
+    // Where `audit yes` is written, the tables of the image isolate each ring.
+    ensures isolated { IfSome (F.files folder.old) (λ f. YesIsolates (command_of words.now) f (S.written out.old) (S.written out.new)) }
 
     // No file is written, and a fault has a cause outside.
     ensures files { F.files folder.new ≡ F.files folder.old }
@@ -144,9 +274,9 @@ pub fn m36<F: Folder, S: Sink>(alloc: Global, words: &[Text], folder: &mut F, ou
     ensures write_cause { WriteCause result (S.faults out.old) (S.faults out.new) }
 
     // Where the words are no command, nothing is touched.
-    ensures usage { (result ≡ Status.Usage) ↔ (bare_file words.now ≡ None) }
-    ensures folder_untouched { bare_file words.now ≡ None → folder.new ≡ folder.old }
-    ensures sink_untouched { bare_file words.now ≡ None → out.new ≡ out.old }
+    ensures usage { (result ≡ Status.Usage) ↔ (command_of words.now ≡ None) }
+    ensures folder_untouched { command_of words.now ≡ None → folder.new ≡ folder.old }
+    ensures sink_untouched { command_of words.now ≡ None → out.new ≡ out.old }
 {
     answer(alloc, words, folder, out)
 }

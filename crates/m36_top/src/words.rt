@@ -1,51 +1,230 @@
 //! The words of the command line.
 
-ghost use Rattle.std.specs.Prelude.{ℕ, ◌≡◌};
-ghost use Rattle.std.specs.Option.{option_copied};
-ghost use Rattle.std.specs.List.{list_all};
-ghost use Rattle.m36_top.specs.Words.{is_name_character, is_file_name, bare_file};
+ghost use Rattle.std.specs.Prelude.{ℕ, ◌≡◌, ◌≤◌, true, length, drop, IfSome};
+ghost use Rattle.m36_top.specs.Words.{steps_of, with_operand, with_steps, with_unaudited, expecting, is_steps_with_value, with_any, with_word, ended_by, with_words, nothing, bare, has_no_option, audit, commands, command_in, command_of};
 
+use crate::command::{BareRun, Command};
+use crate::names::operand_of;
 use m36_outside::Text;
+use m36_text::{Name, read_decimal};
 
-/// The most characters of a file's name.
-const LONGEST_NAME: usize = 32;
+/// The most digits of a number of steps.
+const MOST_DIGITS: usize = 8;
 
-/// The characters of a file's name: letters, digits, `_` and `.`.
-pub fn is_name_character(c: u8) -> bool
-    ensures { result ≡ is_name_character c }
-{
-    matches!(c, b'A'..=b'Z' | b'a'..=b'z' | b'0'..=b'9' | b'_' | b'.')
+/// The most steps that can be asked for.
+const MOST_STEPS: u64 = 10000000;
+
+/// The most steps of a run where no number is given.
+const DEFAULT_STEPS: u32 = 100000;
+
+/// What the next word is read as.
+#[derive(Clone, Copy)]
+pub enum Expects {
+    /// An option or an operand.
+    Any,
+    /// The value of `--steps`.
+    Steps,
+    /// An operand, behind `--`.
+    Operand,
 }
 
-fn has_name_characters(name: &[u8]) -> bool
-    ensures { result ≡ list_all is_name_character name.now }
-{
-    name.iter().all(|c| is_name_character(*c))
+/// What the words behind the command word give.
+#[derive(Drop)]
+pub struct Given {
+    /// The operand.
+    pub operand: Option<Name>,
+    /// The value of `--steps`.
+    pub steps: Option<u32>,
+    pub expects: Expects,
+    /// Whether `--unaudited` stands.
+    pub unaudited: bool,
 }
 
-/// Whether a text names a file: 1 to 32 characters, of which the first is no point.
-pub fn is_file_name(name: &[u8]) -> bool
-    ensures { result ≡ is_file_name name.now }
+/// The value of `--steps`; none where it is not of its form.
+#[tactic(auto, unfolding(crate::specs::Words::steps_of))]
+pub fn steps_of(text: &[u8]) -> Option<u32>
+    ensures value { result ≡ steps_of text.now }
+    ensures most { IfSome result (λ n. n ≤ 10000000) }
 {
-    if name.is_empty() || name.len() > LONGEST_NAME {
-        return false;
+    if text.len() > MOST_DIGITS {
+        return None;
     }
-    if name[0] == b'.' {
-        return false;
+    match read_decimal(text, MOST_STEPS) {
+        Ok(steps) => Some(steps as u32),
+        Err(_) => None,
     }
-    has_name_characters(name)
 }
 
-/// The file that the words `bare FILE` name; none where the words are any others.
-pub fn bare_file(words: &[Text]) -> Option<&[u8]>
-    ensures { option_copied result ≡ bare_file words.now }
+fn nothing() -> Given
+    ensures { result ≡ nothing }
 {
-    let [command, file] = words else {
+    Given {
+        operand: None,
+        steps: None,
+        expects: Expects::Any,
+        unaudited: false,
+    }
+}
+
+// Each of these answers None where the word makes the list no command.
+
+fn with_operand(mut given: Given, word: &[u8]) -> Option<Given>
+    ensures { result ≡ with_operand given word.now }
+{
+    match given.operand {
+        Some(_) => None,
+        None => {
+            given.operand = Some(operand_of(word)?);
+            Some(given)
+        }
+    }
+}
+
+fn with_steps(mut given: Given, text: &[u8]) -> Option<Given>
+    ensures { result ≡ with_steps given text.now }
+{
+    match given.steps {
+        Some(_) => None,
+        None => {
+            given.steps = Some(steps_of(text)?);
+            Some(given)
+        }
+    }
+}
+
+fn with_unaudited(mut given: Given) -> Option<Given>
+    ensures { result ≡ with_unaudited given }
+{
+    if given.unaudited {
+        return None;
+    }
+    given.unaudited = true;
+    Some(given)
+}
+
+fn expecting(mut given: Given, expects: Expects) -> Given
+    ensures { result ≡ expecting given expects }
+{
+    given.expects = expects;
+    given
+}
+
+fn is_steps_with_value(word: &[u8]) -> bool
+    ensures value { result ≡ is_steps_with_value word.now }
+    ensures long { result ≡ true → 8 ≤ length word.now }
+{
+    word.len() >= 8 && &word[..8] == b"--steps=".as_slice()
+}
+
+// What stands behind `--steps=`.
+#[tactic(auto, using(crate::proofs::Splitting::rest_whole))]
+fn value_of_steps(word: &[u8]) -> &[u8]
+    requires { 8 ≤ length word.now }
+    ensures { result.now ≡ drop 8 word.now }
+{
+    &word[8..]
+}
+
+// An option by its word, or an operand.
+fn with_any(given: Given, word: &[u8]) -> Option<Given>
+    ensures { result ≡ with_any given word.now }
+{
+    if word == b"--".as_slice() {
+        return Some(expecting(given, Expects::Operand));
+    }
+    if word == b"--steps".as_slice() {
+        return Some(expecting(given, Expects::Steps));
+    }
+    if word == b"--unaudited".as_slice() {
+        return with_unaudited(given);
+    }
+    if is_steps_with_value(word) {
+        return with_steps(given, value_of_steps(word));
+    }
+    with_operand(given, word)
+}
+
+#[tactic(auto, unfolding(crate::specs::Words::with_word))]
+fn with_word(given: Given, word: &[u8]) -> Option<Given>
+    ensures { result ≡ with_word given word.now }
+{
+    match given.expects {
+        Expects::Any => with_any(given, word),
+        Expects::Steps => with_steps(expecting(given, Expects::Any), word),
+        Expects::Operand => with_operand(given, word),
+    }
+}
+
+fn ended(given: Given) -> Option<Given>
+    ensures { result ≡ ended_by given.expects given }
+{
+    match given.expects {
+        Expects::Any | Expects::Operand => Some(given),
+        Expects::Steps => None,
+    }
+}
+
+// What all words behind the command word give.
+#[tactic(auto, using(crate::proofs::WordLaws::words_in_turn))]
+fn read_given(words: &[Text]) -> Option<Given>
+    ensures { result ≡ with_words nothing words.now }
+{
+    let mut given = nothing();
+    for word in words {
+        given = with_word(given, word.bytes())?;
+    }
+    ended(given)
+}
+
+// `bare FILE`
+fn bare(given: Given) -> Option<Command>
+    ensures { result ≡ bare given }
+{
+    Some(Command::Bare(BareRun {
+        file: given.operand?,
+        steps: given.steps.unwrap_or(DEFAULT_STEPS),
+        unaudited: given.unaudited,
+    }))
+}
+
+fn has_no_option(given: &Given) -> bool
+    ensures { result ≡ has_no_option given.now }
+{
+    given.steps.is_none() && !given.unaudited
+}
+
+// `audit FILE`
+fn audit(given: Given) -> Option<Command>
+    ensures { result ≡ audit given }
+{
+    if has_no_option(&given) {
+        Some(Command::Audit(given.operand?))
+    } else {
+        None
+    }
+}
+
+// The command of a word.
+fn command_in(word: &[u8], given: Given) -> Option<Command>
+    ensures { result ≡ command_in commands word.now given }
+{
+    if word == b"bare".as_slice() {
+        return bare(given);
+    }
+    if word == b"audit".as_slice() {
+        return audit(given);
+    }
+    None
+}
+
+/// What the words ask for; None exactly where they are no command.
+#[tactic(auto, unfolding(crate::specs::Words::command_of))]
+pub fn command_of(words: &[Text]) -> Option<Command>
+    ensures { result ≡ command_of words.now }
+{
+    let [word, rest @ ..] = words else {
         return None;
     };
-    let name = file.bytes();
-    if command.bytes() != b"bare".as_slice() {
-        return None;
-    }
-    if is_file_name(name) { Some(name) } else { None }
+    let given = read_given(rest)?;
+    command_in(word.bytes(), given)
 }
