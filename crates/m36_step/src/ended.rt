@@ -7,11 +7,9 @@ ghost use Rattle.m36_model.specs.Step.{outcome_of, outcome_by};
 use m36_model::{Fault, Final, Halt, Outcome, Regs};
 use m36_word::Word;
 
-/// The end of a step: what its record says, but for the references.
+/// The end of a step: what its record says, but for the references and the registers.
 #[derive(Clone, Copy)]
 pub(crate) struct Ended {
-    /// The registers after the step.
-    pub(crate) after: Regs,
     /// The instruction's word; None where its fetch was refused.
     pub(crate) word: Option<Word>,
     /// The end of the address chain; None where none was formed or it did not end.
@@ -39,12 +37,11 @@ fn outcome_of(halt: Halt) -> Outcome
     }
 }
 
-/// A step that is refused: the registers stay.
-pub(crate) fn halted(regs: &Regs, word: Option<Word>, at: Option<Final>, halt: Halt) -> Ended
-    ensures { result ≡ record { after = regs.now; word = word; at = at; outcome = outcome_of halt } }
+/// A step that is refused.
+pub(crate) fn halted(word: Option<Word>, at: Option<Final>, halt: Halt) -> Ended
+    ensures { result ≡ record { word = word; at = at; outcome = outcome_of halt } }
 {
     Ended {
-        after: *regs,
         word,
         at,
         outcome: outcome_of(halt),

@@ -50,10 +50,9 @@ fn turn(walk: &mut Walk, regs: &mut Regs) -> StepRecord
     let mut refs = no_references();
     let ppr = regs.ppr;
     let ended = execute(walk, regs, &mut refs);
-    *regs = ended.after;
     StepRecord {
         refs,
-        after: ended.after,
+        after: *regs,
         word: ended.word,
         at: ended.at,
         outcome: ended.outcome,
