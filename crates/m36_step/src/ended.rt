@@ -2,9 +2,10 @@
 
 ghost use Rattle.std.specs.Prelude.{◌≡◌, ◌&&◌, not};
 ghost use Rattle.m36_model.specs.Modification.{here};
+ghost use Rattle.m36_model.specs.Registers.{RegsFields};
 ghost use Rattle.m36_model.specs.Step.{outcome_of, outcome_by};
 
-use m36_model::{Fault, Final, Halt, Outcome, Regs};
+use m36_model::{At, Fault, Final, Halt, Outcome, Regs};
 use m36_word::Word;
 
 /// The end of a step: what its record says, but for the references and the registers.
@@ -48,12 +49,16 @@ pub(crate) fn halted(word: Option<Word>, at: Option<Final>, halt: Halt) -> Ended
     }
 }
 
-/// The outcome of a step that has its effect: an overflow is a fault where the overflow mask is off.
-pub(crate) fn outcome_by(regs: &Regs, after: &Regs, overflow: bool) -> Outcome
-    ensures { result ≡ outcome_by (overflow && not after.now.ind.mask) regs.now }
+/// The outcome of a step that has its effect: an overflow is a fault, at the instruction, where the overflow mask is off.
+pub(crate) fn outcome_by(place: At, mask: bool, overflow: bool) -> Outcome
+    ensures { (g : RegsFields) → place ≡ here g → result ≡ outcome_by (overflow && not mask) g }
 {
-    if overflow && !after.ind.mask {
-        Outcome::Faulted(fault_here(regs, 13))
+    if overflow && !mask {
+        Outcome::Faulted(Fault {
+            at: place,
+            number: 13,
+            acv: 0,
+        })
     } else {
         Outcome::Next
     }

@@ -8,6 +8,8 @@ ghost use Rattle.m36_inst.specs.declared.operand.Operand.TheVariants.{N};
 ghost use Rattle.m36_ea.specs.Formed.{TallyLies};
 ghost use Rattle.m36_inst.specs.Operands.{operand_of, is_privileged};
 ghost use Rattle.m36_model.specs.Chain.{chain_end_fields};
+ghost use Rattle.m36_model.specs.Modification.{here};
+ghost use Rattle.m36_model.specs.Registers.{RegsFields};
 ghost use Rattle.m36_model.specs.Step.{program, decoded, decode, admitted, started, no_address, addressed, operated, halted, outcome_by};
 ghost use Rattle.m36_step.specs.Ended.{EndsSo, EndsFormed};
 
@@ -16,29 +18,33 @@ use crate::operate::operate;
 use crate::writes::write_words;
 use m36_ea::effective;
 use m36_inst::{Effect, Inst, Operand, Row, row};
-use m36_model::{Effect36, Final, Formed, Halt, Kind, Reference, Refs, Regs, Stop};
+use m36_model::{At, Final, Formed, Halt, Kind, Reference, Refs, Regs, Stop};
 use m36_walk::Walk;
 use m36_word::Word;
 
-/// The end of a step that has its effect. LDBR has changed the descriptor segment base register, and the walk goes on by
-/// it.
-fn completed(walk: &mut Walk, regs: &mut Regs, word: Word, last: Final, effect: &Effect36) -> Ended
-    requires dbr { walk.old.dbr ≡ regs.old.dbr }
-    ensures end { result ≡ record { word = Some word; at = Some last; outcome = outcome_by (effect.now.overflow && not effect.now.regs.ind.mask) regs.old } }
-    ensures after { regs.new ≡ effect.now.regs }
+/// The end of a step whose effect the registers have taken; `place` is where its instruction stands. LDBR has changed the
+/// descriptor segment base register, and the walk goes on by it.
+fn completed(
+    walk: &mut Walk,
+    regs: &Regs,
+    place: At,
+    word: Word,
+    last: Final,
+    overflow: bool,
+) -> Ended
+    ensures end { (g : RegsFields) → place ≡ here g → result ≡ record { word = Some word; at = Some last; outcome = outcome_by (overflow && not regs.now.ind.mask) g } }
     ensures core { walk.new.core ≡ walk.old.core }
-    ensures dbr { walk.new.dbr ≡ regs.new.dbr }
+    ensures dbr { walk.new.dbr ≡ regs.now.dbr }
 {
-    let after = &effect.regs;
-    if after.dbr != regs.dbr {
-        walk.set_dbr(after.dbr);
+    let dbr = regs.dbr;
+    if dbr != walk.dbr() {
+        walk.set_dbr(dbr);
     }
-    let outcome = outcome_by(regs, after, effect.overflow);
-    *regs = *after;
+    let ind = regs.ind;
     Ended {
         word: Some(word),
         at: Some(last),
-        outcome,
+        outcome: outcome_by(place, ind.mask, overflow),
     }
 }
 
@@ -60,11 +66,12 @@ fn operated(
     ensures dbr { walk.new.dbr ≡ regs.new.dbr }
 {
     let last = formed.last;
+    let here = regs.here();
     match operate(walk, regs, row, formed, refs) {
         Err(halt) => halted(Some(word), Some(last), halt),
         Ok(operated) => {
             write_words(walk, formed, &operated);
-            completed(walk, regs, word, last, &operated.effect)
+            completed(walk, regs, here, word, last, operated.overflow)
         }
     }
 }
