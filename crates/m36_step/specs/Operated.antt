@@ -31,7 +31,7 @@ formed_mid core f refs = standing core (claimed_by f.tally f.place) refs
 
 -- the words that the effect gives to be written
 abbrev pub words_of : Operated → List ℕ
-words_of o = words_of_held o.effect.put
+words_of o = words_of_held o.put
 
 -- where words are written: the tally word first, and then those of the operand
 abbrev pub claims_of : Formed → Operated → List Spot
@@ -41,17 +41,18 @@ claims_of f o = claimed_by f.tally f.place ++ run_from o.place (length (words_of
 abbrev pub puts_of : Formed → Operated → List Put
 puts_of f o = pending_of f.tally ++ puts_from (part_of o.part) (length (claimed_by f.tally f.place)) (words_of o)
 
-abbrev pub performed_by : Formed → Operated → Performed
-performed_by f o = record { regs = o.effect.regs; puts = puts_of f o; overflow = o.effect.overflow }
+-- with the registers as the effect leaves them
+abbrev pub performed_by : Formed → RegsFields → Operated → Performed
+performed_by f g o = record { regs = g; puts = puts_of f o; overflow = o.overflow }
 
 -- the program of an operation over core, once the address is formed
 abbrev pub operation_from : Effect → ℕ → RegsFields → Formed → List ℕ → List Reference → Ran (Result Performed Halt) (List ℕ)
 operation_from e n g f core refs = run core_store g (operate e n g (chain_end_fields f)) (formed_mid core f refs)
 
--- How an answer of the code ends it. Where it is refused, nothing more is claimed.
-abbrev pub operated_end : List ℕ → List Reference → Formed → Result Operated Halt → Ran (Result Performed Halt) (List ℕ)
-operated_end core refs f (Ok o) = record { value = Ok (performed_by f o); mid = standing core (claims_of f o) refs }
-operated_end core refs f (Err h) = record { value = Err h; mid = formed_mid core f refs }
+-- How an answer of the code ends it, with the registers as they then stand. Where it is refused, nothing more is claimed.
+abbrev pub operated_end : List ℕ → List Reference → Formed → RegsFields → Result Operated Halt → Ran (Result Performed Halt) (List ℕ)
+operated_end core refs f g (Ok o) = record { value = Ok (performed_by f g o); mid = standing core (claims_of f o) refs }
+operated_end core refs f g (Err h) = record { value = Err h; mid = formed_mid core f refs }
 
 -- the tally word lies in core
 abbrev pub TallyIn : Option Tally → ℕ → ℕ → Type 0

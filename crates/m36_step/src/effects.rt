@@ -4,17 +4,19 @@ ghost use Rattle.std.specs.Prelude.{ℕ, ◌≡◌, ◌≢◌, ◌<◌, IfOk, If
 ghost use Rattle.m36_inst.specs.Operands.{operand_of};
 ghost use Rattle.m36_inst.specs.declared.operand.Operand.TheVariants.{N};
 ghost use Rattle.m36_model.specs.Chain.{chain_end_fields};
-ghost use Rattle.m36_model.specs.Effect.{exec, answer_fields, refused_here};
+ghost use Rattle.m36_model.specs.Effect.{exec, refused_here};
 ghost use Rattle.m36_model.specs.OperandHeld.{HoldsFor};
 ghost use Rattle.m36_model.specs.Results.{operand_fields, words_of_held};
 ghost use Rattle.m36_model.specs.Step.{tallied};
 ghost use Rattle.m36_model.specs.Transfers.{is_taken};
 ghost use Rattle.m36_model.specs.WordsPut.{PutsFor};
+ghost use Rattle.m36_xdata.specs.Changes.{LeavesSo};
 ghost use Rattle.m36_xptr.specs.PointerInstructions.{is_pointer};
 ghost use Rattle.m36_xfer.specs.ControlInstructions.{is_control};
 
 use m36_inst::{Effect, Row};
-use m36_model::{Effect36, Fault, Final, Formed, Operand36, Regs};
+use m36_model::{Fault, Final, Formed, Operand36, Regs};
+use m36_xdata::Done;
 
 /// The registers with tally runout as a tally word has set it.
 fn with_runout(regs: &Regs, runout: bool) -> Regs
@@ -73,41 +75,100 @@ fn is_control(effect: Effect) -> bool
     )
 }
 
-/// The effect by the registers as they are.
-#[tactic(auto, using(crate::proofs::Groups::data_else))]
-fn execute(row: &Row, regs: &Regs, last: &Final, operand: Operand36) -> Result<Effect36, Fault>
-    requires addressed { operand_of row.now.effect ≢ N }
+/// An instruction on pointer registers, done in the registers.
+fn execute_pointer(
+    row: &Row,
+    regs: &mut Regs,
+    last: &Final,
+    operand: &Operand36,
+) -> Result<Done, Fault>
+    requires group { IsTrue (is_pointer row.now.effect) }
     requires reg { row.now.reg < 8 }
-    requires got { HoldsFor (operand_of row.now.effect) operand.got }
-    ensures value { answer_fields result ≡ refused_here regs.now (exec row.now.effect row.now.reg regs.now last.now (operand_fields operand)) }
-    ensures put { IfOk result (λ e. PutsFor (operand_of row.now.effect) (words_of_held e.put)) }
+    requires got { HoldsFor (operand_of row.now.effect) operand.now.got }
+    ensures value { LeavesSo regs.old regs.new result (refused_here regs.old (exec row.now.effect row.now.reg regs.old last.now (operand_fields operand.now))) }
+    ensures put { IfOk result (λ d. PutsFor (operand_of row.now.effect) (words_of_held d.put)) }
 {
-    if is_pointer(row.effect) {
-        return m36_xptr::exec(row, regs, last, operand);
+    match m36_xptr::exec(row, regs, last, *operand) {
+        Ok(effect) => {
+            *regs = effect.regs;
+            Ok(Done {
+                put: effect.put,
+                overflow: effect.overflow,
+            })
+        }
+        Err(fault) => Err(fault),
     }
-    if is_control(row.effect) {
-        return m36_xfer::exec(row, regs, last, operand);
-    }
-    m36_xdata::exec(row, regs, last, operand)
 }
 
-/// The effect of an instruction. Tally runout is set before it.
+/// An instruction of control, done in the registers.
+fn execute_control(
+    row: &Row,
+    regs: &mut Regs,
+    last: &Final,
+    operand: &Operand36,
+) -> Result<Done, Fault>
+    requires group { IsTrue (is_control row.now.effect) }
+    requires reg { row.now.reg < 8 }
+    requires got { HoldsFor (operand_of row.now.effect) operand.now.got }
+    ensures value { LeavesSo regs.old regs.new result (refused_here regs.old (exec row.now.effect row.now.reg regs.old last.now (operand_fields operand.now))) }
+    ensures put { IfOk result (λ d. PutsFor (operand_of row.now.effect) (words_of_held d.put)) }
+{
+    match m36_xfer::exec(row, regs, last, *operand) {
+        Ok(effect) => {
+            *regs = effect.regs;
+            Ok(Done {
+                put: effect.put,
+                overflow: effect.overflow,
+            })
+        }
+        Err(fault) => Err(fault),
+    }
+}
+
+/// An instruction, done in the registers as they are.
+#[tactic(auto, using(crate::proofs::Groups::data_else))]
+fn execute(row: &Row, regs: &mut Regs, last: &Final, operand: &Operand36) -> Result<Done, Fault>
+    requires addressed { operand_of row.now.effect ≢ N }
+    requires reg { row.now.reg < 8 }
+    requires got { HoldsFor (operand_of row.now.effect) operand.now.got }
+    ensures value { LeavesSo regs.old regs.new result (refused_here regs.old (exec row.now.effect row.now.reg regs.old last.now (operand_fields operand.now))) }
+    ensures put { IfOk result (λ d. PutsFor (operand_of row.now.effect) (words_of_held d.put)) }
+{
+    if is_pointer(row.effect) {
+        return execute_pointer(row, regs, last, operand);
+    }
+    if is_control(row.effect) {
+        return execute_control(row, regs, last, operand);
+    }
+    m36_xdata::exec_in_place(row, regs, last, operand)
+}
+
+/// An instruction, done in the registers. Tally runout is set before it, but where it is refused.
 #[tactic(auto, unfolding(m36_model::specs::Step::tallied))]
 pub(crate) fn effect(
     row: &Row,
-    regs: &Regs,
+    regs: &mut Regs,
     formed: &Formed,
-    operand: Operand36,
-) -> Result<Effect36, Fault>
+    operand: &Operand36,
+) -> Result<Done, Fault>
     requires addressed { operand_of row.now.effect ≢ N }
     requires reg { row.now.reg < 8 }
-    requires got { HoldsFor (operand_of row.now.effect) operand.got }
-    ensures value { answer_fields result ≡ refused_here regs.now (exec row.now.effect row.now.reg (tallied regs.now (chain_end_fields formed.now)) formed.now.last (operand_fields operand)) }
-    ensures put { IfOk result (λ e. PutsFor (operand_of row.now.effect) (words_of_held e.put)) }
+    requires got { HoldsFor (operand_of row.now.effect) operand.now.got }
+    ensures value { LeavesSo regs.old regs.new result (refused_here regs.old (exec row.now.effect row.now.reg (tallied regs.old (chain_end_fields formed.now)) formed.now.last (operand_fields operand.now))) }
+    ensures put { IfOk result (λ d. PutsFor (operand_of row.now.effect) (words_of_held d.put)) }
 {
     match formed.tally {
         None => execute(row, regs, &formed.last, operand),
-        Some(tally) => execute(row, &with_runout(regs, tally.runout), &formed.last, operand),
+        Some(tally) => {
+            let mut after = with_runout(regs, tally.runout);
+            match execute(row, &mut after, &formed.last, operand) {
+                Ok(done) => {
+                    *regs = after;
+                    Ok(done)
+                }
+                Err(fault) => Err(fault),
+            }
+        }
     }
 }
 

@@ -2,16 +2,15 @@
 
 ghost use Rattle.std.specs.Prelude.{◌≡◌, ◌&&◌, not};
 ghost use Rattle.m36_model.specs.Modification.{here};
+ghost use Rattle.m36_model.specs.Registers.{RegsFields};
 ghost use Rattle.m36_model.specs.Step.{outcome_of, outcome_by};
 
-use m36_model::{Fault, Final, Halt, Outcome, Regs};
+use m36_model::{At, Fault, Final, Halt, Outcome, Regs};
 use m36_word::Word;
 
-/// The end of a step: what its record says, but for the references.
+/// The end of a step: what its record says, but for the references and the registers.
 #[derive(Clone, Copy)]
 pub(crate) struct Ended {
-    /// The registers after the step.
-    pub(crate) after: Regs,
     /// The instruction's word; None where its fetch was refused.
     pub(crate) word: Option<Word>,
     /// The end of the address chain; None where none was formed or it did not end.
@@ -39,24 +38,27 @@ fn outcome_of(halt: Halt) -> Outcome
     }
 }
 
-/// A step that is refused: the registers stay.
-pub(crate) fn halted(regs: &Regs, word: Option<Word>, at: Option<Final>, halt: Halt) -> Ended
-    ensures { result ≡ record { after = regs.now; word = word; at = at; outcome = outcome_of halt } }
+/// A step that is refused.
+pub(crate) fn halted(word: Option<Word>, at: Option<Final>, halt: Halt) -> Ended
+    ensures { result ≡ record { word = word; at = at; outcome = outcome_of halt } }
 {
     Ended {
-        after: *regs,
         word,
         at,
         outcome: outcome_of(halt),
     }
 }
 
-/// The outcome of a step that has its effect: an overflow is a fault where the overflow mask is off.
-pub(crate) fn outcome_by(regs: &Regs, after: &Regs, overflow: bool) -> Outcome
-    ensures { result ≡ outcome_by (overflow && not after.now.ind.mask) regs.now }
+/// The outcome of a step that has its effect: an overflow is a fault, at the instruction, where the overflow mask is off.
+pub(crate) fn outcome_by(place: At, mask: bool, overflow: bool) -> Outcome
+    ensures { (g : RegsFields) → place ≡ here g → result ≡ outcome_by (overflow && not mask) g }
 {
-    if overflow && !after.ind.mask {
-        Outcome::Faulted(fault_here(regs, 13))
+    if overflow && !mask {
+        Outcome::Faulted(Fault {
+            at: place,
+            number: 13,
+            acv: 0,
+        })
     } else {
         Outcome::Next
     }

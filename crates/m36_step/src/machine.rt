@@ -1,6 +1,6 @@
 //! The machine.
 
-ghost use Rattle.std.specs.Prelude.{◌≡◌, ◌+◌, ◌%◌, ◌^◌};
+ghost use Rattle.std.specs.Prelude.{◌≡◌, [], ◌+◌, ◌%◌, ◌^◌};
 ghost use Rattle.std.specs.Borrow.{sem};
 ghost use Rattle.m36_model.specs.Core.{core_store};
 ghost use Rattle.m36_model.specs.Results.{moved_on};
@@ -31,6 +31,14 @@ impl Model for Machine {
     ghost invariant = { λ m. m.walk.dbr ≡ m.regs.dbr };
 }
 
+/// An empty list of references. It is filled in a call of its own, so that it is copied in one piece and not place by place.
+#[inline(never)]
+fn no_references() -> Refs
+    ensures { result.items ≡ [] }
+{
+    Refs::new()
+}
+
 /// One step of a walk and registers with the same descriptor segment base register.
 #[inline(always)]
 fn turn(walk: &mut Walk, regs: &mut Regs) -> StepRecord
@@ -39,13 +47,12 @@ fn turn(walk: &mut Walk, regs: &mut Regs) -> StepRecord
     ensures state { record { regs = regs.new; store = walk.new.core } ≡ state_after core_store (record { regs = regs.old; store = walk.old.core }) }
     ensures dbr { walk.new.dbr ≡ regs.new.dbr }
 {
-    let mut refs = Refs::new();
+    let mut refs = no_references();
     let ppr = regs.ppr;
     let ended = execute(walk, regs, &mut refs);
-    *regs = ended.after;
     StepRecord {
         refs,
-        after: ended.after,
+        after: *regs,
         word: ended.word,
         at: ended.at,
         outcome: ended.outcome,

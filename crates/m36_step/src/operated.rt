@@ -1,6 +1,6 @@
 //! An operand that is there, and what an operation on it comes to.
 
-use m36_model::{Effect36, Operand36};
+use m36_model::{Held, Operand36};
 
 /// Which part of a word is written.
 #[derive(Clone, Copy, PartialEq, Eq, Debug)]
@@ -19,12 +19,15 @@ pub(crate) struct Reached {
     pub(crate) part: Part,
 }
 
-/// An operation that nothing has refused: its effect, and where the words that it gives are to be written.
+/// An operation that nothing has refused, and whose effect the registers have taken: the words that it gives, and where they
+/// are to be written.
 #[derive(Clone, Copy)]
 pub(crate) struct Operated {
-    pub(crate) effect: Effect36,
+    pub(crate) put: Held,
     /// The place of the first word; 24 bits. Where nothing is written it is 0.
     pub(crate) place: u32,
     /// Of what is not the whole word, the effect gives a half, right-justified.
     pub(crate) part: Part,
+    /// An overflow is to be reported.
+    pub(crate) overflow: bool,
 }

@@ -77,7 +77,7 @@ fn write_operand(walk: &mut Walk, operated: &Operated)
     ensures dbr { walk.new.dbr ≡ walk.old.dbr }
     ensures len { length walk.new.core ≡ length walk.old.core }
 {
-    match &operated.effect.put {
+    match &operated.put {
         Held::Empty => {}
         Held::One(word) => write_word(walk, operated.place, operated.part, *word),
         Held::Two(pair) => walk.store_pair(operated.place, *pair),

@@ -1,81 +1,37 @@
-//! The effect of a change on registers.
+//! A change, made to the registers.
 
-ghost use Rattle.std.specs.Prelude.{◌≡◌, ◌+◌, ◌%◌, ◌^◌, Ok, IfOk};
-ghost use Rattle.m36_model.specs.Effect.{answer_fields};
-ghost use Rattle.m36_model.specs.Results.{A, Q, X, takes, with_indicators, moved_on, words_of_held};
+ghost use Rattle.std.specs.Prelude.{◌≡◌, ◌+◌, ◌%◌, ◌^◌};
+ghost use Rattle.m36_model.specs.Results.{with_indicators, moved_on, words_of_held};
 ghost use Rattle.m36_xdata.specs.Changes.{changed, stored, taken};
-ghost use Rattle.m36_xdata.specs.declared.changes.Taken.TheVariants as taken_by;
 
-use crate::changes::{Change, NewIndex, Stored, Taken};
-use m36_model::{Effect36, Fault, Held, Ind, Regs};
-use m36_word::{Pair, Word};
+use crate::changes::{Change, Done, Stored, Taken};
+use m36_model::{Held, Ind, Regs};
 
-/// The registers at the next instruction with these indicators.
-#[tactic(auto, unfolding(m36_model::specs::Results::moved_on))]
-fn with_indicators(ind: Ind, regs: &Regs) -> Regs
-    ensures { result ≡ moved_on (with_indicators ind regs.now) }
-{
-    let mut after = *regs;
-    after.ind = ind;
-    after.ppr.ic = (regs.ppr.ic + 1) % (1 << 18);
-    after
-}
-
-#[tactic(auto, unfolding(m36_model::specs::Results::moved_on, m36_model::specs::Results::with_value))]
-fn with_a(w: Word, ind: Ind, regs: &Regs) -> Regs
-    ensures { result ≡ moved_on (takes A w ind regs.now) }
-{
-    let mut after = *regs;
-    after.a = w;
-    after.ind = ind;
-    after.ppr.ic = (regs.ppr.ic + 1) % (1 << 18);
-    after
-}
-
-#[tactic(auto, unfolding(m36_model::specs::Results::moved_on, m36_model::specs::Results::with_value))]
-fn with_q(w: Word, ind: Ind, regs: &Regs) -> Regs
-    ensures { result ≡ moved_on (takes Q w ind regs.now) }
-{
-    let mut after = *regs;
-    after.q = w;
-    after.ind = ind;
-    after.ppr.ic = (regs.ppr.ic + 1) % (1 << 18);
-    after
-}
-
-#[tactic(auto, unfolding(m36_model::specs::Results::moved_on, m36_model::specs::Results::with_value))]
-fn with_aq(p: Pair, ind: Ind, regs: &Regs) -> Regs
-    ensures { result ≡ moved_on (with_indicators ind (taken (taken_by.Aq p) regs.now)) }
-{
-    let mut after = *regs;
-    after.a = p.even;
-    after.q = p.odd;
-    after.ind = ind;
-    after.ppr.ic = (regs.ppr.ic + 1) % (1 << 18);
-    after
-}
-
-#[tactic(auto, unfolding(m36_model::specs::Results::moved_on, m36_model::specs::Results::with_value))]
-fn with_x(i: NewIndex, ind: Ind, regs: &Regs) -> Regs
-    ensures { result ≡ moved_on (takes (X i.n) i.value ind regs.now) }
-{
-    let mut after = *regs;
-    after.x[i.n as usize] = i.value;
-    after.ind = ind;
-    after.ppr.ic = (regs.ppr.ic + 1) % (1 << 18);
-    after
-}
-
-fn with_taken(new: Taken, ind: Ind, regs: &Regs) -> Regs
-    ensures { result ≡ moved_on (with_indicators ind (taken new regs.now)) }
+/// Puts a new value into the registers that take one.
+#[tactic(auto, unfolding(m36_model::specs::Results::with_value))]
+fn take(new: Taken, regs: &mut Regs)
+    ensures { regs.new ≡ taken new regs.old }
 {
     match new {
-        Taken::Nothing => with_indicators(ind, regs),
-        Taken::A(w) => with_a(w, ind, regs),
-        Taken::Q(w) => with_q(w, ind, regs),
-        Taken::Aq(p) => with_aq(p, ind, regs),
-        Taken::X(i) => with_x(i, ind, regs),
+        Taken::Nothing => {}
+        Taken::A(w) => regs.a = w,
+        Taken::Q(w) => regs.q = w,
+        Taken::Aq(p) => {
+            regs.a = p.even;
+            regs.q = p.odd;
+        }
+        Taken::X(i) => regs.x[i.n as usize] = i.value,
     }
+}
+
+/// Sets the indicators, and moves on to the next instruction.
+#[tactic(auto, unfolding(m36_model::specs::Results::moved_on))]
+fn move_on(ind: Ind, regs: &mut Regs)
+    ensures { regs.new ≡ moved_on (with_indicators ind regs.old) }
+{
+    let ic = regs.ppr.ic;
+    regs.ind = ind;
+    regs.ppr.ic = (ic + 1) % (1 << 18);
 }
 
 fn held(put: Stored) -> Held
@@ -88,15 +44,17 @@ fn held(put: Stored) -> Held
     }
 }
 
-/// The answer of an effect that is not refused: the registers at the next instruction, with the change made, and the words to
-/// write.
-pub fn applied(c: &Change, regs: &Regs) -> Result<Effect36, Fault>
-    ensures value { answer_fields result ≡ Ok (changed c.now regs.now) }
-    ensures put { IfOk result (λ e. words_of_held e.put ≡ stored c.now.put) }
+/// Makes a change to the registers, which then stand at the next instruction. The answer is what is left to do.
+#[tactic(auto, unfolding(m36_model::specs::Results::moved_on, m36_model::specs::Results::with_value))]
+pub fn applied(c: &Change, regs: &mut Regs) -> Done
+    ensures value { record { regs = regs.new; put = words_of_held result.put; overflow = result.overflow } ≡ changed c.now regs.old }
+    ensures put { words_of_held result.put ≡ stored c.now.put }
+    ensures dbr { regs.new.dbr ≡ regs.old.dbr }
 {
-    Ok(Effect36 {
-        regs: with_taken(c.taken, c.ind, regs),
+    take(c.taken, regs);
+    move_on(c.ind, regs);
+    Done {
         put: held(c.put),
         overflow: c.overflow,
-    })
+    }
 }

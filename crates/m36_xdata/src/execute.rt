@@ -5,12 +5,12 @@ ghost use Rattle.m36_inst.specs.Operands.{operand_of};
 ghost use Rattle.m36_model.specs.OperandHeld.{HoldsFor};
 ghost use Rattle.m36_model.specs.Results.{operand_fields, words_of_held};
 ghost use Rattle.m36_model.specs.Effect.{exec, answer_fields, refused_here};
-ghost use Rattle.m36_xdata.specs.Changes.{Gives, stored};
+ghost use Rattle.m36_xdata.specs.Changes.{Gives, LeavesSo, stored};
 ghost use Rattle.m36_xdata.specs.DataInstructions.{is_data, is_never_refused};
 ghost use Rattle.m36_model.specs.WordsPut.{PutsFor};
 
 use crate::apply::applied;
-use crate::changes::Change;
+use crate::changes::{Change, Done};
 use crate::compares::{compare, compare_masked, test_and, test_and_clear, test_and_not, test_word};
 use crate::loads::{
     load, load_address_to_a, load_address_to_index, load_address_to_q, load_and_clear,
@@ -146,13 +146,44 @@ fn changed_by(row: &Row, regs: &Regs, f: &Final, given: &Operand36) -> Change
     }
 }
 
+/// A data instruction, done in the registers, by the final address and the operand. The words of the operand are those that the
+/// instruction reads. The answer is what is left to do: the words to write, and whether overflow is to be reported.
+///
+/// # Errors
+///
+/// Fault 14, divide check, at the instruction: DIV is given 0, or its quotient does not fit. The registers stay.
+#[tactic(auto, unfolding(m36_model::specs::Effect::exec))]
+pub fn exec_in_place(
+    row: &Row,
+    regs: &mut Regs,
+    f: &Final,
+    operand: &Operand36,
+) -> Result<Done, Fault>
+    requires data { IsTrue (is_data row.now.effect) }
+    requires reg { row.now.reg < 8 }
+    requires got { HoldsFor (operand_of row.now.effect) operand.now.got }
+    ensures value { LeavesSo regs.old regs.new result (refused_here regs.old (exec row.now.effect row.now.reg regs.old f.now (operand_fields operand.now))) }
+    ensures put { IfOk result (λ d. PutsFor (operand_of row.now.effect) (words_of_held d.put)) }
+    ensures dbr { regs.new.dbr ≡ regs.old.dbr }
+{
+    match row.effect {
+        Effect::Div => match divide(operand, regs) {
+            Ok(quotient) => Ok(applied(&quotient, regs)),
+            Err(f) => Err(f),
+        },
+        _ => {
+            let whole = changed_by(row, regs, f, operand);
+            Ok(applied(&whole, regs))
+        }
+    }
+}
+
 /// The effect of a data instruction: the new registers, the words to write, and whether overflow is to be reported, by the
 /// registers, the final address and the operand. The words of the operand are those that the instruction reads.
 ///
 /// # Errors
 ///
 /// Fault 14, divide check, at the instruction: DIV is given 0, or its quotient does not fit.
-#[tactic(auto, unfolding(m36_model::specs::Effect::exec))]
 pub fn exec(row: &Row, regs: &Regs, f: &Final, operand: Operand36) -> Result<Effect36, Fault>
     requires data { IsTrue (is_data row.now.effect) }
     requires reg { row.now.reg < 8 }
@@ -160,14 +191,13 @@ pub fn exec(row: &Row, regs: &Regs, f: &Final, operand: Operand36) -> Result<Eff
     ensures value { answer_fields result ≡ refused_here regs.now (exec row.now.effect row.now.reg regs.now f.now (operand_fields operand)) }
     ensures put { IfOk result (λ e. PutsFor (operand_of row.now.effect) (words_of_held e.put)) }
 {
-    match row.effect {
-        Effect::Div => match divide(&operand, regs) {
-            Ok(quotient) => applied(&quotient, regs),
-            Err(f) => Err(f),
-        },
-        _ => {
-            let whole = changed_by(row, regs, f, &operand);
-            applied(&whole, regs)
-        }
+    let mut after = *regs;
+    match exec_in_place(row, &mut after, f, &operand) {
+        Ok(done) => Ok(Effect36 {
+            regs: after,
+            put: done.put,
+            overflow: done.overflow,
+        }),
+        Err(f) => Err(f),
     }
 }

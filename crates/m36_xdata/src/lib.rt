@@ -5,7 +5,7 @@
 
 mod apply;
 mod bits;
-mod changes;
+pub mod changes;
 mod compares;
 mod conditions;
 mod execute;
@@ -22,4 +22,5 @@ mod sums;
 #[cfg(test)]
 mod tests;
 
-pub use execute::exec;
+pub use changes::Done;
+pub use execute::{exec, exec_in_place};
