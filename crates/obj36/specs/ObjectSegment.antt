@@ -68,17 +68,6 @@ unfoldable pub all_link_names : List LinkFields → List (List ℕ)
 all_link_names [] = []
 all_link_names (l ∷ ls) = link_names l ++ all_link_names ls
 
--- each name once, in order of first use
-unfoldable pub names_of : PartsFields → List (List ℕ)
-names_of p = with_names [] (definition_names p.definitions ++ all_link_names p.links)
-
--- where expressions and names begin
-unfoldable pub expressions_at : PartsFields → ℕ
-expressions_at p = 2 + 2 * length p.definitions
-
-unfoldable pub names_at : PartsFields → ℕ
-names_at p = expressions_at p + 2 * length p.links
-
 unfoldable pub class_of : DefFields → ℕ
 class_of d = class_number d.section + (if d.is_entry then 8 else 0)
 
@@ -99,29 +88,36 @@ unfoldable pub expression_words : List (List ℕ) → ℕ → List LinkFields �
 expression_words names base [] = []
 expression_words names base (l ∷ ls) = joined l.kind (subject_of names base l) ∷ joined (entry_place names base l) l.expr ∷ expression_words names base ls
 
+-- the section of these definitions and links: its names stand once each, in order of first use
+unfoldable pub definition_part : List Named → List LinkFields → List ℕ
+definition_part ds ls =
+    let names = with_names [] (definition_names ds ++ all_link_names ls) in
+    let expressions = 2 + 2 * length ds in
+    let base = expressions + 2 * length ls in
+    joined (place_if_any (length ds) 2) (length ds)
+    ∷ joined (place_if_any (length ls) expressions) (length ls)
+    ∷ definition_words names base ds 2
+    ++ expression_words names base ls
+    ++ all_name_words names
+
 unfoldable pub definition_section : PartsFields → List ℕ
-definition_section p =
-    joined (place_if_any (length p.definitions) 2) (length p.definitions)
-    ∷ joined (place_if_any (length p.links) (expressions_at p)) (length p.links)
-    ∷ definition_words (names_of p) (names_at p) p.definitions 2
-    ++ expression_words (names_of p) (names_at p) p.links
-    ++ all_name_words (names_of p)
+definition_section p = definition_part p.definitions p.links
 
 -- ---- the linkage section
-
--- where the first link stands
-unfoldable pub first_link : PartsFields → ℕ
-first_link p = 8 + length (inner_statics p)
 
 -- a link: 2^18 less its offset with tag 46, the place of its expression with its modifier
 unfoldable pub link_words : List LinkFields → ℕ → ℕ → List ℕ
 link_words [] at expression = []
 link_words (l ∷ ls) at expression = joined (2 ^ 18 - at) 38 ∷ joined expression l.modifier ∷ link_words ls (at + 2) (expression + 2)
 
+-- eight header words, static words, and the links, whose expressions stand from a place on
+unfoldable pub linkage_part : List ℕ → List LinkFields → ℕ → List ℕ
+linkage_part statics ls expressions =
+    0 ∷ joined (8 + length statics) (length ls) ∷ 0 ∷ 0 ∷ 0 ∷ 0 ∷ 0 ∷ 0 ∷ statics
+    ++ link_words ls (8 + length statics) expressions
+
 unfoldable pub linkage_section : PartsFields → List ℕ
-linkage_section p =
-    0 ∷ joined (first_link p) (length p.links) ∷ 0 ∷ 0 ∷ 0 ∷ 0 ∷ 0 ∷ 0 ∷ inner_statics p
-    ++ link_words p.links (first_link p) (expressions_at p)
+linkage_section p = linkage_part (inner_statics p) p.links (2 + 2 * length p.definitions)
 
 -- ---- the symbol section
 
@@ -132,8 +128,12 @@ unfoldable pub relocation_words : List RelocFields → List ℕ
 relocation_words [] = []
 relocation_words (r ∷ rs) = relocation_word r ∷ relocation_words rs
 
+-- the count of the relocations, and each
+unfoldable pub symbol_part : List RelocFields → List ℕ
+symbol_part rs = joined 0 (length rs) ∷ relocation_words rs
+
 unfoldable pub symbol_section : PartsFields → List ℕ
-symbol_section p = joined 0 (length p.relocations) ∷ relocation_words p.relocations
+symbol_section p = symbol_part p.relocations
 
 -- ---- the map and the last word
 

@@ -10,9 +10,11 @@
 pub mod definition;
 mod halves;
 pub mod link;
+mod names;
 pub mod parts;
 pub mod relocation;
 pub mod section;
+mod sections;
 
 pub use definition::{Def, Defs, Named};
 pub use link::{Link, Links};
