@@ -1,2 +1,4 @@
 pub mod NameTables
 pub mod SectionLoops
+pub mod SizeLaws
+pub mod LengthLaws

@@ -6,7 +6,7 @@ use Rattle.std.specs.List.{list_any}
 use Rattle.obj36.specs.Fields.{LinkFields}
 use Rattle.obj36.specs.declared.definition.Named.{Named}
 use Rattle.obj36.specs.Names.{same, with_name, with_names, place_of, name_length, name_word, name_words_from, name_words, all_name_words}
-use Rattle.obj36.specs.ObjectSegment.{definition_names, link_names, all_link_names, has_name, has_entry}
+use Rattle.obj36.specs.ObjectSegment.{definition_names, link_names, name_used, entry_used, all_link_names, has_name, has_entry}
 
 pub with_names-append : (names xs ys : List (List ℕ)) → with_names names (xs ++ ys) ≡ with_names (with_names names xs) ys
 unfolding with_names
@@ -125,7 +125,7 @@ few_of name entry false true = omega arith
 few_of name entry false false = omega arith
 
 few_links : (ls : List LinkFields) → length (all_link_names ls) ≤ 2 * length ls
-unfolding all_link_names link_names
+unfolding all_link_names link_names name_used entry_used
 few_links [] = omega arith
 few_links (l ∷ ls) = omega (arith, few_links ls, length-append (link_names l) (all_link_names ls), few_of l.name l.entry (has_name l.kind) (has_entry l.kind))
 

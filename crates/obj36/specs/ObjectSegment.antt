@@ -1,6 +1,6 @@
 -- Object segments: the one list of words that stands for an object's parts. Version 1 has its static words in the
 -- linkage section, version 2 in a section of their own.
-use Rattle.std.specs.Prelude.{ℕ, zero, suc, ◌≡◌, ◌+◌, ◌-◌, ◌*◌, ◌%◌, ◌^◌, Bool, true, false, ◌&&◌, ◌||◌, not, nat_eq, nat_lt, nat_le, if◌then◌else◌, List, [], ◌∷◌, ◌++◌, length, map}
+use Rattle.std.specs.Prelude.{ℕ, zero, suc, ◌≡◌, ◌+◌, ◌-◌, ◌*◌, ◌%◌, ◌^◌, Bool, true, false, ◌&&◌, ◌||◌, not, nat_eq, nat_lt, nat_le, if◌then◌else◌, List, [], ◌∷◌, ◌++◌, length, Option, Some, None}
 use Rattle.std.specs.List.{list_any, list_all, flat_map}
 use Rattle.obj36.specs.Fields.{DefFields, LinkFields, RelocFields}
 use Rattle.obj36.specs.PartsFields.{PartsFields}
@@ -57,8 +57,14 @@ place_if_any (suc count) at = at
 -- ---- the definition section
 
 -- the names that a link uses, in order
+unfoldable pub name_used : LinkFields → List (List ℕ)
+name_used l = if has_name l.kind then l.name ∷ [] else []
+
+unfoldable pub entry_used : LinkFields → List (List ℕ)
+entry_used l = if has_entry l.kind then l.entry ∷ [] else []
+
 unfoldable pub link_names : LinkFields → List (List ℕ)
-link_names l = (if has_name l.kind then l.name ∷ [] else []) ++ (if has_entry l.kind then l.entry ∷ [] else [])
+link_names l = name_used l ++ entry_used l
 
 unfoldable pub definition_names : List Named → List (List ℕ)
 definition_names [] = []
@@ -137,33 +143,34 @@ symbol_section p = symbol_part p.relocations
 
 -- ---- the map and the last word
 
--- where each section begins, and at last the map
-unfoldable pub linkage_at : PartsFields → ℕ
-linkage_at p = length p.text + length (definition_section p)
-
-unfoldable pub statics_at : PartsFields → ℕ
-statics_at p = linkage_at p + length (linkage_section p)
-
-unfoldable pub symbol_at : PartsFields → ℕ
-symbol_at p = statics_at p + length (outer_statics p)
-
-unfoldable pub map_at : PartsFields → ℕ
-map_at p = symbol_at p + length (symbol_section p)
+-- The map of sections of these lengths that follow one another: the version, the offset and length of each section, and
+-- the entry bound; behind it the last word, with the offset of the map.
+unfoldable pub map_part : Bool → ℕ → ℕ → ℕ → ℕ → ℕ → ℕ → List ℕ
+map_part newer text definition linkage statics symbol bound =
+    joined 0 (if newer then 2 else 1)
+    ∷ joined 0 text
+    ∷ joined text definition
+    ∷ joined (text + definition) linkage
+    ∷ (if newer then joined (text + definition + linkage) statics ∷ [] else [])
+    ++ joined (text + definition + linkage + statics) symbol
+    ∷ joined bound 0
+    ∷ joined (text + definition + linkage + statics + symbol) 0
+    ∷ []
 
 unfoldable pub map_words : PartsFields → List ℕ
 map_words p =
-    joined 0 (if is_newer p then 2 else 1)
-    ∷ joined 0 (length p.text)
-    ∷ joined (length p.text) (length (definition_section p))
-    ∷ joined (linkage_at p) (length (linkage_section p))
-    ∷ (if is_newer p then joined (statics_at p) (length p.statics) ∷ [] else [])
-    ++ joined (symbol_at p) (length (symbol_section p))
-    ∷ joined p.entry_bound 0
-    ∷ []
+    map_part (is_newer p) (length p.text) (length (definition_section p)) (length (linkage_section p)) (length (outer_statics p)) (length (symbol_section p)) p.entry_bound
 
 -- the one list of words of an object's parts
 unfoldable pub words_of : PartsFields → List ℕ
-words_of p = p.text ++ definition_section p ++ linkage_section p ++ outer_statics p ++ symbol_section p ++ map_words p ++ joined (map_at p) 0 ∷ []
+words_of p = p.text ++ definition_section p ++ linkage_section p ++ outer_statics p ++ symbol_section p ++ map_words p
+
+-- the words of a section
+abbrev pub section_words : PartsFields → Section → List ℕ
+section_words p Text = p.text
+section_words p Linkage = linkage_section p
+section_words p Symbol = symbol_section p
+section_words p Static = outer_statics p
 
 -- ---- for which parts a list stands
 
@@ -192,15 +199,16 @@ is_link version l =
     && nat_lt l.expr (2 ^ 18)
     && nat_lt l.modifier (2 ^ 6)
 
--- whether a relocation's place is a word of the text or a static word
-unfoldable pub is_place : PartsFields → Section → ℕ → Bool
-is_place p Text offset = nat_lt offset (length p.text)
-is_place p Linkage offset = nat_le 8 offset && nat_lt offset (8 + length (inner_statics p))
-is_place p Static offset = nat_lt offset (length (outer_statics p))
-is_place p Symbol offset = false
+-- whether a relocation's place is a word of the text or a static word, where there are so many of each
+unfoldable pub is_place : ℕ → ℕ → ℕ → Section → ℕ → Bool
+is_place text inner outer Text offset = nat_lt offset text
+is_place text inner outer Linkage offset = nat_le 8 offset && nat_lt offset (8 + inner)
+is_place text inner outer Static offset = nat_lt offset outer
+is_place text inner outer Symbol offset = false
 
-unfoldable pub is_relocation : PartsFields → RelocFields → Bool
-is_relocation p r = is_place p r.section r.offset && nat_lt r.offset (2 ^ 18) && nat_le r.part 2 && nat_le (place_number r.target) (last_place p.version)
+unfoldable pub is_relocation : ℕ → ℕ → ℕ → ℕ → RelocFields → Bool
+is_relocation text inner outer version r =
+    is_place text inner outer r.section r.offset && nat_lt r.offset (2 ^ 18) && nat_le r.part 2 && nat_le (place_number r.target) (last_place version)
 
 -- the number by which relocations are in order
 unfoldable pub order_of : RelocFields → ℕ
@@ -223,10 +231,17 @@ is_well_formed p =
     && list_all (is_definition p.version) p.definitions
     && are_distinct (definition_names p.definitions)
     && list_all (is_link p.version) p.links
-    && list_all (is_relocation p) p.relocations
+    && list_all (is_relocation (length p.text) (length (inner_statics p)) (length (outer_statics p)) p.version) p.relocations
     && are_rising 0 3 p.relocations
 
 -- The list stands for the parts.
 pub record Stands (p : PartsFields) (words : List ℕ) : Type 0 where
   pub formed : is_well_formed p ≡ true
   pub spelled : words ≡ words_of p
+
+-- ---- what is found in the parts
+
+-- the first definition of a name
+unfoldable pub definition_named : List ℕ → List Named → Option DefFields
+definition_named name [] = None
+definition_named name (d ∷ ds) = if same d.name name then Some d.def else definition_named name ds

@@ -15,6 +15,7 @@ pub mod parts;
 pub mod relocation;
 pub mod section;
 mod sections;
+mod size;
 
 pub use definition::{Def, Defs, Named};
 pub use link::{Link, Links};

@@ -50,7 +50,7 @@ fn add_definitions(names: &mut Names, definitions: &[Named]) -> Result<(), NoMem
     Ok(())
 }
 
-#[tactic(auto, unfolding(crate::specs::Names::with_names, crate::specs::ObjectSegment::link_names))]
+#[tactic(auto, unfolding(crate::specs::Names::with_names, crate::specs::ObjectSegment::link_names, crate::specs::ObjectSegment::name_used, crate::specs::ObjectSegment::entry_used))]
 fn add_link(names: &mut Names, link: &Link) -> Result<(), NoMemory>
     ensures { OnOk result (names.new ≡ with_names names.old (link_names link.now)) }
 {

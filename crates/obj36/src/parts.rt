@@ -1,8 +1,13 @@
 //! The parts of an object.
 
+ghost use Rattle.std.specs.Prelude.{ℕ, ◌≡◌, ◌+◌, ◌*◌, ◌<◌, ◌^◌, length, nat_eq, if◌then◌else◌};
+ghost use Rattle.obj36.specs.ObjectSegment.{words_of};
+ghost use Rattle.obj36.specs.Sizes.{HasShortLists};
+
 use crate::definition::Defs;
 use crate::link::Links;
 use crate::relocation::Relocs;
+use crate::size::length_of_names;
 use m36_word::Words;
 use std::marker::Model;
 
@@ -34,4 +39,30 @@ impl Model for Parts {
     ghost view = { λ p. record { text = p.text; statics = p.statics; definitions = p.definitions; links = p.links; relocations = p.relocations; entry_bound = p.entry_bound; version = p.version } };
 
     ghost invariant = { λ p. p.entry_bound < 2 ^ 18 };
+}
+
+// The words that each object has: the heads of three sections, the map and the last word.
+fn fixed_length(version: u8) -> u64
+    ensures value { result ≡ (if nat_eq version 2 then 19 else 18) }
+    ensures bound { result < 20 }
+{
+    if version == 2 { 19 } else { 18 }
+}
+
+impl Parts {
+    /// How many words the sections, the map and the last word take for these parts, whether or not a list stands for
+    /// them. Each list has fewer than 2^32 members.
+    pub fn size(&self) -> u64
+        requires { HasShortLists self.now }
+        ensures { result ≡ length (words_of self.now) }
+    {
+        let definitions = self.definitions.items();
+        let links = self.links.items();
+        let text = self.text.slice().len() as u64;
+        let statics = self.statics.slice().len() as u64;
+        let relocations = self.relocations.items().len() as u64;
+        let tables = 2 * definitions.len() as u64 + 4 * links.len() as u64;
+        let names = length_of_names(definitions, links);
+        fixed_length(self.version) + text + statics + relocations + tables + names
+    }
 }
