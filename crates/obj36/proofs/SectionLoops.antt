@@ -29,8 +29,8 @@ definition_more names base ds i at place d out next total lt is p e so_far =
     let rest = drop (i + 1) ds in
     let left : length ds - i - 1 ≡ length rest = omega (arith, length-drop (i + 1) ds) in
     let spelled : definition_words names base (drop i ds) at ≡ joined place (class_of d.def) ∷ joined d.def.value (place_of d.name names base) ∷ definition_words names base rest (at + 2) =
-        at_drop_more (λ (xs : List Named). definition_words names base xs at) ds i d lt ∙ ap (λ (x : Named). definition_words names base (x ∷ rest) at) (sym is) ∙ definition_step names base d rest at
-        ∙ ap (λ n. joined n (class_of d.def) ∷ joined d.def.value (place_of d.name names base) ∷ definition_words names base rest (at + 2)) (ap (λ n. place_if_any n (at + 2)) (sym left) ∙ sym p)
+    at_drop_more (λ (xs : List Named). definition_words names base xs at) ds i d lt ∙ ap (λ (x : Named). definition_words names base (x ∷ rest) at) (sym is) ∙ definition_step names base d rest at
+    ∙ ap (λ n. joined n (class_of d.def) ∷ joined d.def.value (place_of d.name names base) ∷ definition_words names base rest (at + 2)) (ap (λ n. place_if_any n (at + 2)) (sym left) ∙ sym p)
     in
     two_more out next total (definition_words names base rest (at + 2)) (joined place (class_of d.def)) (joined d.def.value (place_of d.name names base)) e
     (ap (λ (ws : List ℕ). out ++ ws) (sym spelled) ∙ so_far)
@@ -52,7 +52,7 @@ pub expression_more : (names : List (List ℕ)) (base : ℕ) (ls : List LinkFiel
 expression_more names base ls i l out next total lt is e so_far =
     let rest = drop (i + 1) ls in
     let spelled : expression_words names base (drop i ls) ≡ joined l.kind (subject_of names base l) ∷ joined (entry_place names base l) l.expr ∷ expression_words names base rest =
-        at_drop_more (λ (xs : List LinkFields). expression_words names base xs) ls i l lt ∙ ap (λ (x : LinkFields). expression_words names base (x ∷ rest)) (sym is) ∙ expression_step names base l rest
+    at_drop_more (λ (xs : List LinkFields). expression_words names base xs) ls i l lt ∙ ap (λ (x : LinkFields). expression_words names base (x ∷ rest)) (sym is) ∙ expression_step names base l rest
     in
     two_more out next total (expression_words names base rest) (joined l.kind (subject_of names base l)) (joined (entry_place names base l) l.expr) e
     (ap (λ (ws : List ℕ). out ++ ws) (sym spelled) ∙ so_far)
@@ -73,7 +73,7 @@ pub link_more : (ls : List LinkFields) (i at expression : ℕ) (l : LinkFields) 
 link_more ls i at expression l out next total lt is e so_far =
     let rest = drop (i + 1) ls in
     let spelled : link_words (drop i ls) at expression ≡ joined (2 ^ 18 - at) 38 ∷ joined expression l.modifier ∷ link_words rest (at + 2) (expression + 2) =
-        at_drop_more (λ (xs : List LinkFields). link_words xs at expression) ls i l lt ∙ ap (λ (x : LinkFields). link_words (x ∷ rest) at expression) (sym is) ∙ link_step l rest at expression
+    at_drop_more (λ (xs : List LinkFields). link_words xs at expression) ls i l lt ∙ ap (λ (x : LinkFields). link_words (x ∷ rest) at expression) (sym is) ∙ link_step l rest at expression
     in
     two_more out next total (link_words rest (at + 2) (expression + 2)) (joined (2 ^ 18 - at) 38) (joined expression l.modifier) e
     (ap (λ (ws : List ℕ). out ++ ws) (sym spelled) ∙ so_far)
@@ -93,7 +93,7 @@ pub relocation_more : (rs : List RelocFields) (i : ℕ) (r : RelocFields) (out n
 relocation_more rs i r out next total lt is e so_far =
     let rest = drop (i + 1) rs in
     let spelled : relocation_words (drop i rs) ≡ relocation_word r ∷ relocation_words rest =
-        at_drop_more (λ (xs : List RelocFields). relocation_words xs) rs i r lt ∙ ap (λ (x : RelocFields). relocation_words (x ∷ rest)) (sym is) ∙ relocation_step r rest
+    at_drop_more (λ (xs : List RelocFields). relocation_words xs) rs i r lt ∙ ap (λ (x : RelocFields). relocation_words (x ∷ rest)) (sym is) ∙ relocation_step r rest
     in
     one_more out next total (relocation_words rest) (relocation_word r) e (ap (λ (ws : List ℕ). out ++ ws) (sym spelled) ∙ so_far)
 

@@ -155,7 +155,7 @@ pub defined_more : (ds : List Named) (i total n : ℕ) (d : Named) (b : Bool) �
 unfolding definition_names
 defined_more ds i total n d b lt is e f so_far =
     let spelled : definition_names (take (i + 1) ds) ≡ definition_names (take i ds) ++ d.name ∷ [] =
-        ap definition_names (take_more ds i d lt ∙ ap (λ (x : Named). take i ds ++ x ∷ []) (sym is)) ∙ definition_names-append (take i ds) (d ∷ [])
+    ap definition_names (take_more ds i d lt ∙ ap (λ (x : Named). take i ds ++ x ∷ []) (sym is)) ∙ definition_names-append (take i ds) (d ∷ [])
     in
     ap (λ m. m + n) so_far ∙ sym (names_length_more (definition_names (take i ds)) d.name b n e f) ∙ ap names_length (sym spelled)
 
@@ -168,10 +168,10 @@ unfolding all_link_names link_names
 linked_more front ls i total m n l lt is e f so_far =
     let before = all_link_names (take i ls) in
     let spelled : all_link_names (take (i + 1) ls) ≡ before ++ (name_used l ++ entry_used l) =
-        ap all_link_names (take_more ls i l lt ∙ ap (λ (x : LinkFields). take i ls ++ x ∷ []) (sym is)) ∙ all_link_names-append (take i ls) (l ∷ []) ∙ ap (λ (ns : List (List ℕ)). before ++ ns) (append-nil (name_used l ++ entry_used l))
+    ap all_link_names (take_more ls i l lt ∙ ap (λ (x : LinkFields). take i ls ++ x ∷ []) (sym is)) ∙ all_link_names-append (take i ls) (l ∷ []) ∙ ap (λ (ns : List (List ℕ)). before ++ ns) (append-nil (name_used l ++ entry_used l))
     in
     let grouped : front ++ all_link_names (take (i + 1) ls) ≡ ((front ++ before) ++ name_used l) ++ entry_used l =
-        ap (λ (ns : List (List ℕ)). front ++ ns) spelled ∙ sym (append_assoc front before (name_used l ++ entry_used l)) ∙ sym (append_assoc (front ++ before) (name_used l) (entry_used l))
+    ap (λ (ns : List (List ℕ)). front ++ ns) spelled ∙ sym (append_assoc front before (name_used l ++ entry_used l)) ∙ sym (append_assoc (front ++ before) (name_used l) (entry_used l))
     in
     let sum : names_length (front ++ all_link_names (take (i + 1) ls)) ≡ total + m + n = ap names_length grouped ∙ omega (arith, e, f) in
     sym sum

@@ -4,3 +4,4 @@ pub mod Halves
 pub mod Names
 pub mod ObjectSegment
 pub mod Sizes
+pub mod Lengths

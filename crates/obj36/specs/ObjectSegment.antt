@@ -245,3 +245,10 @@ pub record Stands (p : PartsFields) (words : List ℕ) : Type 0 where
 unfoldable pub definition_named : List ℕ → List Named → Option DefFields
 definition_named name [] = None
 definition_named name (d ∷ ds) = if same d.name name then Some d.def else definition_named name ds
+
+-- An object keeps parts for which a list stands, with the sections that are made of them.
+pub record IsObject (p : PartsFields) (d k s : List ℕ) : Type 0 where
+  pub formed : is_well_formed p ≡ true
+  pub definition : d ≡ definition_section p
+  pub linkage : k ≡ linkage_section p
+  pub symbol : s ≡ symbol_section p

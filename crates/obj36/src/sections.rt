@@ -143,12 +143,7 @@ fn entry(names: &[Name], base: u64, link: &Link) -> u64
     }
 }
 
-fn push_expression(
-    out: &mut Words,
-    names: &[Name],
-    base: u64,
-    link: &Link,
-) -> Result<(), NoMemory>
+fn push_expression(out: &mut Words, names: &[Name], base: u64, link: &Link) -> Result<(), NoMemory>
     requires base { base ≤ 2 ^ 40 }
     requires few { length names.now ≤ 2 ^ 40 }
     ensures { OnOk result (out.new ≡ out.old ++ joined link.now.kind (subject_of names.now base link.now) ∷ joined (entry_place names.now base link.now) link.now.expr ∷ []) }
@@ -208,12 +203,7 @@ pub(crate) fn definition_words_of(
 
 // ---- the linkage section
 
-fn push_links(
-    out: &mut Words,
-    links: &[Link],
-    first: u64,
-    expressions: u64,
-) -> Result<(), NoMemory>
+fn push_links(out: &mut Words, links: &[Link], first: u64, expressions: u64) -> Result<(), NoMemory>
     requires first { first ≤ 2 ^ 40 }
     requires expressions { expressions ≤ 2 ^ 40 }
     requires short { length links.now < 2 ^ 32 }

@@ -12,9 +12,9 @@ loop-link-preserved c = record {
       (c.args.out.now ++ link_words c.args.links.now c.args.first c.args.expressions) c.loop-link-test.true c.link-item.is
       (c.in_ok-push_pair.ensures
       ∙ ap (λ (w : ℕ × ℕ). c.loop-link.out ++ w.0 ∷ w.1 ∷ []) (λ i. (
-          (c.word_of.ensures ∙ ap (λ n. joined n 38) c.saturating_sub-offset.ensures) i,
-          (c.word_of-in-loop-link.ensures ∙ ap (λ (x : LinkFields). joined c.loop-link.expression x.modifier) c.link.view_is) i
-        )))
+        (c.word_of.ensures ∙ ap (λ n. joined n 38) c.saturating_sub-offset.ensures) i,
+        (c.word_of-in-loop-link.ensures ∙ ap (λ (x : LinkFields). joined c.loop-link.expression x.modifier) c.link.view_is) i,
+      )))
       c.loop-link.invariant.rest;
   place = omega arith;
   behind = omega arith;
