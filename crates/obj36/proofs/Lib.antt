@@ -3,3 +3,4 @@ pub mod SectionLoops
 pub mod SizeLaws
 pub mod Formed
 pub mod LengthLaws
+pub mod ReadingLoops

@@ -5,3 +5,4 @@ pub mod Names
 pub mod ObjectSegment
 pub mod Sizes
 pub mod Lengths
+pub mod Reading

@@ -14,6 +14,7 @@ pub mod link;
 mod names;
 pub mod object;
 pub mod parts;
+mod reading;
 pub mod relocation;
 pub mod section;
 mod sections;
