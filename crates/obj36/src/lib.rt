@@ -10,6 +10,7 @@
 mod checks;
 pub mod definition;
 mod halves;
+pub mod laws;
 pub mod link;
 mod names;
 pub mod object;
@@ -21,6 +22,7 @@ mod sections;
 mod size;
 
 pub use definition::{Def, Defs, Named};
+pub use laws::object_laws;
 pub use link::{Link, Links};
 pub use object::Object;
 pub use parts::Parts;
