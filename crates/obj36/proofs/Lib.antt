@@ -9,3 +9,4 @@ pub mod NameReading
 pub mod ReadingBack
 pub mod TableReading
 pub mod TablesStand
+pub mod FaultLoops

@@ -9,9 +9,11 @@
 
 mod checks;
 pub mod definition;
+pub mod fault;
 mod halves;
 pub mod laws;
 pub mod link;
+mod map;
 mod names;
 pub mod object;
 pub mod parts;
@@ -20,8 +22,10 @@ pub mod relocation;
 pub mod section;
 mod sections;
 mod size;
+mod tables;
 
 pub use definition::{Def, Defs, Named};
+pub use fault::ObjectFault;
 pub use laws::object_laws;
 pub use link::{Link, Links};
 pub use object::Object;
