@@ -5,7 +5,9 @@ use Rattle.std.proofs.lemmas.Bool.{cond-true, cond-false, lt-leb, le-leb, eq-eqb
 use Rattle.obj36.specs.declared.map.Extents.{Extents}
 use Rattle.obj36.specs.MapFaults.{covering, first_shared}
 use Rattle.obj36.specs.Reading.{unit_at}
-use Rattle.obj36.specs.TableFaults.{earlier, where_bad, next_definition, is_member, chain_fault, class_at, class_faults, name_place, same_units, same_name, repeats_of, repeats}
+use Rattle.obj36.specs.Names.{is_name_character}
+use Rattle.obj36.specs.TableFaults.{earlier, where_bad, next_definition, is_member, chain_fault, class_at, class_faults, name_place, same_units, same_name, repeats_of, repeats, are_characters, are_zeros, name_fault, defined_names_fault, expression_fault, linked_names_fault}
+use Rattle.obj36.specs.LinkFaults.{is_type, type_faults, is_link_at, link_faults}
 
 -- ---- shared words
 
@@ -118,3 +120,108 @@ repeats_step d count i at name next here lt n e f =
 pub repeats_end : (d : List ℕ) (count i at : ℕ) → count ≤ i → repeats d (count - i) at ≡ None
 unfolding repeats
 repeats_end d count i at le = let k : count - i ≡ 0 = omega arith in ap (λ n. repeats d n at) k
+
+-- ---- names
+
+pub character_more : (d : List ℕ) (at from i count : ℕ) (total b : Bool) (u : ℕ) → i < count → u ≡ unit_at d at (from + i) → b ≡ is_name_character u → b ≡ true
+    → are_characters d at (from + i) (count - i) ≡ total → are_characters d at (from + (i + 1)) (count - (i + 1)) ≡ total
+unfolding are_characters
+character_more d at from i count total b u lt e f t so_far =
+    let k : count - i ≡ suc (count - (i + 1)) = omega arith in
+    let next : from + (i + 1) ≡ from + i + 1 = omega arith in
+    let good : is_name_character (unit_at d at (from + i)) ≡ true = ap is_name_character (sym e) ∙ sym f ∙ t in
+    ap (λ n. are_characters d at n (count - (i + 1))) next
+    ∙ sym (ap (are_characters d at (from + i)) k ∙ ap (λ x. x && are_characters d at (from + i + 1) (count - (i + 1))) good) ∙ so_far
+
+pub character_not : (d : List ℕ) (at from i count : ℕ) (total b : Bool) (u : ℕ) → i < count → u ≡ unit_at d at (from + i) → b ≡ is_name_character u → b ≡ false
+    → are_characters d at (from + i) (count - i) ≡ total → false ≡ total
+unfolding are_characters
+character_not d at from i count total b u lt e f t so_far =
+    let k : count - i ≡ suc (count - (i + 1)) = omega arith in
+    let bad : is_name_character (unit_at d at (from + i)) ≡ false = ap is_name_character (sym e) ∙ sym f ∙ t in
+    sym (ap (are_characters d at (from + i)) k ∙ ap (λ x. x && are_characters d at (from + i + 1) (count - (i + 1))) bad) ∙ so_far
+
+pub characters_end : (d : List ℕ) (at from i count : ℕ) (total : Bool) → count ≤ i → are_characters d at (from + i) (count - i) ≡ total → true ≡ total
+unfolding are_characters
+characters_end d at from i count total le so_far = let k : count - i ≡ 0 = omega arith in sym (ap (are_characters d at (from + i)) k) ∙ so_far
+
+pub zero_more : (d : List ℕ) (at from i count : ℕ) (total : Bool) (u : ℕ) → i < count → u ≡ unit_at d at (from + i) → u ≡ 0
+    → are_zeros d at (from + i) (count - i) ≡ total → are_zeros d at (from + (i + 1)) (count - (i + 1)) ≡ total
+unfolding are_zeros
+zero_more d at from i count total u lt e t so_far =
+    let k : count - i ≡ suc (count - (i + 1)) = omega arith in
+    let next : from + (i + 1) ≡ from + i + 1 = omega arith in
+    let good : eqb (unit_at d at (from + i)) 0 ≡ true = eq-eqb _ _ (sym e ∙ t) in
+    ap (λ n. are_zeros d at n (count - (i + 1))) next
+    ∙ sym (ap (are_zeros d at (from + i)) k ∙ ap (λ x. x && are_zeros d at (from + i + 1) (count - (i + 1))) good) ∙ so_far
+
+pub zero_not : (d : List ℕ) (at from i count : ℕ) (total : Bool) (u : ℕ) → i < count → u ≡ unit_at d at (from + i) → u ≢ 0
+    → are_zeros d at (from + i) (count - i) ≡ total → false ≡ total
+unfolding are_zeros
+zero_not d at from i count total u lt e t so_far =
+    let k : count - i ≡ suc (count - (i + 1)) = omega arith in
+    let bad : eqb (unit_at d at (from + i)) 0 ≡ false = ne_eqb _ _ (λ h. t (e ∙ h)) in
+    sym (ap (are_zeros d at (from + i)) k ∙ ap (λ x. x && are_zeros d at (from + i + 1) (count - (i + 1))) bad) ∙ so_far
+
+pub zeros_end : (d : List ℕ) (at from i count : ℕ) (total : Bool) → count ≤ i → are_zeros d at (from + i) (count - i) ≡ total → true ≡ total
+unfolding are_zeros
+zeros_end d at from i count total le so_far = let k : count - i ≡ 0 = omega arith in sym (ap (are_zeros d at (from + i)) k) ∙ so_far
+
+pub from_start : (from : ℕ) → from + 0 ≡ from
+from_start from = omega arith
+
+pub defined_name_step : (d : List ℕ) (count i at next name : ℕ) (here : Option ℕ) → i < count → next ≡ next_definition d at → name ≡ name_place d at → here ≡ name_fault d (at + 1) name
+    → defined_names_fault d (count - i) at ≡ earlier here (defined_names_fault d (count - (i + 1)) next)
+unfolding defined_names_fault
+defined_name_step d count i at next name here lt x n f =
+    let k : count - i ≡ suc (count - (i + 1)) = omega arith in
+    ap (λ m. defined_names_fault d m at) k
+    ∙ ap (λ m. earlier (name_fault d (at + 1) (name_place d at)) (defined_names_fault d (count - (i + 1)) m)) (sym x)
+    ∙ ap (λ h. earlier h (defined_names_fault d (count - (i + 1)) next)) (ap (name_fault d (at + 1)) (sym n) ∙ sym f)
+
+pub defined_names_end : (d : List ℕ) (count i at : ℕ) → count ≤ i → defined_names_fault d (count - i) at ≡ None
+unfolding defined_names_fault
+defined_names_end d count i at le = let k : count - i ≡ 0 = omega arith in ap (λ n. defined_names_fault d n at) k
+
+pub linked_name_step : (d : List ℕ) (count i at : ℕ) (here : Option ℕ) → i < count → here ≡ expression_fault d at
+    → linked_names_fault d (count - i) at ≡ earlier here (linked_names_fault d (count - (i + 1)) (at + 2))
+unfolding linked_names_fault
+linked_name_step d count i at here lt f =
+    let k : count - i ≡ suc (count - (i + 1)) = omega arith in
+    ap (λ m. linked_names_fault d m at) k ∙ ap (λ h. earlier h (linked_names_fault d (count - (i + 1)) (at + 2))) (sym f)
+
+pub linked_names_end : (d : List ℕ) (count i at : ℕ) → count ≤ i → linked_names_fault d (count - i) at ≡ None
+unfolding linked_names_fault
+linked_names_end d count i at le = let k : count - i ≡ 0 = omega arith in ap (λ n. linked_names_fault d n at) k
+
+-- ---- links
+
+pub type_step : (version : ℕ) (d : List ℕ) (count i at w : ℕ) (b : Bool) (here : Option ℕ) → i < count → w ≡ slice_index d at → b ≡ is_type version w → here ≡ where_bad (not b) at
+    → type_faults version d (count - i) at ≡ earlier here (type_faults version d (count - (i + 1)) (at + 2))
+unfolding type_faults
+type_step version d count i at w b here lt e t f =
+    let k : count - i ≡ suc (count - (i + 1)) = omega arith in
+    ap (λ m. type_faults version d m at) k
+    ∙ ap (λ h. earlier h (type_faults version d (count - (i + 1)) (at + 2))) (ap (λ n. where_bad (not (is_type version n)) at) (sym e) ∙ ap (λ c. where_bad (not c) at) (sym t) ∙ sym f)
+
+pub types_end : (version : ℕ) (d : List ℕ) (count i at : ℕ) → count ≤ i → type_faults version d (count - i) at ≡ None
+unfolding type_faults
+types_end version d count i at le = let k : count - i ≡ 0 = omega arith in ap (λ n. type_faults version d n at) k
+
+pub link_more : (k : List ℕ) (at expression count i : ℕ) (total : Option ℕ) (b : Bool) → i < count → b ≡ is_link_at k at expression → b ≡ true
+    → link_faults k at expression (count - i) ≡ total → link_faults k (at + 2) (expression + 2) (count - (i + 1)) ≡ total
+unfolding link_faults
+link_more k at expression count i total b lt e t so_far =
+    let n : count - i ≡ suc (count - (i + 1)) = omega arith in
+    sym (ap (link_faults k at expression) n ∙ cond-true (is_link_at k at expression) (link_faults k (at + 2) (expression + 2) (count - (i + 1))) (Some at) (sym e ∙ t)) ∙ so_far
+
+pub link_not : (k : List ℕ) (at expression count i : ℕ) (total : Option ℕ) (b : Bool) → i < count → b ≡ is_link_at k at expression → b ≡ false
+    → link_faults k at expression (count - i) ≡ total → Some at ≡ total
+unfolding link_faults
+link_not k at expression count i total b lt e t so_far =
+    let n : count - i ≡ suc (count - (i + 1)) = omega arith in
+    sym (ap (link_faults k at expression) n ∙ cond-false (is_link_at k at expression) (link_faults k (at + 2) (expression + 2) (count - (i + 1))) (Some at) (sym e ∙ t)) ∙ so_far
+
+pub links_end : (k : List ℕ) (at expression count i : ℕ) (total : Option ℕ) → count ≤ i → link_faults k at expression (count - i) ≡ total → None ≡ total
+unfolding link_faults
+links_end k at expression count i total le so_far = let n : count - i ≡ 0 = omega arith in sym (ap (link_faults k at expression) n) ∙ so_far

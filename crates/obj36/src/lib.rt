@@ -11,8 +11,10 @@ mod checks;
 pub mod definition;
 pub mod fault;
 mod halves;
+mod judging;
 pub mod laws;
 pub mod link;
+mod linking;
 mod map;
 mod names;
 pub mod object;
@@ -22,6 +24,7 @@ pub mod relocation;
 pub mod section;
 mod sections;
 mod size;
+mod spelling;
 mod tables;
 
 pub use definition::{Def, Defs, Named};
