@@ -10,3 +10,4 @@ pub mod ReadingBack
 pub mod TableReading
 pub mod TablesStand
 pub mod FaultLoops
+pub mod ReaderLaws

@@ -76,3 +76,21 @@ ReadSays words (Err (O6 place)) = IsRefused words (O6 place)
 ReadSays words (Err (O7 place)) = IsRefused words (O7 place)
 ReadSays words (Err (O8 place)) = IsRefused words (O8 place)
 ReadSays words (Err NoMemory) = Unit {0}
+
+-- A list that stands for a value is read as that value, unless no memory is found.
+abbrev pub IsReadAs : PartsFields → Result PartsFields ObjectFault → Type 0
+IsReadAs p (Ok q) = q ≡ p
+IsReadAs p (Err NoMemory) = Unit {0}
+IsReadAs p (Err (O1 place)) = ⊥
+IsReadAs p (Err (O2 place)) = ⊥
+IsReadAs p (Err (O3 place)) = ⊥
+IsReadAs p (Err (O4 place)) = ⊥
+IsReadAs p (Err (O5 place)) = ⊥
+IsReadAs p (Err (O6 place)) = ⊥
+IsReadAs p (Err (O7 place)) = ⊥
+IsReadAs p (Err (O8 place)) = ⊥
+
+-- The value for which a list stands, or none.
+abbrev pub IsFound : List ℕ → Option PartsFields → Type 0
+IsFound words (Some p) = Stands p words
+IsFound words None = (p : PartsFields) → Stands p words → ⊥

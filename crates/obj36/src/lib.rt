@@ -26,6 +26,8 @@ mod sections;
 mod size;
 mod spelling;
 mod tables;
+#[cfg(test)]
+mod tests;
 
 pub use definition::{Def, Defs, Named};
 pub use fault::ObjectFault;
