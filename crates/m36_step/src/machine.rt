@@ -1,14 +1,18 @@
 //! The machine.
 
-ghost use Rattle.std.specs.Prelude.{◌≡◌, [], ◌+◌, ◌%◌, ◌^◌};
+ghost use Rattle.std.specs.Prelude.{◌≡◌, [], ◌+◌, ◌%◌, ◌^◌, None};
 ghost use Rattle.std.specs.Borrow.{sem};
+ghost use Rattle.m36_model.specs.Audit.{IsAudited};
 ghost use Rattle.m36_model.specs.Core.{core_store};
+ghost use Rattle.m36_model.specs.Laws.{ExecutesLdbr};
 ghost use Rattle.m36_model.specs.Results.{moved_on};
 ghost use Rattle.m36_model.specs.Step.{record_of, state_after};
+ghost use Rattle.m36_model.specs.declared.outcome.Outcome.TheVariants.{Next};
 
 use crate::execute::execute;
 use m36_core::Core;
-use m36_model::{Refs, Regs, StepRecord};
+use m36_isol::law_kept;
+use m36_model::{Outcome, Refs, Regs, StepRecord};
 use m36_walk::Walk;
 use std::marker::Model;
 
@@ -31,32 +35,35 @@ impl Model for Machine {
     ghost invariant = { λ m. m.walk.dbr ≡ m.regs.dbr };
 }
 
-/// An empty list of references. It is filled in a call of its own, so that it is copied in one piece and not place by place.
-#[inline(never)]
-fn no_references() -> Refs
-    ensures { result.items ≡ [] }
-{
-    Refs::new()
-}
-
-/// One step of a walk and registers with the same descriptor segment base register.
+/// One step of a walk and registers with the same descriptor segment base register, told in a record that an earlier step
+/// may have filled.
 #[inline(always)]
-fn turn(walk: &mut Walk, regs: &mut Regs) -> StepRecord
+fn turn(walk: &mut Walk, regs: &mut Regs, told: &mut StepRecord)
     requires dbr { walk.old.dbr ≡ regs.old.dbr }
-    ensures told { result ≡ record_of core_store (record { regs = regs.old; store = walk.old.core }) }
+    ensures told { told.new ≡ record_of core_store (record { regs = regs.old; store = walk.old.core }) }
     ensures state { record { regs = regs.new; store = walk.new.core } ≡ state_after core_store (record { regs = regs.old; store = walk.old.core }) }
     ensures dbr { walk.new.dbr ≡ regs.new.dbr }
 {
-    let mut refs = no_references();
-    let ppr = regs.ppr;
-    let ended = execute(walk, regs, &mut refs);
+    told.refs.clear();
+    told.ppr = regs.ppr;
+    let ended = execute(walk, regs, &mut told.refs);
+    told.after = *regs;
+    told.word = ended.word;
+    told.at = ended.at;
+    told.outcome = ended.outcome;
+}
+
+/// A record that tells of no step yet.
+fn untold(regs: &Regs) -> StepRecord
+    ensures { result ≡ record { refs = record { items = [] }; after = regs.now; word = None; at = None; outcome = Next; ppr = regs.now.ppr } }
+{
     StepRecord {
-        refs,
+        refs: Refs::new(),
         after: *regs,
-        word: ended.word,
-        at: ended.at,
-        outcome: ended.outcome,
-        ppr,
+        word: None,
+        at: None,
+        outcome: Outcome::Next,
+        ppr: regs.ppr,
     }
 }
 
@@ -71,13 +78,35 @@ impl Machine {
         Machine { walk, regs }
     }
 
-    /// One step. The record is that of the written step, and the machine is left in the state after it.
+    /// One step. The record is that of the written step, and the machine is left in the state after it. Where the audit
+    /// conditions hold before a step that executes no LDBR, they hold after it.
     pub fn step(&mut self) -> StepRecord
         ensures told { result ≡ record_of core_store self.old }
         ensures state { self.new ≡ state_after core_store self.old }
+        ensures kept { IsAudited self.old.store self.old.regs.dbr → (ExecutesLdbr (record_of core_store self.old) → ⊥) → IsAudited self.new.store self.new.regs.dbr }
     {
+        let mut told = self.untold();
+        self.step_into(&mut told);
+        told
+    }
+
+    /// One step, told in place: the record becomes that of the written step, whatever it told before. So a run needs one
+    /// record, and the list of references in it is neither made nor copied in a step.
+    pub fn step_into(&mut self, told: &mut StepRecord)
+        ensures told { told.new ≡ record_of core_store self.old }
+        ensures state { self.new ≡ state_after core_store self.old }
+        ensures kept { IsAudited self.old.store self.old.regs.dbr → (ExecutesLdbr (record_of core_store self.old) → ⊥) → IsAudited self.new.store self.new.regs.dbr }
+    {
+        law_kept();
         let Machine { walk, regs } = self;
-        turn(walk, regs)
+        turn(walk, regs, told)
+    }
+
+    /// A record for `step_into` to fill: it has the registers as they stand, and tells of no step.
+    pub fn untold(&self) -> StepRecord
+        ensures { result ≡ record { refs = record { items = [] }; after = self.now.regs; word = None; at = None; outcome = Next; ppr = self.now.regs.ppr } }
+    {
+        untold(&self.regs)
     }
 
     /// Moves on to the next instruction without executing the one that stands: the instruction counter goes up by 1

@@ -7,11 +7,11 @@ use Rattle.m36_step.proofs.machine.turn.Goals as goal
 pub returns-clause-told : goal.returns-clause-told
 returns-clause-told c =
     let s : State (List ℕ) = record { regs = c.args.regs.now; store = c.args.walk.now.core } in
-    let ends = rw c.no_references-refs.ensures at c.execute-ended.ensures.ends in
+    let ends = rw c.clear.ensures at c.execute-ended.ensures.ends in
     rw (ap (λ (x : RegsFields). x.ppr) c.regs.view_is, c.regs-2.view_is) (sym (step_told s c.execute-ended.new.walk.core c.execute-ended.new.refs.items c.execute-ended.new.regs c.execute-ended.result ends))
 
 pub returns-clause-state : goal.returns-clause-state
 returns-clause-state c =
     let s : State (List ℕ) = record { regs = c.args.regs.now; store = c.args.walk.now.core } in
-    let ends = rw c.no_references-refs.ensures at c.execute-ended.ensures.ends in
+    let ends = rw c.clear.ensures at c.execute-ended.ensures.ends in
     sym (step_left s c.execute-ended.new.walk.core c.execute-ended.new.refs.items c.execute-ended.new.regs c.execute-ended.result ends)
