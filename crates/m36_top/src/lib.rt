@@ -38,6 +38,8 @@ pub mod status;
 #[cfg(test)]
 mod tests;
 pub mod top;
+#[cfg(test)]
+mod word_tests;
 pub mod words;
 
 pub use command::{BareRun, Command};

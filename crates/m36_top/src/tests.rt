@@ -7,7 +7,7 @@ use m36_word::NoMemory;
 use std::alloc::Global;
 
 /// Loads the number 5, and halts.
-const LEAST: &[u8] = b"core 1
+pub(crate) const LEAST: &[u8] = b"core 1
 dbr 000000000000 000000200000
 start 00001 0 000000
 at 00000002 000000400004 000006700000
@@ -43,7 +43,7 @@ at 00000002 000000400004 000006700000
 at 00000040 000000710000
 ";
 
-fn words(alloc: Global, list: &[&[u8]]) -> Result<Vec<Text>, NoMemory> {
+pub(crate) fn words(alloc: Global, list: &[&[u8]]) -> Result<Vec<Text>, NoMemory> {
     let mut words = Vec::new(alloc);
     for word in list {
         words.push(Text::from_bytes(alloc, word)?)?;
@@ -338,86 +338,6 @@ fn refuses_words(rt: HostRuntime) -> Result<(), NoMemory> {
         let image = joined(alloc, &[CORE, DBR, START, lines])?;
         let (status, _) = ran(alloc, image.bytes(), &[], &[])?;
         assert!(rt; refusal(&status) == Some((code, line)), "{lines:?}");
-    }
-    Ok(())
-}
-
-// What these words answer over the least image as the file `f`, and how much is written.
-fn asked(alloc: Global, list: &[&[u8]]) -> Result<(u8, usize), NoMemory> {
-    let mut folder = MemFolder::new(alloc, &[], &[])?;
-    folder.add(b"f", LEAST)?;
-    let mut out = MemSink::new(alloc, 1000, &[])?;
-    let words = words(alloc, list)?;
-    let status = m36(alloc, words.as_slice(), &mut folder, &mut out);
-    Ok((status.number(), out.bytes().len()))
-}
-
-#[test]
-fn refuses_lists_of_words(rt: HostRuntime) -> Result<(), NoMemory> {
-    for list in [
-        [b"".as_slice(), b"", b""].as_slice(),
-        &[],
-        &[b"bare"],
-        &[b"run", b"run"],
-        &[b"f"],
-        &[b"f", b"bare"],
-        &[b"Bare", b"f"],
-        &[b"bare", b""],
-        &[b"bare", b".f"],
-        &[b"bare", b"f/g"],
-        &[b"bare", b"f\xff"],
-        &[b"bare", b"--help"],
-        &[b"bare", b"f", b"f"],
-        &[b"bare", b"ABCDEFGHIJKLMNOPQRSTUVWXYZ_.01234"],
-        &[b"bare", b"f", b"--steps"],
-        &[b"bare", b"f", b"--steps", b""],
-        &[b"bare", b"f", b"--steps="],
-        &[b"bare", b"f", b"--steps=-1"],
-        &[b"bare", b"f", b"--steps", b"10000001"],
-        &[b"bare", b"f", b"--steps=000000001"],
-        &[b"bare", b"f", b"--steps=1", b"--steps", b"1"],
-        &[b"bare", b"f", b"--step", b"1"],
-        &[b"bare", b"--steps", b"--", b"f"],
-        &[b"bare", b"--steps", b"f"],
-        &[b"bare", b"f", b"--unaudited", b"--unaudited"],
-        &[b"bare", b"f", b"--unaudited=1"],
-        &[b"bare", b"--", b"--", b"f"],
-        &[b"bare", b"f", b"--", b"--unaudited"],
-        &[b"--unaudited", b"bare", b"f"],
-        &[b"audit"],
-        &[b"audit", b"f", b"--unaudited"],
-        &[b"audit", b"--steps", b"1", b"f"],
-        &[b"audit", b"f", b"f"],
-        &[b"--", b"bare", b"f"],
-    ] {
-        let (number, written) = asked(rt.alloc(), list)?;
-        assert_eq!(rt; number, 1, "{list:?}");
-        assert_eq!(rt; written, 0);
-    }
-    Ok(())
-}
-
-#[test]
-fn knows_its_words(rt: HostRuntime) -> Result<(), NoMemory> {
-    for (list, number, written) in [
-        ([b"bare".as_slice(), b"f"].as_slice(), 0, 172),
-        (&[b"bare", b"ABCDEFGHIJKLMNOPQRSTUVWXYZ_.0123"], 4, 0),
-        (&[b"bare", b"a.z_9"], 4, 0),
-        (&[b"bare", b"f", b"--steps", b"0"], 7, 22),
-        (&[b"bare", b"--steps=1", b"f"], 7, 105),
-        (&[b"bare", b"--steps", b"2", b"f"], 0, 172),
-        (&[b"bare", b"f", b"--steps=10000000"], 0, 172),
-        (&[b"bare", b"f", b"--steps=00000001"], 7, 105),
-        (&[b"bare", b"--unaudited", b"f", b"--steps=0"], 7, 22),
-        (&[b"bare", b"--", b"f"], 0, 172),
-        (&[b"bare", b"f", b"--"], 0, 172),
-        (&[b"bare", b"--steps=0", b"--", b"f"], 7, 22),
-        (&[b"audit", b"f"], 0, 10),
-        (&[b"audit", b"--", b"f"], 0, 10),
-        (&[b"audit", b"none"], 4, 0),
-    ] {
-        let answer = asked(rt.alloc(), list)?;
-        assert!(rt; answer == (number, written), "{list:?}");
     }
     Ok(())
 }

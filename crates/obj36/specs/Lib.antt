@@ -1,0 +1,13 @@
+pub mod Fields
+pub mod PartsFields
+pub mod Halves
+pub mod Names
+pub mod ObjectSegment
+pub mod Sizes
+pub mod Lengths
+pub mod Reading
+pub mod MapFaults
+pub mod Near
+pub mod TableFaults
+pub mod LinkFaults
+pub mod Faults
