@@ -72,6 +72,7 @@ impl Machine {
     }
 
     /// One step. The record is that of the written step, and the machine is left in the state after it.
+    #[inline(always)]
     pub fn step(&mut self) -> StepRecord
         ensures told { result ≡ record_of core_store self.old }
         ensures state { self.new ≡ state_after core_store self.old }
