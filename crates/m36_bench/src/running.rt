@@ -13,8 +13,9 @@ pub struct Taken {
 
 /// Takes so many steps, or fewer where one ends the run.
 pub fn without_lines(machine: &mut Machine, steps: u64) -> Taken {
+    let mut told = machine.untold();
     for n in 0..steps {
-        let told = machine.step();
+        machine.step_into(&mut told);
         match told.outcome {
             Outcome::Next => {}
             _ => return Taken { steps: n, bytes: 0 },
@@ -26,8 +27,9 @@ pub fn without_lines(machine: &mut Machine, steps: u64) -> Taken {
 /// Takes so many steps, or fewer where one ends the run, and makes the line of each.
 pub fn with_lines(machine: &mut Machine, steps: u64) -> Taken {
     let mut bytes = 0u64;
+    let mut told = machine.untold();
     for n in 0..steps {
-        let told = machine.step();
+        machine.step_into(&mut told);
         bytes = bytes.wrapping_add(line(n.wrapping_add(1), &told).len() as u64);
         match told.outcome {
             Outcome::Next => {}

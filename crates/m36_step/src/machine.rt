@@ -92,6 +92,7 @@ impl Machine {
 
     /// One step, told in place: the record becomes that of the written step, whatever it told before. So a run needs one
     /// record, and the list of references in it is neither made nor copied in a step.
+    #[inline(always)]
     pub fn step_into(&mut self, told: &mut StepRecord)
         ensures told { told.new ≡ record_of core_store self.old }
         ensures state { self.new ≡ state_after core_store self.old }

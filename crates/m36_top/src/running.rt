@@ -7,7 +7,7 @@ ghost use Rattle.m36_top.specs.Output.{as_line};
 ghost use Rattle.m36_top.specs.RunSays.{TurnSays, TurnHasCause, EndSays, RunSays, EndedHasCause};
 
 use arrayvec::ArrayString;
-use m36_model::Outcome;
+use m36_model::{Outcome, StepRecord};
 use m36_outside::{Put, Sink};
 use m36_step::Machine;
 use m36_trace::{end_line, line};
@@ -42,14 +42,19 @@ pub fn put_line<S: Sink>(out: &mut S, mut line: ArrayString<160>) -> Put
     out.put(line.as_str().as_bytes())
 }
 
-/// Takes step n of a run, and writes its line.
-pub fn take_turn<S: Sink>(machine: &mut Machine, n: u64, out: &mut S) -> Turn
+/// Takes step n of a run, and writes its line. The step is told in a record that an earlier one may have filled.
+pub fn take_turn<S: Sink>(
+    machine: &mut Machine,
+    n: u64,
+    told: &mut StepRecord,
+    out: &mut S,
+) -> Turn
     ensures says { TurnSays result n machine.old machine.new (S.written out.old) (S.written out.new) }
     ensures cause { TurnHasCause result (S.faults out.old) (S.faults out.new) }
 {
-    let told = machine.step();
+    machine.step_into(told);
     let outcome = told.outcome;
-    match put_line(out, line(n, &told)) {
+    match put_line(out, line(n, told)) {
         Put::Failed => Turn::Cut,
         Put::Done => match outcome {
             Outcome::Next => Turn::Next,
@@ -75,10 +80,11 @@ pub fn run<S: Sink>(machine: &mut Machine, steps: u32, out: &mut S) -> Ended
     ensures says { RunSays result steps machine.old (S.written out.old) (S.written out.new) }
     ensures cause { EndedHasCause result (S.faults out.old) (S.faults out.new) }
 {
+    let mut told = machine.untold();
     let mut taken: u32 = 0;
     let mut left = steps;
     'steps: while left > 0 {
-        match take_turn(machine, taken as u64 + 1, out) {
+        match take_turn(machine, taken as u64 + 1, &mut told, out) {
             Turn::Next => {}
             Turn::Last(outcome) => return put_end(out, &outcome, taken as u64 + 1),
             Turn::Cut => return Ended::Cut,

@@ -1,4 +1,4 @@
-use Rattle.std.proofs.Common.{refl, ◌∙◌}
+use Rattle.std.proofs.Common.{◌∙◌}
 use Rattle.m36_step.proofs.Ends.{operation_refused, operation_performed}
 use Rattle.m36_step.proofs.execute.operated.Goals as goal
 
