@@ -1,5 +1,5 @@
 -- What is answered where the folder tells its files, and that one answer is due.
-use Rattle.std.proofs.Common.{◌≡◌, ℕ, ◌≤◌, ◌<◌, List, [], length, cond, Option, Some, None, Result, Ok, Err, refl, sym, ap, subst, ◌∙◌, inl, inr}
+use Rattle.std.proofs.Common.{◌≡◌, ℕ, ◌≤◌, ◌<◌, List, length, cond, Option, Some, None, Result, Ok, Err, refl, sym, ap, subst, ◌∙◌, inl, inr}
 use Rattle.std.specs.Prelude.{IfSome}
 use Rattle.std.proofs.lemmas.Bool.{le-ltb, lt-ltb}
 use Rattle.m36_outside.specs.Counts.{Rose}
@@ -15,7 +15,7 @@ use Rattle.m36_top.specs.declared.status.Status.{Status}
 use Rattle.m36_top.specs.declared.status.Status.TheVariants.{Done, Usage, ReadFault, WriteFault, BadFile, AuditNo, MachineStop, Steps, NoMemory}
 use Rattle.m36_top.specs.ImageState.{state_given}
 use Rattle.m36_top.specs.Answers.{Answer, unwritten, file_of, state_answer, read_of, IsStateDue, IsImageDue, IsReadDue, IsCommandDue}
-use Rattle.m36_top.specs.TopCall.{IsWritten, Meets, Met, Says, CommandSays, TopSays, SaysFiles, Completes, ReadCause, WriteCause}
+use Rattle.m36_top.specs.TopCall.{IsWritten, Met, Says, TopSays, SaysFiles, Completes, ReadCause, WriteCause}
 
 -- what is said by what the folder gave, where that was no fault
 said :

@@ -5,6 +5,7 @@ pub mod AuditTexts
 pub mod AuditAnswers
 pub mod TopLaws
 pub mod FileAnswers
+pub mod DueLaw
 pub mod YesIsolates
 pub mod Calls
 pub mod CoreWords

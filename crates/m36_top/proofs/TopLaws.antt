@@ -1,11 +1,8 @@
 -- Answers of the top call, from those of its parts.
-use Rattle.std.proofs.Common.{◌≡◌, ℕ, ◌≤◌, ◌<◌, Bool, true, false, List, [], ◌∷◌, ◌++◌, length, cond, Option, Some, None, Result, Ok, Err, refl, sym, ap, subst, ◌∙◌, inl, inr, arith}
+use Rattle.std.proofs.Common.{◌≡◌, ℕ, List, [], Option, Result, Ok, Err, refl, sym, subst}
 use Rattle.std.specs.Prelude.{IfSome}
-use Rattle.std.proofs.lemmas.Bool.{le-ltb, lt-ltb}
-use Rattle.m36_outside.specs.Counts.{Rose}
 use Rattle.m36_outside.specs.Files.{Files}
-use Rattle.m36_outside.specs.ReadAnswer.{ReadSays, IsWithinLimit, file_limit}
-use Rattle.m36_outside.specs.declared.folder.ReadAnswer.{ReadAnswer}
+use Rattle.m36_outside.specs.ReadAnswer.{ReadSays}
 use Rattle.m36_outside.specs.declared.folder.ReadAnswer.TheVariants as read
 use Rattle.m36_model.specs.Store.{State}
 use Rattle.m36_model.specs.Audit.{AreFindings}
@@ -14,9 +11,8 @@ use Rattle.m36_top.specs.declared.refusal.Refusal.{Refusal}
 use Rattle.m36_top.specs.declared.status.Code.TheVariants.{F1, F2}
 use Rattle.m36_top.specs.declared.status.Status.{Status}
 use Rattle.m36_top.specs.declared.status.Status.TheVariants.{Done, Usage, ReadFault, WriteFault, BadFile, AuditNo, MachineStop, Steps, NoMemory}
-use Rattle.m36_top.specs.ImageState.{state_given}
-use Rattle.m36_top.specs.Answers.{Answer, unwritten, refused, file_of, state_answer, read_of, IsIsolated, IsStateDue, IsImageDue, IsReadDue, IsCommandDue}
-use Rattle.m36_top.specs.TopCall.{Meets, Met, Says, CommandSays, TopSays, SaysFiles, Completes, ReadCause, WriteCause}
+use Rattle.m36_top.specs.Answers.{Answer, refused, file_of, state_answer, IsIsolated, IsStateDue, IsImageDue, IsReadDue}
+use Rattle.m36_top.specs.TopCall.{Meets, Says, CommandSays}
 
 -- a status that meets an answer that is due says so
 pub says_due :

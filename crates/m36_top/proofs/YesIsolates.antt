@@ -1,5 +1,5 @@
 -- Where `audit yes` is written, nothing was found.
-use Rattle.std.proofs.Common.{◌≡◌, ℕ, ◌+◌, Bool, true, false, List, [], ◌∷◌, ◌++◌, length, Option, Some, None, Result, Ok, Err, refl, sym, ap, subst, ◌∙◌, arith, append_assoc, length-append, get_or}
+use Rattle.std.proofs.Common.{◌≡◌, ℕ, ◌+◌, Bool, true, false, List, [], ◌∷◌, ◌++◌, length, Option, Some, None, Result, Ok, Err, refl, sym, ap, ◌∙◌, arith, append_assoc, length-append, get_or}
 use Rattle.std.specs.Prelude.{IfSome}
 use Rattle.std.proofs.lemmas.List.{append-nil}
 use Rattle.m36_outside.specs.Files.{Files}
@@ -17,7 +17,7 @@ use Rattle.m36_top.specs.ImageState.{state_given}
 use Rattle.m36_top.specs.Output.{run_text}
 use Rattle.m36_top.specs.AuditText.{yes_line, finding_line, finding_lines, audit_text}
 use Rattle.m36_top.specs.Answers.{Answer, unwritten, file_of, run_answer, audit_answer, bare_by, state_answer, IsIsolated, IsStateDue, IsImageDue, IsReadDue}
-use Rattle.m36_top.specs.TopCall.{Meets, Met, Says, CommandSays, TopSays, SaysYes, IsIsolatedImage, YesIsolates}
+use Rattle.m36_top.specs.TopCall.{Meets, Says, TopSays, SaysYes, IsIsolatedImage, YesIsolates}
 
 -- a text begins with the line `audit yes`
 abbrev Begins : List ℕ → Type 0

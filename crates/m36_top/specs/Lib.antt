@@ -13,6 +13,7 @@ pub mod Output
 pub mod RunSays
 pub mod AuditText
 pub mod Answers
+pub mod Due
 pub mod TopCall
 pub use Rattle.m36_trace.specs.EndLine
 pub use Rattle.m36_trace.specs.TraceLine

@@ -11,7 +11,7 @@ use Rattle.m36_top.specs.declared.status.Status.{Status}
 use Rattle.m36_top.specs.declared.status.Status.TheVariants.{Done, Usage, ReadFault, WriteFault, BadFile, AuditNo, MachineStop, Steps, NoMemory}
 use Rattle.m36_top.specs.ImageState.{state_given}
 use Rattle.m36_top.specs.AuditText.{yes_line}
-use Rattle.m36_top.specs.Answers.{Answer, unwritten, file_of, IsIsolated, IsReadDue, IsCommandDue}
+use Rattle.m36_top.specs.Answers.{Answer, unwritten, file_of, IsIsolated, IsReadDue}
 
 -- the statuses with which something is written
 abbrev pub IsWritten : Status → Type 0

@@ -29,6 +29,7 @@ mod findings;
 mod forms;
 mod header;
 pub mod image;
+pub mod laws;
 mod names;
 mod placed;
 pub mod refusal;
@@ -44,6 +45,7 @@ pub mod words;
 
 pub use command::{BareRun, Command};
 pub use image::{Image, ImageFault, read_image};
+pub use laws::law_due;
 pub use refusal::Refusal;
 pub use status::{Bad, Code, Status};
 pub use top::m36;
