@@ -281,7 +281,7 @@ fn objects_read(rt: HostRuntime) -> Result<(), Fail> {
 fn changed_objects(rt: HostRuntime) -> Result<(), Fail> {
     assert_eq!(rt; refusal(rt.alloc(), &EMPTY[..6])?, Some(ObjectFault::O1(6)));
     for (place, value, fault) in [
-        (17, 0o000012000000, ObjectFault::O2(11)),
+        (17, 0o000012000000, ObjectFault::O2(10)),
         (17, 0o000013000001, ObjectFault::O2(17)),
         (17, 0o000014000000, ObjectFault::O2(17)),
         (11, 0o000000000002, ObjectFault::O2(11)),
@@ -327,20 +327,21 @@ fn changed_callers(rt: HostRuntime) -> Result<(), Fail> {
         (11, 0o000002000000, ObjectFault::O7(11)),
         (28, 0o000010000020, ObjectFault::O7(27)),
         (18, 0o000013000002, ObjectFault::O7(18)),
-        // A second part 2 and its order, and an unused field.
+        // Relocations of one part, and in no section's words.
         (33, 0o000000021000, ObjectFault::O8(0)),
         (34, 0o000003021000, ObjectFault::O8(0)),
-        (12, 0o000013000002, ObjectFault::O8(0)),
     ] {
         let mut values = CALLER;
         values[place] = value;
         assert_eq!(rt; refusal(rt.alloc(), &values)?, Some(fault));
     }
     for (place, value, fault) in [
-        // The class past static, the section past static, and a linkage section with other words than links.
+        // The class past static, the section past static, a linkage section with other words than links, and an unused
+        // field that is not empty.
         (7, 0o000000000004, ObjectFault::O5(7)),
         (11, 0o000001000003, ObjectFault::O7(11)),
         (17, 0o000012000002, ObjectFault::O7(17)),
+        (10, 0o000013000003, ObjectFault::O8(0)),
     ] {
         let mut values = NEWER;
         values[place] = value;
