@@ -43,12 +43,7 @@ pub fn put_line<S: Sink>(out: &mut S, mut line: ArrayString<160>) -> Put
 }
 
 /// Takes step n of a run, and writes its line. The step is told in a record that an earlier one may have filled.
-pub fn take_turn<S: Sink>(
-    machine: &mut Machine,
-    n: u64,
-    told: &mut StepRecord,
-    out: &mut S,
-) -> Turn
+pub fn take_turn<S: Sink>(machine: &mut Machine, n: u64, told: &mut StepRecord, out: &mut S) -> Turn
     ensures says { TurnSays result n machine.old machine.new (S.written out.old) (S.written out.new) }
     ensures cause { TurnHasCause result (S.faults out.old) (S.faults out.new) }
 {
