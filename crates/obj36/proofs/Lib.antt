@@ -1,0 +1,6 @@
+pub mod NameTables
+pub mod SectionLoops
+pub mod SizeLaws
+pub mod Formed
+pub mod LengthLaws
+pub mod ReadingLoops
