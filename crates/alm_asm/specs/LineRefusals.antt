@@ -56,11 +56,17 @@ abbrev pub own_room : Option ℕ → Room
 own_room (Some pr) = Offset
 own_room None = Half
 
-abbrev pub operand_by : List ℕ → Tables → Spot → Line36 → Option ℕ → Option Span → Option Span → List Term → ℕ → Option Refusal
-operand_by text tables spot line pr (Some segment) entry terms tag =
+abbrev pub external_refusal : List ℕ → Tables → Spot → Line36 → Span → Option Span → List Term → ℕ → Option Refusal
+external_refusal text tables spot line segment entry terms tag =
     sooner (expression_refusal text tables.symbols spot line terms (external_place segment entry) Half false) (unless (has_link text tables spot segment entry terms tag) (refusal_at line segment.from E7))
-operand_by text tables spot line pr None entry terms tag =
-    expression_refusal text tables.symbols spot line terms (expression_place terms) (own_room pr) true
+
+abbrev pub own_operand : List ℕ → Tables → Spot → Line36 → Room → List Term → Option Refusal
+own_operand text tables spot line room terms =
+    expression_refusal text tables.symbols spot line terms (expression_place terms) room true
+
+abbrev pub operand_by : List ℕ → Tables → Spot → Line36 → Option ℕ → Option Span → Option Span → List Term → ℕ → Option Refusal
+operand_by text tables spot line pr (Some segment) entry terms tag = external_refusal text tables spot line segment entry terms tag
+operand_by text tables spot line pr None entry terms tag = own_operand text tables spot line (own_room pr) terms
 
 abbrev pub operand_refusal : List ℕ → Tables → Spot → Line36 → Option Arg → Option Refusal
 operand_refusal text tables spot line (Some (arg.Symbol span)) = None
@@ -85,22 +91,27 @@ may_enter spot Linkage = not spot.uses_outer
 may_enter spot Symbol = true
 may_enter spot Static = not spot.uses_inner
 
-abbrev pub plain_refusal : List ℕ → Tables → Spot → Line36 → List Term → Option Refusal
-plain_refusal text tables spot line terms =
-    expression_refusal text tables.symbols spot line terms (expression_place terms) Half true
+abbrev pub instruction_refusal : List ℕ → Tables → Spot → Line36 → Option Refusal
+instruction_refusal text tables spot line =
+    sooner (unless (is_text_section spot.section) (refusal_at line (op_place line.op) E7)) (operand_refusal text tables spot line (first_arg line.args))
+
+abbrev pub use_refusal : List ℕ → Spot → Line36 → Option Refusal
+use_refusal text spot line =
+    unless (may_enter spot (section_in text (symbol_in (first_arg line.args)))) (refusal_at line (op_place line.op) E7)
+
+abbrev pub halves_refusal : List ℕ → Tables → Spot → Line36 → Option Refusal
+halves_refusal text tables spot line =
+    sooner (own_operand text tables spot line Half (terms_in (first_arg line.args))) (own_operand text tables spot line Half (terms_in (second_arg line.args)))
 
 abbrev pub refusal_of_deed : List ℕ → Tables → Spot → Line36 → Deed → Option Refusal
 refusal_of_deed text tables spot line deed.Nothing = None
-refusal_of_deed text tables spot line (deed.Instruction code bit27) =
-    sooner (unless (is_text_section spot.section) (refusal_at line (op_place line.op) E7)) (operand_refusal text tables spot line (first_arg line.args))
+refusal_of_deed text tables spot line (deed.Instruction code bit27) = instruction_refusal text tables spot line
 refusal_of_deed text tables spot line deed.Entry = None
 refusal_of_deed text tables spot line deed.Segdef = None
 refusal_of_deed text tables spot line deed.Equ = None
-refusal_of_deed text tables spot line deed.Use =
-    unless (may_enter spot (section_in text (symbol_in (first_arg line.args)))) (refusal_at line (op_place line.op) E7)
+refusal_of_deed text tables spot line deed.Use = use_refusal text spot line
 refusal_of_deed text tables spot line deed.Words = None
-refusal_of_deed text tables spot line deed.Zero =
-    sooner (plain_refusal text tables spot line (terms_in (first_arg line.args))) (plain_refusal text tables spot line (terms_in (second_arg line.args)))
+refusal_of_deed text tables spot line deed.Zero = halves_refusal text tables spot line
 refusal_of_deed text tables spot line deed.Block = None
 refusal_of_deed text tables spot line deed.Even = None
 refusal_of_deed text tables spot line deed.Bound = None

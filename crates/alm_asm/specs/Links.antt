@@ -1,6 +1,6 @@
 -- Links: the external operands of instructions, each once, in the order of their first use.
-use Rattle.std.specs.Prelude.{ℕ, ◌+◌, ◌*◌, ◌%◌, ◌^◌, Bool, ◌&&◌, nat_eq, List, [], ◌∷◌, ◌++◌, codes, Option, Some, None, if◌then◌else◌}
-use Rattle.std.specs.List.{list_any, position_or_len}
+use Rattle.std.specs.Prelude.{ℕ, ◌+◌, ◌*◌, ◌%◌, ◌^◌, Bool, ◌&&◌, nat_eq, List, [], ◌∷◌, ◌++◌, codes, Option, Some, None, unwrap_or, if◌then◌else◌}
+use Rattle.std.specs.List.{list_any, position}
 use Rattle.alm_parse.specs.Tokens.{slice_of, is_text}
 use Rattle.alm_parse.specs.declared.span.Span.{Span}
 use Rattle.alm_parse.specs.declared.expression.Term.{Term}
@@ -113,4 +113,4 @@ links_from text symbols links spot (line ∷ lines) =
 
 -- the offset of a link in the linkage section, whose links begin at a place
 unfoldable pub link_place : List LinkFields → ℕ → LinkFields → ℕ
-link_place links first link = first + 2 * position_or_len (same_link link) links
+link_place links first link = first + 2 * unwrap_or (position (same_link link) links) 0

@@ -1,10 +1,12 @@
 //! The assembler.
 #![tactic(auto)]
 
+pub mod assembly;
 pub mod deed;
 pub mod definitions;
 pub mod expression;
 pub mod layout;
+pub mod line_refusal;
 pub mod links;
 pub mod marks;
 pub mod refusal;
@@ -13,3 +15,5 @@ pub mod sum;
 pub mod symbols;
 pub mod tables;
 pub mod words;
+
+pub use assembly::assemble;

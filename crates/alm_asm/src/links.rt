@@ -1,7 +1,7 @@
 //! Links: the external operands of instructions, each once, in the order of their first use.
 
 ghost use Rattle.std.specs.Prelude.{ℕ, List, [], ◌∷◌, ◌++◌, ◌≡◌, Option, OnOk, IfOk};
-ghost use Rattle.std.specs.List.{list_any, position_or_len};
+ghost use Rattle.std.specs.List.{list_any, position};
 ghost use Rattle.alm_asm.specs.Deeds.{first_arg};
 ghost use Rattle.alm_asm.specs.Spots.{start};
 ghost use Rattle.obj36.specs.ObjectSegment.{place_number};
@@ -239,13 +239,10 @@ pub fn links_of(
     Ok(links)
 }
 
-fn index_of(links: &[Link], link: &Link) -> usize
-    ensures { result ≡ position_or_len (same_link link.now) links.now }
+fn index_of(links: &[Link], link: &Link) -> Option<usize>
+    ensures { result ≡ position (same_link link.now) links.now }
 {
-    match links.iter().position(|other| same_link(link, other)) {
-        Some(index) => index,
-        None => links.len(),
-    }
+    links.iter().position(|other| same_link(link, other))
 }
 
 /// The offset of a link in the linkage section, whose links begin at a place.
@@ -253,6 +250,6 @@ fn index_of(links: &[Link], link: &Link) -> usize
 pub fn link_place(links: &[Link], first: u64, link: &Link) -> Result<u64, NoMemory>
     ensures { IfOk result (λ at. at ≡ link_place links.now first link.now) }
 {
-    let index = index_of(links, link) as u64;
+    let index = index_of(links, link).unwrap_or(0) as u64;
     plus(first, plus(index, index)?)
 }
