@@ -1,12 +1,13 @@
 -- A line, byte by byte.
-use Rattle.std.proofs.Common.{◌≡◌, ℕ, ◌+◌, ◌<◌, ◌≤◌, ◌==◌, Bool, true, false, cond, List, [], ◌∷◌, ◌++◌, length, drop, get_or, refl, sym, ap, ◌∙◌, arith, drop-cons, add-one}
+use Rattle.std.proofs.Common.{◌≡◌, ℕ, ◌+◌, ◌<◌, ◌≤◌, ◌==◌, true, false, cond, List, [], ◌∷◌, ◌++◌, length, drop, get_or, refl, sym, ap, ◌∙◌, drop-cons, add-one, subst}
+use Rattle.std.specs.List.{All}
+use Rattle.std.proofs.lemmas.List.Elements.{All-append, All-cons, All-nil}
 use Rattle.std.proofs.Math.ListN.{drop_of_length-le}
 use Rattle.alm_parse.specs.declared.span.Span.{Span}
-use Rattle.alm_parse.specs.declared.head.Turn.{Turn}
 use Rattle.alm_parse.specs.declared.head.Turn.TheVariants.{Label, Skip, Stop, Go}
 use Rattle.alm_parse.specs.Bytes.{is_blank}
 use Rattle.alm_parse.specs.Bodies.{span_at}
-use Rattle.alm_parse.specs.Heads.{turn_of, head_at, head_by, head_from, end_from}
+use Rattle.alm_parse.specs.Heads.{IsMark, turn_of, head_at, head_by, head_from, end_from}
 
 head_step :
     (marks : List Span) (from at : ℕ) (bytes : List ℕ) (i : ℕ) → i < length bytes
@@ -48,6 +49,14 @@ pub head_end :
     → head_from marks from at (drop i bytes) ≡ head_at marks from at
 unfolding head_from
 head_end marks from at bytes i past = rw (drop_of_length-le bytes past) refl
+
+-- a label more
+pub marks_more :
+    (count : ℕ) (marks new : List Span) (from at : ℕ) → All (IsMark count) marks → from ≤ at → at < count
+    → new ≡ marks ++ span_at from at ∷ [] → All (IsMark count) new
+marks_more count marks new from at all order within e =
+    let mark : IsMark count (span_at from at) = record { ordered = order; inside = within } in
+    subst (λ more. All (IsMark count) more) (sym e) (All-append (IsMark count) marks (span_at from at ∷ []) all (All-cons (IsMark count) (span_at from at) [] mark (All-nil (IsMark count))))
 
 pub ruleset heads = (head_label, head_skip, head_stop, head_go, head_end)
 

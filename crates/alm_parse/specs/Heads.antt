@@ -1,6 +1,6 @@
 -- The labels and the operation of a line, and where its operand stands. Blanks and tabs part tokens, a colon ends a label,
 -- and a quotation mark begins a comment.
-use Rattle.std.specs.Prelude.{ℕ, ◌+◌, Bool, true, false, not, ◌==◌, List, [], ◌∷◌, ◌++◌, slice_index, Option, Some, None, option_map, option_and_then, if◌then◌else◌}
+use Rattle.std.specs.Prelude.{ℕ, ◌+◌, ◌<◌, ◌≤◌, Bool, not, ◌==◌, List, [], ◌∷◌, ◌++◌, slice_index, Option, Some, None, option_map, if◌then◌else◌}
 use Rattle.std.specs.List.{position}
 use Rattle.alm_parse.specs.declared.span.Span.{Span}
 use Rattle.alm_parse.specs.declared.head.Turn.{Turn}
@@ -67,3 +67,12 @@ delimited_by rest (Some from) = Some (span_at from rest.to)
 unfoldable pub delimited_in : List ℕ → Span → Option Span
 delimited_in text rest =
     if slice_index (slice_of text rest) 0 == 34 then None else delimited_by rest (operand_start text rest)
+
+-- A label ends before a byte that there is, in a text of so many bytes, and the operation has a byte.
+pub record IsMark (count : ℕ) (span : Span) : Type 0 where
+  pub ordered : span.from ≤ span.to
+  pub inside : span.to < count
+
+pub record IsToken (count : ℕ) (span : Span) : Type 0 where
+  pub some : span.from < span.to
+  pub inside : span.to ≤ count

@@ -14,3 +14,6 @@ pub mod Heads
 pub mod Operations
 pub mod Rows
 pub mod Lines
+pub mod Spans
+pub mod SourceFields
+pub mod Sources

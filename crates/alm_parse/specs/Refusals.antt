@@ -1,5 +1,5 @@
 -- Why a source is refused.
-use Rattle.std.specs.Prelude.{ℕ, ⊤, ◌≡◌, Bool, true, false, List, slice_index, Option, Some, None, Result, Ok, Err, if◌then◌else◌}
+use Rattle.std.specs.Prelude.{ℕ, ⊤, ◌≡◌, ◌<◌, Bool, true, false, List, slice_index, Option, Some, None, Result, Ok, Err, if◌then◌else◌}
 use Rattle.alm_parse.specs.declared.refusal.Code.{Code}
 use Rattle.alm_parse.specs.declared.refusal.Code.TheVariants.{E1, E2, E4}
 use Rattle.alm_parse.specs.declared.refusal.Refusal.{Refusal}
@@ -28,3 +28,11 @@ abbrev pub Reads : {A : Type 0} → Result A Halt → Result A Refusal → Type 
 Reads (Ok value) definition = definition ≡ Ok value
 Reads (Err (Refused refusal)) definition = definition ≡ Err refusal
 Reads (Err NoMemory) definition = ⊤
+
+-- A refusal speaks of a byte that there is, in a text of so many bytes.
+abbrev pub IsInside : ℕ → Refusal → Type 0
+IsInside count refusal = refusal.place < count
+
+abbrev pub HaltsInside : ℕ → Halt → Type 0
+HaltsInside count (Refused refusal) = refusal.place < count
+HaltsInside count NoMemory = ⊤

@@ -52,5 +52,8 @@ pub fn is_legal(byte: u8) -> bool
 {
     is_blank(byte)
         || goes_on(byte)
-        || matches!(byte, b'\n' | b'|' | b':' | b'+' | b'-' | b'*' | b'$' | b',' | b'"')
+        || matches!(
+            byte,
+            b'\n' | b'|' | b':' | b'+' | b'-' | b'*' | b'$' | b',' | b'"'
+        )
 }

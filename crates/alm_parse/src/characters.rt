@@ -1,11 +1,11 @@
 //! Texts that are placed: characters between two delimiters.
 
-ghost use Rattle.std.specs.Prelude.{ℕ, ◌∷◌, ◌≡◌, ◌^◌, ◌<◌, ◌+◌, ◌==◌, not, slice_index, drop, length, Option, IfSome, IfOk};
+ghost use Rattle.std.specs.Prelude.{ℕ, ◌∷◌, ◌≡◌, ◌^◌, ◌<◌, ◌+◌, ◌==◌, not, slice_index, drop, length, Option, IfSome, IfOk, IfErr};
 ghost use Rattle.std.specs.List.{find, position};
 ghost use Rattle.std.specs.Option.{option_copied};
 ghost use Rattle.alm_parse.specs.Bytes.{is_blank, is_character};
 ghost use Rattle.alm_parse.specs.Characters.{four, first_word, packed, is_ended, place_bad, characters_given};
-ghost use Rattle.alm_parse.specs.Refusals.{Reads};
+ghost use Rattle.alm_parse.specs.Refusals.{Reads, HaltsInside};
 
 use crate::args::{Arg, Args, one};
 use crate::body::place_of;
@@ -103,7 +103,8 @@ fn place_bad(text: &[u8], span: Span) -> Option<u32>
 pub fn characters_args(alloc: Global, text: &[u8], rest: Span) -> Result<Args, Halt>
     requires text { length text.now < 2 ^ 32 }
     requires inside { rest.from < length text.now }
-    ensures { Reads result (characters_given text.now rest) }
+    ensures value { Reads result (characters_given text.now rest) }
+    ensures inside { IfErr result (HaltsInside (length text.now)) }
 {
     let delimiter = byte_at(text, rest.from);
     if !is_character(delimiter) {

@@ -1,7 +1,8 @@
 //! Expressions: terms joined by signs.
 
 ghost use Rattle.std.specs.Prelude.{ℕ, List, [], ◌∷◌, ◌++◌, ◌≡◌, ◌^◌, ◌<◌, ◌≤◌, length, map, slice_index, OnOk, OnErr, IfOk, IfSome};
-ghost use Rattle.std.specs.List.{list_all};
+ghost use Rattle.std.specs.List.{list_all, find};
+ghost use Rattle.std.specs.Option.{option_copied};
 ghost use Rattle.alm_parse.specs.Expressions.{is_here, is_term, is_term_at, signed_start, expression_pieces, is_over_at, place_over, atom_of, term_of, IsSmall};
 
 use crate::pieces::{Parter, Piece, Pieces, pieces_of};
@@ -142,12 +143,19 @@ fn is_over_at(text: &[u8], piece: &Piece) -> bool
     is_over(read_small(bytes_of(text, piece.span)))
 }
 
+fn first_over<'a>(text: &[u8], pieces: &'a [Piece]) -> Option<&'a Piece>
+    ensures { option_copied result ≡ find (is_over_at text.now) pieces.now }
+{
+    pieces.iter().find(|piece| is_over_at(text, *piece))
+}
+
 /// The place of the first number over 262143 among pieces.
 #[tactic(auto, unfolding(crate::specs::Expressions::place_over))]
 pub fn place_over(text: &[u8], pieces: &[Piece]) -> Option<u32>
-    ensures { result ≡ place_over text.now pieces.now }
+    ensures value { result ≡ place_over text.now pieces.now }
+    ensures within { IfSome result (λ place. place < length text.now) }
 {
-    match pieces.iter().find(|piece| is_over_at(text, *piece)) {
+    match first_over(text, pieces) {
         Some(piece) => Some(piece.span.from),
         None => None,
     }

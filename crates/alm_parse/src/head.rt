@@ -1,9 +1,9 @@
 //! The labels and the operation of a line, and where its operand stands.
 
 ghost use Rattle.std.specs.Prelude.{ℕ, ◌≡◌, ◌^◌, ◌<◌, ◌≤◌, ◌==◌, not, Bool, Option, Some, None, option_map, IfSome, IfOk, length};
-ghost use Rattle.std.specs.List.{position};
+ghost use Rattle.std.specs.List.{All, position};
 ghost use Rattle.alm_parse.specs.Bytes.{is_blank};
-ghost use Rattle.alm_parse.specs.Heads.{turn_of, token, head_of, operand_start, operand_end, operand_in, delimited_in};
+ghost use Rattle.alm_parse.specs.Heads.{IsMark, IsToken, turn_of, token, head_of, operand_start, operand_end, operand_in, delimited_in};
 
 use crate::bytes::is_blank;
 use crate::expression::first_byte;
@@ -48,7 +48,8 @@ fn turn_of(byte: u8, fresh: bool) -> Turn
 }
 
 fn token(from: u32, to: u32) -> Option<Span>
-    ensures { result ≡ token from to }
+    ensures value { result ≡ token from to }
+    ensures begun { from ≤ to → IfSome result (IsToken to) }
 {
     if from == to {
         None
@@ -61,7 +62,9 @@ fn token(from: u32, to: u32) -> Option<Span>
 #[tactic(auto, using(crate::proofs::HeadLaws::heads), unfolding(crate::specs::Heads::head_of))]
 pub fn head_of(alloc: Global, text: &[u8], line: Span) -> Result<Head, NoMemory>
     requires { length text.now < 2 ^ 32 }
-    ensures { IfOk result (λ head. head ≡ head_of text.now line) }
+    ensures value { IfOk result (λ head. head ≡ head_of text.now line) }
+    ensures marks { IfOk result (λ head. All (IsMark (length text.now)) head.labels) }
+    ensures op { IfOk result (λ head. IfSome head.op (IsToken (length text.now))) }
 {
     let mut labels = Spans::new(alloc);
     let mut from = line.from;

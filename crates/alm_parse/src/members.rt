@@ -1,9 +1,10 @@
 //! Operands that are lists between commas.
 
-ghost use Rattle.std.specs.Prelude.{ℕ, ◌≡◌, ◌^◌, ◌<◌, Option, IfSome, IfOk, length, map};
-ghost use Rattle.std.specs.List.{list_all};
+ghost use Rattle.std.specs.Prelude.{ℕ, ◌≡◌, ◌^◌, ◌<◌, Option, IfSome, IfOk, IfErr, length, map};
+ghost use Rattle.std.specs.List.{list_all, find};
+ghost use Rattle.std.specs.Option.{option_copied};
 ghost use Rattle.alm_parse.specs.Members.{members, is_symbol_at, symbol_arg, is_written_at, is_out_at, place_out, number_arg, symbols_given, numbers_given};
-ghost use Rattle.alm_parse.specs.Refusals.{Reads};
+ghost use Rattle.alm_parse.specs.Refusals.{Reads, HaltsInside};
 
 use crate::args::{Arg, Args};
 use crate::numerals::{Numeral, is_out, is_written, word_as};
@@ -53,8 +54,10 @@ fn symbol_args(alloc: Global, members: &[Piece]) -> Result<Args, NoMemory>
 /// Symbols between commas.
 #[tactic(auto, unfolding(crate::specs::Members::symbols_given))]
 pub fn symbols_args(alloc: Global, text: &[u8], operand: Span) -> Result<Args, Halt>
-    requires { length text.now < 2 ^ 32 }
-    ensures { Reads result (symbols_given text.now operand) }
+    requires text { length text.now < 2 ^ 32 }
+    requires inside { operand.from < length text.now }
+    ensures value { Reads result (symbols_given text.now operand) }
+    ensures inside { IfErr result (HaltsInside (length text.now)) }
 {
     let members = members(alloc, text, operand)?;
     let form = are_symbols(text, members.items());
@@ -85,15 +88,21 @@ fn is_out_at(numeral: Numeral, text: &[u8], member: &Piece) -> bool
     is_out(numeral, bytes_of(text, member.span))
 }
 
+fn first_out<'a>(numeral: Numeral, text: &[u8], members: &'a [Piece]) -> Option<&'a Piece>
+    ensures { option_copied result ≡ find (is_out_at numeral text.now) members.now }
+{
+    members
+        .iter()
+        .find(|member| is_out_at(numeral, text, *member))
+}
+
 /// The place of the first member that is a number out of its range.
 #[tactic(auto, unfolding(crate::specs::Members::place_out))]
 pub fn place_out(numeral: Numeral, text: &[u8], members: &[Piece]) -> Option<u32>
-    ensures { result ≡ place_out numeral text.now members.now }
+    ensures value { result ≡ place_out numeral text.now members.now }
+    ensures within { IfSome result (λ place. place < length text.now) }
 {
-    match members
-        .iter()
-        .find(|member| is_out_at(numeral, text, *member))
-    {
+    match first_out(numeral, text, members) {
         Some(member) => Some(member.span.from),
         None => None,
     }
@@ -129,8 +138,10 @@ pub fn numbers_args(
     text: &[u8],
     operand: Span,
 ) -> Result<Args, Halt>
-    requires { length text.now < 2 ^ 32 }
-    ensures { Reads result (numbers_given numeral text.now operand) }
+    requires text { length text.now < 2 ^ 32 }
+    requires inside { operand.from < length text.now }
+    ensures value { Reads result (numbers_given numeral text.now operand) }
+    ensures inside { IfErr result (HaltsInside (length text.now)) }
 {
     let members = members(alloc, text, operand)?;
     let form = are_written(numeral, text, members.items());

@@ -1,9 +1,9 @@
 //! The operand of an instruction.
 
-ghost use Rattle.std.specs.Prelude.{ℕ, ◌≡◌, ◌^◌, ◌<◌, Option, IfSome, IfOk, length, map};
+ghost use Rattle.std.specs.Prelude.{ℕ, ◌≡◌, ◌^◌, ◌<◌, Option, IfSome, IfOk, IfErr, length, map};
 ghost use Rattle.alm_parse.specs.Expressions.{term_of};
 ghost use Rattle.alm_parse.specs.Operands.{body_span, tag_given, entry_given, operand_of, operand_given};
-ghost use Rattle.alm_parse.specs.Refusals.{Reads};
+ghost use Rattle.alm_parse.specs.Refusals.{Reads, HaltsInside};
 
 use crate::args::{Arg, Args, one};
 use crate::body::{Body, body_of, body_pieces, is_body, place_of};
@@ -85,8 +85,10 @@ fn operand_of(text: &[u8], body: Body, expr: Expr, tag: u8) -> Arg
 /// The operand of an instruction, of which there is a byte at least.
 #[tactic(auto, unfolding(crate::specs::Operands::operand_given))]
 pub fn operand_args(alloc: Global, text: &[u8], operand: Span) -> Result<Args, Halt>
-    requires { length text.now < 2 ^ 32 }
-    ensures { Reads result (operand_given text.now operand) }
+    requires text { length text.now < 2 ^ 32 }
+    requires inside { operand.from < length text.now }
+    ensures value { Reads result (operand_given text.now operand) }
+    ensures inside { IfErr result (HaltsInside (length text.now)) }
 {
     let comma = place_of(text, operand, b',');
     let tag = tag_given(text, operand, comma);

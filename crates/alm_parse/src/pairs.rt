@@ -1,8 +1,8 @@
 //! Operands of two parts, and names of sections.
 
-ghost use Rattle.std.specs.Prelude.{ℕ, ◌≡◌, ◌^◌, ◌<◌, Option, IfSome, IfOk, length};
+ghost use Rattle.std.specs.Prelude.{ℕ, ◌≡◌, ◌^◌, ◌<◌, Option, IfSome, IfOk, IfErr, length, ◌⊎◌};
 ghost use Rattle.alm_parse.specs.Pairs.{first_place, value_given, halves_given, block_given, is_section, section_given};
-ghost use Rattle.alm_parse.specs.Refusals.{Reads};
+ghost use Rattle.alm_parse.specs.Refusals.{Reads, HaltsInside};
 
 use crate::args::{Arg, Args, one, two};
 use crate::expression::{are_terms, expr_of, expression_pieces, place_over};
@@ -15,8 +15,10 @@ use std::alloc::Global;
 /// A symbol and an expression.
 #[tactic(auto, unfolding(crate::specs::Pairs::value_given))]
 pub fn value_args(alloc: Global, text: &[u8], operand: Span) -> Result<Args, Halt>
-    requires { length text.now < 2 ^ 32 }
-    ensures { Reads result (value_given text.now operand) }
+    requires text { length text.now < 2 ^ 32 }
+    requires inside { operand.from < length text.now }
+    ensures value { Reads result (value_given text.now operand) }
+    ensures inside { IfErr result (HaltsInside (length text.now)) }
 {
     let members = members(alloc, text, operand)?;
     let [name, value] = members.items() else {
@@ -33,7 +35,8 @@ pub fn value_args(alloc: Global, text: &[u8], operand: Span) -> Result<Args, Hal
 }
 
 fn first_place(first: Option<u32>, second: Option<u32>) -> Option<u32>
-    ensures { result ≡ first_place first second }
+    ensures value { result ≡ first_place first second }
+    ensures either { (result ≡ first) ⊎ (result ≡ second) }
 {
     match first {
         Some(place) => Some(place),
@@ -44,8 +47,10 @@ fn first_place(first: Option<u32>, second: Option<u32>) -> Option<u32>
 /// Two expressions.
 #[tactic(auto, unfolding(crate::specs::Pairs::halves_given))]
 pub fn halves_args(alloc: Global, text: &[u8], operand: Span) -> Result<Args, Halt>
-    requires { length text.now < 2 ^ 32 }
-    ensures { Reads result (halves_given text.now operand) }
+    requires text { length text.now < 2 ^ 32 }
+    requires inside { operand.from < length text.now }
+    ensures value { Reads result (halves_given text.now operand) }
+    ensures inside { IfErr result (HaltsInside (length text.now)) }
 {
     let members = members(alloc, text, operand)?;
     let [left, right] = members.items() else {
@@ -69,8 +74,10 @@ pub fn halves_args(alloc: Global, text: &[u8], operand: Span) -> Result<Args, Ha
 /// A symbol and a number.
 #[tactic(auto, unfolding(crate::specs::Pairs::block_given))]
 pub fn block_args(alloc: Global, text: &[u8], operand: Span) -> Result<Args, Halt>
-    requires { length text.now < 2 ^ 32 }
-    ensures { Reads result (block_given text.now operand) }
+    requires text { length text.now < 2 ^ 32 }
+    requires inside { operand.from < length text.now }
+    ensures value { Reads result (block_given text.now operand) }
+    ensures inside { IfErr result (HaltsInside (length text.now)) }
 {
     let members = members(alloc, text, operand)?;
     let [name, count] = members.items() else {
@@ -94,7 +101,9 @@ fn is_section(bytes: &[u8]) -> bool
 /// The name of a section.
 #[tactic(auto, unfolding(crate::specs::Pairs::section_given))]
 pub fn section_args(alloc: Global, text: &[u8], operand: Span) -> Result<Args, Halt>
-    ensures { Reads result (section_given text.now operand) }
+    requires { operand.from < length text.now }
+    ensures value { Reads result (section_given text.now operand) }
+    ensures inside { IfErr result (HaltsInside (length text.now)) }
 {
     let form = is_section(bytes_of(text, operand));
     if let Some(refusal) = refused(text, operand.from, form, None) {

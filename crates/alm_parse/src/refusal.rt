@@ -1,7 +1,7 @@
 //! Why a source is refused, and where.
 
-ghost use Rattle.std.specs.Prelude.{ℕ, ◌≡◌, ◌^◌, ◌<◌, length, slice_index};
-ghost use Rattle.alm_parse.specs.Refusals.{told, refused};
+ghost use Rattle.std.specs.Prelude.{ℕ, ◌≡◌, ◌^◌, ◌<◌, length, slice_index, IfSome};
+ghost use Rattle.alm_parse.specs.Refusals.{told, refused, IsInside};
 ghost use Rattle.alm_parse.specs.declared.refusal.Halt.TheVariants as halt;
 
 use crate::bytes::is_legal;
@@ -62,7 +62,8 @@ pub fn byte_at(text: &[u8], place: u32) -> u8
 /// that is refused.
 #[tactic(auto, unfolding(crate::specs::Refusals::told))]
 pub fn told(text: &[u8], place: u32, code: Code) -> Refusal
-    ensures { result ≡ told text.now place code }
+    ensures value { result ≡ told text.now place code }
+    ensures place { result.place ≡ place }
 {
     if is_legal(byte_at(text, place)) {
         Refusal { place, code }
@@ -76,7 +77,10 @@ pub fn told(text: &[u8], place: u32, code: Code) -> Refusal
 
 /// The refusal of an operand: that it is not of its form, or else its first number out of range, if it has one.
 pub fn refused(text: &[u8], operand: u32, form: bool, over: Option<u32>) -> Option<Refusal>
-    ensures { result ≡ refused text.now operand form over }
+    requires inside { operand < length text.now }
+    requires over { IfSome over (λ place. place < length text.now) }
+    ensures value { result ≡ refused text.now operand form over }
+    ensures inside { IfSome result (IsInside (length text.now)) }
 {
     if !form {
         return Some(told(text, operand, Code::E2));

@@ -81,14 +81,15 @@ pub fn rows_of(alloc: Global, text: &[u8]) -> Result<Rows, NoMemory>
         }
         at += 1;
     }
-    if from != at {
-        rows.push(Row {
-            span: Span {
-                from: from as u32,
-                to: at as u32,
-            },
-            number: number as u32,
-        })?;
+    if from == at {
+        return Ok(rows);
     }
+    rows.push(Row {
+        span: Span {
+            from: from as u32,
+            to: at as u32,
+        },
+        number: number as u32,
+    })?;
     Ok(rows)
 }

@@ -6,10 +6,10 @@ use Rattle.alm_parse.proofs.head.operand_end.Goals.{then-not-is_blank, else-not-
 
 pub loop-byte-preserved : goal.loop-byte-preserved
 loop-byte-preserved c = record {
-    place = omega arith;
-    whole =
+  place = omega arith;
+  whole =
       elim c.if-not-is_blank.branch [
         | then-not-is_blank w ↦ grind (arith, common_steps, ends)
         | else-not-is_blank w ↦ grind (arith, common_steps, ends)
       ];
-  }
+}

@@ -4,6 +4,6 @@ use Rattle.alm_parse.proofs.head.operand_end.Given as goal
 
 abbrev pub invariant-loop-byte : goal.invariant-loop-byte
 invariant-loop-byte l = record {
-    place : l.at ≡ l.fn.rest.from + l.byte-index;
-    whole : end_from l.end l.at (drop l.byte-index l.byte-items) ≡ operand_end l.text l.fn.rest;
-  }
+  place : l.at ≡ l.fn.rest.from + l.byte-index;
+  whole : end_from l.end l.at (drop l.byte-index l.byte-items) ≡ operand_end l.text l.fn.rest;
+}
