@@ -6,3 +6,8 @@ pub mod ObjectSegment
 pub mod Sizes
 pub mod Lengths
 pub mod Reading
+pub mod MapFaults
+pub mod Near
+pub mod TableFaults
+pub mod LinkFaults
+pub mod Faults

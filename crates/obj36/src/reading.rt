@@ -30,7 +30,7 @@ pub(crate) fn word_at(words: &[Word], at: u64) -> Word
 }
 
 // What is left behind so many words.
-fn behind(words: &[Word], count: u64) -> &[Word]
+pub(crate) fn behind(words: &[Word], count: u64) -> &[Word]
     ensures { result.now ≡ drop count words.now }
 {
     if count <= words.len() as u64 {
@@ -41,7 +41,7 @@ fn behind(words: &[Word], count: u64) -> &[Word]
 }
 
 // The first words, at most so many.
-fn front(words: &[Word], count: u64) -> &[Word]
+pub(crate) fn front(words: &[Word], count: u64) -> &[Word]
     ensures { result.now ≡ take count words.now }
 {
     if count <= words.len() as u64 {
@@ -269,7 +269,7 @@ pub(crate) fn place_of_map(words: &[Word]) -> u64
 }
 
 #[tactic(auto, unfolding(crate::specs::Reading::version_in))]
-fn version(words: &[Word]) -> u8
+pub(crate) fn version(words: &[Word]) -> u8
     ensures { result ≡ version_in words.now }
 {
     if place_of_map(words) + 8 == words.len() as u64 {
