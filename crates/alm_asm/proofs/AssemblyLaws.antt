@@ -1,10 +1,13 @@
 -- What the assembler answers.
-use Rattle.std.proofs.Common.{◌≡◌, ℕ, List, Option, Some, None, Result, Ok, Err, Bool, true, false, refl, sym, ap, ◌∙◌}
+use Rattle.std.proofs.Common.{◌≡◌, ℕ, List, Option, Some, None, Result, Ok, Err, Bool, true, false, IsTrue, refl, sym, ap, ◌∙◌, true≢false}
 use Rattle.alm_parse.specs.SourceFields.{Source}
 use Rattle.alm_parse.specs.declared.fault.AlmFault.{AlmFault}
 use Rattle.alm_parse.specs.declared.fault.AlmFault.TheVariants.{E1, E2, E3, E4, E5, E6, E7, E8, NoMemory}
 use Rattle.alm_parse.specs.Sources.{Refuses, ParseSays}
 use Rattle.obj36.specs.PartsFields.{PartsFields}
+use Rattle.obj36.specs.ObjectSegment.{is_well_formed}
+use Rattle.obj36.specs.Sizes.{HasShortLists}
+use Rattle.obj36.proofs.LengthLaws.{short_lists}
 use Rattle.alm_asm.specs.Refusals.{fault_of}
 use Rattle.alm_asm.specs.Assembly.{refusal_of, assembled_by, assembled}
 use Rattle.alm_asm.specs.declared.refusal.Refusal.{Refusal}
@@ -25,3 +28,15 @@ refuses NoMemory definition e = tt
 pub tells_refusal : (source : Source) (refusal : Refusal) → refusal_of source ≡ Some refusal → Refuses (fault_of refusal) (assembled source)
 unfolding assembled
 tells_refusal source refusal e = refuses (fault_of refusal) (assembled_by source (refusal_of source)) (ap (assembled_by source) e)
+
+is_true : (b : Bool) → IsTrue b → b ≡ true
+is_true true t = refl
+is_true false t = absurd t
+
+-- no list of words stands for parts with a list that is too long to be counted
+no_list : (p : PartsFields) (b : Bool) → is_well_formed p ≡ b → (HasShortLists p → ⊥) → b ≡ false
+no_list p true e long = absurd (long (short_lists p e))
+no_list p false e long = refl
+
+pub long_is_none : (p : PartsFields) (b : Bool) → (HasShortLists p → IsTrue b) → b ≡ false → false ≡ is_well_formed p
+long_is_none p b long e = sym (no_list p (is_well_formed p) refl (λ short. true≢false (sym (is_true b (long short)) ∙ e)))

@@ -152,7 +152,14 @@ fn relocations_of(
 {
     let mut marks = Relocs::new(alloc);
     let section = static_section(tables.uses_outer);
-    push_marks_in(alloc, text, &tables.symbols, Section::Text, lines, &mut marks)?;
+    push_marks_in(
+        alloc,
+        text,
+        &tables.symbols,
+        Section::Text,
+        lines,
+        &mut marks,
+    )?;
     push_marks_in(alloc, text, &tables.symbols, section, lines, &mut marks)?;
     Ok(marks)
 }
@@ -199,7 +206,8 @@ fn last_line(lines: &[Line36]) -> u32
 
 // Whether each list has fewer than 2^32 members.
 fn has_short_lists(parts: &Parts) -> bool
-    ensures { IsTrue result → HasShortLists parts.now }
+    ensures short { IsTrue result → HasShortLists parts.now }
+    ensures long { HasShortLists parts.now → IsTrue result }
 {
     parts.text.slice().len() < 1 << 32
         && parts.statics.slice().len() < 1 << 32
@@ -208,14 +216,22 @@ fn has_short_lists(parts: &Parts) -> bool
         && parts.relocations.items().len() < 1 << 32
 }
 
+// Whether some list of words stands for parts.
+#[tactic(auto, using(crate::proofs::AssemblyLaws::long_is_none))]
+fn is_object(parts: &Parts) -> bool
+    ensures { result ≡ is_well_formed parts.now }
+{
+    if !has_short_lists(parts) {
+        return false;
+    }
+    parts.is_well_formed()
+}
+
 // The object of parts, if they are those of one.
 fn object_of(alloc: Global, parts: Parts, number: u32) -> Result<Object, AlmFault>
     ensures { ParseSays result (made parts number (is_well_formed parts)) }
 {
-    if !has_short_lists(&parts) {
-        return Err(AlmFault::NoMemory);
-    }
-    if !parts.is_well_formed() {
+    if !is_object(&parts) {
         return Err(AlmFault::E8(number, 1));
     }
     Ok(Object::new(alloc, parts)?)

@@ -43,17 +43,16 @@ fn term_sum(text: &[u8], symbols: &Symbols, spot: Spot, term: Term) -> Result<Su
     ensures { IfOk result (λ sum. sum ≡ term_sum text.now symbols.now spot term) }
 {
     let sum = atom_sum(text, symbols, spot, term.span, term.what)?;
-    if term.minus { Ok(sum.turned()) } else { Ok(sum) }
+    if term.minus {
+        Ok(sum.turned())
+    } else {
+        Ok(sum)
+    }
 }
 
 /// What an expression comes to; a symbol that is not defined counts as 0.
 #[tactic(auto, unfolding(crate::specs::Expressions::added))]
-pub fn sum_of(
-    text: &[u8],
-    symbols: &Symbols,
-    spot: Spot,
-    terms: &[Term],
-) -> Result<Sum, NoMemory>
+pub fn sum_of(text: &[u8], symbols: &Symbols, spot: Spot, terms: &[Term]) -> Result<Sum, NoMemory>
     ensures { IfOk result (λ sum. sum ≡ sum_of text.now symbols.now spot terms.now) }
 {
     let mut sum = absolute(0);

@@ -160,12 +160,7 @@ fn own_sum(
     }
 }
 
-fn own_again(
-    text: &[u8],
-    line: &Line36,
-    symbols: &Symbols,
-    own: Option<Span>,
-) -> Option<Refusal>
+fn own_again(text: &[u8], line: &Line36, symbols: &Symbols, own: Option<Span>) -> Option<Refusal>
     ensures { result ≡ own_again text.now line.now symbols.now own }
 {
     match own {

@@ -136,7 +136,7 @@ fn operand_refusal(
                 expr,
                 tag,
             },
-            ..,
+            ..
         ] => match seg {
             Some(segment) => {
                 let terms = expr.items();

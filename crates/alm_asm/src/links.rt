@@ -144,7 +144,7 @@ fn link_in(
                 expr,
                 tag,
             },
-            ..,
+            ..
         ] => {
             let link = link_of(text, symbols, spot, *segment, *entry, expr.items(), *tag)?;
             Ok(Some(link))

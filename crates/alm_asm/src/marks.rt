@@ -62,7 +62,16 @@ fn push_operand(
     ensures { OnOk result (marks.new ≡ marks.old ++ operand_mark text.now symbols.now spot (first_arg args.now)) }
 {
     match args {
-        [Arg::Operand { pr, seg, entry: _, expr, tag: _ }, ..] => {
+        [
+            Arg::Operand {
+                pr,
+                seg,
+                entry: _,
+                expr,
+                tag: _,
+            },
+            ..
+        ] => {
             let sum = sum_of(text, symbols, spot, expr.items())?;
             let kind = operand_kind(*seg, sum);
             push_mark(marks, spot, operand_part(*pr, *seg), kind)

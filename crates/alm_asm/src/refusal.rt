@@ -66,13 +66,7 @@ pub fn sooner(a: Option<Refusal>, b: Option<Refusal>) -> Option<Refusal>
     match (a, b) {
         (None, b) => b,
         (Some(a), None) => Some(a),
-        (Some(a), Some(b)) => {
-            if precedes(b, a) {
-                Some(b)
-            } else {
-                Some(a)
-            }
-        }
+        (Some(a), Some(b)) => { if precedes(b, a) { Some(b) } else { Some(a) } }
     }
 }
 

@@ -7,7 +7,9 @@ ghost use Rattle.alm_asm.specs.Sums.{half_of, offset_of};
 ghost use Rattle.alm_asm.specs.Links.{link_of, link_place};
 ghost use Rattle.alm_asm.specs.Words.{plain_inst, pointed_inst, own_inst, inst_by, inst_in, instruction_word, halves_word, words_by, words_of_line, words_from};
 
-use crate::deed::{Deed, deed_of, first_terms, push_all, second_number, second_terms, words_of_args};
+use crate::deed::{
+    Deed, deed_of, first_terms, push_all, second_number, second_terms, words_of_args,
+};
 use crate::expression::sum_of;
 use crate::links::{link_of, link_place, same_section};
 use crate::spot::{Spot, below};
@@ -99,7 +101,7 @@ fn inst_in(
                 expr,
                 tag,
             },
-            ..,
+            ..
         ] => match seg {
             Some(segment) => external_inst(
                 text,
@@ -141,12 +143,7 @@ fn word_of(left: Balance, right: Balance) -> Word
 }
 
 #[tactic(auto, unfolding(crate::specs::Words::halves_word))]
-fn halves_word(
-    text: &[u8],
-    tables: &Tables,
-    spot: Spot,
-    args: &[Arg],
-) -> Result<Word, NoMemory>
+fn halves_word(text: &[u8], tables: &Tables, spot: Spot, args: &[Arg]) -> Result<Word, NoMemory>
     ensures { IfOk result (λ w. w ≡ halves_word text.now tables.now spot args.now) }
 {
     let left = sum_of(text, &tables.symbols, spot, first_terms(args))?;
