@@ -29,14 +29,10 @@ pub tells_refusal : (source : Source) (refusal : Refusal) → refusal_of source 
 unfolding assembled
 tells_refusal source refusal e = refuses (fault_of refusal) (assembled_by source (refusal_of source)) (ap (assembled_by source) e)
 
-is_true : (b : Bool) → IsTrue b → b ≡ true
-is_true true t = refl
-is_true false t = absurd t
-
 -- no list of words stands for parts with a list that is too long to be counted
 no_list : (p : PartsFields) (b : Bool) → is_well_formed p ≡ b → (HasShortLists p → ⊥) → b ≡ false
 no_list p true e long = absurd (long (short_lists p e))
 no_list p false e long = refl
 
 pub long_is_none : (p : PartsFields) (b : Bool) → (HasShortLists p → IsTrue b) → b ≡ false → false ≡ is_well_formed p
-long_is_none p b long e = sym (no_list p (is_well_formed p) refl (λ short. true≢false (sym (is_true b (long short)) ∙ e)))
+long_is_none p b long e = sym (no_list p (is_well_formed p) refl (λ short. true≢false (sym (long short) ∙ e)))

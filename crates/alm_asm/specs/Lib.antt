@@ -11,3 +11,4 @@ pub mod Marks
 pub mod Definitions
 pub mod LineRefusals
 pub mod Assembly
+pub mod Laws

@@ -16,6 +16,7 @@ pub mod assembly;
 pub mod deed;
 pub mod definitions;
 pub mod expression;
+pub mod laws;
 pub mod layout;
 pub mod line_refusal;
 pub mod links;
@@ -28,6 +29,7 @@ pub mod tables;
 pub mod words;
 
 pub use assembly::assemble;
+pub use laws::assembly_laws;
 
 #[cfg(test)]
 mod tests;
