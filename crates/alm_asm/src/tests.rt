@@ -189,17 +189,25 @@ fn parts(rt: HostRuntime) -> Result<(), Fail> {
     assert_eq!(rt; parts.entry_bound, 2);
     assert_eq!(rt; parts.version, 1);
     assert!(rt; are(parts.statics.slice(), &[1, 0o10000000, 0o777777777777, 0]));
-    let mut defined = 0;
-    for definition in parts.definitions.items() {
-        let value = definition.def.value as u64;
-        defined = (defined * 100 + value * 10) % 1_000_000 + definition.def.is_entry as u64;
+    let mut defined = parts.definitions.items();
+    for (value, is_entry) in [(8, false), (1, false), (0, true)] {
+        let [definition, more @ ..] = defined else {
+            return Ok(assert!(rt; false, "too few definitions"));
+        };
+        assert_eq!(rt; definition.def.value, value);
+        assert_eq!(rt; definition.def.is_entry, is_entry);
+        defined = more;
     }
-    assert_eq!(rt; defined, 801001);
-    let mut marks = 0;
-    for mark in parts.relocations.items() {
-        let place = mark.offset as u64 * 10 + mark.part as u64;
-        marks = (marks * 100 + place) % 100_000_000_000;
+    assert_eq!(rt; defined.len(), 0);
+    let mut marks = parts.relocations.items();
+    for (offset, part) in [(0, 0), (0, 1), (1, 2), (2, 2), (9, 0)] {
+        let [mark, more @ ..] = marks else {
+            return Ok(assert!(rt; false, "too few relocations"));
+        };
+        assert_eq!(rt; mark.offset, offset);
+        assert_eq!(rt; mark.part, part);
+        marks = more;
     }
-    assert_eq!(rt; marks, 1122290);
+    assert_eq!(rt; marks.len(), 0);
     Ok(())
 }

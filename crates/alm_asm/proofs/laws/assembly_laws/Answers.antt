@@ -1,3 +1,7 @@
+use Rattle.alm_asm.proofs.Distinct.{distinct}
+use Rattle.alm_asm.proofs.GoodLinks.{links_good}
+use Rattle.alm_asm.proofs.GoodDefinitions.{definitions_good}
+use Rattle.alm_asm.proofs.Fitting.{symbols_fit}
 use Rattle.alm_asm.proofs.PlaceLaws.{places_count, words_follow}
 use Rattle.alm_asm.proofs.SymbolsStand.{symbols_stay}
 use Rattle.alm_asm.proofs.laws.assembly_laws.Goals as goal
