@@ -7,3 +7,5 @@ pub mod Distinct
 pub mod Fitting
 pub mod GoodDefinitions
 pub mod GoodLinks
+pub mod GoodMarks
+pub mod TooLong

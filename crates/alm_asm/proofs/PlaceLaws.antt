@@ -1,5 +1,5 @@
 -- Places count words, and words follow one another.
-use Rattle.std.proofs.Common.{◌≡◌, ℕ, ◌+◌, ◌%◌, Bool, true, false, cond, List, [], ◌∷◌, ◌++◌, length, refl, sym, ap, ◌∙◌, true≢false, arith, add-zero}
+use Rattle.std.proofs.Common.{◌≡◌, ℕ, ◌+◌, ◌%◌, ◌≤◌, Bool, true, false, cond, List, [], ◌∷◌, ◌++◌, length, refl, sym, ap, ◌∙◌, true≢false, arith, add-zero}
 use Rattle.std.proofs.lemmas.List.{length-append, length-replicate}
 use Rattle.alm_parse.specs.declared.args.Arg.{Arg}
 use Rattle.alm_parse.specs.declared.line.Line36.{Line36}
@@ -61,7 +61,7 @@ grown_by : (to from : Section) (spot : Spot) (n : ℕ) (words : List ℕ) → ho
 grown_by to from spot n words p e =
     grown_counts to from spot n p ∙ ap (λ m. count_in to spot + cond (same_section from to) m 0) (sym e) ∙ ap (λ m. count_in to spot + m) (sym (length_if (same_section from to) words))
 
-counted_by : (to : Section) (text : List ℕ) (tables : Tables) (spot : Spot) (arguments : List Arg) (d : Deed) → holds_words to ≡ true
+pub counted_by : (to : Section) (text : List ℕ) (tables : Tables) (spot : Spot) (arguments : List Arg) (d : Deed) → holds_words to ≡ true
     → count_in to (moved_by text d arguments spot) ≡ count_in to spot + length (cond (same_section spot.section to) (words_by text tables spot arguments d) [])
 counted_by to text tables spot arguments deed.Nothing p = none_if (same_section spot.section to) (count_in to spot)
 counted_by to text tables spot arguments (deed.Instruction code bit27) p =
@@ -80,7 +80,7 @@ counted_by to text tables spot arguments deed.Even p =
     grown_by to spot.section spot (place spot % 2) (words_by text tables spot arguments deed.Even) p (length-replicate (place spot % 2) 0)
 counted_by to text tables spot arguments deed.Bound p = none_if (same_section spot.section to) (count_in to spot)
 
-counted : (to : Section) (text : List ℕ) (tables : Tables) (spot : Spot) (line : Line36) → holds_words to ≡ true
+pub counted : (to : Section) (text : List ℕ) (tables : Tables) (spot : Spot) (line : Line36) → holds_words to ≡ true
     → count_in to (below text spot line) ≡ count_in to spot + length (words_of_line text tables to spot line)
 unfolding below words_of_line
 counted to text tables spot line p = counted_by to text tables spot line.args (deed_of text line.op) p
@@ -113,3 +113,26 @@ follow_from text tables section words spot (line ∷ above) lines =
 pub words_follow : (text : List ℕ) (tables : Tables) (section : Section) (above lines : List Line36)
     → words_from text tables section [] start (above ++ lines) ≡ words_from text tables section (words_from text tables section [] start above) (end_of text start above) lines
 words_follow text tables section above lines = follow_from text tables section [] start above lines
+
+-- ---- counts never fall
+
+pub grown_self : (section : Section) (spot : Spot) (n : ℕ) → holds_words section ≡ true → count_in section (grown_in section spot n) ≡ count_in section spot + n
+grown_self Text spot n p = refl
+grown_self Linkage spot n p = refl
+grown_self Symbol spot n p = absurd (true≢false (sym p))
+grown_self Static spot n p = refl
+
+pub moved_grows : (to : Section) (text : List ℕ) (tables : Tables) (spot : Spot) (arguments : List Arg) (d : Deed) → holds_words to ≡ true
+    → count_in to spot ≤ count_in to (moved_by text d arguments spot)
+moved_grows to text tables spot arguments d p = let e = counted_by to text tables spot arguments d p in omega arith
+
+pub grows : (to : Section) (text : List ℕ) (tables : Tables) (spot : Spot) (line : Line36) → holds_words to ≡ true → count_in to spot ≤ count_in to (below text spot line)
+grows to text tables spot line p = let e = counted to text tables spot line p in omega arith
+
+pub grows_to_end : (to : Section) (text : List ℕ) (tables : Tables) (spot : Spot) (lines : List Line36) → holds_words to ≡ true → count_in to spot ≤ count_in to (end_of text spot lines)
+unfolding end_of
+grows_to_end to text tables spot [] p = omega arith
+grows_to_end to text tables spot (line ∷ lines) p =
+    let here = grows to text tables spot line p in
+    let more = grows_to_end to text tables (below text spot line) lines p in
+    omega arith

@@ -1,7 +1,4 @@
-use Rattle.alm_asm.proofs.Distinct.{distinct}
-use Rattle.alm_asm.proofs.GoodLinks.{links_good}
-use Rattle.alm_asm.proofs.GoodDefinitions.{definitions_good}
-use Rattle.alm_asm.proofs.Fitting.{symbols_fit}
+use Rattle.alm_asm.proofs.TooLong.{only_too_long}
 use Rattle.alm_asm.proofs.PlaceLaws.{places_count, words_follow}
 use Rattle.alm_asm.proofs.SymbolsStand.{symbols_stay}
 use Rattle.alm_asm.proofs.laws.assembly_laws.Goals as goal
@@ -14,3 +11,6 @@ returns-clause-words c = words_follow
 
 pub returns-clause-symbols : goal.returns-clause-symbols
 returns-clause-symbols c = symbols_stay
+
+pub returns-clause-length : goal.returns-clause-length
+returns-clause-length c = only_too_long
