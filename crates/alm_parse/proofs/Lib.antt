@@ -7,3 +7,4 @@ pub mod Slices
 pub mod SourceLaws
 pub mod SpanLines
 pub mod SpanParts
+pub mod Widths

@@ -1,5 +1,5 @@
 -- The spans of lines lie in the text.
-use Rattle.std.proofs.Common.{◌≡◌, ℕ, ◌+◌, ◌≤◌, Bool, true, false, cond, List, [], ◌∷◌, ◌++◌, length, map, Option, Some, None, Result, Ok, Err, refl, arith, subst}
+use Rattle.std.proofs.Common.{◌≡◌, ℕ, ◌+◌, ◌<◌, ◌≤◌, Bool, true, false, cond, List, [], ◌∷◌, ◌++◌, length, map, Option, Some, None, Result, Ok, Err, refl, arith, subst, unwrap_or}
 use Rattle.std.specs.Prelude.{All, IfSome, IfOk, ⊤, slice_index}
 use Rattle.std.proofs.lemmas.List.Elements.{All-append, All-cons, All-nil}
 use Rattle.alm_parse.specs.declared.span.Span.{Span}
@@ -25,7 +25,7 @@ use Rattle.alm_parse.specs.Tokens.{slice_of}
 use Rattle.alm_parse.specs.Refusals.{unless}
 use Rattle.alm_parse.specs.Expressions.{expression_pieces, term_of}
 use Rattle.alm_parse.specs.Bodies.{span_at, place_of, body_of, body_pieces}
-use Rattle.alm_parse.specs.Operands.{body_span, operand_of, operand_given}
+use Rattle.alm_parse.specs.Operands.{body_span, tag_given, operand_of, operand_given}
 use Rattle.alm_parse.specs.Members.{members, symbol_arg, number_arg, symbols_given, numbers_given}
 use Rattle.alm_parse.specs.Pairs.{value_of_members, value_given, halves_of_members, halves_given, block_of_members, block_given, section_given}
 use Rattle.alm_parse.specs.Characters.{packed, is_ended, place_bad, characters_by, characters_ended, characters_closed, characters_given}
@@ -35,6 +35,7 @@ use Rattle.alm_parse.specs.Lines.{missing, args_with, operand_for, args_by, args
 use Rattle.alm_parse.specs.Rows.{rows_of}
 use Rattle.alm_parse.specs.Sources.{names_end, continued, read_lines, with_text, parsed, ParseSays}
 use Rattle.alm_parse.specs.Spans.{IsSpan, TermIn, ArgIn, LineIn}
+use Rattle.alm_parse.proofs.Widths.{pr_below, tag_below}
 use Rattle.alm_parse.proofs.SpanParts.{all_head, all_rest, all_map, PieceIn, pieces_in, expression_in, terms_in, BodyIn, body_in, body_pieces_in, HeadIn, head_in, operand_span_in, RowIn, rows_in}
 
 -- what is read where nothing is refused
@@ -57,12 +58,22 @@ entry_in count true span is = tt
 entry_in count false span is = is
 
 operand_of_in :
-    (text : List ℕ) (count : ℕ) (body : Body) (terms : List Term) (tag : ℕ) → BodyIn count body → All (TermIn count) terms
+    (text : List ℕ) (count : ℕ) (body : Body) (terms : List Term) (tag : ℕ) → BodyIn count body → All (TermIn count) terms → tag < 64
     → ArgIn count (operand_of text body terms tag)
-operand_of_in text count (Through pr offset) terms tag is all = record { segment = tt; entry = tt; terms = all }
-operand_of_in text count (External segment entry tail) terms tag is all =
-    record { segment = is.0; entry = entry_in count _ entry is.1; terms = all }
-operand_of_in text count (Plain whole) terms tag is all = record { segment = tt; entry = tt; terms = all }
+operand_of_in text count (Through pr offset) terms tag is all fits =
+    record { pointer = pr_below (slice_of text pr); tag = fits; segment = tt; entry = tt; terms = all }
+operand_of_in text count (External segment entry tail) terms tag is all fits =
+    record { pointer = tt; tag = fits; segment = is.0; entry = entry_in count _ entry is.1; terms = all }
+operand_of_in text count (Plain whole) terms tag is all fits =
+    record { pointer = tt; tag = fits; segment = tt; entry = tt; terms = all }
+
+tag_given_below : (text : List ℕ) (operand : Span) (comma : Option ℕ) → IfSome (tag_given text operand comma) (λ n. n < 64)
+tag_given_below text operand (Some comma) = tag_below (slice_of text (span_at (comma + 1) operand.to))
+tag_given_below text operand None = omega arith
+
+unwrapped_below : (o : Option ℕ) → IfSome o (λ n. n < 64) → unwrap_or o 0 < 64
+unwrapped_below (Some n) h = h
+unwrapped_below None h = omega arith
 
 body_begins : (count : ℕ) (operand : Span) (comma : Option ℕ) → operand.from ≤ count → (body_span operand comma).from ≤ count
 body_begins count operand (Some comma) h = h
@@ -75,8 +86,9 @@ unfolding operand_given
 operand_given_in text operand arguments begun e =
     let body = body_of text (body_span operand (place_of text operand 44)) in
     let is : BodyIn (length text) body = body_in text (body_span operand (place_of text operand 44)) (body_begins (length text) operand (place_of text operand 44) begun) in
+    let fits = unwrapped_below (tag_given text operand (place_of text operand 44)) (tag_given_below text operand (place_of text operand 44)) in
     let terms : All (TermIn (length text)) (map (term_of text) (body_pieces text body)) = terms_in text (length text) (body_pieces text body) (body_pieces_in text body is) in
-    args_ok (length text) _ _ arguments (one_in (length text) _ (operand_of_in text (length text) body (map (term_of text) (body_pieces text body)) _ is terms)) e
+    args_ok (length text) _ _ arguments (one_in (length text) _ (operand_of_in text (length text) body (map (term_of text) (body_pieces text body)) _ is terms fits)) e
 
 -- lists
 members_in : (text : List ℕ) (operand : Span) → operand.from ≤ length text → All (PieceIn (length text)) (members text operand)

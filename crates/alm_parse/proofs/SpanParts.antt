@@ -23,6 +23,7 @@ use Rattle.alm_parse.specs.Bodies.{span_at, place_of, end_by, symbol_end, extern
 use Rattle.alm_parse.specs.Heads.{turn_of, token, head_at, head_by, head_from, head_of, operand_start, end_from, operand_end, operand_by, operand_in}
 use Rattle.alm_parse.specs.Rows.{row_at, rows_from, rows_of}
 use Rattle.alm_parse.specs.Spans.{IsSpan, TermIn}
+use Rattle.alm_parse.proofs.Widths.{atom_small}
 
 -- lists of which each member has a property
 pub all_head : {X : Type 0} (P : X → Type 0) (x : X) (xs : List X) → All P (x ∷ xs) → P x
@@ -98,7 +99,7 @@ expression_in text whole begun =
 
 pub terms_in :
     (text : List ℕ) (count : ℕ) (pieces : List Piece) → All (PieceIn count) pieces → All (TermIn count) (map (term_of text) pieces)
-terms_in text count pieces all = all_map (PieceIn count) (TermIn count) (term_of text) pieces (λ piece is. is) all
+terms_in text count pieces all = all_map (PieceIn count) (TermIn count) (term_of text) pieces (λ piece is. record { place = is; number = atom_small (slice_of text piece.span) }) all
 
 -- places
 abbrev pub PlaceIn : List ℕ → Span → ℕ → Type 0

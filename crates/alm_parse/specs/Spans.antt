@@ -1,20 +1,24 @@
--- The spans of a line lie in the text, of so many bytes.
-use Rattle.std.specs.Prelude.{ℕ, ◌≤◌, ⊤, List, Option, All, IfSome}
+-- The spans of a line lie in the text, of so many bytes, and its numbers have their widths.
+use Rattle.std.specs.Prelude.{ℕ, ◌<◌, ◌≤◌, ⊤, List, Option, All, IfSome}
 use Rattle.alm_parse.specs.declared.span.Span.{Span}
 use Rattle.alm_parse.specs.declared.expression.Term.{Term}
 use Rattle.alm_parse.specs.declared.args.Arg.{Arg}
 use Rattle.alm_parse.specs.declared.args.Arg.TheVariants.{Symbol, Number, Chars, Plain, Operand}
 use Rattle.alm_parse.specs.declared.line.Line36.{Line36}
+use Rattle.alm_parse.specs.Expressions.{IsSmall}
 
 pub record IsSpan (count : ℕ) (span : Span) : Type 0 where
   pub ordered : span.from ≤ span.to
   pub inside : span.to ≤ count
 
-abbrev pub TermIn : ℕ → Term → Type 0
-TermIn count term = IsSpan count term.span
+pub record TermIn (count : ℕ) (term : Term) : Type 0 where
+  pub place : IsSpan count term.span
+  pub number : IsSmall term.what
 
--- a pointer register has no span, and a number and characters have none
-pub record OperandIn (count : ℕ) (seg name : Option Span) (parts : List Term) : Type 0 where
+-- There are eight pointer registers, and a tag has six bits.
+pub record OperandIn (count : ℕ) (register : Option ℕ) (seg name : Option Span) (parts : List Term) (modifier : ℕ) : Type 0 where
+  pub pointer : IfSome register (λ n. n < 8)
+  pub tag : modifier < 64
   pub segment : IfSome seg (IsSpan count)
   pub entry : IfSome name (IsSpan count)
   pub terms : All (TermIn count) parts
@@ -24,7 +28,7 @@ ArgIn count (Symbol span) = IsSpan count span
 ArgIn count (Number word) = ⊤
 ArgIn count (Chars words) = ⊤
 ArgIn count (Plain terms) = All (TermIn count) terms
-ArgIn count (Operand pr segment entry terms tag) = OperandIn count segment entry terms
+ArgIn count (Operand pr segment entry terms tag) = OperandIn count pr segment entry terms tag
 
 pub record LineIn (count : ℕ) (line : Line36) : Type 0 where
   pub labels : All (IsSpan count) line.labels

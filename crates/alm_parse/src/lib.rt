@@ -11,7 +11,8 @@
 //! What [`parse`] promises, for every text of fewer than 2^32 bytes: it gives exactly the lines that the text is, by the
 //! definition in `specs/Sources.antt`, which goes down from lines to tokens in one word for each rule; or, where the text
 //! is not of the language, exactly its first refusal in the order of the text, and the least code where two are at one
-//! place. Want of memory alone may stand in the place of an answer. Each span of a line that is given lies in the text.
+//! place. Want of memory alone may stand in the place of an answer. Each span of a line that is given lies in the text, and
+//! each number has its width.
 //!
 //! | Code | Exactly where |
 //! |---|---|

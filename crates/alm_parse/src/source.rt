@@ -136,7 +136,7 @@ fn read_source(alloc: Global, text: &[u8]) -> Result<Lines36, AlmFault>
 pub fn parse(alloc: Global, text: &[u8]) -> Result<Lines36, AlmFault>
     requires { length text.now < 2 ^ 32 }
     ensures says { ParseSays result (parsed text.now) }
-    ensures spans { IfOk result (λ source. All (LineIn (length text.now)) source.lines) }
+    ensures fits { IfOk result (λ source. All (LineIn (length text.now)) source.lines) }
 {
     read_source(alloc, text)
 }
