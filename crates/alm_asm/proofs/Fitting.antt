@@ -1,0 +1,275 @@
+-- Where no line enters static words of their own, no expression comes to a place among them.
+use Rattle.std.proofs.Common.{◌≡◌, ℕ, ◌+◌, ◌≤◌, Bool, true, false, cond, not, ◌&&◌, List, [], ◌∷◌, ◌++◌, Option, Some, None, is_some, unwrap_or, refl, sym, ap, ◌∙◌, subst, true≢false, arith}
+use Rattle.std.specs.Map.{lookup}
+use Rattle.std.proofs.lemmas.Bool.{and_left, and_right, le-ltb}
+use Rattle.alm_parse.specs.declared.span.Span.{Span}
+use Rattle.alm_parse.specs.declared.expression.Atom.{Atom}
+use Rattle.alm_parse.specs.declared.expression.Atom.TheVariants as atom
+use Rattle.alm_parse.specs.declared.expression.Term.{Term}
+use Rattle.alm_parse.specs.declared.args.Arg.{Arg}
+use Rattle.alm_parse.specs.declared.line.Line36.{Line36}
+use Rattle.obj36.specs.declared.section.Section.{Section}
+use Rattle.obj36.specs.declared.section.Section.TheVariants.{Text, Linkage, Symbol, Static}
+use Rattle.alm_asm.specs.Sums.{no_sum, sum_plus, sum_turned, kind_of, is_even, is_one}
+use Rattle.alm_asm.specs.Symbols.{same_name, sum_named, with_symbol}
+use Rattle.alm_asm.specs.Deeds.{deed_of, name_at, first_arg, second_arg, symbol_in, terms_in, section_in}
+use Rattle.alm_asm.specs.Spots.{start, here_in, here, place, grown_in, entered, size_of, moved_by, below, end_of}
+use Rattle.alm_asm.specs.Expressions.{symbol_sum, atom_sum, term_sum, added, sum_of}
+use Rattle.alm_asm.specs.Layout.{with_labels, value_refusal, value_by, value_of, own_symbol, own_sum, with_own, symbols_with, labelled, symbols_after, symbols_from}
+use Rattle.alm_asm.specs.declared.sum.Sum.{Sum}
+use Rattle.alm_asm.specs.declared.sum.Kind.{Kind}
+use Rattle.alm_asm.specs.declared.sum.Kind.TheVariants.{Absolute, Moved, Unsaid}
+use Rattle.alm_asm.specs.declared.spot.Spot.{Spot}
+use Rattle.alm_asm.specs.declared.deed.Deed.{Deed}
+use Rattle.alm_asm.specs.declared.deed.Deed.TheVariants as deed
+use Rattle.alm_asm.specs.declared.refusal.Refusal.{Refusal}
+
+abbrev pub Fits : Bool → Sum → Type 0
+Fits outer sum = outer ≡ false → sum.outer.up ≡ sum.outer.down
+
+abbrev pub AllFit : Bool → List (List ℕ × Sum) → Type 0
+AllFit outer symbols = (name : List ℕ) (sum : Sum) → sum_named name symbols ≡ Some sum → Fits outer sum
+
+abbrev pub is_static : Section → Bool
+is_static Text = false
+is_static Linkage = false
+is_static Symbol = false
+is_static Static = true
+
+-- ---- spots
+
+grown_uses : (section : Section) (spot : Spot) (n : ℕ) → (grown_in section spot n).uses_outer ≡ spot.uses_outer
+grown_uses Text spot n = refl
+grown_uses Linkage spot n = refl
+grown_uses Symbol spot n = refl
+grown_uses Static spot n = refl
+
+grown_section : (section : Section) (spot : Spot) (n : ℕ) → (grown_in section spot n).section ≡ spot.section
+grown_section Text spot n = refl
+grown_section Linkage spot n = refl
+grown_section Symbol spot n = refl
+grown_section Static spot n = refl
+
+entered_uses : (spot : Spot) (named : Section) → spot.uses_outer ≡ true → (entered spot named).uses_outer ≡ true
+entered_uses spot Text e = e
+entered_uses spot Linkage e = e
+entered_uses spot Symbol e = e
+entered_uses spot Static e = refl
+
+entered_keeps : (spot : Spot) (named : Section) → (is_static spot.section ≡ true → spot.uses_outer ≡ true) → is_static (entered spot named).section ≡ true → (entered spot named).uses_outer ≡ true
+entered_keeps spot Text h e = absurd (true≢false (sym e))
+entered_keeps spot Linkage h e = absurd (true≢false (sym e))
+entered_keeps spot Symbol h e = h e
+entered_keeps spot Static h e = refl
+
+grown_keeps : (section : Section) (spot : Spot) (n : ℕ) → (is_static spot.section ≡ true → spot.uses_outer ≡ true)
+    → is_static (grown_in section spot n).section ≡ true → (grown_in section spot n).uses_outer ≡ true
+grown_keeps section spot n h e = grown_uses section spot n ∙ h (sym (ap is_static (grown_section section spot n)) ∙ e)
+
+moved_uses : (text : List ℕ) (d : Deed) (arguments : List Arg) (spot : Spot) → spot.uses_outer ≡ true → (moved_by text d arguments spot).uses_outer ≡ true
+moved_uses text deed.Nothing arguments spot e = e
+moved_uses text (deed.Instruction code bit27) arguments spot e = grown_uses spot.section spot 1 ∙ e
+moved_uses text deed.Entry arguments spot e = e
+moved_uses text deed.Segdef arguments spot e = e
+moved_uses text deed.Equ arguments spot e = e
+moved_uses text deed.Use arguments spot e = entered_uses spot (section_in text (symbol_in (first_arg arguments))) e
+moved_uses text deed.Words arguments spot e = grown_uses spot.section spot (size_of deed.Words arguments (place spot)) ∙ e
+moved_uses text deed.Zero arguments spot e = grown_uses spot.section spot 1 ∙ e
+moved_uses text deed.Block arguments spot e = grown_uses spot.section spot (size_of deed.Block arguments (place spot)) ∙ e
+moved_uses text deed.Even arguments spot e = grown_uses spot.section spot (size_of deed.Even arguments (place spot)) ∙ e
+moved_uses text deed.Bound arguments spot e = e
+
+moved_keeps : (text : List ℕ) (d : Deed) (arguments : List Arg) (spot : Spot) → (is_static spot.section ≡ true → spot.uses_outer ≡ true)
+    → is_static (moved_by text d arguments spot).section ≡ true → (moved_by text d arguments spot).uses_outer ≡ true
+moved_keeps text deed.Nothing arguments spot h = h
+moved_keeps text (deed.Instruction code bit27) arguments spot h = grown_keeps spot.section spot 1 h
+moved_keeps text deed.Entry arguments spot h = h
+moved_keeps text deed.Segdef arguments spot h = h
+moved_keeps text deed.Equ arguments spot h = h
+moved_keeps text deed.Use arguments spot h = entered_keeps spot (section_in text (symbol_in (first_arg arguments))) h
+moved_keeps text deed.Words arguments spot h = grown_keeps spot.section spot (size_of deed.Words arguments (place spot)) h
+moved_keeps text deed.Zero arguments spot h = grown_keeps spot.section spot 1 h
+moved_keeps text deed.Block arguments spot h = grown_keeps spot.section spot (size_of deed.Block arguments (place spot)) h
+moved_keeps text deed.Even arguments spot h = grown_keeps spot.section spot (size_of deed.Even arguments (place spot)) h
+moved_keeps text deed.Bound arguments spot h = h
+
+end_uses : (text : List ℕ) (spot : Spot) (lines : List Line36) → spot.uses_outer ≡ true → (end_of text spot lines).uses_outer ≡ true
+unfolding end_of below
+end_uses text spot [] e = e
+end_uses text spot (line ∷ lines) e = end_uses text (below text spot line) lines (moved_uses text (deed_of text line.op) line.args spot e)
+
+-- Lines stand at a spot, and at their end it is known whether a line has entered static words of their own.
+pub record StandAt (text : List ℕ) (outer : Bool) (spot : Spot) (lines : List Line36) : Type 0 where
+  pub kept : is_static spot.section ≡ true → spot.uses_outer ≡ true
+  pub ends : (end_of text spot lines).uses_outer ≡ outer
+
+pub others_stand : (text : List ℕ) (outer : Bool) (spot : Spot) (line : Line36) (lines : List Line36) → StandAt text outer spot (line ∷ lines) → StandAt text outer (below text spot line) lines
+unfolding end_of below
+others_stand text outer spot line lines at = record { kept = moved_keeps text (deed_of text line.op) line.args spot at.kept; ends = at.ends }
+
+pub no_static : (text : List ℕ) (outer : Bool) (spot : Spot) (lines : List Line36) → StandAt text outer spot lines → outer ≡ false → is_static spot.section ≡ false
+no_static text outer spot lines at none = by (is_static spot.section) refl
+  where
+    by : (b : Bool) → is_static spot.section ≡ b → is_static spot.section ≡ false
+    by true e = absurd (true≢false (sym (end_uses text spot lines (at.kept e)) ∙ at.ends ∙ none))
+    by false e = e
+
+-- ---- sums
+
+pub here_fits : (outer : Bool) (section : Section) (spot : Spot) → (outer ≡ false → is_static section ≡ false) → Fits outer (here_in section spot)
+here_fits outer Text spot h none = refl
+here_fits outer Linkage spot h none = refl
+here_fits outer Symbol spot h none = refl
+here_fits outer Static spot h none = absurd (true≢false (h none))
+
+unwrapped_fits : (outer : Bool) (found : Option Sum) → ((sum : Sum) → found ≡ Some sum → Fits outer sum) → Fits outer (unwrap_or found no_sum)
+unwrapped_fits outer None h none = refl
+unwrapped_fits outer (Some sum) h none = h sum refl none
+
+pub symbol_fits : (outer : Bool) (text : List ℕ) (symbols : List (List ℕ × Sum)) (span : Span) → AllFit outer symbols → Fits outer (symbol_sum text symbols span)
+unfolding symbol_sum
+symbol_fits outer text symbols span all = unwrapped_fits outer (sum_named (name_at text span) symbols) (all (name_at text span))
+
+atom_fits : (outer : Bool) (text : List ℕ) (symbols : List (List ℕ × Sum)) (spot : Spot) (span : Span) (a : Atom) → AllFit outer symbols → (outer ≡ false → is_static spot.section ≡ false)
+    → Fits outer (atom_sum text symbols spot span a)
+atom_fits outer text symbols spot span (atom.Number n) all h none = refl
+atom_fits outer text symbols spot span atom.Symbol all h none = symbol_fits outer text symbols span all none
+atom_fits outer text symbols spot span atom.Here all h none = here_fits outer spot.section spot h none
+
+signed_fits : (outer minus : Bool) (sum : Sum) → Fits outer sum → Fits outer (cond minus (sum_turned sum) sum)
+unfolding sum_turned
+signed_fits outer true sum fits none = sym (fits none)
+signed_fits outer false sum fits none = fits none
+
+term_fits : (outer : Bool) (text : List ℕ) (symbols : List (List ℕ × Sum)) (spot : Spot) (term : Term) → AllFit outer symbols → (outer ≡ false → is_static spot.section ≡ false)
+    → Fits outer (term_sum text symbols spot term)
+unfolding term_sum
+term_fits outer text symbols spot term all h =
+    signed_fits outer term.minus (atom_sum text symbols spot term.span term.what) (atom_fits outer text symbols spot term.span term.what all h)
+
+plus_fits : (outer : Bool) (a b : Sum) → Fits outer a → Fits outer b → Fits outer (sum_plus a b)
+unfolding sum_plus
+plus_fits outer a b f g none = λ i. f none i + g none i
+
+added_fits : (outer : Bool) (text : List ℕ) (symbols : List (List ℕ × Sum)) (spot : Spot) (sum : Sum) (terms : List Term) → AllFit outer symbols → (outer ≡ false → is_static spot.section ≡ false)
+    → Fits outer sum → Fits outer (added text symbols spot sum terms)
+unfolding added
+added_fits outer text symbols spot sum [] all h fits = fits
+added_fits outer text symbols spot sum (term ∷ terms) all h fits =
+    added_fits outer text symbols spot (sum_plus sum (term_sum text symbols spot term)) terms all h (plus_fits outer sum (term_sum text symbols spot term) fits (term_fits outer text symbols spot term all h))
+
+pub sum_fits : (outer : Bool) (text : List ℕ) (symbols : List (List ℕ × Sum)) (spot : Spot) (terms : List Term) → AllFit outer symbols → (outer ≡ false → is_static spot.section ≡ false)
+    → Fits outer (sum_of text symbols spot terms)
+sum_fits outer text symbols spot terms all h = added_fits outer text symbols spot no_sum terms all h (λ none. refl)
+
+-- ---- symbols
+
+later : (outer b : Bool) (first : Sum) (rest more : Option Sum) → ((sum : Sum) → cond b (Some first) rest ≡ Some sum → Fits outer sum)
+    → (((sum : Sum) → rest ≡ Some sum → Fits outer sum) → (sum : Sum) → more ≡ Some sum → Fits outer sum)
+    → (sum : Sum) → cond b (Some first) more ≡ Some sum → Fits outer sum
+later outer true first rest more all next sum e = all sum e
+later outer false first rest more all next sum e = next all sum e
+
+only : (outer b : Bool) (its sum : Sum) → Fits outer its → cond b (Some its) None ≡ Some sum → Fits outer sum
+only outer true its sum fits e = subst (Fits outer) (ap (λ r. unwrap_or r its) e) fits
+only outer false its sum fits e = absurd (true≢false (sym (ap is_some e)))
+
+pushed_fits : (outer : Bool) (name : List ℕ) (symbols : List (List ℕ × Sum)) (other : List ℕ) (its : Sum)
+    → ((sum : Sum) → lookup (same_name name) symbols ≡ Some sum → Fits outer sum) → Fits outer its
+    → (sum : Sum) → lookup (same_name name) (symbols ++ (other, its) ∷ []) ≡ Some sum → Fits outer sum
+pushed_fits outer name [] other its all fits sum e = only outer (same_name name other) its sum fits e
+pushed_fits outer name (symbol ∷ symbols) other its all fits sum e =
+    later outer (same_name name symbol.0) symbol.1 (lookup (same_name name) symbols) (lookup (same_name name) (symbols ++ (other, its) ∷ [])) all
+    (λ rest. pushed_fits outer name symbols other its rest fits) sum e
+
+with_by : (outer b : Bool) (symbols : List (List ℕ × Sum)) (other : List ℕ) (its : Sum) → AllFit outer symbols → Fits outer its → AllFit outer (cond b symbols (symbols ++ (other, its) ∷ []))
+unfolding sum_named
+with_by outer true symbols other its all fits name sum e = all name sum e
+with_by outer false symbols other its all fits name sum e = pushed_fits outer name symbols other its (all name) fits sum e
+
+with_fits : (outer : Bool) (symbols : List (List ℕ × Sum)) (other : List ℕ) (its : Sum) → AllFit outer symbols → Fits outer its → AllFit outer (with_symbol symbols other its)
+unfolding with_symbol
+with_fits outer symbols other its all fits = with_by outer (is_some (sum_named other symbols)) symbols other its all fits
+
+labels_fit : (outer : Bool) (text : List ℕ) (its : Sum) (symbols : List (List ℕ × Sum)) (spans : List Span) → AllFit outer symbols → Fits outer its → AllFit outer (with_labels text its symbols spans)
+unfolding with_labels
+labels_fit outer text its symbols [] all fits = all
+labels_fit outer text its symbols (span ∷ spans) all fits =
+    labels_fit outer text its (with_symbol symbols (name_at text span) its) spans (with_fits outer symbols (name_at text span) its all fits) fits
+
+own_fit : (outer : Bool) (text : List ℕ) (its : Sum) (symbols : List (List ℕ × Sum)) (own : Option Span) → AllFit outer symbols → Fits outer its → AllFit outer (with_own text symbols own its)
+own_fit outer text its symbols None all fits = all
+own_fit outer text its symbols (Some span) all fits = with_fits outer symbols (name_at text span) its all fits
+
+value_fits : (outer : Bool) (refusal : Option Refusal) (sum : Sum) → Fits outer (value_by refusal sum)
+value_fits outer None sum none = refl
+value_fits outer (Some refusal) sum none = refl
+
+of_value_fits : (outer : Bool) (text : List ℕ) (symbols : List (List ℕ × Sum)) (spot : Spot) (line : Line36) → Fits outer (value_of text symbols spot line)
+unfolding value_of
+of_value_fits outer text symbols spot line =
+    value_fits outer (value_refusal text symbols spot line) (sum_of text symbols spot (terms_in (second_arg line.args)))
+
+own_sum_fits : (outer : Bool) (text : List ℕ) (symbols : List (List ℕ × Sum)) (spot : Spot) (line : Line36) (d : Deed) → (outer ≡ false → is_static spot.section ≡ false)
+    → Fits outer (own_sum text symbols spot line d)
+own_sum_fits outer text symbols spot line deed.Nothing h = here_fits outer spot.section spot h
+own_sum_fits outer text symbols spot line (deed.Instruction code bit27) h = here_fits outer spot.section spot h
+own_sum_fits outer text symbols spot line deed.Entry h = here_fits outer spot.section spot h
+own_sum_fits outer text symbols spot line deed.Segdef h = here_fits outer spot.section spot h
+own_sum_fits outer text symbols spot line deed.Equ h = of_value_fits outer text symbols spot line
+own_sum_fits outer text symbols spot line deed.Use h = here_fits outer spot.section spot h
+own_sum_fits outer text symbols spot line deed.Words h = here_fits outer spot.section spot h
+own_sum_fits outer text symbols spot line deed.Zero h = here_fits outer spot.section spot h
+own_sum_fits outer text symbols spot line deed.Block h = here_fits outer spot.section spot h
+own_sum_fits outer text symbols spot line deed.Even h = here_fits outer spot.section spot h
+own_sum_fits outer text symbols spot line deed.Bound h = here_fits outer spot.section spot h
+
+line_fits : (outer : Bool) (text : List ℕ) (symbols : List (List ℕ × Sum)) (spot : Spot) (line : Line36) → AllFit outer symbols → (outer ≡ false → is_static spot.section ≡ false)
+    → AllFit outer (symbols_after text symbols spot line)
+unfolding symbols_after symbols_with
+line_fits outer text symbols spot line all h =
+    own_fit outer text (own_sum text (labelled text symbols spot line) spot line (deed_of text line.op)) (labelled text symbols spot line) (own_symbol (deed_of text line.op) line.args)
+    (labels_fit outer text (here spot) symbols line.labels all (here_fits outer spot.section spot h))
+    (own_sum_fits outer text (labelled text symbols spot line) spot line (deed_of text line.op) h)
+
+lines_fit : (outer : Bool) (text : List ℕ) (symbols : List (List ℕ × Sum)) (spot : Spot) (lines : List Line36) → AllFit outer symbols → StandAt text outer spot lines
+    → AllFit outer (symbols_from text symbols spot lines)
+unfolding symbols_from
+lines_fit outer text symbols spot [] all at = all
+lines_fit outer text symbols spot (line ∷ lines) all at =
+    lines_fit outer text (symbols_after text symbols spot line) (below text spot line) lines (line_fits outer text symbols spot line all (no_static text outer spot (line ∷ lines) at)) (others_stand text outer spot line lines at)
+
+none_fit : (outer : Bool) → AllFit outer []
+unfolding sum_named
+none_fit outer name sum e = absurd (true≢false (sym (ap is_some e)))
+
+pub start_stands : (text : List ℕ) (lines : List Line36) → StandAt text (end_of text start lines).uses_outer start lines
+start_stands text lines = record { kept = λ e. absurd (true≢false (sym e)); ends = refl }
+
+pub symbols_fit : (text : List ℕ) (lines : List Line36) → AllFit (end_of text start lines).uses_outer (symbols_from text [] start lines)
+symbols_fit text lines = lines_fit (end_of text start lines).uses_outer text [] start lines (none_fit (end_of text start lines).uses_outer) (start_stands text lines)
+
+-- ---- kinds
+
+abbrev pub good_kind : Bool → Kind → Bool
+good_kind outer Absolute = true
+good_kind outer (Moved Text) = true
+good_kind outer (Moved Linkage) = true
+good_kind outer (Moved Symbol) = false
+good_kind outer (Moved Static) = outer
+good_kind outer Unsaid = true
+
+kind_by : (outer a b c d : Bool) → (outer ≡ false → d ≡ false) → good_kind outer (cond a Absolute (cond b (Moved Text) (cond c (Moved Linkage) (cond d (Moved Static) Unsaid)))) ≡ true
+kind_by outer true b c d h = refl
+kind_by outer false true c d h = refl
+kind_by outer false false true d h = refl
+kind_by true false false false true h = refl
+kind_by false false false false true h = absurd (true≢false (h refl))
+kind_by outer false false false false h = refl
+
+pub kind_good : (outer : Bool) (s : Sum) → Fits outer s → good_kind outer (kind_of s) ≡ true
+unfolding kind_of
+kind_good outer s fits =
+    kind_by outer (is_even s.text && is_even s.inner && is_even s.outer) (is_one s.text && is_even s.inner && is_even s.outer) (is_even s.text && is_one s.inner && is_even s.outer) (is_even s.text && is_even s.inner && is_one s.outer)
+    (λ none. let least : s.outer.up ≤ s.outer.down = (let e = fits none in omega arith) in
+      and_right (is_even s.text && is_even s.inner) (is_one s.outer) (and_left _ _ (le-ltb s.outer.down s.outer.up least)))

@@ -1,0 +1,11 @@
+pub mod SymbolLaws
+pub mod AssemblyLaws
+pub mod PlaceLaws
+pub mod SymbolsStand
+pub mod Unrefused
+pub mod Distinct
+pub mod Fitting
+pub mod GoodDefinitions
+pub mod GoodLinks
+pub mod GoodMarks
+pub mod TooLong
