@@ -1,0 +1,14 @@
+//! Listings: the text of an instruction's word.
+//!
+//! What is promised: [`disassemble`] gives exactly the text that `specs/Disassembly.antt` defines. It takes no memory.
+//!
+//! Source: Multics Processor Manual AL39, "Machine instruction format", "Address modification" and "Operation code map"; the
+//! texts are this project's own.
+#![tactic(auto)]
+
+pub mod disassembly;
+mod modifiers;
+#[cfg(test)]
+mod tests;
+
+pub use disassembly::disassemble;
