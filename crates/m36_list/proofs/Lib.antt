@@ -1,1 +1,6 @@
 pub mod Lengths
+pub mod Parted
+pub mod Characters
+pub mod Addresses
+pub mod TagsBack
+pub mod BackAgain

@@ -7,8 +7,10 @@
 #![tactic(auto)]
 
 pub mod disassembly;
+pub mod laws;
 mod modifiers;
 #[cfg(test)]
 mod tests;
 
 pub use disassembly::disassemble;
+pub use laws::disassembly_laws;
