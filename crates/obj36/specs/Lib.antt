@@ -1,0 +1,5 @@
+pub mod Fields
+pub mod PartsFields
+pub mod Halves
+pub mod Names
+pub mod ObjectSegment

@@ -1,0 +1,60 @@
+-- Names in a definition section: each stands there once, in order of first use.
+use Rattle.std.specs.Prelude.{ℕ, zero, suc, ◌+◌, ◌*◌, ◌/◌, ◌^◌, Bool, true, ◌&&◌, ◌||◌, not, nat_eq, nat_le, if◌then◌else◌, List, [], ◌∷◌, ◌++◌, length, slice_index}
+use Rattle.std.specs.List.{list_any, list_all, flat_map}
+use Rattle.std.specs.Cmp.Lexicographic.{pointwise}
+
+-- whether two names are the same
+abbrev pub same : List ℕ → List ℕ → Bool
+same a b = pointwise nat_eq a b
+
+-- ---- which texts are names
+
+-- a letter, a digit, _ or a full stop
+abbrev pub is_name_character : ℕ → Bool
+is_name_character c = (nat_le 65 c && nat_le c 90) || (nat_le 97 c && nat_le c 122) || (nat_le 48 c && nat_le c 57) || nat_eq c 95 || nat_eq c 46
+
+unfoldable pub is_name : List ℕ → Bool
+is_name name = nat_le 1 (length name) && nat_le (length name) 32 && list_all is_name_character name
+
+-- ---- which names stand, and where
+
+-- the names with one at the end, where it is not among them
+unfoldable pub with_name : List (List ℕ) → List ℕ → List (List ℕ)
+with_name names name = if list_any (same name) names then names else names ++ name ∷ []
+
+-- the names with further ones as they come
+unfoldable pub with_names : List (List ℕ) → List (List ℕ) → List (List ℕ)
+with_names names [] = names
+with_names names (name ∷ more) = with_names (with_name names name) more
+
+-- how many words a name takes: nine bits for its length and nine for each character
+unfoldable pub name_length : List ℕ → ℕ
+name_length name = length name / 4 + 1
+
+-- the place of a name among names that stand one after another from a place on
+unfoldable pub place_of : List ℕ → List (List ℕ) → ℕ → ℕ
+place_of name [] at = at
+place_of name (first ∷ others) at = if same first name then at else place_of name others (at + name_length first)
+
+-- ---- how a name is spelled
+
+-- a part of nine bits of a name: its length, then its characters, then zeros
+unfoldable pub unit_of : List ℕ → ℕ → ℕ
+unit_of name i = slice_index (length name ∷ name) i
+
+-- a word of a name
+unfoldable pub name_word : List ℕ → ℕ → ℕ
+name_word name j = unit_of name (4 * j) * 2 ^ 27 + unit_of name (4 * j + 1) * 2 ^ 18 + unit_of name (4 * j + 2) * 2 ^ 9 + unit_of name (4 * j + 3)
+
+-- so many words of a name, from one on
+unfoldable pub name_words_from : List ℕ → ℕ → ℕ → List ℕ
+name_words_from name j zero = []
+name_words_from name j (suc count) = name_word name j ∷ name_words_from name (suc j) count
+
+unfoldable pub name_words : List ℕ → List ℕ
+name_words name = name_words_from name 0 (name_length name)
+
+-- the words of names one after another
+unfoldable pub all_name_words : List (List ℕ) → List ℕ
+all_name_words [] = []
+all_name_words (name ∷ names) = name_words name ++ all_name_words names

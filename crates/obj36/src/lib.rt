@@ -1,0 +1,21 @@
+//! Object segments: what an assembler or a binder makes and a linker reads, as parts and as a list of words.
+//!
+//! What is promised: for each value of the parts there is at most one list of words, and no two values share one.
+//! `Object::read` accepts exactly the lists that stand for a value, and gives that value; of every other list it tells
+//! the first fault, with its place. `Object::write` gives the one list.
+//!
+//! Source: the format is this project's own.
+#![tactic(auto)]
+
+pub mod definition;
+mod halves;
+pub mod link;
+pub mod parts;
+pub mod relocation;
+pub mod section;
+
+pub use definition::{Def, Defs, Named};
+pub use link::{Link, Links};
+pub use parts::Parts;
+pub use relocation::{Reloc, Relocs};
+pub use section::Section;
