@@ -4,3 +4,5 @@ pub mod Characters
 pub mod Addresses
 pub mod TagsBack
 pub mod BackAgain
+pub mod LineFields
+pub mod PrintLines

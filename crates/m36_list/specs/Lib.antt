@@ -1,3 +1,4 @@
 pub mod Assembled
 pub mod Disassembly
 pub mod Modifiers
+pub mod Print

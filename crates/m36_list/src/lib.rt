@@ -8,9 +8,11 @@
 
 pub mod disassembly;
 pub mod laws;
+mod fields;
 mod modifiers;
 #[cfg(test)]
 mod tests;
+pub mod words;
 
 pub use disassembly::disassemble;
 pub use laws::disassembly_laws;
