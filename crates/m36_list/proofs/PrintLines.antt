@@ -1,7 +1,33 @@
 -- Lines of lists that are put one after another.
-use Rattle.std.proofs.Common.{ℕ, ◌≡◌, ◌+◌, ◌<◌, ◌≤◌, List, [], ◌∷◌, ◌++◌, length, drop, get_or, refl, sym, ap, ◌∙◌, append_assoc, arith}
+use Rattle.std.proofs.Common.{ℕ, ◌≡◌, ◌+◌, ◌*◌, ◌<◌, ◌≤◌, List, [], ◌∷◌, ◌++◌, length, drop, get_or, refl, sym, ap, ◌∙◌, append_assoc, arith}
 use Rattle.std.proofs.lemmas.List.{at_drop_more, at_drop_all, append-nil}
-use Rattle.m36_list.specs.Print.{word_line, word_lines}
+use Rattle.std.specs.List.{flat_map}
+use Rattle.obj36.specs.Fields.{LinkFields}
+use Rattle.obj36.specs.declared.definition.Named.{Named}
+use Rattle.m36_list.specs.Print.{definition_line, link_line, link_lines, word_line, word_lines}
+
+-- one definition more
+pub definition_put : (old next all : List ℕ) (ds : List Named) (i : ℕ) (d : Named) → i < length ds → d ≡ get_or ds i d → next ≡ old ++ definition_line d
+    → old ++ flat_map definition_line (drop i ds) ≡ all → next ++ flat_map definition_line (drop (i + 1) ds) ≡ all
+definition_put old next all ds i d lt is put so_far =
+    let one : flat_map definition_line (drop i ds) ≡ definition_line (get_or ds i d) ++ flat_map definition_line (drop (i + 1) ds) = at_drop_more (λ (xs : List Named). flat_map definition_line xs) ds i d lt in
+    rw (put, append_assoc) (ap (λ (x : Named). old ++ (definition_line x ++ flat_map definition_line (drop (i + 1) ds))) is ∙ ap (λ (t : List ℕ). old ++ t) (sym one) ∙ so_far)
+
+pub definitions_put : (new all : List ℕ) (ds : List Named) (i : ℕ) → length ds ≤ i → new ++ flat_map definition_line (drop i ds) ≡ all → new ≡ all
+definitions_put new all ds i le so_far = sym (append-nil new) ∙ ap (λ (t : List ℕ). new ++ t) (sym (at_drop_all (λ (xs : List Named). flat_map definition_line xs) ds i le)) ∙ so_far
+
+-- one link more
+pub link_put : (old next all : List ℕ) (ls : List LinkFields) (first i : ℕ) (l : LinkFields) → i < length ls → l ≡ get_or ls i l → next ≡ old ++ link_line (first + 2 * i) l
+    → old ++ link_lines (first + 2 * i) (drop i ls) ≡ all → next ++ link_lines (first + 2 * (i + 1)) (drop (i + 1) ls) ≡ all
+unfolding link_lines
+link_put old next all ls first i l lt is put so_far =
+    let at : first + 2 * (i + 1) ≡ first + 2 * i + 2 = omega arith in
+    let one : link_lines (first + 2 * i) (drop i ls) ≡ link_line (first + 2 * i) (get_or ls i l) ++ link_lines (first + 2 * i + 2) (drop (i + 1) ls) = at_drop_more (λ (xs : List LinkFields). link_lines (first + 2 * i) xs) ls i l lt in
+    rw (at, put, append_assoc) (ap (λ (x : LinkFields). old ++ (link_line (first + 2 * i) x ++ link_lines (first + 2 * i + 2) (drop (i + 1) ls))) is ∙ ap (λ (t : List ℕ). old ++ t) (sym one) ∙ so_far)
+
+pub links_put : (new all : List ℕ) (ls : List LinkFields) (at i : ℕ) → length ls ≤ i → new ++ link_lines at (drop i ls) ≡ all → new ≡ all
+unfolding link_lines
+links_put new all ls at i le so_far = sym (append-nil new) ∙ ap (λ (t : List ℕ). new ++ t) (sym (at_drop_all (λ (xs : List LinkFields). link_lines at xs) ls i le)) ∙ so_far
 
 -- one word more
 pub word_put : (old next all : List ℕ) (words : List ℕ) (i : ℕ) (w : ℕ) → i < length words → w ≡ get_or words i w → next ≡ old ++ word_line i w

@@ -6,9 +6,11 @@
 //! texts are this project's own.
 #![tactic(auto)]
 
+mod definitions;
 pub mod disassembly;
-pub mod laws;
 mod fields;
+pub mod laws;
+mod links;
 mod modifiers;
 #[cfg(test)]
 mod tests;
