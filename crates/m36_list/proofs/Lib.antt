@@ -6,3 +6,4 @@ pub mod TagsBack
 pub mod BackAgain
 pub mod LineFields
 pub mod PrintLines
+pub mod SectionPlaces

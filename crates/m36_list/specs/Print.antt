@@ -26,8 +26,8 @@ section_line name at len = line (name ∷ octal_text 6 at ∷ octal_text 6 len �
 abbrev pub static_line : PartsFields → List ℕ
 static_line p = if is_newer p then section_line (codes "static") (statics_at p) (length p.statics) else []
 
-abbrev pub bound_line : PartsFields → List ℕ
-bound_line p = line (codes "entrybound" ∷ octal_text 6 p.entry_bound ∷ [])
+abbrev pub value_line : List ℕ → ℕ → List ℕ
+value_line name v = line (name ∷ octal_text 6 v ∷ [])
 
 unfoldable pub section_lines : PartsFields → List ℕ
 section_lines p =
@@ -36,7 +36,7 @@ section_lines p =
     ++ section_line (codes "linkage") (linkage_at p) (length (linkage_section p))
     ++ static_line p
     ++ section_line (codes "symbol") (symbol_at p) (length (symbol_section p))
-    ++ bound_line p
+    ++ value_line (codes "entrybound") p.entry_bound
 
 -- a definition: its name, its class and its value, and that it is an entry
 abbrev pub class_text : Section → List ℕ

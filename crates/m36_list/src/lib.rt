@@ -12,6 +12,7 @@ mod fields;
 pub mod laws;
 mod links;
 mod modifiers;
+mod sections;
 #[cfg(test)]
 mod tests;
 pub mod words;
