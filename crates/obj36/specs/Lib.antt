@@ -3,3 +3,5 @@ pub mod PartsFields
 pub mod Halves
 pub mod Names
 pub mod ObjectSegment
+pub mod Sizes
+pub mod Lengths

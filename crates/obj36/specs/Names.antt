@@ -34,7 +34,7 @@ name_length name = length name / 4 + 1
 -- the place of a name among names that stand one after another from a place on
 unfoldable pub place_of : List ℕ → List (List ℕ) → ℕ → ℕ
 place_of name [] at = at
-place_of name (first ∷ others) at = if same first name then at else place_of name others (at + name_length first)
+place_of name (first ∷ others) at = if same name first then at else place_of name others (at + name_length first)
 
 -- ---- how a name is spelled
 

@@ -1,6 +1,6 @@
 -- Object segments: the one list of words that stands for an object's parts. Version 1 has its static words in the
 -- linkage section, version 2 in a section of their own.
-use Rattle.std.specs.Prelude.{ℕ, zero, suc, ◌≡◌, ◌+◌, ◌-◌, ◌*◌, ◌%◌, ◌^◌, Bool, true, false, ◌&&◌, ◌||◌, not, nat_eq, nat_lt, nat_le, if◌then◌else◌, List, [], ◌∷◌, ◌++◌, length, map}
+use Rattle.std.specs.Prelude.{ℕ, zero, suc, ◌≡◌, ◌+◌, ◌-◌, ◌*◌, ◌%◌, ◌^◌, Bool, true, false, ◌&&◌, ◌||◌, not, nat_eq, nat_lt, nat_le, if◌then◌else◌, List, [], ◌∷◌, ◌++◌, length, Option, Some, None}
 use Rattle.std.specs.List.{list_any, list_all, flat_map}
 use Rattle.obj36.specs.Fields.{DefFields, LinkFields, RelocFields}
 use Rattle.obj36.specs.PartsFields.{PartsFields}
@@ -57,8 +57,14 @@ place_if_any (suc count) at = at
 -- ---- the definition section
 
 -- the names that a link uses, in order
+unfoldable pub name_used : LinkFields → List (List ℕ)
+name_used l = if has_name l.kind then l.name ∷ [] else []
+
+unfoldable pub entry_used : LinkFields → List (List ℕ)
+entry_used l = if has_entry l.kind then l.entry ∷ [] else []
+
 unfoldable pub link_names : LinkFields → List (List ℕ)
-link_names l = (if has_name l.kind then l.name ∷ [] else []) ++ (if has_entry l.kind then l.entry ∷ [] else [])
+link_names l = name_used l ++ entry_used l
 
 unfoldable pub definition_names : List Named → List (List ℕ)
 definition_names [] = []
@@ -67,17 +73,6 @@ definition_names (d ∷ ds) = d.name ∷ definition_names ds
 unfoldable pub all_link_names : List LinkFields → List (List ℕ)
 all_link_names [] = []
 all_link_names (l ∷ ls) = link_names l ++ all_link_names ls
-
--- each name once, in order of first use
-unfoldable pub names_of : PartsFields → List (List ℕ)
-names_of p = with_names [] (definition_names p.definitions ++ all_link_names p.links)
-
--- where expressions and names begin
-unfoldable pub expressions_at : PartsFields → ℕ
-expressions_at p = 2 + 2 * length p.definitions
-
-unfoldable pub names_at : PartsFields → ℕ
-names_at p = expressions_at p + 2 * length p.links
 
 unfoldable pub class_of : DefFields → ℕ
 class_of d = class_number d.section + (if d.is_entry then 8 else 0)
@@ -99,29 +94,36 @@ unfoldable pub expression_words : List (List ℕ) → ℕ → List LinkFields �
 expression_words names base [] = []
 expression_words names base (l ∷ ls) = joined l.kind (subject_of names base l) ∷ joined (entry_place names base l) l.expr ∷ expression_words names base ls
 
+-- the section of these definitions and links: its names stand once each, in order of first use
+unfoldable pub definition_part : List Named → List LinkFields → List ℕ
+definition_part ds ls =
+    let names = with_names [] (definition_names ds ++ all_link_names ls) in
+    let expressions = 2 + 2 * length ds in
+    let base = expressions + 2 * length ls in
+    joined (place_if_any (length ds) 2) (length ds)
+    ∷ joined (place_if_any (length ls) expressions) (length ls)
+    ∷ definition_words names base ds 2
+    ++ expression_words names base ls
+    ++ all_name_words names
+
 unfoldable pub definition_section : PartsFields → List ℕ
-definition_section p =
-    joined (place_if_any (length p.definitions) 2) (length p.definitions)
-    ∷ joined (place_if_any (length p.links) (expressions_at p)) (length p.links)
-    ∷ definition_words (names_of p) (names_at p) p.definitions 2
-    ++ expression_words (names_of p) (names_at p) p.links
-    ++ all_name_words (names_of p)
+definition_section p = definition_part p.definitions p.links
 
 -- ---- the linkage section
-
--- where the first link stands
-unfoldable pub first_link : PartsFields → ℕ
-first_link p = 8 + length (inner_statics p)
 
 -- a link: 2^18 less its offset with tag 46, the place of its expression with its modifier
 unfoldable pub link_words : List LinkFields → ℕ → ℕ → List ℕ
 link_words [] at expression = []
 link_words (l ∷ ls) at expression = joined (2 ^ 18 - at) 38 ∷ joined expression l.modifier ∷ link_words ls (at + 2) (expression + 2)
 
+-- eight header words, static words, and the links, whose expressions stand from a place on
+unfoldable pub linkage_part : List ℕ → List LinkFields → ℕ → List ℕ
+linkage_part statics ls expressions =
+    0 ∷ joined (8 + length statics) (length ls) ∷ 0 ∷ 0 ∷ 0 ∷ 0 ∷ 0 ∷ 0 ∷ statics
+    ++ link_words ls (8 + length statics) expressions
+
 unfoldable pub linkage_section : PartsFields → List ℕ
-linkage_section p =
-    0 ∷ joined (first_link p) (length p.links) ∷ 0 ∷ 0 ∷ 0 ∷ 0 ∷ 0 ∷ 0 ∷ inner_statics p
-    ++ link_words p.links (first_link p) (expressions_at p)
+linkage_section p = linkage_part (inner_statics p) p.links (2 + 2 * length p.definitions)
 
 -- ---- the symbol section
 
@@ -132,38 +134,43 @@ unfoldable pub relocation_words : List RelocFields → List ℕ
 relocation_words [] = []
 relocation_words (r ∷ rs) = relocation_word r ∷ relocation_words rs
 
+-- the count of the relocations, and each
+unfoldable pub symbol_part : List RelocFields → List ℕ
+symbol_part rs = joined 0 (length rs) ∷ relocation_words rs
+
 unfoldable pub symbol_section : PartsFields → List ℕ
-symbol_section p = joined 0 (length p.relocations) ∷ relocation_words p.relocations
+symbol_section p = symbol_part p.relocations
 
 -- ---- the map and the last word
 
--- where each section begins, and at last the map
-unfoldable pub linkage_at : PartsFields → ℕ
-linkage_at p = length p.text + length (definition_section p)
-
-unfoldable pub statics_at : PartsFields → ℕ
-statics_at p = linkage_at p + length (linkage_section p)
-
-unfoldable pub symbol_at : PartsFields → ℕ
-symbol_at p = statics_at p + length (outer_statics p)
-
-unfoldable pub map_at : PartsFields → ℕ
-map_at p = symbol_at p + length (symbol_section p)
+-- The map of sections of these lengths that follow one another: the version, the offset and length of each section, and
+-- the entry bound; behind it the last word, with the offset of the map.
+unfoldable pub map_part : Bool → ℕ → ℕ → ℕ → ℕ → ℕ → ℕ → List ℕ
+map_part newer text definition linkage statics symbol bound =
+    joined 0 (if newer then 2 else 1)
+    ∷ joined 0 text
+    ∷ joined text definition
+    ∷ joined (text + definition) linkage
+    ∷ (if newer then joined (text + definition + linkage) statics ∷ [] else [])
+    ++ joined (text + definition + linkage + statics) symbol
+    ∷ joined bound 0
+    ∷ joined (text + definition + linkage + statics + symbol) 0
+    ∷ []
 
 unfoldable pub map_words : PartsFields → List ℕ
 map_words p =
-    joined 0 (if is_newer p then 2 else 1)
-    ∷ joined 0 (length p.text)
-    ∷ joined (length p.text) (length (definition_section p))
-    ∷ joined (linkage_at p) (length (linkage_section p))
-    ∷ (if is_newer p then joined (statics_at p) (length p.statics) ∷ [] else [])
-    ++ joined (symbol_at p) (length (symbol_section p))
-    ∷ joined p.entry_bound 0
-    ∷ []
+    map_part (is_newer p) (length p.text) (length (definition_section p)) (length (linkage_section p)) (length (outer_statics p)) (length (symbol_section p)) p.entry_bound
 
 -- the one list of words of an object's parts
 unfoldable pub words_of : PartsFields → List ℕ
-words_of p = p.text ++ definition_section p ++ linkage_section p ++ outer_statics p ++ symbol_section p ++ map_words p ++ joined (map_at p) 0 ∷ []
+words_of p = p.text ++ definition_section p ++ linkage_section p ++ outer_statics p ++ symbol_section p ++ map_words p
+
+-- the words of a section
+abbrev pub section_words : PartsFields → Section → List ℕ
+section_words p Text = p.text
+section_words p Linkage = linkage_section p
+section_words p Symbol = symbol_section p
+section_words p Static = outer_statics p
 
 -- ---- for which parts a list stands
 
@@ -192,15 +199,16 @@ is_link version l =
     && nat_lt l.expr (2 ^ 18)
     && nat_lt l.modifier (2 ^ 6)
 
--- whether a relocation's place is a word of the text or a static word
-unfoldable pub is_place : PartsFields → Section → ℕ → Bool
-is_place p Text offset = nat_lt offset (length p.text)
-is_place p Linkage offset = nat_le 8 offset && nat_lt offset (8 + length (inner_statics p))
-is_place p Static offset = nat_lt offset (length (outer_statics p))
-is_place p Symbol offset = false
+-- whether a relocation's place is a word of the text or a static word, where there are so many of each
+unfoldable pub is_place : ℕ → ℕ → ℕ → Section → ℕ → Bool
+is_place text inner outer Text offset = nat_lt offset text
+is_place text inner outer Linkage offset = nat_le 8 offset && nat_lt offset (8 + inner)
+is_place text inner outer Static offset = nat_lt offset outer
+is_place text inner outer Symbol offset = false
 
-unfoldable pub is_relocation : PartsFields → RelocFields → Bool
-is_relocation p r = is_place p r.section r.offset && nat_lt r.offset (2 ^ 18) && nat_le r.part 2 && nat_le (place_number r.target) (last_place p.version)
+unfoldable pub is_relocation : ℕ → ℕ → ℕ → ℕ → RelocFields → Bool
+is_relocation text inner outer version r =
+    is_place text inner outer r.section r.offset && nat_lt r.offset (2 ^ 18) && nat_le r.part 2 && nat_le (place_number r.target) (last_place version)
 
 -- the number by which relocations are in order
 unfoldable pub order_of : RelocFields → ℕ
@@ -223,10 +231,24 @@ is_well_formed p =
     && list_all (is_definition p.version) p.definitions
     && are_distinct (definition_names p.definitions)
     && list_all (is_link p.version) p.links
-    && list_all (is_relocation p) p.relocations
+    && list_all (is_relocation (length p.text) (length (inner_statics p)) (length (outer_statics p)) p.version) p.relocations
     && are_rising 0 3 p.relocations
 
 -- The list stands for the parts.
 pub record Stands (p : PartsFields) (words : List ℕ) : Type 0 where
   pub formed : is_well_formed p ≡ true
   pub spelled : words ≡ words_of p
+
+-- ---- what is found in the parts
+
+-- the first definition of a name
+unfoldable pub definition_named : List ℕ → List Named → Option DefFields
+definition_named name [] = None
+definition_named name (d ∷ ds) = if same d.name name then Some d.def else definition_named name ds
+
+-- An object keeps parts for which a list stands, with the sections that are made of them.
+pub record IsObject (p : PartsFields) (d k s : List ℕ) : Type 0 where
+  pub formed : is_well_formed p ≡ true
+  pub definition : d ≡ definition_section p
+  pub linkage : k ≡ linkage_section p
+  pub symbol : s ≡ symbol_section p

@@ -7,15 +7,21 @@
 //! Source: the format is this project's own.
 #![tactic(auto)]
 
+mod checks;
 pub mod definition;
 mod halves;
 pub mod link;
+mod names;
+pub mod object;
 pub mod parts;
 pub mod relocation;
 pub mod section;
+mod sections;
+mod size;
 
 pub use definition::{Def, Defs, Named};
 pub use link::{Link, Links};
+pub use object::Object;
 pub use parts::Parts;
 pub use relocation::{Reloc, Relocs};
 pub use section::Section;

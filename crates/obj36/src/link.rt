@@ -17,7 +17,7 @@ pub struct Link {
     pub entry: Name,
     /// What is added to the place that is found; 18 bits.
     pub expr: u32,
-    /// The type: 1 the own object, 3 a segment, 4 a definition of a segment, 5 a definition of the own object; 3 bits.
+    /// The type: 1 the own object, 3 a segment, 4 a definition of a segment, 5 a definition of the own object.
     pub kind: u8,
     /// The section of the own object, of the types 1 and 5.
     pub section: Section,

@@ -14,7 +14,7 @@ pub struct Reloc {
     pub offset: u32,
     /// The section of the word: the text, or where static words are.
     pub section: Section,
-    /// The part: 0 the left half, 1 the right half, 2 bits 3 to 17; 3 bits.
+    /// The part: 0 the left half, 1 the right half, 2 bits 3 to 17.
     pub part: u8,
     /// The section whose place the part holds; never the symbol section.
     pub target: Section,

@@ -1,0 +1,252 @@
+//! Objects.
+
+ghost use Rattle.std.specs.Prelude.{ℕ, List, [], ◌∷◌, ◌++◌, ◌≡◌, ◌+◌, ◌*◌, ◌<◌, ◌≤◌, ◌^◌, Bool, true, length, nat_eq, if◌then◌else◌, IfOk, OnOk};
+ghost use Rattle.obj36.specs.ObjectSegment.{is_newer, inner_statics, outer_statics, definition_section, linkage_section, symbol_section, section_words, map_part, words_of, is_well_formed, definition_named, Stands, IsObject};
+ghost use Rattle.obj36.specs.Halves.{joined};
+ghost use Rattle.obj36.specs.Sizes.{HasShortLists};
+ghost use Rattle.obj36.specs.Lengths.{AreSmall};
+
+use crate::definition::{Def, Named};
+use crate::halves::word_of;
+use crate::link::Link;
+use crate::parts::Parts;
+use crate::section::Section;
+use crate::sections::{definition_words_of, linkage_words_of, push_all, symbol_words_of};
+use m36_word::{NoMemory, Word, Words};
+use std::alloc::Global;
+use std::marker::Model;
+
+// The sections that are made of parts.
+#[derive(Debug, Drop)]
+struct Sections {
+    definition: Words,
+    linkage: Words,
+    symbol: Words,
+}
+
+/// An object: parts for which a list of words stands. It is seen as its parts.
+#[derive(Debug, Drop)]
+pub struct Object {
+    parts: Parts,
+    definition: Words,
+    linkage: Words,
+    symbol: Words,
+}
+
+impl Model for Object {
+    ghost use Rattle.obj36.specs.PartsFields.{PartsFields};
+    ghost use Rattle.obj36.specs.ObjectSegment.{IsObject};
+
+    ghost Value = { PartsFields };
+
+    ghost view = { λ o. o.parts };
+
+    ghost invariant = { λ o. IsObject o.parts o.definition o.linkage o.symbol };
+}
+
+// The static words of the linkage section.
+fn inner(version: u8, statics: &[Word]) -> &[Word]
+    ensures { result.now ≡ (if nat_eq version 2 then [] else statics.now) }
+{
+    if version == 2 { &[] } else { statics }
+}
+
+// The static words of the static section.
+fn outer(version: u8, statics: &[Word]) -> &[Word]
+    ensures { result.now ≡ (if nat_eq version 2 then statics.now else []) }
+{
+    if version == 2 { statics } else { &[] }
+}
+
+#[tactic(auto, unfolding(crate::specs::ObjectSegment::definition_section, crate::specs::ObjectSegment::linkage_section, crate::specs::ObjectSegment::symbol_section))]
+fn sections_of(alloc: Global, parts: &Parts) -> Result<Sections, NoMemory>
+    requires { HasShortLists parts.now }
+    ensures definition { IfOk result (λ s. s.definition ≡ definition_section parts.now) }
+    ensures linkage { IfOk result (λ s. s.linkage ≡ linkage_section parts.now) }
+    ensures symbol { IfOk result (λ s. s.symbol ≡ symbol_section parts.now) }
+{
+    let definitions = parts.definitions.items();
+    let links = parts.links.items();
+    let statics = inner(parts.version, parts.statics.slice());
+    let expressions = 2 + 2 * definitions.len() as u64;
+    let definition = definition_words_of(alloc, definitions, links)?;
+    let linkage = linkage_words_of(alloc, statics, links, expressions)?;
+    let symbol = symbol_words_of(alloc, parts.relocations.items())?;
+    Ok(Sections {
+        definition,
+        linkage,
+        symbol,
+    })
+}
+
+// The first definition of a name.
+#[tactic(auto, unfolding(crate::specs::ObjectSegment::definition_named))]
+fn found(definitions: &[Named], name: &[u8]) -> Option<Def>
+    ensures { result ≡ definition_named name.now definitions.now }
+{
+    let mut rest = definitions;
+    while let [first, others @ ..] = rest {
+        if first.name.bytes() == name {
+            return Some(first.def);
+        }
+        rest = others;
+    }
+    None
+}
+
+// The lengths of sections that follow one another.
+#[derive(Clone, Copy)]
+struct Lengths {
+    text: u64,
+    definition: u64,
+    linkage: u64,
+    statics: u64,
+    symbol: u64,
+}
+
+fn push_static_entry(out: &mut Words, newer: bool, offset: u64, length: u64) -> Result<(), NoMemory>
+    ensures { OnOk result (out.new ≡ out.old ++ (if newer then joined offset length ∷ [] else [])) }
+{
+    if newer {
+        out.push(word_of(offset, length))?;
+    }
+    Ok(())
+}
+
+// The map and the last word.
+#[tactic(auto, unfolding(crate::specs::ObjectSegment::map_part))]
+fn push_map(out: &mut Words, newer: bool, lengths: Lengths, bound: u64) -> Result<(), NoMemory>
+    requires { AreSmall lengths }
+    ensures { OnOk result (out.new ≡ out.old ++ map_part newer lengths.text lengths.definition lengths.linkage lengths.statics lengths.symbol bound) }
+{
+    let linkage = lengths.text + lengths.definition;
+    let statics = linkage + lengths.linkage;
+    let symbol = statics + lengths.statics;
+    let map = symbol + lengths.symbol;
+    out.push(word_of(0, if newer { 2 } else { 1 }))?;
+    out.push(word_of(0, lengths.text))?;
+    out.push(word_of(lengths.text, lengths.definition))?;
+    out.push(word_of(linkage, lengths.linkage))?;
+    push_static_entry(out, newer, statics, lengths.statics)?;
+    out.push(word_of(symbol, lengths.symbol))?;
+    out.push(word_of(bound, 0))?;
+    out.push(word_of(map, 0))?;
+    Ok(())
+}
+
+// The lengths fit what tells them.
+fn lengths_of(parts: &Parts, definition: &[Word], linkage: &[Word], symbol: &[Word]) -> Lengths
+    requires { IsObject parts.now definition.now linkage.now symbol.now }
+    ensures text { result.text ≡ length parts.now.text }
+    ensures definition { result.definition ≡ length definition.now }
+    ensures linkage { result.linkage ≡ length linkage.now }
+    ensures statics { result.statics ≡ length (outer_statics parts.now) }
+    ensures symbol { result.symbol ≡ length symbol.now }
+    ensures small { AreSmall result }
+{
+    let statics = outer(parts.version, parts.statics.slice());
+    Lengths {
+        text: parts.text.slice().len() as u64,
+        definition: definition.len() as u64,
+        linkage: linkage.len() as u64,
+        statics: statics.len() as u64,
+        symbol: symbol.len() as u64,
+    }
+}
+
+// The words of an object, from its parts and the sections that are made of them.
+#[tactic(auto, unfolding(crate::specs::ObjectSegment::words_of, crate::specs::ObjectSegment::map_words))]
+fn joined_sections(
+    alloc: Global,
+    parts: &Parts,
+    definition: &[Word],
+    linkage: &[Word],
+    symbol: &[Word],
+) -> Result<Words, NoMemory>
+    requires { IsObject parts.now definition.now linkage.now symbol.now }
+    ensures { IfOk result (λ words. Stands parts.now words) }
+{
+    let lengths = lengths_of(parts, definition, linkage, symbol);
+    let version = parts.version;
+    let mut out = Words::new(alloc);
+    push_all(&mut out, parts.text.slice())?;
+    push_all(&mut out, definition)?;
+    push_all(&mut out, linkage)?;
+    push_all(&mut out, outer(version, parts.statics.slice()))?;
+    push_all(&mut out, symbol)?;
+    push_map(&mut out, version == 2, lengths, parts.entry_bound as u64)?;
+    Ok(out)
+}
+
+impl Object {
+    /// The object of these parts, for which some list of words stands. The error is want of memory alone.
+    pub fn new(alloc: Global, parts: Parts) -> Result<Object, NoMemory>
+        requires { is_well_formed parts ≡ true }
+        ensures { IfOk result (λ o. o ≡ parts) }
+    {
+        let sections = sections_of(alloc, &parts)?;
+        Ok(Object {
+            parts,
+            definition: sections.definition,
+            linkage: sections.linkage,
+            symbol: sections.symbol,
+        })
+    }
+
+    /// The one list of words that stands for the object. The error is want of memory alone.
+    pub fn write(&self, alloc: Global) -> Result<Words, NoMemory>
+        ensures { IfOk result (λ words. Stands self.now words) }
+    {
+        let definition = self.definition.slice();
+        let linkage = self.linkage.slice();
+        let symbol = self.symbol.slice();
+        joined_sections(alloc, &self.parts, definition, linkage, symbol)
+    }
+
+    /// The object's parts.
+    pub fn parts(&self) -> &Parts
+        ensures { result.now ≡ self.now }
+    {
+        &self.parts
+    }
+
+    /// The words of a section: none of the section static in version 1, whose static words are in the linkage section.
+    pub fn section(&self, s: Section) -> &[Word]
+        ensures { result.now ≡ section_words self.now s }
+    {
+        match s {
+            Section::Text => self.parts.text.slice(),
+            Section::Linkage => self.linkage.slice(),
+            Section::Symbol => self.symbol.slice(),
+            Section::Static => outer(self.parts.version, self.parts.statics.slice()),
+        }
+    }
+
+    /// How many words the definition section has.
+    pub fn definition_length(&self) -> u32
+        ensures { result ≡ length (definition_section self.now) }
+    {
+        self.definition.slice().len() as u32
+    }
+
+    /// The definition of this name, if there is one.
+    pub fn find(&self, entry: &[u8]) -> Option<Def>
+        ensures { result ≡ definition_named entry.now self.now.definitions }
+    {
+        found(self.parts.definitions.items(), entry)
+    }
+
+    /// The links in order.
+    pub fn links(&self) -> &[Link]
+        ensures { result.now ≡ self.now.links }
+    {
+        self.parts.links.items()
+    }
+
+    /// How many words of the text a gate may be entered at; at most the text's length.
+    pub fn entry_bound(&self) -> u32
+        ensures { result ≡ self.now.entry_bound }
+    {
+        self.parts.entry_bound
+    }
+}
