@@ -1,28 +1,40 @@
 -- Where the sections of an object are.
-use Rattle.std.proofs.Common.{ℕ, ◌≡◌, ◌+◌, List, ◌++◌, length, refl, append_assoc, arith}
-use Rattle.std.proofs.lemmas.List.{length-append}
+use Rattle.std.proofs.Common.{ℕ, ◌≡◌, ◌+◌, ◌*◌, ◌^◌, ◌≤◌, Bool, true, false, cond, List, ◌++◌, length, append_assoc, length-append, arith}
 use Rattle.obj36.specs.PartsFields.{PartsFields}
-use Rattle.obj36.specs.ObjectSegment.{outer_statics, definition_section, linkage_section, symbol_section, map_words, linkage_at, statics_at, symbol_at, words_of}
+use Rattle.obj36.specs.ObjectSegment.{is_newer, inner_statics, outer_statics, definition_section, linkage_section, symbol_section, map_words, words_of, is_well_formed}
+use Rattle.obj36.proofs.Formed.{is_formed}
+use Rattle.obj36.proofs.LengthLaws.{length-map_part, length-linkage_part}
+use Rattle.m36_list.specs.Print.{first_link}
 
--- the words of all sections
-pub whole : (p : PartsFields) → length (words_of p) ≡ length p.text + length (definition_section p) + length (linkage_section p) + length (outer_statics p) + length (symbol_section p) + length (map_words p) + 1
-unfolding words_of
-whole p = simp length-append (omega arith)
+map_long : (b : Bool) → 7 ≤ cond b 8 7
+map_long true = omega arith
+map_long false = omega arith
 
-pub linkage_place : (p : PartsFields) → linkage_at p ≡ length p.text + length (definition_section p)
-unfolding linkage_at
-linkage_place p = refl
+-- All sections of an object, and the map behind them, have at most 2^18 words.
+pub sections_fit : (p : PartsFields) → is_well_formed p ≡ true
+    → length p.text + length (definition_section p) + length (linkage_section p) + length (outer_statics p) + length (symbol_section p) + 7 ≤ 2 ^ 18
+unfolding words_of map_words
+sections_fit p formed =
+    let d = definition_section p in
+    let k = linkage_section p in
+    let y = symbol_section p in
+    omega (
+      arith,
+      (is_formed p formed).fits,
+      length-append (p.text ++ d ++ k ++ outer_statics p ++ y) (map_words p),
+      length-append (p.text ++ d ++ k ++ outer_statics p) y,
+      length-append (p.text ++ d ++ k) (outer_statics p),
+      length-append (p.text ++ d) k,
+      length-append p.text d,
+      length-map_part (is_newer p) (length p.text) (length d) (length k) (length (outer_statics p)) (length y) p.entry_bound,
+      map_long (is_newer p),
+    )
 
-pub statics_place : (p : PartsFields) → statics_at p ≡ linkage_at p + length (linkage_section p)
-unfolding statics_at
-statics_place p = refl
-
-pub symbol_place : (p : PartsFields) → symbol_at p ≡ statics_at p + length (outer_statics p)
-unfolding symbol_at
-symbol_place p = refl
+-- the links stand behind the header and the static words
+pub links_behind : (p : PartsFields) → length (linkage_section p) ≡ first_link p + 2 * length p.links
+unfolding linkage_section
+links_behind p = length-linkage_part (inner_statics p) p.links (2 + 2 * length p.definitions)
 
 -- six texts put one after another
 pub six : (old a b c d e f : List ℕ) → (((((old ++ a) ++ b) ++ c) ++ d) ++ e) ++ f ≡ old ++ (((((a ++ b) ++ c) ++ d) ++ e) ++ f)
 six old a b c d e f = simp append_assoc
-
-pub ruleset places = (whole, linkage_place, statics_place, symbol_place, six)

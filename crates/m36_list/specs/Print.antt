@@ -4,7 +4,7 @@ use Rattle.std.specs.List.{join_with_byte, flat_map}
 use Rattle.m36_text.specs.Digits.{octal_text, decimal_text}
 use Rattle.obj36.specs.Fields.{LinkFields}
 use Rattle.obj36.specs.PartsFields.{PartsFields}
-use Rattle.obj36.specs.ObjectSegment.{is_newer, has_name, has_entry, definition_section, linkage_section, symbol_section, linkage_at, statics_at, symbol_at, first_link, words_of}
+use Rattle.obj36.specs.ObjectSegment.{is_newer, has_name, has_entry, inner_statics, outer_statics, definition_section, linkage_section, symbol_section, words_of}
 use Rattle.obj36.specs.declared.section.Section.{Section}
 use Rattle.obj36.specs.declared.section.Section.TheVariants.{Text, Linkage, Symbol, Static}
 use Rattle.obj36.specs.declared.definition.Named.{Named}
@@ -21,6 +21,16 @@ object_line name p = line (codes "object" ∷ name ∷ decimal_text (length (wor
 -- where a section begins, and how many words it has
 abbrev pub section_line : List ℕ → ℕ → ℕ → List ℕ
 section_line name at len = line (name ∷ octal_text 6 at ∷ octal_text 6 len ∷ [])
+
+-- sections follow one another
+abbrev pub linkage_at : PartsFields → ℕ
+linkage_at p = length p.text + length (definition_section p)
+
+abbrev pub statics_at : PartsFields → ℕ
+statics_at p = linkage_at p + length (linkage_section p)
+
+abbrev pub symbol_at : PartsFields → ℕ
+symbol_at p = statics_at p + length (outer_statics p)
 
 -- version 2 has a section of its own for static words
 abbrev pub static_line : PartsFields → List ℕ
@@ -65,6 +75,10 @@ reference_text l =
 -- a link at an offset of the linkage section: its reference, its expression, and its modifier in two digits
 unfoldable pub link_line : ℕ → LinkFields → List ℕ
 link_line at l = line (codes "link" ∷ octal_text 6 at ∷ reference_text l ∷ octal_text 6 l.expr ∷ octal_text 2 l.modifier ∷ [])
+
+-- the first link stands behind eight words of the header and the static words there
+abbrev pub first_link : PartsFields → ℕ
+first_link p = 8 + length (inner_statics p)
 
 -- links from an offset on, of two words each
 unfoldable pub link_lines : ℕ → List LinkFields → List ℕ

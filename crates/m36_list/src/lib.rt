@@ -12,6 +12,7 @@ mod fields;
 pub mod laws;
 mod links;
 mod modifiers;
+pub mod printing;
 mod sections;
 #[cfg(test)]
 mod tests;
@@ -19,3 +20,4 @@ pub mod words;
 
 pub use disassembly::disassemble;
 pub use laws::disassembly_laws;
+pub use printing::print;

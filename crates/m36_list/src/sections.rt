@@ -1,13 +1,13 @@
 //! The sections of an object, a line for each, and the entry bound.
 
 ghost use Rattle.std.specs.Prelude.{◌+◌, ◌++◌, ◌≡◌, ◌^◌, ◌<◌, ◌≤◌, length, OnOk};
-ghost use Rattle.obj36.specs.ObjectSegment.{definition_section, linkage_section, symbol_section, outer_statics, statics_at, words_of};
-ghost use Rattle.m36_list.specs.Print.{section_line, static_line, value_line, section_lines};
+ghost use Rattle.obj36.specs.ObjectSegment.{definition_section, linkage_section, symbol_section, outer_statics};
+ghost use Rattle.m36_list.specs.Print.{statics_at, section_line, static_line, value_line, section_lines};
 
 use crate::fields::{put_field, put_last_number, put_number};
 use m36_outside::Text;
 use m36_word::NoMemory;
-use obj36::Parts;
+use obj36::{Object, Parts, Section};
 
 /// Puts the line of a section: its name, where it begins and how many words it has.
 #[tactic(auto, using(crate::proofs::LineFields::lines))]
@@ -44,40 +44,48 @@ fn put_value(text: &mut Text, name: &[u8], v: u32) -> Result<(), NoMemory>
     put_last_number(text, v as u64)
 }
 
-// How many words the static section has.
-fn outer_length(parts: &Parts) -> u64
-    ensures { result ≡ length (outer_statics parts.now) }
+// How many words the sections have. The object has at most 2^18 words in all.
+#[derive(Clone, Copy)]
+struct Counts {
+    text: u64,
+    definition: u64,
+    linkage: u64,
+    statics: u64,
+    symbol: u64,
+}
+
+fn counted(o: &Object) -> Counts
+    ensures text { result.text ≡ length o.now.text }
+    ensures definition { result.definition ≡ length (definition_section o.now) }
+    ensures linkage { result.linkage ≡ length (linkage_section o.now) }
+    ensures statics { result.statics ≡ length (outer_statics o.now) }
+    ensures symbol { result.symbol ≡ length (symbol_section o.now) }
+    ensures fits { result.text + result.definition + result.linkage + result.statics + result.symbol < 2 ^ 18 }
 {
-    if parts.version == 2 {
-        parts.statics.slice().len() as u64
-    } else {
-        0
+    let _formed = o.parts();
+    Counts {
+        text: o.section(Section::Text).len() as u64,
+        definition: o.definition_length() as u64,
+        linkage: o.section(Section::Linkage).len() as u64,
+        statics: o.section(Section::Static).len() as u64,
+        symbol: o.section(Section::Symbol).len() as u64,
     }
 }
 
-/// Puts the lines of the sections and of the entry bound, for the lengths of the definition, linkage and symbol sections.
-#[tactic(auto, unfolding(crate::specs::Print::section_lines), using(crate::proofs::SectionPlaces::places))]
-pub fn put_sections(
-    text: &mut Text,
-    parts: &Parts,
-    definition: u64,
-    linkage: u64,
-    symbol: u64,
-) -> Result<(), NoMemory>
-    requires fits { length (words_of parts.now) ≤ 2 ^ 18 }
-    requires definition { definition ≡ length (definition_section parts.now) }
-    requires linkage { linkage ≡ length (linkage_section parts.now) }
-    requires symbol { symbol ≡ length (symbol_section parts.now) }
-    ensures { OnOk result (text.new ≡ text.old ++ section_lines parts.now) }
+/// Puts the lines of the sections and of the entry bound.
+#[tactic(auto, unfolding(crate::specs::Print::section_lines), using(crate::proofs::SectionPlaces::six))]
+pub fn put_sections(text: &mut Text, o: &Object) -> Result<(), NoMemory>
+    ensures { OnOk result (text.new ≡ text.old ++ section_lines o.now) }
 {
-    let text_length = parts.text.slice().len() as u64;
-    put_section(text, b"text", 0, text_length)?;
-    put_section(text, b"definition", text_length, definition)?;
-    let linkage_at = text_length + definition;
-    put_section(text, b"linkage", linkage_at, linkage)?;
-    let statics_at = linkage_at + linkage;
+    let parts = o.parts();
+    let count = counted(o);
+    let linkage_at = count.text + count.definition;
+    let statics_at = linkage_at + count.linkage;
+    let symbol_at = statics_at + count.statics;
+    put_section(text, b"text", 0, count.text)?;
+    put_section(text, b"definition", count.text, count.definition)?;
+    put_section(text, b"linkage", linkage_at, count.linkage)?;
     put_static(text, parts, statics_at)?;
-    let symbol_at = statics_at + outer_length(parts);
-    put_section(text, b"symbol", symbol_at, symbol)?;
+    put_section(text, b"symbol", symbol_at, count.symbol)?;
     put_value(text, b"entrybound", parts.entry_bound)
 }
