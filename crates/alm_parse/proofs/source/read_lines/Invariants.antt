@@ -1,0 +1,6 @@
+use Rattle.std.proofs.Common.{◌≡◌, [], drop}
+use Rattle.alm_parse.specs.Sources.{read_lines}
+use Rattle.alm_parse.proofs.source.read_lines.Given as goal
+
+abbrev pub invariant-loop-row : goal.invariant-loop-row
+invariant-loop-row l = read_lines l.text l.lines (drop l.row-index l.rows) ≡ read_lines l.text [] l.rows

@@ -1,0 +1,7 @@
+-- A source in its lines, with its text.
+use Rattle.std.specs.Prelude.{ℕ, List}
+use Rattle.alm_parse.specs.declared.line.Line36.{Line36}
+
+pub record Source : Type 0 where
+  pub text : List ℕ
+  pub lines : List Line36

@@ -1,0 +1,62 @@
+-- A whole source: its lines, or the first refusal in the order of the text.
+use Rattle.std.specs.Prelude.{ℕ, ◌+◌, ◌-◌, ◌≡◌, ⊤, Bool, false, List, [], ◌∷◌, ◌++◌, codes, Option, Some, None, Result, Ok, Err, if◌then◌else◌}
+use Rattle.alm_parse.specs.declared.span.Span.{Span}
+use Rattle.alm_parse.specs.declared.refusal.Code.{Code}
+use Rattle.alm_parse.specs.declared.refusal.Code.TheVariants as code
+use Rattle.alm_parse.specs.declared.refusal.Refusal.{Refusal}
+use Rattle.alm_parse.specs.declared.rows.Row.{Row}
+use Rattle.alm_parse.specs.declared.line.Line36.{Line36}
+use Rattle.alm_parse.specs.declared.fault.AlmFault.{AlmFault}
+use Rattle.alm_parse.specs.declared.fault.AlmFault.TheVariants.{E1, E2, E3, E4, E5, E6, E7, E8, NoMemory}
+use Rattle.alm_parse.specs.SourceFields.{Source}
+use Rattle.alm_parse.specs.Tokens.{slice_of, is_text}
+use Rattle.alm_parse.specs.Rows.{rows_of}
+use Rattle.alm_parse.specs.Lines.{line_given}
+
+-- A refusal is told by its line and its column, which counts bytes from 1.
+abbrev pub fault_by : Code → ℕ → ℕ → AlmFault
+fault_by code.E1 line column = E1 line column
+fault_by code.E2 line column = E2 line column
+fault_by code.E3 line column = E3 line column
+fault_by code.E4 line column = E4 line column
+
+abbrev pub fault_of : Row → Refusal → AlmFault
+fault_of row refusal = fault_by refusal.code row.number (refusal.place - row.span.from + 1)
+
+-- Nothing is read behind the operation `end`.
+abbrev pub names_end : List ℕ → Option Span → Bool
+names_end text (Some op) = is_text (codes "end") (slice_of text op)
+names_end text None = false
+
+-- A line is read, and what follows it is what `further` gives of the lines up to it.
+abbrev pub continued : List ℕ → Row → List Line36 → (List Line36 → Result (List Line36) AlmFault) → Result Line36 Refusal → Result (List Line36) AlmFault
+continued text row before further (Ok line) =
+    if names_end text line.op then Ok (before ++ line ∷ []) else further (before ++ line ∷ [])
+continued text row before further (Err refusal) = Err (fault_of row refusal)
+
+unfoldable pub read_lines : List ℕ → List Line36 → List Row → Result (List Line36) AlmFault
+read_lines text before [] = Ok before
+read_lines text before (row ∷ rows) = continued text row before (λ more. read_lines text more rows) (line_given text row)
+
+abbrev pub with_text : List ℕ → Result (List Line36) AlmFault → Result Source AlmFault
+with_text text (Ok lines) = Ok (record { text = text; lines = lines })
+with_text text (Err fault) = Err fault
+
+unfoldable pub parsed : List ℕ → Result Source AlmFault
+parsed text = with_text text (read_lines text [] (rows_of text))
+
+-- What is answered is what the definition says, where want of memory may come at any time.
+abbrev pub Refuses : {A : Type 0} → AlmFault → Result A AlmFault → Type 0
+Refuses NoMemory definition = ⊤
+Refuses (E1 line column) definition = definition ≡ Err (E1 line column)
+Refuses (E2 line column) definition = definition ≡ Err (E2 line column)
+Refuses (E3 line column) definition = definition ≡ Err (E3 line column)
+Refuses (E4 line column) definition = definition ≡ Err (E4 line column)
+Refuses (E5 line column) definition = definition ≡ Err (E5 line column)
+Refuses (E6 line column) definition = definition ≡ Err (E6 line column)
+Refuses (E7 line column) definition = definition ≡ Err (E7 line column)
+Refuses (E8 line column) definition = definition ≡ Err (E8 line column)
+
+abbrev pub ParseSays : {A : Type 0} → Result A AlmFault → Result A AlmFault → Type 0
+ParseSays (Ok value) definition = definition ≡ Ok value
+ParseSays (Err fault) definition = Refuses fault definition

@@ -1,0 +1,71 @@
+//! Why a source is refused.
+
+ghost use Rattle.std.specs.Prelude.{ℕ, ◌≡◌, ◌-◌, ◌^◌, ◌<◌, ◌+◌};
+ghost use Rattle.alm_parse.specs.Sources.{fault_by, fault_of};
+ghost use Rattle.alm_parse.specs.declared.fault.AlmFault.TheVariants as fault;
+
+use crate::refusal::{Code, Refusal};
+use crate::rows::Row;
+use m36_word::NoMemory;
+use thiserror::Error;
+
+/// Why a source is not assembled: a code at a line and a column, both counted from 1 and the column in bytes; or no
+/// memory was found.
+#[derive(Clone, Copy, Debug, PartialEq, Eq, Error)]
+pub enum AlmFault {
+    /// A byte that no source may have there.
+    #[error("E1 {0} {1}")]
+    E1(u32, u32),
+    /// A label or an operand that is not of its form.
+    #[error("E2 {0} {1}")]
+    E2(u32, u32),
+    /// An operation that there is not.
+    #[error("E3 {0} {1}")]
+    E3(u32, u32),
+    /// A number out of its range.
+    #[error("E4 {0} {1}")]
+    E4(u32, u32),
+    /// A symbol, or a name of a definition, that is defined a second time.
+    #[error("E5 {0} {1}")]
+    E5(u32, u32),
+    /// A symbol that is not defined.
+    #[error("E6 {0} {1}")]
+    E6(u32, u32),
+    /// A value that does not fit its field, or an expression that cannot be said in an object.
+    #[error("E7 {0} {1}")]
+    E7(u32, u32),
+    /// A section, or an object, that grows too long.
+    #[error("E8 {0} {1}")]
+    E8(u32, u32),
+    /// No memory was found.
+    #[error("no memory")]
+    NoMemory,
+}
+
+impl From<NoMemory> for AlmFault {
+    ghost from_gives = { λ _ made. made ≡ fault.NoMemory };
+
+    fn from(_cause: NoMemory) -> AlmFault {
+        AlmFault::NoMemory
+    }
+}
+
+fn fault_by(code: Code, line: u32, column: u32) -> AlmFault
+    ensures { result ≡ fault_by code line column }
+{
+    match code {
+        Code::E1 => AlmFault::E1(line, column),
+        Code::E2 => AlmFault::E2(line, column),
+        Code::E3 => AlmFault::E3(line, column),
+        Code::E4 => AlmFault::E4(line, column),
+    }
+}
+
+/// The refusal of a line, told by its number and the column.
+pub fn fault_of(row: Row, refusal: Refusal) -> AlmFault
+    requires { refusal.place < 2 ^ 32 - 1 }
+    ensures { result ≡ fault_of row refusal }
+{
+    let column = refusal.place.saturating_sub(row.span.from) + 1;
+    fault_by(refusal.code, row.number, column)
+}

@@ -1,0 +1,141 @@
+//! A whole source.
+
+ghost use Rattle.std.specs.Prelude.{ℕ, List, [], ◌∷◌, ◌++◌, ◌≡◌, ◌^◌, ◌<◌, length, OnOk, OnErr, IfOk, All};
+ghost use Rattle.alm_parse.specs.Spans.{LineIn};
+ghost use Rattle.alm_parse.specs.Sources.{names_end, read_lines, parsed, ParseSays};
+
+use crate::fault::{AlmFault, fault_of};
+use crate::line::{Line36, read_line};
+use crate::refusal::Halt;
+use crate::rows::{Row, rows_of};
+use crate::span::{Span, bytes_of};
+use m36_outside::Text;
+use m36_word::NoMemory;
+use std::alloc::Global;
+use std::marker::Model;
+
+/// A list of lines that grows at its end.
+#[derive(Debug, Drop)]
+struct Lines {
+    items: Vec<Line36>,
+}
+
+impl Model for Lines {
+    ghost use Rattle.std.specs.Prelude.{List};
+    ghost use Rattle.alm_parse.specs.declared.line.Line36.{Line36};
+
+    ghost Value = { List Line36 };
+
+    ghost view = { λ l. l.items.items };
+}
+
+impl Lines {
+    fn new(alloc: Global) -> Lines
+        ensures { result ≡ [] }
+    {
+        Lines {
+            items: Vec::new(alloc),
+        }
+    }
+
+    fn push(&mut self, x: Line36) -> Result<(), NoMemory>
+        ensures ok { OnOk result (self.new ≡ self.old ++ x ∷ []) }
+        ensures err { OnErr result (self.new ≡ self.old) }
+    {
+        self.items.push(x)?;
+        Ok(())
+    }
+
+    fn items(&self) -> &[Line36]
+        ensures { result.now ≡ self.now }
+    {
+        self.items.as_slice()
+    }
+}
+
+/// A source in its lines, with a copy of its text, of which the spans of the lines speak.
+#[derive(Debug, Drop)]
+pub struct Lines36 {
+    text: Text,
+    lines: Lines,
+}
+
+impl Model for Lines36 {
+    ghost use Rattle.alm_parse.specs.SourceFields.{Source};
+
+    ghost Value = { Source };
+
+    ghost view = { λ s. record { text = s.text; lines = s.lines } };
+}
+
+impl Lines36 {
+    /// The text.
+    pub fn text(&self) -> &[u8]
+        ensures { result.now ≡ self.now.text }
+    {
+        self.text.bytes()
+    }
+
+    /// The lines in order, up to the one whose operation is `end`, or else all. Empty lines are among them.
+    pub fn lines(&self) -> &[Line36]
+        ensures { result.now ≡ self.now.lines }
+    {
+        self.lines.items()
+    }
+}
+
+fn names_end(text: &[u8], op: Option<Span>) -> bool
+    ensures { result ≡ names_end text.now op }
+{
+    match op {
+        Some(op) => bytes_of(text, op) == b"end".as_slice(),
+        None => false,
+    }
+}
+
+#[tactic(auto, using(crate::proofs::SourceLaws::read_all))]
+fn read_lines(alloc: Global, text: &[u8], rows: &[Row]) -> Result<Lines, AlmFault>
+    requires { length text.now < 2 ^ 32 }
+    ensures { ParseSays result (read_lines text.now [] rows.now) }
+{
+    let mut lines = Lines::new(alloc);
+    for row in rows {
+        match read_line(alloc, text, *row) {
+            Ok(line) => {
+                let last = names_end(text, line.op);
+                lines.push(line)?;
+                if last {
+                    return Ok(lines);
+                }
+            }
+            Err(Halt::Refused(refusal)) => return Err(fault_of(*row, refusal)),
+            Err(Halt::NoMemory) => return Err(AlmFault::NoMemory),
+        }
+    }
+    Ok(lines)
+}
+
+#[tactic(auto, using(crate::proofs::SourceLaws::refuses_all), unfolding(crate::specs::Sources::parsed))]
+fn read_source(alloc: Global, text: &[u8]) -> Result<Lines36, AlmFault>
+    requires { length text.now < 2 ^ 32 }
+    ensures { ParseSays result (parsed text.now) }
+{
+    let rows = rows_of(alloc, text)?;
+    let lines = match read_lines(alloc, text, rows.items()) {
+        Ok(lines) => lines,
+        Err(fault) => return Err(fault),
+    };
+    let text = Text::from_bytes(alloc, text)?;
+    Ok(Lines36 { text, lines })
+}
+
+/// Reads a source. It is refused exactly where it is not of the language, with the first of the codes E1 to E4 in the
+/// order of the text, and the least of them at one place; or where no memory is found.
+#[tactic(auto, using(crate::proofs::SpanLines::spans_say))]
+pub fn parse(alloc: Global, text: &[u8]) -> Result<Lines36, AlmFault>
+    requires { length text.now < 2 ^ 32 }
+    ensures says { ParseSays result (parsed text.now) }
+    ensures spans { IfOk result (λ source. All (LineIn (length text.now)) source.lines) }
+{
+    read_source(alloc, text)
+}
