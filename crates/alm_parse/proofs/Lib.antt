@@ -1,0 +1,5 @@
+pub mod Cuts
+pub mod HeadLaws
+pub mod Packed
+pub mod RowLaws
+pub mod Slices

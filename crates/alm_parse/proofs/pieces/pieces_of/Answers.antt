@@ -1,0 +1,15 @@
+use Rattle.std.proofs.Common.{arith, append_assoc, ap, sym, ◌∙◌, ◌+◌, ◌++◌, ◌≡◌}
+use Rattle.std.proofs.lemmas.Grind.{common_steps}
+use Rattle.alm_parse.proofs.Cuts.{cuts}
+use Rattle.alm_parse.proofs.pieces.pieces_of.Goals as goal
+use Rattle.alm_parse.proofs.pieces.pieces_of.Goals.{then-parts+in_ok-push, else-parts}
+
+pub loop-byte-preserved : goal.loop-byte-preserved
+loop-byte-preserved c = record {
+    place = omega arith;
+    whole =
+      elim c.if-parts.branch [
+        | then-parts+in_ok-push w ↦ grind (arith, common_steps, cuts)
+        | else-parts w ↦ grind (arith, common_steps, cuts)
+      ];
+  }

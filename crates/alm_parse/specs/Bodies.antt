@@ -1,0 +1,76 @@
+-- The operand of an instruction, up to its modifier: a pointer register, a bar and an expression; or a segment, a dollar
+-- sign, perhaps an entry, and perhaps a sign and an expression; or an expression.
+use Rattle.std.specs.Prelude.{ℕ, ◌+◌, Bool, true, false, not, ◌&&◌, ◌||◌, ◌==◌, List, [], length, slice_index, codes, Option, Some, None, option_map, is_some, if◌then◌else◌}
+use Rattle.std.specs.List.{position}
+use Rattle.alm_parse.specs.declared.span.Span.{Span}
+use Rattle.alm_parse.specs.declared.pieces.Piece.{Piece}
+use Rattle.alm_parse.specs.declared.body.Body.{Body}
+use Rattle.alm_parse.specs.declared.body.Body.TheVariants.{Through, External, Plain}
+use Rattle.alm_parse.specs.Bytes.{goes_on, is_sign}
+use Rattle.alm_parse.specs.Tokens.{slice_of, is_text, is_symbol}
+use Rattle.alm_parse.specs.Pieces.{piece_at}
+use Rattle.alm_parse.specs.Expressions.{expression_pieces}
+use Rattle.alm_parse.specs.Modifiers.{pr_number}
+
+abbrev pub span_at : ℕ → ℕ → Span
+span_at from to = record { from = from; to = to }
+
+-- the first place in a span where a byte stands
+unfoldable pub place_of : List ℕ → Span → ℕ → Option ℕ
+place_of text span byte = option_map (λ i. span.from + i) (position (λ b. b == byte) (slice_of text span))
+
+-- the place behind the bytes at the beginning of a span that may belong to a symbol
+abbrev pub end_by : Option ℕ → ℕ → ℕ → ℕ
+end_by (Some i) from count = from + i
+end_by None from count = from + count
+
+unfoldable pub symbol_end : List ℕ → Span → ℕ
+symbol_end text span =
+    end_by (position (λ b. not (goes_on b)) (slice_of text span)) span.from (length (slice_of text span))
+
+-- the parts
+abbrev pub external_by : Span → ℕ → ℕ → Body
+external_by whole dollar end = External (span_at whole.from dollar) (span_at (dollar + 1) end) (span_at end whole.to)
+
+abbrev pub external : List ℕ → Span → ℕ → Body
+external text whole dollar = external_by whole dollar (symbol_end text (span_at (dollar + 1) whole.to))
+
+abbrev pub body_without_bar : List ℕ → Span → Option ℕ → Body
+body_without_bar text whole (Some dollar) = external text whole dollar
+body_without_bar text whole None = Plain whole
+
+abbrev pub body_by : List ℕ → Span → Option ℕ → Body
+body_by text whole (Some bar) = Through (span_at whole.from bar) (span_at (bar + 1) whole.to)
+body_by text whole None = body_without_bar text whole (place_of text whole 36)
+
+unfoldable pub body_of : List ℕ → Span → Body
+body_of text whole = body_by text whole (place_of text whole 124)
+
+-- the forms of the parts
+abbrev pub is_segment : List ℕ → Bool
+is_segment bytes =
+    is_symbol bytes || is_text (codes "*text") bytes || is_text (codes "*link") bytes || is_text (codes "*static") bytes
+
+abbrev pub is_entry : List ℕ → Bool
+is_entry bytes = (length bytes == 0) || is_symbol bytes
+
+abbrev pub is_tail : List ℕ → Bool
+is_tail bytes = (length bytes == 0) || is_sign (slice_index bytes 0)
+
+abbrev pub is_body : List ℕ → Body → Bool
+is_body text (Through pr offset) = is_some (pr_number (slice_of text pr))
+is_body text (External segment entry tail) =
+    is_segment (slice_of text segment) && is_entry (slice_of text entry) && is_tail (slice_of text tail)
+is_body text (Plain whole) = true
+
+-- The terms. Behind an external name a sign belongs to the first of them.
+unfoldable pub tail_pieces : List ℕ → Span → List Piece
+tail_pieces text tail =
+    if length (slice_of text tail) == 0
+    then []
+    else expression_pieces text (piece_at (slice_index (slice_of text tail) 0 == 45) (tail.from + 1) tail.to)
+
+abbrev pub body_pieces : List ℕ → Body → List Piece
+body_pieces text (Through pr offset) = expression_pieces text (record { span = offset; minus = false })
+body_pieces text (External segment entry tail) = tail_pieces text tail
+body_pieces text (Plain whole) = expression_pieces text (record { span = whole; minus = false })

@@ -1,0 +1,61 @@
+-- Texts that are placed: characters between two delimiters, four in a word.
+use Rattle.std.specs.Prelude.{ℕ, ◌+◌, ◌*◌, ◌^◌, Bool, true, false, not, ◌==◌, List, [], ◌∷◌, slice_index, Option, Some, None, option_map, Result, Ok, Err, if◌then◌else◌}
+use Rattle.std.specs.List.{find, position}
+use Rattle.alm_parse.specs.declared.span.Span.{Span}
+use Rattle.alm_parse.specs.declared.args.Arg.{Arg}
+use Rattle.alm_parse.specs.declared.args.Arg.TheVariants.{Chars}
+use Rattle.alm_parse.specs.declared.refusal.Code.TheVariants.{E1, E2}
+use Rattle.alm_parse.specs.declared.refusal.Refusal.{Refusal}
+use Rattle.alm_parse.specs.Bytes.{is_blank, is_character}
+use Rattle.alm_parse.specs.Tokens.{slice_of}
+use Rattle.alm_parse.specs.Bodies.{span_at, place_of}
+
+-- A character has nine bits, and zeros follow the last.
+abbrev pub four : ℕ → ℕ → ℕ → ℕ → ℕ
+four a b c d = a * 2 ^ 27 + b * 2 ^ 18 + c * 2 ^ 9 + d
+
+unfoldable pub packed : List ℕ → List ℕ
+packed [] = []
+packed (a ∷ []) = four a 0 0 0 ∷ []
+packed (a ∷ b ∷ []) = four a b 0 0 ∷ []
+packed (a ∷ b ∷ c ∷ []) = four a b c 0 ∷ []
+packed (a ∷ b ∷ c ∷ d ∷ rest) = four a b c d ∷ packed rest
+
+-- the word of the first four, or of those that there are
+unfoldable pub first_word : List ℕ → ℕ
+first_word bytes = four (slice_index bytes 0) (slice_index bytes 1) (slice_index bytes 2) (slice_index bytes 3)
+
+-- behind the closing delimiter only blanks stand, and perhaps a comment
+abbrev pub ended_by : Option ℕ → Bool
+ended_by None = true
+ended_by (Some b) = b == 34
+
+abbrev pub is_ended : List ℕ → Bool
+is_ended bytes = ended_by (find (λ b. not (is_blank b)) bytes)
+
+-- the first byte that is no character
+unfoldable pub place_bad : List ℕ → Span → Option ℕ
+place_bad text span = option_map (λ i. span.from + i) (position (λ b. not (is_character b)) (slice_of text span))
+
+abbrev pub characters_by : List ℕ → Span → Option ℕ → Result (List Arg) Refusal
+characters_by text span (Some place) = Err (record { place = place; code = E1 })
+characters_by text span None = Ok (Chars (packed (slice_of text span)) ∷ [])
+
+abbrev pub characters_ended : List ℕ → Span → Span → Bool → Result (List Arg) Refusal
+characters_ended text rest span true = characters_by text span (place_bad text span)
+characters_ended text rest span false = Err (record { place = rest.from; code = E2 })
+
+abbrev pub characters_closed : List ℕ → Span → Option ℕ → Result (List Arg) Refusal
+characters_closed text rest (Some close) =
+    characters_ended text rest (span_at (rest.from + 1) close) (is_ended (slice_of text (span_at (close + 1) rest.to)))
+characters_closed text rest None = Err (record { place = rest.from; code = E2 })
+
+-- The delimiter is the first byte of what is given.
+abbrev pub characters_from : List ℕ → Span → ℕ → Result (List Arg) Refusal
+characters_from text rest delimiter =
+    if is_character delimiter
+    then characters_closed text rest (place_of text (span_at (rest.from + 1) rest.to) delimiter)
+    else Err (record { place = rest.from; code = E1 })
+
+unfoldable pub characters_given : List ℕ → Span → Result (List Arg) Refusal
+characters_given text rest = characters_from text rest (slice_index text rest.from)

@@ -1,0 +1,16 @@
+pub mod Bytes
+pub mod Tokens
+pub mod Pieces
+pub mod Expressions
+pub mod Modifiers
+pub mod Refusals
+pub mod Bodies
+pub mod Operands
+pub mod Numerals
+pub mod Members
+pub mod Pairs
+pub mod Characters
+pub mod Heads
+pub mod Operations
+pub mod Rows
+pub mod Lines

@@ -1,0 +1,105 @@
+-- The lines of a source.
+use Rattle.std.specs.Prelude.{ℕ, Bool, not, List, [], ◌∷◌, Option, Some, None, option_map, Result, Ok, Err}
+use Rattle.std.specs.List.{find}
+use Rattle.alm_parse.specs.declared.span.Span.{Span}
+use Rattle.alm_parse.specs.declared.args.Arg.{Arg}
+use Rattle.alm_parse.specs.declared.numerals.Numeral.TheVariants as numeral
+use Rattle.alm_parse.specs.declared.operation.Operation.{Operation}
+use Rattle.alm_parse.specs.declared.operation.Operation.TheVariants.{Instruction, Names, Value, Section, Decimal, Octal, Characters, Halves, Block, Bare, End}
+use Rattle.alm_parse.specs.declared.refusal.Code.TheVariants.{E2, E3}
+use Rattle.alm_parse.specs.declared.refusal.Refusal.{Refusal}
+use Rattle.alm_parse.specs.declared.head.Head.{Head}
+use Rattle.alm_parse.specs.declared.rows.Row.{Row}
+use Rattle.alm_parse.specs.declared.line.Line36.{Line36}
+use Rattle.alm_parse.specs.Tokens.{slice_of, is_symbol}
+use Rattle.alm_parse.specs.Refusals.{told, unless}
+use Rattle.alm_parse.specs.Bodies.{span_at}
+use Rattle.alm_parse.specs.Operands.{operand_given}
+use Rattle.alm_parse.specs.Members.{symbols_given, numbers_given}
+use Rattle.alm_parse.specs.Pairs.{value_given, halves_given, block_given, section_given}
+use Rattle.alm_parse.specs.Characters.{characters_given}
+use Rattle.alm_parse.specs.Heads.{head_of, operand_in, delimited_in}
+use Rattle.alm_parse.specs.Operations.{operation_of}
+
+-- A missing operand of an instruction is 0, and some operations have none; any other is told at the operation.
+abbrev pub missing : Operation → ℕ → Option Refusal
+missing Instruction at = None
+missing Bare at = None
+missing End at = None
+missing Names at = Some (record { place = at; code = E2 })
+missing Value at = Some (record { place = at; code = E2 })
+missing Section at = Some (record { place = at; code = E2 })
+missing Decimal at = Some (record { place = at; code = E2 })
+missing Octal at = Some (record { place = at; code = E2 })
+missing Characters at = Some (record { place = at; code = E2 })
+missing Halves at = Some (record { place = at; code = E2 })
+missing Block at = Some (record { place = at; code = E2 })
+
+-- what an operand says by its operation
+abbrev pub args_with : Operation → List ℕ → Span → Result (List Arg) Refusal
+args_with Instruction text operand = operand_given text operand
+args_with Names text operand = symbols_given text operand
+args_with Value text operand = value_given text operand
+args_with Section text operand = section_given text operand
+args_with Decimal text operand = numbers_given numeral.Decimal text operand
+args_with Octal text operand = numbers_given numeral.Octal text operand
+args_with Characters text operand = characters_given text operand
+args_with Halves text operand = halves_given text operand
+args_with Block text operand = block_given text operand
+args_with Bare text operand = Err (told text operand.from E2)
+args_with End text operand = Ok []
+
+abbrev pub operand_for : Operation → List ℕ → Span → Option Span
+operand_for Instruction text rest = operand_in text rest
+operand_for Names text rest = operand_in text rest
+operand_for Value text rest = operand_in text rest
+operand_for Section text rest = operand_in text rest
+operand_for Decimal text rest = operand_in text rest
+operand_for Octal text rest = operand_in text rest
+operand_for Characters text rest = delimited_in text rest
+operand_for Halves text rest = operand_in text rest
+operand_for Block text rest = operand_in text rest
+operand_for Bare text rest = operand_in text rest
+operand_for End text rest = operand_in text rest
+
+abbrev pub args_by : Operation → List ℕ → ℕ → Option Span → Result (List Arg) Refusal
+args_by operation text op (Some operand) = args_with operation text operand
+args_by operation text op None = unless (missing operation op) []
+
+unfoldable pub args_of : Operation → List ℕ → ℕ → Span → Result (List Arg) Refusal
+args_of operation text op rest = args_by operation text op (operand_for operation text rest)
+
+-- the first label that is no symbol
+abbrev pub is_no_symbol : List ℕ → Span → Bool
+is_no_symbol text span = not (is_symbol (slice_of text span))
+
+unfoldable pub label_refusal : List ℕ → List Span → Option Refusal
+label_refusal text marks = option_map (λ mark. told text mark.from E2) (find (is_no_symbol text) marks)
+
+-- a line by its parts
+abbrev pub line_of : Row → Head → List Arg → Line36
+line_of row head arguments =
+    record { labels = head.labels; args = arguments; op = head.op; start = row.span.from; line = row.number }
+
+abbrev pub line_with : Row → Head → Result (List Arg) Refusal → Result Line36 Refusal
+line_with row head (Ok arguments) = Ok (line_of row head arguments)
+line_with row head (Err refusal) = Err refusal
+
+abbrev pub line_by : List ℕ → Row → Head → Span → Option Operation → Result Line36 Refusal
+line_by text row head op (Some operation) =
+    line_with row head (args_of operation text op.from (span_at op.to row.span.to))
+line_by text row head op None = Err (told text op.from E3)
+
+abbrev pub line_from : List ℕ → Row → Head → Option Span → Result Line36 Refusal
+line_from text row head (Some op) = line_by text row head op (operation_of (slice_of text op))
+line_from text row head None = Ok (line_of row head [])
+
+abbrev pub line_unless : Option Refusal → List ℕ → Row → Head → Result Line36 Refusal
+line_unless (Some refusal) text row head = Err refusal
+line_unless None text row head = line_from text row head head.op
+
+abbrev pub line_headed : List ℕ → Row → Head → Result Line36 Refusal
+line_headed text row head = line_unless (label_refusal text head.labels) text row head
+
+unfoldable pub line_given : List ℕ → Row → Result Line36 Refusal
+line_given text row = line_headed text row (head_of text row.span)

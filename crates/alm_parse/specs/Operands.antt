@@ -1,0 +1,50 @@
+-- The operand of an instruction: its body, and perhaps a comma and a modifier.
+use Rattle.std.specs.Prelude.{ℕ, ◌+◌, Bool, ◌&&◌, ◌==◌, List, [], ◌∷◌, length, map, Option, Some, None, Result, is_some, unwrap_or, if◌then◌else◌}
+use Rattle.std.specs.List.{list_all}
+use Rattle.alm_parse.specs.declared.span.Span.{Span}
+use Rattle.alm_parse.specs.declared.pieces.Piece.{Piece}
+use Rattle.alm_parse.specs.declared.expression.Term.{Term}
+use Rattle.alm_parse.specs.declared.body.Body.{Body}
+use Rattle.alm_parse.specs.declared.body.Body.TheVariants.{Through, External, Plain}
+use Rattle.alm_parse.specs.declared.args.Arg.{Arg}
+use Rattle.alm_parse.specs.declared.args.Arg.TheVariants.{Operand}
+use Rattle.alm_parse.specs.declared.refusal.Refusal.{Refusal}
+use Rattle.alm_parse.specs.Tokens.{slice_of}
+use Rattle.alm_parse.specs.Expressions.{is_term_at, place_over, term_of}
+use Rattle.alm_parse.specs.Modifiers.{pr_number, tag_of}
+use Rattle.alm_parse.specs.Bodies.{span_at, place_of, body_of, is_body, body_pieces}
+use Rattle.alm_parse.specs.Refusals.{refused, unless}
+
+-- what stands before the comma, and the tag of what stands behind it
+abbrev pub body_span : Span → Option ℕ → Span
+body_span operand (Some comma) = span_at operand.from comma
+body_span operand None = operand
+
+abbrev pub tag_given : List ℕ → Span → Option ℕ → Option ℕ
+tag_given text operand (Some comma) = tag_of (slice_of text (span_at (comma + 1) operand.to))
+tag_given text operand None = Some 0
+
+-- what an operand says
+abbrev pub entry_given : List ℕ → Span → Option Span
+entry_given text span = if length (slice_of text span) == 0 then None else Some span
+
+abbrev pub operand_of : List ℕ → Body → List Term → ℕ → Arg
+operand_of text (Through pr offset) expr tag = Operand (pr_number (slice_of text pr)) None None expr tag
+operand_of text (External segment entry tail) expr tag = Operand None (Some segment) (entry_given text entry) expr tag
+operand_of text (Plain whole) expr tag = Operand None None None expr tag
+
+abbrev pub is_operand : List ℕ → Body → List Piece → Option ℕ → Bool
+is_operand text body pieces tag = is_body text body && list_all (is_term_at text) pieces && is_some tag
+
+abbrev pub operand_by : List ℕ → ℕ → Body → List Piece → Option ℕ → Result (List Arg) Refusal
+operand_by text at body pieces tag =
+    unless (refused text at (is_operand text body pieces tag) (place_over text pieces)) (operand_of text body (map (term_of text) pieces) (unwrap_or tag 0) ∷ [])
+
+abbrev pub operand_with : List ℕ → Span → Body → Option ℕ → Result (List Arg) Refusal
+operand_with text operand body comma =
+    operand_by text operand.from body (body_pieces text body) (tag_given text operand comma)
+
+unfoldable pub operand_given : List ℕ → Span → Result (List Arg) Refusal
+operand_given text operand =
+    let comma = place_of text operand 44 in
+    operand_with text operand (body_of text (body_span operand comma)) comma

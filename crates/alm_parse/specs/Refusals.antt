@@ -1,0 +1,30 @@
+-- Why a source is refused.
+use Rattle.std.specs.Prelude.{ℕ, ⊤, ◌≡◌, Bool, true, false, List, slice_index, Option, Some, None, Result, Ok, Err, if◌then◌else◌}
+use Rattle.alm_parse.specs.declared.refusal.Code.{Code}
+use Rattle.alm_parse.specs.declared.refusal.Code.TheVariants.{E1, E2, E4}
+use Rattle.alm_parse.specs.declared.refusal.Refusal.{Refusal}
+use Rattle.alm_parse.specs.declared.refusal.Halt.{Halt}
+use Rattle.alm_parse.specs.declared.refusal.Halt.TheVariants.{Refused, NoMemory}
+use Rattle.alm_parse.specs.Bytes.{is_legal}
+
+-- A label, an operation or an operand that is not of its form is told at the place where it begins. Where the byte there
+-- is one that no source may have, that byte is told.
+unfoldable pub told : List ℕ → ℕ → Code → Refusal
+told text place code = record { place = place; code = if is_legal (slice_index text place) then code else E1 }
+
+-- An operand is refused where it is not of its form, or else for its first number out of range.
+abbrev pub refused : List ℕ → ℕ → Bool → Option ℕ → Option Refusal
+refused text operand false over = Some (told text operand E2)
+refused text operand true (Some place) = Some (record { place = place; code = E4 })
+refused text operand true None = None
+
+-- what is read where nothing is refused
+abbrev pub unless : {A : Type 0} → Option Refusal → A → Result A Refusal
+unless None value = Ok value
+unless (Some refusal) value = Err refusal
+
+-- What a reader answers is what the definition says, where want of memory may come at any time.
+abbrev pub Reads : {A : Type 0} → Result A Halt → Result A Refusal → Type 0
+Reads (Ok value) definition = definition ≡ Ok value
+Reads (Err (Refused refusal)) definition = definition ≡ Err refusal
+Reads (Err NoMemory) definition = ⊤

@@ -1,0 +1,92 @@
+//! The arguments of an operation.
+
+ghost use Rattle.std.specs.Prelude.{ℕ, List, [], ◌∷◌, ◌++◌, ◌≡◌, OnOk, OnErr, IfOk};
+
+use crate::expression::Expr;
+use crate::span::Span;
+use m36_word::{NoMemory, Word, Words};
+use std::alloc::Global;
+use std::marker::Model;
+
+/// An argument of an operation.
+#[derive(Debug, Drop)]
+pub enum Arg {
+    /// A symbol, the slice that the span names.
+    Symbol(Span),
+    /// A number, as the word that it is.
+    Number(Word),
+    /// Characters, four in a word, with zeros behind the last.
+    Chars(Words),
+    /// An expression alone.
+    Plain(Expr),
+    /// The operand of an instruction: through the pointer register `pr` (0 to 7), or to the segment `seg` and perhaps
+    /// its entry `entry`, or an expression alone; with a tag of 6 bits.
+    Operand {
+        pr: Option<u8>,
+        seg: Option<Span>,
+        entry: Option<Span>,
+        expr: Expr,
+        tag: u8,
+    },
+}
+
+/// A list of arguments that grows at its end.
+#[derive(Debug, Drop)]
+pub struct Args {
+    items: Vec<Arg>,
+}
+
+impl Model for Args {
+    ghost use Rattle.std.specs.Prelude.{List};
+    ghost use Rattle.alm_parse.specs.declared.args.Arg.{Arg};
+
+    ghost Value = { List Arg };
+
+    ghost view = { λ a. a.items.items };
+}
+
+impl Args {
+    /// An empty list.
+    pub fn new(alloc: Global) -> Args
+        ensures { result ≡ [] }
+    {
+        Args {
+            items: Vec::new(alloc),
+        }
+    }
+
+    /// Adds an argument at the end. Where no memory is found, nothing changes.
+    pub fn push(&mut self, x: Arg) -> Result<(), NoMemory>
+        ensures ok { OnOk result (self.new ≡ self.old ++ x ∷ []) }
+        ensures err { OnErr result (self.new ≡ self.old) }
+    {
+        self.items.push(x)?;
+        Ok(())
+    }
+
+    /// The arguments in order.
+    pub fn items(&self) -> &[Arg]
+        ensures { result.now ≡ self.now }
+    {
+        self.items.as_slice()
+    }
+}
+
+/// A list of one argument.
+pub fn one(alloc: Global, arg: Arg) -> Result<Args, NoMemory>
+    ensures { IfOk result (λ args. args ≡ arg ∷ []) }
+{
+    let mut args = Args::new(alloc);
+    args.push(arg)?;
+    Ok(args)
+}
+
+/// A list of two arguments.
+pub fn two(alloc: Global, first: Arg, second: Arg) -> Result<Args, NoMemory>
+    ensures { IfOk result (λ args. args ≡ first ∷ second ∷ []) }
+{
+    let mut args = Args::new(alloc);
+    args.push(first)?;
+    args.push(second)?;
+    Ok(args)
+}

@@ -1,0 +1,182 @@
+//! The operand of an instruction, up to its modifier.
+
+ghost use Rattle.std.specs.Prelude.{ℕ, ◌≡◌, ◌^◌, ◌<◌, ◌≤◌, ◌+◌, ◌==◌, not, length, IfOk, IfSome};
+ghost use Rattle.std.specs.List.{position};
+ghost use Rattle.alm_parse.specs.Bytes.{goes_on};
+ghost use Rattle.alm_parse.specs.Bodies.{place_of, symbol_end, external, body_of, is_segment, is_entry, is_tail, is_body, tail_pieces, body_pieces};
+
+use crate::bytes::{goes_on, is_sign};
+use crate::expression::{expression_pieces, first_byte};
+use crate::modifiers::pr_number;
+use crate::pieces::{Piece, Pieces};
+use crate::span::{Span, bytes_of};
+use crate::tokens::is_symbol;
+use m36_word::NoMemory;
+use std::alloc::Global;
+
+/// What the bytes before the modifier are parted into.
+#[derive(Clone, Copy, Debug, PartialEq, Eq)]
+pub enum Body {
+    /// A pointer register, and the expression behind the bar.
+    Through(Span, Span),
+    /// A segment, the entry behind the dollar sign, which may be empty, and what follows it, which may be empty too.
+    External(Span, Span, Span),
+    /// An expression.
+    Plain(Span),
+}
+
+fn first_place(bytes: &[u8], byte: u8) -> Option<usize>
+    ensures value { result ≡ position (λ b. b == byte) bytes.now }
+    ensures within { IfSome result (λ i. i < length bytes.now) }
+{
+    bytes.iter().position(|b| *b == byte)
+}
+
+fn first_other(bytes: &[u8]) -> Option<usize>
+    ensures value { result ≡ position (λ b. not (goes_on b)) bytes.now }
+    ensures within { IfSome result (λ i. i < length bytes.now) }
+{
+    bytes.iter().position(|b| !goes_on(*b))
+}
+
+/// The first place in a span where a byte stands.
+#[tactic(auto, unfolding(crate::specs::Bodies::place_of))]
+pub fn place_of(text: &[u8], span: Span, byte: u8) -> Option<u32>
+    requires { length text.now < 2 ^ 32 }
+    ensures value { result ≡ place_of text.now span byte }
+    ensures within { IfSome result (λ i. i < length text.now) }
+{
+    let place = first_place(bytes_of(text, span), byte)?;
+    Some(span.from + place as u32)
+}
+
+/// The place behind the bytes at the beginning of a span that may belong to a symbol.
+#[tactic(auto, unfolding(crate::specs::Bodies::symbol_end))]
+fn symbol_end(text: &[u8], span: Span) -> u32
+    requires { length text.now < 2 ^ 32 }
+    ensures { result ≡ symbol_end text.now span }
+{
+    let bytes = bytes_of(text, span);
+    match first_other(bytes) {
+        Some(place) => span.from + place as u32,
+        None => span.from + bytes.len() as u32,
+    }
+}
+
+fn external(text: &[u8], whole: Span, dollar: u32) -> Body
+    requires text { length text.now < 2 ^ 32 }
+    requires dollar { dollar < length text.now }
+    ensures { result ≡ external text.now whole dollar }
+{
+    let rest = Span {
+        from: dollar + 1,
+        to: whole.to,
+    };
+    let end = symbol_end(text, rest);
+    Body::External(
+        Span {
+            from: whole.from,
+            to: dollar,
+        },
+        Span {
+            from: dollar + 1,
+            to: end,
+        },
+        Span {
+            from: end,
+            to: whole.to,
+        },
+    )
+}
+
+/// The parts of an operand without its modifier.
+#[tactic(auto, unfolding(crate::specs::Bodies::body_of))]
+pub fn body_of(text: &[u8], whole: Span) -> Body
+    requires { length text.now < 2 ^ 32 }
+    ensures { result ≡ body_of text.now whole }
+{
+    if let Some(bar) = place_of(text, whole, b'|') {
+        return Body::Through(
+            Span {
+                from: whole.from,
+                to: bar,
+            },
+            Span {
+                from: bar + 1,
+                to: whole.to,
+            },
+        );
+    }
+    match place_of(text, whole, b'$') {
+        Some(dollar) => external(text, whole, dollar),
+        None => Body::Plain(whole),
+    }
+}
+
+fn is_segment(bytes: &[u8]) -> bool
+    ensures { result ≡ is_segment bytes.now }
+{
+    is_symbol(bytes)
+        || bytes == b"*text".as_slice()
+        || bytes == b"*link".as_slice()
+        || bytes == b"*static".as_slice()
+}
+
+fn is_entry(bytes: &[u8]) -> bool
+    ensures { result ≡ is_entry bytes.now }
+{
+    bytes.is_empty() || is_symbol(bytes)
+}
+
+fn is_tail(bytes: &[u8]) -> bool
+    ensures { result ≡ is_tail bytes.now }
+{
+    bytes.is_empty() || is_sign(first_byte(bytes))
+}
+
+/// Whether the parts of an operand are of their forms; its terms are looked at apart.
+pub fn is_body(text: &[u8], body: Body) -> bool
+    ensures { result ≡ is_body text.now body }
+{
+    match body {
+        Body::Through(pr, _) => pr_number(bytes_of(text, pr)).is_some(),
+        Body::External(segment, entry, tail) => {
+            is_segment(bytes_of(text, segment))
+                && is_entry(bytes_of(text, entry))
+                && is_tail(bytes_of(text, tail))
+        }
+        Body::Plain(_) => true,
+    }
+}
+
+#[tactic(auto, unfolding(crate::specs::Bodies::tail_pieces))]
+fn tail_pieces(alloc: Global, text: &[u8], tail: Span) -> Result<Pieces, NoMemory>
+    requires { length text.now < 2 ^ 32 }
+    ensures { IfOk result (λ p. p ≡ tail_pieces text.now tail) }
+{
+    let bytes = bytes_of(text, tail);
+    if bytes.is_empty() {
+        return Ok(Pieces::new(alloc));
+    }
+    let whole = Piece {
+        span: Span {
+            from: tail.from + 1,
+            to: tail.to,
+        },
+        minus: bytes[0] == b'-',
+    };
+    expression_pieces(alloc, text, whole)
+}
+
+/// The terms of an operand, as pieces.
+pub fn body_pieces(alloc: Global, text: &[u8], body: Body) -> Result<Pieces, NoMemory>
+    requires { length text.now < 2 ^ 32 }
+    ensures { IfOk result (λ p. p ≡ body_pieces text.now body) }
+{
+    match body {
+        Body::Through(_, span) | Body::Plain(span) => {
+            expression_pieces(alloc, text, Piece { span, minus: false })
+        }
+        Body::External(_, _, tail) => tail_pieces(alloc, text, tail),
+    }
+}

@@ -1,0 +1,56 @@
+//! Bytes by class.
+
+ghost use Rattle.std.specs.Prelude.{◌≡◌};
+ghost use Rattle.alm_parse.specs.Bytes.{is_blank, begins_symbol, goes_on, is_sign, is_octal_digit, is_character, is_legal};
+
+/// A blank or a tab.
+pub fn is_blank(byte: u8) -> bool
+    ensures { result ≡ is_blank byte }
+{
+    matches!(byte, b' ' | b'\t')
+}
+
+/// What a symbol begins with: a letter or `_`.
+pub fn begins_symbol(byte: u8) -> bool
+    ensures { result ≡ begins_symbol byte }
+{
+    matches!(byte, b'A'..=b'Z' | b'a'..=b'z' | b'_')
+}
+
+/// What a symbol goes on with: a letter, a digit, `_` or `.`.
+pub fn goes_on(byte: u8) -> bool
+    ensures { result ≡ goes_on byte }
+{
+    matches!(byte, b'A'..=b'Z' | b'a'..=b'z' | b'_' | b'0'..=b'9' | b'.')
+}
+
+/// A sign: `+` or `-`.
+pub fn is_sign(byte: u8) -> bool
+    ensures { result ≡ is_sign byte }
+{
+    matches!(byte, b'+' | b'-')
+}
+
+/// A digit from 0 to 7.
+pub fn is_octal_digit(byte: u8) -> bool
+    ensures { result ≡ is_octal_digit byte }
+{
+    matches!(byte, b'0'..=b'7')
+}
+
+/// A character of a text that is placed: octal 40 to 176.
+pub fn is_character(byte: u8) -> bool
+    ensures { result ≡ is_character byte }
+{
+    matches!(byte, 0o40..=0o176)
+}
+
+/// A byte that a source may have outside comments and texts that are placed.
+#[tactic(auto, unfolding(crate::specs::Bytes::is_legal))]
+pub fn is_legal(byte: u8) -> bool
+    ensures { result ≡ is_legal byte }
+{
+    is_blank(byte)
+        || goes_on(byte)
+        || matches!(byte, b'\n' | b'|' | b':' | b'+' | b'-' | b'*' | b'$' | b',' | b'"')
+}

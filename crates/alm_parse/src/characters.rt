@@ -1,0 +1,141 @@
+//! Texts that are placed: characters between two delimiters.
+
+ghost use Rattle.std.specs.Prelude.{ℕ, ◌∷◌, ◌≡◌, ◌^◌, ◌<◌, ◌+◌, ◌==◌, not, slice_index, drop, length, Option, IfSome, IfOk};
+ghost use Rattle.std.specs.List.{find, position};
+ghost use Rattle.std.specs.Option.{option_copied};
+ghost use Rattle.alm_parse.specs.Bytes.{is_blank, is_character};
+ghost use Rattle.alm_parse.specs.Characters.{four, first_word, packed, is_ended, place_bad, characters_given};
+ghost use Rattle.alm_parse.specs.Refusals.{Reads};
+
+use crate::args::{Arg, Args, one};
+use crate::body::place_of;
+use crate::bytes::{is_blank, is_character};
+use crate::refusal::{Code, Halt, Refusal, byte_at};
+use crate::span::{Span, bytes_of};
+use m36_word::{NoMemory, Word, Words};
+use std::alloc::Global;
+
+fn byte_or_zero(bytes: &[u8], place: usize) -> u64
+    ensures value { result ≡ slice_index bytes.now place }
+    ensures below { result < 256 }
+{
+    if place < bytes.len() {
+        bytes[place] as u64
+    } else {
+        0
+    }
+}
+
+#[tactic(auto, unfolding(crate::specs::Characters::first_word))]
+fn word_of_four(bytes: &[u8]) -> Word
+    ensures { result ≡ first_word bytes.now }
+{
+    let high = (byte_or_zero(bytes, 0) << 27) + (byte_or_zero(bytes, 1) << 18);
+    Word::low(high + (byte_or_zero(bytes, 2) << 9) + byte_or_zero(bytes, 3))
+}
+
+// The word of the first four characters, or of those that there are.
+#[tactic(auto, using(crate::proofs::Packed::packed_first))]
+fn first_word(bytes: &[u8]) -> Word
+    requires { 0 < length bytes.now }
+    ensures { packed bytes.now ≡ result ∷ packed (drop 4 bytes.now) }
+{
+    word_of_four(bytes)
+}
+
+fn behind_four(bytes: &[u8]) -> &[u8]
+    ensures value { result.now ≡ drop 4 bytes.now }
+    ensures shorter { 0 < length bytes.now → length result.now < length bytes.now }
+{
+    match bytes {
+        [_, _, _, _, rest @ ..] => rest,
+        _ => &[],
+    }
+}
+
+#[tactic(auto, using(crate::proofs::Packed::packed_none))]
+fn packed(alloc: Global, bytes: &[u8]) -> Result<Words, NoMemory>
+    ensures { IfOk result (λ words. words ≡ packed bytes.now) }
+{
+    let mut words = Words::new(alloc);
+    let mut rest = bytes;
+    while !rest.is_empty() {
+        words.push(first_word(rest))?;
+        rest = behind_four(rest);
+    }
+    Ok(words)
+}
+
+fn first_no_blank(bytes: &[u8]) -> Option<&u8>
+    ensures { option_copied result ≡ find (λ b. not (is_blank b)) bytes.now }
+{
+    bytes.iter().find(|b| !is_blank(**b))
+}
+
+fn is_ended(bytes: &[u8]) -> bool
+    ensures { result ≡ is_ended bytes.now }
+{
+    match first_no_blank(bytes) {
+        Some(byte) => *byte == b'"',
+        None => true,
+    }
+}
+
+fn first_no_character(bytes: &[u8]) -> Option<usize>
+    ensures value { result ≡ position (λ b. not (is_character b)) bytes.now }
+    ensures within { IfSome result (λ i. i < length bytes.now) }
+{
+    bytes.iter().position(|b| !is_character(*b))
+}
+
+#[tactic(auto, unfolding(crate::specs::Characters::place_bad))]
+fn place_bad(text: &[u8], span: Span) -> Option<u32>
+    requires { length text.now < 2 ^ 32 }
+    ensures value { result ≡ place_bad text.now span }
+    ensures within { IfSome result (λ i. i < length text.now) }
+{
+    let place = first_no_character(bytes_of(text, span))?;
+    Some(span.from + place as u32)
+}
+
+/// Characters between delimiters. What is given begins with the first delimiter, and reaches to the end of the line.
+#[tactic(auto, unfolding(crate::specs::Characters::characters_given))]
+pub fn characters_args(alloc: Global, text: &[u8], rest: Span) -> Result<Args, Halt>
+    requires text { length text.now < 2 ^ 32 }
+    requires inside { rest.from < length text.now }
+    ensures { Reads result (characters_given text.now rest) }
+{
+    let delimiter = byte_at(text, rest.from);
+    if !is_character(delimiter) {
+        return Err(Halt::Refused(Refusal {
+            place: rest.from,
+            code: Code::E1,
+        }));
+    }
+    let from = rest.from + 1;
+    let Some(close) = place_of(text, Span { from, to: rest.to }, delimiter) else {
+        return Err(Halt::Refused(Refusal {
+            place: rest.from,
+            code: Code::E2,
+        }));
+    };
+    let behind = Span {
+        from: close + 1,
+        to: rest.to,
+    };
+    if !is_ended(bytes_of(text, behind)) {
+        return Err(Halt::Refused(Refusal {
+            place: rest.from,
+            code: Code::E2,
+        }));
+    }
+    let span = Span { from, to: close };
+    if let Some(place) = place_bad(text, span) {
+        return Err(Halt::Refused(Refusal {
+            place,
+            code: Code::E1,
+        }));
+    }
+    let words = packed(alloc, bytes_of(text, span))?;
+    Ok(one(alloc, Arg::Chars(words))?)
+}

@@ -1,0 +1,102 @@
+//! The operand of an instruction.
+
+ghost use Rattle.std.specs.Prelude.{ℕ, ◌≡◌, ◌^◌, ◌<◌, Option, IfSome, IfOk, length, map};
+ghost use Rattle.alm_parse.specs.Expressions.{term_of};
+ghost use Rattle.alm_parse.specs.Operands.{body_span, tag_given, entry_given, operand_of, operand_given};
+ghost use Rattle.alm_parse.specs.Refusals.{Reads};
+
+use crate::args::{Arg, Args, one};
+use crate::body::{Body, body_of, body_pieces, is_body, place_of};
+use crate::expression::{Expr, are_terms, expr_of, place_over};
+use crate::modifiers::{pr_number, tag_of};
+use crate::refusal::{Halt, refused};
+use crate::span::{Span, bytes_of};
+use std::alloc::Global;
+
+fn body_span(operand: Span, comma: Option<u32>) -> Span
+    ensures { result ≡ body_span operand comma }
+{
+    match comma {
+        Some(comma) => Span {
+            from: operand.from,
+            to: comma,
+        },
+        None => operand,
+    }
+}
+
+// The tag of the modifier behind the comma, if there is one.
+fn tag_given(text: &[u8], operand: Span, comma: Option<u32>) -> Option<u8>
+    requires text { length text.now < 2 ^ 32 }
+    requires comma { IfSome comma (λ i. i < length text.now) }
+    ensures value { result ≡ tag_given text.now operand comma }
+    ensures below { IfSome result (λ n. n < 64) }
+{
+    match comma {
+        Some(comma) => tag_of(bytes_of(
+            text,
+            Span {
+                from: comma + 1,
+                to: operand.to,
+            },
+        )),
+        None => Some(0),
+    }
+}
+
+fn entry_given(text: &[u8], span: Span) -> Option<Span>
+    ensures { result ≡ entry_given text.now span }
+{
+    if bytes_of(text, span).is_empty() {
+        None
+    } else {
+        Some(span)
+    }
+}
+
+fn operand_of(text: &[u8], body: Body, expr: Expr, tag: u8) -> Arg
+    ensures { result ≡ operand_of text.now body expr tag }
+{
+    match body {
+        Body::Through(pr, _) => Arg::Operand {
+            pr: pr_number(bytes_of(text, pr)),
+            seg: None,
+            entry: None,
+            expr,
+            tag,
+        },
+        Body::External(segment, entry, _) => Arg::Operand {
+            pr: None,
+            seg: Some(segment),
+            entry: entry_given(text, entry),
+            expr,
+            tag,
+        },
+        Body::Plain(_) => Arg::Operand {
+            pr: None,
+            seg: None,
+            entry: None,
+            expr,
+            tag,
+        },
+    }
+}
+
+/// The operand of an instruction, of which there is a byte at least.
+#[tactic(auto, unfolding(crate::specs::Operands::operand_given))]
+pub fn operand_args(alloc: Global, text: &[u8], operand: Span) -> Result<Args, Halt>
+    requires { length text.now < 2 ^ 32 }
+    ensures { Reads result (operand_given text.now operand) }
+{
+    let comma = place_of(text, operand, b',');
+    let tag = tag_given(text, operand, comma);
+    let body = body_of(text, body_span(operand, comma));
+    let pieces = body_pieces(alloc, text, body)?;
+    let form = is_body(text, body) && are_terms(text, pieces.items()) && tag.is_some();
+    if let Some(refusal) = refused(text, operand.from, form, place_over(text, pieces.items())) {
+        return Err(Halt::Refused(refusal));
+    }
+    let expr = expr_of(alloc, text, pieces.items())?;
+    let arg = operand_of(text, body, expr, tag.unwrap_or(0));
+    Ok(one(alloc, arg)?)
+}

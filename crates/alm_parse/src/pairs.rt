@@ -1,0 +1,104 @@
+//! Operands of two parts, and names of sections.
+
+ghost use Rattle.std.specs.Prelude.{ℕ, ◌≡◌, ◌^◌, ◌<◌, Option, IfSome, IfOk, length};
+ghost use Rattle.alm_parse.specs.Pairs.{first_place, value_given, halves_given, block_given, is_section, section_given};
+ghost use Rattle.alm_parse.specs.Refusals.{Reads};
+
+use crate::args::{Arg, Args, one, two};
+use crate::expression::{are_terms, expr_of, expression_pieces, place_over};
+use crate::members::{is_symbol_at, is_written_at, members, number_arg, place_out};
+use crate::numerals::Numeral;
+use crate::refusal::{Code, Halt, refused, told};
+use crate::span::{Span, bytes_of};
+use std::alloc::Global;
+
+/// A symbol and an expression.
+#[tactic(auto, unfolding(crate::specs::Pairs::value_given))]
+pub fn value_args(alloc: Global, text: &[u8], operand: Span) -> Result<Args, Halt>
+    requires { length text.now < 2 ^ 32 }
+    ensures { Reads result (value_given text.now operand) }
+{
+    let members = members(alloc, text, operand)?;
+    let [name, value] = members.items() else {
+        return Err(Halt::Refused(told(text, operand.from, Code::E2)));
+    };
+    let pieces = expression_pieces(alloc, text, *value)?;
+    let form = is_symbol_at(text, name) && are_terms(text, pieces.items());
+    let over = place_over(text, pieces.items());
+    if let Some(refusal) = refused(text, operand.from, form, over) {
+        return Err(Halt::Refused(refusal));
+    }
+    let expr = expr_of(alloc, text, pieces.items())?;
+    Ok(two(alloc, Arg::Symbol(name.span), Arg::Plain(expr))?)
+}
+
+fn first_place(first: Option<u32>, second: Option<u32>) -> Option<u32>
+    ensures { result ≡ first_place first second }
+{
+    match first {
+        Some(place) => Some(place),
+        None => second,
+    }
+}
+
+/// Two expressions.
+#[tactic(auto, unfolding(crate::specs::Pairs::halves_given))]
+pub fn halves_args(alloc: Global, text: &[u8], operand: Span) -> Result<Args, Halt>
+    requires { length text.now < 2 ^ 32 }
+    ensures { Reads result (halves_given text.now operand) }
+{
+    let members = members(alloc, text, operand)?;
+    let [left, right] = members.items() else {
+        return Err(Halt::Refused(told(text, operand.from, Code::E2)));
+    };
+    let left = expression_pieces(alloc, text, *left)?;
+    let right = expression_pieces(alloc, text, *right)?;
+    let form = are_terms(text, left.items()) && are_terms(text, right.items());
+    let over = first_place(
+        place_over(text, left.items()),
+        place_over(text, right.items()),
+    );
+    if let Some(refusal) = refused(text, operand.from, form, over) {
+        return Err(Halt::Refused(refusal));
+    }
+    let left = expr_of(alloc, text, left.items())?;
+    let right = expr_of(alloc, text, right.items())?;
+    Ok(two(alloc, Arg::Plain(left), Arg::Plain(right))?)
+}
+
+/// A symbol and a number.
+#[tactic(auto, unfolding(crate::specs::Pairs::block_given))]
+pub fn block_args(alloc: Global, text: &[u8], operand: Span) -> Result<Args, Halt>
+    requires { length text.now < 2 ^ 32 }
+    ensures { Reads result (block_given text.now operand) }
+{
+    let members = members(alloc, text, operand)?;
+    let [name, count] = members.items() else {
+        return Err(Halt::Refused(told(text, operand.from, Code::E2)));
+    };
+    let form = is_symbol_at(text, name) && is_written_at(Numeral::Small, text, count);
+    let over = place_out(Numeral::Small, text, &[*count]);
+    if let Some(refusal) = refused(text, operand.from, form, over) {
+        return Err(Halt::Refused(refusal));
+    }
+    let count = number_arg(Numeral::Small, text, count);
+    Ok(two(alloc, Arg::Symbol(name.span), count)?)
+}
+
+fn is_section(bytes: &[u8]) -> bool
+    ensures { result ≡ is_section bytes.now }
+{
+    bytes == b"text".as_slice() || bytes == b"link".as_slice() || bytes == b"static".as_slice()
+}
+
+/// The name of a section.
+#[tactic(auto, unfolding(crate::specs::Pairs::section_given))]
+pub fn section_args(alloc: Global, text: &[u8], operand: Span) -> Result<Args, Halt>
+    ensures { Reads result (section_given text.now operand) }
+{
+    let form = is_section(bytes_of(text, operand));
+    if let Some(refusal) = refused(text, operand.from, form, None) {
+        return Err(Halt::Refused(refusal));
+    }
+    Ok(one(alloc, Arg::Symbol(operand))?)
+}

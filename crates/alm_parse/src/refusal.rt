@@ -1,0 +1,91 @@
+//! Why a source is refused, and where.
+
+ghost use Rattle.std.specs.Prelude.{ℕ, ◌≡◌, ◌^◌, ◌<◌, length, slice_index};
+ghost use Rattle.alm_parse.specs.Refusals.{told, refused};
+ghost use Rattle.alm_parse.specs.declared.refusal.Halt.TheVariants as halt;
+
+use crate::bytes::is_legal;
+use m36_word::NoMemory;
+
+/// What is wrong with a source that is not of the language.
+#[derive(Clone, Copy, Debug, PartialEq, Eq)]
+pub enum Code {
+    /// A byte that no source may have there.
+    E1,
+    /// A label or an operand that is not of its form.
+    E2,
+    /// An operation that there is not.
+    E3,
+    /// A number out of its range.
+    E4,
+}
+
+/// A code, and the place in the text, counted from 0, of what it speaks of.
+#[derive(Clone, Copy, Debug, PartialEq, Eq)]
+pub struct Refusal {
+    pub place: u32,
+    pub code: Code,
+}
+
+/// Why a part of a source is not read.
+#[derive(Clone, Copy, Debug, PartialEq, Eq)]
+pub enum Halt {
+    Refused(Refusal),
+    NoMemory,
+}
+
+impl From<Refusal> for Halt {
+    ghost from_gives = { λ refusal made. made ≡ halt.Refused refusal };
+
+    fn from(refusal: Refusal) -> Halt {
+        Halt::Refused(refusal)
+    }
+}
+
+impl From<NoMemory> for Halt {
+    ghost from_gives = { λ _ made. made ≡ halt.NoMemory };
+
+    fn from(_cause: NoMemory) -> Halt {
+        Halt::NoMemory
+    }
+}
+
+/// The byte at a place of a text; 0 behind its end.
+pub fn byte_at(text: &[u8], place: u32) -> u8
+    ensures { result ≡ slice_index text.now place }
+{
+    let place = place as usize;
+    if place < text.len() { text[place] } else { 0 }
+}
+
+/// The refusal of a token that begins at a place: where the byte there is one that no source may have, it is that byte
+/// that is refused.
+#[tactic(auto, unfolding(crate::specs::Refusals::told))]
+pub fn told(text: &[u8], place: u32, code: Code) -> Refusal
+    ensures { result ≡ told text.now place code }
+{
+    if is_legal(byte_at(text, place)) {
+        Refusal { place, code }
+    } else {
+        Refusal {
+            place,
+            code: Code::E1,
+        }
+    }
+}
+
+/// The refusal of an operand: that it is not of its form, or else its first number out of range, if it has one.
+pub fn refused(text: &[u8], operand: u32, form: bool, over: Option<u32>) -> Option<Refusal>
+    ensures { result ≡ refused text.now operand form over }
+{
+    if !form {
+        return Some(told(text, operand, Code::E2));
+    }
+    match over {
+        Some(place) => Some(Refusal {
+            place,
+            code: Code::E4,
+        }),
+        None => None,
+    }
+}
