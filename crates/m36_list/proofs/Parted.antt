@@ -10,7 +10,7 @@ begins p [] = true
 begins p (y ∷ ys) = p y
 
 -- where no byte of a text passes, and what follows begins with one that does, the first is just behind the text
-first_behind : (p : ℕ → Bool) (xs ys : List ℕ) → list_any p xs ≡ false → begins p ys ≡ true → position_or_len p (xs ++ ys) ≡ length xs
+pub first_behind : (p : ℕ → Bool) (xs ys : List ℕ) → list_any p xs ≡ false → begins p ys ≡ true → position_or_len p (xs ++ ys) ≡ length xs
 first_behind p [] [] none here = refl
 first_behind p [] (y ∷ ys) none here = rw here refl
 first_behind p (x ∷ xs) ys none here =

@@ -1,91 +1,69 @@
--- What the assembler makes of the text of a word: the operation, one blank and the operand.
-use Rattle.std.specs.Prelude.{ℕ, ◌+◌, ◌-◌, ◌*◌, ◌^◌, ◌<◌, ◌≡◌, ◌==◌, nat_eq, Bool, true, false, List, [], ◌∷◌, Option, Some, None, option_map, codes, drop, if◌then◌else◌}
-use Rattle.std.specs.List.{find, list_any, position, position_or_len, before_first, after_first}
-use Rattle.std.specs.Result.{result_ok}
-use Rattle.std.specs.Cmp.Lexicographic.{pointwise}
-use Rattle.m36_text.specs.Reading.{number_read}
+-- What the assembler makes of a line that is the text of a word: its operation and its operand, by the words of the parser.
+use Rattle.std.specs.Prelude.{ℕ, ◌+◌, ◌-◌, ◌*◌, ◌%◌, ◌^◌, ◌<◌, ◌≡◌, Bool, true, false, List, [], ◌∷◌, ◌++◌, length, Option, Some, None, Result, Ok, Err, codes, option_and_then, if◌then◌else◌}
 use Rattle.m36_inst.specs.Instruction.{inst_word}
 use Rattle.m36_inst.specs.Lookup.{code_named}
-use Rattle.m36_list.specs.Modifiers.{Modifier, modifiers}
+use Rattle.alm_parse.specs.declared.expression.Atom.{Atom}
+use Rattle.alm_parse.specs.declared.expression.Atom.TheVariants as atom
+use Rattle.alm_parse.specs.declared.expression.Term.{Term}
+use Rattle.alm_parse.specs.declared.args.Arg.{Arg}
+use Rattle.alm_parse.specs.declared.args.Arg.TheVariants as arg
+use Rattle.alm_parse.specs.declared.span.Span.{Span}
+use Rattle.alm_parse.specs.declared.line.Line36.{Line36}
+use Rattle.alm_parse.specs.declared.refusal.Refusal.{Refusal}
+use Rattle.alm_parse.specs.Tokens.{slice_of, is_text}
+use Rattle.alm_parse.specs.Rows.{row_at}
+use Rattle.alm_parse.specs.Lines.{line_given}
 use Rattle.m36_list.specs.Disassembly.{disassembly}
 
-abbrev pub is_blank : ℕ → Bool
-is_blank c = c == 0x20
+-- the sum of the numbers of an expression, modulo 2^18
+abbrev pub added : ℕ → Bool → Atom → Option ℕ
+added sum minus (atom.Number n) = Some ((sum + (if minus then 2 ^ 18 - n else n)) % 2 ^ 18)
+added sum minus atom.Symbol = None
+added sum minus atom.Here = None
 
-abbrev pub is_comma : ℕ → Bool
-is_comma c = c == 0x2C
+abbrev pub sum_from : ℕ → List Term → Option ℕ
+sum_from sum [] = Some sum
+sum_from sum (term ∷ terms) = option_and_then (λ more. sum_from more terms) (added sum term.minus term.what)
 
-abbrev pub is_bar : ℕ → Bool
-is_bar c = c == 0x7C
-
-abbrev pub is_minus : ℕ → Bool
-is_minus c = c == 0x2D
-
--- a decimal number of up to 18 bits
-unfoldable pub decimal_read : List ℕ → Option ℕ
-decimal_read text = result_ok (number_read 10 text 262143)
-
--- the same, perhaps with a sign, as a number of 15 bits
-unfoldable pub offset_read : List ℕ → Option ℕ
-offset_read [] = None
-offset_read (c ∷ text) = if is_minus c then option_map (λ v. 2 ^ 15 - v) (decimal_read text) else decimal_read (c ∷ text)
-
--- the pointer registers by their numbers
-abbrev pub pointers : List (List ℕ)
-pointers = codes "pr0" ∷ codes "pr1" ∷ codes "pr2" ∷ codes "pr3" ∷ codes "pr4" ∷ codes "pr5" ∷ codes "pr6" ∷ codes "pr7" ∷ []
-
-unfoldable pub pointer_read : List ℕ → Option ℕ
-pointer_read text = position (pointwise nat_eq text) pointers
-
--- an address: the 18 bits of the word, and whether they are through a pointer register
+-- an address: the 18 bits of the word, and whether they are through a pointer register, whose offset has 15 bits
 pub record Address : Type 0 where
   pub by_pr : Bool
   pub y : ℕ
 
-abbrev pub alone : Option ℕ → Option Address
-alone (Some y) = Some record { by_pr = false; y = y }
-alone None = None
+abbrev pub address_of : Option ℕ → Option ℕ → Option Address
+address_of None (Some sum) = Some record { by_pr = false; y = sum }
+address_of (Some n) (Some sum) = Some record { by_pr = true; y = n * 2 ^ 15 + sum % 2 ^ 15 }
+address_of pr None = None
 
-abbrev pub through : Option ℕ → Option ℕ → Option Address
-through (Some n) (Some offset) = Some record { by_pr = true; y = n * 2 ^ 15 + offset }
-through (Some n) None = None
-through None offset = None
-
-unfoldable pub address_read : List ℕ → Option Address
-address_read text =
-    if list_any is_bar text then through (pointer_read (before_first is_bar text)) (offset_read (after_first is_bar text))
-    else alone (decimal_read text)
-
--- the tag of a modifier, which begins with its comma
-abbrev pub has_text : List ℕ → Modifier → Bool
-has_text text m = pointwise nat_eq m.text text
-
-unfoldable pub tag_read : List ℕ → Option ℕ
-tag_read text = option_map (λ m. m.tag) (find (has_text text) modifiers)
-
-abbrev pub instruction : Option (ℕ × Bool) → Option Address → Option ℕ → Option ℕ
-instruction (Some operation) (Some a) (Some tag) =
+-- the word of an instruction
+abbrev pub instruction : Option (ℕ × Bool) → Option Address → ℕ → Option ℕ
+instruction (Some operation) (Some a) tag =
     Some (inst_word record { y = a.y; code = operation.0; bit27 = operation.1; inhibit = false; by_pr = a.by_pr; tag = tag })
-instruction (Some operation) (Some a) None = None
 instruction (Some operation) None tag = None
 instruction None address tag = None
 
--- what stands from the first comma on
-abbrev pub from_comma : List ℕ → List ℕ
-from_comma operand = drop (position_or_len is_comma operand) operand
+-- the word of an operation with its operand: an octal constant, or an instruction
+abbrev pub word_with : List ℕ → List Arg → Option ℕ
+word_with name (arg.Number w ∷ []) = if is_text (codes "oct") name then Some w else None
+word_with name (arg.Operand pr None None expression tag ∷ []) =
+    instruction (code_named name) (address_of pr (sum_from 0 expression)) tag
+word_with name _ = None
 
-unfoldable pub instruction_read : List ℕ → List ℕ → Option ℕ
-instruction_read name operand =
-    instruction (code_named name) (address_read (before_first is_comma operand)) (tag_read (from_comma operand))
+abbrev pub word_by : List ℕ → Option Span → List Arg → Option ℕ
+word_by source (Some op) arguments = word_with (slice_of source op) arguments
+word_by source None arguments = None
 
--- a word of twelve octal digits, or an instruction
-unfoldable pub line_read : List ℕ → List ℕ → Option ℕ
-line_read name operand =
-    if pointwise nat_eq name (codes "oct") then result_ok (number_read 8 operand (2 ^ 36 - 1)) else instruction_read name operand
+abbrev pub word_of_line : List ℕ → Result Line36 Refusal → Option ℕ
+word_of_line source (Ok line) = word_by source line.op line.args
+word_of_line source (Err refusal) = None
 
-unfoldable pub assembled : List ℕ → Option ℕ
-assembled text = line_read (before_first is_blank text) (after_first is_blank text)
+-- the word of a line of a source, which is this text behind another
+unfoldable pub assembled : ℕ → List ℕ → List ℕ → List ℕ → Option ℕ
+assembled number before text after =
+    let source = before ++ (text ++ after) in
+    word_of_line source (line_given source (row_at number (length before) (length before + length text)))
 
--- The text of each word, assembled, is that word.
+-- The text of each word, as a line anywhere in a source, is read as that word.
 abbrev pub AssemblesToItself : Type 0
-AssemblesToItself = (w : ℕ) → w < 2 ^ 36 → assembled (disassembly w) ≡ Some w
+AssemblesToItself =
+    (w number : ℕ) (before after : List ℕ) → w < 2 ^ 36 → assembled number before (disassembly w) after ≡ Some w
