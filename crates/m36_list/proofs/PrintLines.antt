@@ -4,6 +4,7 @@ use Rattle.std.proofs.lemmas.List.{at_drop_more, at_drop_all, append-nil}
 use Rattle.std.specs.List.{flat_map}
 use Rattle.obj36.specs.Fields.{LinkFields}
 use Rattle.obj36.specs.declared.definition.Named.{Named}
+use Rattle.m36_list.specs.Listing.{placed_line, placed_lines}
 use Rattle.m36_list.specs.Print.{definition_line, link_line, link_lines, word_line, word_lines}
 
 -- one definition more
@@ -41,3 +42,16 @@ word_put old next all words i w lt is put so_far =
 pub words_put : (new all : List ℕ) (words : List ℕ) (i : ℕ) → length words ≤ i → new ++ word_lines i (drop i words) ≡ all → new ≡ all
 unfolding word_lines
 words_put new all words i le so_far = sym (append-nil new) ∙ ap (λ (t : List ℕ). new ++ t) (sym (at_drop_all (λ (ws : List ℕ). word_lines i ws) words i le)) ∙ so_far
+
+-- one placed word more
+pub placed_put : (old next all name : List ℕ) (number first : ℕ) (words : List ℕ) (i : ℕ) (w : ℕ) → i < length words → w ≡ get_or words i w → next ≡ old ++ placed_line name number (first + i) w
+    → old ++ placed_lines name number (first + i) (drop i words) ≡ all → next ++ placed_lines name number (first + (i + 1)) (drop (i + 1) words) ≡ all
+unfolding placed_lines
+placed_put old next all name number first words i w lt is put so_far =
+    let at : first + (i + 1) ≡ first + i + 1 = omega arith in
+    let one : placed_lines name number (first + i) (drop i words) ≡ placed_line name number (first + i) (get_or words i w) ++ placed_lines name number (first + i + 1) (drop (i + 1) words) = at_drop_more (λ (ws : List ℕ). placed_lines name number (first + i) ws) words i w lt in
+    rw (at, put, append_assoc) (ap (λ (x : ℕ). old ++ (placed_line name number (first + i) x ++ placed_lines name number (first + i + 1) (drop (i + 1) words))) is ∙ ap (λ (t : List ℕ). old ++ t) (sym one) ∙ so_far)
+
+pub all_placed_put : (new all name : List ℕ) (number at : ℕ) (words : List ℕ) (i : ℕ) → length words ≤ i → new ++ placed_lines name number at (drop i words) ≡ all → new ≡ all
+unfolding placed_lines
+all_placed_put new all name number at words i le so_far = sym (append-nil new) ∙ ap (λ (t : List ℕ). new ++ t) (sym (at_drop_all (λ (ws : List ℕ). placed_lines name number at ws) words i le)) ∙ so_far

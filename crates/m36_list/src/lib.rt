@@ -12,6 +12,7 @@ mod fields;
 pub mod laws;
 mod links;
 mod modifiers;
+mod placed;
 pub mod printing;
 mod sections;
 #[cfg(test)]
