@@ -1,16 +1,15 @@
 -- The text of a word is read as that word.
-use Rattle.std.proofs.Common.{ℕ, suc, ◌≡◌, ◌+◌, ◌-◌, ◌*◌, ◌/◌, ◌%◌, ◌^◌, ◌<◌, ◌≤◌, ◌==◌, ◌||◌, Bool, true, false, List, [], ◌∷◌, ◌++◌, length, Option, Some, None, Ok, refl, sym, ap, ◌∙◌, append_assoc, length-append, arith}
+use Rattle.std.proofs.Common.{ℕ, suc, ◌≡◌, ◌+◌, ◌^◌, ◌<◌, ◌==◌, Bool, true, false, List, [], ◌∷◌, ◌++◌, length, Option, Some, None, Ok, refl, sym, ap, ◌∙◌, append_assoc, length-append, arith}
 use Rattle.std.specs.Prelude.{codes}
-use Rattle.std.specs.List.{list_any}
 use Rattle.std.specs.Str.{bytes_eq}
-use Rattle.std.proofs.lemmas.Bool.{ne_eqb, or_from}
+use Rattle.std.proofs.lemmas.Bool.{ne_eqb}
 use Rattle.m36_text.specs.Digits.{octal_text}
 use Rattle.m36_text.specs.Reading.{number_read}
 use Rattle.m36_text.proofs.DigitLaws.{length_octal}
 use Rattle.m36_text.proofs.NumeralLaws.{reads_octal}
 use Rattle.m36_inst.specs.Fields.{InstFields}
 use Rattle.m36_inst.specs.Instruction.{inst_of, inst_word}
-use Rattle.m36_inst.specs.Lookup.{name_at, code_named}
+use Rattle.m36_inst.specs.Lookup.{name_at}
 use Rattle.m36_inst.proofs.Instructions.{word_back}
 use Rattle.m36_inst.proofs.OneToOne.{named_code}
 use Rattle.alm_parse.specs.declared.args.Arg.TheVariants.{Number}
@@ -24,14 +23,14 @@ use Rattle.alm_parse.specs.Members.{members, numbers_given, place_out}
 use Rattle.alm_parse.specs.Operations.{operation_of, directive}
 use Rattle.m36_list.specs.Modifiers.{modifier_text}
 use Rattle.m36_list.specs.Disassembly.{disassembly, by_fields, by_parts, octal_constant, address_text}
-use Rattle.m36_list.specs.Assembled.{assembled, word_with, instruction, address_of, AssemblesToItself}
+use Rattle.m36_list.specs.Assembled.{assembled, AssemblesToItself}
 use Rattle.m36_list.proofs.Parted.{none_in_both}
 use Rattle.m36_list.proofs.Lengths.{address_is_some}
-use Rattle.m36_list.proofs.Characters.{IsOperation, operation_at, is_ending, is_parting, PassesNone, address_passes_none, octal_passes_none}
+use Rattle.m36_list.proofs.Characters.{IsOperation, operation_at, is_ending, PassesNone, address_passes_none, octal_passes_none}
 use Rattle.m36_list.proofs.Spans.{slice_at}
 use Rattle.m36_list.proofs.Terms.{one_piece}
-use Rattle.m36_list.proofs.TagsBack.{modifier, IsModifier}
-use Rattle.m36_list.proofs.OperandRead.{operand_at, IsOperandAt}
+use Rattle.m36_list.proofs.TagsBack.{modifier}
+use Rattle.m36_list.proofs.OperandRead.{operand_at}
 use Rattle.m36_list.proofs.LineRead.{line_read}
 
 some_of : (name : List ℕ) → bytes_eq name [] ≡ false → 0 < length name

@@ -13,7 +13,6 @@ use Rattle.m36_inst.specs.Table.{Entry, table}
 use Rattle.m36_inst.specs.Lookup.{entry_at, has_code, name_at}
 use Rattle.m36_inst.proofs.Found.{found_sound}
 use Rattle.alm_parse.specs.Bytes.{is_blank}
-use Rattle.alm_parse.specs.Tokens.{is_text}
 use Rattle.alm_parse.specs.Operations.{directive}
 use Rattle.m36_list.specs.Disassembly.{signed_text, address_text}
 use Rattle.m36_list.proofs.Parted.{none_in_both}
@@ -74,9 +73,13 @@ is_ending b = is_blank b || (b == 34)
 abbrev pub is_parting : ℕ → Bool
 is_parting b = (b == 58) || is_ending b
 
+abbrev pub is_line_feed : ℕ → Bool
+is_line_feed b = b == 10
+
 -- a name of the table has no such byte, and is not that of another operation
 abbrev is_operation : Entry → Bool
-is_operation e = not (list_any is_parting e.name) && (is_none (directive e.name) && not (bytes_eq e.name []))
+is_operation e =
+    not (list_any is_parting e.name) && (is_none (directive e.name) && (not (bytes_eq e.name []) && not (list_any is_line_feed e.name)))
 
 all_operations : list_all is_operation table ≡ true
 unfolding directive
@@ -86,6 +89,7 @@ pub record IsOperation (name : List ℕ) : Type 0 where
   pub plain : list_any is_parting name ≡ false
   pub instruction : directive name ≡ None
   pub some : bytes_eq name [] ≡ false
+  pub one_line : list_any is_line_feed name ≡ false
 
 none_of : {A : Type 0} (o : Option A) → is_none o ≡ true → o ≡ None
 none_of None h = refl
@@ -94,11 +98,13 @@ none_of (Some x) h = absurd (cc)
 operation : (p : Entry → Bool) (e : Entry) → find p table ≡ Some e → IsOperation e.name
 operation p e h =
     let parts = and_parts (not (list_any is_parting e.name)) _ (found_sound p is_operation table e all_operations h) in
-    let rest = and_parts (is_none (directive e.name)) (not (bytes_eq e.name [])) parts.1 in
+    let rest = and_parts (is_none (directive e.name)) _ parts.1 in
+    let last = and_parts (not (bytes_eq e.name [])) (not (list_any is_line_feed e.name)) rest.1 in
     record {
       plain = not-true (list_any is_parting e.name) parts.0;
       instruction = none_of (directive e.name) rest.0;
-      some = not-true (bytes_eq e.name []) rest.1;
+      some = not-true (bytes_eq e.name []) last.0;
+      one_line = not-true (list_any is_line_feed e.name) last.1;
     }
 
 operation_at_by : (code : ℕ) (bit27 : Bool) (name : List ℕ) (o : Option Entry) → find (has_code code bit27) table ≡ o → option_map (λ e. e.name) o ≡ Some name → IsOperation name

@@ -10,3 +10,4 @@ pub mod LineFields
 pub mod PrintLines
 pub mod SectionPlaces
 pub mod BackAgain
+pub mod WholeSource

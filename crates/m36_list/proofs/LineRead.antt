@@ -1,6 +1,6 @@
 -- The operation and the operand of a line.
-use Rattle.std.proofs.Common.{ℕ, zero, suc, ◌≡◌, ◌+◌, ◌-◌, ◌<◌, ◌≤◌, ◌==◌, Bool, true, false, cond, not, ◌||◌, List, [], ◌∷◌, ◌++◌, length, Option, Some, None, Ok, refl, sym, ap, ◌∙◌, append_assoc, length-append, arith}
-use Rattle.std.specs.Prelude.{codes, option_map, if◌then◌else◌}
+use Rattle.std.proofs.Common.{ℕ, suc, ◌≡◌, ◌+◌, ◌<◌, ◌==◌, false, not, List, [], ◌∷◌, ◌++◌, length, Some, Ok, refl, ap, ◌∙◌, append_assoc, length-append, arith}
+use Rattle.std.specs.Prelude.{codes}
 use Rattle.std.specs.List.{list_any, position}
 use Rattle.std.proofs.lemmas.Bool.{or_parts, ne_eqb}
 use Rattle.alm_parse.specs.declared.span.Span.{Span}
@@ -13,7 +13,7 @@ use Rattle.alm_parse.specs.declared.args.Arg.{Arg}
 use Rattle.alm_parse.specs.Operations.{operation_of}
 use Rattle.alm_parse.specs.Lines.{line_given, label_refusal, args_of, args_with, operand_for}
 use Rattle.m36_list.specs.Assembled.{assembled, word_with}
-use Rattle.alm_parse.specs.Heads.{head_at, head_from, head_of, operand_start, end_from, operand_in}
+use Rattle.alm_parse.specs.Heads.{head_from, head_of, operand_start, end_from, operand_in}
 use Rattle.m36_list.proofs.Characters.{is_ending, is_parting}
 use Rattle.m36_list.proofs.Spans.{slice_at, position_behind}
 

@@ -1,28 +1,22 @@
 -- The operand of an instruction's text is read as what it was written for.
-use Rattle.std.proofs.Common.{ℕ, zero, suc, ◌≡◌, ◌+◌, ◌-◌, ◌*◌, ◌/◌, ◌%◌, ◌^◌, ◌<◌, ◌≤◌, ◌==◌, Bool, true, false, cond, nat_lt, List, [], ◌∷◌, ◌++◌, length, map, Option, Some, None, Ok, refl, sym, ap, ◌∙◌, append_assoc, length-append, arith}
-use Rattle.std.specs.Prelude.{codes, option_map}
-use Rattle.std.specs.List.{list_any, list_all}
-use Rattle.std.proofs.lemmas.Bool.{ltb-true, ltb-false, ne_eqb, eqb-true, cond-true}
+use Rattle.std.proofs.Common.{ℕ, zero, suc, ◌≡◌, ◌+◌, ◌-◌, ◌*◌, ◌/◌, ◌%◌, ◌^◌, ◌<◌, ◌≤◌, ◌==◌, Bool, true, false, cond, nat_lt, List, [], ◌∷◌, ◌++◌, length, Option, Some, None, Ok, refl, sym, ap, ◌∙◌, append_assoc, length-append, arith}
+use Rattle.std.specs.Prelude.{codes}
+use Rattle.std.proofs.lemmas.Bool.{ltb-true, ltb-false, ne_eqb, eqb-true}
 use Rattle.std.proofs.lemmas.List.{append-nil}
-use Rattle.m36_text.specs.Digits.{character, decimal_text}
+use Rattle.m36_text.specs.Digits.{decimal_text}
 use Rattle.m36_inst.specs.Fields.{InstFields}
-use Rattle.alm_parse.specs.declared.span.Span.{Span}
-use Rattle.alm_parse.specs.declared.pieces.Piece.{Piece}
 use Rattle.alm_parse.specs.declared.expression.Atom.TheVariants.{Number}
 use Rattle.alm_parse.specs.declared.expression.Term.{Term}
-use Rattle.alm_parse.specs.declared.body.Body.{Body}
-use Rattle.alm_parse.specs.declared.body.Body.TheVariants.{Through, Plain}
-use Rattle.alm_parse.specs.declared.args.Arg.{Arg}
 use Rattle.alm_parse.specs.declared.args.Arg.TheVariants.{Operand}
 use Rattle.alm_parse.specs.Tokens.{slice_of}
 use Rattle.alm_parse.specs.Modifiers.{pr_number, tag_of}
 use Rattle.alm_parse.specs.Pieces.{piece_at}
 use Rattle.alm_parse.specs.Expressions.{expression_pieces}
-use Rattle.alm_parse.specs.Bodies.{span_at, place_of, body_of, body_by, body_without_bar, body_pieces, is_body}
-use Rattle.alm_parse.specs.Operands.{operand_given, operand_with, operand_by, tag_given, body_span}
+use Rattle.alm_parse.specs.Bodies.{span_at, place_of, body_of, body_pieces}
+use Rattle.alm_parse.specs.Operands.{operand_given, operand_by}
 use Rattle.m36_list.specs.Disassembly.{signed_text, address_text}
-use Rattle.m36_list.specs.Assembled.{sum_from, address_of, Address}
-use Rattle.m36_list.proofs.Characters.{decimal_passes_none, PassesNone, signed_passes_none, pointer_text, pointer_passes_none, address_passes_none}
+use Rattle.m36_list.specs.Assembled.{sum_from, address_of}
+use Rattle.m36_list.proofs.Characters.{decimal_passes_none, PassesNone, pointer_text, pointer_passes_none, address_passes_none}
 use Rattle.m36_list.proofs.Spans.{slice_at, place_behind, place_none}
 use Rattle.m36_list.proofs.Terms.{IsNumberAt, plain_number, negative_number}
 use Rattle.m36_list.proofs.TagsBack.{tag_read}

@@ -1,9 +1,9 @@
 -- Numbers as terms of an expression.
-use Rattle.std.proofs.Common.{ℕ, zero, suc, ◌≡◌, ◌≢◌, ◌+◌, ◌-◌, ◌<◌, ◌≤◌, ◌^◌, ◌==◌, Bool, true, false, cond, not, ◌&&◌, ◌||◌, List, [], ◌∷◌, ◌++◌, length, map, get_or, Option, Some, None, Ok, refl, sym, ap, ◌∙◌, arith}
-use Rattle.std.specs.Prelude.{codes, option_map, slice_index, if◌then◌else◌}
-use Rattle.std.specs.List.{list_any, list_all, find}
+use Rattle.std.proofs.Common.{ℕ, zero, suc, ◌≡◌, ◌+◌, ◌<◌, ◌^◌, ◌==◌, Bool, true, false, not, List, [], ◌∷◌, ◌++◌, length, map, None, Ok, refl, ap, ◌∙◌, arith}
+use Rattle.std.specs.Prelude.{codes, slice_index}
+use Rattle.std.specs.List.{list_any, list_all}
 use Rattle.std.specs.Str.{bytes_eq}
-use Rattle.std.proofs.lemmas.Bool.{or_right, or_parts, ne_eqb, and_from}
+use Rattle.std.proofs.lemmas.Bool.{or_right, or_parts, ne_eqb}
 use Rattle.std.proofs.lemmas.Slice.Eq.{bytes_eq-Decides}
 use Rattle.m36_text.specs.Digits.{decimal_text}
 use Rattle.m36_text.proofs.NumeralLaws.{reads_decimal, has_no_leading_zero}
@@ -11,13 +11,11 @@ use Rattle.alm_parse.specs.declared.span.Span.{Span}
 use Rattle.alm_parse.specs.declared.pieces.Parter.{Parter}
 use Rattle.alm_parse.specs.declared.pieces.Parter.TheVariants.{Sign}
 use Rattle.alm_parse.specs.declared.pieces.Piece.{Piece}
-use Rattle.alm_parse.specs.declared.expression.Atom.{Atom}
 use Rattle.alm_parse.specs.declared.expression.Atom.TheVariants.{Number}
-use Rattle.alm_parse.specs.declared.expression.Term.{Term}
 use Rattle.alm_parse.specs.Tokens.{slice_of, is_text, is_number, small_read, has_no_leading_zero as starts_well}
 use Rattle.alm_parse.specs.Pieces.{parts, piece_at, cut, pieces_of}
 use Rattle.alm_parse.specs.Bodies.{span_at}
-use Rattle.alm_parse.specs.Expressions.{is_here, is_term, is_term_at, signed_start, expression_pieces, is_over_at, place_over, atom_of, term_of}
+use Rattle.alm_parse.specs.Expressions.{is_here, is_term, is_term_at, signed_start, expression_pieces, place_over, atom_of, term_of}
 use Rattle.m36_list.proofs.Characters.{decimal_passes_none}
 
 -- a text that has no byte of another is another one

@@ -13,6 +13,9 @@ use Rattle.alm_parse.specs.declared.refusal.Refusal.{Refusal}
 use Rattle.alm_parse.specs.Tokens.{slice_of, is_text}
 use Rattle.alm_parse.specs.Rows.{row_at}
 use Rattle.alm_parse.specs.Lines.{line_given}
+use Rattle.alm_parse.specs.declared.fault.AlmFault.{AlmFault}
+use Rattle.alm_parse.specs.SourceFields.{Source}
+use Rattle.alm_parse.specs.Sources.{parsed}
 use Rattle.m36_list.specs.Disassembly.{disassembly}
 
 -- the sum of the numbers of an expression, modulo 2^18
@@ -67,3 +70,17 @@ assembled number before text after =
 abbrev pub AssemblesToItself : Type 0
 AssemblesToItself =
     (w number : ℕ) (before after : List ℕ) → w < 2 ^ 36 → assembled number before (disassembly w) after ≡ Some w
+
+-- the word of a source of one line
+abbrev pub word_alone : List ℕ → List Line36 → Option ℕ
+word_alone text [] = None
+word_alone text (line ∷ []) = word_by text line.op line.args
+word_alone text (line ∷ other ∷ lines) = None
+
+abbrev pub word_of_source : Result Source AlmFault → Option ℕ
+word_of_source (Ok source) = word_alone source.text source.lines
+word_of_source (Err fault) = None
+
+-- The text of each word, alone as a source, is parsed as that word.
+abbrev pub ParsesToItself : Type 0
+ParsesToItself = (w : ℕ) → w < 2 ^ 36 → word_of_source (parsed (disassembly w ++ 10 ∷ [])) ≡ Some w
