@@ -118,7 +118,7 @@ pub record IsSmall (p : PartsFields) : Type 0 where
   pub outer : length (outer_statics p) ≤ 2 ^ 18
   pub symbol : length (symbol_section p) ≤ 2 ^ 18
 
-length-sections : (p : PartsFields)
+pub length-sections : (p : PartsFields)
     → length (words_of p) ≡ length p.text + length (definition_section p) + length (linkage_section p) + length (outer_statics p) + length (symbol_section p) + length (map_words p)
 unfolding words_of
 length-sections p =

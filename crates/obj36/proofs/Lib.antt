@@ -3,3 +3,11 @@ pub mod SectionLoops
 pub mod SizeLaws
 pub mod Formed
 pub mod LengthLaws
+pub mod ReadingLoops
+pub mod MapReading
+pub mod NameReading
+pub mod ReadingBack
+pub mod TableReading
+pub mod TablesStand
+pub mod FaultLoops
+pub mod ReaderLaws

@@ -65,7 +65,7 @@ any_with : (x y : List ℕ) (names : List (List ℕ)) → list_any (same x) (wit
 unfolding with_name
 any_with x y names = any_with_by x y names (list_any (same y) names) refl
 
-any_among : (x : List ℕ) (names us : List (List ℕ)) → list_any (same x) (with_names names us) ≡ (list_any (same x) names || list_any (same x) us)
+pub any_among : (x : List ℕ) (names us : List (List ℕ)) → list_any (same x) (with_names names us) ≡ (list_any (same x) names || list_any (same x) us)
 unfolding with_names
 any_among x names [] = sym (or_none (list_any (same x) names))
 any_among x names (u ∷ us) =

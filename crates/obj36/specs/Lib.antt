@@ -5,3 +5,9 @@ pub mod Names
 pub mod ObjectSegment
 pub mod Sizes
 pub mod Lengths
+pub mod Reading
+pub mod MapFaults
+pub mod Near
+pub mod TableFaults
+pub mod LinkFaults
+pub mod Faults

@@ -252,3 +252,7 @@ pub record IsObject (p : PartsFields) (d k s : List ℕ) : Type 0 where
   pub definition : d ≡ definition_section p
   pub linkage : k ≡ linkage_section p
   pub symbol : s ≡ symbol_section p
+
+-- No two values share a list. That each has one list at most is plain: it is `words_of` the value.
+abbrev pub ValuesApart : Type 0
+ValuesApart = (p q : PartsFields) (words : List ℕ) → Stands p words → Stands q words → p ≡ q

@@ -39,13 +39,13 @@ fn is_good_name(name: &Name) -> bool
     1 <= text.len() && text.len() <= 32 && are_name_bytes(text)
 }
 
-fn greatest_class(version: u8) -> u64
+pub(crate) fn greatest_class(version: u8) -> u64
     ensures { result ≡ last_class version }
 {
     if version == 2 { 3 } else { 2 }
 }
 
-fn greatest_place(version: u8) -> u64
+pub(crate) fn greatest_place(version: u8) -> u64
     ensures { result ≡ last_place version }
 {
     if version == 2 { 2 } else { 1 }

@@ -9,17 +9,29 @@
 
 mod checks;
 pub mod definition;
+pub mod fault;
 mod halves;
+mod judging;
+pub mod laws;
 pub mod link;
+mod linking;
+mod map;
 mod names;
 pub mod object;
 pub mod parts;
+mod reading;
 pub mod relocation;
 pub mod section;
 mod sections;
 mod size;
+mod spelling;
+mod tables;
+#[cfg(test)]
+mod tests;
 
 pub use definition::{Def, Defs, Named};
+pub use fault::ObjectFault;
+pub use laws::object_laws;
 pub use link::{Link, Links};
 pub use object::Object;
 pub use parts::Parts;

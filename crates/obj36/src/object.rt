@@ -5,11 +5,17 @@ ghost use Rattle.obj36.specs.ObjectSegment.{is_newer, inner_statics, outer_stati
 ghost use Rattle.obj36.specs.Halves.{joined};
 ghost use Rattle.obj36.specs.Sizes.{HasShortLists};
 ghost use Rattle.obj36.specs.Lengths.{AreSmall};
+ghost use Rattle.obj36.specs.PartsFields.{PartsFields};
+ghost use Rattle.obj36.specs.Faults.{ReadSays, IsReadAs, IsFound};
+ghost use Rattle.std.specs.Cmp.Lexicographic.{pointwise};
 
 use crate::definition::{Def, Named};
+use crate::fault::ObjectFault;
 use crate::halves::word_of;
+use crate::judging::fault_of;
 use crate::link::Link;
 use crate::parts::Parts;
+use crate::reading::parts_in;
 use crate::section::Section;
 use crate::sections::{definition_words_of, linkage_words_of, push_all, symbol_words_of};
 use m36_word::{NoMemory, Word, Words};
@@ -178,7 +184,46 @@ fn joined_sections(
     Ok(out)
 }
 
+// Whether two lists of words are the same.
+fn are_same_words(words: &[Word], others: &[Word]) -> bool
+    ensures { result ≡ pointwise nat_eq words.now others.now }
+{
+    words == others
+}
+
+// The object that a list of words is, or none where it stands for no value.
+fn object_in(alloc: Global, w: &[Word]) -> Result<Option<Object>, NoMemory>
+    requires { length w.now < 2 ^ 32 }
+    ensures { IfOk result (λ found. IsFound w.now found) }
+{
+    let parts = parts_in(alloc, w)?;
+    if !parts.is_well_formed() {
+        return Ok(None);
+    }
+    let object = Object::new(alloc, parts)?;
+    let words = object.write(alloc)?;
+    if are_same_words(words.slice(), w) {
+        Ok(Some(object))
+    } else {
+        Ok(None)
+    }
+}
+
 impl Object {
+    /// The object that a list of words is, of fewer than 2^32 words. Exactly the lists that stand for a value are read,
+    /// as that value; of every other list the error is its first fault in the order of the codes, with its place. Want
+    /// of memory may come at any time.
+    pub fn read(alloc: Global, w: &[Word]) -> Result<Object, ObjectFault>
+        requires { length w.now < 2 ^ 32 }
+        ensures says { ReadSays w.now result }
+        ensures accepts { (p : PartsFields) → Stands p w.now → IsReadAs p result }
+    {
+        match object_in(alloc, w)? {
+            Some(object) => Ok(object),
+            None => Err(fault_of(w)),
+        }
+    }
+
     /// The object of these parts, for which some list of words stands. The error is want of memory alone.
     pub fn new(alloc: Global, parts: Parts) -> Result<Object, NoMemory>
         requires { is_well_formed parts ≡ true }

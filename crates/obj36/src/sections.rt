@@ -16,7 +16,7 @@ use m36_word::{NoMemory, Word, Words};
 use std::alloc::Global;
 
 /// The tag of a link that is not snapped: fault 24.
-const LINK_TAG: u64 = 0o46;
+pub(crate) const LINK_TAG: u64 = 0o46;
 
 // The class of a definition in a section.
 pub(crate) fn class(section: Section) -> u64

@@ -1,0 +1,109 @@
+-- What reading a list says.
+use Rattle.std.proofs.Common.{ℕ, zero, suc, ◌≡◌, ◌+◌, ◌-◌, ◌*◌, ◌^◌, ◌<◌, ◌≤◌, Bool, true, false, cond, eqb, List, [], ◌∷◌, ◌++◌, length, take, drop, Option, Some, None, Result, Ok, Err, refl, sym, ap, ◌∙◌, subst, arith}
+use Rattle.std.specs.Prelude.{min, slice_index}
+use Rattle.std.proofs.lemmas.List.{length-take, length-drop}
+use Rattle.obj36.specs.Fields.{LinkFields, RelocFields}
+use Rattle.obj36.specs.PartsFields.{PartsFields}
+use Rattle.obj36.specs.declared.definition.Named.{Named}
+use Rattle.obj36.specs.declared.fault.ObjectFault.{ObjectFault}
+use Rattle.obj36.specs.declared.fault.ObjectFault.TheVariants.{O1, O2, O3, O4, O5, O6, O7, O8, NoMemory}
+use Rattle.obj36.specs.Halves.{right}
+use Rattle.obj36.specs.Names.{same}
+use Rattle.obj36.specs.ObjectSegment.{words_of, is_well_formed, Stands}
+use Rattle.obj36.specs.Sizes.{HasShortLists}
+use Rattle.obj36.specs.Reading.{version_in, told_length, told_count, told_first, from_definition, from_linkage, from_statics, from_symbol, statics_in, definitions_in, links_in, relocations_in, parts_of}
+use Rattle.obj36.specs.MapFaults.{map_fault}
+use Rattle.obj36.specs.Faults.{first_fault, IsRefused, ReadSays, IsReadAs, IsFound}
+use Rattle.obj36.proofs.SizeLaws.{same_is, same_self}
+use Rattle.obj36.proofs.ReadingBack.{stands_back, values_apart}
+
+-- ---- the parts that are read have short lists
+
+definitions_few : (words : List ℕ) (at count : ℕ) → length (definitions_in words at count) ≡ count
+unfolding definitions_in
+definitions_few words at zero = refl
+definitions_few words at (suc count) = ap suc (definitions_few words (at + 2) count)
+
+links_few : (words : List ℕ) (at : ℕ) (linkage : List ℕ) (place count : ℕ) → length (links_in words at linkage place count) ≡ count
+unfolding links_in
+links_few words at linkage place zero = refl
+links_few words at linkage place (suc count) = ap suc (links_few words (at + 2) linkage (place + 2) count)
+
+relocations_few : (words : List ℕ) (at count : ℕ) → length (relocations_in words at count) ≡ count
+unfolding relocations_in
+relocations_few words at zero = refl
+relocations_few words at (suc count) = ap suc (relocations_few words (at + 1) count)
+
+count_few : (words part : List ℕ) (i : ℕ) → told_count words part i ≤ length words
+unfolding told_count
+count_few words part i = omega arith
+
+take_few : (n : ℕ) (xs : List ℕ) → length (take n xs) ≤ length xs
+take_few n xs = omega (arith, length-take n xs)
+
+drop_few : (n : ℕ) (xs : List ℕ) → length (drop n xs) ≤ length xs
+drop_few n xs = omega (arith, length-drop n xs)
+
+statics_by : (words s k : List ℕ) (b : Bool) (m n : ℕ) → length s ≤ length words → length k ≤ length words → length (cond b (take m s) (take n k)) ≤ length words
+statics_by words s k true m n le lf = omega (arith, take_few m s)
+statics_by words s k false m n le lf = omega (arith, take_few n k)
+
+statics_few : (words : List ℕ) → length (statics_in words) ≤ length words
+unfolding statics_in from_statics from_linkage from_definition
+statics_few words =
+    let d = from_definition words in
+    let k = from_linkage words in
+    let d_few : length d ≤ length words = drop_few (told_length words 1) words in
+    let k_few : length k ≤ length words = omega (arith, drop_few (told_length words 2) d) in
+    let s_few : length (from_statics words) ≤ length words = omega (arith, drop_few (told_length words 3) k) in
+    let inner_few : length (drop 8 k) ≤ length words = omega (arith, drop_few 8 k) in
+    statics_by words (from_statics words) (drop 8 k) (eqb (version_in words) 2) (told_length words 4) (told_first words - 8) s_few inner_few
+
+pub short_parts : (words : List ℕ) → length words < 2 ^ 32 → HasShortLists (parts_of words)
+unfolding parts_of
+short_parts words lt = record {
+  text = omega (arith, take_few (told_length words 1) words);
+  statics = omega (arith, statics_few words);
+  definitions = omega (arith, definitions_few (from_definition words) 2 (told_count words (from_definition words) 0), count_few words (from_definition words) 0);
+  links =
+      omega (
+        arith,
+        links_few (from_definition words) (2 + 2 * told_count words (from_definition words) 0) (from_linkage words) (told_first words) (told_count words (from_definition words) 1),
+        count_few words (from_definition words) 1,
+      );
+  relocations = omega (arith, relocations_few (from_symbol words) 1 (told_count words (from_symbol words) 0), count_few words (from_symbol words) 0);
+}
+
+-- ---- for which lists there is a value
+
+pub not_formed : (words : List ℕ) (parts : PartsFields) (b : Bool) → parts ≡ parts_of words → b ≡ is_well_formed parts → b ≡ false → (p : PartsFields) → Stands p words → ⊥
+not_formed words parts b e f bad p s =
+    let formed : is_well_formed parts ≡ true = ap is_well_formed (e ∙ stands_back p words s) ∙ s.formed in
+    let wrong : true ≡ false = sym formed ∙ sym f ∙ bad in
+    absurd cc
+
+pub other_words : (words written : List ℕ) (parts : PartsFields) (b : Bool) → parts ≡ parts_of words → Stands parts written → b ≡ same written words → b ≡ false → (p : PartsFields) → Stands p words → ⊥
+other_words words written parts b e t f other p s =
+    let equal : written ≡ words = t.spelled ∙ ap words_of (e ∙ stands_back p words s) ∙ sym s.spelled in
+    let alike : same written words ≡ true = ap (same written) (sym equal) ∙ same_self written in
+    let wrong : true ≡ false = sym alike ∙ sym f ∙ other in
+    absurd cc
+
+pub same_words : (words written : List ℕ) (parts : PartsFields) (b : Bool) → Stands parts written → b ≡ same written words → b ≡ true → Stands parts words
+same_words words written parts b t f alike = record { formed = t.formed; spelled = sym (same_is written words (sym f ∙ alike)) ∙ t.spelled }
+
+-- ---- what is said
+
+pub refused : (words : List ℕ) (f : ObjectFault) → f ≡ first_fault words → IsFound words None → ReadSays words (Err f)
+refused words (O1 place) e none = record { first = sym e; stands_for_none = none }
+refused words (O2 place) e none = record { first = sym e; stands_for_none = none }
+refused words (O3 place) e none = record { first = sym e; stands_for_none = none }
+refused words (O4 place) e none = record { first = sym e; stands_for_none = none }
+refused words (O5 place) e none = record { first = sym e; stands_for_none = none }
+refused words (O6 place) e none = record { first = sym e; stands_for_none = none }
+refused words (O7 place) e none = record { first = sym e; stands_for_none = none }
+refused words (O8 place) e none = record { first = sym e; stands_for_none = none }
+refused words NoMemory e none = tt
+
+pub read_as : (words : List ℕ) (q p : PartsFields) → Stands q words → Stands p words → q ≡ p
+read_as words q p s t = values_apart q p words s t

@@ -1,0 +1,96 @@
+-- The first fault of a list of words, in the order of the codes.
+use Rattle.std.specs.Prelude.{ℕ, ◌≡◌, ◌+◌, Bool, true, false, nat_lt, if◌then◌else◌, List, length, Option, Some, None, Result, Ok, Err}
+use Rattle.obj36.specs.PartsFields.{PartsFields}
+use Rattle.obj36.specs.ObjectSegment.{Stands}
+use Rattle.obj36.specs.Reading.{version_in}
+use Rattle.obj36.specs.MapFaults.{map_fault, section_fault, shared_fault, extents_of, extent_words}
+use Rattle.obj36.specs.TableFaults.{table_fault, names_fault}
+use Rattle.obj36.specs.LinkFaults.{behind, links_fault}
+use Rattle.obj36.specs.declared.fault.ObjectFault.{ObjectFault}
+use Rattle.obj36.specs.declared.fault.ObjectFault.TheVariants.{O1, O2, O3, O4, O5, O6, O7, O8, NoMemory}
+
+-- the definition and the linkage section that the map tells
+unfoldable pub told_definition : List ℕ → List ℕ
+told_definition words = extent_words words (extents_of words).definition
+
+unfoldable pub told_linkage : List ℕ → List ℕ
+told_linkage words = extent_words words (extents_of words).linkage
+
+unfoldable pub definition_fault : List ℕ → Option ℕ
+definition_fault words = behind (extents_of words).definition.from (table_fault (version_in words) (told_definition words))
+
+unfoldable pub spelling_fault : List ℕ → Option ℕ
+spelling_fault words = behind (extents_of words).definition.from (names_fault (told_definition words))
+
+unfoldable pub linking_fault : List ℕ → Option ℕ
+linking_fault words =
+    links_fault (version_in words) (extents_of words).definition.from (told_definition words) (extents_of words).linkage.from (told_linkage words)
+
+-- each code with its place, and the first that stands; O8 where none of the others does
+abbrev pub from_links : Option ℕ → ObjectFault
+from_links (Some p) = O7 p
+from_links None = O8 0
+
+abbrev pub from_names : Option ℕ → ObjectFault → ObjectFault
+from_names (Some p) later = O6 p
+from_names None later = later
+
+abbrev pub from_tables : Option ℕ → ObjectFault → ObjectFault
+from_tables (Some p) later = O5 p
+from_tables None later = later
+
+abbrev pub from_sharing : Option ℕ → ObjectFault → ObjectFault
+from_sharing (Some p) later = O4 p
+from_sharing None later = later
+
+abbrev pub from_sections : Option ℕ → ObjectFault → ObjectFault
+from_sections (Some p) later = O3 p
+from_sections None later = later
+
+abbrev pub from_map : Option ℕ → ObjectFault → ObjectFault
+from_map (Some p) later = O2 p
+from_map None later = later
+
+unfoldable pub fault_behind_map : List ℕ → ObjectFault
+fault_behind_map words =
+    from_sections (section_fault words) (from_sharing (shared_fault words)
+    (from_tables (definition_fault words) (from_names (spelling_fault words) (from_links (linking_fault words)))))
+
+unfoldable pub first_fault : List ℕ → ObjectFault
+first_fault words = if nat_lt (length words) 7 then O1 (length words) else from_map (map_fault words) (fault_behind_map words)
+
+-- The list stands for no value, and this is its first fault.
+pub record IsRefused (words : List ℕ) (fault : ObjectFault) : Type 0 where
+  pub first : first_fault words ≡ fault
+  pub stands_for_none : (p : PartsFields) → Stands p words → ⊥
+
+-- What reading a list says: the value for which it stands, or its first fault, where want of memory may come at any time.
+abbrev pub ReadSays : List ℕ → Result PartsFields ObjectFault → Type 0
+ReadSays words (Ok p) = Stands p words
+ReadSays words (Err (O1 place)) = IsRefused words (O1 place)
+ReadSays words (Err (O2 place)) = IsRefused words (O2 place)
+ReadSays words (Err (O3 place)) = IsRefused words (O3 place)
+ReadSays words (Err (O4 place)) = IsRefused words (O4 place)
+ReadSays words (Err (O5 place)) = IsRefused words (O5 place)
+ReadSays words (Err (O6 place)) = IsRefused words (O6 place)
+ReadSays words (Err (O7 place)) = IsRefused words (O7 place)
+ReadSays words (Err (O8 place)) = IsRefused words (O8 place)
+ReadSays words (Err NoMemory) = Unit {0}
+
+-- A list that stands for a value is read as that value, unless no memory is found.
+abbrev pub IsReadAs : PartsFields → Result PartsFields ObjectFault → Type 0
+IsReadAs p (Ok q) = q ≡ p
+IsReadAs p (Err NoMemory) = Unit {0}
+IsReadAs p (Err (O1 place)) = ⊥
+IsReadAs p (Err (O2 place)) = ⊥
+IsReadAs p (Err (O3 place)) = ⊥
+IsReadAs p (Err (O4 place)) = ⊥
+IsReadAs p (Err (O5 place)) = ⊥
+IsReadAs p (Err (O6 place)) = ⊥
+IsReadAs p (Err (O7 place)) = ⊥
+IsReadAs p (Err (O8 place)) = ⊥
+
+-- The value for which a list stands, or none.
+abbrev pub IsFound : List ℕ → Option PartsFields → Type 0
+IsFound words (Some p) = Stands p words
+IsFound words None = (p : PartsFields) → Stands p words → ⊥

@@ -1,0 +1,145 @@
+-- The parts that a list of words would spell: read by counts alone, the sections one behind another and each table in
+-- order. What this does not look at, as offsets, is judged by spelling the parts again.
+use Rattle.std.specs.Prelude.{ℕ, zero, suc, ◌+◌, ◌-◌, ◌*◌, ◌/◌, ◌%◌, ◌^◌, Bool, nat_eq, nat_le, if◌then◌else◌, min, List, [], ◌∷◌, length, take, drop, slice_index}
+use Rattle.obj36.specs.Fields.{DefFields, LinkFields, RelocFields}
+use Rattle.obj36.specs.PartsFields.{PartsFields}
+use Rattle.obj36.specs.Halves.{left, right}
+use Rattle.obj36.specs.ObjectSegment.{has_name, has_entry}
+use Rattle.obj36.specs.declared.section.Section.{Section}
+use Rattle.obj36.specs.declared.section.Section.TheVariants.{Text, Linkage, Symbol, Static}
+use Rattle.obj36.specs.declared.definition.Named.{Named}
+
+-- ---- names
+
+-- a part of nine bits of a word
+unfoldable pub part_of : ℕ → ℕ → ℕ
+part_of w zero = w / 2 ^ 27
+part_of w (suc zero) = w / 2 ^ 18 % 2 ^ 9
+part_of w (suc (suc zero)) = w / 2 ^ 9 % 2 ^ 9
+part_of w (suc (suc (suc n))) = w % 2 ^ 9
+
+-- part i of nine bits from a word on
+unfoldable pub unit_at : List ℕ → ℕ → ℕ → ℕ
+unit_at words at i = part_of (slice_index words (at + i / 4)) (i % 4)
+
+-- so many characters from part i on, each cut to a byte
+unfoldable pub characters : List ℕ → ℕ → ℕ → ℕ → List ℕ
+characters words at i zero = []
+characters words at i (suc count) = unit_at words at i % 2 ^ 8 ∷ characters words at (i + 1) count
+
+-- the name at a place, cut to 32 characters
+unfoldable pub name_at : List ℕ → ℕ → List ℕ
+name_at words at = characters words at 1 (min (unit_at words at 0) 32)
+
+-- ---- sections by their numbers
+
+unfoldable pub class_with : ℕ → Section
+class_with zero = Text
+class_with (suc zero) = Linkage
+class_with (suc (suc zero)) = Symbol
+class_with (suc (suc (suc n))) = Static
+
+unfoldable pub section_with : ℕ → Section
+section_with zero = Text
+section_with (suc zero) = Linkage
+section_with (suc (suc zero)) = Static
+section_with (suc (suc (suc n))) = Symbol
+
+-- ---- tables
+
+unfoldable pub definition_at : List ℕ → ℕ → Named
+definition_at words at =
+    let first = right (slice_index words at) in
+    let second = slice_index words (at + 1) in
+    record { name = name_at words (right second); def = record { section = class_with (first % 2 ^ 3); value = left second; is_entry = nat_le 8 first } }
+
+unfoldable pub definitions_in : List ℕ → ℕ → ℕ → List Named
+definitions_in words at zero = []
+definitions_in words at (suc count) = definition_at words at ∷ definitions_in words (at + 2) count
+
+-- a link, by its expression in one section and its modifier in the other
+unfoldable pub link_at : List ℕ → ℕ → List ℕ → ℕ → LinkFields
+link_at words at linkage place =
+    let first = slice_index words at in
+    let second = slice_index words (at + 1) in
+    let kind = left first % 2 ^ 8 in
+    record {
+      kind = kind;
+      section = if has_name kind then Text else section_with (right first);
+      name = if has_name kind then name_at words (right first) else [];
+      entry = if has_entry kind then name_at words (left second) else [];
+      expr = right second;
+      modifier = right (slice_index linkage (place + 1)) % 2 ^ 6;
+    }
+
+unfoldable pub links_in : List ℕ → ℕ → List ℕ → ℕ → ℕ → List LinkFields
+links_in words at linkage place zero = []
+links_in words at linkage place (suc count) = link_at words at linkage place ∷ links_in words (at + 2) linkage (place + 2) count
+
+unfoldable pub relocation_in : ℕ → RelocFields
+relocation_in w =
+    record {
+      section = section_with (right w / 2 ^ 15);
+      offset = left w;
+      part = right w / 2 ^ 12 % 2 ^ 3;
+      target = section_with (right w / 2 ^ 9 % 2 ^ 3);
+    }
+
+unfoldable pub relocations_in : List ℕ → ℕ → ℕ → List RelocFields
+relocations_in words at zero = []
+relocations_in words at (suc count) = relocation_in (slice_index words at) ∷ relocations_in words (at + 1) count
+
+-- ---- the whole
+
+-- where the map is, and its version by how far from the end it is
+unfoldable pub map_place : List ℕ → ℕ
+map_place words = left (slice_index words (length words - 1))
+
+unfoldable pub version_in : List ℕ → ℕ
+version_in words = if nat_eq (map_place words + 8) (length words) then 2 else 1
+
+-- a length that a map word tells
+unfoldable pub told_length : List ℕ → ℕ → ℕ
+told_length words i = right (slice_index words (map_place words + i))
+
+-- a count of members, no more than there are words
+unfoldable pub told_count : List ℕ → List ℕ → ℕ → ℕ
+told_count words part i = min (right (slice_index part i)) (length words)
+
+-- what is left of the list from each section on
+unfoldable pub from_definition : List ℕ → List ℕ
+from_definition words = drop (told_length words 1) words
+
+unfoldable pub from_linkage : List ℕ → List ℕ
+from_linkage words = drop (told_length words 2) (from_definition words)
+
+unfoldable pub from_statics : List ℕ → List ℕ
+from_statics words = drop (told_length words 3) (from_linkage words)
+
+unfoldable pub from_symbol : List ℕ → List ℕ
+from_symbol words = if nat_eq (version_in words) 2 then drop (told_length words 4) (from_statics words) else from_statics words
+
+-- where the first link stands
+unfoldable pub told_first : List ℕ → ℕ
+told_first words = left (slice_index (from_linkage words) 1)
+
+unfoldable pub statics_in : List ℕ → List ℕ
+statics_in words =
+    if nat_eq (version_in words) 2 then take (told_length words 4) (from_statics words) else take (told_first words - 8) (drop 8 (from_linkage words))
+
+unfoldable pub bound_in : List ℕ → ℕ
+bound_in words = left (slice_index words (map_place words + (if nat_eq (version_in words) 2 then 6 else 5)))
+
+unfoldable pub parts_of : List ℕ → PartsFields
+parts_of words =
+    let definition = from_definition words in
+    let count = told_count words definition 0 in
+    record {
+      text = take (told_length words 1) words;
+      statics = statics_in words;
+      definitions = definitions_in definition 2 count;
+      links = links_in definition (2 + 2 * count) (from_linkage words) (told_first words) (told_count words definition 1);
+      relocations = relocations_in (from_symbol words) 1 (told_count words (from_symbol words) 0);
+      entry_bound = bound_in words;
+      version = version_in words;
+    }

@@ -1,0 +1,99 @@
+//! The first fault of a list of words.
+
+ghost use Rattle.std.specs.Prelude.{ℕ, List, ◌≡◌, ◌+◌, ◌^◌, ◌<◌, length, Option, Some, None, IfSome};
+ghost use Rattle.obj36.specs.Faults.{told_definition, told_linkage, definition_fault, spelling_fault, linking_fault, fault_behind_map, first_fault};
+
+use crate::fault::ObjectFault;
+use crate::linking::{fault_of_links, place_behind};
+use crate::map::{extents_told, fault_of_map, fault_of_sections, fault_of_sharing, words_within};
+use crate::reading::version;
+use crate::spelling::fault_of_names;
+use crate::tables::fault_of_tables;
+use m36_word::Word;
+
+#[tactic(auto, unfolding(crate::specs::Faults::told_definition))]
+fn definition_told(words: &[Word]) -> &[Word]
+    ensures { result.now ≡ told_definition words.now }
+{
+    words_within(words, extents_told(words).definition)
+}
+
+#[tactic(auto, unfolding(crate::specs::Faults::told_linkage))]
+fn linkage_told(words: &[Word]) -> &[Word]
+    ensures { result.now ≡ told_linkage words.now }
+{
+    words_within(words, extents_told(words).linkage)
+}
+
+#[tactic(auto, unfolding(crate::specs::Faults::definition_fault))]
+fn fault_of_definitions(words: &[Word]) -> Option<u64>
+    ensures value { result ≡ definition_fault words.now }
+    ensures bound { IfSome result (λ p. p < 2 ^ 21) }
+{
+    let from = extents_told(words).definition.from;
+    place_behind(
+        from,
+        fault_of_tables(version(words), definition_told(words)),
+    )
+}
+
+#[tactic(auto, unfolding(crate::specs::Faults::spelling_fault))]
+fn fault_of_spelling(words: &[Word]) -> Option<u64>
+    ensures value { result ≡ spelling_fault words.now }
+    ensures bound { IfSome result (λ p. p < 2 ^ 21) }
+{
+    let from = extents_told(words).definition.from;
+    place_behind(from, fault_of_names(definition_told(words)))
+}
+
+#[tactic(auto, unfolding(crate::specs::Faults::linking_fault))]
+fn fault_of_linking(words: &[Word]) -> Option<u64>
+    ensures value { result ≡ linking_fault words.now }
+    ensures bound { IfSome result (λ p. p < 2 ^ 21) }
+{
+    let told = extents_told(words);
+    fault_of_links(
+        version(words),
+        told.definition.from,
+        definition_told(words),
+        told.linkage.from,
+        linkage_told(words),
+    )
+}
+
+#[tactic(auto, unfolding(crate::specs::Faults::fault_behind_map))]
+fn fault_behind(words: &[Word]) -> ObjectFault
+    ensures { result ≡ fault_behind_map words.now }
+{
+    if let Some(place) = fault_of_sections(words) {
+        return ObjectFault::O3(place as u32);
+    }
+    if let Some(place) = fault_of_sharing(words) {
+        return ObjectFault::O4(place as u32);
+    }
+    if let Some(place) = fault_of_definitions(words) {
+        return ObjectFault::O5(place as u32);
+    }
+    if let Some(place) = fault_of_spelling(words) {
+        return ObjectFault::O6(place as u32);
+    }
+    if let Some(place) = fault_of_linking(words) {
+        return ObjectFault::O7(place as u32);
+    }
+    ObjectFault::O8(0)
+}
+
+// The first fault, in the order of the codes; O8 where none of the others is there.
+#[tactic(auto, unfolding(crate::specs::Faults::first_fault))]
+pub(crate) fn fault_of(words: &[Word]) -> ObjectFault
+    requires { length words.now < 2 ^ 32 }
+    ensures { result ≡ first_fault words.now }
+{
+    if words.len() < 7 {
+        return ObjectFault::O1(words.len() as u32);
+    }
+    if let Some(place) = fault_of_map(words) {
+        return ObjectFault::O2(place as u32);
+    }
+    fault_behind(words)
+}

@@ -1,0 +1,351 @@
+//! Objects worked out by hand.
+
+use crate::{
+    Def, Defs, Link, Links, Named, Object, ObjectFault, Parts, Reloc, Relocs, Section, object_laws,
+};
+use m36_text::Name;
+use m36_word::{Word, Words};
+use std::alloc::Global;
+use std::test::Fail;
+
+/// The object of an empty source.
+const EMPTY: [u64; 18] = [
+    0o000000000000,
+    0o000000000000,
+    0o000000000000,
+    0o000010000000,
+    0o000000000000,
+    0o000000000000,
+    0o000000000000,
+    0o000000000000,
+    0o000000000000,
+    0o000000000000,
+    0o000000000000,
+    0o000000000001,
+    0o000000000000,
+    0o000000000002,
+    0o000002000010,
+    0o000012000001,
+    0o000000000000,
+    0o000013000000,
+];
+
+/// One static word in a section of its own.
+const COUNTER: [u64; 20] = [
+    0o000000000000,
+    0o000000000000,
+    0o000000000000,
+    0o000010000000,
+    0o000000000000,
+    0o000000000000,
+    0o000000000000,
+    0o000000000000,
+    0o000000000000,
+    0o000000000000,
+    0o000000000005,
+    0o000000000000,
+    0o000000000002,
+    0o000000000000,
+    0o000000000002,
+    0o000002000010,
+    0o000012000001,
+    0o000013000001,
+    0o000000000000,
+    0o000014000000,
+];
+
+/// Version 1: the entry `go`, the static word `cnt`, and links to `b$x` and to the own entry `go`.
+const CALLER: [u64; 42] = [
+    0o400010054100,
+    0o400012235120,
+    0o400014235120,
+    0o000002000002,
+    0o000006000002,
+    0o000004000010,
+    0o000000000012,
+    0o000000000001,
+    0o000010000013,
+    0o000004000014,
+    0o000015000000,
+    0o000005000000,
+    0o000012000002,
+    0o002147157000,
+    0o003143156164,
+    0o001142000000,
+    0o001170000000,
+    0o000000000000,
+    0o000012000002,
+    0o000000000000,
+    0o000000000000,
+    0o000000000000,
+    0o000000000000,
+    0o000000000000,
+    0o000000000000,
+    0o000000000005,
+    0o000000000000,
+    0o777766000046,
+    0o000006000020,
+    0o777764000046,
+    0o000010000000,
+    0o000000000003,
+    0o000000021000,
+    0o000001021000,
+    0o000002021000,
+    0o000000000001,
+    0o000000000003,
+    0o000003000016,
+    0o000021000016,
+    0o000037000004,
+    0o000001000000,
+    0o000043000000,
+];
+
+/// Version 2: the same with other links, to `b$` and to the own static section.
+const NEWER: [u64; 41] = [
+    0o400000054100,
+    0o400010235120,
+    0o400012235120,
+    0o000002000002,
+    0o000006000002,
+    0o000004000010,
+    0o000000000012,
+    0o000000000003,
+    0o000000000013,
+    0o000003000014,
+    0o000000000003,
+    0o000001000002,
+    0o000000000000,
+    0o002147157000,
+    0o003143156164,
+    0o001142000000,
+    0o000000000000,
+    0o000010000002,
+    0o000000000000,
+    0o000000000000,
+    0o000000000000,
+    0o000000000000,
+    0o000000000000,
+    0o000000000000,
+    0o777770000046,
+    0o000006000011,
+    0o777766000046,
+    0o000010000000,
+    0o000000000005,
+    0o000000000003,
+    0o000000022000,
+    0o000001021000,
+    0o000002021000,
+    0o000000000002,
+    0o000000000003,
+    0o000003000015,
+    0o000020000014,
+    0o000034000001,
+    0o000035000004,
+    0o000001000000,
+    0o000041000000,
+];
+
+fn words_of(alloc: Global, values: &[u64]) -> Result<Words, Fail> {
+    let mut words = Words::new(alloc);
+    for value in values {
+        words.push(Word::low(*value))?;
+    }
+    Ok(words)
+}
+
+fn are_words(words: &[Word], values: &[u64]) -> bool {
+    words.len() == values.len()
+        && words
+            .iter()
+            .zip(values)
+            .all(|(word, value)| word.value() == *value)
+}
+
+fn refusal(alloc: Global, values: &[u64]) -> Result<Option<ObjectFault>, Fail> {
+    let words = words_of(alloc, values)?;
+    Ok(Object::read(alloc, words.slice()).err())
+}
+
+fn empty_parts(alloc: Global, version: u8) -> Parts {
+    Parts {
+        text: Words::new(alloc),
+        statics: Words::new(alloc),
+        definitions: Defs::new(alloc),
+        links: Links::new(alloc),
+        relocations: Relocs::new(alloc),
+        entry_bound: 0,
+        version,
+    }
+}
+
+fn name_of(text: &[u8]) -> Result<Name, Fail> {
+    Ok(Name::new(text).ok_or("fits")?)
+}
+
+/// The parts of `CALLER`.
+fn caller_parts(alloc: Global) -> Result<Parts, Fail> {
+    let mut parts = empty_parts(alloc, 1);
+    parts.text = words_of(alloc, &CALLER[..3])?;
+    parts.statics = words_of(alloc, &[5, 0])?;
+    parts.definitions.push(Named {
+        name: name_of(b"go")?,
+        def: Def {
+            value: 0,
+            section: Section::Text,
+            is_entry: true,
+        },
+    })?;
+    parts.definitions.push(Named {
+        name: name_of(b"cnt")?,
+        def: Def {
+            value: 8,
+            section: Section::Linkage,
+            is_entry: false,
+        },
+    })?;
+    parts.links.push(Link {
+        name: name_of(b"b")?,
+        entry: name_of(b"x")?,
+        expr: 0,
+        kind: 4,
+        section: Section::Text,
+        modifier: 0o20,
+    })?;
+    parts.links.push(Link {
+        name: Name::default(),
+        entry: name_of(b"go")?,
+        expr: 2,
+        kind: 5,
+        section: Section::Text,
+        modifier: 0,
+    })?;
+    for offset in 0..3 {
+        parts.relocations.push(Reloc {
+            offset,
+            section: Section::Text,
+            part: 2,
+            target: Section::Linkage,
+        })?;
+    }
+    parts.entry_bound = 1;
+    Ok(parts)
+}
+
+#[test]
+fn parts_of_a_caller(rt: HostRuntime) -> Result<(), Fail> {
+    let parts = caller_parts(rt.alloc())?;
+    assert_eq!(rt; parts.size(), 42);
+    if !parts.is_well_formed() {
+        return Err(Fail::from("no list stands for the parts"));
+    }
+    let object = Object::new(rt.alloc(), parts)?;
+    assert!(rt; are_words(object.write(rt.alloc())?.slice(), &CALLER));
+    assert_eq!(rt; object.definition_length(), 14);
+    assert_eq!(rt; object.entry_bound(), 1);
+    assert_eq!(rt; object.parts().relocations.items().len(), 3);
+    assert!(rt; are_words(object.section(Section::Linkage), &CALLER[17..31]));
+    assert!(rt; are_words(object.section(Section::Symbol), &CALLER[31..35]));
+    assert!(rt; object.section(Section::Static).is_empty());
+    assert_eq!(rt; object.find(b"cnt").map(|def| def.value), Some(8));
+    assert_eq!(rt; object.find(b"co"), None);
+    let mut unfit = caller_parts(rt.alloc())?;
+    unfit.entry_bound = 4;
+    assert!(rt; !unfit.is_well_formed());
+    object_laws();
+    Ok(())
+}
+
+#[test]
+fn objects_read(rt: HostRuntime) -> Result<(), Fail> {
+    for values in [EMPTY.as_slice(), &COUNTER, &CALLER, &NEWER] {
+        let words = words_of(rt.alloc(), values)?;
+        let object = Object::read(rt.alloc(), words.slice())?;
+        assert!(rt; are_words(object.write(rt.alloc())?.slice(), values));
+    }
+    let words = words_of(rt.alloc(), &NEWER)?;
+    let object = Object::read(rt.alloc(), words.slice())?;
+    assert!(rt; are_words(object.section(Section::Static), &[5]));
+    assert!(rt; are_words(object.section(Section::Text), &NEWER[..3]));
+    let links = object.links();
+    assert_eq!(rt; links.len(), 2);
+    assert!(rt; links[0].name.bytes() == b"b".as_slice());
+    assert_eq!(rt;
+        (links[0].kind, links[0].expr, links[0].modifier),
+        (3, 3, 0o11)
+    );
+    assert_eq!(rt; (links[1].kind, links[1].section), (1, Section::Static));
+    Ok(())
+}
+
+#[test]
+fn changed_objects(rt: HostRuntime) -> Result<(), Fail> {
+    assert_eq!(rt; refusal(rt.alloc(), &EMPTY[..6])?, Some(ObjectFault::O1(6)));
+    for (place, value, fault) in [
+        (17, 0o000012000000, ObjectFault::O2(10)),
+        (17, 0o000013000001, ObjectFault::O2(17)),
+        (17, 0o000014000000, ObjectFault::O2(17)),
+        (11, 0o000000000002, ObjectFault::O2(11)),
+        (16, 0o000001000000, ObjectFault::O2(16)),
+        (13, 0o000000000001, ObjectFault::O3(13)),
+        (15, 0o000012000002, ObjectFault::O3(15)),
+        (14, 0o000001000010, ObjectFault::O4(1)),
+        (0, 0o000002000001, ObjectFault::O5(0)),
+        (3, 0o000010000001, ObjectFault::O7(3)),
+        (5, 0o000000000001, ObjectFault::O8(0)),
+        (10, 0o000000000001, ObjectFault::O8(0)),
+    ] {
+        let mut values = EMPTY;
+        values[place] = value;
+        assert_eq!(rt; refusal(rt.alloc(), &values)?, Some(fault));
+    }
+    Ok(())
+}
+
+#[test]
+fn changed_callers(rt: HostRuntime) -> Result<(), Fail> {
+    for (place, value, fault) in [
+        // The chain goes round, and the count is one short.
+        (7, 0o000002000001, ObjectFault::O5(3)),
+        (3, 0o000002000001, ObjectFault::O5(3)),
+        // The chain leaves the section behind its last definition.
+        (7, 0o000777000001, ObjectFault::O5(7)),
+        // The expressions leave the section.
+        (4, 0o000015000002, ObjectFault::O5(4)),
+        // The class static in version 1.
+        (7, 0o000000000003, ObjectFault::O5(7)),
+        // Both definitions have one name.
+        (8, 0o000010000012, ObjectFault::O5(13)),
+        // Names: with a character that may not stand there, with padding, empty, and past the section.
+        (14, 0o003143156055, ObjectFault::O6(14)),
+        (15, 0o001142000001, ObjectFault::O6(15)),
+        (16, 0o000000000000, ObjectFault::O6(16)),
+        (9, 0o000004000077, ObjectFault::O6(9)),
+        (12, 0o000077000002, ObjectFault::O6(12)),
+        // The section static in version 1, a type that there is not, a link that is not its own, and a first link behind
+        // an odd number of static words.
+        (11, 0o000005000002, ObjectFault::O7(11)),
+        (11, 0o000002000000, ObjectFault::O7(11)),
+        (28, 0o000010000020, ObjectFault::O7(27)),
+        (18, 0o000013000002, ObjectFault::O7(18)),
+        // Relocations of one part, and in no section's words.
+        (33, 0o000000021000, ObjectFault::O8(0)),
+        (34, 0o000003021000, ObjectFault::O8(0)),
+    ] {
+        let mut values = CALLER;
+        values[place] = value;
+        assert_eq!(rt; refusal(rt.alloc(), &values)?, Some(fault));
+    }
+    for (place, value, fault) in [
+        // The class past static, the section past static, a linkage section with other words than links, and an unused
+        // field that is not empty.
+        (7, 0o000000000004, ObjectFault::O5(7)),
+        (11, 0o000001000003, ObjectFault::O7(11)),
+        (17, 0o000012000002, ObjectFault::O7(17)),
+        (10, 0o000013000003, ObjectFault::O8(0)),
+    ] {
+        let mut values = NEWER;
+        values[place] = value;
+        assert_eq!(rt; refusal(rt.alloc(), &values)?, Some(fault));
+    }
+    Ok(())
+}
