@@ -1,8 +1,7 @@
 -- Pieces of a text, byte by byte.
-use Rattle.std.proofs.Common.{◌≡◌, ℕ, ◌+◌, ◌<◌, ◌≤◌, ◌==◌, Bool, true, false, List, [], ◌∷◌, ◌++◌, length, drop, get_or, refl, sym, ap, ◌∙◌, arith, drop-cons, add-one, append_assoc}
+use Rattle.std.proofs.Common.{◌≡◌, ℕ, ◌+◌, ◌<◌, ◌≤◌, ◌==◌, Bool, true, false, List, [], ◌∷◌, length, drop, get_or, refl, drop-cons, add-one}
 use Rattle.std.proofs.Math.ListN.{drop_of_length-le}
 use Rattle.alm_parse.specs.declared.pieces.Parter.{Parter}
-use Rattle.alm_parse.specs.declared.pieces.Piece.{Piece}
 use Rattle.alm_parse.specs.Pieces.{parts, piece_at, cut}
 
 -- at a byte that parts, a piece ends

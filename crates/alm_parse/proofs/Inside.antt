@@ -1,11 +1,8 @@
 -- A number out of its range, and a label, have a byte in the text.
-use Rattle.std.proofs.Common.{◌≡◌, ℕ, suc, ◌+◌, ◌-◌, ◌<◌, ◌≤◌, Bool, true, false, cond, List, [], ◌∷◌, length, take, drop, Option, Some, None, Result, Ok, Err, refl, sym, ap, ◌∙◌, arith, length-drop, subst}
+use Rattle.std.proofs.Common.{◌≡◌, ℕ, suc, ◌-◌, ◌<◌, ◌≤◌, Bool, true, false, cond, List, [], ◌∷◌, length, take, drop, Option, Some, refl, arith, length-drop, subst}
 use Rattle.std.specs.List.{find, All}
-use Rattle.std.specs.Prelude.{slice_index_or}
 use Rattle.std.proofs.lemmas.List.{length-take}
 use Rattle.m36_text.specs.Reading.{number_read}
-use Rattle.m36_text.specs.declared.reading.NumberFault.{NumberFault}
-use Rattle.m36_text.specs.declared.reading.NumberFault.TheVariants.{T1, T2}
 use Rattle.alm_parse.specs.declared.span.Span.{Span}
 use Rattle.alm_parse.specs.declared.pieces.Piece.{Piece}
 use Rattle.alm_parse.specs.declared.numerals.Numeral.{Numeral}

@@ -1,6 +1,6 @@
 -- Characters packed into words, word by word.
 use Rattle.std.proofs.Common.{◌≡◌, ℕ, ◌<◌, List, [], ◌∷◌, ◌++◌, length, drop, refl, sym, ap, ◌∙◌, arith, append-nil}
-use Rattle.alm_parse.specs.Characters.{four, first_word, packed}
+use Rattle.alm_parse.specs.Characters.{first_word, packed}
 
 pub packed_first : (bytes : List ℕ) → 0 < length bytes → packed bytes ≡ first_word bytes ∷ packed (drop 4 bytes)
 unfolding packed first_word

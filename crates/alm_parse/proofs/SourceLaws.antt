@@ -1,5 +1,5 @@
 -- A source, line by line.
-use Rattle.std.proofs.Common.{◌≡◌, ℕ, ◌+◌, ◌<◌, ◌≤◌, Bool, true, false, cond, List, [], ◌∷◌, ◌++◌, length, drop, get_or, Result, Ok, Err, refl, sym, ap, ◌∙◌, arith, drop-cons, add-one, subst}
+use Rattle.std.proofs.Common.{◌≡◌, ℕ, ◌+◌, ◌<◌, ◌≤◌, true, false, cond, List, [], ◌∷◌, ◌++◌, length, drop, get_or, Result, Ok, Err, refl, sym, ap, ◌∙◌, drop-cons, add-one, subst}
 use Rattle.std.proofs.Math.ListN.{drop_of_length-le}
 use Rattle.alm_parse.specs.declared.refusal.Code.{Code}
 use Rattle.alm_parse.specs.declared.refusal.Code.TheVariants as code

@@ -1,6 +1,6 @@
 -- The spans of lines lie in the text.
-use Rattle.std.proofs.Common.{◌≡◌, ℕ, ◌+◌, ◌<◌, ◌≤◌, Bool, true, false, cond, List, [], ◌∷◌, ◌++◌, length, map, Option, Some, None, Result, Ok, Err, refl, sym, ap, ◌∙◌, arith, subst}
-use Rattle.std.specs.Prelude.{All, IfSome, IfOk, ⊤, unwrap_or, slice_index}
+use Rattle.std.proofs.Common.{◌≡◌, ℕ, ◌+◌, ◌≤◌, Bool, true, false, cond, List, [], ◌∷◌, ◌++◌, length, map, Option, Some, None, Result, Ok, Err, refl, arith, subst}
+use Rattle.std.specs.Prelude.{All, IfSome, IfOk, ⊤, slice_index}
 use Rattle.std.proofs.lemmas.List.Elements.{All-append, All-cons, All-nil}
 use Rattle.alm_parse.specs.declared.span.Span.{Span}
 use Rattle.alm_parse.specs.declared.pieces.Piece.{Piece}
@@ -22,19 +22,19 @@ use Rattle.alm_parse.specs.declared.pieces.Parter.TheVariants.{Comma}
 use Rattle.alm_parse.specs.SourceFields.{Source}
 use Rattle.alm_parse.specs.Bytes.{is_character}
 use Rattle.alm_parse.specs.Tokens.{slice_of}
-use Rattle.alm_parse.specs.Refusals.{refused, unless}
-use Rattle.alm_parse.specs.Expressions.{is_term_at, expression_pieces, place_over, term_of}
+use Rattle.alm_parse.specs.Refusals.{unless}
+use Rattle.alm_parse.specs.Expressions.{expression_pieces, term_of}
 use Rattle.alm_parse.specs.Bodies.{span_at, place_of, body_of, body_pieces}
-use Rattle.alm_parse.specs.Operands.{body_span, tag_given, entry_given, operand_of, is_operand, operand_given}
-use Rattle.alm_parse.specs.Members.{members, symbol_arg, number_arg, symbols_given, numbers_given, is_symbol_at, is_written_at, place_out}
+use Rattle.alm_parse.specs.Operands.{body_span, operand_of, operand_given}
+use Rattle.alm_parse.specs.Members.{members, symbol_arg, number_arg, symbols_given, numbers_given}
 use Rattle.alm_parse.specs.Pairs.{value_of_members, value_given, halves_of_members, halves_given, block_of_members, block_given, section_given}
 use Rattle.alm_parse.specs.Characters.{packed, is_ended, place_bad, characters_by, characters_ended, characters_closed, characters_given}
-use Rattle.alm_parse.specs.Heads.{head_of, operand_in, delimited_in}
+use Rattle.alm_parse.specs.Heads.{head_of, delimited_in}
 use Rattle.alm_parse.specs.Operations.{operation_of}
 use Rattle.alm_parse.specs.Lines.{missing, args_with, operand_for, args_by, args_of, label_refusal, line_of, line_with, line_by, line_from, line_unless, line_given}
 use Rattle.alm_parse.specs.Rows.{rows_of}
 use Rattle.alm_parse.specs.Sources.{names_end, continued, read_lines, with_text, parsed, ParseSays}
-use Rattle.alm_parse.specs.Spans.{IsSpan, TermIn, OperandIn, ArgIn, LineIn}
+use Rattle.alm_parse.specs.Spans.{IsSpan, TermIn, ArgIn, LineIn}
 use Rattle.alm_parse.proofs.SpanParts.{all_head, all_rest, all_map, PieceIn, pieces_in, expression_in, terms_in, BodyIn, body_in, body_pieces_in, HeadIn, head_in, operand_span_in, RowIn, rows_in}
 
 -- what is read where nothing is refused

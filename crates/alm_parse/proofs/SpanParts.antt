@@ -1,12 +1,10 @@
 -- The parts of a line lie in the text.
-use Rattle.std.proofs.Common.{◌≡◌, ℕ, zero, suc, ◌+◌, ◌-◌, ◌<◌, ◌≤◌, ◌==◌, not, Bool, true, false, cond, List, [], ◌∷◌, ◌++◌, length, take, drop, map, Option, Some, None, refl, sym, ap, ◌∙◌, arith, length-drop, inl, inr}
-use Rattle.std.specs.Prelude.{slice_index, slice_index_or, All, IfSome, ⊤, option_map}
+use Rattle.std.proofs.Common.{ℕ, suc, ◌+◌, ◌-◌, ◌<◌, ◌≤◌, ◌==◌, not, Bool, true, false, cond, List, [], ◌∷◌, ◌++◌, length, take, drop, map, Option, Some, None, arith, length-drop, inl, inr}
+use Rattle.std.specs.Prelude.{slice_index, All, IfSome, option_map}
 use Rattle.std.specs.List.{position, position_or_len}
 use Rattle.std.proofs.lemmas.List.{length-take}
 use Rattle.std.proofs.lemmas.List.Elements.{All-append, All-cons, All-nil}
 use Rattle.std.proofs.lemmas.Bool.{cases_lt, lt-ltb, le-ltb}
-use Rattle.std.proofs.lemmas.Option.{cond_some}
-use Rattle.std.proofs.Math.Dec.{ltb}
 use Rattle.alm_parse.specs.declared.span.Span.{Span}
 use Rattle.alm_parse.specs.declared.pieces.Parter.{Parter}
 use Rattle.alm_parse.specs.declared.pieces.Piece.{Piece}
@@ -19,10 +17,10 @@ use Rattle.alm_parse.specs.declared.rows.Row.{Row}
 use Rattle.alm_parse.specs.Bytes.{goes_on, is_blank}
 use Rattle.alm_parse.specs.Tokens.{slice_of}
 use Rattle.alm_parse.specs.Pieces.{parts, piece_at, cut, pieces_of}
-use Rattle.alm_parse.specs.declared.pieces.Parter.TheVariants.{Comma, Sign}
+use Rattle.alm_parse.specs.declared.pieces.Parter.TheVariants.{Sign}
 use Rattle.alm_parse.specs.Expressions.{signed_start, expression_pieces, term_of}
-use Rattle.alm_parse.specs.Bodies.{span_at, place_of, end_by, symbol_end, external_by, external, body_without_bar, body_by, body_of, tail_pieces, body_pieces}
-use Rattle.alm_parse.specs.Heads.{turn_of, token, head_at, head_by, head_from, head_of, operand_start, end_from, operand_end, operand_by, operand_in, delimited_by, delimited_in}
+use Rattle.alm_parse.specs.Bodies.{span_at, place_of, end_by, symbol_end, external, body_without_bar, body_by, body_of, tail_pieces, body_pieces}
+use Rattle.alm_parse.specs.Heads.{turn_of, token, head_at, head_by, head_from, head_of, operand_start, end_from, operand_end, operand_by, operand_in}
 use Rattle.alm_parse.specs.Rows.{row_at, rows_from, rows_of}
 use Rattle.alm_parse.specs.Spans.{IsSpan, TermIn}
 

@@ -1,7 +1,6 @@
 -- Expressions: terms joined by + and -. A minus may stand before the first term.
 use Rattle.std.specs.Prelude.{ℕ, ◌+◌, ◌≤◌, ⊤, Bool, not, ◌||◌, ◌==◌, List, slice_index, codes, Option, option_map, if◌then◌else◌}
 use Rattle.std.specs.List.{find}
-use Rattle.alm_parse.specs.declared.span.Span.{Span}
 use Rattle.alm_parse.specs.declared.pieces.Parter.TheVariants.{Sign}
 use Rattle.alm_parse.specs.declared.pieces.Piece.{Piece}
 use Rattle.alm_parse.specs.declared.expression.Atom.{Atom}

@@ -1,5 +1,5 @@
 -- Operands of two parts between a comma, and names of sections.
-use Rattle.std.specs.Prelude.{ℕ, Bool, ◌&&◌, ◌||◌, List, [], ◌∷◌, map, codes, Option, Some, None, Result, Ok, Err}
+use Rattle.std.specs.Prelude.{ℕ, Bool, ◌&&◌, ◌||◌, List, [], ◌∷◌, map, codes, Option, Some, None, Result, Err}
 use Rattle.std.specs.List.{list_all}
 use Rattle.alm_parse.specs.declared.span.Span.{Span}
 use Rattle.alm_parse.specs.declared.pieces.Piece.{Piece}

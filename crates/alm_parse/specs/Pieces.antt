@@ -1,6 +1,5 @@
 -- Texts in pieces, parted by commas or by signs.
 use Rattle.std.specs.Prelude.{ℕ, ◌+◌, Bool, ◌==◌, List, [], ◌∷◌, if◌then◌else◌}
-use Rattle.alm_parse.specs.declared.span.Span.{Span}
 use Rattle.alm_parse.specs.declared.pieces.Parter.{Parter}
 use Rattle.alm_parse.specs.declared.pieces.Parter.TheVariants.{Comma, Sign}
 use Rattle.alm_parse.specs.declared.pieces.Piece.{Piece}

@@ -1,32 +1,60 @@
-//! The parser of assembly language sources.
+//! The parser of assembly language: a text in, its lines with their labels, operations and operands out.
+//!
+//! A line is any number of labels, each with a colon behind it; then perhaps an operation and its operand; then perhaps a
+//! comment, from a quotation mark on. Blanks and tabs part these. All that stands behind the operation, up to the comment
+//! or the end of the line, is the operand. A symbol has up to 32 letters, digits, `_` and `.`, and begins with a letter or
+//! `_`. An expression is terms joined by `+` and `-`, with a minus before it allowed; a term is a decimal number up to
+//! 262143, without leading zeros, a symbol, or `*`, the current place. The operand of an instruction is an expression, or
+//! one behind a pointer register and a bar, or a segment, a dollar sign, perhaps an entry and perhaps a sign and an
+//! expression; and then perhaps a comma and a modifier. Nothing is read behind the operation `end`.
+//!
+//! What [`parse`] promises, for every text of fewer than 2^32 bytes: it gives exactly the lines that the text is, by the
+//! definition in `specs/Sources.antt`, which goes down from lines to tokens in one word for each rule; or, where the text
+//! is not of the language, exactly its first refusal in the order of the text, and the least code where two are at one
+//! place. Want of memory alone may stand in the place of an answer. Each span of a line that is given lies in the text.
+//!
+//! | Code | Exactly where |
+//! |---|---|
+//! | E1 | a label, an operation or an operand begins with a byte that no source may have; or characters that are placed, or their delimiter, have a byte outside octal 40 to 176 |
+//! | E2 | a label or an operand is not of its form, or an operand is missing |
+//! | E3 | there is no such operation |
+//! | E4 | a number is out of its range |
+//!
+//! A code stands at the line and the column, both counted from 1, of the byte, label, operand, operation or number that it
+//! speaks of; a missing operand stands at the operation.
+//!
+//! Source: Multics Processor Manual AL39, "Machine instructions" and "Address modification" for the names of instructions,
+//! registers and modifiers. The language is this project's own profile of the assembler of Multics.
 #![tactic(auto)]
 
 pub mod args;
-pub mod body;
-pub mod bytes;
-pub mod characters;
+mod body;
+mod bytes;
+mod characters;
 pub mod expression;
 pub mod fault;
-pub mod head;
+mod head;
 pub mod line;
-pub mod members;
-pub mod modifiers;
-pub mod numerals;
-pub mod operand;
+mod line_reading;
+mod members;
+mod modifiers;
+mod numerals;
+mod operand;
 pub mod operation;
-pub mod pairs;
-pub mod pieces;
-pub mod refusal;
-pub mod rows;
+mod pairs;
+mod pieces;
+mod refusal;
+mod rows;
 pub mod source;
 pub mod span;
 #[cfg(test)]
 mod tests;
-pub mod tokens;
+mod tokens;
 
 pub use args::{Arg, Args};
 pub use expression::{Atom, Expr, Term};
 pub use fault::AlmFault;
 pub use line::Line36;
+pub use operation::{Operation, operation_of};
 pub use source::{Lines36, parse};
-pub use span::{Span, Spans};
+pub use span::{Span, Spans, bytes_of};

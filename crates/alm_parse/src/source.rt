@@ -5,7 +5,8 @@ ghost use Rattle.alm_parse.specs.Spans.{LineIn};
 ghost use Rattle.alm_parse.specs.Sources.{names_end, read_lines, parsed, ParseSays};
 
 use crate::fault::{AlmFault, fault_of};
-use crate::line::{Line36, read_line};
+use crate::line::Line36;
+use crate::line_reading::read_line;
 use crate::refusal::Halt;
 use crate::rows::{Row, rows_of};
 use crate::span::{Span, bytes_of};

@@ -1,4 +1,4 @@
-use Rattle.std.proofs.Common.{◌≤◌, ◌<◌, length, arith, subst, sym}
+use Rattle.std.proofs.Common.{◌<◌, length, arith, subst, sym}
 use Rattle.std.specs.List.{All}
 use Rattle.std.proofs.lemmas.Grind.{common_steps}
 use Rattle.alm_parse.specs.Heads.{IsMark}

@@ -1,4 +1,4 @@
-use Rattle.std.proofs.Common.{arith, append_assoc, ap, sym, ◌∙◌, ◌+◌, ◌++◌, ◌≡◌}
+use Rattle.std.proofs.Common.{arith}
 use Rattle.std.proofs.lemmas.Grind.{common_steps}
 use Rattle.alm_parse.proofs.Cuts.{cuts}
 use Rattle.alm_parse.proofs.pieces.pieces_of.Goals as goal

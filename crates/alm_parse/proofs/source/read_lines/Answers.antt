@@ -1,4 +1,4 @@
-use Rattle.std.proofs.Common.{◌≡◌, ◌<◌, ◌∙◌, length, get_or, sym, ap, arith}
+use Rattle.std.proofs.Common.{◌<◌, ◌∙◌, length, get_or, sym, ap, arith}
 use Rattle.alm_parse.specs.declared.rows.Row.{Row}
 use Rattle.alm_parse.specs.Sources.{fault_of}
 use Rattle.alm_parse.proofs.SourceLaws.{told_here, last_here, next_here}

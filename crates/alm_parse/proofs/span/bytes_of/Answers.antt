@@ -1,5 +1,5 @@
 use Rattle.std.proofs.Common.{arith, length-drop}
-use Rattle.std.proofs.lemmas.List.{take_rest, length-take}
+use Rattle.std.proofs.lemmas.List.{length-take}
 use Rattle.alm_parse.proofs.span.bytes_of.Goals as goal
 
 pub returns-then-count-rest-clause-ends : goal.returns-then-count-rest-clause-ends

@@ -1,0 +1,158 @@
+//! The lines of a source, as they are read.
+
+ghost use Rattle.std.specs.Prelude.{ℕ, ◌≡◌, ◌^◌, ◌<◌, Option, Result, IfSome, IfOk, IfErr, length};
+ghost use Rattle.std.specs.List.{All};
+ghost use Rattle.alm_parse.specs.Heads.{IsMark};
+ghost use Rattle.alm_parse.specs.Lines.{missing, args_with, operand_for, args_of, is_no_symbol, label_refusal, line_of, line_given};
+ghost use Rattle.alm_parse.specs.Refusals.{Reads, IsInside, HaltsInside};
+
+use crate::args::Args;
+use crate::characters::characters_args;
+use crate::head::{Head, delimited_in, head_of, operand_in};
+use crate::line::Line36;
+use crate::members::{numbers_args, symbols_args};
+use crate::numerals::Numeral;
+use crate::operand::operand_args;
+use crate::operation::{Operation, operation_of};
+use crate::pairs::{block_args, halves_args, section_args, value_args};
+use crate::refusal::{Code, Halt, Refusal, told};
+use crate::rows::Row;
+use crate::span::{Span, bytes_of};
+use crate::tokens::is_symbol;
+use std::alloc::Global;
+
+// Whether an operation may stand without an operand.
+fn missing(operation: Operation, at: u32) -> Option<Refusal>
+    ensures value { result ≡ missing operation at }
+    ensures place { IfSome result (λ refusal. refusal.place ≡ at) }
+{
+    match operation {
+        Operation::Instruction | Operation::Bare | Operation::End => None,
+        Operation::Names
+        | Operation::Value
+        | Operation::Section
+        | Operation::Decimal
+        | Operation::Octal
+        | Operation::Characters
+        | Operation::Halves
+        | Operation::Block => Some(Refusal {
+            place: at,
+            code: Code::E2,
+        }),
+    }
+}
+
+fn args_with(alloc: Global, operation: Operation, text: &[u8], operand: Span) -> Result<Args, Halt>
+    requires text { length text.now < 2 ^ 32 }
+    requires inside { operand.from < length text.now }
+    ensures value { Reads result (args_with operation text.now operand) }
+    ensures inside { IfErr result (HaltsInside (length text.now)) }
+{
+    match operation {
+        Operation::Instruction => operand_args(alloc, text, operand),
+        Operation::Names => symbols_args(alloc, text, operand),
+        Operation::Value => value_args(alloc, text, operand),
+        Operation::Section => section_args(alloc, text, operand),
+        Operation::Decimal => numbers_args(alloc, Numeral::Decimal, text, operand),
+        Operation::Octal => numbers_args(alloc, Numeral::Octal, text, operand),
+        Operation::Characters => characters_args(alloc, text, operand),
+        Operation::Halves => halves_args(alloc, text, operand),
+        Operation::Block => block_args(alloc, text, operand),
+        Operation::Bare => Err(Halt::Refused(told(text, operand.from, Code::E2))),
+        Operation::End => Ok(Args::new(alloc)),
+    }
+}
+
+fn operand_for(operation: Operation, text: &[u8], rest: Span) -> Option<Span>
+    requires { length text.now < 2 ^ 32 }
+    ensures value { result ≡ operand_for operation text.now rest }
+    ensures within { IfSome result (λ span. span.from < length text.now) }
+{
+    match operation {
+        Operation::Characters => delimited_in(text, rest),
+        _ => operand_in(text, rest),
+    }
+}
+
+/// The arguments of an operation that stands at `op`, in the rest of its line.
+#[tactic(auto, unfolding(crate::specs::Lines::args_of))]
+fn args_of(
+    alloc: Global,
+    operation: Operation,
+    text: &[u8],
+    op: u32,
+    rest: Span,
+) -> Result<Args, Halt>
+    requires text { length text.now < 2 ^ 32 }
+    requires inside { op < length text.now }
+    ensures value { Reads result (args_of operation text.now op rest) }
+    ensures inside { IfErr result (HaltsInside (length text.now)) }
+{
+    match operand_for(operation, text, rest) {
+        Some(operand) => args_with(alloc, operation, text, operand),
+        None => match missing(operation, op) {
+            Some(refusal) => Err(Halt::Refused(refusal)),
+            None => Ok(Args::new(alloc)),
+        },
+    }
+}
+
+fn is_no_symbol(text: &[u8], span: Span) -> bool
+    ensures { result ≡ is_no_symbol text.now span }
+{
+    !is_symbol(bytes_of(text, span))
+}
+
+/// The refusal of the first label that is no symbol.
+#[tactic(auto, using(crate::proofs::Inside::mark_inside), unfolding(crate::specs::Lines::label_refusal))]
+fn label_refusal(text: &[u8], labels: &[Span]) -> Option<Refusal>
+    requires { All (IsMark (length text.now)) labels.now }
+    ensures value { result ≡ label_refusal text.now labels.now }
+    ensures inside { IfSome result (IsInside (length text.now)) }
+{
+    match labels.iter().find(|label| is_no_symbol(text, **label)) {
+        Some(label) => Some(told(text, label.from, Code::E2)),
+        None => None,
+    }
+}
+
+fn line_of(row: Row, head: Head, args: Args) -> Line36
+    ensures { result ≡ line_of row head args }
+{
+    let Head { labels, op } = head;
+    Line36 {
+        labels,
+        args,
+        op,
+        start: row.span.from,
+        line: row.number,
+    }
+}
+
+/// A line, as it is read.
+#[tactic(auto, unfolding(crate::specs::Lines::line_given))]
+pub fn read_line(alloc: Global, text: &[u8], row: Row) -> Result<Line36, Halt>
+    requires { length text.now < 2 ^ 32 }
+    ensures value { Reads result (line_given text.now row) }
+    ensures inside { IfErr result (HaltsInside (length text.now)) }
+{
+    let head = head_of(alloc, text, row.span)?;
+    if let Some(refusal) = label_refusal(text, head.labels.items()) {
+        return Err(Halt::Refused(refusal));
+    }
+    let Some(op) = head.op else {
+        return Ok(line_of(row, head, Args::new(alloc)));
+    };
+    let Some(operation) = operation_of(bytes_of(text, op)) else {
+        return Err(Halt::Refused(told(text, op.from, Code::E3)));
+    };
+    let rest = Span {
+        from: op.to,
+        to: row.span.to,
+    };
+    match args_of(alloc, operation, text, op.from, rest) {
+        Ok(args) => Ok(line_of(row, head, args)),
+        Err(Halt::Refused(refusal)) => Err(Halt::Refused(refusal)),
+        Err(Halt::NoMemory) => Err(Halt::NoMemory),
+    }
+}
