@@ -1,3 +1,6 @@
-pub mod Serving
-pub mod Overflow
-pub mod Runs
+pub mod Ends
+pub mod Reaching
+pub mod Groups
+pub mod Operations
+pub mod Direct
+pub mod Writing

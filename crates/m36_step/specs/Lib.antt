@@ -1,2 +1,5 @@
-pub mod Found
-pub mod Stepped
+pub mod Ended
+pub mod Lending
+pub mod Operated
+pub mod References
+pub mod Reached

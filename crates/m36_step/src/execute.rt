@@ -1,185 +1,183 @@
-//! One instruction after another kind: what it refers to, and what it leaves.
+//! The parts of a step, in order: the fetch, the instruction's row, the right to it, its address, its operation, and its
+//! words.
 
-ghost use Rattle.std.specs.Prelude.{ℕ, List, IfSome, None, ◌≡◌, ◌<◌, ◌≤◌, ◌^◌, ◌+◌, ◌&&◌, ◌==◌, length, slice_index, true, false, []};
-ghost use Rattle.m36_word.specs.Field.{field};
-ghost use Rattle.m36_model.specs.Act.{ask, Read, Write, Transfer, Fetch};
-ghost use Rattle.m36_model.specs.FirstPath.{executed, operation_of, first_program, begun, operand_at, one_word};
-ghost use Rattle.m36_model.specs.FirstPath as first;
-ghost use Rattle.m36_step.specs.Stepped.{Ends, operation_is};
+ghost use Rattle.std.specs.Prelude.{ℕ, Some, None, ◌≡◌, ◌≢◌, ◌+◌, ◌<◌, ◌≤◌, [], ◌∷◌, ◌++◌, ◌&&◌, ◌==◌, not, length};
+ghost use Rattle.m36_inst.specs.Instruction.{inst_of};
+ghost use Rattle.m36_inst.specs.Lookup.{IsRow};
+ghost use Rattle.m36_inst.specs.declared.operand.Operand.TheVariants.{N};
+ghost use Rattle.m36_ea.specs.Formed.{TallyLies};
+ghost use Rattle.m36_inst.specs.Operands.{operand_of, is_privileged};
+ghost use Rattle.m36_model.specs.Chain.{chain_end_fields};
+ghost use Rattle.m36_model.specs.Step.{program, decoded, decode, admitted, started, no_address, addressed, operated, halted, outcome_by};
+ghost use Rattle.m36_step.specs.Ended.{EndsSo, EndsFormed};
 
-use crate::instruction::{
-    Operation, added, loaded, moved_on, operation_of, overflows, transferred,
-};
-use crate::reference::{Right, refer, transfer};
-use crate::stepped::{Stepped, Store, done, stopped, with_reference};
-use m36_desc::Sdw;
-use m36_model::{Kind, Refs, Regs, Stop};
-use m36_word::{Field, Word};
+use crate::ended::{Ended, fault_here, halted, outcome_by};
+use crate::operate::operate;
+use crate::writes::write_words;
+use m36_ea::effective;
+use m36_inst::{Effect, Inst, Operand, Row, row};
+use m36_model::{Effect36, Final, Formed, Halt, Kind, Reference, Refs, Regs, Stop};
+use m36_walk::Walk;
+use m36_word::Word;
 
-fn address(word: Word) -> u32
-    ensures value { result ≡ field word 0 18 }
-    ensures bound { result < 2 ^ 18 }
+/// The end of a step that has its effect. LDBR has changed the descriptor segment base register, and the walk goes on by
+/// it.
+fn completed(walk: &mut Walk, regs: &Regs, word: Word, last: Final, effect: &Effect36) -> Ended
+    requires dbr { walk.old.dbr ≡ regs.now.dbr }
+    ensures end { result ≡ record { after = effect.now.regs; word = Some word; at = Some last; outcome = outcome_by (effect.now.overflow && not effect.now.regs.ind.mask) regs.now } }
+    ensures core { walk.new.core ≡ walk.old.core }
+    ensures dbr { walk.new.dbr ≡ result.after.dbr }
 {
-    Field::<0, 18>::get(word) as u32
+    let after = &effect.regs;
+    if after.dbr != regs.dbr {
+        walk.set_dbr(after.dbr);
+    }
+    Ended {
+        after: *after,
+        word: Some(word),
+        at: Some(last),
+        outcome: outcome_by(regs, after, effect.overflow),
+    }
 }
 
-fn accumulator(regs: &Regs) -> Word
-    ensures { result ≡ regs.now.a }
+/// The operation of an instruction whose address is formed: the operand, the effect, and the words that it writes.
+fn operated(
+    walk: &mut Walk,
+    regs: &Regs,
+    word: Word,
+    row: &Row,
+    formed: &Formed,
+    refs: &mut Refs,
+) -> Ended
+    requires dbr { walk.old.dbr ≡ regs.now.dbr }
+    requires row { IsRow row.now }
+    requires addressed { row.now.operand ≢ N }
+    requires tally { TallyLies formed.now.tally formed.now.place (length walk.old.core) refs.old.items }
+    requires room { length refs.old.items ≤ 38 }
+    ensures ends { EndsFormed regs.now (operated row.now.effect row.now.reg regs.now word (chain_end_fields formed.now)) walk.old.core formed.now refs.old.items walk.new.core refs.new.items result }
+    ensures dbr { walk.new.dbr ≡ result.after.dbr }
 {
-    regs.a
-}
-
-fn word_in(core: &[Word], place: u32) -> Word
-    requires { place < length core.now }
-    ensures { result ≡ slice_index core.now place }
-{
-    core[place as usize]
-}
-
-/// LDA: the accumulator becomes the operand.
-fn load(core: &[Word], regs: &Regs, word: Word, refs: Refs) -> Stepped
-    requires unpaged { regs.now.dbr.unpaged ≡ true }
-    requires room { length refs.items < 40 }
-    ensures ends { Ends (executed regs.now word false first.Lda) core.now regs.now refs.items result }
-    ensures kept { result.store ≡ None }
-{
-    let y = address(word);
-    match refer(core, regs, Right::Read, y) {
-        None => stopped(regs, Some(word), refs, Stop::Unbuilt),
-        Some(found) => {
-            let refs = with_reference(refs, Kind::Read, regs, y);
-            let operand = word_in(core, found.place);
-            done(regs, word, loaded(regs, operand), refs, None)
+    let last = formed.last;
+    match operate(walk, regs, row, formed, refs) {
+        Err(halt) => halted(regs, Some(word), Some(last), halt),
+        Ok(operated) => {
+            write_words(walk, formed, &operated);
+            completed(walk, regs, word, last, &operated.effect)
         }
     }
 }
 
-/// ADA: the operand is added to the accumulator.
-fn add(core: &[Word], regs: &Regs, word: Word, refs: Refs) -> Stepped
-    requires unpaged { regs.now.dbr.unpaged ≡ true }
-    requires room { length refs.items < 40 }
-    ensures ends { Ends (executed regs.now word false first.Ada) core.now regs.now refs.items result }
-    ensures kept { result.store ≡ None }
+/// An instruction that forms an address.
+fn addressed(
+    walk: &mut Walk,
+    regs: &Regs,
+    word: Word,
+    inst: &Inst,
+    row: &Row,
+    refs: &mut Refs,
+) -> Ended
+    requires dbr { walk.old.dbr ≡ regs.now.dbr }
+    requires row { IsRow row.now }
+    requires addressed { row.now.operand ≢ N }
+    requires inst { inst.now ≡ inst_of word }
+    requires room { length refs.old.items ≤ 4 }
+    ensures ends { EndsSo regs.now (addressed row.now.effect row.now.reg regs.now word) walk.old.core refs.old.items walk.new.core refs.new.items result }
+    ensures dbr { walk.new.dbr ≡ result.after.dbr }
 {
-    let y = address(word);
-    match refer(core, regs, Right::Read, y) {
-        None => stopped(regs, Some(word), refs, Stop::Unbuilt),
-        Some(found) => {
-            let refs = with_reference(refs, Kind::Read, regs, y);
-            let operand = word_in(core, found.place);
-            if overflows(accumulator(regs), operand) {
-                return stopped(regs, Some(word), refs, Stop::Unbuilt);
-            }
-            done(regs, word, added(regs, operand), refs, None)
+    match effective(walk, regs, inst, refs) {
+        Err(halt) => halted(regs, Some(word), None, halt),
+        Ok(formed) => operated(walk, regs, word, row, &formed, refs),
+    }
+}
+
+/// MME, DRL and DIS form no address.
+fn no_address(regs: &Regs, effect: Effect) -> Halt
+    ensures { (word : ℕ) → no_address effect regs.now word ≡ halted regs.now (Some word) None result }
+{
+    match effect {
+        Effect::Mme => Halt::Fault(fault_here(regs, 2)),
+        Effect::Drl => Halt::Fault(fault_here(regs, 6)),
+        _ => Halt::Stop(Stop::Dis),
+    }
+}
+
+/// An instruction that nothing refuses before its address.
+fn started(
+    walk: &mut Walk,
+    regs: &Regs,
+    word: Word,
+    inst: &Inst,
+    row: &Row,
+    refs: &mut Refs,
+) -> Ended
+    requires dbr { walk.old.dbr ≡ regs.now.dbr }
+    requires row { IsRow row.now }
+    requires inst { inst.now ≡ inst_of word }
+    requires room { length refs.old.items ≤ 4 }
+    ensures ends { EndsSo regs.now (started row.now.effect row.now.reg regs.now word (operand_of row.now.effect)) walk.old.core refs.old.items walk.new.core refs.new.items result }
+    ensures dbr { walk.new.dbr ≡ result.after.dbr }
+{
+    match row.operand {
+        Operand::N => halted(regs, Some(word), None, no_address(regs, row.effect)),
+        _ => addressed(walk, regs, word, inst, row, refs),
+    }
+}
+
+/// An instruction of the table, which may be privileged. The bit tells whether it may be executed then.
+fn admitted(
+    walk: &mut Walk,
+    regs: &Regs,
+    word: Word,
+    inst: &Inst,
+    row: &Row,
+    privileged: bool,
+    refs: &mut Refs,
+) -> Ended
+    requires dbr { walk.old.dbr ≡ regs.now.dbr }
+    requires row { IsRow row.now }
+    requires inst { inst.now ≡ inst_of word }
+    requires room { length refs.old.items ≤ 4 }
+    ensures ends { EndsSo regs.now (admitted row.now.effect row.now.reg regs.now word (is_privileged row.now.effect && not privileged)) walk.old.core refs.old.items walk.new.core refs.new.items result }
+    ensures dbr { walk.new.dbr ≡ result.after.dbr }
+{
+    if row.privileged && !privileged {
+        return halted(regs, Some(word), None, Halt::Fault(fault_here(regs, 10)));
+    }
+    started(walk, regs, word, inst, row, refs)
+}
+
+/// The instruction in a word. The bit tells whether it may be privileged.
+fn decoded(walk: &mut Walk, regs: &Regs, word: Word, privileged: bool, refs: &mut Refs) -> Ended
+    requires dbr { walk.old.dbr ≡ regs.now.dbr }
+    requires room { length refs.old.items ≤ 4 }
+    ensures ends { EndsSo regs.now (decoded regs.now word privileged (decode word)) walk.old.core refs.old.items walk.new.core refs.new.items result }
+    ensures dbr { walk.new.dbr ≡ result.after.dbr }
+{
+    let inst = Inst::of_word(word);
+    match row(inst.code, inst.bit27) {
+        None => halted(regs, Some(word), None, Halt::Stop(Stop::Operation)),
+        Some(row) => admitted(walk, regs, word, &inst, &row, privileged, refs),
+    }
+}
+
+/// One step: it fetches the instruction that stands, and executes it.
+pub(crate) fn execute(walk: &mut Walk, regs: &Regs, refs: &mut Refs) -> Ended
+    requires dbr { walk.old.dbr ≡ regs.now.dbr }
+    requires room { length refs.old.items ≤ 3 }
+    ensures ends { EndsSo regs.now (program regs.now) walk.old.core refs.old.items walk.new.core refs.new.items result }
+    ensures dbr { walk.new.dbr ≡ result.after.dbr }
+{
+    let here = regs.here();
+    match walk.fetch(here) {
+        Err(fault) => halted(regs, None, None, Halt::Fault(fault)),
+        Ok(fetched) => {
+            refs.push(Reference {
+                at: here,
+                kind: Kind::Fetch,
+                count: 1,
+            });
+            let (word, privileged) = fetched;
+            decoded(walk, regs, word, privileged, refs)
         }
     }
-}
-
-/// STA: the word becomes the accumulator.
-fn store(core: &[Word], regs: &Regs, word: Word, refs: Refs) -> Stepped
-    requires unpaged { regs.now.dbr.unpaged ≡ true }
-    requires room { length refs.items < 40 }
-    ensures ends { Ends (executed regs.now word false first.Sta) core.now regs.now refs.items result }
-    ensures inside { IfSome result.store (λ s. s.place < length core.now) }
-{
-    let y = address(word);
-    match refer(core, regs, Right::Write, y) {
-        None => stopped(regs, Some(word), refs, Stop::Unbuilt),
-        Some(found) => {
-            let refs = with_reference(refs, Kind::Write, regs, y);
-            let put = Store {
-                word: accumulator(regs),
-                place: found.place,
-            };
-            done(regs, word, moved_on(regs), refs, Some(put))
-        }
-    }
-}
-
-/// TRA: the next instruction is the operand's.
-fn go(core: &[Word], regs: &Regs, word: Word, refs: Refs) -> Stepped
-    requires unpaged { regs.now.dbr.unpaged ≡ true }
-    ensures ends { Ends (executed regs.now word false first.Tra) core.now regs.now refs.items result }
-    ensures kept { result.store ≡ None }
-{
-    let y = address(word);
-    if transfer(core, regs, y) {
-        done(regs, word, transferred(regs, y), refs, None)
-    } else {
-        stopped(regs, Some(word), refs, Stop::Unbuilt)
-    }
-}
-
-/// DIS: the machine stops, in a privileged segment.
-fn halt(regs: &Regs, word: Word, privileged: bool, refs: Refs) -> Stepped
-    ensures ends { (core : List ℕ) → Ends (executed regs.now word privileged first.Halt) core regs.now refs.items result }
-    ensures kept { result.store ≡ None }
-{
-    if privileged {
-        stopped(regs, Some(word), refs, Stop::Dis)
-    } else {
-        stopped(regs, Some(word), refs, Stop::Unbuilt)
-    }
-}
-
-/// The instruction that was fetched.
-fn execute(core: &[Word], regs: &Regs, word: Word, privileged: bool, refs: Refs) -> Stepped
-    requires unpaged { regs.now.dbr.unpaged ≡ true }
-    requires room { length refs.items < 40 }
-    ensures ends { Ends (executed regs.now word privileged (operation_of word)) core.now regs.now refs.items result }
-    ensures inside { IfSome result.store (λ s. s.place < length core.now) }
-{
-    match operation_of(word) {
-        Operation::Lda => load(core, regs, word, refs),
-        Operation::Sta => store(core, regs, word, refs),
-        Operation::Ada => add(core, regs, word, refs),
-        Operation::Tra => go(core, regs, word, refs),
-        Operation::Nop => done(regs, word, moved_on(regs), refs, None),
-        Operation::Dis => halt(regs, word, privileged, refs),
-        Operation::Missing => stopped(regs, Some(word), refs, Stop::Unbuilt),
-    }
-}
-
-/// What the next instruction does, by the registers and the core.
-pub fn next(core: &[Word], regs: &Regs) -> Stepped
-    ensures ends { Ends (first_program regs.now) core.now regs.now [] result }
-    ensures inside { IfSome result.store (λ s. s.place < length core.now) }
-{
-    if !is_built(regs) {
-        return stopped(regs, None, no_references(), Stop::Unbuilt);
-    }
-    let ic = counter(regs);
-    match refer(core, regs, Right::Fetch, ic) {
-        None => stopped(regs, None, no_references(), Stop::Unbuilt),
-        Some(found) => {
-            let refs = with_reference(no_references(), Kind::Fetch, regs, ic);
-            let word = word_in(core, found.place);
-            execute(core, regs, word, is_privileged(&found.sdw), refs)
-        }
-    }
-}
-
-fn counter(regs: &Regs) -> u32
-    ensures value { result ≡ regs.now.ppr.ic }
-    ensures bound { result < 2 ^ 18 }
-{
-    regs.ppr.ic
-}
-
-fn is_built(regs: &Regs) -> bool
-    ensures { result ≡ (regs.now.ppr.prr == 0 && regs.now.dbr.unpaged) }
-{
-    regs.ppr.prr == 0 && regs.dbr.unpaged
-}
-
-fn is_privileged(sdw: &Sdw) -> bool
-    ensures { result ≡ sdw.now.privileged }
-{
-    sdw.privileged
-}
-
-fn no_references() -> Refs
-    ensures { result ≡ record { items = [] } }
-{
-    Refs::new()
 }

@@ -1,19 +1,31 @@
 //! One step of the machine.
 //!
-//! A `Machine` is seen as its registers and its list of core words. `step` answers the record of the written step and
-//! leaves the written state: the step is defined in `m36_model` as a program over the core, and the code here is its
-//! own. As far as the machine is built, it has six instructions in ring 0, over unpaged segments; whatever needs more
-//! is the stop `unbuilt`, which changes nothing.
+//! A `Machine` is seen as its registers and its list of core words. [`Machine::step`] answers the record of the written
+//! step and leaves the written state: the step is defined in `m36_model` as a program over a store, and core by the
+//! tables of the descriptor segment is that store.
 //!
-//! Source: Multics Processor Manual AL39, "Machine instructions" and "Address appending".
+//! The code is ordinary emulator code. It fetches the instruction, looks up its row, asks for the right to it, forms the
+//! address, references the operand by its kind, and computes the effect; nothing is written before. Then the words
+//! are written, that of the tally first, and the registers take their new values. A refusal anywhere before leaves
+//! registers and words as they were but for the marks of the references that were completed. A step takes no memory.
+//!
+//! Source: Multics Processor Manual AL39, "Instruction execution", "Processor modes", "Machine instructions" and
+//! "Address appending"; the order of the parts is this project's choice.
 #![tactic(auto)]
 
+mod effects;
+mod ended;
 mod execute;
-mod instruction;
 pub mod machine;
-mod reference;
-mod stepped;
-#[cfg(test)]
-mod tests;
+mod operands;
+mod operate;
+mod operated;
+mod reach;
+mod references;
+mod targets;
+mod writes;
 
 pub use machine::Machine;
+
+#[cfg(test)]
+mod tests;

@@ -1,38 +1,86 @@
 //! The machine.
 
-ghost use Rattle.std.specs.Prelude.{◌≡◌, IfOk};
-ghost use Rattle.m36_model.specs.FirstPath.{first_record, first_after};
+ghost use Rattle.std.specs.Prelude.{◌≡◌, ◌+◌, ◌%◌, ◌^◌};
+ghost use Rattle.std.specs.Borrow.{sem};
+ghost use Rattle.m36_model.specs.Core.{core_store};
+ghost use Rattle.m36_model.specs.Results.{moved_on};
+ghost use Rattle.m36_model.specs.Step.{record_of, state_after};
 
-use crate::execute::next;
-use crate::stepped::Stepped;
-use m36_model::{Regs, StepRecord};
-use m36_word::{NoMemory, Word};
-use std::alloc::Global;
+use crate::execute::execute;
+use m36_core::Core;
+use m36_model::{Refs, Regs, StepRecord};
+use m36_walk::Walk;
 use std::marker::Model;
 
-/// The registers and the core of a machine.
+/// Core memory and the registers of a processor. The walk finds segments by the descriptor segment base register of the
+/// registers.
 #[derive(Drop)]
 pub struct Machine {
-    core: Vec<Word>,
+    walk: Walk,
     regs: Regs,
 }
 
 impl Model for Machine {
-    ghost use Rattle.std.specs.Prelude.{ℕ, List};
+    ghost use Rattle.std.specs.Prelude.{ℕ, List, ◌≡◌};
     ghost use Rattle.m36_model.specs.Store.{State};
 
     ghost Value = { State (List ℕ) };
 
-    ghost view = { λ m. record { regs = m.regs; store = m.core.items } };
+    ghost view = { λ m. record { regs = m.regs; store = m.walk.core } };
+
+    ghost invariant = { λ m. m.walk.dbr ≡ m.regs.dbr };
+}
+
+/// One step of a walk and registers with the same descriptor segment base register.
+#[inline(always)]
+fn turn(walk: &mut Walk, regs: &mut Regs) -> StepRecord
+    requires dbr { walk.old.dbr ≡ regs.old.dbr }
+    ensures told { result ≡ record_of core_store (record { regs = regs.old; store = walk.old.core }) }
+    ensures state { record { regs = regs.new; store = walk.new.core } ≡ state_after core_store (record { regs = regs.old; store = walk.old.core }) }
+    ensures dbr { walk.new.dbr ≡ regs.new.dbr }
+{
+    let mut refs = Refs::new();
+    let ppr = regs.ppr;
+    let ended = execute(walk, regs, &mut refs);
+    *regs = ended.after;
+    StepRecord {
+        refs,
+        after: ended.after,
+        word: ended.word,
+        at: ended.at,
+        outcome: ended.outcome,
+        ppr,
+    }
 }
 
 impl Machine {
-    /// A machine with these core words and registers.
-    pub fn new(alloc: Global, core: &[Word], regs: Regs) -> Result<Machine, NoMemory>
-        ensures { IfOk result (λ m. m ≡ record { regs = regs; store = core.now }) }
+    ghost use Rattle.m36_step.specs.Lending.{LendsCore};
+
+    /// A machine with this core and these registers. Both have the same descriptor segment base register.
+    pub fn new(walk: Walk, regs: Regs) -> Machine
+        requires { walk.dbr ≡ regs.dbr }
+        ensures { result ≡ record { regs = regs; store = walk.core } }
     {
-        let core = Vec::from_slice(alloc, core)?;
-        Ok(Machine { core, regs })
+        Machine { walk, regs }
+    }
+
+    /// One step. The record is that of the written step, and the machine is left in the state after it.
+    pub fn step(&mut self) -> StepRecord
+        ensures told { result ≡ record_of core_store self.old }
+        ensures state { self.new ≡ state_after core_store self.old }
+    {
+        let Machine { walk, regs } = self;
+        turn(walk, regs)
+    }
+
+    /// Moves on to the next instruction without executing the one that stands: the instruction counter goes up by 1
+    /// modulo 2^18.
+    #[tactic(auto, unfolding(m36_model::specs::Results::moved_on))]
+    pub fn skip(&mut self)
+        ensures { self.new ≡ record { regs = moved_on self.old.regs; store = self.old.store } }
+    {
+        let ic = self.regs.ppr.ic;
+        self.regs.ppr.ic = (ic + 1) % (1 << 18);
     }
 
     /// The registers as they stand.
@@ -42,18 +90,18 @@ impl Machine {
         &self.regs
     }
 
-    /// One step. The record is that of the written step, and the machine is left in the state after it.
-    #[tactic(auto, unfolding(m36_model::specs::FirstPath::first_record, m36_model::specs::FirstPath::first_after))]
-    pub fn step(&mut self) -> StepRecord
-        ensures told { result ≡ first_record self.old }
-        ensures state { self.new ≡ first_after self.old }
+    /// Core and the descriptor segment base register as they stand.
+    pub fn walk(&self) -> &Walk
+        ensures { result.now ≡ record { core = self.now.store; dbr = self.now.regs.dbr } }
     {
-        let stepped = next(self.core.as_slice(), &self.regs);
-        let Stepped { told, store } = stepped;
-        if let Some(store) = store {
-            self.core[store.place as usize] = store.word;
-        }
-        self.regs = told.after;
-        told
+        &self.walk
+    }
+
+    /// Core, to be written. Nothing that was read from it before is used again.
+    pub fn core_mut(&mut self) -> &mut Core
+        ensures* lends { sem 𝓛 (LendsCore self.entry result) }
+        ensures value { result.now ≡ self.old.store }
+    {
+        self.walk.core_mut()
     }
 }

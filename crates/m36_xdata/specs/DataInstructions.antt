@@ -40,3 +40,8 @@ is_data effect.Cams = false
 is_data effect.Camp = false
 is_data effect.Absa = false
 is_data _ = true
+
+-- DIV alone may be refused.
+abbrev pub is_never_refused : Effect → Bool
+is_never_refused effect.Div = false
+is_never_refused _ = true

@@ -1,3 +1,4 @@
+pub mod Changes
 pub mod DataInstructions
 pub mod Registers
 pub mod Results

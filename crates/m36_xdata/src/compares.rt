@@ -2,27 +2,28 @@
 
 ghost use Rattle.std.specs.Prelude.{◌≡◌, IsTrue, length};
 ghost use Rattle.m36_model.specs.OperandHeld.{is_word};
-ghost use Rattle.m36_model.specs.Results.{operand, operand_fields, words_of_held, word};
+ghost use Rattle.m36_model.specs.Results.{operand, operand_fields, word};
 ghost use Rattle.m36_model.specs.Compares.{compare, test_word, test_and_clear, compare_masked, test_and, test_and_not};
 ghost use Rattle.m36_xdata.specs.Registers.{working, IsRegister, HoldsNumber};
-ghost use Rattle.m36_xdata.specs.Results.{Gives};
+ghost use Rattle.m36_xdata.specs.Changes.{Gives, stored};
 
 use crate::bits::{both, differing, first_alone};
+use crate::changes::{Change, Stored, Taken};
 use crate::conditions::{compared, zn};
 use crate::numbers::comparison;
 use crate::operands::number_got;
-use crate::registers::{Register, indicators, number_in, with_indicators};
+use crate::registers::{Register, indicators, number_in};
 use crate::results::sets;
-use m36_model::{Effect36, Held, Operand36, Regs};
+use m36_model::{Operand36, Regs};
 use m36_word::Word;
 
 /// CMPA, CMPQ, CMPAQ, CMPX: register and operand are compared.
 #[tactic(auto, unfolding(m36_model::specs::Compares::compare))]
-pub fn compare(r: Register, given: &Operand36, regs: &Regs) -> Effect36
+pub fn compare(r: Register, given: &Operand36, regs: &Regs) -> Change
     requires register { IsRegister r }
     requires got { HoldsNumber r given.now.got }
     ensures value { Gives result regs.now (compare (working r) (operand (working r) (operand_fields given.now)) regs.now) }
-    ensures put { length (words_of_held result.put) ≡ 0 }
+    ensures put { length (stored result.put) ≡ 0 }
 {
     sets(
         compared(
@@ -35,10 +36,10 @@ pub fn compare(r: Register, given: &Operand36, regs: &Regs) -> Effect36
 
 /// SZN: the word is tested.
 #[tactic(auto, unfolding(m36_model::specs::Compares::test_word))]
-pub fn test_word(given: &Operand36, regs: &Regs) -> Effect36
+pub fn test_word(given: &Operand36, regs: &Regs) -> Change
     requires { IsTrue (is_word given.now.got) }
     ensures value { Gives result regs.now (test_word (word (operand_fields given.now)) regs.now) }
-    ensures put { length (words_of_held result.put) ≡ 0 }
+    ensures put { length (stored result.put) ≡ 0 }
 {
     sets(
         zn(
@@ -52,29 +53,30 @@ pub fn test_word(given: &Operand36, regs: &Regs) -> Effect36
 
 /// SZNC: the word is tested, and becomes 0.
 #[tactic(auto, unfolding(m36_model::specs::Compares::test_and_clear))]
-pub fn test_and_clear(given: &Operand36, regs: &Regs) -> Effect36
+pub fn test_and_clear(given: &Operand36, regs: &Regs) -> Change
     requires { IsTrue (is_word given.now.got) }
     ensures value { Gives result regs.now (test_and_clear (word (operand_fields given.now)) regs.now) }
-    ensures put { length (words_of_held result.put) ≡ 1 }
+    ensures put { length (stored result.put) ≡ 1 }
 {
     let ind = zn(
         Register::A,
         number_got(Register::A, given),
         indicators(regs),
     );
-    Effect36 {
-        regs: with_indicators(ind, regs),
-        put: Held::One(Word::ZERO),
+    Change {
+        taken: Taken::Nothing,
+        put: Stored::One(Word::ZERO),
+        ind,
         overflow: false,
     }
 }
 
 /// CMK: A and the word, where Q has no mask bit, are tested for difference.
 #[tactic(auto, unfolding(m36_model::specs::Compares::compare_masked))]
-pub fn compare_masked(given: &Operand36, regs: &Regs) -> Effect36
+pub fn compare_masked(given: &Operand36, regs: &Regs) -> Change
     requires { IsTrue (is_word given.now.got) }
     ensures value { Gives result regs.now (compare_masked (word (operand_fields given.now)) regs.now) }
-    ensures put { length (words_of_held result.put) ≡ 0 }
+    ensures put { length (stored result.put) ≡ 0 }
 {
     let other = differing(
         Register::A,
@@ -87,11 +89,11 @@ pub fn compare_masked(given: &Operand36, regs: &Regs) -> Effect36
 
 /// CANA, CANQ, CANAQ, CANX: register and operand, bit by bit, are tested.
 #[tactic(auto, unfolding(m36_model::specs::Compares::test_and))]
-pub fn test_and(r: Register, given: &Operand36, regs: &Regs) -> Effect36
+pub fn test_and(r: Register, given: &Operand36, regs: &Regs) -> Change
     requires register { IsRegister r }
     requires got { HoldsNumber r given.now.got }
     ensures value { Gives result regs.now (test_and (working r) (operand (working r) (operand_fields given.now)) regs.now) }
-    ensures put { length (words_of_held result.put) ≡ 0 }
+    ensures put { length (stored result.put) ≡ 0 }
 {
     sets(
         zn(
@@ -105,11 +107,11 @@ pub fn test_and(r: Register, given: &Operand36, regs: &Regs) -> Effect36
 
 /// CNAA, CNAQ, CNAAQ, CNAX: register and not operand.
 #[tactic(auto, unfolding(m36_model::specs::Compares::test_and_not))]
-pub fn test_and_not(r: Register, given: &Operand36, regs: &Regs) -> Effect36
+pub fn test_and_not(r: Register, given: &Operand36, regs: &Regs) -> Change
     requires register { IsRegister r }
     requires got { HoldsNumber r given.now.got }
     ensures value { Gives result regs.now (test_and_not (working r) (operand (working r) (operand_fields given.now)) regs.now) }
-    ensures put { length (words_of_held result.put) ≡ 0 }
+    ensures put { length (stored result.put) ≡ 0 }
 {
     sets(
         zn(

@@ -3,7 +3,9 @@
 //! Source: Multics Processor Manual AL39, "Fixed-point instructions" and "Boolean instructions".
 #![tactic(auto)]
 
+mod apply;
 mod bits;
+mod changes;
 mod compares;
 mod conditions;
 mod execute;

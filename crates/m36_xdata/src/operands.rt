@@ -2,12 +2,14 @@
 
 ghost use Rattle.std.specs.Prelude.{◌≡◌, ◌*◌, ◌^◌, ◌<◌, IsTrue};
 ghost use Rattle.m36_model.specs.OperandHeld.{is_word, is_pair};
-ghost use Rattle.m36_model.specs.Results.{operand_fields, words_of_held, half, operand, words, word, pair, lower};
+ghost use Rattle.m36_model.specs.Results.{operand_fields, half, operand, words, word, pair, lower};
 ghost use Rattle.m36_xdata.specs.Registers.{working, HoldsNumber, PutsNumber};
+ghost use Rattle.m36_xdata.specs.Changes.{stored};
 
+use crate::changes::Stored;
 use crate::numbers;
 use crate::registers::Register;
-use m36_model::{Held, Operand36};
+use m36_model::Operand36;
 use m36_word::{Field, Word};
 
 /// The word that was read.
@@ -49,13 +51,13 @@ pub fn number_got(r: Register, given: &Operand36) -> u128
 }
 
 /// The words to write that hold a number of a register's width.
-pub fn held(r: Register, v: u128) -> Held
+pub fn held(r: Register, v: u128) -> Stored
     requires { v < 2 * half (working r) }
-    ensures value { words_of_held result ≡ words (working r) v }
-    ensures put { PutsNumber r (words_of_held result) }
+    ensures value { stored result ≡ words (working r) v }
+    ensures put { PutsNumber r (stored result) }
 {
     match r {
-        Register::A | Register::Q | Register::X(_) => Held::One(numbers::word(v)),
-        Register::Aq => Held::Two(numbers::pair(v)),
+        Register::A | Register::Q | Register::X(_) => Stored::One(numbers::word(v)),
+        Register::Aq => Stored::Two(numbers::pair(v)),
     }
 }

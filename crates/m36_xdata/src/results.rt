@@ -1,60 +1,80 @@
-//! What most effects come to: registers at the next instruction, with or without words to write.
+//! What most effects come to: a register takes a number, indicators are set, or words are written.
 
 ghost use Rattle.std.specs.Prelude.{◌≡◌, ◌*◌, ◌<◌, [], length};
-ghost use Rattle.m36_model.specs.Results.{half, words, words_of_held, takes, with_indicators, zn, completes, completes_or_overflows};
+ghost use Rattle.m36_model.specs.Results.{half, words, takes, with_indicators, with_value, zn, completes, completes_or_overflows};
 ghost use Rattle.m36_xdata.specs.Registers.{working, IsRegister, PutsNumber};
-ghost use Rattle.m36_xdata.specs.Results.{Gives};
+ghost use Rattle.m36_xdata.specs.Changes.{Gives, stored, taken};
 
+use crate::changes::{Change, NewIndex, Stored, Taken};
 use crate::conditions::zn;
+use crate::numbers::{pair, word};
 use crate::operands::held;
-use crate::registers::{Register, indicators, with_indicators, with_number};
-use m36_model::{Effect36, Held, Ind, Regs};
+use crate::registers::{Register, indicators};
+use m36_model::{Ind, Regs};
+
+/// A number in a register.
+#[tactic(auto, unfolding(m36_model::specs::Results::with_value))]
+pub fn new_value(r: Register, v: u128, regs: &Regs) -> Taken
+    requires register { IsRegister r }
+    requires number { v < 2 * half (working r) }
+    ensures { taken result regs.now ≡ with_value (working r) v regs.now }
+{
+    match r {
+        Register::A => Taken::A(word(v)),
+        Register::Q => Taken::Q(word(v)),
+        Register::Aq => Taken::Aq(pair(v)),
+        Register::X(n) => Taken::X(NewIndex { value: v as u32, n }),
+    }
+}
 
 /// A register takes a number, and these indicators are set.
-pub fn takes(r: Register, v: u128, ind: Ind, overflow: bool, regs: &Regs) -> Effect36
+pub fn takes(r: Register, v: u128, ind: Ind, overflow: bool, regs: &Regs) -> Change
     requires register { IsRegister r }
     requires number { v < 2 * half (working r) }
     ensures value { Gives result regs.now (completes_or_overflows (takes (working r) v ind regs.now) [] overflow) }
-    ensures put { length (words_of_held result.put) ≡ 0 }
+    ensures put { length (stored result.put) ≡ 0 }
 {
-    Effect36 {
-        regs: with_number(r, v, ind, regs),
-        put: Held::Empty,
+    Change {
+        taken: new_value(r, v, regs),
+        put: Stored::Nothing,
+        ind,
         overflow,
     }
 }
 
 /// A register takes a number, which sets zero and negative.
-pub fn takes_tested(r: Register, v: u128, regs: &Regs) -> Effect36
+pub fn takes_tested(r: Register, v: u128, regs: &Regs) -> Change
     requires register { IsRegister r }
     requires number { v < 2 * half (working r) }
     ensures value { Gives result regs.now (completes (takes (working r) v (zn (half (working r)) v regs.now.ind) regs.now)) }
-    ensures put { length (words_of_held result.put) ≡ 0 }
+    ensures put { length (stored result.put) ≡ 0 }
 {
     takes(r, v, zn(r, v, indicators(regs)), false, regs)
 }
 
 /// Only these indicators are set.
-pub fn sets(ind: Ind, regs: &Regs) -> Effect36
+pub fn sets(ind: Ind, regs: &Regs) -> Change
     ensures value { Gives result regs.now (completes (with_indicators ind regs.now)) }
-    ensures put { length (words_of_held result.put) ≡ 0 }
+    ensures put { length (stored result.put) ≡ 0 }
 {
-    Effect36 {
-        regs: with_indicators(ind, regs),
-        put: Held::Empty,
+    Change {
+        taken: Taken::Nothing,
+        put: Stored::Nothing,
+        ind,
         overflow: false,
     }
 }
 
 /// A number of a register's width goes into the operand, and these indicators are set.
-pub fn puts(r: Register, v: u128, ind: Ind, overflow: bool, regs: &Regs) -> Effect36
+pub fn puts(r: Register, v: u128, ind: Ind, overflow: bool, regs: &Regs) -> Change
     requires { v < 2 * half (working r) }
     ensures value { Gives result regs.now (completes_or_overflows (with_indicators ind regs.now) (words (working r) v) overflow) }
-    ensures put { PutsNumber r (words_of_held result.put) }
+    ensures put { PutsNumber r (stored result.put) }
 {
-    Effect36 {
-        regs: with_indicators(ind, regs),
+    Change {
+        taken: Taken::Nothing,
         put: held(r, v),
+        ind,
         overflow,
     }
 }

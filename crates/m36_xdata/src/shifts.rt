@@ -3,18 +3,19 @@
 ghost use Rattle.std.specs.Prelude.{◌≡◌, ◌*◌, ◌<◌, length};
 ghost use Rattle.m36_arith.specs.ShiftResult.{shifted, shift_carry};
 ghost use Rattle.m36_model.specs.Shifts.{count_of};
-ghost use Rattle.m36_model.specs.Results.{half, width, words_of_held};
+ghost use Rattle.m36_model.specs.Results.{half, width};
 ghost use Rattle.m36_model.specs.ShiftEffects.{shift_left, shift_right, shift_right_logical, rotate_left};
 ghost use Rattle.m36_xdata.specs.Registers.{working, IsRegister, IsShifted};
-ghost use Rattle.m36_xdata.specs.Results.{Gives};
+ghost use Rattle.m36_xdata.specs.Changes.{Gives, stored};
 
+use crate::changes::Change;
 use crate::conditions::{with_carry, zn};
 use crate::loads::address;
 use crate::numbers::{Computed, of_pairs, of_words, pair, word};
 use crate::registers::{Register, indicators, number_in};
 use crate::results::{takes, takes_tested};
 use m36_arith::{Shift, shift36, shift72};
-use m36_model::{Effect36, Final, Regs};
+use m36_model::{Final, Regs};
 
 /// A number shifted by a count.
 #[tactic(auto, unfolding(m36_arith::specs::ShiftResult::shift_result))]
@@ -42,11 +43,11 @@ fn count(f: &Final) -> u32
 
 /// ALS, QLS, LLS: to the left; zeros come in, and carry is put on or off.
 #[tactic(auto, unfolding(m36_model::specs::ShiftEffects::shift_left))]
-pub fn shift_left(r: Register, f: &Final, regs: &Regs) -> Effect36
+pub fn shift_left(r: Register, f: &Final, regs: &Regs) -> Change
     requires register { IsRegister r }
     requires width { IsShifted r }
     ensures value { Gives result regs.now (shift_left (working r) f.now.at.word regs.now) }
-    ensures put { length (words_of_held result.put) ≡ 0 }
+    ensures put { length (stored result.put) ≡ 0 }
 {
     let s = shifted(r, Shift::Left, number_in(r, regs), count(f));
     takes(
@@ -60,11 +61,11 @@ pub fn shift_left(r: Register, f: &Final, regs: &Regs) -> Effect36
 
 /// ARS, QRS, LRS: to the right; the first bit is copied in.
 #[tactic(auto, unfolding(m36_model::specs::ShiftEffects::shift_right))]
-pub fn shift_right(r: Register, f: &Final, regs: &Regs) -> Effect36
+pub fn shift_right(r: Register, f: &Final, regs: &Regs) -> Change
     requires register { IsRegister r }
     requires width { IsShifted r }
     ensures value { Gives result regs.now (shift_right (working r) f.now.at.word regs.now) }
-    ensures put { length (words_of_held result.put) ≡ 0 }
+    ensures put { length (stored result.put) ≡ 0 }
 {
     takes_tested(
         r,
@@ -75,11 +76,11 @@ pub fn shift_right(r: Register, f: &Final, regs: &Regs) -> Effect36
 
 /// ARL, QRL, LRL: to the right; zeros come in.
 #[tactic(auto, unfolding(m36_model::specs::ShiftEffects::shift_right_logical))]
-pub fn shift_right_logical(r: Register, f: &Final, regs: &Regs) -> Effect36
+pub fn shift_right_logical(r: Register, f: &Final, regs: &Regs) -> Change
     requires register { IsRegister r }
     requires width { IsShifted r }
     ensures value { Gives result regs.now (shift_right_logical (working r) f.now.at.word regs.now) }
-    ensures put { length (words_of_held result.put) ≡ 0 }
+    ensures put { length (stored result.put) ≡ 0 }
 {
     takes_tested(
         r,
@@ -90,11 +91,11 @@ pub fn shift_right_logical(r: Register, f: &Final, regs: &Regs) -> Effect36
 
 /// ALR, QLR, LLR: to the left; what goes out comes in at the other end.
 #[tactic(auto, unfolding(m36_model::specs::ShiftEffects::rotate_left))]
-pub fn rotate_left(r: Register, f: &Final, regs: &Regs) -> Effect36
+pub fn rotate_left(r: Register, f: &Final, regs: &Regs) -> Change
     requires register { IsRegister r }
     requires width { IsShifted r }
     ensures value { Gives result regs.now (rotate_left (working r) f.now.at.word regs.now) }
-    ensures put { length (words_of_held result.put) ≡ 0 }
+    ensures put { length (stored result.put) ≡ 0 }
 {
     takes_tested(
         r,

@@ -3,43 +3,44 @@
 ghost use Rattle.std.specs.Prelude.{◌≡◌, ◌*◌, ◌^◌, ◌<◌, ◌==◌, IsTrue, length, if◌then◌else◌};
 ghost use Rattle.m36_word.specs.Bits.{of_bit};
 ghost use Rattle.m36_model.specs.OperandHeld.{is_word};
-ghost use Rattle.m36_model.specs.Results.{operand_fields, words_of_held, word};
+ghost use Rattle.m36_model.specs.Results.{operand_fields, word};
 ghost use Rattle.m36_model.specs.Stores.{store, store_zero, indicators_half, store_indicators, store_where_zero, store_where_equal};
 ghost use Rattle.m36_xdata.specs.Registers.{working, IsRegister, PutsNumber};
-ghost use Rattle.m36_xdata.specs.Results.{Gives};
 ghost use Rattle.m36_model.specs.WordsPut.{IsHalf};
+ghost use Rattle.m36_xdata.specs.Changes.{Gives, stored};
 
+use crate::changes::{Change, Stored, Taken};
 use crate::conditions::with_zero;
 use crate::operands::{held, word_got};
-use crate::registers::{
-    Register, accumulator, indicators, moved_on, number_in, quotient, with_indicators,
-};
-use m36_model::{Effect36, Held, Ind, Operand36, Regs};
+use crate::registers::{Register, accumulator, indicators, number_in, quotient};
+use m36_model::{Ind, Operand36, Regs};
 use m36_word::Word;
 
 /// STA, STQ, STAQ, STX, SXL: the operand becomes the register.
 #[tactic(auto, unfolding(m36_model::specs::Stores::store))]
-pub fn store(r: Register, regs: &Regs) -> Effect36
+pub fn store(r: Register, regs: &Regs) -> Change
     requires { IsRegister r }
     ensures value { Gives result regs.now (store (working r) regs.now) }
-    ensures put { PutsNumber r (words_of_held result.put) }
+    ensures put { PutsNumber r (stored result.put) }
 {
-    Effect36 {
-        regs: moved_on(regs),
+    Change {
+        taken: Taken::Nothing,
         put: held(r, number_in(r, regs)),
+        ind: indicators(regs),
         overflow: false,
     }
 }
 
 /// STZ: the word becomes 0.
 #[tactic(auto, unfolding(m36_model::specs::Stores::store_zero))]
-pub fn store_zero(regs: &Regs) -> Effect36
+pub fn store_zero(regs: &Regs) -> Change
     ensures value { Gives result regs.now (store_zero regs.now) }
-    ensures put { length (words_of_held result.put) ≡ 1 }
+    ensures put { length (stored result.put) ≡ 1 }
 {
-    Effect36 {
-        regs: moved_on(regs),
-        put: Held::One(Word::ZERO),
+    Change {
+        taken: Taken::Nothing,
+        put: Stored::One(Word::ZERO),
+        ind: indicators(regs),
         overflow: false,
     }
 }
@@ -68,13 +69,14 @@ fn indicators_half(ind: Ind) -> Word
 
 /// STI: bits 18 to 35 of the word become the indicators.
 #[tactic(auto, unfolding(m36_model::specs::Stores::store_indicators))]
-pub fn store_indicators(regs: &Regs) -> Effect36
+pub fn store_indicators(regs: &Regs) -> Change
     ensures value { Gives result regs.now (store_indicators regs.now) }
-    ensures put { IsHalf (words_of_held result.put) }
+    ensures put { IsHalf (stored result.put) }
 {
-    Effect36 {
-        regs: moved_on(regs),
-        put: Held::One(indicators_half(indicators(regs))),
+    Change {
+        taken: Taken::Nothing,
+        put: Stored::One(indicators_half(indicators(regs))),
+        ind: indicators(regs),
         overflow: false,
     }
 }
@@ -93,32 +95,34 @@ fn chosen(first: bool, a: Word, b: Word) -> Word
 
 /// STAC: where the word is 0 it becomes A, and else stays; zero tells which.
 #[tactic(auto, unfolding(m36_model::specs::Stores::store_where_zero))]
-pub fn store_where_zero(given: &Operand36, regs: &Regs) -> Effect36
+pub fn store_where_zero(given: &Operand36, regs: &Regs) -> Change
     requires { IsTrue (is_word given.now.got) }
     ensures value { Gives result regs.now (store_where_zero (word (operand_fields given.now)) regs.now) }
-    ensures put { length (words_of_held result.put) ≡ 1 }
+    ensures put { length (stored result.put) ≡ 1 }
 {
     let old = word_got(given);
     let free = are_equal(old, Word::ZERO);
-    Effect36 {
-        regs: with_indicators(with_zero(free, indicators(regs)), regs),
-        put: Held::One(chosen(free, accumulator(regs), old)),
+    Change {
+        taken: Taken::Nothing,
+        put: Stored::One(chosen(free, accumulator(regs), old)),
+        ind: with_zero(free, indicators(regs)),
         overflow: false,
     }
 }
 
 /// STACQ: where the word equals Q it becomes A, and else stays; zero tells which.
 #[tactic(auto, unfolding(m36_model::specs::Stores::store_where_equal))]
-pub fn store_where_equal(given: &Operand36, regs: &Regs) -> Effect36
+pub fn store_where_equal(given: &Operand36, regs: &Regs) -> Change
     requires { IsTrue (is_word given.now.got) }
     ensures value { Gives result regs.now (store_where_equal (word (operand_fields given.now)) regs.now) }
-    ensures put { length (words_of_held result.put) ≡ 1 }
+    ensures put { length (stored result.put) ≡ 1 }
 {
     let old = word_got(given);
     let equal = are_equal(old, quotient(regs));
-    Effect36 {
-        regs: with_indicators(with_zero(equal, indicators(regs)), regs),
-        put: Held::One(chosen(equal, accumulator(regs), old)),
+    Change {
+        taken: Taken::Nothing,
+        put: Stored::One(chosen(equal, accumulator(regs), old)),
+        ind: with_zero(equal, indicators(regs)),
         overflow: false,
     }
 }

@@ -2,17 +2,19 @@
 
 ghost use Rattle.std.specs.Prelude.{◌≡◌, ◌*◌, ◌^◌, ◌<◌, IsTrue, length, not};
 ghost use Rattle.m36_model.specs.OperandHeld.{is_word};
-ghost use Rattle.m36_model.specs.Results.{AQ, half, operand, operand_fields, words_of_held, word};
+ghost use Rattle.m36_model.specs.Results.{AQ, half, operand, operand_fields, word};
 ghost use Rattle.m36_model.specs.Sums.{into_register, into_register_logical, into_operand, add, add_logical, add_with_carry, sign_extended, subtract, subtract_logical, subtract_with_carry, add_one_to_storage, add_to_storage, subtract_stored, negate};
 ghost use Rattle.m36_xdata.specs.Registers.{working, IsRegister, HoldsNumber, PutsNumber};
-ghost use Rattle.m36_xdata.specs.Results.{sum_fields, Gives};
+ghost use Rattle.m36_xdata.specs.Results.{sum_fields};
+ghost use Rattle.m36_xdata.specs.Changes.{Gives, stored};
 
+use crate::changes::Change;
 use crate::conditions::{zn_carry, zn_carry_overflow, zn_overflow};
 use crate::numbers::{Computed, difference, negation, sum};
 use crate::operands::{number_got, word_got};
 use crate::registers::{Register, indicators, number_in};
 use crate::results::{puts, takes};
-use m36_model::{Effect36, Operand36, Regs};
+use m36_model::{Operand36, Regs};
 use m36_word::Word;
 
 fn carry(regs: &Regs) -> bool
@@ -22,11 +24,11 @@ fn carry(regs: &Regs) -> bool
 }
 
 #[tactic(auto, unfolding(m36_model::specs::Sums::into_register))]
-fn into_register(r: Register, s: Computed, regs: &Regs) -> Effect36
+fn into_register(r: Register, s: Computed, regs: &Regs) -> Change
     requires register { IsRegister r }
     requires number { s.value < 2 * half (working r) }
     ensures value { Gives result regs.now (into_register (working r) (sum_fields s) regs.now) }
-    ensures put { length (words_of_held result.put) ≡ 0 }
+    ensures put { length (stored result.put) ≡ 0 }
 {
     takes(
         r,
@@ -38,20 +40,20 @@ fn into_register(r: Register, s: Computed, regs: &Regs) -> Effect36
 }
 
 #[tactic(auto, unfolding(m36_model::specs::Sums::into_register_logical))]
-fn into_register_logical(r: Register, s: Computed, regs: &Regs) -> Effect36
+fn into_register_logical(r: Register, s: Computed, regs: &Regs) -> Change
     requires register { IsRegister r }
     requires number { s.value < 2 * half (working r) }
     ensures value { Gives result regs.now (into_register_logical (working r) (sum_fields s) regs.now) }
-    ensures put { length (words_of_held result.put) ≡ 0 }
+    ensures put { length (stored result.put) ≡ 0 }
 {
     takes(r, s.value, zn_carry(s, indicators(regs)), false, regs)
 }
 
 #[tactic(auto, unfolding(m36_model::specs::Sums::into_operand))]
-fn into_operand(r: Register, s: Computed, regs: &Regs) -> Effect36
+fn into_operand(r: Register, s: Computed, regs: &Regs) -> Change
     requires { s.value < 2 * half (working r) }
     ensures value { Gives result regs.now (into_operand (working r) (sum_fields s) regs.now) }
-    ensures put { PutsNumber r (words_of_held result.put) }
+    ensures put { PutsNumber r (stored result.put) }
 {
     puts(
         r,
@@ -63,21 +65,21 @@ fn into_operand(r: Register, s: Computed, regs: &Regs) -> Effect36
 }
 
 #[tactic(auto, unfolding(m36_model::specs::Sums::add))]
-fn add_number(r: Register, v: u128, regs: &Regs) -> Effect36
+fn add_number(r: Register, v: u128, regs: &Regs) -> Change
     requires register { IsRegister r }
     requires number { v < 2 * half (working r) }
     ensures value { Gives result regs.now (add (working r) v regs.now) }
-    ensures put { length (words_of_held result.put) ≡ 0 }
+    ensures put { length (stored result.put) ≡ 0 }
 {
     into_register(r, sum(r, number_in(r, regs), v, false), regs)
 }
 
 /// ADA, ADQ, ADAQ, ADX: register plus operand.
-pub fn add(r: Register, given: &Operand36, regs: &Regs) -> Effect36
+pub fn add(r: Register, given: &Operand36, regs: &Regs) -> Change
     requires register { IsRegister r }
     requires got { HoldsNumber r given.now.got }
     ensures value { Gives result regs.now (add (working r) (operand (working r) (operand_fields given.now)) regs.now) }
-    ensures put { length (words_of_held result.put) ≡ 0 }
+    ensures put { length (stored result.put) ≡ 0 }
 {
     add_number(r, number_got(r, given), regs)
 }
@@ -96,21 +98,21 @@ fn sign_extended(w: Word) -> u128
 }
 
 /// ADL: AQ plus the word with its sign extended.
-pub fn add_low(given: &Operand36, regs: &Regs) -> Effect36
+pub fn add_low(given: &Operand36, regs: &Regs) -> Change
     requires { IsTrue (is_word given.now.got) }
     ensures value { Gives result regs.now (add AQ (sign_extended (word (operand_fields given.now))) regs.now) }
-    ensures put { length (words_of_held result.put) ≡ 0 }
+    ensures put { length (stored result.put) ≡ 0 }
 {
     add_number(Register::Aq, sign_extended(word_got(given)), regs)
 }
 
 /// ADLA, ADLQ, ADLAQ, ADLX: register plus operand, without overflow.
 #[tactic(auto, unfolding(m36_model::specs::Sums::add_logical))]
-pub fn add_logical(r: Register, given: &Operand36, regs: &Regs) -> Effect36
+pub fn add_logical(r: Register, given: &Operand36, regs: &Regs) -> Change
     requires register { IsRegister r }
     requires got { HoldsNumber r given.now.got }
     ensures value { Gives result regs.now (add_logical (working r) (operand (working r) (operand_fields given.now)) regs.now) }
-    ensures put { length (words_of_held result.put) ≡ 0 }
+    ensures put { length (stored result.put) ≡ 0 }
 {
     into_register_logical(
         r,
@@ -121,11 +123,11 @@ pub fn add_logical(r: Register, given: &Operand36, regs: &Regs) -> Effect36
 
 /// AWCA, AWCQ: register plus operand, plus 1 where carry is on.
 #[tactic(auto, unfolding(m36_model::specs::Sums::add_with_carry))]
-pub fn add_with_carry(r: Register, given: &Operand36, regs: &Regs) -> Effect36
+pub fn add_with_carry(r: Register, given: &Operand36, regs: &Regs) -> Change
     requires register { IsRegister r }
     requires got { HoldsNumber r given.now.got }
     ensures value { Gives result regs.now (add_with_carry (working r) (operand (working r) (operand_fields given.now)) regs.now) }
-    ensures put { length (words_of_held result.put) ≡ 0 }
+    ensures put { length (stored result.put) ≡ 0 }
 {
     into_register(
         r,
@@ -136,11 +138,11 @@ pub fn add_with_carry(r: Register, given: &Operand36, regs: &Regs) -> Effect36
 
 /// SBA, SBQ, SBAQ, SBX: register minus operand.
 #[tactic(auto, unfolding(m36_model::specs::Sums::subtract))]
-pub fn subtract(r: Register, given: &Operand36, regs: &Regs) -> Effect36
+pub fn subtract(r: Register, given: &Operand36, regs: &Regs) -> Change
     requires register { IsRegister r }
     requires got { HoldsNumber r given.now.got }
     ensures value { Gives result regs.now (subtract (working r) (operand (working r) (operand_fields given.now)) regs.now) }
-    ensures put { length (words_of_held result.put) ≡ 0 }
+    ensures put { length (stored result.put) ≡ 0 }
 {
     into_register(
         r,
@@ -151,11 +153,11 @@ pub fn subtract(r: Register, given: &Operand36, regs: &Regs) -> Effect36
 
 /// SBLA, SBLQ, SBLAQ, SBLX: register minus operand, without overflow.
 #[tactic(auto, unfolding(m36_model::specs::Sums::subtract_logical))]
-pub fn subtract_logical(r: Register, given: &Operand36, regs: &Regs) -> Effect36
+pub fn subtract_logical(r: Register, given: &Operand36, regs: &Regs) -> Change
     requires register { IsRegister r }
     requires got { HoldsNumber r given.now.got }
     ensures value { Gives result regs.now (subtract_logical (working r) (operand (working r) (operand_fields given.now)) regs.now) }
-    ensures put { length (words_of_held result.put) ≡ 0 }
+    ensures put { length (stored result.put) ≡ 0 }
 {
     into_register_logical(
         r,
@@ -166,11 +168,11 @@ pub fn subtract_logical(r: Register, given: &Operand36, regs: &Regs) -> Effect36
 
 /// SWCA, SWCQ: register minus operand, and minus 1 where carry is off.
 #[tactic(auto, unfolding(m36_model::specs::Sums::subtract_with_carry))]
-pub fn subtract_with_carry(r: Register, given: &Operand36, regs: &Regs) -> Effect36
+pub fn subtract_with_carry(r: Register, given: &Operand36, regs: &Regs) -> Change
     requires register { IsRegister r }
     requires got { HoldsNumber r given.now.got }
     ensures value { Gives result regs.now (subtract_with_carry (working r) (operand (working r) (operand_fields given.now)) regs.now) }
-    ensures put { length (words_of_held result.put) ≡ 0 }
+    ensures put { length (stored result.put) ≡ 0 }
 {
     into_register(
         r,
@@ -181,10 +183,10 @@ pub fn subtract_with_carry(r: Register, given: &Operand36, regs: &Regs) -> Effec
 
 /// AOS: the word becomes itself plus 1.
 #[tactic(auto, unfolding(m36_model::specs::Sums::add_one_to_storage))]
-pub fn add_one_to_storage(given: &Operand36, regs: &Regs) -> Effect36
+pub fn add_one_to_storage(given: &Operand36, regs: &Regs) -> Change
     requires { IsTrue (is_word given.now.got) }
     ensures value { Gives result regs.now (add_one_to_storage (word (operand_fields given.now)) regs.now) }
-    ensures put { length (words_of_held result.put) ≡ 1 }
+    ensures put { length (stored result.put) ≡ 1 }
 {
     into_operand(
         Register::A,
@@ -195,11 +197,11 @@ pub fn add_one_to_storage(given: &Operand36, regs: &Regs) -> Effect36
 
 /// ASA, ASQ, ASX: the operand becomes register plus operand.
 #[tactic(auto, unfolding(m36_model::specs::Sums::add_to_storage))]
-pub fn add_to_storage(r: Register, given: &Operand36, regs: &Regs) -> Effect36
+pub fn add_to_storage(r: Register, given: &Operand36, regs: &Regs) -> Change
     requires register { IsRegister r }
     requires got { HoldsNumber r given.now.got }
     ensures value { Gives result regs.now (add_to_storage (working r) (operand (working r) (operand_fields given.now)) regs.now) }
-    ensures put { PutsNumber r (words_of_held result.put) }
+    ensures put { PutsNumber r (stored result.put) }
 {
     into_operand(
         r,
@@ -210,11 +212,11 @@ pub fn add_to_storage(r: Register, given: &Operand36, regs: &Regs) -> Effect36
 
 /// SSA, SSQ, SSX: the operand becomes register minus operand.
 #[tactic(auto, unfolding(m36_model::specs::Sums::subtract_stored))]
-pub fn subtract_stored(r: Register, given: &Operand36, regs: &Regs) -> Effect36
+pub fn subtract_stored(r: Register, given: &Operand36, regs: &Regs) -> Change
     requires register { IsRegister r }
     requires got { HoldsNumber r given.now.got }
     ensures value { Gives result regs.now (subtract_stored (working r) (operand (working r) (operand_fields given.now)) regs.now) }
-    ensures put { PutsNumber r (words_of_held result.put) }
+    ensures put { PutsNumber r (stored result.put) }
 {
     into_operand(
         r,
@@ -225,10 +227,10 @@ pub fn subtract_stored(r: Register, given: &Operand36, regs: &Regs) -> Effect36
 
 /// NEG, NEGL: the register becomes its negative.
 #[tactic(auto, unfolding(m36_model::specs::Sums::negate))]
-pub fn negate(r: Register, regs: &Regs) -> Effect36
+pub fn negate(r: Register, regs: &Regs) -> Change
     requires { IsRegister r }
     ensures value { Gives result regs.now (negate (working r) regs.now) }
-    ensures put { length (words_of_held result.put) ≡ 0 }
+    ensures put { length (stored result.put) ≡ 0 }
 {
     let s = negation(r, number_in(r, regs));
     takes(

@@ -1,9 +1,10 @@
 //! The instructions by what they do.
 
-ghost use Rattle.std.specs.Prelude.{◌≡◌, ◌<◌, IsTrue};
+ghost use Rattle.std.specs.Prelude.{◌≡◌, ◌<◌, IsTrue, IfOk};
 ghost use Rattle.m36_inst.specs.Operands.{operand_of};
 ghost use Rattle.m36_model.specs.OperandHeld.{HoldsFor};
-ghost use Rattle.m36_model.specs.Results.{operand_fields};
+ghost use Rattle.m36_model.specs.Results.{operand_fields, words_of_held};
+ghost use Rattle.m36_model.specs.WordsPut.{PutsFor};
 ghost use Rattle.m36_model.specs.Effect.{exec, answer_fields, refused_here};
 ghost use Rattle.m36_xptr.specs.PointerInstructions.{is_pointer};
 
@@ -20,8 +21,19 @@ use m36_model::{Effect36, Fault, Final, Operand36, Regs};
 /// # Errors
 ///
 /// Fault 5, command, at the instruction: LPRP is given no packed pointer.
-#[tactic(auto, unfolding(m36_model::specs::Effect::exec))]
 pub fn exec(row: &Row, regs: &Regs, f: &Final, operand: Operand36) -> Result<Effect36, Fault>
+    requires pointer { IsTrue (is_pointer row.now.effect) }
+    requires reg { row.now.reg < 8 }
+    requires got { HoldsFor (operand_of row.now.effect) operand.got }
+    ensures value { answer_fields result ≡ refused_here regs.now (exec row.now.effect row.now.reg regs.now f.now (operand_fields operand)) }
+    ensures put { IfOk result (λ e. PutsFor (operand_of row.now.effect) (words_of_held e.put)) }
+{
+    dispatch(row, regs, f, operand)
+}
+
+/// One function for each effect.
+#[tactic(auto, unfolding(m36_model::specs::Effect::exec))]
+fn dispatch(row: &Row, regs: &Regs, f: &Final, operand: Operand36) -> Result<Effect36, Fault>
     requires pointer { IsTrue (is_pointer row.now.effect) }
     requires reg { row.now.reg < 8 }
     requires got { HoldsFor (operand_of row.now.effect) operand.got }

@@ -1,11 +1,12 @@
--- NOP goes on, and what is missing stops.
-use Rattle.m36_step.proofs.Runs.{ends_nop, ends_unbuilt}
+use Rattle.std.proofs.Common.{sym}
+use Rattle.m36_step.proofs.Ends.{fetch_refused, fetches}
 use Rattle.m36_step.proofs.execute.execute.Goals as goal
 
-pub returns-in-Nop-clause-ends : goal.returns-in-Nop-clause-ends
-returns-in-Nop-clause-ends c =
-    rw (c.done.ensures, c.moved_on.ensures, ← (c.in-Nop.ensures {u = tt})) (ends_nop _ _ _ c.args.privileged _)
+pub returns-in-Err-clause-ends : goal.returns-in-Err-clause-ends
+returns-in-Err-clause-ends c =
+    fetch_refused c.args.regs.now c.args.walk.now c.args.refs.now.items c.fetch.new.self.core (sym c.requires.dbr) c.in-Err.fault c.halted.result (rw c.here-here.ensures at (c.in-Err.ensures {u = tt}).serves) c.halted.ensures
 
-pub returns-in-Missing-clause-ends : goal.returns-in-Missing-clause-ends
-returns-in-Missing-clause-ends c =
-    rw (c.stopped.ensures, ← (c.in-Missing.ensures {u = tt})) (ends_unbuilt _ _ _ _)
+pub returns-in-Ok-clause-ends : goal.returns-in-Ok-clause-ends
+returns-in-Ok-clause-ends c =
+    let ok = c.in-Ok.ensures {u = tt} in
+    fetches c.args.regs.now c.args.walk.now c.args.refs.now.items c.fetch.new.self.core (sym c.requires.dbr) c.in-Ok.fetched.0 c.in-Ok.fetched.1 c.push.new.self.items c.decoded.new.walk.core c.decoded.new.refs.items c.decoded.result (rw c.here-here.ensures at ok.serves) (rw c.here-here.ensures at ok.privileged) (rw c.here-here.ensures at c.push.ensures.items) c.decoded.ensures.ends

@@ -1,0 +1,124 @@
+-- How the program of a step ends over core, part by part.
+use Rattle.std.proofs.Common.{ℕ, ◌≡◌, refl, sym, ap, ◌∙◌, Bool, not, ◌&&◌, ◌==◌, List, [], ◌∷◌, ◌++◌, Option, Some, None, Result, Ok, Err, option_map}
+use Rattle.m36_inst.specs.Fields.{InstFields}
+use Rattle.m36_inst.specs.Instruction.{inst_of}
+use Rattle.m36_inst.specs.Lookup.{row_at}
+use Rattle.m36_inst.specs.Operands.{operand_of, is_privileged}
+use Rattle.m36_inst.specs.declared.rows.Row.{Row}
+use Rattle.m36_inst.specs.declared.effect.Effect.{Effect}
+use Rattle.m36_inst.specs.declared.operand.Operand.{Operand}
+use Rattle.m36_inst.specs.declared.operand.Operand.TheVariants as kind
+use Rattle.m36_model.specs.Fields.{FinalFields}
+use Rattle.m36_model.specs.Registers.{RegsFields}
+use Rattle.m36_model.specs.Act.{Fetch, Act, either, otherwise}
+use Rattle.m36_model.specs.Store.{Spot, State, Mid, Served, Ran, run, changes}
+use Rattle.m36_model.specs.Core.{core_store, core_put}
+use Rattle.m36_model.specs.Modification.{here}
+use Rattle.m36_model.specs.FirstPoint.{first_point}
+use Rattle.m36_model.specs.Chain.{chain, chain_end_fields, claimed_by}
+use Rattle.m36_model.specs.Step.{Ending, outcome_of, outcome_by, halted, completed, operate, operated, indirect_words, addressed, no_address, started, admitted, effect_and_number, decode, decoded, fetched, program, record_of, state_after}
+use Rattle.m36_model.specs.declared.effects.Formed.{Formed}
+use Rattle.m36_model.specs.declared.outcome.Fault.{Fault}
+use Rattle.m36_model.specs.declared.outcome.Halt.{Halt}
+use Rattle.m36_model.specs.declared.outcome.Halt.TheVariants as halt
+use Rattle.m36_model.specs.declared.outcome.Stop.TheVariants as stop
+use Rattle.m36_model.specs.declared.place.Reference.{Reference}
+use Rattle.m36_model.specs.declared.place.Kind.TheVariants as reference
+use Rattle.m36_model.proofs.ChainClaims.{run_then}
+use Rattle.m36_walk.specs.Memory.{Memory}
+use Rattle.m36_walk.specs.Served.{standing, sdw_in, ServesWord}
+use Rattle.m36_ea.specs.Formed.{formed_from, ended}
+use Rattle.m36_step.specs.Ended.{End, end_of, given_end, EndsSo, EndsFormed}
+use Rattle.m36_step.specs.Operated.{claims_of, puts_of, operation_from, operated_end}
+use Rattle.m36_step.specs.declared.ended.Ended.{Ended}
+use Rattle.m36_step.specs.declared.operated.Operated.{Operated}
+
+module _ (g : RegsFields) where
+  -- a step that is refused
+  abbrev refused : Option ℕ → Option FinalFields → Halt → Ended
+  refused word at h = record { after = g; word = word; at = at; outcome = outcome_of h }
+
+  -- It leaves core, whatever it has claimed.
+  halts : (word : Option ℕ) (at : Option FinalFields) (h : Halt) (core : List ℕ) (claims : List Spot) (refs : List Reference) → end_of (run core_store g (halted g word at h) (standing core claims refs)) ≡ given_end core refs (refused word at h)
+  unfolding run core_put changes
+  halts word at h core claims refs = refl
+
+  pub ends_halted : (word : Option ℕ) (at : Option FinalFields) (h : Halt) (core : List ℕ) (refs : List Reference) (program : Act Ending) (e : Ended) → program ≡ halted g word at h → e ≡ refused word at h → EndsSo g program core refs core refs e
+  ends_halted word at h core refs program e is end =
+      rw (is, end) (halts word at h core [] refs)
+
+  -- what goes on after a program, by how that program ran
+  goes_on : {A : Type 0} (act : Act (Result A Halt)) (next : A → Act Ending) (halts : Halt → Act Ending) (m : Mid (List ℕ)) (t : Ran (Result A Halt) (List ℕ)) → run core_store g act m ≡ t → run core_store g (otherwise act next halts) m ≡ run core_store g (either next halts t.value) t.mid
+  goes_on {A = A} act next halts m t e =
+      run_then core_store g act (either next halts) m ∙ ap (λ (x : Ran (Result A Halt) (List ℕ)). run core_store g (either next halts x.value) x.mid) e
+
+  -- The operation of an instruction whose address is formed.
+  module _ (e : Effect) (n w : ℕ) (f : Formed) (core : List ℕ) (refs : List Reference) (core' : List ℕ) (refs' : List Reference) where
+    abbrev Operates : Result Operated Halt → Type 0
+    Operates result =
+        operation_from e n g f core refs ≡ operated_end core' refs' f result
+
+    operation_runs : (result : Result Operated Halt) → Operates result → run core_store g (operated e n g w (chain_end_fields f)) (standing core (claimed_by f.tally f.place) refs) ≡ run core_store g (either (completed g w f.last) (halted g (Some w) (Some f.last)) (operated_end core' refs' f result).value) (operated_end core' refs' f result).mid
+    operation_runs result o =
+        goes_on (operate e n g (chain_end_fields f)) (completed g w f.last) (halted g (Some w) (Some f.last)) (standing core (claimed_by f.tally f.place) refs) (operated_end core' refs' f result) o
+
+    pub operation_refused : (h : Halt) (end : Ended) → Operates (Err h) → end ≡ refused (Some w) (Some f.last) h → EndsFormed g (operated e n g w (chain_end_fields f)) core f refs core' refs' end
+    operation_refused h end o is =
+        rw is (ap end_of (operation_runs (Err h) o) ∙ halts (Some w) (Some f.last) h core' (claimed_by f.tally f.place) refs')
+
+    pub operation_performed : (o : Operated) (core'' : List ℕ) (end : Ended) → Operates (Ok o) → core'' ≡ core_put core' (changes (claims_of f o) (puts_of f o)) → end ≡ record { after = o.effect.regs; word = Some w; at = Some f.last; outcome = outcome_by (o.effect.overflow && not o.effect.regs.ind.mask) g } → EndsFormed g (operated e n g w (chain_end_fields f)) core f refs core'' refs' end
+    unfolding run
+    operation_performed o core'' end r put is =
+        rw (is, put) (ap end_of (operation_runs (Ok o) r))
+
+  -- An instruction that forms an address.
+  module _ (e : Effect) (n w : ℕ) (i : InstFields) (is : i ≡ inst_of w) (core : List ℕ) (refs : List Reference) (core' : List ℕ) (refs' : List Reference) where
+    forms : (result : Result Formed Halt) → formed_from g i core refs ≡ ended core' refs' result → run core_store g (addressed e n g w) (standing core [] refs) ≡ run core_store g (either (operated e n g w) (halted g (Some w) None) (ended core' refs' result).value) (ended core' refs' result).mid
+    forms result r =
+        goes_on (chain indirect_words g (first_point g (inst_of w))) (operated e n g w) (halted g (Some w) None) (standing core [] refs) (ended core' refs' result) (rw is at r)
+
+    pub address_refused : (h : Halt) (end : Ended) → formed_from g i core refs ≡ ended core' refs' (Err h) → end ≡ refused (Some w) None h → EndsSo g (addressed e n g w) core refs core' refs' end
+    address_refused h end r same =
+        rw same (ap end_of (forms (Err h) r) ∙ halts (Some w) None h core' [] refs')
+
+    pub address_formed : (f : Formed) (core'' : List ℕ) (refs'' : List Reference) (end : Ended) → formed_from g i core refs ≡ ended core' refs' (Ok f) → EndsFormed g (operated e n g w (chain_end_fields f)) core' f refs' core'' refs'' end → EndsSo g (addressed e n g w) core refs core'' refs'' end
+    address_formed f core'' refs'' end r rest = ap end_of (forms (Ok f) r) ∙ rest
+
+  -- MME, DRL and DIS.
+  pub starts_nothing : (e : Effect) (n w : ℕ) (k : Operand) (h : Halt) → k ≡ operand_of e → k ≡ kind.N → no_address e g w ≡ halted g (Some w) None h → started e n g w (operand_of e) ≡ halted g (Some w) None h
+  starts_nothing e n w k h row none end =
+      ap (λ (x : Operand). started e n g w x) (sym row ∙ none) ∙ end
+
+  -- The row of an instruction.
+  pub no_row : (w : ℕ) (privileged : Bool) (i : InstFields) → i ≡ inst_of w → None ≡ row_at i.code i.bit27 → decoded g w privileged (decode w) ≡ halted g (Some w) None (halt.Stop stop.Operation)
+  unfolding decode
+  no_row w privileged i is none =
+      ap (λ (x : Option Row). decoded g w privileged (option_map effect_and_number x)) (sym (rw is at none))
+
+  pub a_row : (w : ℕ) (privileged : Bool) (i : InstFields) (row : Row) → i ≡ inst_of w → Some row ≡ row_at i.code i.bit27 → decoded g w privileged (decode w) ≡ admitted row.effect row.reg g w (is_privileged row.effect && not privileged)
+  unfolding decode
+  a_row w privileged i row is found =
+      ap (λ (x : Option Row). decoded g w privileged (option_map effect_and_number x)) (sym (rw is at found))
+
+  -- The fetch of the instruction. m is the walk before it.
+  module _ (m : Memory) (refs : List Reference) (core' : List ℕ) (same : g.dbr ≡ m.dbr) where
+    pub fetch_refused : (f : Fault) (end : Ended) → ServesWord (λ x. x.ppr.prr ≡ g.ppr.prr) Fetch m core' (here g) (Err f) → end ≡ refused None None (halt.Fault f) → EndsSo g (program g) m.core refs core' refs end
+    unfolding program run
+    fetch_refused f end served is =
+        rw is (ap (λ (t : Served (List ℕ)). end_of (run core_store g (fetched g t.reply) t.mid)) (served g same refl [] refs) ∙ halts None None (halt.Fault f) core' [] refs)
+
+    pub fetches : (w : ℕ) (privileged : Bool) (refs' : List Reference) (core'' : List ℕ) (refs'' : List Reference) (end : Ended) → ServesWord (λ x. x.ppr.prr ≡ g.ppr.prr) Fetch m core' (here g) (Ok w) → privileged ≡ ((sdw_in m g.ppr.psr).privileged && (g.ppr.prr == 0)) → refs' ≡ refs ++ record { kind = reference.Fetch; at = here g; count = 1 } ∷ [] → EndsSo g (decoded g w privileged (decode w)) core' refs' core'' refs'' end → EndsSo g (program g) m.core refs core'' refs'' end
+    unfolding program run
+    fetches w privileged refs' core'' refs'' end served right one rest =
+        ap (λ (t : Served (List ℕ)). end_of (run core_store g (fetched g t.reply) t.mid)) (served g same refl [] refs) ∙ rw (right, one) at rest
+
+-- The whole step.
+module _ (s : State (List ℕ)) (core : List ℕ) (refs : List Reference) (e : Ended) (ends : EndsSo s.regs (program s.regs) s.store [] core refs e) where
+  pub step_told : record_of core_store s ≡ record { refs = record { items = refs }; after = e.after; word = e.word; at = e.at; outcome = e.outcome; ppr = s.regs.ppr }
+  unfolding record_of
+  step_told =
+      ap (λ (x : End). record { refs = record { items = x.refs }; after = x.after; word = x.word; at = x.at; outcome = x.outcome; ppr = s.regs.ppr }) ends
+
+  pub step_left : state_after core_store s ≡ record { regs = e.after; store = core }
+  unfolding state_after
+  step_left = ap (λ (x : End). record { regs = x.after; store = x.core }) ends

@@ -1,0 +1,50 @@
+-- How the code's step ends, and how the program of the step ends over core.
+use Rattle.std.specs.Prelude.{ℕ, ◌≡◌, List, [], Option}
+use Rattle.m36_model.specs.Fields.{FinalFields}
+use Rattle.m36_model.specs.Registers.{RegsFields}
+use Rattle.m36_model.specs.Act.{Act}
+use Rattle.m36_model.specs.Store.{Ran, run, changes}
+use Rattle.m36_model.specs.Core.{core_store, core_put}
+use Rattle.m36_model.specs.Chain.{claimed_by}
+use Rattle.m36_model.specs.Step.{Ending}
+use Rattle.m36_model.specs.declared.effects.Formed.{Formed}
+use Rattle.m36_model.specs.declared.outcome.Outcome.{Outcome}
+use Rattle.m36_model.specs.declared.place.Reference.{Reference}
+use Rattle.m36_walk.specs.Served.{standing}
+use Rattle.m36_step.specs.declared.ended.Ended.{Ended}
+
+-- what a step tells of its end, with its references and core as it leaves it
+pub record End : Type 0 where
+  pub word : Option ℕ
+  pub at : Option FinalFields
+  pub after : RegsFields
+  pub outcome : Outcome
+  pub refs : List Reference
+  pub core : List ℕ
+
+-- the end of a run of the program: the words are written together
+abbrev pub end_of : Ran Ending (List ℕ) → End
+end_of t =
+    record {
+      word = t.value.word;
+      at = t.value.at;
+      after = t.value.after;
+      outcome = t.value.outcome;
+      refs = t.mid.refs;
+      core = core_put t.mid.store (changes t.mid.claims t.value.puts);
+    }
+
+-- the end that the code gives
+abbrev pub given_end : List ℕ → List Reference → Ended → End
+given_end core refs e =
+    record { word = e.word; at = e.at; after = e.after; outcome = e.outcome; refs = refs; core = core }
+
+-- A program over core, in a step that has completed these references and claimed nothing, ends as the code does.
+abbrev pub EndsSo : RegsFields → Act Ending → List ℕ → List Reference → List ℕ → List Reference → Ended → Type 0
+EndsSo g program core refs core' refs' e =
+    end_of (run core_store g program (standing core [] refs)) ≡ given_end core' refs' e
+
+-- The same once the address is formed: the step has claimed the word of the tally, if there is one.
+abbrev pub EndsFormed : RegsFields → Act Ending → List ℕ → Formed → List Reference → List ℕ → List Reference → Ended → Type 0
+EndsFormed g program core f refs core' refs' e =
+    end_of (run core_store g program (standing core (claimed_by f.tally f.place) refs)) ≡ given_end core' refs' e

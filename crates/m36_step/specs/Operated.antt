@@ -1,0 +1,78 @@
+-- An operation: what the program of an operand and its effect gives over core, and the words that it leaves to be written.
+use Rattle.std.specs.Prelude.{ℕ, ◌<◌, ◌^◌, List, ◌++◌, length, Option, Some, None, Result, Ok, Err}
+use Rattle.m36_inst.specs.declared.effect.Effect.{Effect}
+use Rattle.m36_model.specs.Act.{Part, Whole, Left, Right, Put}
+use Rattle.m36_model.specs.Chain.{chain_end_fields, pending_of, claimed_by}
+use Rattle.m36_model.specs.Core.{core_store}
+use Rattle.m36_model.specs.Registers.{RegsFields}
+use Rattle.m36_model.specs.Results.{words_of_held}
+use Rattle.m36_model.specs.Step.{Performed, puts_from, operate}
+use Rattle.m36_model.specs.Store.{Spot, Mid, Ran, run}
+use Rattle.m36_model.specs.WordsPut.{IsHalf}
+use Rattle.m36_model.specs.declared.effects.Formed.{Formed}
+use Rattle.m36_model.specs.declared.effects.Tally.{Tally}
+use Rattle.m36_model.specs.declared.outcome.Halt.{Halt}
+use Rattle.m36_model.specs.declared.place.Reference.{Reference}
+use Rattle.m36_walk.specs.Runs.{run_from, LiesIn}
+use Rattle.m36_walk.specs.Served.{standing}
+use Rattle.m36_step.specs.declared.operated.Part as code
+use Rattle.m36_step.specs.declared.operated.Part.TheVariants as part
+use Rattle.m36_step.specs.declared.operated.Operated.{Operated}
+
+-- the code's parts of a word are those of the definitions
+abbrev pub part_of : code.Part → Part
+part_of part.Whole = Whole
+part_of part.Left = Left
+part_of part.Right = Right
+
+-- where a step stands that has claimed the tally word of its address alone
+abbrev pub formed_mid : List ℕ → Formed → List Reference → Mid (List ℕ)
+formed_mid core f refs = standing core (claimed_by f.tally f.place) refs
+
+-- the words that the effect gives to be written
+abbrev pub words_of : Operated → List ℕ
+words_of o = words_of_held o.effect.put
+
+-- where words are written: the tally word first, and then those of the operand
+abbrev pub claims_of : Formed → Operated → List Spot
+claims_of f o = claimed_by f.tally f.place ++ run_from o.place (length (words_of o))
+
+-- what is written there
+abbrev pub puts_of : Formed → Operated → List Put
+puts_of f o = pending_of f.tally ++ puts_from (part_of o.part) (length (claimed_by f.tally f.place)) (words_of o)
+
+abbrev pub performed_by : Formed → Operated → Performed
+performed_by f o = record { regs = o.effect.regs; puts = puts_of f o; overflow = o.effect.overflow }
+
+-- the program of an operation over core, once the address is formed
+abbrev pub operation_from : Effect → ℕ → RegsFields → Formed → List ℕ → List Reference → Ran (Result Performed Halt) (List ℕ)
+operation_from e n g f core refs = run core_store g (operate e n g (chain_end_fields f)) (formed_mid core f refs)
+
+-- How an answer of the code ends it. Where it is refused, nothing more is claimed.
+abbrev pub operated_end : List ℕ → List Reference → Formed → Result Operated Halt → Ran (Result Performed Halt) (List ℕ)
+operated_end core refs f (Ok o) = record { value = Ok (performed_by f o); mid = standing core (claims_of f o) refs }
+operated_end core refs f (Err h) = record { value = Err h; mid = formed_mid core f refs }
+
+-- the tally word lies in core
+abbrev pub TallyIn : Option Tally → ℕ → ℕ → Type 0
+TallyIn None place size = Unit {0}
+TallyIn (Some t) place size = place < size
+
+-- A part that is not the whole word is a half, of one word.
+abbrev pub PartFits : code.Part → List ℕ → Type 0
+PartFits part.Whole words = Unit {0}
+PartFits part.Left words = IsHalf words
+PartFits part.Right words = IsHalf words
+
+-- a half has 18 bits
+abbrev pub PartHolds : code.Part → ℕ → Type 0
+PartHolds part.Whole w = Unit {0}
+PartHolds part.Left w = w < 2 ^ 18
+PartHolds part.Right w = w < 2 ^ 18
+
+-- the words to be written lie in a core of this size
+pub record Lies (size : ℕ) (f : Formed) (o : Operated) : Type 0 where
+  pub tally : TallyIn f.tally f.place size
+  pub run : LiesIn size o.place (length (words_of o))
+  pub place : o.place < 2 ^ 24
+  pub part : PartFits o.part (words_of o)

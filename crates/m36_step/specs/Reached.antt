@@ -1,0 +1,84 @@
+-- An operand that is there, and how the program of an operation goes on from it.
+use Rattle.std.specs.Prelude.{ℕ, ◌≡◌, Bool, true, false, List, ◌++◌, length, Result, Ok, Err}
+use Rattle.m36_inst.specs.Operands.{operand_of, takes_direct}
+use Rattle.m36_inst.specs.declared.effect.Effect.{Effect}
+use Rattle.m36_inst.specs.declared.operand.Operand.{Operand}
+use Rattle.m36_inst.specs.declared.operand.Operand.TheVariants as kind
+use Rattle.m36_model.specs.Chain.{chain_end_fields, claimed_by}
+use Rattle.m36_model.specs.Core.{core_store}
+use Rattle.m36_model.specs.Registers.{RegsFields}
+use Rattle.m36_model.specs.Modification.{here}
+use Rattle.m36_model.specs.Results.{OperandFields, operand_fields}
+use Rattle.m36_model.specs.Step.{Performed, Operation, perform, direct_word}
+use Rattle.m36_model.specs.Store.{Ran, run}
+use Rattle.m36_model.specs.declared.effects.Formed.{Formed}
+use Rattle.m36_model.specs.declared.outcome.Fault.{Fault}
+use Rattle.m36_model.specs.declared.outcome.Halt.{Halt}
+use Rattle.m36_model.specs.declared.outcome.Halt.TheVariants as halt
+use Rattle.m36_model.specs.declared.place.Reference.{Reference}
+use Rattle.m36_walk.specs.Runs.{run_from}
+use Rattle.m36_walk.specs.Served.{standing}
+use Rattle.m36_step.specs.Operated.{formed_mid, part_of}
+use Rattle.m36_step.specs.declared.operated.Part as code
+use Rattle.m36_step.specs.declared.operated.Part.TheVariants as part
+use Rattle.m36_step.specs.declared.operated.Reached.{Reached}
+
+-- the program of an operation over core, from where the address is formed
+abbrev pub ran_from : RegsFields → Operation → Formed → List ℕ → List Reference → Ran (Result Performed Halt) (List ℕ)
+ran_from g program f core refs = run core_store g program (formed_mid core f refs)
+
+-- where the operand is refused, the program ends
+abbrev pub refused_end : Formed → List ℕ → List Reference → Fault → Ran (Result Performed Halt) (List ℕ)
+refused_end f core refs fault = record { value = Err (halt.Fault fault); mid = formed_mid core f refs }
+
+-- Nothing is to be written: the effect follows.
+abbrev pub unwritten_end : Effect → ℕ → RegsFields → Formed → List ℕ → List Reference → Result Reached Fault → Ran (Result Performed Halt) (List ℕ)
+unwritten_end e n g f core refs (Ok u) =
+    ran_from g (perform e n g (chain_end_fields f) (part_of u.part) 0 (operand_fields u.operand)) f core refs
+unwritten_end e n g f core refs (Err fault) = refused_end f core refs fault
+
+-- So many words are to be written, and their places are claimed behind that of the tally word.
+abbrev pub written_end : Effect → ℕ → RegsFields → Formed → ℕ → List ℕ → List Reference → Result Reached Fault → Ran (Result Performed Halt) (List ℕ)
+written_end e n g f count core refs (Ok u) =
+    run core_store g (perform e n g (chain_end_fields f) (part_of u.part) (length (claimed_by f.tally f.place)) (operand_fields u.operand))
+    (standing core (claimed_by f.tally f.place ++ run_from u.place count) refs)
+written_end e n g f count core refs (Err fault) = refused_end f core refs fault
+
+-- by operand kind
+abbrev pub reached_end : Effect → ℕ → RegsFields → Formed → Operand → List ℕ → List Reference → Result Reached Fault → Ran (Result Performed Halt) (List ℕ)
+reached_end e n g f kind.W core refs u = written_end e n g f 1 core refs u
+reached_end e n g f kind.W2 core refs u = written_end e n g f 2 core refs u
+reached_end e n g f kind.W16 core refs u = written_end e n g f 16 core refs u
+reached_end e n g f kind.Wl core refs u = written_end e n g f 1 core refs u
+reached_end e n g f kind.Wr core refs u = written_end e n g f 1 core refs u
+reached_end e n g f kind.Rw core refs u = written_end e n g f 1 core refs u
+reached_end e n g f kind.Rwl core refs u = written_end e n g f 1 core refs u
+reached_end e n g f _ core refs u = unwritten_end e n g f core refs u
+
+-- A program that references its operand goes on as the code does, whatever the instruction.
+abbrev pub Reads : (Effect → ℕ → Operation) → RegsFields → Formed → List ℕ → List Reference → List ℕ → List Reference → Result Reached Fault → Type 0
+Reads program g f core refs core' refs' u =
+    (e : Effect) (n : ℕ) → ran_from g (program e n) f core refs ≡ unwritten_end e n g f core' refs' u
+
+abbrev pub Writes : (Effect → ℕ → Operation) → RegsFields → Formed → ℕ → List ℕ → List Reference → List ℕ → List Reference → Result Reached Fault → Type 0
+Writes program g f count core refs core' refs' u =
+    (e : Effect) (n : ℕ) → ran_from g (program e n) f core refs ≡ written_end e n g f count core' refs' u
+
+-- which part an operand kind writes
+abbrev pub part_for : Operand → code.Part
+part_for kind.Wl = part.Left
+part_for kind.Wr = part.Right
+part_for kind.Rwl = part.Left
+part_for _ = part.Whole
+
+-- A direct operand is given to the effect as it stands, where the instruction takes it.
+abbrev pub takes_word : Effect → RegsFields → ℕ → Bool → Result OperandFields Fault
+takes_word e g w true = Ok (record { got = direct_word (operand_of e) w; ring = 0; place = 0 })
+takes_word e g w false = Err (record { at = here g; number = 10; acv = 0 })
+
+abbrev pub fields_reached : Result Reached Fault → Result OperandFields Fault
+fields_reached (Ok u) = Ok (operand_fields u.operand)
+fields_reached (Err fault) = Err fault
+
+abbrev pub DirectOperand : Effect → RegsFields → ℕ → Result Reached Fault → Type 0
+DirectOperand e g w u = fields_reached u ≡ takes_word e g w (takes_direct e)

@@ -1,0 +1,179 @@
+//! Operands that are read, and operands that are to be written.
+
+ghost use Rattle.std.specs.Prelude.{ℕ, ◌≡◌, ◌+◌, ◌<◌, ◌≤◌, ◌^◌, IfOk, IsTrue, length};
+ghost use Rattle.m36_model.specs.OperandHeld.{is_empty, is_word, is_pair, is_block};
+ghost use Rattle.m36_model.specs.Chain.{chain_end_fields};
+ghost use Rattle.m36_model.specs.Results.{operand_fields, words_of_held};
+ghost use Rattle.m36_model.specs.Step.{reading_word, reading_words, writing, changing};
+ghost use Rattle.m36_walk.specs.Runs.{LiesIn};
+ghost use Rattle.m36_walk.specs.Served.{IsCount};
+ghost use Rattle.m36_step.specs.Operated.{part_of};
+ghost use Rattle.m36_step.specs.Reached.{Reads, Writes};
+ghost use Rattle.m36_step.specs.declared.operated.Part.TheVariants as part;
+
+use crate::operated::{Part, Reached};
+use crate::references::{hold_words, read_block, read_pair, read_word};
+use m36_model::{Fault, Formed, Held, Operand36, Refs, Regs};
+use m36_walk::Walk;
+
+/// Words that are read, with the first ring bracket of their segment or a new ring; nothing is written.
+pub(crate) fn given(got: Held, ring: u8) -> Reached
+    requires { ring < 2 ^ 3 }
+    ensures operand { operand_fields result.operand ≡ record { got = words_of_held got; ring = ring; place = 0 } }
+    ensures got { result.operand.got ≡ got }
+    ensures place { result.place ≡ 0 }
+    ensures part { result.part ≡ part.Whole }
+{
+    Reached {
+        operand: Operand36 {
+            got,
+            place: 0,
+            ring,
+        },
+        place: 0,
+        part: Part::Whole,
+    }
+}
+
+/// A word is read.
+#[tactic(auto, using(crate::proofs::Reaching::reaching), unfolding(m36_walk::specs::Runs::LiesIn))]
+pub(crate) fn reach_word(
+    walk: &mut Walk,
+    regs: &Regs,
+    formed: &Formed,
+    refs: &mut Refs,
+) -> Result<Reached, Fault>
+    requires dbr { walk.old.dbr ≡ regs.now.dbr }
+    requires room { length refs.old.items < 40 }
+    ensures reads { Reads (λ e n. reading_word e n regs.now (chain_end_fields formed.now)) regs.now formed.now walk.old.core refs.old.items walk.new.core refs.new.items result }
+    ensures got { IfOk result (λ u. IsTrue (is_word u.operand.got)) }
+    ensures run { IfOk result (λ u. LiesIn (length walk.new.core) u.place 0) }
+    ensures place { IfOk result (λ u. u.place < 2 ^ 24) }
+    ensures part { IfOk result (λ u. u.part ≡ part.Whole) }
+    ensures count { length refs.new.items ≤ length refs.old.items + 1 }
+    ensures dbr { walk.new.dbr ≡ walk.old.dbr }
+    ensures len { length walk.new.core ≡ length walk.old.core }
+{
+    match read_word(walk, regs, formed, refs) {
+        Ok(word) => Ok(given(Held::One(word), 0)),
+        Err(fault) => Err(fault),
+    }
+}
+
+/// A pair is read.
+#[tactic(auto, using(crate::proofs::Reaching::reaching), unfolding(m36_walk::specs::Runs::LiesIn))]
+pub(crate) fn reach_pair(
+    walk: &mut Walk,
+    regs: &Regs,
+    formed: &Formed,
+    refs: &mut Refs,
+) -> Result<Reached, Fault>
+    requires dbr { walk.old.dbr ≡ regs.now.dbr }
+    requires room { length refs.old.items < 40 }
+    ensures reads { Reads (λ e n. reading_words e n regs.now (chain_end_fields formed.now) 2) regs.now formed.now walk.old.core refs.old.items walk.new.core refs.new.items result }
+    ensures got { IfOk result (λ u. IsTrue (is_pair u.operand.got)) }
+    ensures run { IfOk result (λ u. LiesIn (length walk.new.core) u.place 0) }
+    ensures place { IfOk result (λ u. u.place < 2 ^ 24) }
+    ensures part { IfOk result (λ u. u.part ≡ part.Whole) }
+    ensures count { length refs.new.items ≤ length refs.old.items + 1 }
+    ensures dbr { walk.new.dbr ≡ walk.old.dbr }
+    ensures len { length walk.new.core ≡ length walk.old.core }
+{
+    match read_pair(walk, regs, formed, refs) {
+        Ok((pair, ring)) => Ok(given(Held::Two(pair), ring)),
+        Err(fault) => Err(fault),
+    }
+}
+
+/// A block is read.
+#[tactic(auto, using(crate::proofs::Reaching::reaching), unfolding(m36_walk::specs::Runs::LiesIn))]
+pub(crate) fn reach_block(
+    walk: &mut Walk,
+    regs: &Regs,
+    formed: &Formed,
+    refs: &mut Refs,
+) -> Result<Reached, Fault>
+    requires dbr { walk.old.dbr ≡ regs.now.dbr }
+    requires room { length refs.old.items < 40 }
+    ensures reads { Reads (λ e n. reading_words e n regs.now (chain_end_fields formed.now) 16) regs.now formed.now walk.old.core refs.old.items walk.new.core refs.new.items result }
+    ensures got { IfOk result (λ u. IsTrue (is_block u.operand.got)) }
+    ensures run { IfOk result (λ u. LiesIn (length walk.new.core) u.place 0) }
+    ensures place { IfOk result (λ u. u.place < 2 ^ 24) }
+    ensures part { IfOk result (λ u. u.part ≡ part.Whole) }
+    ensures count { length refs.new.items ≤ length refs.old.items + 1 }
+    ensures dbr { walk.new.dbr ≡ walk.old.dbr }
+    ensures len { length walk.new.core ≡ length walk.old.core }
+{
+    match read_block(walk, regs, formed, refs) {
+        Ok(read) => {
+            let block = read.0;
+            Ok(given(Held::Block(block), read.1))
+        }
+        Err(fault) => Err(fault),
+    }
+}
+
+/// Words are to be written.
+#[tactic(auto, using(crate::proofs::Reaching::reaching), unfolding(m36_walk::specs::Runs::LiesIn))]
+pub(crate) fn reach_written(
+    walk: &mut Walk,
+    regs: &Regs,
+    formed: &Formed,
+    count: u8,
+    part: Part,
+    refs: &mut Refs,
+) -> Result<Reached, Fault>
+    requires dbr { walk.old.dbr ≡ regs.now.dbr }
+    requires room { length refs.old.items < 40 }
+    requires count { IsCount count }
+    ensures writes { Writes (λ e n. writing e n regs.now (chain_end_fields formed.now) count (part_of part)) regs.now formed.now count walk.old.core refs.old.items walk.new.core refs.new.items result }
+    ensures got { IfOk result (λ u. IsTrue (is_empty u.operand.got)) }
+    ensures run { IfOk result (λ u. LiesIn (length walk.new.core) u.place count) }
+    ensures place { IfOk result (λ u. u.place < 2 ^ 24) }
+    ensures part { IfOk result (λ u. u.part ≡ part) }
+    ensures count { length refs.new.items ≤ length refs.old.items + 1 }
+    ensures dbr { walk.new.dbr ≡ walk.old.dbr }
+    ensures len { length walk.new.core ≡ length walk.old.core }
+{
+    match hold_words(walk, regs, formed, count, refs) {
+        Ok(place) => Ok(Reached {
+            place,
+            part,
+            ..given(Held::Empty, 0)
+        }),
+        Err(fault) => Err(fault),
+    }
+}
+
+/// A word is read, and then it is to be written.
+#[tactic(auto, using(crate::proofs::Reaching::reaching), unfolding(m36_walk::specs::Runs::LiesIn))]
+pub(crate) fn reach_changed(
+    walk: &mut Walk,
+    regs: &Regs,
+    formed: &Formed,
+    part: Part,
+    refs: &mut Refs,
+) -> Result<Reached, Fault>
+    requires dbr { walk.old.dbr ≡ regs.now.dbr }
+    requires room { length refs.old.items + 1 < 40 }
+    ensures writes { Writes (λ e n. changing e n regs.now (chain_end_fields formed.now) (part_of part)) regs.now formed.now 1 walk.old.core refs.old.items walk.new.core refs.new.items result }
+    ensures got { IfOk result (λ u. IsTrue (is_word u.operand.got)) }
+    ensures run { IfOk result (λ u. LiesIn (length walk.new.core) u.place 1) }
+    ensures place { IfOk result (λ u. u.place < 2 ^ 24) }
+    ensures part { IfOk result (λ u. u.part ≡ part) }
+    ensures count { length refs.new.items ≤ length refs.old.items + 2 }
+    ensures dbr { walk.new.dbr ≡ walk.old.dbr }
+    ensures len { length walk.new.core ≡ length walk.old.core }
+{
+    match read_word(walk, regs, formed, refs) {
+        Ok(word) => match hold_words(walk, regs, formed, 1, refs) {
+            Ok(place) => Ok(Reached {
+                place,
+                part,
+                ..given(Held::One(word), 0)
+            }),
+            Err(fault) => Err(fault),
+        },
+        Err(fault) => Err(fault),
+    }
+}

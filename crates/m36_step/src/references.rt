@@ -1,0 +1,167 @@
+//! The references of an operand: words that are read, and words that are to be written.
+
+ghost use Rattle.std.specs.Prelude.{ℕ, ◌≡◌, ◌+◌, ◌<◌, ◌≤◌, ◌^◌, [], ◌∷◌, ◌++◌, IfOk, length};
+ghost use Rattle.m36_walk.specs.Runs.{LiesIn};
+ghost use Rattle.m36_walk.specs.Served.{IsCount, aligned_at, sdw_in, ok_map};
+ghost use Rattle.m36_walk.specs.Words.{pair_words, block_words};
+ghost use Rattle.m36_step.specs.References.{ServesRead, ServesWrite};
+
+use m36_ea::pending;
+use m36_model::{At, Fault, Formed, Kind, Reference, Refs, Regs};
+use m36_walk::Walk;
+use m36_word::{Pair, Word};
+
+/// The segment of the instruction.
+fn procedure_segment(regs: &Regs) -> u16
+    ensures { result ≡ regs.now.ppr.psr }
+{
+    let ppr = regs.ppr;
+    ppr.psr
+}
+
+/// The word that an address ends at.
+pub(crate) fn end_at(formed: &Formed) -> At
+    ensures { result ≡ formed.now.last.at }
+{
+    let last = formed.last;
+    last.at
+}
+
+/// The first of so many words, in a reference.
+fn first_at(at: At, count: u8) -> At
+    requires { IsCount count }
+    ensures { result ≡ aligned_at count at }
+{
+    if count == 1 {
+        return at;
+    }
+    if count == 2 {
+        At {
+            word: at.word - at.word % 2,
+            ..at
+        }
+    } else {
+        At {
+            word: at.word - at.word % 16,
+            ..at
+        }
+    }
+}
+
+/// Adds a completed reference.
+fn complete(refs: &mut Refs, kind: Kind, at: At, count: u8)
+    requires room { length refs.old.items < 40 }
+    requires count { IsCount count }
+    ensures items { refs.new.items ≡ refs.old.items ++ record { kind = kind; at = aligned_at count at; count = count } ∷ [] }
+    ensures count { length refs.new.items ≡ length refs.old.items + 1 }
+{
+    refs.push(Reference {
+        at: first_at(at, count),
+        kind,
+        count,
+    });
+}
+
+/// Reads the word of an operand.
+pub(crate) fn read_word(
+    walk: &mut Walk,
+    regs: &Regs,
+    formed: &Formed,
+    refs: &mut Refs,
+) -> Result<Word, Fault>
+    requires dbr { walk.old.dbr ≡ regs.now.dbr }
+    requires room { length refs.old.items < 40 }
+    ensures serves { ServesRead regs.now formed.now 1 walk.old refs.old.items walk.new.core refs.new.items (ok_map (λ w. w ∷ []) result) }
+    ensures dbr { walk.new.dbr ≡ walk.old.dbr }
+    ensures len { length walk.new.core ≡ length walk.old.core }
+    ensures count { length refs.new.items ≤ length refs.old.items + 1 }
+{
+    let at = end_at(formed);
+    match walk.operand(at, procedure_segment(regs), &pending(formed)) {
+        Ok(word) => {
+            complete(refs, Kind::Read, at, 1);
+            Ok(word)
+        }
+        Err(fault) => Err(fault),
+    }
+}
+
+/// Reads the pair of an operand, and the first ring bracket of its segment.
+pub(crate) fn read_pair(
+    walk: &mut Walk,
+    regs: &Regs,
+    formed: &Formed,
+    refs: &mut Refs,
+) -> Result<(Pair, u8), Fault>
+    requires dbr { walk.old.dbr ≡ regs.now.dbr }
+    requires room { length refs.old.items < 40 }
+    ensures serves { ServesRead regs.now formed.now 2 walk.old refs.old.items walk.new.core refs.new.items (ok_map (λ r. pair_words r.0) result) }
+    ensures ring { IfOk result (λ r. r.1 ≡ (sdw_in walk.old formed.now.last.at.seg).r1) }
+    ensures bound { IfOk result (λ r. r.1 < 2 ^ 3) }
+    ensures dbr { walk.new.dbr ≡ walk.old.dbr }
+    ensures len { length walk.new.core ≡ length walk.old.core }
+    ensures count { length refs.new.items ≤ length refs.old.items + 1 }
+{
+    let at = end_at(formed);
+    match walk.operand_pair(at, procedure_segment(regs), &pending(formed)) {
+        Ok(read) => {
+            complete(refs, Kind::Read, at, 2);
+            Ok(read)
+        }
+        Err(fault) => Err(fault),
+    }
+}
+
+/// Reads the block of an operand, and the first ring bracket of its segment.
+pub(crate) fn read_block(
+    walk: &mut Walk,
+    regs: &Regs,
+    formed: &Formed,
+    refs: &mut Refs,
+) -> Result<([Pair; 8], u8), Fault>
+    requires dbr { walk.old.dbr ≡ regs.now.dbr }
+    requires room { length refs.old.items < 40 }
+    ensures serves { ServesRead regs.now formed.now 16 walk.old refs.old.items walk.new.core refs.new.items (ok_map (λ r. block_words r.0) result) }
+    ensures ring { IfOk result (λ r. r.1 ≡ (sdw_in walk.old formed.now.last.at.seg).r1) }
+    ensures bound { IfOk result (λ r. r.1 < 2 ^ 3) }
+    ensures dbr { walk.new.dbr ≡ walk.old.dbr }
+    ensures len { length walk.new.core ≡ length walk.old.core }
+    ensures count { length refs.new.items ≤ length refs.old.items + 1 }
+{
+    let at = end_at(formed);
+    match walk.operand_block(at, procedure_segment(regs), &pending(formed)) {
+        Ok(read) => {
+            complete(refs, Kind::Read, at, 16);
+            Ok(read)
+        }
+        Err(fault) => Err(fault),
+    }
+}
+
+/// Examines a Write of 1, 2 or 16 words of an operand. The answer is the place of the first.
+pub(crate) fn hold_words(
+    walk: &mut Walk,
+    regs: &Regs,
+    formed: &Formed,
+    count: u8,
+    refs: &mut Refs,
+) -> Result<u32, Fault>
+    requires dbr { walk.old.dbr ≡ regs.now.dbr }
+    requires count { IsCount count }
+    requires room { length refs.old.items < 40 }
+    ensures serves { ServesWrite regs.now formed.now count walk.old refs.old.items walk.new.core refs.new.items result }
+    ensures inside { IfOk result (λ a. LiesIn (length walk.new.core) a count) }
+    ensures bound { IfOk result (λ a. a < 2 ^ 24) }
+    ensures dbr { walk.new.dbr ≡ walk.old.dbr }
+    ensures len { length walk.new.core ≡ length walk.old.core }
+    ensures count { length refs.new.items ≤ length refs.old.items + 1 }
+{
+    let at = end_at(formed);
+    match walk.hold(at, count) {
+        Ok(place) => {
+            complete(refs, Kind::Write, at, count);
+            Ok(place)
+        }
+        Err(fault) => Err(fault),
+    }
+}

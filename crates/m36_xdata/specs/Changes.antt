@@ -1,0 +1,36 @@
+-- What the code's changes are: the effects of the definitions, on the registers that the instruction began with.
+use Rattle.std.specs.Prelude.{◌≡◌, ℕ, List, [], ◌∷◌, Result, Ok, Err}
+use Rattle.m36_model.specs.Registers.{RegsFields}
+use Rattle.m36_model.specs.Results.{EffectFields, A, Q, X, with_value, with_indicators, moved_on}
+use Rattle.m36_model.specs.Effect.{refused_here}
+use Rattle.m36_model.specs.declared.outcome.Fault.{Fault}
+use Rattle.m36_xdata.specs.declared.changes.Change.{Change}
+use Rattle.m36_xdata.specs.declared.changes.Taken.{Taken}
+use Rattle.m36_xdata.specs.declared.changes.Taken.TheVariants as taken_by
+use Rattle.m36_xdata.specs.declared.changes.Stored.{Stored}
+use Rattle.m36_xdata.specs.declared.changes.Stored.TheVariants as put_as
+
+abbrev pub taken : Taken → RegsFields → RegsFields
+taken taken_by.Nothing g = g
+taken (taken_by.A w) g = with_value A w g
+taken (taken_by.Q w) g = with_value Q w g
+taken (taken_by.Aq p) g = record g { a = p.even; q = p.odd }
+taken (taken_by.X i) g = with_value (X i.n) i.value g
+
+abbrev pub stored : Stored → List ℕ
+stored put_as.Nothing = []
+stored (put_as.One w) = w ∷ []
+stored (put_as.Two p) = p.even ∷ p.odd ∷ []
+
+-- the effect of a change on these registers
+abbrev pub changed : Change → RegsFields → EffectFields
+changed c g = record { regs = moved_on (with_indicators c.ind (taken c.taken g)); put = stored c.put; overflow = c.overflow }
+
+-- an effect that is not refused, on these registers
+abbrev pub Gives : Change → RegsFields → Result EffectFields ℕ → Type 0
+Gives c g definition = Ok (changed c g) ≡ refused_here g definition
+
+-- the same of an effect that may be refused
+abbrev pub answer_changed : Result Change Fault → RegsFields → Result EffectFields Fault
+answer_changed (Ok c) g = Ok (changed c g)
+answer_changed (Err f) g = Err f
