@@ -38,3 +38,7 @@ links_behind p = length-linkage_part (inner_statics p) p.links (2 + 2 * length p
 -- six texts put one after another
 pub six : (old a b c d e f : List ℕ) → (((((old ++ a) ++ b) ++ c) ++ d) ++ e) ++ f ≡ old ++ (((((a ++ b) ++ c) ++ d) ++ e) ++ f)
 six old a b c d e f = simp append_assoc
+
+-- and five
+pub five : (old a b c d e : List ℕ) → ((((old ++ a) ++ b) ++ c) ++ d) ++ e ≡ old ++ ((((a ++ b) ++ c) ++ d) ++ e)
+five old a b c d e = simp append_assoc

@@ -11,6 +11,7 @@ pub mod disassembly;
 mod fields;
 pub mod laws;
 mod links;
+pub mod listed;
 mod modifiers;
 mod placed;
 pub mod printing;
@@ -21,4 +22,5 @@ pub mod words;
 
 pub use disassembly::disassemble;
 pub use laws::disassembly_laws;
+pub use listed::listing;
 pub use printing::print;

@@ -16,17 +16,24 @@ use std::alloc::Global;
 
 /// The print of an object under a name: its sections, definitions and links, and each word of its text with its disassembly.
 /// The error is want of memory alone.
-#[tactic(auto, unfolding(crate::specs::Print::print_of))]
 pub fn print(alloc: Global, name: &[u8], o: &Object) -> Result<Text, NoMemory>
     ensures { IfOk result (λ text. text ≡ print_of name.now o.now) }
 {
     let mut text = Text::new(alloc);
-    put_object(&mut text, name, o)?;
-    put_sections(&mut text, o)?;
-    put_definitions(&mut text, o.parts().definitions.items())?;
-    put_links(&mut text, first_link(o), o.links())?;
-    put_words(&mut text, text_words(o))?;
+    put_print(&mut text, name, o)?;
     Ok(text)
+}
+
+/// Puts the print of an object.
+#[tactic(auto, unfolding(crate::specs::Print::print_of), using(crate::proofs::SectionPlaces::five))]
+pub fn put_print(text: &mut Text, name: &[u8], o: &Object) -> Result<(), NoMemory>
+    ensures { OnOk result (text.new ≡ text.old ++ print_of name.now o.now) }
+{
+    put_object(text, name, o)?;
+    put_sections(text, o)?;
+    put_definitions(text, o.parts().definitions.items())?;
+    put_links(text, first_link(o), o.links())?;
+    put_words(text, text_words(o))
 }
 
 /// Puts the line of the name and of the count of words.
@@ -39,8 +46,8 @@ fn put_object(text: &mut Text, name: &[u8], o: &Object) -> Result<(), NoMemory>
     put_last(text, decimal(o.parts().size()).as_str().as_bytes())
 }
 
-// The words of the text.
-fn text_words(o: &Object) -> &[Word]
+/// The words of the text.
+pub fn text_words(o: &Object) -> &[Word]
     ensures value { result.now ≡ o.now.text }
     ensures fits { length result.now ≤ 2 ^ 18 }
 {

@@ -248,10 +248,9 @@ impl Object {
         joined_sections(alloc, &self.parts, definition, linkage, symbol)
     }
 
-    /// The object's parts, for which a list of words stands.
+    /// The object's parts.
     pub fn parts(&self) -> &Parts
-        ensures value { result.now ≡ self.now }
-        ensures formed { is_well_formed self.now ≡ true }
+        ensures { result.now ≡ self.now }
     {
         &self.parts
     }
