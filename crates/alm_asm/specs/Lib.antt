@@ -5,3 +5,9 @@ pub mod Spots
 pub mod Expressions
 pub mod Refusals
 pub mod Layout
+pub mod Links
+pub mod Words
+pub mod Marks
+pub mod Definitions
+pub mod LineRefusals
+pub mod Assembly

@@ -161,7 +161,8 @@ pub fn second_number(args: &[Arg]) -> u64
     }
 }
 
-fn push_all(words: &mut Words, more: &[Word]) -> Result<(), NoMemory>
+/// Adds words at the end.
+pub fn push_all(words: &mut Words, more: &[Word]) -> Result<(), NoMemory>
     ensures { OnOk result (words.new ≡ words.old ++ more.now) }
 {
     for word in more {

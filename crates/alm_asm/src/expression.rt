@@ -11,8 +11,9 @@ use crate::symbols::Symbols;
 use alm_parse::{Atom, Span, Term};
 use m36_word::NoMemory;
 
+/// What a symbol comes to; 0 where it is not defined.
 #[tactic(auto, unfolding(crate::specs::Expressions::symbol_sum))]
-fn symbol_sum(text: &[u8], symbols: &Symbols, span: Span) -> Sum
+pub fn symbol_sum(text: &[u8], symbols: &Symbols, span: Span) -> Sum
     ensures { result ≡ symbol_sum text.now symbols.now span }
 {
     match symbols.find(&name_at(text, span)) {

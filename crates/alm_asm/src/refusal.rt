@@ -114,7 +114,8 @@ pub fn fault_of(refusal: Refusal) -> AlmFault
     fault_by(refusal.code, refusal.line, column_of(refusal))
 }
 
-fn has_room(room: Room, value: Balance) -> bool
+/// Whether a number fits.
+pub fn has_room(room: Room, value: Balance) -> bool
     ensures { result ≡ has_room room value }
 {
     match room {
