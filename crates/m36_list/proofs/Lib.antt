@@ -11,3 +11,5 @@ pub mod PrintLines
 pub mod SectionPlaces
 pub mod BackAgain
 pub mod WholeSource
+pub mod CountLaws
+pub mod ListingLines

@@ -1,4 +1,5 @@
 pub mod Assembled
+pub mod Counts
 pub mod Disassembly
 pub mod Listing
 pub mod Modifiers

@@ -6,6 +6,7 @@
 //! texts are this project's own.
 #![tactic(auto)]
 
+mod counts;
 mod definitions;
 pub mod disassembly;
 mod fields;

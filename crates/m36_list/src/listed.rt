@@ -1,12 +1,14 @@
 //! The listing of a source.
 
 ghost use Rattle.std.specs.Prelude.{ℕ, ◌+◌, ◌++◌, ◌≡◌, ◌^◌, ◌≤◌, length, take, drop, codes, IfOk, OnOk};
-ghost use Rattle.obj36.specs.ObjectSegment.{inner_statics, outer_statics};
+ghost use Rattle.obj36.specs.ObjectSegment.{inner_statics};
+ghost use Rattle.m36_list.specs.Counts.{IsCount};
 ghost use Rattle.alm_asm.specs.Spots.{start};
 ghost use Rattle.m36_list.specs.Listing.{is_in, size_in, section_words, listing_of};
 
+use crate::counts::{Counts, counted};
 use crate::placed::put_all_placed;
-use crate::printing::{put_print, text_words};
+use crate::printing::put_print;
 use alm_asm::deed::deed_of;
 use alm_asm::spot::{Spot, below, size_of};
 use alm_parse::{Line36, Lines36};
@@ -97,25 +99,19 @@ fn put_section_words(
 }
 
 // The static words of the linkage section.
-fn inner_words(o: &Object) -> &[Word]
+#[tactic(auto, using(crate::proofs::SectionPlaces::links_behind))]
+fn inner_words(count: Counts, o: &Object) -> &[Word]
+    requires { IsCount count o.now }
     ensures value { result.now ≡ inner_statics o.now }
     ensures fits { 8 + length result.now ≤ 2 ^ 18 }
 {
-    let object = o.parts();
-    if object.version == 2 {
+    let _count = count.linkage;
+    let parts = o.parts();
+    if parts.version == 2 {
         &[]
     } else {
-        object.statics.slice()
+        parts.statics.slice()
     }
-}
-
-// The words of the static section.
-fn outer_words(o: &Object) -> &[Word]
-    ensures value { result.now ≡ outer_statics o.now }
-    ensures fits { length result.now ≤ 2 ^ 18 }
-{
-    let _formed = o.parts();
-    o.section(Section::Static)
 }
 
 /// The listing of a source and the object that it assembles to, under a name: a line for each word that a line of the source
@@ -124,25 +120,13 @@ fn outer_words(o: &Object) -> &[Word]
 pub fn listing(alloc: Global, name: &[u8], lines: &Lines36, o: &Object) -> Result<Text, NoMemory>
     ensures { IfOk result (λ text. text ≡ listing_of name.now lines.now o.now) }
 {
+    let count = counted(alloc, o)?;
+    let words = o.section(Section::Text);
+    let inner = inner_words(count, o);
+    let outer = o.section(Section::Static);
     let mut text = Text::new(alloc);
-    put_section_words(
-        alloc,
-        &mut text,
-        b"text",
-        Section::Text,
-        lines,
-        0,
-        text_words(o),
-    )?;
-    put_section_words(
-        alloc,
-        &mut text,
-        b"link",
-        Section::Linkage,
-        lines,
-        8,
-        inner_words(o),
-    )?;
+    put_section_words(alloc, &mut text, b"text", Section::Text, lines, 0, words)?;
+    put_section_words(alloc, &mut text, b"link", Section::Linkage, lines, 8, inner)?;
     put_section_words(
         alloc,
         &mut text,
@@ -150,8 +134,8 @@ pub fn listing(alloc: Global, name: &[u8], lines: &Lines36, o: &Object) -> Resul
         Section::Static,
         lines,
         0,
-        outer_words(o),
+        outer,
     )?;
-    put_print(&mut text, name, o)?;
+    put_print(&mut text, name, count, o)?;
     Ok(text)
 }

@@ -2,12 +2,14 @@
 
 ghost use Rattle.std.specs.Prelude.{◌+◌, ◌++◌, ◌≡◌, ◌^◌, ◌<◌, ◌≤◌, length, OnOk};
 ghost use Rattle.obj36.specs.ObjectSegment.{definition_section, linkage_section, symbol_section, outer_statics};
+ghost use Rattle.m36_list.specs.Counts.{IsCount};
 ghost use Rattle.m36_list.specs.Print.{statics_at, section_line, static_line, value_line, section_lines};
 
+use crate::counts::Counts;
 use crate::fields::{put_field, put_last_number, put_number};
 use m36_outside::Text;
 use m36_word::NoMemory;
-use obj36::{Object, Parts, Section};
+use obj36::{Object, Parts};
 
 /// Puts the line of a section: its name, where it begins and how many words it has.
 #[tactic(auto, using(crate::proofs::LineFields::lines))]
@@ -44,41 +46,13 @@ fn put_value(text: &mut Text, name: &[u8], v: u32) -> Result<(), NoMemory>
     put_last_number(text, v as u64)
 }
 
-// How many words the sections have. The object has at most 2^18 words in all.
-#[derive(Clone, Copy)]
-struct Counts {
-    text: u64,
-    definition: u64,
-    linkage: u64,
-    statics: u64,
-    symbol: u64,
-}
-
-fn counted(o: &Object) -> Counts
-    ensures text { result.text ≡ length o.now.text }
-    ensures definition { result.definition ≡ length (definition_section o.now) }
-    ensures linkage { result.linkage ≡ length (linkage_section o.now) }
-    ensures statics { result.statics ≡ length (outer_statics o.now) }
-    ensures symbol { result.symbol ≡ length (symbol_section o.now) }
-    ensures fits { result.text + result.definition + result.linkage + result.statics + result.symbol < 2 ^ 18 }
-{
-    let _formed = o.parts();
-    Counts {
-        text: o.section(Section::Text).len() as u64,
-        definition: o.definition_length() as u64,
-        linkage: o.section(Section::Linkage).len() as u64,
-        statics: o.section(Section::Static).len() as u64,
-        symbol: o.section(Section::Symbol).len() as u64,
-    }
-}
-
 /// Puts the lines of the sections and of the entry bound.
 #[tactic(auto, unfolding(crate::specs::Print::section_lines), using(crate::proofs::SectionPlaces::six))]
-pub fn put_sections(text: &mut Text, o: &Object) -> Result<(), NoMemory>
+pub fn put_sections(text: &mut Text, count: Counts, o: &Object) -> Result<(), NoMemory>
+    requires { IsCount count o.now }
     ensures { OnOk result (text.new ≡ text.old ++ section_lines o.now) }
 {
     let parts = o.parts();
-    let count = counted(o);
     let linkage_at = count.text + count.definition;
     let statics_at = linkage_at + count.linkage;
     let symbol_at = statics_at + count.statics;
