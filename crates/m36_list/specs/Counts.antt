@@ -1,0 +1,15 @@
+-- How many words an object and its sections have.
+use Rattle.std.specs.Prelude.{ℕ, ◌≡◌, ◌+◌, ◌^◌, ◌<◌, length}
+use Rattle.obj36.specs.PartsFields.{PartsFields}
+use Rattle.obj36.specs.ObjectSegment.{definition_section, linkage_section, outer_statics, symbol_section, words_of}
+use Rattle.m36_list.specs.declared.counts.Counts.{Counts}
+
+-- The counts are those of the object, and each offset in it has 18 bits.
+pub record IsCount (c : Counts) (p : PartsFields) : Type 0 where
+  pub whole : c.whole ≡ length (words_of p)
+  pub text : c.text ≡ length p.text
+  pub definition : c.definition ≡ length (definition_section p)
+  pub linkage : c.linkage ≡ length (linkage_section p)
+  pub statics : c.statics ≡ length (outer_statics p)
+  pub symbol : c.symbol ≡ length (symbol_section p)
+  pub fits : c.text + c.definition + c.linkage + c.statics + c.symbol < 2 ^ 18

@@ -1,0 +1,141 @@
+//! The listing of a source.
+
+ghost use Rattle.std.specs.Prelude.{ℕ, ◌+◌, ◌++◌, ◌≡◌, ◌^◌, ◌≤◌, length, take, drop, codes, IfOk, OnOk};
+ghost use Rattle.obj36.specs.ObjectSegment.{inner_statics};
+ghost use Rattle.m36_list.specs.Counts.{IsCount};
+ghost use Rattle.alm_asm.specs.Spots.{start};
+ghost use Rattle.m36_list.specs.Listing.{is_in, size_in, section_words, listing_of};
+
+use crate::counts::{Counts, counted};
+use crate::placed::put_all_placed;
+use crate::printing::put_print;
+use alm_asm::deed::deed_of;
+use alm_asm::spot::{Spot, below, size_of};
+use alm_parse::{Line36, Lines36};
+use m36_outside::Text;
+use m36_word::{NoMemory, Word};
+use obj36::{Object, Section};
+use std::alloc::Global;
+
+// Whether a line that is in one section places its words in another.
+fn is_in(a: Section, b: Section) -> bool
+    ensures { result ≡ is_in a b }
+{
+    match (a, b) {
+        (Section::Text, Section::Text) => true,
+        (Section::Linkage, Section::Linkage) => true,
+        (Section::Symbol, Section::Symbol) => true,
+        (Section::Static, Section::Static) => true,
+        _ => false,
+    }
+}
+
+// How many words of a section a line places.
+#[tactic(auto, unfolding(crate::specs::Listing::size_in))]
+fn size_in(
+    alloc: Global,
+    section: Section,
+    text: &[u8],
+    spot: Spot,
+    line: &Line36,
+) -> Result<u64, NoMemory>
+    ensures { IfOk result (λ size. size ≡ size_in section text.now spot line.now) }
+{
+    if !is_in(spot.section, section) {
+        return Ok(0);
+    }
+    let at = spot.place()?;
+    size_of(alloc, deed_of(text, line.op), line.args.items(), at)
+}
+
+// The first words, as many as there are.
+fn front(words: &[Word], count: u64) -> &[Word]
+    ensures { result.now ≡ take count words.now }
+{
+    if count <= words.len() as u64 {
+        &words[..count as usize]
+    } else {
+        words
+    }
+}
+
+// The words behind those.
+fn behind(words: &[Word], count: u64) -> &[Word]
+    ensures { result.now ≡ drop count words.now }
+{
+    if count <= words.len() as u64 {
+        &words[count as usize..]
+    } else {
+        &[]
+    }
+}
+
+/// Puts a line for each word of a section that the lines of a source place, where the first stands at a place.
+fn put_section_words(
+    alloc: Global,
+    out: &mut Text,
+    name: &[u8],
+    section: Section,
+    source: &Lines36,
+    first: u64,
+    words: &[Word],
+) -> Result<(), NoMemory>
+    requires { first + length words.now ≤ 2 ^ 18 }
+    ensures { OnOk result (out.new ≡ out.old ++ section_words name.now section source.now.text first words.now start source.now.lines) }
+{
+    let text = source.text();
+    let mut spot = Spot::start();
+    let mut at = first;
+    let mut left = words;
+    for line in source.lines() {
+        let size = size_in(alloc, section, text, spot, line)?;
+        let here = front(left, size);
+        put_all_placed(out, name, line.line, at, here)?;
+        at += here.len() as u64;
+        left = behind(left, size);
+        spot = below(alloc, text, spot, line)?;
+    }
+    Ok(())
+}
+
+// The static words of the linkage section.
+#[tactic(auto, using(crate::proofs::SectionPlaces::links_behind))]
+fn inner_words(count: Counts, o: &Object) -> &[Word]
+    requires { IsCount count o.now }
+    ensures value { result.now ≡ inner_statics o.now }
+    ensures fits { 8 + length result.now ≤ 2 ^ 18 }
+{
+    let _count = count.linkage;
+    let parts = o.parts();
+    if parts.version == 2 {
+        &[]
+    } else {
+        parts.statics.slice()
+    }
+}
+
+/// The listing of a source and the object that it assembles to, under a name: a line for each word that a line of the source
+/// places, in order of section and place, and then the print of the object. The error is want of memory alone.
+#[tactic(auto, unfolding(crate::specs::Listing::listing_of))]
+pub fn listing(alloc: Global, name: &[u8], lines: &Lines36, o: &Object) -> Result<Text, NoMemory>
+    ensures { IfOk result (λ text. text ≡ listing_of name.now lines.now o.now) }
+{
+    let count = counted(alloc, o)?;
+    let words = o.section(Section::Text);
+    let inner = inner_words(count, o);
+    let outer = o.section(Section::Static);
+    let mut text = Text::new(alloc);
+    put_section_words(alloc, &mut text, b"text", Section::Text, lines, 0, words)?;
+    put_section_words(alloc, &mut text, b"link", Section::Linkage, lines, 8, inner)?;
+    put_section_words(
+        alloc,
+        &mut text,
+        b"static",
+        Section::Static,
+        lines,
+        0,
+        outer,
+    )?;
+    put_print(&mut text, name, count, o)?;
+    Ok(text)
+}
