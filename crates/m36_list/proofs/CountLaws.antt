@@ -1,5 +1,5 @@
 -- The counts of an object's words are told from its sections.
-use Rattle.std.proofs.Common.{ℕ, ◌≡◌, ◌+◌, ◌^◌, ◌<◌, List, length, ap, ◌∙◌, arith}
+use Rattle.std.proofs.Common.{ℕ, ◌≡◌, List, length, ap, ◌∙◌, arith}
 use Rattle.obj36.specs.PartsFields.{PartsFields}
 use Rattle.obj36.specs.ObjectSegment.{definition_section, linkage_section, outer_statics, symbol_section, Stands}
 use Rattle.m36_list.specs.Counts.{IsCount}

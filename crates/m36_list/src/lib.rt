@@ -1,6 +1,14 @@
-//! Listings: the text of an instruction's word.
+//! Listings: the text of an instruction's word, the print of an object, and the listing of a source.
 //!
-//! What is promised: [`disassemble`] gives exactly the text that `specs/Disassembly.antt` defines. It takes no memory.
+//! [`disassemble`] writes a word as the assembler would read it: the operation, one blank, the address, and the modifier
+//! where the tag is not 0. A word whose operation code has no instruction, whose inhibit bit is on, or whose tag has no
+//! modifier is `oct` and twelve digits. It takes no memory. [`print()`] tells an object: its name and the count of its words, its
+//! sections, the entry bound, its definitions and links, and each word of its text with the disassembly. [`listing`] has a
+//! line for each word that a line of a source places, with the number of that line, and then the print.
+//!
+//! What is proved: the texts are exactly those that `specs/` defines, in `Disassembly`, `Print` and `Listing`, and the only
+//! error is want of memory. The text of each word, as a line anywhere in a source and alone as a source, is parsed by the
+//! assembler's grammar as that word again: [`disassembly_laws`].
 //!
 //! Source: Multics Processor Manual AL39, "Machine instruction format", "Address modification" and "Operation code map"; the
 //! texts are this project's own.
@@ -12,14 +20,14 @@ pub mod disassembly;
 mod fields;
 pub mod laws;
 mod links;
-pub mod listed;
+mod listed;
 mod modifiers;
 mod placed;
-pub mod printing;
+mod printing;
 mod sections;
 #[cfg(test)]
 mod tests;
-pub mod words;
+mod words;
 
 pub use disassembly::disassemble;
 pub use laws::disassembly_laws;

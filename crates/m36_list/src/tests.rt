@@ -1,8 +1,10 @@
 //! Texts worked out by hand.
 
+ghost use Rattle.std.specs.Prelude.{◌<◌, ◌^◌, length};
 ghost use Rattle.obj36.specs.Sizes.{HasShortLists};
 
-use crate::{disassemble, disassembly_laws, print};
+use crate::{disassemble, disassembly_laws, listing, print};
+use alm_parse::{Lines36, parse};
 use m36_outside::Text;
 use m36_text::Name;
 use m36_word::{NoMemory, Word, Words};
@@ -153,6 +155,109 @@ link 000010 b$out 000000 00
 link 000012 *static$cnt 000002 20
 000000 400010713120 call6 pr4|8,*
 000001 000000616000 dis 0
+";
+    assert!(rt; text.bytes() == expected.as_bytes());
+    Ok(())
+}
+
+fn listed(
+    rt: &impl Abort,
+    alloc: Global,
+    under: &str,
+    source: &Lines36,
+    parts: Parts,
+) -> Result<Text, NoMemory>
+    requires { HasShortLists parts }
+{
+    assert!(rt; parts.is_well_formed());
+    let o = Object::new(alloc, parts)?;
+    listing(alloc, under.as_bytes(), source, &o)
+}
+
+fn read(rt: &impl Abort, alloc: Global, text: &str) -> Lines36
+    requires { length text.now < 2 ^ 32 }
+{
+    parse(alloc, text.as_bytes()).expect(rt, "a source")
+}
+
+#[test]
+fn listing_of_static_words(rt: HostRuntime) -> Result<(), NoMemory> {
+    let alloc = rt.alloc();
+    let source = read(&rt, alloc, " use static\ncnt: dec 5\n");
+    let mut statics = Words::new(alloc);
+    statics.push(Word::low(5))?;
+    let parts = Parts {
+        text: Words::new(alloc),
+        statics,
+        definitions: Defs::new(alloc),
+        links: Links::new(alloc),
+        relocations: Relocs::new(alloc),
+        entry_bound: 0,
+        version: 2,
+    };
+    let text = listed(&rt, alloc, "c", &source, parts)?;
+    let expected = "static 000000 000000000005 2
+object c 20
+text 000000 000000
+definition 000000 000002
+linkage 000002 000010
+static 000012 000001
+symbol 000013 000001
+entrybound 000000
+";
+    assert!(rt; text.bytes() == expected.as_bytes());
+    Ok(())
+}
+
+#[test]
+fn listing_of_a_source(rt: HostRuntime) -> Result<(), NoMemory> {
+    let alloc = rt.alloc();
+    let lines = " entry go\ngo: lda 6,dl\n oct 5,7\n use link\ncnt: dec 5\n bss b,2\n";
+    let source = read(&rt, alloc, lines);
+    let mut text = Words::new(alloc);
+    text.push(Word::low(0o000006235007))?;
+    text.push(Word::low(5))?;
+    text.push(Word::low(7))?;
+    let mut statics = Words::new(alloc);
+    statics.push(Word::low(5))?;
+    statics.push(Word::ZERO)?;
+    statics.push(Word::ZERO)?;
+    statics.push(Word::ZERO)?;
+    let mut definitions = Defs::new(alloc);
+    definitions.push(Named {
+        name: name(&rt, "go"),
+        def: Def {
+            value: 0,
+            section: Section::Text,
+            is_entry: true,
+        },
+    })?;
+    let parts = Parts {
+        text,
+        statics,
+        definitions,
+        links: Links::new(alloc),
+        relocations: Relocs::new(alloc),
+        entry_bound: 0,
+        version: 1,
+    };
+    let text = listed(&rt, alloc, "s", &source, parts)?;
+    let expected = "text 000000 000006235007 2
+text 000001 000000000005 3
+text 000002 000000000007 3
+link 000010 000000000005 5
+link 000011 000000000000 6
+link 000012 000000000000 6
+object s 28
+text 000000 000003
+definition 000003 000005
+linkage 000010 000014
+symbol 000024 000001
+entrybound 000000
+def go text 000000 entry
+000000 000006235007 lda 6,dl
+000001 000000000005 oct 000000000005
+000002 000000000007 oct 000000000007
 ";
     assert!(rt; text.bytes() == expected.as_bytes());
     Ok(())
