@@ -9,3 +9,7 @@ pub mod GoodDefinitions
 pub mod GoodLinks
 pub mod GoodMarks
 pub mod TooLong
+pub mod Placed
+pub mod LinksStanding
+pub mod SymbolsMean
+pub mod Assembling

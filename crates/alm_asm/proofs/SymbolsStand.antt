@@ -30,14 +30,14 @@ unfolding sum_named with_symbol
 stays name symbols other its sum e =
     with_one (is_some (sum_named other symbols)) name symbols ((other, its) ∷ []) sum e
 
-labels_stay : (text name : List ℕ) (its sum : Sum) (symbols : List (List ℕ × Sum)) (spans : List Span) → sum_named name symbols ≡ Some sum
+pub labels_stay : (text name : List ℕ) (its sum : Sum) (symbols : List (List ℕ × Sum)) (spans : List Span) → sum_named name symbols ≡ Some sum
     → sum_named name (with_labels text its symbols spans) ≡ Some sum
 unfolding with_labels
 labels_stay text name its sum symbols [] e = e
 labels_stay text name its sum symbols (span ∷ spans) e =
     labels_stay text name its sum (with_symbol symbols (name_at text span) its) spans (stays name symbols (name_at text span) its sum e)
 
-own_stays : (text name : List ℕ) (its sum : Sum) (symbols : List (List ℕ × Sum)) (own : Option Span) → sum_named name symbols ≡ Some sum
+pub own_stays : (text name : List ℕ) (its sum : Sum) (symbols : List (List ℕ × Sum)) (own : Option Span) → sum_named name symbols ≡ Some sum
     → sum_named name (with_own text symbols own its) ≡ Some sum
 own_stays text name its sum symbols None e = e
 own_stays text name its sum symbols (Some span) e = stays name symbols (name_at text span) its sum e
@@ -49,7 +49,7 @@ line_stays text name sum symbols spot line e =
     own_stays text name (own_sum text (labelled text symbols spot line) spot line (deed_of text line.op)) sum (labelled text symbols spot line) (own_symbol (deed_of text line.op) line.args)
     (labels_stay text name (here spot) sum symbols line.labels e)
 
-lines_stay : (text name : List ℕ) (sum : Sum) (symbols : List (List ℕ × Sum)) (spot : Spot) (lines : List Line36) → sum_named name symbols ≡ Some sum
+pub lines_stay : (text name : List ℕ) (sum : Sum) (symbols : List (List ℕ × Sum)) (spot : Spot) (lines : List Line36) → sum_named name symbols ≡ Some sum
     → sum_named name (symbols_from text symbols spot lines) ≡ Some sum
 unfolding symbols_from
 lines_stay text name sum symbols spot [] e = e

@@ -12,3 +12,4 @@ pub mod Definitions
 pub mod LineRefusals
 pub mod Assembly
 pub mod Laws
+pub mod Assembles

@@ -9,6 +9,7 @@ ghost use Rattle.obj36.specs.Sizes.{HasShortLists};
 ghost use Rattle.alm_asm.specs.Layout.{layout_refusal};
 ghost use Rattle.alm_asm.specs.Words.{words_from};
 ghost use Rattle.alm_asm.specs.Marks.{marks_from};
+ghost use Rattle.alm_asm.specs.Assembles.{Assembles};
 ghost use Rattle.alm_asm.specs.Assembly.{made, first_link, tables_of, bound_by, bound_from, static_section, version_of, evened, parts_with, last_line, assembled};
 
 use crate::deed::{Deed, deed_of};
@@ -237,11 +238,10 @@ fn object_of(alloc: Global, parts: Parts, number: u32) -> Result<Object, AlmFaul
     Ok(Object::new(alloc, parts)?)
 }
 
-/// The object of lines. It is refused exactly where a line is, with the first of the codes E5 to E8 in the order of the
-/// text, and the least of them at one place; or where no memory is found.
-#[tactic(auto, unfolding(crate::specs::Assembly::assembled, crate::specs::Assembly::refusal_of))]
-pub fn assemble(alloc: Global, lines: &Lines36) -> Result<Object, AlmFault>
-    ensures says { ParseSays result (assembled lines.now) }
+// What lines mean: the parts of an object, or the first refusal.
+#[tactic(auto, using(crate::proofs::AssemblyLaws::tells_refusal), unfolding(crate::specs::Assembly::assembled, crate::specs::Assembly::refusal_of))]
+fn meaning(alloc: Global, lines: &Lines36) -> Result<Object, AlmFault>
+    ensures { ParseSays result (assembled lines.now) }
 {
     let text = lines.text();
     let rows = lines.lines();
@@ -254,4 +254,14 @@ pub fn assemble(alloc: Global, lines: &Lines36) -> Result<Object, AlmFault>
             object_of(alloc, parts, last_line(rows))
         }
     }
+}
+
+/// The object of lines. It is refused exactly where a line is, with the first of the codes E5 to E8 in the order of the
+/// text, and the least of them at one place; or where no memory is found.
+#[tactic(auto, using(crate::proofs::Assembling::says_assembles))]
+pub fn assemble(alloc: Global, lines: &Lines36) -> Result<Object, AlmFault>
+    ensures says { ParseSays result (assembled lines.now) }
+    ensures assembles { IfOk result (λ parts. Assembles lines.now parts) }
+{
+    meaning(alloc, lines)
 }

@@ -5,9 +5,9 @@
 //! its expression. The words are the instructions of the table, with what their expressions come to, and the numbers and
 //! characters that are given. An external operand is a link; equal links are one.
 //!
-//! What is promised: `assemble` gives the parts of an object that the lines mean, or the first refusal in the order of the
-//! text, and the least code of those at one place; want of memory may come at any time. What lines mean is stated without
-//! passes over them, in `specs/`: `Assembly` says what the parts are, and where a refusal comes.
+//! What is promised: `assemble` gives the object that the lines mean, or the first refusal in the order of the text, and the
+//! least code of those at one place; want of memory may come at any time. `specs/Assembles` says what stands where in the
+//! object of lines, `specs/Assembly` what each part of it is, and which refusal comes first.
 //!
 //! Source: the language is this project's own; its instructions are those of the Multics Processor Manual AL39.
 #![tactic(auto)]

@@ -1,0 +1,118 @@
+-- The parts that are given are the object of the lines.
+use Rattle.std.proofs.Common.{◌≡◌, ℕ, ◌+◌, ◌%◌, ◌^◌, ◌<◌, ◌≤◌, Bool, true, false, cond, eqb, List, [], ◌∷◌, ◌++◌, length, Option, Some, None, Result, Ok, Err, refl, sym, ap, ◌∙◌, subst, arith}
+use Rattle.std.specs.Prelude.{IfOk}
+use Rattle.std.specs.List.{list_any}
+use Rattle.alm_parse.specs.SourceFields.{Source}
+use Rattle.alm_parse.specs.declared.line.Line36.{Line36}
+use Rattle.alm_parse.specs.declared.fault.AlmFault.{AlmFault}
+use Rattle.alm_parse.specs.Sources.{ParseSays}
+use Rattle.obj36.specs.declared.section.Section.TheVariants.{Text}
+use Rattle.obj36.specs.PartsFields.{PartsFields}
+use Rattle.obj36.specs.ObjectSegment.{words_of, is_well_formed}
+use Rattle.obj36.proofs.Formed.{is_formed}
+use Rattle.obj36.proofs.LengthLaws.{length-words_of}
+use Rattle.alm_asm.specs.Spots.{start, count_in, below, end_of}
+use Rattle.alm_asm.specs.Links.{links_from}
+use Rattle.alm_asm.specs.Words.{words_from}
+use Rattle.alm_asm.specs.Layout.{symbols_from, layout_refusal}
+use Rattle.alm_asm.specs.LineRefusals.{lines_refusal}
+use Rattle.alm_asm.specs.Assembly.{tables_of, bound_from, static_section, version_of, evened, parts_with, parts_of, refusal_of, last_line, made, assembled_by, assembled}
+use Rattle.alm_asm.specs.Laws.{holds_words}
+use Rattle.alm_asm.specs.Assembles.{evened_count, is_entrybound, is_use_static, Assembles}
+use Rattle.alm_asm.specs.declared.spot.Spot.{Spot}
+use Rattle.alm_asm.specs.declared.tables.Tables.{Tables}
+use Rattle.alm_asm.specs.declared.refusal.Refusal.{Refusal}
+use Rattle.alm_asm.proofs.Unrefused.{lines_first}
+use Rattle.alm_asm.proofs.PlaceLaws.{places_count, grows_to_end}
+use Rattle.alm_asm.proofs.Placed.{stands, evened_stands, evened_length, end_outer, unbound, bound_is}
+use Rattle.alm_asm.proofs.LinksStanding.{link_stands}
+use Rattle.alm_asm.proofs.SymbolsMean.{labels_mean, own_mean}
+
+static_holds : (newer : Bool) → holds_words (static_section newer) ≡ true
+static_holds true = refl
+static_holds false = refl
+
+end_follows : (text : List ℕ) (spot : Spot) (above lines : List Line36) → end_of text spot (above ++ lines) ≡ end_of text (end_of text spot above) lines
+unfolding end_of
+end_follows text spot [] lines = refl
+end_follows text spot (line ∷ above) lines = end_follows text (below text spot line) above lines
+
+-- the text of an object is short
+fixed : (b : Bool) → 18 ≤ cond b 19 18
+fixed true = omega arith
+fixed false = omega arith
+
+short : (p : PartsFields) → is_well_formed p ≡ true → length p.text < 2 ^ 18
+short p formed =
+    let fits = (is_formed p formed).fits in
+    let sum = length-words_of p in
+    let head = fixed (eqb p.version 2) in
+    omega arith
+
+bound_in_text : (text : List ℕ) (tables : Tables) (lines above : List Line36) (line : Line36) (others : List Line36) → lines ≡ above ++ line ∷ others
+    → length (words_from text tables Text [] start lines) < 2 ^ 18 → (end_of text start above).text % 2 ^ 18 ≡ (end_of text start above).text
+bound_in_text text tables lines above line others split small =
+    let spot = end_of text start above in
+    let whole : (end_of text start lines).text ≡ length (words_from text tables Text [] start lines) = places_count text tables Text lines refl in
+    let parted : (end_of text start lines).text ≡ (end_of text spot (line ∷ others)).text = ap (λ (l : List Line36). (end_of text start l).text) split ∙ ap (λ (s : Spot). s.text) (end_follows text start above (line ∷ others)) in
+    let grown : spot.text ≤ (end_of text spot (line ∷ others)).text = grows_to_end Text text tables spot (line ∷ others) refl in
+    let least : spot.text < 2 ^ 18 = omega arith in
+    omega arith
+
+no_layout_refusal : (source : Source) → refusal_of source ≡ None → layout_refusal source.text None [] start source.lines ≡ None
+unfolding refusal_of
+no_layout_refusal source none =
+    lines_first source.text (tables_of source.text source.lines) [] (layout_refusal source.text None [] start source.lines) start source.lines none
+
+parts_assemble : (source : Source) → refusal_of source ≡ None → is_well_formed (parts_of source) ≡ true → Assembles source (parts_of source)
+unfolding parts_with tables_of
+parts_assemble source none formed =
+    let text = source.text in
+    let lines = source.lines in
+    let tables = tables_of source.text source.lines in
+    let newer = (end_of source.text start source.lines).uses_outer in
+    let section = static_section newer in
+    let free = no_layout_refusal source none in
+    let well = is_formed (parts_of source) formed in
+    let small = short (parts_of source) formed in
+    record {
+      text = λ above line others split here. stands text tables Text lines above line others refl split here;
+      statics = λ above line others split here. evened_stands newer (count_in section (end_of text start above)) _ (words_from text tables section [] start lines) (stands text tables section lines above line others (static_holds newer) split here);
+      text_length = sym (places_count text tables Text lines refl);
+      statics_length = evened_length newer (words_from text tables section [] start lines) ∙ ap (λ n. evened_count newer n) (sym (places_count text tables section lines (static_holds newer)));
+      labels = λ above line others split. labels_mean text lines above line others split free;
+      own = λ above line others split. own_mean text lines above line others split free;
+      links = λ above line others split link given. link_stands text (symbols_from text [] start lines) lines above line others link split given;
+      definitions = refl;
+      distinct = well.distinct;
+      relocations = refl;
+      rising = well.rising;
+      bound = λ above line others split this last. bound_is text lines above line others split this last ∙ bound_in_text text tables lines above line others split small;
+      unbound = λ last. unbound text 0 start lines last;
+      version = ap version_of (end_outer text start lines);
+    }
+
+record IsMade (source : Source) (parts : PartsFields) : Type 0 where
+  none : refusal_of source ≡ None
+  formed : is_well_formed (parts_of source) ≡ true
+  parts_are : parts_of source ≡ parts
+
+made_by : (source : Source) (parts : PartsFields) (refusal : Option Refusal) (b : Bool) → refusal_of source ≡ refusal → is_well_formed (parts_of source) ≡ b
+    → assembled_by source refusal ≡ Ok parts → made (parts_of source) (last_line 1 source.lines) b ≡ Ok parts → IsMade source parts
+made_by source parts (Some refusal) b r f e g = absurd cc
+made_by source parts None true r f e g = record { none = r; formed = f; parts_are = cc }
+made_by source parts None false r f e g = absurd cc
+
+shown : (source : Source) (parts : PartsFields) (refusal : Option Refusal) → refusal_of source ≡ refusal → assembled_by source refusal ≡ Ok parts → IsMade source parts
+shown source parts (Some refusal) r e = absurd cc
+shown source parts None r e = made_by source parts None (is_well_formed (parts_of source)) r refl e e
+
+pub assembles : (source : Source) (parts : PartsFields) → assembled source ≡ Ok parts → Assembles source parts
+unfolding assembled
+assembles source parts e =
+    let is = shown source parts (refusal_of source) refl e in
+    subst (Assembles source) is.parts_are (parts_assemble source is.none is.formed)
+
+pub says_assembles : (source : Source) (answer : Result PartsFields AlmFault) → ParseSays answer (assembled source) → IfOk answer (λ parts. Assembles source parts)
+says_assembles source (Ok parts) e = assembles source parts e
+says_assembles source (Err fault) e = tt

@@ -1,0 +1,73 @@
+-- The link of each external operand stands among the links.
+use Rattle.std.proofs.Common.{◌≡◌, ℕ, Bool, true, false, cond, ◌&&◌, ◌||◌, eqb, List, [], ◌∷◌, ◌++◌, Option, Some, None, refl, sym, ap, ◌∙◌, true≢false}
+use Rattle.std.specs.List.{list_any}
+use Rattle.std.proofs.lemmas.Bool.{and_from, eq-eqb}
+use Rattle.std.proofs.lemmas.List.Folds.{list_any-append}
+use Rattle.alm_parse.specs.declared.line.Line36.{Line36}
+use Rattle.obj36.specs.Fields.{LinkFields}
+use Rattle.obj36.specs.ObjectSegment.{place_number}
+use Rattle.obj36.proofs.SizeLaws.{same_self}
+use Rattle.alm_asm.specs.Symbols.{same_name}
+use Rattle.alm_asm.specs.Deeds.{deed_of, first_arg}
+use Rattle.alm_asm.specs.Spots.{start, below, end_of}
+use Rattle.alm_asm.specs.Links.{operand_args, link_in, same_link, with_link, links_after, links_from}
+use Rattle.alm_asm.specs.declared.sum.Sum.{Sum}
+use Rattle.alm_asm.specs.declared.spot.Spot.{Spot}
+
+link_self : (l : LinkFields) → same_link l l ≡ true
+unfolding same_link
+link_self l =
+    and_from ((((eqb l.kind l.kind && eqb (place_number l.section) (place_number l.section)) && same_name l.name l.name) && same_name l.entry l.entry) && eqb l.expr l.expr) (eqb l.modifier l.modifier)
+    (and_from (((eqb l.kind l.kind && eqb (place_number l.section) (place_number l.section)) && same_name l.name l.name) && same_name l.entry l.entry) (eqb l.expr l.expr)
+    (and_from ((eqb l.kind l.kind && eqb (place_number l.section) (place_number l.section)) && same_name l.name l.name) (same_name l.entry l.entry)
+    (and_from (eqb l.kind l.kind && eqb (place_number l.section) (place_number l.section)) (same_name l.name l.name)
+    (and_from (eqb l.kind l.kind) (eqb (place_number l.section) (place_number l.section)) (eq-eqb l.kind l.kind refl) (eq-eqb (place_number l.section) (place_number l.section) refl))
+    (same_self l.name)) (same_self l.entry)) (eq-eqb l.expr l.expr refl)) (eq-eqb l.modifier l.modifier refl)
+
+or_left : (a b : Bool) → a ≡ true → (a || b) ≡ true
+or_left a b e = ap (λ x. x || b) e
+
+or_right : (a b : Bool) → b ≡ true → (a || b) ≡ true
+or_right true b e = refl
+or_right false b e = e
+
+stays_by : (l other : LinkFields) (links : List LinkFields) (b : Bool) → list_any (same_link l) links ≡ true → list_any (same_link l) (cond b links (links ++ other ∷ [])) ≡ true
+stays_by l other links true e = e
+stays_by l other links false e = list_any-append (same_link l) links (other ∷ []) ∙ or_left (list_any (same_link l) links) (list_any (same_link l) (other ∷ [])) e
+
+stays_with : (l : LinkFields) (links : List LinkFields) (more : Option LinkFields) → list_any (same_link l) links ≡ true → list_any (same_link l) (with_link links more) ≡ true
+stays_with l links None e = e
+stays_with l links (Some other) e = stays_by l other links (list_any (same_link other) links) e
+
+stays_from : (text : List ℕ) (symbols : List (List ℕ × Sum)) (l : LinkFields) (links : List LinkFields) (spot : Spot) (lines : List Line36) → list_any (same_link l) links ≡ true
+    → list_any (same_link l) (links_from text symbols links spot lines) ≡ true
+unfolding links_from links_after
+stays_from text symbols l links spot [] e = e
+stays_from text symbols l links spot (line ∷ lines) e =
+    stays_from text symbols l (links_after text symbols links spot line) (below text spot line) lines
+    (stays_with l links (link_in text symbols spot (first_arg (operand_args (deed_of text line.op) line.args))) e)
+
+added_by : (l : LinkFields) (links : List LinkFields) (b : Bool) → list_any (same_link l) links ≡ b → list_any (same_link l) (cond b links (links ++ l ∷ [])) ≡ true
+added_by l links true e = e
+added_by l links false e =
+    list_any-append (same_link l) links (l ∷ []) ∙ or_right (list_any (same_link l) links) (list_any (same_link l) (l ∷ [])) (or_left (same_link l l) false (link_self l))
+
+added_with : (l : LinkFields) (links : List LinkFields) (given : Option LinkFields) → given ≡ Some l → list_any (same_link l) (with_link links given) ≡ true
+added_with l links given e = ap (λ (g : Option LinkFields). list_any (same_link l) (with_link links g)) e ∙ added_by l links (list_any (same_link l) links) refl
+
+follows : (text : List ℕ) (symbols : List (List ℕ × Sum)) (links : List LinkFields) (spot : Spot) (above lines : List Line36)
+    → links_from text symbols links spot (above ++ lines) ≡ links_from text symbols (links_from text symbols links spot above) (end_of text spot above) lines
+unfolding links_from end_of
+follows text symbols links spot [] lines = refl
+follows text symbols links spot (line ∷ above) lines = follows text symbols (links_after text symbols links spot line) (below text spot line) above lines
+
+pub link_stands : (text : List ℕ) (symbols : List (List ℕ × Sum)) (lines above : List Line36) (line : Line36) (others : List Line36) (l : LinkFields) → lines ≡ above ++ line ∷ others
+    → link_in text symbols (end_of text start above) (first_arg (operand_args (deed_of text line.op) line.args)) ≡ Some l → list_any (same_link l) (links_from text symbols [] start lines) ≡ true
+unfolding links_from links_after
+link_stands text symbols lines above line others l split given =
+    let before = links_from text symbols [] start above in
+    let spot = end_of text start above in
+    ap (λ (x : List Line36). list_any (same_link l) (links_from text symbols [] start x)) split
+    ∙ ap (λ (x : List LinkFields). list_any (same_link l) x) (follows text symbols [] start above (line ∷ others))
+    ∙ stays_from text symbols l (links_after text symbols before spot line) (below text spot line) others
+      (added_with l before (link_in text symbols spot (first_arg (operand_args (deed_of text line.op) line.args))) given)

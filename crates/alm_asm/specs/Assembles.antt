@@ -1,0 +1,157 @@
+-- What an object is of lines, by what stands where. A line is told by the lines above it: it stands at the spot that these
+-- end at, in the section that the last `use` line among them names, behind the words that they place there.
+use Rattle.std.specs.Prelude.{ℕ, ◌≡◌, ◌+◌, ◌%◌, Bool, true, false, nat_eq, if◌then◌else◌, List, [], ◌∷◌, ◌++◌, length, Option, Some, None}
+use Rattle.std.specs.List.{list_any}
+use Rattle.alm_parse.specs.SourceFields.{Source}
+use Rattle.alm_parse.specs.declared.span.Span.{Span}
+use Rattle.alm_parse.specs.declared.line.Line36.{Line36}
+use Rattle.obj36.specs.declared.section.Section.{Section}
+use Rattle.obj36.specs.declared.section.Section.TheVariants.{Text, Linkage, Symbol, Static}
+use Rattle.obj36.specs.Fields.{LinkFields}
+use Rattle.obj36.specs.PartsFields.{PartsFields}
+use Rattle.obj36.specs.ObjectSegment.{definition_names, are_distinct, are_rising, is_well_formed}
+use Rattle.alm_asm.specs.Symbols.{sum_named}
+use Rattle.alm_asm.specs.Deeds.{deed_of, name_at, first_arg, symbol_in, section_in}
+use Rattle.alm_asm.specs.Spots.{start, count_in, here, end_of}
+use Rattle.alm_asm.specs.Links.{operand_args, link_in, same_link}
+use Rattle.alm_asm.specs.Words.{words_by}
+use Rattle.alm_asm.specs.Marks.{marks_from}
+use Rattle.alm_asm.specs.Layout.{own_symbol, own_sum, labelled, symbols_from}
+use Rattle.alm_asm.specs.Definitions.{definitions_from}
+use Rattle.alm_asm.specs.Assembly.{tables_of, static_section, version_of}
+use Rattle.alm_asm.specs.declared.sum.Sum.{Sum}
+use Rattle.alm_asm.specs.declared.spot.Spot.{Spot}
+use Rattle.alm_asm.specs.declared.tables.Tables.{Tables}
+use Rattle.alm_asm.specs.declared.deed.Deed.{Deed}
+use Rattle.alm_asm.specs.declared.deed.Deed.TheVariants as deed
+
+-- ---- words of the subject
+
+-- words that stand in others, behind so many of them
+pub record StandsBehind (count : ℕ) (part words : List ℕ) : Type 0 where
+  pub front : List ℕ
+  pub rest : List ℕ
+  pub whole : words ≡ front ++ part ++ rest
+  pub place : length front ≡ count
+
+-- where the line below some others is
+abbrev pub spot_below : Source → List Line36 → Spot
+spot_below source above = end_of source.text start above
+
+abbrev pub IsSplit : Source → List Line36 → Line36 → List Line36 → Type 0
+IsSplit source above line others = source.lines ≡ above ++ line ∷ others
+
+-- what the symbols of a source come to, and its links
+abbrev pub meaning_of : Source → Tables
+meaning_of source = tables_of source.text source.lines
+
+-- the words that a line places: its instruction, numbers, characters, halves or zeros
+abbrev pub words_placed : Source → List Line36 → Line36 → List ℕ
+words_placed source above line = words_by source.text (meaning_of source) (spot_below source above) line.args (deed_of source.text line.op)
+
+-- whether a line is `use static`
+abbrev pub is_static : Section → Bool
+is_static Text = false
+is_static Linkage = false
+is_static Symbol = false
+is_static Static = true
+
+abbrev pub enters_static : Deed → Section → Bool
+enters_static deed.Nothing section = false
+enters_static (deed.Instruction code bit27) section = false
+enters_static deed.Entry section = false
+enters_static deed.Segdef section = false
+enters_static deed.Equ section = false
+enters_static deed.Use section = is_static section
+enters_static deed.Words section = false
+enters_static deed.Zero section = false
+enters_static deed.Block section = false
+enters_static deed.Even section = false
+enters_static deed.Bound section = false
+
+unfoldable pub is_use_static : List ℕ → Line36 → Bool
+is_use_static text line = enters_static (deed_of text line.op) (section_in text (symbol_in (first_arg line.args)))
+
+-- whether a line is `entrybound`
+abbrev pub is_bound : Deed → Bool
+is_bound deed.Nothing = false
+is_bound (deed.Instruction code bit27) = false
+is_bound deed.Entry = false
+is_bound deed.Segdef = false
+is_bound deed.Equ = false
+is_bound deed.Use = false
+is_bound deed.Words = false
+is_bound deed.Zero = false
+is_bound deed.Block = false
+is_bound deed.Even = false
+is_bound deed.Bound = true
+
+unfoldable pub is_entrybound : List ℕ → Line36 → Bool
+is_entrybound text line = is_bound (deed_of text line.op)
+
+-- ---- the relation
+
+-- The words of a line of the text stand in the text behind those that the lines above it place there.
+abbrev pub PlacesText : Source → PartsFields → Type 0
+PlacesText source parts =
+    (above : List Line36) (line : Line36) (others : List Line36) → IsSplit source above line others → (spot_below source above).section ≡ Text
+    → StandsBehind (spot_below source above).text (words_placed source above line) parts.text
+
+-- So do the words of a line of static words in the static words.
+abbrev pub PlacesStatics : Source → PartsFields → Type 0
+PlacesStatics source parts =
+    (above : List Line36) (line : Line36) (others : List Line36) → IsSplit source above line others
+    → (spot_below source above).section ≡ static_section (meaning_of source).uses_outer
+    → StandsBehind (count_in (static_section (meaning_of source).uses_outer) (spot_below source above)) (words_placed source above line) parts.statics
+
+-- No other words stand there, but for one zero behind an odd count of static words in version 1.
+abbrev pub evened_count : Bool → ℕ → ℕ
+evened_count true n = n
+evened_count false n = n + n % 2
+
+-- A label comes to its place.
+abbrev pub LabelsMean : Source → Type 0
+LabelsMean source =
+    (above : List Line36) (line : Line36) (others : List Line36) → IsSplit source above line others
+    → (before : List Span) (span : Span) (after : List Span) → line.labels ≡ before ++ span ∷ after
+    → sum_named (name_at source.text span) (meaning_of source).symbols ≡ Some (here (spot_below source above))
+
+-- The symbol of an `equ` comes to its number by the symbols above, and that of a `bss` to its place.
+abbrev pub above_line : Source → List Line36 → Line36 → List (List ℕ × Sum)
+above_line source above line = labelled source.text (symbols_from source.text [] start above) (spot_below source above) line
+
+abbrev pub OwnMean : Source → Type 0
+OwnMean source =
+    (above : List Line36) (line : Line36) (others : List Line36) → IsSplit source above line others
+    → (span : Span) → own_symbol (deed_of source.text line.op) line.args ≡ Some span
+    → sum_named (name_at source.text span) (meaning_of source).symbols ≡ Some (own_sum source.text (above_line source above line) (spot_below source above) line (deed_of source.text line.op))
+
+-- The link of each external operand stands among the links.
+abbrev pub LinksStand : Source → PartsFields → Type 0
+LinksStand source parts =
+    (above : List Line36) (line : Line36) (others : List Line36) → IsSplit source above line others
+    → (link : LinkFields) → link_in source.text (meaning_of source).symbols (spot_below source above) (first_arg (operand_args (deed_of source.text line.op) line.args)) ≡ Some link
+    → list_any (same_link link) parts.links ≡ true
+
+-- The entry bound is the place in the text at the last `entrybound` line, or 0.
+abbrev pub BoundIs : Source → PartsFields → Type 0
+BoundIs source parts =
+    (above : List Line36) (line : Line36) (others : List Line36) → IsSplit source above line others → is_entrybound source.text line ≡ true
+    → list_any (is_entrybound source.text) others ≡ false → parts.entry_bound ≡ (spot_below source above).text
+
+-- The parts are the object of the lines.
+pub record Assembles (source : Source) (parts : PartsFields) : Type 0 where
+  pub text : PlacesText source parts
+  pub statics : PlacesStatics source parts
+  pub text_length : length parts.text ≡ (spot_below source source.lines).text
+  pub statics_length : length parts.statics ≡ evened_count (meaning_of source).uses_outer (count_in (static_section (meaning_of source).uses_outer) (spot_below source source.lines))
+  pub labels : LabelsMean source
+  pub own : OwnMean source
+  pub links : LinksStand source parts
+  pub definitions : parts.definitions ≡ definitions_from source.text (meaning_of source).symbols [] source.lines
+  pub distinct : are_distinct (definition_names parts.definitions) ≡ true
+  pub relocations : parts.relocations ≡ marks_from source.text (meaning_of source).symbols (static_section (meaning_of source).uses_outer) (marks_from source.text (meaning_of source).symbols Text [] start source.lines) start source.lines
+  pub rising : are_rising 0 3 parts.relocations ≡ true
+  pub bound : BoundIs source parts
+  pub unbound : list_any (is_entrybound source.text) source.lines ≡ false → parts.entry_bound ≡ 0
+  pub version : parts.version ≡ version_of (list_any (is_use_static source.text) source.lines)
