@@ -272,4 +272,4 @@ unfolding kind_of
 kind_good outer s fits =
     kind_by outer (is_even s.text && is_even s.inner && is_even s.outer) (is_one s.text && is_even s.inner && is_even s.outer) (is_even s.text && is_one s.inner && is_even s.outer) (is_even s.text && is_even s.inner && is_one s.outer)
     (λ none. let least : s.outer.up ≤ s.outer.down = (let e = fits none in omega arith) in
-      and_right (is_even s.text && is_even s.inner) (is_one s.outer) (and_left _ _ (le-ltb s.outer.down s.outer.up least)))
+    and_right (is_even s.text && is_even s.inner) (is_one s.outer) (and_left _ _ (le-ltb s.outer.down s.outer.up least)))

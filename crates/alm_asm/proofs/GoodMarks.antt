@@ -73,10 +73,10 @@ none_in_order = record { rising = refl; least = omega arith; barred = inr refl }
 
 pub further : (k n : ℕ) (marks : List RelocFields) → k ≤ n → InOrder k marks → InOrder n marks
 further k n marks le at = record {
-    rising = at.rising;
-    least = (let h = at.least in omega arith);
-    barred = by at.barred;
-  }
+  rising = at.rising;
+  least = (let h = at.least in omega arith);
+  barred = by at.barred;
+}
   where
     by : ((barred_after 3 marks < k * 4) ⊎ (barred_after 3 marks ≡ 3)) → (barred_after 3 marks < n * 4) ⊎ (barred_after 3 marks ≡ 3)
     by (inl h) = inl (omega arith)
@@ -95,10 +95,10 @@ barred_next k part order barred false o p e (inr h) = inr h
 -- one of word k
 pub pushed : (k : ℕ) (marks : List RelocFields) (r : RelocFields) → order_of r ≡ k * 4 + r.part → r.part ≤ 2 → InOrder k marks → InOrder (k + 1) (marks ++ r ∷ [])
 pushed k marks r o p at = record {
-    rising = rising_pushed 0 3 marks r at.rising (le-leb (least_after 0 marks) (order_of r) (let h = at.least in omega arith)) (not_barred k r.part (order_of r) (barred_after 3 marks) o p at.barred);
-    least = (let e = least_pushed 0 marks r in omega arith);
-    barred = subst (λ (n : ℕ). (n < (k + 1) * 4) ⊎ (n ≡ 3)) (sym (barred_pushed 3 marks r)) (barred_next k r.part (order_of r) (barred_after 3 marks) (eqb r.part 0) o p refl at.barred);
-  }
+  rising = rising_pushed 0 3 marks r at.rising (le-leb (least_after 0 marks) (order_of r) (let h = at.least in omega arith)) (not_barred k r.part (order_of r) (barred_after 3 marks) o p at.barred);
+  least = (let e = least_pushed 0 marks r in omega arith);
+  barred = subst (λ (n : ℕ). (n < (k + 1) * 4) ⊎ (n ≡ 3)) (sym (barred_pushed 3 marks r)) (barred_next k r.part (order_of r) (barred_after 3 marks) (eqb r.part 0) o p refl at.barred);
+}
 
 -- parts 0 and 1 of word k
 pub pair_pushed : (k : ℕ) (marks : List RelocFields) (r s : RelocFields) → order_of r ≡ k * 4 → r.part ≡ 0 → order_of s ≡ k * 4 + 1 → s.part ≡ 1
@@ -210,9 +210,9 @@ mark_good room spot part Absolute marks h l p g at =
 mark_good room spot part Unsaid marks h l p g at =
     subst (λ (m : List RelocFields). Good room (word_number spot.section spot + 1) m) (sym (append-nil marks)) (further_good room (word_number spot.section spot) (word_number spot.section spot + 1) marks (omega arith) at)
 mark_good room spot part (Moved target) marks h l p g at = record {
-    order = pushed (word_number spot.section spot) marks (reloc spot part target) (reloc_order room spot part target h l) p at.order;
-    all = one_more room marks (reloc spot part target) at.all (reloc_good room spot part target h l p g);
-  }
+  order = pushed (word_number spot.section spot) marks (reloc spot part target) (reloc_order room spot part target h l) p at.order;
+  all = one_more room marks (reloc spot part target) at.all (reloc_good room spot part target h l p g);
+}
 
 -- both halves of the word at a spot
 pub halves_good : (room : Room) (spot : Spot) (left right : Kind) (marks : List RelocFields) → count_in spot.section spot < limit spot.section room → limit spot.section room + 8 < 2 ^ 18
@@ -227,9 +227,9 @@ halves_good room spot (Moved target) Absolute marks h l g q at =
 halves_good room spot (Moved target) Unsaid marks h l g q at =
     subst (λ (m : List RelocFields). Good room (word_number spot.section spot + 1) m) (sym (append-nil (marks ++ reloc spot 0 target ∷ []))) (mark_good room spot 0 (Moved target) marks h l (omega arith) g at)
 halves_good room spot (Moved target) (Moved other) marks h l g q at = record {
-    order = pair_pushed (word_number spot.section spot) marks (reloc spot 0 target) (reloc spot 1 other) (reloc_order room spot 0 target h l ∙ add_zero (word_number spot.section spot * 4)) refl (reloc_order room spot 1 other h l) refl at.order;
-    all = one_more room (marks ++ reloc spot 0 target ∷ []) (reloc spot 1 other) (one_more room marks (reloc spot 0 target) at.all (reloc_good room spot 0 target h l (omega arith) g)) (reloc_good room spot 1 other h l (omega arith) q);
-  }
+  order = pair_pushed (word_number spot.section spot) marks (reloc spot 0 target) (reloc spot 1 other) (reloc_order room spot 0 target h l ∙ add_zero (word_number spot.section spot * 4)) refl (reloc_order room spot 1 other h l) refl at.order;
+  all = one_more room (marks ++ reloc spot 0 target ∷ []) (reloc spot 1 other) (one_more room marks (reloc spot 0 target) at.all (reloc_good room spot 0 target h l (omega arith) g)) (reloc_good room spot 1 other h l (omega arith) q);
+}
   where
     add_zero : (n : ℕ) → n + 0 ≡ n
     add_zero n = omega arith
@@ -318,8 +318,8 @@ own_line room text tables spot marks arguments deed.Zero all none p h l at =
     let right = sum_of text tables.symbols spot (terms_in (second_arg arguments)) in
     further_good room (word_number spot.section spot + 1) (word_number spot.section (grown_in spot.section spot 1)) (marks_by text tables.symbols spot marks arguments deed.Zero) (numbers_next spot.section spot (grown_in spot.section spot 1) e)
     (halves_good room spot (kind_of left) (kind_of right) marks fits l
-      (kind_good room.newer left (sum_fits room.newer text tables.symbols spot (terms_in (first_arg arguments)) all none))
-      (kind_good room.newer right (sum_fits room.newer text tables.symbols spot (terms_in (second_arg arguments)) all none)) at)
+    (kind_good room.newer left (sum_fits room.newer text tables.symbols spot (terms_in (first_arg arguments)) all none))
+    (kind_good room.newer right (sum_fits room.newer text tables.symbols spot (terms_in (second_arg arguments)) all none)) at)
 own_line room text tables spot marks arguments deed.Block all none p h l at =
     further_good room (word_number spot.section spot) (word_number spot.section (moved_by text deed.Block arguments spot)) marks
     (numbers_grow spot.section spot (moved_by text deed.Block arguments spot) (moved_grows spot.section text tables spot arguments deed.Block p)) at
@@ -334,7 +334,7 @@ line_by : (room : Room) (text : List ℕ) (tables : Tables) (to : Section) (spot
     → Good room (word_number to spot) marks → Good room (word_number to (moved_by text d arguments spot)) (cond b (marks_by text tables.symbols spot marks arguments d) marks)
 line_by room text tables to spot marks arguments d true e all none p h l at =
     let P : Section → Type 0 = λ s. holds_words s ≡ true → count_in s (moved_by text d arguments spot) ≤ limit s room → limit s room + 8 < 2 ^ 18 → Good room (word_number s spot) marks
-      → Good room (word_number s (moved_by text d arguments spot)) (marks_by text tables.symbols spot marks arguments d) in
+    → Good room (word_number s (moved_by text d arguments spot)) (marks_by text tables.symbols spot marks arguments d) in
     subst P (same_is_section spot.section to e) (λ q g m n. own_line room text tables spot marks arguments d all none q g m n) p h l at
 line_by room text tables to spot marks arguments d false e all none p h l at =
     further_good room (word_number to spot) (word_number to (moved_by text d arguments spot)) marks

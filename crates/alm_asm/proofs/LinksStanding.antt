@@ -70,4 +70,4 @@ link_stands text symbols lines above line others l split given =
     ap (λ (x : List Line36). list_any (same_link l) (links_from text symbols [] start x)) split
     ∙ ap (λ (x : List LinkFields). list_any (same_link l) x) (follows text symbols [] start above (line ∷ others))
     ∙ stays_from text symbols l (links_after text symbols before spot line) (below text spot line) others
-      (added_with l before (link_in text symbols spot (first_arg (operand_args (deed_of text line.op) line.args))) given)
+    (added_with l before (link_in text symbols spot (first_arg (operand_args (deed_of text line.op) line.args))) given)

@@ -53,19 +53,19 @@ stands text tables section lines above line others p split here =
       front = front;
       rest = words_from text tables section [] (below text spot line) others;
       whole = ap (λ (l : List Line36). words_from text tables section [] start l) split
-        ∙ words_follow text tables section above (line ∷ others)
-        ∙ gathered text tables section (front ++ words_of_line text tables section spot line) (below text spot line) others
-        ∙ ap (λ (l : List ℕ). (front ++ l) ++ words_from text tables section [] (below text spot line) others) (own_words text tables section spot line here);
+          ∙ words_follow text tables section above (line ∷ others)
+          ∙ gathered text tables section (front ++ words_of_line text tables section spot line) (below text spot line) others
+          ∙ ap (λ (l : List ℕ). (front ++ l) ++ words_from text tables section [] (below text spot line) others) (own_words text tables section spot line here);
       place = sym (places_count text tables section above p);
     }
 
 more_behind : (count : ℕ) (part words more : List ℕ) → StandsBehind count part words → StandsBehind count part (words ++ more)
 more_behind count part words more at = record {
-    front = at.front;
-    rest = at.rest ++ more;
-    whole = ap (λ (l : List ℕ). l ++ more) at.whole ∙ append_assoc (at.front ++ part) at.rest more;
-    place = at.place;
-  }
+  front = at.front;
+  rest = at.rest ++ more;
+  whole = ap (λ (l : List ℕ). l ++ more) at.whole ∙ append_assoc (at.front ++ part) at.rest more;
+  place = at.place;
+}
 
 evened_by : (count : ℕ) (part words : List ℕ) (b : Bool) → StandsBehind count part words → StandsBehind count part (cond b words (words ++ 0 ∷ []))
 evened_by count part words true at = at

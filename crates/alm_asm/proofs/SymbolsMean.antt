@@ -88,7 +88,7 @@ labels_of_line text first symbols spot line before span after e split =
     let labels = (after_parts text first symbols spot line e).0 in
     let split_labels : labels_refused text line (here spot) symbols first (before ++ span ∷ after) ≡ None = sym (ap (labels_refused text line (here spot) symbols first) split) ∙ labels in
     let means : sum_named (name_at text span) (labelled text symbols spot line) ≡ Some (here spot) =
-      ap (λ (l : List Span). sum_named (name_at text span) (with_labels text (here spot) symbols l)) split ∙ label_means text line (here spot) symbols first before span after split_labels in
+    ap (λ (l : List Span). sum_named (name_at text span) (with_labels text (here spot) symbols l)) split ∙ label_means text line (here spot) symbols first before span after split_labels in
     own_stays text (name_at text span) (own_sum text (labelled text symbols spot line) spot line (deed_of text line.op)) (here spot) (labelled text symbols spot line) (own_symbol (deed_of text line.op) line.args) means
 
 own_of_line : (text : List ℕ) (first : Option Refusal) (symbols : List (List ℕ × Sum)) (spot : Spot) (line : Line36) (span : Span)

@@ -11,5 +11,4 @@ pub fn assembly_laws()
     ensures words { WordsFollow }
     ensures symbols { SymbolsStay }
     ensures length { OnlyTooLong }
-{
-}
+{}
