@@ -1,0 +1,4 @@
+pub mod SymbolLaws
+pub mod AssemblyLaws
+pub mod PlaceLaws
+pub mod SymbolsStand

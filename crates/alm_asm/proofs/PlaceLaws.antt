@@ -1,0 +1,115 @@
+-- Places count words, and words follow one another.
+use Rattle.std.proofs.Common.{◌≡◌, ℕ, ◌+◌, ◌%◌, Bool, true, false, cond, List, [], ◌∷◌, ◌++◌, length, refl, sym, ap, ◌∙◌, true≢false, arith, add-zero}
+use Rattle.std.proofs.lemmas.List.{length-append, length-replicate}
+use Rattle.alm_parse.specs.declared.args.Arg.{Arg}
+use Rattle.alm_parse.specs.declared.line.Line36.{Line36}
+use Rattle.obj36.specs.declared.section.Section.{Section}
+use Rattle.obj36.specs.declared.section.Section.TheVariants.{Text, Linkage, Symbol, Static}
+use Rattle.alm_asm.specs.Deeds.{deed_of, first_arg, second_arg, symbol_in, number_in, words_of_args, section_in}
+use Rattle.alm_asm.specs.Spots.{start, count_in, place, grown_in, entered, moved_by, below, end_of}
+use Rattle.alm_asm.specs.Words.{instruction_word, halves_word, words_by, same_section, words_of_line, words_from}
+use Rattle.alm_asm.specs.Laws.{holds_words}
+use Rattle.alm_asm.specs.declared.spot.Spot.{Spot}
+use Rattle.alm_asm.specs.declared.tables.Tables.{Tables}
+use Rattle.alm_asm.specs.declared.deed.Deed.{Deed}
+use Rattle.alm_asm.specs.declared.deed.Deed.TheVariants as deed
+
+-- a section's count grows by the words that are placed in it
+grown_counts : (to from : Section) (spot : Spot) (n : ℕ) → holds_words to ≡ true → count_in to (grown_in from spot n) ≡ count_in to spot + cond (same_section from to) n 0
+grown_counts Text Text spot n p = refl
+grown_counts Text Linkage spot n p = sym (add-zero spot.text)
+grown_counts Text Symbol spot n p = sym (add-zero spot.text)
+grown_counts Text Static spot n p = sym (add-zero spot.text)
+grown_counts Linkage Text spot n p = sym (add-zero spot.inner)
+grown_counts Linkage Linkage spot n p = refl
+grown_counts Linkage Symbol spot n p = sym (add-zero spot.inner)
+grown_counts Linkage Static spot n p = sym (add-zero spot.inner)
+grown_counts Symbol from spot n p = absurd (true≢false (sym p))
+grown_counts Static Text spot n p = sym (add-zero spot.outer)
+grown_counts Static Linkage spot n p = sym (add-zero spot.outer)
+grown_counts Static Symbol spot n p = sym (add-zero spot.outer)
+grown_counts Static Static spot n p = refl
+
+entered_counts : (to named : Section) (spot : Spot) → count_in to (entered spot named) ≡ count_in to spot
+entered_counts Text Text spot = refl
+entered_counts Text Linkage spot = refl
+entered_counts Text Symbol spot = refl
+entered_counts Text Static spot = refl
+entered_counts Linkage Text spot = refl
+entered_counts Linkage Linkage spot = refl
+entered_counts Linkage Symbol spot = refl
+entered_counts Linkage Static spot = refl
+entered_counts Symbol Text spot = refl
+entered_counts Symbol Linkage spot = refl
+entered_counts Symbol Symbol spot = refl
+entered_counts Symbol Static spot = refl
+entered_counts Static Text spot = refl
+entered_counts Static Linkage spot = refl
+entered_counts Static Symbol spot = refl
+entered_counts Static Static spot = refl
+
+length_if : (b : Bool) (words : List ℕ) → length (cond b words []) ≡ cond b (length words) 0
+length_if true words = refl
+length_if false words = refl
+
+none_if : (b : Bool) (n : ℕ) → n ≡ n + length (cond b [] (let none : List ℕ = [] in none))
+none_if true n = sym (add-zero n)
+none_if false n = sym (add-zero n)
+
+grown_by : (to from : Section) (spot : Spot) (n : ℕ) (words : List ℕ) → holds_words to ≡ true → length words ≡ n
+    → count_in to (grown_in from spot n) ≡ count_in to spot + length (cond (same_section from to) words [])
+grown_by to from spot n words p e =
+    grown_counts to from spot n p ∙ ap (λ m. count_in to spot + cond (same_section from to) m 0) (sym e) ∙ ap (λ m. count_in to spot + m) (sym (length_if (same_section from to) words))
+
+counted_by : (to : Section) (text : List ℕ) (tables : Tables) (spot : Spot) (arguments : List Arg) (d : Deed) → holds_words to ≡ true
+    → count_in to (moved_by text d arguments spot) ≡ count_in to spot + length (cond (same_section spot.section to) (words_by text tables spot arguments d) [])
+counted_by to text tables spot arguments deed.Nothing p = none_if (same_section spot.section to) (count_in to spot)
+counted_by to text tables spot arguments (deed.Instruction code bit27) p =
+    grown_by to spot.section spot 1 (instruction_word text tables spot code bit27 arguments ∷ []) p refl
+counted_by to text tables spot arguments deed.Entry p = none_if (same_section spot.section to) (count_in to spot)
+counted_by to text tables spot arguments deed.Segdef p = none_if (same_section spot.section to) (count_in to spot)
+counted_by to text tables spot arguments deed.Equ p = none_if (same_section spot.section to) (count_in to spot)
+counted_by to text tables spot arguments deed.Use p =
+    entered_counts to (section_in text (symbol_in (first_arg arguments))) spot ∙ none_if (same_section spot.section to) (count_in to spot)
+counted_by to text tables spot arguments deed.Words p =
+    grown_by to spot.section spot (length (words_of_args [] arguments)) (words_of_args [] arguments) p refl
+counted_by to text tables spot arguments deed.Zero p = grown_by to spot.section spot 1 (halves_word text tables spot arguments ∷ []) p refl
+counted_by to text tables spot arguments deed.Block p =
+    grown_by to spot.section spot (number_in (second_arg arguments)) (words_by text tables spot arguments deed.Block) p (length-replicate (number_in (second_arg arguments)) 0)
+counted_by to text tables spot arguments deed.Even p =
+    grown_by to spot.section spot (place spot % 2) (words_by text tables spot arguments deed.Even) p (length-replicate (place spot % 2) 0)
+counted_by to text tables spot arguments deed.Bound p = none_if (same_section spot.section to) (count_in to spot)
+
+counted : (to : Section) (text : List ℕ) (tables : Tables) (spot : Spot) (line : Line36) → holds_words to ≡ true
+    → count_in to (below text spot line) ≡ count_in to spot + length (words_of_line text tables to spot line)
+unfolding below words_of_line
+counted to text tables spot line p = counted_by to text tables spot line.args (deed_of text line.op) p
+
+all_counted : (to : Section) (text : List ℕ) (tables : Tables) (words : List ℕ) (spot : Spot) (lines : List Line36) → holds_words to ≡ true
+    → count_in to spot ≡ length words → count_in to (end_of text spot lines) ≡ length (words_from text tables to words spot lines)
+unfolding end_of words_from
+all_counted to text tables words spot [] p e = e
+all_counted to text tables words spot (line ∷ lines) p e =
+    all_counted to text tables (words ++ words_of_line text tables to spot line) (below text spot line) lines p
+    (counted to text tables spot line p ∙ ap (λ n. n + length (words_of_line text tables to spot line)) e ∙ sym (length-append words (words_of_line text tables to spot line)))
+
+starts_empty : (to : Section) → count_in to start ≡ 0
+starts_empty Text = refl
+starts_empty Linkage = refl
+starts_empty Symbol = refl
+starts_empty Static = refl
+
+pub places_count : (text : List ℕ) (tables : Tables) (section : Section) (above : List Line36) → holds_words section ≡ true
+    → count_in section (end_of text start above) ≡ length (words_from text tables section [] start above)
+places_count text tables section above p = all_counted section text tables [] start above p (starts_empty section)
+
+follow_from : (text : List ℕ) (tables : Tables) (section : Section) (words : List ℕ) (spot : Spot) (above lines : List Line36)
+    → words_from text tables section words spot (above ++ lines) ≡ words_from text tables section (words_from text tables section words spot above) (end_of text spot above) lines
+unfolding end_of words_from
+follow_from text tables section words spot [] lines = refl
+follow_from text tables section words spot (line ∷ above) lines =
+    follow_from text tables section (words ++ words_of_line text tables section spot line) (below text spot line) above lines
+
+pub words_follow : (text : List ℕ) (tables : Tables) (section : Section) (above lines : List Line36)
+    → words_from text tables section [] start (above ++ lines) ≡ words_from text tables section (words_from text tables section [] start above) (end_of text start above) lines
+words_follow text tables section above lines = follow_from text tables section [] start above lines

@@ -1,0 +1,13 @@
+use Rattle.std.proofs.Common.{◌≡◌, [], None, length}
+use Rattle.alm_asm.specs.Definitions.{with_names, names_refused}
+use Rattle.alm_asm.proofs.definitions.push_names.Given as goal
+
+-- what the rest give, behind what there is, is what all give
+abbrev pub invariant-loop-rest : goal.invariant-loop-rest
+invariant-loop-rest l = record {
+  definitions : with_names l.text l.symbols l.is_entry l.done l.rest ≡ with_names l.text l.symbols l.is_entry l.initial.done l.line.args;
+  refused : names_refused l.text l.symbols l.line l.is_entry l.done l.first l.rest ≡ names_refused l.text l.symbols l.line l.is_entry l.initial.done l.fn.refused l.line.args;
+}
+
+abbrev pub decreases-loop-rest : goal.decreases-loop-rest
+decreases-loop-rest l = length l.rest

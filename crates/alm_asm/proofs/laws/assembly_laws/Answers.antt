@@ -1,0 +1,12 @@
+use Rattle.alm_asm.proofs.PlaceLaws.{places_count, words_follow}
+use Rattle.alm_asm.proofs.SymbolsStand.{symbols_stay}
+use Rattle.alm_asm.proofs.laws.assembly_laws.Goals as goal
+
+pub returns-clause-places : goal.returns-clause-places
+returns-clause-places c = places_count
+
+pub returns-clause-words : goal.returns-clause-words
+returns-clause-words c = words_follow
+
+pub returns-clause-symbols : goal.returns-clause-symbols
+returns-clause-symbols c = symbols_stay

@@ -1,0 +1,11 @@
+use Rattle.std.proofs.Common.{◌≡◌, [], None, length}
+use Rattle.alm_asm.specs.Spots.{start}
+use Rattle.alm_asm.specs.Marks.{marks_from}
+use Rattle.alm_asm.proofs.marks.push_marks_in.Given as goal
+
+-- what the rest give, behind what there is, is what all give
+abbrev pub invariant-loop-rest : goal.invariant-loop-rest
+invariant-loop-rest l = marks_from l.text l.symbols l.section l.marks l.spot l.rest ≡ marks_from l.text l.symbols l.section l.initial.marks start l.lines
+
+abbrev pub decreases-loop-rest : goal.decreases-loop-rest
+decreases-loop-rest l = length l.rest

@@ -1,0 +1,11 @@
+use Rattle.std.proofs.Common.{◌≡◌, [], None, length}
+use Rattle.alm_asm.specs.Spots.{start}
+use Rattle.alm_asm.specs.Words.{words_from}
+use Rattle.alm_asm.proofs.words.words_in.Given as goal
+
+-- what the rest give, behind what there is, is what all give
+abbrev pub invariant-loop-rest : goal.invariant-loop-rest
+invariant-loop-rest l = words_from l.text l.tables l.section l.words l.spot l.rest ≡ words_from l.text l.tables l.section [] start l.lines
+
+abbrev pub decreases-loop-rest : goal.decreases-loop-rest
+decreases-loop-rest l = length l.rest

@@ -1,0 +1,116 @@
+-- What lines mean: the parts of an object, or the first refusal in the order of the text.
+use Rattle.std.specs.Prelude.{ℕ, ◌+◌, ◌%◌, ◌^◌, Bool, true, false, nat_eq, List, [], ◌∷◌, ◌++◌, length, Option, Some, None, Result, Ok, Err, if◌then◌else◌}
+use Rattle.alm_parse.specs.SourceFields.{Source}
+use Rattle.alm_parse.specs.declared.line.Line36.{Line36}
+use Rattle.alm_parse.specs.declared.fault.AlmFault.{AlmFault}
+use Rattle.alm_parse.specs.declared.fault.AlmFault.TheVariants.{E8}
+use Rattle.obj36.specs.declared.section.Section.{Section}
+use Rattle.obj36.specs.declared.section.Section.TheVariants.{Text, Linkage, Static}
+use Rattle.obj36.specs.PartsFields.{PartsFields}
+use Rattle.obj36.specs.ObjectSegment.{is_well_formed}
+use Rattle.alm_asm.specs.Deeds.{deed_of}
+use Rattle.alm_asm.specs.Spots.{start, below, end_of}
+use Rattle.alm_asm.specs.Refusals.{fault_of}
+use Rattle.alm_asm.specs.Layout.{symbols_from, layout_refusal}
+use Rattle.alm_asm.specs.Links.{links_from}
+use Rattle.alm_asm.specs.Words.{words_from}
+use Rattle.alm_asm.specs.Marks.{marks_from}
+use Rattle.alm_asm.specs.Definitions.{definitions_from}
+use Rattle.alm_asm.specs.LineRefusals.{lines_refusal}
+use Rattle.alm_asm.specs.declared.spot.Spot.{Spot}
+use Rattle.alm_asm.specs.declared.tables.Tables.{Tables}
+use Rattle.alm_asm.specs.declared.deed.Deed.{Deed}
+use Rattle.alm_asm.specs.declared.deed.Deed.TheVariants as deed
+use Rattle.alm_asm.specs.declared.refusal.Refusal.{Refusal}
+
+-- ---- tables
+
+-- Links stand behind the eight words at the head of the linkage section and the static words there, an even number.
+abbrev pub first_link : Spot → ℕ
+first_link ending = if ending.uses_outer then 8 else 8 + ending.inner + ending.inner % 2
+
+unfoldable pub tables_of : List ℕ → List Line36 → Tables
+tables_of text lines =
+    record {
+      symbols = symbols_from text [] start lines;
+      links = links_from text (symbols_from text [] start lines) [] start lines;
+      first_link = first_link (end_of text start lines);
+      uses_outer = (end_of text start lines).uses_outer;
+    }
+
+-- ---- the entry bound
+
+-- the place in the text at the last `entrybound` line, or what it was
+abbrev pub bound_by : Spot → ℕ → Deed → ℕ
+bound_by spot bound deed.Nothing = bound
+bound_by spot bound (deed.Instruction code bit27) = bound
+bound_by spot bound deed.Entry = bound
+bound_by spot bound deed.Segdef = bound
+bound_by spot bound deed.Equ = bound
+bound_by spot bound deed.Use = bound
+bound_by spot bound deed.Words = bound
+bound_by spot bound deed.Zero = bound
+bound_by spot bound deed.Block = bound
+bound_by spot bound deed.Even = bound
+bound_by spot bound deed.Bound = spot.text % 2 ^ 18
+
+unfoldable pub bound_from : List ℕ → ℕ → Spot → List Line36 → ℕ
+bound_from text bound spot [] = bound
+bound_from text bound spot (line ∷ lines) =
+    bound_from text (bound_by spot bound (deed_of text line.op)) (below text spot line) lines
+
+-- ---- the parts
+
+-- where the static words are
+abbrev pub static_section : Bool → Section
+static_section true = Static
+static_section false = Linkage
+
+abbrev pub version_of : Bool → ℕ
+version_of true = 2
+version_of false = 1
+
+-- In version 1 one zero word follows an odd count of static words.
+abbrev pub evened : Bool → List ℕ → List ℕ
+evened true words = words
+evened false words = if nat_eq (length words % 2) 0 then words else words ++ 0 ∷ []
+
+unfoldable pub parts_with : List ℕ → Tables → List Line36 → PartsFields
+parts_with text tables lines =
+    record {
+      text = words_from text tables Text [] start lines;
+      statics = evened tables.uses_outer (words_from text tables (static_section tables.uses_outer) [] start lines);
+      definitions = definitions_from text tables.symbols [] lines;
+      links = tables.links;
+      relocations = marks_from text tables.symbols (static_section tables.uses_outer) (marks_from text tables.symbols Text [] start lines) start lines;
+      entry_bound = bound_from text 0 start lines;
+      version = version_of tables.uses_outer;
+    }
+
+abbrev pub parts_of : Source → PartsFields
+parts_of source = parts_with source.text (tables_of source.text source.lines) source.lines
+
+-- ---- the refusal
+
+-- the first refusal in the order of the text, if there is one
+unfoldable pub refusal_of : Source → Option Refusal
+refusal_of source =
+    lines_refusal source.text (tables_of source.text source.lines) [] (layout_refusal source.text None [] start source.lines) start source.lines
+
+-- the number of the last line, or 1
+unfoldable pub last_line : ℕ → List Line36 → ℕ
+last_line number [] = number
+last_line number (line ∷ lines) = last_line line.line lines
+
+-- Where no line is refused, an object for which no list of words stands is refused at the last line: it has more than 2^18
+-- words.
+abbrev pub made : PartsFields → ℕ → Bool → Result PartsFields AlmFault
+made parts number true = Ok parts
+made parts number false = Err (E8 number 1)
+
+abbrev pub assembled_by : Source → Option Refusal → Result PartsFields AlmFault
+assembled_by source (Some refusal) = Err (fault_of refusal)
+assembled_by source None = made (parts_of source) (last_line 1 source.lines) (is_well_formed (parts_of source))
+
+unfoldable pub assembled : Source → Result PartsFields AlmFault
+assembled source = assembled_by source (refusal_of source)

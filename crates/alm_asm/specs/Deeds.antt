@@ -1,0 +1,103 @@
+-- What operations do, and their arguments.
+use Rattle.std.specs.Prelude.{ℕ, Bool, List, [], ◌∷◌, ◌++◌, codes, take, Option, Some, None, if◌then◌else◌}
+use Rattle.alm_parse.specs.Tokens.{slice_of, is_text}
+use Rattle.alm_parse.specs.declared.span.Span.{Span}
+use Rattle.alm_parse.specs.declared.expression.Term.{Term}
+use Rattle.alm_parse.specs.declared.args.Arg.{Arg}
+use Rattle.alm_parse.specs.declared.args.Arg.TheVariants.{Symbol, Number, Chars, Plain, Operand}
+use Rattle.m36_inst.specs.Lookup.{code_named}
+use Rattle.obj36.specs.declared.section.Section.{Section}
+use Rattle.obj36.specs.declared.section.Section.TheVariants.{Text, Linkage, Static}
+use Rattle.alm_asm.specs.declared.deed.Deed.{Deed}
+use Rattle.alm_asm.specs.declared.deed.Deed.TheVariants as deed
+
+abbrev pub instruction_of : Option (ℕ × Bool) → Deed
+instruction_of (Some code) = deed.Instruction code.0 code.1
+instruction_of None = deed.Nothing
+
+unfoldable pub deed_named : List ℕ → Deed
+deed_named name =
+    if is_text (codes "entry") name
+    then deed.Entry
+    else (if is_text (codes "segdef") name
+    then deed.Segdef
+    else (if is_text (codes "equ") name
+    then deed.Equ
+    else (if is_text (codes "use") name
+    then deed.Use
+    else (if is_text (codes "dec") name
+    then deed.Words
+    else (if is_text (codes "oct") name
+    then deed.Words
+    else (if is_text (codes "aci") name
+    then deed.Words
+    else (if is_text (codes "zero") name
+    then deed.Zero
+    else (if is_text (codes "bss") name
+    then deed.Block
+    else (if is_text (codes "even") name
+    then deed.Even
+    else (if is_text (codes "entrybound") name then deed.Bound else instruction_of (code_named name)))))))))))
+
+abbrev pub deed_of : List ℕ → Option Span → Deed
+deed_of text (Some op) = deed_named (slice_of text op)
+deed_of text None = deed.Nothing
+
+-- a name of at most 32 bytes
+abbrev pub name_at : List ℕ → Span → List ℕ
+name_at text span = take 32 (slice_of text span)
+
+-- ---- arguments
+
+abbrev pub first_arg : List Arg → Option Arg
+first_arg [] = None
+first_arg (arg ∷ more) = Some arg
+
+abbrev pub second_arg : List Arg → Option Arg
+second_arg [] = None
+second_arg (arg ∷ more) = first_arg more
+
+abbrev pub symbol_in : Option Arg → Option Span
+symbol_in (Some (Symbol span)) = Some span
+symbol_in (Some (Number word)) = None
+symbol_in (Some (Chars words)) = None
+symbol_in (Some (Plain terms)) = None
+symbol_in (Some (Operand pr seg entry terms tag)) = None
+symbol_in None = None
+
+abbrev pub terms_in : Option Arg → List Term
+terms_in (Some (Symbol span)) = []
+terms_in (Some (Number word)) = []
+terms_in (Some (Chars words)) = []
+terms_in (Some (Plain terms)) = terms
+terms_in (Some (Operand pr seg entry terms tag)) = terms
+terms_in None = []
+
+abbrev pub number_in : Option Arg → ℕ
+number_in (Some (Symbol span)) = 0
+number_in (Some (Number word)) = word
+number_in (Some (Chars words)) = 0
+number_in (Some (Plain terms)) = 0
+number_in (Some (Operand pr seg entry terms tag)) = 0
+number_in None = 0
+
+-- the words of `dec`, `oct` and `aci`, behind those so far
+abbrev pub words_of_arg : Arg → List ℕ
+words_of_arg (Symbol span) = []
+words_of_arg (Number word) = word ∷ []
+words_of_arg (Chars words) = words
+words_of_arg (Plain terms) = []
+words_of_arg (Operand pr seg entry terms tag) = []
+
+unfoldable pub words_of_args : List ℕ → List Arg → List ℕ
+words_of_args words [] = words
+words_of_args words (arg ∷ more) = words_of_args (words ++ words_of_arg arg) more
+
+-- the section of a `use` line
+abbrev pub section_named : List ℕ → Section
+section_named name =
+    if is_text (codes "link") name then Linkage else (if is_text (codes "static") name then Static else Text)
+
+abbrev pub section_in : List ℕ → Option Span → Section
+section_in text (Some span) = section_named (slice_of text span)
+section_in text None = Text

@@ -1,0 +1,125 @@
+-- Definitions: the names of `entry` and `segdef` lines in order, and what is refused of them.
+use Rattle.std.specs.Prelude.{ℕ, Bool, true, false, not, ◌&&◌, List, [], ◌∷◌, ◌++◌, Option, Some, None}
+use Rattle.std.specs.List.{list_any}
+use Rattle.alm_parse.specs.declared.span.Span.{Span}
+use Rattle.alm_parse.specs.declared.args.Arg.{Arg}
+use Rattle.alm_parse.specs.declared.args.Arg.TheVariants as arg
+use Rattle.alm_parse.specs.declared.line.Line36.{Line36}
+use Rattle.obj36.specs.declared.section.Section.{Section}
+use Rattle.obj36.specs.declared.section.Section.TheVariants.{Text, Linkage, Symbol, Static}
+use Rattle.obj36.specs.declared.definition.Named.{Named}
+use Rattle.alm_asm.specs.Sums.{half_of, kind_of}
+use Rattle.alm_asm.specs.Symbols.{same_name, sum_named}
+use Rattle.alm_asm.specs.Deeds.{deed_of, name_at}
+use Rattle.alm_asm.specs.Expressions.{symbol_sum}
+use Rattle.alm_asm.specs.Refusals.{sooner, refusal_at, has_room}
+use Rattle.alm_asm.specs.declared.sum.Sum.{Sum}
+use Rattle.alm_asm.specs.declared.sum.Kind.{Kind}
+use Rattle.alm_asm.specs.declared.sum.Kind.TheVariants.{Absolute, Moved, Unsaid}
+use Rattle.alm_asm.specs.declared.deed.Deed.{Deed}
+use Rattle.alm_asm.specs.declared.deed.Deed.TheVariants as deed
+use Rattle.alm_asm.specs.declared.refusal.Code.TheVariants.{E5, E6, E7}
+use Rattle.alm_asm.specs.declared.refusal.Refusal.{Refusal}
+use Rattle.alm_asm.specs.declared.refusal.Room.TheVariants.{Half}
+
+-- ---- the definitions
+
+abbrev pub section_of : Kind → Section
+section_of Absolute = Text
+section_of (Moved section) = section
+section_of Unsaid = Text
+
+-- a name with the section and the value of its symbol
+unfoldable pub named : List ℕ → List (List ℕ × Sum) → Bool → Span → Named
+named text symbols is_entry span =
+    record {
+      name = name_at text span;
+      def = record { section = section_of (kind_of (symbol_sum text symbols span)); value = half_of (symbol_sum text symbols span).value; is_entry = is_entry };
+    }
+
+abbrev pub named_by : List ℕ → List (List ℕ × Sum) → Bool → Arg → List Named
+named_by text symbols is_entry (arg.Symbol span) = named text symbols is_entry span ∷ []
+named_by text symbols is_entry (arg.Number word) = []
+named_by text symbols is_entry (arg.Chars words) = []
+named_by text symbols is_entry (arg.Plain terms) = []
+named_by text symbols is_entry (arg.Operand pr segment entry terms tag) = []
+
+unfoldable pub with_names : List ℕ → List (List ℕ × Sum) → Bool → List Named → List Arg → List Named
+with_names text symbols is_entry done [] = done
+with_names text symbols is_entry done (arg ∷ arguments) =
+    with_names text symbols is_entry (done ++ named_by text symbols is_entry arg) arguments
+
+-- whether a line gives definitions, and whether they are entries
+abbrev pub gives_entries : Deed → Option Bool
+gives_entries deed.Nothing = None
+gives_entries (deed.Instruction code bit27) = None
+gives_entries deed.Entry = Some true
+gives_entries deed.Segdef = Some false
+gives_entries deed.Equ = None
+gives_entries deed.Use = None
+gives_entries deed.Words = None
+gives_entries deed.Zero = None
+gives_entries deed.Block = None
+gives_entries deed.Even = None
+gives_entries deed.Bound = None
+
+abbrev pub definitions_by : List ℕ → List (List ℕ × Sum) → List Named → List Arg → Option Bool → List Named
+definitions_by text symbols done arguments None = done
+definitions_by text symbols done arguments (Some is_entry) = with_names text symbols is_entry done arguments
+
+unfoldable pub definitions_after : List ℕ → List (List ℕ × Sum) → List Named → Line36 → List Named
+definitions_after text symbols done line = definitions_by text symbols done line.args (gives_entries (deed_of text line.op))
+
+-- the definitions of the lines, behind those so far
+unfoldable pub definitions_from : List ℕ → List (List ℕ × Sum) → List Named → List Line36 → List Named
+definitions_from text symbols done [] = done
+definitions_from text symbols done (line ∷ lines) = definitions_from text symbols (definitions_after text symbols done line) lines
+
+-- ---- what is refused of them
+
+unfoldable pub is_taken : List Named → List ℕ → Bool
+is_taken done name = list_any (λ d. same_name name d.name) done
+
+-- an entry is a label of the text, another definition any label
+abbrev pub is_label_kind : Bool → Kind → Bool
+is_label_kind is_entry Absolute = false
+is_label_kind is_entry (Moved Text) = true
+is_label_kind is_entry (Moved Linkage) = not is_entry
+is_label_kind is_entry (Moved Symbol) = not is_entry
+is_label_kind is_entry (Moved Static) = not is_entry
+is_label_kind is_entry Unsaid = false
+
+unfoldable pub is_label : Bool → Sum → Bool
+is_label is_entry sum = has_room Half sum.value && is_label_kind is_entry (kind_of sum)
+
+abbrev pub label_refusal : Line36 → ℕ → Bool → Option Refusal
+label_refusal line at true = None
+label_refusal line at false = Some (refusal_at line at E7)
+
+abbrev pub sum_refusal : Line36 → ℕ → Bool → Option Sum → Option Refusal
+sum_refusal line at is_entry None = Some (refusal_at line at E6)
+sum_refusal line at is_entry (Some sum) = label_refusal line at (is_label is_entry sum)
+
+abbrev pub taken_refusal : Line36 → ℕ → Bool → Option Sum → Bool → Option Refusal
+taken_refusal line at is_entry sum true = Some (refusal_at line at E5)
+taken_refusal line at is_entry sum false = sum_refusal line at is_entry sum
+
+unfoldable pub name_refusal : List ℕ → List (List ℕ × Sum) → Line36 → Bool → List Named → Span → Option Refusal
+name_refusal text symbols line is_entry done span =
+    taken_refusal line span.from is_entry (sum_named (name_at text span) symbols) (is_taken done (name_at text span))
+
+abbrev pub arg_refusal : List ℕ → List (List ℕ × Sum) → Line36 → Bool → List Named → Arg → Option Refusal
+arg_refusal text symbols line is_entry done (arg.Symbol span) = name_refusal text symbols line is_entry done span
+arg_refusal text symbols line is_entry done (arg.Number word) = None
+arg_refusal text symbols line is_entry done (arg.Chars words) = None
+arg_refusal text symbols line is_entry done (arg.Plain terms) = None
+arg_refusal text symbols line is_entry done (arg.Operand pr segment entry terms tag) = None
+
+unfoldable pub names_refused : List ℕ → List (List ℕ × Sum) → Line36 → Bool → List Named → Option Refusal → List Arg → Option Refusal
+names_refused text symbols line is_entry done first [] = first
+names_refused text symbols line is_entry done first (arg ∷ arguments) =
+    names_refused text symbols line is_entry (done ++ named_by text symbols is_entry arg) (sooner first (arg_refusal text symbols line is_entry done arg)) arguments
+
+abbrev pub definitions_refused : List ℕ → List (List ℕ × Sum) → Line36 → List Named → Option Refusal → List Arg → Option Bool → Option Refusal
+definitions_refused text symbols line done first arguments None = first
+definitions_refused text symbols line done first arguments (Some is_entry) = names_refused text symbols line is_entry done first arguments

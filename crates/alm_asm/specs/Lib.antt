@@ -1,0 +1,14 @@
+pub mod Sums
+pub mod Symbols
+pub mod Deeds
+pub mod Spots
+pub mod Expressions
+pub mod Refusals
+pub mod Layout
+pub mod Links
+pub mod Words
+pub mod Marks
+pub mod Definitions
+pub mod LineRefusals
+pub mod Assembly
+pub mod Laws

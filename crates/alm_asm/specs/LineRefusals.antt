@@ -1,0 +1,129 @@
+-- What is refused of lines whose symbols are known.
+use Rattle.std.specs.Prelude.{ℕ, ◌+◌, Bool, true, false, not, ◌&&◌, ◌||◌, nat_lt, List, [], ◌∷◌, Option, Some, None, if◌then◌else◌}
+use Rattle.alm_parse.specs.Tokens.{slice_of}
+use Rattle.alm_parse.specs.declared.span.Span.{Span}
+use Rattle.alm_parse.specs.declared.expression.Term.{Term}
+use Rattle.alm_parse.specs.declared.args.Arg.{Arg}
+use Rattle.alm_parse.specs.declared.args.Arg.TheVariants as arg
+use Rattle.alm_parse.specs.declared.line.Line36.{Line36}
+use Rattle.obj36.specs.declared.section.Section.{Section}
+use Rattle.obj36.specs.declared.section.Section.TheVariants.{Text, Linkage, Symbol, Static}
+use Rattle.obj36.specs.declared.definition.Named.{Named}
+use Rattle.alm_asm.specs.Deeds.{deed_of, first_arg, second_arg, symbol_in, terms_in, section_in}
+use Rattle.alm_asm.specs.Spots.{below}
+use Rattle.alm_asm.specs.Expressions.{expression_place}
+use Rattle.alm_asm.specs.Refusals.{sooner, refusal_at, expression_refusal}
+use Rattle.alm_asm.specs.Links.{own_section, link_of, link_place}
+use Rattle.alm_asm.specs.Definitions.{gives_entries, definitions_after, definitions_refused}
+use Rattle.alm_asm.specs.declared.spot.Spot.{Spot}
+use Rattle.alm_asm.specs.declared.tables.Tables.{Tables}
+use Rattle.alm_asm.specs.declared.deed.Deed.{Deed}
+use Rattle.alm_asm.specs.declared.deed.Deed.TheVariants as deed
+use Rattle.alm_asm.specs.declared.refusal.Code.TheVariants.{E7}
+use Rattle.alm_asm.specs.declared.refusal.Refusal.{Refusal}
+use Rattle.alm_asm.specs.declared.refusal.Room.{Room}
+use Rattle.alm_asm.specs.declared.refusal.Room.TheVariants.{Half, Offset}
+
+abbrev pub unless : Bool → Refusal → Option Refusal
+unless true refusal = None
+unless false refusal = Some refusal
+
+abbrev pub op_place : Option Span → ℕ
+op_place (Some op) = op.from
+op_place None = 0
+
+-- ---- operands
+
+-- where the expression behind an external name begins: behind a sign
+abbrev pub external_place : Span → Option Span → ℕ
+external_place segment (Some entry) = entry.to + 1
+external_place segment None = segment.to + 2
+
+abbrev pub needs_static : Option Section → Bool
+needs_static (Some Static) = true
+needs_static (Some Text) = false
+needs_static (Some Linkage) = false
+needs_static (Some Symbol) = false
+needs_static None = false
+
+-- Static words of their own are named only where the lines have some, and a link lies in the reach of `pr4|`.
+unfoldable pub has_link : List ℕ → Tables → Spot → Span → Option Span → List Term → ℕ → Bool
+has_link text tables spot segment entry terms tag =
+    (tables.uses_outer || not (needs_static (own_section (slice_of text segment))))
+    && nat_lt (link_place tables.links tables.first_link (link_of text tables.symbols spot segment entry terms tag)) 16384
+
+abbrev pub own_room : Option ℕ → Room
+own_room (Some pr) = Offset
+own_room None = Half
+
+abbrev pub external_refusal : List ℕ → Tables → Spot → Line36 → Span → Option Span → List Term → ℕ → Option Refusal
+external_refusal text tables spot line segment entry terms tag =
+    sooner (expression_refusal text tables.symbols spot line terms (external_place segment entry) Half false) (unless (has_link text tables spot segment entry terms tag) (refusal_at line segment.from E7))
+
+abbrev pub own_operand : List ℕ → Tables → Spot → Line36 → Room → List Term → Option Refusal
+own_operand text tables spot line room terms =
+    expression_refusal text tables.symbols spot line terms (expression_place terms) room true
+
+abbrev pub operand_by : List ℕ → Tables → Spot → Line36 → Option ℕ → Option Span → Option Span → List Term → ℕ → Option Refusal
+operand_by text tables spot line pr (Some segment) entry terms tag = external_refusal text tables spot line segment entry terms tag
+operand_by text tables spot line pr None entry terms tag = own_operand text tables spot line (own_room pr) terms
+
+abbrev pub operand_refusal : List ℕ → Tables → Spot → Line36 → Option Arg → Option Refusal
+operand_refusal text tables spot line (Some (arg.Symbol span)) = None
+operand_refusal text tables spot line (Some (arg.Number word)) = None
+operand_refusal text tables spot line (Some (arg.Chars words)) = None
+operand_refusal text tables spot line (Some (arg.Plain terms)) = None
+operand_refusal text tables spot line (Some (arg.Operand pr segment entry terms tag)) = operand_by text tables spot line pr segment entry terms tag
+operand_refusal text tables spot line None = None
+
+-- ---- operations
+
+abbrev pub is_text_section : Section → Bool
+is_text_section Text = true
+is_text_section Linkage = false
+is_text_section Symbol = false
+is_text_section Static = false
+
+-- The static words of a source are of one kind.
+abbrev pub may_enter : Spot → Section → Bool
+may_enter spot Text = true
+may_enter spot Linkage = not spot.uses_outer
+may_enter spot Symbol = true
+may_enter spot Static = not spot.uses_inner
+
+abbrev pub instruction_refusal : List ℕ → Tables → Spot → Line36 → Option Refusal
+instruction_refusal text tables spot line =
+    sooner (unless (is_text_section spot.section) (refusal_at line (op_place line.op) E7)) (operand_refusal text tables spot line (first_arg line.args))
+
+abbrev pub use_refusal : List ℕ → Spot → Line36 → Option Refusal
+use_refusal text spot line =
+    unless (may_enter spot (section_in text (symbol_in (first_arg line.args)))) (refusal_at line (op_place line.op) E7)
+
+abbrev pub halves_refusal : List ℕ → Tables → Spot → Line36 → Option Refusal
+halves_refusal text tables spot line =
+    sooner (own_operand text tables spot line Half (terms_in (first_arg line.args))) (own_operand text tables spot line Half (terms_in (second_arg line.args)))
+
+abbrev pub refusal_of_deed : List ℕ → Tables → Spot → Line36 → Deed → Option Refusal
+refusal_of_deed text tables spot line deed.Nothing = None
+refusal_of_deed text tables spot line (deed.Instruction code bit27) = instruction_refusal text tables spot line
+refusal_of_deed text tables spot line deed.Entry = None
+refusal_of_deed text tables spot line deed.Segdef = None
+refusal_of_deed text tables spot line deed.Equ = None
+refusal_of_deed text tables spot line deed.Use = use_refusal text spot line
+refusal_of_deed text tables spot line deed.Words = None
+refusal_of_deed text tables spot line deed.Zero = halves_refusal text tables spot line
+refusal_of_deed text tables spot line deed.Block = None
+refusal_of_deed text tables spot line deed.Even = None
+refusal_of_deed text tables spot line deed.Bound = None
+
+-- ---- the lines
+
+unfoldable pub line_refusal : List ℕ → Tables → List Named → Option Refusal → Spot → Line36 → Option Refusal
+line_refusal text tables done first spot line =
+    sooner (definitions_refused text tables.symbols line done first line.args (gives_entries (deed_of text line.op))) (refusal_of_deed text tables spot line (deed_of text line.op))
+
+-- the first refusal of the lines, or one that comes before
+unfoldable pub lines_refusal : List ℕ → Tables → List Named → Option Refusal → Spot → List Line36 → Option Refusal
+lines_refusal text tables done first spot [] = first
+lines_refusal text tables done first spot (line ∷ lines) =
+    lines_refusal text tables (definitions_after text tables.symbols done line) (line_refusal text tables done first spot line) (below text spot line) lines

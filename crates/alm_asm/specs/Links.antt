@@ -1,0 +1,116 @@
+-- Links: the external operands of instructions, each once, in the order of their first use.
+use Rattle.std.specs.Prelude.{ℕ, ◌+◌, ◌*◌, ◌%◌, ◌^◌, Bool, ◌&&◌, nat_eq, List, [], ◌∷◌, ◌++◌, codes, Option, Some, None, unwrap_or, if◌then◌else◌}
+use Rattle.std.specs.List.{list_any, position}
+use Rattle.alm_parse.specs.Tokens.{slice_of, is_text}
+use Rattle.alm_parse.specs.declared.span.Span.{Span}
+use Rattle.alm_parse.specs.declared.expression.Term.{Term}
+use Rattle.alm_parse.specs.declared.args.Arg.{Arg}
+use Rattle.alm_parse.specs.declared.args.Arg.TheVariants as arg
+use Rattle.alm_parse.specs.declared.line.Line36.{Line36}
+use Rattle.obj36.specs.declared.section.Section.{Section}
+use Rattle.obj36.specs.declared.section.Section.TheVariants.{Text, Linkage, Static}
+use Rattle.obj36.specs.Fields.{LinkFields}
+use Rattle.obj36.specs.ObjectSegment.{place_number}
+use Rattle.alm_asm.specs.Sums.{half_of}
+use Rattle.alm_asm.specs.Symbols.{same_name}
+use Rattle.alm_asm.specs.Deeds.{deed_of, name_at, first_arg}
+use Rattle.alm_asm.specs.Spots.{below}
+use Rattle.alm_asm.specs.Expressions.{sum_of}
+use Rattle.alm_asm.specs.declared.sum.Sum.{Sum}
+use Rattle.alm_asm.specs.declared.spot.Spot.{Spot}
+use Rattle.alm_asm.specs.declared.deed.Deed.{Deed}
+use Rattle.alm_asm.specs.declared.deed.Deed.TheVariants as deed
+
+-- ---- a link
+
+-- the own section that a segment names
+unfoldable pub own_section : List ℕ → Option Section
+own_section name =
+    if is_text (codes "*text") name
+    then Some Text
+    else (if is_text (codes "*link") name
+    then Some Linkage
+    else (if is_text (codes "*static") name then Some Static else None))
+
+abbrev pub link_kind : Option Section → Option Span → ℕ
+link_kind (Some section) None = 1
+link_kind (Some section) (Some entry) = 5
+link_kind None None = 3
+link_kind None (Some entry) = 4
+
+abbrev pub link_section : Option Section → Section
+link_section (Some section) = section
+link_section None = Text
+
+abbrev pub link_name : Option Section → List ℕ → List ℕ
+link_name (Some section) name = []
+link_name None name = name
+
+abbrev pub entry_name : List ℕ → Option Span → List ℕ
+entry_name text (Some span) = name_at text span
+entry_name text None = []
+
+unfoldable pub link_of : List ℕ → List (List ℕ × Sum) → Spot → Span → Option Span → List Term → ℕ → LinkFields
+link_of text symbols spot segment entry terms tag =
+    record {
+      kind = link_kind (own_section (slice_of text segment)) entry;
+      section = link_section (own_section (slice_of text segment));
+      name = link_name (own_section (slice_of text segment)) (name_at text segment);
+      entry = entry_name text entry;
+      expr = half_of (sum_of text symbols spot terms).value;
+      modifier = tag % 2 ^ 6;
+    }
+
+-- ---- the links of lines
+
+-- the operand of an instruction; other operations have none
+abbrev pub operand_args : Deed → List Arg → List Arg
+operand_args deed.Nothing arguments = []
+operand_args (deed.Instruction code bit27) arguments = arguments
+operand_args deed.Entry arguments = []
+operand_args deed.Segdef arguments = []
+operand_args deed.Equ arguments = []
+operand_args deed.Use arguments = []
+operand_args deed.Words arguments = []
+operand_args deed.Zero arguments = []
+operand_args deed.Block arguments = []
+operand_args deed.Even arguments = []
+operand_args deed.Bound arguments = []
+
+abbrev pub link_by : List ℕ → List (List ℕ × Sum) → Spot → Option Span → Option Span → List Term → ℕ → Option LinkFields
+link_by text symbols spot (Some segment) entry terms tag = Some (link_of text symbols spot segment entry terms tag)
+link_by text symbols spot None entry terms tag = None
+
+abbrev pub link_in : List ℕ → List (List ℕ × Sum) → Spot → Option Arg → Option LinkFields
+link_in text symbols spot (Some (arg.Symbol span)) = None
+link_in text symbols spot (Some (arg.Number word)) = None
+link_in text symbols spot (Some (arg.Chars words)) = None
+link_in text symbols spot (Some (arg.Plain terms)) = None
+link_in text symbols spot (Some (arg.Operand pr segment entry terms tag)) = link_by text symbols spot segment entry terms tag
+link_in text symbols spot None = None
+
+-- whether two links are the same
+unfoldable pub same_link : LinkFields → LinkFields → Bool
+same_link a b =
+    nat_eq a.kind b.kind && nat_eq (place_number a.section) (place_number b.section) && same_name a.name b.name && same_name a.entry b.entry && nat_eq a.expr b.expr && nat_eq a.modifier b.modifier
+
+-- the links with one at the end, where it is not among them
+abbrev pub with_link : List LinkFields → Option LinkFields → List LinkFields
+with_link links None = links
+with_link links (Some link) = if list_any (same_link link) links then links else links ++ link ∷ []
+
+unfoldable pub links_after : List ℕ → List (List ℕ × Sum) → List LinkFields → Spot → Line36 → List LinkFields
+links_after text symbols links spot line =
+    with_link links (link_in text symbols spot (first_arg (operand_args (deed_of text line.op) line.args)))
+
+-- the links of the lines, behind those so far
+unfoldable pub links_from : List ℕ → List (List ℕ × Sum) → List LinkFields → Spot → List Line36 → List LinkFields
+links_from text symbols links spot [] = links
+links_from text symbols links spot (line ∷ lines) =
+    links_from text symbols (links_after text symbols links spot line) (below text spot line) lines
+
+-- ---- where a link stands
+
+-- the offset of a link in the linkage section, whose links begin at a place
+unfoldable pub link_place : List LinkFields → ℕ → LinkFields → ℕ
+link_place links first link = first + 2 * unwrap_or (position (same_link link) links) 0

@@ -1,0 +1,257 @@
+//! Objects of lines.
+
+ghost use Rattle.std.specs.Prelude.{ℕ, Bool, List, [], ◌∷◌, ◌≡◌, ◌+◌, ◌%◌, ◌^◌, ◌<◌, Option, None, IsTrue, OnOk, IfOk};
+ghost use Rattle.alm_parse.specs.Sources.{ParseSays};
+ghost use Rattle.alm_asm.specs.Spots.{start};
+ghost use Rattle.obj36.specs.declared.section.Section.TheVariants.{Text};
+ghost use Rattle.obj36.specs.ObjectSegment.{is_well_formed};
+ghost use Rattle.obj36.specs.Sizes.{HasShortLists};
+ghost use Rattle.alm_asm.specs.Layout.{layout_refusal};
+ghost use Rattle.alm_asm.specs.Words.{words_from};
+ghost use Rattle.alm_asm.specs.Marks.{marks_from};
+ghost use Rattle.alm_asm.specs.Assembly.{made, first_link, tables_of, bound_by, bound_from, static_section, version_of, evened, parts_with, last_line, assembled};
+
+use crate::deed::{Deed, deed_of};
+use crate::definitions::definitions_of;
+use crate::layout::layout_of;
+use crate::line_refusal::lines_refusal;
+use crate::links::links_of;
+use crate::marks::push_marks_in;
+use crate::refusal::{Refusal, fault_of};
+use crate::spot::{Spot, below, end_of};
+use crate::sum::plus;
+use crate::tables::Tables;
+use crate::words::words_in;
+use alm_parse::{AlmFault, Line36, Lines36};
+use m36_word::{NoMemory, Word, Words};
+use obj36::{Object, Parts, Relocs, Section};
+use std::alloc::Global;
+
+fn first_link(ending: Spot) -> Result<u64, NoMemory>
+    ensures { IfOk result (λ at. at ≡ first_link ending) }
+{
+    if ending.uses_outer {
+        return Ok(8);
+    }
+    plus(plus(8, ending.inner)?, ending.inner % 2)
+}
+
+/// The tables of lines, and the first refusal of a symbol's definition or of a section's length.
+#[derive(Debug, Drop)]
+struct Found {
+    tables: Tables,
+    refused: Option<Refusal>,
+}
+
+#[tactic(auto, unfolding(crate::specs::Assembly::tables_of))]
+fn found_in(alloc: Global, text: &[u8], lines: &[Line36]) -> Result<Found, NoMemory>
+    ensures tables { IfOk result (λ found. found.tables ≡ tables_of text.now lines.now) }
+    ensures refused { IfOk result (λ found. found.refused ≡ layout_refusal text.now None [] start lines.now) }
+{
+    let layout = layout_of(alloc, text, lines)?;
+    let links = links_of(alloc, text, &layout.symbols, lines)?;
+    let ending = end_of(alloc, text, lines)?;
+    let first_link = first_link(ending)?;
+    let tables = Tables {
+        symbols: layout.symbols,
+        links,
+        first_link,
+        uses_outer: ending.uses_outer,
+    };
+    Ok(Found {
+        tables,
+        refused: layout.refused,
+    })
+}
+
+fn bound_by(spot: Spot, bound: u32, deed: Deed) -> u32
+    requires { bound < 2 ^ 18 }
+    ensures value { result ≡ bound_by spot bound deed }
+    ensures bound { result < 2 ^ 18 }
+{
+    match deed {
+        Deed::Bound => (spot.text % (1 << 18)) as u32,
+        Deed::Nothing
+        | Deed::Instruction(_, _)
+        | Deed::Entry
+        | Deed::Segdef
+        | Deed::Equ
+        | Deed::Use
+        | Deed::Words
+        | Deed::Zero
+        | Deed::Block
+        | Deed::Even => bound,
+    }
+}
+
+#[tactic(auto, unfolding(crate::specs::Assembly::bound_from))]
+fn bound_of(alloc: Global, text: &[u8], lines: &[Line36]) -> Result<u32, NoMemory>
+    ensures value { IfOk result (λ bound. bound ≡ bound_from text.now 0 start lines.now) }
+    ensures bound { IfOk result (λ bound. bound < 2 ^ 18) }
+{
+    let mut bound = 0;
+    let mut spot = Spot::start();
+    let mut rest = lines;
+    while let [line, more @ ..] = rest {
+        bound = bound_by(spot, bound, deed_of(text, line.op));
+        spot = below(alloc, text, spot, line)?;
+        rest = more;
+    }
+    Ok(bound)
+}
+
+fn static_section(uses_outer: bool) -> Section
+    ensures { result ≡ static_section uses_outer }
+{
+    if uses_outer {
+        Section::Static
+    } else {
+        Section::Linkage
+    }
+}
+
+fn version_of(uses_outer: bool) -> u8
+    ensures { result ≡ version_of uses_outer }
+{
+    if uses_outer { 2 } else { 1 }
+}
+
+fn even_out(uses_outer: bool, words: &mut Words) -> Result<(), NoMemory>
+    ensures { OnOk result (words.new ≡ evened uses_outer words.old) }
+{
+    if uses_outer {
+        return Ok(());
+    }
+    if words.slice().len() % 2 == 0 {
+        return Ok(());
+    }
+    words.push(Word::ZERO)
+}
+
+fn statics_of(
+    alloc: Global,
+    text: &[u8],
+    tables: &Tables,
+    lines: &[Line36],
+) -> Result<Words, NoMemory>
+    ensures { IfOk result (λ words. words ≡ evened tables.now.uses_outer (words_from text.now tables.now (static_section tables.now.uses_outer) [] start lines.now)) }
+{
+    let section = static_section(tables.uses_outer);
+    let mut words = words_in(alloc, text, tables, section, lines)?;
+    even_out(tables.uses_outer, &mut words)?;
+    Ok(words)
+}
+
+fn relocations_of(
+    alloc: Global,
+    text: &[u8],
+    tables: &Tables,
+    lines: &[Line36],
+) -> Result<Relocs, NoMemory>
+    ensures { IfOk result (λ marks. marks ≡ marks_from text.now tables.now.symbols (static_section tables.now.uses_outer) (marks_from text.now tables.now.symbols Text [] start lines.now) start lines.now) }
+{
+    let mut marks = Relocs::new(alloc);
+    let section = static_section(tables.uses_outer);
+    push_marks_in(
+        alloc,
+        text,
+        &tables.symbols,
+        Section::Text,
+        lines,
+        &mut marks,
+    )?;
+    push_marks_in(alloc, text, &tables.symbols, section, lines, &mut marks)?;
+    Ok(marks)
+}
+
+// The parts, of which the tables' links become part.
+#[tactic(auto, unfolding(crate::specs::Assembly::parts_with))]
+fn parts_with(
+    alloc: Global,
+    text: &[u8],
+    tables: Tables,
+    lines: &[Line36],
+) -> Result<Parts, NoMemory>
+    ensures { IfOk result (λ parts. parts ≡ parts_with text.now tables lines.now) }
+{
+    let words = words_in(alloc, text, &tables, Section::Text, lines)?;
+    let statics = statics_of(alloc, text, &tables, lines)?;
+    let definitions = definitions_of(alloc, text, &tables.symbols, lines)?;
+    let relocations = relocations_of(alloc, text, &tables, lines)?;
+    let entry_bound = bound_of(alloc, text, lines)?;
+    let version = version_of(tables.uses_outer);
+    Ok(Parts {
+        text: words,
+        statics,
+        definitions,
+        links: tables.links,
+        relocations,
+        entry_bound,
+        version,
+    })
+}
+
+#[tactic(auto, unfolding(crate::specs::Assembly::last_line))]
+fn last_line(lines: &[Line36]) -> u32
+    ensures { result ≡ last_line 1 lines.now }
+{
+    let mut number = 1;
+    let mut rest = lines;
+    while let [line, more @ ..] = rest {
+        number = line.line;
+        rest = more;
+    }
+    number
+}
+
+// Whether each list has fewer than 2^32 members.
+fn has_short_lists(parts: &Parts) -> bool
+    ensures short { IsTrue result → HasShortLists parts.now }
+    ensures long { HasShortLists parts.now → IsTrue result }
+{
+    parts.text.slice().len() < 1 << 32
+        && parts.statics.slice().len() < 1 << 32
+        && parts.definitions.items().len() < 1 << 32
+        && parts.links.items().len() < 1 << 32
+        && parts.relocations.items().len() < 1 << 32
+}
+
+// Whether some list of words stands for parts.
+#[tactic(auto, using(crate::proofs::AssemblyLaws::long_is_none))]
+fn is_object(parts: &Parts) -> bool
+    ensures { result ≡ is_well_formed parts.now }
+{
+    if !has_short_lists(parts) {
+        return false;
+    }
+    parts.is_well_formed()
+}
+
+// The object of parts, if they are those of one.
+fn object_of(alloc: Global, parts: Parts, number: u32) -> Result<Object, AlmFault>
+    ensures { ParseSays result (made parts number (is_well_formed parts)) }
+{
+    if !is_object(&parts) {
+        return Err(AlmFault::E8(number, 1));
+    }
+    Ok(Object::new(alloc, parts)?)
+}
+
+/// The object of lines. It is refused exactly where a line is, with the first of the codes E5 to E8 in the order of the
+/// text, and the least of them at one place; or where no memory is found.
+#[tactic(auto, unfolding(crate::specs::Assembly::assembled, crate::specs::Assembly::refusal_of))]
+pub fn assemble(alloc: Global, lines: &Lines36) -> Result<Object, AlmFault>
+    ensures says { ParseSays result (assembled lines.now) }
+{
+    let text = lines.text();
+    let rows = lines.lines();
+    let found = found_in(alloc, text, rows)?;
+    let refused = lines_refusal(alloc, text, &found.tables, rows, found.refused)?;
+    match refused {
+        Some(refusal) => Err(fault_of(refusal)),
+        None => {
+            let parts = parts_with(alloc, text, found.tables, rows)?;
+            object_of(alloc, parts, last_line(rows))
+        }
+    }
+}

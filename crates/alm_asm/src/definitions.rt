@@ -1,0 +1,215 @@
+//! Definitions: the names of `entry` and `segdef` lines in order, and what is refused of them.
+
+ghost use Rattle.std.specs.Prelude.{ℕ, Bool, List, [], ◌∷◌, ◌++◌, ◌≡◌, Option, OnOk, IfOk};
+ghost use Rattle.std.specs.List.{list_any};
+ghost use Rattle.alm_asm.specs.Symbols.{same_name};
+ghost use Rattle.alm_asm.specs.Deeds.{deed_of};
+ghost use Rattle.alm_asm.specs.Definitions.{section_of, named, named_by, with_names, gives_entries, definitions_by, definitions_after, definitions_from, is_taken, is_label_kind, is_label, sum_refusal, name_refusal, arg_refusal, names_refused, definitions_refused};
+
+use crate::deed::{Deed, deed_of, name_at};
+use crate::expression::symbol_sum;
+use crate::refusal::{Code, Refusal, Room, has_room, refusal_at, sooner};
+use crate::sum::{Kind, Sum};
+use crate::symbols::Symbols;
+use alm_parse::{Arg, Line36, Span};
+use m36_word::NoMemory;
+use obj36::{Def, Defs, Named, Section};
+use std::alloc::Global;
+
+fn section_of(kind: Kind) -> Section
+    ensures { result ≡ section_of kind }
+{
+    match kind {
+        Kind::Moved(section) => section,
+        Kind::Absolute | Kind::Unsaid => Section::Text,
+    }
+}
+
+#[tactic(auto, unfolding(crate::specs::Definitions::named))]
+fn named(text: &[u8], symbols: &Symbols, is_entry: bool, span: Span) -> Named
+    ensures { result ≡ named text.now symbols.now is_entry span }
+{
+    let sum = symbol_sum(text, symbols, span);
+    Named {
+        name: name_at(text, span),
+        def: Def {
+            value: sum.value.half() as u32,
+            section: section_of(sum.kind()),
+            is_entry,
+        },
+    }
+}
+
+fn push_named(
+    text: &[u8],
+    symbols: &Symbols,
+    is_entry: bool,
+    arg: &Arg,
+    done: &mut Defs,
+) -> Result<(), NoMemory>
+    ensures { OnOk result (done.new ≡ done.old ++ named_by text.now symbols.now is_entry arg.now) }
+{
+    match arg {
+        Arg::Symbol(span) => done.push(named(text, symbols, is_entry, *span)),
+        _ => Ok(()),
+    }
+}
+
+fn gives_entries(deed: Deed) -> Option<bool>
+    ensures { result ≡ gives_entries deed }
+{
+    match deed {
+        Deed::Entry => Some(true),
+        Deed::Segdef => Some(false),
+        Deed::Nothing
+        | Deed::Instruction(_, _)
+        | Deed::Equ
+        | Deed::Use
+        | Deed::Words
+        | Deed::Zero
+        | Deed::Block
+        | Deed::Even
+        | Deed::Bound => None,
+    }
+}
+
+fn is_named(definition: &Named, name: &[u8]) -> bool
+    ensures { result ≡ same_name name.now definition.now.name }
+{
+    name == definition.name.bytes()
+}
+
+#[tactic(auto, unfolding(crate::specs::Definitions::is_taken))]
+fn is_taken(done: &[Named], name: &[u8]) -> bool
+    ensures { result ≡ is_taken done.now name.now }
+{
+    done.iter().any(|definition| is_named(definition, name))
+}
+
+fn is_label_kind(is_entry: bool, kind: Kind) -> bool
+    ensures { result ≡ is_label_kind is_entry kind }
+{
+    match kind {
+        Kind::Moved(Section::Text) => true,
+        Kind::Moved(Section::Linkage)
+        | Kind::Moved(Section::Symbol)
+        | Kind::Moved(Section::Static) => !is_entry,
+        Kind::Absolute | Kind::Unsaid => false,
+    }
+}
+
+#[tactic(auto, unfolding(crate::specs::Definitions::is_label))]
+fn is_label(is_entry: bool, sum: Sum) -> bool
+    ensures { result ≡ is_label is_entry sum }
+{
+    has_room(Room::Half, sum.value) && is_label_kind(is_entry, sum.kind())
+}
+
+fn sum_refusal(line: &Line36, at: u64, is_entry: bool, sum: Option<Sum>) -> Option<Refusal>
+    ensures { result ≡ sum_refusal line.now at is_entry sum }
+{
+    match sum {
+        None => Some(refusal_at(line, at, Code::E6)),
+        Some(sum) => {
+            if is_label(is_entry, sum) {
+                None
+            } else {
+                Some(refusal_at(line, at, Code::E7))
+            }
+        }
+    }
+}
+
+#[tactic(auto, unfolding(crate::specs::Definitions::name_refusal))]
+fn name_refusal(
+    text: &[u8],
+    symbols: &Symbols,
+    line: &Line36,
+    is_entry: bool,
+    done: &[Named],
+    span: Span,
+) -> Option<Refusal>
+    ensures { result ≡ name_refusal text.now symbols.now line.now is_entry done.now span }
+{
+    let name = name_at(text, span);
+    if is_taken(done, name.bytes()) {
+        return Some(refusal_at(line, span.from as u64, Code::E5));
+    }
+    sum_refusal(line, span.from as u64, is_entry, symbols.find(&name))
+}
+
+fn arg_refusal(
+    text: &[u8],
+    symbols: &Symbols,
+    line: &Line36,
+    is_entry: bool,
+    done: &[Named],
+    arg: &Arg,
+) -> Option<Refusal>
+    ensures { result ≡ arg_refusal text.now symbols.now line.now is_entry done.now arg.now }
+{
+    match arg {
+        Arg::Symbol(span) => name_refusal(text, symbols, line, is_entry, done, *span),
+        _ => None,
+    }
+}
+
+#[tactic(auto, unfolding(crate::specs::Definitions::with_names, crate::specs::Definitions::names_refused))]
+fn push_names(
+    text: &[u8],
+    symbols: &Symbols,
+    line: &Line36,
+    is_entry: bool,
+    refused: Option<Refusal>,
+    done: &mut Defs,
+) -> Result<Option<Refusal>, NoMemory>
+    ensures definitions { OnOk result (done.new ≡ with_names text.now symbols.now is_entry done.old line.now.args) }
+    ensures refused { IfOk result (λ r. r ≡ names_refused text.now symbols.now line.now is_entry done.old refused line.now.args) }
+{
+    let mut first = refused;
+    let mut rest = line.args.items();
+    while let [arg, more @ ..] = rest {
+        let refusal = arg_refusal(text, symbols, line, is_entry, done.items(), arg);
+        first = sooner(first, refusal);
+        push_named(text, symbols, is_entry, arg, done)?;
+        rest = more;
+    }
+    Ok(first)
+}
+
+/// Adds the definitions that a line gives, and tells the first refusal of them or one that comes before.
+#[tactic(auto, unfolding(crate::specs::Definitions::definitions_after))]
+pub fn push_definitions(
+    text: &[u8],
+    symbols: &Symbols,
+    line: &Line36,
+    refused: Option<Refusal>,
+    done: &mut Defs,
+) -> Result<Option<Refusal>, NoMemory>
+    ensures definitions { OnOk result (done.new ≡ definitions_after text.now symbols.now done.old line.now) }
+    ensures refused { IfOk result (λ r. r ≡ definitions_refused text.now symbols.now line.now done.old refused line.now.args (gives_entries (deed_of text.now line.now.op))) }
+{
+    match gives_entries(deed_of(text, line.op)) {
+        None => Ok(refused),
+        Some(is_entry) => push_names(text, symbols, line, is_entry, refused, done),
+    }
+}
+
+/// The definitions of lines.
+#[tactic(auto, unfolding(crate::specs::Definitions::definitions_from))]
+pub fn definitions_of(
+    alloc: Global,
+    text: &[u8],
+    symbols: &Symbols,
+    lines: &[Line36],
+) -> Result<Defs, NoMemory>
+    ensures { IfOk result (λ done. done ≡ definitions_from text.now symbols.now [] lines.now) }
+{
+    let mut done = Defs::new(alloc);
+    let mut rest = lines;
+    while let [line, more @ ..] = rest {
+        let _refused = push_definitions(text, symbols, line, None, &mut done)?;
+        rest = more;
+    }
+    Ok(done)
+}

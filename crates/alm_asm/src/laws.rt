@@ -1,0 +1,12 @@
+//! Laws of what lines mean.
+
+ghost use Rattle.alm_asm.specs.Laws.{PlacesCount, WordsFollow, SymbolsStay};
+
+/// A line's place is the count of words that the lines above it place in its section, the words of lines follow those of
+/// the lines above them, and a symbol is what the first line that defines it says.
+pub fn assembly_laws()
+    ensures places { PlacesCount }
+    ensures words { WordsFollow }
+    ensures symbols { SymbolsStay }
+{
+}

@@ -1,0 +1,35 @@
+//! The assembler: objects of lines that have been read.
+//!
+//! Each line places words in the section that the last `use` line above it names: the text, the static words of the
+//! linkage section, or those of a section of their own. A label is its place there, the symbol of an `equ` the number of
+//! its expression. The words are the instructions of the table, with what their expressions come to, and the numbers and
+//! characters that are given. An external operand is a link; equal links are one.
+//!
+//! What is promised: `assemble` gives the parts of an object that the lines mean, or the first refusal in the order of the
+//! text, and the least code of those at one place; want of memory may come at any time. What lines mean is stated without
+//! passes over them, in `specs/`: `Assembly` says what the parts are, and where a refusal comes.
+//!
+//! Source: the language is this project's own; its instructions are those of the Multics Processor Manual AL39.
+#![tactic(auto)]
+
+pub mod assembly;
+pub mod deed;
+pub mod definitions;
+pub mod expression;
+pub mod laws;
+pub mod layout;
+pub mod line_refusal;
+pub mod links;
+pub mod marks;
+pub mod refusal;
+pub mod spot;
+pub mod sum;
+pub mod symbols;
+pub mod tables;
+pub mod words;
+
+pub use assembly::assemble;
+pub use laws::assembly_laws;
+
+#[cfg(test)]
+mod tests;

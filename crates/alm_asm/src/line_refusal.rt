@@ -1,0 +1,268 @@
+//! What is refused of lines whose symbols are known.
+
+ghost use Rattle.std.specs.Prelude.{ℕ, Bool, List, [], ◌∷◌, ◌≡◌, ◌+◌, ◌<◌, Option, OnOk, IfOk};
+ghost use Rattle.alm_asm.specs.Deeds.{first_arg};
+ghost use Rattle.alm_asm.specs.Spots.{start};
+ghost use Rattle.alm_asm.specs.Definitions.{definitions_after};
+ghost use Rattle.alm_asm.specs.LineRefusals.{unless, op_place, external_place, needs_static, has_link, own_room, external_refusal, own_operand, operand_refusal, is_text_section, may_enter, instruction_refusal, use_refusal, halves_refusal, refusal_of_deed, line_refusal, lines_refusal};
+
+use crate::deed::{Deed, deed_of, first_symbol, first_terms, second_terms, section_in};
+use crate::definitions::push_definitions;
+use crate::expression::expression_place;
+use crate::links::{link_of, link_place, own_section};
+use crate::refusal::{Code, Refusal, Room, Wanted, expression_refusal, refusal_at, sooner};
+use crate::spot::{Spot, below};
+use crate::tables::Tables;
+use alm_parse::{Arg, Line36, Span, Term};
+use m36_word::NoMemory;
+use obj36::{Defs, Section};
+use std::alloc::Global;
+
+fn unless(holds: bool, refusal: Refusal) -> Option<Refusal>
+    ensures { result ≡ unless holds refusal }
+{
+    if holds { None } else { Some(refusal) }
+}
+
+fn op_place(op: Option<Span>) -> u64
+    ensures { result ≡ op_place op }
+{
+    match op {
+        Some(op) => op.from as u64,
+        None => 0,
+    }
+}
+
+fn external_place(segment: Span, entry: Option<Span>) -> u64
+    ensures { result ≡ external_place segment entry }
+{
+    match entry {
+        Some(entry) => entry.to as u64 + 1,
+        None => segment.to as u64 + 2,
+    }
+}
+
+fn needs_static(own: Option<Section>) -> bool
+    ensures { result ≡ needs_static own }
+{
+    match own {
+        Some(Section::Static) => true,
+        Some(Section::Text) | Some(Section::Linkage) | Some(Section::Symbol) | None => false,
+    }
+}
+
+#[tactic(auto, unfolding(crate::specs::LineRefusals::has_link))]
+fn has_link(
+    text: &[u8],
+    tables: &Tables,
+    spot: Spot,
+    segment: Span,
+    entry: Option<Span>,
+    terms: &[Term],
+    tag: u8,
+) -> Result<bool, NoMemory>
+    ensures { IfOk result (λ b. b ≡ has_link text.now tables.now spot segment entry terms.now tag) }
+{
+    let link = link_of(text, &tables.symbols, spot, segment, entry, terms, tag)?;
+    let place = link_place(tables.links.items(), tables.first_link, &link)?;
+    let own = own_section(text, segment);
+    Ok((tables.uses_outer || !needs_static(own)) && place < 16384)
+}
+
+fn own_room(pr: Option<u8>) -> Room
+    ensures { result ≡ own_room pr }
+{
+    match pr {
+        Some(_) => Room::Offset,
+        None => Room::Half,
+    }
+}
+
+fn external_refusal(
+    text: &[u8],
+    tables: &Tables,
+    spot: Spot,
+    line: &Line36,
+    segment: Span,
+    entry: Option<Span>,
+    terms: &[Term],
+    tag: u8,
+) -> Result<Option<Refusal>, NoMemory>
+    ensures { IfOk result (λ r. r ≡ external_refusal text.now tables.now spot line.now segment entry terms.now tag) }
+{
+    let wanted = Wanted {
+        place: external_place(segment, entry),
+        room: Room::Half,
+        may_move: false,
+    };
+    let expression = expression_refusal(text, &tables.symbols, spot, line, terms, wanted)?;
+    let has_link = has_link(text, tables, spot, segment, entry, terms, tag)?;
+    let at = refusal_at(line, segment.from as u64, Code::E7);
+    Ok(sooner(expression, unless(has_link, at)))
+}
+
+fn own_operand_refusal(
+    text: &[u8],
+    tables: &Tables,
+    spot: Spot,
+    line: &Line36,
+    room: Room,
+    terms: &[Term],
+) -> Result<Option<Refusal>, NoMemory>
+    ensures { IfOk result (λ r. r ≡ own_operand text.now tables.now spot line.now room terms.now) }
+{
+    let wanted = Wanted {
+        place: expression_place(terms) as u64,
+        room,
+        may_move: true,
+    };
+    expression_refusal(text, &tables.symbols, spot, line, terms, wanted)
+}
+
+fn operand_refusal(
+    text: &[u8],
+    tables: &Tables,
+    spot: Spot,
+    line: &Line36,
+) -> Result<Option<Refusal>, NoMemory>
+    ensures { IfOk result (λ r. r ≡ operand_refusal text.now tables.now spot line.now (first_arg line.now.args)) }
+{
+    match line.args.items() {
+        [
+            Arg::Operand {
+                pr,
+                seg,
+                entry,
+                expr,
+                tag,
+            },
+            ..
+        ] => match seg {
+            Some(segment) => {
+                let terms = expr.items();
+                external_refusal(text, tables, spot, line, *segment, *entry, terms, *tag)
+            }
+            None => own_operand_refusal(text, tables, spot, line, own_room(*pr), expr.items()),
+        },
+        _ => Ok(None),
+    }
+}
+
+fn is_text_section(section: Section) -> bool
+    ensures { result ≡ is_text_section section }
+{
+    match section {
+        Section::Text => true,
+        Section::Linkage | Section::Symbol | Section::Static => false,
+    }
+}
+
+fn may_enter(spot: Spot, section: Section) -> bool
+    ensures { result ≡ may_enter spot section }
+{
+    match section {
+        Section::Text | Section::Symbol => true,
+        Section::Linkage => !spot.uses_outer,
+        Section::Static => !spot.uses_inner,
+    }
+}
+
+fn instruction_refusal(
+    text: &[u8],
+    tables: &Tables,
+    spot: Spot,
+    line: &Line36,
+) -> Result<Option<Refusal>, NoMemory>
+    ensures { IfOk result (λ r. r ≡ instruction_refusal text.now tables.now spot line.now) }
+{
+    let operand = operand_refusal(text, tables, spot, line)?;
+    let at = refusal_at(line, op_place(line.op), Code::E7);
+    Ok(sooner(unless(is_text_section(spot.section), at), operand))
+}
+
+fn use_refusal(text: &[u8], spot: Spot, line: &Line36) -> Option<Refusal>
+    ensures { result ≡ use_refusal text.now spot line.now }
+{
+    let section = section_in(text, first_symbol(line.args.items()));
+    let at = refusal_at(line, op_place(line.op), Code::E7);
+    unless(may_enter(spot, section), at)
+}
+
+fn halves_refusal(
+    text: &[u8],
+    tables: &Tables,
+    spot: Spot,
+    line: &Line36,
+) -> Result<Option<Refusal>, NoMemory>
+    ensures { IfOk result (λ r. r ≡ halves_refusal text.now tables.now spot line.now) }
+{
+    let args = line.args.items();
+    let left = own_operand_refusal(text, tables, spot, line, Room::Half, first_terms(args))?;
+    let right = own_operand_refusal(text, tables, spot, line, Room::Half, second_terms(args))?;
+    Ok(sooner(left, right))
+}
+
+fn refusal_of_deed(
+    text: &[u8],
+    tables: &Tables,
+    spot: Spot,
+    line: &Line36,
+    deed: Deed,
+) -> Result<Option<Refusal>, NoMemory>
+    ensures { IfOk result (λ r. r ≡ refusal_of_deed text.now tables.now spot line.now deed) }
+{
+    match deed {
+        Deed::Instruction(_, _) => instruction_refusal(text, tables, spot, line),
+        Deed::Use => Ok(use_refusal(text, spot, line)),
+        Deed::Zero => halves_refusal(text, tables, spot, line),
+        Deed::Nothing
+        | Deed::Entry
+        | Deed::Segdef
+        | Deed::Equ
+        | Deed::Words
+        | Deed::Block
+        | Deed::Even
+        | Deed::Bound => Ok(None),
+    }
+}
+
+#[tactic(auto, unfolding(crate::specs::LineRefusals::line_refusal))]
+fn take_line(
+    text: &[u8],
+    tables: &Tables,
+    spot: Spot,
+    line: &Line36,
+    refused: Option<Refusal>,
+    done: &mut Defs,
+) -> Result<Option<Refusal>, NoMemory>
+    ensures definitions { OnOk result (done.new ≡ definitions_after text.now tables.now.symbols done.old line.now) }
+    ensures refused { IfOk result (λ r. r ≡ line_refusal text.now tables.now done.old refused spot line.now) }
+{
+    let deed = deed_of(text, line.op);
+    let names = push_definitions(text, &tables.symbols, line, refused, done)?;
+    let own = refusal_of_deed(text, tables, spot, line, deed)?;
+    Ok(sooner(names, own))
+}
+
+/// The first refusal of lines, or one that comes before.
+#[tactic(auto, unfolding(crate::specs::LineRefusals::lines_refusal))]
+pub fn lines_refusal(
+    alloc: Global,
+    text: &[u8],
+    tables: &Tables,
+    lines: &[Line36],
+    refused: Option<Refusal>,
+) -> Result<Option<Refusal>, NoMemory>
+    ensures { IfOk result (λ r. r ≡ lines_refusal text.now tables.now [] refused start lines.now) }
+{
+    let mut done = Defs::new(alloc);
+    let mut first = refused;
+    let mut spot = Spot::start();
+    let mut rest = lines;
+    while let [line, more @ ..] = rest {
+        first = take_line(text, tables, spot, line, first, &mut done)?;
+        spot = below(alloc, text, spot, line)?;
+        rest = more;
+    }
+    Ok(first)
+}

@@ -1,0 +1,255 @@
+//! Links: the external operands of instructions, each once, in the order of their first use.
+
+ghost use Rattle.std.specs.Prelude.{ℕ, List, [], ◌∷◌, ◌++◌, ◌≡◌, Option, OnOk, IfOk};
+ghost use Rattle.std.specs.List.{list_any, position};
+ghost use Rattle.alm_asm.specs.Deeds.{first_arg};
+ghost use Rattle.alm_asm.specs.Spots.{start};
+ghost use Rattle.obj36.specs.ObjectSegment.{place_number};
+ghost use Rattle.alm_parse.specs.Tokens.{slice_of};
+ghost use Rattle.alm_asm.specs.Deeds.{name_at};
+ghost use Rattle.alm_asm.specs.Words.{same_section};
+ghost use Rattle.alm_asm.specs.Links.{own_section, link_kind, link_section, link_name, entry_name, link_of, operand_args, link_by, link_in, same_link, with_link, links_after, links_from, link_place};
+
+use crate::deed::{Deed, deed_of, name_at};
+use crate::expression::sum_of;
+use crate::spot::{Spot, below};
+use crate::sum::plus;
+use crate::symbols::Symbols;
+use alm_parse::span::bytes_of;
+use alm_parse::{Arg, Line36, Span, Term};
+use m36_text::Name;
+use m36_word::NoMemory;
+use obj36::{Link, Links, Section};
+use std::alloc::Global;
+
+#[tactic(auto, unfolding(crate::specs::Links::own_section))]
+fn section_named(bytes: &[u8]) -> Option<Section>
+    ensures { result ≡ own_section bytes.now }
+{
+    if bytes == b"*text".as_slice() {
+        return Some(Section::Text);
+    }
+    if bytes == b"*link".as_slice() {
+        return Some(Section::Linkage);
+    }
+    if bytes == b"*static".as_slice() {
+        return Some(Section::Static);
+    }
+    None
+}
+
+/// The own section that a segment names.
+pub fn own_section(text: &[u8], segment: Span) -> Option<Section>
+    ensures { result ≡ own_section (slice_of text.now segment) }
+{
+    section_named(bytes_of(text, segment))
+}
+
+fn link_kind(own: Option<Section>, entry: Option<Span>) -> u8
+    ensures { result ≡ link_kind own entry }
+{
+    match (own, entry) {
+        (Some(_), None) => 1,
+        (Some(_), Some(_)) => 5,
+        (None, None) => 3,
+        (None, Some(_)) => 4,
+    }
+}
+
+fn link_section(own: Option<Section>) -> Section
+    ensures { result ≡ link_section own }
+{
+    match own {
+        Some(section) => section,
+        None => Section::Text,
+    }
+}
+
+fn link_name(own: Option<Section>, text: &[u8], segment: Span) -> Name
+    ensures { result ≡ link_name own (name_at text.now segment) }
+{
+    match own {
+        Some(_) => Name::default(),
+        None => name_at(text, segment),
+    }
+}
+
+fn entry_name(text: &[u8], entry: Option<Span>) -> Name
+    ensures { result ≡ entry_name text.now entry }
+{
+    match entry {
+        Some(span) => name_at(text, span),
+        None => Name::default(),
+    }
+}
+
+/// The link of an external operand.
+#[tactic(auto, unfolding(crate::specs::Links::link_of))]
+pub fn link_of(
+    text: &[u8],
+    symbols: &Symbols,
+    spot: Spot,
+    segment: Span,
+    entry: Option<Span>,
+    terms: &[Term],
+    tag: u8,
+) -> Result<Link, NoMemory>
+    ensures { IfOk result (λ link. link ≡ link_of text.now symbols.now spot segment entry terms.now tag) }
+{
+    let own = own_section(text, segment);
+    let sum = sum_of(text, symbols, spot, terms)?;
+    Ok(Link {
+        name: link_name(own, text, segment),
+        entry: entry_name(text, entry),
+        expr: sum.value.half() as u32,
+        kind: link_kind(own, entry),
+        section: link_section(own),
+        modifier: tag % (1 << 6),
+    })
+}
+
+/// The operand of an instruction; other operations have none.
+pub fn operand_args(deed: Deed, args: &[Arg]) -> &[Arg]
+    ensures { result.now ≡ operand_args deed args.now }
+{
+    match deed {
+        Deed::Instruction(_, _) => args,
+        Deed::Nothing
+        | Deed::Entry
+        | Deed::Segdef
+        | Deed::Equ
+        | Deed::Use
+        | Deed::Words
+        | Deed::Zero
+        | Deed::Block
+        | Deed::Even
+        | Deed::Bound => &[],
+    }
+}
+
+fn link_in(
+    text: &[u8],
+    symbols: &Symbols,
+    spot: Spot,
+    args: &[Arg],
+) -> Result<Option<Link>, NoMemory>
+    ensures { IfOk result (λ link. link ≡ link_in text.now symbols.now spot (first_arg args.now)) }
+{
+    match args {
+        [
+            Arg::Operand {
+                pr: _,
+                seg: Some(segment),
+                entry,
+                expr,
+                tag,
+            },
+            ..
+        ] => {
+            let link = link_of(text, symbols, spot, *segment, *entry, expr.items(), *tag)?;
+            Ok(Some(link))
+        }
+        _ => Ok(None),
+    }
+}
+
+fn section_number(section: Section) -> u8
+    ensures { result ≡ place_number section }
+{
+    match section {
+        Section::Text => 0,
+        Section::Linkage => 1,
+        Section::Static => 2,
+        Section::Symbol => 3,
+    }
+}
+
+/// Two sections are the same.
+pub fn same_section(a: Section, b: Section) -> bool
+    ensures { result ≡ same_section a b }
+{
+    section_number(a) == section_number(b)
+}
+
+#[tactic(auto, unfolding(crate::specs::Links::same_link))]
+fn same_link(a: &Link, b: &Link) -> bool
+    ensures { result ≡ same_link a.now b.now }
+{
+    a.kind == b.kind
+        && same_section(a.section, b.section)
+        && a.name == b.name
+        && a.entry == b.entry
+        && a.expr == b.expr
+        && a.modifier == b.modifier
+}
+
+fn is_among(links: &[Link], link: &Link) -> bool
+    ensures { result ≡ list_any (same_link link.now) links.now }
+{
+    links.iter().any(|other| same_link(link, other))
+}
+
+fn add_link(links: &mut Links, link: Option<Link>) -> Result<(), NoMemory>
+    ensures { OnOk result (links.new ≡ with_link links.old link) }
+{
+    match link {
+        None => Ok(()),
+        Some(link) => {
+            if is_among(links.items(), &link) {
+                return Ok(());
+            }
+            links.push(link)
+        }
+    }
+}
+
+#[tactic(auto, unfolding(crate::specs::Links::links_after))]
+fn take_line(
+    text: &[u8],
+    symbols: &Symbols,
+    links: &mut Links,
+    spot: Spot,
+    line: &Line36,
+) -> Result<(), NoMemory>
+    ensures { OnOk result (links.new ≡ links_after text.now symbols.now links.old spot line.now) }
+{
+    let deed = deed_of(text, line.op);
+    let link = link_in(text, symbols, spot, operand_args(deed, line.args.items()))?;
+    add_link(links, link)
+}
+
+/// The links of lines.
+#[tactic(auto, unfolding(crate::specs::Links::links_from))]
+pub fn links_of(
+    alloc: Global,
+    text: &[u8],
+    symbols: &Symbols,
+    lines: &[Line36],
+) -> Result<Links, NoMemory>
+    ensures { IfOk result (λ links. links ≡ links_from text.now symbols.now [] start lines.now) }
+{
+    let mut links = Links::new(alloc);
+    let mut spot = Spot::start();
+    let mut rest = lines;
+    while let [line, more @ ..] = rest {
+        take_line(text, symbols, &mut links, spot, line)?;
+        spot = below(alloc, text, spot, line)?;
+        rest = more;
+    }
+    Ok(links)
+}
+
+fn index_of(links: &[Link], link: &Link) -> Option<usize>
+    ensures { result ≡ position (same_link link.now) links.now }
+{
+    links.iter().position(|other| same_link(link, other))
+}
+
+/// The offset of a link in the linkage section, whose links begin at a place.
+#[tactic(auto, unfolding(crate::specs::Links::link_place))]
+pub fn link_place(links: &[Link], first: u64, link: &Link) -> Result<u64, NoMemory>
+    ensures { IfOk result (λ at. at ≡ link_place links.now first link.now) }
+{
+    let index = index_of(links, link).unwrap_or(0) as u64;
+    plus(first, plus(index, index)?)
+}

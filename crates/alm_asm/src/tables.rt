@@ -1,0 +1,14 @@
+//! What both passes over the lines have found before words are made.
+
+use crate::symbols::Symbols;
+use obj36::Links;
+
+/// The symbols and links of a source, where the first link stands in the linkage section, and whether the static words
+/// have a section of their own.
+#[derive(Debug, Drop)]
+pub struct Tables {
+    pub symbols: Symbols,
+    pub links: Links,
+    pub first_link: u64,
+    pub uses_outer: bool,
+}

@@ -1,0 +1,226 @@
+//! The words that lines place.
+
+ghost use Rattle.std.specs.Prelude.{ℕ, Bool, List, [], ◌∷◌, ◌++◌, ◌≡◌, ◌+◌, ◌*◌, ◌%◌, ◌^◌, ◌<◌, replicate, Option, OnOk, IfOk};
+ghost use Rattle.alm_asm.specs.Deeds.{first_arg, second_arg, terms_in};
+ghost use Rattle.alm_asm.specs.Spots.{start};
+ghost use Rattle.alm_asm.specs.Sums.{half_of, offset_of};
+ghost use Rattle.alm_asm.specs.Links.{link_of, link_place};
+ghost use Rattle.alm_asm.specs.Words.{plain_inst, pointed_inst, own_inst, inst_by, inst_in, instruction_word, halves_word, words_by, words_of_line, words_from};
+
+use crate::deed::{
+    Deed, deed_of, first_terms, push_all, second_number, second_terms, words_of_args,
+};
+use crate::expression::sum_of;
+use crate::links::{link_of, link_place, same_section};
+use crate::spot::{Spot, below};
+use crate::sum::{Balance, Sum};
+use crate::tables::Tables;
+use alm_parse::{Arg, Line36, Span, Term};
+use m36_inst::Inst;
+use m36_word::{NoMemory, Word, Words};
+use obj36::Section;
+use std::alloc::Global;
+
+/// An operation code and its bit 27.
+#[derive(Clone, Copy)]
+struct Operation {
+    code: u16,
+    bit27: bool,
+}
+
+fn plain_inst(operation: Operation, y: u64, tag: u8) -> Inst
+    requires { y < 2 ^ 18 }
+    ensures { result ≡ plain_inst operation.code operation.bit27 y tag }
+{
+    Inst {
+        y: y as u32,
+        code: operation.code % (1 << 9),
+        tag: tag % (1 << 6),
+        bit27: operation.bit27,
+        inhibit: false,
+        by_pr: false,
+    }
+}
+
+fn pointed_inst(operation: Operation, pr: u8, offset: u64, tag: u8) -> Inst
+    requires { offset < 2 ^ 15 }
+    ensures { result ≡ pointed_inst operation.code operation.bit27 pr offset tag }
+{
+    let base = (pr % (1 << 3)) as u32 * (1 << 15);
+    Inst {
+        y: base + offset as u32,
+        code: operation.code % (1 << 9),
+        tag: tag % (1 << 6),
+        bit27: operation.bit27,
+        inhibit: false,
+        by_pr: true,
+    }
+}
+
+fn own_inst(operation: Operation, pr: Option<u8>, sum: Sum, tag: u8) -> Inst
+    ensures { result ≡ own_inst operation.code operation.bit27 pr (half_of sum.value) (offset_of sum.value) tag }
+{
+    match pr {
+        Some(pr) => pointed_inst(operation, pr, sum.value.offset(), tag),
+        None => plain_inst(operation, sum.value.half(), tag),
+    }
+}
+
+fn external_inst(
+    text: &[u8],
+    tables: &Tables,
+    spot: Spot,
+    operation: Operation,
+    segment: Span,
+    entry: Option<Span>,
+    terms: &[Term],
+    tag: u8,
+) -> Result<Inst, NoMemory>
+    ensures { IfOk result (λ i. i ≡ pointed_inst operation.code operation.bit27 4 (link_place tables.now.links tables.now.first_link (link_of text.now tables.now.symbols spot segment entry terms.now tag) % 2 ^ 15) 16) }
+{
+    let link = link_of(text, &tables.symbols, spot, segment, entry, terms, tag)?;
+    let place = link_place(tables.links.items(), tables.first_link, &link)?;
+    Ok(pointed_inst(operation, 4, place % (1 << 15), 16))
+}
+
+fn inst_in(
+    text: &[u8],
+    tables: &Tables,
+    spot: Spot,
+    operation: Operation,
+    args: &[Arg],
+) -> Result<Inst, NoMemory>
+    ensures { IfOk result (λ i. i ≡ inst_in text.now tables.now spot operation.code operation.bit27 (first_arg args.now)) }
+{
+    match args {
+        [
+            Arg::Operand {
+                pr,
+                seg,
+                entry,
+                expr,
+                tag,
+            },
+            ..
+        ] => match seg {
+            Some(segment) => external_inst(
+                text,
+                tables,
+                spot,
+                operation,
+                *segment,
+                *entry,
+                expr.items(),
+                *tag,
+            ),
+            None => {
+                let sum = sum_of(text, &tables.symbols, spot, expr.items())?;
+                Ok(own_inst(operation, *pr, sum, *tag))
+            }
+        },
+        _ => Ok(plain_inst(operation, 0, 0)),
+    }
+}
+
+#[tactic(auto, unfolding(crate::specs::Words::instruction_word))]
+fn instruction_word(
+    text: &[u8],
+    tables: &Tables,
+    spot: Spot,
+    operation: Operation,
+    args: &[Arg],
+) -> Result<Word, NoMemory>
+    ensures { IfOk result (λ w. w ≡ instruction_word text.now tables.now spot operation.code operation.bit27 args.now) }
+{
+    Ok(inst_in(text, tables, spot, operation, args)?.to_word())
+}
+
+// The word of two halves.
+fn word_of(left: Balance, right: Balance) -> Word
+    ensures { result ≡ half_of left * 2 ^ 18 + half_of right }
+{
+    Word::low(left.half() * (1 << 18) + right.half())
+}
+
+#[tactic(auto, unfolding(crate::specs::Words::halves_word))]
+fn halves_word(text: &[u8], tables: &Tables, spot: Spot, args: &[Arg]) -> Result<Word, NoMemory>
+    ensures { IfOk result (λ w. w ≡ halves_word text.now tables.now spot args.now) }
+{
+    let left = sum_of(text, &tables.symbols, spot, first_terms(args))?;
+    let right = sum_of(text, &tables.symbols, spot, second_terms(args))?;
+    Ok(word_of(left.value, right.value))
+}
+
+fn push_zeros(words: &mut Words, count: u64) -> Result<(), NoMemory>
+    ensures { OnOk result (words.new ≡ words.old ++ replicate count 0) }
+{
+    for _ in 0..count {
+        words.push(Word::ZERO)?;
+    }
+    Ok(())
+}
+
+fn push_words(
+    alloc: Global,
+    text: &[u8],
+    tables: &Tables,
+    spot: Spot,
+    args: &[Arg],
+    deed: Deed,
+    words: &mut Words,
+) -> Result<(), NoMemory>
+    ensures { OnOk result (words.new ≡ words.old ++ words_by text.now tables.now spot args.now deed) }
+{
+    match deed {
+        Deed::Instruction(code, bit27) => {
+            let operation = Operation { code, bit27 };
+            words.push(instruction_word(text, tables, spot, operation, args)?)
+        }
+        Deed::Words => push_all(words, words_of_args(alloc, args)?.slice()),
+        Deed::Zero => words.push(halves_word(text, tables, spot, args)?),
+        Deed::Block => push_zeros(words, second_number(args)),
+        Deed::Even => push_zeros(words, spot.place()? % 2),
+        Deed::Nothing | Deed::Entry | Deed::Segdef | Deed::Equ | Deed::Use | Deed::Bound => Ok(()),
+    }
+}
+
+#[tactic(auto, unfolding(crate::specs::Words::words_of_line))]
+fn take_line(
+    alloc: Global,
+    text: &[u8],
+    tables: &Tables,
+    section: Section,
+    spot: Spot,
+    line: &Line36,
+    words: &mut Words,
+) -> Result<(), NoMemory>
+    ensures { OnOk result (words.new ≡ words.old ++ words_of_line text.now tables.now section spot line.now) }
+{
+    if !same_section(spot.section, section) {
+        return Ok(());
+    }
+    let deed = deed_of(text, line.op);
+    push_words(alloc, text, tables, spot, line.args.items(), deed, words)
+}
+
+/// The words of lines in a section.
+#[tactic(auto, unfolding(crate::specs::Words::words_from))]
+pub fn words_in(
+    alloc: Global,
+    text: &[u8],
+    tables: &Tables,
+    section: Section,
+    lines: &[Line36],
+) -> Result<Words, NoMemory>
+    ensures { IfOk result (λ words. words ≡ words_from text.now tables.now section [] start lines.now) }
+{
+    let mut words = Words::new(alloc);
+    let mut spot = Spot::start();
+    let mut rest = lines;
+    while let [line, more @ ..] = rest {
+        take_line(alloc, text, tables, section, spot, line, &mut words)?;
+        spot = below(alloc, text, spot, line)?;
+        rest = more;
+    }
+    Ok(words)
+}
