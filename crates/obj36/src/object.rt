@@ -248,9 +248,10 @@ impl Object {
         joined_sections(alloc, &self.parts, definition, linkage, symbol)
     }
 
-    /// The object's parts.
+    /// The object's parts, for which a list of words stands.
     pub fn parts(&self) -> &Parts
-        ensures { result.now ≡ self.now }
+        ensures value { result.now ≡ self.now }
+        ensures formed { is_well_formed self.now ≡ true }
     {
         &self.parts
     }

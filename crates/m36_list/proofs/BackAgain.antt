@@ -1,0 +1,115 @@
+-- The text of a word is read as that word.
+use Rattle.std.proofs.Common.{ℕ, suc, ◌≡◌, ◌+◌, ◌-◌, ◌*◌, ◌/◌, ◌%◌, ◌^◌, ◌<◌, ◌≤◌, ◌==◌, ◌||◌, Bool, true, false, List, [], ◌∷◌, ◌++◌, length, Option, Some, None, Ok, refl, sym, ap, ◌∙◌, append_assoc, length-append, arith}
+use Rattle.std.specs.Prelude.{codes}
+use Rattle.std.specs.List.{list_any}
+use Rattle.std.specs.Str.{bytes_eq}
+use Rattle.std.proofs.lemmas.Bool.{ne_eqb, or_from}
+use Rattle.m36_text.specs.Digits.{octal_text}
+use Rattle.m36_text.specs.Reading.{number_read}
+use Rattle.m36_text.proofs.DigitLaws.{length_octal}
+use Rattle.m36_text.proofs.NumeralLaws.{reads_octal}
+use Rattle.m36_inst.specs.Fields.{InstFields}
+use Rattle.m36_inst.specs.Instruction.{inst_of, inst_word}
+use Rattle.m36_inst.specs.Lookup.{name_at, code_named}
+use Rattle.m36_inst.proofs.Instructions.{word_back}
+use Rattle.m36_inst.proofs.OneToOne.{named_code}
+use Rattle.alm_parse.specs.declared.args.Arg.TheVariants.{Number}
+use Rattle.alm_parse.specs.declared.numerals.Numeral.TheVariants as numeral
+use Rattle.alm_parse.specs.declared.operation.Operation.TheVariants.{Instruction, Octal}
+use Rattle.alm_parse.specs.declared.pieces.Parter.TheVariants.{Comma}
+use Rattle.alm_parse.specs.Tokens.{slice_of}
+use Rattle.alm_parse.specs.Pieces.{parts, pieces_of}
+use Rattle.alm_parse.specs.Bodies.{span_at}
+use Rattle.alm_parse.specs.Members.{members, numbers_given, place_out}
+use Rattle.alm_parse.specs.Operations.{operation_of, directive}
+use Rattle.m36_list.specs.Modifiers.{modifier_text}
+use Rattle.m36_list.specs.Disassembly.{disassembly, by_fields, by_parts, octal_constant, address_text}
+use Rattle.m36_list.specs.Assembled.{assembled, word_with, instruction, address_of, AssemblesToItself}
+use Rattle.m36_list.proofs.Parted.{none_in_both}
+use Rattle.m36_list.proofs.Lengths.{address_is_some}
+use Rattle.m36_list.proofs.Characters.{IsOperation, operation_at, is_ending, is_parting, PassesNone, address_passes_none, octal_passes_none}
+use Rattle.m36_list.proofs.Spans.{slice_at}
+use Rattle.m36_list.proofs.Terms.{one_piece}
+use Rattle.m36_list.proofs.TagsBack.{modifier, IsModifier}
+use Rattle.m36_list.proofs.OperandRead.{operand_at, IsOperandAt}
+use Rattle.m36_list.proofs.LineRead.{line_read}
+
+some_of : (name : List ℕ) → bytes_eq name [] ≡ false → 0 < length name
+some_of [] none = absurd (cc)
+some_of (b ∷ name) none = omega arith
+
+no_ending : (d : ℕ) → d < 10 → is_ending (48 + d) ≡ false
+no_ending d small =
+    let blank : (48 + d == 32) ≡ false = ne_eqb (48 + d) 32 (λ e. absurd (omega arith)) in
+    let tab : (48 + d == 9) ≡ false = ne_eqb (48 + d) 9 (λ e. absurd (omega arith)) in
+    let quote : (48 + d == 34) ≡ false = ne_eqb (48 + d) 34 (λ e. absurd (omega arith)) in
+    rw (blank, tab, quote) refl
+
+ending_passes_none : PassesNone is_ending
+ending_passes_none = record { digit = no_ending; minus = refl; letter_p = refl; letter_r = refl }
+
+instruction_operation : (code : ℕ) (bit27 : Bool) (name : List ℕ) → name_at code bit27 ≡ Some name → IsOperation name → operation_of name ≡ Some Instruction
+unfolding operation_of
+instruction_operation code bit27 name named o = rw (o.instruction, named_code code bit27 name named) refl
+
+-- an instruction that is written with its name
+named_back : (i : InstFields) (name text before after line : List ℕ) (number : ℕ) → i.y < 2 ^ 18 → i.inhibit ≡ false → name_at i.code i.bit27 ≡ Some name → modifier_text i.tag ≡ Some text
+    → line ≡ name ++ 32 ∷ (address_text i ++ text)
+    → assembled number before line after ≡ Some (inst_word i)
+named_back i name text before after line number fits off named tagged shape =
+    let o = operation_at i.code i.bit27 name named in
+    let m = modifier i.tag text tagged in
+    let operand = address_text i ++ text in
+    let plain = none_in_both is_ending (address_text i) text (address_passes_none is_ending i fits ending_passes_none refl) m.plain in
+    let more = address_is_some i in
+    let both = length-append (address_text i) text in
+    let long : length line ≡ length name + suc (length operand) = ap length shape ∙ length-append name (32 ∷ operand) in
+    let begun = length-append before (name ++ codes " ") in
+    let named_long = length-append name (codes " ") in
+    let whole : before ++ (line ++ after) ≡ (before ++ (name ++ codes " ")) ++ (operand ++ after) = ap (λ (t : List ℕ). before ++ (t ++ after)) shape ∙ simp append_assoc in
+    let said = operand_at (before ++ (line ++ after)) (before ++ (name ++ codes " ")) after (length before + length name + 1) (length before + length line) i text fits m.back whole (omega arith) (omega arith) in
+    let back = said.back in
+    let stays = sym off in
+    line_read number line before name operand after Instruction _ shape o.plain (some_of name o.some) plain (omega arith) (instruction_operation i.code i.bit27 name named o) (λ source rest. refl) said.says
+    ∙ rw (named_code i.code i.bit27 name named, back) (λ k. Some (inst_word record { y = i.y; code = i.code; bit27 = i.bit27; inhibit = stays k; by_pr = i.by_pr; tag = i.tag }))
+
+-- an octal constant
+octal_operation : operation_of (codes "oct") ≡ Some Octal
+unfolding operation_of directive
+octal_operation = refl
+
+no_comma : (d : ℕ) → d < 10 → (48 + d == 44) ≡ false
+no_comma d small = ne_eqb (48 + d) 44 (λ e. absurd (omega arith))
+
+octal_said : (source : List ℕ) (from to w : ℕ) → w < 2 ^ 36 → slice_of source (span_at from to) ≡ octal_text 12 w → to ≡ from + 12 → numbers_given numeral.Octal source (span_at from to) ≡ Ok (Number w ∷ [])
+unfolding numbers_given members pieces_of place_out
+octal_said source from to w fits slice stop =
+    let digits = octal_text 12 w in
+    let long : length digits ≡ 12 = length_octal 12 w in
+    let end : from + length digits ≡ to = omega arith in
+    let read : number_read 8 digits 68719476735 ≡ Ok w = reads_octal 12 w 68719476735 (omega arith) fits (omega arith) in
+    rw (slice, one_piece Comma false from from digits (octal_passes_none (parts Comma) 12 w no_comma), end, slice, read) (ap (λ (n : ℕ). Ok (Number n ∷ [])) (omega arith))
+
+constant_back : (w number : ℕ) (before after : List ℕ) → w < 2 ^ 36 → assembled number before (octal_constant w) after ≡ Some w
+constant_back w number before after fits =
+    let digits = octal_text 12 w in
+    let long : length digits ≡ 12 = length_octal 12 w in
+    let begun = length-append before (codes "oct ") in
+    let whole : before ++ ((codes "oct " ++ digits) ++ after) ≡ (before ++ codes "oct ") ++ (digits ++ after) = simp append_assoc in
+    let all = length-append (codes "oct ") digits in
+    let slice = slice_at (before ++ ((codes "oct " ++ digits) ++ after)) (before ++ codes "oct ") digits after (length before + 3 + 1) (length before + length (codes "oct " ++ digits)) whole (omega arith) (omega arith) in
+    line_read number (codes "oct " ++ digits) before (codes "oct") digits after Octal _ refl refl (omega arith) (octal_passes_none is_ending 12 w no_ending) (omega arith) octal_operation (λ source rest. refl) (octal_said _ (length before + 3 + 1) _ w fits slice (omega arith))
+
+parts_back : (w number : ℕ) (before after : List ℕ) (i : InstFields) (name text : Option (List ℕ)) → w < 2 ^ 36 → inst_word i ≡ w → i.y < 2 ^ 18 → i.inhibit ≡ false → name_at i.code i.bit27 ≡ name → modifier_text i.tag ≡ text
+    → assembled number before (by_parts w i name text) after ≡ Some w
+parts_back w number before after i (Some name) (Some text) below word fits off named tagged = named_back i name text before after (((name ++ codes " ") ++ address_text i) ++ text) number fits off named tagged (simp append_assoc) ∙ ap (λ (n : ℕ). Some n) word
+parts_back w number before after i (Some name) None below word fits off named tagged = constant_back w number before after below
+parts_back w number before after i None text below word fits off named tagged = constant_back w number before after below
+
+fields_back : (w number : ℕ) (before after : List ℕ) (i : InstFields) (b : Bool) → w < 2 ^ 36 → inst_word i ≡ w → i.y < 2 ^ 18 → i.inhibit ≡ b → assembled number before (by_fields w i) after ≡ Some w
+fields_back w number before after i true below word fits on = rw on (constant_back w number before after below)
+fields_back w number before after i false below word fits off = rw off (parts_back w number before after i (name_at i.code i.bit27) (modifier_text i.tag) below word fits off refl refl)
+
+pub assembles : AssemblesToItself
+unfolding disassembly
+assembles w number before after fits = fields_back w number before after (inst_of w) (inst_of w).inhibit fits (word_back w fits) (omega arith) refl

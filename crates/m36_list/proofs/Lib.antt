@@ -1,0 +1,12 @@
+pub mod Lengths
+pub mod Parted
+pub mod Characters
+pub mod Spans
+pub mod Terms
+pub mod TagsBack
+pub mod OperandRead
+pub mod LineRead
+pub mod LineFields
+pub mod PrintLines
+pub mod SectionPlaces
+pub mod BackAgain

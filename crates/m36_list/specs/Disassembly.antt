@@ -1,0 +1,36 @@
+-- The text of an instruction's word, as the assembler would read it.
+use Rattle.std.specs.Prelude.{ℕ, ◌-◌, ◌%◌, ◌^◌, nat_lt, List, [], ◌∷◌, ◌++◌, Option, Some, None, codes, if◌then◌else◌}
+use Rattle.m36_text.specs.Digits.{character, octal_text, decimal_text}
+use Rattle.m36_inst.specs.Fields.{InstFields}
+use Rattle.m36_inst.specs.Instruction.{inst_of, pr_number}
+use Rattle.m36_inst.specs.Lookup.{name_at}
+use Rattle.m36_list.specs.Modifiers.{modifier_text}
+
+-- a number of 15 bits as a signed one
+unfoldable pub signed_text : ℕ → List ℕ
+signed_text offset =
+    if nat_lt offset (2 ^ 14) then decimal_text offset else codes "-" ++ decimal_text (2 ^ 15 - offset)
+
+-- the address; or the pointer register and the signed offset from it
+abbrev pub address_text : InstFields → List ℕ
+address_text i =
+    if i.by_pr then codes "pr" ++ character (pr_number i) ∷ [] ++ codes "|" ++ signed_text (i.y % 2 ^ 15)
+    else decimal_text i.y
+
+-- a word that is no instruction with a text of its own
+abbrev pub octal_constant : ℕ → List ℕ
+octal_constant w = codes "oct " ++ octal_text 12 w
+
+-- with the name, a blank, the address and the modifier, where there are a name and a modifier
+abbrev pub by_parts : ℕ → InstFields → Option (List ℕ) → Option (List ℕ) → List ℕ
+by_parts w i (Some name) (Some modifier) = name ++ codes " " ++ address_text i ++ modifier
+by_parts w i (Some name) None = octal_constant w
+by_parts w i None modifier = octal_constant w
+
+-- an instruction whose inhibit bit is on has no text of its own
+abbrev pub by_fields : ℕ → InstFields → List ℕ
+by_fields w i =
+    if i.inhibit then octal_constant w else by_parts w i (name_at i.code i.bit27) (modifier_text i.tag)
+
+unfoldable pub disassembly : ℕ → List ℕ
+disassembly w = by_fields w (inst_of w)

@@ -1,0 +1,5 @@
+pub mod Assembled
+pub mod Disassembly
+pub mod Listing
+pub mod Modifiers
+pub mod Print

@@ -1,0 +1,41 @@
+//! Lines of fields, put at the end of a text.
+
+ghost use Rattle.std.specs.Prelude.{[], ◌∷◌, ◌++◌, ◌≡◌, ◌^◌, ◌<◌, ◌≤◌, OnOk};
+ghost use Rattle.m36_text.specs.Digits.{octal_text};
+ghost use Rattle.m36_list.specs.Print.{line};
+
+use m36_outside::Text;
+use m36_text::octal;
+use m36_word::NoMemory;
+
+/// Puts a field that others follow in its line.
+pub fn put_field(text: &mut Text, field: &[u8]) -> Result<(), NoMemory>
+    ensures { OnOk result (text.new ≡ text.old ++ (field.now ++ 32 ∷ [])) }
+{
+    text.append(field)?;
+    text.push(b' ')
+}
+
+/// Puts the last field of a line.
+pub fn put_last(text: &mut Text, field: &[u8]) -> Result<(), NoMemory>
+    ensures { OnOk result (text.new ≡ text.old ++ (field.now ++ 10 ∷ [])) }
+{
+    text.append(field)?;
+    text.push(b'\n')
+}
+
+/// Puts a number of six octal digits as a field that others follow.
+pub fn put_number(text: &mut Text, v: u64) -> Result<(), NoMemory>
+    requires { v < 2 ^ 18 }
+    ensures { OnOk result (text.new ≡ text.old ++ (octal_text 6 v ++ 32 ∷ [])) }
+{
+    put_field(text, octal(v, 6).as_str().as_bytes())
+}
+
+/// Puts a number of six octal digits as the last field of a line.
+pub fn put_last_number(text: &mut Text, v: u64) -> Result<(), NoMemory>
+    requires { v < 2 ^ 18 }
+    ensures { OnOk result (text.new ≡ text.old ++ (octal_text 6 v ++ 10 ∷ [])) }
+{
+    put_last(text, octal(v, 6).as_str().as_bytes())
+}

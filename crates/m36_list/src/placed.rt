@@ -1,0 +1,44 @@
+//! Words that a line of the source places.
+
+ghost use Rattle.std.specs.Prelude.{◌+◌, ◌++◌, ◌≡◌, ◌^◌, ◌<◌, ◌≤◌, length, OnOk};
+ghost use Rattle.m36_list.specs.Listing.{placed_line, placed_lines};
+
+use crate::fields::{put_field, put_last, put_number};
+use m36_outside::Text;
+use m36_text::{decimal, octal};
+use m36_word::{NoMemory, Word};
+
+/// Puts the line of a placed word.
+#[tactic(auto, unfolding(crate::specs::Listing::placed_line), using(crate::proofs::LineFields::lines))]
+fn put_placed(
+    text: &mut Text,
+    section: &[u8],
+    line: u32,
+    at: u64,
+    word: Word,
+) -> Result<(), NoMemory>
+    requires { at < 2 ^ 18 }
+    ensures { OnOk result (text.new ≡ text.old ++ placed_line section.now line at word) }
+{
+    put_field(text, section)?;
+    put_number(text, at)?;
+    put_field(text, octal(word.value(), 12).as_str().as_bytes())?;
+    put_last(text, decimal(line as u64).as_str().as_bytes())
+}
+
+/// Puts the lines of words that one line of the source places from a place on.
+pub fn put_all_placed(
+    text: &mut Text,
+    section: &[u8],
+    line: u32,
+    first: u64,
+    words: &[Word],
+) -> Result<(), NoMemory>
+    requires { first + length words.now ≤ 2 ^ 18 }
+    ensures { OnOk result (text.new ≡ text.old ++ placed_lines section.now line first words.now) }
+{
+    for (i, word) in words.iter().enumerate() {
+        put_placed(text, section, line, first + i as u64, *word)?;
+    }
+    Ok(())
+}

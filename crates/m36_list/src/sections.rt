@@ -1,0 +1,91 @@
+//! The sections of an object, a line for each, and the entry bound.
+
+ghost use Rattle.std.specs.Prelude.{◌+◌, ◌++◌, ◌≡◌, ◌^◌, ◌<◌, ◌≤◌, length, OnOk};
+ghost use Rattle.obj36.specs.ObjectSegment.{definition_section, linkage_section, symbol_section, outer_statics};
+ghost use Rattle.m36_list.specs.Print.{statics_at, section_line, static_line, value_line, section_lines};
+
+use crate::fields::{put_field, put_last_number, put_number};
+use m36_outside::Text;
+use m36_word::NoMemory;
+use obj36::{Object, Parts, Section};
+
+/// Puts the line of a section: its name, where it begins and how many words it has.
+#[tactic(auto, using(crate::proofs::LineFields::lines))]
+fn put_section(text: &mut Text, name: &[u8], at: u64, len: u64) -> Result<(), NoMemory>
+    requires at { at < 2 ^ 18 }
+    requires len { len < 2 ^ 18 }
+    ensures { OnOk result (text.new ≡ text.old ++ section_line name.now at len) }
+{
+    put_field(text, name)?;
+    put_number(text, at)?;
+    put_last_number(text, len)
+}
+
+/// Puts the line of the static section, which version 2 has.
+fn put_static(text: &mut Text, parts: &Parts, at: u64) -> Result<(), NoMemory>
+    requires at { at ≡ statics_at parts.now }
+    requires begins { at < 2 ^ 18 }
+    requires len { length (outer_statics parts.now) < 2 ^ 18 }
+    ensures { OnOk result (text.new ≡ text.old ++ static_line parts.now) }
+{
+    if parts.version != 2 {
+        return Ok(());
+    }
+    put_section(text, b"static", at, parts.statics.slice().len() as u64)
+}
+
+/// Puts the line of a name and a number.
+#[tactic(auto, using(crate::proofs::LineFields::lines))]
+fn put_value(text: &mut Text, name: &[u8], v: u32) -> Result<(), NoMemory>
+    requires { v < 2 ^ 18 }
+    ensures { OnOk result (text.new ≡ text.old ++ value_line name.now v) }
+{
+    put_field(text, name)?;
+    put_last_number(text, v as u64)
+}
+
+// How many words the sections have. The object has at most 2^18 words in all.
+#[derive(Clone, Copy)]
+struct Counts {
+    text: u64,
+    definition: u64,
+    linkage: u64,
+    statics: u64,
+    symbol: u64,
+}
+
+fn counted(o: &Object) -> Counts
+    ensures text { result.text ≡ length o.now.text }
+    ensures definition { result.definition ≡ length (definition_section o.now) }
+    ensures linkage { result.linkage ≡ length (linkage_section o.now) }
+    ensures statics { result.statics ≡ length (outer_statics o.now) }
+    ensures symbol { result.symbol ≡ length (symbol_section o.now) }
+    ensures fits { result.text + result.definition + result.linkage + result.statics + result.symbol < 2 ^ 18 }
+{
+    let _formed = o.parts();
+    Counts {
+        text: o.section(Section::Text).len() as u64,
+        definition: o.definition_length() as u64,
+        linkage: o.section(Section::Linkage).len() as u64,
+        statics: o.section(Section::Static).len() as u64,
+        symbol: o.section(Section::Symbol).len() as u64,
+    }
+}
+
+/// Puts the lines of the sections and of the entry bound.
+#[tactic(auto, unfolding(crate::specs::Print::section_lines), using(crate::proofs::SectionPlaces::six))]
+pub fn put_sections(text: &mut Text, o: &Object) -> Result<(), NoMemory>
+    ensures { OnOk result (text.new ≡ text.old ++ section_lines o.now) }
+{
+    let parts = o.parts();
+    let count = counted(o);
+    let linkage_at = count.text + count.definition;
+    let statics_at = linkage_at + count.linkage;
+    let symbol_at = statics_at + count.statics;
+    put_section(text, b"text", 0, count.text)?;
+    put_section(text, b"definition", count.text, count.definition)?;
+    put_section(text, b"linkage", linkage_at, count.linkage)?;
+    put_static(text, parts, statics_at)?;
+    put_section(text, b"symbol", symbol_at, count.symbol)?;
+    put_value(text, b"entrybound", parts.entry_bound)
+}
