@@ -1,9 +1,6 @@
 //! Sources read by hand.
 
-use crate::{
-    AlmFault, Arg, Args, Atom, Expr, Line36, Lines36, Operation, Span, Spans, Term, bytes_of,
-    operation_of, parse,
-};
+use crate::{AlmFault, Arg, Atom, Expr, Line36, Lines36, Span, parse};
 use m36_outside::Text;
 use m36_text::{decimal, octal};
 use m36_word::NoMemory;
@@ -110,39 +107,6 @@ fn reads(alloc: Global, source: &[u8], expected: &[u8]) -> Result<bool, Fail> {
     let lines = parse(alloc, source)?;
     let text = shown(alloc, &lines)?;
     Ok(text.bytes() == expected)
-}
-
-#[test]
-fn lists_and_names(rt: HostRuntime) -> Result<(), NoMemory> {
-    let first = Span { from: 0, to: 3 };
-    let second = Span { from: 4, to: 9 };
-    let mut spans = Spans::new(rt.alloc());
-    spans.push(first)?;
-    spans.push(second)?;
-    assert_eq!(rt; spans.items(), [first, second].as_slice());
-    let here = Term {
-        what: Atom::Here,
-        span: first,
-        minus: false,
-    };
-    let number = Term {
-        what: Atom::Number(5),
-        span: second,
-        minus: true,
-    };
-    let mut expr = Expr::new(rt.alloc());
-    expr.push(here)?;
-    expr.push(number)?;
-    assert_eq!(rt; expr.items(), [here, number].as_slice());
-    let mut args = Args::new(rt.alloc());
-    args.push(Arg::Symbol(first))?;
-    args.push(Arg::Plain(expr))?;
-    assert_eq!(rt; args.items().len(), 2);
-    assert_eq!(rt; bytes_of(b"lda there", second), b"there".as_slice());
-    assert_eq!(rt; operation_of(b"ttf"), Some(Operation::Instruction));
-    assert_eq!(rt; operation_of(b"segdef"), Some(Operation::Names));
-    assert_eq!(rt; operation_of(b"use "), None);
-    Ok(())
 }
 
 #[test]
