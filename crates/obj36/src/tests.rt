@@ -1,9 +1,6 @@
 //! Objects worked out by hand.
 
-use crate::{
-    Def, Defs, Link, Links, Named, Object, ObjectFault, Parts, Reloc, Relocs, Section, object_laws,
-};
-use m36_text::Name;
+use crate::{Object, ObjectFault, Section, object_laws};
 use m36_word::{Word, Words};
 use std::alloc::Global;
 use std::test::Fail;
@@ -161,85 +158,45 @@ fn are_words(words: &[Word], values: &[u64]) -> bool {
             .all(|(word, value)| word.value() == *value)
 }
 
-fn refusal(alloc: Global, values: &[u64]) -> Result<Option<ObjectFault>, Fail> {
+/// The object that the words are read as, or the fault.
+fn read_as(alloc: Global, values: &[u64]) -> Result<Result<Object, ObjectFault>, Fail> {
     let words = words_of(alloc, values)?;
-    Ok(Object::read(alloc, words.slice()).err())
-}
-
-fn empty_parts(alloc: Global, version: u8) -> Parts {
-    Parts {
-        text: Words::new(alloc),
-        statics: Words::new(alloc),
-        definitions: Defs::new(alloc),
-        links: Links::new(alloc),
-        relocations: Relocs::new(alloc),
-        entry_bound: 0,
-        version,
+    let slice = words.slice();
+    if slice.len() > 1000 {
+        return Err(Fail::from("there are few words"));
     }
+    Ok(Object::read(alloc, slice))
 }
 
-fn name_of(text: &[u8]) -> Result<Name, Fail> {
-    Ok(Name::new(text).ok_or("fits")?)
+fn object_of(alloc: Global, values: &[u64]) -> Result<Object, Fail> {
+    Ok(read_as(alloc, values)?.ok().ok_or("it is an object")?)
 }
 
-/// The parts of `CALLER`.
-fn caller_parts(alloc: Global) -> Result<Parts, Fail> {
-    let mut parts = empty_parts(alloc, 1);
-    parts.text = words_of(alloc, &CALLER[..3])?;
-    parts.statics = words_of(alloc, &[5, 0])?;
-    parts.definitions.push(Named {
-        name: name_of(b"go")?,
-        def: Def {
-            value: 0,
-            section: Section::Text,
-            is_entry: true,
-        },
-    })?;
-    parts.definitions.push(Named {
-        name: name_of(b"cnt")?,
-        def: Def {
-            value: 8,
-            section: Section::Linkage,
-            is_entry: false,
-        },
-    })?;
-    parts.links.push(Link {
-        name: name_of(b"b")?,
-        entry: name_of(b"x")?,
-        expr: 0,
-        kind: 4,
-        section: Section::Text,
-        modifier: 0o20,
-    })?;
-    parts.links.push(Link {
-        name: Name::default(),
-        entry: name_of(b"go")?,
-        expr: 2,
-        kind: 5,
-        section: Section::Text,
-        modifier: 0,
-    })?;
-    for offset in 0..3 {
-        parts.relocations.push(Reloc {
-            offset,
-            section: Section::Text,
-            part: 2,
-            target: Section::Linkage,
-        })?;
+fn refusal(alloc: Global, values: &[u64]) -> Result<Option<ObjectFault>, Fail> {
+    Ok(read_as(alloc, values)?.err())
+}
+
+/// The fault of the words with one of them changed.
+fn refusal_with(
+    alloc: Global,
+    values: &[u64],
+    place: usize,
+    value: u64,
+) -> Result<Option<ObjectFault>, Fail> {
+    let mut words = Words::new(alloc);
+    for (i, old) in values.iter().enumerate() {
+        words.push(Word::low(if i == place { value } else { *old }))?;
     }
-    parts.entry_bound = 1;
-    Ok(parts)
+    let slice = words.slice();
+    if slice.len() > 1000 {
+        return Err(Fail::from("there are few words"));
+    }
+    Ok(Object::read(alloc, slice).err())
 }
 
 #[test]
-fn parts_of_a_caller(rt: HostRuntime) -> Result<(), Fail> {
-    let parts = caller_parts(rt.alloc())?;
-    assert_eq!(rt; parts.size(), 42);
-    if !parts.is_well_formed() {
-        return Err(Fail::from("no list stands for the parts"));
-    }
-    let object = Object::new(rt.alloc(), parts)?;
-    assert!(rt; are_words(object.write(rt.alloc())?.slice(), &CALLER));
+fn values_of_a_caller(rt: HostRuntime) -> Result<(), Fail> {
+    let object = object_of(rt.alloc(), &CALLER)?;
     assert_eq!(rt; object.definition_length(), 14);
     assert_eq!(rt; object.entry_bound(), 1);
     assert_eq!(rt; object.parts().relocations.items().len(), 3);
@@ -248,9 +205,6 @@ fn parts_of_a_caller(rt: HostRuntime) -> Result<(), Fail> {
     assert!(rt; object.section(Section::Static).is_empty());
     assert_eq!(rt; object.find(b"cnt").map(|def| def.value), Some(8));
     assert_eq!(rt; object.find(b"co"), None);
-    let mut unfit = caller_parts(rt.alloc())?;
-    unfit.entry_bound = 4;
-    assert!(rt; !unfit.is_well_formed());
     object_laws();
     Ok(())
 }
@@ -258,22 +212,18 @@ fn parts_of_a_caller(rt: HostRuntime) -> Result<(), Fail> {
 #[test]
 fn objects_read(rt: HostRuntime) -> Result<(), Fail> {
     for values in [EMPTY.as_slice(), &COUNTER, &CALLER, &NEWER] {
-        let words = words_of(rt.alloc(), values)?;
-        let object = Object::read(rt.alloc(), words.slice())?;
+        let object = object_of(rt.alloc(), values)?;
         assert!(rt; are_words(object.write(rt.alloc())?.slice(), values));
     }
-    let words = words_of(rt.alloc(), &NEWER)?;
-    let object = Object::read(rt.alloc(), words.slice())?;
+    let object = object_of(rt.alloc(), &NEWER)?;
     assert!(rt; are_words(object.section(Section::Static), &[5]));
     assert!(rt; are_words(object.section(Section::Text), &NEWER[..3]));
-    let links = object.links();
-    assert_eq!(rt; links.len(), 2);
-    assert!(rt; links[0].name.bytes() == b"b".as_slice());
-    assert_eq!(rt;
-        (links[0].kind, links[0].expr, links[0].modifier),
-        (3, 3, 0o11)
-    );
-    assert_eq!(rt; (links[1].kind, links[1].section), (1, Section::Static));
+    let [first, second] = object.links() else {
+        return Err(Fail::from("there are two links"));
+    };
+    assert!(rt; first.name.bytes() == b"b".as_slice());
+    assert_eq!(rt; (first.kind, first.expr, first.modifier), (3, 3, 0o11));
+    assert_eq!(rt; (second.kind, second.section), (1, Section::Static));
     Ok(())
 }
 
@@ -294,9 +244,10 @@ fn changed_objects(rt: HostRuntime) -> Result<(), Fail> {
         (5, 0o000000000001, ObjectFault::O8(0)),
         (10, 0o000000000001, ObjectFault::O8(0)),
     ] {
-        let mut values = EMPTY;
-        values[place] = value;
-        assert_eq!(rt; refusal(rt.alloc(), &values)?, Some(fault));
+        assert_eq!(rt;
+            refusal_with(rt.alloc(), &EMPTY, place, value)?,
+            Some(fault)
+        );
     }
     Ok(())
 }
@@ -331,9 +282,10 @@ fn changed_callers(rt: HostRuntime) -> Result<(), Fail> {
         (33, 0o000000021000, ObjectFault::O8(0)),
         (34, 0o000003021000, ObjectFault::O8(0)),
     ] {
-        let mut values = CALLER;
-        values[place] = value;
-        assert_eq!(rt; refusal(rt.alloc(), &values)?, Some(fault));
+        assert_eq!(rt;
+            refusal_with(rt.alloc(), &CALLER, place, value)?,
+            Some(fault)
+        );
     }
     for (place, value, fault) in [
         // The class past static, the section past static, a linkage section with other words than links, and an unused
@@ -343,9 +295,10 @@ fn changed_callers(rt: HostRuntime) -> Result<(), Fail> {
         (17, 0o000012000002, ObjectFault::O7(17)),
         (10, 0o000013000003, ObjectFault::O8(0)),
     ] {
-        let mut values = NEWER;
-        values[place] = value;
-        assert_eq!(rt; refusal(rt.alloc(), &values)?, Some(fault));
+        assert_eq!(rt;
+            refusal_with(rt.alloc(), &NEWER, place, value)?,
+            Some(fault)
+        );
     }
     Ok(())
 }
