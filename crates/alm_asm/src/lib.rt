@@ -30,6 +30,3 @@ pub mod words;
 
 pub use assembly::assemble;
 pub use laws::assembly_laws;
-
-#[cfg(test)]
-mod tests;

@@ -8,17 +8,13 @@ use Rattle.m36_outside.specs.ReadAnswer.{ReadSays, IsWithinLimit, file_limit}
 use Rattle.m36_outside.specs.declared.folder.ReadAnswer.{ReadAnswer}
 use Rattle.m36_outside.specs.declared.folder.ReadAnswer.TheVariants as read
 use Rattle.m36_model.specs.Store.{State}
-use Rattle.m36_text.specs.Packing.{unpacked}
 use Rattle.m36_isol.proofs.Findings.{findings_law}
-use Rattle.m36_top.proofs.PrintAnswers.{unpacked_one}
 use Rattle.m36_top.specs.declared.command.Command.{Command}
-use Rattle.m36_top.specs.declared.command.Command.TheVariants.{OfImage, Print}
-use Rattle.m36_top.specs.declared.command.ImageCommand.{ImageCommand}
 use Rattle.m36_top.specs.declared.refusal.Refusal.{Refusal}
 use Rattle.m36_top.specs.declared.status.Status.{Status}
 use Rattle.m36_top.specs.declared.status.Status.TheVariants.{Done, Usage, ReadFault, WriteFault, BadFile, AuditNo, MachineStop, Steps, NoMemory}
 use Rattle.m36_top.specs.ImageState.{state_given}
-use Rattle.m36_top.specs.Answers.{Answer, unwritten, file_of, state_answer, read_of, IsStateDue, IsImageDue, IsBytesDue, IsReadDue, IsCommandDue}
+use Rattle.m36_top.specs.Answers.{Answer, unwritten, file_of, state_answer, read_of, IsStateDue, IsImageDue, IsReadDue, IsCommandDue}
 use Rattle.m36_top.specs.TopCall.{IsWritten, Met, Says, TopSays, SaysFiles, Completes, ReadCause, WriteCause}
 
 -- what is said by what the folder gave, where that was no fault
@@ -114,27 +110,21 @@ by_files command result (Some files) old new says = by_command command result fi
 
 -- One answer at most is due.
 state_one :
-    (command : ImageCommand) (state : State (List ℕ)) (due same : Answer)
+    (command : Command) (state : State (List ℕ)) (due same : Answer)
     → IsStateDue command state due → IsStateDue command state same → due ≡ same
 state_one command state due same is is_same =
     is.answer ∙ ap (state_answer command state) (findings_law.unique state.store state.regs.dbr is.findings is_same.findings is.found is_same.found) ∙ sym is_same.answer
 
 image_one :
-    (command : ImageCommand) (given : Result (State (List ℕ)) Refusal) (due same : Answer)
+    (command : Command) (given : Result (State (List ℕ)) Refusal) (due same : Answer)
     → IsImageDue command given due → IsImageDue command given same → due ≡ same
 image_one command (Ok state) due same is is_same = state_one command state due same is is_same
 image_one command (Err refusal) due same is is_same = is ∙ sym is_same
 
-bytes_one :
-    (command : Command) (bytes : List ℕ) (due same : Answer)
-    → IsBytesDue command bytes due → IsBytesDue command bytes same → due ≡ same
-bytes_one (OfImage command) bytes due same is is_same = image_one command (state_given bytes) due same is is_same
-bytes_one (Print name) bytes due same is is_same = unpacked_one name (unpacked bytes) due same is is_same
-
 read_one :
     (command : Command) (given : ReadAnswer) (due same : Answer)
     → IsReadDue command given due → IsReadDue command given same → due ≡ same
-read_one command (read.Read bytes) due same is is_same = bytes_one command bytes due same is is_same
+read_one command (read.Read bytes) due same is is_same = image_one command (state_given bytes) due same is is_same
 read_one command read.Absent due same is is_same = is ∙ sym is_same
 read_one command read.TooLarge due same is is_same = is ∙ sym is_same
 read_one command read.Failed due same is is_same = is ∙ sym is_same

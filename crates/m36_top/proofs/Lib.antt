@@ -4,8 +4,6 @@ pub mod WordLaws
 pub mod AuditTexts
 pub mod AuditAnswers
 pub mod TopLaws
-pub mod PrintAnswers
-pub mod TextLines
 pub mod FileAnswers
 pub mod DueLaw
 pub mod YesIsolates

@@ -7,12 +7,11 @@ use Rattle.m36_outside.specs.Written.{Grew, GrewWithin}
 use Rattle.m36_outside.specs.declared.folder.ReadAnswer.{ReadAnswer}
 use Rattle.m36_model.specs.Store.{State}
 use Rattle.m36_top.specs.declared.command.Command.{Command}
-use Rattle.m36_top.specs.declared.command.Command.TheVariants.{OfImage, Print}
 use Rattle.m36_top.specs.declared.status.Status.{Status}
 use Rattle.m36_top.specs.declared.status.Status.TheVariants.{Done, Usage, ReadFault, WriteFault, BadFile, AuditNo, MachineStop, Steps, NoMemory}
 use Rattle.m36_top.specs.ImageState.{state_given}
 use Rattle.m36_top.specs.AuditText.{yes_line}
-use Rattle.m36_top.specs.Answers.{Answer, unwritten, image_file, file_of, IsIsolated, IsReadDue}
+use Rattle.m36_top.specs.Answers.{Answer, unwritten, file_of, IsIsolated, IsReadDue}
 
 -- the statuses with which something is written
 abbrev pub IsWritten : Status → Type 0
@@ -101,11 +100,10 @@ pub record IsIsolatedImage (file : Option (List ℕ)) : Type 0 where
   pub image : state_given bytes ≡ Ok state
   pub isolated : IsIsolated state.store state.regs.dbr
 
--- Where `audit yes` is written, the image of the command's file is isolated. A print does not begin so.
+-- Where `audit yes` is written, the image of the command's file is isolated.
 abbrev pub YesIsolates : Option Command → Files → Option (List ℕ) → Option (List ℕ) → Type 0
 YesIsolates None files old new = ¬ SaysYes old new
-YesIsolates (Some (OfImage command)) files old new = SaysYes old new → IsIsolatedImage (files (image_file command))
-YesIsolates (Some (Print name)) files old new = ¬ SaysYes old new
+YesIsolates (Some command) files old new = SaysYes old new → IsIsolatedImage (files (file_of command))
 
 -- A count of read faults rose in a call that answered ReadFault, and stands in any other.
 abbrev pub ReadCause : Status → ℕ → ℕ → Type 0

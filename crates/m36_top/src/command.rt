@@ -15,36 +15,13 @@ pub struct BareRun {
     pub unaudited: bool,
 }
 
-/// What is done with a bare image.
+/// What the words of the command line ask for.
 #[derive(Drop)]
-pub enum ImageCommand {
+pub enum Command {
     /// `bare FILE`: audits the machine of an image, and runs it.
     Bare(BareRun),
     /// `audit FILE`: audits the machine of an image.
     Audit(Name),
-}
-
-/// What the words of the command line ask for.
-#[derive(Drop)]
-pub enum Command {
-    /// A command on a bare image.
-    OfImage(ImageCommand),
-    /// `print NAME`: writes the print of an object.
-    Print(Name),
-}
-
-impl ImageCommand {
-    ghost use Rattle.m36_top.specs.Answers.{image_file};
-
-    /// The image.
-    pub fn file(&self) -> &[u8]
-        ensures { result.now ≡ image_file self.now }
-    {
-        match self {
-            ImageCommand::Bare(bare) => bare.file.bytes(),
-            ImageCommand::Audit(file) => file.bytes(),
-        }
-    }
 }
 
 impl Command {
@@ -55,8 +32,8 @@ impl Command {
         ensures { result.now ≡ file_of self.now }
     {
         match self {
-            Command::OfImage(command) => command.file(),
-            Command::Print(name) => name.bytes(),
+            Command::Bare(bare) => bare.file.bytes(),
+            Command::Audit(file) => file.bytes(),
         }
     }
 }

@@ -4,7 +4,7 @@
 //! `bare FILE` and `audit FILE` read a bare image, a text that writes out the core of a machine, its descriptor segment
 //! base register and where it starts. Both audit it and write what the audit finds. `bare` then runs the machine, unless
 //! the audit has failed and `--unaudited` is not given, for at most 100,000 steps or as many as `--steps` gives. A trace
-//! line is written for each step, and an end line. `print NAME` unpacks an object and writes its print.
+//! line is written for each step, and an end line.
 //!
 //! What [`m36`] promises, whatever its arguments:
 //!
@@ -30,12 +30,8 @@ mod forms;
 mod header;
 pub mod image;
 pub mod laws;
-mod line_output;
 mod names;
 mod placed;
-#[cfg(test)]
-mod print_tests;
-pub mod printing;
 pub mod refusal;
 mod running;
 mod scan;
@@ -47,10 +43,9 @@ pub mod top;
 mod word_tests;
 pub mod words;
 
-pub use command::{BareRun, Command, ImageCommand};
+pub use command::{BareRun, Command};
 pub use image::{Image, ImageFault, read_image};
 pub use laws::law_due;
-pub use printing::print_bytes;
 pub use refusal::Refusal;
 pub use status::{Bad, Code, Status};
 pub use top::m36;

@@ -9,13 +9,12 @@ ghost use Rattle.m36_top.specs.Words.{command_of};
 ghost use Rattle.m36_top.specs.ImageState.{state_given};
 ghost use Rattle.m36_top.specs.Output.{status_after};
 ghost use Rattle.m36_top.specs.AuditText.{audit_text};
-ghost use Rattle.m36_top.specs.Answers.{refused, behind, run_answer, passes, audit_answer, bare_by, state_answer, IsIsolated, IsStateDue, IsImageDue, IsBytesDue, IsDue};
+ghost use Rattle.m36_top.specs.Answers.{refused, behind, run_answer, passes, audit_answer, bare_by, state_answer, IsIsolated, IsStateDue, IsImageDue, IsDue};
 ghost use Rattle.m36_top.specs.TopCall.{Meets, Says, CommandSays, TopSays, SaysFiles, Completes, YesIsolates, ReadCause, WriteCause};
 
-use crate::command::{BareRun, Command, ImageCommand};
+use crate::command::{BareRun, Command};
 use crate::findings::put_audit;
 use crate::image::{Image, ImageFault, read_image};
-use crate::printing::print_bytes;
 use crate::running::{Ended, run};
 use crate::status::{Bad, Code, Status};
 use crate::words::command_of;
@@ -147,7 +146,7 @@ fn answer_bare<S: Sink>(
 /// Does what a command says with an image, by what its audit has found.
 pub fn answer_found<S: Sink>(
     alloc: Global,
-    command: &ImageCommand,
+    command: &Command,
     findings: &[Finding],
     image: Image,
     out: &mut S,
@@ -157,8 +156,8 @@ pub fn answer_found<S: Sink>(
     ensures write_cause { WriteCause result (S.faults out.old) (S.faults out.new) }
 {
     match command {
-        ImageCommand::Bare(bare) => answer_bare(alloc, bare, findings, image, out),
-        ImageCommand::Audit(_) => answer_audit(findings, out),
+        Command::Bare(bare) => answer_bare(alloc, bare, findings, image, out),
+        Command::Audit(_) => answer_audit(findings, out),
     }
 }
 
@@ -182,12 +181,7 @@ fn findings_in(alloc: Global, image: &Image) -> Result<Verdict, NoMemory>
 
 /// Audits an image, and does what a command says with it.
 #[tactic(auto, using(crate::proofs::TopLaws::dues))]
-pub fn with_image<S: Sink>(
-    alloc: Global,
-    command: &ImageCommand,
-    image: Image,
-    out: &mut S,
-) -> Status
+pub fn with_image<S: Sink>(alloc: Global, command: &Command, image: Image, out: &mut S) -> Status
     ensures says { Says (IsStateDue command.now image) result (S.written out.old) (S.written out.new) }
     ensures read_cause { (count : ℕ) → ReadCause result count count }
     ensures write_cause { WriteCause result (S.faults out.old) (S.faults out.new) }
@@ -198,14 +192,9 @@ pub fn with_image<S: Sink>(
     }
 }
 
-/// Does what a command on an image says with the bytes of its file.
+/// Does what a command says with the bytes of its file.
 #[tactic(auto, using(crate::proofs::TopLaws::dues))]
-pub fn with_bytes<S: Sink>(
-    alloc: Global,
-    command: &ImageCommand,
-    bytes: &[u8],
-    out: &mut S,
-) -> Status
+pub fn with_bytes<S: Sink>(alloc: Global, command: &Command, bytes: &[u8], out: &mut S) -> Status
     requires { length bytes.now ≤ file_limit }
     ensures says { Says (IsImageDue command.now (state_given bytes.now)) result (S.written out.old) (S.written out.new) }
     ensures read_cause { (count : ℕ) → ReadCause result count count }
@@ -223,19 +212,6 @@ pub fn with_bytes<S: Sink>(
     }
 }
 
-/// Does what a command says with the bytes of its file.
-pub fn with_content<S: Sink>(alloc: Global, command: &Command, bytes: &[u8], out: &mut S) -> Status
-    requires { length bytes.now ≤ file_limit }
-    ensures says { Says (IsBytesDue command.now bytes.now) result (S.written out.old) (S.written out.new) }
-    ensures read_cause { (count : ℕ) → ReadCause result count count }
-    ensures write_cause { WriteCause result (S.faults out.old) (S.faults out.new) }
-{
-    match command {
-        Command::OfImage(command) => with_bytes(alloc, command, bytes, out),
-        Command::Print(name) => print_bytes(alloc, name.bytes(), bytes, out),
-    }
-}
-
 /// Reads the file of a command, and does what the command says with it.
 #[tactic(auto, using(crate::proofs::TopLaws::dues))]
 pub fn perform<F: Folder, S: Sink>(
@@ -250,7 +226,7 @@ pub fn perform<F: Folder, S: Sink>(
     ensures files { F.files folder.new ≡ F.files folder.old }
 {
     match folder.read(alloc, command.file()) {
-        ReadAnswer::Read(text) => with_content(alloc, command, text.bytes(), out),
+        ReadAnswer::Read(text) => with_bytes(alloc, command, text.bytes(), out),
         ReadAnswer::Absent => refuse(alloc, command.file(), Code::F1, 0),
         ReadAnswer::TooLarge => refuse(alloc, command.file(), Code::F2, 0),
         ReadAnswer::Failed => Status::ReadFault,
@@ -278,8 +254,7 @@ fn answer<F: Folder, S: Sink>(alloc: Global, words: &[Text], folder: &mut F, out
 ///
 /// `words` leaves out the name of the program. `audit FILE` reads the file as a bare image, audits it, and writes the
 /// audit text. `bare FILE` does so too; where the audit passes, or `--unaudited` is given, it then runs the image for at
-/// most the steps that `--steps` gives, 100,000 by default, and writes a trace line for each and the end line. `print NAME`
-/// unpacks the words of the file, reads them as an object, and writes its print.
+/// most the steps that `--steps` gives, 100,000 by default, and writes a trace line for each and the end line.
 #[tactic(auto, using(crate::proofs::Calls::calls))]
 pub fn m36<F: Folder, S: Sink>(alloc: Global, words: &[Text], folder: &mut F, out: &mut S) -> Status
     // What is answered and written, by what the folder gives for the file, told or not.

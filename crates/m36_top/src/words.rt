@@ -1,9 +1,9 @@
 //! The words of the command line.
 
 ghost use Rattle.std.specs.Prelude.{ℕ, ◌≡◌, ◌≤◌, true, length, drop, IfSome};
-ghost use Rattle.m36_top.specs.Words.{steps_of, with_operand, with_steps, with_unaudited, expecting, is_steps_with_value, with_any, with_word, ended_by, with_words, nothing, bare, has_no_option, audit, print, commands, command_in, command_of};
+ghost use Rattle.m36_top.specs.Words.{steps_of, with_operand, with_steps, with_unaudited, expecting, is_steps_with_value, with_any, with_word, ended_by, with_words, nothing, bare, has_no_option, audit, commands, command_in, command_of};
 
-use crate::command::{BareRun, Command, ImageCommand};
+use crate::command::{BareRun, Command};
 use crate::names::operand_of;
 use m36_outside::Text;
 use m36_text::{Name, read_decimal};
@@ -180,11 +180,11 @@ fn read_given(words: &[Text]) -> Option<Given>
 fn bare(given: Given) -> Option<Command>
     ensures { result ≡ bare given }
 {
-    Some(Command::OfImage(ImageCommand::Bare(BareRun {
+    Some(Command::Bare(BareRun {
         file: given.operand?,
         steps: given.steps.unwrap_or(DEFAULT_STEPS),
         unaudited: given.unaudited,
-    })))
+    }))
 }
 
 fn has_no_option(given: &Given) -> bool
@@ -198,18 +198,7 @@ fn audit(given: Given) -> Option<Command>
     ensures { result ≡ audit given }
 {
     if has_no_option(&given) {
-        Some(Command::OfImage(ImageCommand::Audit(given.operand?)))
-    } else {
-        None
-    }
-}
-
-// `print NAME`
-fn print(given: Given) -> Option<Command>
-    ensures { result ≡ print given }
-{
-    if has_no_option(&given) {
-        Some(Command::Print(given.operand?))
+        Some(Command::Audit(given.operand?))
     } else {
         None
     }
@@ -224,9 +213,6 @@ fn command_in(word: &[u8], given: Given) -> Option<Command>
     }
     if word == b"audit".as_slice() {
         return audit(given);
-    }
-    if word == b"print".as_slice() {
-        return print(given);
     }
     None
 }
