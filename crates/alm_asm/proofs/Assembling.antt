@@ -25,7 +25,9 @@ use Rattle.alm_asm.specs.declared.refusal.Refusal.{Refusal}
 use Rattle.alm_asm.proofs.Unrefused.{lines_first}
 use Rattle.alm_asm.proofs.PlaceLaws.{places_count, grows_to_end}
 use Rattle.alm_asm.proofs.Placed.{stands, evened_stands, evened_length, end_outer, unbound, bound_is}
+use Rattle.alm_asm.proofs.LinksApart.{links_apart}
 use Rattle.alm_asm.proofs.LinksStanding.{link_stands}
+use Rattle.alm_asm.proofs.SectionsStand.{section_stands}
 use Rattle.alm_asm.proofs.SymbolsMean.{labels_mean, own_mean}
 
 static_holds : (newer : Bool) → holds_words (static_section newer) ≡ true
@@ -65,7 +67,7 @@ no_layout_refusal source none =
     lines_first source.text (tables_of source.text source.lines) [] (layout_refusal source.text None [] start source.lines) start source.lines none
 
 parts_assemble : (source : Source) → refusal_of source ≡ None → is_well_formed (parts_of source) ≡ true → Assembles source (parts_of source)
-unfolding parts_with tables_of
+unfolding parts_with tables_of refusal_of
 parts_assemble source none formed =
     let text = source.text in
     let lines = source.lines in
@@ -76,6 +78,7 @@ parts_assemble source none formed =
     let well = is_formed (parts_of source) formed in
     let small = short (parts_of source) formed in
     record {
+      sections = λ above line others split. section_stands text tables (layout_refusal text None [] start lines) lines above line others split none;
       text = λ above line others split here. stands text tables Text lines above line others refl split here;
       statics = λ above line others split here. evened_stands newer (count_in section (end_of text start above)) _ (words_from text tables section [] start lines) (stands text tables section lines above line others (static_holds newer) split here);
       text_length = sym (places_count text tables Text lines refl);
@@ -83,6 +86,8 @@ parts_assemble source none formed =
       labels = λ above line others split. labels_mean text lines above line others split free;
       own = λ above line others split. own_mean text lines above line others split free;
       links = λ above line others split link given. link_stands text (symbols_from text [] start lines) lines above line others link split given;
+      links_in_order = refl;
+      links_apart = links_apart text (symbols_from text [] start lines) start lines;
       definitions = refl;
       distinct = well.distinct;
       relocations = refl;

@@ -93,7 +93,7 @@ moved_keeps text deed.Block arguments spot h = grown_keeps spot.section spot (si
 moved_keeps text deed.Even arguments spot h = grown_keeps spot.section spot (size_of deed.Even arguments (place spot)) h
 moved_keeps text deed.Bound arguments spot h = h
 
-end_uses : (text : List ℕ) (spot : Spot) (lines : List Line36) → spot.uses_outer ≡ true → (end_of text spot lines).uses_outer ≡ true
+pub end_uses : (text : List ℕ) (spot : Spot) (lines : List Line36) → spot.uses_outer ≡ true → (end_of text spot lines).uses_outer ≡ true
 unfolding end_of below
 end_uses text spot [] e = e
 end_uses text spot (line ∷ lines) e = end_uses text (below text spot line) lines (moved_uses text (deed_of text line.op) line.args spot e)

@@ -13,3 +13,6 @@ pub mod Placed
 pub mod LinksStanding
 pub mod SymbolsMean
 pub mod Assembling
+pub mod ReadNames
+pub mod SectionsStand
+pub mod LinksApart

@@ -1,6 +1,6 @@
 -- What an object is of lines, by what stands where. A line is told by the lines above it: it stands at the spot that these
 -- end at, in the section that the last `use` line among them names, behind the words that they place there.
-use Rattle.std.specs.Prelude.{ℕ, ◌≡◌, ◌+◌, ◌%◌, Bool, true, false, nat_eq, if◌then◌else◌, List, [], ◌∷◌, ◌++◌, length, Option, Some, None}
+use Rattle.std.specs.Prelude.{ℕ, ◌≡◌, ◌+◌, ◌%◌, Bool, true, false, not, ◌&&◌, ◌⊎◌, List, [], ◌∷◌, ◌++◌, length, Option, Some, None}
 use Rattle.std.specs.List.{list_any}
 use Rattle.alm_parse.specs.SourceFields.{Source}
 use Rattle.alm_parse.specs.declared.span.Span.{Span}
@@ -13,7 +13,7 @@ use Rattle.obj36.specs.ObjectSegment.{definition_names, are_distinct, are_rising
 use Rattle.alm_asm.specs.Symbols.{sum_named}
 use Rattle.alm_asm.specs.Deeds.{deed_of, name_at, first_arg, symbol_in, section_in}
 use Rattle.alm_asm.specs.Spots.{start, count_in, here, end_of}
-use Rattle.alm_asm.specs.Links.{operand_args, link_in, same_link}
+use Rattle.alm_asm.specs.Links.{operand_args, link_in, same_link, links_from}
 use Rattle.alm_asm.specs.Words.{words_by}
 use Rattle.alm_asm.specs.Marks.{marks_from}
 use Rattle.alm_asm.specs.Layout.{own_symbol, own_sum, labelled, symbols_from}
@@ -97,6 +97,12 @@ PlacesText source parts =
     (above : List Line36) (line : Line36) (others : List Line36) → IsSplit source above line others → (spot_below source above).section ≡ Text
     → StandsBehind (spot_below source above).text (words_placed source above line) parts.text
 
+-- Each line stands in the text or, in all of a source, in static words of one kind.
+abbrev pub SectionsStand : Source → Type 0
+SectionsStand source =
+    (above : List Line36) (line : Line36) (others : List Line36) → IsSplit source above line others
+    → ((spot_below source above).section ≡ Text) ⊎ ((spot_below source above).section ≡ static_section (meaning_of source).uses_outer)
+
 -- So do the words of a line of static words in the static words.
 abbrev pub PlacesStatics : Source → PartsFields → Type 0
 PlacesStatics source parts =
@@ -133,6 +139,11 @@ LinksStand source parts =
     → (link : LinkFields) → link_in source.text (meaning_of source).symbols (spot_below source above) (first_arg (operand_args (deed_of source.text line.op) line.args)) ≡ Some link
     → list_any (same_link link) parts.links ≡ true
 
+-- No two links are the same; each stands in the order of its first use.
+unfoldable pub are_apart : List LinkFields → Bool
+are_apart [] = true
+are_apart (link ∷ links) = not (list_any (same_link link) links) && are_apart links
+
 -- The entry bound is the place in the text at the last `entrybound` line, or 0.
 abbrev pub BoundIs : Source → PartsFields → Type 0
 BoundIs source parts =
@@ -141,6 +152,7 @@ BoundIs source parts =
 
 -- The parts are the object of the lines.
 pub record Assembles (source : Source) (parts : PartsFields) : Type 0 where
+  pub sections : SectionsStand source
   pub text : PlacesText source parts
   pub statics : PlacesStatics source parts
   pub text_length : length parts.text ≡ (spot_below source source.lines).text
@@ -148,6 +160,8 @@ pub record Assembles (source : Source) (parts : PartsFields) : Type 0 where
   pub labels : LabelsMean source
   pub own : OwnMean source
   pub links : LinksStand source parts
+  pub links_in_order : parts.links ≡ links_from source.text (meaning_of source).symbols [] start source.lines
+  pub links_apart : are_apart parts.links ≡ true
   pub definitions : parts.definitions ≡ definitions_from source.text (meaning_of source).symbols [] source.lines
   pub distinct : are_distinct (definition_names parts.definitions) ≡ true
   pub relocations : parts.relocations ≡ marks_from source.text (meaning_of source).symbols (static_section (meaning_of source).uses_outer) (marks_from source.text (meaning_of source).symbols Text [] start source.lines) start source.lines

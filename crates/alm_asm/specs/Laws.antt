@@ -1,7 +1,8 @@
 -- What the definitions say of places and symbols, without going over the lines.
-use Rattle.std.specs.Prelude.{ℕ, ◌≡◌, ◌^◌, Bool, true, false, ◌&&◌, ◌||◌, nat_le, List, [], ◌∷◌, ◌++◌, length, Option, Some, None, is_some}
+use Rattle.std.specs.Prelude.{ℕ, ◌≡◌, ◌^◌, Bool, true, false, ◌&&◌, ◌||◌, nat_le, List, [], ◌∷◌, ◌++◌, length, Option, Some, None, is_some, Ok}
 use Rattle.alm_parse.specs.Tokens.{slice_of}
 use Rattle.alm_parse.specs.SourceFields.{Source}
+use Rattle.alm_parse.specs.Sources.{parsed}
 use Rattle.alm_parse.specs.declared.span.Span.{Span}
 use Rattle.alm_parse.specs.declared.args.Arg.{Arg}
 use Rattle.alm_parse.specs.declared.args.Arg.TheVariants as arg
@@ -72,8 +73,9 @@ unfoldable pub lines_are_named : List ℕ → List Line36 → Bool
 lines_are_named text [] = true
 lines_are_named text (line ∷ lines) = args_are_named text line.args && lines_are_named text lines
 
--- Where no line is refused, the parts that the lines mean are those of an object exactly where this has at most 2^18 words.
+-- Where no line of a source that has been read is refused, the parts that the lines mean are those of an object exactly where
+-- this has at most 2^18 words.
 abbrev pub OnlyTooLong : Type 0
 OnlyTooLong =
-    (source : Source) → lines_are_named source.text source.lines ≡ true → refusal_of source ≡ None
+    (text : List ℕ) (source : Source) → parsed text ≡ Ok source → refusal_of source ≡ None
     → is_well_formed (parts_of source) ≡ nat_le (length (words_of (parts_of source))) (2 ^ 18)

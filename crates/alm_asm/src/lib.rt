@@ -30,3 +30,6 @@ pub mod words;
 
 pub use assembly::assemble;
 pub use laws::assembly_laws;
+
+#[cfg(test)]
+mod tests;

@@ -3,14 +3,14 @@ use Rattle.std.proofs.Common.{◌≡◌, ℕ, List, [], ◌∷◌, ap, ◌∙◌
 use Rattle.m36_model.specs.Store.{State}
 use Rattle.m36_model.specs.Audit.{AreFindings, IsAudited}
 use Rattle.m36_isol.proofs.Findings.{findings_law}
-use Rattle.m36_top.specs.declared.command.Command.{Command}
+use Rattle.m36_top.specs.declared.command.ImageCommand.{ImageCommand}
 use Rattle.m36_top.specs.Words.{command_of}
 use Rattle.m36_top.specs.Answers.{Answer, state_answer, IsStateDue}
 use Rattle.m36_top.specs.Due.{IsByFindings, DueLaw}
 use Rattle.m36_top.proofs.FileAnswers.{command_one}
 
 by_some :
-    (command : Command) (state : State (List ℕ)) (due : Answer) (findings : List (ℕ × ℕ))
+    (command : ImageCommand) (state : State (List ℕ)) (due : Answer) (findings : List (ℕ × ℕ))
     → AreFindings state.store state.regs.dbr findings → due ≡ state_answer command state findings
     → ¬ IsAudited state.store state.regs.dbr → IsByFindings command state due
 by_some command state due [] found answer fails = absurd (fails (findings_law.sound state.store state.regs.dbr found))

@@ -8,14 +8,18 @@ use Rattle.m36_outside.specs.ReadAnswer.{ReadSays, IsWithinLimit, file_limit}
 use Rattle.m36_outside.specs.declared.folder.ReadAnswer.{ReadAnswer}
 use Rattle.m36_outside.specs.declared.folder.ReadAnswer.TheVariants as read
 use Rattle.m36_model.specs.Store.{State}
+use Rattle.m36_text.specs.Packing.{unpacked}
 use Rattle.m36_isol.proofs.Findings.{findings_law}
+use Rattle.m36_top.proofs.PrintAnswers.{unpacked_one}
 use Rattle.m36_top.specs.declared.command.Command.{Command}
+use Rattle.m36_top.specs.declared.command.Command.TheVariants.{OfImage, Print, Alm}
+use Rattle.m36_top.specs.declared.command.ImageCommand.{ImageCommand}
 use Rattle.m36_top.specs.declared.refusal.Refusal.{Refusal}
 use Rattle.m36_top.specs.declared.status.Status.{Status}
 use Rattle.m36_top.specs.declared.status.Status.TheVariants.{Done, Usage, ReadFault, WriteFault, BadFile, AuditNo, MachineStop, Steps, NoMemory}
 use Rattle.m36_top.specs.ImageState.{state_given}
-use Rattle.m36_top.specs.Answers.{Answer, unwritten, file_of, state_answer, read_of, IsStateDue, IsImageDue, IsReadDue, IsCommandDue}
-use Rattle.m36_top.specs.TopCall.{IsWritten, Met, Says, TopSays, SaysFiles, Completes, ReadCause, WriteCause}
+use Rattle.m36_top.specs.Answers.{Answer, unwritten, file_of, state_answer, read_of, IsStateDue, IsImageDue, IsBytesDue, IsReadDue, IsCommandDue}
+use Rattle.m36_top.specs.TopCall.{IsWritten, Met, Says, TopSays, SaysFiles, Completes, ReadCause, CauseBy, WriteRose, TopWriteCause}
 
 -- what is said by what the folder gave, where that was no fault
 said :
@@ -68,7 +72,7 @@ said_memory IsDue Usage old new m = absurd m
 said_memory IsDue WriteFault old new m = absurd (written_due NoMemory m.due m.is_due m.meets.0)
 
 -- an answer that a folder gives for a file is the one that it is to give
-read_is : (bytes : List ℕ) → length bytes ≤ file_limit → read_of (Some bytes) ≡ read.Read bytes
+pub read_is : (bytes : List ℕ) → length bytes ≤ file_limit → read_of (Some bytes) ≡ read.Read bytes
 read_is bytes within = ap (λ b. cond b read.TooLarge (read.Read bytes)) (le-ltb file_limit (length bytes) within)
 
 large_is : (bytes : List ℕ) → file_limit < length bytes → read_of (Some bytes) ≡ read.TooLarge
@@ -110,21 +114,28 @@ by_files command result (Some files) old new says = by_command command result fi
 
 -- One answer at most is due.
 state_one :
-    (command : Command) (state : State (List ℕ)) (due same : Answer)
+    (command : ImageCommand) (state : State (List ℕ)) (due same : Answer)
     → IsStateDue command state due → IsStateDue command state same → due ≡ same
 state_one command state due same is is_same =
     is.answer ∙ ap (state_answer command state) (findings_law.unique state.store state.regs.dbr is.findings is_same.findings is.found is_same.found) ∙ sym is_same.answer
 
 image_one :
-    (command : Command) (given : Result (State (List ℕ)) Refusal) (due same : Answer)
+    (command : ImageCommand) (given : Result (State (List ℕ)) Refusal) (due same : Answer)
     → IsImageDue command given due → IsImageDue command given same → due ≡ same
 image_one command (Ok state) due same is is_same = state_one command state due same is is_same
 image_one command (Err refusal) due same is is_same = is ∙ sym is_same
 
+bytes_one :
+    (command : Command) (bytes : List ℕ) (due same : Answer)
+    → IsBytesDue command bytes due → IsBytesDue command bytes same → due ≡ same
+bytes_one (OfImage command) bytes due same is is_same = image_one command (state_given bytes) due same is is_same
+bytes_one (Print name) bytes due same is is_same = unpacked_one name (unpacked bytes) due same is is_same
+bytes_one (Alm alm) bytes due same is is_same = is ∙ sym is_same
+
 read_one :
     (command : Command) (given : ReadAnswer) (due same : Answer)
     → IsReadDue command given due → IsReadDue command given same → due ≡ same
-read_one command (read.Read bytes) due same is is_same = image_one command (state_given bytes) due same is is_same
+read_one command (read.Read bytes) due same is is_same = bytes_one command bytes due same is is_same
 read_one command read.Absent due same is is_same = is ∙ sym is_same
 read_one command read.TooLarge due same is is_same = is ∙ sym is_same
 read_one command read.Failed due same is is_same = is ∙ sym is_same
@@ -144,24 +155,39 @@ met_due command files result old new due is m same =
     sym same ∙ ap (λ d. d.status) (command_one command files m.due due m.is_due is)
 
 due_answered :
-    (command : Option Command) (files : Files) (result : Status) (old new : Option (List ℕ)) (r r' w w' : ℕ)
-    → SaysFiles (IsCommandDue command files) result old new → ReadCause result r r' → WriteCause result w w'
-    → Completes result (IsCommandDue command files) (Rose r r') (Rose w w')
-due_answered command files Done old new r r' w w' m read write due is nr nw = inr (met_due command files Done old new due is m m.meets.0)
-due_answered command files AuditNo old new r r' w w' m read write due is nr nw = inr (met_due command files AuditNo old new due is m m.meets.0)
-due_answered command files (MachineStop end) old new r r' w w' m read write due is nr nw = inr (met_due command files (MachineStop end) old new due is m m.meets.0)
-due_answered command files Steps old new r r' w w' m read write due is nr nw = inr (met_due command files Steps old new due is m m.meets.0)
-due_answered command files (BadFile bad) old new r r' w w' m read write due is nr nw = inr (met_due command files (BadFile bad) old new due is m m.meets.0)
-due_answered command files Usage old new r r' w w' m read write due is nr nw =
+    (command : Option Command) (files : Files) (result : Status) (old new : Option (List ℕ)) (r r' : ℕ) (rose stands : Type 0)
+    → SaysFiles (IsCommandDue command files) result old new → ReadCause result r r' → CauseBy result rose stands
+    → Completes result (IsCommandDue command files) (Rose r r') rose
+due_answered command files Done old new r r' rose stands m read write due is nr nw = inr (met_due command files Done old new due is m m.meets.0)
+due_answered command files AuditNo old new r r' rose stands m read write due is nr nw = inr (met_due command files AuditNo old new due is m m.meets.0)
+due_answered command files (MachineStop end) old new r r' rose stands m read write due is nr nw = inr (met_due command files (MachineStop end) old new due is m m.meets.0)
+due_answered command files Steps old new r r' rose stands m read write due is nr nw = inr (met_due command files Steps old new due is m m.meets.0)
+due_answered command files (BadFile bad) old new r r' rose stands m read write due is nr nw = inr (met_due command files (BadFile bad) old new due is m m.meets.0)
+due_answered command files Usage old new r r' rose stands m read write due is nr nw =
     inr (ap (λ d. d.status) (command_one command files (unwritten Usage) due m.0 is))
-due_answered command files ReadFault old new r r' w w' m read write due is nr nw = absurd (nr read)
-due_answered command files WriteFault old new r r' w w' m read write due is nr nw = absurd (nw write)
-due_answered command files NoMemory old new r r' w w' m read write due is nr nw = inl refl
+due_answered command files ReadFault old new r r' rose stands m read write due is nr nw = absurd (nr read)
+due_answered command files WriteFault old new r r' rose stands m read write due is nr nw = absurd (nw write)
+due_answered command files NoMemory old new r r' rose stands m read write due is nr nw = inl refl
+
+-- what a cause says by its two cases
+abbrev pub stands_by : Option Command → ℕ → ℕ → ℕ → ℕ → Type 0
+stands_by None s s' w w' = s' ≡ s
+stands_by (Some (OfImage command)) s s' w w' = s' ≡ s
+stands_by (Some (Print name)) s s' w w' = s' ≡ s
+stands_by (Some (Alm alm)) s s' w w' = (s' ≡ s) × (w' ≡ w)
+
+cause_by :
+    (command : Option Command) (result : Status) (s s' w w' : ℕ)
+    → TopWriteCause command result s s' w w' → CauseBy result (WriteRose command s s' w w') (stands_by command s s' w w')
+cause_by None result s s' w w' cause = cause
+cause_by (Some (OfImage command)) result s s' w w' cause = cause
+cause_by (Some (Print name)) result s s' w w' cause = cause
+cause_by (Some (Alm alm)) result s s' w w' cause = cause
 
 pub all_answered :
-    (command : Option Command) (result : Status) (files : Option Files) (old new : Option (List ℕ)) (r r' w w' : ℕ)
-    → TopSays command result files old new → ReadCause result r r' → WriteCause result w w'
-    → IfSome files (λ f. Completes result (IsCommandDue command f) (Rose r r') (Rose w w'))
-all_answered command result None old new r r' w w' says read write = tt
-all_answered command result (Some files) old new r r' w w' says read write =
-    due_answered command files result old new r r' w w' (by_command command result files old new says) read write
+    (command : Option Command) (result : Status) (files : Option Files) (old new : Option (List ℕ)) (r r' s s' w w' : ℕ)
+    → TopSays command result files old new → ReadCause result r r' → TopWriteCause command result s s' w w'
+    → IfSome files (λ f. Completes result (IsCommandDue command f) (Rose r r') (WriteRose command s s' w w'))
+all_answered command result None old new r r' s s' w w' says read write = tt
+all_answered command result (Some files) old new r r' s s' w w' says read write =
+    due_answered command files result old new r r' (WriteRose command s s' w w') (stands_by command s s' w w') (by_command command result files old new says) read (cause_by command result s s' w w' write)

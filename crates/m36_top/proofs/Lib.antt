@@ -4,6 +4,10 @@ pub mod WordLaws
 pub mod AuditTexts
 pub mod AuditAnswers
 pub mod TopLaws
+pub mod PrintAnswers
+pub mod AlmAnswers
+pub mod SetLaws
+pub mod TextLines
 pub mod FileAnswers
 pub mod DueLaw
 pub mod YesIsolates

@@ -7,11 +7,12 @@ use Rattle.m36_outside.specs.declared.folder.ReadAnswer.TheVariants as read
 use Rattle.m36_model.specs.Store.{State}
 use Rattle.m36_model.specs.Audit.{AreFindings}
 use Rattle.m36_top.specs.declared.command.Command.{Command}
+use Rattle.m36_top.specs.declared.command.ImageCommand.{ImageCommand}
 use Rattle.m36_top.specs.declared.refusal.Refusal.{Refusal}
 use Rattle.m36_top.specs.declared.status.Code.TheVariants.{F1, F2}
 use Rattle.m36_top.specs.declared.status.Status.{Status}
 use Rattle.m36_top.specs.declared.status.Status.TheVariants.{Done, Usage, ReadFault, WriteFault, BadFile, AuditNo, MachineStop, Steps, NoMemory}
-use Rattle.m36_top.specs.Answers.{Answer, refused, file_of, state_answer, IsIsolated, IsStateDue, IsImageDue, IsReadDue}
+use Rattle.m36_top.specs.Answers.{Answer, refused, image_file, file_of, state_answer, IsIsolated, IsStateDue, IsImageDue, IsReadDue}
 use Rattle.m36_top.specs.TopCall.{Meets, Says, CommandSays}
 
 -- a status that meets an answer that is due says so
@@ -30,7 +31,7 @@ says_due IsDue due WriteFault old new is m = record { due = due; is_due = is; me
 
 -- the answer by what the audit of a state has found
 pub state_says :
-    (command : Command) (state : State (List ℕ)) (findings : List (ℕ × ℕ)) (result : Status) (old new : Option (List ℕ))
+    (command : ImageCommand) (state : State (List ℕ)) (findings : List (ℕ × ℕ)) (result : Status) (old new : Option (List ℕ))
     → AreFindings state.store state.regs.dbr findings
     → (findings ≡ [] → IsIsolated state.store state.regs.dbr)
     → Meets result (state_answer command state findings) old new
@@ -40,18 +41,18 @@ state_says command state findings result old new found isolated m =
 
 -- the answer by the state that a file writes out
 pub image_says :
-    (command : Command) (given : Result (State (List ℕ)) Refusal) (state : State (List ℕ)) (result : Status) (old new : Option (List ℕ))
+    (command : ImageCommand) (given : Result (State (List ℕ)) Refusal) (state : State (List ℕ)) (result : Status) (old new : Option (List ℕ))
     → given ≡ Ok state → Says (IsStateDue command state) result old new → Says (IsImageDue command given) result old new
 image_says command given state result old new e says =
     subst (λ g. Says (IsImageDue command g) result old new) (sym e) says
 
 -- the answer where a file is refused
 pub refused_says :
-    (command : Command) (given : Result (State (List ℕ)) Refusal) (refusal : Refusal) (result : Status) (old new : Option (List ℕ))
-    → given ≡ Err refusal → Meets result (refused (file_of command) refusal.code refusal.line) old new
+    (command : ImageCommand) (given : Result (State (List ℕ)) Refusal) (refusal : Refusal) (result : Status) (old new : Option (List ℕ))
+    → given ≡ Err refusal → Meets result (refused (image_file command) refusal.code refusal.line) old new
     → Says (IsImageDue command given) result old new
 refused_says command given refusal result old new e m =
-    subst (λ g. Says (IsImageDue command g) result old new) (sym e) (says_due (IsImageDue command (Err refusal)) (refused (file_of command) refusal.code refusal.line) result old new refl m)
+    subst (λ g. Says (IsImageDue command g) result old new) (sym e) (says_due (IsImageDue command (Err refusal)) (refused (image_file command) refusal.code refusal.line) result old new refl m)
 
 -- the answer where the folder has no such file, or one that is too large
 pub absent_says :

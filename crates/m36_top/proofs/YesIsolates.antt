@@ -7,16 +7,28 @@ use Rattle.m36_outside.specs.ReadAnswer.{ReadSays}
 use Rattle.m36_outside.specs.Written.{appended, Grew, GrewWithin}
 use Rattle.m36_outside.specs.declared.folder.ReadAnswer.{ReadAnswer}
 use Rattle.m36_outside.specs.declared.folder.ReadAnswer.TheVariants as read
+use Rattle.std.specs.Prelude.{nat_lt}
+use Rattle.std.proofs.Common.{inl, inr}
+use Rattle.m36_text.specs.Packing.{unpacked}
+use Rattle.m36_text.specs.declared.packing.PackFault.{PackFault}
+use Rattle.m36_text.specs.declared.packing.PackFault.TheVariants as pack
 use Rattle.m36_model.specs.Store.{State}
+use Rattle.obj36.specs.PartsFields.{PartsFields}
+use Rattle.obj36.specs.Faults.{first_fault}
+use Rattle.obj36.specs.declared.fault.ObjectFault.{ObjectFault}
+use Rattle.obj36.specs.declared.fault.ObjectFault.TheVariants as fault
+use Rattle.m36_list.specs.Print.{line, print_of}
 use Rattle.m36_top.specs.declared.command.Command.{Command}
-use Rattle.m36_top.specs.declared.command.Command.TheVariants.{Bare, Audit}
+use Rattle.m36_top.specs.declared.command.Command.TheVariants.{OfImage, Print, Alm}
+use Rattle.m36_top.specs.declared.command.ImageCommand.{ImageCommand}
+use Rattle.m36_top.specs.declared.command.ImageCommand.TheVariants.{Bare, Audit}
 use Rattle.m36_top.specs.declared.refusal.Refusal.{Refusal}
 use Rattle.m36_top.specs.declared.status.Status.{Status}
 use Rattle.m36_top.specs.declared.status.Status.TheVariants.{Done, Usage, ReadFault, WriteFault, BadFile, AuditNo, MachineStop, Steps, NoMemory}
 use Rattle.m36_top.specs.ImageState.{state_given}
 use Rattle.m36_top.specs.Output.{run_text}
 use Rattle.m36_top.specs.AuditText.{yes_line, finding_line, finding_lines, audit_text}
-use Rattle.m36_top.specs.Answers.{Answer, unwritten, file_of, run_answer, audit_answer, bare_by, state_answer, IsIsolated, IsStateDue, IsImageDue, IsReadDue}
+use Rattle.m36_top.specs.Answers.{Answer, unwritten, image_file, file_of, run_answer, audit_answer, bare_by, state_answer, IsIsolated, IsStateDue, IsImageDue, object_refused, IsSizedDue, IsUnpackedDue, IsReadDue}
 use Rattle.m36_top.specs.TopCall.{Meets, Says, TopSays, SaysYes, IsIsolatedImage, YesIsolates}
 
 -- a text begins with the line `audit yes`
@@ -83,7 +95,7 @@ bare_begins true steps state findings = (run_text steps state, refl)
 bare_begins false steps state findings = ([], sym (append-nil (audit_text findings)))
 
 answer_begins :
-    (command : Command) (state : State (List ℕ)) (findings : List (ℕ × ℕ))
+    (command : ImageCommand) (state : State (List ℕ)) (findings : List (ℕ × ℕ))
     → (more : List ℕ) × ((state_answer command state findings).text ≡ audit_text findings ++ more)
 unfolding audit_answer
 answer_begins (Bare bare) state findings = bare_begins _ bare.steps state findings
@@ -113,18 +125,18 @@ nothing_begins status due is begins =
     let e : [] ≡ yes_line ++ begins.0 = sym (ap (λ d. d.text) is) ∙ begins.1 in
     absurd (cc)
 
-state_isolates : (command : Command) (state : State (List ℕ)) (due : Answer) → IsStateDue command state due → Begins due.text → IsIsolated state.store state.regs.dbr
+state_isolates : (command : ImageCommand) (state : State (List ℕ)) (due : Answer) → IsStateDue command state due → Begins due.text → IsIsolated state.store state.regs.dbr
 state_isolates command state due is begins =
     let a = answer_begins command state is.findings in
     is.isolated (none_found is.findings a.0 begins.0 (sym a.1 ∙ sym (ap (λ d. d.text) is.answer) ∙ begins.1))
 
-image_isolates : (command : Command) (given : Result (State (List ℕ)) Refusal) (due : Answer) → IsImageDue command given due → Begins due.text → Isolates given
+image_isolates : (command : ImageCommand) (given : Result (State (List ℕ)) Refusal) (due : Answer) → IsImageDue command given due → Begins due.text → Isolates given
 image_isolates command (Ok state) due is begins = record { state = state; image = refl; isolated = state_isolates command state due is begins }
 image_isolates command (Err refusal) due is begins = absurd (nothing_begins _ due is begins)
 
 read_isolates :
-    (command : Command) (given : ReadAnswer) (file : Option (List ℕ)) (due : Answer)
-    → ReadSays given file → IsReadDue command given due → Begins due.text → IsIsolatedImage file
+    (command : ImageCommand) (given : ReadAnswer) (file : Option (List ℕ)) (due : Answer)
+    → ReadSays given file → IsReadDue (OfImage command) given due → Begins due.text → IsIsolatedImage file
 read_isolates command (read.Read bytes) file due told is begins =
     let i = image_isolates command (state_given bytes) due is begins in
     record { bytes = bytes; held = told; state = i.state; image = i.image; isolated = i.isolated }
@@ -133,13 +145,53 @@ read_isolates command read.TooLarge file due told is begins = absurd (nothing_be
 read_isolates command read.Failed file due told is begins = absurd (nothing_begins _ due is begins)
 read_isolates command read.NoMemory file due told is begins = absurd (nothing_begins _ due is begins)
 
+-- a print begins otherwise
+print_begins : (name : List ℕ) (parts : PartsFields) (rest : List ℕ) → print_of name parts ≡ yes_line ++ rest → ⊥
+unfolding print_of line
+print_begins name parts rest e =
+    let n : 111 ≡ 97 = ap (λ (t : List ℕ). get_or t 0 0) e in
+    absurd (omega (arith, n))
+
+object_other : (name words : List ℕ) (fault : ObjectFault) (due : Answer) → due ≡ object_refused name fault → Begins due.text → ⊥
+object_other name words (fault.O1 at) due is begins = nothing_begins _ due is begins
+object_other name words (fault.O2 at) due is begins = nothing_begins _ due is begins
+object_other name words (fault.O3 at) due is begins = nothing_begins _ due is begins
+object_other name words (fault.O4 at) due is begins = nothing_begins _ due is begins
+object_other name words (fault.O5 at) due is begins = nothing_begins _ due is begins
+object_other name words (fault.O6 at) due is begins = nothing_begins _ due is begins
+object_other name words (fault.O7 at) due is begins = nothing_begins _ due is begins
+object_other name words (fault.O8 at) due is begins = nothing_begins _ due is begins
+object_other name words fault.NoMemory due is begins = nothing_begins _ due is begins
+
+sized_other : (over : Bool) (name words : List ℕ) (due : Answer) → IsSizedDue over name words due → Begins due.text → ⊥
+sized_other true name words due is begins = nothing_begins _ due is begins
+sized_other false name words due (inl is) begins = print_begins name is.parts begins.0 (sym (ap (λ d. d.text) is.answer) ∙ begins.1)
+sized_other false name words due (inr is) begins = object_other name words (first_fault words) due is.answer begins
+
+unpacked_other : (name : List ℕ) (given : Result (List ℕ) PackFault) (due : Answer) → IsUnpackedDue name given due → Begins due.text → ⊥
+unpacked_other name (Ok words) due is begins = sized_other (nat_lt 262144 (length words)) name words due is begins
+unpacked_other name (Err (pack.T3 count)) due is begins = nothing_begins _ due is begins
+unpacked_other name (Err (pack.T4 place)) due is begins = nothing_begins _ due is begins
+unpacked_other name (Err pack.NoMemory) due is begins = nothing_begins _ due is begins
+
+print_other : (name : List ℕ) (given : ReadAnswer) (due : Answer) → IsReadDue (Print name) given due → Begins due.text → ⊥
+print_other name (read.Read bytes) due is begins = unpacked_other name (unpacked bytes) due is begins
+print_other name read.Absent due is begins = nothing_begins _ due is begins
+print_other name read.TooLarge due is begins = nothing_begins _ due is begins
+print_other name read.Failed due is begins = nothing_begins _ due is begins
+print_other name read.NoMemory due is begins = nothing_begins _ due is begins
+
 yes_command :
     (command : Option Command) (result : Status) (files : Files) (old new : Option (List ℕ))
     → TopSays command result (Some files) old new → YesIsolates command files old new
 yes_command None result files old new says = yes_something old new says.1
-yes_command (Some command) result files old new says = λ told_yes.
-    let d = yes_says (IsReadDue command says.given) result old new says.says told_yes in
-    read_isolates command says.given (files (file_of command)) d.0 says.told d.1 d.2
+yes_command (Some (OfImage command)) result files old new says = λ told_yes.
+    let d = yes_says (IsReadDue (OfImage command) says.given) result old new says.says told_yes in
+    read_isolates command says.given (files (image_file command)) d.0 says.told d.1 d.2
+yes_command (Some (Print name)) result files old new says = λ told_yes.
+    let d = yes_says (IsReadDue (Print name) says.given) result old new says.says told_yes in
+    print_other name says.given d.0 d.1 d.2
+yes_command (Some (Alm alm)) result files old new says = tt
 
 pub yes_isolates :
     (command : Option Command) (result : Status) (files : Option Files) (old new : Option (List ℕ))

@@ -3,11 +3,11 @@ use Rattle.std.specs.Prelude.{◌≡◌, ℕ, List, [], ◌∷◌}
 use Rattle.m36_outside.specs.Files.{Files}
 use Rattle.m36_model.specs.Store.{State}
 use Rattle.m36_model.specs.Audit.{IsAudited}
-use Rattle.m36_top.specs.declared.command.Command.{Command}
+use Rattle.m36_top.specs.declared.command.ImageCommand.{ImageCommand}
 use Rattle.m36_top.specs.Answers.{Answer, state_answer, IsStateDue, IsDue}
 
 -- an answer by some findings
-pub record IsByFindings (command : Command) (state : State (List ℕ)) (due : Answer) : Type 0 where
+pub record IsByFindings (command : ImageCommand) (state : State (List ℕ)) (due : Answer) : Type 0 where
   pub first : ℕ × ℕ
   pub others : List (ℕ × ℕ)
   pub answer : due ≡ state_answer command state (first ∷ others)
@@ -16,5 +16,5 @@ pub record IsByFindings (command : Command) (state : State (List ℕ)) (due : An
 -- on every other state it is one by some findings.
 pub record DueLaw : Type 0 where
   pub one : (words : List (List ℕ)) (files : Files) (due same : Answer) → IsDue words files due → IsDue words files same → due ≡ same
-  pub passed : (command : Command) (state : State (List ℕ)) (due : Answer) → IsStateDue command state due → IsAudited state.store state.regs.dbr → due ≡ state_answer command state []
-  pub failed : (command : Command) (state : State (List ℕ)) (due : Answer) → IsStateDue command state due → ¬ IsAudited state.store state.regs.dbr → IsByFindings command state due
+  pub passed : (command : ImageCommand) (state : State (List ℕ)) (due : Answer) → IsStateDue command state due → IsAudited state.store state.regs.dbr → due ≡ state_answer command state []
+  pub failed : (command : ImageCommand) (state : State (List ℕ)) (due : Answer) → IsStateDue command state due → ¬ IsAudited state.store state.regs.dbr → IsByFindings command state due

@@ -12,7 +12,10 @@ pub mod Run
 pub mod Output
 pub mod RunSays
 pub mod AuditText
+pub mod Assemblies
 pub mod Answers
+pub mod AlmSays
+pub mod Sets
 pub mod Due
 pub mod TopCall
 pub use Rattle.m36_trace.specs.EndLine

@@ -7,11 +7,12 @@ use Rattle.m36_outside.specs.Written.{Grew, GrewWithin}
 use Rattle.m36_outside.specs.declared.folder.ReadAnswer.{ReadAnswer}
 use Rattle.m36_model.specs.Store.{State}
 use Rattle.m36_top.specs.declared.command.Command.{Command}
+use Rattle.m36_top.specs.declared.command.Command.TheVariants.{OfImage, Print, Alm}
 use Rattle.m36_top.specs.declared.status.Status.{Status}
 use Rattle.m36_top.specs.declared.status.Status.TheVariants.{Done, Usage, ReadFault, WriteFault, BadFile, AuditNo, MachineStop, Steps, NoMemory}
 use Rattle.m36_top.specs.ImageState.{state_given}
 use Rattle.m36_top.specs.AuditText.{yes_line}
-use Rattle.m36_top.specs.Answers.{Answer, unwritten, file_of, IsIsolated, IsReadDue}
+use Rattle.m36_top.specs.Answers.{Answer, unwritten, image_file, file_of, IsIsolated, IsReadDue}
 
 -- the statuses with which something is written
 abbrev pub IsWritten : Status → Type 0
@@ -100,10 +101,13 @@ pub record IsIsolatedImage (file : Option (List ℕ)) : Type 0 where
   pub image : state_given bytes ≡ Ok state
   pub isolated : IsIsolated state.store state.regs.dbr
 
--- Where `audit yes` is written, the image of the command's file is isolated.
+-- Where `audit yes` is written, the image of the command's file is isolated. A print does not begin so, and
+-- `alm` reads no image: what it writes is a listing, whatever its first line is.
 abbrev pub YesIsolates : Option Command → Files → Option (List ℕ) → Option (List ℕ) → Type 0
 YesIsolates None files old new = ¬ SaysYes old new
-YesIsolates (Some command) files old new = SaysYes old new → IsIsolatedImage (files (file_of command))
+YesIsolates (Some (OfImage command)) files old new = SaysYes old new → IsIsolatedImage (files (image_file command))
+YesIsolates (Some (Print name)) files old new = ¬ SaysYes old new
+YesIsolates (Some (Alm alm)) files old new = ⊤
 
 -- A count of read faults rose in a call that answered ReadFault, and stands in any other.
 abbrev pub ReadCause : Status → ℕ → ℕ → Type 0
@@ -117,14 +121,32 @@ ReadCause (MachineStop end) old new = new ≡ old
 ReadCause Steps old new = new ≡ old
 ReadCause NoMemory old new = new ≡ old
 
+-- A write failed in a call that answered WriteFault, and none in any other: what each says of it.
+abbrev pub CauseBy : Status → Type 0 → Type 0 → Type 0
+CauseBy WriteFault rose stands = rose
+CauseBy Done rose stands = stands
+CauseBy Usage rose stands = stands
+CauseBy ReadFault rose stands = stands
+CauseBy (BadFile bad) rose stands = stands
+CauseBy AuditNo rose stands = stands
+CauseBy (MachineStop end) rose stands = stands
+CauseBy Steps rose stands = stands
+CauseBy NoMemory rose stands = stands
+
 -- A count of write faults rose in a call that answered WriteFault, and stands in any other.
 abbrev pub WriteCause : Status → ℕ → ℕ → Type 0
-WriteCause WriteFault old new = Rose old new
-WriteCause Done old new = new ≡ old
-WriteCause Usage old new = new ≡ old
-WriteCause ReadFault old new = new ≡ old
-WriteCause (BadFile bad) old new = new ≡ old
-WriteCause AuditNo old new = new ≡ old
-WriteCause (MachineStop end) old new = new ≡ old
-WriteCause Steps old new = new ≡ old
-WriteCause NoMemory old new = new ≡ old
+WriteCause result old new = CauseBy result (Rose old new) (new ≡ old)
+
+-- With `alm` the count of the sink or that of the folder rose. With every other command that of the sink did.
+abbrev pub WriteRose : Option Command → ℕ → ℕ → ℕ → ℕ → Type 0
+WriteRose None puts puts_after writes writes_after = Rose puts puts_after
+WriteRose (Some (OfImage command)) puts puts_after writes writes_after = Rose puts puts_after
+WriteRose (Some (Print name)) puts puts_after writes writes_after = Rose puts puts_after
+WriteRose (Some (Alm alm)) puts puts_after writes writes_after = Rose puts puts_after ⊎ Rose writes writes_after
+
+abbrev pub TopWriteCause : Option Command → Status → ℕ → ℕ → ℕ → ℕ → Type 0
+TopWriteCause None result puts puts_after writes writes_after = WriteCause result puts puts_after
+TopWriteCause (Some (OfImage command)) result puts puts_after writes writes_after = WriteCause result puts puts_after
+TopWriteCause (Some (Print name)) result puts puts_after writes writes_after = WriteCause result puts puts_after
+TopWriteCause (Some (Alm alm)) result puts puts_after writes writes_after =
+    CauseBy result (Rose puts puts_after ⊎ Rose writes writes_after) ((puts_after ≡ puts) × (writes_after ≡ writes))

@@ -2,13 +2,16 @@
 --
 --     bare FILE [--steps N] [--unaudited]
 --     audit FILE
+--     print NAME
+--     alm NAME
 --
 -- The first word is the command. Operands and options follow it in any order, and an option stands at most once. Behind
 -- `--`, which may stand once, each word is an operand. `--steps N` may be written `--steps=N`; the value of `--steps` is
--- the next word, whatever it is. FILE is 1 to 32 characters of `A-Z a-z 0-9 _ .`, of which the first is no point. N is
+-- the next word, whatever it is. FILE and NAME are 1 to 32 characters of `A-Z a-z 0-9 _ .`, of which the first is no point, and the NAME of `alm` has at most 27: its source is
+-- NAME.alm. N is
 -- one to eight decimal digits, at most 10,000,000; without it a run takes at most 100,000 steps. No other list of words
 -- is a command.
-use Rattle.std.specs.Prelude.{ℕ, Bool, true, false, not, ◌&&◌, ◌||◌, ◌==◌, nat_le, nat_eq, List, [], ◌∷◌, length, take, drop, slice_index, codes, Option, Some, None, unwrap_or, if◌then◌else◌}
+use Rattle.std.specs.Prelude.{ℕ, Bool, true, false, not, ◌&&◌, ◌||◌, ◌==◌, nat_le, nat_eq, List, [], ◌∷◌, ◌++◌, length, take, drop, slice_index, codes, Option, Some, None, unwrap_or, if◌then◌else◌}
 use Rattle.std.specs.List.{list_all}
 use Rattle.std.specs.Option.{is_none, option_map, option_and_then}
 use Rattle.std.specs.Result.{result_ok}
@@ -18,7 +21,8 @@ use Rattle.m36_top.specs.declared.words.Given.{Given}
 use Rattle.m36_top.specs.declared.words.Expects.{Expects}
 use Rattle.m36_top.specs.declared.words.Expects.TheVariants as expects
 use Rattle.m36_top.specs.declared.command.Command.{Command}
-use Rattle.m36_top.specs.declared.command.Command.TheVariants.{Bare, Audit}
+use Rattle.m36_top.specs.declared.command.Command.TheVariants.{OfImage, Print, Alm}
+use Rattle.m36_top.specs.declared.command.ImageCommand.TheVariants.{Bare, Audit}
 
 -- whether a text is this one
 abbrev pub is_text : List ℕ → List ℕ → Bool
@@ -95,22 +99,32 @@ abbrev pub nothing : Given
 nothing = record { operand = None; steps = None; unaudited = false; expects = expects.Any }
 
 -- The commands by their words, each with what it makes of its operands and options. All options go with `bare`, and none
--- with `audit`.
+-- with the others.
 abbrev pub bare : Given → Option Command
 bare g =
-    option_map (λ file. Bare (record { file = file; steps = unwrap_or g.steps 100000; unaudited = g.unaudited })) g.operand
+    option_map (λ file. OfImage (Bare (record { file = file; steps = unwrap_or g.steps 100000; unaudited = g.unaudited }))) g.operand
 
 abbrev pub has_no_option : Given → Bool
 has_no_option g = is_none g.steps && not g.unaudited
 
 abbrev pub audit : Given → Option Command
-audit g = if has_no_option g then option_map (λ file. Audit file) g.operand else None
+audit g = if has_no_option g then option_map (λ file. OfImage (Audit file)) g.operand else None
+
+abbrev pub print : Given → Option Command
+print g = if has_no_option g then option_map (λ name. Print name) g.operand else None
+
+abbrev pub alm_of : List ℕ → Option Command
+alm_of name =
+    if nat_le (length name) 27 then Some (Alm (record { source = name ++ codes ".alm"; object = name })) else None
+
+abbrev pub alm : Given → Option Command
+alm g = if has_no_option g then option_and_then alm_of g.operand else None
 
 abbrev pub Entry : Type 0
 Entry = List ℕ × (Given → Option Command)
 
 abbrev pub commands : List Entry
-commands = (codes "bare", bare) ∷ (codes "audit", audit) ∷ []
+commands = (codes "bare", bare) ∷ (codes "audit", audit) ∷ (codes "print", print) ∷ (codes "alm", alm) ∷ []
 
 -- the command of a word
 abbrev pub command_in : List Entry → List ℕ → Given → Option Command

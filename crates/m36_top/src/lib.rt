@@ -4,7 +4,8 @@
 //! `bare FILE` and `audit FILE` read a bare image, a text that writes out the core of a machine, its descriptor segment
 //! base register and where it starts. Both audit it and write what the audit finds. `bare` then runs the machine, unless
 //! the audit has failed and `--unaudited` is not given, for at most 100,000 steps or as many as `--steps` gives. A trace
-//! line is written for each step, and an end line.
+//! line is written for each step, and an end line. `print NAME` unpacks an object and writes its print.
+//! `alm NAME` assembles the source NAME.alm, writes the object as the file NAME, and then the listing.
 //!
 //! What [`m36`] promises, whatever its arguments:
 //!
@@ -23,6 +24,9 @@
 //! Files, texts and statuses are this simulator's own; the machine is that of the Multics Processor Manual AL39.
 #![tactic(auto)]
 
+#[cfg(test)]
+mod alm_tests;
+pub mod assembling;
 pub mod command;
 mod core_words;
 mod findings;
@@ -30,8 +34,12 @@ mod forms;
 mod header;
 pub mod image;
 pub mod laws;
+mod line_output;
 mod names;
 mod placed;
+#[cfg(test)]
+mod print_tests;
+pub mod printing;
 pub mod refusal;
 mod running;
 mod scan;
@@ -43,9 +51,11 @@ pub mod top;
 mod word_tests;
 pub mod words;
 
-pub use command::{BareRun, Command};
+pub use assembling::assemble_bytes;
+pub use command::{AlmFiles, BareRun, Command, ImageCommand};
 pub use image::{Image, ImageFault, read_image};
 pub use laws::law_due;
+pub use printing::print_bytes;
 pub use refusal::Refusal;
 pub use status::{Bad, Code, Status};
 pub use top::m36;

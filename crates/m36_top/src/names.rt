@@ -1,9 +1,10 @@
 //! Names of files.
 
-ghost use Rattle.std.specs.Prelude.{ℕ, ◌≡◌};
+ghost use Rattle.std.specs.Prelude.{ℕ, ◌≡◌, ◌≤◌, ◌++◌, length, codes, Some};
 ghost use Rattle.std.specs.List.{list_all};
 ghost use Rattle.m36_top.specs.Words.{is_name_character, is_file_name, operand_of};
 
+use arrayvec::ArrayVec;
 use m36_text::Name;
 
 /// The most characters of a file's name.
@@ -44,4 +45,15 @@ pub fn operand_of(word: &[u8]) -> Option<Name>
     } else {
         None
     }
+}
+
+/// The name of the source of an object: NAME.alm.
+pub fn source_of(object: &[u8]) -> Option<Name>
+    requires { length object.now ≤ 27 }
+    ensures { result ≡ Some (object.now ++ codes ".alm") }
+{
+    let mut name: ArrayVec<u8, 32> = ArrayVec::new();
+    let _ = name.try_extend_from_slice(object);
+    let _ = name.try_extend_from_slice(b".alm");
+    Name::new(name.as_slice())
 }

@@ -1,6 +1,6 @@
 //! The top call.
 
-ghost use Rattle.std.specs.Prelude.{ℕ, ◌≡◌, ◌≤◌, ◌<◌, ◌^◌, ◌↔◌, ◌||◌, List, [], Option, None, IfOk, IfSome, length};
+ghost use Rattle.std.specs.Prelude.{ℕ, ◌≡◌, ◌≤◌, ◌<◌, ◌^◌, ◌↔◌, ◌||◌, List, [], Option, None, Some, IfOk, IfSome, length};
 ghost use Rattle.m36_model.specs.Audit.{AreFindings};
 ghost use Rattle.m36_audit.specs.Findings.{pairs};
 ghost use Rattle.m36_outside.specs.Counts.{Rose};
@@ -9,12 +9,16 @@ ghost use Rattle.m36_top.specs.Words.{command_of};
 ghost use Rattle.m36_top.specs.ImageState.{state_given};
 ghost use Rattle.m36_top.specs.Output.{status_after};
 ghost use Rattle.m36_top.specs.AuditText.{audit_text};
-ghost use Rattle.m36_top.specs.Answers.{refused, behind, run_answer, passes, audit_answer, bare_by, state_answer, IsIsolated, IsStateDue, IsImageDue, IsDue};
-ghost use Rattle.m36_top.specs.TopCall.{Meets, Says, CommandSays, TopSays, SaysFiles, Completes, YesIsolates, ReadCause, WriteCause};
+ghost use Rattle.m36_top.specs.Answers.{refused, refused_at, behind, run_answer, passes, audit_answer, bare_by, state_answer, IsIsolated, IsStateDue, IsImageDue, IsBytesDue, IsDue};
+ghost use Rattle.m36_top.specs.TopCall.{Meets, Says, CommandSays, TopSays, SaysFiles, Completes, YesIsolates, ReadCause, WriteCause, WriteRose, TopWriteCause};
+ghost use Rattle.m36_outside.specs.Files.{Files};
+ghost use Rattle.m36_top.specs.Sets.{AlmSets, BytesSet, CommandSets, TopSets};
 
-use crate::command::{BareRun, Command};
+use crate::assembling::assemble_bytes;
+use crate::command::{BareRun, Command, ImageCommand};
 use crate::findings::put_audit;
 use crate::image::{Image, ImageFault, read_image};
+use crate::printing::print_bytes;
 use crate::running::{Ended, run};
 use crate::status::{Bad, Code, Status};
 use crate::words::command_of;
@@ -43,20 +47,31 @@ pub fn status_after(last: Outcome) -> Status
 }
 
 /// Refuses a file, unless no memory is found for its name.
-pub fn refuse(alloc: Global, name: &[u8], code: Code, at: u32) -> Status
-    ensures says { (written : Option (List ℕ)) → Meets result (refused name.now code at) written written }
+pub fn refuse_at(alloc: Global, name: &[u8], code: Code, at: u32, column: u32) -> Status
+    ensures says { (written : Option (List ℕ)) → Meets result (refused_at name.now code at column) written written }
     ensures read_cause { (count : ℕ) → ReadCause result count count }
     ensures write_cause { (count : ℕ) → WriteCause result count count }
+    ensures sets { (name : List ℕ) (set old : Option Files) (count : ℕ) → AlmSets result name set old old count count }
 {
     match Text::from_bytes(alloc, name) {
         Ok(name) => Status::BadFile(Bad {
             name,
             code,
             at,
-            column: 0,
+            column,
         }),
         Err(_) => Status::NoMemory,
     }
+}
+
+/// Refuses a file that has no columns.
+pub fn refuse(alloc: Global, name: &[u8], code: Code, at: u32) -> Status
+    ensures says { (written : Option (List ℕ)) → Meets result (refused name.now code at) written written }
+    ensures read_cause { (count : ℕ) → ReadCause result count count }
+    ensures write_cause { (count : ℕ) → WriteCause result count count }
+    ensures sets { (name : List ℕ) (set old : Option Files) (count : ℕ) → AlmSets result name set old old count count }
+{
+    refuse_at(alloc, name, code, at, 0)
 }
 
 // The machine of an image. Core is handed on, and not copied.
@@ -146,7 +161,7 @@ fn answer_bare<S: Sink>(
 /// Does what a command says with an image, by what its audit has found.
 pub fn answer_found<S: Sink>(
     alloc: Global,
-    command: &Command,
+    command: &ImageCommand,
     findings: &[Finding],
     image: Image,
     out: &mut S,
@@ -156,8 +171,8 @@ pub fn answer_found<S: Sink>(
     ensures write_cause { WriteCause result (S.faults out.old) (S.faults out.new) }
 {
     match command {
-        Command::Bare(bare) => answer_bare(alloc, bare, findings, image, out),
-        Command::Audit(_) => answer_audit(findings, out),
+        ImageCommand::Bare(bare) => answer_bare(alloc, bare, findings, image, out),
+        ImageCommand::Audit(_) => answer_audit(findings, out),
     }
 }
 
@@ -181,7 +196,12 @@ fn findings_in(alloc: Global, image: &Image) -> Result<Verdict, NoMemory>
 
 /// Audits an image, and does what a command says with it.
 #[tactic(auto, using(crate::proofs::TopLaws::dues))]
-pub fn with_image<S: Sink>(alloc: Global, command: &Command, image: Image, out: &mut S) -> Status
+pub fn with_image<S: Sink>(
+    alloc: Global,
+    command: &ImageCommand,
+    image: Image,
+    out: &mut S,
+) -> Status
     ensures says { Says (IsStateDue command.now image) result (S.written out.old) (S.written out.new) }
     ensures read_cause { (count : ℕ) → ReadCause result count count }
     ensures write_cause { WriteCause result (S.faults out.old) (S.faults out.new) }
@@ -192,9 +212,14 @@ pub fn with_image<S: Sink>(alloc: Global, command: &Command, image: Image, out: 
     }
 }
 
-/// Does what a command says with the bytes of its file.
+/// Does what a command on an image says with the bytes of its file.
 #[tactic(auto, using(crate::proofs::TopLaws::dues))]
-pub fn with_bytes<S: Sink>(alloc: Global, command: &Command, bytes: &[u8], out: &mut S) -> Status
+pub fn with_bytes<S: Sink>(
+    alloc: Global,
+    command: &ImageCommand,
+    bytes: &[u8],
+    out: &mut S,
+) -> Status
     requires { length bytes.now ≤ file_limit }
     ensures says { Says (IsImageDue command.now (state_given bytes.now)) result (S.written out.old) (S.written out.new) }
     ensures read_cause { (count : ℕ) → ReadCause result count count }
@@ -212,8 +237,29 @@ pub fn with_bytes<S: Sink>(alloc: Global, command: &Command, bytes: &[u8], out: 
     }
 }
 
+/// Does what a command says with the bytes of its file.
+pub fn with_content<F: Folder, S: Sink>(
+    alloc: Global,
+    command: &Command,
+    bytes: &[u8],
+    folder: &mut F,
+    out: &mut S,
+) -> Status
+    requires { length bytes.now ≤ file_limit }
+    ensures says { Says (IsBytesDue command.now bytes.now) result (S.written out.old) (S.written out.new) }
+    ensures read_cause { ReadCause result (F.read_faults folder.old) (F.read_faults folder.new) }
+    ensures write_cause { TopWriteCause (Some command.now) result (S.faults out.old) (S.faults out.new) (F.write_faults folder.old) (F.write_faults folder.new) }
+    ensures files { BytesSet command.now bytes.now result (F.files folder.old) (F.files folder.new) (F.write_faults folder.old) (F.write_faults folder.new) }
+{
+    match command {
+        Command::OfImage(command) => with_bytes(alloc, command, bytes, out),
+        Command::Print(name) => print_bytes(alloc, name.bytes(), bytes, out),
+        Command::Alm(files) => assemble_bytes(alloc, files, bytes, folder, out),
+    }
+}
+
 /// Reads the file of a command, and does what the command says with it.
-#[tactic(auto, using(crate::proofs::TopLaws::dues))]
+#[tactic(auto, using(crate::proofs::TopLaws::dues, crate::proofs::SetLaws::setting))]
 pub fn perform<F: Folder, S: Sink>(
     alloc: Global,
     command: &Command,
@@ -222,11 +268,11 @@ pub fn perform<F: Folder, S: Sink>(
 ) -> Status
     ensures says { CommandSays command.now result (F.files folder.old) (S.written out.old) (S.written out.new) }
     ensures read_cause { ReadCause result (F.read_faults folder.old) (F.read_faults folder.new) }
-    ensures write_cause { WriteCause result (S.faults out.old) (S.faults out.new) }
-    ensures files { F.files folder.new ≡ F.files folder.old }
+    ensures write_cause { TopWriteCause (Some command.now) result (S.faults out.old) (S.faults out.new) (F.write_faults folder.old) (F.write_faults folder.new) }
+    ensures files { CommandSets command.now result (F.files folder.old) (F.files folder.new) (F.write_faults folder.old) (F.write_faults folder.new) }
 {
     match folder.read(alloc, command.file()) {
-        ReadAnswer::Read(text) => with_bytes(alloc, command, text.bytes(), out),
+        ReadAnswer::Read(text) => with_content(alloc, command, text.bytes(), folder, out),
         ReadAnswer::Absent => refuse(alloc, command.file(), Code::F1, 0),
         ReadAnswer::TooLarge => refuse(alloc, command.file(), Code::F2, 0),
         ReadAnswer::Failed => Status::ReadFault,
@@ -237,9 +283,9 @@ pub fn perform<F: Folder, S: Sink>(
 // What the words ask for.
 fn answer<F: Folder, S: Sink>(alloc: Global, words: &[Text], folder: &mut F, out: &mut S) -> Status
     ensures says { TopSays (command_of words.now) result (F.files folder.old) (S.written out.old) (S.written out.new) }
-    ensures files { F.files folder.new ≡ F.files folder.old }
+    ensures files { TopSets (command_of words.now) result (F.files folder.old) (F.files folder.new) (F.write_faults folder.old) (F.write_faults folder.new) }
     ensures read_cause { ReadCause result (F.read_faults folder.old) (F.read_faults folder.new) }
-    ensures write_cause { WriteCause result (S.faults out.old) (S.faults out.new) }
+    ensures write_cause { TopWriteCause (command_of words.now) result (S.faults out.old) (S.faults out.new) (F.write_faults folder.old) (F.write_faults folder.new) }
     ensures usage { (result ≡ Status.Usage) ↔ (command_of words.now ≡ None) }
     ensures folder_untouched { command_of words.now ≡ None → folder.new ≡ folder.old }
     ensures sink_untouched { command_of words.now ≡ None → out.new ≡ out.old }
@@ -254,7 +300,9 @@ fn answer<F: Folder, S: Sink>(alloc: Global, words: &[Text], folder: &mut F, out
 ///
 /// `words` leaves out the name of the program. `audit FILE` reads the file as a bare image, audits it, and writes the
 /// audit text. `bare FILE` does so too; where the audit passes, or `--unaudited` is given, it then runs the image for at
-/// most the steps that `--steps` gives, 100,000 by default, and writes a trace line for each and the end line.
+/// most the steps that `--steps` gives, 100,000 by default, and writes a trace line for each and the end line. `print NAME`
+/// unpacks the words of the file, reads them as an object, and writes its print. `alm NAME` assembles the source NAME.alm,
+/// writes the words of the object, packed, as the file NAME, and then the listing.
 #[tactic(auto, using(crate::proofs::Calls::calls))]
 pub fn m36<F: Folder, S: Sink>(alloc: Global, words: &[Text], folder: &mut F, out: &mut S) -> Status
     // What is answered and written, by what the folder gives for the file, told or not.
@@ -263,15 +311,16 @@ pub fn m36<F: Folder, S: Sink>(alloc: Global, words: &[Text], folder: &mut F, ou
     // What is answered and written, by the files that the folder tells.
     ensures output { IfSome (F.files folder.old) (λ f. SaysFiles (IsDue words.now f) result (S.written out.old) (S.written out.new)) }
     ensures complete { IfSome (F.files folder.old) (λ f. Completes result (IsDue words.now f)
-        (Rose (F.read_faults folder.old) (F.read_faults folder.new)) (Rose (S.faults out.old) (S.faults out.new))) }
+        (Rose (F.read_faults folder.old) (F.read_faults folder.new))
+        (WriteRose (command_of words.now) (S.faults out.old) (S.faults out.new) (F.write_faults folder.old) (F.write_faults folder.new))) }
 
     // Where `audit yes` is written, the tables of the image isolate each ring.
     ensures isolated { IfSome (F.files folder.old) (λ f. YesIsolates (command_of words.now) f (S.written out.old) (S.written out.new)) }
 
-    // No file is written, and a fault has a cause outside.
-    ensures files { F.files folder.new ≡ F.files folder.old }
+    // No file is written but the object of `alm`, and a fault has a cause outside.
+    ensures files { TopSets (command_of words.now) result (F.files folder.old) (F.files folder.new) (F.write_faults folder.old) (F.write_faults folder.new) }
     ensures read_cause { ReadCause result (F.read_faults folder.old) (F.read_faults folder.new) }
-    ensures write_cause { WriteCause result (S.faults out.old) (S.faults out.new) }
+    ensures write_cause { TopWriteCause (command_of words.now) result (S.faults out.old) (S.faults out.new) (F.write_faults folder.old) (F.write_faults folder.new) }
 
     // Where the words are no command, nothing is touched.
     ensures usage { (result ≡ Status.Usage) ↔ (command_of words.now ≡ None) }

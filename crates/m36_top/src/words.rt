@@ -1,10 +1,10 @@
 //! The words of the command line.
 
-ghost use Rattle.std.specs.Prelude.{ℕ, ◌≡◌, ◌≤◌, true, length, drop, IfSome};
-ghost use Rattle.m36_top.specs.Words.{steps_of, with_operand, with_steps, with_unaudited, expecting, is_steps_with_value, with_any, with_word, ended_by, with_words, nothing, bare, has_no_option, audit, commands, command_in, command_of};
+ghost use Rattle.std.specs.Prelude.{ℕ, ◌≡◌, ◌≤◌, ◌++◌, true, length, drop, codes, Some, IfSome};
+ghost use Rattle.m36_top.specs.Words.{steps_of, with_operand, with_steps, with_unaudited, expecting, is_steps_with_value, with_any, with_word, ended_by, with_words, nothing, bare, has_no_option, audit, print, alm_of, alm, commands, command_in, command_of};
 
-use crate::command::{BareRun, Command};
-use crate::names::operand_of;
+use crate::command::{AlmFiles, BareRun, Command, ImageCommand};
+use crate::names::{operand_of, source_of};
 use m36_outside::Text;
 use m36_text::{Name, read_decimal};
 
@@ -16,6 +16,9 @@ const MOST_STEPS: u64 = 10000000;
 
 /// The most steps of a run where no number is given.
 const DEFAULT_STEPS: u32 = 100000;
+
+/// The most characters of an object's name that `alm` is given.
+const LONGEST_ALM_NAME: usize = 27;
 
 /// What the next word is read as.
 #[derive(Clone, Copy)]
@@ -180,11 +183,11 @@ fn read_given(words: &[Text]) -> Option<Given>
 fn bare(given: Given) -> Option<Command>
     ensures { result ≡ bare given }
 {
-    Some(Command::Bare(BareRun {
+    Some(Command::OfImage(ImageCommand::Bare(BareRun {
         file: given.operand?,
         steps: given.steps.unwrap_or(DEFAULT_STEPS),
         unaudited: given.unaudited,
-    }))
+    })))
 }
 
 fn has_no_option(given: &Given) -> bool
@@ -198,7 +201,39 @@ fn audit(given: Given) -> Option<Command>
     ensures { result ≡ audit given }
 {
     if has_no_option(&given) {
-        Some(Command::Audit(given.operand?))
+        Some(Command::OfImage(ImageCommand::Audit(given.operand?)))
+    } else {
+        None
+    }
+}
+
+// `print NAME`
+fn print(given: Given) -> Option<Command>
+    ensures { result ≡ print given }
+{
+    if has_no_option(&given) {
+        Some(Command::Print(given.operand?))
+    } else {
+        None
+    }
+}
+
+fn alm_of(object: Name) -> Option<Command>
+    ensures { result ≡ alm_of object }
+{
+    if object.bytes().len() > LONGEST_ALM_NAME {
+        return None;
+    }
+    let source = source_of(object.bytes())?;
+    Some(Command::Alm(AlmFiles { source, object }))
+}
+
+// `alm NAME`
+fn alm(given: Given) -> Option<Command>
+    ensures { result ≡ alm given }
+{
+    if has_no_option(&given) {
+        alm_of(given.operand?)
     } else {
         None
     }
@@ -213,6 +248,12 @@ fn command_in(word: &[u8], given: Given) -> Option<Command>
     }
     if word == b"audit".as_slice() {
         return audit(given);
+    }
+    if word == b"print".as_slice() {
+        return print(given);
+    }
+    if word == b"alm".as_slice() {
+        return alm(given);
     }
     None
 }

@@ -1,4 +1,5 @@
 use Rattle.alm_asm.proofs.TooLong.{only_too_long}
+use Rattle.alm_asm.proofs.ReadNames.{names_read}
 use Rattle.alm_asm.proofs.PlaceLaws.{places_count, words_follow}
 use Rattle.alm_asm.proofs.SymbolsStand.{symbols_stay}
 use Rattle.alm_asm.proofs.laws.assembly_laws.Goals as goal
@@ -13,4 +14,4 @@ pub returns-clause-symbols : goal.returns-clause-symbols
 returns-clause-symbols c = symbols_stay
 
 pub returns-clause-length : goal.returns-clause-length
-returns-clause-length c = only_too_long
+returns-clause-length c text source read = only_too_long source (names_read text source read)

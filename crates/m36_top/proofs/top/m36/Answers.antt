@@ -9,4 +9,4 @@ returns-clause-output g c =
 
 pub returns-clause-complete : goal.returns-clause-complete
 returns-clause-complete g c =
-    all_answered (command_of c.args.words.now) c.answer.result (g.F.Folder.files c.args.folder.now) (g.S.Sink.written c.args.out.now) (g.S.Sink.written c.answer.new.out) _ _ _ _ c.answer.ensures.says c.answer.ensures.read_cause c.answer.ensures.write_cause
+    all_answered (command_of c.args.words.now) c.answer.result (g.F.Folder.files c.args.folder.now) (g.S.Sink.written c.args.out.now) (g.S.Sink.written c.answer.new.out) _ _ _ _ _ _ c.answer.ensures.says c.answer.ensures.read_cause c.answer.ensures.write_cause

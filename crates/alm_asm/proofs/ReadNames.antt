@@ -1,0 +1,376 @@
+-- The names in lines that have been read are names of an object.
+use Rattle.std.proofs.Common.{◌≡◌, ℕ, ◌+◌, ◌≤◌, Bool, true, false, cond, ◌&&◌, ◌||◌, leb, List, [], ◌∷◌, ◌++◌, length, take, map, Option, Some, None, is_some, Result, Ok, Err, refl, sym, ap, ◌∙◌, subst, true≢false}
+use Rattle.std.specs.Prelude.{codes, ◌==◌, nat_le, nat_eq, slice_index, unwrap_or}
+use Rattle.std.specs.List.{list_all}
+use Rattle.std.proofs.lemmas.Bool.{and_parts, and_from, leb-true}
+use Rattle.std.proofs.lemmas.List.{take_all}
+use Rattle.alm_parse.specs.SourceFields.{Source}
+use Rattle.alm_parse.specs.declared.span.Span.{Span}
+use Rattle.alm_parse.specs.declared.pieces.Piece.{Piece}
+use Rattle.alm_parse.specs.declared.expression.Term.{Term}
+use Rattle.alm_parse.specs.declared.args.Arg.{Arg}
+use Rattle.alm_parse.specs.declared.args.Arg.TheVariants as arg
+use Rattle.alm_parse.specs.declared.line.Line36.{Line36}
+use Rattle.alm_parse.specs.declared.rows.Row.{Row}
+use Rattle.alm_parse.specs.declared.head.Head.{Head}
+use Rattle.alm_parse.specs.declared.body.Body.{Body}
+use Rattle.alm_parse.specs.declared.body.Body.TheVariants as body
+use Rattle.alm_parse.specs.declared.numerals.Numeral.{Numeral}
+use Rattle.alm_parse.specs.declared.numerals.Numeral.TheVariants as numeral
+use Rattle.alm_parse.specs.declared.operation.Operation.{Operation}
+use Rattle.alm_parse.specs.declared.operation.Operation.TheVariants as operation
+use Rattle.alm_parse.specs.declared.refusal.Refusal.{Refusal}
+use Rattle.alm_parse.specs.declared.refusal.Code.TheVariants.{E1}
+use Rattle.alm_parse.specs.declared.fault.AlmFault.{AlmFault}
+use Rattle.alm_parse.specs.Bytes.{is_letter, is_digit, goes_on, begins_symbol, is_character}
+use Rattle.alm_parse.specs.Tokens.{slice_of, is_text, is_symbol}
+use Rattle.alm_parse.specs.Refusals.{refused, unless}
+use Rattle.alm_parse.specs.Expressions.{is_term_at, expression_pieces, place_over, term_of}
+use Rattle.alm_parse.specs.Bodies.{span_at, place_of, body_of, is_segment, is_entry, is_tail, is_body, body_pieces}
+use Rattle.alm_parse.specs.Operands.{body_span, tag_given, entry_given, operand_of, is_operand, operand_given}
+use Rattle.alm_parse.specs.Members.{members, is_symbol_at, symbol_arg, symbols_given, is_written_at, place_out, number_arg, numbers_given}
+use Rattle.alm_parse.specs.Pairs.{value_of_members, value_given, first_place, halves_of_members, halves_given, block_of_members, block_given, is_section, section_given}
+use Rattle.alm_parse.specs.Characters.{place_bad, packed, is_ended, characters_by, characters_ended, characters_closed, characters_from, characters_given}
+use Rattle.alm_parse.specs.Heads.{head_of}
+use Rattle.alm_parse.specs.Operations.{operation_of}
+use Rattle.alm_parse.specs.Lines.{missing, args_with, operand_for, args_by, args_of, label_refusal, line_of, line_with, line_by, line_from, line_unless, line_given}
+use Rattle.alm_parse.specs.Rows.{rows_of}
+use Rattle.alm_parse.specs.Sources.{fault_of, names_end, continued, read_lines, with_text, parsed}
+use Rattle.obj36.specs.declared.section.Section.TheVariants.{Text, Linkage, Static}
+use Rattle.obj36.specs.Names.{is_name_character, is_name}
+use Rattle.obj36.proofs.SizeLaws.{same_is}
+use Rattle.alm_asm.specs.Deeds.{name_at}
+use Rattle.alm_asm.specs.Links.{own_section}
+use Rattle.alm_asm.specs.Laws.{segment_is_named, entry_is_named, arg_is_named, args_are_named, lines_are_named}
+
+-- ---- symbols are names
+
+swapped : (a u d p : Bool) → (((a || u) || d) || p) ≡ true → (((a || d) || u) || p) ≡ true
+swapped true u d p e = refl
+swapped false true true p e = refl
+swapped false true false p e = refl
+swapped false false true p e = refl
+swapped false false false p e = e
+
+character : (b : ℕ) → goes_on b ≡ true → is_name_character b ≡ true
+character b e = swapped (is_letter b) (b == 95) (is_digit b) (b == 46) e
+
+characters : (bytes : List ℕ) → list_all goes_on bytes ≡ true → list_all is_name_character bytes ≡ true
+characters [] e = refl
+characters (b ∷ bytes) e =
+    let parts = and_parts (goes_on b) (list_all goes_on bytes) e in
+    and_from (is_name_character b) (list_all is_name_character bytes) (character b parts.0) (characters bytes parts.1)
+
+symbol_is_name : (bytes : List ℕ) → is_symbol bytes ≡ true → is_name bytes ≡ true
+unfolding is_symbol is_name
+symbol_is_name bytes e =
+    let all = and_parts ((leb 1 (length bytes) && leb (length bytes) 32) && begins_symbol (slice_index bytes 0)) (list_all goes_on bytes) e in
+    let few = and_parts (leb 1 (length bytes) && leb (length bytes) 32) (begins_symbol (slice_index bytes 0)) all.0 in
+    and_from (leb 1 (length bytes) && leb (length bytes) 32) (list_all is_name_character bytes) few.0 (characters bytes all.1)
+
+symbol_length : (bytes : List ℕ) → is_symbol bytes ≡ true → length bytes ≤ 32
+unfolding is_symbol
+symbol_length bytes e =
+    let all = and_parts ((leb 1 (length bytes) && leb (length bytes) 32) && begins_symbol (slice_index bytes 0)) (list_all goes_on bytes) e in
+    let few = and_parts (leb 1 (length bytes) && leb (length bytes) 32) (begins_symbol (slice_index bytes 0)) all.0 in
+    leb-true (length bytes) 32 (and_parts (leb 1 (length bytes)) (leb (length bytes) 32) few.0).1
+
+symbol_named : (text : List ℕ) (span : Span) → is_symbol (slice_of text span) ≡ true → is_name (name_at text span) ≡ true
+symbol_named text span e =
+    ap is_name (take_all 32 (slice_of text span) (symbol_length (slice_of text span) e)) ∙ symbol_is_name (slice_of text span) e
+
+-- ---- what is not refused
+
+unless_ok : (refusal : Option Refusal) (value arguments : List Arg) → unless refusal value ≡ Ok arguments → (refusal ≡ None) × (value ≡ arguments)
+unless_ok None value arguments e = (refl, cc)
+unless_ok (Some refusal) value arguments e = absurd cc
+
+of_form : (text : List ℕ) (operand : ℕ) (form : Bool) (over : Option ℕ) → refused text operand form over ≡ None → form ≡ true
+of_form text operand true over e = refl
+of_form text operand false over e = absurd (true≢false (ap is_some e))
+
+carried : (text : List ℕ) (value arguments : List Arg) → value ≡ arguments → args_are_named text value ≡ true → args_are_named text arguments ≡ true
+carried text value arguments e named = sym (ap (args_are_named text) e) ∙ named
+
+-- ---- the arguments of each operation
+
+no_args : (text : List ℕ) → args_are_named text [] ≡ true
+unfolding args_are_named
+no_args text = refl
+
+one_arg : (text : List ℕ) (a : Arg) → arg_is_named text a ≡ true → args_are_named text (a ∷ []) ≡ true
+unfolding args_are_named
+one_arg text a e = and_from (arg_is_named text a) true e refl
+
+two_args : (text : List ℕ) (a b : Arg) → arg_is_named text a ≡ true → arg_is_named text b ≡ true → args_are_named text (a ∷ b ∷ []) ≡ true
+unfolding args_are_named
+two_args text a b e f = and_from (arg_is_named text a) (arg_is_named text b && true) e (and_from (arg_is_named text b) true f refl)
+
+symbols_named : (text : List ℕ) (pieces : List Piece) → list_all (is_symbol_at text) pieces ≡ true → args_are_named text (map symbol_arg pieces) ≡ true
+unfolding args_are_named
+symbols_named text [] e = refl
+symbols_named text (piece ∷ pieces) e =
+    let parts = and_parts (is_symbol_at text piece) (list_all (is_symbol_at text) pieces) e in
+    and_from (is_name (name_at text piece.span)) (args_are_named text (map symbol_arg pieces)) (symbol_named text piece.span parts.0) (symbols_named text pieces parts.1)
+
+names : (text : List ℕ) (operand : Span) (arguments : List Arg) → symbols_given text operand ≡ Ok arguments → args_are_named text arguments ≡ true
+unfolding symbols_given
+names text operand arguments e =
+    let ok = unless_ok (refused text operand.from (list_all (is_symbol_at text) (members text operand)) None) (map symbol_arg (members text operand)) arguments e in
+    carried text (map symbol_arg (members text operand)) arguments ok.1
+    (symbols_named text (members text operand) (of_form text operand.from (list_all (is_symbol_at text) (members text operand)) None ok.0))
+
+numbers_named : (n : Numeral) (text : List ℕ) (pieces : List Piece) → args_are_named text (map (number_arg n text) pieces) ≡ true
+unfolding args_are_named
+numbers_named n text [] = refl
+numbers_named n text (piece ∷ pieces) = numbers_named n text pieces
+
+numbers : (n : Numeral) (text : List ℕ) (operand : Span) (arguments : List Arg) → numbers_given n text operand ≡ Ok arguments → args_are_named text arguments ≡ true
+unfolding numbers_given
+numbers n text operand arguments e =
+    let ok = unless_ok (refused text operand.from (list_all (is_written_at n text) (members text operand)) (place_out n text (members text operand))) (map (number_arg n text) (members text operand)) arguments e in
+    carried text (map (number_arg n text) (members text operand)) arguments ok.1 (numbers_named n text (members text operand))
+
+value_by : (text : List ℕ) (at : ℕ) (pieces : List Piece) (arguments : List Arg) → value_of_members text at pieces ≡ Ok arguments → args_are_named text arguments ≡ true
+value_by text at [] arguments e = absurd cc
+value_by text at (name ∷ []) arguments e = absurd cc
+value_by text at (name ∷ value ∷ []) arguments e =
+    let pieces = expression_pieces text value in
+    let form = is_symbol_at text name && list_all (is_term_at text) pieces in
+    let given = arg.Symbol name.span ∷ arg.Plain (map (term_of text) pieces) ∷ [] in
+    let ok = unless_ok (refused text at (is_symbol_at text name && list_all (is_term_at text) (expression_pieces text value)) (place_over text (expression_pieces text value))) (arg.Symbol name.span ∷ arg.Plain (map (term_of text) (expression_pieces text value)) ∷ []) arguments e in
+    let symbol = (and_parts (is_symbol_at text name) (list_all (is_term_at text) (expression_pieces text value)) (of_form text at (is_symbol_at text name && list_all (is_term_at text) (expression_pieces text value)) (place_over text (expression_pieces text value)) ok.0)).0 in
+    carried text (arg.Symbol name.span ∷ arg.Plain (map (term_of text) (expression_pieces text value)) ∷ []) arguments ok.1
+    (two_args text (arg.Symbol name.span) (arg.Plain (map (term_of text) (expression_pieces text value))) (symbol_named text name.span symbol) refl)
+value_by text at (name ∷ value ∷ other ∷ more) arguments e = absurd cc
+
+value : (text : List ℕ) (operand : Span) (arguments : List Arg) → value_given text operand ≡ Ok arguments → args_are_named text arguments ≡ true
+unfolding value_given
+value text operand arguments e = value_by text operand.from (members text operand) arguments e
+
+halves_by : (text : List ℕ) (at : ℕ) (pieces : List Piece) (arguments : List Arg) → halves_of_members text at pieces ≡ Ok arguments → args_are_named text arguments ≡ true
+halves_by text at [] arguments e = absurd cc
+halves_by text at (left ∷ []) arguments e = absurd cc
+halves_by text at (left ∷ right ∷ []) arguments e =
+    let a = expression_pieces text left in
+    let b = expression_pieces text right in
+    let ok = unless_ok (refused text at (list_all (is_term_at text) (expression_pieces text left) && list_all (is_term_at text) (expression_pieces text right)) (first_place (place_over text (expression_pieces text left)) (place_over text (expression_pieces text right))))
+    (arg.Plain (map (term_of text) (expression_pieces text left)) ∷ arg.Plain (map (term_of text) (expression_pieces text right)) ∷ []) arguments e in
+    carried text (arg.Plain (map (term_of text) (expression_pieces text left)) ∷ arg.Plain (map (term_of text) (expression_pieces text right)) ∷ []) arguments ok.1
+    (two_args text (arg.Plain (map (term_of text) (expression_pieces text left))) (arg.Plain (map (term_of text) (expression_pieces text right))) refl refl)
+halves_by text at (left ∷ right ∷ other ∷ more) arguments e = absurd cc
+
+halves : (text : List ℕ) (operand : Span) (arguments : List Arg) → halves_given text operand ≡ Ok arguments → args_are_named text arguments ≡ true
+unfolding halves_given
+halves text operand arguments e = halves_by text operand.from (members text operand) arguments e
+
+block_by : (text : List ℕ) (at : ℕ) (pieces : List Piece) (arguments : List Arg) → block_of_members text at pieces ≡ Ok arguments → args_are_named text arguments ≡ true
+block_by text at [] arguments e = absurd cc
+block_by text at (name ∷ []) arguments e = absurd cc
+block_by text at (name ∷ count ∷ []) arguments e =
+    let ok = unless_ok (refused text at (is_symbol_at text name && is_written_at numeral.Small text count) (place_out numeral.Small text (count ∷ []))) (arg.Symbol name.span ∷ number_arg numeral.Small text count ∷ []) arguments e in
+    let symbol = (and_parts (is_symbol_at text name) (is_written_at numeral.Small text count) (of_form text at (is_symbol_at text name && is_written_at numeral.Small text count) (place_out numeral.Small text (count ∷ [])) ok.0)).0 in
+    carried text (arg.Symbol name.span ∷ number_arg numeral.Small text count ∷ []) arguments ok.1
+    (two_args text (arg.Symbol name.span) (number_arg numeral.Small text count) (symbol_named text name.span symbol) refl)
+block_by text at (name ∷ count ∷ other ∷ more) arguments e = absurd cc
+
+block : (text : List ℕ) (operand : Span) (arguments : List Arg) → block_given text operand ≡ Ok arguments → args_are_named text arguments ≡ true
+unfolding block_given
+block text operand arguments e = block_by text operand.from (members text operand) arguments e
+
+-- the names of sections
+word_named : (word bytes : List ℕ) → is_text word bytes ≡ true → is_name (take 32 word) ≡ true → is_name (take 32 bytes) ≡ true
+word_named word bytes e named = ap (λ (b : List ℕ). is_name (take 32 b)) (same_is bytes word e) ∙ named
+
+text_named : is_name (take 32 (codes "text")) ≡ true
+unfolding is_name
+text_named = refl
+
+link_named : is_name (take 32 (codes "link")) ≡ true
+unfolding is_name
+link_named = refl
+
+static_named : is_name (take 32 (codes "static")) ≡ true
+unfolding is_name
+static_named = refl
+
+section_by : (bytes : List ℕ) (a b c : Bool) → is_text (codes "text") bytes ≡ a → is_text (codes "link") bytes ≡ b → is_text (codes "static") bytes ≡ c → ((a || b) || c) ≡ true → is_name (take 32 bytes) ≡ true
+section_by bytes true b c ea eb ec e = word_named (codes "text") bytes ea text_named
+section_by bytes false true c ea eb ec e = word_named (codes "link") bytes eb link_named
+section_by bytes false false true ea eb ec e = word_named (codes "static") bytes ec static_named
+section_by bytes false false false ea eb ec e = absurd (true≢false (sym e))
+
+section : (text : List ℕ) (operand : Span) (arguments : List Arg) → section_given text operand ≡ Ok arguments → args_are_named text arguments ≡ true
+unfolding section_given
+section text operand arguments e =
+    let bytes = slice_of text operand in
+    let ok = unless_ok (refused text operand.from (is_section (slice_of text operand)) None) (arg.Symbol operand ∷ []) arguments e in
+    carried text (arg.Symbol operand ∷ []) arguments ok.1
+    (one_arg text (arg.Symbol operand) (section_by (slice_of text operand) (is_text (codes "text") (slice_of text operand)) (is_text (codes "link") (slice_of text operand)) (is_text (codes "static") (slice_of text operand)) refl refl refl
+    (of_form text operand.from (is_section (slice_of text operand)) None ok.0)))
+
+-- characters
+characters_last : (text : List ℕ) (span : Span) (bad : Option ℕ) (arguments : List Arg) → characters_by text span bad ≡ Ok arguments → args_are_named text arguments ≡ true
+characters_last text span (Some place) arguments e = absurd cc
+characters_last text span None arguments e = carried text (arg.Chars (packed (slice_of text span)) ∷ []) arguments (cc) (one_arg text (arg.Chars (packed (slice_of text span))) refl)
+
+characters_end : (text : List ℕ) (rest span : Span) (ended : Bool) (arguments : List Arg) → characters_ended text rest span ended ≡ Ok arguments → args_are_named text arguments ≡ true
+characters_end text rest span true arguments e = characters_last text span (place_bad text span) arguments e
+characters_end text rest span false arguments e = absurd cc
+
+characters_close : (text : List ℕ) (rest : Span) (close : Option ℕ) (arguments : List Arg) → characters_closed text rest close ≡ Ok arguments → args_are_named text arguments ≡ true
+characters_close text rest (Some close) arguments e =
+    characters_end text rest (span_at (rest.from + 1) close) (is_ended (slice_of text (span_at (close + 1) rest.to))) arguments e
+characters_close text rest None arguments e = absurd cc
+
+characters_begin : (text : List ℕ) (rest : Span) (refusal : Refusal) (b : Bool) (close : Option ℕ) (arguments : List Arg) → cond b (characters_closed text rest close) (Err refusal) ≡ Ok arguments → args_are_named text arguments ≡ true
+characters_begin text rest refusal true close arguments e = characters_close text rest close arguments e
+characters_begin text rest refusal false close arguments e = absurd cc
+
+placed : (text : List ℕ) (operand : Span) (arguments : List Arg) → characters_given text operand ≡ Ok arguments → args_are_named text arguments ≡ true
+unfolding characters_given
+placed text operand arguments e =
+    let delimiter = slice_index text operand.from in
+    characters_begin text operand (record { place = operand.from; code = E1 }) (is_character (slice_index text operand.from)) (place_of text (span_at (operand.from + 1) operand.to) (slice_index text operand.from)) arguments e
+
+-- ---- operands
+
+segment_by : (y t l s n : Bool) → (((y || t) || l) || s) ≡ true → (y ≡ true → n ≡ true)
+    → (is_some (cond t (Some Text) (cond l (Some Linkage) (cond s (Some Static) None))) || n) ≡ true
+segment_by y true l s n e h = refl
+segment_by y false true s n e h = refl
+segment_by y false false true n e h = refl
+segment_by true false false false n e h = h refl
+segment_by false false false false n e h = absurd (true≢false (sym e))
+
+segment_named : (text : List ℕ) (span : Span) → is_segment (slice_of text span) ≡ true → segment_is_named text (Some span) ≡ true
+unfolding own_section
+segment_named text span e =
+    let bytes = slice_of text span in
+    segment_by (is_symbol (slice_of text span)) (is_text (codes "*text") (slice_of text span)) (is_text (codes "*link") (slice_of text span)) (is_text (codes "*static") (slice_of text span)) (is_name (name_at text span)) e (symbol_named text span)
+
+entry_by : (text : List ℕ) (span : Span) (b y : Bool) → (b || y) ≡ true → (y ≡ true → is_name (name_at text span) ≡ true) → entry_is_named text (cond b None (Some span)) ≡ true
+entry_by text span true y e h = refl
+entry_by text span false y e h = h e
+
+body_named : (text : List ℕ) (b : Body) (terms : List Term) (tag : ℕ) → is_body text b ≡ true → arg_is_named text (operand_of text b terms tag) ≡ true
+body_named text (body.Through pr offset) terms tag e = refl
+body_named text (body.External segment entry tail) terms tag e =
+    let parts = and_parts (is_segment (slice_of text segment) && is_entry (slice_of text entry)) (is_tail (slice_of text tail)) e in
+    let two = and_parts (is_segment (slice_of text segment)) (is_entry (slice_of text entry)) parts.0 in
+    and_from (segment_is_named text (Some segment)) (entry_is_named text (entry_given text entry)) (segment_named text segment two.0)
+    (entry_by text entry (length (slice_of text entry) == 0) (is_symbol (slice_of text entry)) two.1 (symbol_named text entry))
+body_named text (body.Plain whole) terms tag e = refl
+
+operand_by_body : (text : List ℕ) (at : ℕ) (b : Body) (pieces : List Piece) (tag : Option ℕ) (arguments : List Arg)
+    → unless (refused text at (is_operand text b pieces tag) (place_over text pieces)) (operand_of text b (map (term_of text) pieces) (unwrap_or tag 0) ∷ []) ≡ Ok arguments → args_are_named text arguments ≡ true
+operand_by_body text at b pieces tag arguments e =
+    let ok = unless_ok (refused text at (is_operand text b pieces tag) (place_over text pieces)) (operand_of text b (map (term_of text) pieces) (unwrap_or tag 0) ∷ []) arguments e in
+    let form = and_parts (is_body text b && list_all (is_term_at text) pieces) (is_some tag) (of_form text at (is_operand text b pieces tag) (place_over text pieces) ok.0) in
+    let is = (and_parts (is_body text b) (list_all (is_term_at text) pieces) form.0).0 in
+    carried text (operand_of text b (map (term_of text) pieces) (unwrap_or tag 0) ∷ []) arguments ok.1
+    (one_arg text (operand_of text b (map (term_of text) pieces) (unwrap_or tag 0)) (body_named text b (map (term_of text) pieces) (unwrap_or tag 0) is))
+
+operand : (text : List ℕ) (span : Span) (arguments : List Arg) → operand_given text span ≡ Ok arguments → args_are_named text arguments ≡ true
+unfolding operand_given
+operand text span arguments e =
+    let comma = place_of text span 44 in
+    let b = body_of text (body_span span (place_of text span 44)) in
+    operand_by_body text span.from (body_of text (body_span span (place_of text span 44))) (body_pieces text (body_of text (body_span span (place_of text span 44)))) (tag_given text span (place_of text span 44)) arguments e
+
+-- ---- lines
+
+with_named : (o : Operation) (text : List ℕ) (span : Span) (arguments : List Arg) → args_with o text span ≡ Ok arguments → args_are_named text arguments ≡ true
+with_named operation.Instruction text span arguments e = operand text span arguments e
+with_named operation.Names text span arguments e = names text span arguments e
+with_named operation.Value text span arguments e = value text span arguments e
+with_named operation.Section text span arguments e = section text span arguments e
+with_named operation.Decimal text span arguments e = numbers numeral.Decimal text span arguments e
+with_named operation.Octal text span arguments e = numbers numeral.Octal text span arguments e
+with_named operation.Characters text span arguments e = placed text span arguments e
+with_named operation.Halves text span arguments e = halves text span arguments e
+with_named operation.Block text span arguments e = block text span arguments e
+with_named operation.Bare text span arguments e = absurd cc
+with_named operation.End text span arguments e = carried text [] arguments (cc) (no_args text)
+
+by_named : (o : Operation) (text : List ℕ) (op : ℕ) (given : Option Span) (arguments : List Arg) → args_by o text op given ≡ Ok arguments → args_are_named text arguments ≡ true
+by_named o text op (Some span) arguments e = with_named o text span arguments e
+by_named o text op None arguments e = carried text [] arguments (unless_ok (missing o op) [] arguments e).1 (no_args text)
+
+line_with_named : (text : List ℕ) (row : Row) (head : Head) (given : Result (List Arg) Refusal) (line : Line36) → ((arguments : List Arg) → given ≡ Ok arguments → args_are_named text arguments ≡ true)
+    → line_with row head given ≡ Ok line → args_are_named text line.args ≡ true
+line_with_named text row head (Ok arguments) line named e =
+    let same : line_of row head arguments ≡ line = cc in
+    sym (ap (λ (l : Line36). args_are_named text l.args) same) ∙ named arguments refl
+line_with_named text row head (Err refusal) line named e = absurd cc
+
+line_by_named : (text : List ℕ) (row : Row) (head : Head) (op : Span) (o : Option Operation) (line : Line36) → line_by text row head op o ≡ Ok line → args_are_named text line.args ≡ true
+unfolding args_of
+line_by_named text row head op (Some o) line e =
+    line_with_named text row head (args_of o text op.from (span_at op.to row.span.to)) line (λ arguments f. by_named o text op.from (operand_for o text (span_at op.to row.span.to)) arguments f) e
+line_by_named text row head op None line e = absurd cc
+
+line_from_named : (text : List ℕ) (row : Row) (head : Head) (op : Option Span) (line : Line36) → line_from text row head op ≡ Ok line → args_are_named text line.args ≡ true
+line_from_named text row head (Some op) line e = line_by_named text row head op (operation_of (slice_of text op)) line e
+line_from_named text row head None line e =
+    let same : line_of row head [] ≡ line = cc in
+    sym (ap (λ (l : Line36). args_are_named text l.args) same) ∙ no_args text
+
+line_unless_named : (text : List ℕ) (row : Row) (head : Head) (refusal : Option Refusal) (line : Line36) → line_unless refusal text row head ≡ Ok line → args_are_named text line.args ≡ true
+line_unless_named text row head (Some refusal) line e = absurd cc
+line_unless_named text row head None line e = line_from_named text row head head.op line e
+
+line_named : (text : List ℕ) (row : Row) (line : Line36) → line_given text row ≡ Ok line → args_are_named text line.args ≡ true
+unfolding line_given
+line_named text row line e =
+    line_unless_named text row (head_of text row.span) (label_refusal text (head_of text row.span).labels) line e
+
+-- ---- the source
+
+one_more : (text : List ℕ) (before : List Line36) (line : Line36) → lines_are_named text before ≡ true → args_are_named text line.args ≡ true → lines_are_named text (before ++ line ∷ []) ≡ true
+unfolding lines_are_named
+one_more text [] line all own = and_from (args_are_named text line.args) true own refl
+one_more text (other ∷ before) line all own =
+    let parts = and_parts (args_are_named text other.args) (lines_are_named text before) all in
+    and_from (args_are_named text other.args) (lines_are_named text (before ++ line ∷ [])) parts.0 (one_more text before line parts.1 own)
+
+last_by : (text : List ℕ) (more lines : List Line36) (rest : Result (List Line36) AlmFault) (b : Bool) → lines_are_named text more ≡ true → (rest ≡ Ok lines → lines_are_named text lines ≡ true)
+    → cond b (Ok more) rest ≡ Ok lines → lines_are_named text lines ≡ true
+last_by text more lines rest true all next e =
+    let same : more ≡ lines = cc in
+    sym (ap (λ (l : List Line36). lines_are_named text l) same) ∙ all
+last_by text more lines rest false all next e = next e
+
+continued_named : (text : List ℕ) (row : Row) (before : List Line36) (further : List Line36 → Result (List Line36) AlmFault) (given : Result Line36 Refusal) (lines : List Line36)
+    → lines_are_named text before ≡ true → ((line : Line36) → given ≡ Ok line → args_are_named text line.args ≡ true)
+    → ((more : List Line36) → lines_are_named text more ≡ true → further more ≡ Ok lines → lines_are_named text lines ≡ true)
+    → continued text row before further given ≡ Ok lines → lines_are_named text lines ≡ true
+continued_named text row before further (Ok line) lines all own next e =
+    let more = one_more text before line all (own line refl) in
+    last_by text (before ++ line ∷ []) lines (further (before ++ line ∷ [])) (names_end text line.op) more (next (before ++ line ∷ []) more) e
+continued_named text row before further (Err refusal) lines all own next e = absurd cc
+
+read_named : (text : List ℕ) (before : List Line36) (rows : List Row) (lines : List Line36) → lines_are_named text before ≡ true → read_lines text before rows ≡ Ok lines → lines_are_named text lines ≡ true
+unfolding read_lines
+read_named text before [] lines all e =
+    let same : before ≡ lines = cc in
+    sym (ap (λ (l : List Line36). lines_are_named text l) same) ∙ all
+read_named text before (row ∷ rows) lines all e =
+    continued_named text row before (λ more. read_lines text more rows) (line_given text row) lines all (line_named text row) (λ more named f. read_named text more rows lines named f) e
+
+with_text_named : (text : List ℕ) (given : Result (List Line36) AlmFault) (source : Source) → ((lines : List Line36) → given ≡ Ok lines → lines_are_named text lines ≡ true)
+    → with_text text given ≡ Ok source → lines_are_named source.text source.lines ≡ true
+with_text_named text (Ok lines) source named e =
+    let S : Source = record { text = text; lines = lines } in
+    let same : S ≡ source = cc in
+    sym (ap (λ (s : Source). lines_are_named s.text s.lines) same) ∙ named lines refl
+with_text_named text (Err fault) source named e = absurd cc
+
+no_lines : (text : List ℕ) → lines_are_named text [] ≡ true
+unfolding lines_are_named
+no_lines text = refl
+
+pub names_read : (text : List ℕ) (source : Source) → parsed text ≡ Ok source → lines_are_named source.text source.lines ≡ true
+unfolding parsed
+names_read text source e =
+    with_text_named text (read_lines text [] (rows_of text)) source (λ lines f. read_named text [] (rows_of text) lines (no_lines text) f) e

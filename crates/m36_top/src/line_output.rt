@@ -1,0 +1,37 @@
+//! A text, put line by line.
+
+ghost use Rattle.std.specs.Prelude.{ℕ, ◌≤◌, ◌<◌, length};
+ghost use Rattle.m36_outside.specs.Put.{PutSays, PutHasCause};
+
+use crate::scan::place_of;
+use m36_outside::{Put, Sink};
+
+// How many bytes the first line of a text has, with its line feed; all bytes where there is no line feed.
+fn line_length(text: &[u8]) -> usize
+    requires { 0 < length text.now }
+    ensures some { 1 ≤ result }
+    ensures within { result ≤ length text.now }
+{
+    match place_of(text, b'\n') {
+        Some(place) => place + 1,
+        None => text.len(),
+    }
+}
+
+/// Puts a text, each line with its line feed in one piece.
+#[tactic(auto, using(crate::proofs::TextLines::lines_put))]
+pub fn put_lines<S: Sink>(text: &[u8], out: &mut S) -> Put
+    ensures says { PutSays result (S.written out.old) (S.written out.new) text.now }
+    ensures cause { PutHasCause result (S.faults out.old) (S.faults out.new) }
+{
+    let mut rest = text;
+    'lines: while !rest.is_empty() {
+        let end = line_length(rest);
+        match out.put(&rest[..end]) {
+            Put::Done => {}
+            Put::Failed => return Put::Failed,
+        }
+        rest = &rest[end..];
+    }
+    Put::Done
+}
