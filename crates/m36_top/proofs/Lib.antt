@@ -10,6 +10,7 @@ pub mod SetLaws
 pub mod TextLines
 pub mod FileAnswers
 pub mod DueLaw
+pub mod ListingBegins
 pub mod YesIsolates
 pub mod Calls
 pub mod CoreWords

@@ -17,7 +17,11 @@ use Rattle.obj36.specs.PartsFields.{PartsFields}
 use Rattle.obj36.specs.Faults.{first_fault}
 use Rattle.obj36.specs.declared.fault.ObjectFault.{ObjectFault}
 use Rattle.obj36.specs.declared.fault.ObjectFault.TheVariants as fault
-use Rattle.m36_list.specs.Print.{line, print_of}
+use Rattle.alm_parse.specs.declared.fault.AlmFault.{AlmFault}
+use Rattle.alm_parse.specs.declared.fault.AlmFault.TheVariants as alm_fault
+use Rattle.m36_top.specs.Assemblies.{Assembly, assembly_of}
+use Rattle.m36_top.specs.declared.command.AlmFiles.{AlmFiles}
+use Rattle.m36_top.proofs.ListingBegins.{print_begins, listing_begins}
 use Rattle.m36_top.specs.declared.command.Command.{Command}
 use Rattle.m36_top.specs.declared.command.Command.TheVariants.{OfImage, Print, Alm}
 use Rattle.m36_top.specs.declared.command.ImageCommand.{ImageCommand}
@@ -28,7 +32,7 @@ use Rattle.m36_top.specs.declared.status.Status.TheVariants.{Done, Usage, ReadFa
 use Rattle.m36_top.specs.ImageState.{state_given}
 use Rattle.m36_top.specs.Output.{run_text}
 use Rattle.m36_top.specs.AuditText.{yes_line, finding_line, finding_lines, audit_text}
-use Rattle.m36_top.specs.Answers.{Answer, unwritten, image_file, file_of, run_answer, audit_answer, bare_by, state_answer, IsIsolated, IsStateDue, IsImageDue, object_refused, IsSizedDue, IsUnpackedDue, IsReadDue}
+use Rattle.m36_top.specs.Answers.{Answer, unwritten, source_refused, alm_answer, image_file, file_of, run_answer, audit_answer, bare_by, state_answer, IsIsolated, IsStateDue, IsImageDue, object_refused, IsSizedDue, IsUnpackedDue, IsReadDue}
 use Rattle.m36_top.specs.TopCall.{Meets, Says, TopSays, SaysYes, IsIsolatedImage, YesIsolates}
 
 -- a text begins with the line `audit yes`
@@ -145,13 +149,7 @@ read_isolates command read.TooLarge file due told is begins = absurd (nothing_be
 read_isolates command read.Failed file due told is begins = absurd (nothing_begins _ due is begins)
 read_isolates command read.NoMemory file due told is begins = absurd (nothing_begins _ due is begins)
 
--- a print begins otherwise
-print_begins : (name : List ℕ) (parts : PartsFields) (rest : List ℕ) → print_of name parts ≡ yes_line ++ rest → ⊥
-unfolding print_of line
-print_begins name parts rest e =
-    let n : 111 ≡ 97 = ap (λ (t : List ℕ). get_or t 0 0) e in
-    absurd (omega (arith, n))
-
+-- a print, and what stands in its place, begins otherwise
 object_other : (name words : List ℕ) (fault : ObjectFault) (due : Answer) → due ≡ object_refused name fault → Begins due.text → ⊥
 object_other name words (fault.O1 at) due is begins = nothing_begins _ due is begins
 object_other name words (fault.O2 at) due is begins = nothing_begins _ due is begins
@@ -181,6 +179,29 @@ print_other name read.TooLarge due is begins = nothing_begins _ due is begins
 print_other name read.Failed due is begins = nothing_begins _ due is begins
 print_other name read.NoMemory due is begins = nothing_begins _ due is begins
 
+alm_refused : (name : List ℕ) (refused : AlmFault) (due : Answer) → due ≡ source_refused name refused → Begins due.text → ⊥
+alm_refused name (alm_fault.E1 line column) due is begins = nothing_begins _ due is begins
+alm_refused name (alm_fault.E2 line column) due is begins = nothing_begins _ due is begins
+alm_refused name (alm_fault.E3 line column) due is begins = nothing_begins _ due is begins
+alm_refused name (alm_fault.E4 line column) due is begins = nothing_begins _ due is begins
+alm_refused name (alm_fault.E5 line column) due is begins = nothing_begins _ due is begins
+alm_refused name (alm_fault.E6 line column) due is begins = nothing_begins _ due is begins
+alm_refused name (alm_fault.E7 line column) due is begins = nothing_begins _ due is begins
+alm_refused name (alm_fault.E8 line column) due is begins = nothing_begins _ due is begins
+alm_refused name alm_fault.NoMemory due is begins = nothing_begins _ due is begins
+
+assembled_other : (files : AlmFiles) (given : Result Assembly AlmFault) (due : Answer) → due ≡ alm_answer files given → Begins due.text → ⊥
+assembled_other files (Ok a) due is begins =
+    listing_begins files.object a.source a.parts begins.0 (sym (ap (λ d. d.text) is) ∙ begins.1)
+assembled_other files (Err refused) due is begins = alm_refused files.source refused due is begins
+
+alm_other : (files : AlmFiles) (given : ReadAnswer) (due : Answer) → IsReadDue (Alm files) given due → Begins due.text → ⊥
+alm_other files (read.Read bytes) due is begins = assembled_other files (assembly_of bytes) due is begins
+alm_other files read.Absent due is begins = nothing_begins _ due is begins
+alm_other files read.TooLarge due is begins = nothing_begins _ due is begins
+alm_other files read.Failed due is begins = nothing_begins _ due is begins
+alm_other files read.NoMemory due is begins = nothing_begins _ due is begins
+
 yes_command :
     (command : Option Command) (result : Status) (files : Files) (old new : Option (List ℕ))
     → TopSays command result (Some files) old new → YesIsolates command files old new
@@ -191,7 +212,9 @@ yes_command (Some (OfImage command)) result files old new says = λ told_yes.
 yes_command (Some (Print name)) result files old new says = λ told_yes.
     let d = yes_says (IsReadDue (Print name) says.given) result old new says.says told_yes in
     print_other name says.given d.0 d.1 d.2
-yes_command (Some (Alm alm)) result files old new says = tt
+yes_command (Some (Alm alm)) result files old new says = λ told_yes.
+    let d = yes_says (IsReadDue (Alm alm) says.given) result old new says.says told_yes in
+    alm_other alm says.given d.0 d.1 d.2
 
 pub yes_isolates :
     (command : Option Command) (result : Status) (files : Option Files) (old new : Option (List ℕ))

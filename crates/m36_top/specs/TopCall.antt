@@ -101,13 +101,12 @@ pub record IsIsolatedImage (file : Option (List ℕ)) : Type 0 where
   pub image : state_given bytes ≡ Ok state
   pub isolated : IsIsolated state.store state.regs.dbr
 
--- Where `audit yes` is written, the image of the command's file is isolated. A print does not begin so, and
--- `alm` reads no image: what it writes is a listing, whatever its first line is.
+-- Where `audit yes` is written, the image of the command's file is isolated. A print and a listing do not begin so.
 abbrev pub YesIsolates : Option Command → Files → Option (List ℕ) → Option (List ℕ) → Type 0
 YesIsolates None files old new = ¬ SaysYes old new
 YesIsolates (Some (OfImage command)) files old new = SaysYes old new → IsIsolatedImage (files (image_file command))
 YesIsolates (Some (Print name)) files old new = ¬ SaysYes old new
-YesIsolates (Some (Alm alm)) files old new = ⊤
+YesIsolates (Some (Alm alm)) files old new = ¬ SaysYes old new
 
 -- A count of read faults rose in a call that answered ReadFault, and stands in any other.
 abbrev pub ReadCause : Status → ℕ → ℕ → Type 0
