@@ -63,9 +63,14 @@ print_other name parts e = let n : 111 ≡ 97 = e in absurd (omega (arith, n))
 listing_other : (name : List ℕ) (source : Source) (parts : PartsFields) → IsOther (listing_of name source parts)
 unfolding listing_of
 listing_other name source parts =
-    section_other Text source.text 0 parts.text start source.lines _
-    (section_other Linkage source.text 8 (inner_statics parts) start source.lines _
-    (section_other Static source.text 0 (outer_statics parts) start source.lines _ (print_other name parts)))
+    let inner = section_words (section_name Linkage) Linkage source.text 8 (inner_statics parts) start source.lines in
+    let outer = section_words (section_name Static) Static source.text 0 (outer_statics parts) start source.lines in
+    let text = section_words (section_name Text) Text source.text 0 parts.text start source.lines in
+    other_again (text ++ inner) outer (print_of name parts)
+    (other_again text inner (outer ++ print_of name parts)
+    (section_other Text source.text 0 parts.text start source.lines (inner ++ (outer ++ print_of name parts))
+    (section_other Linkage source.text 8 (inner_statics parts) start source.lines (outer ++ print_of name parts)
+    (section_other Static source.text 0 (outer_statics parts) start source.lines (print_of name parts) (print_other name parts)))))
 
 begins_other : (text rest : List ℕ) → IsOther text → text ≡ yes_line ++ rest → ⊥
 begins_other text rest other e = other (ap (λ (t : List ℕ). get_or t 0 0) e)
