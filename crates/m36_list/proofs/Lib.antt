@@ -4,6 +4,9 @@ pub mod Characters
 pub mod Spans
 pub mod Terms
 pub mod TagsBack
+pub mod NumberSums
+pub mod NamedDeeds
+pub mod WordAlone
 pub mod OperandRead
 pub mod LineRead
 pub mod LineFields

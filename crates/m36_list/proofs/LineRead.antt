@@ -12,10 +12,11 @@ use Rattle.alm_parse.specs.declared.operation.Operation.{Operation}
 use Rattle.alm_parse.specs.declared.args.Arg.{Arg}
 use Rattle.alm_parse.specs.Operations.{operation_of}
 use Rattle.alm_parse.specs.Lines.{line_given, label_refusal, args_of, args_with, operand_for}
-use Rattle.m36_list.specs.Assembled.{assembled, word_with}
+use Rattle.alm_parse.specs.Rows.{row_at}
 use Rattle.alm_parse.specs.Heads.{head_from, head_of, operand_start, end_from, operand_in}
 use Rattle.m36_list.proofs.Characters.{is_ending, is_parting}
 use Rattle.m36_list.proofs.Spans.{slice_at, position_behind}
+use Rattle.m36_list.proofs.WordAlone.{line_of}
 
 abbrev named : List Span → ℕ → ℕ → Head
 named marks from to = record { labels = marks; op = Some (span_at from to) }
@@ -74,14 +75,19 @@ operation_at_name : (source before name rest after : List ℕ) (from to : ℕ) �
     → slice_of source (span_at from to) ≡ name
 operation_at_name source before name rest after from to whole begin end = slice_at source before name ((32 ∷ rest) ++ after) from to (whole ∙ simp append_assoc) begin end
 
--- A line of an operation, one blank and an operand gives the word of the operation with what the operand says.
+-- A line of an operation, one blank and an operand is read as that operation, with what the operand says.
+pub record IsLine (number : ℕ) (before text after name : List ℕ) (arguments : List Arg) : Type 0 where
+  pub op : Span
+  pub named : slice_of (before ++ (text ++ after)) op ≡ name
+  pub given : line_given (before ++ (text ++ after)) (row_at number (length before) (length before + length text)) ≡ Ok (line_of number (length before) op arguments)
+
 pub line_read : (number : ℕ) (text before name operand after : List ℕ) (operation : Operation) (arguments : List Arg)
     → text ≡ name ++ 32 ∷ operand → list_any is_parting name ≡ false → 0 < length name → list_any is_ending operand ≡ false → 0 < length operand
     → operation_of name ≡ Some operation
     → ((source : List ℕ) (rest : Span) → operand_for operation source rest ≡ operand_in source rest)
     → args_with operation (before ++ (text ++ after)) (span_at (length before + length name + 1) (length before + length text)) ≡ Ok arguments
-    → assembled number before text after ≡ word_with name arguments
-unfolding assembled line_given label_refusal args_of
+    → IsLine number before text after name arguments
+unfolding line_given label_refusal args_of
 line_read number text before name operand after operation arguments shape plain some closed more known taken said =
     let source = before ++ (text ++ after) in
     let from = length before in
@@ -92,4 +98,8 @@ line_read number text before name operand after operation arguments shape plain 
     let op = operation_at_name source before name operand after from (from + length name) whole refl refl in
     let longer = length-append before name in
     let rest = operand_behind source (before ++ name) operand after (from + length name) to (whole ∙ simp append_assoc) (omega arith) (omega arith) closed more in
-    rw (head, op, known, taken source (span_at (from + length name) to), rest, said, op) refl
+    record {
+      op = span_at from (from + length name);
+      named = op;
+      given = rw (head, op, known, taken source (span_at (from + length name) to), rest, said) refl;
+    }

@@ -1,12 +1,11 @@
 -- The operand of an instruction's text is read as what it was written for.
-use Rattle.std.proofs.Common.{ℕ, zero, suc, ◌≡◌, ◌+◌, ◌-◌, ◌*◌, ◌/◌, ◌%◌, ◌^◌, ◌<◌, ◌≤◌, ◌==◌, Bool, true, false, cond, nat_lt, List, [], ◌∷◌, ◌++◌, length, Option, Some, None, Ok, refl, sym, ap, ◌∙◌, append_assoc, length-append, arith}
+use Rattle.std.proofs.Common.{ℕ, zero, suc, ◌≡◌, ◌+◌, ◌-◌, ◌/◌, ◌%◌, ◌^◌, ◌<◌, ◌≤◌, ◌==◌, Bool, true, false, cond, nat_lt, List, [], ◌∷◌, ◌++◌, length, Option, Some, None, Ok, refl, sym, ap, ◌∙◌, append_assoc, length-append, arith}
 use Rattle.std.specs.Prelude.{codes}
 use Rattle.std.proofs.lemmas.Bool.{ltb-true, ltb-false, ne_eqb, eqb-true}
 use Rattle.std.proofs.lemmas.List.{append-nil}
 use Rattle.m36_text.specs.Digits.{decimal_text}
 use Rattle.m36_inst.specs.Fields.{InstFields}
-use Rattle.alm_parse.specs.declared.expression.Atom.TheVariants.{Number}
-use Rattle.alm_parse.specs.declared.expression.Term.{Term}
+use Rattle.alm_parse.specs.declared.span.Span.{Span}
 use Rattle.alm_parse.specs.declared.args.Arg.TheVariants.{Operand}
 use Rattle.alm_parse.specs.Tokens.{slice_of}
 use Rattle.alm_parse.specs.Modifiers.{pr_number, tag_of}
@@ -15,11 +14,11 @@ use Rattle.alm_parse.specs.Expressions.{expression_pieces}
 use Rattle.alm_parse.specs.Bodies.{span_at, place_of, body_of, body_pieces}
 use Rattle.alm_parse.specs.Operands.{operand_given, operand_by}
 use Rattle.m36_list.specs.Disassembly.{signed_text, address_text}
-use Rattle.m36_list.specs.Assembled.{sum_from, address_of}
 use Rattle.m36_list.proofs.Characters.{decimal_passes_none, PassesNone, pointer_text, pointer_passes_none, address_passes_none}
 use Rattle.m36_list.proofs.Spans.{slice_at, place_behind, place_none}
 use Rattle.m36_list.proofs.Terms.{IsNumberAt, plain_number, negative_number}
 use Rattle.m36_list.proofs.TagsBack.{tag_read}
+use Rattle.m36_list.proofs.NumberSums.{number_term, GivesAddress, gives_plain, GivesOffset, gives_added, gives_taken, gives_through}
 
 -- a comma, a bar and a dollar sign are in no number
 no_digit : (c : ℕ) → 58 ≤ c → (d : ℕ) → d < 10 → (48 + d == c) ≡ false
@@ -47,12 +46,14 @@ pointer_back (suc (suc (suc (suc (suc (suc zero)))))) small = refl
 pointer_back (suc (suc (suc (suc (suc (suc (suc zero))))))) small = refl
 pointer_back (suc (suc (suc (suc (suc (suc (suc (suc n)))))))) small = absurd (omega arith)
 
--- what an address of a source says: its body, the terms of its expression, and the address that they give
+-- what an address of a source says: its pointer register, the number of its expression, and the address that they give
 pub record IsAddressAt (source : List ℕ) (from to : ℕ) (i : InstFields) : Type 0 where
   pub pr : Option ℕ
-  pub term : Term
-  pub says : (at tag : ℕ) → operand_by source at (body_of source (span_at from to)) (body_pieces source (body_of source (span_at from to))) (Some tag) ≡ Ok (Operand pr None None (term ∷ []) tag ∷ [])
-  pub back : address_of pr (sum_from 0 (term ∷ [])) ≡ Some record { by_pr = i.by_pr; y = i.y }
+  pub minus : Bool
+  pub v : ℕ
+  pub span : Span
+  pub says : (at tag : ℕ) → operand_by source at (body_of source (span_at from to)) (body_pieces source (body_of source (span_at from to))) (Some tag) ≡ Ok (Operand pr None None (number_term minus v span ∷ []) tag ∷ [])
+  pub address : GivesAddress pr minus v i
 
 -- an address alone
 alone : (source : List ℕ) (from to y : ℕ) (i : InstFields) → i.y ≡ y → i.by_pr ≡ false → y < 2 ^ 18 → slice_of source (span_at from to) ≡ decimal_text y → to ≡ from + length (decimal_text y)
@@ -62,14 +63,13 @@ alone source from to y i same off fits slice end =
     let no_bar = place_none source from to 124 (decimal_text y) slice (decimal_passes_none (λ b. b == 124) y (no_digit 124 (omega arith))) in
     let no_dollar = place_none source from to 36 (decimal_text y) slice (decimal_passes_none (λ b. b == 36) y (no_digit_below 36 (omega arith))) in
     let n = plain_number source from to y fits slice end in
-    let sum : (0 + y) % 2 ^ 18 ≡ y = omega arith in
-    let back_y : (0 + y) % 2 ^ 18 ≡ i.y = sum ∙ sym same in
-    let back_off = sym off in
     record {
       pr = None;
-      term = record { what = Number y; span = n.span; minus = false };
+      minus = false;
+      v = y;
+      span = n.span;
       says = λ at tag. rw (no_bar, no_dollar, n.terms, n.within, n.read) refl;
-      back = λ k. Some record { by_pr = back_off k; y = back_y k };
+      address = gives_plain y i fits same off;
     }
 
 -- an address through a pointer register: the register, a bar, and the offset with its sign
@@ -77,7 +77,7 @@ pub record IsOffsetAt (source : List ℕ) (from to offset : ℕ) : Type 0 where
   pub minus : Bool
   pub v : ℕ
   pub number : IsNumberAt source (expression_pieces source (piece_at false from to)) minus v
-  pub back : (0 + cond minus (2 ^ 18 - v) v) % 2 ^ 18 % 2 ^ 15 ≡ offset
+  pub gives : GivesOffset minus v offset
 
 offset_at_by : (source before after : List ℕ) (from to offset : ℕ) (b : Bool) → nat_lt offset (2 ^ 14) ≡ b → offset < 2 ^ 15
     → source ≡ before ++ (cond b (decimal_text offset) (codes "-" ++ decimal_text (2 ^ 15 - offset)) ++ after) → from ≡ length before → to ≡ from + length (cond b (decimal_text offset) (codes "-" ++ decimal_text (2 ^ 15 - offset)))
@@ -88,7 +88,7 @@ offset_at_by source before after from to offset true e fits whole begin end =
       minus = false;
       v = offset;
       number = plain_number source from to offset (omega arith) (slice_at source before (decimal_text offset) after from to whole begin end) end;
-      back = omega arith;
+      gives = gives_added offset low;
     }
 offset_at_by source before after from to offset false e fits whole begin end =
     let v = 2 ^ 15 - offset in
@@ -99,7 +99,7 @@ offset_at_by source before after from to offset false e fits whole begin end =
       minus = true;
       v = v;
       number = negative_number source from to v (omega arith) (slice_at source before (codes "-" ++ decimal_text v) after from to whole begin end) (slice_at source (before ++ codes "-") (decimal_text v) after (from + 1) to shifted (omega arith) (omega arith)) (omega arith);
-      back = omega arith;
+      gives = gives_taken offset high fits;
     }
 
 offset_at : (source before after : List ℕ) (from to offset : ℕ) → offset < 2 ^ 15 → source ≡ before ++ (signed_text offset ++ after) → from ≡ length before → to ≡ from + length (signed_text offset)
@@ -122,13 +122,13 @@ through source before after from to i on fits whole begin end =
     let pointer_slice : slice_of source (span_at from (from + 3)) ≡ pointer = slice_at source before pointer (codes "|" ++ (rest ++ after)) from (from + 3) (whole ∙ simp append_assoc) begin refl in
     let longer = length-append before (pointer ++ codes "|") in
     let o = offset_at source (before ++ (pointer ++ codes "|")) after (from + 3 + 1) to offset (omega arith) (whole ∙ simp append_assoc) (omega arith) (omega arith) in
-    let y_back : n * 2 ^ 15 + (0 + cond o.minus (2 ^ 18 - o.v) o.v) % 2 ^ 18 % 2 ^ 15 ≡ i.y = rw (o.back) (omega arith) in
-    let on_back = sym on in
     record {
       pr = Some n;
-      term = record { what = Number o.v; span = o.number.span; minus = o.minus };
+      minus = o.minus;
+      v = o.v;
+      span = o.number.span;
       says = λ at tag. rw (bar, pointer_slice, pointer_back n small, o.number.terms, o.number.within, o.number.read) refl;
-      back = λ k. Some record { by_pr = on_back k; y = y_back k };
+      address = gives_through o.minus o.v i fits on o.gives;
     }
 
 address_at_by : (source before after : List ℕ) (from to : ℕ) (i : InstFields) (b : Bool) → i.by_pr ≡ b → i.y < 2 ^ 18
@@ -145,9 +145,11 @@ address_at source before after from to i fits whole begin end = address_at_by so
 -- the operand: the address, and perhaps a comma and the modifier
 pub record IsOperandAt (source : List ℕ) (from to : ℕ) (i : InstFields) : Type 0 where
   pub pr : Option ℕ
-  pub term : Term
-  pub says : operand_given source (span_at from to) ≡ Ok (Operand pr None None (term ∷ []) i.tag ∷ [])
-  pub back : address_of pr (sum_from 0 (term ∷ [])) ≡ Some record { by_pr = i.by_pr; y = i.y }
+  pub minus : Bool
+  pub v : ℕ
+  pub span : Span
+  pub says : operand_given source (span_at from to) ≡ Ok (Operand pr None None (number_term minus v span ∷ []) i.tag ∷ [])
+  pub address : GivesAddress pr minus v i
 
 record IsTagged (c : ℕ) (text : List ℕ) (tag : ℕ) : Type 0 where
   comma : 44 ≡ c
@@ -169,7 +171,14 @@ operand_at_by source before after from to i [] fits tagged whole begin end =
     let slice = slice_at source before (address ++ []) after from to whole begin end ∙ same in
     let comma = place_none source from to 44 address slice (address_passes_none (λ b. b == 44) i fits comma_passes_none refl) in
     let tag : 0 ≡ i.tag = cc in
-    record { pr = a.pr; term = a.term; says = rw (comma) (a.says from 0 ∙ ap (λ (t : ℕ). Ok (Operand a.pr None None (a.term ∷ []) t ∷ [])) tag); back = a.back }
+    record {
+      pr = a.pr;
+      minus = a.minus;
+      v = a.v;
+      span = a.span;
+      says = rw (comma) (a.says from 0 ∙ ap (λ (t : ℕ). Ok (Operand a.pr None None (number_term a.minus a.v a.span ∷ []) t ∷ [])) tag);
+      address = a.address;
+    }
 operand_at_by source before after from to i (c ∷ text) fits tagged whole begin end =
     let address = address_text i in
     let k = comma_and_tag c text i.tag (c == 44) refl tagged in
@@ -181,7 +190,14 @@ operand_at_by source before after from to i (c ∷ text) fits tagged whole begin
     let slice = slice_at source before (address ++ (c ∷ text)) after from to whole begin end ∙ ap (λ (t : List ℕ). address ++ t) (sym here) in
     let comma = place_behind source from to 44 address text slice (address_passes_none (λ b. b == 44) i fits comma_passes_none refl) refl in
     let tag_slice = slice_at source (before ++ (address ++ codes ",")) text after (from + length address + 1) to (whole_comma ∙ simp append_assoc) at (omega arith) in
-    record { pr = a.pr; term = a.term; says = rw (comma, tag_slice, k.read) (a.says from i.tag); back = a.back }
+    record {
+      pr = a.pr;
+      minus = a.minus;
+      v = a.v;
+      span = a.span;
+      says = rw (comma, tag_slice, k.read) (a.says from i.tag);
+      address = a.address;
+    }
 
 pub operand_at : (source before after : List ℕ) (from to : ℕ) (i : InstFields) (text : List ℕ) → i.y < 2 ^ 18 → tag_read text ≡ Some i.tag
     → source ≡ before ++ ((address_text i ++ text) ++ after) → from ≡ length before → to ≡ from + length (address_text i ++ text)

@@ -1,5 +1,5 @@
 -- The text of a word, alone as a source, is one line.
-use Rattle.std.proofs.Common.{ℕ, ◌≡◌, ◌+◌, ◌^◌, ◌<◌, ◌==◌, Bool, true, false, List, [], ◌∷◌, ◌++◌, length, Option, Some, None, Result, Ok, Err, refl, ap, ◌∙◌, arith}
+use Rattle.std.proofs.Common.{ℕ, ◌≡◌, ◌+◌, ◌^◌, ◌<◌, ◌==◌, Bool, true, false, List, [], ◌∷◌, ◌++◌, length, Option, Some, None, Ok, refl, ap, ◌∙◌, arith}
 use Rattle.std.specs.Prelude.{codes, if◌then◌else◌}
 use Rattle.std.specs.List.{list_any}
 use Rattle.std.proofs.lemmas.Bool.{or_parts, ne_eqb, eq-eqb}
@@ -7,18 +7,18 @@ use Rattle.m36_inst.specs.Fields.{InstFields}
 use Rattle.m36_inst.specs.Instruction.{inst_of}
 use Rattle.m36_inst.specs.Lookup.{name_at}
 use Rattle.alm_parse.specs.declared.line.Line36.{Line36}
-use Rattle.alm_parse.specs.declared.refusal.Refusal.{Refusal}
 use Rattle.alm_parse.specs.declared.rows.Row.{Row}
 use Rattle.alm_parse.specs.Rows.{row_at, rows_from, rows_of}
 use Rattle.alm_parse.specs.Lines.{line_given}
 use Rattle.alm_parse.specs.Sources.{names_end, read_lines, with_text, parsed}
 use Rattle.m36_list.specs.Modifiers.{modifier_text}
 use Rattle.m36_list.specs.Disassembly.{disassembly, by_fields, by_parts, octal_constant, address_text}
-use Rattle.m36_list.specs.Assembled.{word_by, word_of_line, word_of_source, assembled, ParsesToItself}
+use Rattle.alm_asm.specs.Assembly.{assembled}
+use Rattle.m36_list.specs.Assembled.{object_of, object_of_word, AssemblesToItself}
 use Rattle.m36_list.proofs.Parted.{none_in_both}
 use Rattle.m36_list.proofs.Characters.{is_line_feed, PassesNone, address_passes_none, octal_passes_none, operation_at}
 use Rattle.m36_list.proofs.TagsBack.{modifier}
-use Rattle.m36_list.proofs.BackAgain.{assembles}
+use Rattle.m36_list.proofs.BackAgain.{word_again}
 
 -- no text of a word has a line feed
 no_line_feed : (d : ℕ) → d < 10 → is_line_feed (48 + d) ≡ false
@@ -57,20 +57,20 @@ row_alone number from at (x ∷ xs) none =
     rw (parts.0) (row_alone number from (at + 1) xs parts.1 ∙ ap (λ (to : ℕ). row_at number from to ∷ []) end)
 
 -- and the row is the last
-last : (text : List ℕ) (line : Line36) (w : ℕ) (ended : Bool) → word_by text line.op line.args ≡ Some w
-    → word_of_source (with_text text (if ended then Ok (line ∷ []) else Ok (line ∷ []))) ≡ Some w
+last : (text : List ℕ) (line : Line36) (w : ℕ) (ended : Bool) → assembled record { text = text; lines = line ∷ [] } ≡ Ok (object_of_word w)
+    → object_of (with_text text (if ended then Ok (line ∷ []) else Ok (line ∷ []))) ≡ Ok (object_of_word w)
 last text line w true h = h
 last text line w false h = h
 
-row_read : (text : List ℕ) (row : Row) (r : Result Line36 Refusal) (w : ℕ) → line_given text row ≡ r → word_of_line text r ≡ Some w
-    → word_of_source (with_text text (read_lines text [] (row ∷ []))) ≡ Some w
+row_read : (text : List ℕ) (row : Row) (line : Line36) (w : ℕ) → line_given text row ≡ Ok line → assembled record { text = text; lines = line ∷ [] } ≡ Ok (object_of_word w)
+    → object_of (with_text text (read_lines text [] (row ∷ []))) ≡ Ok (object_of_word w)
 unfolding read_lines
-row_read text row (Ok line) w e h = rw e (last text line w (names_end text line.op) h)
-row_read text row (Err refusal) w e h = absurd (cc)
+row_read text row line w given alone = rw given (last text line w (names_end text line.op) alone)
 
-pub parses : ParsesToItself
-unfolding parsed rows_of assembled
-parses w fits =
+pub assembles : AssemblesToItself
+unfolding parsed rows_of
+assembles w fits =
     let source = disassembly w ++ 10 ∷ [] in
     let row = row_at 1 0 (0 + length (disassembly w)) in
-    rw (row_alone 1 0 0 (disassembly w) (one_line w fits)) (row_read source row (line_given source row) w refl (assembles w 1 [] (10 ∷ []) fits))
+    let back = word_again w 1 [] (10 ∷ []) fits in
+    rw (row_alone 1 0 0 (disassembly w) (one_line w fits)) (row_read source row back.line w back.given back.alone)

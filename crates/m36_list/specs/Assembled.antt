@@ -1,86 +1,53 @@
--- What the assembler makes of a line that is the text of a word: its operation and its operand, by the words of the parser.
-use Rattle.std.specs.Prelude.{ℕ, ◌+◌, ◌-◌, ◌*◌, ◌%◌, ◌^◌, ◌<◌, ◌≡◌, Bool, true, false, List, [], ◌∷◌, ◌++◌, length, Option, Some, None, Result, Ok, Err, codes, option_and_then, if◌then◌else◌}
-use Rattle.m36_inst.specs.Instruction.{inst_word}
-use Rattle.m36_inst.specs.Lookup.{code_named}
-use Rattle.alm_parse.specs.declared.expression.Atom.{Atom}
-use Rattle.alm_parse.specs.declared.expression.Atom.TheVariants as atom
-use Rattle.alm_parse.specs.declared.expression.Term.{Term}
-use Rattle.alm_parse.specs.declared.args.Arg.{Arg}
-use Rattle.alm_parse.specs.declared.args.Arg.TheVariants as arg
-use Rattle.alm_parse.specs.declared.span.Span.{Span}
+-- What the assembler makes of the text of a word.
+use Rattle.std.specs.Prelude.{ℕ, ◌+◌, ◌^◌, ◌<◌, ◌≡◌, List, [], ◌∷◌, ◌++◌, length, Option, Some, None, Result, Ok, Err}
 use Rattle.alm_parse.specs.declared.line.Line36.{Line36}
 use Rattle.alm_parse.specs.declared.refusal.Refusal.{Refusal}
-use Rattle.alm_parse.specs.Tokens.{slice_of, is_text}
+use Rattle.alm_parse.specs.declared.fault.AlmFault.{AlmFault}
 use Rattle.alm_parse.specs.Rows.{row_at}
 use Rattle.alm_parse.specs.Lines.{line_given}
-use Rattle.alm_parse.specs.declared.fault.AlmFault.{AlmFault}
 use Rattle.alm_parse.specs.SourceFields.{Source}
 use Rattle.alm_parse.specs.Sources.{parsed}
+use Rattle.obj36.specs.PartsFields.{PartsFields}
+use Rattle.alm_asm.specs.declared.spot.Spot.{Spot}
+use Rattle.alm_asm.specs.declared.tables.Tables.{Tables}
+use Rattle.alm_asm.specs.Deeds.{deed_of}
+use Rattle.alm_asm.specs.Words.{words_by}
+use Rattle.alm_asm.specs.Assembly.{assembled}
 use Rattle.m36_list.specs.Disassembly.{disassembly}
 
--- the sum of the numbers of an expression, modulo 2^18
-abbrev pub added : ℕ → Bool → Atom → Option ℕ
-added sum minus (atom.Number n) = Some ((sum + (if minus then 2 ^ 18 - n else n)) % 2 ^ 18)
-added sum minus atom.Symbol = None
-added sum minus atom.Here = None
+-- ---- a line anywhere in a source
 
-abbrev pub sum_from : ℕ → List Term → Option ℕ
-sum_from sum [] = Some sum
-sum_from sum (term ∷ terms) = option_and_then (λ more. sum_from more terms) (added sum term.minus term.what)
+-- the words that a line places, where it is read
+abbrev pub words_given : List ℕ → Tables → Spot → Result Line36 Refusal → Option (List ℕ)
+words_given source tables spot (Ok line) = Some (words_by source tables spot line.args (deed_of source line.op))
+words_given source tables spot (Err refusal) = None
 
--- an address: the 18 bits of the word, and whether they are through a pointer register, whose offset has 15 bits
-pub record Address : Type 0 where
-  pub by_pr : Bool
-  pub y : ℕ
-
-abbrev pub address_of : Option ℕ → Option ℕ → Option Address
-address_of None (Some sum) = Some record { by_pr = false; y = sum }
-address_of (Some n) (Some sum) = Some record { by_pr = true; y = n * 2 ^ 15 + sum % 2 ^ 15 }
-address_of pr None = None
-
--- the word of an instruction
-abbrev pub instruction : Option (ℕ × Bool) → Option Address → ℕ → Option ℕ
-instruction (Some operation) (Some a) tag =
-    Some (inst_word record { y = a.y; code = operation.0; bit27 = operation.1; inhibit = false; by_pr = a.by_pr; tag = tag })
-instruction (Some operation) None tag = None
-instruction None address tag = None
-
--- the word of an operation with its operand: an octal constant, or an instruction
-abbrev pub word_with : List ℕ → List Arg → Option ℕ
-word_with name (arg.Number w ∷ []) = if is_text (codes "oct") name then Some w else None
-word_with name (arg.Operand pr None None expression tag ∷ []) =
-    instruction (code_named name) (address_of pr (sum_from 0 expression)) tag
-word_with name _ = None
-
-abbrev pub word_by : List ℕ → Option Span → List Arg → Option ℕ
-word_by source (Some op) arguments = word_with (slice_of source op) arguments
-word_by source None arguments = None
-
-abbrev pub word_of_line : List ℕ → Result Line36 Refusal → Option ℕ
-word_of_line source (Ok line) = word_by source line.op line.args
-word_of_line source (Err refusal) = None
-
--- the word of a line of a source, which is this text behind another
-unfoldable pub assembled : ℕ → List ℕ → List ℕ → List ℕ → Option ℕ
-assembled number before text after =
+-- the words of the line that is this text, with this number, between what stands before it and what stands behind it
+abbrev pub words_between : ℕ → List ℕ → List ℕ → List ℕ → Tables → Spot → Option (List ℕ)
+words_between number before text after tables spot =
     let source = before ++ (text ++ after) in
-    word_of_line source (line_given source (row_at number (length before) (length before + length text)))
+    words_given source tables spot (line_given source (row_at number (length before) (length before + length text)))
 
--- The text of each word, as a line anywhere in a source, is read as that word.
+-- The text of each word, as a line anywhere in a source, is read, and the line places that word and no other. It uses no
+-- symbol and no segment, so what the symbols and links of the source are does not matter, nor where the line stands.
+abbrev pub PlacesItself : Type 0
+PlacesItself =
+    (w number : ℕ) (before after : List ℕ) (tables : Tables) (spot : Spot) → w < 2 ^ 36
+    → words_between number before (disassembly w) after tables spot ≡ Some (w ∷ [])
+
+-- ---- a source of its own
+
+-- the object of a source that has been read, or why there is none
+abbrev pub object_of : Result Source AlmFault → Result PartsFields AlmFault
+object_of (Ok source) = assembled source
+object_of (Err fault) = Err fault
+
+-- the object that has one word of text and nothing else
+abbrev pub object_of_word : ℕ → PartsFields
+object_of_word w =
+    record { text = w ∷ []; statics = []; definitions = []; links = []; relocations = []; entry_bound = 0; version = 1 }
+
+-- The text of each word, with its line feed and alone as a source, is not refused, and its object has that word as its text
+-- and nothing else.
 abbrev pub AssemblesToItself : Type 0
-AssemblesToItself =
-    (w number : ℕ) (before after : List ℕ) → w < 2 ^ 36 → assembled number before (disassembly w) after ≡ Some w
-
--- the word of a source of one line
-abbrev pub word_alone : List ℕ → List Line36 → Option ℕ
-word_alone text [] = None
-word_alone text (line ∷ []) = word_by text line.op line.args
-word_alone text (line ∷ other ∷ lines) = None
-
-abbrev pub word_of_source : Result Source AlmFault → Option ℕ
-word_of_source (Ok source) = word_alone source.text source.lines
-word_of_source (Err fault) = None
-
--- The text of each word, alone as a source, is parsed as that word.
-abbrev pub ParsesToItself : Type 0
-ParsesToItself = (w : ℕ) → w < 2 ^ 36 → word_of_source (parsed (disassembly w ++ 10 ∷ [])) ≡ Some w
+AssemblesToItself = (w : ℕ) → w < 2 ^ 36 → object_of (parsed (disassembly w ++ 10 ∷ [])) ≡ Ok (object_of_word w)

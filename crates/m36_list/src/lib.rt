@@ -7,8 +7,9 @@
 //! line for each word that a line of a source places, with the number of that line, and then the print.
 //!
 //! What is proved: the texts are exactly those that `specs/` defines, in `Disassembly`, `Print` and `Listing`, and the only
-//! error is want of memory. The text of each word, as a line anywhere in a source and alone as a source, is parsed by the
-//! assembler's grammar as that word again: [`disassembly_laws`].
+//! error is want of memory. The text of each word is assembled to that word, by the very definitions that the contracts of
+//! the parser and the assembler cite: as a line anywhere in a source it is read, and places that word and no other; alone as
+//! a source it is not refused, and its object has that word as its text and nothing else: [`disassembly_laws`].
 //!
 //! Source: Multics Processor Manual AL39, "Machine instruction format", "Address modification" and "Operation code map"; the
 //! texts are this project's own.

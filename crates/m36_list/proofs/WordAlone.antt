@@ -1,0 +1,111 @@
+-- Lines that place one word: an instruction whose address is one number, and one octal constant.
+use Rattle.std.proofs.Common.{ℕ, ◌≡◌, Bool, true, List, [], ◌∷◌, Option, Some, None, Ok, refl}
+use Rattle.alm_parse.specs.declared.span.Span.{Span}
+use Rattle.alm_parse.specs.declared.args.Arg.{Arg}
+use Rattle.alm_parse.specs.declared.args.Arg.TheVariants.{Number, Operand}
+use Rattle.alm_parse.specs.declared.line.Line36.{Line36}
+use Rattle.alm_parse.specs.SourceFields.{Source}
+use Rattle.alm_parse.specs.Tokens.{slice_of}
+use Rattle.m36_inst.specs.Instruction.{inst_word}
+use Rattle.obj36.specs.ObjectSegment.{definition_part, definition_section, linkage_part, linkage_section, symbol_part, symbol_section, map_part, map_words, words_of, definition_names, are_distinct, are_rising, is_well_formed, all_link_names, definition_words, expression_words, link_words, relocation_words}
+use Rattle.obj36.specs.Names.{with_names, all_name_words}
+use Rattle.alm_asm.specs.declared.spot.Spot.{Spot}
+use Rattle.alm_asm.specs.declared.tables.Tables.{Tables}
+use Rattle.alm_asm.specs.declared.deed.Deed.TheVariants as deed
+use Rattle.alm_asm.specs.declared.sum.Sum.{Sum}
+use Rattle.alm_asm.specs.Sums.{half_of, offset_of}
+use Rattle.alm_asm.specs.Expressions.{expression_place}
+use Rattle.alm_asm.specs.Refusals.{has_room, is_said, expression_refusal}
+use Rattle.alm_asm.specs.Deeds.{deed_named, deed_of, words_of_args}
+use Rattle.alm_asm.specs.Spots.{start, below, end_of}
+use Rattle.alm_asm.specs.Layout.{labels_refused, refused_with, over, refused_after, layout_refusal}
+use Rattle.alm_asm.specs.Links.{links_after, links_from}
+use Rattle.alm_asm.specs.Words.{own_inst, instruction_word, words_by, words_of_line, words_from}
+use Rattle.alm_asm.specs.Marks.{marks_after, marks_from}
+use Rattle.alm_asm.specs.Definitions.{definitions_after, definitions_from}
+use Rattle.alm_asm.specs.LineRefusals.{own_room, line_refusal, lines_refusal}
+use Rattle.alm_asm.specs.Assembly.{tables_of, bound_from, parts_with, parts_of, refusal_of, assembled}
+use Rattle.m36_list.specs.Assembled.{object_of_word}
+use Rattle.m36_list.proofs.NumberSums.{number_term, number_sum, sum_is, kind_is, none_missing}
+
+-- such a line alone
+abbrev pub line_of : ℕ → ℕ → Span → List Arg → Line36
+line_of number at op arguments = record { labels = []; args = arguments; op = Some op; start = at; line = number }
+
+abbrev pub source_of : List ℕ → ℕ → ℕ → Span → List Arg → Source
+source_of text number at op arguments = record { text = text; lines = line_of number at op arguments ∷ [] }
+
+abbrev pub operand_of : Option ℕ → Bool → ℕ → Span → ℕ → List Arg
+operand_of pr minus v span tag = Operand pr None None (number_term minus v span ∷ []) tag ∷ []
+
+-- the object of one word is an object
+formed : (w : ℕ) → is_well_formed (object_of_word w) ≡ true
+unfolding is_well_formed words_of definition_section definition_part linkage_section linkage_part symbol_section symbol_part map_words map_part definition_names all_link_names with_names all_name_words definition_words expression_words link_words relocation_words are_distinct are_rising
+formed w = refl
+
+by_parts : (source : Source) (w : ℕ) → refusal_of source ≡ None → parts_of source ≡ object_of_word w → assembled source ≡ Ok (object_of_word w)
+unfolding assembled
+by_parts source w none parts = rw (none, parts, formed w) refl
+
+-- ---- an octal constant
+
+pub constant_placed : (text : List ℕ) (tables : Tables) (spot : Spot) (op : Span) (w : ℕ) → deed_named (slice_of text op) ≡ deed.Words
+    → words_by text tables spot (Number w ∷ []) (deed_of text (Some op)) ≡ w ∷ []
+unfolding words_of_args
+constant_placed text tables spot op w does = rw (does) refl
+
+constant_unrefused : (text : List ℕ) (number at : ℕ) (op : Span) (w : ℕ) → deed_named (slice_of text op) ≡ deed.Words
+    → refusal_of (source_of text number at op (Number w ∷ [])) ≡ None
+unfolding refusal_of lines_refusal line_refusal layout_refusal refused_after labels_refused refused_with over below words_of_args
+constant_unrefused text number at op w does = rw (does) refl
+
+constant_parts : (text : List ℕ) (number at : ℕ) (op : Span) (w : ℕ) → deed_named (slice_of text op) ≡ deed.Words
+    → parts_of (source_of text number at op (Number w ∷ [])) ≡ object_of_word w
+unfolding parts_with tables_of words_from words_of_line definitions_from definitions_after links_from links_after marks_from marks_after bound_from end_of below words_of_args
+constant_parts text number at op w does = rw (does) refl
+
+pub constant_alone : (text : List ℕ) (number at : ℕ) (op : Span) (w : ℕ) → deed_named (slice_of text op) ≡ deed.Words
+    → assembled (source_of text number at op (Number w ∷ [])) ≡ Ok (object_of_word w)
+constant_alone text number at op w does =
+    by_parts (source_of text number at op (Number w ∷ [])) w (constant_unrefused text number at op w does) (constant_parts text number at op w does)
+
+-- ---- an instruction
+
+-- the word of the instruction that the operand gives
+abbrev pub gives : Option ℕ → Bool → ℕ → ℕ → ℕ → Bool → ℕ
+gives pr minus v tag code bit27 =
+    inst_word (own_inst code bit27 pr (half_of (number_sum minus v).value) (offset_of (number_sum minus v).value) tag)
+
+pub instruction_placed : (text : List ℕ) (tables : Tables) (spot : Spot) (op : Span) (code : ℕ) (bit27 : Bool) (pr : Option ℕ) (minus : Bool) (v : ℕ) (span : Span) (tag : ℕ) → deed_named (slice_of text op) ≡ deed.Instruction code bit27
+    → words_by text tables spot (operand_of pr minus v span tag) (deed_of text (Some op)) ≡ gives pr minus v tag code bit27 ∷ []
+unfolding instruction_word
+instruction_placed text tables spot op code bit27 pr minus v span tag does = rw (does, sum_is text tables.symbols spot minus v span) refl
+
+expression_unrefused : (text : List ℕ) (symbols : List (List ℕ × Sum)) (spot : Spot) (line : Line36) (pr : Option ℕ) (minus : Bool) (v : ℕ) (span : Span) (place : ℕ) → has_room (own_room pr) (number_sum minus v).value ≡ true
+    → expression_refusal text symbols spot line (number_term minus v span ∷ []) place (own_room pr) true ≡ None
+unfolding expression_refusal is_said
+expression_unrefused text symbols spot line pr minus v span place room =
+    rw (none_missing text symbols minus v span, sum_is text symbols spot minus v span, room, kind_is minus v) refl
+
+instruction_unrefused : (text : List ℕ) (number at : ℕ) (op : Span) (code : ℕ) (bit27 : Bool) (pr : Option ℕ) (minus : Bool) (v : ℕ) (span : Span) (tag : ℕ) → deed_named (slice_of text op) ≡ deed.Instruction code bit27
+    → has_room (own_room pr) (number_sum minus v).value ≡ true
+    → refusal_of (source_of text number at op (operand_of pr minus v span tag)) ≡ None
+unfolding refusal_of lines_refusal line_refusal layout_refusal refused_after labels_refused refused_with over below
+instruction_unrefused text number at op code bit27 pr minus v span tag does room =
+    let arguments = operand_of pr minus v span tag in
+    let line = line_of number at op arguments in
+    let symbols = (tables_of text (line ∷ [])).symbols in
+    rw does (expression_unrefused text symbols start line pr minus v span (expression_place (number_term minus v span ∷ [])) room)
+
+instruction_parts : (text : List ℕ) (number at : ℕ) (op : Span) (code : ℕ) (bit27 : Bool) (pr : Option ℕ) (minus : Bool) (v : ℕ) (span : Span) (tag w : ℕ) → deed_named (slice_of text op) ≡ deed.Instruction code bit27
+    → gives pr minus v tag code bit27 ≡ w
+    → parts_of (source_of text number at op (operand_of pr minus v span tag)) ≡ object_of_word w
+unfolding parts_with tables_of words_from words_of_line definitions_from definitions_after links_from links_after marks_from marks_after bound_from end_of below instruction_word
+instruction_parts text number at op code bit27 pr minus v span tag w does word =
+    rw (does, sum_is, kind_is minus v, word) refl
+
+pub instruction_alone : (text : List ℕ) (number at : ℕ) (op : Span) (code : ℕ) (bit27 : Bool) (pr : Option ℕ) (minus : Bool) (v : ℕ) (span : Span) (tag w : ℕ) → deed_named (slice_of text op) ≡ deed.Instruction code bit27
+    → has_room (own_room pr) (number_sum minus v).value ≡ true → gives pr minus v tag code bit27 ≡ w
+    → assembled (source_of text number at op (operand_of pr minus v span tag)) ≡ Ok (object_of_word w)
+instruction_alone text number at op code bit27 pr minus v span tag w does room word =
+    by_parts (source_of text number at op (operand_of pr minus v span tag)) w (instruction_unrefused text number at op code bit27 pr minus v span tag does room) (instruction_parts text number at op code bit27 pr minus v span tag w does word)
