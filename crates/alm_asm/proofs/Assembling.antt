@@ -1,28 +1,25 @@
 -- The parts that are given are the object of the lines.
-use Rattle.std.proofs.Common.{◌≡◌, ℕ, ◌+◌, ◌%◌, ◌^◌, ◌<◌, ◌≤◌, Bool, true, false, cond, eqb, List, [], ◌∷◌, ◌++◌, length, Option, Some, None, Result, Ok, Err, refl, sym, ap, ◌∙◌, subst, arith}
+use Rattle.std.proofs.Common.{◌≡◌, ℕ, ◌%◌, ◌^◌, ◌<◌, ◌≤◌, Bool, true, false, cond, eqb, List, [], ◌∷◌, ◌++◌, length, Option, Some, None, Result, Ok, Err, refl, sym, ap, ◌∙◌, subst, arith}
 use Rattle.std.specs.Prelude.{IfOk}
-use Rattle.std.specs.List.{list_any}
 use Rattle.alm_parse.specs.SourceFields.{Source}
 use Rattle.alm_parse.specs.declared.line.Line36.{Line36}
 use Rattle.alm_parse.specs.declared.fault.AlmFault.{AlmFault}
 use Rattle.alm_parse.specs.Sources.{ParseSays}
 use Rattle.obj36.specs.declared.section.Section.TheVariants.{Text}
 use Rattle.obj36.specs.PartsFields.{PartsFields}
-use Rattle.obj36.specs.ObjectSegment.{words_of, is_well_formed}
+use Rattle.obj36.specs.ObjectSegment.{is_well_formed}
 use Rattle.obj36.proofs.Formed.{is_formed}
 use Rattle.obj36.proofs.LengthLaws.{length-words_of}
 use Rattle.alm_asm.specs.Spots.{start, count_in, below, end_of}
-use Rattle.alm_asm.specs.Links.{links_from}
 use Rattle.alm_asm.specs.Words.{words_from}
 use Rattle.alm_asm.specs.Layout.{symbols_from, layout_refusal}
-use Rattle.alm_asm.specs.LineRefusals.{lines_refusal}
-use Rattle.alm_asm.specs.Assembly.{tables_of, bound_from, static_section, version_of, evened, parts_with, parts_of, refusal_of, last_line, made, assembled_by, assembled}
+use Rattle.alm_asm.specs.Assembly.{tables_of, static_section, version_of, parts_with, parts_of, refusal_of, last_line, made, assembled_by, assembled}
 use Rattle.alm_asm.specs.Laws.{holds_words}
-use Rattle.alm_asm.specs.Assembles.{evened_count, is_entrybound, is_use_static, Assembles}
+use Rattle.alm_asm.specs.Assembles.{evened_count, Assembles}
 use Rattle.alm_asm.specs.declared.spot.Spot.{Spot}
 use Rattle.alm_asm.specs.declared.tables.Tables.{Tables}
 use Rattle.alm_asm.specs.declared.refusal.Refusal.{Refusal}
-use Rattle.alm_asm.proofs.Unrefused.{lines_first}
+use Rattle.alm_asm.proofs.Unrefused.{lines_first, no_lines_refusal}
 use Rattle.alm_asm.proofs.PlaceLaws.{places_count, grows_to_end}
 use Rattle.alm_asm.proofs.Placed.{stands, evened_stands, evened_length, end_outer, unbound, bound_is}
 use Rattle.alm_asm.proofs.LinksApart.{links_apart}
@@ -64,7 +61,7 @@ bound_in_text text tables lines above line others split small =
 no_layout_refusal : (source : Source) → refusal_of source ≡ None → layout_refusal source.text None [] start source.lines ≡ None
 unfolding refusal_of
 no_layout_refusal source none =
-    lines_first source.text (tables_of source.text source.lines) [] (layout_refusal source.text None [] start source.lines) start source.lines none
+    lines_first source.text (tables_of source.text source.lines) [] (layout_refusal source.text None [] start source.lines) start source.lines (no_lines_refusal source none)
 
 parts_assemble : (source : Source) → refusal_of source ≡ None → is_well_formed (parts_of source) ≡ true → Assembles source (parts_of source)
 unfolding parts_with tables_of refusal_of
@@ -78,7 +75,7 @@ parts_assemble source none formed =
     let well = is_formed (parts_of source) formed in
     let small = short (parts_of source) formed in
     record {
-      sections = λ above line others split. section_stands text tables (layout_refusal text None [] start lines) lines above line others split none;
+      sections = λ above line others split. section_stands text tables (layout_refusal text None [] start lines) lines above line others split (no_lines_refusal source none);
       text = λ above line others split here. stands text tables Text lines above line others refl split here;
       statics = λ above line others split here. evened_stands newer (count_in section (end_of text start above)) _ (words_from text tables section [] start lines) (stands text tables section lines above line others (static_holds newer) split here);
       text_length = sym (places_count text tables Text lines refl);

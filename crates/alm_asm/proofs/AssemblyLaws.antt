@@ -1,9 +1,9 @@
 -- What the assembler answers.
-use Rattle.std.proofs.Common.{◌≡◌, ℕ, List, Option, Some, None, Result, Ok, Err, Bool, true, false, IsTrue, refl, sym, ap, ◌∙◌, true≢false}
+use Rattle.std.proofs.Common.{◌≡◌, Some, Result, Err, Bool, true, false, IsTrue, refl, sym, ap, ◌∙◌, true≢false}
 use Rattle.alm_parse.specs.SourceFields.{Source}
 use Rattle.alm_parse.specs.declared.fault.AlmFault.{AlmFault}
 use Rattle.alm_parse.specs.declared.fault.AlmFault.TheVariants.{E1, E2, E3, E4, E5, E6, E7, E8, NoMemory}
-use Rattle.alm_parse.specs.Sources.{Refuses, ParseSays}
+use Rattle.alm_parse.specs.Sources.{Refuses}
 use Rattle.obj36.specs.PartsFields.{PartsFields}
 use Rattle.obj36.specs.ObjectSegment.{is_well_formed}
 use Rattle.obj36.specs.Sizes.{HasShortLists}

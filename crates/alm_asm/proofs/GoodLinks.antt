@@ -1,5 +1,5 @@
 -- The links of lines that are not refused are those of an object.
-use Rattle.std.proofs.Common.{◌≡◌, ℕ, ◌+◌, ◌%◌, ◌^◌, ◌<◌, Bool, true, false, cond, not, ◌&&◌, ◌||◌, ltb, leb, List, [], ◌∷◌, ◌++◌, Option, Some, None, is_some, refl, sym, ap, ◌∙◌, true≢false, arith}
+use Rattle.std.proofs.Common.{◌≡◌, ℕ, ◌%◌, ◌^◌, ◌<◌, Bool, true, false, cond, not, ◌&&◌, ◌||◌, ltb, List, [], ◌∷◌, ◌++◌, Option, Some, None, is_some, refl, sym, ◌∙◌, true≢false, arith}
 use Rattle.std.specs.List.{list_all, list_any}
 use Rattle.std.proofs.lemmas.Bool.{and_parts, and_from, lt-ltb}
 use Rattle.std.proofs.lemmas.List.Folds.{list_all-append}
@@ -19,20 +19,19 @@ use Rattle.std.specs.Prelude.{codes}
 use Rattle.alm_asm.specs.Sums.{half_of}
 use Rattle.alm_asm.specs.Deeds.{deed_of, name_at, first_arg}
 use Rattle.alm_asm.specs.Spots.{below}
-use Rattle.alm_asm.specs.Expressions.{expression_place, sum_of}
-use Rattle.alm_asm.specs.Refusals.{sooner, refusal_at, expression_refusal}
-use Rattle.alm_asm.specs.Links.{own_section, link_kind, link_section, link_name, entry_name, link_of, operand_args, link_by, link_in, same_link, with_link, links_after, links_from, link_place}
+use Rattle.alm_asm.specs.Expressions.{sum_of}
+use Rattle.alm_asm.specs.Refusals.{refusal_at}
+use Rattle.alm_asm.specs.Links.{own_section, link_kind, link_section, link_name, entry_name, link_of, operand_args, link_by, link_in, same_link, with_link, links_after, links_from}
 use Rattle.alm_asm.specs.Definitions.{definitions_after}
-use Rattle.alm_asm.specs.LineRefusals.{unless, op_place, external_place, needs_static, has_link, operand_refusal, is_text_section, refusal_of_deed, line_refusal, lines_refusal}
+use Rattle.alm_asm.specs.LineRefusals.{unless, op_place, needs_static, may_name, is_in_reach, link_expression, reach_refusal, operand_refusal, is_text_section, refusal_of_deed, line_refusal, lines_refusal}
 use Rattle.alm_asm.specs.Assembly.{version_of}
-use Rattle.alm_asm.specs.Laws.{segment_is_named, entry_is_named, arg_is_named, args_are_named, lines_are_named}
+use Rattle.alm_asm.specs.Laws.{segment_is_named, entry_is_named, args_are_named, lines_are_named}
 use Rattle.alm_asm.specs.declared.spot.Spot.{Spot}
 use Rattle.alm_asm.specs.declared.tables.Tables.{Tables}
 use Rattle.alm_asm.specs.declared.deed.Deed.{Deed}
 use Rattle.alm_asm.specs.declared.deed.Deed.TheVariants as deed
 use Rattle.alm_asm.specs.declared.refusal.Code.TheVariants.{E7}
 use Rattle.alm_asm.specs.declared.refusal.Refusal.{Refusal}
-use Rattle.alm_asm.specs.declared.refusal.Room.TheVariants.{Half}
 use Rattle.alm_asm.proofs.Unrefused.{sooner_none, unless_none, line_parts, head_line, other_lines}
 use Rattle.alm_asm.proofs.GoodDefinitions.{half_small}
 
@@ -80,14 +79,12 @@ link_by_parts false text (Some Static) name entry expr tag o n e x t = absurd (t
 tag_small : (tag : ℕ) → tag % 2 ^ 6 < 2 ^ 6
 tag_small tag = omega arith
 
-link_good : (text : List ℕ) (tables : Tables) (spot : Spot) (segment : Span) (entry : Option Span) (terms : List Term) (tag : ℕ) → has_link text tables spot segment entry terms tag ≡ true
+link_good : (text : List ℕ) (tables : Tables) (spot : Spot) (segment : Span) (entry : Option Span) (terms : List Term) (tag : ℕ) → may_name tables (own_section (slice_of text segment)) ≡ true
     → segment_is_named text (Some segment) ≡ true → entry_is_named text entry ≡ true → is_link (version_of tables.uses_outer) (link_of text tables.symbols spot segment entry terms tag) ≡ true
-unfolding has_link link_of
+unfolding link_of
 link_good text tables spot segment entry terms tag h n e =
-    let own = own_section (slice_of text segment) in
-    let reach = and_parts (tables.uses_outer || not (needs_static (own_section (slice_of text segment)))) (ltb (link_place tables.links tables.first_link (link_of text tables.symbols spot segment entry terms tag)) 16384) h in
     link_by_parts tables.uses_outer text (own_section (slice_of text segment)) (name_at text segment) entry (half_of (sum_of text tables.symbols spot terms).value) (tag % 2 ^ 6)
-    (own_good tables.uses_outer (slice_of text segment) reach.0) n e
+    (own_good tables.uses_outer (slice_of text segment) h) n e
     (lt-ltb (half_of (sum_of text tables.symbols spot terms).value) (2 ^ 18) (half_small (sum_of text tables.symbols spot terms).value)) (lt-ltb (tag % 2 ^ 6) (2 ^ 6) (tag_small tag))
 
 pushed_by : (version : ℕ) (links : List LinkFields) (link : LinkFields) (there : Bool) → list_all (is_link version) links ≡ true → is_link version link ≡ true
@@ -103,11 +100,13 @@ operand_good : (text : List ℕ) (tables : Tables) (links : List LinkFields) (sp
 operand_good text tables links spot line pr None entry terms tag e names all = all
 operand_good text tables links spot line pr (Some segment) entry terms tag e names all =
     let parts = and_parts (segment_is_named text (Some segment)) (entry_is_named text entry) names in
-    let none = (sooner_none (expression_refusal text tables.symbols spot line terms (external_place segment entry) Half false) (unless (has_link text tables spot segment entry terms tag) (refusal_at line segment.from E7)) e).1 in
-    let reach = unless_none (has_link text tables spot segment entry terms tag) (refusal_at line segment.from E7) none in
+    let at = refusal_at line segment.from E7 in
+    let reached = reach_refusal (link_expression text tables.symbols spot line segment entry terms) (is_in_reach text tables spot segment entry terms tag) at in
+    let none = (sooner_none reached (unless (may_name tables (own_section (slice_of text segment))) at) e).1 in
+    let named = unless_none (may_name tables (own_section (slice_of text segment))) at none in
     let link = link_of text tables.symbols spot segment entry terms tag in
     pushed_by (version_of tables.uses_outer) links (link_of text tables.symbols spot segment entry terms tag) (list_any (same_link link) links) all
-    (link_good text tables spot segment entry terms tag reach parts.0 parts.1)
+    (link_good text tables spot segment entry terms tag named parts.0 parts.1)
 
 given_good : (text : List ℕ) (tables : Tables) (links : List LinkFields) (spot : Spot) (line : Line36) (arguments : List Arg)
     → operand_refusal text tables spot line (first_arg arguments) ≡ None → args_are_named text arguments ≡ true → list_all (is_link (version_of tables.uses_outer)) links ≡ true

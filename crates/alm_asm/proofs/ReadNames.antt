@@ -1,6 +1,6 @@
 -- The names in lines that have been read are names of an object.
-use Rattle.std.proofs.Common.{◌≡◌, ℕ, ◌+◌, ◌≤◌, Bool, true, false, cond, ◌&&◌, ◌||◌, leb, List, [], ◌∷◌, ◌++◌, length, take, map, Option, Some, None, is_some, Result, Ok, Err, refl, sym, ap, ◌∙◌, subst, true≢false}
-use Rattle.std.specs.Prelude.{codes, ◌==◌, nat_le, nat_eq, slice_index, unwrap_or}
+use Rattle.std.proofs.Common.{◌≡◌, ℕ, ◌+◌, ◌≤◌, Bool, true, false, cond, ◌&&◌, ◌||◌, leb, List, [], ◌∷◌, ◌++◌, length, take, map, Option, Some, None, is_some, Result, Ok, Err, refl, sym, ap, ◌∙◌, true≢false}
+use Rattle.std.specs.Prelude.{codes, ◌==◌, slice_index, unwrap_or}
 use Rattle.std.specs.List.{list_all}
 use Rattle.std.proofs.lemmas.Bool.{and_parts, and_from, leb-true}
 use Rattle.std.proofs.lemmas.List.{take_all}
@@ -30,12 +30,12 @@ use Rattle.alm_parse.specs.Bodies.{span_at, place_of, body_of, is_segment, is_en
 use Rattle.alm_parse.specs.Operands.{body_span, tag_given, entry_given, operand_of, is_operand, operand_given}
 use Rattle.alm_parse.specs.Members.{members, is_symbol_at, symbol_arg, symbols_given, is_written_at, place_out, number_arg, numbers_given}
 use Rattle.alm_parse.specs.Pairs.{value_of_members, value_given, first_place, halves_of_members, halves_given, block_of_members, block_given, is_section, section_given}
-use Rattle.alm_parse.specs.Characters.{place_bad, packed, is_ended, characters_by, characters_ended, characters_closed, characters_from, characters_given}
+use Rattle.alm_parse.specs.Characters.{place_bad, packed, is_ended, characters_by, characters_ended, characters_closed, characters_given}
 use Rattle.alm_parse.specs.Heads.{head_of}
 use Rattle.alm_parse.specs.Operations.{operation_of}
 use Rattle.alm_parse.specs.Lines.{missing, args_with, operand_for, args_by, args_of, label_refusal, line_of, line_with, line_by, line_from, line_unless, line_given}
 use Rattle.alm_parse.specs.Rows.{rows_of}
-use Rattle.alm_parse.specs.Sources.{fault_of, names_end, continued, read_lines, with_text, parsed}
+use Rattle.alm_parse.specs.Sources.{names_end, continued, read_lines, with_text, parsed}
 use Rattle.obj36.specs.declared.section.Section.TheVariants.{Text, Linkage, Static}
 use Rattle.obj36.specs.Names.{is_name_character, is_name}
 use Rattle.obj36.proofs.SizeLaws.{same_is}

@@ -1,5 +1,5 @@
 -- In lines that are not refused each symbol comes to what its line says.
-use Rattle.std.proofs.Common.{◌≡◌, ℕ, Bool, true, false, cond, List, [], ◌∷◌, ◌++◌, Option, Some, None, is_some, refl, sym, ap, ◌∙◌, subst, true≢false}
+use Rattle.std.proofs.Common.{◌≡◌, ℕ, Bool, true, false, cond, List, [], ◌∷◌, ◌++◌, Option, Some, None, is_some, refl, sym, ap, ◌∙◌, true≢false}
 use Rattle.std.specs.Map.{lookup}
 use Rattle.obj36.proofs.SizeLaws.{same_self}
 use Rattle.alm_parse.specs.declared.span.Span.{Span}
@@ -11,7 +11,6 @@ use Rattle.alm_asm.specs.Refusals.{sooner, refusal_at}
 use Rattle.alm_asm.specs.Layout.{again, with_labels, labels_refused, own_symbol, own_refusal, own_sum, with_own, own_again, symbols_with, refused_with, over, labelled, symbols_after, refused_after, symbols_from, layout_refusal}
 use Rattle.alm_asm.specs.declared.sum.Sum.{Sum}
 use Rattle.alm_asm.specs.declared.spot.Spot.{Spot}
-use Rattle.alm_asm.specs.declared.deed.Deed.{Deed}
 use Rattle.alm_asm.specs.declared.refusal.Code.TheVariants.{E5}
 use Rattle.alm_asm.specs.declared.refusal.Refusal.{Refusal}
 use Rattle.alm_asm.proofs.Unrefused.{sooner_none}

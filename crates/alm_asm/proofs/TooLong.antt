@@ -1,12 +1,11 @@
 -- Parts of lines that are not refused are those of an object, unless this has more than 2^18 words.
-use Rattle.std.proofs.Common.{◌≡◌, ℕ, ◌+◌, ◌*◌, ◌%◌, ◌^◌, ◌<◌, ◌≤◌, Bool, true, false, cond, not, ◌&&◌, ◌||◌, ltb, leb, eqb, List, [], ◌∷◌, ◌++◌, length, Option, Some, None, refl, sym, ap, ◌∙◌, subst, true≢false, arith}
+use Rattle.std.proofs.Common.{◌≡◌, ℕ, ◌+◌, ◌*◌, ◌%◌, ◌^◌, ◌<◌, ◌≤◌, Bool, true, false, cond, ◌&&◌, ◌||◌, leb, eqb, List, [], ◌∷◌, ◌++◌, length, None, refl, sym, ◌∙◌, subst, true≢false, arith}
 use Rattle.std.specs.List.{list_all}
-use Rattle.std.proofs.lemmas.Bool.{and_parts, and_from, lt-ltb, le-leb, leb-true, eqb-false, eq-eqb}
+use Rattle.std.proofs.lemmas.Bool.{and_from, le-leb, leb-true, eqb-false, eq-eqb}
 use Rattle.std.proofs.lemmas.List.{length-append}
 use Rattle.alm_parse.specs.SourceFields.{Source}
 use Rattle.alm_parse.specs.declared.line.Line36.{Line36}
-use Rattle.obj36.specs.declared.section.Section.{Section}
-use Rattle.obj36.specs.declared.section.Section.TheVariants.{Text, Linkage, Symbol, Static}
+use Rattle.obj36.specs.declared.section.Section.TheVariants.{Text}
 use Rattle.obj36.specs.declared.definition.Named.{Named}
 use Rattle.obj36.specs.Fields.{LinkFields, RelocFields}
 use Rattle.obj36.specs.PartsFields.{PartsFields}
@@ -14,13 +13,14 @@ use Rattle.obj36.specs.ObjectSegment.{is_newer, inner_statics, outer_statics, wo
 use Rattle.obj36.proofs.Formed.{is_formed}
 use Rattle.obj36.proofs.LengthLaws.{length-words_of}
 use Rattle.alm_asm.specs.Deeds.{deed_of}
-use Rattle.alm_asm.specs.Spots.{start, count_in, place_in, below, end_of}
+use Rattle.alm_asm.specs.Spots.{start, count_in, below, end_of}
 use Rattle.alm_asm.specs.Links.{links_from}
 use Rattle.alm_asm.specs.Words.{words_from}
 use Rattle.alm_asm.specs.Marks.{marks_from}
 use Rattle.alm_asm.specs.Layout.{symbols_from, layout_refusal}
 use Rattle.alm_asm.specs.Definitions.{definitions_from}
 use Rattle.alm_asm.specs.LineRefusals.{lines_refusal}
+use Rattle.alm_asm.proofs.Unrefused.{no_lines_refusal}
 use Rattle.alm_asm.specs.Assembly.{tables_of, bound_by, bound_from, static_section, version_of, evened, parts_with, parts_of, refusal_of}
 use Rattle.alm_asm.specs.Laws.{holds_words, lines_are_named}
 use Rattle.alm_asm.specs.declared.sum.Sum.{Sum}
@@ -32,7 +32,7 @@ use Rattle.alm_asm.proofs.Distinct.{distinct}
 use Rattle.alm_asm.proofs.Fitting.{AllFit, StandAt, start_stands, symbols_fit}
 use Rattle.alm_asm.proofs.GoodDefinitions.{definitions_good}
 use Rattle.alm_asm.proofs.GoodLinks.{links_good}
-use Rattle.alm_asm.proofs.GoodMarks.{Room, Good, limit, limit_in, is_good, word_number, none_in_order, further_good, marks_good}
+use Rattle.alm_asm.proofs.GoodMarks.{Room, Good, limit, word_number, none_in_order, further_good, marks_good}
 use Rattle.alm_asm.proofs.PlaceLaws.{places_count, grows}
 
 -- ---- parts by what they are made of
@@ -227,4 +227,4 @@ pub only_too_long : (source : Source) → lines_are_named source.text source.lin
     → is_well_formed (parts_of source) ≡ leb (length (words_of (parts_of source))) (2 ^ 18)
 unfolding refusal_of tables_of
 only_too_long source names none =
-    parts_formed source.text (tables_of source.text source.lines) source.lines refl refl refl names none
+    parts_formed source.text (tables_of source.text source.lines) source.lines refl refl refl names (no_lines_refusal source none)

@@ -4,10 +4,14 @@ use Rattle.alm_parse.specs.declared.args.Arg.{Arg}
 use Rattle.alm_parse.specs.declared.line.Line36.{Line36}
 use Rattle.obj36.specs.declared.definition.Named.{Named}
 use Rattle.alm_asm.specs.Deeds.{deed_of}
-use Rattle.alm_asm.specs.Spots.{below}
 use Rattle.alm_asm.specs.Refusals.{sooner}
 use Rattle.alm_asm.specs.Definitions.{named_by, gives_entries, definitions_after, arg_refusal, names_refused, definitions_refused}
 use Rattle.alm_asm.specs.LineRefusals.{unless, refusal_of_deed, line_refusal, lines_refusal}
+use Rattle.alm_parse.specs.SourceFields.{Source}
+use Rattle.alm_asm.specs.Spots.{start, below}
+use Rattle.alm_asm.specs.Layout.{layout_refusal}
+use Rattle.alm_asm.specs.Growth.{at_first, growth_refusal}
+use Rattle.alm_asm.specs.Assembly.{tables_of, refusal_of}
 use Rattle.alm_asm.specs.declared.sum.Sum.{Sum}
 use Rattle.alm_asm.specs.declared.spot.Spot.{Spot}
 use Rattle.alm_asm.specs.declared.tables.Tables.{Tables}
@@ -60,3 +64,11 @@ pub other_lines : (text : List ℕ) (tables : Tables) (done : List Named) (first
     → lines_refusal text tables (definitions_after text tables.symbols done line) (line_refusal text tables done first spot line) (below text spot line) lines ≡ None
 unfolding lines_refusal
 other_lines text tables done first spot line lines e = e
+
+-- Where a source is not refused, neither are its lines by themselves.
+pub no_lines_refusal :
+    (source : Source) → refusal_of source ≡ None
+    → lines_refusal source.text (tables_of source.text source.lines) [] (layout_refusal source.text None [] start source.lines) start source.lines ≡ None
+unfolding refusal_of
+no_lines_refusal source none =
+    (sooner_none (lines_refusal source.text (tables_of source.text source.lines) [] (layout_refusal source.text None [] start source.lines) start source.lines) (growth_refusal source.text (tables_of source.text source.lines).symbols at_first start source.lines) none).0

@@ -1,6 +1,6 @@
 -- What an object is of lines, by what stands where. A line is told by the lines above it: it stands at the spot that these
 -- end at, in the section that the last `use` line among them names, behind the words that they place there.
-use Rattle.std.specs.Prelude.{ℕ, ◌≡◌, ◌+◌, ◌%◌, Bool, true, false, not, ◌&&◌, ◌⊎◌, List, [], ◌∷◌, ◌++◌, length, Option, Some, None}
+use Rattle.std.specs.Prelude.{ℕ, ◌≡◌, ◌+◌, ◌%◌, Bool, true, false, not, ◌&&◌, ◌⊎◌, List, [], ◌∷◌, ◌++◌, length, Some}
 use Rattle.std.specs.List.{list_any}
 use Rattle.alm_parse.specs.SourceFields.{Source}
 use Rattle.alm_parse.specs.declared.span.Span.{Span}
@@ -9,7 +9,7 @@ use Rattle.obj36.specs.declared.section.Section.{Section}
 use Rattle.obj36.specs.declared.section.Section.TheVariants.{Text, Linkage, Symbol, Static}
 use Rattle.obj36.specs.Fields.{LinkFields}
 use Rattle.obj36.specs.PartsFields.{PartsFields}
-use Rattle.obj36.specs.ObjectSegment.{definition_names, are_distinct, are_rising, is_well_formed}
+use Rattle.obj36.specs.ObjectSegment.{definition_names, are_distinct, are_rising}
 use Rattle.alm_asm.specs.Symbols.{sum_named}
 use Rattle.alm_asm.specs.Deeds.{deed_of, name_at, first_arg, symbol_in, section_in}
 use Rattle.alm_asm.specs.Spots.{start, count_in, here, end_of}

@@ -10,13 +10,14 @@ use Rattle.obj36.specs.PartsFields.{PartsFields}
 use Rattle.obj36.specs.ObjectSegment.{is_well_formed}
 use Rattle.alm_asm.specs.Deeds.{deed_of}
 use Rattle.alm_asm.specs.Spots.{start, below, end_of}
-use Rattle.alm_asm.specs.Refusals.{fault_of}
+use Rattle.alm_asm.specs.Refusals.{fault_of, sooner}
 use Rattle.alm_asm.specs.Layout.{symbols_from, layout_refusal}
 use Rattle.alm_asm.specs.Links.{links_from}
 use Rattle.alm_asm.specs.Words.{words_from}
 use Rattle.alm_asm.specs.Marks.{marks_from}
 use Rattle.alm_asm.specs.Definitions.{definitions_from}
 use Rattle.alm_asm.specs.LineRefusals.{lines_refusal}
+use Rattle.alm_asm.specs.Growth.{at_first, growth_refusal}
 use Rattle.alm_asm.specs.declared.spot.Spot.{Spot}
 use Rattle.alm_asm.specs.declared.tables.Tables.{Tables}
 use Rattle.alm_asm.specs.declared.deed.Deed.{Deed}
@@ -95,7 +96,9 @@ parts_of source = parts_with source.text (tables_of source.text source.lines) so
 -- the first refusal in the order of the text, if there is one
 unfoldable pub refusal_of : Source → Option Refusal
 refusal_of source =
-    lines_refusal source.text (tables_of source.text source.lines) [] (layout_refusal source.text None [] start source.lines) start source.lines
+    sooner
+    (lines_refusal source.text (tables_of source.text source.lines) [] (layout_refusal source.text None [] start source.lines) start source.lines)
+    (growth_refusal source.text (tables_of source.text source.lines).symbols at_first start source.lines)
 
 -- the number of the last line, or 1
 unfoldable pub last_line : ℕ → List Line36 → ℕ

@@ -1,5 +1,5 @@
 -- What expressions come to.
-use Rattle.std.specs.Prelude.{ℕ, ◌-◌, Bool, true, false, not, List, [], ◌∷◌, Option, Some, None, option_map, is_some, unwrap_or, if◌then◌else◌}
+use Rattle.std.specs.Prelude.{ℕ, ◌-◌, Bool, true, false, not, List, [], ◌∷◌, Option, option_map, is_some, unwrap_or, if◌then◌else◌}
 use Rattle.std.specs.List.{find}
 use Rattle.alm_parse.specs.declared.expression.Atom.{Atom}
 use Rattle.alm_parse.specs.declared.expression.Atom.TheVariants.{Number, Symbol, Here}

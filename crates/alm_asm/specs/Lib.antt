@@ -10,6 +10,7 @@ pub mod Words
 pub mod Marks
 pub mod Definitions
 pub mod LineRefusals
+pub mod Growth
 pub mod Assembly
 pub mod Laws
 pub mod Assembles

@@ -1,5 +1,5 @@
 -- What is refused of lines whose symbols are known.
-use Rattle.std.specs.Prelude.{ℕ, ◌+◌, Bool, true, false, not, ◌&&◌, ◌||◌, nat_lt, List, [], ◌∷◌, Option, Some, None, if◌then◌else◌}
+use Rattle.std.specs.Prelude.{ℕ, ◌+◌, Bool, true, false, not, ◌||◌, nat_lt, List, [], ◌∷◌, Option, Some, None}
 use Rattle.alm_parse.specs.Tokens.{slice_of}
 use Rattle.alm_parse.specs.declared.span.Span.{Span}
 use Rattle.alm_parse.specs.declared.expression.Term.{Term}
@@ -16,6 +16,7 @@ use Rattle.alm_asm.specs.Refusals.{sooner, refusal_at, expression_refusal}
 use Rattle.alm_asm.specs.Links.{own_section, link_of, link_place}
 use Rattle.alm_asm.specs.Definitions.{gives_entries, definitions_after, definitions_refused}
 use Rattle.alm_asm.specs.declared.spot.Spot.{Spot}
+use Rattle.alm_asm.specs.declared.sum.Sum.{Sum}
 use Rattle.alm_asm.specs.declared.tables.Tables.{Tables}
 use Rattle.alm_asm.specs.declared.deed.Deed.{Deed}
 use Rattle.alm_asm.specs.declared.deed.Deed.TheVariants as deed
@@ -46,19 +47,34 @@ needs_static (Some Linkage) = false
 needs_static (Some Symbol) = false
 needs_static None = false
 
--- Static words of their own are named only where the lines have some, and a link lies in the reach of `pr4|`.
-unfoldable pub has_link : List ℕ → Tables → Spot → Span → Option Span → List Term → ℕ → Bool
-has_link text tables spot segment entry terms tag =
-    (tables.uses_outer || not (needs_static (own_section (slice_of text segment))))
-    && nat_lt (link_place tables.links tables.first_link (link_of text tables.symbols spot segment entry terms tag)) 16384
+-- Static words of their own are named only where the lines have some,
+abbrev pub may_name : Tables → Option Section → Bool
+may_name tables own = tables.uses_outer || not (needs_static own)
+
+-- and a link lies in the reach of `pr4|`.
+unfoldable pub is_in_reach : List ℕ → Tables → Spot → Span → Option Span → List Term → ℕ → Bool
+is_in_reach text tables spot segment entry terms tag =
+    nat_lt (link_place tables.links tables.first_link (link_of text tables.symbols spot segment entry terms tag)) 16384
 
 abbrev pub own_room : Option ℕ → Room
 own_room (Some pr) = Offset
 own_room None = Half
 
+-- what is refused of the expression behind an external name
+abbrev pub link_expression : List ℕ → List (List ℕ × Sum) → Spot → Line36 → Span → Option Span → List Term → Option Refusal
+link_expression text symbols spot line segment entry terms =
+    expression_refusal text symbols spot line terms (external_place segment entry) Half false
+
+-- An operand whose expression is refused is no link, and nothing is said of its place.
+abbrev pub reach_refusal : Option Refusal → Bool → Refusal → Option Refusal
+reach_refusal (Some refusal) reach at = Some refusal
+reach_refusal None reach at = unless reach at
+
 abbrev pub external_refusal : List ℕ → Tables → Spot → Line36 → Span → Option Span → List Term → ℕ → Option Refusal
 external_refusal text tables spot line segment entry terms tag =
-    sooner (expression_refusal text tables.symbols spot line terms (external_place segment entry) Half false) (unless (has_link text tables spot segment entry terms tag) (refusal_at line segment.from E7))
+    sooner
+    (reach_refusal (link_expression text tables.symbols spot line segment entry terms) (is_in_reach text tables spot segment entry terms tag) (refusal_at line segment.from E7))
+    (unless (may_name tables (own_section (slice_of text segment))) (refusal_at line segment.from E7))
 
 abbrev pub own_operand : List ℕ → Tables → Spot → Line36 → Room → List Term → Option Refusal
 own_operand text tables spot line room terms =

@@ -1,5 +1,5 @@
 -- Where a line is: the section that it belongs to, and how many words the lines above it place in each section.
-use Rattle.std.specs.Prelude.{ℕ, ◌+◌, ◌%◌, Bool, true, false, ◌||◌, List, [], ◌∷◌, length}
+use Rattle.std.specs.Prelude.{ℕ, ◌+◌, ◌%◌, true, false, List, [], ◌∷◌, length}
 use Rattle.obj36.specs.declared.section.Section.{Section}
 use Rattle.obj36.specs.declared.section.Section.TheVariants.{Text, Linkage, Symbol, Static}
 use Rattle.alm_parse.specs.declared.args.Arg.{Arg}

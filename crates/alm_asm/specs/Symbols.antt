@@ -1,5 +1,5 @@
 -- The symbols of a source in the order of their definitions, each with what it comes to.
-use Rattle.std.specs.Prelude.{ℕ, Bool, nat_eq, is_some, if◌then◌else◌, List, [], ◌∷◌, ◌++◌, Option, Some, None}
+use Rattle.std.specs.Prelude.{ℕ, Bool, nat_eq, is_some, if◌then◌else◌, List, [], ◌∷◌, ◌++◌, Option}
 use Rattle.std.specs.Cmp.Lexicographic.{pointwise}
 use Rattle.std.specs.Map.{lookup}
 use Rattle.alm_asm.specs.declared.sum.Sum.{Sum}

@@ -14,11 +14,12 @@ ghost use Rattle.alm_asm.specs.Assembly.{made, first_link, tables_of, bound_by, 
 
 use crate::deed::{Deed, deed_of};
 use crate::definitions::definitions_of;
+use crate::growth::growth_refusal;
 use crate::layout::layout_of;
 use crate::line_refusal::lines_refusal;
 use crate::links::links_of;
 use crate::marks::push_marks_in;
-use crate::refusal::{Refusal, fault_of};
+use crate::refusal::{Refusal, fault_of, sooner};
 use crate::spot::{Spot, below, end_of};
 use crate::sum::plus;
 use crate::tables::Tables;
@@ -247,7 +248,8 @@ fn meaning(alloc: Global, lines: &Lines36) -> Result<Object, AlmFault>
     let rows = lines.lines();
     let found = found_in(alloc, text, rows)?;
     let refused = lines_refusal(alloc, text, &found.tables, rows, found.refused)?;
-    match refused {
+    let grown = growth_refusal(alloc, text, &found.tables.symbols, rows)?;
+    match sooner(refused, grown) {
         Some(refusal) => Err(fault_of(refusal)),
         None => {
             let parts = parts_with(alloc, text, found.tables, rows)?;

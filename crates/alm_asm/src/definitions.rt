@@ -55,7 +55,7 @@ fn push_named(
     }
 }
 
-fn gives_entries(deed: Deed) -> Option<bool>
+pub fn gives_entries(deed: Deed) -> Option<bool>
     ensures { result ≡ gives_entries deed }
 {
     match deed {
@@ -105,7 +105,7 @@ fn is_label(is_entry: bool, sum: Sum) -> bool
     has_room(Room::Half, sum.value) && is_label_kind(is_entry, sum.kind())
 }
 
-fn sum_refusal(line: &Line36, at: u64, is_entry: bool, sum: Option<Sum>) -> Option<Refusal>
+pub fn sum_refusal(line: &Line36, at: u64, is_entry: bool, sum: Option<Sum>) -> Option<Refusal>
     ensures { result ≡ sum_refusal line.now at is_entry sum }
 {
     match sum {

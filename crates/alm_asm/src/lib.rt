@@ -16,6 +16,7 @@ pub mod assembly;
 pub mod deed;
 pub mod definitions;
 pub mod expression;
+pub mod growth;
 pub mod laws;
 pub mod layout;
 pub mod line_refusal;

@@ -4,7 +4,7 @@ ghost use Rattle.std.specs.Prelude.{ℕ, Bool, List, [], ◌∷◌, ◌≡◌, �
 ghost use Rattle.alm_asm.specs.Deeds.{first_arg};
 ghost use Rattle.alm_asm.specs.Spots.{start};
 ghost use Rattle.alm_asm.specs.Definitions.{definitions_after};
-ghost use Rattle.alm_asm.specs.LineRefusals.{unless, op_place, external_place, needs_static, has_link, own_room, external_refusal, own_operand, operand_refusal, is_text_section, may_enter, instruction_refusal, use_refusal, halves_refusal, refusal_of_deed, line_refusal, lines_refusal};
+ghost use Rattle.alm_asm.specs.LineRefusals.{unless, op_place, external_place, needs_static, may_name, is_in_reach, own_room, link_expression, reach_refusal, external_refusal, own_operand, operand_refusal, is_text_section, may_enter, instruction_refusal, use_refusal, halves_refusal, refusal_of_deed, line_refusal, lines_refusal};
 
 use crate::deed::{Deed, deed_of, first_symbol, first_terms, second_terms, section_in};
 use crate::definitions::push_definitions;
@@ -12,6 +12,7 @@ use crate::expression::expression_place;
 use crate::links::{link_of, link_place, own_section};
 use crate::refusal::{Code, Refusal, Room, Wanted, expression_refusal, refusal_at, sooner};
 use crate::spot::{Spot, below};
+use crate::symbols::Symbols;
 use crate::tables::Tables;
 use alm_parse::{Arg, Line36, Span, Term};
 use m36_word::NoMemory;
@@ -51,8 +52,14 @@ fn needs_static(own: Option<Section>) -> bool
     }
 }
 
-#[tactic(auto, unfolding(crate::specs::LineRefusals::has_link))]
-fn has_link(
+fn may_name(tables: &Tables, own: Option<Section>) -> bool
+    ensures { result ≡ may_name tables.now own }
+{
+    tables.uses_outer || !needs_static(own)
+}
+
+#[tactic(auto, unfolding(crate::specs::LineRefusals::is_in_reach))]
+fn is_in_reach(
     text: &[u8],
     tables: &Tables,
     spot: Spot,
@@ -61,12 +68,11 @@ fn has_link(
     terms: &[Term],
     tag: u8,
 ) -> Result<bool, NoMemory>
-    ensures { IfOk result (λ b. b ≡ has_link text.now tables.now spot segment entry terms.now tag) }
+    ensures { IfOk result (λ b. b ≡ is_in_reach text.now tables.now spot segment entry terms.now tag) }
 {
     let link = link_of(text, &tables.symbols, spot, segment, entry, terms, tag)?;
     let place = link_place(tables.links.items(), tables.first_link, &link)?;
-    let own = own_section(text, segment);
-    Ok((tables.uses_outer || !needs_static(own)) && place < 16384)
+    Ok(place < 16384)
 }
 
 fn own_room(pr: Option<u8>) -> Room
@@ -75,6 +81,35 @@ fn own_room(pr: Option<u8>) -> Room
     match pr {
         Some(_) => Room::Offset,
         None => Room::Half,
+    }
+}
+
+/// What is refused of the expression behind an external name.
+pub fn link_expression_refusal(
+    text: &[u8],
+    symbols: &Symbols,
+    spot: Spot,
+    line: &Line36,
+    segment: Span,
+    entry: Option<Span>,
+    terms: &[Term],
+) -> Result<Option<Refusal>, NoMemory>
+    ensures { IfOk result (λ r. r ≡ link_expression text.now symbols.now spot line.now segment entry terms.now) }
+{
+    let wanted = Wanted {
+        place: external_place(segment, entry),
+        room: Room::Half,
+        may_move: false,
+    };
+    expression_refusal(text, symbols, spot, line, terms, wanted)
+}
+
+fn reach_refusal(expression: Option<Refusal>, reach: bool, at: Refusal) -> Option<Refusal>
+    ensures { result ≡ reach_refusal expression reach at }
+{
+    match expression {
+        Some(refusal) => Some(refusal),
+        None => unless(reach, at),
     }
 }
 
@@ -90,15 +125,19 @@ fn external_refusal(
 ) -> Result<Option<Refusal>, NoMemory>
     ensures { IfOk result (λ r. r ≡ external_refusal text.now tables.now spot line.now segment entry terms.now tag) }
 {
-    let wanted = Wanted {
-        place: external_place(segment, entry),
-        room: Room::Half,
-        may_move: false,
-    };
-    let expression = expression_refusal(text, &tables.symbols, spot, line, terms, wanted)?;
-    let has_link = has_link(text, tables, spot, segment, entry, terms, tag)?;
     let at = refusal_at(line, segment.from as u64, Code::E7);
-    Ok(sooner(expression, unless(has_link, at)))
+    let expression = link_expression_refusal(
+        text,
+        &tables.symbols,
+        spot,
+        line,
+        segment,
+        entry,
+        terms,
+    )?;
+    let reach = is_in_reach(text, tables, spot, segment, entry, terms, tag)?;
+    let named = may_name(tables, own_section(text, segment));
+    Ok(sooner(reach_refusal(expression, reach, at), unless(named, at)))
 }
 
 fn own_operand_refusal(

@@ -183,7 +183,7 @@ fn same_link(a: &Link, b: &Link) -> bool
         && a.modifier == b.modifier
 }
 
-fn is_among(links: &[Link], link: &Link) -> bool
+pub fn is_among(links: &[Link], link: &Link) -> bool
     ensures { result ≡ list_any (same_link link.now) links.now }
 {
     links.iter().any(|other| same_link(link, other))

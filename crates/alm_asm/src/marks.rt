@@ -95,7 +95,7 @@ fn push_halves(
     push_mark(marks, spot, 1, right.kind())
 }
 
-fn push_marks(
+pub fn push_marks(
     text: &[u8],
     symbols: &Symbols,
     spot: Spot,

@@ -137,7 +137,7 @@ fn refuses(alloc: Global, source: &[u8], fault: AlmFault) -> bool {
 
 #[test]
 fn refusals(rt: HostRuntime) {
-    let cases: [(&[u8], AlmFault); 33] = [
+    let cases: [(&[u8], AlmFault); 38] = [
         (b"a: nop 0\na: nop 0\n", AlmFault::E5(2, 1)),
         (b" entry a,a\na: nop 0\n", AlmFault::E5(1, 10)),
         (b"a: bss a,2\n", AlmFault::E5(1, 8)),
@@ -169,7 +169,24 @@ fn refusals(rt: HostRuntime) {
         (b" equ a,131072+131072\n lda a\n", AlmFault::E7(1, 8)),
         (b" lda a$b-262143-1\n", AlmFault::E7(1, 10)),
         (b" bss a,258048\n nop 0\n", AlmFault::E8(2, 1)),
-        (b" use link\n bss a,258049\n", AlmFault::E8(2, 1)),
+        (b" use link\n bss a,258041\n", AlmFault::E8(2, 1)),
+        (b" use static\n bss a,258049\n", AlmFault::E8(2, 1)),
+        (
+            b" use link\n bss a,258040\n use text\n lda b$c\n",
+            AlmFault::E8(4, 1),
+        ),
+        (
+            b" use link\n bss a,258040\n use text\n lda b$c+q\n",
+            AlmFault::E6(4, 10),
+        ),
+        (
+            b" use link\n bss a,20000\n use text\n lda b$c\n",
+            AlmFault::E7(4, 6),
+        ),
+        (
+            b" use link\n bss a,20000\n use text\n lda b$c-262143\n",
+            AlmFault::E7(4, 10),
+        ),
         (
             b" bss a,258048\n use link\n bss b,258048\n",
             AlmFault::E8(3, 1),

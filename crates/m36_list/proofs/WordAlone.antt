@@ -12,10 +12,11 @@ use Rattle.obj36.specs.Names.{with_names, all_name_words}
 use Rattle.alm_asm.specs.declared.spot.Spot.{Spot}
 use Rattle.alm_asm.specs.declared.tables.Tables.{Tables}
 use Rattle.alm_asm.specs.declared.deed.Deed.TheVariants as deed
+use Rattle.alm_asm.specs.declared.refusal.Refusal.{Refusal}
 use Rattle.alm_asm.specs.declared.sum.Sum.{Sum}
 use Rattle.alm_asm.specs.Sums.{half_of, offset_of}
 use Rattle.alm_asm.specs.Expressions.{expression_place}
-use Rattle.alm_asm.specs.Refusals.{has_room, is_said, expression_refusal}
+use Rattle.alm_asm.specs.Refusals.{sooner, has_room, is_said, expression_refusal}
 use Rattle.alm_asm.specs.Deeds.{deed_named, deed_of, words_of_args}
 use Rattle.alm_asm.specs.Spots.{start, below, end_of}
 use Rattle.alm_asm.specs.Layout.{labels_refused, refused_with, over, refused_after, layout_refusal}
@@ -24,6 +25,7 @@ use Rattle.alm_asm.specs.Words.{own_inst, instruction_word, words_by, words_of_l
 use Rattle.alm_asm.specs.Marks.{marks_after, marks_from}
 use Rattle.alm_asm.specs.Definitions.{definitions_after, definitions_from}
 use Rattle.alm_asm.specs.LineRefusals.{own_room, line_refusal, lines_refusal}
+use Rattle.alm_asm.specs.Growth.{at_first, with_marks, grown_by, is_over, growth_refusal}
 use Rattle.alm_asm.specs.Assembly.{tables_of, bound_from, parts_with, parts_of, refusal_of, assembled}
 use Rattle.m36_list.specs.Assembled.{object_of_word}
 use Rattle.m36_list.proofs.NumberSums.{number_term, number_sum, sum_is, kind_is, none_missing}
@@ -47,6 +49,14 @@ by_parts : (source : Source) (w : ℕ) → refusal_of source ≡ None → parts_
 unfolding assembled
 by_parts source w none parts = rw (none, parts, formed w) refl
 
+neither : (a b : Option Refusal) → a ≡ None → b ≡ None → sooner a b ≡ None
+neither a b first second = rw (first, second) refl
+
+-- what the lines of a source are refused for, beside the lengths of sections
+abbrev lines_of : Source → Option Refusal
+lines_of source =
+    lines_refusal source.text (tables_of source.text source.lines) [] (layout_refusal source.text None [] start source.lines) start source.lines
+
 -- ---- an octal constant
 
 pub constant_placed : (text : List ℕ) (tables : Tables) (spot : Spot) (op : Span) (w : ℕ) → deed_named (slice_of text op) ≡ deed.Words
@@ -54,10 +64,23 @@ pub constant_placed : (text : List ℕ) (tables : Tables) (spot : Spot) (op : Sp
 unfolding words_of_args
 constant_placed text tables spot op w does = rw (does) refl
 
+constant_lines : (text : List ℕ) (number at : ℕ) (op : Span) (w : ℕ) → deed_named (slice_of text op) ≡ deed.Words
+    → lines_of (source_of text number at op (Number w ∷ [])) ≡ None
+unfolding lines_refusal line_refusal layout_refusal refused_after labels_refused refused_with over below words_of_args
+constant_lines text number at op w does = rw (does) refl
+
+constant_short : (text : List ℕ) (symbols : List (List ℕ × Sum)) (number at : ℕ) (op : Span) (w : ℕ) → deed_named (slice_of text op) ≡ deed.Words
+    → growth_refusal text symbols at_first start (line_of number at op (Number w ∷ []) ∷ []) ≡ None
+unfolding growth_refusal grown_by with_marks is_over below words_of_args
+constant_short text symbols number at op w does = rw (does) refl
+
 constant_unrefused : (text : List ℕ) (number at : ℕ) (op : Span) (w : ℕ) → deed_named (slice_of text op) ≡ deed.Words
     → refusal_of (source_of text number at op (Number w ∷ [])) ≡ None
-unfolding refusal_of lines_refusal line_refusal layout_refusal refused_after labels_refused refused_with over below words_of_args
-constant_unrefused text number at op w does = rw (does) refl
+unfolding refusal_of
+constant_unrefused text number at op w does =
+    let source = source_of text number at op (Number w ∷ []) in
+    let symbols = (tables_of text source.lines).symbols in
+    neither (lines_of source) (growth_refusal text symbols at_first start source.lines) (constant_lines text number at op w does) (constant_short text symbols number at op w does)
 
 constant_parts : (text : List ℕ) (number at : ℕ) (op : Span) (w : ℕ) → deed_named (slice_of text op) ≡ deed.Words
     → parts_of (source_of text number at op (Number w ∷ [])) ≡ object_of_word w
@@ -87,15 +110,32 @@ unfolding expression_refusal is_said
 expression_unrefused text symbols spot line pr minus v span place room =
     rw (none_missing text symbols minus v span, sum_is text symbols spot minus v span, room, kind_is minus v) refl
 
-instruction_unrefused : (text : List ℕ) (number at : ℕ) (op : Span) (code : ℕ) (bit27 : Bool) (pr : Option ℕ) (minus : Bool) (v : ℕ) (span : Span) (tag : ℕ) → deed_named (slice_of text op) ≡ deed.Instruction code bit27
+instruction_lines : (text : List ℕ) (number at : ℕ) (op : Span) (code : ℕ) (bit27 : Bool) (pr : Option ℕ) (minus : Bool) (v : ℕ) (span : Span) (tag : ℕ) → deed_named (slice_of text op) ≡ deed.Instruction code bit27
     → has_room (own_room pr) (number_sum minus v).value ≡ true
-    → refusal_of (source_of text number at op (operand_of pr minus v span tag)) ≡ None
-unfolding refusal_of lines_refusal line_refusal layout_refusal refused_after labels_refused refused_with over below
-instruction_unrefused text number at op code bit27 pr minus v span tag does room =
+    → lines_of (source_of text number at op (operand_of pr minus v span tag)) ≡ None
+unfolding lines_refusal line_refusal layout_refusal refused_after labels_refused refused_with over below
+instruction_lines text number at op code bit27 pr minus v span tag does room =
     let arguments = operand_of pr minus v span tag in
     let line = line_of number at op arguments in
     let symbols = (tables_of text (line ∷ [])).symbols in
     rw does (expression_unrefused text symbols start line pr minus v span (expression_place (number_term minus v span ∷ [])) room)
+
+instruction_short : (text : List ℕ) (symbols : List (List ℕ × Sum)) (number at : ℕ) (op : Span) (code : ℕ) (bit27 : Bool) (pr : Option ℕ) (minus : Bool) (v : ℕ) (span : Span) (tag : ℕ) → deed_named (slice_of text op) ≡ deed.Instruction code bit27
+    → growth_refusal text symbols at_first start (line_of number at op (operand_of pr minus v span tag) ∷ []) ≡ None
+unfolding growth_refusal grown_by with_marks is_over below
+instruction_short text symbols number at op code bit27 pr minus v span tag does =
+    rw (does, sum_is, kind_is minus v) refl
+
+instruction_unrefused : (text : List ℕ) (number at : ℕ) (op : Span) (code : ℕ) (bit27 : Bool) (pr : Option ℕ) (minus : Bool) (v : ℕ) (span : Span) (tag : ℕ) → deed_named (slice_of text op) ≡ deed.Instruction code bit27
+    → has_room (own_room pr) (number_sum minus v).value ≡ true
+    → refusal_of (source_of text number at op (operand_of pr minus v span tag)) ≡ None
+unfolding refusal_of
+instruction_unrefused text number at op code bit27 pr minus v span tag does room =
+    let source = source_of text number at op (operand_of pr minus v span tag) in
+    let symbols = (tables_of text source.lines).symbols in
+    neither (lines_of source) (growth_refusal text symbols at_first start source.lines)
+    (instruction_lines text number at op code bit27 pr minus v span tag does room)
+    (instruction_short text symbols number at op code bit27 pr minus v span tag does)
 
 instruction_parts : (text : List ℕ) (number at : ℕ) (op : Span) (code : ℕ) (bit27 : Bool) (pr : Option ℕ) (minus : Bool) (v : ℕ) (span : Span) (tag w : ℕ) → deed_named (slice_of text op) ≡ deed.Instruction code bit27
     → gives pr minus v tag code bit27 ≡ w

@@ -1,4 +1,4 @@
-use Rattle.std.proofs.Common.{◌≡◌, [], None, length}
+use Rattle.std.proofs.Common.{◌≡◌, [], length}
 use Rattle.alm_asm.specs.Definitions.{definitions_from}
 use Rattle.alm_asm.proofs.definitions.definitions_of.Given as goal
 

@@ -1,4 +1,4 @@
-use Rattle.std.proofs.Common.{◌≡◌, [], None, length}
+use Rattle.std.proofs.Common.{◌≡◌, length}
 use Rattle.alm_asm.specs.Definitions.{with_names, names_refused}
 use Rattle.alm_asm.proofs.definitions.push_names.Given as goal
 

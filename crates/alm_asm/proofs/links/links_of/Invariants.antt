@@ -1,4 +1,4 @@
-use Rattle.std.proofs.Common.{◌≡◌, [], None, length}
+use Rattle.std.proofs.Common.{◌≡◌, [], length}
 use Rattle.alm_asm.specs.Spots.{start}
 use Rattle.alm_asm.specs.Links.{links_from}
 use Rattle.alm_asm.proofs.links.links_of.Given as goal

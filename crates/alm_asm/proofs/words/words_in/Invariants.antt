@@ -1,4 +1,4 @@
-use Rattle.std.proofs.Common.{◌≡◌, [], None, length}
+use Rattle.std.proofs.Common.{◌≡◌, [], length}
 use Rattle.alm_asm.specs.Spots.{start}
 use Rattle.alm_asm.specs.Words.{words_from}
 use Rattle.alm_asm.proofs.words.words_in.Given as goal
