@@ -15,8 +15,7 @@ ghost use Rattle.m36_xptr.specs.PointerInstructions.{is_pointer};
 ghost use Rattle.m36_xfer.specs.ControlInstructions.{is_control};
 
 use m36_inst::{Effect, Row};
-use m36_model::{Fault, Final, Formed, Operand36, Regs};
-use m36_xdata::Done;
+use m36_model::{Fault, Final, Formed, Held, Operand36, Regs};
 
 /// The registers with tally runout as a tally word has set it.
 fn with_runout(regs: &Regs, runout: bool) -> Regs
@@ -81,20 +80,19 @@ fn execute_pointer(
     regs: &mut Regs,
     last: &Final,
     operand: &Operand36,
-) -> Result<Done, Fault>
+    put: &mut Held,
+) -> Result<bool, Fault>
     requires group { IsTrue (is_pointer row.now.effect) }
     requires reg { row.now.reg < 8 }
     requires got { HoldsFor (operand_of row.now.effect) operand.now.got }
-    ensures value { LeavesSo regs.old regs.new result (refused_here regs.old (exec row.now.effect row.now.reg regs.old last.now (operand_fields operand.now))) }
-    ensures put { IfOk result (λ d. PutsFor (operand_of row.now.effect) (words_of_held d.put)) }
+    ensures value { LeavesSo regs.old regs.new put.new result (refused_here regs.old (exec row.now.effect row.now.reg regs.old last.now (operand_fields operand.now))) }
+    ensures put { IfOk result (λ o. PutsFor (operand_of row.now.effect) (words_of_held put.new)) }
 {
     match m36_xptr::exec(row, regs, last, *operand) {
         Ok(effect) => {
             *regs = effect.regs;
-            Ok(Done {
-                put: effect.put,
-                overflow: effect.overflow,
-            })
+            *put = effect.put;
+            Ok(effect.overflow)
         }
         Err(fault) => Err(fault),
     }
@@ -106,20 +104,19 @@ fn execute_control(
     regs: &mut Regs,
     last: &Final,
     operand: &Operand36,
-) -> Result<Done, Fault>
+    put: &mut Held,
+) -> Result<bool, Fault>
     requires group { IsTrue (is_control row.now.effect) }
     requires reg { row.now.reg < 8 }
     requires got { HoldsFor (operand_of row.now.effect) operand.now.got }
-    ensures value { LeavesSo regs.old regs.new result (refused_here regs.old (exec row.now.effect row.now.reg regs.old last.now (operand_fields operand.now))) }
-    ensures put { IfOk result (λ d. PutsFor (operand_of row.now.effect) (words_of_held d.put)) }
+    ensures value { LeavesSo regs.old regs.new put.new result (refused_here regs.old (exec row.now.effect row.now.reg regs.old last.now (operand_fields operand.now))) }
+    ensures put { IfOk result (λ o. PutsFor (operand_of row.now.effect) (words_of_held put.new)) }
 {
     match m36_xfer::exec(row, regs, last, *operand) {
         Ok(effect) => {
             *regs = effect.regs;
-            Ok(Done {
-                put: effect.put,
-                overflow: effect.overflow,
-            })
+            *put = effect.put;
+            Ok(effect.overflow)
         }
         Err(fault) => Err(fault),
     }
@@ -127,20 +124,26 @@ fn execute_control(
 
 /// An instruction, done in the registers as they are.
 #[tactic(auto, using(crate::proofs::Groups::data_else))]
-fn execute(row: &Row, regs: &mut Regs, last: &Final, operand: &Operand36) -> Result<Done, Fault>
+fn execute(
+    row: &Row,
+    regs: &mut Regs,
+    last: &Final,
+    operand: &Operand36,
+    put: &mut Held,
+) -> Result<bool, Fault>
     requires addressed { operand_of row.now.effect ≢ N }
     requires reg { row.now.reg < 8 }
     requires got { HoldsFor (operand_of row.now.effect) operand.now.got }
-    ensures value { LeavesSo regs.old regs.new result (refused_here regs.old (exec row.now.effect row.now.reg regs.old last.now (operand_fields operand.now))) }
-    ensures put { IfOk result (λ d. PutsFor (operand_of row.now.effect) (words_of_held d.put)) }
+    ensures value { LeavesSo regs.old regs.new put.new result (refused_here regs.old (exec row.now.effect row.now.reg regs.old last.now (operand_fields operand.now))) }
+    ensures put { IfOk result (λ o. PutsFor (operand_of row.now.effect) (words_of_held put.new)) }
 {
     if is_pointer(row.effect) {
-        return execute_pointer(row, regs, last, operand);
+        return execute_pointer(row, regs, last, operand, put);
     }
     if is_control(row.effect) {
-        return execute_control(row, regs, last, operand);
+        return execute_control(row, regs, last, operand, put);
     }
-    m36_xdata::exec_in_place(row, regs, last, operand)
+    m36_xdata::exec_in_place(row, regs, last, operand, put)
 }
 
 /// An instruction, done in the registers. Tally runout is set before it, but where it is refused.
@@ -150,21 +153,22 @@ pub(crate) fn effect(
     regs: &mut Regs,
     formed: &Formed,
     operand: &Operand36,
-) -> Result<Done, Fault>
+    put: &mut Held,
+) -> Result<bool, Fault>
     requires addressed { operand_of row.now.effect ≢ N }
     requires reg { row.now.reg < 8 }
     requires got { HoldsFor (operand_of row.now.effect) operand.now.got }
-    ensures value { LeavesSo regs.old regs.new result (refused_here regs.old (exec row.now.effect row.now.reg (tallied regs.old (chain_end_fields formed.now)) formed.now.last (operand_fields operand.now))) }
-    ensures put { IfOk result (λ d. PutsFor (operand_of row.now.effect) (words_of_held d.put)) }
+    ensures value { LeavesSo regs.old regs.new put.new result (refused_here regs.old (exec row.now.effect row.now.reg (tallied regs.old (chain_end_fields formed.now)) formed.now.last (operand_fields operand.now))) }
+    ensures put { IfOk result (λ o. PutsFor (operand_of row.now.effect) (words_of_held put.new)) }
 {
     match formed.tally {
-        None => execute(row, regs, &formed.last, operand),
+        None => execute(row, regs, &formed.last, operand, put),
         Some(tally) => {
             let mut after = with_runout(regs, tally.runout);
-            match execute(row, &mut after, &formed.last, operand) {
-                Ok(done) => {
+            match execute(row, &mut after, &formed.last, operand, put) {
+                Ok(overflow) => {
                     *regs = after;
-                    Ok(done)
+                    Ok(overflow)
                 }
                 Err(fault) => Err(fault),
             }
