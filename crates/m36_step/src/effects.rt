@@ -1,18 +1,18 @@
 //! The effect of an instruction on an operand that is there.
 
-ghost use Rattle.std.specs.Prelude.{ℕ, ◌≡◌, ◌≢◌, ◌<◌, IfOk, IfErr, IsTrue};
+ghost use Rattle.std.specs.Prelude.{ℕ, ◌≡◌, ◌≢◌, ◌<◌, Ok, IfOk, IfErr, IsTrue};
 ghost use Rattle.m36_inst.specs.Operands.{operand_of};
 ghost use Rattle.m36_inst.specs.declared.operand.Operand.TheVariants.{N};
 ghost use Rattle.m36_model.specs.Chain.{chain_end_fields};
 ghost use Rattle.m36_model.specs.Effect.{exec, refused_here};
 ghost use Rattle.m36_model.specs.OperandHeld.{HoldsFor};
-ghost use Rattle.m36_model.specs.Results.{operand_fields, words_of_held};
+ghost use Rattle.m36_model.specs.Results.{OperandFields, operand_fields, words_of_held};
 ghost use Rattle.m36_model.specs.Step.{tallied};
 ghost use Rattle.m36_model.specs.Transfers.{is_taken};
 ghost use Rattle.m36_model.specs.WordsPut.{PutsFor};
 ghost use Rattle.m36_xdata.specs.Changes.{LeavesSo};
 ghost use Rattle.m36_xptr.specs.PointerInstructions.{is_pointer};
-ghost use Rattle.m36_xfer.specs.ControlInstructions.{is_control};
+ghost use Rattle.m36_xfer.specs.ControlInstructions.{is_control, is_transfer};
 
 use m36_inst::{Effect, Row};
 use m36_model::{Fault, Final, Formed, Held, Operand36, Regs};
@@ -98,6 +98,18 @@ fn execute_pointer(
     }
 }
 
+/// A transfer that changes where the next instruction stands, and nothing else, done in the registers. It is done here and not by
+/// `execute_control`, whose answer has all registers.
+fn execute_transfer(row: &Row, regs: &mut Regs, last: &Final, put: &mut Held) -> bool
+    requires group { IsTrue (is_transfer row.now.effect) }
+    ensures value { (o : OperandFields) → Ok (record { regs = regs.new; put = words_of_held put.new; overflow = result }) ≡ refused_here regs.old (exec row.now.effect row.now.reg regs.old last.now o) }
+    ensures put { PutsFor (operand_of row.now.effect) (words_of_held put.new) }
+{
+    m36_xfer::transfer(row.effect, regs, last);
+    *put = Held::Empty;
+    false
+}
+
 /// An instruction of control, done in the registers.
 fn execute_control(
     row: &Row,
@@ -139,6 +151,9 @@ fn execute(
 {
     if is_pointer(row.effect) {
         return execute_pointer(row, regs, last, operand, put);
+    }
+    if m36_xfer::is_transfer(row.effect) {
+        return Ok(execute_transfer(row, regs, last, put));
     }
     if is_control(row.effect) {
         return execute_control(row, regs, last, operand, put);
