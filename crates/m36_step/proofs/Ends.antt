@@ -18,6 +18,7 @@ use Rattle.m36_model.specs.FirstPoint.{first_point}
 use Rattle.m36_model.specs.Chain.{chain, chain_end_fields, claimed_by}
 use Rattle.m36_model.specs.Step.{Ending, outcome_of, outcome_by, halted, completed, operate, operated, indirect_words, addressed, no_address, started, admitted, effect_and_number, decode, decoded, fetched, program, record_of, state_after}
 use Rattle.m36_model.specs.declared.effects.Formed.{Formed}
+use Rattle.m36_model.specs.declared.effects.Held.{Held}
 use Rattle.m36_model.specs.declared.outcome.Fault.{Fault}
 use Rattle.m36_model.specs.declared.outcome.Halt.{Halt}
 use Rattle.m36_model.specs.declared.outcome.Halt.TheVariants as halt
@@ -53,23 +54,23 @@ module _ (g : RegsFields) where
       run_then core_store g act (either next halts) m ∙ ap (λ (x : Ran (Result A Halt) (List ℕ)). run core_store g (either next halts x.value) x.mid) e
 
   -- The operation of an instruction whose address is formed.
-  module _ (e : Effect) (n w : ℕ) (f : Formed) (core : List ℕ) (refs : List Reference) (core' : List ℕ) (refs' : List Reference) (g' : RegsFields) where
+  module _ (e : Effect) (n w : ℕ) (f : Formed) (core : List ℕ) (refs : List Reference) (core' : List ℕ) (refs' : List Reference) (g' : RegsFields) (put : Held) where
     abbrev Operates : Result Operated Halt → Type 0
     Operates result =
-        operation_from e n g f core refs ≡ operated_end core' refs' f g' result
+        operation_from e n g f core refs ≡ operated_end core' refs' f g' put result
 
-    operation_runs : (result : Result Operated Halt) → Operates result → run core_store g (operated e n g w (chain_end_fields f)) (standing core (claimed_by f.tally f.place) refs) ≡ run core_store g (either (completed g w f.last) (halted g (Some w) (Some f.last)) (operated_end core' refs' f g' result).value) (operated_end core' refs' f g' result).mid
+    operation_runs : (result : Result Operated Halt) → Operates result → run core_store g (operated e n g w (chain_end_fields f)) (standing core (claimed_by f.tally f.place) refs) ≡ run core_store g (either (completed g w f.last) (halted g (Some w) (Some f.last)) (operated_end core' refs' f g' put result).value) (operated_end core' refs' f g' put result).mid
     operation_runs result o =
-        goes_on (operate e n g (chain_end_fields f)) (completed g w f.last) (halted g (Some w) (Some f.last)) (standing core (claimed_by f.tally f.place) refs) (operated_end core' refs' f g' result) o
+        goes_on (operate e n g (chain_end_fields f)) (completed g w f.last) (halted g (Some w) (Some f.last)) (standing core (claimed_by f.tally f.place) refs) (operated_end core' refs' f g' put result) o
 
     pub operation_refused : (h : Halt) (end : Ended) → Operates (Err h) → g' ≡ g → end ≡ refused (Some w) (Some f.last) h → EndsFormed g (operated e n g w (chain_end_fields f)) core f refs core' refs' g' end
     operation_refused h end o same is =
         rw (same, is) (ap end_of (operation_runs (Err h) o) ∙ halts (Some w) (Some f.last) h core' (claimed_by f.tally f.place) refs')
 
-    pub operation_performed : (o : Operated) (core'' : List ℕ) (end : Ended) → Operates (Ok o) → core'' ≡ core_put core' (changes (claims_of f o) (puts_of f o)) → end ≡ record { word = Some w; at = Some f.last; outcome = outcome_by (o.overflow && not g'.ind.mask) g } → EndsFormed g (operated e n g w (chain_end_fields f)) core f refs core'' refs' g' end
+    pub operation_performed : (o : Operated) (core'' : List ℕ) (end : Ended) → Operates (Ok o) → core'' ≡ core_put core' (changes (claims_of f put o) (puts_of f put o)) → end ≡ record { word = Some w; at = Some f.last; outcome = outcome_by (o.overflow && not g'.ind.mask) g } → EndsFormed g (operated e n g w (chain_end_fields f)) core f refs core'' refs' g' end
     unfolding run
-    operation_performed o core'' end r put is =
-        rw (is, put) (ap end_of (operation_runs (Ok o) r))
+    operation_performed o core'' end r written is =
+        rw (is, written) (ap end_of (operation_runs (Ok o) r))
 
   -- An instruction that forms an address.
   module _ (e : Effect) (n w : ℕ) (i : InstFields) (is : i ≡ inst_of w) (core : List ℕ) (refs : List Reference) (core' : List ℕ) (refs' : List Reference) where

@@ -17,6 +17,8 @@ use Rattle.m36_model.specs.Store.{Spot, Ran, run}
 use Rattle.m36_model.specs.WordsPut.{PutsFor}
 use Rattle.m36_model.specs.declared.effects.Effect36.{Effect36}
 use Rattle.m36_model.specs.declared.effects.Formed.{Formed}
+use Rattle.m36_model.specs.declared.effects.Held.{Held}
+use Rattle.m36_model.specs.declared.effects.Operand36.{Operand36}
 use Rattle.m36_model.specs.declared.outcome.Fault.{Fault}
 use Rattle.m36_model.specs.declared.outcome.Halt.{Halt}
 use Rattle.m36_model.specs.declared.outcome.Halt.TheVariants as halt
@@ -48,9 +50,9 @@ no_claims : (claims : List Spot) (place : ℕ) (n : ℕ) → n ≡ 0 → claims 
 unfolding run_from
 no_claims claims place n e = rw e (sym (append-nil claims))
 
-module _ (e : Effect) (n : ℕ) (g : RegsFields) (f : Formed) (core : List ℕ) (refs : List Reference) (u : Reached) where
+module _ (e : Effect) (n : ℕ) (g : RegsFields) (f : Formed) (core : List ℕ) (refs : List Reference) (o : Operand36) (u : Reached) where
   abbrev effect_on : Result EffectFields ℕ
-  effect_on = exec e n (tallied g (chain_end_fields f)) f.last (operand_fields u.operand)
+  effect_on = exec e n (tallied g (chain_end_fields f)) f.last (operand_fields o)
 
   abbrev claimed : List Spot
   claimed = claimed_by f.tally f.place
@@ -60,7 +62,7 @@ module _ (e : Effect) (n : ℕ) (g : RegsFields) (f : Formed) (core : List ℕ) 
 
   module _ (x : Effect36) (h : answer_fields (Ok x) ≡ refused_here g effect_on) where
     abbrev operated : Operated
-    operated = record { put = x.put; place = u.place; part = u.part; overflow = x.overflow }
+    operated = record { place = u.place; part = u.part; overflow = x.overflow }
 
     abbrev performs : ℕ → Result Performed Halt
     performs first = performed g (chain_end_fields f) (part_of u.part) first (Ok (effect_fields x))
@@ -68,20 +70,20 @@ module _ (e : Effect) (n : ℕ) (g : RegsFields) (f : Formed) (core : List ℕ) 
     performed_is : (first : ℕ) → performed g (chain_end_fields f) (part_of u.part) first effect_on ≡ performs first
     performed_is first = ap (λ (v : Result EffectFields ℕ). performed g (chain_end_fields f) (part_of u.part) first v) (effect_is g x effect_on h)
 
-    unwritten_performed : length (words_of_held x.put) ≡ 0 → unwritten_end e n g f core refs (Ok u) ≡ operated_end core refs f x.regs (Ok operated)
+    unwritten_performed : length (words_of_held x.put) ≡ 0 → unwritten_end e n g f core refs o (Ok u) ≡ operated_end core refs f x.regs x.put (Ok operated)
     unfolding run
     unwritten_performed l =
         ap (ended_by claimed) (performed_is 0)
         ∙ ap (λ (ps : List Put). ended_by claimed (Ok (record { regs = x.regs; puts = (chain_end_fields f).pending ++ ps; overflow = x.overflow }))) (no_puts (part_of u.part) (length claimed) (words_of_held x.put) l)
         ∙ ap (λ (cs : List Spot). ended_by cs (performs (length claimed))) (no_claims claimed u.place (length (words_of_held x.put)) l)
 
-    written_performed : (count : ℕ) → length (words_of_held x.put) ≡ count → written_end e n g f count core refs (Ok u) ≡ operated_end core refs f x.regs (Ok operated)
+    written_performed : (count : ℕ) → length (words_of_held x.put) ≡ count → written_end e n g f count core refs o (Ok u) ≡ operated_end core refs f x.regs x.put (Ok operated)
     unfolding run
     written_performed count l =
         ap (ended_by (claimed ++ run_from u.place count)) (performed_is (length claimed))
         ∙ ap (λ (k : ℕ). ended_by (claimed ++ run_from u.place k) (performs (length claimed))) (sym l)
 
-    pub performed_by_kind : (k : Operand) → length (words_of_held x.put) ≡ words_written k → reached_end e n g f k core refs (Ok u) ≡ operated_end core refs f x.regs (Ok operated)
+    pub performed_by_kind : (k : Operand) → length (words_of_held x.put) ≡ words_written k → reached_end e n g f k core refs o (Ok u) ≡ operated_end core refs f x.regs x.put (Ok operated)
     performed_by_kind kind.W l = written_performed 1 l
     performed_by_kind kind.W2 l = written_performed 2 l
     performed_by_kind kind.W16 l = written_performed 16 l
@@ -91,12 +93,12 @@ module _ (e : Effect) (n : ℕ) (g : RegsFields) (f : Formed) (core : List ℕ) 
     performed_by_kind kind.Rwl l = written_performed 1 l
     performed_by_kind _ l = unwritten_performed l
 
-  module _ (fault : Fault) (g' : RegsFields) (h : answer_fields (Err fault) ≡ refused_here g effect_on) where
-    unwritten_refused : unwritten_end e n g f core refs (Ok u) ≡ operated_end core refs f g' (Err (halt.Fault fault))
+  module _ (fault : Fault) (g' : RegsFields) (put : Held) (h : answer_fields (Err fault) ≡ refused_here g effect_on) where
+    unwritten_refused : unwritten_end e n g f core refs o (Ok u) ≡ operated_end core refs f g' put (Err (halt.Fault fault))
     unfolding run
     unwritten_refused = ap (ended_by claimed) (refusal_is g fault effect_on f (part_of u.part) 0 h)
 
-    pub refused_by_kind : (k : Operand) → words_written k ≡ 0 → reached_end e n g f k core refs (Ok u) ≡ operated_end core refs f g' (Err (halt.Fault fault))
+    pub refused_by_kind : (k : Operand) → words_written k ≡ 0 → reached_end e n g f k core refs o (Ok u) ≡ operated_end core refs f g' put (Err (halt.Fault fault))
     refused_by_kind kind.W l = absurd (omega arith)
     refused_by_kind kind.W2 l = absurd (omega arith)
     refused_by_kind kind.W16 l = absurd (omega arith)

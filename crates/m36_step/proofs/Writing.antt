@@ -5,15 +5,16 @@ use Rattle.m36_model.specs.Act.{Whole}
 use Rattle.m36_model.specs.Chain.{chain_end_fields, claimed_by, pending_of}
 use Rattle.m36_model.specs.Core.{core_put, put_one}
 use Rattle.m36_model.specs.Place.{wrapped}
-use Rattle.m36_model.specs.Results.{words_of_pairs}
+use Rattle.m36_model.specs.Results.{words_of_held, words_of_pairs}
 use Rattle.m36_model.specs.Store.{Core_word, Change, changes}
 use Rattle.m36_model.specs.StepCases.{at_spots}
 use Rattle.m36_model.specs.declared.effects.Formed.{Formed}
+use Rattle.m36_model.specs.declared.effects.Held.{Held}
 use Rattle.m36_model.specs.declared.effects.Tally.{Tally}
 use Rattle.m36_model.proofs.PutLaw.{IsTallied, no_tally, tallied_at, all_changes}
 use Rattle.m36_walk.specs.Runs.{run_from, LiesIn}
 use Rattle.m36_walk.specs.Words.{run_changes, block_words}
-use Rattle.m36_step.specs.Operated.{part_of, words_of, claims_of, puts_of, PartFits}
+use Rattle.m36_step.specs.Operated.{part_of, claims_of, puts_of, PartFits}
 use Rattle.m36_step.specs.declared.operated.Part as code
 use Rattle.m36_step.specs.declared.operated.Part.TheVariants as part
 use Rattle.m36_step.specs.declared.operated.Operated.{Operated}
@@ -39,12 +40,12 @@ tally_alone None place = refl
 tally_alone (Some t) place = refl
 
 -- the tally word, and then the words of the operand
-pub written_together : (core : List ℕ) (f : Formed) (o : Operated) → core_put core (changes (claims_of f o) (puts_of f o)) ≡ core_put (core_put core (changes (claimed_by f.tally f.place) (pending_of f.tally))) (at_spots (part_of o.part) (run_from o.place (length (words_of o))) (words_of o))
-written_together core f o =
+pub written_together : (core : List ℕ) (f : Formed) (put : Held) (o : Operated) → core_put core (changes (claims_of f put o) (puts_of f put o)) ≡ core_put (core_put core (changes (claimed_by f.tally f.place) (pending_of f.tally))) (at_spots (part_of o.part) (run_from o.place (length (words_of_held put))) (words_of_held put))
+written_together core f put o =
     let claimed = claimed_by f.tally f.place in
-    let spots = run_from o.place (length (words_of o)) in
-    let all = all_changes (chain_end_fields f) (part_of o.part) claimed spots (length claimed) (words_of o) (tallied_so f.tally f.place f refl refl) (run_length o.place (length (words_of o))) (inr refl) in
-    let more : List Change = at_spots (part_of o.part) spots (words_of o) in
+    let spots = run_from o.place (length (words_of_held put)) in
+    let all = all_changes (chain_end_fields f) (part_of o.part) claimed spots (length claimed) (words_of_held put) (tallied_so f.tally f.place f refl refl) (run_length o.place (length (words_of_held put))) (inr refl) in
+    let more : List Change = at_spots (part_of o.part) spots (words_of_held put) in
     ap (core_put core) all
     ∙ ap (λ (xs : List Change). core_put core (xs ++ more)) (tally_alone f.tally f.place)
     ∙ put_more core (changes claimed (pending_of f.tally)) more

@@ -10,6 +10,7 @@ use Rattle.m36_model.specs.Step.{Performed, puts_from, operate}
 use Rattle.m36_model.specs.Store.{Spot, Mid, Ran, run}
 use Rattle.m36_model.specs.WordsPut.{IsHalf}
 use Rattle.m36_model.specs.declared.effects.Formed.{Formed}
+use Rattle.m36_model.specs.declared.effects.Held.{Held}
 use Rattle.m36_model.specs.declared.effects.Tally.{Tally}
 use Rattle.m36_model.specs.declared.outcome.Halt.{Halt}
 use Rattle.m36_model.specs.declared.place.Reference.{Reference}
@@ -29,30 +30,27 @@ part_of part.Right = Right
 abbrev pub formed_mid : List ℕ → Formed → List Reference → Mid (List ℕ)
 formed_mid core f refs = standing core (claimed_by f.tally f.place) refs
 
--- the words that the effect gives to be written
-abbrev pub words_of : Operated → List ℕ
-words_of o = words_of_held o.put
-
--- where words are written: the tally word first, and then those of the operand
-abbrev pub claims_of : Formed → Operated → List Spot
-claims_of f o = claimed_by f.tally f.place ++ run_from o.place (length (words_of o))
+-- where words are written: the tally word first, and then those that the effect gives
+abbrev pub claims_of : Formed → Held → Operated → List Spot
+claims_of f put o = claimed_by f.tally f.place ++ run_from o.place (length (words_of_held put))
 
 -- what is written there
-abbrev pub puts_of : Formed → Operated → List Put
-puts_of f o = pending_of f.tally ++ puts_from (part_of o.part) (length (claimed_by f.tally f.place)) (words_of o)
+abbrev pub puts_of : Formed → Held → Operated → List Put
+puts_of f put o = pending_of f.tally ++ puts_from (part_of o.part) (length (claimed_by f.tally f.place)) (words_of_held put)
 
 -- with the registers as the effect leaves them
-abbrev pub performed_by : Formed → RegsFields → Operated → Performed
-performed_by f g o = record { regs = g; puts = puts_of f o; overflow = o.overflow }
+abbrev pub performed_by : Formed → RegsFields → Held → Operated → Performed
+performed_by f g put o = record { regs = g; puts = puts_of f put o; overflow = o.overflow }
 
 -- the program of an operation over core, once the address is formed
 abbrev pub operation_from : Effect → ℕ → RegsFields → Formed → List ℕ → List Reference → Ran (Result Performed Halt) (List ℕ)
 operation_from e n g f core refs = run core_store g (operate e n g (chain_end_fields f)) (formed_mid core f refs)
 
--- How an answer of the code ends it, with the registers as they then stand. Where it is refused, nothing more is claimed.
-abbrev pub operated_end : List ℕ → List Reference → Formed → RegsFields → Result Operated Halt → Ran (Result Performed Halt) (List ℕ)
-operated_end core refs f g (Ok o) = record { value = Ok (performed_by f g o); mid = standing core (claims_of f o) refs }
-operated_end core refs f g (Err h) = record { value = Err h; mid = formed_mid core f refs }
+-- How an answer of the code ends it, with the registers as they then stand and the words that are to be written. Where it is
+-- refused, nothing more is claimed.
+abbrev pub operated_end : List ℕ → List Reference → Formed → RegsFields → Held → Result Operated Halt → Ran (Result Performed Halt) (List ℕ)
+operated_end core refs f g put (Ok o) = record { value = Ok (performed_by f g put o); mid = standing core (claims_of f put o) refs }
+operated_end core refs f g put (Err h) = record { value = Err h; mid = formed_mid core f refs }
 
 -- the tally word lies in core
 abbrev pub TallyIn : Option Tally → ℕ → ℕ → Type 0
@@ -72,8 +70,8 @@ PartHolds part.Left w = w < 2 ^ 18
 PartHolds part.Right w = w < 2 ^ 18
 
 -- the words to be written lie in a core of this size
-pub record Lies (size : ℕ) (f : Formed) (o : Operated) : Type 0 where
+pub record Lies (size : ℕ) (f : Formed) (put : Held) (o : Operated) : Type 0 where
   pub tally : TallyIn f.tally f.place size
-  pub run : LiesIn size o.place (length (words_of o))
+  pub run : LiesIn size o.place (length (words_of_held put))
   pub place : o.place < 2 ^ 24
-  pub part : PartFits o.part (words_of o)
+  pub part : PartFits o.part (words_of_held put)

@@ -12,6 +12,7 @@ use Rattle.m36_model.specs.Results.{OperandFields, operand_fields}
 use Rattle.m36_model.specs.Step.{Performed, Operation, perform, direct_word}
 use Rattle.m36_model.specs.Store.{Ran, run}
 use Rattle.m36_model.specs.declared.effects.Formed.{Formed}
+use Rattle.m36_model.specs.declared.effects.Operand36.{Operand36}
 use Rattle.m36_model.specs.declared.outcome.Fault.{Fault}
 use Rattle.m36_model.specs.declared.outcome.Halt.{Halt}
 use Rattle.m36_model.specs.declared.outcome.Halt.TheVariants as halt
@@ -32,37 +33,37 @@ abbrev pub refused_end : Formed → List ℕ → List Reference → Fault → Ra
 refused_end f core refs fault = record { value = Err (halt.Fault fault); mid = formed_mid core f refs }
 
 -- Nothing is to be written: the effect follows.
-abbrev pub unwritten_end : Effect → ℕ → RegsFields → Formed → List ℕ → List Reference → Result Reached Fault → Ran (Result Performed Halt) (List ℕ)
-unwritten_end e n g f core refs (Ok u) =
-    ran_from g (perform e n g (chain_end_fields f) (part_of u.part) 0 (operand_fields u.operand)) f core refs
-unwritten_end e n g f core refs (Err fault) = refused_end f core refs fault
+abbrev pub unwritten_end : Effect → ℕ → RegsFields → Formed → List ℕ → List Reference → Operand36 → Result Reached Fault → Ran (Result Performed Halt) (List ℕ)
+unwritten_end e n g f core refs o (Ok u) =
+    ran_from g (perform e n g (chain_end_fields f) (part_of u.part) 0 (operand_fields o)) f core refs
+unwritten_end e n g f core refs o (Err fault) = refused_end f core refs fault
 
 -- So many words are to be written, and their places are claimed behind that of the tally word.
-abbrev pub written_end : Effect → ℕ → RegsFields → Formed → ℕ → List ℕ → List Reference → Result Reached Fault → Ran (Result Performed Halt) (List ℕ)
-written_end e n g f count core refs (Ok u) =
-    run core_store g (perform e n g (chain_end_fields f) (part_of u.part) (length (claimed_by f.tally f.place)) (operand_fields u.operand))
+abbrev pub written_end : Effect → ℕ → RegsFields → Formed → ℕ → List ℕ → List Reference → Operand36 → Result Reached Fault → Ran (Result Performed Halt) (List ℕ)
+written_end e n g f count core refs o (Ok u) =
+    run core_store g (perform e n g (chain_end_fields f) (part_of u.part) (length (claimed_by f.tally f.place)) (operand_fields o))
     (standing core (claimed_by f.tally f.place ++ run_from u.place count) refs)
-written_end e n g f count core refs (Err fault) = refused_end f core refs fault
+written_end e n g f count core refs o (Err fault) = refused_end f core refs fault
 
 -- by operand kind
-abbrev pub reached_end : Effect → ℕ → RegsFields → Formed → Operand → List ℕ → List Reference → Result Reached Fault → Ran (Result Performed Halt) (List ℕ)
-reached_end e n g f kind.W core refs u = written_end e n g f 1 core refs u
-reached_end e n g f kind.W2 core refs u = written_end e n g f 2 core refs u
-reached_end e n g f kind.W16 core refs u = written_end e n g f 16 core refs u
-reached_end e n g f kind.Wl core refs u = written_end e n g f 1 core refs u
-reached_end e n g f kind.Wr core refs u = written_end e n g f 1 core refs u
-reached_end e n g f kind.Rw core refs u = written_end e n g f 1 core refs u
-reached_end e n g f kind.Rwl core refs u = written_end e n g f 1 core refs u
-reached_end e n g f _ core refs u = unwritten_end e n g f core refs u
+abbrev pub reached_end : Effect → ℕ → RegsFields → Formed → Operand → List ℕ → List Reference → Operand36 → Result Reached Fault → Ran (Result Performed Halt) (List ℕ)
+reached_end e n g f kind.W core refs o u = written_end e n g f 1 core refs o u
+reached_end e n g f kind.W2 core refs o u = written_end e n g f 2 core refs o u
+reached_end e n g f kind.W16 core refs o u = written_end e n g f 16 core refs o u
+reached_end e n g f kind.Wl core refs o u = written_end e n g f 1 core refs o u
+reached_end e n g f kind.Wr core refs o u = written_end e n g f 1 core refs o u
+reached_end e n g f kind.Rw core refs o u = written_end e n g f 1 core refs o u
+reached_end e n g f kind.Rwl core refs o u = written_end e n g f 1 core refs o u
+reached_end e n g f _ core refs o u = unwritten_end e n g f core refs o u
 
 -- A program that references its operand goes on as the code does, whatever the instruction.
-abbrev pub Reads : (Effect → ℕ → Operation) → RegsFields → Formed → List ℕ → List Reference → List ℕ → List Reference → Result Reached Fault → Type 0
-Reads program g f core refs core' refs' u =
-    (e : Effect) (n : ℕ) → ran_from g (program e n) f core refs ≡ unwritten_end e n g f core' refs' u
+abbrev pub Reads : (Effect → ℕ → Operation) → RegsFields → Formed → List ℕ → List Reference → List ℕ → List Reference → Operand36 → Result Reached Fault → Type 0
+Reads program g f core refs core' refs' o u =
+    (e : Effect) (n : ℕ) → ran_from g (program e n) f core refs ≡ unwritten_end e n g f core' refs' o u
 
-abbrev pub Writes : (Effect → ℕ → Operation) → RegsFields → Formed → ℕ → List ℕ → List Reference → List ℕ → List Reference → Result Reached Fault → Type 0
-Writes program g f count core refs core' refs' u =
-    (e : Effect) (n : ℕ) → ran_from g (program e n) f core refs ≡ written_end e n g f count core' refs' u
+abbrev pub Writes : (Effect → ℕ → Operation) → RegsFields → Formed → ℕ → List ℕ → List Reference → List ℕ → List Reference → Operand36 → Result Reached Fault → Type 0
+Writes program g f count core refs core' refs' o u =
+    (e : Effect) (n : ℕ) → ran_from g (program e n) f core refs ≡ written_end e n g f count core' refs' o u
 
 -- which part an operand kind writes
 abbrev pub part_for : Operand → code.Part
@@ -76,9 +77,9 @@ abbrev pub takes_word : Effect → RegsFields → ℕ → Bool → Result Operan
 takes_word e g w true = Ok (record { got = direct_word (operand_of e) w; ring = 0; place = 0 })
 takes_word e g w false = Err (record { at = here g; number = 10; acv = 0 })
 
-abbrev pub fields_reached : Result Reached Fault → Result OperandFields Fault
-fields_reached (Ok u) = Ok (operand_fields u.operand)
-fields_reached (Err fault) = Err fault
+abbrev pub fields_reached : Operand36 → Result Reached Fault → Result OperandFields Fault
+fields_reached o (Ok u) = Ok (operand_fields o)
+fields_reached o (Err fault) = Err fault
 
-abbrev pub DirectOperand : Effect → RegsFields → ℕ → Result Reached Fault → Type 0
-DirectOperand e g w u = fields_reached u ≡ takes_word e g w (takes_direct e)
+abbrev pub DirectOperand : Effect → RegsFields → ℕ → Operand36 → Result Reached Fault → Type 0
+DirectOperand e g w o u = fields_reached o u ≡ takes_word e g w (takes_direct e)

@@ -1,22 +1,21 @@
 //! The effect of an instruction on an operand that is there.
 
-ghost use Rattle.std.specs.Prelude.{ℕ, ◌≡◌, ◌≢◌, ◌<◌, IfOk, IfErr, IsTrue};
+ghost use Rattle.std.specs.Prelude.{ℕ, ◌≡◌, ◌≢◌, ◌<◌, Ok, IfOk, IfErr, IsTrue};
 ghost use Rattle.m36_inst.specs.Operands.{operand_of};
 ghost use Rattle.m36_inst.specs.declared.operand.Operand.TheVariants.{N};
 ghost use Rattle.m36_model.specs.Chain.{chain_end_fields};
 ghost use Rattle.m36_model.specs.Effect.{exec, refused_here};
 ghost use Rattle.m36_model.specs.OperandHeld.{HoldsFor};
-ghost use Rattle.m36_model.specs.Results.{operand_fields, words_of_held};
+ghost use Rattle.m36_model.specs.Results.{OperandFields, operand_fields, words_of_held};
 ghost use Rattle.m36_model.specs.Step.{tallied};
 ghost use Rattle.m36_model.specs.Transfers.{is_taken};
 ghost use Rattle.m36_model.specs.WordsPut.{PutsFor};
 ghost use Rattle.m36_xdata.specs.Changes.{LeavesSo};
 ghost use Rattle.m36_xptr.specs.PointerInstructions.{is_pointer};
-ghost use Rattle.m36_xfer.specs.ControlInstructions.{is_control};
+ghost use Rattle.m36_xfer.specs.ControlInstructions.{is_control, is_transfer};
 
 use m36_inst::{Effect, Row};
-use m36_model::{Fault, Final, Formed, Operand36, Regs};
-use m36_xdata::Done;
+use m36_model::{Fault, Final, Formed, Held, Operand36, Regs};
 
 /// The registers with tally runout as a tally word has set it.
 fn with_runout(regs: &Regs, runout: bool) -> Regs
@@ -81,23 +80,34 @@ fn execute_pointer(
     regs: &mut Regs,
     last: &Final,
     operand: &Operand36,
-) -> Result<Done, Fault>
+    put: &mut Held,
+) -> Result<bool, Fault>
     requires group { IsTrue (is_pointer row.now.effect) }
     requires reg { row.now.reg < 8 }
     requires got { HoldsFor (operand_of row.now.effect) operand.now.got }
-    ensures value { LeavesSo regs.old regs.new result (refused_here regs.old (exec row.now.effect row.now.reg regs.old last.now (operand_fields operand.now))) }
-    ensures put { IfOk result (λ d. PutsFor (operand_of row.now.effect) (words_of_held d.put)) }
+    ensures value { LeavesSo regs.old regs.new put.new result (refused_here regs.old (exec row.now.effect row.now.reg regs.old last.now (operand_fields operand.now))) }
+    ensures put { IfOk result (λ o. PutsFor (operand_of row.now.effect) (words_of_held put.new)) }
 {
     match m36_xptr::exec(row, regs, last, *operand) {
         Ok(effect) => {
             *regs = effect.regs;
-            Ok(Done {
-                put: effect.put,
-                overflow: effect.overflow,
-            })
+            *put = effect.put;
+            Ok(effect.overflow)
         }
         Err(fault) => Err(fault),
     }
+}
+
+/// A transfer that changes where the next instruction stands, and nothing else, done in the registers. It is done here and not by
+/// `execute_control`, whose answer has all registers.
+fn execute_transfer(row: &Row, regs: &mut Regs, last: &Final, put: &mut Held) -> bool
+    requires group { IsTrue (is_transfer row.now.effect) }
+    ensures value { (o : OperandFields) → Ok (record { regs = regs.new; put = words_of_held put.new; overflow = result }) ≡ refused_here regs.old (exec row.now.effect row.now.reg regs.old last.now o) }
+    ensures put { PutsFor (operand_of row.now.effect) (words_of_held put.new) }
+{
+    m36_xfer::transfer(row.effect, regs, last);
+    *put = Held::Empty;
+    false
 }
 
 /// An instruction of control, done in the registers.
@@ -106,20 +116,19 @@ fn execute_control(
     regs: &mut Regs,
     last: &Final,
     operand: &Operand36,
-) -> Result<Done, Fault>
+    put: &mut Held,
+) -> Result<bool, Fault>
     requires group { IsTrue (is_control row.now.effect) }
     requires reg { row.now.reg < 8 }
     requires got { HoldsFor (operand_of row.now.effect) operand.now.got }
-    ensures value { LeavesSo regs.old regs.new result (refused_here regs.old (exec row.now.effect row.now.reg regs.old last.now (operand_fields operand.now))) }
-    ensures put { IfOk result (λ d. PutsFor (operand_of row.now.effect) (words_of_held d.put)) }
+    ensures value { LeavesSo regs.old regs.new put.new result (refused_here regs.old (exec row.now.effect row.now.reg regs.old last.now (operand_fields operand.now))) }
+    ensures put { IfOk result (λ o. PutsFor (operand_of row.now.effect) (words_of_held put.new)) }
 {
     match m36_xfer::exec(row, regs, last, *operand) {
         Ok(effect) => {
             *regs = effect.regs;
-            Ok(Done {
-                put: effect.put,
-                overflow: effect.overflow,
-            })
+            *put = effect.put;
+            Ok(effect.overflow)
         }
         Err(fault) => Err(fault),
     }
@@ -127,20 +136,29 @@ fn execute_control(
 
 /// An instruction, done in the registers as they are.
 #[tactic(auto, using(crate::proofs::Groups::data_else))]
-fn execute(row: &Row, regs: &mut Regs, last: &Final, operand: &Operand36) -> Result<Done, Fault>
+fn execute(
+    row: &Row,
+    regs: &mut Regs,
+    last: &Final,
+    operand: &Operand36,
+    put: &mut Held,
+) -> Result<bool, Fault>
     requires addressed { operand_of row.now.effect ≢ N }
     requires reg { row.now.reg < 8 }
     requires got { HoldsFor (operand_of row.now.effect) operand.now.got }
-    ensures value { LeavesSo regs.old regs.new result (refused_here regs.old (exec row.now.effect row.now.reg regs.old last.now (operand_fields operand.now))) }
-    ensures put { IfOk result (λ d. PutsFor (operand_of row.now.effect) (words_of_held d.put)) }
+    ensures value { LeavesSo regs.old regs.new put.new result (refused_here regs.old (exec row.now.effect row.now.reg regs.old last.now (operand_fields operand.now))) }
+    ensures put { IfOk result (λ o. PutsFor (operand_of row.now.effect) (words_of_held put.new)) }
 {
     if is_pointer(row.effect) {
-        return execute_pointer(row, regs, last, operand);
+        return execute_pointer(row, regs, last, operand, put);
+    }
+    if m36_xfer::is_transfer(row.effect) {
+        return Ok(execute_transfer(row, regs, last, put));
     }
     if is_control(row.effect) {
-        return execute_control(row, regs, last, operand);
+        return execute_control(row, regs, last, operand, put);
     }
-    m36_xdata::exec_in_place(row, regs, last, operand)
+    m36_xdata::exec_in_place(row, regs, last, operand, put)
 }
 
 /// An instruction, done in the registers. Tally runout is set before it, but where it is refused.
@@ -150,21 +168,22 @@ pub(crate) fn effect(
     regs: &mut Regs,
     formed: &Formed,
     operand: &Operand36,
-) -> Result<Done, Fault>
+    put: &mut Held,
+) -> Result<bool, Fault>
     requires addressed { operand_of row.now.effect ≢ N }
     requires reg { row.now.reg < 8 }
     requires got { HoldsFor (operand_of row.now.effect) operand.now.got }
-    ensures value { LeavesSo regs.old regs.new result (refused_here regs.old (exec row.now.effect row.now.reg (tallied regs.old (chain_end_fields formed.now)) formed.now.last (operand_fields operand.now))) }
-    ensures put { IfOk result (λ d. PutsFor (operand_of row.now.effect) (words_of_held d.put)) }
+    ensures value { LeavesSo regs.old regs.new put.new result (refused_here regs.old (exec row.now.effect row.now.reg (tallied regs.old (chain_end_fields formed.now)) formed.now.last (operand_fields operand.now))) }
+    ensures put { IfOk result (λ o. PutsFor (operand_of row.now.effect) (words_of_held put.new)) }
 {
     match formed.tally {
-        None => execute(row, regs, &formed.last, operand),
+        None => execute(row, regs, &formed.last, operand, put),
         Some(tally) => {
             let mut after = with_runout(regs, tally.runout);
-            match execute(row, &mut after, &formed.last, operand) {
-                Ok(done) => {
+            match execute(row, &mut after, &formed.last, operand, put) {
+                Ok(overflow) => {
                     *regs = after;
-                    Ok(done)
+                    Ok(overflow)
                 }
                 Err(fault) => Err(fault),
             }

@@ -18,11 +18,11 @@ use crate::operate::operate;
 use crate::writes::write_words;
 use m36_ea::effective;
 use m36_inst::{Effect, Inst, Operand, Row, row};
-use m36_model::{At, Final, Formed, Halt, Kind, Reference, Refs, Regs, Stop};
+use m36_model::{At, Final, Formed, Halt, Held, Kind, Reference, Refs, Regs, Stop};
 use m36_walk::Walk;
 use m36_word::Word;
 
-/// The end of a step whose effect the registers have taken; `place` is where its instruction stands. LDBR has changed the
+/// The end of a step whose effect the registers have taken; `place` is where its instruction stands. LDBR may have changed the
 /// descriptor segment base register, and the walk goes on by it.
 fn completed(
     walk: &mut Walk,
@@ -37,9 +37,7 @@ fn completed(
     ensures dbr { walk.new.dbr ≡ regs.now.dbr }
 {
     let dbr = regs.dbr;
-    if dbr != walk.dbr() {
-        walk.set_dbr(dbr);
-    }
+    walk.set_dbr(dbr);
     let ind = regs.ind;
     Ended {
         word: Some(word),
@@ -67,10 +65,11 @@ fn operated(
 {
     let last = formed.last;
     let here = regs.here();
-    match operate(walk, regs, row, formed, refs) {
+    let mut put = Held::Empty;
+    match operate(walk, regs, row, formed, refs, &mut put) {
         Err(halt) => halted(Some(word), Some(last), halt),
         Ok(operated) => {
-            write_words(walk, formed, &operated);
+            write_words(walk, formed, &operated, &put);
             completed(walk, regs, here, word, last, operated.overflow)
         }
     }
@@ -170,6 +169,7 @@ fn decoded(walk: &mut Walk, regs: &mut Regs, word: Word, privileged: bool, refs:
 }
 
 /// One step: it fetches the instruction that stands, and executes it.
+#[inline(always)]
 pub(crate) fn execute(walk: &mut Walk, regs: &mut Regs, refs: &mut Refs) -> Ended
     requires dbr { walk.old.dbr ≡ regs.old.dbr }
     requires room { length refs.old.items ≤ 3 }

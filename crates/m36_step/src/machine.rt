@@ -37,7 +37,6 @@ impl Model for Machine {
 
 /// One step of a walk and registers with the same descriptor segment base register, told in a record that an earlier step
 /// may have filled.
-#[inline(always)]
 fn turn(walk: &mut Walk, regs: &mut Regs, told: &mut StepRecord)
     requires dbr { walk.old.dbr ≡ regs.old.dbr }
     ensures told { told.new ≡ record_of core_store (record { regs = regs.old; store = walk.old.core }) }
@@ -92,7 +91,7 @@ impl Machine {
 
     /// One step, told in place: the record becomes that of the written step, whatever it told before. So a run needs one
     /// record, and the list of references in it is neither made nor copied in a step.
-    #[inline(always)]
+    #[inline]
     pub fn step_into(&mut self, told: &mut StepRecord)
         ensures told { told.new ≡ record_of core_store self.old }
         ensures state { self.new ≡ state_after core_store self.old }

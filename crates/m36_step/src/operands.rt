@@ -16,20 +16,26 @@ use crate::references::{hold_words, read_block, read_pair, read_word};
 use m36_model::{Fault, Formed, Held, Operand36, Refs, Regs};
 use m36_walk::Walk;
 
-/// Words that are read, with the first ring bracket of their segment or a new ring; nothing is written.
-pub(crate) fn given(got: Held, ring: u8) -> Reached
+/// Gives words that are read, with the first ring bracket of their segment or a new ring.
+#[inline(always)]
+pub(crate) fn give(got: Held, ring: u8, operand: &mut Operand36)
     requires { ring < 2 ^ 3 }
-    ensures operand { operand_fields result.operand ≡ record { got = words_of_held got; ring = ring; place = 0 } }
-    ensures got { result.operand.got ≡ got }
+    ensures operand { operand_fields operand.new ≡ record { got = words_of_held got; ring = ring; place = 0 } }
+    ensures got { operand.new.got ≡ got }
+{
+    *operand = Operand36 {
+        got,
+        place: 0,
+        ring,
+    };
+}
+
+/// Nothing is to be written.
+pub(crate) fn unwritten() -> Reached
     ensures place { result.place ≡ 0 }
     ensures part { result.part ≡ part.Whole }
 {
     Reached {
-        operand: Operand36 {
-            got,
-            place: 0,
-            ring,
-        },
         place: 0,
         part: Part::Whole,
     }
@@ -42,11 +48,12 @@ pub(crate) fn reach_word(
     regs: &Regs,
     formed: &Formed,
     refs: &mut Refs,
+    operand: &mut Operand36,
 ) -> Result<Reached, Fault>
     requires dbr { walk.old.dbr ≡ regs.now.dbr }
     requires room { length refs.old.items < 40 }
-    ensures reads { Reads (λ e n. reading_word e n regs.now (chain_end_fields formed.now)) regs.now formed.now walk.old.core refs.old.items walk.new.core refs.new.items result }
-    ensures got { IfOk result (λ u. IsTrue (is_word u.operand.got)) }
+    ensures reads { Reads (λ e n. reading_word e n regs.now (chain_end_fields formed.now)) regs.now formed.now walk.old.core refs.old.items walk.new.core refs.new.items operand.new result }
+    ensures got { IfOk result (λ u. IsTrue (is_word operand.new.got)) }
     ensures run { IfOk result (λ u. LiesIn (length walk.new.core) u.place 0) }
     ensures place { IfOk result (λ u. u.place < 2 ^ 24) }
     ensures part { IfOk result (λ u. u.part ≡ part.Whole) }
@@ -55,7 +62,10 @@ pub(crate) fn reach_word(
     ensures len { length walk.new.core ≡ length walk.old.core }
 {
     match read_word(walk, regs, formed, refs) {
-        Ok(word) => Ok(given(Held::One(word), 0)),
+        Ok(word) => {
+            give(Held::One(word), 0, operand);
+            Ok(unwritten())
+        }
         Err(fault) => Err(fault),
     }
 }
@@ -67,11 +77,12 @@ pub(crate) fn reach_pair(
     regs: &Regs,
     formed: &Formed,
     refs: &mut Refs,
+    operand: &mut Operand36,
 ) -> Result<Reached, Fault>
     requires dbr { walk.old.dbr ≡ regs.now.dbr }
     requires room { length refs.old.items < 40 }
-    ensures reads { Reads (λ e n. reading_words e n regs.now (chain_end_fields formed.now) 2) regs.now formed.now walk.old.core refs.old.items walk.new.core refs.new.items result }
-    ensures got { IfOk result (λ u. IsTrue (is_pair u.operand.got)) }
+    ensures reads { Reads (λ e n. reading_words e n regs.now (chain_end_fields formed.now) 2) regs.now formed.now walk.old.core refs.old.items walk.new.core refs.new.items operand.new result }
+    ensures got { IfOk result (λ u. IsTrue (is_pair operand.new.got)) }
     ensures run { IfOk result (λ u. LiesIn (length walk.new.core) u.place 0) }
     ensures place { IfOk result (λ u. u.place < 2 ^ 24) }
     ensures part { IfOk result (λ u. u.part ≡ part.Whole) }
@@ -80,7 +91,10 @@ pub(crate) fn reach_pair(
     ensures len { length walk.new.core ≡ length walk.old.core }
 {
     match read_pair(walk, regs, formed, refs) {
-        Ok((pair, ring)) => Ok(given(Held::Two(pair), ring)),
+        Ok((pair, ring)) => {
+            give(Held::Two(pair), ring, operand);
+            Ok(unwritten())
+        }
         Err(fault) => Err(fault),
     }
 }
@@ -92,11 +106,12 @@ pub(crate) fn reach_block(
     regs: &Regs,
     formed: &Formed,
     refs: &mut Refs,
+    operand: &mut Operand36,
 ) -> Result<Reached, Fault>
     requires dbr { walk.old.dbr ≡ regs.now.dbr }
     requires room { length refs.old.items < 40 }
-    ensures reads { Reads (λ e n. reading_words e n regs.now (chain_end_fields formed.now) 16) regs.now formed.now walk.old.core refs.old.items walk.new.core refs.new.items result }
-    ensures got { IfOk result (λ u. IsTrue (is_block u.operand.got)) }
+    ensures reads { Reads (λ e n. reading_words e n regs.now (chain_end_fields formed.now) 16) regs.now formed.now walk.old.core refs.old.items walk.new.core refs.new.items operand.new result }
+    ensures got { IfOk result (λ u. IsTrue (is_block operand.new.got)) }
     ensures run { IfOk result (λ u. LiesIn (length walk.new.core) u.place 0) }
     ensures place { IfOk result (λ u. u.place < 2 ^ 24) }
     ensures part { IfOk result (λ u. u.part ≡ part.Whole) }
@@ -107,7 +122,8 @@ pub(crate) fn reach_block(
     match read_block(walk, regs, formed, refs) {
         Ok(read) => {
             let block = read.0;
-            Ok(given(Held::Block(block), read.1))
+            give(Held::Block(block), read.1, operand);
+            Ok(unwritten())
         }
         Err(fault) => Err(fault),
     }
@@ -122,12 +138,13 @@ pub(crate) fn reach_written(
     count: u8,
     part: Part,
     refs: &mut Refs,
+    operand: &mut Operand36,
 ) -> Result<Reached, Fault>
     requires dbr { walk.old.dbr ≡ regs.now.dbr }
     requires room { length refs.old.items < 40 }
     requires count { IsCount count }
-    ensures writes { Writes (λ e n. writing e n regs.now (chain_end_fields formed.now) count (part_of part)) regs.now formed.now count walk.old.core refs.old.items walk.new.core refs.new.items result }
-    ensures got { IfOk result (λ u. IsTrue (is_empty u.operand.got)) }
+    ensures writes { Writes (λ e n. writing e n regs.now (chain_end_fields formed.now) count (part_of part)) regs.now formed.now count walk.old.core refs.old.items walk.new.core refs.new.items operand.new result }
+    ensures got { IfOk result (λ u. IsTrue (is_empty operand.new.got)) }
     ensures run { IfOk result (λ u. LiesIn (length walk.new.core) u.place count) }
     ensures place { IfOk result (λ u. u.place < 2 ^ 24) }
     ensures part { IfOk result (λ u. u.part ≡ part) }
@@ -136,11 +153,10 @@ pub(crate) fn reach_written(
     ensures len { length walk.new.core ≡ length walk.old.core }
 {
     match hold_words(walk, regs, formed, count, refs) {
-        Ok(place) => Ok(Reached {
-            place,
-            part,
-            ..given(Held::Empty, 0)
-        }),
+        Ok(place) => {
+            give(Held::Empty, 0, operand);
+            Ok(Reached { place, part })
+        }
         Err(fault) => Err(fault),
     }
 }
@@ -153,11 +169,12 @@ pub(crate) fn reach_changed(
     formed: &Formed,
     part: Part,
     refs: &mut Refs,
+    operand: &mut Operand36,
 ) -> Result<Reached, Fault>
     requires dbr { walk.old.dbr ≡ regs.now.dbr }
     requires room { length refs.old.items + 1 < 40 }
-    ensures writes { Writes (λ e n. changing e n regs.now (chain_end_fields formed.now) (part_of part)) regs.now formed.now 1 walk.old.core refs.old.items walk.new.core refs.new.items result }
-    ensures got { IfOk result (λ u. IsTrue (is_word u.operand.got)) }
+    ensures writes { Writes (λ e n. changing e n regs.now (chain_end_fields formed.now) (part_of part)) regs.now formed.now 1 walk.old.core refs.old.items walk.new.core refs.new.items operand.new result }
+    ensures got { IfOk result (λ u. IsTrue (is_word operand.new.got)) }
     ensures run { IfOk result (λ u. LiesIn (length walk.new.core) u.place 1) }
     ensures place { IfOk result (λ u. u.place < 2 ^ 24) }
     ensures part { IfOk result (λ u. u.part ≡ part) }
@@ -167,11 +184,10 @@ pub(crate) fn reach_changed(
 {
     match read_word(walk, regs, formed, refs) {
         Ok(word) => match hold_words(walk, regs, formed, 1, refs) {
-            Ok(place) => Ok(Reached {
-                place,
-                part,
-                ..given(Held::One(word), 0)
-            }),
+            Ok(place) => {
+                give(Held::One(word), 0, operand);
+                Ok(Reached { place, part })
+            }
             Err(fault) => Err(fault),
         },
         Err(fault) => Err(fault),

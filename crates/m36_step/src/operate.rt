@@ -10,41 +10,46 @@ use crate::effects::effect;
 use crate::operated::Operated;
 use crate::reach::reach;
 use m36_inst::Row;
-use m36_model::{Formed, Halt, Refs, Regs};
+use m36_model::{Formed, Halt, Held, Operand36, Refs, Regs};
 use m36_walk::Walk;
 
 /// Operates on the operand at a formed address. `walk` has the descriptor segment of `regs`, and the step has at most 38
 /// completed references; at most 2 are added.
 ///
 /// The answer, core, the registers and the completed references are those of the operation. A refusal leaves the registers as
-/// they were, and core but for the marks of the references that were completed. No word is written yet: which words, where
-/// they stand, and which part of them is written, is in the answer.
+/// they were, and core but for the marks of the references that were completed. No word is written yet: the words are put into
+/// `put`, and where they stand, and which part of them is written, is in the answer.
 pub(crate) fn operate(
     walk: &mut Walk,
     regs: &mut Regs,
     row: &Row,
     formed: &Formed,
     refs: &mut Refs,
+    put: &mut Held,
 ) -> Result<Operated, Halt>
     requires dbr { walk.old.dbr ≡ regs.old.dbr }
     requires row { IsRow row.now }
     requires addressed { row.now.operand ≢ N }
     requires tally { TallyLies formed.now.tally formed.now.place (length walk.old.core) refs.old.items }
     requires room { length refs.old.items ≤ 38 }
-    ensures operates { operation_from row.now.effect row.now.reg regs.old formed.now walk.old.core refs.old.items ≡ operated_end walk.new.core refs.new.items formed.now regs.new result }
+    ensures operates { operation_from row.now.effect row.now.reg regs.old formed.now walk.old.core refs.old.items ≡ operated_end walk.new.core refs.new.items formed.now regs.new put.new result }
     ensures stays { IfErr result (λ h. regs.new ≡ regs.old) }
-    ensures lies { IfOk result (λ o. Lies (length walk.new.core) formed.now o) }
+    ensures lies { IfOk result (λ o. Lies (length walk.new.core) formed.now put.new o) }
     ensures dbr { walk.new.dbr ≡ walk.old.dbr }
     ensures len { length walk.new.core ≡ length walk.old.core }
     ensures count { length refs.new.items ≤ length refs.old.items + 2 }
 {
-    match reach(walk, regs, row, formed, refs) {
-        Ok(reached) => match effect(row, regs, formed, &reached.operand) {
-            Ok(done) => Ok(Operated {
-                put: done.put,
+    let mut operand = Operand36 {
+        got: Held::Empty,
+        place: 0,
+        ring: 0,
+    };
+    match reach(walk, regs, row, formed, refs, &mut operand) {
+        Ok(reached) => match effect(row, regs, formed, &operand, put) {
+            Ok(overflow) => Ok(Operated {
                 place: reached.place,
                 part: reached.part,
-                overflow: done.overflow,
+                overflow,
             }),
             Err(fault) => Err(Halt::Fault(fault)),
         },

@@ -1,6 +1,7 @@
 //! An operand that is there, and what an operation on it comes to.
-
-use m36_model::{Held, Operand36};
+//!
+//! The words of an operand and the words to be written stand apart from these, in the function that joins the parts: both have
+//! room for a block, and would be copied with each answer.
 
 /// Which part of a word is written.
 #[derive(Clone, Copy, PartialEq, Eq, Debug)]
@@ -10,20 +11,18 @@ pub(crate) enum Part {
     Right,
 }
 
-/// An operand that is there: what the effect is given, and where the words that it gives are to be written.
+/// An operand that is there: where the words that its effect gives are to be written.
 #[derive(Clone, Copy)]
 pub(crate) struct Reached {
-    pub(crate) operand: Operand36,
     /// The place of the first word to be written; 24 bits. Where nothing is written it is 0.
     pub(crate) place: u32,
     pub(crate) part: Part,
 }
 
-/// An operation that nothing has refused, and whose effect the registers have taken: the words that it gives, and where they
-/// are to be written.
+/// An operation that nothing has refused, and whose effect the registers have taken: where the words that it gives are to be
+/// written.
 #[derive(Clone, Copy)]
 pub(crate) struct Operated {
-    pub(crate) put: Held,
     /// The place of the first word; 24 bits. Where nothing is written it is 0.
     pub(crate) place: u32,
     /// Of what is not the whole word, the effect gives a half, right-justified.

@@ -14,11 +14,13 @@ ghost use Rattle.m36_step.specs.Reached.{ran_from, reached_end, part_for, Direct
 
 use crate::effects::taken;
 use crate::ended::fault_here;
-use crate::operands::{given, reach_block, reach_changed, reach_pair, reach_word, reach_written};
+use crate::operands::{
+    give, reach_block, reach_changed, reach_pair, reach_word, reach_written, unwritten,
+};
 use crate::operated::{Part, Reached};
 use crate::targets::{reach_address, reach_call, reach_target};
 use m36_inst::{Operand, Row};
-use m36_model::{Fault, Formed, Held, Refs, Regs};
+use m36_model::{Fault, Formed, Held, Operand36, Refs, Regs};
 use m36_walk::Walk;
 use m36_word::Word;
 use m36_xfer::is_absa;
@@ -30,12 +32,13 @@ fn reach_by_kind(
     row: &Row,
     formed: &Formed,
     refs: &mut Refs,
+    operand: &mut Operand36,
 ) -> Result<Reached, Fault>
     requires dbr { walk.old.dbr ≡ regs.now.dbr }
     requires addressed { row.now.operand ≢ N }
     requires room { length refs.old.items + 1 < 40 }
-    ensures reaches { ran_from regs.now (by_kind row.now.effect row.now.reg regs.now (chain_end_fields formed.now) row.now.operand) formed.now walk.old.core refs.old.items ≡ reached_end row.now.effect row.now.reg regs.now formed.now row.now.operand walk.new.core refs.new.items result }
-    ensures got { IfOk result (λ u. HoldsFor row.now.operand u.operand.got) }
+    ensures reaches { ran_from regs.now (by_kind row.now.effect row.now.reg regs.now (chain_end_fields formed.now) row.now.operand) formed.now walk.old.core refs.old.items ≡ reached_end row.now.effect row.now.reg regs.now formed.now row.now.operand walk.new.core refs.new.items operand.new result }
+    ensures got { IfOk result (λ u. HoldsFor row.now.operand operand.new.got) }
     ensures run { IfOk result (λ u. LiesIn (length walk.new.core) u.place (words_written row.now.operand)) }
     ensures place { IfOk result (λ u. u.place < 2 ^ 24) }
     ensures part { IfOk result (λ u. u.part ≡ part_for row.now.operand) }
@@ -44,29 +47,34 @@ fn reach_by_kind(
     ensures count { length refs.new.items ≤ length refs.old.items + 2 }
 {
     match row.operand {
-        Operand::R => reach_word(walk, regs, formed, refs),
-        Operand::R2 => reach_pair(walk, regs, formed, refs),
-        Operand::R16 => reach_block(walk, regs, formed, refs),
-        Operand::W => reach_written(walk, regs, formed, 1, Part::Whole, refs),
-        Operand::W2 => reach_written(walk, regs, formed, 2, Part::Whole, refs),
-        Operand::W16 => reach_written(walk, regs, formed, 16, Part::Whole, refs),
-        Operand::Wl => reach_written(walk, regs, formed, 1, Part::Left, refs),
-        Operand::Wr => reach_written(walk, regs, formed, 1, Part::Right, refs),
-        Operand::Rw => reach_changed(walk, regs, formed, Part::Whole, refs),
-        Operand::Rwl => reach_changed(walk, regs, formed, Part::Left, refs),
-        Operand::A => reach_address(walk, regs, formed, is_absa(row.effect)),
-        Operand::T => reach_target(walk, regs, formed, taken(row, regs, formed)),
+        Operand::R => reach_word(walk, regs, formed, refs, operand),
+        Operand::R2 => reach_pair(walk, regs, formed, refs, operand),
+        Operand::R16 => reach_block(walk, regs, formed, refs, operand),
+        Operand::W => reach_written(walk, regs, formed, 1, Part::Whole, refs, operand),
+        Operand::W2 => reach_written(walk, regs, formed, 2, Part::Whole, refs, operand),
+        Operand::W16 => reach_written(walk, regs, formed, 16, Part::Whole, refs, operand),
+        Operand::Wl => reach_written(walk, regs, formed, 1, Part::Left, refs, operand),
+        Operand::Wr => reach_written(walk, regs, formed, 1, Part::Right, refs, operand),
+        Operand::Rw => reach_changed(walk, regs, formed, Part::Whole, refs, operand),
+        Operand::Rwl => reach_changed(walk, regs, formed, Part::Left, refs, operand),
+        Operand::A => reach_address(walk, regs, formed, is_absa(row.effect), operand),
+        Operand::T => reach_target(walk, regs, formed, taken(row, regs, formed), operand),
         Operand::N => unreachable!(),
-        Operand::Call6 => reach_call(walk, regs, formed),
+        Operand::Call6 => reach_call(walk, regs, formed, operand),
     }
 }
 
 /// A direct operand: the word of an instruction that reads one. NOP takes it and looks at nothing, and every other
 /// instruction refuses it.
-fn reach_direct(row: &Row, regs: &Regs, word: Word) -> Result<Reached, Fault>
+fn reach_direct(
+    row: &Row,
+    regs: &Regs,
+    word: Word,
+    operand: &mut Operand36,
+) -> Result<Reached, Fault>
     requires { IsRow row.now }
-    ensures direct { DirectOperand row.now.effect regs.now word result }
-    ensures got { IfOk result (λ u. HoldsFor row.now.operand u.operand.got) }
+    ensures direct { DirectOperand row.now.effect regs.now word operand.new result }
+    ensures got { IfOk result (λ u. HoldsFor row.now.operand operand.new.got) }
     ensures none { IfOk result (λ u. words_written row.now.operand ≡ 0) }
     ensures place { IfOk result (λ u. u.place ≡ 0) }
     ensures part { IfOk result (λ u. u.part ≡ part_for row.now.operand) }
@@ -76,8 +84,14 @@ fn reach_direct(row: &Row, regs: &Regs, word: Word) -> Result<Reached, Fault>
         return Err(fault_here(regs, 10));
     }
     match row.operand {
-        Operand::R => Ok(given(Held::One(word), 0)),
-        _ => Ok(given(Held::Empty, 0)),
+        Operand::R => {
+            give(Held::One(word), 0, operand);
+            Ok(unwritten())
+        }
+        _ => {
+            give(Held::Empty, 0, operand);
+            Ok(unwritten())
+        }
     }
 }
 
@@ -89,13 +103,14 @@ pub(crate) fn reach(
     row: &Row,
     formed: &Formed,
     refs: &mut Refs,
+    operand: &mut Operand36,
 ) -> Result<Reached, Fault>
     requires dbr { walk.old.dbr ≡ regs.now.dbr }
     requires row { IsRow row.now }
     requires addressed { row.now.operand ≢ N }
     requires room { length refs.old.items + 1 < 40 }
-    ensures reaches { operation_from row.now.effect row.now.reg regs.now formed.now walk.old.core refs.old.items ≡ reached_end row.now.effect row.now.reg regs.now formed.now row.now.operand walk.new.core refs.new.items result }
-    ensures got { IfOk result (λ u. HoldsFor row.now.operand u.operand.got) }
+    ensures reaches { operation_from row.now.effect row.now.reg regs.now formed.now walk.old.core refs.old.items ≡ reached_end row.now.effect row.now.reg regs.now formed.now row.now.operand walk.new.core refs.new.items operand.new result }
+    ensures got { IfOk result (λ u. HoldsFor row.now.operand operand.new.got) }
     ensures run { IfOk result (λ u. LiesIn (length walk.new.core) u.place (words_written row.now.operand)) }
     ensures place { IfOk result (λ u. u.place < 2 ^ 24) }
     ensures part { IfOk result (λ u. u.part ≡ part_for row.now.operand) }
@@ -105,7 +120,7 @@ pub(crate) fn reach(
 {
     let last = formed.last;
     match last.direct {
-        None => reach_by_kind(walk, regs, row, formed, refs),
-        Some(word) => reach_direct(row, regs, word),
+        None => reach_by_kind(walk, regs, row, formed, refs, operand),
+        Some(word) => reach_direct(row, regs, word, operand),
     }
 }

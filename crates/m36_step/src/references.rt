@@ -63,6 +63,7 @@ fn complete(refs: &mut Refs, kind: Kind, at: At, count: u8)
 }
 
 /// Reads the word of an operand.
+#[inline(always)]
 pub(crate) fn read_word(
     walk: &mut Walk,
     regs: &Regs,
@@ -139,6 +140,7 @@ pub(crate) fn read_block(
 }
 
 /// Examines a Write of 1, 2 or 16 words of an operand. The answer is the place of the first.
+#[inline(always)]
 pub(crate) fn hold_words(
     walk: &mut Walk,
     regs: &Regs,

@@ -10,30 +10,24 @@ ghost use Rattle.m36_walk.specs.Runs.{LiesIn};
 ghost use Rattle.m36_step.specs.Reached.{Reads};
 ghost use Rattle.m36_step.specs.declared.operated.Part.TheVariants as part;
 
-use crate::operands::given;
-use crate::operated::{Part, Reached};
+use crate::operands::{give, unwritten};
+use crate::operated::Reached;
 use crate::references::end_at;
 use m36_model::{Fault, Formed, Held, Operand36, Regs};
 use m36_walk::Walk;
 
 /// A place in core. Core has at most 2^24 words.
-fn placed(walk: &Walk, place: u32) -> Reached
+fn give_place(walk: &Walk, place: u32, operand: &mut Operand36)
     requires { place < length walk.now.core }
-    ensures operand { operand_fields result.operand ≡ record { got = []; ring = 0; place = place } }
-    ensures got { IsTrue (is_empty result.operand.got) }
-    ensures place { result.place ≡ 0 }
-    ensures part { result.part ≡ part.Whole }
+    ensures operand { operand_fields operand.new ≡ record { got = []; ring = 0; place = place } }
+    ensures got { IsTrue (is_empty operand.new.got) }
 {
     let _size = walk.core().len();
-    Reached {
-        operand: Operand36 {
-            got: Held::Empty,
-            place,
-            ring: 0,
-        },
-        place: 0,
-        part: Part::Whole,
-    }
+    *operand = Operand36 {
+        got: Held::Empty,
+        place,
+        ring: 0,
+    };
 }
 
 /// The address alone is used; ABSA asks for its place in core.
@@ -43,20 +37,25 @@ pub(crate) fn reach_address(
     regs: &Regs,
     formed: &Formed,
     absa: bool,
+    operand: &mut Operand36,
 ) -> Result<Reached, Fault>
     requires dbr { walk.old.dbr ≡ regs.now.dbr }
-    ensures reads { (refs : List Reference) → Reads (λ e n. addressing e n regs.now (chain_end_fields formed.now) absa) regs.now formed.now walk.old.core refs walk.new.core refs result }
-    ensures got { IfOk result (λ u. IsTrue (is_empty u.operand.got)) }
+    ensures reads { (refs : List Reference) → Reads (λ e n. addressing e n regs.now (chain_end_fields formed.now) absa) regs.now formed.now walk.old.core refs walk.new.core refs operand.new result }
+    ensures got { IfOk result (λ u. IsTrue (is_empty operand.new.got)) }
     ensures run { IfOk result (λ u. LiesIn (length walk.new.core) u.place 0) }
     ensures place { IfOk result (λ u. u.place < 2 ^ 24) }
     ensures part { IfOk result (λ u. u.part ≡ part.Whole) }
     ensures same { walk.new ≡ walk.old }
 {
     if !absa {
-        return Ok(given(Held::Empty, 0));
+        give(Held::Empty, 0, operand);
+        return Ok(unwritten());
     }
     match walk.place(end_at(formed)) {
-        Ok(place) => Ok(placed(walk, place)),
+        Ok(place) => {
+            give_place(walk, place, operand);
+            Ok(unwritten())
+        }
         Err(fault) => Err(fault),
     }
 }
@@ -68,38 +67,51 @@ pub(crate) fn reach_target(
     regs: &Regs,
     formed: &Formed,
     taken: bool,
+    operand: &mut Operand36,
 ) -> Result<Reached, Fault>
     requires dbr { walk.old.dbr ≡ regs.now.dbr }
-    ensures reads { (refs : List Reference) → Reads (λ e n. transferring e n regs.now (chain_end_fields formed.now) taken) regs.now formed.now walk.old.core refs walk.new.core refs result }
-    ensures got { IfOk result (λ u. IsTrue (is_empty u.operand.got)) }
+    ensures reads { (refs : List Reference) → Reads (λ e n. transferring e n regs.now (chain_end_fields formed.now) taken) regs.now formed.now walk.old.core refs walk.new.core refs operand.new result }
+    ensures got { IfOk result (λ u. IsTrue (is_empty operand.new.got)) }
     ensures run { IfOk result (λ u. LiesIn (length walk.new.core) u.place 0) }
     ensures place { IfOk result (λ u. u.place < 2 ^ 24) }
     ensures part { IfOk result (λ u. u.part ≡ part.Whole) }
     ensures same { walk.new ≡ walk.old }
 {
     if !taken {
-        return Ok(given(Held::Empty, 0));
+        give(Held::Empty, 0, operand);
+        return Ok(unwritten());
     }
     let ppr = regs.ppr;
     match walk.transfer(end_at(formed), ppr.prr) {
-        Ok(()) => Ok(given(Held::Empty, 0)),
+        Ok(()) => {
+            give(Held::Empty, 0, operand);
+            Ok(unwritten())
+        }
         Err(fault) => Err(fault),
     }
 }
 
 /// CALL6 examines its target, and the target gives the new ring.
 #[tactic(auto, using(crate::proofs::Reaching::reaching), unfolding(m36_walk::specs::Runs::LiesIn))]
-pub(crate) fn reach_call(walk: &mut Walk, regs: &Regs, formed: &Formed) -> Result<Reached, Fault>
+pub(crate) fn reach_call(
+    walk: &mut Walk,
+    regs: &Regs,
+    formed: &Formed,
+    operand: &mut Operand36,
+) -> Result<Reached, Fault>
     requires dbr { walk.old.dbr ≡ regs.now.dbr }
-    ensures reads { (refs : List Reference) → Reads (λ e n. calling e n regs.now (chain_end_fields formed.now)) regs.now formed.now walk.old.core refs walk.new.core refs result }
-    ensures got { IfOk result (λ u. IsTrue (is_empty u.operand.got)) }
+    ensures reads { (refs : List Reference) → Reads (λ e n. calling e n regs.now (chain_end_fields formed.now)) regs.now formed.now walk.old.core refs walk.new.core refs operand.new result }
+    ensures got { IfOk result (λ u. IsTrue (is_empty operand.new.got)) }
     ensures run { IfOk result (λ u. LiesIn (length walk.new.core) u.place 0) }
     ensures place { IfOk result (λ u. u.place < 2 ^ 24) }
     ensures part { IfOk result (λ u. u.part ≡ part.Whole) }
     ensures same { walk.new ≡ walk.old }
 {
     match walk.call(end_at(formed), regs.ppr) {
-        Ok(ring) => Ok(given(Held::Empty, ring)),
+        Ok(ring) => {
+            give(Held::Empty, ring, operand);
+            Ok(unwritten())
+        }
         Err(fault) => Err(fault),
     }
 }

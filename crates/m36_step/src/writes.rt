@@ -4,11 +4,11 @@ ghost use Rattle.std.specs.Prelude.{◌≡◌, ◌<◌, ◌^◌, length};
 ghost use Rattle.m36_model.specs.Act.{Whole, Left, Right};
 ghost use Rattle.m36_model.specs.Chain.{claimed_by, pending_of};
 ghost use Rattle.m36_model.specs.Core.{core_put, put_one};
-ghost use Rattle.m36_model.specs.Results.{words_of_pairs};
+ghost use Rattle.m36_model.specs.Results.{words_of_held, words_of_pairs};
 ghost use Rattle.m36_model.specs.StepCases.{at_spots};
 ghost use Rattle.m36_model.specs.Store.{Core_word, changes, written};
 ghost use Rattle.m36_walk.specs.Runs.{run_from, LiesIn};
-ghost use Rattle.m36_step.specs.Operated.{part_of, words_of, claims_of, puts_of, TallyIn, PartFits, PartHolds, Lies};
+ghost use Rattle.m36_step.specs.Operated.{part_of, claims_of, puts_of, TallyIn, PartFits, PartHolds, Lies};
 ghost use Rattle.m36_step.specs.declared.operated.Part.TheVariants as part;
 
 use crate::operated::{Operated, Part};
@@ -69,15 +69,15 @@ fn write_block(walk: &mut Walk, place: u32, block: &[Pair; 8])
 
 /// Writes the words that an effect gives, or its half.
 #[tactic(auto, unfolding(m36_model::specs::Core::core_put, m36_walk::specs::Runs::run_from, m36_walk::specs::Runs::LiesIn))]
-fn write_operand(walk: &mut Walk, operated: &Operated)
-    requires run { LiesIn (length walk.old.core) operated.now.place (length (words_of operated.now)) }
+fn write_operand(walk: &mut Walk, operated: &Operated, put: &Held)
+    requires run { LiesIn (length walk.old.core) operated.now.place (length (words_of_held put.now)) }
     requires place { operated.now.place < 2 ^ 24 }
-    requires part { PartFits operated.now.part (words_of operated.now) }
-    ensures core { walk.new.core ≡ core_put walk.old.core (at_spots (part_of operated.now.part) (run_from operated.now.place (length (words_of operated.now))) (words_of operated.now)) }
+    requires part { PartFits operated.now.part (words_of_held put.now) }
+    ensures core { walk.new.core ≡ core_put walk.old.core (at_spots (part_of operated.now.part) (run_from operated.now.place (length (words_of_held put.now))) (words_of_held put.now)) }
     ensures dbr { walk.new.dbr ≡ walk.old.dbr }
     ensures len { length walk.new.core ≡ length walk.old.core }
 {
-    match &operated.put {
+    match put {
         Held::Empty => {}
         Held::One(word) => write_word(walk, operated.place, operated.part, *word),
         Held::Two(pair) => walk.store_pair(operated.place, *pair),
@@ -100,12 +100,12 @@ fn write_tally(walk: &mut Walk, formed: &Formed)
 
 /// Writes the tally word of an address, and then the words of the operand.
 #[tactic(auto, using(crate::proofs::Writing::written_together))]
-pub(crate) fn write_words(walk: &mut Walk, formed: &Formed, operated: &Operated)
-    requires lies { Lies (length walk.old.core) formed.now operated.now }
-    ensures core { walk.new.core ≡ core_put walk.old.core (changes (claims_of formed.now operated.now) (puts_of formed.now operated.now)) }
+pub(crate) fn write_words(walk: &mut Walk, formed: &Formed, operated: &Operated, put: &Held)
+    requires lies { Lies (length walk.old.core) formed.now put.now operated.now }
+    ensures core { walk.new.core ≡ core_put walk.old.core (changes (claims_of formed.now put.now operated.now) (puts_of formed.now put.now operated.now)) }
     ensures dbr { walk.new.dbr ≡ walk.old.dbr }
     ensures len { length walk.new.core ≡ length walk.old.core }
 {
     write_tally(walk, formed);
-    write_operand(walk, operated);
+    write_operand(walk, operated, put);
 }

@@ -1,11 +1,11 @@
 -- What the code's changes are: the effects of the definitions, on the registers that the instruction began with.
-use Rattle.std.specs.Prelude.{◌≡◌, ℕ, List, [], ◌∷◌, Result, Ok, Err}
+use Rattle.std.specs.Prelude.{◌≡◌, ℕ, Bool, List, [], ◌∷◌, Result, Ok, Err}
 use Rattle.m36_model.specs.Registers.{RegsFields}
 use Rattle.m36_model.specs.Results.{EffectFields, A, Q, X, with_value, with_indicators, moved_on, words_of_held}
 use Rattle.m36_model.specs.Effect.{refused_here}
+use Rattle.m36_model.specs.declared.effects.Held.{Held}
 use Rattle.m36_model.specs.declared.outcome.Fault.{Fault}
 use Rattle.m36_xdata.specs.declared.changes.Change.{Change}
-use Rattle.m36_xdata.specs.declared.changes.Done.{Done}
 use Rattle.m36_xdata.specs.declared.changes.Taken.{Taken}
 use Rattle.m36_xdata.specs.declared.changes.Taken.TheVariants as taken_by
 use Rattle.m36_xdata.specs.declared.changes.Stored.{Stored}
@@ -36,8 +36,9 @@ abbrev pub answer_changed : Result Change Fault → RegsFields → Result Effect
 answer_changed (Ok c) g = Ok (changed c g)
 answer_changed (Err f) g = Err f
 
--- Registers that stood as g, and stand as g' after the code's effect. A refused effect leaves them.
-abbrev pub LeavesSo : RegsFields → RegsFields → Result Done Fault → Result EffectFields Fault → Type 0
-LeavesSo g g' (Ok d) definition =
-    Ok (record { regs = g'; put = words_of_held d.put; overflow = d.overflow }) ≡ definition
-LeavesSo g g' (Err f) definition = (Err f ≡ definition) × (g' ≡ g)
+-- Registers that stood as g, and stand as g' after the code's effect, with the words that it puts and whether it overflows. A refused
+-- effect leaves them.
+abbrev pub LeavesSo : RegsFields → RegsFields → Held → Result Bool Fault → Result EffectFields Fault → Type 0
+LeavesSo g g' put (Ok overflow) definition =
+    Ok (record { regs = g'; put = words_of_held put; overflow = overflow }) ≡ definition
+LeavesSo g g' put (Err f) definition = (Err f ≡ definition) × (g' ≡ g)

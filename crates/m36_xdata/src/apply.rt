@@ -4,7 +4,7 @@ ghost use Rattle.std.specs.Prelude.{◌≡◌, ◌+◌, ◌%◌, ◌^◌};
 ghost use Rattle.m36_model.specs.Results.{with_indicators, moved_on, words_of_held};
 ghost use Rattle.m36_xdata.specs.Changes.{changed, stored, taken};
 
-use crate::changes::{Change, Done, Stored, Taken};
+use crate::changes::{Change, Stored, Taken};
 use m36_model::{Held, Ind, Regs};
 
 /// Puts a new value into the registers that take one.
@@ -44,17 +44,17 @@ fn held(put: Stored) -> Held
     }
 }
 
-/// Makes a change to the registers, which then stand at the next instruction. The answer is what is left to do.
+/// Makes a change to the registers, which then stand at the next instruction. What is left to do is to write the words that
+/// are put into `put`, and to report overflow where the answer says so.
 #[tactic(auto, unfolding(m36_model::specs::Results::moved_on, m36_model::specs::Results::with_value))]
-pub fn applied(c: &Change, regs: &mut Regs) -> Done
-    ensures value { record { regs = regs.new; put = words_of_held result.put; overflow = result.overflow } ≡ changed c.now regs.old }
-    ensures put { words_of_held result.put ≡ stored c.now.put }
+#[inline(always)]
+pub fn applied(c: &Change, regs: &mut Regs, put: &mut Held) -> bool
+    ensures value { record { regs = regs.new; put = words_of_held put.new; overflow = result } ≡ changed c.now regs.old }
+    ensures put { words_of_held put.new ≡ stored c.now.put }
     ensures dbr { regs.new.dbr ≡ regs.old.dbr }
 {
     take(c.taken, regs);
     move_on(c.ind, regs);
-    Done {
-        put: held(c.put),
-        overflow: c.overflow,
-    }
+    *put = held(c.put);
+    c.overflow
 }

@@ -3,7 +3,7 @@
 
 ghost use Rattle.std.specs.Prelude.{◌<◌, ◌^◌};
 
-use m36_model::{Held, Ind};
+use m36_model::Ind;
 use m36_word::{Pair, Word};
 
 /// An index register and its new number.
@@ -45,15 +45,6 @@ pub struct Change {
     pub put: Stored,
     /// The indicators as they are to be.
     pub ind: Ind,
-    /// An overflow is to be reported.
-    pub overflow: bool,
-}
-
-/// What a data instruction leaves to be done, once the registers are changed.
-#[derive(Clone, Copy)]
-pub struct Done {
-    /// The words to write.
-    pub put: Held,
     /// An overflow is to be reported.
     pub overflow: bool,
 }

@@ -10,7 +10,7 @@ ghost use Rattle.m36_xdata.specs.DataInstructions.{is_data, is_never_refused};
 ghost use Rattle.m36_model.specs.WordsPut.{PutsFor};
 
 use crate::apply::applied;
-use crate::changes::{Change, Done};
+use crate::changes::Change;
 use crate::compares::{compare, compare_masked, test_and, test_and_clear, test_and_not, test_word};
 use crate::loads::{
     load, load_address_to_a, load_address_to_index, load_address_to_q, load_and_clear,
@@ -26,7 +26,7 @@ use crate::sums::{
     subtract, subtract_logical, subtract_stored, subtract_with_carry,
 };
 use m36_inst::{Effect, Row};
-use m36_model::{Effect36, Fault, Final, Operand36, Regs};
+use m36_model::{Effect36, Fault, Final, Held, Operand36, Regs};
 
 /// The change of an instruction that is never refused.
 #[tactic(auto, unfolding(m36_model::specs::Effect::exec))]
@@ -147,7 +147,7 @@ fn changed_by(row: &Row, regs: &Regs, f: &Final, given: &Operand36) -> Change
 }
 
 /// A data instruction, done in the registers, by the final address and the operand. The words of the operand are those that the
-/// instruction reads. The answer is what is left to do: the words to write, and whether overflow is to be reported.
+/// instruction reads. The words to write are put into `put`, and the answer is whether overflow is to be reported.
 ///
 /// # Errors
 ///
@@ -158,22 +158,23 @@ pub fn exec_in_place(
     regs: &mut Regs,
     f: &Final,
     operand: &Operand36,
-) -> Result<Done, Fault>
+    put: &mut Held,
+) -> Result<bool, Fault>
     requires data { IsTrue (is_data row.now.effect) }
     requires reg { row.now.reg < 8 }
     requires got { HoldsFor (operand_of row.now.effect) operand.now.got }
-    ensures value { LeavesSo regs.old regs.new result (refused_here regs.old (exec row.now.effect row.now.reg regs.old f.now (operand_fields operand.now))) }
-    ensures put { IfOk result (λ d. PutsFor (operand_of row.now.effect) (words_of_held d.put)) }
+    ensures value { LeavesSo regs.old regs.new put.new result (refused_here regs.old (exec row.now.effect row.now.reg regs.old f.now (operand_fields operand.now))) }
+    ensures put { IfOk result (λ o. PutsFor (operand_of row.now.effect) (words_of_held put.new)) }
     ensures dbr { regs.new.dbr ≡ regs.old.dbr }
 {
     match row.effect {
         Effect::Div => match divide(operand, regs) {
-            Ok(quotient) => Ok(applied(&quotient, regs)),
+            Ok(quotient) => Ok(applied(&quotient, regs, put)),
             Err(f) => Err(f),
         },
         _ => {
             let whole = changed_by(row, regs, f, operand);
-            Ok(applied(&whole, regs))
+            Ok(applied(&whole, regs, put))
         }
     }
 }
@@ -192,11 +193,12 @@ pub fn exec(row: &Row, regs: &Regs, f: &Final, operand: Operand36) -> Result<Eff
     ensures put { IfOk result (λ e. PutsFor (operand_of row.now.effect) (words_of_held e.put)) }
 {
     let mut after = *regs;
-    match exec_in_place(row, &mut after, f, &operand) {
-        Ok(done) => Ok(Effect36 {
+    let mut put = Held::Empty;
+    match exec_in_place(row, &mut after, f, &operand, &mut put) {
+        Ok(overflow) => Ok(Effect36 {
             regs: after,
-            put: done.put,
-            overflow: done.overflow,
+            put,
+            overflow,
         }),
         Err(f) => Err(f),
     }

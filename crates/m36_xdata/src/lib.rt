@@ -22,5 +22,4 @@ mod sums;
 #[cfg(test)]
 mod tests;
 
-pub use changes::Done;
 pub use execute::{exec, exec_in_place};

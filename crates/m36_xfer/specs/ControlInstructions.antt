@@ -28,3 +28,17 @@ is_control effect.Cams = true
 is_control effect.Camp = true
 is_control effect.Absa = true
 is_control _ = false
+
+-- those that change where the next instruction stands, and nothing else
+abbrev pub is_transfer : Effect → Bool
+is_transfer effect.Tra = true
+is_transfer effect.Tze = true
+is_transfer effect.Tnz = true
+is_transfer effect.Tmi = true
+is_transfer effect.Tpl = true
+is_transfer effect.Trc = true
+is_transfer effect.Tnc = true
+is_transfer effect.Tmoz = true
+is_transfer effect.Tpnz = true
+is_transfer effect.Ttf = true
+is_transfer _ = false

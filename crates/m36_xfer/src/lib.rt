@@ -7,7 +7,8 @@
 //! the descriptor segment base register, ABSA puts a place in core into A, and CAMS and CAMP do nothing that can be
 //! seen.
 //!
-//! [`exec`] gives exactly the effect that the instruction's equations say.
+//! [`exec`] gives exactly the effect that the instruction's equations say; [`transfer`] does the commonest in the registers as they
+//! are.
 //!
 //! Source: Multics Processor Manual AL39, "Transfer of control instructions", "Call (using PR6 and PR7)", "Return
 //! control double", "No operation" and "Privileged instructions"; for calls and returns, Schroeder and Saltzer (1972).
@@ -22,4 +23,4 @@ mod transfers;
 
 pub use execute::exec;
 pub use privileged::is_absa;
-pub use transfers::is_taken;
+pub use transfers::{is_taken, is_transfer, transfer};

@@ -1,8 +1,12 @@
 //! Transfers of control.
 
-ghost use Rattle.std.specs.Prelude.{◌≡◌, ◌+◌, ◌%◌, ◌<◌, ◌^◌, Ok};
-ghost use Rattle.m36_model.specs.Results.{effect_fields};
+ghost use Rattle.std.specs.Prelude.{ℕ, ◌≡◌, ◌+◌, ◌%◌, ◌<◌, ◌^◌, [], false, Ok, IsTrue};
+ghost use Rattle.m36_inst.specs.Operands.{operand_of};
+ghost use Rattle.m36_inst.specs.declared.operand.Operand.TheVariants.{T};
+ghost use Rattle.m36_model.specs.Effect.{exec};
+ghost use Rattle.m36_model.specs.Results.{OperandFields, effect_fields};
 ghost use Rattle.m36_model.specs.Transfers.{is_taken, gone_to, goes_to, transfer_where, transfer_on_overflow, transfer_and_set_index, transfer_and_set_pointer, next_word, without_overflow};
+ghost use Rattle.m36_xfer.specs.ControlInstructions.{is_transfer};
 
 use m36_desc::Ptr;
 use m36_inst::Effect;
@@ -26,6 +30,62 @@ pub fn is_taken(effect: Effect, regs: &Regs) -> bool
         Effect::Tov => ind.overflow,
         Effect::Ttf => !ind.tally,
         _ => true,
+    }
+}
+
+/// Whether an instruction is TRA or a conditional transfer but TOV. These change where the next instruction stands, and nothing
+/// else.
+pub fn is_transfer(effect: Effect) -> bool
+    ensures { result ≡ is_transfer effect }
+{
+    matches!(
+        effect,
+        Effect::Tra
+            | Effect::Tze
+            | Effect::Tnz
+            | Effect::Tmi
+            | Effect::Tpl
+            | Effect::Trc
+            | Effect::Tnc
+            | Effect::Tmoz
+            | Effect::Tpnz
+            | Effect::Ttf
+    )
+}
+
+/// Goes to the final address, or on to the next instruction.
+#[tactic(auto, unfolding(m36_model::specs::Transfers::transfer_where, m36_model::specs::Transfers::gone_to, m36_model::specs::Results::moved_on))]
+fn go(taken: bool, regs: &mut Regs, f: &Final)
+    ensures { transfer_where taken f.now regs.old ≡ Ok (record { regs = regs.new; put = []; overflow = false }) }
+{
+    if taken {
+        let at = f.at;
+        regs.ppr.psr = at.seg;
+        regs.ppr.ic = at.word;
+    } else {
+        regs.ppr.ic = next_word(regs);
+    }
+}
+
+/// TRA and the conditional transfers but TOV, done in the registers. They put no words.
+#[tactic(auto, unfolding(m36_model::specs::Effect::exec))]
+pub fn transfer(effect: Effect, regs: &mut Regs, f: &Final)
+    requires { IsTrue (is_transfer effect) }
+    ensures value { (n : ℕ) (o : OperandFields) → exec effect n regs.old f.now o ≡ Ok (record { regs = regs.new; put = []; overflow = false }) }
+    ensures kind { operand_of effect ≡ T }
+{
+    match effect {
+        Effect::Tra
+        | Effect::Tze
+        | Effect::Tnz
+        | Effect::Tmi
+        | Effect::Tpl
+        | Effect::Trc
+        | Effect::Tnc
+        | Effect::Tmoz
+        | Effect::Tpnz
+        | Effect::Ttf => go(is_taken(effect, regs), regs, f),
+        _ => unreachable!(),
     }
 }
 
