@@ -8,14 +8,20 @@
 //! words into bytes, most significant bit first, is this project's own.
 #![tactic(auto)]
 
+pub mod lines;
 pub mod naming;
+pub mod numbers;
 pub mod numerals;
 pub mod packing;
 pub mod reading;
 #[cfg(test)]
 mod tests;
+pub mod texts;
 
+pub use lines::{first_line, first_open_line, first_word, only_word, place_of};
 pub use naming::{Name, Names};
+pub use numbers::{decimal_in, has_no_leading_zero, octal_in, plain_decimal_in, short_decimal_in};
 pub use numerals::{decimal, octal};
 pub use packing::{PackFault, pack, packing_laws, unpack};
 pub use reading::{NumberFault, numeral_laws, read_decimal, read_octal};
+pub use texts::{is_file_name, is_name, is_name_character, is_text};
