@@ -1,7 +1,8 @@
 -- Names in a definition section: each stands there once, in order of first use.
 use Rattle.std.specs.Prelude.{ℕ, zero, suc, ◌+◌, ◌*◌, ◌/◌, ◌^◌, if◌then◌else◌, List, [], ◌∷◌, ◌++◌, length, slice_index}
 use Rattle.std.specs.List.{list_any}
-pub use Rattle.m36_text.specs.Texts.{are_same as same, is_name_character, is_name}
+pub use Rattle.m36_text.specs.Texts.{are_same as same, is_name_character}
+unfoldable pub use Rattle.m36_text.specs.Texts.{is_name}
 
 -- ---- which names stand, and where
 
