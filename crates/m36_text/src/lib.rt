@@ -1,8 +1,12 @@
-//! Texts of the simulator: numbers in octal and decimal, words packed into bytes, and short names.
+//! Texts of the simulator: numbers in octal and decimal, lines and words, words of core packed into bytes, and names.
 //!
 //! What is promised: a number is written in exactly the digits that its clause names, and a text is read as a number
-//! exactly where all its bytes are digits and the number is within the limit; packing and unpacking are inverse.
+//! exactly where all its bytes are digits and the number is within the limit; packing and unpacking are inverse; the
+//! lines of a text, the words of a line, and the texts that are names are exactly those of the definitions.
 //! Only `pack`, `unpack` and `Names` take memory.
+//!
+//! `specs/Lines.antt`, `specs/Numbers.antt` and `specs/Texts.antt` say what a line, a word, a number of a form and a name
+//! are, for every kind of file.
 //!
 //! Source: Multics Processor Manual AL39, "Number representation" (octal words of twelve digits); the packing of 36-bit
 //! words into bytes, most significant bit first, is this project's own.
