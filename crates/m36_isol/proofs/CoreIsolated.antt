@@ -71,7 +71,7 @@ module _ (core : List ℕ) (dbr : DbrFields) (audited : IsAudited core dbr) wher
       subst (λ (d : DbrFields). Backed core_store (core_tables core dbr) d) (sym (same_dbr core s.store dbr s.regs.dbr h)) backed_here
 
   -- descriptors are by the tables
-  by_tables : (s : State (List ℕ)) → tables_of core_store s ≡ core_tables core dbr → (seg : ℕ) → core_sdw s.store s.regs.dbr seg ≡ core_sdw core dbr seg
+  pub by_tables : (s : State (List ℕ)) → tables_of core_store s ≡ core_tables core dbr → (seg : ℕ) → core_sdw s.store s.regs.dbr seg ≡ core_sdw core dbr seg
   by_tables s h seg =
       let e = same_dbr core s.store dbr s.regs.dbr h in
       ap (λ (d : DbrFields). core_sdw s.store d seg) e ∙ descriptor_of core dbr s.store (subst (λ (d : DbrFields). core_tables s.store d ≡ core_tables core dbr) e h) seg
@@ -91,7 +91,7 @@ module _ (core : List ℕ) (dbr : DbrFields) (audited : IsAudited core dbr) wher
   pub core_agree : AgreeLaw core_store (core_tables core dbr)
   core_agree = agree_law core_store (core_tables core dbr) backed
 
-  pointers_after : (r : ℕ) (s : State (List ℕ)) → IsAbove core_store (core_tables core dbr) r s → HasPointers (state_after core_store s).regs
+  pub pointers_after : (r : ℕ) (s : State (List ℕ)) → IsAbove core_store (core_tables core dbr) r s → HasPointers (state_after core_store s).regs
   pointers_after r s above =
       pointers_stay core_store (core_tables core dbr) s.regs (backed s above.tables) r above.low s.store above.tables above.pointers
 

@@ -44,7 +44,7 @@ size_put : (now : List ℕ) (spot : Spot) (part : Part) (v : ℕ) → length (pu
 size_put now (Core_word a) part v = length-set now a _
 size_put now (Segment_word s w) part v = refl
 
-words_put : (now : List ℕ) (puts : List Change) (a : ℕ) → a < length now → core_word (core_put now puts) (Core_word a) ≡ overlay puts (Core_word a) (core_word now (Core_word a))
+pub words_put : (now : List ℕ) (puts : List Change) (a : ℕ) → a < length now → core_word (core_put now puts) (Core_word a) ≡ overlay puts (Core_word a) (core_word now (Core_word a))
 unfolding core_put
 words_put now [] a inside = refl
 words_put now (p ∷ puts) a inside =
@@ -53,18 +53,18 @@ words_put now (p ∷ puts) a inside =
     more ∙ ap (overlay puts (Core_word a)) (word_put now p.spot p.part p.value a inside)
 
 module _ (core : List ℕ) (dbr : DbrFields) (audited : IsAudited core dbr) where
-  abbrev sdws_of : ℕ → Result SdwFields Refusal
+  abbrev pub sdws_of : ℕ → Result SdwFields Refusal
   sdws_of = core_sdw core dbr
 
-  abbrev spots_by : SdwFields → ℕ → ℕ → Result Spot Refusal
+  abbrev pub spots_by : SdwFields → ℕ → ℕ → Result Spot Refusal
   spots_by d seg w = core_spot core dbr d seg w
 
   -- a word by the tables lies at a word of a segment
-  segment_spot : (seg w a : ℕ) (p : Spot) → IsWord sdws_of spots_by seg w p → p ≡ Core_word a → IsSegmentWord core dbr seg w a
+  pub segment_spot : (seg w a : ℕ) (p : Spot) → IsWord sdws_of spots_by seg w p → p ≡ Core_word a → IsSegmentWord core dbr seg w a
   segment_spot seg w a p h e =
       place_is core_store core dbr seg w (Core_word a) (record { sdw = h.sdw; live = h.live; inside = h.inside; found = h.found ∙ ap (λ (q : Spot). Ok q) e })
 
-  lies_at : (seg w : ℕ) (p : Spot) → IsWord sdws_of spots_by seg w p → IsSegmentSpot core dbr p
+  pub lies_at : (seg w : ℕ) (p : Spot) → IsWord sdws_of spots_by seg w p → IsSegmentSpot core dbr p
   lies_at seg w p h =
       let inside = core_spot_inside core dbr h.sdw seg w p h.found in
       subst (λ (q : Spot). IsSegmentSpot core dbr q) (sym inside.spot) (seg, w, segment_spot seg w inside.address p h inside.spot)
@@ -91,7 +91,7 @@ module _ (core : List ℕ) (dbr : DbrFields) (audited : IsAudited core dbr) wher
   lies_each puts h = each_map (IsSpot sdws_of spots_by) (λ (p : Change). IsSegmentSpot core dbr p.spot) (λ p k. lies_at k.seg k.w p.spot k.word) puts h
 
   -- a word of a segment lies inside core
-  inside_at : (a seg w : ℕ) → IsSegmentWord core dbr seg w a → a < length core
+  pub inside_at : (a seg w : ℕ) → IsSegmentWord core dbr seg w a → a < length core
   inside_at a seg w h =
       let k = place_parts core_store core dbr seg w (Core_word a) h in
       let i = core_spot_inside core dbr k.sdw seg w (Core_word a) k.found in
@@ -110,7 +110,7 @@ module _ (core : List ℕ) (dbr : DbrFields) (audited : IsAudited core dbr) wher
   marked_matches now m kind seg w p h =
       marks_match core dbr audited now (marks now dbr kind seg w) m (marks_are_ptws core dbr now m kind seg w h.sdw h.live (placed_within h.sdw w h.inside))
 
-  marked_near : (now : List ℕ) → Matches core dbr now → (kind : RequestKind) (seg w : ℕ) (p : Spot) → IsWord sdws_of spots_by seg w p → IsMarkedFrom core dbr now (core_marked now dbr kind seg w)
+  pub marked_near : (now : List ℕ) → Matches core dbr now → (kind : RequestKind) (seg w : ℕ) (p : Spot) → IsWord sdws_of spots_by seg w p → IsMarkedFrom core dbr now (core_marked now dbr kind seg w)
   unfolding core_marked
   marked_near now m kind seg w p h =
       marks_near core dbr now (marks now dbr kind seg w) (marks_are_ptws core dbr now m kind seg w h.sdw h.live (placed_within h.sdw w h.inside))
@@ -137,13 +137,13 @@ module _ (core : List ℕ) (dbr : DbrFields) (audited : IsAudited core dbr) wher
   apart_by a seg w seg' w' h k true false e f =
       absurd (audited.fourth a (record { seg = seg; w = w; word = h; other_seg = seg'; other_w = w'; other_word = k; differ = inr (eqb-false w w' f) }))
 
-  apart_at : (seg w seg' w' : ℕ) (p p' : Spot) → IsWord sdws_of spots_by seg w p → IsWord sdws_of spots_by seg' w' p' → same_spot p p' ≡ true → (seg ≡ seg') × (w ≡ w')
+  pub apart_at : (seg w seg' w' : ℕ) (p p' : Spot) → IsWord sdws_of spots_by seg w p → IsWord sdws_of spots_by seg' w' p' → same_spot p p' ≡ true → (seg ≡ seg') × (w ≡ w')
   apart_at seg w seg' w' p p' h k e =
       let i = core_spot_inside core dbr h.sdw seg w p h.found in
       let same = same_place p p' e (lies_at seg w p h) in
       apart_by i.address seg w seg' w' (segment_spot seg w i.address p h i.spot) (segment_spot seg' w' i.address p' k (sym same ∙ i.spot)) (seg == seg') (w == w') refl refl
 
-  word_at : (now : List ℕ) → Matches core dbr now → (seg w : ℕ) (p : Spot) → IsWord sdws_of spots_by seg w p → content_in core_store now dbr seg w ≡ Some (core_word now p)
+  pub word_at : (now : List ℕ) → Matches core dbr now → (seg w : ℕ) (p : Spot) → IsWord sdws_of spots_by seg w p → content_in core_store now dbr seg w ≡ Some (core_word now p)
   word_at now m seg w p h =
       content_placed core_store now dbr seg w p (record {
         sdw = h.sdw;

@@ -105,7 +105,7 @@ module _ (core : List ℕ) (dbr : DbrFields) where
 
   -- where the audit holds, a mark on a PTW changes no table but for marks
   module _ (audited : IsAudited core dbr) where
-    ptw_apart : (a seg : ℕ) → a < length core → IsPtwWord core dbr a → IsSdwWord core dbr seg a → ⊥
+    pub ptw_apart : (a seg : ℕ) → a < length core → IsPtwWord core dbr a → IsSdwWord core dbr seg a → ⊥
     ptw_apart a seg inside (inl k) h =
         audited.second a (record { inside = inside; table = Sdws; other = Directory; of = (seg, h); of_other = k; differ = λ e. cc })
     ptw_apart a seg inside (inr k) h =

@@ -21,3 +21,7 @@ pub mod AuditedBy
 pub mod CoreIsolated
 pub mod CoreReach
 pub mod Findings
+pub mod JointLaw
+pub mod JointStep
+pub mod Schedules
+pub mod JointFindings

@@ -15,14 +15,16 @@
 //! Manual AL39, "Access control".
 #![tactic(auto)]
 
-ghost use Rattle.std.specs.Prelude.{ℕ, List};
+ghost use Rattle.std.specs.Prelude.{ℕ, List, map};
 ghost use Rattle.m36_desc.specs.Fields.{DbrFields};
 ghost use Rattle.m36_model.specs.Core.{core_store, core_tables};
 ghost use Rattle.m36_model.specs.Audit.{IsAudited};
 ghost use Rattle.m36_model.specs.StoreLaw.{Lawful};
 ghost use Rattle.m36_model.specs.CoreLaw.{HasTables, IsSegmentSpot, IsMarkedFrom};
 ghost use Rattle.m36_model.specs.Isolation.{Isolated};
-ghost use Rattle.m36_isol.specs.Findings.{FindingsLaw};
+ghost use Rattle.m36_model.specs.JointAudit.{IsJointlyAudited};
+ghost use Rattle.m36_model.specs.JointIsolation.{JointlyIsolated};
+ghost use Rattle.m36_isol.specs.Findings.{FindingsLaw, JointFindingsLaw};
 ghost use Rattle.m36_isol.specs.Rights.{RightsLaw};
 ghost use Rattle.m36_isol.specs.Gates.{GatesLaw};
 ghost use Rattle.m36_isol.specs.MarkBits.{MarksKeepBits};
@@ -95,4 +97,18 @@ pub fn law_window()
 /// A step in any ring that executes no LDBR keeps the audit conditions.
 pub fn law_kept()
     ensures { KeptLaw }
+{}
+
+/// A joint audit of several processes finds nothing exactly where all its conditions hold, and there is one list of
+/// findings.
+pub fn law_joint_findings()
+    ensures { JointFindingsLaw }
+{}
+
+/// Where the joint audit conditions hold of a core and the descriptor segment base registers of several processes, every
+/// schedule of them is isolated in each ring from 1 to 7: whatever the processes do in that ring and above, until one of
+/// them faults, stops, or leaves through a gate, no word changes that the ring may not write, and no event depends on a
+/// word that it may not read; the event that ends below the ring is a call through a gate of its own process.
+pub fn law_schedule()
+    ensures { (core : List ℕ) (dbrs : List DbrFields) → IsJointlyAudited core dbrs → JointlyIsolated core_store (map (core_tables core) dbrs) }
 {}

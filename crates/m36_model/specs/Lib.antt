@@ -43,3 +43,6 @@ pub mod Laws
 pub mod Completed
 pub mod OperandWords
 pub mod StepCases
+pub mod Schedule
+pub mod JointAudit
+pub mod JointIsolation
