@@ -25,3 +25,4 @@ pub mod JointLaw
 pub mod JointStep
 pub mod Schedules
 pub mod JointFindings
+pub mod FlatLaw

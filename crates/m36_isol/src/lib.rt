@@ -22,6 +22,7 @@ ghost use Rattle.m36_model.specs.Audit.{IsAudited};
 ghost use Rattle.m36_model.specs.StoreLaw.{Lawful};
 ghost use Rattle.m36_model.specs.CoreLaw.{HasTables, IsSegmentSpot, IsMarkedFrom};
 ghost use Rattle.m36_model.specs.Isolation.{Isolated};
+ghost use Rattle.m36_model.specs.Flat.{Flat, flat_store, flat_tables, HasDescriptors, IsFlatSpot, IsSameFlat, IsFlatAudited};
 ghost use Rattle.m36_model.specs.JointAudit.{IsJointlyAudited};
 ghost use Rattle.m36_model.specs.JointIsolation.{JointlyIsolated};
 ghost use Rattle.m36_isol.specs.Findings.{FindingsLaw, JointFindingsLaw};
@@ -111,4 +112,11 @@ pub fn law_joint_findings()
 /// word that it may not read; the event that ends below the ring is a call through a gate of its own process.
 pub fn law_schedule()
     ensures { (core : List ℕ) (dbrs : List DbrFields) → IsJointlyAudited core dbrs → JointlyIsolated core_store (map (core_tables core) dbrs) }
+{}
+
+/// A flat memory, of descriptors and of the content of segments without page tables, owes what the laws want, and where
+/// the audit conditions that speak of descriptors hold of it, its tables isolate each ring.
+pub fn law_flat()
+    ensures store { (s : Flat) (dbr : DbrFields) → Lawful flat_store dbr (HasDescriptors s dbr) IsFlatSpot IsSameFlat }
+    ensures window { (s : Flat) (dbr : DbrFields) → IsFlatAudited s dbr → Isolated flat_store (flat_tables s dbr) }
 {}

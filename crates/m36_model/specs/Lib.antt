@@ -46,3 +46,7 @@ pub mod StepCases
 pub mod Schedule
 pub mod JointAudit
 pub mod JointIsolation
+pub mod Flat
+pub mod BootedCore
+pub mod Residence
+pub mod PagedStep
