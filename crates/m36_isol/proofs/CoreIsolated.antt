@@ -13,7 +13,7 @@ use Rattle.m36_model.specs.CoreLaw.{HasTables, IsSegmentSpot, IsMarkedFrom}
 use Rattle.m36_model.specs.Isolation.{HasPointers, Isolated}
 use Rattle.m36_model.specs.Laws.{IsAbove, SightLaw, DependsLaw, ReachLaw, FallLaw, AgreeLaw, MarksLaw}
 use Rattle.m36_isol.proofs.CoreTables.{descriptor_of}
-use Rattle.m36_isol.proofs.CoreLaw.{lawful}
+use Rattle.m36_isol.proofs.CoreLaw.{are_apart, lawful}
 use Rattle.m36_isol.proofs.StepLaws.{Backed, sight_law, depends_law, reach_law, fall_law, agree_law, marks_law, pointers_stay}
 use Rattle.m36_isol.proofs.AuditedBy.{same_dbr}
 use Rattle.m36_isol.proofs.Windows.{windows_kept}
@@ -44,10 +44,10 @@ module _ (core : List ℕ) (dbr : DbrFields) (audited : IsAudited core dbr) wher
       }
 
   -- the descriptors of which the store's law speaks are those in core
-  descriptor : (seg : ℕ) → core_sdw core dbr seg ≡ (lawful core dbr audited).sdws seg
-  descriptor seg = (lawful core dbr audited).sdw_is core refl seg
+  descriptor : (seg : ℕ) → core_sdw core dbr seg ≡ (lawful core dbr (are_apart core dbr audited)).sdws seg
+  descriptor seg = (lawful core dbr (are_apart core dbr audited)).sdw_is core refl seg
 
-  pub guarded_by : IsGuarded dbr (lawful core dbr audited).sdws
+  pub guarded_by : IsGuarded dbr (lawful core dbr (are_apart core dbr audited)).sdws
   guarded_by =
       record {
         gates = λ seg d live executable outer. core_gates.gates seg d (descriptor seg ∙ live) executable outer;
@@ -60,7 +60,7 @@ module _ (core : List ℕ) (dbr : DbrFields) (audited : IsAudited core dbr) wher
         Has = HasTables core dbr;
         Lies = IsSegmentSpot core dbr;
         Near = IsMarkedFrom core dbr;
-        law = lawful core dbr audited;
+        law = lawful core dbr (are_apart core dbr audited);
         guarded = guarded_by;
         has = λ s h. h;
         tables = λ s h. h;

@@ -10,7 +10,7 @@ use Rattle.m36_model.specs.Store.{Spot, Core_word, Segment_word, Change, within,
 use Rattle.m36_model.specs.Sight.{content_in}
 use Rattle.m36_model.specs.Place.{core_sdw, core_spot, core_marked, marks}
 use Rattle.m36_model.specs.Core.{core_store, core_word, put_one, core_put}
-use Rattle.m36_model.specs.Audit.{Sdws, Directory, Pages, IsAudited, IsSegmentWord}
+use Rattle.m36_model.specs.Audit.{Sdws, Directory, Pages, AreApart, IsAudited, IsSegmentWord}
 use Rattle.m36_model.specs.StoreLaw.{Each, same_spot, overlay, IsWord, IsSpot, Lawful}
 use Rattle.m36_model.specs.CoreLaw.{HasTables, IsSegmentSpot, IsPtwWord, IsMarkedFrom}
 use Rattle.m36_model.specs.declared.outcome.Refusal.{Refusal}
@@ -52,7 +52,12 @@ words_put now (p ∷ puts) a inside =
     let more = words_put next puts a (subst (λ (n : ℕ). a < n) (sym (size_put now p.spot p.part p.value)) inside) in
     more ∙ ap (overlay puts (Core_word a)) (word_put now p.spot p.part p.value a inside)
 
-module _ (core : List ℕ) (dbr : DbrFields) (audited : IsAudited core dbr) where
+-- the audit has three conditions on core words
+pub are_apart : (core : List ℕ) (dbr : DbrFields) → IsAudited core dbr → AreApart core dbr
+are_apart core dbr audited =
+    record { tables = audited.second; segments = audited.third; words = audited.fourth }
+
+module _ (core : List ℕ) (dbr : DbrFields) (apart : AreApart core dbr) where
   abbrev pub sdws_of : ℕ → Result SdwFields Refusal
   sdws_of = core_sdw core dbr
 
@@ -73,8 +78,8 @@ module _ (core : List ℕ) (dbr : DbrFields) (audited : IsAudited core dbr) wher
   segment_harmless : (now : List ℕ) (a v : ℕ) → IsSegmentSpot core dbr (Core_word a) → IsHarmless core dbr now a v
   segment_harmless now a v h =
       record {
-        descriptor = λ x here seg k. audited.third a (record { table = Sdws; of = (seg, k); seg = h.0; w = h.1; word = h.2 });
-        ptw = λ x here k. ⊎_elim (λ d. absurd (audited.third a (record { table = Directory; of = d; seg = h.0; w = h.1; word = h.2 }))) (λ p. absurd (audited.third a (record { table = Pages p.0; of = (p.1, p.2); seg = h.0; w = h.1; word = h.2 }))) k;
+        descriptor = λ x here seg k. apart.segments a (record { table = Sdws; of = (seg, k); seg = h.0; w = h.1; word = h.2 });
+        ptw = λ x here k. ⊎_elim (λ d. absurd (apart.segments a (record { table = Directory; of = d; seg = h.0; w = h.1; word = h.2 }))) (λ p. absurd (apart.segments a (record { table = Pages p.0; of = (p.1, p.2); seg = h.0; w = h.1; word = h.2 }))) k;
       }
 
   one_put : (now : List ℕ) (spot : Spot) (part : Part) (v : ℕ) → IsSegmentSpot core dbr spot → Matches core dbr now → Matches core dbr (put_one now spot part v)
@@ -108,7 +113,7 @@ module _ (core : List ℕ) (dbr : DbrFields) (audited : IsAudited core dbr) wher
   marked_matches : (now : List ℕ) → Matches core dbr now → (kind : RequestKind) (seg w : ℕ) (p : Spot) → IsWord sdws_of spots_by seg w p → Matches core dbr (core_marked now dbr kind seg w)
   unfolding core_marked
   marked_matches now m kind seg w p h =
-      marks_match core dbr audited now (marks now dbr kind seg w) m (marks_are_ptws core dbr now m kind seg w h.sdw h.live (placed_within h.sdw w h.inside))
+      marks_match core dbr apart now (marks now dbr kind seg w) m (marks_are_ptws core dbr now m kind seg w h.sdw h.live (placed_within h.sdw w h.inside))
 
   pub marked_near : (now : List ℕ) → Matches core dbr now → (kind : RequestKind) (seg w : ℕ) (p : Spot) → IsWord sdws_of spots_by seg w p → IsMarkedFrom core dbr now (core_marked now dbr kind seg w)
   unfolding core_marked
@@ -116,8 +121,8 @@ module _ (core : List ℕ) (dbr : DbrFields) (audited : IsAudited core dbr) wher
       marks_near core dbr now (marks now dbr kind seg w) (marks_are_ptws core dbr now m kind seg w h.sdw h.live (placed_within h.sdw w h.inside))
 
   ptw_no_segment : (a : ℕ) → IsPtwWord core dbr a → IsSegmentSpot core dbr (Core_word a) → ⊥
-  ptw_no_segment a (inl d) h = audited.third a (record { table = Directory; of = d; seg = h.0; w = h.1; word = h.2 })
-  ptw_no_segment a (inr p) h = audited.third a (record { table = Pages p.0; of = (p.1, p.2); seg = h.0; w = h.1; word = h.2 })
+  ptw_no_segment a (inl d) h = apart.segments a (record { table = Directory; of = d; seg = h.0; w = h.1; word = h.2 })
+  ptw_no_segment a (inr p) h = apart.segments a (record { table = Pages p.0; of = (p.1, p.2); seg = h.0; w = h.1; word = h.2 })
 
   marked_at : (now new : List ℕ) → IsMarkedFrom core dbr now new → (p : Spot) → IsSegmentSpot core dbr p → core_word new p ≡ core_word now p
   marked_at now new near (Segment_word s w) lies = absurd lies
@@ -133,9 +138,9 @@ module _ (core : List ℕ) (dbr : DbrFields) (audited : IsAudited core dbr) wher
   apart_by : (a seg w seg' w' : ℕ) → IsSegmentWord core dbr seg w a → IsSegmentWord core dbr seg' w' a → (s t : Bool) → (seg == seg') ≡ s → (w == w') ≡ t → (seg ≡ seg') × (w ≡ w')
   apart_by a seg w seg' w' h k true true e f = (eqb-true seg seg' e, eqb-true w w' f)
   apart_by a seg w seg' w' h k false t e f =
-      absurd (audited.fourth a (record { seg = seg; w = w; word = h; other_seg = seg'; other_w = w'; other_word = k; differ = inl (eqb-false seg seg' e) }))
+      absurd (apart.words a (record { seg = seg; w = w; word = h; other_seg = seg'; other_w = w'; other_word = k; differ = inl (eqb-false seg seg' e) }))
   apart_by a seg w seg' w' h k true false e f =
-      absurd (audited.fourth a (record { seg = seg; w = w; word = h; other_seg = seg'; other_w = w'; other_word = k; differ = inr (eqb-false w w' f) }))
+      absurd (apart.words a (record { seg = seg; w = w; word = h; other_seg = seg'; other_w = w'; other_word = k; differ = inr (eqb-false w w' f) }))
 
   pub apart_at : (seg w seg' w' : ℕ) (p p' : Spot) → IsWord sdws_of spots_by seg w p → IsWord sdws_of spots_by seg' w' p' → same_spot p p' ≡ true → (seg ≡ seg') × (w ≡ w')
   apart_at seg w seg' w' p p' h k e =

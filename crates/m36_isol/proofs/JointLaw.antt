@@ -8,7 +8,7 @@ use Rattle.m36_model.specs.Act.{RequestKind, Part}
 use Rattle.m36_model.specs.Store.{Spot, Core_word, Segment_word, Change}
 use Rattle.m36_model.specs.Place.{Mark, with_mark, with_marks, marks, core_sdw, core_spot, core_marked}
 use Rattle.m36_model.specs.Core.{core_store, core_word, put_one, core_put, unmarked}
-use Rattle.m36_model.specs.Audit.{Table, Sdws, Directory, Pages, IsOf, IsSdwWord, IsSegmentWord, IsAudited}
+use Rattle.m36_model.specs.Audit.{Table, Sdws, Directory, Pages, IsOf, IsSdwWord, IsSegmentWord, AreApart}
 use Rattle.m36_model.specs.StoreLaw.{Each, overlay, IsWord, IsSpot, Lawful}
 use Rattle.m36_model.specs.CoreLaw.{HasTables, IsSegmentSpot, IsPtwWord, IsMarked, IsMarkedFrom}
 use Rattle.m36_model.specs.JointAudit.{IsJointlyAudited}
@@ -18,7 +18,7 @@ use Rattle.m36_isol.proofs.Lists.{index_of_get, inside_of_get}
 use Rattle.m36_isol.proofs.Places.{core_spot_inside}
 use Rattle.m36_isol.proofs.CoreTables.{Matches, matches, has_tables, same_sdw, same_spot_of}
 use Rattle.m36_isol.proofs.CoreMarks.{IsHarmless, ptw_apart, set_matches, unmarked_word, marks_are_ptws, marked_self, marked_then}
-use Rattle.m36_isol.proofs.CoreLaw.{placed_within, words_put, segment_spot, lies_at, inside_at, marked_near, apart_at, word_at}
+use Rattle.m36_isol.proofs.CoreLaw.{placed_within, are_apart, words_put, segment_spot, lies_at, inside_at, marked_near, apart_at, word_at}
 
 module _ (core : List ℕ) (dbrs : List DbrFields) where
   -- the core has the tables of every process, but for marks
@@ -55,7 +55,7 @@ module _ (core : List ℕ) (dbrs : List DbrFields) where
             (audited.each i dbr at).third a (record { table = t; of = of; seg = k.seg; w = k.w; word = word })
         by_test false e =
             audited.tables a (record {
-              inside = inside_at core k.dbr (audited.each k.process k.dbr k.at) a k.seg k.w k.word;
+              inside = inside_at core k.dbr (are_apart core k.dbr (audited.each k.process k.dbr k.at)) a k.seg k.w k.word;
               dbr = dbr;
               other = k.dbr;
               two = record { first = i; second = k.process; at = at; other_at = k.at; differ = eqb-false i k.process e };
@@ -96,7 +96,7 @@ module _ (core : List ℕ) (dbrs : List DbrFields) where
       where
         by_test : (b : Bool) → (i == j) ≡ b → ⊥
         by_test true e =
-            ptw_apart core dbr (audited.each i dbr at) a seg inside ptw (subst (λ (d : DbrFields). IsSdwWord core d seg a) (one_dbr i j dbr other at there e) h)
+            ptw_apart core dbr (are_apart core dbr (audited.each i dbr at)) a seg inside ptw (subst (λ (d : DbrFields). IsSdwWord core d seg a) (one_dbr i j dbr other at there e) h)
         by_test false e = sdw_of_other i j dbr other at there e a seg inside ptw h
 
     -- words put at words of segments are table words of no process
@@ -133,8 +133,8 @@ module _ (core : List ℕ) (dbrs : List DbrFields) where
         marks_match i j dbr other at there (with_mark now m) list (mark_matches i j dbr other at there now m k h.0) h.1
 
     module _ (i : ℕ) (dbr : DbrFields) (at : slice_get dbrs i ≡ Some dbr) where
-      abbrev own : IsAudited core dbr
-      own = audited.each i dbr at
+      abbrev own : AreApart core dbr
+      own = are_apart core dbr (audited.each i dbr at)
 
       abbrev own_sdws : ℕ → Result SdwFields Refusal
       own_sdws = core_sdw core dbr
@@ -172,7 +172,7 @@ module _ (core : List ℕ) (dbrs : List DbrFields) where
       put_at : (now : List ℕ) → HasAll now → (puts : List Change) (p : Spot) → LiesInSome p → core_word (core_put now puts) p ≡ overlay puts p (core_word now p)
       put_at now has puts (Segment_word s w) lies = absurd lies
       put_at now has puts (Core_word a) lies =
-          let inside = inside_at core lies.dbr (audited.each lies.process lies.dbr lies.at) a lies.seg lies.w lies.word in
+          let inside = inside_at core lies.dbr (are_apart core lies.dbr (audited.each lies.process lies.dbr lies.at)) a lies.seg lies.w lies.word in
           words_put now puts a (subst (λ (n : ℕ). a < n) (sym (matches_own now has).size) inside)
 
       puts_all : (now : List ℕ) → HasAll now → (puts : List Change) → Each (IsSpot own_sdws own_spots) puts → HasAll (core_put now puts)

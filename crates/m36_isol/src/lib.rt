@@ -18,7 +18,7 @@
 ghost use Rattle.std.specs.Prelude.{ℕ, List, map};
 ghost use Rattle.m36_desc.specs.Fields.{DbrFields};
 ghost use Rattle.m36_model.specs.Core.{core_store, core_tables};
-ghost use Rattle.m36_model.specs.Audit.{IsAudited};
+ghost use Rattle.m36_model.specs.Audit.{AreApart, IsAudited};
 ghost use Rattle.m36_model.specs.StoreLaw.{Lawful};
 ghost use Rattle.m36_model.specs.CoreLaw.{HasTables, IsSegmentSpot, IsMarkedFrom};
 ghost use Rattle.m36_model.specs.Isolation.{Isolated};
@@ -47,12 +47,13 @@ pub fn law_gates()
     ensures { GatesLaw }
 {}
 
-/// Core as a store owes what the laws want, where the audit conditions hold: descriptors and places are by the tables
+/// Core as a store owes what the laws want, where table words and words of segments are apart, as three of the audit
+/// conditions say: descriptors and places are by the tables
 /// but for marks; a word at the place of a segment word is its content; marks and words written at segment words change
 /// neither tables nor other words. A mark changes no other bit of its page table word.
 pub fn law_store()
     ensures marks { MarksKeepBits }
-    ensures store { (core : List ℕ) (dbr : DbrFields) → IsAudited core dbr → Lawful core_store dbr (HasTables core dbr) (IsSegmentSpot core dbr) (IsMarkedFrom core dbr) }
+    ensures store { (core : List ℕ) (dbr : DbrFields) → AreApart core dbr → Lawful core_store dbr (HasTables core dbr) (IsSegmentSpot core dbr) (IsMarkedFrom core dbr) }
 {}
 
 /// An effect changes the ring in CALL6 and RTCD alone and the DBR in LDBR alone, and puts as many words as its operand
