@@ -26,3 +26,4 @@ pub mod JointStep
 pub mod Schedules
 pub mod JointFindings
 pub mod FlatLaw
+pub mod Mirror
