@@ -86,7 +86,7 @@ module _ (core : List ℕ) (dbr : DbrFields) (apart : AreApart core dbr) where
   one_put now (Core_word a) part v h m = set_matches core dbr now a _ m (segment_harmless now a _ h)
   one_put now (Segment_word s w) part v h m = m
 
-  puts_match : (now : List ℕ) (puts : List Change) → Each (λ (p : Change). IsSegmentSpot core dbr p.spot) puts → Matches core dbr now → Matches core dbr (core_put now puts)
+  pub puts_match : (now : List ℕ) (puts : List Change) → Each (λ (p : Change). IsSegmentSpot core dbr p.spot) puts → Matches core dbr now → Matches core dbr (core_put now puts)
   unfolding core_put
   puts_match now [] h m = m
   puts_match now (p ∷ puts) h m =
@@ -124,7 +124,7 @@ module _ (core : List ℕ) (dbr : DbrFields) (apart : AreApart core dbr) where
   ptw_no_segment a (inl d) h = apart.segments a (record { table = Directory; of = d; seg = h.0; w = h.1; word = h.2 })
   ptw_no_segment a (inr p) h = apart.segments a (record { table = Pages p.0; of = (p.1, p.2); seg = h.0; w = h.1; word = h.2 })
 
-  marked_at : (now new : List ℕ) → IsMarkedFrom core dbr now new → (p : Spot) → IsSegmentSpot core dbr p → core_word new p ≡ core_word now p
+  pub marked_at : (now new : List ℕ) → IsMarkedFrom core dbr now new → (p : Spot) → IsSegmentSpot core dbr p → core_word new p ≡ core_word now p
   marked_at now new near (Segment_word s w) lies = absurd lies
   marked_at now new near (Core_word a) lies =
       ⊎_elim (λ e. e) (λ k. absurd (ptw_no_segment a k.0 lies)) (near.words a)

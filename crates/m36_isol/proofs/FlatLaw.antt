@@ -47,7 +47,7 @@ put_one_descriptors : (s : Flat) (p : Spot) (part : Part) (v : ℕ) → (flat_pu
 put_one_descriptors s (Core_word a) part v = refl
 put_one_descriptors s (Segment_word seg w) part v = refl
 
-put_descriptors : (s : Flat) (puts : List Change) → (flat_put s puts).descriptors ≡ s.descriptors
+pub put_descriptors : (s : Flat) (puts : List Change) → (flat_put s puts).descriptors ≡ s.descriptors
 unfolding flat_put
 put_descriptors s [] = refl
 put_descriptors s (p ∷ puts) =
@@ -63,7 +63,7 @@ word_put : (now : Flat) (p : Spot) (part : Part) (v seg w : ℕ) → flat_word (
 word_put now (Core_word a) part v seg w = refl
 word_put now (Segment_word s w') part v seg w = refl
 
-words_put : (now : Flat) (puts : List Change) (seg w : ℕ) → flat_word (flat_put now puts) (Segment_word seg w) ≡ overlay puts (Segment_word seg w) (flat_word now (Segment_word seg w))
+pub words_put : (now : Flat) (puts : List Change) (seg w : ℕ) → flat_word (flat_put now puts) (Segment_word seg w) ≡ overlay puts (Segment_word seg w) (flat_word now (Segment_word seg w))
 unfolding flat_put
 words_put now [] seg w = refl
 words_put now (p ∷ puts) seg w =

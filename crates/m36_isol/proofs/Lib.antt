@@ -27,3 +27,6 @@ pub mod Schedules
 pub mod JointFindings
 pub mod FlatLaw
 pub mod Mirror
+pub mod MirrorStep
+pub mod EffectRefusals
+pub mod Laid

@@ -29,7 +29,7 @@ ghost use Rattle.m36_isol.specs.Findings.{FindingsLaw, JointFindingsLaw};
 ghost use Rattle.m36_isol.specs.Rights.{RightsLaw};
 ghost use Rattle.m36_isol.specs.Gates.{GatesLaw};
 ghost use Rattle.m36_isol.specs.MarkBits.{MarksKeepBits};
-ghost use Rattle.m36_model.specs.Laws.{EffectLaw, DependsLaw, SightLaw, ReachLaw, CoreReachLaw, FallLaw, MarksLaw, AgreeLaw, KeptLaw};
+ghost use Rattle.m36_model.specs.Laws.{EffectLaw, EffectRefusals, DependsLaw, SightLaw, ReachLaw, CoreReachLaw, FallLaw, MarksLaw, AgreeLaw, KeptLaw};
 
 /// An audit finds nothing exactly where all six conditions hold, and there is one list of findings.
 pub fn law_findings()
@@ -57,9 +57,10 @@ pub fn law_store()
 {}
 
 /// An effect changes the ring in CALL6 and RTCD alone and the DBR in LDBR alone, and puts as many words as its operand
-/// kind writes.
+/// kind writes. None is refused with a directed fault, an access violation or a fault tag.
 pub fn law_effect()
-    ensures { EffectLaw }
+    ensures effects { EffectLaw }
+    ensures refusals { EffectRefusals }
 {}
 
 /// In ring r and above a step refers to segments in sight of r alone, and writes to segments in reach of r alone; and
