@@ -1,5 +1,5 @@
 -- With which faults an effect is refused.
-use Rattle.std.proofs.Common.{◌≡◌, refl, arith}
+use Rattle.std.proofs.Common.{◌≡◌, arith}
 use Rattle.std.specs.Prelude.{ℕ, ◌<◌, Result, Ok, Err}
 use Rattle.m36_inst.specs.Operands.{operand_of}
 use Rattle.m36_model.specs.Results.{EffectFields}

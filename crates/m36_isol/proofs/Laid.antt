@@ -1,21 +1,20 @@
 -- The core of a booted image: where its words lie, and that table words and words of segments are apart.
-use Rattle.std.proofs.Common.{◌≡◌, refl, sym, ◌∙◌, ap, subst, inl, inr, ⊎_elim, arith}
-use Rattle.std.specs.Prelude.{ℕ, zero, suc, ◌+◌, ◌*◌, ◌/◌, ◌%◌, ◌^◌, ◌<◌, ◌≤◌, ◌≢◌, ◌⊎◌, Bool, true, false, ◌&&◌, ◌==◌, nat_lt, nat_le, List, [], ◌∷◌, length, slice_get, slice_index, Option, Some, None, option_map, Result, Ok, Err}
+use Rattle.std.proofs.Common.{◌≡◌, refl, sym, ◌∙◌, ap, inl, inr, ⊎_elim, arith}
+use Rattle.std.specs.Prelude.{ℕ, zero, suc, ◌+◌, ◌*◌, ◌/◌, ◌%◌, ◌^◌, ◌<◌, ◌≤◌, ◌⊎◌, Bool, true, false, ◌&&◌, ◌==◌, List, [], ◌∷◌, length, slice_get, slice_index, Option, Some, option_map, Result, Ok, Err}
 use Rattle.std.proofs.lemmas.Bool.{leb-true, ltb-true, lt-ltb}
-use Rattle.m36_desc.specs.Fields.{SdwFields, PtwFields, DbrFields}
+use Rattle.m36_desc.specs.Fields.{SdwFields, PtwFields}
 use Rattle.m36_desc.specs.Descriptors.{ptw_of}
 use Rattle.m36_word.specs.Bits.{is_on}
 use Rattle.m36_desc.specs.Access.{in_order}
-use Rattle.m36_model.specs.Store.{Spot, Core_word, within, placed, place}
-use Rattle.m36_model.specs.Place.{wrapped, in_frame_by, directory_at, page_at, in_bounds, in_frame, ptw_at, sdw_place, sdw_place_by, inside_core, inside_core_by, word_place_by, core_sdw, core_spot}
+use Rattle.m36_model.specs.Store.{Core_word, within}
+use Rattle.m36_model.specs.Place.{wrapped, in_frame_by, directory_at, page_at, in_bounds, in_frame, ptw_at, sdw_place_by, inside_core, inside_core_by, word_place_by, core_sdw, core_spot}
 use Rattle.m36_model.specs.Core.{core_store, unmarked}
-use Rattle.m36_model.specs.Audit.{Table, Sdws, Directory, Pages, IsOf, IsSdwWord, IsPageWord, IsSegmentWord, IsInTwoTables, IsTableAndSegment, IsInTwoSegments, AreApart}
-use Rattle.m36_model.specs.BootedCore.{descriptor_words, booted_dbr, booted_segments, table_at, wired_frames, resident_ptw, absent_ptw, IsLaidSegment, IsPage, page_word, IsInFrame, IsLaid}
+use Rattle.m36_model.specs.Audit.{Table, Sdws, Directory, Pages, IsOf, IsSdwWord, IsPageWord, IsSegmentWord, AreApart}
+use Rattle.m36_model.specs.BootedCore.{booted_dbr, table_at, resident_ptw, absent_ptw, IsPage, page_word, IsInFrame, IsLaid}
 use Rattle.m36_model.specs.Residence.{absence}
 use Rattle.m36_model.specs.declared.outcome.Refusal.{Refusal}
-use Rattle.m36_isol.proofs.Places.{IsPlaced, place_parts}
+use Rattle.m36_isol.proofs.Places.{place_parts}
 use Rattle.m36_isol.proofs.CoreTables.{same_frame}
-use Rattle.m36_isol.proofs.CoreMarks.{live_bounds}
 
 -- a word inside a list
 pub get_inside : (xs : List ℕ) (i : ℕ) → i < length xs → slice_get xs i ≡ Some (slice_index xs i)
@@ -188,7 +187,7 @@ module _ (core : List ℕ) (frames : ℕ) (laid : IsLaid core frames) where
       let y1 = y.1 in
       one_table seg seg' (omega arith)
 
-  one_word : (seg w seg' w' a : ℕ) → IsSegmentWord core booted_dbr seg w a → IsSegmentWord core booted_dbr seg' w' a → (seg ≡ seg') × (w ≡ w')
+  pub one_word : (seg w seg' w' a : ℕ) → IsSegmentWord core booted_dbr seg w a → IsSegmentWord core booted_dbr seg' w' a → (seg ≡ seg') × (w ≡ w')
   one_word seg w seg' w' a h k =
       let x = lies_in seg w a h in
       let y = lies_in seg' w' a k in

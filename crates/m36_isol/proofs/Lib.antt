@@ -30,3 +30,7 @@ pub mod Mirror
 pub mod MirrorStep
 pub mod EffectRefusals
 pub mod Laid
+pub mod Booted
+pub mod PagedStep
+pub mod Moved
+pub mod LaidAudit

@@ -1,7 +1,7 @@
 -- One step over two stores of which the first may lack words: its program is done at each refusal with the registers as
 -- they were and nothing put, has no page fault of its own, and asks for a place in core in ABSA alone.
 use Rattle.std.proofs.Common.{◌≡◌, refl, sym, ◌∙◌, ap, subst, inl, inr, ⊎_elim, arith}
-use Rattle.std.specs.Prelude.{ℕ, zero, suc, ◌+◌, ◌*◌, ◌/◌, ◌%◌, ◌^◌, ◌<◌, ◌≤◌, ◌≢◌, ◌⊎◌, Bool, true, false, not, ◌&&◌, ◌||◌, ◌==◌, if◌then◌else◌, List, [], slice_index, Option, Some, None, Result, Ok, Err}
+use Rattle.std.specs.Prelude.{ℕ, zero, suc, ◌+◌, ◌*◌, ◌/◌, ◌%◌, ◌^◌, ◌<◌, ◌≤◌, ◌≢◌, ◌⊎◌, Bool, true, false, not, ◌&&◌, ◌||◌, ◌==◌, if◌then◌else◌, [], slice_index, Option, Some, None, Result, Ok, Err}
 use Rattle.m36_inst.specs.Instruction.{inst_of}
 use Rattle.m36_inst.specs.Operands.{operand_of, is_privileged, takes_direct}
 use Rattle.m36_inst.specs.declared.effect.Effect.{Effect}
@@ -10,7 +10,7 @@ use Rattle.m36_inst.specs.declared.operand.Operand.{Operand}
 use Rattle.m36_inst.specs.declared.operand.Operand.TheVariants as kind
 use Rattle.m36_model.specs.Fields.{FinalFields}
 use Rattle.m36_model.specs.Registers.{RegsFields}
-use Rattle.m36_model.specs.Act.{RequestKind, Fetch, Indirect, Odd, Read, Write, Transfer, Call, Locate, Part, Whole, Left, Right, Put, Answer, Act, either}
+use Rattle.m36_model.specs.Act.{Part, Whole, Left, Right, Answer, Act, either}
 use Rattle.m36_model.specs.Modification.{Point, Move, Ends, Fails, Reads, Counts, ends_at, ends_direct, direct_upper, direct_lower, is_direct, here, fault_at, move_of_point, move_register, move_register_then_indirect, move_indirect_then_tally, move_indirect_then_register, index_of}
 use Rattle.m36_model.specs.Tally.{indirect_only}
 use Rattle.m36_model.specs.FirstPoint.{first_point}
@@ -19,8 +19,7 @@ use Rattle.m36_model.specs.Results.{OperandFields, EffectFields}
 use Rattle.m36_model.specs.Effect.{exec, is_absa}
 use Rattle.m36_model.specs.Laws.{words_written}
 use Rattle.m36_model.specs.Transfers.{is_taken}
-use Rattle.m36_model.specs.Step.{Performed, Operation, performed, tallied, no_operand, reading_word, reading_words, writing, changing, addressing, transferring, calling, by_kind, by_direct, operate_on, operate, Ending, outcome_of, outcome_by, halted, completed, operated, indirect_words, addressed, no_address, started, admitted, decode, decoded, fetched, program}
-use Rattle.m36_model.specs.Store.{Spot, Store}
+use Rattle.m36_model.specs.Step.{Performed, Operation, performed, tallied, no_operand, reading_word, reading_words, writing, changing, addressing, transferring, calling, by_kind, by_direct, operate_on, operate, Ending, outcome_of, outcome_by, halted, completed, operated, indirect_words, addressed, no_address, started, admitted, decode, decoded, program}
 use Rattle.m36_model.specs.PagedStep.{DifferInA, IsPresent}
 use Rattle.m36_model.proofs.Computed.{everything}
 use Rattle.m36_model.proofs.PutLaw.{PutsSo, puts_so}
@@ -28,11 +27,10 @@ use Rattle.m36_model.specs.declared.outcome.Fault.{Fault}
 use Rattle.m36_model.specs.declared.outcome.Halt.{Halt}
 use Rattle.m36_model.specs.declared.outcome.Halt.TheVariants as halt
 use Rattle.m36_model.specs.declared.outcome.Stop.TheVariants as stop
-use Rattle.m36_model.specs.declared.outcome.Outcome.{Outcome}
-use Rattle.m36_model.specs.declared.outcome.Outcome.TheVariants.{Next, Faulted, Stopped}
+use Rattle.m36_model.specs.declared.outcome.Outcome.TheVariants.{Next, Faulted}
 use Rattle.m36_isol.proofs.Program.{Either}
 use Rattle.m36_isol.proofs.Effects.{effect_law}
-use Rattle.m36_isol.proofs.Mirror.{SameButPlace, Stops, EndTwo, Asks, asks_then}
+use Rattle.m36_isol.proofs.Mirror.{Stops, EndTwo, Asks, asks_then}
 
 -- numbers that are no page fault's
 below : (n : ℕ) → n < 16 → n ≢ 17

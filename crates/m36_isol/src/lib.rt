@@ -23,6 +23,8 @@ ghost use Rattle.m36_model.specs.StoreLaw.{Lawful};
 ghost use Rattle.m36_model.specs.CoreLaw.{HasTables, IsSegmentSpot, IsMarkedFrom};
 ghost use Rattle.m36_model.specs.Isolation.{Isolated};
 ghost use Rattle.m36_model.specs.Flat.{Flat, flat_store, flat_tables, HasDescriptors, IsFlatSpot, IsSameFlat, IsFlatAudited};
+ghost use Rattle.m36_model.specs.BootedCore.{booted_dbr, IsLaid};
+ghost use Rattle.m36_model.specs.PagedStep.{PagedStepLaw, MovedLaw, SameAuditLaw, FlatAuditLaw};
 ghost use Rattle.m36_model.specs.JointAudit.{IsJointlyAudited};
 ghost use Rattle.m36_model.specs.JointIsolation.{JointlyIsolated};
 ghost use Rattle.m36_isol.specs.Findings.{FindingsLaw, JointFindingsLaw};
@@ -121,4 +123,16 @@ pub fn law_schedule()
 pub fn law_flat()
     ensures store { (s : Flat) (dbr : DbrFields) → Lawful flat_store dbr (HasDescriptors s dbr) IsFlatSpot IsSameFlat }
     ensures window { (s : Flat) (dbr : DbrFields) → IsFlatAudited s dbr → Isolated flat_store (flat_tables s dbr) }
+{}
+
+/// Of the core of a booted image, whatever frames its pages are in, table words and words of segments are apart. A step
+/// over it is the step over the flat memory for which it stands, or ends at a page that is in no frame, or executes ABSA,
+/// and leaves the core that of the image. Moves of pages between frames and the words that are kept change nothing that
+/// the flat memory shows. The audit conditions hold of it as of its descriptors.
+pub fn law_paged()
+    ensures apart { (core : List ℕ) (frames : ℕ) → IsLaid core frames → AreApart core booted_dbr }
+    ensures step { PagedStepLaw }
+    ensures moved { MovedLaw }
+    ensures audit { SameAuditLaw }
+    ensures flat { FlatAuditLaw }
 {}
