@@ -76,6 +76,12 @@ pub record IsInTwoSegments (core : List ℕ) (dbr : DbrFields) (a : ℕ) : Type 
   pub other_word : IsSegmentWord core dbr other_seg other_w a
   pub differ : (seg ≢ other_seg) ⊎ (w ≢ other_w)
 
+-- the second, the third and the fourth condition: table words and words of segments are apart
+pub record AreApart (core : List ℕ) (dbr : DbrFields) : Type 0 where
+  pub tables : (a : ℕ) → IsInTwoTables core dbr a → ⊥
+  pub segments : (a : ℕ) → IsTableAndSegment core dbr a → ⊥
+  pub words : (a : ℕ) → IsInTwoSegments core dbr a → ⊥
+
 -- a live segment that rings outside its read bracket may call
 pub record IsCallable (core : List ℕ) (dbr : DbrFields) (seg : ℕ) (sdw : SdwFields) : Type 0 where
   pub live : core_sdw core dbr seg ≡ Ok sdw

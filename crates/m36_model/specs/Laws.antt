@@ -1,5 +1,5 @@
 -- The laws on which isolation rests, as statements on one step.
-use Rattle.std.specs.Prelude.{◌≡◌, ℕ, ◌<◌, ◌≤◌, ◌⊎◌, false, List, length, slice_get, slice_index, Some, Ok}
+use Rattle.std.specs.Prelude.{◌≡◌, ℕ, ◌<◌, ◌≤◌, ◌⊎◌, false, List, length, slice_get, slice_index, Some, Ok, Err}
 use Rattle.m36_desc.specs.Fields.{DbrFields}
 use Rattle.m36_inst.specs.Operands.{operand_of}
 use Rattle.m36_inst.specs.declared.effect.Effect.{Effect}
@@ -55,6 +55,11 @@ pub record IsEffect (e : Effect) (g : RegsFields) (f : FinalFields) (o : Operand
 abbrev pub EffectLaw : Type 0
 EffectLaw =
     (e : Effect) (n : ℕ) (g : RegsFields) (f : FinalFields) (o : OperandFields) (x : EffectFields) → exec e n g f o ≡ Ok x → IsEffect e g f o x
+
+-- No effect is refused with a directed fault, an access violation or a fault tag.
+abbrev pub EffectRefusals : Type 0
+EffectRefusals =
+    (e : Effect) (n : ℕ) (g : RegsFields) (f : FinalFields) (o : OperandFields) (number : ℕ) → exec e n g f o ≡ Err number → number < 16
 
 -- a state of which the laws speak: its tables are T but for marks, and it runs in ring r or above
 pub record IsAbove {S : Type 0} (o : Store S) (T : Tables) (r : ℕ) (s : State S) : Type 0 where

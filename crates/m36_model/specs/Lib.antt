@@ -43,3 +43,10 @@ pub mod Laws
 pub mod Completed
 pub mod OperandWords
 pub mod StepCases
+pub mod Schedule
+pub mod JointAudit
+pub mod JointIsolation
+pub mod Flat
+pub mod BootedCore
+pub mod Residence
+pub mod PagedStep

@@ -54,10 +54,16 @@ pub record IsAdmitted {S : Type 0} (o : Store S) (s : State S) (word : ℕ) (e :
   pub decoded : decode word ≡ Some (e, n)
   pub allowed : (is_privileged e && not right) ≡ false
 
+-- MME, DRL and DIS form no address.
+abbrev pub forms_address : Operand → Bool
+forms_address kind.N = false
+forms_address _ = true
+
 -- Its address is formed.
 pub record IsFormed {S : Type 0} (o : Store S) (s : State S) (word : ℕ) (e : Effect) (n : ℕ) (c : ChainEnd) (m : Mid S) : Type 0 where
   pub before : Mid S
   pub admitted : IsAdmitted o s word e n before
+  pub forms : forms_address (operand_of e) ≡ true
   pub formed : run o s.regs (chain indirect_words s.regs (first_point s.regs (inst_of word))) before ≡ record { value = Ok c; mid = m }
 
 -- An operand that is there: what the effect is given, which part of words it writes, the spots of these words, and where
@@ -189,9 +195,15 @@ pub data StepCase {S : Type 0} (o : Store S) (s : State S) (e : StepRecord) (t :
   no_instruction : (word : ℕ) (right : Bool) (m : Mid S) → IsFetched o s word right m → decode word ≡ None → HasLeft s e t m (Some word) None (outcome_of (halt.Stop stop.Operation)) → StepCase o s e t
   privilege_refused : (word : ℕ) (m : Mid S) (i : Effect) (n : ℕ) → IsFetched o s word false m → decode word ≡ Some (i, n) → is_privileged i ≡ true → HasLeft s e t m (Some word) None (outcome_of (fault_at 10 (here s.regs))) → StepCase o s e t
   no_address : (word : ℕ) (m : Mid S) (i : Effect) (n : ℕ) → IsAdmitted o s word i n m → operand_of i ≡ kind.N → HasLeft s e t m (Some word) None (at_once i s.regs) → StepCase o s e t
-  address_refused : (word : ℕ) (before m : Mid S) (i : Effect) (n : ℕ) (h : Halt) → IsAdmitted o s word i n before → run o s.regs (chain indirect_words s.regs (first_point s.regs (inst_of word))) before ≡ record { value = Err h; mid = m } → HasLeft s e t m (Some word) None (outcome_of h) → StepCase o s e t
+  address_refused : (word : ℕ) (before m : Mid S) (i : Effect) (n : ℕ) (h : Halt) → IsAdmitted o s word i n before → forms_address (operand_of i) ≡ true → run o s.regs (chain indirect_words s.regs (first_point s.regs (inst_of word))) before ≡ record { value = Err h; mid = m } → HasLeft s e t m (Some word) None (outcome_of h) → StepCase o s e t
   operation_refused : (word : ℕ) (before m : Mid S) (i : Effect) (n : ℕ) (c : ChainEnd) (h : Halt) → IsFormed o s word i n c before → run o s.regs (operate i n s.regs c) before ≡ record { value = Err h; mid = m } → HasLeft s e t m (Some word) (Some c.last) (outcome_of h) → StepCase o s e t
   effected : HasEffect o s e t → StepCase o s e t
 
 abbrev pub StepHasACase : Type 0
 StepHasACase = (s : State (List ℕ)) → StepCase core_store s (record_of core_store s) (state_after core_store s)
+
+-- Of no other record and no other state is there a case.
+abbrev pub CaseIsTheStep : Type 0
+CaseIsTheStep =
+    (s : State (List ℕ)) (e : StepRecord) (t : State (List ℕ)) → StepCase core_store s e t →
+    (e ≡ record_of core_store s) × (t ≡ state_after core_store s)
