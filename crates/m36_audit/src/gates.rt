@@ -6,9 +6,10 @@ ghost use Rattle.std.specs.Bool.{Decides};
 ghost use Rattle.m36_model.specs.Audit.{Finds, IsNoGate, HasNoStack};
 ghost use Rattle.m36_audit.specs.Live.{callable, enterable, serves};
 
-use crate::descriptor::{descriptor, segments};
+use crate::live::live;
 use m36_core::Core;
 use m36_desc::{Dbr, Sdw};
+use m36_tables::segment_count;
 
 /// Whether rings outside the read bracket may call a segment.
 fn callable(sdw: &Sdw) -> bool
@@ -39,22 +40,22 @@ fn serves(ring: u8, found: Option<Sdw>) -> bool
 
 /// Whether a segment breaks the fifth condition.
 #[tactic(auto, using(crate::proofs::Segments::no_gate))]
-fn is_no_gate(core: &Core, dbr: Dbr, seg: u32) -> bool
+fn is_no_gate(core: &Core, dbr: Dbr, seg: u16) -> bool
     requires { seg < 2 ^ 15 }
     ensures { Decides result (IsNoGate core.now dbr seg) }
 {
-    enterable(descriptor(core, dbr, seg))
+    enterable(live(core, dbr, seg))
 }
 
 /// Whether a segment breaks the sixth condition.
-fn has_no_stack(core: &Core, dbr: Dbr, seg: u32) -> bool
+fn has_no_stack(core: &Core, dbr: Dbr, seg: u16) -> bool
     requires { seg < 2 ^ 15 }
     ensures { Decides result (HasNoStack core.now dbr seg) }
 {
-    match descriptor(core, dbr, seg) {
+    match live(core, dbr, seg) {
         Some(sdw) => {
-            let stack = 8 * dbr.stack as u32 + sdw.r2 as u32;
-            callable(&sdw) && !serves(sdw.r2, descriptor(core, dbr, stack))
+            let stack = 8 * dbr.stack + sdw.r2 as u16;
+            callable(&sdw) && !serves(sdw.r2, live(core, dbr, stack))
         }
         None => false,
     }
@@ -64,9 +65,9 @@ fn has_no_stack(core: &Core, dbr: Dbr, seg: u32) -> bool
 pub(crate) fn no_gate(core: &Core, dbr: Dbr) -> Option<u32>
     ensures { Finds (IsNoGate core.now dbr) result }
 {
-    for seg in 0..segments(dbr) {
+    for seg in 0..segment_count(dbr) {
         if is_no_gate(core, dbr, seg) {
-            return Some(seg);
+            return Some(seg as u32);
         }
     }
     None
@@ -76,9 +77,9 @@ pub(crate) fn no_gate(core: &Core, dbr: Dbr) -> Option<u32>
 pub(crate) fn no_stack(core: &Core, dbr: Dbr) -> Option<u32>
     ensures { Finds (HasNoStack core.now dbr) result }
 {
-    for seg in 0..segments(dbr) {
+    for seg in 0..segment_count(dbr) {
         if has_no_stack(core, dbr, seg) {
-            return Some(seg);
+            return Some(seg as u32);
         }
     }
     None

@@ -28,8 +28,8 @@
 
 pub mod auditor;
 mod brackets;
-mod descriptor;
 mod gates;
+mod live;
 mod run;
 mod segment_runs;
 mod table_words;

@@ -10,6 +10,12 @@ pub record IsCore (core : List ℕ) : Type 0 where
 abbrev pub frame_words : List ℕ → ℕ → List ℕ
 frame_words core f = slice_range core (1024 * f) (1024 * f + 1024)
 
+-- a list with words written over as many of its own, from a place on; it keeps its length
+abbrev pub written_over : List ℕ → ℕ → List ℕ → List ℕ
+written_over core first words =
+    let all = take first core ++ (words ++ drop (length words) (drop first core)) in
+    take (length core) (all ++ drop (length all) core)
+
 -- core with other words in a frame
 abbrev pub with_frame : List ℕ → ℕ → List ℕ → List ℕ
-with_frame core f words = take (1024 * f) core ++ (words ++ drop (1024 * f + 1024) core)
+with_frame core f words = written_over core (1024 * f) words

@@ -1,9 +1,10 @@
-//! Calls that change nothing: targets, places and ring brackets.
+//! Calls that change nothing: targets, places, ring brackets, and words that are only looked at.
 
 ghost use Rattle.std.specs.Prelude.{ℕ, ◌≡◌, ◌<◌, ◌^◌, IfOk, length};
 ghost use Rattle.m36_desc.specs.Access.{ring_called};
 ghost use Rattle.m36_model.specs.Act.{Transfer, Call, Locate};
 ghost use Rattle.m36_model.specs.Core.{core_store};
+ghost use Rattle.m36_model.specs.Sight.{content_in};
 ghost use Rattle.m36_model.specs.Store.{Core_word, place, first_ring};
 ghost use Rattle.m36_walk.specs.Reached.{told};
 ghost use Rattle.m36_walk.specs.Served.{sdw_in, at_place, at_target, ok_map, ServesAsked};
@@ -12,6 +13,8 @@ use crate::refusal::fault;
 use crate::targets::{find_call, find_first_ring, find_place, find_transfer};
 use crate::walk::Walk;
 use m36_model::{At, Fault, Ppr};
+use m36_tables::content;
+use m36_word::Word;
 
 impl Walk {
     /// The place of a word in core, whoever asks for it: it examines no rights and sets no marks.
@@ -23,6 +26,15 @@ impl Walk {
         ensures same { self.new ≡ self.old }
     {
         find_place(&self.core, self.dbr, at)
+    }
+
+    /// The word of a segment, whoever asks for it, where it has a place in core. It sets no marks.
+    pub fn content(&self, seg: u16, word: u32) -> Option<Word>
+        requires seg { seg < 2 ^ 15 }
+        requires word { word < 2 ^ 18 }
+        ensures { result ≡ content_in core_store self.now.core self.now.dbr seg word }
+    {
+        content(&self.core, self.dbr, seg, word)
     }
 
     /// Examines the target of a transfer in the ring of `at` from ring `prr`. It touches no page of the target.

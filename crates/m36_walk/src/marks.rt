@@ -2,12 +2,11 @@
 
 ghost use Rattle.std.specs.Prelude.{ℕ, ◌≡◌, ◌+◌, ◌*◌, ◌/◌, ◌%◌, ◌<◌, ◌^◌, ◌++◌, true, false, Ok, length};
 ghost use Rattle.m36_model.specs.Place.{directory_at, page_at, marked_word, with_mark, with_marks, directory_marks, page_marks};
-ghost use Rattle.m36_walk.specs.Tables.{TableIn};
+ghost use Rattle.m36_tables.specs.Tables.{TableIn};
 
-use crate::descriptor::directory_at;
-use crate::place::page_at;
 use m36_core::Core;
 use m36_desc::{Dbr, Sdw};
+use m36_tables::{directory_at, page_at};
 use m36_word::Word;
 
 /// A page table word with its used bit on.

@@ -8,16 +8,16 @@ ghost use Rattle.m36_model.specs.Store.{spots_of};
 ghost use Rattle.m36_walk.specs.Reached.{told, told_acv, reached, found_run, Marked};
 ghost use Rattle.m36_walk.specs.Runs.{LiesIn};
 ghost use Rattle.m36_walk.specs.Served.{sdw_in};
-ghost use Rattle.m36_walk.specs.Tables.{TableIn};
+ghost use Rattle.m36_tables.specs.Tables.{TableIn};
 
-use crate::descriptor::descriptor;
 use crate::marks::set_marks;
 use crate::place::places;
-use crate::refusal::{fault, fault_further, violation};
+use crate::refusal::{fault, fault_further};
 use m36_core::Core;
 use m36_desc::access::{may_fetch, may_read, may_write};
 use m36_desc::{Acv, Dbr, Sdw};
 use m36_model::{At, Fault};
+use m36_tables::{descriptor, violation};
 
 /// A reference that is answered: the descriptor by which its words were found, and the place of the first.
 #[derive(Clone, Copy)]

@@ -9,14 +9,14 @@ ghost use Rattle.m36_walk.specs.Reached.{told_acv, told_order, reached};
 ghost use Rattle.m36_walk.specs.Runs.{LiesIn, told_places};
 ghost use Rattle.m36_walk.specs.Served.{sdw_in, at_place, at_target, ok_map};
 
-use crate::descriptor::descriptor;
-use crate::place::{places, within};
+use crate::place::places;
 use crate::reference::{described, permitted};
-use crate::refusal::{fault, fault_further, violation};
+use crate::refusal::{fault, fault_further};
 use m36_core::Core;
 use m36_desc::access::{call_ring, may_transfer};
 use m36_desc::{Acv, Dbr, Sdw};
 use m36_model::{At, Fault, Ppr, Refusal};
+use m36_tables::{descriptor, in_order, violation, within};
 
 /// The word of a target is within the bound.
 fn bounded(sdw: &Sdw, at: At) -> Result<(), Fault>
@@ -69,7 +69,7 @@ pub(crate) fn find_call(core: &Core, dbr: Dbr, at: At, ppr: Ppr) -> Result<u8, F
 fn ordered(sdw: &Sdw) -> Result<(), Refusal>
     ensures { result ≡ told_order (in_order sdw.now) }
 {
-    if sdw.r1 <= sdw.r2 && sdw.r2 <= sdw.r3 {
+    if in_order(sdw) {
         Ok(())
     } else {
         Err(violation(0))

@@ -9,7 +9,7 @@ returns-then-is_no_gate c =
 
 pub returns : goal.returns
 returns c =
-    found_none (IsNoGate c.args.core.now c.args.dbr) c.args.dbr c.segments-seg-end.result c.loop-seg.seg (no_gate_inside c.args.core.now c.args.dbr) c.segments-seg-end.ensures.value c.loop-seg-test.false c.loop-seg.invariant
+    found_none (IsNoGate c.args.core.now c.args.dbr) c.args.dbr c.segment_count-seg-end.result c.loop-seg.seg (no_gate_inside c.args.core.now c.args.dbr) c.segment_count-seg-end.ensures.value c.loop-seg-test.false c.loop-seg.invariant
 
 pub loop-seg-preserved : goal.loop-seg-preserved
 loop-seg-preserved c =
