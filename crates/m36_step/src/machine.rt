@@ -119,6 +119,19 @@ impl Machine {
         self.regs.ppr.ic = (ic + 1) % (1 << 18);
     }
 
+    /// Exchanges the registers with others, as where another process is to run on the same core. From here on segments are
+    /// found by the descriptor segment base register of those that were taken in.
+    pub fn swap(&mut self, regs: &mut Regs)
+        ensures machine { self.new ≡ record { regs = regs.old; store = self.old.store } }
+        ensures regs { regs.new ≡ self.old.regs }
+    {
+        let before = self.regs;
+        let taken = *regs;
+        self.walk.set_dbr(taken.dbr);
+        self.regs = taken;
+        *regs = before;
+    }
+
     /// The registers as they stand.
     pub fn regs(&self) -> &Regs
         ensures { result.now ≡ self.now.regs }
