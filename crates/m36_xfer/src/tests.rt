@@ -131,7 +131,7 @@ fn calls_and_returns(rt: HostRuntime) -> Result<(), Fail> {
 }
 
 #[test]
-fn transfers(rt: HostRuntime) -> Result<(), Fail> {
+fn transfers_and_descriptor_base(rt: HostRuntime) -> Result<(), Fail> {
     let gone = effect_of(Effect::TsxN, 1, &registers(4), Held::Empty, 0)?.regs;
     assert!(rt; gone.x[1] == 4 && stands_at(&gone, 3, 4, 1));
     let gone = effect_of(Effect::TspN, 2, &registers(4), Held::Empty, 0)?.regs;
@@ -144,11 +144,7 @@ fn transfers(rt: HostRuntime) -> Result<(), Fail> {
     assert!(rt; stands_at(&gone, 3, 4, 1) && gone.ind == NOTHING_ON);
     let gone = effect_of(Effect::Nop, 0, &regs, Held::Empty, 0)?.regs;
     assert!(rt; stands_at(&gone, 1, 4, 4) && gone.ind == regs.ind);
-    Ok(())
-}
 
-#[test]
-fn descriptor_base(rt: HostRuntime) -> Result<(), Fail> {
     let words = Held::Two(pair(0o000001000000, 0o000010200007));
     let loaded = effect_of(Effect::Ldbr, 0, &registers(0), words, 0)?.regs;
     let dbr = Dbr {
