@@ -2,11 +2,14 @@
 //!
 //! Core is seen by contracts as a list of words, each a number below 2^36. `peek` and `poke` read and write one word,
 //! `page` and `page_mut` lend exactly the words of a frame, to be read and to be written, and `copy` makes a second core
-//! with the same words. Nothing but `poke` and what is written through `page_mut` changes the list.
+//! with the same words. Nothing but `poke` and what is written through `page_mut` changes the list; `frame_law` says what
+//! `page_mut` leaves, word by word.
 //!
 //! Source: Multics Processor Manual AL39, "Addressing -- segmentation and paging".
 #![tactic(auto)]
 
+pub mod laws;
 pub mod memory;
 
+pub use laws::frame_law;
 pub use memory::Core;
