@@ -11,11 +11,11 @@ use Rattle.alm_parse.specs.declared.line.Line36.{Line36}
 use Rattle.obj36.specs.declared.definition.Named.{Named}
 use Rattle.obj36.specs.ObjectSegment.{definition_names, are_distinct}
 use Rattle.alm_asm.specs.Symbols.{same_name, sum_named}
-use Rattle.alm_asm.specs.Deeds.{deed_of, name_at}
+use Rattle.alm_asm.specs.Arguments.{name_at}
 use Rattle.alm_asm.specs.Spots.{below}
 use Rattle.alm_asm.specs.Refusals.{sooner}
 use Rattle.alm_asm.specs.Definitions.{named, named_by, with_names, gives_entries, definitions_by, definitions_after, definitions_from, is_taken, taken_refusal, name_refusal, arg_refusal, names_refused, definitions_refused}
-use Rattle.alm_asm.specs.LineRefusals.{line_refusal, lines_refusal}
+use Rattle.alm_asm.specs.LineRefusals.{lines_refusal}
 use Rattle.alm_asm.specs.declared.sum.Sum.{Sum}
 use Rattle.alm_asm.specs.declared.spot.Spot.{Spot}
 use Rattle.alm_asm.specs.declared.tables.Tables.{Tables}
@@ -90,16 +90,16 @@ line_pushed text symbols line done first None e d = d
 line_pushed text symbols line done first (Some is_entry) e d = args_pushed text symbols line is_entry done first line.args e d
 
 after_pushed : (text : List ℕ) (symbols : List (List ℕ × Sum)) (line : Line36) (done : List Named) (first : Option Refusal)
-    → definitions_refused text symbols line done first line.args (gives_entries (deed_of text line.op)) ≡ None → are_distinct (definition_names done) ≡ true
+    → definitions_refused text symbols line done first line.args (gives_entries line.deed) ≡ None → are_distinct (definition_names done) ≡ true
     → are_distinct (definition_names (definitions_after text symbols done line)) ≡ true
 unfolding definitions_after
-after_pushed text symbols line done first e d = line_pushed text symbols line done first (gives_entries (deed_of text line.op)) e d
+after_pushed text symbols line done first e d = line_pushed text symbols line done first (gives_entries line.deed) e d
 
-pub distinct : (text : List ℕ) (tables : Tables) (done : List Named) (first : Option Refusal) (spot : Spot) (lines : List Line36)
-    → lines_refusal text tables done first spot lines ≡ None → are_distinct (definition_names done) ≡ true
+pub distinct : (text : List ℕ) (tables : Tables) (done : List Named) (spot : Spot) (lines : List Line36)
+    → lines_refusal text tables done spot lines ≡ None → are_distinct (definition_names done) ≡ true
     → are_distinct (definition_names (definitions_from text tables.symbols done lines)) ≡ true
 unfolding definitions_from
-distinct text tables done first spot [] e d = d
-distinct text tables done first spot (line ∷ lines) e d =
-    let parts = line_parts text tables done first spot line (head_line text tables done first spot line lines e) in
-    distinct text tables (definitions_after text tables.symbols done line) (line_refusal text tables done first spot line) (below text spot line) lines (other_lines text tables done first spot line lines e) (after_pushed text tables.symbols line done first parts.0 d)
+distinct text tables done spot [] e d = d
+distinct text tables done spot (line ∷ lines) e d =
+    let parts = line_parts text tables done spot line (head_line text tables done spot line lines e) in
+    distinct text tables (definitions_after text tables.symbols done line) (below text spot line) lines (other_lines text tables done spot line lines e) (after_pushed text tables.symbols line done None parts.0 d)

@@ -12,7 +12,7 @@ use Rattle.obj36.specs.declared.definition.Named.{Named}
 use Rattle.obj36.specs.Names.{is_name}
 use Rattle.obj36.specs.ObjectSegment.{class_number, last_class, is_definition}
 use Rattle.alm_asm.specs.Sums.{half_of, kind_of}
-use Rattle.alm_asm.specs.Deeds.{deed_of, name_at}
+use Rattle.alm_asm.specs.Arguments.{name_at}
 use Rattle.alm_asm.specs.Expressions.{symbol_sum}
 use Rattle.alm_asm.specs.Definitions.{section_of, named, named_by, with_names, gives_entries, definitions_by, definitions_after, definitions_from}
 use Rattle.alm_asm.specs.Assembly.{version_of}
@@ -86,4 +86,4 @@ definitions_good outer text symbols done [] all names d = d
 definitions_good outer text symbols done (line ∷ lines) all names d =
     let parts = and_parts (args_are_named text line.args) (lines_are_named text lines) names in
     definitions_good outer text symbols (definitions_after text symbols done line) lines all parts.1
-    (line_good outer text symbols done line.args (gives_entries (deed_of text line.op)) all parts.0 d)
+    (line_good outer text symbols done line.args (gives_entries line.deed) all parts.0 d)

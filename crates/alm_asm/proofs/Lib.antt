@@ -3,6 +3,7 @@ pub mod AssemblyLaws
 pub mod PlaceLaws
 pub mod SymbolsStand
 pub mod Unrefused
+pub mod GrowthLaws
 pub mod Distinct
 pub mod Fitting
 pub mod GoodDefinitions

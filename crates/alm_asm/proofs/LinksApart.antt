@@ -7,7 +7,7 @@ use Rattle.std.proofs.lemmas.List.Folds.{list_any-append}
 use Rattle.alm_parse.specs.declared.line.Line36.{Line36}
 use Rattle.obj36.specs.Fields.{LinkFields}
 use Rattle.obj36.specs.ObjectSegment.{place_number}
-use Rattle.alm_asm.specs.Deeds.{deed_of, first_arg}
+use Rattle.alm_asm.specs.Arguments.{first_arg}
 use Rattle.alm_asm.specs.Spots.{below}
 use Rattle.alm_asm.specs.Links.{operand_args, link_in, same_link, with_link, links_after, links_from}
 use Rattle.alm_asm.specs.Assembles.{are_apart}
@@ -56,7 +56,7 @@ unfolding links_from links_after
 from_apart text symbols links spot [] a = a
 from_apart text symbols links spot (line ∷ lines) a =
     from_apart text symbols (links_after text symbols links spot line) (below text spot line) lines
-    (with_apart links (link_in text symbols spot (first_arg (operand_args (deed_of text line.op) line.args))) a)
+    (with_apart links (link_in text symbols spot (first_arg (operand_args line.deed line.args))) a)
 
 no_links : are_apart [] ≡ true
 unfolding are_apart

@@ -8,7 +8,6 @@ use Rattle.obj36.specs.declared.section.Section.{Section}
 use Rattle.obj36.specs.declared.section.Section.TheVariants.{Text, Linkage, Static}
 use Rattle.obj36.specs.PartsFields.{PartsFields}
 use Rattle.obj36.specs.ObjectSegment.{is_well_formed}
-use Rattle.alm_asm.specs.Deeds.{deed_of}
 use Rattle.alm_asm.specs.Spots.{start, below, end_of}
 use Rattle.alm_asm.specs.Refusals.{fault_of, sooner}
 use Rattle.alm_asm.specs.Layout.{symbols_from, layout_refusal}
@@ -20,8 +19,8 @@ use Rattle.alm_asm.specs.LineRefusals.{lines_refusal}
 use Rattle.alm_asm.specs.Growth.{at_first, growth_refusal}
 use Rattle.alm_asm.specs.declared.spot.Spot.{Spot}
 use Rattle.alm_asm.specs.declared.tables.Tables.{Tables}
-use Rattle.alm_asm.specs.declared.deed.Deed.{Deed}
-use Rattle.alm_asm.specs.declared.deed.Deed.TheVariants as deed
+use Rattle.alm_parse.specs.declared.deed.Deed.{Deed}
+use Rattle.alm_parse.specs.declared.deed.Deed.TheVariants as deed
 use Rattle.alm_asm.specs.declared.refusal.Refusal.{Refusal}
 
 -- ---- tables
@@ -58,7 +57,7 @@ bound_by spot bound deed.Bound = spot.text % 2 ^ 18
 unfoldable pub bound_from : List ℕ → ℕ → Spot → List Line36 → ℕ
 bound_from text bound spot [] = bound
 bound_from text bound spot (line ∷ lines) =
-    bound_from text (bound_by spot bound (deed_of text line.op)) (below text spot line) lines
+    bound_from text (bound_by spot bound line.deed) (below text spot line) lines
 
 -- ---- the parts
 
@@ -97,7 +96,9 @@ parts_of source = parts_with source.text (tables_of source.text source.lines) so
 unfoldable pub refusal_of : Source → Option Refusal
 refusal_of source =
     sooner
-    (lines_refusal source.text (tables_of source.text source.lines) [] (layout_refusal source.text None [] start source.lines) start source.lines)
+    (sooner
+    (layout_refusal source.text None [] start source.lines)
+    (lines_refusal source.text (tables_of source.text source.lines) [] start source.lines))
     (growth_refusal source.text (tables_of source.text source.lines).symbols at_first start source.lines)
 
 -- the number of the last line, or 1

@@ -10,14 +10,14 @@ use Rattle.obj36.specs.declared.section.Section.TheVariants.{Text, Linkage, Symb
 use Rattle.obj36.specs.declared.definition.Named.{Named}
 use Rattle.alm_asm.specs.Sums.{half_of, kind_of}
 use Rattle.alm_asm.specs.Symbols.{same_name, sum_named}
-use Rattle.alm_asm.specs.Deeds.{deed_of, name_at}
+use Rattle.alm_asm.specs.Arguments.{name_at}
 use Rattle.alm_asm.specs.Expressions.{symbol_sum}
 use Rattle.alm_asm.specs.Refusals.{sooner, refusal_at, has_room}
 use Rattle.alm_asm.specs.declared.sum.Sum.{Sum}
 use Rattle.alm_asm.specs.declared.sum.Kind.{Kind}
 use Rattle.alm_asm.specs.declared.sum.Kind.TheVariants.{Absolute, Moved, Unsaid}
-use Rattle.alm_asm.specs.declared.deed.Deed.{Deed}
-use Rattle.alm_asm.specs.declared.deed.Deed.TheVariants as deed
+use Rattle.alm_parse.specs.declared.deed.Deed.{Deed}
+use Rattle.alm_parse.specs.declared.deed.Deed.TheVariants as deed
 use Rattle.alm_asm.specs.declared.refusal.Code.TheVariants.{E5, E6, E7}
 use Rattle.alm_asm.specs.declared.refusal.Refusal.{Refusal}
 use Rattle.alm_asm.specs.declared.refusal.Room.TheVariants.{Half}
@@ -68,7 +68,7 @@ definitions_by text symbols done arguments None = done
 definitions_by text symbols done arguments (Some is_entry) = with_names text symbols is_entry done arguments
 
 unfoldable pub definitions_after : List ℕ → List (List ℕ × Sum) → List Named → Line36 → List Named
-definitions_after text symbols done line = definitions_by text symbols done line.args (gives_entries (deed_of text line.op))
+definitions_after text symbols done line = definitions_by text symbols done line.args (gives_entries line.deed)
 
 -- the definitions of the lines, behind those so far
 unfoldable pub definitions_from : List ℕ → List (List ℕ × Sum) → List Named → List Line36 → List Named

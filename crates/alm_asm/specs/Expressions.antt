@@ -5,7 +5,7 @@ use Rattle.alm_parse.specs.declared.expression.Atom.{Atom}
 use Rattle.alm_parse.specs.declared.expression.Atom.TheVariants.{Number, Symbol, Here}
 use Rattle.alm_parse.specs.declared.expression.Term.{Term}
 use Rattle.alm_parse.specs.declared.span.Span.{Span}
-use Rattle.alm_asm.specs.Deeds.{name_at}
+use Rattle.alm_asm.specs.Arguments.{name_at}
 use Rattle.alm_asm.specs.Sums.{absolute, no_sum, sum_plus, sum_turned}
 use Rattle.alm_asm.specs.Symbols.{sum_named}
 use Rattle.alm_asm.specs.Spots.{here}

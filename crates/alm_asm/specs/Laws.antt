@@ -11,7 +11,7 @@ use Rattle.obj36.specs.declared.section.Section.{Section}
 use Rattle.obj36.specs.declared.section.Section.TheVariants.{Text, Linkage, Symbol, Static}
 use Rattle.obj36.specs.Names.{is_name}
 use Rattle.obj36.specs.ObjectSegment.{words_of, is_well_formed}
-use Rattle.alm_asm.specs.Deeds.{name_at}
+use Rattle.alm_asm.specs.Arguments.{name_at}
 use Rattle.alm_asm.specs.Links.{own_section}
 use Rattle.alm_asm.specs.Assembly.{parts_of, refusal_of}
 use Rattle.alm_asm.specs.Symbols.{sum_named}

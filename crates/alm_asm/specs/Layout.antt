@@ -1,18 +1,18 @@
 -- The symbols that lines define, and what is refused of their definitions and of the lengths of sections.
-use Rattle.std.specs.Prelude.{ℕ, nat_lt, false, is_some, List, [], ◌∷◌, Option, Some, None, if◌then◌else◌}
+use Rattle.std.specs.Prelude.{ℕ, false, is_some, List, [], ◌∷◌, Option, Some, None, if◌then◌else◌}
 use Rattle.alm_parse.specs.declared.span.Span.{Span}
 use Rattle.alm_parse.specs.declared.args.Arg.{Arg}
 use Rattle.alm_parse.specs.declared.line.Line36.{Line36}
-use Rattle.alm_asm.specs.Sums.{nothing, no_sum, settled}
+use Rattle.alm_asm.specs.Sums.{nothing, unknown_sum, settled}
 use Rattle.alm_asm.specs.Symbols.{sum_named, with_symbol}
-use Rattle.alm_asm.specs.Deeds.{deed_of, name_at, first_arg, second_arg, symbol_in, terms_in}
+use Rattle.alm_asm.specs.Arguments.{name_at, first_arg, second_arg, symbol_in, terms_in}
 use Rattle.alm_asm.specs.Spots.{count, here, below}
 use Rattle.alm_asm.specs.Expressions.{sum_of, expression_place}
-use Rattle.alm_asm.specs.Refusals.{sooner, refusal_at, expression_refusal}
+use Rattle.alm_asm.specs.Refusals.{sooner, refusal_at, expression_refusal, is_over_limit}
 use Rattle.alm_asm.specs.declared.sum.Sum.{Sum}
 use Rattle.alm_asm.specs.declared.spot.Spot.{Spot}
-use Rattle.alm_asm.specs.declared.deed.Deed.{Deed}
-use Rattle.alm_asm.specs.declared.deed.Deed.TheVariants as deed
+use Rattle.alm_parse.specs.declared.deed.Deed.{Deed}
+use Rattle.alm_parse.specs.declared.deed.Deed.TheVariants as deed
 use Rattle.alm_asm.specs.declared.refusal.Code.TheVariants.{E5, E8}
 use Rattle.alm_asm.specs.declared.refusal.Refusal.{Refusal}
 use Rattle.alm_asm.specs.declared.refusal.Room.TheVariants.{Half}
@@ -68,10 +68,11 @@ own_refusal text symbols spot line deed.Block = None
 own_refusal text symbols spot line deed.Even = None
 own_refusal text symbols spot line deed.Bound = None
 
--- what the symbol comes to: the number of an `equ`, or 0 where that is refused, and else the place
+-- what the symbol comes to: the number of an `equ`, of which nothing is known where that is refused, and else the place
 abbrev pub value_by : Option Refusal → Sum → Sum
-value_by None sum = record { value = settled sum.value; text = nothing; inner = nothing; outer = nothing }
-value_by (Some refusal) sum = no_sum
+value_by None sum =
+    record { value = settled sum.value; text = nothing; inner = nothing; outer = nothing; unknown = sum.unknown }
+value_by (Some refusal) sum = unknown_sum
 
 unfoldable pub value_of : List ℕ → List (List ℕ × Sum) → Spot → Line36 → Sum
 value_of text symbols spot line =
@@ -109,20 +110,20 @@ refused_with text symbols spot line deed =
 
 -- ---- a line
 
--- A section has at most 2^18 - 4096 words of lines.
+-- A section has no more words of lines than a section may have.
 unfoldable pub over : Line36 → Spot → Option Refusal
-over line spot = if nat_lt 258048 (count spot) then Some (refusal_at line line.start E8) else None
+over line spot = if is_over_limit (count spot) then Some (refusal_at line line.start E8) else None
 
 abbrev pub labelled : List ℕ → List (List ℕ × Sum) → Spot → Line36 → List (List ℕ × Sum)
 labelled text symbols spot line = with_labels text (here spot) symbols line.labels
 
 unfoldable pub symbols_after : List ℕ → List (List ℕ × Sum) → Spot → Line36 → List (List ℕ × Sum)
 symbols_after text symbols spot line =
-    symbols_with text (labelled text symbols spot line) spot line (deed_of text line.op)
+    symbols_with text (labelled text symbols spot line) spot line line.deed
 
 unfoldable pub refused_after : List ℕ → Option Refusal → List (List ℕ × Sum) → Spot → Line36 → Option Refusal
 refused_after text first symbols spot line =
-    sooner (sooner (labels_refused text line (here spot) symbols first line.labels) (refused_with text (labelled text symbols spot line) spot line (deed_of text line.op))) (over line (below text spot line))
+    sooner (sooner (labels_refused text line (here spot) symbols first line.labels) (refused_with text (labelled text symbols spot line) spot line line.deed)) (over line (below text spot line))
 
 -- ---- the lines
 

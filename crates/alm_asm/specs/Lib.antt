@@ -1,6 +1,6 @@
 pub mod Sums
 pub mod Symbols
-pub mod Deeds
+pub mod Arguments
 pub mod Spots
 pub mod Expressions
 pub mod Refusals

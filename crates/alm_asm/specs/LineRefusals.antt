@@ -9,17 +9,17 @@ use Rattle.alm_parse.specs.declared.line.Line36.{Line36}
 use Rattle.obj36.specs.declared.section.Section.{Section}
 use Rattle.obj36.specs.declared.section.Section.TheVariants.{Text, Linkage, Symbol, Static}
 use Rattle.obj36.specs.declared.definition.Named.{Named}
-use Rattle.alm_asm.specs.Deeds.{deed_of, first_arg, second_arg, symbol_in, terms_in, section_in}
+use Rattle.alm_asm.specs.Arguments.{first_arg, second_arg, symbol_in, terms_in, section_in}
 use Rattle.alm_asm.specs.Spots.{below}
 use Rattle.alm_asm.specs.Expressions.{expression_place}
-use Rattle.alm_asm.specs.Refusals.{sooner, refusal_at, expression_refusal}
+use Rattle.alm_asm.specs.Refusals.{sooner, refusal_at, expression_refusal, has_value}
 use Rattle.alm_asm.specs.Links.{own_section, link_of, link_place}
 use Rattle.alm_asm.specs.Definitions.{gives_entries, definitions_after, definitions_refused}
 use Rattle.alm_asm.specs.declared.spot.Spot.{Spot}
 use Rattle.alm_asm.specs.declared.sum.Sum.{Sum}
 use Rattle.alm_asm.specs.declared.tables.Tables.{Tables}
-use Rattle.alm_asm.specs.declared.deed.Deed.{Deed}
-use Rattle.alm_asm.specs.declared.deed.Deed.TheVariants as deed
+use Rattle.alm_parse.specs.declared.deed.Deed.{Deed}
+use Rattle.alm_parse.specs.declared.deed.Deed.TheVariants as deed
 use Rattle.alm_asm.specs.declared.refusal.Code.TheVariants.{E7}
 use Rattle.alm_asm.specs.declared.refusal.Refusal.{Refusal}
 use Rattle.alm_asm.specs.declared.refusal.Room.{Room}
@@ -65,15 +65,17 @@ abbrev pub link_expression : List ℕ → List (List ℕ × Sum) → Spot → Li
 link_expression text symbols spot line segment entry terms =
     expression_refusal text symbols spot line terms (external_place segment entry) Half false
 
--- An operand whose expression is refused is no link, and nothing is said of its place.
-abbrev pub reach_refusal : Option Refusal → Bool → Refusal → Option Refusal
-reach_refusal (Some refusal) reach at = Some refusal
-reach_refusal None reach at = unless reach at
+-- An operand whose expression gives no value is no link, and nothing is said of its place.
+unfoldable pub reaches : List ℕ → Tables → Spot → Span → Option Span → List Term → ℕ → Bool
+reaches text tables spot segment entry terms tag =
+    not (has_value text tables.symbols spot terms Half false) || is_in_reach text tables spot segment entry terms tag
 
 abbrev pub external_refusal : List ℕ → Tables → Spot → Line36 → Span → Option Span → List Term → ℕ → Option Refusal
 external_refusal text tables spot line segment entry terms tag =
     sooner
-    (reach_refusal (link_expression text tables.symbols spot line segment entry terms) (is_in_reach text tables spot segment entry terms tag) (refusal_at line segment.from E7))
+    (sooner
+    (link_expression text tables.symbols spot line segment entry terms)
+    (unless (reaches text tables spot segment entry terms tag) (refusal_at line segment.from E7)))
     (unless (may_name tables (own_section (slice_of text segment))) (refusal_at line segment.from E7))
 
 abbrev pub own_operand : List ℕ → Tables → Spot → Line36 → Room → List Term → Option Refusal
@@ -134,12 +136,21 @@ refusal_of_deed text tables spot line deed.Bound = None
 
 -- ---- the lines
 
-unfoldable pub line_refusal : List ℕ → Tables → List Named → Option Refusal → Spot → Line36 → Option Refusal
-line_refusal text tables done first spot line =
-    sooner (definitions_refused text tables.symbols line done first line.args (gives_entries (deed_of text line.op))) (refusal_of_deed text tables spot line (deed_of text line.op))
+unfoldable pub line_refusal : List ℕ → Tables → List Named → Spot → Line36 → Option Refusal
+line_refusal text tables done spot line =
+    sooner
+    (definitions_refused text tables.symbols line done None line.args (gives_entries line.deed))
+    (refusal_of_deed text tables spot line line.deed)
 
--- the first refusal of the lines, or one that comes before
-unfoldable pub lines_refusal : List ℕ → Tables → List Named → Option Refusal → Spot → List Line36 → Option Refusal
-lines_refusal text tables done first spot [] = first
-lines_refusal text tables done first spot (line ∷ lines) =
-    lines_refusal text tables (definitions_after text tables.symbols done line) (line_refusal text tables done first spot line) (below text spot line) lines
+-- a refusal if there is one, or else another
+abbrev pub otherwise : Option Refusal → Option Refusal → Option Refusal
+otherwise (Some refusal) other = Some refusal
+otherwise None other = other
+
+-- The refusal of the first line that is refused: what is refused of a line stands in it, before all lines below.
+unfoldable pub lines_refusal : List ℕ → Tables → List Named → Spot → List Line36 → Option Refusal
+lines_refusal text tables done spot [] = None
+lines_refusal text tables done spot (line ∷ lines) =
+    otherwise
+    (line_refusal text tables done spot line)
+    (lines_refusal text tables (definitions_after text tables.symbols done line) (below text spot line) lines)

@@ -13,13 +13,13 @@ use Rattle.obj36.specs.Fields.{LinkFields}
 use Rattle.obj36.specs.ObjectSegment.{place_number}
 use Rattle.alm_asm.specs.Sums.{half_of}
 use Rattle.alm_asm.specs.Symbols.{same_name}
-use Rattle.alm_asm.specs.Deeds.{deed_of, name_at, first_arg}
+use Rattle.alm_asm.specs.Arguments.{name_at, first_arg}
 use Rattle.alm_asm.specs.Spots.{below}
 use Rattle.alm_asm.specs.Expressions.{sum_of}
 use Rattle.alm_asm.specs.declared.sum.Sum.{Sum}
 use Rattle.alm_asm.specs.declared.spot.Spot.{Spot}
-use Rattle.alm_asm.specs.declared.deed.Deed.{Deed}
-use Rattle.alm_asm.specs.declared.deed.Deed.TheVariants as deed
+use Rattle.alm_parse.specs.declared.deed.Deed.{Deed}
+use Rattle.alm_parse.specs.declared.deed.Deed.TheVariants as deed
 
 -- ---- a link
 
@@ -101,7 +101,7 @@ with_link links (Some link) = if list_any (same_link link) links then links else
 
 unfoldable pub links_after : List ℕ → List (List ℕ × Sum) → List LinkFields → Spot → Line36 → List LinkFields
 links_after text symbols links spot line =
-    with_link links (link_in text symbols spot (first_arg (operand_args (deed_of text line.op) line.args)))
+    with_link links (link_in text symbols spot (first_arg (operand_args line.deed line.args)))
 
 -- the links of the lines, behind those so far
 unfoldable pub links_from : List ℕ → List (List ℕ × Sum) → List LinkFields → Spot → List Line36 → List LinkFields

@@ -8,7 +8,7 @@ use Rattle.obj36.specs.declared.section.Section.{Section}
 use Rattle.obj36.specs.declared.section.Section.TheVariants.{Linkage}
 use Rattle.obj36.specs.Fields.{RelocFields}
 use Rattle.alm_asm.specs.Sums.{kind_of}
-use Rattle.alm_asm.specs.Deeds.{deed_of, first_arg, second_arg, terms_in}
+use Rattle.alm_asm.specs.Arguments.{first_arg, second_arg, terms_in}
 use Rattle.alm_asm.specs.Spots.{place, below}
 use Rattle.alm_asm.specs.Expressions.{sum_of}
 use Rattle.alm_asm.specs.Words.{same_section}
@@ -16,8 +16,8 @@ use Rattle.alm_asm.specs.declared.sum.Sum.{Sum}
 use Rattle.alm_asm.specs.declared.sum.Kind.{Kind}
 use Rattle.alm_asm.specs.declared.sum.Kind.TheVariants.{Absolute, Moved, Unsaid}
 use Rattle.alm_asm.specs.declared.spot.Spot.{Spot}
-use Rattle.alm_asm.specs.declared.deed.Deed.{Deed}
-use Rattle.alm_asm.specs.declared.deed.Deed.TheVariants as deed
+use Rattle.alm_parse.specs.declared.deed.Deed.{Deed}
+use Rattle.alm_parse.specs.declared.deed.Deed.TheVariants as deed
 
 -- the relocation of a part of the word at a spot: 0 its left half, 1 its right half, 2 its bits 3 to 17
 abbrev pub mark : Spot → ℕ → Kind → List RelocFields
@@ -62,7 +62,7 @@ marks_by text symbols spot marks arguments deed.Bound = marks
 
 unfoldable pub marks_after : List ℕ → List (List ℕ × Sum) → Section → List RelocFields → Spot → Line36 → List RelocFields
 marks_after text symbols section marks spot line =
-    if same_section spot.section section then marks_by text symbols spot marks line.args (deed_of text line.op) else marks
+    if same_section spot.section section then marks_by text symbols spot marks line.args line.deed else marks
 
 -- the relocations of the lines in a section, behind those so far
 unfoldable pub marks_from : List ℕ → List (List ℕ × Sum) → Section → List RelocFields → Spot → List Line36 → List RelocFields

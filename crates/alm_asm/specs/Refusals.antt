@@ -1,5 +1,5 @@
 -- Refusals: which comes first in the text, and what refuses an expression.
-use Rattle.std.specs.Prelude.{ℕ, ◌+◌, ◌-◌, ◌%◌, ◌^◌, Bool, true, false, ◌&&◌, ◌||◌, nat_eq, nat_lt, List, Option, Some, None, if◌then◌else◌}
+use Rattle.std.specs.Prelude.{ℕ, ◌+◌, ◌-◌, ◌%◌, ◌^◌, Bool, true, false, not, ◌&&◌, ◌||◌, nat_eq, nat_lt, is_some, List, Option, Some, None, if◌then◌else◌}
 use Rattle.alm_parse.specs.declared.expression.Term.{Term}
 use Rattle.alm_parse.specs.declared.line.Line36.{Line36}
 use Rattle.alm_parse.specs.declared.fault.AlmFault.{AlmFault}
@@ -70,7 +70,21 @@ refusal_by line (Some at) place said = Some (refusal_at line at E6)
 refusal_by line None place true = None
 refusal_by line None place false = Some (refusal_at line place E7)
 
--- An expression that begins at a place is refused for its first symbol that is not defined, or else for what it comes to.
+-- An expression that begins at a place is refused for its first symbol that is not defined, or else for what it comes to,
+-- unless it stands on an `equ` that is refused.
 unfoldable pub expression_refusal : List ℕ → List (List ℕ × Sum) → Spot → Line36 → List Term → ℕ → Room → Bool → Option Refusal
 expression_refusal text symbols spot line terms place room may_move =
-    refusal_by line (place_undefined text symbols terms) place (is_said room may_move (sum_of text symbols spot terms))
+    let sum = sum_of text symbols spot terms in
+    refusal_by line (place_undefined text symbols terms) place (sum.unknown || is_said room may_move sum)
+
+-- Whether nothing of an expression is refused, nor an `equ` that it stands on.
+unfoldable pub has_value : List ℕ → List (List ℕ × Sum) → Spot → List Term → Room → Bool → Bool
+has_value text symbols spot terms room may_move =
+    let sum = sum_of text symbols spot terms in
+    not (is_some (place_undefined text symbols terms)) && not sum.unknown && is_said room may_move sum
+
+-- ---- lengths
+
+-- A section of an object has at most 2^18 - 4096 words.
+abbrev pub is_over_limit : ℕ → Bool
+is_over_limit words = nat_lt 258048 words

@@ -5,10 +5,10 @@ use Rattle.obj36.specs.declared.section.Section.TheVariants.{Text, Linkage, Symb
 use Rattle.alm_parse.specs.declared.args.Arg.{Arg}
 use Rattle.alm_parse.specs.declared.line.Line36.{Line36}
 use Rattle.alm_asm.specs.Sums.{balance, nothing, no_sum}
-use Rattle.alm_asm.specs.Deeds.{deed_of, first_arg, second_arg, symbol_in, number_in, words_of_args, section_in}
+use Rattle.alm_asm.specs.Arguments.{first_arg, second_arg, symbol_in, number_in, words_of_args, section_in}
 use Rattle.alm_asm.specs.declared.sum.Sum.{Sum}
-use Rattle.alm_asm.specs.declared.deed.Deed.{Deed}
-use Rattle.alm_asm.specs.declared.deed.Deed.TheVariants as deed
+use Rattle.alm_parse.specs.declared.deed.Deed.{Deed}
+use Rattle.alm_parse.specs.declared.deed.Deed.TheVariants as deed
 use Rattle.alm_asm.specs.declared.spot.Spot.{Spot}
 
 abbrev pub start : Spot
@@ -36,10 +36,13 @@ place spot = place_in spot.section spot
 
 -- what a label there comes to
 abbrev pub here_in : Section → Spot → Sum
-here_in Text spot = record { value = balance spot.text 0; text = balance 1 0; inner = nothing; outer = nothing }
-here_in Linkage spot = record { value = balance (spot.inner + 8) 0; text = nothing; inner = balance 1 0; outer = nothing }
+here_in Text spot =
+    record { value = balance spot.text 0; text = balance 1 0; inner = nothing; outer = nothing; unknown = false }
+here_in Linkage spot =
+    record { value = balance (spot.inner + 8) 0; text = nothing; inner = balance 1 0; outer = nothing; unknown = false }
 here_in Symbol spot = no_sum
-here_in Static spot = record { value = balance spot.outer 0; text = nothing; inner = nothing; outer = balance 1 0 }
+here_in Static spot =
+    record { value = balance spot.outer 0; text = nothing; inner = nothing; outer = balance 1 0; unknown = false }
 
 abbrev pub here : Spot → Sum
 here spot = here_in spot.section spot
@@ -90,7 +93,7 @@ moved_by text deed.Even arguments spot = grown spot (size_of deed.Even arguments
 moved_by text deed.Bound arguments spot = spot
 
 unfoldable pub below : List ℕ → Spot → Line36 → Spot
-below text spot line = moved_by text (deed_of text line.op) line.args spot
+below text spot line = moved_by text line.deed line.args spot
 
 -- where the end is
 unfoldable pub end_of : List ℕ → Spot → List Line36 → Spot

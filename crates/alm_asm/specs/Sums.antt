@@ -1,5 +1,5 @@
 -- What expressions come to: numbers, and how often the places of each section are counted in them.
-use Rattle.std.specs.Prelude.{ℕ, ◌+◌, ◌-◌, ◌%◌, ◌^◌, Bool, ◌&&◌, nat_eq, nat_lt, nat_le, if◌then◌else◌}
+use Rattle.std.specs.Prelude.{ℕ, ◌+◌, ◌-◌, ◌%◌, ◌^◌, Bool, true, false, ◌&&◌, ◌||◌, nat_eq, nat_lt, nat_le, if◌then◌else◌}
 use Rattle.obj36.specs.declared.section.Section.TheVariants.{Text, Linkage, Static}
 use Rattle.alm_asm.specs.declared.sum.Balance.{Balance}
 use Rattle.alm_asm.specs.declared.sum.Sum.{Sum}
@@ -44,17 +44,35 @@ settled b = record { up = b.up - b.down; down = b.down - b.up }
 -- ---- sums
 
 abbrev pub absolute : ℕ → Sum
-absolute n = record { value = record { up = n; down = 0 }; text = nothing; inner = nothing; outer = nothing }
+absolute n =
+    record { value = balance n 0; text = nothing; inner = nothing; outer = nothing; unknown = false }
 
 abbrev pub no_sum : Sum
 no_sum = absolute 0
 
+-- what the symbol of an `equ` that is refused comes to: nothing is known of what stands on it
+abbrev pub unknown_sum : Sum
+unknown_sum = record no_sum { unknown = true }
+
 unfoldable pub sum_plus : Sum → Sum → Sum
 sum_plus a b =
-    record { value = balance_plus a.value b.value; text = balance_plus a.text b.text; inner = balance_plus a.inner b.inner; outer = balance_plus a.outer b.outer }
+    record {
+      value = balance_plus a.value b.value;
+      text = balance_plus a.text b.text;
+      inner = balance_plus a.inner b.inner;
+      outer = balance_plus a.outer b.outer;
+      unknown = a.unknown || b.unknown;
+    }
 
 unfoldable pub sum_turned : Sum → Sum
-sum_turned a = record { value = turned a.value; text = turned a.text; inner = turned a.inner; outer = turned a.outer }
+sum_turned a =
+    record {
+      value = turned a.value;
+      text = turned a.text;
+      inner = turned a.inner;
+      outer = turned a.outer;
+      unknown = a.unknown;
+    }
 
 -- A sum is a number, or a place of a section, or what no object can say.
 unfoldable pub kind_of : Sum → Kind

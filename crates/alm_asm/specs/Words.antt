@@ -10,14 +10,14 @@ use Rattle.m36_inst.specs.Instruction.{inst_word}
 use Rattle.obj36.specs.declared.section.Section.{Section}
 use Rattle.obj36.specs.ObjectSegment.{place_number}
 use Rattle.alm_asm.specs.Sums.{half_of, offset_of}
-use Rattle.alm_asm.specs.Deeds.{deed_of, first_arg, second_arg, terms_in, number_in, words_of_args}
+use Rattle.alm_asm.specs.Arguments.{first_arg, second_arg, terms_in, number_in, words_of_args}
 use Rattle.alm_asm.specs.Spots.{place, below}
 use Rattle.alm_asm.specs.Expressions.{sum_of}
 use Rattle.alm_asm.specs.Links.{link_of, link_place}
 use Rattle.alm_asm.specs.declared.spot.Spot.{Spot}
 use Rattle.alm_asm.specs.declared.tables.Tables.{Tables}
-use Rattle.alm_asm.specs.declared.deed.Deed.{Deed}
-use Rattle.alm_asm.specs.declared.deed.Deed.TheVariants as deed
+use Rattle.alm_parse.specs.declared.deed.Deed.{Deed}
+use Rattle.alm_parse.specs.declared.deed.Deed.TheVariants as deed
 
 -- ---- instructions
 
@@ -78,7 +78,7 @@ same_section a b = nat_eq (place_number a) (place_number b)
 -- what a line places in a section
 unfoldable pub words_of_line : List ℕ → Tables → Section → Spot → Line36 → List ℕ
 words_of_line text tables section spot line =
-    if same_section spot.section section then words_by text tables spot line.args (deed_of text line.op) else []
+    if same_section spot.section section then words_by text tables spot line.args line.deed else []
 
 -- the words of the lines in a section, behind those so far
 unfoldable pub words_from : List ℕ → Tables → Section → List ℕ → Spot → List Line36 → List ℕ

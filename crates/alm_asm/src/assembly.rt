@@ -12,7 +12,6 @@ ghost use Rattle.alm_asm.specs.Marks.{marks_from};
 ghost use Rattle.alm_asm.specs.Assembles.{Assembles};
 ghost use Rattle.alm_asm.specs.Assembly.{made, first_link, tables_of, bound_by, bound_from, static_section, version_of, evened, parts_with, last_line, assembled};
 
-use crate::deed::{Deed, deed_of};
 use crate::definitions::definitions_of;
 use crate::growth::growth_refusal;
 use crate::layout::layout_of;
@@ -24,7 +23,7 @@ use crate::spot::{Spot, below, end_of};
 use crate::sum::plus;
 use crate::tables::Tables;
 use crate::words::words_in;
-use alm_parse::{AlmFault, Line36, Lines36};
+use alm_parse::{AlmFault, Deed, Line36, Lines36};
 use m36_word::{NoMemory, Word, Words};
 use obj36::{Object, Parts, Relocs, Section};
 use std::alloc::Global;
@@ -95,7 +94,7 @@ fn bound_of(alloc: Global, text: &[u8], lines: &[Line36]) -> Result<u32, NoMemor
     let mut spot = Spot::start();
     let mut rest = lines;
     while let [line, more @ ..] = rest {
-        bound = bound_by(spot, bound, deed_of(text, line.op));
+        bound = bound_by(spot, bound, line.deed);
         spot = below(alloc, text, spot, line)?;
         rest = more;
     }
@@ -247,9 +246,9 @@ fn meaning(alloc: Global, lines: &Lines36) -> Result<Object, AlmFault>
     let text = lines.text();
     let rows = lines.lines();
     let found = found_in(alloc, text, rows)?;
-    let refused = lines_refusal(alloc, text, &found.tables, rows, found.refused)?;
+    let refused = lines_refusal(alloc, text, &found.tables, rows)?;
     let grown = growth_refusal(alloc, text, &found.tables.symbols, rows)?;
-    match sooner(refused, grown) {
+    match sooner(sooner(found.refused, refused), grown) {
         Some(refusal) => Err(fault_of(refusal)),
         None => {
             let parts = parts_with(alloc, text, found.tables, rows)?;

@@ -4,7 +4,7 @@ ghost use Rattle.std.specs.Prelude.{ℕ, List, [], ◌∷◌, ◌≡◌, ◌-◌
 ghost use Rattle.alm_asm.specs.Sums.{no_sum};
 ghost use Rattle.alm_asm.specs.Expressions.{symbol_sum, atom_sum, term_sum, added, sum_of, is_defined, is_symbol_atom, is_undefined, place_undefined, expression_place};
 
-use crate::deed::name_at;
+use crate::arguments::name_at;
 use crate::spot::Spot;
 use crate::sum::{Sum, absolute};
 use crate::symbols::Symbols;

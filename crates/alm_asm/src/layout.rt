@@ -2,18 +2,20 @@
 
 ghost use Rattle.std.specs.Prelude.{ℕ, List, [], ◌∷◌, ◌≡◌, Option, None, OnOk, IfOk};
 ghost use Rattle.alm_asm.specs.Symbols.{with_symbol};
-ghost use Rattle.alm_asm.specs.Deeds.{name_at};
+ghost use Rattle.alm_asm.specs.Arguments.{name_at};
 ghost use Rattle.alm_asm.specs.Spots.{start, below, end_of};
 ghost use Rattle.alm_asm.specs.Refusals.{sooner};
 ghost use Rattle.alm_asm.specs.Layout.{again, with_labels, labels_refused, own_symbol, own_refusal, value_refusal, value_by, value_of, own_sum, with_own, own_again, symbols_with, refused_with, over, symbols_after, refused_after, symbols_from, layout_refusal};
 
-use crate::deed::{Deed, deed_of, first_symbol, name_at, second_terms};
+use crate::arguments::{first_symbol, name_at, second_terms};
 use crate::expression::{expression_place, is_defined, sum_of};
-use crate::refusal::{Code, Refusal, Room, Wanted, expression_refusal, refusal_at, sooner};
+use crate::refusal::{
+    Code, Refusal, Room, Wanted, expression_refusal, is_over_limit, refusal_at, sooner,
+};
 use crate::spot::{Spot, below};
-use crate::sum::{NOTHING, Sum, absolute};
+use crate::sum::{NOTHING, Sum, unknown};
 use crate::symbols::Symbols;
-use alm_parse::{Arg, Line36, Span};
+use alm_parse::{Arg, Deed, Line36, Span};
 use m36_word::NoMemory;
 use std::alloc::Global;
 
@@ -98,8 +100,9 @@ fn value_by(refusal: Option<Refusal>, sum: Sum) -> Sum
             text: NOTHING,
             inner: NOTHING,
             outer: NOTHING,
+            unknown: sum.unknown,
         },
-        Some(_) => absolute(0),
+        Some(_) => unknown(),
     }
 }
 
@@ -216,7 +219,7 @@ fn define_with(
 fn over(line: &Line36, spot: Spot) -> Option<Refusal>
     ensures { result ≡ over line.now spot }
 {
-    if spot.count() > 258048 {
+    if is_over_limit(spot.count()) {
         Some(refusal_at(line, line.start as u64, Code::E8))
     } else {
         None
@@ -235,7 +238,7 @@ fn take_line(
     ensures symbols { OnOk result (symbols.new ≡ symbols_after text.now symbols.old spot line.now) }
     ensures refused { IfOk result (λ r. r ≡ refused_after text.now refused symbols.old spot line.now) }
 {
-    let deed = deed_of(text, line.op);
+    let deed = line.deed;
     let after = below(alloc, text, spot, line)?;
     let labels = define_labels(text, line, symbols, spot.here()?, refused)?;
     let own = refused_with(text, symbols, spot, line, deed)?;

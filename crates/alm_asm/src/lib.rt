@@ -12,8 +12,8 @@
 //! Source: the language is this project's own; its instructions are those of the Multics Processor Manual AL39.
 #![tactic(auto)]
 
+pub mod arguments;
 pub mod assembly;
-pub mod deed;
 pub mod definitions;
 pub mod expression;
 pub mod growth;

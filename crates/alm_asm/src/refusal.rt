@@ -1,7 +1,7 @@
 //! Refusals: which comes first in the text, and what refuses an expression.
 
 ghost use Rattle.std.specs.Prelude.{ℕ, Bool, ◌≡◌, ◌-◌, ◌+◌, ◌%◌, ◌^◌, Option, IfOk};
-ghost use Rattle.alm_asm.specs.Refusals.{code_number, precedes, sooner, refusal_at, column_of, fault_by, fault_of, has_room, may_stand, is_said, refusal_by, expression_refusal};
+ghost use Rattle.alm_asm.specs.Refusals.{code_number, precedes, sooner, refusal_at, column_of, fault_by, fault_of, has_room, may_stand, is_said, refusal_by, expression_refusal, has_value, is_over_limit};
 
 use crate::expression::{place_undefined, sum_of};
 use crate::spot::Spot;
@@ -161,7 +161,8 @@ pub struct Wanted {
     pub may_move: bool,
 }
 
-/// What refuses an expression: its first symbol that is not defined, or else what it comes to.
+/// What refuses an expression: its first symbol that is not defined, or else what it comes to, unless it stands on an
+/// `equ` that is refused.
 #[tactic(auto, unfolding(crate::specs::Refusals::expression_refusal))]
 pub fn expression_refusal(
     text: &[u8],
@@ -174,11 +175,38 @@ pub fn expression_refusal(
     ensures { IfOk result (λ r. r ≡ expression_refusal text.now symbols.now spot line.now terms.now wanted.place wanted.room wanted.may_move) }
 {
     let sum = sum_of(text, symbols, spot, terms)?;
-    let said = is_said(wanted.room, wanted.may_move, sum);
+    let said = sum.unknown || is_said(wanted.room, wanted.may_move, sum);
     Ok(refusal_by(
         line,
         place_undefined(text, symbols, terms),
         wanted.place,
         said,
     ))
+}
+
+/// Nothing of an expression is refused, nor an `equ` that it stands on.
+#[tactic(auto, unfolding(crate::specs::Refusals::has_value))]
+pub fn has_value(
+    text: &[u8],
+    symbols: &Symbols,
+    spot: Spot,
+    terms: &[Term],
+    room: Room,
+    may_move: bool,
+) -> Result<bool, NoMemory>
+    ensures { IfOk result (λ b. b ≡ has_value text.now symbols.now spot terms.now room may_move) }
+{
+    let sum = sum_of(text, symbols, spot, terms)?;
+    Ok(
+        place_undefined(text, symbols, terms).is_none()
+            && !sum.unknown
+            && is_said(room, may_move, sum),
+    )
+}
+
+/// A section of an object has more than 2^18 - 4096 words.
+pub fn is_over_limit(words: u64) -> bool
+    ensures { result ≡ is_over_limit words }
+{
+    words > 258048
 }

@@ -3,9 +3,9 @@
 ghost use Rattle.std.specs.Prelude.{ℕ, List, [], ◌∷◌, ◌++◌, ◌≡◌, length, IfOk};
 ghost use Rattle.alm_asm.specs.Spots.{start, count, count_in, place, place_in, here, here_in, grown, grown_in, entered, size_of, moved_by, below, end_of};
 
-use crate::deed::{Deed, deed_of, first_symbol, second_number, section_in, words_of_args};
+use crate::arguments::{first_symbol, second_number, section_in, words_of_args};
 use crate::sum::{Balance, NOTHING, Sum, absolute, plus};
-use alm_parse::{Arg, Line36};
+use alm_parse::{Arg, Deed, Line36};
 use m36_word::NoMemory;
 use obj36::Section;
 use std::alloc::Global;
@@ -79,12 +79,14 @@ impl Spot {
                 text: ONCE,
                 inner: NOTHING,
                 outer: NOTHING,
+                unknown: false,
             },
             Section::Linkage => Sum {
                 value,
                 text: NOTHING,
                 inner: ONCE,
                 outer: NOTHING,
+                unknown: false,
             },
             Section::Symbol => absolute(0),
             Section::Static => Sum {
@@ -92,6 +94,7 @@ impl Spot {
                 text: NOTHING,
                 inner: NOTHING,
                 outer: ONCE,
+                unknown: false,
             },
         })
     }
@@ -167,7 +170,7 @@ fn grown_by(alloc: Global, spot: Spot, deed: Deed, args: &[Arg]) -> Result<Spot,
 pub fn below(alloc: Global, text: &[u8], spot: Spot, line: &Line36) -> Result<Spot, NoMemory>
     ensures { IfOk result (λ after. after ≡ below text.now spot line.now) }
 {
-    let deed = deed_of(text, line.op);
+    let deed = line.deed;
     let args = line.args.items();
     match deed {
         Deed::Use => Ok(spot.entered(section_in(text, first_symbol(args)))),

@@ -1,7 +1,7 @@
 //! What expressions come to: numbers, and how often each section counts in them.
 
 ghost use Rattle.std.specs.Prelude.{ℕ, ◌≡◌, ◌+◌, ◌-◌, ◌%◌, ◌≤◌, ◌<◌, ◌^◌, IfOk};
-ghost use Rattle.alm_asm.specs.Sums.{balance_plus, turned, is_even, is_one, is_within, half_of, offset_of, settled, absolute, sum_plus, sum_turned, kind_of};
+ghost use Rattle.alm_asm.specs.Sums.{balance_plus, turned, is_even, is_one, is_within, half_of, offset_of, settled, absolute, unknown_sum, sum_plus, sum_turned, kind_of};
 
 use m36_word::NoMemory;
 use obj36::Section;
@@ -21,6 +21,8 @@ pub struct Sum {
     pub text: Balance,
     pub inner: Balance,
     pub outer: Balance,
+    /// It stands on the symbol of an `equ` that is refused, so that nothing is known of it.
+    pub unknown: bool,
 }
 
 /// What a sum is: a number, a place of a section, or what no object can say.
@@ -123,6 +125,17 @@ pub fn absolute(n: u64) -> Sum
         text: NOTHING,
         inner: NOTHING,
         outer: NOTHING,
+        unknown: false,
+    }
+}
+
+/// What the symbol of an `equ` that is refused comes to.
+pub fn unknown() -> Sum
+    ensures { result ≡ unknown_sum }
+{
+    Sum {
+        unknown: true,
+        ..absolute(0)
     }
 }
 
@@ -141,6 +154,7 @@ impl Sum {
             text,
             inner,
             outer,
+            unknown: self.unknown || other.unknown,
         })
     }
 
@@ -154,6 +168,7 @@ impl Sum {
             text: self.text.turned(),
             inner: self.inner.turned(),
             outer: self.outer.turned(),
+            unknown: self.unknown,
         }
     }
 
@@ -167,6 +182,7 @@ impl Sum {
             text,
             inner,
             outer,
+            unknown: _,
         } = self;
         if text.is_even() && inner.is_even() && outer.is_even() {
             return Kind::Absolute;

@@ -1,21 +1,19 @@
 //! The words that lines place.
 
 ghost use Rattle.std.specs.Prelude.{ℕ, Bool, List, [], ◌∷◌, ◌++◌, ◌≡◌, ◌+◌, ◌*◌, ◌%◌, ◌^◌, ◌<◌, replicate, Option, OnOk, IfOk};
-ghost use Rattle.alm_asm.specs.Deeds.{first_arg, second_arg, terms_in};
+ghost use Rattle.alm_asm.specs.Arguments.{first_arg, second_arg, terms_in};
 ghost use Rattle.alm_asm.specs.Spots.{start};
 ghost use Rattle.alm_asm.specs.Sums.{half_of, offset_of};
 ghost use Rattle.alm_asm.specs.Links.{link_of, link_place};
 ghost use Rattle.alm_asm.specs.Words.{plain_inst, pointed_inst, own_inst, inst_by, inst_in, instruction_word, halves_word, words_by, words_of_line, words_from};
 
-use crate::deed::{
-    Deed, deed_of, first_terms, push_all, second_number, second_terms, words_of_args,
-};
+use crate::arguments::{first_terms, push_all, second_number, second_terms, words_of_args};
 use crate::expression::sum_of;
 use crate::links::{link_of, link_place, same_section};
 use crate::spot::{Spot, below};
 use crate::sum::{Balance, Sum};
 use crate::tables::Tables;
-use alm_parse::{Arg, Line36, Span, Term};
+use alm_parse::{Arg, Deed, Line36, Span, Term};
 use m36_inst::Inst;
 use m36_word::{NoMemory, Word, Words};
 use obj36::Section;
@@ -79,7 +77,7 @@ fn external_inst(
     ensures { IfOk result (λ i. i ≡ pointed_inst operation.code operation.bit27 4 (link_place tables.now.links tables.now.first_link (link_of text.now tables.now.symbols spot segment entry terms.now tag) % 2 ^ 15) 16) }
 {
     let link = link_of(text, &tables.symbols, spot, segment, entry, terms, tag)?;
-    let place = link_place(tables.links.items(), tables.first_link, &link)?;
+    let place = link_place(&tables.links, tables.first_link, &link)?;
     Ok(pointed_inst(operation, 4, place % (1 << 15), 16))
 }
 
@@ -199,7 +197,7 @@ fn take_line(
     if !same_section(spot.section, section) {
         return Ok(());
     }
-    let deed = deed_of(text, line.op);
+    let deed = line.deed;
     push_words(alloc, text, tables, spot, line.args.items(), deed, words)
 }
 

@@ -13,6 +13,7 @@ pub mod Characters
 pub mod Heads
 pub mod Operations
 pub mod Rows
+pub mod Deeds
 pub mod Lines
 pub mod Spans
 pub mod SourceFields

@@ -10,7 +10,6 @@ use Rattle.alm_parse.specs.Sources.{parsed}
 use Rattle.obj36.specs.PartsFields.{PartsFields}
 use Rattle.alm_asm.specs.declared.spot.Spot.{Spot}
 use Rattle.alm_asm.specs.declared.tables.Tables.{Tables}
-use Rattle.alm_asm.specs.Deeds.{deed_of}
 use Rattle.alm_asm.specs.Words.{words_by}
 use Rattle.alm_asm.specs.Assembly.{assembled}
 use Rattle.m36_list.specs.Disassembly.{disassembly}
@@ -19,7 +18,7 @@ use Rattle.m36_list.specs.Disassembly.{disassembly}
 
 -- the words that a line places, where it is read
 abbrev pub words_given : List ℕ → Tables → Spot → Result Line36 Refusal → Option (List ℕ)
-words_given source tables spot (Ok line) = Some (words_by source tables spot line.args (deed_of source line.op))
+words_given source tables spot (Ok line) = Some (words_by source tables spot line.args line.deed)
 words_given source tables spot (Err refusal) = None
 
 -- the words of the line that is this text, with this number, between what stands before it and what stands behind it

@@ -8,7 +8,6 @@ use Rattle.obj36.specs.declared.section.Section.TheVariants.{Text, Linkage, Symb
 use Rattle.obj36.specs.PartsFields.{PartsFields}
 use Rattle.obj36.specs.ObjectSegment.{inner_statics, outer_statics}
 use Rattle.alm_asm.specs.declared.spot.Spot.{Spot}
-use Rattle.alm_asm.specs.Deeds.{deed_of}
 use Rattle.alm_asm.specs.Spots.{start, place, size_of, below}
 use Rattle.m36_list.specs.Print.{line, print_of}
 
@@ -34,7 +33,7 @@ is_in Static section = false
 
 -- how many words of a section a line places
 unfoldable pub size_in : Section → List ℕ → Spot → Line36 → ℕ
-size_in section text spot row = if is_in spot.section section then size_of (deed_of text row.op) row.args (place spot) else 0
+size_in section text spot row = if is_in spot.section section then size_of row.deed row.args (place spot) else 0
 
 -- the words of a section from a place on, each with the line that places it
 unfoldable pub section_words : List ℕ → Section → List ℕ → ℕ → List ℕ → Spot → List Line36 → List ℕ

@@ -9,7 +9,6 @@ ghost use Rattle.m36_list.specs.Listing.{is_in, size_in, section_words, listing_
 use crate::counts::{Counts, counted};
 use crate::placed::put_all_placed;
 use crate::printing::put_print;
-use alm_asm::deed::deed_of;
 use alm_asm::spot::{Spot, below, size_of};
 use alm_parse::{Line36, Lines36};
 use m36_outside::Text;
@@ -45,7 +44,7 @@ fn size_in(
         return Ok(0);
     }
     let at = spot.place()?;
-    size_of(alloc, deed_of(text, line.op), line.args.items(), at)
+    size_of(alloc, line.deed, line.args.items(), at)
 }
 
 // The first words, as many as there are.

@@ -1,102 +1,14 @@
-//! What operations do, and their arguments.
+//! The arguments of operations.
 
 ghost use Rattle.std.specs.Prelude.{ℕ, List, [], ◌∷◌, ◌++◌, ◌≡◌, ◌≤◌, take, length, Option, OnOk, IfOk};
-ghost use Rattle.m36_inst.specs.Lookup.{code_named};
-ghost use Rattle.alm_asm.specs.Deeds.{instruction_of, deed_named, deed_of, name_at, first_arg, second_arg, symbol_in, terms_in, number_in, words_of_arg, words_of_args, section_named, section_in};
+ghost use Rattle.alm_asm.specs.Arguments.{name_at, first_arg, second_arg, symbol_in, terms_in, number_in, words_of_arg, words_of_args, section_named, section_in};
 
 use alm_parse::span::bytes_of;
 use alm_parse::{Arg, Span, Term};
-use m36_inst::by_name;
 use m36_text::Name;
 use m36_word::{NoMemory, Word, Words};
 use obj36::Section;
 use std::alloc::Global;
-
-/// What an operation does.
-#[derive(Clone, Copy, Debug, PartialEq, Eq)]
-pub enum Deed {
-    /// Nothing: there is no operation, or it is `end`.
-    Nothing,
-    /// Places an instruction with this operation code and bit 27.
-    Instruction(u16, bool),
-    /// `entry`.
-    Entry,
-    /// `segdef`.
-    Segdef,
-    /// `equ`.
-    Equ,
-    /// `use`.
-    Use,
-    /// `dec`, `oct` and `aci`.
-    Words,
-    /// `zero`.
-    Zero,
-    /// `bss`.
-    Block,
-    /// `even`.
-    Even,
-    /// `entrybound`.
-    Bound,
-}
-
-fn instruction(bytes: &[u8]) -> Deed
-    ensures { result ≡ instruction_of (code_named bytes.now) }
-{
-    match by_name(bytes) {
-        Some((code, bit27)) => Deed::Instruction(code, bit27),
-        None => Deed::Nothing,
-    }
-}
-
-#[tactic(auto, unfolding(crate::specs::Deeds::deed_named))]
-fn deed_named(bytes: &[u8]) -> Deed
-    ensures { result ≡ deed_named bytes.now }
-{
-    if bytes == b"entry".as_slice() {
-        return Deed::Entry;
-    }
-    if bytes == b"segdef".as_slice() {
-        return Deed::Segdef;
-    }
-    if bytes == b"equ".as_slice() {
-        return Deed::Equ;
-    }
-    if bytes == b"use".as_slice() {
-        return Deed::Use;
-    }
-    if bytes == b"dec".as_slice() {
-        return Deed::Words;
-    }
-    if bytes == b"oct".as_slice() {
-        return Deed::Words;
-    }
-    if bytes == b"aci".as_slice() {
-        return Deed::Words;
-    }
-    if bytes == b"zero".as_slice() {
-        return Deed::Zero;
-    }
-    if bytes == b"bss".as_slice() {
-        return Deed::Block;
-    }
-    if bytes == b"even".as_slice() {
-        return Deed::Even;
-    }
-    if bytes == b"entrybound".as_slice() {
-        return Deed::Bound;
-    }
-    instruction(bytes)
-}
-
-/// What a line's operation does.
-pub fn deed_of(text: &[u8], op: Option<Span>) -> Deed
-    ensures { result ≡ deed_of text.now op }
-{
-    match op {
-        Some(op) => deed_named(bytes_of(text, op)),
-        None => Deed::Nothing,
-    }
-}
 
 // The first bytes, at most so many.
 fn front(bytes: &[u8], count: usize) -> &[u8]
@@ -182,7 +94,7 @@ fn push_arg(words: &mut Words, arg: &Arg) -> Result<(), NoMemory>
 }
 
 /// The words of `dec`, `oct` and `aci`.
-#[tactic(auto, unfolding(crate::specs::Deeds::words_of_args))]
+#[tactic(auto, unfolding(crate::specs::Arguments::words_of_args))]
 pub fn words_of_args(alloc: Global, args: &[Arg]) -> Result<Words, NoMemory>
     ensures { IfOk result (λ words. words ≡ words_of_args [] args.now) }
 {

@@ -1,5 +1,5 @@
 use Rattle.std.proofs.Common.{◌≡◌, ◌++◌, take}
-use Rattle.alm_asm.proofs.deed.push_all.Given as goal
+use Rattle.alm_asm.proofs.arguments.push_all.Given as goal
 
 -- the words so far stand behind those that stood there
 abbrev pub invariant-loop-word : goal.invariant-loop-word

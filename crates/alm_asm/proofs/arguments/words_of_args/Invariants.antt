@@ -1,6 +1,6 @@
 use Rattle.std.proofs.Common.{◌≡◌, [], length}
-use Rattle.alm_asm.specs.Deeds.{words_of_args}
-use Rattle.alm_asm.proofs.deed.words_of_args.Given as goal
+use Rattle.alm_asm.specs.Arguments.{words_of_args}
+use Rattle.alm_asm.proofs.arguments.words_of_args.Given as goal
 
 -- the words of the rest, behind those so far, are all
 abbrev pub invariant-loop-rest : goal.invariant-loop-rest
