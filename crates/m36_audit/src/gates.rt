@@ -3,13 +3,12 @@
 
 ghost use Rattle.std.specs.Prelude.{ℕ, ◌≡◌, ◌<◌, ◌^◌};
 ghost use Rattle.std.specs.Bool.{Decides};
-ghost use Rattle.m36_model.specs.Audit.{Finds, IsNoGate, HasNoStack};
+ghost use Rattle.m36_model.specs.Audit.{IsNoGate, HasNoStack};
 ghost use Rattle.m36_audit.specs.Live.{callable, enterable, serves};
 
 use crate::live::live;
 use m36_core::Core;
 use m36_desc::{Dbr, Sdw};
-use m36_tables::segment_count;
 
 /// Whether rings outside the read bracket may call a segment.
 fn callable(sdw: &Sdw) -> bool
@@ -40,7 +39,7 @@ fn serves(ring: u8, found: Option<Sdw>) -> bool
 
 /// Whether a segment breaks the fifth condition.
 #[tactic(auto, using(crate::proofs::Segments::no_gate))]
-fn is_no_gate(core: &Core, dbr: Dbr, seg: u16) -> bool
+pub(crate) fn is_no_gate(core: &Core, dbr: Dbr, seg: u16) -> bool
     requires { seg < 2 ^ 15 }
     ensures { Decides result (IsNoGate core.now dbr seg) }
 {
@@ -48,7 +47,7 @@ fn is_no_gate(core: &Core, dbr: Dbr, seg: u16) -> bool
 }
 
 /// Whether a segment breaks the sixth condition.
-fn has_no_stack(core: &Core, dbr: Dbr, seg: u16) -> bool
+pub(crate) fn has_no_stack(core: &Core, dbr: Dbr, seg: u16) -> bool
     requires { seg < 2 ^ 15 }
     ensures { Decides result (HasNoStack core.now dbr seg) }
 {
@@ -59,28 +58,4 @@ fn has_no_stack(core: &Core, dbr: Dbr, seg: u16) -> bool
         }
         None => false,
     }
-}
-
-/// The first live segment that outer rings may call and that is no gate.
-pub(crate) fn no_gate(core: &Core, dbr: Dbr) -> Option<u32>
-    ensures { Finds (IsNoGate core.now dbr) result }
-{
-    for seg in 0..segment_count(dbr) {
-        if is_no_gate(core, dbr, seg) {
-            return Some(seg as u32);
-        }
-    }
-    None
-}
-
-/// The first live segment that outer rings may call, where the ring that a call enters has no stack.
-pub(crate) fn no_stack(core: &Core, dbr: Dbr) -> Option<u32>
-    ensures { Finds (HasNoStack core.now dbr) result }
-{
-    for seg in 0..segment_count(dbr) {
-        if has_no_stack(core, dbr, seg) {
-            return Some(seg as u32);
-        }
-    }
-    None
 }

@@ -28,6 +28,7 @@
 
 pub mod auditor;
 mod brackets;
+mod breaking;
 mod gates;
 mod live;
 mod run;
