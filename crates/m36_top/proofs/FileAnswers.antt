@@ -14,10 +14,10 @@ use Rattle.m36_top.proofs.PrintAnswers.{unpacked_one}
 use Rattle.m36_top.specs.declared.command.Command.{Command}
 use Rattle.m36_top.specs.declared.command.Command.TheVariants.{OfImage, Print, Alm}
 use Rattle.m36_top.specs.declared.command.ImageCommand.{ImageCommand}
-use Rattle.m36_top.specs.declared.refusal.Refusal.{Refusal}
+use Rattle.m36_image.specs.declared.refusal.Refusal.{Refusal}
 use Rattle.m36_top.specs.declared.status.Status.{Status}
 use Rattle.m36_top.specs.declared.status.Status.TheVariants.{Done, Usage, ReadFault, WriteFault, BadFile, AuditNo, MachineStop, Steps, NoMemory}
-use Rattle.m36_top.specs.ImageState.{state_given}
+use Rattle.m36_image.specs.ImageState.{state_given}
 use Rattle.m36_top.specs.Answers.{Answer, unwritten, file_of, state_answer, read_of, IsStateDue, IsImageDue, IsBytesDue, IsReadDue, IsCommandDue}
 use Rattle.m36_top.specs.TopCall.{IsWritten, Met, Says, TopSays, SaysFiles, Completes, ReadCause, CauseBy, WriteRose, TopWriteCause}
 

@@ -12,10 +12,3 @@ pub mod DueLaw
 pub mod ListingBegins
 pub mod YesIsolates
 pub mod Calls
-pub mod CoreWords
-pub mod LinesInTurn
-pub mod Headers
-pub mod Images
-pub mod Numbers
-pub mod Placing
-pub mod PlacedLaws

@@ -8,11 +8,11 @@ use Rattle.m36_model.specs.Store.{State}
 use Rattle.m36_model.specs.Audit.{AreFindings}
 use Rattle.m36_top.specs.declared.command.Command.{Command}
 use Rattle.m36_top.specs.declared.command.ImageCommand.{ImageCommand}
-use Rattle.m36_top.specs.declared.refusal.Refusal.{Refusal}
+use Rattle.m36_image.specs.declared.refusal.Refusal.{Refusal}
 use Rattle.m36_top.specs.declared.status.Code.TheVariants.{F1, F2}
 use Rattle.m36_top.specs.declared.status.Status.{Status}
 use Rattle.m36_top.specs.declared.status.Status.TheVariants.{Done, Usage, ReadFault, WriteFault, BadFile, AuditNo, MachineStop, Steps, NoMemory}
-use Rattle.m36_top.specs.Answers.{Answer, refused, image_file, file_of, state_answer, IsIsolated, IsStateDue, IsImageDue, IsReadDue}
+use Rattle.m36_top.specs.Answers.{Answer, refused, image_file, file_of, state_answer, IsIsolated, code_of, IsStateDue, IsImageDue, IsReadDue}
 use Rattle.m36_top.specs.TopCall.{Meets, Says, CommandSays}
 
 -- a status that meets an answer that is due says so
@@ -49,10 +49,10 @@ image_says command given state result old new e says =
 -- the answer where a file is refused
 pub refused_says :
     (command : ImageCommand) (given : Result (State (List ℕ)) Refusal) (refusal : Refusal) (result : Status) (old new : Option (List ℕ))
-    → given ≡ Err refusal → Meets result (refused (image_file command) refusal.code refusal.line) old new
+    → given ≡ Err refusal → Meets result (refused (image_file command) (code_of refusal.code) refusal.line) old new
     → Says (IsImageDue command given) result old new
 refused_says command given refusal result old new e m =
-    subst (λ g. Says (IsImageDue command g) result old new) (sym e) (says_due (IsImageDue command (Err refusal)) (refused (image_file command) refusal.code refusal.line) result old new refl m)
+    subst (λ g. Says (IsImageDue command g) result old new) (sym e) (says_due (IsImageDue command (Err refusal)) (refused (image_file command) (code_of refusal.code) refusal.line) result old new refl m)
 
 -- the answer where the folder has no such file, or one that is too large
 pub absent_says :

@@ -26,10 +26,10 @@ use Rattle.m36_top.specs.declared.command.Command.{Command}
 use Rattle.m36_top.specs.declared.command.Command.TheVariants.{OfImage, Print, Alm}
 use Rattle.m36_top.specs.declared.command.ImageCommand.{ImageCommand}
 use Rattle.m36_top.specs.declared.command.ImageCommand.TheVariants.{Bare, Audit}
-use Rattle.m36_top.specs.declared.refusal.Refusal.{Refusal}
+use Rattle.m36_image.specs.declared.refusal.Refusal.{Refusal}
 use Rattle.m36_top.specs.declared.status.Status.{Status}
 use Rattle.m36_top.specs.declared.status.Status.TheVariants.{Done, Usage, ReadFault, WriteFault, BadFile, AuditNo, MachineStop, Steps, NoMemory}
-use Rattle.m36_top.specs.ImageState.{state_given}
+use Rattle.m36_image.specs.ImageState.{state_given}
 use Rattle.m36_top.specs.Output.{run_text}
 use Rattle.m36_top.specs.AuditText.{yes_line, finding_line, finding_lines, audit_text}
 use Rattle.m36_top.specs.Answers.{Answer, unwritten, source_refused, alm_answer, image_file, file_of, run_answer, audit_answer, bare_by, state_answer, IsIsolated, IsStateDue, IsImageDue, object_refused, IsSizedDue, IsUnpackedDue, IsReadDue}

@@ -22,7 +22,9 @@ use Rattle.alm_parse.specs.declared.fault.AlmFault.TheVariants as alm
 use Rattle.m36_list.specs.Print.{print_of}
 use Rattle.m36_list.specs.Listing.{listing_of}
 use Rattle.m36_top.specs.Assemblies.{Assembly, assembly_of}
-use Rattle.m36_top.specs.declared.refusal.Refusal.{Refusal}
+use Rattle.m36_image.specs.declared.refusal.ImageCode.{ImageCode}
+use Rattle.m36_image.specs.declared.refusal.ImageCode.TheVariants as image
+use Rattle.m36_image.specs.declared.refusal.Refusal.{Refusal}
 use Rattle.m36_top.specs.declared.command.Command.{Command}
 use Rattle.m36_top.specs.declared.command.Command.TheVariants.{OfImage, Print, Alm}
 use Rattle.m36_top.specs.declared.command.AlmFiles.{AlmFiles}
@@ -33,7 +35,7 @@ use Rattle.m36_top.specs.declared.status.Status.TheVariants.{Done, Usage, ReadFa
 use Rattle.m36_top.specs.declared.status.Code.{Code}
 use Rattle.m36_top.specs.declared.status.Code.TheVariants as code
 use Rattle.m36_top.specs.Words.{command_of}
-use Rattle.m36_top.specs.ImageState.{state_given}
+use Rattle.m36_image.specs.ImageState.{state_given}
 use Rattle.m36_top.specs.Run.{run, last_outcome}
 use Rattle.m36_top.specs.Output.{run_text, status_after}
 use Rattle.m36_top.specs.AuditText.{audit_text}
@@ -105,10 +107,16 @@ pub record IsStateDue (command : ImageCommand) (state : State (List ℕ)) (due :
   pub isolated : findings ≡ [] → IsIsolated state.store state.regs.dbr
   pub answer : due ≡ state_answer command state findings
 
+-- the code with which an image is refused
+abbrev pub code_of : ImageCode → Code
+code_of image.I1 = code.I1
+code_of image.I2 = code.I2
+code_of image.I3 = code.I3
+
 -- an answer is due to a command, by what its file writes out
 abbrev pub IsImageDue : ImageCommand → Result (State (List ℕ)) Refusal → Answer → Type 0
 IsImageDue command (Ok state) due = IsStateDue command state due
-IsImageDue command (Err refusal) due = due ≡ refused (image_file command) refusal.code refusal.line
+IsImageDue command (Err refusal) due = due ≡ refused (image_file command) (code_of refusal.code) refusal.line
 
 -- the print of an object, written whole
 abbrev pub printed : List ℕ → PartsFields → Answer

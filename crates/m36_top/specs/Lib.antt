@@ -1,11 +1,5 @@
 pub mod Names
 pub mod Words
-pub mod PlacedWords
-pub mod BareImage
-pub mod ImageState
-pub mod InTurn
-pub mod HeaderFields
-pub mod ImageSays
 pub mod Machine
 pub mod Run
 pub mod Output
@@ -17,5 +11,7 @@ pub mod AlmSays
 pub mod Sets
 pub mod Due
 pub mod TopCall
+pub use Rattle.m36_image.specs.BareImage
+pub use Rattle.m36_image.specs.ImageState
 pub use Rattle.m36_trace.specs.EndLine
 pub use Rattle.m36_trace.specs.TraceLine

@@ -10,7 +10,7 @@ use Rattle.m36_top.specs.declared.command.Command.{Command}
 use Rattle.m36_top.specs.declared.command.Command.TheVariants.{OfImage, Print, Alm}
 use Rattle.m36_top.specs.declared.status.Status.{Status}
 use Rattle.m36_top.specs.declared.status.Status.TheVariants.{Done, Usage, ReadFault, WriteFault, BadFile, AuditNo, MachineStop, Steps, NoMemory}
-use Rattle.m36_top.specs.ImageState.{state_given}
+use Rattle.m36_image.specs.ImageState.{state_given}
 use Rattle.m36_top.specs.AuditText.{yes_line}
 use Rattle.m36_top.specs.Answers.{Answer, unwritten, image_file, file_of, IsIsolated, IsReadDue}
 

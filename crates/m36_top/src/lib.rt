@@ -18,7 +18,7 @@
 //!   MachineStop or Steps. Each answer comes exactly where it is due, in the order words, file, image, audit, run; a fault
 //!   has its cause outside; and want of memory alone may stand in the place of an answer, with nothing written.
 //!
-//! `specs/Words.antt` has the set of commands, `specs/BareImage.antt` the grammar of images, `specs/AuditText.antt` and
+//! `specs/Words.antt` has the set of commands, `m36_image` the grammar of images, `specs/AuditText.antt` and
 //! `specs/Output.antt` the output, `specs/Answers.antt` what is due and `specs/TopCall.antt` what the call says of it.
 //!
 //! Files, texts and statuses are this simulator's own; the machine is that of the Multics Processor Manual AL39.
@@ -28,19 +28,13 @@
 mod alm_tests;
 pub mod assembling;
 pub mod command;
-mod core_words;
 mod findings;
-mod forms;
-mod header;
-pub mod image;
 pub mod laws;
 mod line_output;
 mod names;
-mod placed;
 #[cfg(test)]
 mod print_tests;
 pub mod printing;
-pub mod refusal;
 mod running;
 pub mod status;
 #[cfg(test)]
@@ -52,10 +46,9 @@ pub mod words;
 
 pub use assembling::assemble_bytes;
 pub use command::{AlmFiles, BareRun, Command, ImageCommand};
-pub use image::{Image, ImageFault, read_image};
 pub use laws::law_due;
+pub use m36_image::{Image, ImageFault, Refusal, read_image};
 pub use printing::print_bytes;
-pub use refusal::Refusal;
 pub use status::{Bad, Code, Status};
 pub use top::m36;
 pub use words::command_of;

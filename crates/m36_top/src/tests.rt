@@ -227,117 +227,26 @@ fn refuses_files(rt: HostRuntime) -> Result<(), NoMemory> {
     Ok(())
 }
 
-const CORE: &[u8] = b"core 1\n";
-
-const DBR: &[u8] = b"dbr 000000000000 000000200000\n";
-
-const START: &[u8] = b"start 00001 0 000000\n";
-
-fn joined(alloc: Global, lines: &[&[u8]]) -> Result<Text, NoMemory> {
-    let mut image = Text::new(alloc);
-    for line in lines {
-        image.append(line)?;
-    }
-    Ok(image)
-}
-
+// A line of an image with each code.
 #[test]
-fn refuses_first_lines(rt: HostRuntime) -> Result<(), NoMemory> {
-    let alloc = rt.alloc();
-    for (line, code) in [
-        (b"".as_slice(), Code::I1),
-        (b"\n", Code::I1),
-        (b"core\n", Code::I1),
-        (b"core \n", Code::I1),
-        (b"core  1\n", Code::I1),
-        (b"core 1 \n", Code::I1),
-        (b" core 1\n", Code::I1),
-        (b"core 1x\n", Code::I1),
-        (b"core -1\n", Code::I1),
-        (b"core 1\r\n", Code::I1),
-        (b"Core 1\n", Code::I1),
-        (b"core 0\n", Code::I2),
-        (b"core 000\n", Code::I2),
-        (b"core 16385\n", Code::I2),
-        (b"core 18446744073709551617\n", Code::I2),
-    ] {
-        let image = joined(alloc, &[line, b"dbr\n".as_slice(), START])?;
-        let (status, out) = ran(alloc, image.bytes(), &[], &[])?;
-        assert!(rt; refusal(&status) == Some((code, 1)), "{line:?}");
-        assert!(rt; out.bytes().is_empty());
-    }
-    Ok(())
-}
-
-#[test]
-fn refuses_second_and_third_lines(rt: HostRuntime) -> Result<(), NoMemory> {
-    let alloc = rt.alloc();
-    for (second, third, line) in [
-        (b"".as_slice(), b"".as_slice(), 2),
-        (b"dbr 000000000000 000000200000", b"", 2),
-        (b"dbr 00000000000 000000200000\n", START, 2),
-        (b"dbr 000000000008 000000200000\n", START, 2),
-        (b"dbr 000000000000\n", START, 2),
-        (b"dbr 000000000000 000000200000 0\n", START, 2),
-        (START, DBR, 2),
-        (DBR, b"", 3),
-        (DBR, b"start 00001 0 000000", 3),
-        (DBR, b"start 1 0 000000\n", 3),
-        (DBR, b"start 00001 8 000000\n", 3),
-        (DBR, b"start 00001 0 0000000\n", 3),
-        (DBR, b"start 00001 0\n", 3),
-    ] {
-        let image = joined(alloc, &[b"core 0002\n".as_slice(), second, third])?;
-        let (status, _) = ran(alloc, image.bytes(), &[], &[])?;
-        assert!(rt;
-            refusal(&status) == Some((Code::I1, line)),
-            "{second:?} {third:?}"
-        );
-    }
-    Ok(())
-}
-
-// Core has 1,024 words, the last of which is 1777.
-#[test]
-fn refuses_words(rt: HostRuntime) -> Result<(), NoMemory> {
-    let alloc = rt.alloc();
-    for (lines, code, line) in [
-        (b"\n".as_slice(), Code::I1, 4),
-        (b"core 1\n", Code::I1, 4),
-        (b"at 00000010\n", Code::I1, 4),
-        (b"at 00000010 \n", Code::I1, 4),
-        (b"at 0000010 000000000001\n", Code::I1, 4),
-        (b"at 00000010 00000000001\n", Code::I1, 4),
-        (b"at 00000010 000000000001  000000000002\n", Code::I1, 4),
+fn refuses_images(rt: HostRuntime) -> Result<(), NoMemory> {
+    for (image, code, line) in [
+        (b"core 1 \n".as_slice(), Code::I1, 1),
+        (b"core 16385\n", Code::I2, 1),
         (
-            b"at 00000010 000000000001 000000000002 000000000003 000000000004 000000000005 000000000006 000000000007 000000000010 000000000011\n",
+            b"core 1\ndbr 000000000000 000000200000\nstart 1\n",
             Code::I1,
+            3,
+        ),
+        (
+            b"core 1\ndbr 000000000000 000000200000\nstart 00001 0 000000\nat 00002000 000000000001\n",
+            Code::I3,
             4,
         ),
-        (b"at 00002000 000000000001\n", Code::I3, 4),
-        (b"at 00002000 000000000001", Code::I1, 4),
-        (b"at 00001777 000000000001 000000000002\n", Code::I3, 4),
-        (b"at 77777777 000000000001\n", Code::I3, 4),
-        (
-            b"at 00000010 000000000001 000000000002\nat 00000011 000000000003\n",
-            Code::I3,
-            5,
-        ),
-        (
-            b"at 00000010 000000000001\nat 00000010 000000000003\n",
-            Code::I3,
-            5,
-        ),
-        (
-            b"at 00000010 000000000001\nat 00000007 000000000003\nat 1\n",
-            Code::I3,
-            5,
-        ),
-        (b"at 00001777 000000000001\nat 00000010 8\n", Code::I1, 5),
     ] {
-        let image = joined(alloc, &[CORE, DBR, START, lines])?;
-        let (status, _) = ran(alloc, image.bytes(), &[], &[])?;
-        assert!(rt; refusal(&status) == Some((code, line)), "{lines:?}");
+        let (status, out) = ran(rt.alloc(), image, &[], &[])?;
+        assert!(rt; refusal(&status) == Some((code, line)), "{image:?}");
+        assert!(rt; out.bytes().is_empty());
     }
     Ok(())
 }

@@ -6,10 +6,10 @@ ghost use Rattle.m36_audit.specs.Findings.{pairs};
 ghost use Rattle.m36_outside.specs.Counts.{Rose};
 ghost use Rattle.m36_outside.specs.ReadAnswer.{file_limit};
 ghost use Rattle.m36_top.specs.Words.{command_of};
-ghost use Rattle.m36_top.specs.ImageState.{state_given};
+ghost use Rattle.m36_image.specs.ImageState.{state_given};
 ghost use Rattle.m36_top.specs.Output.{status_after};
 ghost use Rattle.m36_top.specs.AuditText.{audit_text};
-ghost use Rattle.m36_top.specs.Answers.{refused, refused_at, behind, run_answer, passes, audit_answer, bare_by, state_answer, IsIsolated, IsStateDue, IsImageDue, IsBytesDue, IsDue};
+ghost use Rattle.m36_top.specs.Answers.{refused, refused_at, behind, run_answer, passes, audit_answer, bare_by, state_answer, IsIsolated, code_of, IsStateDue, IsImageDue, IsBytesDue, IsDue};
 ghost use Rattle.m36_top.specs.TopCall.{Meets, Says, CommandSays, TopSays, SaysFiles, Completes, YesIsolates, ReadCause, WriteCause, WriteRose, TopWriteCause};
 ghost use Rattle.m36_outside.specs.Files.{Files};
 ghost use Rattle.m36_top.specs.Sets.{AlmSets, BytesSet, CommandSets, TopSets};
@@ -17,7 +17,6 @@ ghost use Rattle.m36_top.specs.Sets.{AlmSets, BytesSet, CommandSets, TopSets};
 use crate::assembling::assemble_bytes;
 use crate::command::{BareRun, Command, ImageCommand};
 use crate::findings::put_audit;
-use crate::image::{Image, ImageFault, read_image};
 use crate::printing::print_bytes;
 use crate::running::{Ended, run};
 use crate::status::{Bad, Code, Status};
@@ -25,6 +24,7 @@ use crate::words::command_of;
 use m36_audit::{Finding, Verdict, audit};
 use m36_core::Core;
 use m36_desc::Dbr;
+use m36_image::{Image, ImageCode, ImageFault, read_image};
 use m36_model::{End, Outcome, Stop};
 use m36_outside::{Folder, Put, ReadAnswer, Sink, Text};
 use m36_step::Machine;
@@ -72,6 +72,17 @@ pub fn refuse(alloc: Global, name: &[u8], code: Code, at: u32) -> Status
     ensures sets { (name : List ℕ) (set old : Option Files) (count : ℕ) → AlmSets result name set old old count count }
 {
     refuse_at(alloc, name, code, at, 0)
+}
+
+// The code with which an image is refused.
+fn code_of(code: ImageCode) -> Code
+    ensures { result ≡ code_of code }
+{
+    match code {
+        ImageCode::I1 => Code::I1,
+        ImageCode::I2 => Code::I2,
+        ImageCode::I3 => Code::I3,
+    }
 }
 
 // The machine of an image. Core is handed on, and not copied.
@@ -230,7 +241,7 @@ pub fn with_bytes<S: Sink>(
         Err(ImageFault::Refused(refusal)) => refuse(
             alloc,
             command.file(),
-            refusal.code,
+            code_of(refusal.code),
             refusal.line,
         ),
         Err(ImageFault::NoMemory) => Status::NoMemory,
