@@ -7,3 +7,4 @@ mod FilesNamed
 pub mod Grown
 pub mod Risen
 mod Taken
+mod Takes
