@@ -29,3 +29,19 @@ abbrev pub PieceGives : Piece → List (List ℕ) → List (List ℕ) → List �
 PieceGives (piece.Got count) old new into = new ≡ old ++ take count into ∷ []
 PieceGives piece.End old new into = new ≡ old ++ [] ∷ []
 PieceGives piece.Failed old new into = new ≡ old
+
+-- Of the lines that are due a sink took some, each as one piece, and then a first part of the next.
+pub record TakesSome (old new due : List (List ℕ)) : Type 0 where
+  pub lines : List (List ℕ)
+  pub line : List ℕ
+  pub left : List (List ℕ)
+  pub part : List ℕ
+  pub rest : List ℕ
+  pub is : due ≡ lines ++ line ∷ left
+  pub line_is : line ≡ part ++ rest
+  pub took : new ≡ (old ++ lines) ++ part ∷ []
+
+-- A sink took the lines that are due, each as one piece, or where a put failed some of them.
+abbrev pub TakesLines : Put → List (List ℕ) → List (List ℕ) → List (List ℕ) → Type 0
+TakesLines put.Done old new due = new ≡ old ++ due
+TakesLines put.Failed old new due = TakesSome old new due

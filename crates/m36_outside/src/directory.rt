@@ -228,47 +228,41 @@ mod tests {
         let mut folder = DirFolder::new(rt.clone()?);
         let name = b"m36_outside_file";
         assert!(rt; matches!(folder.read(alloc, name), ReadAnswer::Absent));
-        for content in [b"bare words\n".as_slice(), b"", b"\0\xff"] {
+        let large = vec![in alloc; b'x'; FILE_LIMIT + 1]?;
+        for content in [b"bare words\n".as_slice(), b"", b"\0\xff", &large[1..]] {
             assert_eq!(rt; folder.write(alloc, name, content), WriteAnswer::Written);
             match folder.read(alloc, name) {
                 ReadAnswer::Read(text) => assert!(rt; text.bytes() == content),
                 _ => assert!(rt; false, "the file is not read"),
             }
         }
+        assert_eq!(rt; folder.write(alloc, name, &large), WriteAnswer::Written);
+        assert!(rt; matches!(folder.read(alloc, name), ReadAnswer::TooLarge));
         fs::remove_file(&rt, "m36_outside_file")?;
         Ok(())
     }
 
-    #[test]
-    fn limits_a_file(rt: HostRuntime) -> Result<(), Fail> {
-        let alloc = rt.alloc();
-        let mut folder = DirFolder::new(rt.clone()?);
-        let name = b"m36_outside_large";
-        let content = vec![in alloc; b'x'; FILE_LIMIT + 1]?;
-        assert_eq!(rt; folder.write(alloc, name, &content), WriteAnswer::Written);
-        assert!(rt; matches!(folder.read(alloc, name), ReadAnswer::TooLarge));
-        assert_eq!(rt;
-            folder.write(alloc, name, &content[1..]),
-            WriteAnswer::Written
-        );
-        match folder.read(alloc, name) {
-            ReadAnswer::Read(text) => assert_eq!(rt; text.bytes().len(), FILE_LIMIT),
-            _ => assert!(rt; false, "the file is not read"),
-        }
-        fs::remove_file(&rt, "m36_outside_large")?;
-        Ok(())
-    }
-
+    /// Names of no file, and then those that the system refuses: a directory, and a name with a zero byte.
     #[test]
     fn refuses_names(rt: HostRuntime) -> Result<(), Fail> {
         let alloc = rt.alloc();
         let mut folder = DirFolder::new(rt.clone()?);
-        for name in [b"".as_slice(), b"/dev/null", b"./x", b"\xff"] {
-            assert!(rt; matches!(folder.read(alloc, name), ReadAnswer::Absent));
-            assert_eq!(rt; folder.write(alloc, name, b"x"), WriteAnswer::Failed);
-        }
-        for name in [b".".as_slice(), b"a\0b"] {
-            assert!(rt; matches!(folder.read(alloc, name), ReadAnswer::Failed));
+        for (name, absent) in [
+            (b"".as_slice(), true),
+            (b"/dev/null", true),
+            (b"./x", true),
+            (b"\xff", true),
+            (b".", false),
+            (b"a\0b", false),
+        ] {
+            assert_eq!(rt;
+                matches!(folder.read(alloc, name), ReadAnswer::Absent),
+                absent
+            );
+            assert_eq!(rt;
+                matches!(folder.read(alloc, name), ReadAnswer::Failed),
+                !absent
+            );
             assert_eq!(rt; folder.write(alloc, name, b"x"), WriteAnswer::Failed);
         }
         Ok(())

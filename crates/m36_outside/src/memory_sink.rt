@@ -124,11 +124,15 @@ mod tests {
     #[test]
     fn fails_past_its_room(rt: HostRuntime) -> Result<(), NoMemory> {
         let mut out = MemSink::new(rt.alloc(), 5, &[2])?;
-        assert_eq!(rt; out.put(b"abc"), Put::Done);
-        assert_eq!(rt; out.put(b"x"), Put::Failed);
-        assert_eq!(rt; out.put(b"d"), Put::Done);
-        assert_eq!(rt; out.put(b"efg"), Put::Failed);
-        assert_eq!(rt; out.put(b""), Put::Done);
+        for (piece, want) in [
+            (b"abc".as_slice(), Put::Done),
+            (b"x", Put::Failed),
+            (b"d", Put::Done),
+            (b"efg", Put::Failed),
+            (b"", Put::Done),
+        ] {
+            assert_eq!(rt; out.put(piece), want);
+        }
         assert!(rt; out.bytes() == b"abcde".as_slice());
         Ok(())
     }

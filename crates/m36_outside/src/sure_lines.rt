@@ -62,19 +62,3 @@ impl Lines for SureLines {
         }
     }
 }
-
-#[cfg(test)]
-mod tests {
-    use super::*;
-
-    #[test]
-    fn gives_pieces(rt: HostRuntime) -> Result<(), NoMemory> {
-        let mut lines = SureLines::new(rt.alloc(), b"quit\n")?;
-        let mut buffer = [0; 4];
-        assert_eq!(rt; lines.next_piece(&mut buffer), Piece::Got(4));
-        assert!(rt; buffer.as_slice() == b"quit".as_slice());
-        assert_eq!(rt; lines.next_piece(&mut buffer), Piece::Got(1));
-        assert_eq!(rt; lines.next_piece(&mut buffer), Piece::End);
-        Ok(())
-    }
-}
