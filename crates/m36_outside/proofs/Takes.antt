@@ -1,5 +1,5 @@
 -- A put took a first part of its piece.
-use Rattle.std.proofs.Common.{◌≡◌, ℕ, List, [], ◌∷◌, ◌++◌, Option, Some, None, take, drop, refl, sym, ap, ◌∙◌}
+use Rattle.std.proofs.Common.{◌≡◌, ℕ, List, [], ◌∷◌, ◌++◌, Option, Some, None, take, drop, refl, sym, ap}
 use Rattle.std.proofs.lemmas.List.{take-append-drop}
 use Rattle.m36_outside.specs.Passing.{TakesPart}
 use Rattle.m36_outside.specs.Written.{Grew, GrewWithin}

@@ -22,7 +22,6 @@ use denote.RattleType.{RattleType}
 use denote.Param.{param, layouts}
 use denote.Shadow.{pure_i}
 use denote.Steps.{nothing}
-use denote.Triple.Entry.{on_entry}
 use denote.Triple.Spec.{Meets, triple_of}
 use denote.Triple.Table.{entered}
 use denote.Triple.Walked.{says, ends_at, walked, walk_Meets}
