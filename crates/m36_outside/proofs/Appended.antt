@@ -1,5 +1,5 @@
 -- Laws of a writer whose bytes are known: what it holds grew by what was written, from the beginning on.
-use Rattle.std.proofs.Common.{ℕ, ◌+◌, ◌≤◌, List, ◌++◌, length, take, drop, Option, Some, None, IfSome, refl, sym, ap, ◌∙◌, take-add}
+use Rattle.std.proofs.Common.{◌≡◌, ℕ, ◌+◌, ◌≤◌, List, ◌++◌, length, take, drop, Option, Some, None, IfSome, refl, sym, ap, ◌∙◌, take-add}
 use Rattle.std.proofs.lemmas.List.{append-nil, append_assoc, take-append-drop, take_all}
 use Rattle.std.specs.Io.KnownBytes.{Appends, Keeps}
 use Rattle.m36_outside.specs.Written.{Grew, GrewWithin}
@@ -54,4 +54,22 @@ appends_whole (Some held) (Some part) None bytes done first more all = absurd mo
 appends_whole (Some held) (Some part) (Some whole) bytes done first more all =
     ap (λ l. Some l) (more ∙ first ∙ ap (λ l. held ++ l) (take_all done bytes all))
 
-pub ruleset appending = (appends_none, appends_more, appends_kept, appends_part, appends_whole)
+-- the same of a list that is told
+pub grows_more :
+    (start now next bytes : List ℕ) (done count : ℕ)
+    → now ≡ start ++ take done bytes → next ≡ now ++ take count (drop done bytes)
+    → next ≡ start ++ take (done + count) bytes
+grows_more start now next bytes done count first more =
+    appends_more (Some start) (Some now) (Some next) bytes done count first more
+
+pub grows_part :
+    (start now bytes : List ℕ) (done : ℕ)
+    → now ≡ start ++ take done bytes → GrewWithin (Some start) (Some now) bytes
+grows_part start now bytes done first = appends_part (Some start) (Some now) bytes done first
+
+pub grows_whole :
+    (start now bytes : List ℕ) (done : ℕ)
+    → now ≡ start ++ take done bytes → length bytes ≤ done → now ≡ start ++ bytes
+grows_whole start now bytes done first all = first ∙ ap (λ l. start ++ l) (take_all done bytes all)
+
+pub ruleset appending = (grows_more, grows_part, grows_whole, appends_none, appends_more, appends_kept, appends_part, appends_whole)

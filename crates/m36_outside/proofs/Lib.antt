@@ -5,5 +5,7 @@ mod Consumed
 pub mod FilesKept
 mod FilesNamed
 pub mod Grown
+pub mod LinesTaken
 pub mod Risen
 mod Taken
+mod Takes

@@ -1,6 +1,8 @@
 -- What one read of a file adds to what was read of it.
 use Rattle.std.specs.Prelude.{ℕ, ◌≡◌, ◌≤◌, ◌<◌, List, ◌++◌, length, Option, ⊤}
+use Rattle.std.specs.declared.io.ErrorKind.{ErrorKind}
 use Rattle.std.specs.Io.KnownBytes.{Consumes, IsAtEnd}
+use Rattle.m36_outside.specs.Passing.{HasMore}
 use Rattle.m36_outside.specs.ReadAnswer.{file_limit}
 use Rattle.m36_outside.specs.declared.reading.Chunk.{Chunk}
 use Rattle.m36_outside.specs.declared.reading.Chunk.TheVariants.{More, End, TooLarge, Failed, NoMemory}
@@ -13,7 +15,8 @@ pub record Moves (old new : Option (List ℕ)) (before after : List ℕ) : Type 
 
 -- what the answer says of what is left and of what was read, before and after
 abbrev pub ChunkSays : Chunk → Option (List ℕ) → Option (List ℕ) → List ℕ → List ℕ → Type 0
-ChunkSays More old new before after = Moves old new before after × (length after ≤ file_limit)
+ChunkSays More old new before after =
+    Moves old new before after × (length after ≤ file_limit) × (length before < length after)
 ChunkSays End old new before after = Moves old new before after × IsAtEnd new × (after ≡ before)
 ChunkSays TooLarge old new before after = Moves old new before after × (file_limit < length after)
 ChunkSays Failed old new before after = ⊤
@@ -21,8 +24,17 @@ ChunkSays NoMemory old new before after = ⊤
 
 -- what the answer says where these bytes were read and are added
 abbrev pub AddSays : Chunk → List ℕ → List ℕ → List ℕ → Type 0
-AddSays More before after got = (after ≡ before ++ got) × (length after ≤ file_limit)
+AddSays More before after got =
+    (after ≡ before ++ got) × (length after ≤ file_limit) × (length before < length after)
 AddSays End before after got = ⊥
 AddSays TooLarge before after got = (after ≡ before ++ got) × (file_limit < length after)
 AddSays Failed before after got = ⊥
 AddSays NoMemory before after got = after ≡ before
+
+-- Failed was answered behind an error.
+abbrev pub ChunkHasError : Chunk → List ErrorKind → List ErrorKind → Type 0
+ChunkHasError More old new = ⊤
+ChunkHasError End old new = ⊤
+ChunkHasError TooLarge old new = ⊤
+ChunkHasError Failed old new = HasMore old new
+ChunkHasError NoMemory old new = ⊤

@@ -1,17 +1,18 @@
--- A place for output in memory: what it holds, how much it may hold, and which of its calls fail.
-use Rattle.std.specs.Prelude.{ℕ, Bool, List, [], ◌++◌, ◌-◌, ◌||◌, length, take, nat_lt, if◌then◌else◌}
+-- A place for output in memory: what it holds, in which pieces, how much it may hold, and which of its calls fail.
+use Rattle.std.specs.Prelude.{ℕ, Bool, List, [], ◌∷◌, ◌++◌, ◌-◌, ◌||◌, length, take, nat_lt, if◌then◌else◌}
 use Rattle.m36_outside.specs.Counts.{raised}
 use Rattle.m36_outside.specs.CallPlan.{CallPlan, new_plan, next_fails, after_call}
 
 pub record MemSinkFields : Type 0 where
   pub bytes : List ℕ
+  pub pieces : List (List ℕ)
   pub room : ℕ
   pub puts : CallPlan
   pub faults : ℕ
 
 -- nothing written yet, room for so many bytes, and the numbers of the puts that are to fail
 abbrev pub new_sink : ℕ → List ℕ → MemSinkFields
-new_sink room puts = record { bytes = []; room = room; puts = new_plan puts; faults = 0 }
+new_sink room puts = record { bytes = []; pieces = []; room = room; puts = new_plan puts; faults = 0 }
 
 -- how many more bytes it may hold
 abbrev pub room_left : MemSinkFields → ℕ
@@ -29,6 +30,7 @@ taken sink piece = if next_fails sink.puts then [] else take (room_left sink) pi
 abbrev pub after_put : MemSinkFields → List ℕ → MemSinkFields
 after_put sink piece = record {
   bytes = sink.bytes ++ taken sink piece;
+  pieces = sink.pieces ++ taken sink piece ∷ [];
   room = sink.room;
   puts = after_call sink.puts;
   faults = if put_fails sink piece then raised sink.faults else sink.faults;

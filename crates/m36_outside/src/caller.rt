@@ -1,6 +1,7 @@
-//! A caller over the traits alone, whose contract follows from theirs.
+//! A caller over the traits alone, whose contract follows from theirs: it reads one file and puts two lines.
 
-ghost use Rattle.std.specs.Prelude.{[], ◌≡◌, ◌++◌, List, Option, IfSome, IfOk, IfErr, MatchResult, unwrap_or};
+ghost use Rattle.std.specs.Prelude.{ℕ, [], ◌∷◌, ◌++◌, ◌≡◌, List, Option, Some, IfSome, IfOk, IfErr, MatchResult};
+ghost use Rattle.m36_outside.specs.Passing.{TakesLines};
 ghost use Rattle.m36_outside.specs.Put.{PutSays, PutHasCause};
 ghost use Rattle.m36_outside.specs.ReadAnswer.{ReadSays, ReadHasCause};
 
@@ -13,36 +14,50 @@ use crate::sure_sink::SureSink;
 use m36_word::NoMemory;
 use std::alloc::Global;
 
-/// Puts a file's content twice.
-fn put_file_twice<F: Folder, S: Sink>(
+/// The last line.
+const END: &[u8] = b"end\n";
+
+/// Puts a file's content as a line, and then the last line.
+///
+/// By `through`, whatever the folder and the sink are, one file was asked for, and what was taken are the lines by the
+/// answer. By `says`, where they tell their files and what is written, it is the file's content.
+fn put_file<F: Folder, S: Sink>(
     alloc: Global,
     name: &[u8],
     folder: &mut F,
     out: &mut S,
 ) -> Result<Put, ReadAnswer>
+    ensures through { MatchResult result
+        (λ put. (bytes : List ℕ)
+        × (F.asked folder.new ≡ F.asked folder.old ++ (name.now, ReadAnswer.Read bytes) ∷ [])
+        × TakesLines put (S.taken out.old) (S.taken out.new) (bytes ∷ END.now ∷ []))
+        (λ answer. (F.asked folder.new ≡ F.asked folder.old ++ (name.now, answer) ∷ [])
+        × (S.taken out.new ≡ S.taken out.old)) }
     ensures says { IfSome (F.files folder.old) (λ files. MatchResult result
-        (λ put. PutSays put (S.written out.old) (S.written out.new) (unwrap_or (files name.now) [] ++ unwrap_or (files name.now) []))
+        (λ put. (bytes : List ℕ) × (files name.now ≡ Some bytes)
+        × PutSays put (S.written out.old) (S.written out.new) (bytes ++ END.now))
         (λ answer. ReadSays answer (files name.now) × (S.written out.new ≡ S.written out.old))) }
     ensures read_cause { IfErr result (λ answer. ReadHasCause answer (F.read_faults folder.old) (F.read_faults folder.new)) }
     ensures write_cause { IfOk result (λ put. PutHasCause put (S.faults out.old) (S.faults out.new)) }
 {
     match folder.read(alloc, name) {
-        ReadAnswer::Read(text) => Ok(put_twice(text.bytes(), out)),
+        ReadAnswer::Read(text) => Ok(put_lines(text.bytes(), out)),
         other => Err(other),
     }
 }
 
-/// Puts a text twice.
-#[tactic(auto, using(crate::proofs::Grown::output))]
-fn put_twice<S: Sink>(text: &[u8], out: &mut S) -> Put
-    ensures says { PutSays result (S.written out.old) (S.written out.new) (text.now ++ text.now) }
+/// Puts a line, and then the last line.
+#[tactic(auto, using(crate::proofs::Grown::output, crate::proofs::LinesTaken::lines_taken))]
+fn put_lines<S: Sink>(line: &[u8], out: &mut S) -> Put
+    ensures through { TakesLines result (S.taken out.old) (S.taken out.new) (line.now ∷ END.now ∷ []) }
+    ensures says { PutSays result (S.written out.old) (S.written out.new) (line.now ++ END.now) }
     ensures cause { PutHasCause result (S.faults out.old) (S.faults out.new) }
 {
-    match out.put(text) {
+    match out.put(line) {
         Put::Done => {}
         Put::Failed => return Put::Failed,
     }
-    match out.put(text) {
+    match out.put(END) {
         Put::Done => Put::Done,
         Put::Failed => Put::Failed,
     }
@@ -52,33 +67,27 @@ fn put_twice<S: Sink>(text: &[u8], out: &mut S) -> Put
 fn gives_a_prefix(rt: HostRuntime) -> Result<(), NoMemory> {
     let alloc = rt.alloc();
     for (room, fail, want, written) in [
-        (8, 0, Put::Done, b"dis\ndis\n".as_slice()),
-        (7, 0, Put::Failed, b"dis\ndis"),
+        (8, 0, Put::Done, b"dis\nend\n".as_slice()),
+        (7, 0, Put::Failed, b"dis\nend"),
         (8, 1, Put::Failed, b""),
         (8, 2, Put::Failed, b"dis\n"),
     ] {
         let mut folder = MemFolder::new(alloc, &[2], &[])?;
         folder.add(b"a", b"dis\n")?;
         let mut out = MemSink::new(alloc, room, &[fail])?;
-        let first = put_file_twice(alloc, b"a", &mut folder, &mut out);
+        let first = put_file(alloc, b"a", &mut folder, &mut out);
         assert!(rt; matches!(first, Ok(put) if put == want));
         assert!(rt; out.bytes() == written);
-        let second = put_file_twice(alloc, b"a", &mut folder, &mut out);
+        let second = put_file(alloc, b"a", &mut folder, &mut out);
         assert!(rt; matches!(second, Err(ReadAnswer::Failed)));
         assert!(rt; out.bytes() == written);
     }
-    Ok(())
-}
-
-#[test]
-fn is_sure(rt: HostRuntime) -> Result<(), NoMemory> {
-    let alloc = rt.alloc();
     let mut folder = SureFolder::new(alloc)?;
     folder.add(b"a", b"dis\n")?;
     let mut out = SureSink::new();
-    let answer = put_file_twice(alloc, b"a", &mut folder, &mut out);
+    let answer = put_file(alloc, b"a", &mut folder, &mut out);
     assert!(rt; matches!(answer, Ok(Put::Done)));
-    let answer = put_file_twice(alloc, b"b", &mut folder, &mut out);
+    let answer = put_file(alloc, b"b", &mut folder, &mut out);
     assert!(rt; matches!(answer, Err(ReadAnswer::Absent)));
     Ok(())
 }

@@ -1,12 +1,18 @@
 //! The files of the current directory.
 
-ghost use Rattle.std.specs.Prelude.{◌≡◌, None, MatchOption, Contains, IsUtf8};
-ghost use Rattle.m36_outside.specs.ReadAnswer.{IsWithinLimit};
+ghost use Rattle.std.specs.Prelude.{[], ◌∷◌, ◌++◌, ◌≡◌, ◌≤◌, ◌<◌, ◌^◌, None, MatchOption, Contains};
+ghost use Rattle.m36_outside.specs.ReadAnswer.{IsWithinLimit, ReadHasCause};
+ghost use Rattle.m36_outside.specs.System.{ReadHasError, WriteHasError, WriteTakes, FileHasError, FileTakes, NamesNoFile, refusal_of};
+ghost use Rattle.m36_outside.specs.WriteAnswer.{WriteSays, WriteHasCause};
 
 use crate::faults::raise;
 use crate::folder::{Folder, ReadAnswer, WriteAnswer};
+use crate::folder_calls::FolderCalls;
+use crate::noted::{NotedReader, NotedWriter};
+use crate::passed::Passed;
 use crate::reading::read_whole;
 use crate::sink::Put;
+use crate::text::Text;
 use crate::writing::write_whole;
 use std::alloc::Global;
 use std::fs::File;
@@ -17,7 +23,8 @@ use std::rt::Files;
 /// What parts the directories of a path.
 const SLASH: u8 = b'/';
 
-/// The files of the current directory. It tells nothing, and contracts see its two counts of faults.
+/// The files of the current directory. It does not tell them. Contracts see its two counts of faults, its calls, the
+/// bytes that each file which it made took, and the errors that the system answered.
 ///
 /// A name that is not UTF-8, or that has a slash, is that of no file of the directory: a read of it answers Absent, and a
 /// write of it Failed. A file that the system reports as not found is Absent. Every other refusal and error of the system
@@ -26,16 +33,32 @@ const SLASH: u8 = b'/';
 pub struct DirFolder<R> {
     read_faults: u64,
     write_faults: u64,
+    calls: FolderCalls,
+    notes: FileNotes,
     rt: R,
+}
+
+/// Notes of the files: the bytes that each one which was made took, and the errors that the system answered.
+#[derive(Drop)]
+pub struct FileNotes {
+    pub taken: Passed<Text>,
+    pub errors: Passed<ErrorKind>,
 }
 
 impl<R> Model for DirFolder<R> {
     ghost use Rattle.std.specs.Prelude.{◌<◌, ◌^◌};
-    ghost use Rattle.m36_outside.specs.FaultCounts.{FaultCounts};
+    ghost use Rattle.m36_outside.specs.Told.{FolderTold};
 
-    ghost Value = { FaultCounts };
+    ghost Value = { FolderTold };
 
-    ghost view = { λ f. record { reads = f.read_faults; writes = f.write_faults } };
+    ghost view = { λ f. record {
+      reads = f.read_faults;
+      writes = f.write_faults;
+      asked = f.calls.asked.entries;
+      wrote = f.calls.wrote.entries;
+      taken = f.notes.taken.entries;
+      errors = f.notes.errors.entries;
+    } };
 
     ghost invariant = { λ f. (f.read_faults < 2 ^ 64) × (f.write_faults < 2 ^ 64) };
 }
@@ -43,11 +66,16 @@ impl<R> Model for DirFolder<R> {
 impl<R: Files + Drop> DirFolder<R> {
     /// The current directory, as this runtime reaches it.
     pub fn new(rt: R) -> DirFolder<R>
-        ensures { result ≡ record { reads = 0; writes = 0 } }
+        ensures { result ≡ record { reads = 0; writes = 0; asked = []; wrote = []; taken = []; errors = [] } }
     {
         DirFolder {
             read_faults: 0,
             write_faults: 0,
+            calls: FolderCalls::new(),
+            notes: FileNotes {
+                taken: Passed::new(),
+                errors: Passed::new(),
+            },
             rt,
         }
     }
@@ -56,13 +84,29 @@ impl<R: Files + Drop> DirFolder<R> {
 impl<R: Files + Drop> Folder for DirFolder<R> {
     ghost files = { λ _. None };
 
+    ghost asked = { λ f. f.asked };
+
+    ghost wrote = { λ f. f.wrote };
+
     ghost read_faults = { λ f. f.reads };
 
     ghost write_faults = { λ f. f.writes };
 
     #[tactic(auto, using(crate::proofs::Causes::read_without_fault))]
-    fn read(&mut self, alloc: Global, name: &[u8]) -> ReadAnswer {
-        match read_file(&self.rt, alloc, name) {
+    fn read(&mut self, alloc: Global, name: &[u8]) -> ReadAnswer
+        ensures limit { IsWithinLimit result }
+        ensures asked { self.new.asked ≡ self.old.asked ++ (name.now, result) ∷ [] }
+        ensures wrote { self.new.wrote ≡ self.old.wrote }
+        ensures cause { ReadHasCause result self.old.reads self.new.reads }
+        ensures count { self.old.reads ≤ self.new.reads }
+        ensures count_bound { self.new.reads < 2 ^ 64 }
+        ensures other_count { self.new.writes ≡ self.old.writes }
+
+        ensures error { ReadHasError result name.now self.old.errors self.new.errors }
+    {
+        let answer = read_file(&self.rt, alloc, name, &mut self.notes.errors);
+        self.calls.note_read(name, &answer);
+        match answer {
             ReadAnswer::Failed => {
                 self.read_faults = raise(self.read_faults);
                 ReadAnswer::Failed
@@ -71,10 +115,25 @@ impl<R: Files + Drop> Folder for DirFolder<R> {
         }
     }
 
-    fn write(&mut self, _alloc: Global, name: &[u8], content: &[u8]) -> WriteAnswer {
-        match write_file(&self.rt, name, content) {
-            Put::Done => WriteAnswer::Written,
+    fn write(&mut self, _alloc: Global, name: &[u8], content: &[u8]) -> WriteAnswer
+        ensures says { WriteSays result None None name.now content.now }
+        ensures wrote { self.new.wrote ≡ self.old.wrote ++ (name.now, content.now, result) ∷ [] }
+        ensures asked { self.new.asked ≡ self.old.asked }
+        ensures cause { WriteHasCause result self.old.writes self.new.writes }
+        ensures count { self.old.writes ≤ self.new.writes }
+        ensures count_bound { self.new.writes < 2 ^ 64 }
+        ensures other_count { self.new.reads ≡ self.old.reads }
+
+        ensures took { WriteTakes result self.old.taken self.new.taken content.now }
+        ensures error { WriteHasError result name.now self.old.errors self.new.errors }
+    {
+        match write_file(&self.rt, name, content, &mut self.notes) {
+            Put::Done => {
+                self.calls.note_write(name, content, WriteAnswer::Written);
+                WriteAnswer::Written
+            }
             Put::Failed => {
+                self.calls.note_write(name, content, WriteAnswer::Failed);
                 self.write_faults = raise(self.write_faults);
                 WriteAnswer::Failed
             }
@@ -83,34 +142,71 @@ impl<R: Files + Drop> Folder for DirFolder<R> {
 }
 
 /// Reads a file of the current directory.
-fn read_file<R: Files>(rt: &R, alloc: Global, name: &[u8]) -> ReadAnswer
-    ensures { IsWithinLimit result }
+fn read_file<R: Files>(
+    rt: &R,
+    alloc: Global,
+    name: &[u8],
+    errors: &mut Passed<ErrorKind>,
+) -> ReadAnswer
+    ensures limit { IsWithinLimit result }
+    ensures error { ReadHasError result name.now errors.old.entries errors.new.entries }
 {
     let Some(name) = name_of_file(name) else {
         return ReadAnswer::Absent;
     };
     match File::open(rt, name) {
-        Ok(mut file) => read_whole(&mut file, alloc),
-        Err(e) if e.kind() == ErrorKind::NotFound => ReadAnswer::Absent,
-        Err(_) => ReadAnswer::Failed,
+        Ok(file) => {
+            let mut from = NotedReader::new(file);
+            let answer = read_whole(&mut from, alloc);
+            errors.note(&from.errors);
+            answer
+        }
+        Err(e) => {
+            let kind = e.kind();
+            errors.note(&kind);
+            refusal(kind)
+        }
+    }
+}
+
+/// The answer to a file that could not be opened: only one that is not found is absent.
+fn refusal(kind: ErrorKind) -> ReadAnswer
+    ensures { result ≡ refusal_of kind }
+{
+    match kind {
+        ErrorKind::NotFound => ReadAnswer::Absent,
+        _ => ReadAnswer::Failed,
     }
 }
 
 /// Makes a file of the current directory anew.
-fn write_file<R: Files>(rt: &R, name: &[u8], content: &[u8]) -> Put {
+#[tactic(auto, using(crate::proofs::Takes::takes))]
+fn write_file<R: Files>(rt: &R, name: &[u8], content: &[u8], notes: &mut FileNotes) -> Put
+    ensures took { FileTakes result notes.old.taken.entries notes.new.taken.entries content.now }
+    ensures error { FileHasError result name.now notes.old.errors.entries notes.new.errors.entries }
+{
     let Some(name) = name_of_file(name) else {
         return Put::Failed;
     };
     match File::create(rt, name) {
-        Ok(mut file) => write_whole(&mut file, content),
-        Err(_) => Put::Failed,
+        Ok(file) => {
+            let mut to = NotedWriter::new(file);
+            let answer = write_whole(&mut to, content);
+            notes.taken.note(&to.taken);
+            notes.errors.note(&to.errors);
+            answer
+        }
+        Err(e) => {
+            notes.errors.note(&e.kind());
+            Put::Failed
+        }
     }
 }
 
 /// The name as text, where it can be that of a file of the current directory: it is UTF-8 and has no slash.
 fn name_of_file(name: &[u8]) -> Option<&str>
     ensures { MatchOption result
-        (IsUtf8 name.now → Contains name.now SLASH)
+        (NamesNoFile name.now)
         (λ text. (text.now ≡ name.now) × ¬ (Contains name.now SLASH)) }
 {
     if name.contains(&SLASH) {
@@ -132,47 +228,41 @@ mod tests {
         let mut folder = DirFolder::new(rt.clone()?);
         let name = b"m36_outside_file";
         assert!(rt; matches!(folder.read(alloc, name), ReadAnswer::Absent));
-        for content in [b"bare words\n".as_slice(), b"", b"\0\xff"] {
+        let large = vec![in alloc; b'x'; FILE_LIMIT + 1]?;
+        for content in [b"bare words\n".as_slice(), b"", b"\0\xff", &large[1..]] {
             assert_eq!(rt; folder.write(alloc, name, content), WriteAnswer::Written);
             match folder.read(alloc, name) {
                 ReadAnswer::Read(text) => assert!(rt; text.bytes() == content),
                 _ => assert!(rt; false, "the file is not read"),
             }
         }
+        assert_eq!(rt; folder.write(alloc, name, &large), WriteAnswer::Written);
+        assert!(rt; matches!(folder.read(alloc, name), ReadAnswer::TooLarge));
         fs::remove_file(&rt, "m36_outside_file")?;
         Ok(())
     }
 
-    #[test]
-    fn limits_a_file(rt: HostRuntime) -> Result<(), Fail> {
-        let alloc = rt.alloc();
-        let mut folder = DirFolder::new(rt.clone()?);
-        let name = b"m36_outside_large";
-        let content = vec![in alloc; b'x'; FILE_LIMIT + 1]?;
-        assert_eq!(rt; folder.write(alloc, name, &content), WriteAnswer::Written);
-        assert!(rt; matches!(folder.read(alloc, name), ReadAnswer::TooLarge));
-        assert_eq!(rt;
-            folder.write(alloc, name, &content[1..]),
-            WriteAnswer::Written
-        );
-        match folder.read(alloc, name) {
-            ReadAnswer::Read(text) => assert_eq!(rt; text.bytes().len(), FILE_LIMIT),
-            _ => assert!(rt; false, "the file is not read"),
-        }
-        fs::remove_file(&rt, "m36_outside_large")?;
-        Ok(())
-    }
-
+    /// Names of no file, and then those that the system refuses: a directory, and a name with a zero byte.
     #[test]
     fn refuses_names(rt: HostRuntime) -> Result<(), Fail> {
         let alloc = rt.alloc();
         let mut folder = DirFolder::new(rt.clone()?);
-        for name in [b"".as_slice(), b"/dev/null", b"./x", b"\xff"] {
-            assert!(rt; matches!(folder.read(alloc, name), ReadAnswer::Absent));
-            assert_eq!(rt; folder.write(alloc, name, b"x"), WriteAnswer::Failed);
-        }
-        for name in [b".".as_slice(), b"a\0b"] {
-            assert!(rt; matches!(folder.read(alloc, name), ReadAnswer::Failed));
+        for (name, absent) in [
+            (b"".as_slice(), true),
+            (b"/dev/null", true),
+            (b"./x", true),
+            (b"\xff", true),
+            (b".", false),
+            (b"a\0b", false),
+        ] {
+            assert_eq!(rt;
+                matches!(folder.read(alloc, name), ReadAnswer::Absent),
+                absent
+            );
+            assert_eq!(rt;
+                matches!(folder.read(alloc, name), ReadAnswer::Failed),
+                !absent
+            );
             assert_eq!(rt; folder.write(alloc, name, b"x"), WriteAnswer::Failed);
         }
         Ok(())

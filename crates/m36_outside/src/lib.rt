@@ -20,11 +20,17 @@
 //! | [`MemLines`] | [`SureLines`] | [`StdLines`], the standard input |
 //! | [`MemSink`] | [`SureSink`] | [`StdSink`], the standard output |
 //!
-//! Those of the system tell nothing and are the trusted edge. Their loops over std's reads and writes are proved over every
-//! reader and writer; what std says of the system is taken as it is, and each of the three has a test.
+//! Each of them, those of the system included, tells what passed through it, in order: a folder its reads and writes, an
+//! input the pieces that it gave, and a sink those that it took. [`Passed`] carries that, and has no bytes: nothing that
+//! passed is kept. So a caller's contract can say, of every object, what it asked for and what it put by the answers.
 //!
-//! A caller composes these contracts by the laws in `proofs/`: `Grown` for several puts, `Completes` for puts in a loop,
-//! `Risen` for counts, and `FilesKept` for files. No part of the manual speaks of this.
+//! What is of the system goes through `noted.rt`, which notes what each call of std answered, and is proved over every
+//! reader and writer. By it the adapters prove that a put which is done wrote all and flushed it, and that a failure has
+//! an error behind it. What a real file or terminal holds is not told: what std says of the system is taken as it is.
+//!
+//! A caller composes these contracts by the laws in `proofs/`: `Grown` for what several puts wrote, `LinesTaken` for the
+//! pieces that they put, `Completes` for puts in a loop, `Risen` for counts, and `FilesKept` for files. `caller.rt` is a
+//! worked one. No part of the manual speaks of this.
 #![tactic(auto)]
 
 #[cfg(test)]
@@ -34,10 +40,13 @@ pub mod directory;
 mod faults;
 mod file_list;
 pub mod folder;
+mod folder_calls;
 pub mod lines;
 pub mod memory_folder;
 pub mod memory_lines;
 pub mod memory_sink;
+mod noted;
+pub mod passed;
 mod reading;
 pub mod sink;
 pub mod standard_input;
@@ -55,6 +64,7 @@ pub use lines::{Lines, Piece};
 pub use memory_folder::MemFolder;
 pub use memory_lines::MemLines;
 pub use memory_sink::MemSink;
+pub use passed::{Entries, Passed};
 pub use sink::{Put, Sink};
 pub use standard_input::StdLines;
 pub use standard_output::StdSink;

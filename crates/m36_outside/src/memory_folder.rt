@@ -1,6 +1,6 @@
 //! A folder in memory, whose calls fail where a test wants it.
 
-ghost use Rattle.std.specs.Prelude.{◌≡◌, ◌≤◌, ◌<◌, ◌^◌, ◌↔◌, Some, IsTrue, IfOk, OnOk, OnErr};
+ghost use Rattle.std.specs.Prelude.{[], ◌∷◌, ◌++◌, ◌≡◌, ◌≤◌, ◌<◌, ◌^◌, ◌↔◌, Some, IsTrue, IfOk, OnOk, OnErr};
 ghost use Rattle.m36_outside.specs.CallPlan.{next_fails};
 ghost use Rattle.m36_outside.specs.Files.{with_file};
 ghost use Rattle.m36_outside.specs.FileList.{file_named};
@@ -11,6 +11,7 @@ use crate::calls::Calls;
 use crate::faults::raise;
 use crate::file_list::FileList;
 use crate::folder::{Folder, ReadAnswer, WriteAnswer};
+use crate::folder_calls::FolderCalls;
 use m36_word::NoMemory;
 use std::alloc::Global;
 use std::marker::Model;
@@ -24,6 +25,7 @@ pub struct MemFolder {
     files: FileList,
     reads: Calls,
     writes: Calls,
+    calls: FolderCalls,
     read_faults: u64,
     write_faults: u64,
 }
@@ -38,6 +40,8 @@ impl Model for MemFolder {
       files = f.files;
       reads = f.reads;
       writes = f.writes;
+      asked = f.calls.asked.entries;
+      wrote = f.calls.wrote.entries;
       read_faults = f.read_faults;
       write_faults = f.write_faults;
     } };
@@ -61,6 +65,7 @@ impl MemFolder {
             files: FileList::new(alloc),
             reads: Calls::new(alloc, fail_reads)?,
             writes: Calls::new(alloc, fail_writes)?,
+            calls: FolderCalls::new(),
             read_faults: 0,
             write_faults: 0,
         })
@@ -84,6 +89,10 @@ impl Folder for MemFolder {
 
     ghost files = { λ f. Some (file_named f.files) };
 
+    ghost asked = { λ f. f.asked };
+
+    ghost wrote = { λ f. f.wrote };
+
     ghost read_faults = { λ f. f.read_faults };
 
     ghost write_faults = { λ f. f.write_faults };
@@ -91,38 +100,50 @@ impl Folder for MemFolder {
     fn read(&mut self, alloc: Global, name: &[u8]) -> ReadAnswer
         ensures told { ReadSays result (file_named self.old.files name.now) }
         ensures limit { IsWithinLimit result }
+        ensures asked { self.new.asked ≡ self.old.asked ++ (name.now, result) ∷ [] }
         ensures cause { ReadHasCause result self.old.read_faults self.new.read_faults }
         ensures count { self.old.read_faults ≤ self.new.read_faults }
         ensures count_bound { self.new.read_faults < 2 ^ 64 }
 
         ensures fails { (result ≡ ReadAnswer.Failed) ↔ IsTrue (next_fails self.old.reads) }
-        ensures after { self.new ≡ after_read self.old }
+        ensures after { self.new ≡ after_read self.old name.now result }
     {
         if self.reads.next_fails() {
             self.read_faults = raise(self.read_faults);
+            self.calls.note_read(name, &ReadAnswer::Failed);
             return ReadAnswer::Failed;
         }
-        self.files.read(alloc, name)
+        let answer = self.files.read(alloc, name);
+        self.calls.note_read(name, &answer);
+        answer
     }
 
     #[tactic(auto, using(crate::proofs::FilesKept::differs_by_nothing))]
     fn write(&mut self, alloc: Global, name: &[u8], content: &[u8]) -> WriteAnswer
         ensures says { WriteSays result
             (Some (file_named self.old.files)) (Some (file_named self.new.files)) name.now content.now }
+        ensures wrote { self.new.wrote ≡ self.old.wrote ++ (name.now, content.now, result) ∷ [] }
         ensures cause { WriteHasCause result self.old.write_faults self.new.write_faults }
         ensures count { self.old.write_faults ≤ self.new.write_faults }
         ensures count_bound { self.new.write_faults < 2 ^ 64 }
 
         ensures fails { (result ≡ WriteAnswer.Failed) ↔ IsTrue (next_fails self.old.writes) }
-        ensures after { self.new ≡ after_write self.old self.new.files }
+        ensures after { self.new ≡ after_write self.old self.new.files name.now content.now result }
     {
         if self.writes.next_fails() {
             self.write_faults = raise(self.write_faults);
+            self.calls.note_write(name, content, WriteAnswer::Failed);
             return WriteAnswer::Failed;
         }
         match self.files.set(alloc, name, content) {
-            Ok(()) => WriteAnswer::Written,
-            Err(NoMemory) => WriteAnswer::NoMemory,
+            Ok(()) => {
+                self.calls.note_write(name, content, WriteAnswer::Written);
+                WriteAnswer::Written
+            }
+            Err(NoMemory) => {
+                self.calls.note_write(name, content, WriteAnswer::NoMemory);
+                WriteAnswer::NoMemory
+            }
         }
     }
 }

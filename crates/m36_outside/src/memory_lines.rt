@@ -2,11 +2,14 @@
 
 ghost use Rattle.std.specs.Prelude.{◌≡◌, ◌≤◌, ◌<◌, ◌^◌, ◌↔◌, Some, IsTrue, IfOk, length};
 ghost use Rattle.m36_outside.specs.CallPlan.{next_fails};
+ghost use Rattle.m36_outside.specs.Passing.{PieceGives};
 ghost use Rattle.m36_outside.specs.Piece.{PieceSays, PieceHasCause};
 
 use crate::calls::Calls;
 use crate::faults::raise;
 use crate::lines::{Lines, Piece};
+use crate::passed::Passed;
+use crate::text::Text;
 use crate::unread::Unread;
 use m36_word::NoMemory;
 use std::alloc::Global;
@@ -20,6 +23,7 @@ use std::marker::Model;
 pub struct MemLines {
     unread: Unread,
     calls: Calls,
+    given: Passed<Text>,
     faults: u64,
 }
 
@@ -29,7 +33,12 @@ impl Model for MemLines {
 
     ghost Value = { MemLinesFields };
 
-    ghost view = { λ l. record { left = l.unread; calls = l.calls; faults = l.faults } };
+    ghost view = { λ l. record {
+      left = l.unread;
+      given = l.given.entries;
+      calls = l.calls;
+      faults = l.faults;
+    } };
 
     ghost invariant = { λ l. l.faults < 2 ^ 64 };
 }
@@ -44,6 +53,7 @@ impl MemLines {
         Ok(MemLines {
             unread: Unread::new(alloc, content)?,
             calls: Calls::new(alloc, fail)?,
+            given: Passed::new(),
             faults: 0,
         })
     }
@@ -54,11 +64,14 @@ impl Lines for MemLines {
 
     ghost left = { λ l. Some l.left };
 
+    ghost given = { λ l. l.given };
+
     ghost faults = { λ l. l.faults };
 
     fn next_piece(&mut self, into: &mut [u8]) -> Piece
         requires room { 1 ≤ length into.old }
         ensures says { PieceSays result (Some self.old.left) (Some self.new.left) into.new }
+        ensures gives { PieceGives result self.old.given self.new.given into.new }
         ensures cause { PieceHasCause result self.old.faults self.new.faults }
         ensures count { self.old.faults ≤ self.new.faults }
         ensures count_bound { self.new.faults < 2 ^ 64 }
@@ -70,7 +83,9 @@ impl Lines for MemLines {
             self.faults = raise(self.faults);
             return Piece::Failed;
         }
-        match self.unread.take(into) {
+        let count = self.unread.take(into);
+        self.given.note(&&into[..count]);
+        match count {
             0 => Piece::End,
             count => Piece::Got(count),
         }
@@ -80,17 +95,26 @@ impl Lines for MemLines {
 #[cfg(test)]
 mod tests {
     use super::*;
+    use crate::sure_lines::SureLines;
 
     #[test]
     fn gives_pieces(rt: HostRuntime) -> Result<(), NoMemory> {
         let mut lines = MemLines::new(rt.alloc(), b"step\nquit\n", &[2])?;
+        let mut sure = SureLines::new(rt.alloc(), b"step\nquit\n")?;
         let mut buffer = [0; 7];
-        assert_eq!(rt; lines.next_piece(&mut buffer), Piece::Got(7));
-        assert!(rt; buffer.as_slice() == b"step\nqu".as_slice());
-        assert_eq!(rt; lines.next_piece(&mut buffer), Piece::Failed);
-        assert_eq!(rt; lines.next_piece(&mut buffer), Piece::Got(3));
-        assert!(rt; &buffer[..3] == b"it\n".as_slice());
-        assert_eq!(rt; lines.next_piece(&mut buffer), Piece::End);
+        for (want, bytes) in [
+            (Piece::Got(7), b"step\nqu".as_slice()),
+            (Piece::Failed, b""),
+            (Piece::Got(3), b"it\n"),
+            (Piece::End, b""),
+        ] {
+            assert_eq!(rt; lines.next_piece(&mut buffer), want);
+            assert!(rt; buffer.starts_with(bytes));
+            if want != Piece::Failed {
+                assert_eq!(rt; sure.next_piece(&mut buffer), want);
+                assert!(rt; buffer.starts_with(bytes));
+            }
+        }
         Ok(())
     }
 }

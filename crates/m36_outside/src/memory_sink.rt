@@ -1,11 +1,14 @@
 //! A place for output in memory, whose calls fail where a test wants it.
 
 ghost use Rattle.std.specs.Prelude.{◌≡◌, ◌+◌, ◌≤◌, ◌<◌, ◌^◌, ◌++◌, ◌↔◌, Some, IsTrue, IfOk, length, vec_len, vec_capacity};
+ghost use Rattle.m36_outside.specs.Passing.{PutTakes};
 ghost use Rattle.m36_outside.specs.Put.{PutSays, PutHasCause};
 
 use crate::calls::Calls;
 use crate::faults::raise;
+use crate::passed::Passed;
 use crate::sink::{Put, Sink};
+use crate::text::Text;
 use m36_word::NoMemory;
 use std::alloc::Global;
 use std::marker::Model;
@@ -18,6 +21,7 @@ use std::marker::Model;
 pub struct MemSink {
     bytes: Vec<u8>,
     puts: Calls,
+    pieces: Passed<Text>,
     room: usize,
     faults: u64,
 }
@@ -28,7 +32,13 @@ impl Model for MemSink {
 
     ghost Value = { MemSinkFields };
 
-    ghost view = { λ s. record { bytes = s.bytes.items; room = s.room; puts = s.puts; faults = s.faults } };
+    ghost view = { λ s. record {
+      bytes = s.bytes.items;
+      pieces = s.pieces.entries;
+      room = s.room;
+      puts = s.puts;
+      faults = s.faults;
+    } };
 
     ghost invariant = { λ s. (vec_len s.bytes ≤ s.room) × (s.room ≤ vec_capacity s.bytes) × (s.faults < 2 ^ 64) };
 }
@@ -44,6 +54,7 @@ impl MemSink {
         Ok(MemSink {
             bytes: Vec::with_capacity(alloc, room)?,
             puts: Calls::new(alloc, fail)?,
+            pieces: Passed::new(),
             room,
             faults: 0,
         })
@@ -62,11 +73,15 @@ impl Sink for MemSink {
 
     ghost written = { λ s. Some s.bytes };
 
+    ghost taken = { λ s. s.pieces };
+
     ghost faults = { λ s. s.faults };
 
-    #[tactic(auto, using(crate::proofs::Grown::within_front))]
+    #[tactic(auto, using(crate::proofs::Grown::within_front, crate::proofs::Takes::takes))]
     fn put(&mut self, piece: &[u8]) -> Put
         ensures says { PutSays result (Some self.old.bytes) (Some self.new.bytes) piece.now }
+        ensures took { PutTakes result
+            (Some self.old.bytes) (Some self.new.bytes) self.old.pieces self.new.pieces piece.now }
         ensures cause { PutHasCause result self.old.faults self.new.faults }
         ensures count { self.old.faults ≤ self.new.faults }
         ensures count_bound { self.new.faults < 2 ^ 64 }
@@ -75,16 +90,19 @@ impl Sink for MemSink {
         ensures after { self.new ≡ after_put self.old piece.now }
     {
         if self.puts.next_fails() {
+            self.pieces.note(&&piece[..0]);
             self.faults = raise(self.faults);
             return Put::Failed;
         }
         let left = self.room - self.bytes.len();
         if piece.len() > left {
             add_within(&mut self.bytes, &piece[..left]);
+            self.pieces.note(&&piece[..left]);
             self.faults = raise(self.faults);
             return Put::Failed;
         }
         add_within(&mut self.bytes, piece);
+        self.pieces.note(&piece);
         Put::Done
     }
 }
@@ -106,11 +124,15 @@ mod tests {
     #[test]
     fn fails_past_its_room(rt: HostRuntime) -> Result<(), NoMemory> {
         let mut out = MemSink::new(rt.alloc(), 5, &[2])?;
-        assert_eq!(rt; out.put(b"abc"), Put::Done);
-        assert_eq!(rt; out.put(b"x"), Put::Failed);
-        assert_eq!(rt; out.put(b"d"), Put::Done);
-        assert_eq!(rt; out.put(b"efg"), Put::Failed);
-        assert_eq!(rt; out.put(b""), Put::Done);
+        for (piece, want) in [
+            (b"abc".as_slice(), Put::Done),
+            (b"x", Put::Failed),
+            (b"d", Put::Done),
+            (b"efg", Put::Failed),
+            (b"", Put::Done),
+        ] {
+            assert_eq!(rt; out.put(piece), want);
+        }
         assert!(rt; out.bytes() == b"abcde".as_slice());
         Ok(())
     }

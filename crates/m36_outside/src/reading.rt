@@ -1,16 +1,19 @@
-//! Loops over the reads of std, which may give less than was asked for.
+//! The loop over the reads of std, which may give less than was asked for.
 
 ghost use Rattle.std.specs.Prelude.{◌≡◌, ◌+◌, ◌≤◌, ◌<◌, Some, None, IfSome, length};
 ghost use Rattle.m36_outside.specs.Piece.{PieceSays};
 ghost use Rattle.m36_outside.specs.ReadAnswer.{ReadSays, IsWithinLimit, file_limit};
-ghost use Rattle.m36_outside.specs.Chunk.{ChunkSays, AddSays};
+ghost use Rattle.m36_outside.specs.Chunk.{ChunkSays, AddSays, ChunkHasError};
+ghost use Rattle.m36_outside.specs.Passing.{PieceGives};
+ghost use Rattle.m36_outside.specs.System.{OpenHasError, PieceHasError};
 
 use crate::folder::{FILE_LIMIT, ReadAnswer};
 use crate::lines::Piece;
+use crate::noted::NotedReader;
 use crate::text::Text;
 use m36_word::NoMemory;
 use std::alloc::Global;
-use std::io::{ErrorKind, Read};
+use std::io::Read;
 
 /// How many bytes are asked for at once.
 const CHUNK: usize = 8192;
@@ -18,7 +21,7 @@ const CHUNK: usize = 8192;
 /// The answer of one read.
 #[derive(Clone, Copy)]
 pub enum Chunk {
-    /// Bytes were added, or none where a signal broke in.
+    /// Bytes were added.
     More,
     /// The end was reached.
     End,
@@ -32,12 +35,13 @@ pub enum Chunk {
 
 /// Reads to the end, and takes at most one byte past the limit. The answer is never Absent.
 #[tactic(auto, using(crate::proofs::Consumed::consumed))]
-pub fn read_whole<R: Read>(from: &mut R, alloc: Global) -> ReadAnswer
-    ensures told { IfSome (R.remaining from.old) (λ bytes. ReadSays result (Some bytes)) }
+pub fn read_whole<R: Read>(from: &mut NotedReader<R>, alloc: Global) -> ReadAnswer
+    ensures told { IfSome (R.remaining from.old.inner) (λ bytes. ReadSays result (Some bytes)) }
     ensures limit { IsWithinLimit result }
+    ensures error { OpenHasError result from.old.errors.entries from.new.errors.entries }
 {
     let mut text = Text::new(alloc);
-    for _ in 0..u64::MAX {
+    loop {
         match read_chunk(from, &mut text) {
             Chunk::More => {}
             Chunk::End => return ReadAnswer::Read(text),
@@ -46,21 +50,22 @@ pub fn read_whole<R: Read>(from: &mut R, alloc: Global) -> ReadAnswer
             Chunk::NoMemory => return ReadAnswer::NoMemory,
         }
     }
-    ReadAnswer::Failed
 }
 
-/// Reads once, and adds what was read. A read that a signal broke off is made again by the caller.
-fn read_chunk<R: Read>(from: &mut R, text: &mut Text) -> Chunk
+/// Reads once, and adds what was read.
+fn read_chunk<R: Read>(from: &mut NotedReader<R>, text: &mut Text) -> Chunk
     requires { length text.old ≤ file_limit }
-    ensures { ChunkSays result (R.remaining from.old) (R.remaining from.new) text.old text.new }
+    ensures says { ChunkSays result
+        (R.remaining from.old.inner) (R.remaining from.new.inner) text.old text.new }
+    ensures errors { length from.old.errors.entries ≤ length from.new.errors.entries }
+    ensures error { ChunkHasError result from.old.errors.entries from.new.errors.entries }
 {
     let mut buffer = [0; CHUNK];
     let room = room_after(text.bytes());
     match from.read(&mut buffer[..room]) {
-        Ok(0) => Chunk::End,
-        Ok(count) => add_chunk(&buffer[..count], text),
-        Err(e) if e.kind() == ErrorKind::Interrupted => Chunk::More,
-        Err(_) => Chunk::Failed,
+        Some(0) => Chunk::End,
+        Some(count) => add_chunk(&buffer[..count], text),
+        None => Chunk::Failed,
     }
 }
 
@@ -88,19 +93,17 @@ fn add_chunk(got: &[u8], text: &mut Text) -> Chunk
 
 /// Reads the next bytes, as many as one read gives.
 #[tactic(auto, using(crate::proofs::Consumed::pieces))]
-pub fn read_piece<R: Read>(from: &mut R, into: &mut [u8]) -> Piece
+pub fn read_piece<R: Read>(from: &mut NotedReader<R>, into: &mut [u8]) -> Piece
     requires room { 1 ≤ length into.old }
-    ensures told { IfSome (R.remaining from.old)
-        (λ left. PieceSays result (Some left) (R.remaining from.new) into.new) }
+    ensures told { IfSome (R.remaining from.old.inner)
+        (λ left. PieceSays result (Some left) (R.remaining from.new.inner) into.new) }
     ensures size { PieceSays result None None into.new }
+    ensures gives { PieceGives result from.old.given.entries from.new.given.entries into.new }
+    ensures error { PieceHasError result from.old.errors.entries from.new.errors.entries }
 {
-    for _ in 0..u64::MAX {
-        match from.read(into) {
-            Ok(0) => return Piece::End,
-            Ok(count) => return Piece::Got(count),
-            Err(e) if e.kind() == ErrorKind::Interrupted => {}
-            Err(_) => return Piece::Failed,
-        }
+    match from.read(into) {
+        Some(0) => Piece::End,
+        Some(count) => Piece::Got(count),
+        None => Piece::Failed,
     }
-    Piece::Failed
 }

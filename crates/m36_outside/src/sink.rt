@@ -1,6 +1,7 @@
 //! A place for the output.
 
 ghost use Rattle.std.specs.Prelude.{ℕ, ◌≡◌, ◌≤◌, ◌<◌, ◌^◌, List, Option};
+ghost use Rattle.m36_outside.specs.Passing.{PutTakes};
 ghost use Rattle.m36_outside.specs.Put.{PutSays, PutHasCause};
 
 /// The answer of a put.
@@ -14,11 +15,15 @@ pub enum Put {
 
 /// A place for the output, to which pieces are added at its end.
 ///
-/// A sink may tell what is written, as one in memory does, or tell nothing, as a real output. Whether it tells it never
-/// changes. Its count of faults never falls, is below 2^64, and stays where it is once it has reached 2^64 - 1.
+/// A sink may tell what is written, as one in memory does, or not, as a real output. Whether it tells it never changes.
+/// Every sink tells the pieces that it took, in order, one a put: the whole piece, or a first part where the put failed.
+/// Its count of faults never falls, is below 2^64, and stays where it is once it has reached 2^64 - 1.
 pub trait Sink {
     /// All that is written, where it is told.
     ghost written: { Self → Option (List ℕ) };
+
+    /// The pieces that were taken so far.
+    ghost taken: { Self → List (List ℕ) };
 
     /// How many puts failed.
     ghost faults: { Self → ℕ };
@@ -26,6 +31,8 @@ pub trait Sink {
     /// Writes a piece behind all that is written. A sink that takes nothing of a piece that is not empty has failed.
     fn put(&mut self, piece: &[u8]) -> Put
         ensures says { PutSays result (written self.old) (written self.new) piece.now }
+        ensures took { PutTakes result
+            (written self.old) (written self.new) (taken self.old) (taken self.new) piece.now }
 
         ensures cause { PutHasCause result (faults self.old) (faults self.new) }
         ensures count { faults self.old ≤ faults self.new }

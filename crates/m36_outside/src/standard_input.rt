@@ -1,26 +1,36 @@
 //! The standard input.
 
-ghost use Rattle.std.specs.Prelude.{◌≡◌, None};
+ghost use Rattle.std.specs.Prelude.{[], ◌≡◌, ◌≤◌, ◌<◌, ◌^◌, None, length};
+ghost use Rattle.m36_outside.specs.Passing.{PieceGives};
+ghost use Rattle.m36_outside.specs.Piece.{PieceSays, PieceHasCause};
+ghost use Rattle.m36_outside.specs.System.{PieceHasError};
 
 use crate::faults::raise;
 use crate::lines::{Lines, Piece};
+use crate::noted::NotedReader;
 use crate::reading::read_piece;
 use std::marker::Model;
 
-/// The standard input. It tells nothing, and contracts see its count of faults.
+/// The standard input. It does not tell what is left there. Contracts see its count of faults, the pieces that it gave,
+/// and the errors that the system answered.
 #[derive(Drop)]
 pub struct StdLines<R: Input> {
     faults: u64,
-    reader: R::Reader,
+    reader: NotedReader<R::Reader>,
     rt: R,
 }
 
 impl<R: Input> Model for StdLines<R> {
-    ghost use Rattle.std.specs.Prelude.{ℕ, ◌<◌, ◌^◌};
+    ghost use Rattle.std.specs.Prelude.{◌<◌, ◌^◌};
+    ghost use Rattle.m36_outside.specs.Told.{LinesTold};
 
-    ghost Value = { ℕ };
+    ghost Value = { LinesTold };
 
-    ghost view = { λ l. l.faults };
+    ghost view = { λ l. record {
+      faults = l.faults;
+      given = l.reader.given.entries;
+      errors = l.reader.errors.entries;
+    } };
 
     ghost invariant = { λ l. l.faults < 2 ^ 64 };
 }
@@ -28,11 +38,11 @@ impl<R: Input> Model for StdLines<R> {
 impl<R: Input + Drop> StdLines<R> {
     /// The standard input, as this runtime reaches it.
     pub fn new(rt: R) -> StdLines<R>
-        ensures { result ≡ 0 }
+        ensures { result ≡ record { faults = 0; given = []; errors = [] } }
     {
         StdLines {
             faults: 0,
-            reader: rt.reader(),
+            reader: NotedReader::new(rt.reader()),
             rt,
         }
     }
@@ -41,9 +51,20 @@ impl<R: Input + Drop> StdLines<R> {
 impl<R: Input + Drop> Lines for StdLines<R> {
     ghost left = { λ _. None };
 
-    ghost faults = { λ l. l };
+    ghost given = { λ l. l.given };
 
-    fn next_piece(&mut self, into: &mut [u8]) -> Piece {
+    ghost faults = { λ l. l.faults };
+
+    fn next_piece(&mut self, into: &mut [u8]) -> Piece
+        requires room { 1 ≤ length into.old }
+        ensures says { PieceSays result None None into.new }
+        ensures gives { PieceGives result self.old.given self.new.given into.new }
+        ensures cause { PieceHasCause result self.old.faults self.new.faults }
+        ensures count { self.old.faults ≤ self.new.faults }
+        ensures count_bound { self.new.faults < 2 ^ 64 }
+
+        ensures error { PieceHasError result self.old.errors self.new.errors }
+    {
         match read_piece(&mut self.reader, into) {
             Piece::Failed => {
                 self.faults = raise(self.faults);

@@ -1,27 +1,37 @@
 //! The standard output.
 
-ghost use Rattle.std.specs.Prelude.{◌≡◌, None};
+ghost use Rattle.std.specs.Prelude.{[], ◌≡◌, ◌≤◌, ◌<◌, ◌^◌, None};
+ghost use Rattle.m36_outside.specs.Passing.{PutTakes};
+ghost use Rattle.m36_outside.specs.Put.{PutSays, PutHasCause};
+ghost use Rattle.m36_outside.specs.System.{PutHasError};
 
 use crate::faults::raise;
+use crate::noted::NotedWriter;
+use crate::passed::Passed;
 use crate::sink::{Put, Sink};
+use crate::text::Text;
 use crate::writing::write_whole;
 use std::io;
+use std::io::ErrorKind;
 use std::marker::Model;
 
-/// The standard output. It tells nothing, and contracts see its count of faults. Each put reaches the system before it
-/// answers.
+/// The standard output. It does not tell what is written there. Contracts see its count of faults, the pieces that it
+/// took, and the errors that the system answered. Each put is flushed before it answers.
 #[derive(Drop)]
 pub struct StdSink<R> {
     faults: u64,
+    taken: Passed<Text>,
+    errors: Passed<ErrorKind>,
     rt: R,
 }
 
 impl<R> Model for StdSink<R> {
-    ghost use Rattle.std.specs.Prelude.{ℕ, ◌<◌, ◌^◌};
+    ghost use Rattle.std.specs.Prelude.{◌<◌, ◌^◌};
+    ghost use Rattle.m36_outside.specs.Told.{SinkTold};
 
-    ghost Value = { ℕ };
+    ghost Value = { SinkTold };
 
-    ghost view = { λ s. s.faults };
+    ghost view = { λ s. record { faults = s.faults; taken = s.taken.entries; errors = s.errors.entries } };
 
     ghost invariant = { λ s. s.faults < 2 ^ 64 };
 }
@@ -29,19 +39,39 @@ impl<R> Model for StdSink<R> {
 impl<R: Print + Drop> StdSink<R> {
     /// The standard output, as this runtime reaches it.
     pub fn new(rt: R) -> StdSink<R>
-        ensures { result ≡ 0 }
+        ensures { result ≡ record { faults = 0; taken = []; errors = [] } }
     {
-        StdSink { faults: 0, rt }
+        StdSink {
+            faults: 0,
+            taken: Passed::new(),
+            errors: Passed::new(),
+            rt,
+        }
     }
 }
 
 impl<R: Print + Drop> Sink for StdSink<R> {
     ghost written = { λ _. None };
 
-    ghost faults = { λ s. s };
+    ghost taken = { λ s. s.taken };
 
-    fn put(&mut self, piece: &[u8]) -> Put {
-        match write_whole(&mut io::writer(&self.rt), piece) {
+    ghost faults = { λ s. s.faults };
+
+    #[tactic(auto, using(crate::proofs::Takes::takes))]
+    fn put(&mut self, piece: &[u8]) -> Put
+        ensures says { PutSays result None None piece.now }
+        ensures took { PutTakes result None None self.old.taken self.new.taken piece.now }
+        ensures cause { PutHasCause result self.old.faults self.new.faults }
+        ensures count { self.old.faults ≤ self.new.faults }
+        ensures count_bound { self.new.faults < 2 ^ 64 }
+
+        ensures error { PutHasError result self.old.errors self.new.errors }
+    {
+        let mut to = NotedWriter::new(io::writer(&self.rt));
+        let answer = write_whole(&mut to, piece);
+        self.taken.note(&to.taken);
+        self.errors.note(&to.errors);
+        match answer {
             Put::Done => Put::Done,
             Put::Failed => {
                 self.faults = raise(self.faults);

@@ -1,6 +1,6 @@
 //! A folder in memory that never fails.
 
-ghost use Rattle.std.specs.Prelude.{[], ◌≡◌, Some, IfOk, OnOk, OnErr};
+ghost use Rattle.std.specs.Prelude.{[], ◌∷◌, ◌++◌, ◌≡◌, Some, IfOk, OnOk, OnErr};
 ghost use Rattle.m36_outside.specs.Files.{with_file};
 ghost use Rattle.m36_outside.specs.FileList.{file_named};
 ghost use Rattle.m36_outside.specs.ReadAnswer.{ReadSays, IsWithinLimit, ReadHasCause};
@@ -8,39 +8,46 @@ ghost use Rattle.m36_outside.specs.WriteAnswer.{WriteSays, WriteHasCause};
 
 use crate::file_list::FileList;
 use crate::folder::{Folder, ReadAnswer, WriteAnswer};
+use crate::folder_calls::FolderCalls;
 use m36_word::NoMemory;
 use std::alloc::Global;
 use std::marker::Model;
 
-/// Files in memory, seen as a list of named files. It tells them, and never counts a fault.
+/// Files in memory, seen as a list of named files and its calls. It tells them, and never counts a fault.
 #[derive(Drop)]
 pub struct SureFolder {
     files: FileList,
+    calls: FolderCalls,
 }
 
 impl Model for SureFolder {
-    ghost use Rattle.std.specs.Prelude.{List};
-    ghost use Rattle.m36_outside.specs.declared.file_list.NamedFile.{NamedFile};
+    ghost use Rattle.m36_outside.specs.SureFields.{SureFolderFields};
 
-    ghost Value = { List NamedFile };
+    ghost Value = { SureFolderFields };
 
-    ghost view = { λ f. f.files };
+    ghost view = { λ f. record {
+      files = f.files;
+      asked = f.calls.asked.entries;
+      wrote = f.calls.wrote.entries;
+    } };
 }
 
 impl SureFolder {
     /// A folder without files. The error is want of memory alone.
     pub fn new(alloc: Global) -> Result<SureFolder, NoMemory>
-        ensures { IfOk result (λ folder. folder ≡ []) }
+        ensures { IfOk result (λ folder. folder ≡ record { files = []; asked = []; wrote = [] }) }
     {
         Ok(SureFolder {
             files: FileList::new(alloc),
+            calls: FolderCalls::new(),
         })
     }
 
     /// Puts a file in, in place of the one of this name that may be there. Where no memory is found, nothing changes.
     pub fn add(&mut self, name: &[u8], content: &[u8]) -> Result<(), NoMemory>
         ensures ok { OnOk result
-            (file_named self.new ≡ with_file name.now (Some content.now) (file_named self.old)) }
+            (file_named self.new.files ≡ with_file name.now (Some content.now) (file_named self.old.files)) }
+        ensures rest { self.new ≡ record self.old { files = self.new.files } }
         ensures err { OnErr result (self.new ≡ self.old) }
     {
         let alloc = self.files.allocator();
@@ -49,29 +56,43 @@ impl SureFolder {
 }
 
 impl Folder for SureFolder {
-    ghost files = { λ f. Some (file_named f) };
+    ghost files = { λ f. Some (file_named f.files) };
+
+    ghost asked = { λ f. f.asked };
+
+    ghost wrote = { λ f. f.wrote };
 
     ghost read_faults = { λ _. 0 };
 
     ghost write_faults = { λ _. 0 };
 
     fn read(&mut self, alloc: Global, name: &[u8]) -> ReadAnswer
-        ensures told { ReadSays result (file_named self.old name.now) }
+        ensures told { ReadSays result (file_named self.old.files name.now) }
         ensures limit { IsWithinLimit result }
         ensures cause { ReadHasCause result 0 0 }
-        ensures same { self.new ≡ self.old }
+        ensures after { self.new ≡ record self.old { asked = self.old.asked ++ (name.now, result) ∷ [] } }
     {
-        self.files.read(alloc, name)
+        let answer = self.files.read(alloc, name);
+        self.calls.note_read(name, &answer);
+        answer
     }
 
     fn write(&mut self, alloc: Global, name: &[u8], content: &[u8]) -> WriteAnswer
         ensures says { WriteSays result
-            (Some (file_named self.old)) (Some (file_named self.new)) name.now content.now }
+            (Some (file_named self.old.files)) (Some (file_named self.new.files)) name.now content.now }
+        ensures wrote { self.new.wrote ≡ self.old.wrote ++ (name.now, content.now, result) ∷ [] }
+        ensures asked { self.new.asked ≡ self.old.asked }
         ensures cause { WriteHasCause result 0 0 }
     {
         match self.files.set(alloc, name, content) {
-            Ok(()) => WriteAnswer::Written,
-            Err(NoMemory) => WriteAnswer::NoMemory,
+            Ok(()) => {
+                self.calls.note_write(name, content, WriteAnswer::Written);
+                WriteAnswer::Written
+            }
+            Err(NoMemory) => {
+                self.calls.note_write(name, content, WriteAnswer::NoMemory);
+                WriteAnswer::NoMemory
+            }
         }
     }
 }

@@ -1,70 +1,64 @@
 //! Input in memory that never fails.
 
-ghost use Rattle.std.specs.Prelude.{◌≡◌, ◌≤◌, Some, IfOk, length, min, drop};
+ghost use Rattle.std.specs.Prelude.{[], ◌∷◌, ◌++◌, ◌≡◌, ◌≤◌, Some, IfOk, length, min, take, drop};
+ghost use Rattle.m36_outside.specs.Passing.{PieceGives};
 ghost use Rattle.m36_outside.specs.Piece.{PieceSays, PieceHasCause};
 
 use crate::lines::{Lines, Piece};
+use crate::passed::Passed;
+use crate::text::Text;
 use crate::unread::Unread;
 use m36_word::NoMemory;
 use std::alloc::Global;
 use std::marker::Model;
 
-/// Input in memory, seen as the list of the bytes that are left. It tells them, and never counts a fault. A piece fills
-/// the buffer, where so much is left.
+/// Input in memory, seen as the bytes that are left and the pieces that were given. It tells them, and never counts a
+/// fault. A piece fills the buffer, where so much is left.
 #[derive(Drop)]
 pub struct SureLines {
     unread: Unread,
+    given: Passed<Text>,
 }
 
 impl Model for SureLines {
-    ghost use Rattle.std.specs.Prelude.{ℕ, List};
+    ghost use Rattle.m36_outside.specs.SureFields.{SureLinesFields};
 
-    ghost Value = { List ℕ };
+    ghost Value = { SureLinesFields };
 
-    ghost view = { λ l. l.unread };
+    ghost view = { λ l. record { left = l.unread; given = l.given.entries } };
 }
 
 impl SureLines {
     /// Input of these bytes. The error is want of memory alone.
     pub fn new(alloc: Global, content: &[u8]) -> Result<SureLines, NoMemory>
-        ensures { IfOk result (λ lines. lines ≡ content.now) }
+        ensures { IfOk result (λ lines. lines ≡ record { left = content.now; given = [] }) }
     {
         Ok(SureLines {
             unread: Unread::new(alloc, content)?,
+            given: Passed::new(),
         })
     }
 }
 
 impl Lines for SureLines {
-    ghost left = { λ l. Some l };
+    ghost left = { λ l. Some l.left };
+
+    ghost given = { λ l. l.given };
 
     ghost faults = { λ _. 0 };
 
     fn next_piece(&mut self, into: &mut [u8]) -> Piece
         requires room { 1 ≤ length into.old }
-        ensures says { PieceSays result (Some self.old) (Some self.new) into.new }
+        ensures says { PieceSays result (Some self.old.left) (Some self.new.left) into.new }
+        ensures gives { PieceGives result self.old.given self.new.given into.new }
         ensures cause { PieceHasCause result 0 0 }
-        ensures rest { self.new ≡ drop (min (length into.old) (length self.old)) self.old }
+        ensures rest { self.new.left ≡ drop (min (length into.old) (length self.old.left)) self.old.left }
     {
-        match self.unread.take(into) {
+        let count = self.unread.take(into);
+        self.given.note(&&into[..count]);
+        match count {
             0 => Piece::End,
             count => Piece::Got(count),
         }
-    }
-}
-
-#[cfg(test)]
-mod tests {
-    use super::*;
-
-    #[test]
-    fn gives_pieces(rt: HostRuntime) -> Result<(), NoMemory> {
-        let mut lines = SureLines::new(rt.alloc(), b"quit\n")?;
-        let mut buffer = [0; 4];
-        assert_eq!(rt; lines.next_piece(&mut buffer), Piece::Got(4));
-        assert!(rt; buffer.as_slice() == b"quit".as_slice());
-        assert_eq!(rt; lines.next_piece(&mut buffer), Piece::Got(1));
-        assert_eq!(rt; lines.next_piece(&mut buffer), Piece::End);
-        Ok(())
     }
 }

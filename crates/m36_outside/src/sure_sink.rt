@@ -1,26 +1,43 @@
 //! A place for output that never fails.
 
-ghost use Rattle.std.specs.Prelude.{None};
+ghost use Rattle.std.specs.Prelude.{[], ◌∷◌, ◌++◌, ◌≡◌, None};
+ghost use Rattle.m36_outside.specs.Put.{PutSays, PutHasCause};
 
+use crate::passed::Passed;
 use crate::sink::{Put, Sink};
+use crate::text::Text;
 
-/// Takes every piece and keeps none. It tells nothing, and never counts a fault.
-#[derive(Clone, Copy, Debug)]
-pub struct SureSink;
+/// Takes every piece and keeps none. It does not tell what is written, and never counts a fault.
+#[derive(Drop)]
+pub struct SureSink {
+    taken: Passed<Text>,
+}
 
 impl SureSink {
     /// The place.
-    pub fn new() -> SureSink {
-        SureSink
+    pub fn new() -> SureSink
+        ensures { result.taken.entries ≡ [] }
+    {
+        SureSink {
+            taken: Passed::new(),
+        }
     }
 }
 
 impl Sink for SureSink {
     ghost written = { λ _. None };
 
+    ghost taken = { λ s. s.taken.entries };
+
     ghost faults = { λ _. 0 };
 
-    fn put(&mut self, _piece: &[u8]) -> Put {
+    fn put(&mut self, piece: &[u8]) -> Put
+        ensures says { PutSays result None None piece.now }
+        ensures took { self.new.taken.entries ≡ self.old.taken.entries ++ piece.now ∷ [] }
+        ensures cause { PutHasCause result 0 0 }
+        ensures sure { result ≡ Put.Done }
+    {
+        self.taken.note(&piece);
         Put::Done
     }
 }

@@ -1,53 +1,96 @@
-//! Loops over the writes of std, which may take less than was given.
+//! The loop over the writes of std, which may take less than was given.
 
-ghost use Rattle.std.specs.Prelude.{◌≡◌, ◌≤◌, ◌-◌, Some, IfSome, IfNone, MatchOption, length, take, drop};
+ghost use Rattle.std.specs.Prelude.{◌≡◌, ◌≤◌, ◌<◌, ◌-◌, ◌++◌, Some, IfSome, IfNone, MatchOption, length, take, drop};
 ghost use Rattle.std.specs.Io.KnownBytes.{Appends, Keeps};
+ghost use Rattle.m36_outside.specs.Passing.{HasMore};
 ghost use Rattle.m36_outside.specs.Put.{PutSays};
+ghost use Rattle.m36_outside.specs.System.{PutFlushes, PutHasError};
 
+use crate::noted::NotedWriter;
 use crate::sink::Put;
-use std::io::{ErrorKind, Write};
+use std::io::Write;
 
 /// Writes all of these bytes, and flushes them. A writer that takes nothing has failed.
 #[tactic(auto, using(crate::proofs::Appended::appending))]
-pub fn write_whole<W: Write>(to: &mut W, bytes: &[u8]) -> Put
-    ensures { IfSome (W.contents to.old)
-        (λ held. PutSays result (Some held) (W.contents to.new) bytes.now) }
+pub fn write_whole<W: Write>(to: &mut NotedWriter<W>, bytes: &[u8]) -> Put
+    ensures taken { PutSays result (Some to.old.taken.entries) (Some to.new.taken.entries) bytes.now }
+    ensures inner { IfSome (W.contents to.old.inner)
+        (λ held. PutSays result (Some held) (W.contents to.new.inner) bytes.now) }
+    ensures flushed { PutFlushes result to.old.flushed.entries to.new.flushed.entries to.new.taken.entries }
+    ensures error { PutHasError result to.old.errors.entries to.new.errors.entries }
 {
     let mut done = 0;
-    for _ in 0..u64::MAX {
-        if done == bytes.len() {
-            if flushes(to) {
-                return Put::Done;
-            }
-            return Put::Failed;
-        }
+    while done < bytes.len() {
         match write_from(to, bytes, done) {
             Some(count) => done += count,
             None => return Put::Failed,
         }
     }
-    Put::Failed
+    if to.flush() { Put::Done } else { Put::Failed }
 }
 
-/// Writes once, from a place on. None says that the write failed; none of the bytes are written where a signal broke in.
-fn write_from<W: Write>(to: &mut W, bytes: &[u8], place: usize) -> Option<usize>
-    requires { place ≤ length bytes.now }
-    ensures some { IfSome result (λ count. count ≤ length bytes.now - place) }
-    ensures told { MatchOption result
-        (Keeps (W.contents to.old) (W.contents to.new))
-        (λ count. Appends (W.contents to.old) (W.contents to.new) (take count (drop place bytes.now))) }
+/// Writes some of these bytes, from a place on: once, and again where a signal broke in.
+fn write_from<W: Write>(to: &mut NotedWriter<W>, bytes: &[u8], place: usize) -> Option<usize>
+    requires { place < length bytes.now }
+    ensures bound { IfSome result (λ count. count ≤ length bytes.now - place) }
+    ensures progress { IfSome result (λ count. 1 ≤ count) }
+    ensures taken { MatchOption result
+        (to.new.taken.entries ≡ to.old.taken.entries)
+        (λ count. to.new.taken.entries ≡ to.old.taken.entries ++ take count (drop place bytes.now)) }
+    ensures inner { MatchOption result
+        (Keeps (W.contents to.old.inner) (W.contents to.new.inner))
+        (λ count. Appends (W.contents to.old.inner) (W.contents to.new.inner)
+        (take count (drop place bytes.now))) }
+    ensures flushed { to.new.flushed.entries ≡ to.old.flushed.entries }
+    ensures errors { length to.old.errors.entries ≤ length to.new.errors.entries }
+    ensures failed { IfNone result (HasMore to.old.errors.entries to.new.errors.entries) }
 {
-    match to.write(&bytes[place..]) {
-        Ok(0) => None,
-        Ok(count) => Some(count),
-        Err(e) if e.kind() == ErrorKind::Interrupted => Some(0),
-        Err(_) => None,
+    write_some(to, &bytes[place..])
+}
+
+/// Writes some of these bytes: once, and again where a signal broke in.
+#[tactic(auto, using(crate::proofs::Appended::appending))]
+fn write_some<W: Write>(to: &mut NotedWriter<W>, bytes: &[u8]) -> Option<usize>
+    requires some { 1 ≤ length bytes.now }
+    ensures bound { IfSome result (λ count. count ≤ length bytes.now) }
+    ensures progress { IfSome result (λ count. 1 ≤ count) }
+    ensures taken { MatchOption result
+        (to.new.taken.entries ≡ to.old.taken.entries)
+        (λ count. to.new.taken.entries ≡ to.old.taken.entries ++ take count bytes.now) }
+    ensures inner { MatchOption result
+        (Keeps (W.contents to.old.inner) (W.contents to.new.inner))
+        (λ count. Appends (W.contents to.old.inner) (W.contents to.new.inner) (take count bytes.now)) }
+    ensures flushed { to.new.flushed.entries ≡ to.old.flushed.entries }
+    ensures errors { length to.old.errors.entries ≤ length to.new.errors.entries }
+    ensures failed { IfNone result (HasMore to.old.errors.entries to.new.errors.entries) }
+{
+    for _turn in 0..u64::MAX {
+        match to.write(bytes) {
+            Some(0) => {}
+            Some(count) => return Some(count),
+            None => return None,
+        }
     }
+    None
 }
 
-/// Flushes what was written, and tells whether that was done.
-fn flushes<W: Write>(to: &mut W) -> bool
-    ensures { Keeps (W.contents to.old) (W.contents to.new) }
-{
-    to.flush().is_ok()
+#[cfg(test)]
+mod tests {
+    use super::*;
+    use std::fs::File;
+    use std::test::Fail;
+
+    /// The device that takes every byte, and the one that is always full.
+    #[test]
+    fn writes_to_devices(rt: HostRuntime) -> Result<(), Fail> {
+        for (name, bytes, want) in [
+            ("/dev/null", b"dis\n".as_slice(), Put::Done),
+            ("/dev/null", b"", Put::Done),
+            ("/dev/full", b"dis\n", Put::Failed),
+        ] {
+            let mut to = NotedWriter::new(File::create(&rt, name)?);
+            assert_eq!(rt; write_whole(&mut to, bytes), want);
+        }
+        Ok(())
+    }
 }

@@ -1,11 +1,15 @@
-use Rattle.std.proofs.Common.{◌≤◌, length}
+use Rattle.std.proofs.Common.{◌+◌, ◌-◌, ◌≤◌, length}
 use Rattle.std.specs.Io.KnownBytes.{Consumes}
 use Rattle.m36_outside.specs.ReadAnswer.{file_limit}
 use Rattle.m36_outside.proofs.reading.read_whole.Given as goal
 
 -- What was read is what the reader had, from the beginning on, and not too much.
-abbrev pub invariant-loop : goal.invariant-loop
-invariant-loop g l = record {
-  told : Consumes (g.R.Read.remaining l.fn.from) (g.R.Read.remaining l.from) l.text;
+abbrev pub invariant-loop-text : goal.invariant-loop-text
+invariant-loop-text g l = record {
+  told : Consumes (g.R.Read.remaining l.fn.from.inner) (g.R.Read.remaining l.from.inner) l.text;
   limit : length l.text ≤ file_limit;
+  errors : length l.fn.from.errors.entries ≤ length l.from.errors.entries;
 }
+
+abbrev pub decreases-loop-text : goal.decreases-loop-text
+decreases-loop-text g l = file_limit + 1 - length l.text

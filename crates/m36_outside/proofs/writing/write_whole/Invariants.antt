@@ -1,10 +1,16 @@
-use Rattle.std.proofs.Common.{◌≤◌, length, take}
+use Rattle.std.proofs.Common.{◌≡◌, ◌++◌, ◌-◌, ◌≤◌, length, take}
 use Rattle.std.specs.Io.KnownBytes.{Appends}
 use Rattle.m36_outside.proofs.writing.write_whole.Given as goal
 
--- So many of the bytes were written, from the beginning on.
-abbrev pub invariant-loop : goal.invariant-loop
-invariant-loop g l = record {
-  told : Appends (g.W.Write.contents l.fn.to) (g.W.Write.contents l.to) (take l.done l.bytes);
+-- So many of the bytes were written, from the beginning on, and nothing was flushed.
+abbrev pub invariant-loop-done : goal.invariant-loop-done
+invariant-loop-done g l = record {
+  taken : l.to.taken.entries ≡ l.fn.to.taken.entries ++ take l.done l.bytes;
+  inner : Appends (g.W.Write.contents l.fn.to.inner) (g.W.Write.contents l.to.inner) (take l.done l.bytes);
+  flushed : l.to.flushed.entries ≡ l.fn.to.flushed.entries;
+  later : length l.fn.to.errors.entries ≤ length l.to.errors.entries;
   room : l.done ≤ length l.bytes;
 }
+
+abbrev pub decreases-loop-done : goal.decreases-loop-done
+decreases-loop-done g l = length l.bytes - l.done

@@ -1,0 +1,13 @@
+-- A folder and an input in memory that never fail: what they hold, and what passed.
+use Rattle.std.specs.Prelude.{ℕ, List}
+use Rattle.m36_outside.specs.FolderCalls.{Asked, Wrote}
+use Rattle.m36_outside.specs.declared.file_list.NamedFile.{NamedFile}
+
+pub record SureFolderFields : Type 0 where
+  pub files : List NamedFile
+  pub asked : List Asked
+  pub wrote : List Wrote
+
+pub record SureLinesFields : Type 0 where
+  pub left : List ℕ
+  pub given : List (List ℕ)

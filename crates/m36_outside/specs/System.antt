@@ -1,0 +1,79 @@
+-- What the calls of the system answered, as it was noted.
+use Rattle.std.specs.Prelude.{ℕ, ◌≡◌, List, [], ◌∷◌, ◌++◌, ◌⊎◌, ⊤, Contains, IsUtf8}
+use Rattle.std.specs.declared.io.ErrorKind.{ErrorKind}
+use Rattle.std.specs.declared.io.ErrorKind.TheVariants.{NotFound}
+use Rattle.m36_outside.specs.Passing.{HasMore}
+use Rattle.m36_outside.specs.declared.folder.ReadAnswer.{ReadAnswer}
+use Rattle.m36_outside.specs.declared.folder.ReadAnswer.TheVariants as read
+use Rattle.m36_outside.specs.declared.folder.WriteAnswer.{WriteAnswer}
+use Rattle.m36_outside.specs.declared.folder.WriteAnswer.TheVariants as write
+use Rattle.m36_outside.specs.declared.lines.Piece.{Piece}
+use Rattle.m36_outside.specs.declared.lines.Piece.TheVariants as piece
+use Rattle.m36_outside.specs.declared.sink.Put.{Put}
+use Rattle.m36_outside.specs.declared.sink.Put.TheVariants.{Done, Failed}
+
+-- what parts the directories of a path
+abbrev pub slash : ℕ
+slash = 47
+
+-- Done was answered behind a flush of all that was taken.
+abbrev pub PutFlushes : Put → List (List ℕ) → List (List ℕ) → List ℕ → Type 0
+PutFlushes Done old new taken = new ≡ old ++ taken ∷ []
+PutFlushes Failed old new taken = ⊤
+
+-- Failed was answered behind an error.
+abbrev pub PutHasError : Put → List ErrorKind → List ErrorKind → Type 0
+PutHasError Done old new = ⊤
+PutHasError Failed old new = HasMore old new
+
+-- Failed was answered behind an error.
+abbrev pub PieceHasError : Piece → List ErrorKind → List ErrorKind → Type 0
+PieceHasError (piece.Got count) old new = ⊤
+PieceHasError piece.End old new = ⊤
+PieceHasError piece.Failed old new = HasMore old new
+
+-- A file that was opened is not absent, and Failed was answered behind an error.
+abbrev pub OpenHasError : ReadAnswer → List ErrorKind → List ErrorKind → Type 0
+OpenHasError (read.Read bytes) old new = ⊤
+OpenHasError read.Absent old new = ⊥
+OpenHasError read.TooLarge old new = ⊤
+OpenHasError read.Failed old new = HasMore old new
+OpenHasError read.NoMemory old new = ⊤
+
+-- A name that is not UTF-8, or that has a slash, names no file of a directory.
+abbrev pub NamesNoFile : List ℕ → Type 0
+NamesNoFile name = IsUtf8 name → Contains name slash
+
+-- Absent was answered to a name of no file, or behind the one error that there is no such file; Failed behind an error.
+abbrev pub ReadHasError : ReadAnswer → List ℕ → List ErrorKind → List ErrorKind → Type 0
+ReadHasError (read.Read bytes) name old new = ⊤
+ReadHasError read.Absent name old new = NamesNoFile name ⊎ (new ≡ old ++ NotFound ∷ [])
+ReadHasError read.TooLarge name old new = ⊤
+ReadHasError read.Failed name old new = HasMore old new
+ReadHasError read.NoMemory name old new = ⊤
+
+-- the answer to a file that could not be opened
+abbrev pub refusal_of : ErrorKind → ReadAnswer
+refusal_of NotFound = read.Absent
+refusal_of _ = read.Failed
+
+-- Done was answered where a file took the content.
+abbrev pub FileTakes : Put → List (List ℕ) → List (List ℕ) → List ℕ → Type 0
+FileTakes Done old new content = new ≡ old ++ content ∷ []
+FileTakes Failed old new content = ⊤
+
+-- Failed was answered to a name of no file, or behind an error.
+abbrev pub FileHasError : Put → List ℕ → List ErrorKind → List ErrorKind → Type 0
+FileHasError Done name old new = ⊤
+FileHasError Failed name old new = NamesNoFile name ⊎ HasMore old new
+
+-- the same of the answers of a folder
+abbrev pub WriteTakes : WriteAnswer → List (List ℕ) → List (List ℕ) → List ℕ → Type 0
+WriteTakes write.Written old new content = new ≡ old ++ content ∷ []
+WriteTakes write.Failed old new content = ⊤
+WriteTakes write.NoMemory old new content = ⊤
+
+abbrev pub WriteHasError : WriteAnswer → List ℕ → List ErrorKind → List ErrorKind → Type 0
+WriteHasError write.Written name old new = ⊤
+WriteHasError write.Failed name old new = NamesNoFile name ⊎ HasMore old new
+WriteHasError write.NoMemory name old new = ⊤

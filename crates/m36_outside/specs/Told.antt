@@ -1,0 +1,25 @@
+-- What is known of the files, the input and the output of the system: counts of faults, and what passed.
+use Rattle.std.specs.Prelude.{ℕ, List}
+use Rattle.std.specs.declared.io.ErrorKind.{ErrorKind}
+use Rattle.m36_outside.specs.FolderCalls.{Asked, Wrote}
+
+-- a folder: its calls, the bytes that each file which was made took, and the errors of the system
+pub record FolderTold : Type 0 where
+  pub reads : ℕ
+  pub writes : ℕ
+  pub asked : List Asked
+  pub wrote : List Wrote
+  pub taken : List (List ℕ)
+  pub errors : List ErrorKind
+
+-- an input: the pieces that it gave, and the errors of the system
+pub record LinesTold : Type 0 where
+  pub faults : ℕ
+  pub given : List (List ℕ)
+  pub errors : List ErrorKind
+
+-- an output: the pieces that it took, and the errors of the system
+pub record SinkTold : Type 0 where
+  pub faults : ℕ
+  pub taken : List (List ℕ)
+  pub errors : List ErrorKind

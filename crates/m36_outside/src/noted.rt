@@ -1,0 +1,180 @@
+//! A writer and a reader of std that note what passes through them.
+//!
+//! These are the calls of the system, and what is noted beside each is what it answered. Each is proved over every
+//! reader and writer, and tells of one that tells its bytes that they moved as noted.
+
+ghost use Rattle.std.specs.Prelude.{[], ◌∷◌, ◌++◌, ◌≡◌, ◌≤◌, ◌<◌, Some, IfSome, IfNone, MatchOption, length, take};
+ghost use Rattle.std.specs.Bool.{OnTrue, OnFalse};
+ghost use Rattle.std.specs.Io.KnownBytes.{Appends, Consumes, IsAtEnd, Keeps};
+ghost use Rattle.m36_outside.specs.Passing.{HasMore};
+
+use crate::passed::{Entries, Passed};
+use crate::text::Text;
+use std::io::{ErrorKind, Read, Write};
+
+impl Entries<u8> for &[u8] {
+    ghost entries = { λ bytes. bytes.now };
+}
+
+impl Entries<Text> for &[u8] {
+    ghost use Rattle.std.specs.Prelude.{[], ◌∷◌};
+
+    ghost entries = { λ bytes. bytes.now ∷ [] };
+}
+
+impl Entries<Text> for Passed<u8> {
+    ghost use Rattle.std.specs.Prelude.{[], ◌∷◌};
+
+    ghost entries = { λ bytes. bytes.entries ∷ [] };
+}
+
+impl Entries<ErrorKind> for ErrorKind {
+    ghost use Rattle.std.specs.Prelude.{[], ◌∷◌};
+
+    ghost entries = { λ kind. kind ∷ [] };
+}
+
+impl Entries<ErrorKind> for Passed<ErrorKind> {
+    ghost entries = { λ kinds. kinds.entries };
+}
+
+/// A writer, with notes of the bytes that it took, of those that were taken at each flush, and of its errors.
+#[derive(Drop)]
+pub struct NotedWriter<W> {
+    pub inner: W,
+    pub taken: Passed<u8>,
+    pub flushed: Passed<Text>,
+    pub errors: Passed<ErrorKind>,
+}
+
+impl<W: Write> NotedWriter<W> {
+    /// The writer, of which nothing is noted yet.
+    pub fn new(inner: W) -> NotedWriter<W>
+        ensures inner { result.inner ≡ inner }
+        ensures taken { result.taken.entries ≡ [] }
+        ensures flushed { result.flushed.entries ≡ [] }
+        ensures errors { result.errors.entries ≡ [] }
+    {
+        NotedWriter {
+            inner,
+            taken: Passed::new(),
+            flushed: Passed::new(),
+            errors: Passed::new(),
+        }
+    }
+
+    /// Writes once. None says that the writer answered an error, or took nothing of bytes that are some; Some(0) that a
+    /// signal broke in. In both an error was noted.
+    pub fn write(&mut self, bytes: &[u8]) -> Option<usize>
+        requires some { 1 ≤ length bytes.now }
+        ensures bound { IfSome result (λ count. count ≤ length bytes.now) }
+        ensures taken { MatchOption result
+            (self.new.taken.entries ≡ self.old.taken.entries)
+            (λ count. self.new.taken.entries ≡ self.old.taken.entries ++ take count bytes.now) }
+        ensures inner { MatchOption result
+            (Keeps (W.contents self.old.inner) (W.contents self.new.inner))
+            (λ count. Appends (W.contents self.old.inner) (W.contents self.new.inner) (take count bytes.now)) }
+        ensures flushed { self.new.flushed.entries ≡ self.old.flushed.entries }
+        ensures errors { length self.old.errors.entries ≤ length self.new.errors.entries }
+        ensures failed { IfNone result (HasMore self.old.errors.entries self.new.errors.entries) }
+        ensures signal { IfSome result (λ count. count ≡ 0 →
+            HasMore self.old.errors.entries self.new.errors.entries) }
+    {
+        match self.inner.write(bytes) {
+            Ok(0) => {
+                self.errors.note(&ErrorKind::WriteZero);
+                None
+            }
+            Ok(count) => {
+                self.taken.note(&&bytes[..count]);
+                Some(count)
+            }
+            Err(e) => {
+                let kind = e.kind();
+                self.errors.note(&kind);
+                if kind == ErrorKind::Interrupted {
+                    Some(0)
+                } else {
+                    None
+                }
+            }
+        }
+    }
+
+    /// Flushes what was written, and tells whether that was done.
+    pub fn flush(&mut self) -> bool
+        ensures taken { self.new.taken.entries ≡ self.old.taken.entries }
+        ensures inner { Keeps (W.contents self.old.inner) (W.contents self.new.inner) }
+        ensures errors { length self.old.errors.entries ≤ length self.new.errors.entries }
+        ensures done { OnTrue result
+            (self.new.flushed.entries ≡ self.old.flushed.entries ++ self.old.taken.entries ∷ []) }
+        ensures failed { OnFalse result (HasMore self.old.errors.entries self.new.errors.entries) }
+    {
+        match self.inner.flush() {
+            Ok(()) => {
+                self.flushed.note(&self.taken);
+                true
+            }
+            Err(e) => {
+                self.errors.note(&e.kind());
+                false
+            }
+        }
+    }
+}
+
+/// A reader, with notes of the pieces that it gave and of its errors. An empty piece is the end.
+#[derive(Drop)]
+pub struct NotedReader<R> {
+    pub inner: R,
+    pub given: Passed<Text>,
+    pub errors: Passed<ErrorKind>,
+}
+
+impl<R: Read> NotedReader<R> {
+    /// The reader, of which nothing is noted yet.
+    pub fn new(inner: R) -> NotedReader<R>
+        ensures inner { result.inner ≡ inner }
+        ensures given { result.given.entries ≡ [] }
+        ensures errors { result.errors.entries ≡ [] }
+    {
+        NotedReader {
+            inner,
+            given: Passed::new(),
+            errors: Passed::new(),
+        }
+    }
+
+    /// Reads, once and again where a signal broke in. Some(0) is the end.
+    #[tactic(auto, using(crate::proofs::Consumed::pieces))]
+    pub fn read(&mut self, into: &mut [u8]) -> Option<usize>
+        requires room { 1 ≤ length into.old }
+        ensures bound { IfSome result (λ count. count ≤ length into.new) }
+        ensures given { MatchOption result
+            (self.new.given.entries ≡ self.old.given.entries)
+            (λ count. self.new.given.entries ≡ self.old.given.entries ++ take count into.new ∷ []) }
+        ensures inner { MatchOption result
+            (Keeps (R.remaining self.old.inner) (R.remaining self.new.inner))
+            (λ count. Consumes (R.remaining self.old.inner) (R.remaining self.new.inner) (take count into.new)) }
+        ensures end { IfSome result (λ count. count ≡ 0 → IsAtEnd (R.remaining self.new.inner)) }
+        ensures errors { length self.old.errors.entries ≤ length self.new.errors.entries }
+        ensures failed { IfNone result (HasMore self.old.errors.entries self.new.errors.entries) }
+    {
+        for _turn in 0..u64::MAX {
+            match self.inner.read(into) {
+                Ok(count) => {
+                    self.given.note(&&into[..count]);
+                    return Some(count);
+                }
+                Err(e) => {
+                    let kind = e.kind();
+                    self.errors.note(&kind);
+                    if kind != ErrorKind::Interrupted {
+                        return None;
+                    }
+                }
+            }
+        }
+        None
+    }
+}
