@@ -1,0 +1,3 @@
+pub mod LineForms
+pub mod LineLoops
+pub mod TextLoops
