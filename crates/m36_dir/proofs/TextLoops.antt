@@ -148,10 +148,10 @@ unfolding lines_of
 few_lines [] line more l e given = absurd (cc)
 few_lines (c ∷ t) line more l e given =
     elim (fewer_step (c == 10) c t (slice_split (λ b. b == 10) t) line more (omega (arith, length-slice_split (λ b. b == 10) t)) (few_parts t) e) [
-      inl empty ↦
-        let none : line_given (Some line) ≡ None = ap (λ (x : List ℕ). line_given (Some x)) empty ∙ no_line in
-        absurd (cc)
-    | inr few ↦ omega arith
+      | inl empty ↦
+          let none : line_given (Some line) ≡ None = ap (λ (x : List ℕ). line_given (Some x)) empty ∙ no_line in
+          absurd (cc)
+      | inr few ↦ omega arith
     ]
 
 pub FewLines : List ℕ → List ℕ → Type 0
@@ -162,9 +162,9 @@ pub few_more : (text rest line behind : List ℕ) (l : BootLine) → lines_of re
 unfolding FewLines
 few_more text rest line behind l e given so_far =
     elim so_far [
-      inl same ↦
-        few_lines text line (lines_of behind) l (sym (ap lines_of same) ∙ e) given
-    | inr few ↦ few
+      | inl same ↦
+          few_lines text line (lines_of behind) l (sym (ap lines_of same) ∙ e) given
+      | inr few ↦ few
     ]
 
 pub few_begin : (text : List ℕ) → FewLines text text

@@ -1,7 +1,7 @@
 -- What holds of every catalog, whatever rights are set.
-use Rattle.std.specs.Prelude.{ℕ, ◌<◌, ◌≤◌, List, length, All}
+use Rattle.std.specs.Prelude.{ℕ, ◌≡◌, ◌<◌, ◌≤◌, List, Ok, length, All}
 use Rattle.m36_dir.specs.Fields.{SegmentFields}
-use Rattle.m36_dir.specs.Catalog.{CatalogFields}
+use Rattle.m36_dir.specs.Catalog.{CatalogFields, catalog_of}
 
 -- a segment where there are so many directories
 pub record IsSegment (directories : ℕ) (s : SegmentFields) : Type 0 where
@@ -21,3 +21,7 @@ pub record IsCatalog (c : CatalogFields) : Type 0 where
   pub libraries : length c.libraries ≤ 16
   pub each_library : All (λ d. d < length c.directories) c.libraries
   pub each_segment : All (IsSegment (length c.directories)) c.segments
+
+-- A text that is read gives such a catalog.
+abbrev pub ReadsIntoCatalogs : Type 0
+ReadsIntoCatalogs = (text : List ℕ) (c : CatalogFields) → catalog_of text ≡ Ok c → IsCatalog c

@@ -151,7 +151,11 @@ pub(crate) fn segments_in(
 
 // ---- the other lines
 
-fn add_library(libraries: &mut Vec<u16>, dirs: &[Directory], line: &BootLine) -> Result<(), NoMemory>
+fn add_library(
+    libraries: &mut Vec<u16>,
+    dirs: &[Directory],
+    line: &BootLine,
+) -> Result<(), NoMemory>
     requires { length dirs.now ≤ 512 }
     ensures { OnOk result (libraries.new.items ≡ libraries.old.items ++ library_of dirs.now line.now) }
 {

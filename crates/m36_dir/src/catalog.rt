@@ -1,13 +1,15 @@
 //! Catalogs.
 
-ghost use Rattle.std.specs.Prelude.{ℕ, ◌≡◌, ◌<◌, ◌≤◌, ◌^◌, Bool, ◌&&◌, nat_eq, length, slice_get, Some, IfOk, IfSome};
+ghost use Rattle.std.specs.Prelude.{ℕ, ◌≡◌, ◌<◌, ◌≤◌, ◌^◌, Bool, ◌&&◌, nat_eq, length, slice_get, Some, IfOk, IfSome, All};
 ghost use Rattle.std.specs.List.{list_any};
 ghost use Rattle.m36_text.specs.Texts.{is_text};
 ghost use Rattle.m36_dir.specs.Catalog.{catalog_in, catalog_of, ReadSays, has_name, found, SetsRights};
-ghost use Rattle.m36_dir.specs.IsCatalog.{IsCatalog};
+ghost use Rattle.m36_dir.specs.IsCatalog.{IsCatalog, IsSegment};
 
 use crate::boot_line::BootLine;
-use crate::building::{directories_in, frames_of, libraries_in, number_in, segments_in, start_of, work_of};
+use crate::building::{
+    directories_in, frames_of, libraries_in, number_in, segments_in, start_of, work_of,
+};
 use crate::directory::Directory;
 use crate::fault::CatalogFault;
 use crate::reading::lines_of;
@@ -64,7 +66,11 @@ fn catalog_in(alloc: Global, lines: &[BootLine]) -> Result<Catalog, NoMemory>
 fn has_name(name: &[u8], segment: &Segment) -> bool
     ensures { result ≡ has_name name.now segment.now }
 {
-    segment.names.items().iter().any(|other| other.bytes() == name)
+    segment
+        .names
+        .items()
+        .iter()
+        .any(|other| other.bytes() == name)
 }
 
 fn is_at(segment: &Segment, dir: u16, name: &[u8]) -> bool
@@ -87,7 +93,9 @@ impl Catalog {
 
     /// How many segments there are.
     pub fn count(&self) -> usize
-        ensures { result ≡ length self.now.segments }
+        ensures value { result ≡ length self.now.segments }
+        ensures some { 1 ≤ result }
+        ensures most { result ≤ 512 }
     {
         self.segments.len()
     }
@@ -95,7 +103,8 @@ impl Catalog {
     /// A segment, counted from 0.
     pub fn segment(&self, i: usize) -> &Segment
         requires { i < length self.now.segments }
-        ensures { slice_get self.now.segments i ≡ Some result.now }
+        ensures value { slice_get self.now.segments i ≡ Some result.now }
+        ensures kept { IsSegment (length self.now.directories) result.now }
     {
         &self.segments[i]
     }
@@ -106,7 +115,9 @@ impl Catalog {
         ensures value { result ≡ found self.now dir name.now }
         ensures inside { IfSome result (λ i. i < length self.now.segments) }
     {
-        self.segments.iter().position(|segment| is_at(segment, dir, name))
+        self.segments
+            .iter()
+            .position(|segment| is_at(segment, dir, name))
     }
 
     /// The name of a directory by its number.
@@ -119,21 +130,26 @@ impl Catalog {
 
     /// The number of the working directory.
     pub fn work(&self) -> u16
-        ensures { result ≡ self.now.work }
+        ensures value { result ≡ self.now.work }
+        ensures inside { result < length self.now.directories }
     {
         self.work
     }
 
     /// The numbers of the libraries, in the order in which they are searched.
     pub fn libraries(&self) -> &[u16]
-        ensures { result.now ≡ self.now.libraries }
+        ensures value { result.now ≡ self.now.libraries }
+        ensures most { length result.now ≤ 16 }
+        ensures inside { All (λ d. d < length self.now.directories) result.now }
     {
         self.libraries.as_slice()
     }
 
     /// How many pageable frames there are.
     pub fn frames(&self) -> u32
-        ensures { result ≡ self.now.frames }
+        ensures value { result ≡ self.now.frames }
+        ensures some { 1 ≤ result }
+        ensures most { result ≤ 8192 }
     {
         self.frames
     }

@@ -16,6 +16,7 @@ pub mod catalog;
 mod directory;
 pub mod fault;
 mod forms;
+pub mod laws;
 mod order;
 mod reading;
 pub mod segment;
@@ -24,4 +25,5 @@ mod tests;
 
 pub use catalog::Catalog;
 pub use fault::CatalogFault;
+pub use laws::catalog_laws;
 pub use segment::{Mode, SegKind, Segment, Start};

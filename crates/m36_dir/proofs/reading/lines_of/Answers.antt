@@ -1,7 +1,8 @@
-use Rattle.std.proofs.Common.{◌<◌, ◌+◌, ◌++◌, length, ap, arith}
+use Rattle.std.proofs.Common.{◌<◌, ◌+◌, ◌++◌, length, sym, ap, ◌∙◌, arith}
 use Rattle.m36_text.specs.Lines.{lines_of}
 use Rattle.m36_dir.specs.BootOrder.{all_lines}
 use Rattle.m36_dir.proofs.TextLoops.{read_begin, read_code, read_rest, read_none, read_all, read_more, read_lines, read_count, few_begin, few_more, few_kept}
+use Rattle.m36_dir.proofs.Kept.{kept_as}
 use Rattle.m36_dir.proofs.reading.lines_of.Goals as goal
 
 pub loop-line-init : goal.loop-line-init
@@ -47,13 +48,21 @@ loop-line-preserved c = record {
 }
 
 pub returns-in-None-clause-none : goal.returns-in-None-clause-none
-returns-in-None-clause-none c = ?
+returns-in-None-clause-none c =
+    read_none c.args.text.now c.loop-line.rest.now c.loop-line.above.items c.deref-2.result.now c.loop-line.number
+    c.in_default.ensures.line c.deref-2.ensures.value (sym c.in-None.is ∙ c.code_of_rest.ensures) c.loop-line.invariant.told
 
 pub returns-in-None-clause-lines : goal.returns-in-None-clause-lines
-returns-in-None-clause-lines c = ?
+returns-in-None-clause-lines c =
+    read_all c.args.text.now c.loop-line.rest.now c.loop-line.above.items c.in_default.ensures.line c.loop-line.invariant.lines
 
 pub returns-in-None-clause-kept : goal.returns-in-None-clause-kept
-returns-in-None-clause-kept c = ?
+returns-in-None-clause-kept c =
+    kept_as c.args.text.now c.loop-line.above.items (returns-in-None-clause-lines c) (returns-in-None-clause-none c)
 
 pub returns-in-Some-code_of_rest-clause-told : goal.returns-in-Some-code_of_rest-clause-told
-returns-in-Some-code_of_rest-clause-told c = ?
+returns-in-Some-code_of_rest-clause-told c =
+    read_rest c.args.text.now c.loop-line.rest.now c.loop-line.above.items c.deref-2.result.now c.loop-line.number
+    c.in-Some-code_of_rest.code c.fault_at-in-Some-code_of_rest.result
+    c.in_default.ensures.line c.deref-2.ensures.value (sym c.in-Some-code_of_rest.is ∙ c.code_of_rest.ensures)
+    c.fault_at-in-Some-code_of_rest.ensures c.loop-line.invariant.told
