@@ -1,6 +1,7 @@
--- How a booted image lies in core: the descriptor segment at word 0, the page table of each segment behind it, and then
--- frames, each of which holds one page of one segment or none.
-use Rattle.std.specs.Prelude.{◌≡◌, ◌≢◌, ℕ, ◌+◌, ◌*◌, ◌/◌, ◌^◌, ◌<◌, ◌≤◌, ◌⊎◌, true, false, List, length, slice_index, Ok, Err}
+-- How a booted image lies in core: the descriptor segment at word 0, the page table of each segment
+-- behind it, and then frames, each of which holds one page of one segment or none.
+use Rattle.std.specs.Prelude.{◌≡◌, ◌≢◌, ℕ, ◌+◌, ◌*◌, ◌/◌, ◌^◌, ◌<◌, ◌≤◌, ◌⊎◌, true, false, List}
+use Rattle.std.specs.Prelude.{length, slice_index, Ok, Err}
 use Rattle.m36_desc.specs.Fields.{SdwFields, DbrFields}
 use Rattle.m36_desc.specs.Access.{in_order}
 use Rattle.m36_model.specs.Place.{core_sdw}
@@ -56,13 +57,21 @@ pub record IsInFrame (core : List ℕ) (frames seg page frame : ℕ) : Type 0 wh
   pub low : wired_frames ≤ frame
   pub high : frame < wired_frames + frames
 
--- the core of a booted image with so many pageable frames, at any point of its run until ring 0 loads another DBR
+-- the core of a booted image with so many pageable frames, at any point of its run until ring 0
+-- loads another DBR
 pub record IsLaid (core : List ℕ) (frames : ℕ) : Type 0 where
   pub size : length core ≡ 1024 * (wired_frames + frames)
   pub most : wired_frames + frames ≤ 16384
-  pub segments : (seg : ℕ) (d : SdwFields) → core_sdw core booted_dbr seg ≡ Ok d → IsLaidSegment seg d
+  pub segments :
+      (seg : ℕ) (d : SdwFields) → core_sdw core booted_dbr seg ≡ Ok d → IsLaidSegment seg d
   -- a descriptor that is not live names another fault than a page that is in no frame
   pub dead : (seg : ℕ) (why : Refusal) → core_sdw core booted_dbr seg ≡ Err why → why.number ≢ 17
-  pub pages : (seg page : ℕ) → IsPage core seg page → (page_word core seg page ≡ absent_ptw) ⊎ ((frame : ℕ) × IsInFrame core frames seg page frame)
+  pub pages :
+      (seg page : ℕ) → IsPage core seg page
+      → (page_word core seg page ≡ absent_ptw) ⊎
+      ((frame : ℕ) × IsInFrame core frames seg page frame)
   -- a frame holds one page
-  pub apart : (seg page seg' page' frame : ℕ) → IsPage core seg page → IsPage core seg' page' → page_word core seg page ≡ resident_ptw frame → page_word core seg' page' ≡ resident_ptw frame → (seg ≡ seg') × (page ≡ page')
+  pub apart :
+      (seg page seg' page' frame : ℕ) → IsPage core seg page → IsPage core seg' page'
+      → page_word core seg page ≡ resident_ptw frame
+      → page_word core seg' page' ≡ resident_ptw frame → (seg ≡ seg') × (page ≡ page')

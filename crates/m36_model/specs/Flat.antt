@@ -1,10 +1,13 @@
--- The store Flat: the descriptors of a booted image and the content of its segments, with no page tables and no marks. A
--- word lies at itself.
-use Rattle.std.specs.Prelude.{◌≡◌, ℕ, ◌+◌, ◌*◌, ◌<◌, Bool, true, false, ◌&&◌, ◌==◌, if◌then◌else◌, List, [], ◌∷◌, slice_get, Result, Ok, Err}
+-- The store Flat: the descriptors of a booted image and the content of its segments, with no page
+-- tables and no marks. A word lies at itself.
+use Rattle.std.specs.Prelude.{◌≡◌, ℕ, ◌+◌, ◌*◌, ◌<◌, Bool, true, false, ◌&&◌, ◌==◌, if◌then◌else◌}
+use Rattle.std.specs.Prelude.{List, [], ◌∷◌, slice_get, Result, Ok, Err}
 use Rattle.m36_desc.specs.Fields.{SdwFields, DbrFields}
 use Rattle.m36_desc.specs.Access.{in_order}
+use Rattle.m36_desc.specs.Violations.{out_of_segment_bounds}
 use Rattle.m36_model.specs.Act.{RequestKind, Part}
-use Rattle.m36_model.specs.Store.{Spot, Core_word, Segment_word, Change, SegTable, Tables, Store, written, violation}
+use Rattle.m36_model.specs.Store.{Spot, Core_word, Segment_word, Change, SegTable, Tables, Store}
+use Rattle.m36_model.specs.Store.{written, violation}
 use Rattle.m36_model.specs.Place.{in_bounds, sdw_words}
 use Rattle.m36_model.specs.Audit.{is_stack_of}
 use Rattle.m36_model.specs.declared.outcome.Refusal.{Refusal}
@@ -17,7 +20,7 @@ pub record Flat : Type 0 where
 -- the descriptor of a segment, where the descriptor segment has one in bounds
 abbrev pub flat_sdw_by : Bool → List ℕ → ℕ → Result SdwFields Refusal
 flat_sdw_by true words seg = sdw_words (slice_get words (2 * seg)) (slice_get words (2 * seg + 1))
-flat_sdw_by false words seg = Err (violation 15)
+flat_sdw_by false words seg = Err (violation out_of_segment_bounds)
 
 unfoldable pub flat_sdw : Flat → DbrFields → ℕ → Result SdwFields Refusal
 flat_sdw s dbr seg = flat_sdw_by (in_bounds dbr seg) s.descriptors seg
@@ -37,7 +40,8 @@ content_with content seg w part v seg' w' =
 
 abbrev pub flat_put_one : Flat → Spot → Part → ℕ → Flat
 flat_put_one s (Core_word a) part v = s
-flat_put_one s (Segment_word seg w) part v = record s { content = content_with s.content seg w part v }
+flat_put_one s (Segment_word seg w) part v =
+    record s { content = content_with s.content seg w part v }
 
 unfoldable pub flat_put : Flat → List Change → Flat
 flat_put s [] = s
@@ -46,7 +50,12 @@ flat_put s (p ∷ puts) = flat_put (flat_put_one s p.spot p.part p.value) puts
 -- the tables are the words of the descriptors in bounds
 abbrev pub flat_table_by : Bool → List ℕ → ℕ → SegTable
 flat_table_by true words seg =
-    record { directory = []; sdw = (2 * seg, slice_get words (2 * seg)) ∷ (2 * seg + 1, slice_get words (2 * seg + 1)) ∷ []; pages = [] }
+    record {
+      directory = [];
+      sdw =
+        (2 * seg, slice_get words (2 * seg)) ∷ (2 * seg + 1, slice_get words (2 * seg + 1)) ∷ [];
+      pages = [];
+    }
 flat_table_by false words seg = record { directory = []; sdw = []; pages = [] }
 
 unfoldable pub flat_tables : Flat → DbrFields → Tables
@@ -59,13 +68,24 @@ flat_marked s dbr kind seg w = s
 
 abbrev pub flat_store : Store Flat
 flat_store =
-    record { sdw = flat_sdw; spot = flat_spot; word = flat_word; marked = flat_marked; put = flat_put; tables = flat_tables }
+    record {
+      sdw = flat_sdw;
+      spot = flat_spot;
+      word = flat_word;
+      marked = flat_marked;
+      put = flat_put;
+      tables = flat_tables;
+    }
 
 -- The audit conditions that speak of descriptors alone: the first, the fifth and the sixth.
 pub record IsFlatAudited (s : Flat) (dbr : DbrFields) : Type 0 where
   pub ordered : (seg : ℕ) (d : SdwFields) → flat_sdw s dbr seg ≡ Ok d → in_order d ≡ true
-  pub gates : (seg : ℕ) (d : SdwFields) → flat_sdw s dbr seg ≡ Ok d → d.executable ≡ true → d.r2 < d.r3 → d.no_gate ≡ false
-  pub stacks : (seg : ℕ) (d : SdwFields) → flat_sdw s dbr seg ≡ Ok d → d.executable ≡ true → d.r2 < d.r3 → is_stack_of d.r2 (flat_sdw s dbr (8 * dbr.stack + d.r2)) ≡ true
+  pub gates :
+      (seg : ℕ) (d : SdwFields) → flat_sdw s dbr seg ≡ Ok d → d.executable ≡ true → d.r2 < d.r3
+      → d.no_gate ≡ false
+  pub stacks :
+      (seg : ℕ) (d : SdwFields) → flat_sdw s dbr seg ≡ Ok d → d.executable ≡ true → d.r2 < d.r3
+      → is_stack_of d.r2 (flat_sdw s dbr (8 * dbr.stack + d.r2)) ≡ true
 
 -- the flat state has these descriptors
 abbrev pub HasDescriptors : Flat → DbrFields → Flat → Type 0

@@ -1,8 +1,11 @@
--- The joint audit of several processes on one core: the six conditions of each, and two conditions between them.
-use Rattle.std.specs.Prelude.{◌≡◌, ◌≢◌, ℕ, ◌+◌, ◌<◌, ◌⊎◌, List, [], ◌∷◌, ◌++◌, map, length, slice_get, Option, Some, None, Ok}
+-- The joint audit of several processes on one core: the six conditions of each, and two conditions
+-- between them.
+use Rattle.std.specs.Prelude.{◌≡◌, ◌≢◌, ℕ, ◌+◌, ◌<◌, ◌⊎◌, List, [], ◌∷◌, ◌++◌, map, length}
+use Rattle.std.specs.Prelude.{slice_get, Option, Some, None, Ok}
 use Rattle.m36_desc.specs.Fields.{DbrFields}
 use Rattle.m36_model.specs.Place.{wrapped, sdw_place}
-use Rattle.m36_model.specs.Audit.{Table, Sdws, Directory, Pages, IsOf, IsSegmentWord, IsAudited, Finds, AreFindings}
+use Rattle.m36_model.specs.Audit.{Table, Sdws, Directory, Pages, IsOf, IsSegmentWord, IsAudited}
+use Rattle.m36_model.specs.Audit.{Finds, AreFindings}
 
 -- two segments of two processes are the same: their descriptors are equal words
 pub record AreSame (core : List ℕ) (dbr other : DbrFields) (seg other_seg : ℕ) : Type 0 where
@@ -13,8 +16,8 @@ pub record AreSame (core : List ℕ) (dbr other : DbrFields) (seg other_seg : �
   pub even : slice_get core at ≡ slice_get core other_at
   pub odd : slice_get core (wrapped (at + 1)) ≡ slice_get core (wrapped (other_at + 1))
 
--- Two processes may share a word of these two tables: they are the page tables of one and the same segment. (Where its
--- descriptors are equal, a word at one address is for one and the same page.)
+-- Two processes may share a word of these two tables: they are the page tables of one and the same
+-- segment. (Where its descriptors are equal, a word at one address is for one and the same page.)
 abbrev pub AreShared : List ℕ → DbrFields → DbrFields → Table → Table → Type 0
 AreShared core dbr other (Pages seg) (Pages other_seg) = AreSame core dbr other seg other_seg
 AreShared core dbr other (Pages seg) Sdws = ⊥
@@ -30,13 +33,16 @@ pub record AreTwo (dbrs : List DbrFields) (dbr other : DbrFields) : Type 0 where
   pub other_at : slice_get dbrs second ≡ Some other
   pub differ : first ≢ second
 
--- a table word of one process that is a segment word, or a table word that is not shared, of another
+-- a table word of one process that is a segment word, or a table word that is not shared, of
+-- another
 abbrev pub IsTaken : List ℕ → DbrFields → DbrFields → Table → ℕ → Type 0
 IsTaken core dbr other table a =
-    ((seg : ℕ) × (w : ℕ) × IsSegmentWord core other seg w a) ⊎ ((other_table : Table) × IsOf core other other_table a × (AreShared core dbr other table other_table → ⊥))
+    ((seg : ℕ) × (w : ℕ) × IsSegmentWord core other seg w a) ⊎
+    ((other_table : Table) × IsOf core other other_table a ×
+    (AreShared core dbr other table other_table → ⊥))
 
--- No table word of one process is a table word or a segment word of another, but for shared page tables. A core word
--- breaks it.
+-- No table word of one process is a table word or a segment word of another, but for shared page
+-- tables. A core word breaks it.
 pub record IsJointTable (core : List ℕ) (dbrs : List DbrFields) (a : ℕ) : Type 0 where
   pub inside : a < length core
   pub dbr : DbrFields
@@ -47,11 +53,13 @@ pub record IsJointTable (core : List ℕ) (dbrs : List DbrFields) (a : ℕ) : Ty
   pub taken : IsTaken core dbr other table a
 
 -- the two words of segments are one word of one and the same segment
-pub record AreSameWord (core : List ℕ) (dbr other : DbrFields) (seg w other_seg other_w : ℕ) : Type 0 where
+pub record AreSameWord (core : List ℕ) (dbr other : DbrFields)
+    (seg w other_seg other_w : ℕ) : Type 0 where
   pub segment : AreSame core dbr other seg other_seg
   pub word : w ≡ other_w
 
--- No segment word of one process lies on one of another, but for the same word of one segment. A core word breaks it.
+-- No segment word of one process lies on one of another, but for the same word of one segment. A
+-- core word breaks it.
 pub record IsJointSegment (core : List ℕ) (dbrs : List DbrFields) (a : ℕ) : Type 0 where
   pub dbr : DbrFields
   pub other : DbrFields
@@ -77,7 +85,8 @@ pub record JointFound : Type 0 where
   pub place : ℕ
 
 abbrev pub of_process : ℕ → List (ℕ × ℕ) → List JointFound
-of_process i findings = map (λ f. record { process = Some i; condition = f.0; place = f.1 }) findings
+of_process i findings =
+    map (λ f. record { process = Some i; condition = f.0; place = f.1 }) findings
 
 abbrev pub between : ℕ → Option ℕ → List JointFound
 between condition None = []
@@ -87,10 +96,14 @@ between condition (Some p) = record { process = None; condition = condition; pla
 abbrev pub AreFindingsFrom : ℕ → List ℕ → List DbrFields → List JointFound → Type 0
 AreFindingsFrom i core [] findings = findings ≡ []
 AreFindingsFrom i core (dbr ∷ dbrs) findings =
-    (own : List (ℕ × ℕ)) × AreFindings core dbr own × ((rest : List JointFound) × AreFindingsFrom (i + 1) core dbrs rest × (findings ≡ of_process i own ++ rest))
+    (own : List (ℕ × ℕ)) × AreFindings core dbr own ×
+    ((rest : List JointFound) × AreFindingsFrom (i + 1) core dbrs rest ×
+    (findings ≡ of_process i own ++ rest))
 
--- the findings of a joint audit: those of each process in order, and one for each of the two conditions that fails
-pub record AreJointFindings (core : List ℕ) (dbrs : List DbrFields) (findings : List JointFound) : Type 0 where
+-- the findings of a joint audit: those of each process in order, and one for each of the two
+-- conditions that fails
+pub record AreJointFindings (core : List ℕ) (dbrs : List DbrFields)
+    (findings : List JointFound) : Type 0 where
   pub own : List JointFound
   pub finds_own : AreFindingsFrom 0 core dbrs own
   pub second : Option ℕ
