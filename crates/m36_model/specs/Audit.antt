@@ -1,5 +1,7 @@
 -- The six conditions of the audit, each by the places that break it, and what the audit finds.
-use Rattle.std.specs.Prelude.{◌≡◌, ◌≢◌, ℕ, ◌+◌, ◌*◌, ◌/◌, ◌<◌, ◌≤◌, ◌⊎◌, Bool, true, false, ◌&&◌, ◌==◌, List, [], ◌∷◌, ◌++◌, length, Option, Some, None, Result, Ok, Err}
+use Rattle.std.specs.Prelude.{◌≡◌, ◌≢◌, ℕ, ◌+◌, ◌*◌, ◌/◌, ◌<◌, ◌≤◌, ◌⊎◌, Bool, true, false, ◌&&◌}
+use Rattle.std.specs.Prelude.{◌==◌, List, [], ◌∷◌, ◌++◌, length, Option, Some, None, Result, Ok}
+use Rattle.std.specs.Prelude.{Err}
 use Rattle.m36_desc.specs.Fields.{SdwFields, DbrFields}
 use Rattle.m36_desc.specs.Access.{in_order}
 use Rattle.m36_model.specs.Store.{Core_word, place}
@@ -27,7 +29,8 @@ pub record IsPageWord (core : List ℕ) (dbr : DbrFields) (seg page a : ℕ) : T
   pub begins : page ≤ sdw.bound / 64
   pub found : a ≡ page_at sdw page
 
--- the descriptors, the page table of the descriptor segment, and the page table of each live paged segment
+-- the descriptors, the page table of the descriptor segment, and the page table of each live paged
+-- segment
 pub data Table : Type 0 where
   Sdws : Table
   Directory : Table
@@ -82,7 +85,8 @@ pub record IsCallable (core : List ℕ) (dbr : DbrFields) (seg : ℕ) (sdw : Sdw
   pub executable : sdw.executable ≡ true
   pub outer : sdw.r2 < sdw.r3
 
--- Fifth condition: each live segment with E on and R3 greater than R2 is a gate. A segment breaks it.
+-- Fifth condition: each live segment with E on and R3 greater than R2 is a gate. A segment breaks
+-- it.
 pub record IsNoGate (core : List ℕ) (dbr : DbrFields) (seg : ℕ) : Type 0 where
   pub sdw : SdwFields
   pub callable : IsCallable core dbr seg sdw
@@ -93,8 +97,8 @@ abbrev pub is_stack_of : ℕ → Result SdwFields Refusal → Bool
 is_stack_of ring (Ok d) = (d.readable && d.writable) && (d.r1 == ring && d.r2 == ring)
 is_stack_of ring (Err e) = false
 
--- Sixth condition: each live segment with E on and R3 greater than R2 has a stack in the ring that a call enters. A
--- segment breaks it.
+-- Sixth condition: each live segment with E on and R3 greater than R2 has a stack in the ring that
+-- a call enters. A segment breaks it.
 pub record HasNoStack (core : List ℕ) (dbr : DbrFields) (seg : ℕ) : Type 0 where
   pub sdw : SdwFields
   pub callable : IsCallable core dbr seg sdw
@@ -133,4 +137,7 @@ pub record AreFindings (core : List ℕ) (dbr : DbrFields) (findings : List (ℕ
   pub finds_fifth : Finds (IsNoGate core dbr) fifth
   pub sixth : Option ℕ
   pub finds_sixth : Finds (HasNoStack core dbr) sixth
-  pub listed : findings ≡ noted 1 first ++ noted 2 second ++ noted 3 third ++ noted 4 fourth ++ noted 5 fifth ++ noted 6 sixth
+  pub listed :
+      findings
+      ≡ noted 1 first ++ noted 2 second ++ noted 3 third ++ noted 4 fourth ++ noted 5 fifth
+      ++ noted 6 sixth
