@@ -6,9 +6,5 @@ use Rattle.m36_model.specs.Audit.{AreFindings, IsAudited}
 -- An audit finds nothing exactly where all six conditions hold, and there is one list of findings.
 pub record FindingsLaw : Type 0 where
   pub sound : (core : List ℕ) (dbr : DbrFields) → AreFindings core dbr [] → IsAudited core dbr
-  pub complete :
-      (core : List ℕ) (dbr : DbrFields) (findings : List (ℕ × ℕ)) → IsAudited core dbr
-      → AreFindings core dbr findings → findings ≡ []
-  pub unique :
-      (core : List ℕ) (dbr : DbrFields) (findings others : List (ℕ × ℕ))
-      → AreFindings core dbr findings → AreFindings core dbr others → findings ≡ others
+  pub complete : (core : List ℕ) (dbr : DbrFields) (findings : List (ℕ × ℕ)) → IsAudited core dbr → AreFindings core dbr findings → findings ≡ []
+  pub unique : (core : List ℕ) (dbr : DbrFields) (findings others : List (ℕ × ℕ)) → AreFindings core dbr findings → AreFindings core dbr others → findings ≡ others

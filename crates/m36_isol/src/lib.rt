@@ -26,8 +26,7 @@ ghost use Rattle.m36_isol.specs.Findings.{FindingsLaw};
 ghost use Rattle.m36_isol.specs.Rights.{RightsLaw};
 ghost use Rattle.m36_isol.specs.Gates.{GatesLaw};
 ghost use Rattle.m36_isol.specs.MarkBits.{MarksKeepBits};
-ghost use Rattle.m36_model.specs.Laws.{EffectLaw, DependsLaw, SightLaw, ReachLaw, CoreReachLaw};
-ghost use Rattle.m36_model.specs.Laws.{FallLaw, MarksLaw, AgreeLaw, KeptLaw};
+ghost use Rattle.m36_model.specs.Laws.{EffectLaw, DependsLaw, SightLaw, ReachLaw, CoreReachLaw, FallLaw, MarksLaw, AgreeLaw, KeptLaw};
 
 /// An audit finds nothing exactly where all six conditions hold, and there is one list of findings.
 pub fn law_findings()
@@ -50,9 +49,7 @@ pub fn law_gates()
 /// neither tables nor other words. A mark changes no other bit of its page table word.
 pub fn law_store()
     ensures marks { MarksKeepBits }
-    ensures store { (core : List ℕ) (dbr : DbrFields) → IsAudited core dbr
-        → Lawful core_store dbr (HasTables core dbr) (IsSegmentSpot core dbr)
-        (IsMarkedFrom core dbr) }
+    ensures store { (core : List ℕ) (dbr : DbrFields) → IsAudited core dbr → Lawful core_store dbr (HasTables core dbr) (IsSegmentSpot core dbr) (IsMarkedFrom core dbr) }
 {}
 
 /// An effect changes the ring in CALL6 and RTCD alone and the DBR in LDBR alone, and puts as many words as its operand
@@ -64,42 +61,35 @@ pub fn law_effect()
 /// In ring r and above a step refers to segments in sight of r alone, and writes to segments in reach of r alone; and
 /// what stands outside the sight of r alters no record.
 pub fn law_sight()
-    ensures depends { (core : List ℕ) (dbr : DbrFields) → IsAudited core dbr
-        → DependsLaw core_store (core_tables core dbr) }
-    ensures refers { (core : List ℕ) (dbr : DbrFields) → IsAudited core dbr
-        → SightLaw core_store (core_tables core dbr) }
+    ensures depends { (core : List ℕ) (dbr : DbrFields) → IsAudited core dbr → DependsLaw core_store (core_tables core dbr) }
+    ensures refers { (core : List ℕ) (dbr : DbrFields) → IsAudited core dbr → SightLaw core_store (core_tables core dbr) }
 {}
 
 /// In ring r and above a step changes no content outside the reach of r, and of core words those in reach alone, but
 /// for marks on page table words.
 pub fn law_reach()
-    ensures content { (core : List ℕ) (dbr : DbrFields) → IsAudited core dbr
-        → ReachLaw core_store (core_tables core dbr) }
+    ensures content { (core : List ℕ) (dbr : DbrFields) → IsAudited core dbr → ReachLaw core_store (core_tables core dbr) }
     ensures words { (core : List ℕ) (dbr : DbrFields) → IsAudited core dbr → CoreReachLaw core dbr }
 {}
 
 /// From ring r and above a step ends below r by a gate call alone.
 pub fn law_fall()
-    ensures { (core : List ℕ) (dbr : DbrFields) → IsAudited core dbr
-        → FallLaw core_store (core_tables core dbr) }
+    ensures { (core : List ℕ) (dbr : DbrFields) → IsAudited core dbr → FallLaw core_store (core_tables core dbr) }
 {}
 
 /// Marks alter no descriptor, no place and no record.
 pub fn law_marks()
-    ensures { (core : List ℕ) (dbr : DbrFields) → IsAudited core dbr
-        → MarksLaw core_store (core_tables core dbr) }
+    ensures { (core : List ℕ) (dbr : DbrFields) → IsAudited core dbr → MarksLaw core_store (core_tables core dbr) }
 {}
 
 /// In ring r and above one step of two states that agree tells the same, and leaves them agreeing.
 pub fn law_agree()
-    ensures { (core : List ℕ) (dbr : DbrFields) → IsAudited core dbr
-        → AgreeLaw core_store (core_tables core dbr) }
+    ensures { (core : List ℕ) (dbr : DbrFields) → IsAudited core dbr → AgreeLaw core_store (core_tables core dbr) }
 {}
 
 /// Where the audit conditions hold, the tables isolate each ring.
 pub fn law_window()
-    ensures { (core : List ℕ) (dbr : DbrFields) → IsAudited core dbr
-        → Isolated core_store (core_tables core dbr) }
+    ensures { (core : List ℕ) (dbr : DbrFields) → IsAudited core dbr → Isolated core_store (core_tables core dbr) }
 {}
 
 /// A step in any ring that executes no LDBR keeps the audit conditions.
