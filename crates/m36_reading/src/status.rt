@@ -97,7 +97,7 @@ pub enum Status {
 }
 
 impl Code {
-    ghost use Rattle.m36_top.specs.Names.{code_name};
+    ghost use Rattle.m36_reading.specs.Names.{code_name};
 
     /// The name of the code, as it is printed.
     pub fn name(self) -> &'static str
@@ -133,7 +133,7 @@ impl Code {
 }
 
 impl Status {
-    ghost use Rattle.m36_top.specs.Names.{status_name, status_number};
+    ghost use Rattle.m36_reading.specs.Names.{status_name, status_number};
 
     /// The name of the status, as it is printed.
     pub fn name(&self) -> &'static str
