@@ -188,3 +188,5 @@ pub ends_in :
 ends_in kind files p result old new is does =
     ends_more kind (Comes p does.asked) (ComesIn files p) (end_of result) result old new
     (λ c came. comes_in files p does.asked c (subst (λ f. AreTold f does.asked) is does.told) came) does.ends
+
+pub ruleset doing = (does_on, does_stop)

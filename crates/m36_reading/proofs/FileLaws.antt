@@ -18,7 +18,7 @@ use Rattle.m36_reading.specs.Asking.{Gives, Refuses}
 use Rattle.m36_reading.specs.ObjectOf.{object_of}
 use Rattle.m36_reading.specs.Readers.{refused, sized, words_by, object_refused, object_by}
 use Rattle.m36_reading.proofs.Objects.{object_is, no_object_is}
-use Rattle.m36_reading.proofs.ReadLaws.{gives_by}
+use Rattle.m36_reading.proofs.ReadLaws.{gives_by, memory_given}
 
 -- more words than an object has, or not
 pub sized_over :
@@ -61,11 +61,6 @@ none_given :
 none_given name words f r is refuses =
     gives_by PartsFields r (object_refused name f) (object_by name (object_of words)) (ap (object_by name) (no_object_is words f is)) refuses
 
-memory_given : (r : Refusal) (definition : Early PartsFields) → Refuses r NoMemory → Gives (Err r) definition
-memory_given (BadFile bad) definition is = absurd (cc)
-memory_given ReadFault definition is = absurd is
-memory_given NoMemory definition is = tt
-
 pub object_none :
     (name words : List ℕ) (f : ObjectFault) (r : Refusal)
     → ReadSays words (Err f) → Refuses r (object_refused name f) → Gives (Err r) (object_by name (object_of words))
@@ -77,6 +72,6 @@ object_none name words (fault.O5 at) r is refuses = none_given name words (fault
 object_none name words (fault.O6 at) r is refuses = none_given name words (fault.O6 at) r is refuses
 object_none name words (fault.O7 at) r is refuses = none_given name words (fault.O7 at) r is refuses
 object_none name words (fault.O8 at) r is refuses = none_given name words (fault.O8 at) r is refuses
-object_none name words fault.NoMemory r is refuses = memory_given r (object_by name (object_of words)) refuses
+object_none name words fault.NoMemory r is refuses = memory_given PartsFields r (object_by name (object_of words)) refuses
 
 pub ruleset objects = (object_given, object_none)

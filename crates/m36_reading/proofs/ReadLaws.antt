@@ -32,6 +32,12 @@ refused_cause A NoMemory definition old new is same = same
 pub gives_by : (A : Type 0) (r given : Refusal) (definition : Early A) → definition ≡ Err given → Refuses r given → Gives (Err r) definition
 gives_by A r given definition is refused = subst (λ d. Gives (Err r) d) (sym is) (gives_refusal A r given refused)
 
+-- memory may be wanted in the place of any definition
+pub memory_given : (A : Type 0) (r : Refusal) (definition : Early A) → Refuses r NoMemory → Gives (Err r) definition
+memory_given A (BadFile bad) definition is = absurd (cc)
+memory_given A ReadFault definition is = absurd is
+memory_given A NoMemory definition is = tt
+
 -- ---- one answer
 
 pub bytes_read :

@@ -1,6 +1,6 @@
 use Rattle.std.proofs.Common.{◌≡◌, length}
 use Rattle.m36_outside.proofs.Completes.{Completes}
-use Rattle.m36_top.proofs.line_output.put_lines.Given as goal
+use Rattle.m36_told.proofs.line_output.put_lines.Given as goal
 
 abbrev pub decreases-lines : goal.decreases-lines
 decreases-lines g l = length l.rest

@@ -3,7 +3,7 @@
 ghost use Rattle.std.specs.Prelude.{ℕ, ◌≤◌, ◌<◌, length};
 ghost use Rattle.m36_outside.specs.Put.{PutSays, PutHasCause};
 
-use crate::scan::place_of;
+
 use m36_outside::{Put, Sink};
 
 // How many bytes the first line of a text has, with its line feed; all bytes where there is no line feed.
@@ -12,7 +12,7 @@ fn line_length(text: &[u8]) -> usize
     ensures some { 1 ≤ result }
     ensures within { result ≤ length text.now }
 {
-    match place_of(text, b'\n') {
+    match text.iter().position(|b| *b == b'\n') {
         Some(place) => place + 1,
         None => text.len(),
     }

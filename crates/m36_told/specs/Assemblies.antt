@@ -1,6 +1,5 @@
 -- What `alm` makes of a source.
-use Rattle.std.specs.Prelude.{ℕ, List, Option, Some, None, Result, Ok, Err}
-use Rattle.m36_outside.specs.Files.{Files, with_told_file}
+use Rattle.std.specs.Prelude.{ℕ, ◌≡◌, List, Result, Ok, Err}
 use Rattle.m36_text.specs.Packing.{packed}
 use Rattle.alm_parse.specs.SourceFields.{Source}
 use Rattle.alm_parse.specs.Sources.{parsed}
@@ -29,8 +28,3 @@ assembly_of bytes = assembly_by (parsed bytes)
 -- the bytes of an object: its words, packed
 unfoldable pub object_bytes : PartsFields → List ℕ
 object_bytes parts = packed (words_of parts)
-
--- The files, where they are told, with the object put in; as they were where the source is refused.
-abbrev pub with_object : List ℕ → Result Assembly AlmFault → Option Files → Option Files
-with_object name (Ok a) files = with_told_file name (Some (object_bytes a.parts)) files
-with_object name (Err fault) files = files
