@@ -1,7 +1,7 @@
 use Rattle.std.proofs.Common.{◌≡◌, drop}
 use Rattle.m36_outside.proofs.Completes.{Completes}
-use Rattle.m36_top.proofs.AuditTexts.{lines_of_findings}
-use Rattle.m36_top.proofs.findings.put_findings.Given as goal
+use Rattle.m36_ran.proofs.AuditTexts.{lines_of_findings}
+use Rattle.m36_ran.proofs.findings.put_findings.Given as goal
 
 abbrev pub invariant-loop-finding : goal.invariant-loop-finding
 invariant-loop-finding g l =

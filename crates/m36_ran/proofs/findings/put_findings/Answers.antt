@@ -1,7 +1,7 @@
 -- One line after the other.
 use Rattle.std.proofs.Common.{◌∙◌}
-use Rattle.m36_top.proofs.AuditTexts.{finding_put, finding_cut, lines_of_findings}
-use Rattle.m36_top.proofs.findings.put_findings.Goals as goal
+use Rattle.m36_ran.proofs.AuditTexts.{finding_put, finding_cut, lines_of_findings}
+use Rattle.m36_ran.proofs.findings.put_findings.Goals as goal
 
 pub returns-in-Failed-clause-says : goal.returns-in-Failed-clause-says
 returns-in-Failed-clause-says g c =

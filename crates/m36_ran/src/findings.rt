@@ -4,8 +4,8 @@ ghost use Rattle.std.specs.Prelude.{ℕ, ◌≡◌, ◌≤◌, ◌<◌, ◌||◌
 ghost use Rattle.m36_text.specs.Digits.{octal_text};
 ghost use Rattle.m36_outside.specs.Put.{PutSays, PutHasCause};
 ghost use Rattle.m36_audit.specs.Findings.{pairs};
-ghost use Rattle.m36_top.specs.Output.{as_line};
-ghost use Rattle.m36_top.specs.AuditText.{place_digits, finding_line, finding_lines, yes_line, audit_text};
+ghost use Rattle.m36_ran.specs.Output.{as_line};
+ghost use Rattle.m36_ran.specs.AuditText.{place_digits, finding_line, finding_lines, yes_line, audit_text};
 
 use crate::running::put_line;
 use arrayvec::ArrayString;

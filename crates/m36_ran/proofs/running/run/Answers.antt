@@ -1,7 +1,7 @@
 -- A step was taken, and another may follow.
 use Rattle.std.proofs.Common.{◌∙◌, arith}
-use Rattle.m36_top.proofs.RunLaws.{running_next}
-use Rattle.m36_top.proofs.running.run.Goals as goal
+use Rattle.m36_ran.proofs.RunLaws.{running_next}
+use Rattle.m36_ran.proofs.running.run.Goals as goal
 
 pub steps-preserved : goal.steps-preserved
 steps-preserved g c =

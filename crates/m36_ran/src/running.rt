@@ -3,8 +3,8 @@
 ghost use Rattle.std.specs.Prelude.{ℕ, ◌≡◌, ◌≤◌, ◌<◌, ◌+◌, ◌^◌, length};
 ghost use Rattle.m36_outside.specs.Put.{PutSays, PutHasCause};
 ghost use Rattle.m36_trace.specs.EndLine.{end_line_of};
-ghost use Rattle.m36_top.specs.Output.{as_line};
-ghost use Rattle.m36_top.specs.RunSays.{TurnSays, TurnHasCause, EndSays, RunSays, EndedHasCause};
+ghost use Rattle.m36_ran.specs.Output.{as_line};
+ghost use Rattle.m36_ran.specs.RunSays.{TurnSays, TurnHasCause, EndSays, RunSays, EndedHasCause};
 
 use arrayvec::ArrayString;
 use m36_model::{Outcome, StepRecord};

@@ -1,6 +1,6 @@
 use Rattle.std.proofs.Common.{◌≡◌, ◌+◌}
-use Rattle.m36_top.proofs.RunLaws.{Running}
-use Rattle.m36_top.proofs.running.run.Given as goal
+use Rattle.m36_ran.proofs.RunLaws.{Running}
+use Rattle.m36_ran.proofs.running.run.Given as goal
 
 abbrev pub decreases-steps : goal.decreases-steps
 decreases-steps g l = l.left

@@ -8,9 +8,9 @@ use Rattle.m36_model.specs.declared.endings.End.TheVariants as end
 use Rattle.m36_model.specs.declared.record.StepRecord.{StepRecord}
 use Rattle.m36_trace.specs.EndLine.{end_line_of}
 use Rattle.m36_trace.specs.TraceLine.{line_of}
-use Rattle.m36_top.specs.declared.status.Status.{Status}
-use Rattle.m36_top.specs.declared.status.Status.TheVariants.{Done, MachineStop, Steps}
-use Rattle.m36_top.specs.Run.{run, last_outcome}
+use Rattle.m36_reading.specs.declared.status.Status.{Status}
+use Rattle.m36_reading.specs.declared.status.Status.TheVariants.{Done, MachineStop, Steps}
+use Rattle.m36_ran.specs.Run.{run, last_outcome}
 
 -- a text as a line
 abbrev pub as_line : List ℕ → List ℕ

@@ -6,8 +6,8 @@ use Rattle.m36_outside.specs.Written.{Grew, GrewWithin}
 use Rattle.m36_outside.proofs.Completes.{Completes, completes_all, completes_rest, completes_cut, completes_none}
 use Rattle.m36_audit.specs.Findings.{pairs}
 use Rattle.m36_audit.specs.declared.verdict.Finding.{Finding}
-use Rattle.m36_top.specs.Output.{as_line}
-use Rattle.m36_top.specs.AuditText.{finding_line, finding_lines, yes_line, audit_text}
+use Rattle.m36_ran.specs.Output.{as_line}
+use Rattle.m36_ran.specs.AuditText.{finding_line, finding_lines, yes_line, audit_text}
 
 -- digits are those of the number without what stands before them
 pub segment_digits : (v : ℕ) → octal_text 5 (v % 32768) ≡ octal_text 5 v

@@ -7,13 +7,13 @@ use Rattle.m36_model.specs.Run.{is_next}
 use Rattle.m36_model.specs.declared.outcome.Outcome.{Outcome}
 use Rattle.m36_model.specs.declared.outcome.Outcome.TheVariants.{Next}
 use Rattle.m36_trace.specs.TraceLine.{line_of}
-use Rattle.m36_top.specs.declared.running.Turn.{Turn}
-use Rattle.m36_top.specs.declared.running.Turn.TheVariants as turn
-use Rattle.m36_top.specs.declared.running.Ended.{Ended}
-use Rattle.m36_top.specs.declared.running.Ended.TheVariants.{Whole, Cut}
-use Rattle.m36_top.specs.Machine.{told, after}
-use Rattle.m36_top.specs.Run.{run, last_outcome}
-use Rattle.m36_top.specs.Output.{as_line, run_text}
+use Rattle.m36_ran.specs.declared.running.Turn.{Turn}
+use Rattle.m36_ran.specs.declared.running.Turn.TheVariants as turn
+use Rattle.m36_ran.specs.declared.running.Ended.{Ended}
+use Rattle.m36_ran.specs.declared.running.Ended.TheVariants.{Whole, Cut}
+use Rattle.m36_ran.specs.Machine.{told, after}
+use Rattle.m36_ran.specs.Run.{run, last_outcome}
+use Rattle.m36_ran.specs.Output.{as_line, run_text}
 
 -- A step was taken, and its line written; whether another follows.
 pub record Stepped (n : ℕ) (outcome : Outcome) (old new : State (List ℕ)) (before now : Option (List ℕ)) : Type 0 where

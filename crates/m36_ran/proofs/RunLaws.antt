@@ -10,12 +10,12 @@ use Rattle.m36_model.specs.declared.outcome.Outcome.TheVariants.{Next}
 use Rattle.m36_model.specs.declared.record.StepRecord.{StepRecord}
 use Rattle.m36_trace.specs.EndLine.{end_line_of}
 use Rattle.m36_trace.specs.TraceLine.{line_of}
-use Rattle.m36_top.specs.Machine.{told, after}
-use Rattle.m36_top.specs.Run.{run, last_outcome}
-use Rattle.m36_top.specs.Output.{as_line, trace_text, output_from, run_text}
-use Rattle.m36_top.specs.RunSays.{EndSays, RunSays}
-use Rattle.m36_top.specs.declared.running.Ended.{Ended}
-use Rattle.m36_top.specs.declared.running.Ended.TheVariants.{Whole, Cut}
+use Rattle.m36_ran.specs.Machine.{told, after}
+use Rattle.m36_ran.specs.Run.{run, last_outcome}
+use Rattle.m36_ran.specs.Output.{as_line, trace_text, output_from, run_text}
+use Rattle.m36_ran.specs.RunSays.{EndSays, RunSays}
+use Rattle.m36_ran.specs.declared.running.Ended.{Ended}
+use Rattle.m36_ran.specs.declared.running.Ended.TheVariants.{Whole, Cut}
 
 -- a run of at least one step
 told_only_if :
