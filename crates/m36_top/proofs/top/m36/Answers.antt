@@ -1,0 +1,10 @@
+-- Where nothing fails outside.
+use Rattle.m36_reading.specs.Outside.{outside_of}
+use Rattle.m36_top.specs.Words.{command_of}
+use Rattle.m36_top.proofs.TopEnds.{top_complete}
+use Rattle.m36_top.proofs.top.m36.Goals as goal
+
+pub returns-clause-complete : goal.returns-clause-complete
+returns-clause-complete g c =
+    let outside = outside_of g.F.Folder.files g.F.Folder.read_faults g.F.Folder.write_faults g.S.Sink.written g.S.Sink.faults in
+    top_complete (command_of c.args.words.now) c.answer.result (outside c.args.folder.now c.args.out.now) (outside c.answer.new.folder c.answer.new.out) c.answer.ensures.says
