@@ -31,7 +31,8 @@ PutsBy Unread result due old new = ⊥
 PutsBy Unasked result due old new = ⊥
 
 -- by some answer that is due
-pub record PutsDue (IsDue : Answer → Type 0) (end : End) (result : Status) (old new : SinkState) : Type 0 where
+pub record PutsDue (IsDue : Answer → Type 0) (end : End) (result : Status) (old new : SinkState)
+    : Type 0 where
   pub due : Answer
   pub is_due : IsDue due
   pub puts : PutsBy end result due old new

@@ -45,8 +45,8 @@ does_on kind p d result old now sink new reads performs = record {
   asked = reads.asked;
   told = reads.told;
   ends =
-    subst (λ f. EndsBy kind (Comes p reads.asked) (end_of result) result (record { folder = f; sink = sink }) new) (same_folder old now reads.files reads.cause reads.write_faults)
-    (ends_more kind (λ c. c ≡ Came (Ok d)) (Comes p reads.asked) (end_of result) result (record { folder = now; sink = sink }) new (λ c is. subst (Comes p reads.asked) (sym is) reads.comes) performs);
+      subst (λ f. EndsBy kind (Comes p reads.asked) (end_of result) result (record { folder = f; sink = sink }) new) (same_folder old now reads.files reads.cause reads.write_faults)
+      (ends_more kind (λ c. c ≡ Came (Ok d)) (Comes p reads.asked) (end_of result) result (record { folder = now; sink = sink }) new (λ c is. subst (Comes p reads.asked) (sym is) reads.comes) performs);
 }
 
 -- the reading has ended early

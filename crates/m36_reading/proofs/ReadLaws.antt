@@ -183,4 +183,5 @@ reads_stop A B p next r old new first = record {
 }
 
 pub ruleset bytes = (bytes_read, bytes_absent, bytes_large, bytes_failed, bytes_starved)
+
 pub ruleset reads_early = (reads_stop)

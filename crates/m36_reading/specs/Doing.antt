@@ -28,7 +28,8 @@ ReadCause (Err NoMemory) old new = new ≡ old
 
 -- A call performs a reading: the folder gave some answers, one after another, each that of its files where it tells them,
 -- and by them the reading comes to what the call answers. No file changes.
-pub record Reads {A : Type 0} (p : Reading (Early A)) (result : Result A Refusal) (old new : FolderState) : Type 0 where
+pub record Reads {A : Type 0} (p : Reading (Early A)) (result : Result A Refusal) (old new : FolderState)
+    : Type 0 where
   pub asked : List Ask
   pub told : AreTold old.files asked
   pub comes : Comes p asked (coming result)
@@ -69,7 +70,8 @@ pub record IsUnput (due : Answer) (old new : Outside) : Type 0 where
 
 -- ---- ends, by what may have come of the reading
 
-pub record IsAnswered {D : Type 0} (kind : Kind D) (Is : Coming (Early D) → Type 0) (result : Status) (old new : Outside) : Type 0 where
+pub record IsAnswered {D : Type 0} (kind : Kind D) (Is : Coming (Early D) → Type 0) (result : Status) (old new : Outside)
+    : Type 0 where
   pub given : Early D
   pub came : Is (Came given)
   pub due : Answer
@@ -100,7 +102,8 @@ pub record IsStarved {D : Type 0} (kind : Kind D) (Is : Coming (Early D) → Typ
   pub wants : kind.Wants given old new
   pub read_faults : NoneUnread old new
 
-abbrev pub EndsBy : {D : Type 0} → Kind D → (Coming (Early D) → Type 0) → End → Status → Outside → Outside → Type 0
+abbrev pub EndsBy :
+    {D : Type 0} → Kind D → (Coming (Early D) → Type 0) → End → Status → Outside → Outside → Type 0
 EndsBy kind Is Answered result old new = IsAnswered kind Is result old new
 EndsBy kind Is Cut result old new = IsCut kind Is old new
 EndsBy kind Is Unread result old new = IsUnread Is old new
@@ -108,7 +111,8 @@ EndsBy kind Is Starved result old new = IsUnmade Is old new ⊎ IsStarved kind I
 EndsBy kind Is Unasked result old new = ⊥
 
 -- A call performs a command: its reading comes to what the answers of the folder are, and what is due by it is done.
-pub record Does {D : Type 0} (kind : Kind D) (p : Reading (Early D)) (result : Status) (old new : Outside) : Type 0 where
+pub record Does {D : Type 0} (kind : Kind D) (p : Reading (Early D)) (result : Status) (old new : Outside)
+    : Type 0 where
   pub asked : List Ask
   pub told : AreTold old.folder.files asked
   pub ends : EndsBy kind (Comes p asked) (end_of result) result old new

@@ -34,6 +34,8 @@ pub record IsIdle (old new : Outside) : Type 0 where
 abbrev pub NoneUnread : Outside → Outside → Type 0
 NoneUnread old new = new.folder.read_faults ≡ old.folder.read_faults
 
-abbrev pub outside_of : {F S : Type 0} → (F → Option Files) → (F → ℕ) → (F → ℕ) → (S → Option (List ℕ)) → (S → ℕ) → F → S → Outside
+abbrev pub outside_of :
+    {F S : Type 0} → (F → Option Files) → (F → ℕ) → (F → ℕ) → (S → Option (List ℕ)) → (S → ℕ)
+    → F → S → Outside
 outside_of files read_faults write_faults written put_faults folder sink =
     record { folder = folder_of files read_faults write_faults folder; sink = sink_of written put_faults sink }

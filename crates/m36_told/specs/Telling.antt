@@ -40,14 +40,18 @@ source_refused name alm.NoMemory = NoMemory
 -- the object is written, and then the listing is put
 abbrev pub assembly_told : List ℕ → Assembly → ToldFields
 assembly_told name a =
-    record { sets = record { name = name; content = object_bytes a.parts } ∷ []; text = listing_of name a.source a.parts }
+    record {
+      sets = record { name = name; content = object_bytes a.parts } ∷ [];
+      text = listing_of name a.source a.parts;
+    }
 
 abbrev pub told_by : AlmFiles → Result Assembly AlmFault → Early ToldFields
 told_by files (Ok a) = Ok (assembly_told files.object a)
 told_by files (Err fault) = Err (source_refused files.source fault)
 
 unfoldable pub alm_reads : AlmFiles → Reading (Early ToldFields)
-alm_reads files = then_with (file_bytes files.source) (λ bytes. decided (told_by files (assembly_of bytes)))
+alm_reads files =
+    then_with (file_bytes files.source) (λ bytes. decided (told_by files (assembly_of bytes)))
 
 -- ---- what the parts of `alm` say
 

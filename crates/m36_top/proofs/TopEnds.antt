@@ -34,7 +34,6 @@ top_output command result old new says = output_by command old.folder.files resu
 
 -- ---- causes
 
-
 read_by :
     (Is : Coming (Early Due) → Type 0) (end : End) (result : Status) (old new : Outside)
     → EndsBy due_kind Is end result old new → ReadCause end old new

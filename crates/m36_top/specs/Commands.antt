@@ -8,7 +8,8 @@ use Rattle.m36_top.specs.declared.command.Command.TheVariants.{OfImage, Print, A
 use Rattle.m36_top.specs.Dues.{Due, Told, Image}
 
 unfoldable pub reads : Command → Reading (Early Due)
-reads (OfImage command) = mapped (λ state. Image (record { command = command; state = state })) (state_reads (image_file command))
+reads (OfImage command) =
+    mapped (λ state. Image (record { command = command; state = state })) (state_reads (image_file command))
 reads (Print name) = mapped Told (print_reads name)
 reads (Alm files) = mapped Told (alm_reads files)
 

@@ -17,6 +17,10 @@ IsCommandDue (Some command) files due = IsDueBy IsDueOf (outcome_in files (reads
 -- One answer at most is due to words and files, and it can't be that none is. To a command on an image it is the one that
 -- the findings of the audit give.
 pub record DueLaw : Type 0 where
-  pub one : (words : List (List ℕ)) (files : Files) (due same : Answer) → IsCommandDue (command_of words) files due → IsCommandDue (command_of words) files same → due ≡ same
-  pub some : (words : List (List ℕ)) (files : Files) → ¬ ((due : Answer) → ¬ IsCommandDue (command_of words) files due)
+  pub one :
+      (words : List (List ℕ)) (files : Files) (due same : Answer)
+      → IsCommandDue (command_of words) files due → IsCommandDue (command_of words) files same → due ≡ same
+  pub some :
+      (words : List (List ℕ)) (files : Files)
+      → ¬ ((due : Answer) → ¬ IsCommandDue (command_of words) files due)
   pub on_images : StateDueLaw

@@ -44,7 +44,8 @@ ReadCause Unasked old new = NoneUnread old new
 
 -- With a command that writes files, the count of the sink or that of the folder rose; with every other that of the sink.
 abbrev pub WriteRose : Bool → Outside → Outside → Type 0
-WriteRose true old new = Rose old.sink.faults new.sink.faults ⊎ Rose old.folder.write_faults new.folder.write_faults
+WriteRose true old new =
+    Rose old.sink.faults new.sink.faults ⊎ Rose old.folder.write_faults new.folder.write_faults
 WriteRose false old new = Rose old.sink.faults new.sink.faults
 
 abbrev pub WritesStand : Outside → Outside → Type 0

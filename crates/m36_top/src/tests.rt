@@ -106,9 +106,13 @@ entrybound 000000
 type List<'a> = &'a [&'a [u8]];
 
 const BARE: List = &[b"bare", b"f"];
+
 const UNAUDITED: List = &[b"bare", b"f", b"--unaudited"];
+
 const AUDIT: List = &[b"audit", b"f"];
+
 const PRINT: List = &[b"print", b"e"];
+
 const ALM: List = &[b"alm", b"e"];
 
 /// The numbers of the reads, writes and puts that fail.
@@ -207,7 +211,12 @@ fn refuses_files(rt: HostRuntime) -> Result<(), NoMemory> {
             (Code::E5, 2, 1),
         ),
         (ALM, (b"e.alm", b" lda b\n"), b"e.alm", (Code::E6, 1, 6)),
-        (ALM, (b"e.alm", b" nop 0\n nup 0\n"), b"e.alm", (Code::E3, 2, 2)),
+        (
+            ALM,
+            (b"e.alm", b" nop 0\n nup 0\n"),
+            b"e.alm",
+            (Code::E3, 2, 2),
+        ),
         (ALM, (b"e", b""), b"e.alm", (Code::F1, 0, 0)),
     ] {
         let (status, _, out) = called(alloc, list, file, &NONE)?;
