@@ -1,11 +1,11 @@
 //! Objects.
 
 ghost use Rattle.std.specs.Prelude.{ℕ, List, [], ◌∷◌, ◌++◌, ◌≡◌, ◌+◌, ◌*◌, ◌<◌, ◌≤◌, ◌^◌, Bool, true, length, nat_eq, if◌then◌else◌, IfOk, OnOk};
-ghost use Rattle.obj36.specs.ObjectSegment.{is_newer, inner_statics, outer_statics, definition_section, linkage_section, symbol_section, section_words, map_part, words_of, is_well_formed, definition_named, Stands, IsObject};
-ghost use Rattle.obj36.specs.Halves.{joined};
-ghost use Rattle.obj36.specs.Sizes.{HasShortLists};
+ghost use Rattle.obj36_parts.specs.ObjectSegment.{is_newer, inner_statics, outer_statics, definition_section, linkage_section, symbol_section, section_words, map_part, words_of, is_well_formed, definition_named, Stands, IsObject};
+ghost use Rattle.obj36_parts.specs.Halves.{joined};
+ghost use Rattle.obj36_parts.specs.Sizes.{HasShortLists};
 ghost use Rattle.obj36.specs.Lengths.{AreSmall};
-ghost use Rattle.obj36.specs.PartsFields.{PartsFields};
+ghost use Rattle.obj36_parts.specs.PartsFields.{PartsFields};
 ghost use Rattle.obj36.specs.Faults.{ReadSays, IsReadAs, IsFound};
 ghost use Rattle.std.specs.Cmp.Lexicographic.{pointwise};
 
@@ -40,8 +40,8 @@ pub struct Object {
 }
 
 impl Model for Object {
-    ghost use Rattle.obj36.specs.PartsFields.{PartsFields};
-    ghost use Rattle.obj36.specs.ObjectSegment.{IsObject};
+    ghost use Rattle.obj36_parts.specs.PartsFields.{PartsFields};
+    ghost use Rattle.obj36_parts.specs.ObjectSegment.{IsObject};
 
     ghost Value = { PartsFields };
 
