@@ -1,8 +1,3 @@
-pub mod NameTables
-pub mod SectionLoops
-pub mod SizeLaws
-pub mod Formed
-pub mod LengthLaws
 pub mod ReadingLoops
 pub mod MapReading
 pub mod NameReading

@@ -1,6 +1,6 @@
 use Rattle.std.proofs.Common.{ℕ, List, sym, ap, ◌∙◌, subst}
-use Rattle.obj36.specs.Names.{same}
-use Rattle.obj36.specs.Sizes.{HasShortLists}
+use Rattle.obj36_parts.specs.Names.{same}
+use Rattle.obj36_parts.specs.Sizes.{HasShortLists}
 use Rattle.obj36.proofs.ReaderLaws.{short_parts, not_formed, other_words, same_words}
 use Rattle.obj36.proofs.object.object_in.Goals as goal
 

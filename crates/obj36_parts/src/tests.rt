@@ -1,0 +1,1 @@
+//! Parts worked out by hand.
