@@ -37,6 +37,10 @@ unfolding kind_of
 kind_is false v = refl
 kind_is true v = refl
 
+pub known_is : (minus : Bool) (v : ℕ) → (number_sum minus v).unknown ≡ false
+known_is false v = refl
+known_is true v = refl
+
 pub none_missing : (text : List ℕ) (symbols : List (List ℕ × Sum)) (minus : Bool) (v : ℕ) (span : Span) → place_undefined text symbols (number_term minus v span ∷ []) ≡ None
 unfolding place_undefined is_undefined
 none_missing text symbols minus v span = refl
