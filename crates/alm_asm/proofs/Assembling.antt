@@ -5,11 +5,11 @@ use Rattle.alm_parse.specs.SourceFields.{Source}
 use Rattle.alm_parse.specs.declared.line.Line36.{Line36}
 use Rattle.alm_parse.specs.declared.fault.AlmFault.{AlmFault}
 use Rattle.alm_parse.specs.Sources.{ParseSays}
-use Rattle.obj36.specs.declared.section.Section.TheVariants.{Text}
-use Rattle.obj36.specs.PartsFields.{PartsFields}
-use Rattle.obj36.specs.ObjectSegment.{is_well_formed}
-use Rattle.obj36.proofs.Formed.{is_formed}
-use Rattle.obj36.proofs.LengthLaws.{length-words_of}
+use Rattle.obj36_parts.specs.declared.section.Section.TheVariants.{Text}
+use Rattle.obj36_parts.specs.PartsFields.{PartsFields}
+use Rattle.obj36_parts.specs.ObjectSegment.{is_well_formed}
+use Rattle.obj36_parts.proofs.Formed.{is_formed}
+use Rattle.obj36_parts.proofs.LengthLaws.{length-words_of}
 use Rattle.alm_asm.specs.Spots.{start, count_in, below, end_of}
 use Rattle.alm_asm.specs.Words.{words_from}
 use Rattle.alm_asm.specs.Layout.{symbols_from}

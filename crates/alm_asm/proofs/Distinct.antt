@@ -8,8 +8,8 @@ use Rattle.alm_parse.specs.declared.span.Span.{Span}
 use Rattle.alm_parse.specs.declared.args.Arg.{Arg}
 use Rattle.alm_parse.specs.declared.args.Arg.TheVariants as arg
 use Rattle.alm_parse.specs.declared.line.Line36.{Line36}
-use Rattle.obj36.specs.declared.definition.Named.{Named}
-use Rattle.obj36.specs.ObjectSegment.{definition_names, are_distinct}
+use Rattle.obj36_parts.specs.declared.definition.Named.{Named}
+use Rattle.obj36_parts.specs.ObjectSegment.{definition_names, are_distinct}
 use Rattle.alm_asm.specs.Symbols.{same_name, sum_named}
 use Rattle.alm_asm.specs.Arguments.{name_at}
 use Rattle.alm_asm.specs.Spots.{below}

@@ -8,8 +8,8 @@ use Rattle.alm_parse.specs.declared.expression.Atom.TheVariants as atom
 use Rattle.alm_parse.specs.declared.expression.Term.{Term}
 use Rattle.alm_parse.specs.declared.args.Arg.{Arg}
 use Rattle.alm_parse.specs.declared.line.Line36.{Line36}
-use Rattle.obj36.specs.declared.section.Section.{Section}
-use Rattle.obj36.specs.declared.section.Section.TheVariants.{Text, Linkage, Symbol, Static}
+use Rattle.obj36_parts.specs.declared.section.Section.{Section}
+use Rattle.obj36_parts.specs.declared.section.Section.TheVariants.{Text, Linkage, Symbol, Static}
 use Rattle.alm_asm.specs.Sums.{no_sum, sum_plus, sum_turned, kind_of, is_even, is_one}
 use Rattle.alm_asm.specs.Symbols.{same_name, sum_named, with_symbol}
 use Rattle.alm_asm.specs.Arguments.{name_at, first_arg, second_arg, symbol_in, terms_in, section_in}

@@ -7,10 +7,10 @@ use Rattle.alm_parse.specs.declared.span.Span.{Span}
 use Rattle.alm_parse.specs.declared.args.Arg.{Arg}
 use Rattle.alm_parse.specs.declared.args.Arg.TheVariants as arg
 use Rattle.alm_parse.specs.declared.line.Line36.{Line36}
-use Rattle.obj36.specs.declared.section.Section.TheVariants.{Text, Linkage, Symbol, Static}
-use Rattle.obj36.specs.declared.definition.Named.{Named}
-use Rattle.obj36.specs.Names.{is_name}
-use Rattle.obj36.specs.ObjectSegment.{class_number, last_class, is_definition}
+use Rattle.obj36_parts.specs.declared.section.Section.TheVariants.{Text, Linkage, Symbol, Static}
+use Rattle.obj36_parts.specs.declared.definition.Named.{Named}
+use Rattle.obj36_parts.specs.Names.{is_name}
+use Rattle.obj36_parts.specs.ObjectSegment.{class_number, last_class, is_definition}
 use Rattle.alm_asm.specs.Sums.{half_of, kind_of}
 use Rattle.alm_asm.specs.Arguments.{name_at}
 use Rattle.alm_asm.specs.Expressions.{symbol_sum}

@@ -5,11 +5,12 @@ use Rattle.std.proofs.lemmas.Bool.{and_parts, and_from, not-true}
 use Rattle.std.proofs.lemmas.Cmp.{nat_eq_equiv, nat_list_eq_equiv}
 use Rattle.std.proofs.lemmas.List.Folds.{list_any-append}
 use Rattle.alm_parse.specs.declared.line.Line36.{Line36}
-use Rattle.obj36.specs.Fields.{LinkFields}
-use Rattle.obj36.specs.ObjectSegment.{place_number}
+use Rattle.obj36_parts.specs.Fields.{LinkFields}
+use Rattle.obj36_parts.specs.ObjectSegment.{place_number}
 use Rattle.alm_asm.specs.Arguments.{first_arg}
 use Rattle.alm_asm.specs.Spots.{below}
-use Rattle.alm_asm.specs.Links.{operand_args, link_in, same_link, with_link, links_after, links_from}
+use Rattle.alm_asm.specs.Links.{operand_args, link_in, with_link, links_after, links_from}
+use Rattle.obj36_parts.specs.Indexes.{same_link}
 use Rattle.alm_asm.specs.Assembles.{are_apart}
 use Rattle.alm_asm.specs.declared.sum.Sum.{Sum}
 use Rattle.alm_asm.specs.declared.spot.Spot.{Spot}

@@ -6,9 +6,9 @@ use Rattle.alm_parse.specs.Tokens.{slice_of, is_text}
 use Rattle.alm_parse.specs.declared.span.Span.{Span}
 use Rattle.alm_parse.specs.declared.args.Arg.{Arg}
 use Rattle.alm_parse.specs.declared.line.Line36.{Line36}
-use Rattle.obj36.specs.declared.section.Section.{Section}
-use Rattle.obj36.specs.declared.section.Section.TheVariants.{Text, Linkage, Symbol, Static}
-use Rattle.obj36.specs.declared.definition.Named.{Named}
+use Rattle.obj36_parts.specs.declared.section.Section.{Section}
+use Rattle.obj36_parts.specs.declared.section.Section.TheVariants.{Text, Linkage, Symbol, Static}
+use Rattle.obj36_parts.specs.declared.definition.Named.{Named}
 use Rattle.alm_asm.specs.Arguments.{first_arg, symbol_in, section_in}
 use Rattle.alm_asm.specs.Spots.{start, place, grown_in, entered, size_of, moved_by, below, end_of}
 use Rattle.alm_asm.specs.Refusals.{refusal_at}

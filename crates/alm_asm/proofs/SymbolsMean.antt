@@ -1,7 +1,7 @@
 -- In lines that are not refused each symbol comes to what its line says.
 use Rattle.std.proofs.Common.{◌≡◌, ℕ, Bool, true, false, cond, List, [], ◌∷◌, ◌++◌, Option, Some, None, is_some, refl, sym, ap, ◌∙◌, true≢false}
 use Rattle.std.specs.Map.{lookup}
-use Rattle.obj36.proofs.SizeLaws.{same_self}
+use Rattle.obj36_parts.proofs.SizeLaws.{same_self}
 use Rattle.alm_parse.specs.declared.span.Span.{Span}
 use Rattle.alm_parse.specs.declared.line.Line36.{Line36}
 use Rattle.alm_asm.specs.Symbols.{same_name, sum_named, with_symbol}

@@ -2,7 +2,7 @@
 use Rattle.std.proofs.Common.{◌≡◌, ℕ, Bool, true, false, List, [], ◌∷◌, ◌++◌, Option, Some, None, is_some, refl, ap, ◌∙◌, true≢false}
 use Rattle.alm_parse.specs.declared.args.Arg.{Arg}
 use Rattle.alm_parse.specs.declared.line.Line36.{Line36}
-use Rattle.obj36.specs.declared.definition.Named.{Named}
+use Rattle.obj36_parts.specs.declared.definition.Named.{Named}
 use Rattle.alm_asm.specs.Refusals.{sooner}
 use Rattle.alm_asm.specs.Definitions.{named_by, gives_entries, definitions_after, arg_refusal, names_refused, definitions_refused}
 use Rattle.alm_asm.specs.LineRefusals.{unless, otherwise, refusal_of_deed, line_refusal, lines_refusal}

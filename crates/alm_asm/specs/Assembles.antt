@@ -5,15 +5,16 @@ use Rattle.std.specs.List.{list_any}
 use Rattle.alm_parse.specs.SourceFields.{Source}
 use Rattle.alm_parse.specs.declared.span.Span.{Span}
 use Rattle.alm_parse.specs.declared.line.Line36.{Line36}
-use Rattle.obj36.specs.declared.section.Section.{Section}
-use Rattle.obj36.specs.declared.section.Section.TheVariants.{Text, Linkage, Symbol, Static}
-use Rattle.obj36.specs.Fields.{LinkFields}
-use Rattle.obj36.specs.PartsFields.{PartsFields}
-use Rattle.obj36.specs.ObjectSegment.{definition_names, are_distinct, are_rising}
+use Rattle.obj36_parts.specs.declared.section.Section.{Section}
+use Rattle.obj36_parts.specs.declared.section.Section.TheVariants.{Text, Linkage, Symbol, Static}
+use Rattle.obj36_parts.specs.Fields.{LinkFields}
+use Rattle.obj36_parts.specs.PartsFields.{PartsFields}
+use Rattle.obj36_parts.specs.ObjectSegment.{definition_names, are_distinct, are_rising}
 use Rattle.alm_asm.specs.Symbols.{sum_named}
 use Rattle.alm_asm.specs.Arguments.{name_at, first_arg, symbol_in, section_in}
 use Rattle.alm_asm.specs.Spots.{start, count_in, here, end_of}
-use Rattle.alm_asm.specs.Links.{operand_args, link_in, same_link, links_from}
+use Rattle.alm_asm.specs.Links.{operand_args, link_in, links_from}
+use Rattle.obj36_parts.specs.Indexes.{same_link}
 use Rattle.alm_asm.specs.Words.{words_by}
 use Rattle.alm_asm.specs.Marks.{marks_from}
 use Rattle.alm_asm.specs.Layout.{own_symbol, own_sum, labelled, symbols_from}

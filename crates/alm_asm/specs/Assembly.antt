@@ -4,10 +4,10 @@ use Rattle.alm_parse.specs.SourceFields.{Source}
 use Rattle.alm_parse.specs.declared.line.Line36.{Line36}
 use Rattle.alm_parse.specs.declared.fault.AlmFault.{AlmFault}
 use Rattle.alm_parse.specs.declared.fault.AlmFault.TheVariants.{E8}
-use Rattle.obj36.specs.declared.section.Section.{Section}
-use Rattle.obj36.specs.declared.section.Section.TheVariants.{Text, Linkage, Static}
-use Rattle.obj36.specs.PartsFields.{PartsFields}
-use Rattle.obj36.specs.ObjectSegment.{is_well_formed}
+use Rattle.obj36_parts.specs.declared.section.Section.{Section}
+use Rattle.obj36_parts.specs.declared.section.Section.TheVariants.{Text, Linkage, Static}
+use Rattle.obj36_parts.specs.PartsFields.{PartsFields}
+use Rattle.obj36_parts.specs.ObjectSegment.{is_well_formed}
 use Rattle.alm_asm.specs.Spots.{start, below, end_of}
 use Rattle.alm_asm.specs.Refusals.{fault_of, sooner}
 use Rattle.alm_asm.specs.Layout.{symbols_from, layout_refusal}

@@ -7,15 +7,16 @@ use Rattle.alm_parse.specs.declared.expression.Term.{Term}
 use Rattle.alm_parse.specs.declared.args.Arg.{Arg}
 use Rattle.alm_parse.specs.declared.args.Arg.TheVariants as arg
 use Rattle.alm_parse.specs.declared.line.Line36.{Line36}
-use Rattle.obj36.specs.Fields.{LinkFields}
-use Rattle.obj36.specs.Names.{name_length}
-use Rattle.obj36.specs.ObjectSegment.{link_names}
+use Rattle.obj36_parts.specs.Fields.{LinkFields}
+use Rattle.obj36_parts.specs.Names.{name_length}
+use Rattle.obj36_parts.specs.ObjectSegment.{link_names}
 use Rattle.alm_asm.specs.Sums.{no_sum, kind_of}
 use Rattle.alm_asm.specs.Symbols.{sum_named, with_symbol}
 use Rattle.alm_asm.specs.Arguments.{name_at, first_arg, second_arg, terms_in}
 use Rattle.alm_asm.specs.Spots.{below}
 use Rattle.alm_asm.specs.Refusals.{refusal_at, has_value, is_over_limit}
-use Rattle.alm_asm.specs.Links.{link_of, operand_args, same_link}
+use Rattle.alm_asm.specs.Links.{link_of, operand_args}
+use Rattle.obj36_parts.specs.Indexes.{same_link}
 use Rattle.alm_asm.specs.Expressions.{sum_of}
 use Rattle.alm_asm.specs.Marks.{operand_kind}
 use Rattle.alm_asm.specs.Definitions.{gives_entries, sum_refusal}

@@ -7,10 +7,10 @@ use Rattle.alm_parse.specs.declared.span.Span.{Span}
 use Rattle.alm_parse.specs.declared.args.Arg.{Arg}
 use Rattle.alm_parse.specs.declared.args.Arg.TheVariants as arg
 use Rattle.alm_parse.specs.declared.line.Line36.{Line36}
-use Rattle.obj36.specs.declared.section.Section.{Section}
-use Rattle.obj36.specs.declared.section.Section.TheVariants.{Text, Linkage, Symbol, Static}
-use Rattle.obj36.specs.Names.{is_name}
-use Rattle.obj36.specs.ObjectSegment.{words_of, is_well_formed}
+use Rattle.obj36_parts.specs.declared.section.Section.{Section}
+use Rattle.obj36_parts.specs.declared.section.Section.TheVariants.{Text, Linkage, Symbol, Static}
+use Rattle.obj36_parts.specs.Names.{is_name}
+use Rattle.obj36_parts.specs.ObjectSegment.{words_of, is_well_formed}
 use Rattle.alm_asm.specs.Arguments.{name_at}
 use Rattle.alm_asm.specs.Links.{own_section}
 use Rattle.alm_asm.specs.Assembly.{parts_of, refusal_of}

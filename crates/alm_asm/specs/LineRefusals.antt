@@ -6,9 +6,9 @@ use Rattle.alm_parse.specs.declared.expression.Term.{Term}
 use Rattle.alm_parse.specs.declared.args.Arg.{Arg}
 use Rattle.alm_parse.specs.declared.args.Arg.TheVariants as arg
 use Rattle.alm_parse.specs.declared.line.Line36.{Line36}
-use Rattle.obj36.specs.declared.section.Section.{Section}
-use Rattle.obj36.specs.declared.section.Section.TheVariants.{Text, Linkage, Symbol, Static}
-use Rattle.obj36.specs.declared.definition.Named.{Named}
+use Rattle.obj36_parts.specs.declared.section.Section.{Section}
+use Rattle.obj36_parts.specs.declared.section.Section.TheVariants.{Text, Linkage, Symbol, Static}
+use Rattle.obj36_parts.specs.declared.definition.Named.{Named}
 use Rattle.alm_asm.specs.Arguments.{first_arg, second_arg, symbol_in, terms_in, section_in}
 use Rattle.alm_asm.specs.Spots.{below}
 use Rattle.alm_asm.specs.Expressions.{expression_place}

@@ -1,5 +1,5 @@
 -- Links: the external operands of instructions, each once, in the order of their first use.
-use Rattle.std.specs.Prelude.{ℕ, ◌+◌, ◌*◌, ◌%◌, ◌^◌, Bool, ◌&&◌, nat_eq, List, [], ◌∷◌, ◌++◌, codes, Option, Some, None, unwrap_or, if◌then◌else◌}
+use Rattle.std.specs.Prelude.{ℕ, ◌+◌, ◌*◌, ◌%◌, ◌^◌, Bool, List, [], ◌∷◌, ◌++◌, codes, Option, Some, None, unwrap_or, if◌then◌else◌}
 use Rattle.std.specs.List.{list_any, position}
 use Rattle.alm_parse.specs.Tokens.{slice_of, is_text}
 use Rattle.alm_parse.specs.declared.span.Span.{Span}
@@ -7,12 +7,11 @@ use Rattle.alm_parse.specs.declared.expression.Term.{Term}
 use Rattle.alm_parse.specs.declared.args.Arg.{Arg}
 use Rattle.alm_parse.specs.declared.args.Arg.TheVariants as arg
 use Rattle.alm_parse.specs.declared.line.Line36.{Line36}
-use Rattle.obj36.specs.declared.section.Section.{Section}
-use Rattle.obj36.specs.declared.section.Section.TheVariants.{Text, Linkage, Static}
-use Rattle.obj36.specs.Fields.{LinkFields}
-use Rattle.obj36.specs.ObjectSegment.{place_number}
+use Rattle.obj36_parts.specs.declared.section.Section.{Section}
+use Rattle.obj36_parts.specs.declared.section.Section.TheVariants.{Text, Linkage, Static}
+use Rattle.obj36_parts.specs.Fields.{LinkFields}
+use Rattle.obj36_parts.specs.Indexes.{same_link}
 use Rattle.alm_asm.specs.Sums.{half_of}
-use Rattle.alm_asm.specs.Symbols.{same_name}
 use Rattle.alm_asm.specs.Arguments.{name_at, first_arg}
 use Rattle.alm_asm.specs.Spots.{below}
 use Rattle.alm_asm.specs.Expressions.{sum_of}
@@ -88,11 +87,6 @@ link_in text symbols spot (Some (arg.Chars words)) = None
 link_in text symbols spot (Some (arg.Plain terms)) = None
 link_in text symbols spot (Some (arg.Operand pr segment entry terms tag)) = link_by text symbols spot segment entry terms tag
 link_in text symbols spot None = None
-
--- whether two links are the same
-unfoldable pub same_link : LinkFields → LinkFields → Bool
-same_link a b =
-    nat_eq a.kind b.kind && nat_eq (place_number a.section) (place_number b.section) && same_name a.name b.name && same_name a.entry b.entry && nat_eq a.expr b.expr && nat_eq a.modifier b.modifier
 
 -- the links with one at the end, where it is not among them
 abbrev pub with_link : List LinkFields → Option LinkFields → List LinkFields

@@ -4,9 +4,9 @@ use Rattle.alm_parse.specs.declared.span.Span.{Span}
 use Rattle.alm_parse.specs.declared.args.Arg.{Arg}
 use Rattle.alm_parse.specs.declared.args.Arg.TheVariants as arg
 use Rattle.alm_parse.specs.declared.line.Line36.{Line36}
-use Rattle.obj36.specs.declared.section.Section.{Section}
-use Rattle.obj36.specs.declared.section.Section.TheVariants.{Linkage}
-use Rattle.obj36.specs.Fields.{RelocFields}
+use Rattle.obj36_parts.specs.declared.section.Section.{Section}
+use Rattle.obj36_parts.specs.declared.section.Section.TheVariants.{Linkage}
+use Rattle.obj36_parts.specs.Fields.{RelocFields}
 use Rattle.alm_asm.specs.Sums.{kind_of}
 use Rattle.alm_asm.specs.Arguments.{first_arg, second_arg, terms_in}
 use Rattle.alm_asm.specs.Spots.{place, below}

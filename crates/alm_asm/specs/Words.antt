@@ -7,8 +7,8 @@ use Rattle.alm_parse.specs.declared.args.Arg.TheVariants as arg
 use Rattle.alm_parse.specs.declared.line.Line36.{Line36}
 use Rattle.m36_inst.specs.Fields.{InstFields}
 use Rattle.m36_inst.specs.Instruction.{inst_word}
-use Rattle.obj36.specs.declared.section.Section.{Section}
-use Rattle.obj36.specs.ObjectSegment.{place_number}
+use Rattle.obj36_parts.specs.declared.section.Section.{Section}
+use Rattle.obj36_parts.specs.ObjectSegment.{place_number}
 use Rattle.alm_asm.specs.Sums.{half_of, offset_of}
 use Rattle.alm_asm.specs.Arguments.{first_arg, second_arg, terms_in, number_in, words_of_args}
 use Rattle.alm_asm.specs.Spots.{place, below}

@@ -3,9 +3,9 @@
 ghost use Rattle.std.specs.Prelude.{ℕ, Bool, List, [], ◌∷◌, ◌≡◌, ◌+◌, ◌%◌, ◌^◌, ◌<◌, Option, None, IsTrue, OnOk, IfOk};
 ghost use Rattle.alm_parse.specs.Sources.{ParseSays};
 ghost use Rattle.alm_asm.specs.Spots.{start};
-ghost use Rattle.obj36.specs.declared.section.Section.TheVariants.{Text};
-ghost use Rattle.obj36.specs.ObjectSegment.{is_well_formed};
-ghost use Rattle.obj36.specs.Sizes.{HasShortLists};
+ghost use Rattle.obj36_parts.specs.declared.section.Section.TheVariants.{Text};
+ghost use Rattle.obj36_parts.specs.ObjectSegment.{is_well_formed};
+ghost use Rattle.obj36_parts.specs.Sizes.{HasShortLists};
 ghost use Rattle.alm_asm.specs.Layout.{layout_refusal};
 ghost use Rattle.alm_asm.specs.Words.{words_from};
 ghost use Rattle.alm_asm.specs.Marks.{marks_from};

@@ -73,12 +73,6 @@ pub fn gives_entries(deed: Deed) -> Option<bool>
     }
 }
 
-fn is_named(definition: &Named, name: &[u8]) -> bool
-    ensures { result ≡ same_name name.now definition.now.name }
-{
-    name == definition.name.bytes()
-}
-
 #[tactic(auto, unfolding(crate::specs::Definitions::is_taken))]
 fn is_taken(done: &Defs, name: &Name) -> bool
     ensures { result ≡ is_taken done.now name.now }

@@ -7,13 +7,13 @@ ghost use Rattle.alm_asm.specs.Spots.{start};
 ghost use Rattle.alm_asm.specs.Links.{operand_args};
 ghost use Rattle.alm_asm.specs.Definitions.{gives_entries};
 ghost use Rattle.alm_asm.specs.Growth.{at_first, with_name, with_names, with_definition, with_unrefused, with_arg, with_args, with_definitions, with_new_link, with_link_once, with_operand, with_link, mark_count, operand_room, is_own, operand_count, half_count, marks_count, with_marks, grown_by, is_over, growth_refusal};
-ghost use Rattle.obj36.specs.ObjectSegment.{has_name, has_entry};
+ghost use Rattle.obj36_parts.specs.ObjectSegment.{has_name, has_entry};
 
 use crate::arguments::{first_terms, name_at, second_terms};
 use crate::definitions::{gives_entries, sum_refusal};
 use crate::expression::sum_of;
 use crate::line_refusal::own_room;
-use crate::links::{is_among, link_of, operand_args};
+use crate::links::{link_of, operand_args};
 use crate::marks::operand_kind;
 use crate::refusal::{Code, Refusal, Room, has_value, is_over_limit, refusal_at};
 use crate::spot::{Spot, below};
@@ -49,7 +49,7 @@ impl Growth {
         }
     }
 
-    #[tactic(auto, unfolding(crate::specs::Growth::with_name, obj36::specs::Names::name_length))]
+    #[tactic(auto, unfolding(crate::specs::Growth::with_name, obj36_parts::specs::Names::name_length))]
     fn add_name(&mut self, name: Name) -> Result<(), NoMemory>
         ensures { OnOk result (self.new ≡ with_name self.old name) }
     {
@@ -83,7 +83,7 @@ impl Growth {
         self.add_name(name)
     }
 
-    #[tactic(auto, using(crate::proofs::GrowthLaws::names_then), unfolding(crate::specs::Growth::with_new_link, obj36::specs::ObjectSegment::link_names, obj36::specs::ObjectSegment::name_used, obj36::specs::ObjectSegment::entry_used))]
+    #[tactic(auto, using(crate::proofs::GrowthLaws::names_then), unfolding(crate::specs::Growth::with_new_link, obj36_parts::specs::ObjectSegment::link_names, obj36_parts::specs::ObjectSegment::name_used, obj36_parts::specs::ObjectSegment::entry_used))]
     fn add_new_link(&mut self, link: Link) -> Result<(), NoMemory>
         ensures { OnOk result (self.new ≡ with_new_link self.old link) }
     {
@@ -100,7 +100,7 @@ impl Growth {
     fn add_link(&mut self, link: Link) -> Result<(), NoMemory>
         ensures { OnOk result (self.new ≡ with_link_once self.old link) }
     {
-        if is_among(&self.links, &link) {
+        if self.links.has(&link) {
             return Ok(());
         }
         self.add_new_link(link)

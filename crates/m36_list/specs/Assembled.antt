@@ -7,7 +7,7 @@ use Rattle.alm_parse.specs.Rows.{row_at}
 use Rattle.alm_parse.specs.Lines.{line_given}
 use Rattle.alm_parse.specs.SourceFields.{Source}
 use Rattle.alm_parse.specs.Sources.{parsed}
-use Rattle.obj36.specs.PartsFields.{PartsFields}
+use Rattle.obj36_parts.specs.PartsFields.{PartsFields}
 use Rattle.alm_asm.specs.declared.spot.Spot.{Spot}
 use Rattle.alm_asm.specs.declared.tables.Tables.{Tables}
 use Rattle.alm_asm.specs.Words.{words_by}

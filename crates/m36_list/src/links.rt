@@ -1,7 +1,7 @@
 //! Links of an object, a line for each.
 
 ghost use Rattle.std.specs.Prelude.{[], ◌∷◌, ◌+◌, ◌*◌, ◌++◌, ◌≡◌, ◌^◌, ◌<◌, ◌≤◌, length, OnOk, if◌then◌else◌};
-ghost use Rattle.obj36.specs.ObjectSegment.{has_name, has_entry};
+ghost use Rattle.obj36_parts.specs.ObjectSegment.{has_name, has_entry};
 ghost use Rattle.m36_list.specs.Print.{own_section, reference_text, link_line, link_lines};
 
 use crate::fields::{put_field, put_last, put_number};

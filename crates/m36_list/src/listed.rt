@@ -1,7 +1,7 @@
 //! The listing of a source.
 
 ghost use Rattle.std.specs.Prelude.{ℕ, ◌+◌, ◌++◌, ◌≡◌, ◌^◌, ◌≤◌, length, take, drop, codes, IfOk, OnOk};
-ghost use Rattle.obj36.specs.ObjectSegment.{inner_statics};
+ghost use Rattle.obj36_parts.specs.ObjectSegment.{inner_statics};
 ghost use Rattle.m36_list.specs.Counts.{IsCount};
 ghost use Rattle.alm_asm.specs.Spots.{start};
 ghost use Rattle.m36_list.specs.Listing.{is_in, size_in, section_words, listing_of};
