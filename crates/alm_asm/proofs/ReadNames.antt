@@ -22,7 +22,7 @@ use Rattle.alm_parse.specs.declared.operation.Operation.TheVariants as operation
 use Rattle.alm_parse.specs.declared.refusal.Refusal.{Refusal}
 use Rattle.alm_parse.specs.declared.refusal.Code.TheVariants.{E1}
 use Rattle.alm_parse.specs.declared.fault.AlmFault.{AlmFault}
-use Rattle.alm_parse.specs.Bytes.{is_letter, is_digit, goes_on, begins_symbol, is_character}
+use Rattle.alm_parse.specs.Bytes.{begins_symbol, is_character}
 use Rattle.alm_parse.specs.Tokens.{slice_of, is_text, is_symbol}
 use Rattle.alm_parse.specs.Refusals.{refused, unless}
 use Rattle.alm_parse.specs.Expressions.{is_term_at, expression_pieces, place_over, term_of}
@@ -45,33 +45,17 @@ use Rattle.alm_asm.specs.Laws.{segment_is_named, entry_is_named, arg_is_named, a
 
 -- ---- symbols are names
 
-swapped : (a u d p : Bool) → (((a || u) || d) || p) ≡ true → (((a || d) || u) || p) ≡ true
-swapped true u d p e = refl
-swapped false true true p e = refl
-swapped false true false p e = refl
-swapped false false true p e = refl
-swapped false false false p e = e
-
-character : (b : ℕ) → goes_on b ≡ true → is_name_character b ≡ true
-character b e = swapped (is_letter b) (b == 95) (is_digit b) (b == 46) e
-
-characters : (bytes : List ℕ) → list_all goes_on bytes ≡ true → list_all is_name_character bytes ≡ true
-characters [] e = refl
-characters (b ∷ bytes) e =
-    let parts = and_parts (goes_on b) (list_all goes_on bytes) e in
-    and_from (is_name_character b) (list_all is_name_character bytes) (character b parts.0) (characters bytes parts.1)
-
 symbol_is_name : (bytes : List ℕ) → is_symbol bytes ≡ true → is_name bytes ≡ true
 unfolding is_symbol is_name
 symbol_is_name bytes e =
-    let all = and_parts ((leb 1 (length bytes) && leb (length bytes) 32) && begins_symbol (slice_index bytes 0)) (list_all goes_on bytes) e in
+    let all = and_parts ((leb 1 (length bytes) && leb (length bytes) 32) && begins_symbol (slice_index bytes 0)) (list_all is_name_character bytes) e in
     let few = and_parts (leb 1 (length bytes) && leb (length bytes) 32) (begins_symbol (slice_index bytes 0)) all.0 in
-    and_from (leb 1 (length bytes) && leb (length bytes) 32) (list_all is_name_character bytes) few.0 (characters bytes all.1)
+    and_from (leb 1 (length bytes) && leb (length bytes) 32) (list_all is_name_character bytes) few.0 all.1
 
 symbol_length : (bytes : List ℕ) → is_symbol bytes ≡ true → length bytes ≤ 32
 unfolding is_symbol
 symbol_length bytes e =
-    let all = and_parts ((leb 1 (length bytes) && leb (length bytes) 32) && begins_symbol (slice_index bytes 0)) (list_all goes_on bytes) e in
+    let all = and_parts ((leb 1 (length bytes) && leb (length bytes) 32) && begins_symbol (slice_index bytes 0)) (list_all is_name_character bytes) e in
     let few = and_parts (leb 1 (length bytes) && leb (length bytes) 32) (begins_symbol (slice_index bytes 0)) all.0 in
     leb-true (length bytes) 32 (and_parts (leb 1 (length bytes)) (leb (length bytes) 32) few.0).1
 

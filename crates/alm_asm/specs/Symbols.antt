@@ -1,12 +1,8 @@
 -- The symbols of a source in the order of their definitions, each with what it comes to.
-use Rattle.std.specs.Prelude.{ℕ, Bool, nat_eq, is_some, if◌then◌else◌, List, [], ◌∷◌, ◌++◌, Option}
-use Rattle.std.specs.Cmp.Lexicographic.{pointwise}
+use Rattle.std.specs.Prelude.{ℕ, is_some, if◌then◌else◌, List, [], ◌∷◌, ◌++◌, Option}
 use Rattle.std.specs.Map.{lookup}
+pub use Rattle.m36_text.specs.Texts.{are_same as same_name}
 use Rattle.alm_asm.specs.declared.sum.Sum.{Sum}
-
--- whether two names are the same
-abbrev pub same_name : List ℕ → List ℕ → Bool
-same_name a b = pointwise nat_eq a b
 
 -- what a symbol comes to
 unfoldable pub sum_named : List ℕ → List (List ℕ × Sum) → Option Sum

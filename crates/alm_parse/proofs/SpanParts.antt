@@ -14,7 +14,8 @@ use Rattle.alm_parse.specs.declared.head.Head.{Head}
 use Rattle.alm_parse.specs.declared.head.Turn.{Turn}
 use Rattle.alm_parse.specs.declared.head.Turn.TheVariants.{Label, Skip, Stop, Go}
 use Rattle.alm_parse.specs.declared.rows.Row.{Row}
-use Rattle.alm_parse.specs.Bytes.{goes_on, is_blank}
+use Rattle.m36_text.specs.Texts.{is_name_character}
+use Rattle.alm_parse.specs.Bytes.{is_blank}
 use Rattle.alm_parse.specs.Tokens.{slice_of}
 use Rattle.alm_parse.specs.Pieces.{parts, piece_at, cut, pieces_of}
 use Rattle.alm_parse.specs.declared.pieces.Parter.TheVariants.{Sign}
@@ -130,7 +131,7 @@ end_in text bytes span p ends =
 pub symbol_end_in : (text : List ℕ) (span : Span) → span.from ≤ length text → (span.from ≤ symbol_end text span) × (symbol_end text span ≤ length text)
 unfolding symbol_end
 symbol_end_in text span begun =
-    end_in text (slice_of text span) span (λ b. not (goes_on b)) (slice_ends text span begun)
+    end_in text (slice_of text span) span (λ b. not (is_name_character b)) (slice_ends text span begun)
 
 -- the parts of an operand
 abbrev pub BodyIn : ℕ → Body → Type 0

@@ -6,7 +6,8 @@ use Rattle.alm_parse.specs.declared.span.Span.{Span}
 use Rattle.alm_parse.specs.declared.pieces.Piece.{Piece}
 use Rattle.alm_parse.specs.declared.body.Body.{Body}
 use Rattle.alm_parse.specs.declared.body.Body.TheVariants.{Through, External, Plain}
-use Rattle.alm_parse.specs.Bytes.{goes_on, is_sign}
+use Rattle.m36_text.specs.Texts.{is_name_character}
+use Rattle.alm_parse.specs.Bytes.{is_sign}
 use Rattle.alm_parse.specs.Tokens.{slice_of, is_text, is_symbol}
 use Rattle.alm_parse.specs.Pieces.{piece_at}
 use Rattle.alm_parse.specs.Expressions.{expression_pieces}
@@ -26,7 +27,7 @@ end_by None from count = from + count
 
 unfoldable pub symbol_end : List ℕ → Span → ℕ
 symbol_end text span =
-    end_by (position (λ b. not (goes_on b)) (slice_of text span)) span.from (length (slice_of text span))
+    end_by (position (λ b. not (is_name_character b)) (slice_of text span)) span.from (length (slice_of text span))
 
 -- the parts
 abbrev pub external_by : Span → ℕ → ℕ → Body

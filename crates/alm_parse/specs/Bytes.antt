@@ -1,25 +1,17 @@
 -- Bytes by class.
 use Rattle.std.specs.Prelude.{ℕ, Bool, ◌&&◌, ◌||◌, ◌==◌, nat_le}
+use Rattle.m36_text.specs.Texts.{is_letter, is_name_character}
 
 -- A blank or a tab.
 abbrev pub is_blank : ℕ → Bool
 is_blank b = (b == 32) || (b == 9)
 
-abbrev pub is_letter : ℕ → Bool
-is_letter b = (nat_le 65 b && nat_le b 90) || (nat_le 97 b && nat_le b 122)
-
-abbrev pub is_digit : ℕ → Bool
-is_digit b = nat_le 48 b && nat_le b 57
-
 abbrev pub is_octal_digit : ℕ → Bool
 is_octal_digit b = nat_le 48 b && nat_le b 55
 
--- A symbol begins with a letter or _, and goes on with letters, digits, _ and the point.
+-- A symbol begins with a letter or _, and goes on with characters of a name.
 abbrev pub begins_symbol : ℕ → Bool
 begins_symbol b = is_letter b || (b == 95)
-
-abbrev pub goes_on : ℕ → Bool
-goes_on b = begins_symbol b || is_digit b || (b == 46)
 
 -- + and -
 abbrev pub is_sign : ℕ → Bool
@@ -35,4 +27,4 @@ is_mark b = (b == 124) || (b == 58) || (b == 42) || (b == 36) || (b == 44) || (b
 
 -- what a source may have outside comments and texts that are placed
 unfoldable pub is_legal : ℕ → Bool
-is_legal b = is_blank b || goes_on b || (b == 10) || is_sign b || is_mark b
+is_legal b = is_blank b || is_name_character b || (b == 10) || is_sign b || is_mark b

@@ -1,26 +1,24 @@
 -- Tokens: the bytes that a span names, symbols and numbers.
-use Rattle.std.specs.Prelude.{ℕ, ◌-◌, Bool, true, false, not, ◌&&◌, ◌||◌, ◌==◌, nat_le, nat_eq, List, length, take, drop, slice_index, Result, Ok, Err}
+use Rattle.std.specs.Prelude.{ℕ, ◌-◌, Bool, true, false, ◌&&◌, nat_le, List, length, take, drop, slice_index, Result, Ok, Err}
 use Rattle.std.specs.List.{list_all}
-use Rattle.std.specs.Cmp.Lexicographic.{pointwise}
 use Rattle.std.specs.Result.{result_unwrap_or}
 use Rattle.m36_text.specs.Reading.{number_read}
 use Rattle.m36_text.specs.declared.reading.NumberFault.{NumberFault}
 use Rattle.m36_text.specs.declared.reading.NumberFault.TheVariants.{T1, T2}
+pub use Rattle.m36_text.specs.Texts.{is_text}
+use Rattle.m36_text.specs.Texts.{is_name_character}
+pub use Rattle.m36_text.specs.Numbers.{has_no_leading_zero}
 use Rattle.alm_parse.specs.declared.span.Span.{Span}
-use Rattle.alm_parse.specs.Bytes.{begins_symbol, goes_on}
+use Rattle.alm_parse.specs.Bytes.{begins_symbol}
 
 -- the bytes of a text that a span names
 unfoldable pub slice_of : List ℕ → Span → List ℕ
 slice_of text span = take (span.to - span.from) (drop span.from text)
 
--- whether a text is this one
-abbrev pub is_text : List ℕ → List ℕ → Bool
-is_text name text = pointwise nat_eq text name
-
 -- a symbol has 1 to 32 characters
 unfoldable pub is_symbol : List ℕ → Bool
 is_symbol bytes =
-    nat_le 1 (length bytes) && nat_le (length bytes) 32 && begins_symbol (slice_index bytes 0) && list_all goes_on bytes
+    nat_le 1 (length bytes) && nat_le (length bytes) 32 && begins_symbol (slice_index bytes 0) && list_all is_name_character bytes
 
 -- A text read as a number: whether it has digits alone, whether the number is over the limit, and the number.
 abbrev pub has_digits : Result ℕ NumberFault → Bool
@@ -35,10 +33,6 @@ is_over (Err (T1 place)) = false
 
 abbrev pub value_of : Result ℕ NumberFault → ℕ
 value_of read = result_unwrap_or read 0
-
--- a decimal number has no leading zero
-abbrev pub has_no_leading_zero : List ℕ → Bool
-has_no_leading_zero bytes = (length bytes == 1) || not (slice_index bytes 0 == 48)
 
 -- numbers of expressions, and of words of zeros, are at most 262143
 abbrev pub small_read : List ℕ → Result ℕ NumberFault

@@ -2,15 +2,16 @@
 
 ghost use Rattle.std.specs.Prelude.{ℕ, ◌≡◌, ◌^◌, ◌<◌, ◌≤◌, ◌+◌, ◌==◌, not, length, IfOk, IfSome};
 ghost use Rattle.std.specs.List.{position};
-ghost use Rattle.alm_parse.specs.Bytes.{goes_on};
+ghost use Rattle.m36_text.specs.Texts.{is_name_character};
 ghost use Rattle.alm_parse.specs.Bodies.{place_of, symbol_end, external, body_of, is_segment, is_entry, is_tail, is_body, tail_pieces, body_pieces};
 
-use crate::bytes::{goes_on, is_sign};
+use crate::bytes::is_sign;
 use crate::expression::{expression_pieces, first_byte};
 use crate::modifiers::pr_number;
 use crate::pieces::{Piece, Pieces};
 use crate::span::{Span, bytes_of};
 use crate::tokens::is_symbol;
+use m36_text::is_name_character;
 use m36_word::NoMemory;
 use std::alloc::Global;
 
@@ -33,10 +34,10 @@ fn first_place(bytes: &[u8], byte: u8) -> Option<usize>
 }
 
 fn first_other(bytes: &[u8]) -> Option<usize>
-    ensures value { result ≡ position (λ b. not (goes_on b)) bytes.now }
+    ensures value { result ≡ position (λ b. not (is_name_character b)) bytes.now }
     ensures within { IfSome result (λ i. i < length bytes.now) }
 {
-    bytes.iter().position(|b| !goes_on(*b))
+    bytes.iter().position(|b| !is_name_character(*b))
 }
 
 /// The first place in a span where a byte stands.

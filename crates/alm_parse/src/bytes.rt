@@ -1,7 +1,9 @@
 //! Bytes by class.
 
 ghost use Rattle.std.specs.Prelude.{◌≡◌};
-ghost use Rattle.alm_parse.specs.Bytes.{is_blank, begins_symbol, goes_on, is_sign, is_octal_digit, is_character, is_legal};
+ghost use Rattle.alm_parse.specs.Bytes.{is_blank, begins_symbol, is_sign, is_octal_digit, is_character, is_legal};
+
+use m36_text::is_name_character;
 
 /// A blank or a tab.
 pub fn is_blank(byte: u8) -> bool
@@ -15,13 +17,6 @@ pub fn begins_symbol(byte: u8) -> bool
     ensures { result ≡ begins_symbol byte }
 {
     matches!(byte, b'A'..=b'Z' | b'a'..=b'z' | b'_')
-}
-
-/// What a symbol goes on with: a letter, a digit, `_` or `.`.
-pub fn goes_on(byte: u8) -> bool
-    ensures { result ≡ goes_on byte }
-{
-    matches!(byte, b'A'..=b'Z' | b'a'..=b'z' | b'_' | b'0'..=b'9' | b'.')
 }
 
 /// A sign: `+` or `-`.
@@ -51,7 +46,7 @@ pub fn is_legal(byte: u8) -> bool
     ensures { result ≡ is_legal byte }
 {
     is_blank(byte)
-        || goes_on(byte)
+        || is_name_character(byte)
         || matches!(
             byte,
             b'\n' | b'|' | b':' | b'+' | b'-' | b'*' | b'$' | b',' | b'"'

@@ -6,8 +6,8 @@ ghost use Rattle.alm_parse.specs.Tokens.{is_over, value_of};
 
 use crate::bytes::is_sign;
 use crate::expression::first_byte;
-use crate::tokens::{has_digits, has_no_leading_zero, is_over, read_small};
-use m36_text::{NumberFault, read_decimal, read_octal};
+use crate::tokens::{has_digits, is_over, read_small};
+use m36_text::{NumberFault, has_no_leading_zero, read_decimal, read_octal};
 use m36_word::Word;
 
 /// How a number is written.

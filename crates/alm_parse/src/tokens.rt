@@ -3,11 +3,11 @@
 ghost use Rattle.std.specs.Prelude.{ℕ, ◌≡◌, ◌≤◌, IfOk};
 ghost use Rattle.std.specs.List.{list_all};
 ghost use Rattle.m36_text.specs.Reading.{number_read};
-ghost use Rattle.alm_parse.specs.Bytes.{goes_on};
-ghost use Rattle.alm_parse.specs.Tokens.{is_symbol, has_digits, is_over, has_no_leading_zero, small_read, is_number};
+ghost use Rattle.m36_text.specs.Texts.{is_name_character};
+ghost use Rattle.alm_parse.specs.Tokens.{is_symbol, has_digits, is_over, small_read, is_number};
 
-use crate::bytes::{begins_symbol, goes_on};
-use m36_text::{NumberFault, read_decimal};
+use crate::bytes::begins_symbol;
+use m36_text::{NumberFault, has_no_leading_zero, is_name_character, read_decimal};
 
 /// The most characters of a symbol.
 const LONGEST_SYMBOL: usize = 32;
@@ -16,9 +16,9 @@ const LONGEST_SYMBOL: usize = 32;
 const MOST: u64 = 262_143;
 
 fn has_symbol_characters(bytes: &[u8]) -> bool
-    ensures { result ≡ list_all goes_on bytes.now }
+    ensures { result ≡ list_all is_name_character bytes.now }
 {
-    bytes.iter().all(|byte| goes_on(*byte))
+    bytes.iter().all(|byte| is_name_character(*byte))
 }
 
 /// Whether a text is a symbol: at most 32 letters, digits, `_` and `.`, of which the first is a letter or `_`.
@@ -52,17 +52,6 @@ pub fn is_over(read: Result<u64, NumberFault>) -> bool
     match read {
         Err(NumberFault::T2) => true,
         Ok(_) | Err(NumberFault::T1(_)) => false,
-    }
-}
-
-/// Whether a text has no leading zero, as a decimal number is written.
-pub fn has_no_leading_zero(bytes: &[u8]) -> bool
-    ensures { result ≡ has_no_leading_zero bytes.now }
-{
-    match bytes {
-        [first, _, ..] => *first != b'0',
-        [_] => true,
-        [] => true,
     }
 }
 

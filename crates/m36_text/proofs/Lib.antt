@@ -4,3 +4,5 @@ pub mod NumeralLaws
 pub mod PackingInverse
 pub mod PackingLaws
 pub mod ReadingLaws
+pub mod Splitting
+pub mod Telling

@@ -1,11 +1,11 @@
 -- Digits read one by one.
-use Rattle.std.proofs.Common.{ℕ, ◌≡◌, ◌+◌, ◌-◌, ◌*◌, ◌<◌, ◌≤◌, min, Bool, true, not, List, [], length, map, take, get_or, None, Some, leb, ltb, refl, sym, ◌∙◌, inl, inr, arith}
+use Rattle.std.proofs.Common.{ℕ, ◌≡◌, ◌+◌, ◌-◌, ◌*◌, ◌^◌, ◌<◌, ◌≤◌, min, Bool, true, not, List, [], length, map, take, get_or, None, Some, leb, ltb, refl, sym, ◌∙◌, inl, inr, arith}
 use Rattle.std.specs.List.{position_or_len}
 use Rattle.std.proofs.lemmas.Bool.{cases_lt, and_parts, leb-true, ltb-true, lt-ltb, not-false, cond-true}
 use Rattle.std.proofs.lemmas.Int.Digits.{number_more}
 use Rattle.std.proofs.lemmas.List.{length-map, take-map, get_or-map}
 use Rattle.std.proofs.lemmas.List.Sums.{fails_before_first}
-use Rattle.std.proofs.Math.Nat.{min-eq_left, le-mul_of_pos_right}
+use Rattle.std.proofs.Math.Nat.{min-eq_left, le-mul_of_pos_right, one-le-pow, pow-le-pow_right}
 use Rattle.m36_text.specs.Reading.{first_other, is_digit, number_of}
 
 some≢none : {n : ℕ} → Some n ≡ None → ⊥
@@ -44,3 +44,9 @@ all_digits base text k none within =
       | inl before ↦ is_within base (get_or text k 0) (not-false (is_digit base (get_or text k 0)) (fails_before_first other text k 0 before))
       | inr found ↦ absurd (some≢none (sym (cond-true (ltb (position_or_len other text) (length text)) (Some (position_or_len other text)) None (lt-ltb (position_or_len other text) (length text) (omega arith))) ∙ none))
     ]
+
+-- so many octal digits fit a number of 64 bits
+pub octal_fits : (places : ℕ) → places ≤ 21 → (1 ≤ 8 ^ places) × (8 ^ places < 2 ^ 64)
+octal_fits places few =
+    let most : 8 ^ places ≤ 8 ^ 21 = pow-le-pow_right {n = 8} (omega arith) {i = places} {j = 21} few in
+    (one-le-pow places 8 (omega arith), omega arith)

@@ -1,3 +1,6 @@
 pub mod Digits
 pub mod Packing
 pub mod Reading
+pub mod Texts
+pub mod Lines
+pub mod Numbers

@@ -1,21 +1,31 @@
-//! Texts of the simulator: numbers in octal and decimal, words packed into bytes, and short names.
+//! Texts of the simulator: numbers in octal and decimal, lines and words, words of core packed into bytes, and names.
 //!
 //! What is promised: a number is written in exactly the digits that its clause names, and a text is read as a number
-//! exactly where all its bytes are digits and the number is within the limit; packing and unpacking are inverse.
+//! exactly where all its bytes are digits and the number is within the limit; packing and unpacking are inverse; the
+//! lines of a text, the words of a line, and the texts that are names are exactly those of the definitions.
 //! Only `pack`, `unpack` and `Names` take memory.
+//!
+//! `specs/Lines.antt`, `specs/Numbers.antt` and `specs/Texts.antt` say what a line, a word, a number of a form and a name
+//! are, for every kind of file.
 //!
 //! Source: Multics Processor Manual AL39, "Number representation" (octal words of twelve digits); the packing of 36-bit
 //! words into bytes, most significant bit first, is this project's own.
 #![tactic(auto)]
 
+pub mod lines;
 pub mod naming;
+pub mod numbers;
 pub mod numerals;
 pub mod packing;
 pub mod reading;
 #[cfg(test)]
 mod tests;
+pub mod texts;
 
+pub use lines::{first_line, first_open_line, first_word, only_word, place_of};
 pub use naming::{Name, Names};
+pub use numbers::{decimal_in, has_no_leading_zero, octal_in, plain_decimal_in, short_decimal_in};
 pub use numerals::{decimal, octal};
 pub use packing::{PackFault, pack, packing_laws, unpack};
 pub use reading::{NumberFault, numeral_laws, read_decimal, read_octal};
+pub use texts::{is_file_name, is_name, is_name_character, is_text};

@@ -3,7 +3,7 @@ use Rattle.std.proofs.Common.{◌≡◌, ℕ, List, [], ◌∷◌, Option, Some,
 use Rattle.m36_word.specs.declared.pair.Pair.{Pair}
 use Rattle.m36_top.specs.declared.status.Code.{Code}
 use Rattle.m36_top.specs.declared.status.Code.TheVariants.{I1}
-use Rattle.m36_top.specs.Lines.{cut_line, words_of, line_at}
+use Rattle.m36_text.specs.Lines.{cut_line, words_of, line_at}
 use Rattle.m36_top.specs.BareImage.{core_words, dbr_words, start_words, header_codes, first_fault}
 
 cut_none : (text : List ℕ) → line_at (cut_line text) 1 ≡ None

@@ -11,7 +11,7 @@ use Rattle.m36_top.specs.declared.status.Code.{Code}
 use Rattle.m36_top.specs.declared.refusal.Refusal.{Refusal}
 use Rattle.m36_top.specs.declared.header.Header.{Header}
 use Rattle.m36_top.specs.PlacedWords.{PlacedWords}
-use Rattle.m36_top.specs.Lines.{lines_of, line_at}
+use Rattle.m36_text.specs.Lines.{lines_of, line_at}
 use Rattle.m36_top.specs.BareImage.{core_line, core_code, dbr_line, form_code, start_line, at_line, at_codes, frames_of, header_codes, line_codes, first_fault, image_in, image_by, image_of}
 use Rattle.m36_top.specs.ImageState.{written_all, regs_of, state_of, state_by, state_given}
 use Rattle.m36_top.specs.HeaderFields.{IsHeader}

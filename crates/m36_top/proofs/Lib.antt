@@ -1,5 +1,4 @@
 pub mod RunLaws
-pub mod Splitting
 pub mod WordLaws
 pub mod AuditTexts
 pub mod AuditAnswers

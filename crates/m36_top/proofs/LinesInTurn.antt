@@ -9,9 +9,10 @@ use Rattle.m36_top.specs.declared.status.Code.{Code}
 use Rattle.m36_top.specs.declared.status.Code.TheVariants.{I3}
 use Rattle.m36_top.specs.declared.refusal.Refusal.{Refusal}
 use Rattle.m36_top.specs.PlacedWords.{PlacedWords}
-use Rattle.m36_top.specs.Words.{is_text}
-use Rattle.m36_top.specs.Lines.{words_of}
-use Rattle.m36_top.specs.BareImage.{octal_word, with_word, octal_words, one_to_eight, at_read, at_words, at_line, at_code, at_codes, addresses, numbers_from, first_fault}
+use Rattle.m36_text.specs.Texts.{is_text}
+use Rattle.m36_text.specs.Lines.{words_of}
+use Rattle.m36_text.specs.Numbers.{octal_in}
+use Rattle.m36_top.specs.BareImage.{with_word, octal_words, one_to_eight, at_read, at_words, at_line, at_code, at_codes, addresses, numbers_from, first_fault}
 use Rattle.m36_top.specs.InTurn.{at_end}
 
 -- The reading of `at` lines that remembers the address behind the last word alone.
@@ -44,7 +45,7 @@ chosen_some false o h = tt
 one_to_eight_some : (texts : List (List ℕ)) → HasWord (one_to_eight texts)
 one_to_eight_some [] = tt
 one_to_eight_some (text ∷ texts) =
-    chosen_some (nat_le (length texts) 7) (octal_words (text ∷ texts)) (with_word_some (octal_word 12 text) (octal_words texts))
+    chosen_some (nat_le (length texts) 7) (octal_words (text ∷ texts)) (with_word_some (octal_in 12 text) (octal_words texts))
 
 abbrev pub HasPlace : Option PlacedWords → Type 0
 HasPlace o = IfSome o (λ p. 0 < length p.words)
@@ -62,7 +63,7 @@ at_words_some : (words : List (List ℕ)) → HasPlace (at_words words)
 at_words_some [] = tt
 at_words_some (name ∷ []) = tt
 at_words_some (name ∷ address ∷ texts) =
-    named_some (is_text (codes "at") name) (at_read (octal_word 8 address) (one_to_eight texts)) (at_read_some (octal_word 8 address) (one_to_eight texts) (one_to_eight_some texts))
+    named_some (is_text (codes "at") name) (at_read (octal_in 8 address) (one_to_eight texts)) (at_read_some (octal_in 8 address) (one_to_eight texts) (one_to_eight_some texts))
 
 at_line_some : (line : Option (List ℕ)) → HasPlace (at_line line)
 at_line_some None = tt

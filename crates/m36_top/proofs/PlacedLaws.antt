@@ -3,7 +3,8 @@ use Rattle.std.proofs.Common.{◌≡◌, ℕ, ◌+◌, ◌<◌, ◌≤◌, Bool,
 use Rattle.std.proofs.Math.Dec.{leb}
 use Rattle.std.proofs.lemmas.List.{append-nil}
 use Rattle.std.proofs.lemmas.Bool.{le-leb, lt-leb}
-use Rattle.m36_top.specs.BareImage.{octal_word, with_word, octal_words, one_to_eight}
+use Rattle.m36_text.specs.Numbers.{octal_in}
+use Rattle.m36_top.specs.BareImage.{with_word, octal_words, one_to_eight}
 
 -- words that were read, before those that are
 abbrev pub behind : List ℕ → Option (List ℕ) → Option (List ℕ)
@@ -36,7 +37,7 @@ reading_starts all = record { count = omega arith; words = behind_nil (octal_wor
 -- one more word was read
 pub reading_more :
     (front : List ℕ) (left all : List (List ℕ)) (text : List ℕ) (texts : List (List ℕ)) (w : ℕ)
-    → Reading front left all → left ≡ text ∷ texts → octal_word 12 text ≡ Some w → Reading (front ++ w ∷ []) texts all
+    → Reading front left all → left ≡ text ∷ texts → octal_in 12 text ≡ Some w → Reading (front ++ w ∷ []) texts all
 reading_more front left all text texts w so_far begins read = record {
   count = omega (arith, so_far.count, ap length begins, length-append front (w ∷ []));
   words = sym (behind_more front w (octal_words texts)) ∙ ap (λ o. behind front (with_word o (octal_words texts))) (sym read) ∙ ap (λ t. behind front (octal_words t)) (sym begins) ∙ so_far.words;
@@ -54,7 +55,7 @@ none_behind front (Some words) = refl
 -- a word is not of its form
 pub reading_fails :
     (front : List ℕ) (left all : List (List ℕ)) (text : List ℕ) (texts : List (List ℕ))
-    → Reading front left all → left ≡ text ∷ texts → octal_word 12 text ≡ None → one_to_eight all ≡ None
+    → Reading front left all → left ≡ text ∷ texts → octal_in 12 text ≡ None → one_to_eight all ≡ None
 reading_fails front left all text texts so_far begins read =
     none_of all (sym so_far.words ∙ ap (λ t. behind front (octal_words t)) begins ∙ ap (λ o. behind front (with_word o (octal_words texts))) read ∙ none_behind front (octal_words texts))
 

@@ -4,7 +4,7 @@ use Rattle.std.specs.List.{filter_map, cons_option}
 use Rattle.m36_top.specs.declared.status.Code.{Code}
 use Rattle.m36_top.specs.declared.status.Code.TheVariants.{I1}
 use Rattle.m36_top.specs.PlacedWords.{PlacedWords}
-use Rattle.m36_top.specs.Lines.{words_of, cut_line}
+use Rattle.m36_text.specs.Lines.{words_of, cut_line}
 use Rattle.m36_top.specs.BareImage.{at_words, at_line, at_codes, first_fault}
 use Rattle.m36_top.specs.ImageState.{written_all}
 use Rattle.m36_top.specs.InTurn.{at_end, with_placed}

@@ -3,7 +3,7 @@ use Rattle.std.proofs.Common.{◌≡◌, ℕ, ◌-◌, ◌≤◌, List, [], ◌�
 use Rattle.std.proofs.lemmas.List.{take-append-drop}
 use Rattle.m36_outside.specs.Written.{Grew, GrewWithin}
 use Rattle.m36_outside.proofs.Completes.{Completes, completes_all, completes_rest, completes_cut, completes_none}
-use Rattle.m36_top.proofs.Splitting.{rest_whole}
+use Rattle.m36_text.proofs.Splitting.{rest_whole}
 
 -- at the beginning the whole text is left
 pub text_start : (text : List ℕ) (start : Option (List ℕ)) → Completes start start text text

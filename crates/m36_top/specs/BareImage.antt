@@ -9,10 +9,13 @@
 -- in this order; any number of `at` lines follows. I1 is a line not of its form, a missing line or a missing line feed.
 -- I2 is an N out of range. I3 is an `at` whose first address is not above every earlier address, or whose last address is
 -- outside core. The first line with a fault counts, and in it the least code.
-use Rattle.std.specs.Prelude.{ℕ, zero, suc, ◌+◌, ◌-◌, ◌*◌, ◌^◌, ◌&&◌, ◌==◌, nat_le, nat_lt, List, [], ◌∷◌, ◌++◌, length, drop, codes, Option, Some, None, Result, Ok, Err, unwrap_or, if◌then◌else◌}
+use Rattle.std.specs.Prelude.{ℕ, zero, suc, ◌+◌, ◌*◌, ◌&&◌, nat_le, nat_lt, List, [], ◌∷◌, ◌++◌, length, drop, codes, Option, Some, None, Result, Ok, Err, unwrap_or, if◌then◌else◌}
 use Rattle.std.specs.List.{list_all, filter_map}
-use Rattle.std.specs.Result.{result_ok, result_unwrap_or}
+use Rattle.std.specs.Result.{result_unwrap_or}
 use Rattle.m36_word.specs.declared.pair.Pair.{Pair}
+use Rattle.m36_text.specs.Texts.{is_text}
+use Rattle.m36_text.specs.Lines.{lines_of, line_at, words_of}
+use Rattle.m36_text.specs.Numbers.{octal_in}
 use Rattle.m36_text.specs.Reading.{number_read}
 use Rattle.m36_text.specs.declared.reading.NumberFault.{NumberFault}
 use Rattle.m36_text.specs.declared.reading.NumberFault.TheVariants.{T1, T2}
@@ -20,14 +23,7 @@ use Rattle.m36_model.specs.Fields.{PprFields}
 use Rattle.m36_top.specs.declared.status.Code.{Code}
 use Rattle.m36_top.specs.declared.status.Code.TheVariants.{I1, I2, I3}
 use Rattle.m36_top.specs.declared.refusal.Refusal.{Refusal}
-use Rattle.m36_top.specs.Words.{is_text}
 use Rattle.m36_top.specs.PlacedWords.{PlacedWords}
-use Rattle.m36_top.specs.Lines.{lines_of, line_at, words_of}
-
--- Numbers of exactly so many octal digits. A line whose form has one too few, too many or any other character is not of
--- the form: none stands for it.
-unfoldable pub octal_word : ℕ → List ℕ → Option ℕ
-octal_word places text = if length text == places then result_ok (number_read 8 text (8 ^ places - 1)) else None
 
 -- Line 1. Any count of decimal digits is of the form.
 abbrev pub frames_read : Result ℕ NumberFault → Result ℕ Code
@@ -50,7 +46,7 @@ dbr_read _ _ = None
 
 abbrev pub dbr_words : List (List ℕ) → Option Pair
 dbr_words (name ∷ even ∷ odd ∷ []) =
-    if is_text (codes "dbr") name then dbr_read (octal_word 12 even) (octal_word 12 odd) else None
+    if is_text (codes "dbr") name then dbr_read (octal_in 12 even) (octal_in 12 odd) else None
 dbr_words _ = None
 
 abbrev pub dbr_line : Option (List ℕ) → Option Pair
@@ -64,7 +60,7 @@ start_read _ _ _ = None
 
 abbrev pub start_words : List (List ℕ) → Option PprFields
 start_words (name ∷ seg ∷ ring ∷ word ∷ []) =
-    if is_text (codes "start") name then start_read (octal_word 5 seg) (octal_word 1 ring) (octal_word 6 word) else None
+    if is_text (codes "start") name then start_read (octal_in 5 seg) (octal_in 1 ring) (octal_in 6 word) else None
 start_words _ = None
 
 abbrev pub start_line : Option (List ℕ) → Option PprFields
@@ -78,7 +74,7 @@ with_word _ _ = None
 
 abbrev pub octal_words : List (List ℕ) → Option (List ℕ)
 octal_words [] = Some []
-octal_words (text ∷ texts) = with_word (octal_word 12 text) (octal_words texts)
+octal_words (text ∷ texts) = with_word (octal_in 12 text) (octal_words texts)
 
 abbrev pub at_read : Option ℕ → Option (List ℕ) → Option PlacedWords
 at_read (Some first) (Some words) = Some (record { first = first; words = words })
@@ -91,7 +87,7 @@ one_to_eight (text ∷ texts) = if nat_le (length texts) 7 then octal_words (tex
 
 abbrev pub at_words : List (List ℕ) → Option PlacedWords
 at_words (name ∷ address ∷ texts) =
-    if is_text (codes "at") name then at_read (octal_word 8 address) (one_to_eight texts) else None
+    if is_text (codes "at") name then at_read (octal_in 8 address) (one_to_eight texts) else None
 at_words _ = None
 
 abbrev pub at_line : Option (List ℕ) → Option PlacedWords

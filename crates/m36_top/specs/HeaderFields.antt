@@ -3,7 +3,7 @@ use Rattle.std.specs.Prelude.{ℕ, ◌≡◌, List, drop, Option, Some, Result, 
 use Rattle.std.specs.Borrow.{Bor}
 use Rattle.m36_top.specs.declared.refusal.Refusal.{Refusal}
 use Rattle.m36_top.specs.declared.header.Header.{Header}
-use Rattle.m36_top.specs.Lines.{lines_of, line_at}
+use Rattle.m36_text.specs.Lines.{lines_of, line_at}
 use Rattle.m36_top.specs.BareImage.{core_line, dbr_line, start_line, header_codes, first_fault}
 
 -- what a header and the text behind it tell of the lines of their file

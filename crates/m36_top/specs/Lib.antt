@@ -1,6 +1,5 @@
 pub mod Names
 pub mod Words
-pub mod Lines
 pub mod PlacedWords
 pub mod BareImage
 pub mod ImageState

@@ -11,12 +11,10 @@
 -- NAME.alm. N is
 -- one to eight decimal digits, at most 10,000,000; without it a run takes at most 100,000 steps. No other list of words
 -- is a command.
-use Rattle.std.specs.Prelude.{ℕ, Bool, true, false, not, ◌&&◌, ◌||◌, ◌==◌, nat_le, nat_eq, List, [], ◌∷◌, ◌++◌, length, take, drop, slice_index, codes, Option, Some, None, unwrap_or, if◌then◌else◌}
-use Rattle.std.specs.List.{list_all}
+use Rattle.std.specs.Prelude.{ℕ, Bool, true, false, not, ◌&&◌, nat_le, List, [], ◌∷◌, ◌++◌, length, take, drop, codes, Option, Some, None, unwrap_or, if◌then◌else◌}
 use Rattle.std.specs.Option.{is_none, option_map, option_and_then}
-use Rattle.std.specs.Result.{result_ok}
-use Rattle.std.specs.Cmp.Lexicographic.{pointwise}
-use Rattle.m36_text.specs.Reading.{number_read}
+use Rattle.m36_text.specs.Texts.{is_text, is_file_name}
+use Rattle.m36_text.specs.Numbers.{short_decimal_in}
 use Rattle.m36_top.specs.declared.words.Given.{Given}
 use Rattle.m36_top.specs.declared.words.Expects.{Expects}
 use Rattle.m36_top.specs.declared.words.Expects.TheVariants as expects
@@ -24,27 +22,13 @@ use Rattle.m36_top.specs.declared.command.Command.{Command}
 use Rattle.m36_top.specs.declared.command.Command.TheVariants.{OfImage, Print, Alm}
 use Rattle.m36_top.specs.declared.command.ImageCommand.TheVariants.{Bare, Audit}
 
--- whether a text is this one
-abbrev pub is_text : List ℕ → List ℕ → Bool
-is_text name text = pointwise nat_eq text name
-
--- A-Z a-z 0-9 _ .
-abbrev pub is_name_character : ℕ → Bool
-is_name_character c =
-    (nat_le 65 c && nat_le c 90) || (nat_le 97 c && nat_le c 122) || (nat_le 48 c && nat_le c 57) || (c == 95) || (c == 46)
-
--- a file is named by 1 to 32 such characters, of which the first is no point
-abbrev pub is_file_name : List ℕ → Bool
-is_file_name name =
-    nat_le 1 (length name) && nat_le (length name) 32 && not (slice_index name 0 == 46) && list_all is_name_character name
-
 -- operands: the files of all commands
 abbrev pub operand_of : List ℕ → Option (List ℕ)
 operand_of word = if is_file_name word then Some word else None
 
 -- N: one to eight digits
-unfoldable pub steps_of : List ℕ → Option ℕ
-steps_of text = if nat_le (length text) 8 then result_ok (number_read 10 text 10000000) else None
+abbrev pub steps_of : List ℕ → Option ℕ
+steps_of text = short_decimal_in 8 0 10000000 text
 
 -- what is given once at most, and is of its form
 abbrev pub given_once : {A : Type 0} → Option A → Option A → Option A

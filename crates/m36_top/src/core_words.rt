@@ -1,16 +1,16 @@
 //! The words of a bare image, written into core.
 
 ghost use Rattle.std.specs.Prelude.{ℕ, ◌≡◌, ◌+◌, ◌<◌, ◌≤◌, ◌^◌, length, OnOk};
-ghost use Rattle.m36_top.specs.Lines.{lines_of, words_of};
+ghost use Rattle.m36_text.specs.Lines.{lines_of, words_of};
 ghost use Rattle.m36_top.specs.BareImage.{at_words};
 ghost use Rattle.m36_top.specs.ImageState.{written_at};
 ghost use Rattle.m36_top.specs.InTurn.{at_end, with_placed, AtLinesSay};
 
 use crate::placed::at_line;
 use crate::refusal::Refusal;
-use crate::scan::first_line;
 use crate::status::Code;
 use m36_core::Core;
+use m36_text::first_line;
 use m36_word::Word;
 
 /// Writes words into core, from an address on.
@@ -45,7 +45,7 @@ pub fn put_line(core: &mut Core, next: u32, line: &[u8]) -> Result<u32, Code>
 }
 
 /// Writes the words of all `at` lines into core. The first of them is line 4.
-#[tactic(auto, using(crate::proofs::Placing::placing, crate::proofs::Splitting::lining))]
+#[tactic(auto, using(crate::proofs::Placing::placing, m36_text::proofs::Splitting::lining))]
 pub fn put_lines(core: &mut Core, text: &[u8]) -> Result<(), Refusal>
     requires { length text.now ≤ 2 ^ 31 }
     ensures { AtLinesSay result core.old core.new (lines_of text.now) }

@@ -1,36 +1,23 @@
 //! The lines of a bare image, each read by its form. A line is given without its line feed.
 
 ghost use Rattle.std.specs.Prelude.{ℕ, ◌≡◌, ◌-◌, ◌^◌, ◌≤◌, ◌<◌, IfSome, IfOk};
-ghost use Rattle.m36_top.specs.Lines.{words_of};
-ghost use Rattle.m36_top.specs.BareImage.{octal_word, core_words, frames_read, dbr_words, start_words};
+ghost use Rattle.m36_text.specs.Lines.{words_of};
+ghost use Rattle.m36_text.specs.Numbers.{octal_in};
+ghost use Rattle.m36_top.specs.BareImage.{core_words, frames_read, dbr_words, start_words};
 
-use crate::scan::{first_word, only_word};
 use crate::status::Code;
 use m36_model::Ppr;
-use m36_text::{NumberFault, read_decimal, read_octal};
+use m36_text::{NumberFault, first_word, octal_in, only_word, read_decimal};
 use m36_word::{Pair, Word};
 
 /// The most frames of core.
 const MOST_FRAMES: u64 = 16384;
 
-/// Exactly so many octal digits as a number; `max` is the greatest that they can write.
-#[tactic(auto, unfolding(crate::specs::BareImage::octal_word), using(crate::proofs::Numbers::read_within))]
-pub fn octal_word(text: &[u8], places: usize, max: u64) -> Option<u64>
-    requires { max ≡ 8 ^ places - 1 }
-    ensures value { result ≡ octal_word places text.now }
-    ensures bound { IfSome result (λ v. v ≤ max) }
-{
-    if text.len() != places {
-        return None;
-    }
-    read_octal(text, max).ok()
-}
-
 /// Twelve octal digits as a word.
 pub fn word_of(text: &[u8]) -> Option<Word>
-    ensures { result ≡ octal_word 12 text.now }
+    ensures { result ≡ octal_in 12 text.now }
 {
-    let value = octal_word(text, 12, 0o777777777777)?;
+    let value = octal_in(text, 12)?;
     Some(Word::low(value))
 }
 
@@ -92,9 +79,9 @@ pub fn start_line(line: &[u8]) -> Option<Ppr>
     if name != b"start".as_slice() {
         return None;
     }
-    let seg = octal_word(seg, 5, 0o77777)?;
-    let ring = octal_word(ring, 1, 0o7)?;
-    let word = octal_word(word, 6, 0o777777)?;
+    let seg = octal_in(seg, 5)?;
+    let ring = octal_in(ring, 1)?;
+    let word = octal_in(word, 6)?;
     Some(Ppr {
         ic: word as u32,
         psr: seg as u16,

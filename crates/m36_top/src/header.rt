@@ -1,14 +1,14 @@
 //! The first three lines of a bare image.
 
 ghost use Rattle.std.specs.Prelude.{ℕ, ◌≡◌, ◌≤◌, IfOk, length};
-ghost use Rattle.m36_top.specs.Lines.{lines_of};
+ghost use Rattle.m36_text.specs.Lines.{lines_of};
 ghost use Rattle.m36_top.specs.HeaderFields.{HeaderSays};
 
 use crate::forms::{core_line, dbr_line, start_line};
 use crate::refusal::Refusal;
-use crate::scan::first_line;
 use crate::status::Code;
 use m36_model::Ppr;
+use m36_text::first_line;
 use m36_word::Pair;
 
 /// What the first three lines say.

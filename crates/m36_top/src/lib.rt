@@ -42,7 +42,6 @@ mod print_tests;
 pub mod printing;
 pub mod refusal;
 mod running;
-mod scan;
 pub mod status;
 #[cfg(test)]
 mod tests;

@@ -3,8 +3,8 @@
 ghost use Rattle.std.specs.Prelude.{ℕ, ◌≤◌, ◌<◌, length};
 ghost use Rattle.m36_outside.specs.Put.{PutSays, PutHasCause};
 
-use crate::scan::place_of;
 use m36_outside::{Put, Sink};
+use m36_text::place_of;
 
 // How many bytes the first line of a text has, with its line feed; all bytes where there is no line feed.
 fn line_length(text: &[u8]) -> usize

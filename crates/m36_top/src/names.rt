@@ -1,40 +1,10 @@
 //! Names of files.
 
 ghost use Rattle.std.specs.Prelude.{ℕ, ◌≡◌, ◌≤◌, ◌++◌, length, codes, Some};
-ghost use Rattle.std.specs.List.{list_all};
-ghost use Rattle.m36_top.specs.Words.{is_name_character, is_file_name, operand_of};
+ghost use Rattle.m36_top.specs.Words.{operand_of};
 
 use arrayvec::ArrayVec;
-use m36_text::Name;
-
-/// The most characters of a file's name.
-const LONGEST_NAME: usize = 32;
-
-/// The characters of a file's name: letters, digits, `_` and `.`.
-pub fn is_name_character(c: u8) -> bool
-    ensures { result ≡ is_name_character c }
-{
-    matches!(c, b'A'..=b'Z' | b'a'..=b'z' | b'0'..=b'9' | b'_' | b'.')
-}
-
-fn has_name_characters(name: &[u8]) -> bool
-    ensures { result ≡ list_all is_name_character name.now }
-{
-    name.iter().all(|c| is_name_character(*c))
-}
-
-/// Whether a text names a file: 1 to 32 characters, of which the first is no point.
-pub fn is_file_name(name: &[u8]) -> bool
-    ensures { result ≡ is_file_name name.now }
-{
-    if name.is_empty() || name.len() > LONGEST_NAME {
-        return false;
-    }
-    if name[0] == b'.' {
-        return false;
-    }
-    has_name_characters(name)
-}
+use m36_text::{Name, is_file_name};
 
 /// The file that an operand names; none where it names none.
 pub fn operand_of(word: &[u8]) -> Option<Name>

@@ -2,12 +2,12 @@
 
 ghost use Rattle.std.specs.Prelude.{ℕ, ◌≡◌, ◌<◌, ◌≤◌, ◌^◌};
 ghost use Rattle.std.specs.Option.{option_map};
-ghost use Rattle.m36_top.specs.Lines.{words_of};
+ghost use Rattle.m36_text.specs.Lines.{words_of};
 ghost use Rattle.m36_top.specs.BareImage.{one_to_eight, at_words};
 
-use crate::forms::{octal_word, word_of};
-use crate::scan::first_word;
+use crate::forms::word_of;
 use arrayvec::ArrayVec;
+use m36_text::{first_word, octal_in};
 use m36_word::Word;
 use std::marker::Model;
 
@@ -58,7 +58,7 @@ pub fn at_line(line: &[u8]) -> Option<Placed>
     if name != b"at".as_slice() {
         return None;
     }
-    let first = octal_word(address, 8, 0o77777777)?;
+    let first = octal_in(address, 8)?;
     Some(Placed {
         words,
         first: first as u32,

@@ -6,7 +6,7 @@ ghost use Rattle.m36_top.specs.Words.{steps_of, with_operand, with_steps, with_u
 use crate::command::{AlmFiles, BareRun, Command, ImageCommand};
 use crate::names::{operand_of, source_of};
 use m36_outside::Text;
-use m36_text::{Name, read_decimal};
+use m36_text::{Name, short_decimal_in};
 
 /// The most digits of a number of steps.
 const MOST_DIGITS: usize = 8;
@@ -44,18 +44,12 @@ pub struct Given {
 }
 
 /// The value of `--steps`; none where it is not of its form.
-#[tactic(auto, unfolding(crate::specs::Words::steps_of))]
 pub fn steps_of(text: &[u8]) -> Option<u32>
     ensures value { result ≡ steps_of text.now }
     ensures most { IfSome result (λ n. n ≤ 10000000) }
 {
-    if text.len() > MOST_DIGITS {
-        return None;
-    }
-    match read_decimal(text, MOST_STEPS) {
-        Ok(steps) => Some(steps as u32),
-        Err(_) => None,
-    }
+    let steps = short_decimal_in(text, MOST_DIGITS, 0, MOST_STEPS)?;
+    Some(steps as u32)
 }
 
 fn nothing() -> Given
@@ -120,7 +114,7 @@ fn is_steps_with_value(word: &[u8]) -> bool
 }
 
 // What stands behind `--steps=`.
-#[tactic(auto, using(crate::proofs::Splitting::rest_whole))]
+#[tactic(auto, using(m36_text::proofs::Splitting::rest_whole))]
 fn value_of_steps(word: &[u8]) -> &[u8]
     requires { 8 ≤ length word.now }
     ensures { result.now ≡ drop 8 word.now }

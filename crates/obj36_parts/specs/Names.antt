@@ -1,20 +1,8 @@
 -- Names in a definition section: each stands there once, in order of first use.
-use Rattle.std.specs.Prelude.{ℕ, zero, suc, ◌+◌, ◌*◌, ◌/◌, ◌^◌, Bool, true, ◌&&◌, ◌||◌, not, nat_eq, nat_le, if◌then◌else◌, List, [], ◌∷◌, ◌++◌, length, slice_index}
-use Rattle.std.specs.List.{list_any, list_all, flat_map}
-use Rattle.std.specs.Cmp.Lexicographic.{pointwise}
-
--- whether two names are the same
-abbrev pub same : List ℕ → List ℕ → Bool
-same a b = pointwise nat_eq a b
-
--- ---- which texts are names
-
--- a letter, a digit, _ or a full stop
-abbrev pub is_name_character : ℕ → Bool
-is_name_character c = (nat_le 65 c && nat_le c 90) || (nat_le 97 c && nat_le c 122) || (nat_le 48 c && nat_le c 57) || nat_eq c 95 || nat_eq c 46
-
-unfoldable pub is_name : List ℕ → Bool
-is_name name = nat_le 1 (length name) && nat_le (length name) 32 && list_all is_name_character name
+use Rattle.std.specs.Prelude.{ℕ, zero, suc, ◌+◌, ◌*◌, ◌/◌, ◌^◌, if◌then◌else◌, List, [], ◌∷◌, ◌++◌, length, slice_index}
+use Rattle.std.specs.List.{list_any}
+pub use Rattle.m36_text.specs.Texts.{are_same as same, is_name_character}
+unfoldable pub use Rattle.m36_text.specs.Texts.{is_name}
 
 -- ---- which names stand, and where
 

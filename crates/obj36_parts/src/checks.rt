@@ -30,7 +30,7 @@ fn are_name_bytes(text: &[u8]) -> bool
     text.iter().all(|byte| is_name_byte(*byte as u64))
 }
 
-#[tactic(auto, unfolding(crate::specs::Names::is_name))]
+#[tactic(auto, unfolding(m36_text::specs::Texts::is_name))]
 fn is_good_name(name: &Name) -> bool
     ensures { result ≡ is_name name.now }
 {

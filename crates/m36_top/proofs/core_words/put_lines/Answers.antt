@@ -1,8 +1,8 @@
 -- A line has a code, or none has and nothing is left.
 use Rattle.std.proofs.Common.{◌≡◌, [], sym}
 use Rattle.std.proofs.lemmas.Bool.{eqb-true}
-use Rattle.m36_top.specs.Lines.{lines_of}
-use Rattle.m36_top.proofs.Splitting.{lines_of_none}
+use Rattle.m36_text.specs.Lines.{lines_of}
+use Rattle.m36_text.proofs.Splitting.{lines_of_none}
 use Rattle.m36_top.proofs.Placing.{placing_code, placing_fine, placing_done}
 use Rattle.m36_top.proofs.core_words.put_lines.Goals as goal
 

@@ -1,5 +1,5 @@
 use Rattle.std.proofs.Common.{◌+◌, ◌≤◌, length}
-use Rattle.m36_top.specs.Lines.{lines_of}
+use Rattle.m36_text.specs.Lines.{lines_of}
 use Rattle.m36_top.proofs.Placing.{Placing}
 use Rattle.m36_top.proofs.core_words.put_lines.Given as goal
 

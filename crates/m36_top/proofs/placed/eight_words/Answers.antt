@@ -1,6 +1,6 @@
 -- Eight words were read, and there is one more.
 use Rattle.std.proofs.Common.{sym, arith}
-use Rattle.m36_top.proofs.Splitting.{words_some}
+use Rattle.m36_text.proofs.Splitting.{words_some}
 use Rattle.m36_top.proofs.PlacedLaws.{reading_many}
 use Rattle.m36_top.proofs.placed.eight_words.Goals as goal
 

@@ -1,5 +1,5 @@
 use Rattle.std.proofs.Common.{◌≡◌, length}
-use Rattle.m36_top.specs.Lines.{words_of}
+use Rattle.m36_text.specs.Lines.{words_of}
 use Rattle.m36_top.proofs.PlacedLaws.{Reading}
 use Rattle.m36_top.proofs.placed.eight_words.Given as goal
 

@@ -2,9 +2,9 @@
 
 ghost use Rattle.std.specs.Prelude.{ℕ, ◌≡◌, ◌==◌, List, [], ◌∷◌, Option, None, Some, MatchOption, IfSome, length, ◌<◌};
 ghost use Rattle.std.specs.List.{position, slice_split};
-ghost use Rattle.m36_top.specs.Lines.{lines_of, cut_line, words_of, HasMore};
+ghost use Rattle.m36_text.specs.Lines.{lines_of, open_lines_of, cut_line, words_of, HasMore};
 
-/// The first place of a byte in a text.
+/// The first place of a byte in a text, counted from 0.
 pub fn place_of(text: &[u8], byte: u8) -> Option<usize>
     ensures place { result ≡ position (λ b. b == byte) text.now }
     ensures within { IfSome result (λ i. i < length text.now) }
@@ -12,9 +12,9 @@ pub fn place_of(text: &[u8], byte: u8) -> Option<usize>
     text.iter().position(|b| *b == byte)
 }
 
-/// A text up to a byte, and what stands behind it; none where the byte does not stand in the text.
+// A text up to a byte, and what stands behind it; none where the byte does not stand in the text.
 #[tactic(auto, using(crate::proofs::Splitting::splitting))]
-pub fn split_first(text: &[u8], byte: u8) -> Option<(&[u8], &[u8])>
+fn split_first(text: &[u8], byte: u8) -> Option<(&[u8], &[u8])>
     ensures parts { MatchOption result (slice_split (λ b. b == byte) text.now ≡ text.now ∷ []) (λ parts. slice_split (λ b. b == byte) text.now ≡ parts.0.now ∷ slice_split (λ b. b == byte) parts.1.now) }
     ensures shorter { IfSome result (λ parts. length parts.1.now < length text.now) }
 {
@@ -31,6 +31,22 @@ pub fn first_line(text: &[u8]) -> Option<(&[u8], &[u8])>
     ensures shorter { IfSome result (λ parts. length parts.1.now < length text.now) }
 {
     split_first(text, b'\n')
+}
+
+/// The first line of a text whose last line may lack its line feed, and what stands behind it; none where the text is
+/// empty.
+#[tactic(auto, using(crate::proofs::Splitting::open_lining))]
+pub fn first_open_line(text: &[u8]) -> Option<(&[u8], &[u8])>
+    ensures line { MatchOption result (open_lines_of text.now ≡ []) (λ parts. open_lines_of text.now ≡ parts.0.now ∷ open_lines_of parts.1.now) }
+    ensures shorter { IfSome result (λ parts. length parts.1.now < length text.now) }
+{
+    if text.is_empty() {
+        return None;
+    }
+    match split_first(text, b'\n') {
+        Some((line, rest)) => Some((line, rest)),
+        None => Some((text, &text[text.len()..])),
+    }
 }
 
 /// The first word of a line, and what stands behind the space after it.

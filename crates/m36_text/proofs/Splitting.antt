@@ -7,7 +7,7 @@ use Rattle.std.proofs.lemmas.List.Splits.{slice_split_first, slice_split_none, l
 use Rattle.std.proofs.lemmas.List.Sums.{fails_before_first}
 use Rattle.std.proofs.Math.Seq.{take-length}
 use Rattle.std.proofs.Math.Dec.{ltb}
-use Rattle.m36_top.specs.Lines.{cut_line, ended, lines_of, words_of, HasMore}
+use Rattle.m36_text.specs.Lines.{cut_line, ended, lines_of, open_rest, open_ended, open_lines_of, words_of, HasMore}
 
 -- a slice to its end is what is dropped before it
 pub rest_whole : (xs : List ℕ) (i : ℕ) → take (length xs - i) (drop i xs) ≡ drop i xs
@@ -54,6 +54,40 @@ unfolding lines_of
 lines_cut text e = ap ended e
 
 pub ruleset lining = (lines_first, lines_cut)
+
+open_line : (line : List ℕ) (parts : List (List ℕ)) → 0 < length parts → open_ended (line ∷ parts) ≡ line ∷ open_ended parts
+open_line line [] some = absurd (omega arith)
+open_line line (next ∷ parts) some = refl
+
+-- a text that begins with a line, where the last line may lack its line feed
+pub open_lines_first :
+    (text line rest : List ℕ)
+    → slice_split (λ b. b == 10) text ≡ line ∷ slice_split (λ b. b == 10) rest
+    → open_lines_of text ≡ line ∷ open_lines_of rest
+unfolding open_lines_of
+open_lines_first text line rest e =
+    ap open_ended e ∙ open_line line (slice_split (λ b. b == 10) rest) (omega (arith, length-slice_split (λ b. b == 10) rest))
+
+-- an empty text has no line
+pub open_lines_none : (text : List ℕ) → length text ≡ 0 → open_lines_of text ≡ []
+unfolding open_lines_of
+open_lines_none [] e = refl
+open_lines_none (b ∷ text) e = absurd (omega (arith, e))
+
+open_rest_some : (text : List ℕ) → 0 < length text → open_rest text ≡ text ∷ []
+open_rest_some [] some = absurd (omega arith)
+open_rest_some (b ∷ rest) some = refl
+
+-- a text without a line feed is one line
+pub open_lines_last :
+    (text rest : List ℕ)
+    → slice_split (λ b. b == 10) text ≡ text ∷ [] → 0 < length text → length rest ≡ 0
+    → open_lines_of text ≡ text ∷ open_lines_of rest
+unfolding open_lines_of
+open_lines_last text rest e some none =
+    ap open_ended e ∙ open_rest_some text some ∙ ap (λ l. text ∷ l) (sym (open_lines_none rest none))
+
+pub ruleset open_lining = (open_lines_first, open_lines_none, open_lines_last)
 
 parts_some : (parts : List (List ℕ)) (line word : List ℕ) (words : List (List ℕ)) → 0 < length parts → words ≡ word ∷ parts → HasMore words
 parts_some [] line word words some e = absurd (omega arith)

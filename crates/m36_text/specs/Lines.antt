@@ -1,0 +1,56 @@
+-- The lines of a text, the words of a line, and the first line of which something is told.
+use Rattle.std.specs.Prelude.{ℕ, ◌≡◌, ◌+◌, ◌-◌, ◌==◌, Bool, if◌then◌else◌, List, [], ◌∷◌, Option, Some, None, slice_get, unwrap_or}
+use Rattle.std.specs.List.{slice_split}
+
+-- A line ends with its line feed. What stands behind the last line feed is a line too, if it is anything, but one
+-- without its line feed: none stands for it, since it is of no form.
+abbrev pub cut_line : List ℕ → List (Option (List ℕ))
+cut_line [] = []
+cut_line (b ∷ rest) = None ∷ []
+
+abbrev pub ended : List (List ℕ) → List (Option (List ℕ))
+ended [] = []
+ended (rest ∷ []) = cut_line rest
+ended (line ∷ next ∷ parts) = Some line ∷ ended (next ∷ parts)
+
+unfoldable pub lines_of : List ℕ → List (Option (List ℕ))
+lines_of text = ended (slice_split (λ b. b == 10) text)
+
+-- line n, counted from 1; none where it is missing or lacks its line feed
+abbrev pub line_at : List (Option (List ℕ)) → ℕ → Option (List ℕ)
+line_at lines n = unwrap_or (slice_get lines (n - 1)) None
+
+-- The lines of a text whose last one may lack its line feed.
+abbrev pub open_rest : List ℕ → List (List ℕ)
+open_rest [] = []
+open_rest (b ∷ rest) = (b ∷ rest) ∷ []
+
+abbrev pub open_ended : List (List ℕ) → List (List ℕ)
+open_ended [] = []
+open_ended (rest ∷ []) = open_rest rest
+open_ended (line ∷ next ∷ parts) = line ∷ open_ended (next ∷ parts)
+
+unfoldable pub open_lines_of : List ℕ → List (List ℕ)
+open_lines_of text = open_ended (slice_split (λ b. b == 10) text)
+
+-- The words of a line are parted by single spaces.
+unfoldable pub words_of : List ℕ → List (List ℕ)
+words_of line = slice_split (λ b. b == 32) line
+
+-- A line has two words at least.
+pub record HasMore (words : List (List ℕ)) : Type 0 where
+  pub first : List ℕ
+  pub second : List ℕ
+  pub others : List (List ℕ)
+  pub are : words ≡ first ∷ second ∷ others
+
+-- The first line of which something is told, with its number, where the first of these is line n.
+unfoldable pub first_told : {A : Type 0} → ℕ → List (Option A) → Option (ℕ × A)
+first_told n [] = None
+first_told n (Some told ∷ lines) = Some (n, told)
+first_told n (None ∷ lines) = first_told (n + 1) lines
+
+-- The least of what is told of one line: the first test that is met.
+unfoldable pub first_met : {A : Type 0} → List (Bool × A) → Option A
+first_met [] = None
+first_met (test ∷ tests) = if test.0 then Some test.1 else first_met tests

@@ -1,0 +1,34 @@
+-- Texts that are the same, and names.
+use Rattle.std.specs.Prelude.{ℕ, Bool, not, ◌&&◌, ◌||◌, ◌==◌, nat_le, nat_eq, List, length, slice_index}
+use Rattle.std.specs.List.{list_all}
+use Rattle.std.specs.Cmp.Lexicographic.{pointwise}
+
+-- whether two texts are the same
+abbrev pub are_same : List ℕ → List ℕ → Bool
+are_same text other = pointwise nat_eq text other
+
+-- whether a text is this one
+abbrev pub is_text : List ℕ → List ℕ → Bool
+is_text name text = are_same text name
+
+abbrev pub is_letter : ℕ → Bool
+is_letter c = (nat_le 65 c && nat_le c 90) || (nat_le 97 c && nat_le c 122)
+
+abbrev pub is_decimal_digit : ℕ → Bool
+is_decimal_digit c = nat_le 48 c && nat_le c 57
+
+-- A-Z a-z 0-9 _ .
+abbrev pub is_name_character : ℕ → Bool
+is_name_character c = is_letter c || is_decimal_digit c || (c == 95) || (c == 46)
+
+-- so many such characters, one at least
+abbrev pub is_run_of : (ℕ → Bool) → ℕ → List ℕ → Bool
+is_run_of may most text = nat_le 1 (length text) && nat_le (length text) most && list_all may text
+
+-- a name has 1 to 32 of them
+unfoldable pub is_name : List ℕ → Bool
+is_name text = is_run_of is_name_character 32 text
+
+-- and that of a file or a segment does not begin with a point
+unfoldable pub is_file_name : List ℕ → Bool
+is_file_name text = is_name text && not (slice_index text 0 == 46)

@@ -1,0 +1,49 @@
+//! Texts that are the same, and names.
+
+ghost use Rattle.std.specs.Prelude.{ℕ, ◌≡◌, ◌≤◌, true, length};
+ghost use Rattle.std.specs.List.{list_all};
+ghost use Rattle.m36_text.specs.Texts.{is_text, is_name_character, is_name, is_file_name};
+
+/// The most characters of a name.
+const LONGEST_NAME: usize = 32;
+
+/// Whether a text is this one.
+pub fn is_text(name: &[u8], text: &[u8]) -> bool
+    ensures { result ≡ is_text name.now text.now }
+{
+    text == name
+}
+
+/// The characters of a name: letters, digits, `_` and `.`.
+pub fn is_name_character(byte: u8) -> bool
+    ensures { result ≡ is_name_character byte }
+{
+    matches!(byte, b'A'..=b'Z' | b'a'..=b'z' | b'0'..=b'9' | b'_' | b'.')
+}
+
+fn has_name_characters(text: &[u8]) -> bool
+    ensures { result ≡ list_all is_name_character text.now }
+{
+    text.iter().all(|byte| is_name_character(*byte))
+}
+
+/// Whether a text is a name: 1 to 32 letters, digits, `_` and `.`.
+#[tactic(auto, unfolding(crate::specs::Texts::is_name))]
+pub fn is_name(text: &[u8]) -> bool
+    ensures value { result ≡ is_name text.now }
+    ensures fits { result ≡ true → length text.now ≤ 32 }
+{
+    if text.is_empty() || text.len() > LONGEST_NAME {
+        return false;
+    }
+    has_name_characters(text)
+}
+
+/// Whether a text names a file or a segment: a name that does not begin with `.`.
+#[tactic(auto, unfolding(crate::specs::Texts::is_file_name))]
+pub fn is_file_name(text: &[u8]) -> bool
+    ensures value { result ≡ is_file_name text.now }
+    ensures fits { result ≡ true → length text.now ≤ 32 }
+{
+    is_name(text) && !text.starts_with(b".")
+}
