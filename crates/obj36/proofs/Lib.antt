@@ -6,3 +6,6 @@ pub mod TableReading
 pub mod TablesStand
 pub mod FaultLoops
 pub mod ReaderLaws
+pub mod SpelledNames
+pub mod RepeatLoops
+pub mod ObjectLaws

@@ -58,7 +58,7 @@ fn parts_of_last(d: &[Word], at: u64) -> u64
     parts_kept(word_at(d, at + length / 4), length % 4)
 }
 
-fn spelling(d: &[Word], at: u64) -> Spelling<'_>
+fn spelled_at(d: &[Word], at: u64) -> Spelling<'_>
     requires at { at < 2 ^ 18 }
     ensures whole { result.whole.now ≡ whole_words d.now at }
     ensures length { result.length ≡ unit_at d.now at 0 }
@@ -97,7 +97,7 @@ fn note<'a>(
     if !is_within(d, place) {
         return Ok(None);
     }
-    let spelled = spelling(d, place);
+    let spelled = spelled_at(d, place);
     let here = lesser(place, places.get(&spelled).copied());
     places.insert(spelled, here.unwrap_or(place))?;
     Ok(here)
