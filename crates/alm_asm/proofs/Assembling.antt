@@ -24,22 +24,9 @@ use Rattle.alm_asm.proofs.PlaceLaws.{places_count, grows_to_end}
 use Rattle.alm_asm.proofs.Placed.{stands, evened_stands, evened_behind, evened_length, end_outer, unbound, bound_is}
 use Rattle.alm_asm.proofs.LinksApart.{links_apart}
 use Rattle.alm_asm.proofs.LinksStanding.{link_stands}
-use Rattle.alm_asm.proofs.SectionsStand.{section_stands}
+use Rattle.alm_asm.proofs.SectionsStand.{section_stands, end_follows}
+use Rattle.alm_asm.proofs.TooLong.{static_holds, fixed}
 use Rattle.alm_asm.proofs.SymbolsMean.{labels_mean, own_mean}
-
-static_holds : (newer : Bool) → holds_words (static_section newer) ≡ true
-static_holds true = refl
-static_holds false = refl
-
-end_follows : (text : List ℕ) (spot : Spot) (above lines : List Line36) → end_of text spot (above ++ lines) ≡ end_of text (end_of text spot above) lines
-unfolding end_of
-end_follows text spot [] lines = refl
-end_follows text spot (line ∷ above) lines = end_follows text (below text spot line) above lines
-
--- the text of an object is short
-fixed : (b : Bool) → 18 ≤ cond b 19 18
-fixed true = omega arith
-fixed false = omega arith
 
 short : (p : PartsFields) → is_well_formed p ≡ true → length p.text < 2 ^ 18
 short p formed =

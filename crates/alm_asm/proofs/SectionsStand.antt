@@ -144,7 +144,7 @@ other_kind : (inner outer : Bool) → (inner && outer) ≡ false → inner ≡ t
 other_kind true outer e i = e
 other_kind false outer e i = absurd (true≢false (sym i))
 
-end_follows : (text : List ℕ) (spot : Spot) (above lines : List Line36) → end_of text spot (above ++ lines) ≡ end_of text (end_of text spot above) lines
+pub end_follows : (text : List ℕ) (spot : Spot) (above lines : List Line36) → end_of text spot (above ++ lines) ≡ end_of text (end_of text spot above) lines
 unfolding end_of
 end_follows text spot [] lines = refl
 end_follows text spot (line ∷ above) lines = end_follows text (below text spot line) above lines

@@ -131,11 +131,12 @@ static_room : (newer : Bool) (text statics : List ℕ) (definitions : List Named
 static_room true text statics definitions links marks bound = refl
 static_room false text statics definitions links marks bound = refl
 
-static_holds : (newer : Bool) → holds_words (static_section newer) ≡ true
+pub static_holds : (newer : Bool) → holds_words (static_section newer) ≡ true
 static_holds true = refl
 static_holds false = refl
 
-fixed : (newer : Bool) → 18 ≤ cond (eqb (version_of newer) 2) 19 18
+-- how many words an object has besides its sections' own
+pub fixed : (b : Bool) → 18 ≤ cond b 19 18
 fixed true = omega arith
 fixed false = omega arith
 
@@ -202,7 +203,7 @@ module _ (text : List ℕ) (tables : Tables) (lines : List Line36) (uses : (end_
   are_good size =
       let least = leb-true (length (words_of parts)) (2 ^ 18) size in
       let sum = length-words_of parts in
-      let head = fixed newer in
+      let head = fixed (eqb (version_of newer) 2) in
       let good = relocations_good (omega arith) (omega arith) in
       let in_text : count_in Text (end_of text start lines) ≡ length words = places_count text tables Text lines refl in
       let low = bound_good text tables 0 start lines (omega arith) in

@@ -61,7 +61,9 @@ words_of_args words (arg ∷ more) = words_of_args (words ++ words_of_arg arg) m
 -- the section of a `use` line
 abbrev pub section_named : List ℕ → Section
 section_named name =
-    if is_text (codes "link") name then Linkage else (if is_text (codes "static") name then Static else Text)
+    if is_text (codes "link") name
+    then Linkage
+    else (if is_text (codes "static") name then Static else Text)
 
 abbrev pub section_in : List ℕ → Option Span → Section
 section_in text (Some span) = section_named (slice_of text span)

@@ -29,7 +29,8 @@ term_sum text symbols spot term =
 -- the terms, added to a sum
 unfoldable pub added : List ℕ → List (List ℕ × Sum) → Spot → Sum → List Term → Sum
 added text symbols spot sum [] = sum
-added text symbols spot sum (term ∷ terms) = added text symbols spot (sum_plus sum (term_sum text symbols spot term)) terms
+added text symbols spot sum (term ∷ terms) =
+    added text symbols spot (sum_plus sum (term_sum text symbols spot term)) terms
 
 abbrev pub sum_of : List ℕ → List (List ℕ × Sum) → Spot → List Term → Sum
 sum_of text symbols spot terms = added text symbols spot no_sum terms
@@ -44,10 +45,12 @@ is_symbol_atom Symbol = true
 is_symbol_atom Here = false
 
 unfoldable pub is_undefined : List ℕ → List (List ℕ × Sum) → Term → Bool
-is_undefined text symbols term = if is_symbol_atom term.what then not (is_defined text symbols term.span) else false
+is_undefined text symbols term =
+    if is_symbol_atom term.what then not (is_defined text symbols term.span) else false
 
 unfoldable pub place_undefined : List ℕ → List (List ℕ × Sum) → List Term → Option ℕ
-place_undefined text symbols terms = option_map (λ term. term.span.from) (find (is_undefined text symbols) terms)
+place_undefined text symbols terms =
+    option_map (λ term. term.span.from) (find (is_undefined text symbols) terms)
 
 -- where an expression begins: a minus may stand before its first term
 abbrev pub expression_place : List Term → ℕ

@@ -1,4 +1,5 @@
--- The symbols that lines define, and what is refused of their definitions and of the lengths of sections.
+-- The symbols that lines define, and what is refused of their definitions and of the lengths of
+-- sections.
 use Rattle.std.specs.Prelude.{ℕ, false, is_some, List, [], ◌∷◌, Option, Some, None, if◌then◌else◌}
 use Rattle.alm_parse.specs.declared.span.Span.{Span}
 use Rattle.alm_parse.specs.declared.args.Arg.{Arg}
@@ -22,17 +23,22 @@ use Rattle.alm_asm.specs.declared.refusal.Room.TheVariants.{Half}
 -- a symbol that is defined a second time
 unfoldable pub again : List ℕ → Line36 → List (List ℕ × Sum) → Span → Option Refusal
 again text line symbols span =
-    if is_some (sum_named (name_at text span) symbols) then Some (refusal_at line span.from E5) else None
+    if is_some (sum_named (name_at text span) symbols)
+    then Some (refusal_at line span.from E5)
+    else None
 
 -- the symbols with the labels of a line, each of which comes to this
 unfoldable pub with_labels : List ℕ → Sum → List (List ℕ × Sum) → List Span → List (List ℕ × Sum)
 with_labels text sum symbols [] = symbols
-with_labels text sum symbols (span ∷ spans) = with_labels text sum (with_symbol symbols (name_at text span) sum) spans
+with_labels text sum symbols (span ∷ spans) =
+    with_labels text sum (with_symbol symbols (name_at text span) sum) spans
 
-unfoldable pub labels_refused : List ℕ → Line36 → Sum → List (List ℕ × Sum) → Option Refusal → List Span → Option Refusal
+unfoldable pub labels_refused : List ℕ → Line36 → Sum → List (List ℕ × Sum) → Option Refusal
+    → List Span → Option Refusal
 labels_refused text line sum symbols first [] = first
 labels_refused text line sum symbols first (span ∷ spans) =
-    labels_refused text line sum (with_symbol symbols (name_at text span) sum) (sooner first (again text line symbols span)) spans
+    labels_refused text line sum (with_symbol symbols (name_at text span) sum)
+    (sooner first (again text line symbols span)) spans
 
 -- ---- `equ` and `bss`
 
@@ -53,7 +59,8 @@ own_symbol deed.Bound arguments = None
 -- an `equ` is refused unless it comes to a number by the symbols above
 abbrev pub value_refusal : List ℕ → List (List ℕ × Sum) → Spot → Line36 → Option Refusal
 value_refusal text symbols spot line =
-    expression_refusal text symbols spot line (terms_in (second_arg line.args)) (expression_place (terms_in (second_arg line.args))) Half false
+    expression_refusal text symbols spot line (terms_in (second_arg line.args))
+    (expression_place (terms_in (second_arg line.args))) Half false
 
 abbrev pub own_refusal : List ℕ → List (List ℕ × Sum) → Spot → Line36 → Deed → Option Refusal
 own_refusal text symbols spot line deed.Nothing = None
@@ -68,15 +75,23 @@ own_refusal text symbols spot line deed.Block = None
 own_refusal text symbols spot line deed.Even = None
 own_refusal text symbols spot line deed.Bound = None
 
--- what the symbol comes to: the number of an `equ`, of which nothing is known where that is refused, and else the place
+-- what the symbol comes to: the number of an `equ`, of which nothing is known where that is
+-- refused, and else the place
 abbrev pub value_by : Option Refusal → Sum → Sum
 value_by None sum =
-    record { value = settled sum.value; text = nothing; inner = nothing; outer = nothing; unknown = sum.unknown }
+    record {
+      value = settled sum.value;
+      text = nothing;
+      inner = nothing;
+      outer = nothing;
+      unknown = sum.unknown;
+    }
 value_by (Some refusal) sum = unknown_sum
 
 unfoldable pub value_of : List ℕ → List (List ℕ × Sum) → Spot → Line36 → Sum
 value_of text symbols spot line =
-    value_by (value_refusal text symbols spot line) (sum_of text symbols spot (terms_in (second_arg line.args)))
+    value_by (value_refusal text symbols spot line)
+    (sum_of text symbols spot (terms_in (second_arg line.args)))
 
 abbrev pub own_sum : List ℕ → List (List ℕ × Sum) → Spot → Line36 → Deed → Sum
 own_sum text symbols spot line deed.Nothing = here spot
@@ -100,13 +115,15 @@ own_again text line symbols None = None
 own_again text line symbols (Some span) = again text line symbols span
 
 -- the symbols with that of an operation, and what is refused of it
-unfoldable pub symbols_with : List ℕ → List (List ℕ × Sum) → Spot → Line36 → Deed → List (List ℕ × Sum)
+unfoldable pub symbols_with : List ℕ → List (List ℕ × Sum) → Spot → Line36 → Deed
+    → List (List ℕ × Sum)
 symbols_with text symbols spot line deed =
     with_own text symbols (own_symbol deed line.args) (own_sum text symbols spot line deed)
 
 unfoldable pub refused_with : List ℕ → List (List ℕ × Sum) → Spot → Line36 → Deed → Option Refusal
 refused_with text symbols spot line deed =
-    sooner (own_again text line symbols (own_symbol deed line.args)) (own_refusal text symbols spot line deed)
+    sooner (own_again text line symbols (own_symbol deed line.args))
+    (own_refusal text symbols spot line deed)
 
 -- ---- a line
 
@@ -121,20 +138,27 @@ unfoldable pub symbols_after : List ℕ → List (List ℕ × Sum) → Spot → 
 symbols_after text symbols spot line =
     symbols_with text (labelled text symbols spot line) spot line line.deed
 
-unfoldable pub refused_after : List ℕ → Option Refusal → List (List ℕ × Sum) → Spot → Line36 → Option Refusal
+unfoldable pub refused_after : List ℕ → Option Refusal → List (List ℕ × Sum) → Spot → Line36
+    → Option Refusal
 refused_after text first symbols spot line =
-    sooner (sooner (labels_refused text line (here spot) symbols first line.labels) (refused_with text (labelled text symbols spot line) spot line line.deed)) (over line (below text spot line))
+    sooner
+    (sooner (labels_refused text line (here spot) symbols first line.labels)
+    (refused_with text (labelled text symbols spot line) spot line line.deed))
+    (over line (below text spot line))
 
 -- ---- the lines
 
 -- the symbols of the lines, behind those so far
-unfoldable pub symbols_from : List ℕ → List (List ℕ × Sum) → Spot → List Line36 → List (List ℕ × Sum)
+unfoldable pub symbols_from : List ℕ → List (List ℕ × Sum) → Spot → List Line36
+    → List (List ℕ × Sum)
 symbols_from text symbols spot [] = symbols
 symbols_from text symbols spot (line ∷ lines) =
     symbols_from text (symbols_after text symbols spot line) (below text spot line) lines
 
 -- the first refusal of a symbol's definition or of a section's length
-unfoldable pub layout_refusal : List ℕ → Option Refusal → List (List ℕ × Sum) → Spot → List Line36 → Option Refusal
+unfoldable pub layout_refusal : List ℕ → Option Refusal → List (List ℕ × Sum) → Spot → List Line36
+    → Option Refusal
 layout_refusal text first symbols spot [] = first
 layout_refusal text first symbols spot (line ∷ lines) =
-    layout_refusal text (refused_after text first symbols spot line) (symbols_after text symbols spot line) (below text spot line) lines
+    layout_refusal text (refused_after text first symbols spot line)
+    (symbols_after text symbols spot line) (below text spot line) lines

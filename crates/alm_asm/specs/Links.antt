@@ -49,7 +49,8 @@ abbrev pub entry_name : List ℕ → Option Span → List ℕ
 entry_name text (Some span) = name_at text span
 entry_name text None = []
 
-unfoldable pub link_of : List ℕ → List (List ℕ × Sum) → Spot → Span → Option Span → List Term → ℕ → LinkFields
+unfoldable pub link_of : List ℕ → List (List ℕ × Sum) → Spot → Span → Option Span → List Term → ℕ
+    → LinkFields
 link_of text symbols spot segment entry terms tag =
     record {
       kind = link_kind (own_section (slice_of text segment)) entry;
@@ -76,8 +77,10 @@ operand_args deed.Block arguments = []
 operand_args deed.Even arguments = []
 operand_args deed.Bound arguments = []
 
-abbrev pub link_by : List ℕ → List (List ℕ × Sum) → Spot → Option Span → Option Span → List Term → ℕ → Option LinkFields
-link_by text symbols spot (Some segment) entry terms tag = Some (link_of text symbols spot segment entry terms tag)
+abbrev pub link_by : List ℕ → List (List ℕ × Sum) → Spot → Option Span → Option Span → List Term → ℕ
+    → Option LinkFields
+link_by text symbols spot (Some segment) entry terms tag =
+    Some (link_of text symbols spot segment entry terms tag)
 link_by text symbols spot None entry terms tag = None
 
 abbrev pub link_in : List ℕ → List (List ℕ × Sum) → Spot → Option Arg → Option LinkFields
@@ -85,7 +88,8 @@ link_in text symbols spot (Some (arg.Symbol span)) = None
 link_in text symbols spot (Some (arg.Number word)) = None
 link_in text symbols spot (Some (arg.Chars words)) = None
 link_in text symbols spot (Some (arg.Plain terms)) = None
-link_in text symbols spot (Some (arg.Operand pr segment entry terms tag)) = link_by text symbols spot segment entry terms tag
+link_in text symbols spot (Some (arg.Operand pr segment entry terms tag)) =
+    link_by text symbols spot segment entry terms tag
 link_in text symbols spot None = None
 
 -- the links with one at the end, where it is not among them
@@ -93,12 +97,14 @@ abbrev pub with_link : List LinkFields → Option LinkFields → List LinkFields
 with_link links None = links
 with_link links (Some link) = if list_any (same_link link) links then links else links ++ link ∷ []
 
-unfoldable pub links_after : List ℕ → List (List ℕ × Sum) → List LinkFields → Spot → Line36 → List LinkFields
+unfoldable pub links_after : List ℕ → List (List ℕ × Sum) → List LinkFields → Spot → Line36
+    → List LinkFields
 links_after text symbols links spot line =
     with_link links (link_in text symbols spot (first_arg (operand_args line.deed line.args)))
 
 -- the links of the lines, behind those so far
-unfoldable pub links_from : List ℕ → List (List ℕ × Sum) → List LinkFields → Spot → List Line36 → List LinkFields
+unfoldable pub links_from : List ℕ → List (List ℕ × Sum) → List LinkFields → Spot → List Line36
+    → List LinkFields
 links_from text symbols links spot [] = links
 links_from text symbols links spot (line ∷ lines) =
     links_from text symbols (links_after text symbols links spot line) (below text spot line) lines

@@ -23,9 +23,12 @@ code_number E6 = 6
 code_number E7 = 7
 code_number E8 = 8
 
--- whether a refusal comes before another: earlier in the text, or at the same place with a lesser code
+-- whether a refusal comes before another: earlier in the text, or at the same place with a lesser
+-- code
 unfoldable pub precedes : Refusal → Refusal → Bool
-precedes a b = nat_lt a.place b.place || (nat_eq a.place b.place && nat_lt (code_number a.code) (code_number b.code))
+precedes a b =
+    nat_lt a.place b.place
+    || (nat_eq a.place b.place && nat_lt (code_number a.code) (code_number b.code))
 
 -- the first of two refusals, if there are any
 abbrev pub sooner : Option Refusal → Option Refusal → Option Refusal
@@ -70,18 +73,21 @@ refusal_by line (Some at) place said = Some (refusal_at line at E6)
 refusal_by line None place true = None
 refusal_by line None place false = Some (refusal_at line place E7)
 
--- An expression that begins at a place is refused for its first symbol that is not defined, or else for what it comes to,
--- unless it stands on an `equ` that is refused.
-unfoldable pub expression_refusal : List ℕ → List (List ℕ × Sum) → Spot → Line36 → List Term → ℕ → Room → Bool → Option Refusal
+-- An expression that begins at a place is refused for its first symbol that is not defined, or else
+-- for what it comes to, unless it stands on an `equ` that is refused.
+unfoldable pub expression_refusal : List ℕ → List (List ℕ × Sum) → Spot → Line36 → List Term → ℕ
+    → Room → Bool → Option Refusal
 expression_refusal text symbols spot line terms place room may_move =
     let sum = sum_of text symbols spot terms in
-    refusal_by line (place_undefined text symbols terms) place (sum.unknown || is_said room may_move sum)
+    refusal_by line (place_undefined text symbols terms) place
+    (sum.unknown || is_said room may_move sum)
 
 -- Whether nothing of an expression is refused, nor an `equ` that it stands on.
 unfoldable pub has_value : List ℕ → List (List ℕ × Sum) → Spot → List Term → Room → Bool → Bool
 has_value text symbols spot terms room may_move =
     let sum = sum_of text symbols spot terms in
-    not (is_some (place_undefined text symbols terms)) && not sum.unknown && is_said room may_move sum
+    not (is_some (place_undefined text symbols terms)) && not sum.unknown
+    && is_said room may_move sum
 
 -- ---- lengths
 

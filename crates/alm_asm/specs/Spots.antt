@@ -1,4 +1,5 @@
--- Where a line is: the section that it belongs to, and how many words the lines above it place in each section.
+-- Where a line is: the section that it belongs to, and how many words the lines above it place in
+-- each section.
 use Rattle.std.specs.Prelude.{ℕ, ◌+◌, ◌%◌, true, false, List, [], ◌∷◌, length}
 use Rattle.obj36_parts.specs.declared.section.Section.{Section}
 use Rattle.obj36_parts.specs.declared.section.Section.TheVariants.{Text, Linkage, Symbol, Static}
@@ -12,7 +13,15 @@ use Rattle.alm_parse.specs.declared.deed.Deed.TheVariants as deed
 use Rattle.alm_asm.specs.declared.spot.Spot.{Spot}
 
 abbrev pub start : Spot
-start = record { text = 0; inner = 0; outer = 0; section = Text; uses_inner = false; uses_outer = false }
+start =
+    record {
+      text = 0;
+      inner = 0;
+      outer = 0;
+      section = Text;
+      uses_inner = false;
+      uses_outer = false;
+    }
 
 -- how many words the lines above place in a section
 abbrev pub count_in : Section → Spot → ℕ
@@ -37,12 +46,30 @@ place spot = place_in spot.section spot
 -- what a label there comes to
 abbrev pub here_in : Section → Spot → Sum
 here_in Text spot =
-    record { value = balance spot.text 0; text = balance 1 0; inner = nothing; outer = nothing; unknown = false }
+    record {
+      value = balance spot.text 0;
+      text = balance 1 0;
+      inner = nothing;
+      outer = nothing;
+      unknown = false;
+    }
 here_in Linkage spot =
-    record { value = balance (spot.inner + 8) 0; text = nothing; inner = balance 1 0; outer = nothing; unknown = false }
+    record {
+      value = balance (spot.inner + 8) 0;
+      text = nothing;
+      inner = balance 1 0;
+      outer = nothing;
+      unknown = false;
+    }
 here_in Symbol spot = no_sum
 here_in Static spot =
-    record { value = balance spot.outer 0; text = nothing; inner = nothing; outer = balance 1 0; unknown = false }
+    record {
+      value = balance spot.outer 0;
+      text = nothing;
+      inner = nothing;
+      outer = balance 1 0;
+      unknown = false;
+    }
 
 abbrev pub here : Spot → Sum
 here spot = here_in spot.section spot
@@ -80,7 +107,8 @@ size_of deed.Bound arguments at = 0
 
 -- where the line below is
 abbrev pub moved_by : List ℕ → Deed → List Arg → Spot → Spot
-moved_by text deed.Use arguments spot = entered spot (section_in text (symbol_in (first_arg arguments)))
+moved_by text deed.Use arguments spot =
+    entered spot (section_in text (symbol_in (first_arg arguments)))
 moved_by text deed.Nothing arguments spot = spot
 moved_by text (deed.Instruction code bit27) arguments spot = grown spot 1
 moved_by text deed.Entry arguments spot = spot

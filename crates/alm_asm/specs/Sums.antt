@@ -45,7 +45,13 @@ settled b = record { up = b.up - b.down; down = b.down - b.up }
 
 abbrev pub absolute : ℕ → Sum
 absolute n =
-    record { value = balance n 0; text = nothing; inner = nothing; outer = nothing; unknown = false }
+    record {
+      value = balance n 0;
+      text = nothing;
+      inner = nothing;
+      outer = nothing;
+      unknown = false;
+    }
 
 abbrev pub no_sum : Sum
 no_sum = absolute 0

@@ -10,4 +10,5 @@ sum_named name symbols = lookup (same_name name) symbols
 
 -- the symbols with one at the end, where it is not among them
 unfoldable pub with_symbol : List (List ℕ × Sum) → List ℕ → Sum → List (List ℕ × Sum)
-with_symbol symbols name sum = if is_some (sum_named name symbols) then symbols else symbols ++ (name, sum) ∷ []
+with_symbol symbols name sum =
+    if is_some (sum_named name symbols) then symbols else symbols ++ (name, sum) ∷ []

@@ -47,7 +47,8 @@ struct Found {
 #[tactic(auto, unfolding(crate::specs::Assembly::tables_of))]
 fn found_in(alloc: Global, text: &[u8], lines: &[Line36]) -> Result<Found, NoMemory>
     ensures tables { IfOk result (λ found. found.tables ≡ tables_of text.now lines.now) }
-    ensures refused { IfOk result (λ found. found.refused ≡ layout_refusal text.now None [] start lines.now) }
+    ensures refused { IfOk result (λ found.
+        found.refused ≡ layout_refusal text.now None [] start lines.now) }
 {
     let layout = layout_of(alloc, text, lines)?;
     let links = links_of(alloc, text, &layout.symbols, lines)?;
@@ -135,7 +136,10 @@ fn statics_of(
     tables: &Tables,
     lines: &[Line36],
 ) -> Result<Words, NoMemory>
-    ensures { IfOk result (λ words. words ≡ evened tables.now.uses_outer (words_from text.now tables.now (static_section tables.now.uses_outer) [] start lines.now)) }
+    ensures { IfOk result (λ words.
+        words
+        ≡ evened tables.now.uses_outer
+        (words_from text.now tables.now (static_section tables.now.uses_outer) [] start lines.now)) }
 {
     let section = static_section(tables.uses_outer);
     let mut words = words_in(alloc, text, tables, section, lines)?;
@@ -149,7 +153,10 @@ fn relocations_of(
     tables: &Tables,
     lines: &[Line36],
 ) -> Result<Relocs, NoMemory>
-    ensures { IfOk result (λ marks. marks ≡ marks_from text.now tables.now.symbols (static_section tables.now.uses_outer) (marks_from text.now tables.now.symbols Text [] start lines.now) start lines.now) }
+    ensures { IfOk result (λ marks.
+        marks
+        ≡ marks_from text.now tables.now.symbols (static_section tables.now.uses_outer)
+        (marks_from text.now tables.now.symbols Text [] start lines.now) start lines.now) }
 {
     let mut marks = Relocs::new(alloc);
     let section = static_section(tables.uses_outer);

@@ -77,9 +77,7 @@ pub fn gives_entries(deed: Deed) -> Option<bool>
 fn is_taken(done: &Defs, name: &Name) -> bool
     ensures { result ≡ is_taken done.now name.now }
 {
-    done.items()
-        .iter()
-        .any(|definition| is_named(definition, name.bytes()))
+    done.has(name)
 }
 
 fn is_label_kind(is_entry: bool, kind: Kind) -> bool
@@ -159,8 +157,10 @@ fn push_names(
     refused: Option<Refusal>,
     done: &mut Defs,
 ) -> Result<Option<Refusal>, NoMemory>
-    ensures definitions { OnOk result (done.new ≡ with_names text.now symbols.now is_entry done.old line.now.args) }
-    ensures refused { IfOk result (λ r. r ≡ names_refused text.now symbols.now line.now is_entry done.old refused line.now.args) }
+    ensures definitions { OnOk result
+        (done.new ≡ with_names text.now symbols.now is_entry done.old line.now.args) }
+    ensures refused { IfOk result (λ r.
+        r ≡ names_refused text.now symbols.now line.now is_entry done.old refused line.now.args) }
 {
     let mut first = refused;
     let mut rest = line.args.items();
@@ -182,8 +182,12 @@ pub fn push_definitions(
     refused: Option<Refusal>,
     done: &mut Defs,
 ) -> Result<Option<Refusal>, NoMemory>
-    ensures definitions { OnOk result (done.new ≡ definitions_after text.now symbols.now done.old line.now) }
-    ensures refused { IfOk result (λ r. r ≡ definitions_refused text.now symbols.now line.now done.old refused line.now.args (gives_entries line.now.deed)) }
+    ensures definitions { OnOk result
+        (done.new ≡ definitions_after text.now symbols.now done.old line.now) }
+    ensures refused { IfOk result (λ r.
+        r
+        ≡ definitions_refused text.now symbols.now line.now done.old refused line.now.args
+        (gives_entries line.now.deed)) }
 {
     match gives_entries(line.deed) {
         None => Ok(refused),

@@ -137,7 +137,8 @@ fn take_arg(
     growth: &mut Growth,
     arg: &Arg,
 ) -> Result<(), NoMemory>
-    ensures { OnOk result (growth.new ≡ with_arg text.now symbols.now line.now is_entry growth.old arg.now) }
+    ensures { OnOk result
+        (growth.new ≡ with_arg text.now symbols.now line.now is_entry growth.old arg.now) }
 {
     match arg {
         Arg::Symbol(span) => {
@@ -159,7 +160,8 @@ fn take_args(
     is_entry: bool,
     growth: &mut Growth,
 ) -> Result<(), NoMemory>
-    ensures { OnOk result (growth.new ≡ with_args text.now symbols.now line.now is_entry growth.old line.now.args) }
+    ensures { OnOk result
+        (growth.new ≡ with_args text.now symbols.now line.now is_entry growth.old line.now.args) }
 {
     let mut rest = line.args.items();
     while let [arg, more @ ..] = rest {
@@ -175,7 +177,9 @@ fn take_definitions(
     line: &Line36,
     growth: &mut Growth,
 ) -> Result<(), NoMemory>
-    ensures { OnOk result (growth.new ≡ with_definitions text.now symbols.now line.now growth.old (gives_entries line.now.deed)) }
+    ensures { OnOk result
+        (growth.new
+        ≡ with_definitions text.now symbols.now line.now growth.old (gives_entries line.now.deed)) }
 {
     match gives_entries(line.deed) {
         None => Ok(()),
@@ -193,7 +197,9 @@ fn take_external(
     terms: &[Term],
     tag: u8,
 ) -> Result<(), NoMemory>
-    ensures { OnOk result (growth.new ≡ with_operand text.now symbols.now spot growth.old (Option.Some segment) entry terms.now tag) }
+    ensures { OnOk result
+        (growth.new
+        ≡ with_operand text.now symbols.now spot growth.old (Option.Some segment) entry terms.now tag) }
 {
     if !has_value(text, symbols, spot, terms, Room::Half, false)? {
         return Ok(());
@@ -209,7 +215,10 @@ fn take_link(
     line: &Line36,
     growth: &mut Growth,
 ) -> Result<(), NoMemory>
-    ensures { OnOk result (growth.new ≡ with_link text.now symbols.now spot growth.old (first_arg (operand_args line.now.deed line.now.args))) }
+    ensures { OnOk result
+        (growth.new
+        ≡ with_link text.now symbols.now spot growth.old
+        (first_arg (operand_args line.now.deed line.now.args))) }
 {
     match operand_args(line.deed, line.args.items()) {
         [
@@ -258,7 +267,8 @@ fn is_own(segment: Option<Span>) -> bool
 }
 
 fn operand_count(text: &[u8], symbols: &Symbols, spot: Spot, args: &[Arg]) -> Result<u64, NoMemory>
-    ensures value { IfOk result (λ n. n ≡ operand_count text.now symbols.now spot (first_arg args.now)) }
+    ensures value { IfOk result (λ n.
+        n ≡ operand_count text.now symbols.now spot (first_arg args.now)) }
     ensures bound { IfOk result (λ n. n ≤ 1) }
 {
     match args {
@@ -292,7 +302,8 @@ fn half_count(text: &[u8], symbols: &Symbols, spot: Spot, terms: &[Term]) -> Res
 }
 
 fn marks_count(text: &[u8], symbols: &Symbols, spot: Spot, line: &Line36) -> Result<u64, NoMemory>
-    ensures value { IfOk result (λ n. n ≡ marks_count text.now symbols.now spot line.now.args line.now.deed) }
+    ensures value { IfOk result (λ n.
+        n ≡ marks_count text.now symbols.now spot line.now.args line.now.deed) }
     ensures bound { IfOk result (λ n. n ≤ 2) }
 {
     let args = line.args.items();

@@ -44,8 +44,10 @@ fn define_labels(
     sum: Sum,
     refused: Option<Refusal>,
 ) -> Result<Option<Refusal>, NoMemory>
-    ensures symbols { OnOk result (symbols.new ≡ with_labels text.now sum symbols.old line.now.labels) }
-    ensures refused { IfOk result (λ r. r ≡ labels_refused text.now line.now sum symbols.old refused line.now.labels) }
+    ensures symbols { OnOk result
+        (symbols.new ≡ with_labels text.now sum symbols.old line.now.labels) }
+    ensures refused { IfOk result (λ r.
+        r ≡ labels_refused text.now line.now sum symbols.old refused line.now.labels) }
 {
     let mut first = refused;
     let mut rest = line.labels.items();
@@ -236,7 +238,8 @@ fn take_line(
     refused: Option<Refusal>,
 ) -> Result<Option<Refusal>, NoMemory>
     ensures symbols { OnOk result (symbols.new ≡ symbols_after text.now symbols.old spot line.now) }
-    ensures refused { IfOk result (λ r. r ≡ refused_after text.now refused symbols.old spot line.now) }
+    ensures refused { IfOk result (λ r.
+        r ≡ refused_after text.now refused symbols.old spot line.now) }
 {
     let deed = line.deed;
     let after = below(alloc, text, spot, line)?;
@@ -256,8 +259,10 @@ pub struct Layout {
 /// Lays out lines: their symbols, and what is refused of them.
 #[tactic(auto, unfolding(crate::specs::Layout::symbols_from, crate::specs::Layout::layout_refusal))]
 pub fn layout_of(alloc: Global, text: &[u8], lines: &[Line36]) -> Result<Layout, NoMemory>
-    ensures symbols { IfOk result (λ layout. layout.symbols ≡ symbols_from text.now [] start lines.now) }
-    ensures refused { IfOk result (λ layout. layout.refused ≡ layout_refusal text.now None [] start lines.now) }
+    ensures symbols { IfOk result (λ layout.
+        layout.symbols ≡ symbols_from text.now [] start lines.now) }
+    ensures refused { IfOk result (λ layout.
+        layout.refused ≡ layout_refusal text.now None [] start lines.now) }
 {
     let mut symbols = Symbols::new(alloc);
     let mut refused = None;

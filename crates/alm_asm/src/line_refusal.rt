@@ -70,7 +70,8 @@ fn is_in_reach(
     terms: &[Term],
     tag: u8,
 ) -> Result<bool, NoMemory>
-    ensures { IfOk result (λ b. b ≡ is_in_reach text.now tables.now spot segment entry terms.now tag) }
+    ensures { IfOk result (λ b.
+        b ≡ is_in_reach text.now tables.now spot segment entry terms.now tag) }
 {
     let link = link_of(text, &tables.symbols, spot, segment, entry, terms, tag)?;
     let place = link_place(&tables.links, tables.first_link, &link)?;
@@ -96,7 +97,8 @@ fn link_expression_refusal(
     entry: Option<Span>,
     terms: &[Term],
 ) -> Result<Option<Refusal>, NoMemory>
-    ensures { IfOk result (λ r. r ≡ link_expression text.now symbols.now spot line.now segment entry terms.now) }
+    ensures { IfOk result (λ r.
+        r ≡ link_expression text.now symbols.now spot line.now segment entry terms.now) }
 {
     let wanted = Wanted {
         place: external_place(segment, entry),
@@ -134,7 +136,8 @@ fn external_refusal(
     terms: &[Term],
     tag: u8,
 ) -> Result<Option<Refusal>, NoMemory>
-    ensures { IfOk result (λ r. r ≡ external_refusal text.now tables.now spot line.now segment entry terms.now tag) }
+    ensures { IfOk result (λ r.
+        r ≡ external_refusal text.now tables.now spot line.now segment entry terms.now tag) }
 {
     let at = refusal_at(line, segment.from as u64, Code::E7);
     let expression = link_expression_refusal(
@@ -175,7 +178,8 @@ fn operand_refusal(
     spot: Spot,
     line: &Line36,
 ) -> Result<Option<Refusal>, NoMemory>
-    ensures { IfOk result (λ r. r ≡ operand_refusal text.now tables.now spot line.now (first_arg line.now.args)) }
+    ensures { IfOk result (λ r.
+        r ≡ operand_refusal text.now tables.now spot line.now (first_arg line.now.args)) }
 {
     match line.args.items() {
         [
@@ -284,8 +288,10 @@ fn take_line(
     line: &Line36,
     done: &mut Defs,
 ) -> Result<Option<Refusal>, NoMemory>
-    ensures definitions { OnOk result (done.new ≡ definitions_after text.now tables.now.symbols done.old line.now) }
-    ensures refused { IfOk result (λ r. r ≡ line_refusal text.now tables.now done.old spot line.now) }
+    ensures definitions { OnOk result
+        (done.new ≡ definitions_after text.now tables.now.symbols done.old line.now) }
+    ensures refused { IfOk result (λ r.
+        r ≡ line_refusal text.now tables.now done.old spot line.now) }
 {
     let names = push_definitions(text, &tables.symbols, line, None, done)?;
     let own = refusal_of_deed(text, tables, spot, line, line.deed)?;

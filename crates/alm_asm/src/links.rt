@@ -95,7 +95,8 @@ pub fn link_of(
     terms: &[Term],
     tag: u8,
 ) -> Result<Link, NoMemory>
-    ensures { IfOk result (λ link. link ≡ link_of text.now symbols.now spot segment entry terms.now tag) }
+    ensures { IfOk result (λ link.
+        link ≡ link_of text.now symbols.now spot segment entry terms.now tag) }
 {
     let own = own_section(text, segment);
     let sum = sum_of(text, symbols, spot, terms)?;

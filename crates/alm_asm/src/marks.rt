@@ -59,7 +59,8 @@ fn push_operand(
     args: &[Arg],
     marks: &mut Relocs,
 ) -> Result<(), NoMemory>
-    ensures { OnOk result (marks.new ≡ marks.old ++ operand_mark text.now symbols.now spot (first_arg args.now)) }
+    ensures { OnOk result
+        (marks.new ≡ marks.old ++ operand_mark text.now symbols.now spot (first_arg args.now)) }
 {
     match args {
         [
@@ -87,7 +88,8 @@ fn push_halves(
     args: &[Arg],
     marks: &mut Relocs,
 ) -> Result<(), NoMemory>
-    ensures { OnOk result (marks.new ≡ marks_by text.now symbols.now spot marks.old args.now deed.Zero) }
+    ensures { OnOk result
+        (marks.new ≡ marks_by text.now symbols.now spot marks.old args.now deed.Zero) }
 {
     let left = sum_of(text, symbols, spot, first_terms(args))?;
     let right = sum_of(text, symbols, spot, second_terms(args))?;
@@ -129,7 +131,8 @@ fn take_line(
     line: &Line36,
     marks: &mut Relocs,
 ) -> Result<(), NoMemory>
-    ensures { OnOk result (marks.new ≡ marks_after text.now symbols.now section marks.old spot line.now) }
+    ensures { OnOk result
+        (marks.new ≡ marks_after text.now symbols.now section marks.old spot line.now) }
 {
     if !same_section(spot.section, section) {
         return Ok(());
@@ -148,7 +151,8 @@ pub fn push_marks_in(
     lines: &[Line36],
     marks: &mut Relocs,
 ) -> Result<(), NoMemory>
-    ensures { OnOk result (marks.new ≡ marks_from text.now symbols.now section marks.old start lines.now) }
+    ensures { OnOk result
+        (marks.new ≡ marks_from text.now symbols.now section marks.old start lines.now) }
 {
     let mut spot = Spot::start();
     let mut rest = lines;

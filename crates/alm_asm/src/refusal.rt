@@ -172,7 +172,10 @@ pub fn expression_refusal(
     terms: &[Term],
     wanted: Wanted,
 ) -> Result<Option<Refusal>, NoMemory>
-    ensures { IfOk result (λ r. r ≡ expression_refusal text.now symbols.now spot line.now terms.now wanted.place wanted.room wanted.may_move) }
+    ensures { IfOk result (λ r.
+        r
+        ≡ expression_refusal text.now symbols.now spot line.now terms.now wanted.place wanted.room
+        wanted.may_move) }
 {
     let sum = sum_of(text, symbols, spot, terms)?;
     let said = sum.unknown || is_said(wanted.room, wanted.may_move, sum);

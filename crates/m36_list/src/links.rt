@@ -24,7 +24,8 @@ fn own_section(section: Section) -> &'static str
 
 // What a link's reference begins with: a segment, or a section of the object itself.
 fn subject(link: &Link) -> &[u8]
-    ensures { result.now ≡ (if has_name link.now.kind then link.now.name else own_section link.now.section) }
+    ensures { result.now
+        ≡ (if has_name link.now.kind then link.now.name else own_section link.now.section) }
 {
     if link.kind == 3 || link.kind == 4 {
         link.name.bytes()

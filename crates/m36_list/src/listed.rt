@@ -80,7 +80,10 @@ fn put_section_words(
     words: &[Word],
 ) -> Result<(), NoMemory>
     requires { first + length words.now ≤ 2 ^ 18 }
-    ensures { OnOk result (out.new ≡ out.old ++ section_words name.now section source.now.text first words.now start source.now.lines) }
+    ensures { OnOk result
+        (out.new
+        ≡ out.old
+        ++ section_words name.now section source.now.text first words.now start source.now.lines) }
 {
     let text = source.text();
     let mut spot = Spot::start();
