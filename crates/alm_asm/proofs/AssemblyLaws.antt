@@ -8,9 +8,9 @@ use Rattle.obj36_parts.specs.PartsFields.{PartsFields}
 use Rattle.obj36_parts.specs.ObjectSegment.{is_well_formed}
 use Rattle.obj36_parts.specs.Sizes.{HasShortLists}
 use Rattle.obj36_parts.proofs.LengthLaws.{short_lists}
-use Rattle.alm_asm.specs.Refusals.{fault_of}
+use Rattle.alm_lines.specs.Refusals.{fault_of}
 use Rattle.alm_asm.specs.Assembly.{refusal_of, assembled_by, assembled}
-use Rattle.alm_asm.specs.declared.refusal.Refusal.{Refusal}
+use Rattle.alm_lines.specs.declared.refusal.Refusal.{Refusal}
 
 -- a fault is told where the definition gives it
 pub refuses : (f : AlmFault) (definition : Result PartsFields AlmFault) → definition ≡ Err f → Refuses f definition

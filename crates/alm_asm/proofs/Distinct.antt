@@ -10,16 +10,16 @@ use Rattle.alm_parse.specs.declared.args.Arg.TheVariants as arg
 use Rattle.alm_parse.specs.declared.line.Line36.{Line36}
 use Rattle.obj36_parts.specs.declared.definition.Named.{Named}
 use Rattle.obj36_parts.specs.ObjectSegment.{definition_names, are_distinct}
-use Rattle.alm_asm.specs.Symbols.{same_name, sum_named}
-use Rattle.alm_asm.specs.Arguments.{name_at}
-use Rattle.alm_asm.specs.Spots.{below}
-use Rattle.alm_asm.specs.Refusals.{sooner}
+use Rattle.alm_lines.specs.Symbols.{same_name, sum_named}
+use Rattle.alm_lines.specs.Arguments.{name_at}
+use Rattle.alm_lines.specs.Spots.{below}
+use Rattle.alm_lines.specs.Refusals.{sooner}
 use Rattle.alm_asm.specs.Definitions.{named, named_by, with_names, gives_entries, definitions_by, definitions_after, definitions_from, is_taken, taken_refusal, name_refusal, arg_refusal, names_refused, definitions_refused}
 use Rattle.alm_asm.specs.LineRefusals.{lines_refusal}
-use Rattle.alm_asm.specs.declared.sum.Sum.{Sum}
-use Rattle.alm_asm.specs.declared.spot.Spot.{Spot}
+use Rattle.alm_lines.specs.declared.sum.Sum.{Sum}
+use Rattle.alm_lines.specs.declared.spot.Spot.{Spot}
 use Rattle.alm_asm.specs.declared.tables.Tables.{Tables}
-use Rattle.alm_asm.specs.declared.refusal.Refusal.{Refusal}
+use Rattle.alm_lines.specs.declared.refusal.Refusal.{Refusal}
 use Rattle.alm_asm.proofs.Unrefused.{sooner_none, names_first, line_parts, head_line, other_lines}
 
 same_turned : (a b : List ℕ) → same_name a b ≡ same_name b a

@@ -7,13 +7,13 @@ use Rattle.std.proofs.lemmas.List.Folds.{list_any-append}
 use Rattle.alm_parse.specs.declared.line.Line36.{Line36}
 use Rattle.obj36_parts.specs.Fields.{LinkFields}
 use Rattle.obj36_parts.specs.ObjectSegment.{place_number}
-use Rattle.alm_asm.specs.Arguments.{first_arg}
-use Rattle.alm_asm.specs.Spots.{below}
+use Rattle.alm_lines.specs.Arguments.{first_arg}
+use Rattle.alm_lines.specs.Spots.{below}
 use Rattle.alm_asm.specs.Links.{operand_args, link_in, with_link, links_after, links_from}
 use Rattle.obj36_parts.specs.Indexes.{same_link}
 use Rattle.alm_asm.specs.Assembles.{are_apart}
-use Rattle.alm_asm.specs.declared.sum.Sum.{Sum}
-use Rattle.alm_asm.specs.declared.spot.Spot.{Spot}
+use Rattle.alm_lines.specs.declared.sum.Sum.{Sum}
+use Rattle.alm_lines.specs.declared.spot.Spot.{Spot}
 
 link_turned : (a b : LinkFields) → same_link a b ≡ same_link b a
 unfolding same_link

@@ -8,13 +8,13 @@ use Rattle.alm_parse.specs.declared.args.Arg.{Arg}
 use Rattle.alm_parse.specs.declared.line.Line36.{Line36}
 use Rattle.obj36_parts.specs.declared.section.Section.{Section}
 use Rattle.obj36_parts.specs.declared.section.Section.TheVariants.{Text, Linkage, Symbol, Static}
-use Rattle.alm_asm.specs.Arguments.{first_arg, symbol_in, section_in}
-use Rattle.alm_asm.specs.Spots.{start, count_in, place, grown_in, entered, size_of, moved_by, below, end_of}
+use Rattle.alm_lines.specs.Arguments.{first_arg, symbol_in, section_in}
+use Rattle.alm_lines.specs.Spots.{start, count_in, place, grown_in, entered, size_of, moved_by, below, end_of}
 use Rattle.alm_asm.specs.Words.{words_by, same_section, words_of_line, words_from}
 use Rattle.alm_asm.specs.Assembly.{bound_by, bound_from, evened}
 use Rattle.alm_asm.specs.Laws.{holds_words}
 use Rattle.alm_asm.specs.Assembles.{StandsBehind, evened_count, is_static, enters_static, is_use_static, is_bound, is_entrybound, evening_words}
-use Rattle.alm_asm.specs.declared.spot.Spot.{Spot}
+use Rattle.alm_lines.specs.declared.spot.Spot.{Spot}
 use Rattle.alm_asm.specs.declared.tables.Tables.{Tables}
 use Rattle.alm_parse.specs.declared.deed.Deed.{Deed}
 use Rattle.alm_parse.specs.declared.deed.Deed.TheVariants as deed

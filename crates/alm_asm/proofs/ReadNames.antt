@@ -39,7 +39,7 @@ use Rattle.alm_parse.specs.Sources.{names_end, continued, read_lines, with_text,
 use Rattle.obj36_parts.specs.declared.section.Section.TheVariants.{Text, Linkage, Static}
 use Rattle.obj36_parts.specs.Names.{is_name_character, is_name}
 use Rattle.obj36_parts.proofs.SizeLaws.{same_is}
-use Rattle.alm_asm.specs.Arguments.{name_at}
+use Rattle.alm_lines.specs.Arguments.{name_at}
 use Rattle.alm_asm.specs.Links.{own_section}
 use Rattle.alm_asm.specs.Laws.{segment_is_named, entry_is_named, arg_is_named, args_are_named, lines_are_named}
 

@@ -9,17 +9,17 @@ use Rattle.alm_parse.specs.declared.line.Line36.{Line36}
 use Rattle.obj36_parts.specs.declared.section.Section.{Section}
 use Rattle.obj36_parts.specs.declared.section.Section.TheVariants.{Text, Linkage, Symbol, Static}
 use Rattle.obj36_parts.specs.declared.definition.Named.{Named}
-use Rattle.alm_asm.specs.Arguments.{first_arg, symbol_in, section_in}
-use Rattle.alm_asm.specs.Spots.{start, place, grown_in, entered, size_of, moved_by, below, end_of}
-use Rattle.alm_asm.specs.Refusals.{refusal_at}
+use Rattle.alm_lines.specs.Arguments.{first_arg, symbol_in, section_in}
+use Rattle.alm_lines.specs.Spots.{start, place, grown_in, entered, size_of, moved_by, below, end_of}
+use Rattle.alm_lines.specs.Refusals.{refusal_at}
 use Rattle.alm_asm.specs.Definitions.{definitions_after}
 use Rattle.alm_asm.specs.LineRefusals.{op_place, may_enter, refusal_of_deed, lines_refusal}
 use Rattle.alm_asm.specs.Assembly.{static_section}
-use Rattle.alm_asm.specs.declared.spot.Spot.{Spot}
+use Rattle.alm_lines.specs.declared.spot.Spot.{Spot}
 use Rattle.alm_asm.specs.declared.tables.Tables.{Tables}
 use Rattle.alm_parse.specs.declared.deed.Deed.{Deed}
 use Rattle.alm_parse.specs.declared.deed.Deed.TheVariants as deed
-use Rattle.alm_asm.specs.declared.refusal.Code.TheVariants.{E7}
+use Rattle.alm_lines.specs.declared.refusal.Code.TheVariants.{E7}
 use Rattle.alm_asm.proofs.Unrefused.{unless_none, line_parts, head_line, other_lines, lines_above}
 use Rattle.alm_asm.proofs.Fitting.{end_uses}
 

@@ -11,18 +11,18 @@ use Rattle.obj36_parts.specs.declared.section.Section.TheVariants.{Text, Linkage
 use Rattle.obj36_parts.specs.Fields.{LinkFields}
 use Rattle.obj36_parts.specs.PartsFields.{PartsFields}
 use Rattle.obj36_parts.specs.ObjectSegment.{definition_names, are_distinct, are_rising}
-use Rattle.alm_asm.specs.Symbols.{sum_named}
-use Rattle.alm_asm.specs.Arguments.{name_at, first_arg, symbol_in, section_in}
-use Rattle.alm_asm.specs.Spots.{start, count_in, here, end_of}
+use Rattle.alm_lines.specs.Symbols.{sum_named}
+use Rattle.alm_lines.specs.Arguments.{name_at, first_arg, symbol_in, section_in}
+use Rattle.alm_lines.specs.Spots.{start, count_in, here, end_of}
 use Rattle.alm_asm.specs.Links.{operand_args, link_in, links_from}
 use Rattle.obj36_parts.specs.Indexes.{same_link}
 use Rattle.alm_asm.specs.Words.{words_by}
 use Rattle.alm_asm.specs.Marks.{marks_from}
-use Rattle.alm_asm.specs.Layout.{own_symbol, own_sum, labelled, symbols_from}
+use Rattle.alm_lines.specs.Layout.{own_symbol, own_sum, labelled, symbols_from}
 use Rattle.alm_asm.specs.Definitions.{definitions_from}
 use Rattle.alm_asm.specs.Assembly.{tables_of, static_section, version_of}
-use Rattle.alm_asm.specs.declared.sum.Sum.{Sum}
-use Rattle.alm_asm.specs.declared.spot.Spot.{Spot}
+use Rattle.alm_lines.specs.declared.sum.Sum.{Sum}
+use Rattle.alm_lines.specs.declared.spot.Spot.{Spot}
 use Rattle.alm_asm.specs.declared.tables.Tables.{Tables}
 use Rattle.alm_parse.specs.declared.deed.Deed.{Deed}
 use Rattle.alm_parse.specs.declared.deed.Deed.TheVariants as deed

@@ -8,20 +8,20 @@ use Rattle.obj36_parts.specs.declared.section.Section.{Section}
 use Rattle.obj36_parts.specs.declared.section.Section.TheVariants.{Text, Linkage, Static}
 use Rattle.obj36_parts.specs.PartsFields.{PartsFields}
 use Rattle.obj36_parts.specs.ObjectSegment.{is_well_formed}
-use Rattle.alm_asm.specs.Spots.{start, below, end_of}
-use Rattle.alm_asm.specs.Refusals.{fault_of, sooner}
-use Rattle.alm_asm.specs.Layout.{symbols_from, layout_refusal}
+use Rattle.alm_lines.specs.Spots.{start, below, end_of}
+use Rattle.alm_lines.specs.Refusals.{fault_of, sooner}
+use Rattle.alm_lines.specs.Layout.{symbols_from, layout_refusal}
 use Rattle.alm_asm.specs.Links.{links_from}
 use Rattle.alm_asm.specs.Words.{words_from}
 use Rattle.alm_asm.specs.Marks.{marks_from}
 use Rattle.alm_asm.specs.Definitions.{definitions_from}
 use Rattle.alm_asm.specs.LineRefusals.{lines_refusal}
 use Rattle.alm_asm.specs.Growth.{at_first, growth_refusal}
-use Rattle.alm_asm.specs.declared.spot.Spot.{Spot}
+use Rattle.alm_lines.specs.declared.spot.Spot.{Spot}
 use Rattle.alm_asm.specs.declared.tables.Tables.{Tables}
 use Rattle.alm_parse.specs.declared.deed.Deed.{Deed}
 use Rattle.alm_parse.specs.declared.deed.Deed.TheVariants as deed
-use Rattle.alm_asm.specs.declared.refusal.Refusal.{Refusal}
+use Rattle.alm_lines.specs.declared.refusal.Refusal.{Refusal}
 
 -- ---- tables
 

@@ -11,28 +11,28 @@ use Rattle.alm_parse.specs.declared.line.Line36.{Line36}
 use Rattle.obj36_parts.specs.Fields.{LinkFields}
 use Rattle.obj36_parts.specs.Names.{name_length}
 use Rattle.obj36_parts.specs.ObjectSegment.{link_names}
-use Rattle.alm_asm.specs.Sums.{no_sum, kind_of}
-use Rattle.alm_asm.specs.Symbols.{sum_named, with_symbol}
-use Rattle.alm_asm.specs.Arguments.{name_at, first_arg, second_arg, terms_in}
-use Rattle.alm_asm.specs.Spots.{below}
-use Rattle.alm_asm.specs.Refusals.{refusal_at, has_value, is_over_limit}
+use Rattle.alm_lines.specs.Sums.{no_sum, kind_of}
+use Rattle.alm_lines.specs.Symbols.{sum_named, with_symbol}
+use Rattle.alm_lines.specs.Arguments.{name_at, first_arg, second_arg, terms_in}
+use Rattle.alm_lines.specs.Spots.{below}
+use Rattle.alm_lines.specs.Refusals.{refusal_at, has_value, is_over_limit}
 use Rattle.alm_asm.specs.Links.{link_of, operand_args}
 use Rattle.obj36_parts.specs.Indexes.{same_link}
-use Rattle.alm_asm.specs.Expressions.{sum_of}
+use Rattle.alm_lines.specs.Expressions.{sum_of}
 use Rattle.alm_asm.specs.Marks.{operand_kind}
 use Rattle.alm_asm.specs.Definitions.{gives_entries, sum_refusal}
 use Rattle.alm_asm.specs.LineRefusals.{own_room}
-use Rattle.alm_asm.specs.declared.sum.Sum.{Sum}
-use Rattle.alm_asm.specs.declared.sum.Kind.{Kind}
-use Rattle.alm_asm.specs.declared.sum.Kind.TheVariants.{Absolute, Moved, Unsaid}
-use Rattle.alm_asm.specs.declared.refusal.Room.{Room}
-use Rattle.alm_asm.specs.declared.refusal.Room.TheVariants.{Half}
+use Rattle.alm_lines.specs.declared.sum.Sum.{Sum}
+use Rattle.alm_lines.specs.declared.sum.Kind.{Kind}
+use Rattle.alm_lines.specs.declared.sum.Kind.TheVariants.{Absolute, Moved, Unsaid}
+use Rattle.alm_lines.specs.declared.refusal.Room.{Room}
+use Rattle.alm_lines.specs.declared.refusal.Room.TheVariants.{Half}
 use Rattle.alm_parse.specs.declared.deed.Deed.{Deed}
 use Rattle.alm_parse.specs.declared.deed.Deed.TheVariants as deed
-use Rattle.alm_asm.specs.declared.spot.Spot.{Spot}
+use Rattle.alm_lines.specs.declared.spot.Spot.{Spot}
 use Rattle.alm_asm.specs.declared.growth.Growth.{Growth}
-use Rattle.alm_asm.specs.declared.refusal.Code.TheVariants.{E8}
-use Rattle.alm_asm.specs.declared.refusal.Refusal.{Refusal}
+use Rattle.alm_lines.specs.declared.refusal.Code.TheVariants.{E8}
+use Rattle.alm_lines.specs.declared.refusal.Refusal.{Refusal}
 
 -- Of no lines the definition section has its two first words, and the symbol section the count of
 -- the relocations.

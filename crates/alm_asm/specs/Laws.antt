@@ -11,14 +11,14 @@ use Rattle.obj36_parts.specs.declared.section.Section.{Section}
 use Rattle.obj36_parts.specs.declared.section.Section.TheVariants.{Text, Linkage, Symbol, Static}
 use Rattle.obj36_parts.specs.Names.{is_name}
 use Rattle.obj36_parts.specs.ObjectSegment.{words_of, is_well_formed}
-use Rattle.alm_asm.specs.Arguments.{name_at}
+use Rattle.alm_lines.specs.Arguments.{name_at}
 use Rattle.alm_asm.specs.Links.{own_section}
 use Rattle.alm_asm.specs.Assembly.{parts_of, refusal_of}
-use Rattle.alm_asm.specs.Symbols.{sum_named}
-use Rattle.alm_asm.specs.Spots.{start, count_in, end_of}
+use Rattle.alm_lines.specs.Symbols.{sum_named}
+use Rattle.alm_lines.specs.Spots.{start, count_in, end_of}
 use Rattle.alm_asm.specs.Words.{words_from}
-use Rattle.alm_asm.specs.Layout.{symbols_from}
-use Rattle.alm_asm.specs.declared.sum.Sum.{Sum}
+use Rattle.alm_lines.specs.Layout.{symbols_from}
+use Rattle.alm_lines.specs.declared.sum.Sum.{Sum}
 use Rattle.alm_asm.specs.declared.tables.Tables.{Tables}
 
 -- the sections in which lines place words

@@ -9,21 +9,21 @@ use Rattle.alm_parse.specs.declared.line.Line36.{Line36}
 use Rattle.obj36_parts.specs.declared.section.Section.{Section}
 use Rattle.obj36_parts.specs.declared.section.Section.TheVariants.{Text, Linkage, Symbol, Static}
 use Rattle.obj36_parts.specs.declared.definition.Named.{Named}
-use Rattle.alm_asm.specs.Arguments.{first_arg, second_arg, symbol_in, terms_in, section_in}
-use Rattle.alm_asm.specs.Spots.{below}
-use Rattle.alm_asm.specs.Expressions.{expression_place}
-use Rattle.alm_asm.specs.Refusals.{sooner, refusal_at, expression_refusal, has_value}
+use Rattle.alm_lines.specs.Arguments.{first_arg, second_arg, symbol_in, terms_in, section_in}
+use Rattle.alm_lines.specs.Spots.{below}
+use Rattle.alm_lines.specs.Expressions.{expression_place}
+use Rattle.alm_lines.specs.Refusals.{sooner, refusal_at, expression_refusal, has_value}
 use Rattle.alm_asm.specs.Links.{own_section, link_of, link_place}
 use Rattle.alm_asm.specs.Definitions.{gives_entries, definitions_after, definitions_refused}
-use Rattle.alm_asm.specs.declared.spot.Spot.{Spot}
-use Rattle.alm_asm.specs.declared.sum.Sum.{Sum}
+use Rattle.alm_lines.specs.declared.spot.Spot.{Spot}
+use Rattle.alm_lines.specs.declared.sum.Sum.{Sum}
 use Rattle.alm_asm.specs.declared.tables.Tables.{Tables}
 use Rattle.alm_parse.specs.declared.deed.Deed.{Deed}
 use Rattle.alm_parse.specs.declared.deed.Deed.TheVariants as deed
-use Rattle.alm_asm.specs.declared.refusal.Code.TheVariants.{E7}
-use Rattle.alm_asm.specs.declared.refusal.Refusal.{Refusal}
-use Rattle.alm_asm.specs.declared.refusal.Room.{Room}
-use Rattle.alm_asm.specs.declared.refusal.Room.TheVariants.{Half, Offset}
+use Rattle.alm_lines.specs.declared.refusal.Code.TheVariants.{E7}
+use Rattle.alm_lines.specs.declared.refusal.Refusal.{Refusal}
+use Rattle.alm_lines.specs.declared.refusal.Room.{Room}
+use Rattle.alm_lines.specs.declared.refusal.Room.TheVariants.{Half, Offset}
 
 abbrev pub unless : Bool → Refusal → Option Refusal
 unless true refusal = None

@@ -11,12 +11,12 @@ use Rattle.obj36_parts.specs.declared.section.Section.{Section}
 use Rattle.obj36_parts.specs.declared.section.Section.TheVariants.{Text, Linkage, Static}
 use Rattle.obj36_parts.specs.Fields.{LinkFields}
 use Rattle.obj36_parts.specs.Indexes.{same_link}
-use Rattle.alm_asm.specs.Sums.{half_of}
-use Rattle.alm_asm.specs.Arguments.{name_at, first_arg}
-use Rattle.alm_asm.specs.Spots.{below}
-use Rattle.alm_asm.specs.Expressions.{sum_of}
-use Rattle.alm_asm.specs.declared.sum.Sum.{Sum}
-use Rattle.alm_asm.specs.declared.spot.Spot.{Spot}
+use Rattle.alm_lines.specs.Sums.{half_of}
+use Rattle.alm_lines.specs.Arguments.{name_at, first_arg}
+use Rattle.alm_lines.specs.Spots.{below}
+use Rattle.alm_lines.specs.Expressions.{sum_of}
+use Rattle.alm_lines.specs.declared.sum.Sum.{Sum}
+use Rattle.alm_lines.specs.declared.spot.Spot.{Spot}
 use Rattle.alm_parse.specs.declared.deed.Deed.{Deed}
 use Rattle.alm_parse.specs.declared.deed.Deed.TheVariants as deed
 

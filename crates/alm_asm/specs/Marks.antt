@@ -8,15 +8,15 @@ use Rattle.alm_parse.specs.declared.line.Line36.{Line36}
 use Rattle.obj36_parts.specs.declared.section.Section.{Section}
 use Rattle.obj36_parts.specs.declared.section.Section.TheVariants.{Linkage}
 use Rattle.obj36_parts.specs.Fields.{RelocFields}
-use Rattle.alm_asm.specs.Sums.{kind_of}
-use Rattle.alm_asm.specs.Arguments.{first_arg, second_arg, terms_in}
-use Rattle.alm_asm.specs.Spots.{place, below}
-use Rattle.alm_asm.specs.Expressions.{sum_of}
+use Rattle.alm_lines.specs.Sums.{kind_of}
+use Rattle.alm_lines.specs.Arguments.{first_arg, second_arg, terms_in}
+use Rattle.alm_lines.specs.Spots.{place, below}
+use Rattle.alm_lines.specs.Expressions.{sum_of}
 use Rattle.alm_asm.specs.Words.{same_section}
-use Rattle.alm_asm.specs.declared.sum.Sum.{Sum}
-use Rattle.alm_asm.specs.declared.sum.Kind.{Kind}
-use Rattle.alm_asm.specs.declared.sum.Kind.TheVariants.{Absolute, Moved, Unsaid}
-use Rattle.alm_asm.specs.declared.spot.Spot.{Spot}
+use Rattle.alm_lines.specs.declared.sum.Sum.{Sum}
+use Rattle.alm_lines.specs.declared.sum.Kind.{Kind}
+use Rattle.alm_lines.specs.declared.sum.Kind.TheVariants.{Absolute, Moved, Unsaid}
+use Rattle.alm_lines.specs.declared.spot.Spot.{Spot}
 use Rattle.alm_parse.specs.declared.deed.Deed.{Deed}
 use Rattle.alm_parse.specs.declared.deed.Deed.TheVariants as deed
 

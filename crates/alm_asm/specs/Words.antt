@@ -9,12 +9,12 @@ use Rattle.m36_inst.specs.Fields.{InstFields}
 use Rattle.m36_inst.specs.Instruction.{inst_word}
 use Rattle.obj36_parts.specs.declared.section.Section.{Section}
 use Rattle.obj36_parts.specs.ObjectSegment.{place_number}
-use Rattle.alm_asm.specs.Sums.{half_of, offset_of}
-use Rattle.alm_asm.specs.Arguments.{first_arg, second_arg, terms_in, number_in, words_of_args}
-use Rattle.alm_asm.specs.Spots.{place, below}
-use Rattle.alm_asm.specs.Expressions.{sum_of}
+use Rattle.alm_lines.specs.Sums.{half_of, offset_of}
+use Rattle.alm_lines.specs.Arguments.{first_arg, second_arg, terms_in, number_in, words_of_args}
+use Rattle.alm_lines.specs.Spots.{place, below}
+use Rattle.alm_lines.specs.Expressions.{sum_of}
 use Rattle.alm_asm.specs.Links.{link_of, link_place}
-use Rattle.alm_asm.specs.declared.spot.Spot.{Spot}
+use Rattle.alm_lines.specs.declared.spot.Spot.{Spot}
 use Rattle.alm_asm.specs.declared.tables.Tables.{Tables}
 use Rattle.alm_parse.specs.declared.deed.Deed.{Deed}
 use Rattle.alm_parse.specs.declared.deed.Deed.TheVariants as deed

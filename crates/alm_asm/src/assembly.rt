@@ -2,11 +2,11 @@
 
 ghost use Rattle.std.specs.Prelude.{ℕ, Bool, List, [], ◌∷◌, ◌≡◌, ◌+◌, ◌%◌, ◌^◌, ◌<◌, Option, None, IsTrue, OnOk, IfOk};
 ghost use Rattle.alm_parse.specs.Sources.{ParseSays};
-ghost use Rattle.alm_asm.specs.Spots.{start};
+ghost use Rattle.alm_lines.specs.Spots.{start};
 ghost use Rattle.obj36_parts.specs.declared.section.Section.TheVariants.{Text};
 ghost use Rattle.obj36_parts.specs.ObjectSegment.{is_well_formed};
 ghost use Rattle.obj36_parts.specs.Sizes.{HasShortLists};
-ghost use Rattle.alm_asm.specs.Layout.{layout_refusal};
+ghost use Rattle.alm_lines.specs.Layout.{layout_refusal};
 ghost use Rattle.alm_asm.specs.Words.{words_from};
 ghost use Rattle.alm_asm.specs.Marks.{marks_from};
 ghost use Rattle.alm_asm.specs.Assembles.{Assembles};
@@ -14,15 +14,15 @@ ghost use Rattle.alm_asm.specs.Assembly.{made, first_link, tables_of, bound_by, 
 
 use crate::definitions::definitions_of;
 use crate::growth::growth_refusal;
-use crate::layout::layout_of;
 use crate::line_refusal::lines_refusal;
 use crate::links::links_of;
 use crate::marks::push_marks_in;
-use crate::refusal::{Refusal, fault_of, sooner};
-use crate::spot::{Spot, below, end_of};
-use crate::sum::plus;
 use crate::tables::Tables;
 use crate::words::words_in;
+use alm_lines::layout::layout_of;
+use alm_lines::refusal::{Refusal, fault_of, sooner};
+use alm_lines::spot::{Spot, below, end_of};
+use alm_lines::sum::plus;
 use alm_parse::{AlmFault, Deed, Line36, Lines36};
 use m36_word::{NoMemory, Word, Words};
 use obj36::{Object, Parts, Relocs, Section};

@@ -2,14 +2,14 @@
 
 ghost use Rattle.std.specs.Prelude.{ℕ, Bool, List, [], ◌∷◌, ◌++◌, ◌≡◌, Option, OnOk, IfOk};
 ghost use Rattle.std.specs.List.{list_any};
-ghost use Rattle.alm_asm.specs.Symbols.{same_name};
+ghost use Rattle.alm_lines.specs.Symbols.{same_name};
 ghost use Rattle.alm_asm.specs.Definitions.{section_of, named, named_by, with_names, gives_entries, definitions_by, definitions_after, definitions_from, is_taken, is_label_kind, is_label, sum_refusal, name_refusal, arg_refusal, names_refused, definitions_refused};
 
-use crate::arguments::name_at;
-use crate::expression::symbol_sum;
-use crate::refusal::{Code, Refusal, Room, has_room, refusal_at, sooner};
-use crate::sum::{Kind, Sum};
-use crate::symbols::Symbols;
+use alm_lines::arguments::name_at;
+use alm_lines::expression::symbol_sum;
+use alm_lines::refusal::{Code, Refusal, Room, has_room, refusal_at, sooner};
+use alm_lines::sum::{Kind, Sum};
+use alm_lines::symbols::Symbols;
 use alm_parse::{Arg, Deed, Line36, Span};
 use m36_text::Name;
 use m36_word::NoMemory;

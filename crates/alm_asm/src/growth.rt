@@ -2,23 +2,23 @@
 
 ghost use Rattle.std.specs.Prelude.{ℕ, Bool, List, [], ◌∷◌, ◌++◌, ◌≡◌, ◌≤◌, length, if◌then◌else◌, Option, OnOk, IfOk};
 ghost use Rattle.std.specs.List.{list_any};
-ghost use Rattle.alm_asm.specs.Arguments.{first_arg};
-ghost use Rattle.alm_asm.specs.Spots.{start};
+ghost use Rattle.alm_lines.specs.Arguments.{first_arg};
+ghost use Rattle.alm_lines.specs.Spots.{start};
 ghost use Rattle.alm_asm.specs.Links.{operand_args};
 ghost use Rattle.alm_asm.specs.Definitions.{gives_entries};
 ghost use Rattle.alm_asm.specs.Growth.{at_first, with_name, with_names, with_definition, with_unrefused, with_arg, with_args, with_definitions, with_new_link, with_link_once, with_operand, with_link, mark_count, operand_room, is_own, operand_count, half_count, marks_count, with_marks, grown_by, is_over, growth_refusal};
 ghost use Rattle.obj36_parts.specs.ObjectSegment.{has_name, has_entry};
 
-use crate::arguments::{first_terms, name_at, second_terms};
 use crate::definitions::{gives_entries, sum_refusal};
-use crate::expression::sum_of;
 use crate::line_refusal::own_room;
 use crate::links::{link_of, operand_args};
 use crate::marks::operand_kind;
-use crate::refusal::{Code, Refusal, Room, has_value, is_over_limit, refusal_at};
-use crate::spot::{Spot, below};
-use crate::sum::{Kind, absolute, plus};
-use crate::symbols::Symbols;
+use alm_lines::arguments::{first_terms, name_at, second_terms};
+use alm_lines::expression::sum_of;
+use alm_lines::refusal::{Code, Refusal, Room, has_value, is_over_limit, refusal_at};
+use alm_lines::spot::{Spot, below};
+use alm_lines::sum::{Kind, absolute, plus};
+use alm_lines::symbols::Symbols;
 use alm_parse::{Arg, Deed, Line36, Span, Term};
 use m36_text::Name;
 use m36_word::NoMemory;

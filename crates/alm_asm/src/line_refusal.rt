@@ -1,21 +1,21 @@
 //! What is refused of lines whose symbols are known.
 
 ghost use Rattle.std.specs.Prelude.{ℕ, Bool, List, [], ◌∷◌, ◌≡◌, ◌+◌, ◌<◌, Option, OnOk, IfOk};
-ghost use Rattle.alm_asm.specs.Arguments.{first_arg};
-ghost use Rattle.alm_asm.specs.Spots.{start};
+ghost use Rattle.alm_lines.specs.Arguments.{first_arg};
+ghost use Rattle.alm_lines.specs.Spots.{start};
 ghost use Rattle.alm_asm.specs.Definitions.{definitions_after};
 ghost use Rattle.alm_asm.specs.LineRefusals.{unless, op_place, external_place, needs_static, may_name, is_in_reach, own_room, link_expression, reaches, external_refusal, own_operand, operand_refusal, is_text_section, may_enter, instruction_refusal, use_refusal, halves_refusal, refusal_of_deed, line_refusal, lines_refusal};
 
-use crate::arguments::{first_symbol, first_terms, second_terms, section_in};
 use crate::definitions::push_definitions;
-use crate::expression::expression_place;
 use crate::links::{link_of, link_place, own_section};
-use crate::refusal::{
+use crate::tables::Tables;
+use alm_lines::arguments::{first_symbol, first_terms, second_terms, section_in};
+use alm_lines::expression::expression_place;
+use alm_lines::refusal::{
     Code, Refusal, Room, Wanted, expression_refusal, has_value, refusal_at, sooner,
 };
-use crate::spot::{Spot, below};
-use crate::symbols::Symbols;
-use crate::tables::Tables;
+use alm_lines::spot::{Spot, below};
+use alm_lines::symbols::Symbols;
 use alm_parse::{Arg, Deed, Line36, Span, Term};
 use m36_word::NoMemory;
 use obj36::{Defs, Section};

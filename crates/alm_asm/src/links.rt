@@ -2,20 +2,20 @@
 
 ghost use Rattle.std.specs.Prelude.{ℕ, List, [], ◌∷◌, ◌++◌, ◌≡◌, Option, OnOk, IfOk};
 ghost use Rattle.std.specs.List.{list_any, position};
-ghost use Rattle.alm_asm.specs.Arguments.{first_arg};
-ghost use Rattle.alm_asm.specs.Spots.{start};
+ghost use Rattle.alm_lines.specs.Arguments.{first_arg};
+ghost use Rattle.alm_lines.specs.Spots.{start};
 ghost use Rattle.obj36_parts.specs.ObjectSegment.{place_number};
 ghost use Rattle.alm_parse.specs.Tokens.{slice_of};
-ghost use Rattle.alm_asm.specs.Arguments.{name_at};
+ghost use Rattle.alm_lines.specs.Arguments.{name_at};
 ghost use Rattle.alm_asm.specs.Words.{same_section};
 ghost use Rattle.alm_asm.specs.Links.{own_section, link_kind, link_section, link_name, entry_name, link_of, operand_args, link_by, link_in, with_link, links_after, links_from, link_place};
 ghost use Rattle.obj36_parts.specs.Indexes.{same_link};
 
-use crate::arguments::name_at;
-use crate::expression::sum_of;
-use crate::spot::{Spot, below};
-use crate::sum::plus;
-use crate::symbols::Symbols;
+use alm_lines::arguments::name_at;
+use alm_lines::expression::sum_of;
+use alm_lines::spot::{Spot, below};
+use alm_lines::sum::plus;
+use alm_lines::symbols::Symbols;
 use alm_parse::span::bytes_of;
 use alm_parse::{Arg, Deed, Line36, Span, Term};
 use m36_text::Name;

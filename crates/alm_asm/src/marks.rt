@@ -1,17 +1,17 @@
 //! Relocations: the parts of words whose expressions are places of a section, and the offsets of links.
 
 ghost use Rattle.std.specs.Prelude.{ℕ, List, [], ◌∷◌, ◌++◌, ◌≡◌, ◌%◌, ◌^◌, Option, OnOk, IfOk};
-ghost use Rattle.alm_asm.specs.Arguments.{first_arg};
-ghost use Rattle.alm_asm.specs.Spots.{start};
+ghost use Rattle.alm_lines.specs.Arguments.{first_arg};
+ghost use Rattle.alm_lines.specs.Spots.{start};
 ghost use Rattle.alm_parse.specs.declared.deed.Deed.TheVariants as deed;
 ghost use Rattle.alm_asm.specs.Marks.{mark, operand_part, operand_kind, operand_mark, marks_by, marks_after, marks_from};
 
-use crate::arguments::{first_terms, second_terms};
-use crate::expression::sum_of;
 use crate::links::same_section;
-use crate::spot::{Spot, below};
-use crate::sum::{Kind, Sum};
-use crate::symbols::Symbols;
+use alm_lines::arguments::{first_terms, second_terms};
+use alm_lines::expression::sum_of;
+use alm_lines::spot::{Spot, below};
+use alm_lines::sum::{Kind, Sum};
+use alm_lines::symbols::Symbols;
 use alm_parse::{Arg, Deed, Line36, Span};
 use m36_word::NoMemory;
 use obj36::{Reloc, Relocs, Section};

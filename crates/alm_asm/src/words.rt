@@ -1,18 +1,18 @@
 //! The words that lines place.
 
 ghost use Rattle.std.specs.Prelude.{ℕ, Bool, List, [], ◌∷◌, ◌++◌, ◌≡◌, ◌+◌, ◌*◌, ◌%◌, ◌^◌, ◌<◌, replicate, Option, OnOk, IfOk};
-ghost use Rattle.alm_asm.specs.Arguments.{first_arg, second_arg, terms_in};
-ghost use Rattle.alm_asm.specs.Spots.{start};
-ghost use Rattle.alm_asm.specs.Sums.{half_of, offset_of};
+ghost use Rattle.alm_lines.specs.Arguments.{first_arg, second_arg, terms_in};
+ghost use Rattle.alm_lines.specs.Spots.{start};
+ghost use Rattle.alm_lines.specs.Sums.{half_of, offset_of};
 ghost use Rattle.alm_asm.specs.Links.{link_of, link_place};
 ghost use Rattle.alm_asm.specs.Words.{plain_inst, pointed_inst, own_inst, inst_by, inst_in, instruction_word, halves_word, words_by, words_of_line, words_from};
 
-use crate::arguments::{first_terms, push_all, second_number, second_terms, words_of_args};
-use crate::expression::sum_of;
 use crate::links::{link_of, link_place, same_section};
-use crate::spot::{Spot, below};
-use crate::sum::{Balance, Sum};
 use crate::tables::Tables;
+use alm_lines::arguments::{first_terms, push_all, second_number, second_terms, words_of_args};
+use alm_lines::expression::sum_of;
+use alm_lines::spot::{Spot, below};
+use alm_lines::sum::{Balance, Sum};
 use alm_parse::{Arg, Deed, Line36, Span, Term};
 use m36_inst::Inst;
 use m36_word::{NoMemory, Word, Words};

@@ -3,7 +3,7 @@
 ghost use Rattle.std.specs.Prelude.{ℕ, ◌+◌, ◌++◌, ◌≡◌, ◌^◌, ◌≤◌, length, take, drop, codes, IfOk, OnOk};
 ghost use Rattle.obj36_parts.specs.ObjectSegment.{inner_statics};
 ghost use Rattle.m36_list.specs.Counts.{IsCount};
-ghost use Rattle.alm_asm.specs.Spots.{start};
+ghost use Rattle.alm_lines.specs.Spots.{start};
 ghost use Rattle.m36_list.specs.Listing.{is_in, size_in, section_words, listing_of};
 
 use crate::counts::{Counts, counted};
