@@ -42,7 +42,7 @@ module _ {K : Type 0} (eq : K → K → Bool) (test : K → Bool) (key : K) (val
 
 -- ---- spellings
 
-compare : List ℕ → ℕ → ℕ → Spelling → Bool
+abbrev pub compare : List ℕ → ℕ → ℕ → Spelling → Bool
 compare whole length last s = pointwise eqb whole s.whole.now && (eqb length s.length && eqb last s.last)
 
 record Alike (v w : List ℕ) (m n k l : ℕ) : Type 0 where
@@ -59,13 +59,13 @@ alike_from v w m n k l e =
 module _ (d : List ℕ) (at : ℕ) (key : Spelling) where
   -- a name that is spelled as the key is asked for as the key is
   asked : is_spelled d at key ≡ true → (s : Spelling) → is_spelled d at s ≡ compare key.whole.now key.length key.last s
-  unfolding is_spelled compare
+  unfolding is_spelled
   asked e s =
       let h = alike_from (whole_words d at) key.whole.now (unit_at d at 0) key.length (last_parts d at) key.last e in
       λ i. pointwise eqb (h.whole i) s.whole.now && (eqb (h.length i) s.length && eqb (h.last i) s.last)
 
   found_so : (s : Spelling) → compare key.whole.now key.length key.last s ≡ true → is_spelled d at s ≡ is_spelled d at key
-  unfolding is_spelled compare
+  unfolding is_spelled
   found_so s e =
       let h = alike_from key.whole.now s.whole.now key.length s.length key.last s.last e in
       λ i. pointwise eqb (whole_words d at) (sym h.whole i) && (eqb (unit_at d at 0) (sym h.length i) && eqb (last_parts d at) (sym h.last i))
@@ -81,7 +81,7 @@ module _ (d : List ℕ) (q : ℕ) (key : Spelling) (places newer : List (Spellin
     (told : here ≡ option_map (min q) (lookup (compare key.whole.now key.length key.last) places))
     (put : newer ≡ insert_entry (λ a b. compare a.whole.now a.length a.last b) places key (unwrap_or here q)) where
   pub here_is : here ≡ least_with d places q
-  unfolding least_with is_spelled compare
+  unfolding least_with is_spelled
   here_is =
       told ∙ (λ i. option_map (min q) (lookup (λ s. pointwise eqb (whole i) s.whole.now && (eqb (count i) s.length && eqb (last i) s.last)) places))
       ∙ sym (ap (λ b. cond b (option_map (min q) (lookup (is_spelled d q) places)) None) in_section)
@@ -152,17 +152,18 @@ each_more d places newer q more (suc count) at =
     ∙ crossed (least_with d places (name_place d at)) (where_bad (same_name d q (name_place d at)) (min q (name_place d at)))
     (least_of_each d places count (next_definition d at)) (repeats_of d q count (next_definition d at))
 
+no_place : (d : List ℕ) (r : ℕ) (b : Bool) → cond b (option_map (min r) (lookup (is_spelled d r) [])) None ≡ None
+no_place d r true = refl
+no_place d r false = refl
+
+nothing : (d : List ℕ) (count at : ℕ) → least_of_each d [] count at ≡ None
+unfolding least_of_each least_with
+nothing d zero at = refl
+nothing d (suc count) at =
+    λ i. earlier (no_place d (name_place d at) (lies_within d (name_place d at)) i) (nothing d count (next_definition d at) i)
+
 pub repeats_begin : (d : List ℕ) (places : List (Spelling × ℕ)) (count at : ℕ) → places ≡ [] → earlier (least_of_each d places count at) (repeats d count at) ≡ repeats d count at
-repeats_begin d places count at e = ap (λ x. earlier x (repeats d count at)) (ap (λ (es : List (Spelling × ℕ)). least_of_each d es count at) e ∙ nothing count at)
-  where
-    no_place : (r : ℕ) (b : Bool) → cond b (option_map (min r) (lookup (is_spelled d r) [])) None ≡ None
-    no_place r true = refl
-    no_place r false = refl
-    nothing : (count at : ℕ) → least_of_each d [] count at ≡ None
-    unfolding least_of_each least_with
-    nothing zero at = refl
-    nothing (suc count) at =
-        (λ i. earlier (no_place (name_place d at) (lies_within d (name_place d at)) i) (nothing count (next_definition d at) i))
+repeats_begin d places count at e = ap (λ x. earlier x (repeats d count at)) (ap (λ (es : List (Spelling × ℕ)). least_of_each d es count at) e ∙ nothing d count at)
 
 pub repeats_more : (d : List ℕ) (places newer : List (Spelling × ℕ)) (count i at next place : ℕ) (here : Option ℕ) → i < count → next ≡ next_definition d at → place ≡ name_place d at
     → here ≡ least_with d places place

@@ -1,6 +1,6 @@
 //! The parts of an object.
 
-ghost use Rattle.std.specs.Prelude.{ℕ, ◌≡◌, ◌+◌, ◌*◌, ◌<◌, ◌^◌, length, [], nat_eq, if◌then◌else◌};
+ghost use Rattle.std.specs.Prelude.{ℕ, ◌≡◌, ◌+◌, ◌*◌, ◌<◌, ◌^◌, length, [], nat_eq, if◌then◌else◌, IsTrue};
 ghost use Rattle.obj36_parts.specs.ObjectSegment.{words_of, is_well_formed};
 ghost use Rattle.obj36_parts.specs.Sizes.{HasShortLists};
 
@@ -53,6 +53,18 @@ fn fixed_length(version: u8) -> u64
 }
 
 impl Parts {
+    /// Whether each list has fewer than 2^32 members, as those of each object have.
+    pub fn has_short_lists(&self) -> bool
+        ensures short { IsTrue result → HasShortLists self.now }
+        ensures long { HasShortLists self.now → IsTrue result }
+    {
+        self.text.slice().len() < 1 << 32
+            && self.statics.slice().len() < 1 << 32
+            && self.definitions.items().len() < 1 << 32
+            && self.links.items().len() < 1 << 32
+            && self.relocations.items().len() < 1 << 32
+    }
+
     /// How many words the sections, the map and the last word take for these parts, whether or not a list stands for
     /// them. Each list has fewer than 2^32 members.
     pub fn size(&self) -> u64
