@@ -1,11 +1,10 @@
 //! Objects of lines.
 
-ghost use Rattle.std.specs.Prelude.{ℕ, Bool, List, [], ◌∷◌, ◌≡◌, ◌+◌, ◌%◌, ◌^◌, ◌<◌, Option, None, IsTrue, OnOk, IfOk};
+ghost use Rattle.std.specs.Prelude.{ℕ, Bool, List, [], ◌∷◌, ◌≡◌, ◌+◌, ◌%◌, ◌^◌, ◌<◌, Option, None, OnOk, IfOk};
 ghost use Rattle.alm_parse.specs.Sources.{ParseSays};
 ghost use Rattle.alm_lines.specs.Spots.{start};
 ghost use Rattle.obj36_parts.specs.declared.section.Section.TheVariants.{Text};
 ghost use Rattle.obj36_parts.specs.ObjectSegment.{is_well_formed};
-ghost use Rattle.obj36_parts.specs.Sizes.{HasShortLists};
 ghost use Rattle.alm_lines.specs.Layout.{layout_refusal};
 ghost use Rattle.alm_asm.specs.Words.{words_from};
 ghost use Rattle.alm_asm.specs.Marks.{marks_from};
@@ -212,24 +211,12 @@ fn last_line(lines: &[Line36]) -> u32
     number
 }
 
-// Whether each list has fewer than 2^32 members.
-fn has_short_lists(parts: &Parts) -> bool
-    ensures short { IsTrue result → HasShortLists parts.now }
-    ensures long { HasShortLists parts.now → IsTrue result }
-{
-    parts.text.slice().len() < 1 << 32
-        && parts.statics.slice().len() < 1 << 32
-        && parts.definitions.items().len() < 1 << 32
-        && parts.links.items().len() < 1 << 32
-        && parts.relocations.items().len() < 1 << 32
-}
-
 // Whether some list of words stands for parts.
 #[tactic(auto, using(crate::proofs::AssemblyLaws::long_is_none))]
 fn is_object(parts: &Parts) -> bool
     ensures { result ≡ is_well_formed parts.now }
 {
-    if !has_short_lists(parts) {
+    if !parts.has_short_lists() {
         return false;
     }
     parts.is_well_formed()
