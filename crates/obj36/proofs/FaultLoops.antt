@@ -5,7 +5,7 @@ use Rattle.std.proofs.lemmas.Bool.{cond-true, cond-false, lt-leb, le-leb, eq-eqb
 use Rattle.obj36.specs.declared.map.Extents.{Extents}
 use Rattle.obj36.specs.MapFaults.{covering, first_shared}
 use Rattle.obj36.specs.Reading.{unit_at}
-use Rattle.obj36.specs.Names.{is_name_character}
+use Rattle.obj36_parts.specs.Names.{is_name_character}
 use Rattle.obj36.specs.TableFaults.{earlier, where_bad, next_definition, is_member, chain_fault, class_at, class_faults, name_place, same_units, same_name, repeats_of, repeats, are_characters, are_zeros, name_fault, defined_names_fault, expression_fault, linked_names_fault}
 use Rattle.obj36.specs.LinkFaults.{is_type, type_faults, is_link_at, link_faults}
 

@@ -3,10 +3,10 @@ use Rattle.std.proofs.Common.{ℕ, zero, suc, ◌≡◌, ◌+◌, ◌-◌, ◌*�
 use Rattle.std.specs.Prelude.{slice_index, min}
 use Rattle.std.proofs.lemmas.Bool.{cond-true, cond-false, eq-eqb, ne_eqb}
 use Rattle.std.proofs.lemmas.List.{length-append, get_or-append_right, take_at, drop_at}
-use Rattle.obj36.specs.Fields.{LinkFields}
-use Rattle.obj36.specs.declared.definition.Named.{Named}
-use Rattle.obj36.specs.Halves.{left, right, joined}
-use Rattle.obj36.specs.ObjectSegment.{map_part, definition_part, linkage_part, link_words, place_if_any}
+use Rattle.obj36_parts.specs.Fields.{LinkFields}
+use Rattle.obj36_parts.specs.declared.definition.Named.{Named}
+use Rattle.obj36_parts.specs.Halves.{left, right, joined}
+use Rattle.obj36_parts.specs.ObjectSegment.{map_part, definition_part, linkage_part, link_words, place_if_any}
 use Rattle.obj36.specs.Reading.{map_place, version_in, told_length, told_count, from_definition, from_linkage, from_statics, from_symbol, told_first, statics_in, bound_in}
 use Rattle.obj36.proofs.TableReading.{left_joined, right_joined}
 
