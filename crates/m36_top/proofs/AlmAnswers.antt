@@ -10,8 +10,8 @@ use Rattle.alm_parse.specs.Sources.{parsed, Refuses, ParseSays}
 use Rattle.alm_parse.specs.declared.fault.AlmFault.{AlmFault}
 use Rattle.alm_parse.specs.declared.fault.AlmFault.TheVariants as alm
 use Rattle.alm_asm.specs.Assembly.{assembled}
-use Rattle.obj36.specs.PartsFields.{PartsFields}
-use Rattle.obj36.specs.ObjectSegment.{Stands, words_of}
+use Rattle.obj36_parts.specs.PartsFields.{PartsFields}
+use Rattle.obj36_parts.specs.ObjectSegment.{Stands, words_of}
 use Rattle.m36_list.specs.Listing.{listing_of}
 use Rattle.m36_top.specs.declared.command.AlmFiles.{AlmFiles}
 use Rattle.m36_top.specs.declared.assembling.Made.{Made}

@@ -13,7 +13,7 @@ use Rattle.m36_text.specs.Packing.{unpacked}
 use Rattle.m36_text.specs.declared.packing.PackFault.{PackFault}
 use Rattle.m36_text.specs.declared.packing.PackFault.TheVariants as pack
 use Rattle.m36_model.specs.Store.{State}
-use Rattle.obj36.specs.PartsFields.{PartsFields}
+use Rattle.obj36_parts.specs.PartsFields.{PartsFields}
 use Rattle.obj36.specs.Faults.{first_fault}
 use Rattle.obj36.specs.declared.fault.ObjectFault.{ObjectFault}
 use Rattle.obj36.specs.declared.fault.ObjectFault.TheVariants as fault
