@@ -1,7 +1,7 @@
 -- Steps of the loops that look for faults.
-use Rattle.std.proofs.Common.{ℕ, zero, suc, ◌≡◌, ◌+◌, ◌-◌, ◌^◌, ◌<◌, ◌≤◌, ◌≢◌, Bool, true, false, cond, eqb, leb, ltb, ◌&&◌, List, [], ◌∷◌, length, Option, Some, None, refl, sym, ap, ◌∙◌, subst, arith}
+use Rattle.std.proofs.Common.{ℕ, suc, ◌≡◌, ◌+◌, ◌-◌, ◌<◌, ◌≤◌, ◌≢◌, Bool, true, false, cond, eqb, leb, ltb, ◌&&◌, List, Option, Some, None, refl, sym, ap, ◌∙◌, arith}
 use Rattle.std.specs.Prelude.{min, slice_index, not}
-use Rattle.std.proofs.lemmas.Bool.{cond-true, cond-false, lt-leb, le-leb, eq-eqb, ne_eqb}
+use Rattle.std.proofs.lemmas.Bool.{cond-true, cond-false, lt-leb, eq-eqb, ne_eqb}
 use Rattle.obj36.specs.declared.map.Extents.{Extents}
 use Rattle.obj36.specs.MapFaults.{covering, first_shared}
 use Rattle.obj36.specs.Reading.{unit_at}

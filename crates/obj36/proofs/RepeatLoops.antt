@@ -1,5 +1,5 @@
 -- Steps of the loop that looks for names that stand twice.
-use Rattle.std.proofs.Common.{ℕ, zero, suc, ◌≡◌, ◌+◌, ◌-◌, ◌<◌, ◌≤◌, Bool, true, false, cond, eqb, ◌&&◌, List, [], ◌∷◌, Option, Some, None, refl, sym, ap, ◌∙◌, true≢false, arith}
+use Rattle.std.proofs.Common.{ℕ, zero, suc, ◌≡◌, ◌+◌, ◌-◌, ◌<◌, ◌≤◌, Bool, true, false, cond, eqb, ◌&&◌, List, [], ◌∷◌, Option, Some, None, refl, sym, ap, ◌∙◌, arith}
 use Rattle.std.specs.Prelude.{min, unwrap_or}
 use Rattle.std.specs.Option.{option_map}
 use Rattle.std.specs.Map.{lookup}
@@ -13,7 +13,7 @@ use Rattle.obj36.specs.TableFaults.{earlier, where_bad, next_definition, name_pl
 use Rattle.obj36.specs.Spelled.{whole_words, last_parts}
 use Rattle.obj36.specs.Repeated.{is_spelled, least_with, least_of_each}
 use Rattle.obj36.specs.declared.repeats.Spelling.{Spelling}
-use Rattle.obj36.proofs.FaultLoops.{earlier-assoc, earlier-none, found_more, found_all}
+use Rattle.obj36.proofs.FaultLoops.{earlier-assoc, earlier-none}
 use Rattle.obj36.proofs.SpelledNames.{spelled_same}
 
 -- ---- what a map finds once a key is put in
@@ -33,6 +33,7 @@ module _ {K : Type 0} (eq : K → K → Bool) (test : K → Bool) (key : K) (val
       later true t other more =
           ap (λ b. cond b (Some e.1) (lookup test (insert_entry eq es key value))) (agree t e.0 ∙ other) ∙ more ∙ ap (λ b. cond b (Some value) (lookup test es)) t
       later false t other more = ap (λ o. cond (test e.0) (Some e.1) o) (more ∙ ap (λ b. cond b (Some value) (lookup test es)) t)
+
       by : (b : Bool) → eq key e.0 ≡ b → lookup test (insert_entry eq es key value) ≡ cond (test key) (Some value) (lookup test es)
           → lookup test (cond b ((e.0, value) ∷ es) (e ∷ insert_entry eq es key value)) ≡ cond (test key) (Some value) (cond (test e.0) (Some e.1) (lookup test es))
       by true found more =
@@ -108,7 +109,7 @@ module _ (d : List ℕ) (q : ℕ) (key : Spelling) (places newer : List (Spellin
 
   by_place : (r : ℕ) (b : Bool) → lies_within d r ≡ b
       → cond b (option_map (min r) (lookup (is_spelled d r) newer)) None
-        ≡ earlier (cond b (option_map (min r) (lookup (is_spelled d r) places)) None) (where_bad ((lies_within d q && b) && same_units d q r 0 (unit_at d q 0 + 1)) (min q r))
+      ≡ earlier (cond b (option_map (min r) (lookup (is_spelled d r) places)) None) (where_bad ((lies_within d q && b) && same_units d q r 0 (unit_at d q 0 + 1)) (min q r))
   by_place r false e = ap (λ t. where_bad ((t && false) && same_units d q r 0 (unit_at d q 0 + 1)) (min q r)) (sym in_section)
   by_place r true e =
       ap (option_map (min r)) (looked_up r) ∙ one_more r (is_spelled d r key) e refl

@@ -1,8 +1,8 @@
 -- Names are the same exactly where they are spelled the same.
-use Rattle.std.proofs.Common.{ℕ, zero, suc, ◌≡◌, ◌+◌, ◌-◌, ◌*◌, ◌/◌, ◌%◌, ◌^◌, ◌<◌, ◌≤◌, Bool, true, false, eqb, leb, ltb, ◌&&◌, List, [], ◌∷◌, length, take, drop, get_or, refl, sym, ap, ◌∙◌, subst, arith}
+use Rattle.std.proofs.Common.{ℕ, zero, suc, ◌≡◌, ◌+◌, ◌-◌, ◌*◌, ◌/◌, ◌%◌, ◌^◌, ◌<◌, ◌≤◌, Bool, true, false, eqb, leb, ltb, ◌&&◌, List, ◌∷◌, length, take, drop, get_or, refl, sym, ap, ◌∙◌, arith}
 use Rattle.std.specs.Prelude.{slice_index}
 use Rattle.std.specs.Cmp.Lexicographic.{pointwise}
-use Rattle.std.proofs.lemmas.Bool.{and_parts, and_from, eqb-true, eq-eqb, leb-true, ltb-true}
+use Rattle.std.proofs.lemmas.Bool.{and_parts, and_from, eqb-true, eq-eqb, leb-true}
 use Rattle.std.proofs.Math.Seq.{drop-cons}
 use Rattle.obj36.specs.Reading.{part_of, unit_at}
 use Rattle.obj36.specs.TableFaults.{lies_within, same_units}
@@ -35,6 +35,7 @@ two_parts w v = either_way _ _ there back
         let a = and_parts (eqb (w / 2 ^ 27) (v / 2 ^ 27)) _ e in
         let b = and_parts (eqb (w / 2 ^ 18 % 2 ^ 9) (v / 2 ^ 18 % 2 ^ 9)) true a.1 in
         eq-eqb _ _ (omega (arith, eqb-true (w / 2 ^ 27) (v / 2 ^ 27) a.0, eqb-true (w / 2 ^ 18 % 2 ^ 9) (v / 2 ^ 18 % 2 ^ 9) b.0))
+
     back : eqb (w / 2 ^ 18) (v / 2 ^ 18) ≡ true → (eqb (w / 2 ^ 27) (v / 2 ^ 27) && (eqb (w / 2 ^ 18 % 2 ^ 9) (v / 2 ^ 18 % 2 ^ 9) && true)) ≡ true
     back e =
         let h = eqb-true (w / 2 ^ 18) (v / 2 ^ 18) e in
@@ -56,6 +57,7 @@ three_parts w v = either_way _ _ there back
           eqb-true (w / 2 ^ 18 % 2 ^ 9) (v / 2 ^ 18 % 2 ^ 9) b.0,
           eqb-true (w / 2 ^ 9 % 2 ^ 9) (v / 2 ^ 9 % 2 ^ 9) c.0,
         ))
+
     back : eqb (w / 2 ^ 9) (v / 2 ^ 9) ≡ true
         → (eqb (w / 2 ^ 27) (v / 2 ^ 27) && (eqb (w / 2 ^ 18 % 2 ^ 9) (v / 2 ^ 18 % 2 ^ 9) && (eqb (w / 2 ^ 9 % 2 ^ 9) (v / 2 ^ 9 % 2 ^ 9) && true))) ≡ true
     back e =
@@ -83,6 +85,7 @@ four_parts w v = either_way _ _ there back
           eqb-true (w / 2 ^ 9 % 2 ^ 9) (v / 2 ^ 9 % 2 ^ 9) c.0,
           eqb-true (w % 2 ^ 9) (v % 2 ^ 9) d.0,
         ))
+
     back : eqb w v ≡ true
         → (eqb (w / 2 ^ 27) (v / 2 ^ 27) && (eqb (w / 2 ^ 18 % 2 ^ 9) (v / 2 ^ 18 % 2 ^ 9) && (eqb (w / 2 ^ 9 % 2 ^ 9) (v / 2 ^ 9 % 2 ^ 9) && (eqb (w % 2 ^ 9) (v % 2 ^ 9) && true)))) ≡ true
     back e =
@@ -185,6 +188,7 @@ module _ (d : List ℕ) (a b : ℕ) where
       none : (x : Bool) → false ≡ (x && false)
       none true = refl
       none false = refl
+
       by : (t : Bool) → eqb (unit_at d a 0) (unit_at d b 0) ≡ t
           → same_units d a b 0 (unit_at d a 0 + 1) ≡ (pointwise eqb (take (unit_at d a 0 / 4) (drop a d)) (take (unit_at d b 0 / 4) (drop b d))
           && (t && eqb (kept_parts (slice_index d (a + unit_at d a 0 / 4)) (unit_at d a 0 % 4)) (kept_parts (slice_index d (b + unit_at d b 0 / 4)) (unit_at d b 0 % 4))))

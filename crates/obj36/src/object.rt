@@ -10,16 +10,16 @@ ghost use Rattle.obj36.specs.Faults.{ReadSays, IsReadAs, IsFound};
 ghost use Rattle.obj36.specs.ObjectOf.{value_of, IsObjectOf};
 ghost use Rattle.std.specs.Cmp.Lexicographic.{pointwise};
 
-use obj36_parts::definition::{Def, Named};
 use crate::fault::ObjectFault;
-use obj36_parts::halves::word_of;
 use crate::judging::fault_of;
+use crate::reading::parts_in;
+use m36_word::{NoMemory, Word, Words};
+use obj36_parts::definition::{Def, Named};
+use obj36_parts::halves::word_of;
 use obj36_parts::link::Link;
 use obj36_parts::parts::Parts;
-use crate::reading::parts_in;
 use obj36_parts::section::Section;
 use obj36_parts::sections::{definition_words_of, linkage_words_of, push_all, symbol_words_of};
-use m36_word::{NoMemory, Word, Words};
 use std::alloc::Global;
 use std::marker::Model;
 

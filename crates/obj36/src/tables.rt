@@ -3,11 +3,11 @@
 ghost use Rattle.std.specs.Prelude.{ℕ, List, Bool, ◌≡◌, ◌+◌, ◌-◌, ◌*◌, ◌/◌, ◌^◌, ◌<◌, ◌≤◌, ◌&&◌, ◌||◌, not, nat_eq, nat_lt, nat_le, min, length, Option, Some, None, IfSome, IfOk};
 ghost use Rattle.obj36.specs.TableFaults.{earlier, where_bad, definition_count, first_definition, next_definition, is_member, chain_fault, count_fault, expression_count, first_expression, leaves_section, class_at, class_faults, name_place, lies_within, is_at_head, members_fault, table_fault};
 
-use obj36_parts::checks::greatest_class;
-use obj36_parts::halves::{left_of, right_of};
 use crate::reading::{unit, word_at};
 use crate::repeats::fault_of_repeats;
 use m36_word::{NoMemory, Word};
+use obj36_parts::checks::greatest_class;
+use obj36_parts::halves::{left_of, right_of};
 use std::alloc::Global;
 
 // The lesser of two places, where there are any.

@@ -1,5 +1,5 @@
 -- What the tables of definitions and links find.
-use Rattle.std.proofs.Common.{ℕ, zero, suc, ◌≡◌, ◌+◌, ◌≤◌, Bool, true, false, cond, ◌&&◌, ◌||◌, not, eqb, List, [], ◌∷◌, ◌++◌, length, Option, Some, None, is_some, refl, sym, ap, ◌∙◌, subst, true≢false, arith}
+use Rattle.std.proofs.Common.{ℕ, suc, ◌≡◌, ◌+◌, Bool, true, false, cond, ◌&&◌, ◌||◌, not, eqb, List, [], ◌∷◌, ◌++◌, length, Option, Some, None, is_some, refl, sym, ap, ◌∙◌, subst, true≢false, arith}
 use Rattle.std.specs.List.{list_any, position_from}
 use Rattle.std.specs.Prelude.{position}
 use Rattle.std.specs.Map.{lookup}
@@ -274,10 +274,10 @@ indexed_more links held all places newer keys kept new link place h e f p q k n 
     let at : place ≡ length links = p ∙ ap length e in
     subst P (sym (f ∙ ap (λ (ls : List LinkFields). ls ++ link ∷ []) e)) (record {
       places_are = λ l.
-        ap (λ (ps : List (LinkFields × ℕ)). lookup (same_link l) ps) (q ∙ ap (λ m. cond (is_some (lookup (same_link link) places)) places (places ++ (link, m) ∷ [])) at)
-        ∙ places_more links places link l (is_some (lookup (same_link link) places)) h.places_are refl;
+          ap (λ (ps : List (LinkFields × ℕ)). lookup (same_link l) ps) (q ∙ ap (λ m. cond (is_some (lookup (same_link link) places)) places (places ++ (link, m) ∷ [])) at)
+          ∙ places_more links places link l (is_some (lookup (same_link link) places)) h.places_are refl;
       names_are =
-        n ∙ ap (λ (ks : List (List ℕ)). with_names ks (link_names link)) (k ∙ h.names_are)
-        ∙ sym (with_names-append [] (all_link_names links) (link_names link))
-        ∙ ap (λ (ns : List (List ℕ)). with_names [] ns) (ap (λ (ns : List (List ℕ)). all_link_names links ++ ns) (sym (append-nil (link_names link))) ∙ sym (all_link_names-append links (link ∷ [])));
+          n ∙ ap (λ (ks : List (List ℕ)). with_names ks (link_names link)) (k ∙ h.names_are)
+          ∙ sym (with_names-append [] (all_link_names links) (link_names link))
+          ∙ ap (λ (ns : List (List ℕ)). with_names [] ns) (ap (λ (ns : List (List ℕ)). all_link_names links ++ ns) (sym (append-nil (link_names link))) ∙ sym (all_link_names-append links (link ∷ [])));
     })

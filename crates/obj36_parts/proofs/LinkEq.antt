@@ -1,5 +1,5 @@
 -- Links are compared by all their fields.
-use Rattle.std.proofs.Common.{ℕ, ◌≡◌, Bool, true, false, ◌&&◌, eqb, refl, ap, ◌∙◌}
+use Rattle.std.proofs.Common.{◌≡◌, Bool, true, false, ◌&&◌, eqb, refl, ap, ◌∙◌}
 use Rattle.obj36_parts.specs.Fields.{LinkFields}
 use Rattle.obj36_parts.specs.declared.section.Section.{Section}
 use Rattle.obj36_parts.specs.declared.section.Section.TheVariants.{Text, Linkage, Symbol, Static}

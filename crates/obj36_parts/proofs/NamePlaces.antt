@@ -1,12 +1,12 @@
 -- What the table of names finds.
-use Rattle.std.proofs.Common.{ℕ, zero, suc, ◌≡◌, ◌+◌, ◌*◌, ◌^◌, ◌≤◌, Bool, true, false, cond, List, [], ◌∷◌, ◌++◌, ◌||◌, length, Option, Some, None, is_some, refl, sym, ap, ◌∙◌, subst, true≢false, arith}
-use Rattle.std.specs.Prelude.{unwrap_or, map}
+use Rattle.std.proofs.Common.{ℕ, suc, ◌≡◌, ◌+◌, ◌^◌, ◌≤◌, Bool, true, false, cond, List, [], ◌∷◌, ◌++◌, ◌||◌, length, Some, is_some, refl, sym, ap, ◌∙◌, subst, arith}
+use Rattle.std.specs.Prelude.{unwrap_or}
 use Rattle.std.specs.List.{list_any}
 use Rattle.std.specs.Map.{lookup}
 use Rattle.std.proofs.lemmas.List.{length-append}
 use Rattle.indexmap.specs.IndexMap.{insert_entry}
 use Rattle.obj36_parts.specs.Names.{same, with_name, place_of, name_length, name_words, all_name_words}
-use Rattle.obj36_parts.specs.NameTables.{NameTableFields, names_in, laid, IsLaid}
+use Rattle.obj36_parts.specs.NameTables.{names_in, laid, IsLaid}
 use Rattle.obj36_parts.proofs.IndexLaws.{goes_last}
 use Rattle.obj36_parts.proofs.NameTables.{one_more}
 use Rattle.obj36_parts.proofs.SizeLaws.{length-name_words, all_words_last}
@@ -55,8 +55,8 @@ laid_more entries new base next after n name h none e long short a =
     record {
       near = h.near;
       places =
-        all ∙ (λ i. h.places i ++ (name, h.behind i) ∷ []) ∙ sym (laid_last (names_in entries) name base)
-        ∙ ap (λ (ns : List (List ℕ)). laid ns base) (sym names);
+          all ∙ (λ i. h.places i ++ (name, h.behind i) ∷ []) ∙ sym (laid_last (names_in entries) name base)
+          ∙ ap (λ (ns : List (List ℕ)). laid ns base) (sym names);
       behind = omega (arith, h.behind);
       small = omega (arith, h.small);
     }
@@ -86,7 +86,7 @@ place_told name (n ∷ names) at = by (same name n) (place_told name names (at +
     by : (b : Bool)
         → unwrap_or (lookup (same name) (laid names (at + name_length n))) (at + name_length n + length (all_name_words names)) ≡ place_of name names (at + name_length n)
         → unwrap_or (cond b (Some at) (lookup (same name) (laid names (at + name_length n)))) (at + length (name_words n ++ all_name_words names))
-          ≡ cond b at (place_of name names (at + name_length n))
+        ≡ cond b at (place_of name names (at + name_length n))
     by true later = refl
     by false later =
         ap (λ m. unwrap_or (lookup (same name) (laid names (at + name_length n))) m)

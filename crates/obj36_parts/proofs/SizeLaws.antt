@@ -1,13 +1,13 @@
 -- Names that are spelled once, counted in words.
-use Rattle.std.proofs.Common.{ℕ, zero, suc, ◌≡◌, ◌+◌, ◌-◌, ◌*◌, ◌/◌, ◌^◌, ◌<◌, ◌≤◌, Bool, true, false, cond, eqb, ◌||◌, List, [], ◌∷◌, ◌++◌, length, take, drop, get_or, refl, sym, ap, ◌∙◌, subst, append_assoc, arith}
+use Rattle.std.proofs.Common.{ℕ, zero, suc, ◌≡◌, ◌+◌, ◌-◌, Bool, true, false, cond, eqb, ◌||◌, List, [], ◌∷◌, ◌++◌, length, refl, sym, ap, ◌∙◌, append_assoc, arith}
 use Rattle.std.specs.List.{list_any}
 use Rattle.std.proofs.lemmas.Bool.{eqb-true, eq-eqb, and_parts, and_from}
-use Rattle.std.proofs.lemmas.List.{length-append, append-nil, take_more, take_all}
+use Rattle.std.proofs.lemmas.List.{length-append}
 use Rattle.std.proofs.lemmas.List.Folds.{list_any-append}
 use Rattle.obj36_parts.specs.Fields.{LinkFields}
 use Rattle.obj36_parts.specs.declared.definition.Named.{Named}
-use Rattle.obj36_parts.specs.Names.{same, with_name, with_names, name_length, name_word, name_words_from, name_words, all_name_words}
-use Rattle.obj36_parts.specs.ObjectSegment.{has_name, has_entry, definition_names, link_names, name_used, entry_used, all_link_names}
+use Rattle.obj36_parts.specs.Names.{same, with_name, with_names, name_length, name_words_from, name_words, all_name_words}
+use Rattle.obj36_parts.specs.ObjectSegment.{definition_names, link_names, all_link_names}
 use Rattle.obj36_parts.specs.Sizes.{names_length, all_length, other_length, others_length}
 use Rattle.obj36_parts.proofs.NameTables.{with_names-append}
 
@@ -146,8 +146,8 @@ beside_one : (ds : List Named) (alone all : List (List ℕ)) (x : List ℕ) → 
 unfolding with_name
 beside_one ds alone all x h = record {
   among = λ y.
-    any_with y x all ∙ ap (λ b. b || same y x) (h.among y) ∙ or_assoc (named ds y) (list_any (same y) alone) (same y x)
-    ∙ ap (λ b. named ds y || b) (sym (any_with y x alone));
+      any_with y x all ∙ ap (λ b. b || same y x) (h.among y) ∙ or_assoc (named ds y) (list_any (same y) alone) (same y x)
+      ∙ ap (λ b. named ds y || b) (sym (any_with y x alone));
   long = longer ds alone all x (list_any (same x) all) (list_any (same x) alone) (all_length (with_names [] (definition_names ds))) (h.among x) h.long;
 }
 

@@ -1,5 +1,5 @@
 -- What the tables of definitions and links keep beside their lists, so that a name or a link is found at once.
-use Rattle.std.specs.Prelude.{ℕ, ◌≡◌, Bool, ◌&&◌, nat_eq, List, [], ◌∷◌, ◌++◌, Option, position, is_some, if◌then◌else◌}
+use Rattle.std.specs.Prelude.{ℕ, ◌≡◌, Bool, ◌&&◌, nat_eq, List, [], ◌∷◌, ◌++◌, position, is_some, if◌then◌else◌}
 use Rattle.std.specs.Map.{lookup}
 use Rattle.obj36_parts.specs.Fields.{LinkFields}
 use Rattle.obj36_parts.specs.Names.{same, with_names}

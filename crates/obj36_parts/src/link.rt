@@ -140,11 +140,7 @@ impl Links {
 }
 
 // Keeps the place of a link that has none yet.
-fn note_place(
-    places: &mut IndexMap<Link, u64>,
-    link: &Link,
-    place: u64,
-) -> Result<(), NoMemory>
+fn note_place(places: &mut IndexMap<Link, u64>, link: &Link, place: u64) -> Result<(), NoMemory>
     ensures ok { OnOk result (places.new.entries ≡ with_place places.old.entries link.now place) }
     ensures err { OnErr result (places.new.entries ≡ places.old.entries) }
 {

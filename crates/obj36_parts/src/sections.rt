@@ -140,11 +140,7 @@ fn push_expression(out: &mut Words, table: &NameTable, link: &Link) -> Result<()
     push_pair(out, first, second)
 }
 
-fn push_expressions(
-    out: &mut Words,
-    table: &NameTable,
-    links: &[Link],
-) -> Result<(), NoMemory>
+fn push_expressions(out: &mut Words, table: &NameTable, links: &[Link]) -> Result<(), NoMemory>
     ensures { OnOk result (out.new ≡ out.old ++ expression_words table.now.names table.now.base links.now) }
 {
     for link in links {

@@ -24,6 +24,7 @@ const DEFINITION: [u64; 14] = [
     0o001142000000,
     0o001170000000,
 ];
+
 const LINKAGE: [u64; 14] = [
     0o000000000000,
     0o000012000002,
@@ -40,6 +41,7 @@ const LINKAGE: [u64; 14] = [
     0o777764000046,
     0o000010000000,
 ];
+
 const SYMBOL: [u64; 2] = [0o000000000001, 0o000002021000];
 
 fn name(text: &str) -> Result<Name, Fail> {
@@ -129,7 +131,10 @@ fn names_and_links_are_found(rt: HostRuntime) -> Result<(), Fail> {
         def: again,
     })?;
     assert!(rt; !definitions.have_own_names());
-    assert_eq!(rt; (definitions.items().len(), definitions.names().len()), (3, 2));
+    assert_eq!(rt;
+        (definitions.items().len(), definitions.names().len()),
+        (3, 2)
+    );
     let mut links = links_of(rt.alloc())?;
     links.push(link(4, "b", "x", 0, 0o20)?)?;
     assert_eq!(rt; links.place(&link(5, "", "go", 2, 0)?), Some(1));

@@ -1,4 +1,4 @@
-use Rattle.std.proofs.Common.{◌++◌, ◌∷◌, [], ap, ◌∙◌, List, arith}
+use Rattle.std.proofs.Common.{◌++◌, ◌∷◌, [], ap, ◌∙◌, arith}
 use Rattle.obj36_parts.specs.declared.definition.Named.{Named}
 use Rattle.obj36.specs.Reading.{definitions_in}
 use Rattle.obj36.proofs.ReadingLoops.{definition_read, definitions_read}

@@ -1,4 +1,4 @@
-use Rattle.std.proofs.Common.{◌++◌, ◌∷◌, [], ap, ◌∙◌, List, arith}
+use Rattle.std.proofs.Common.{◌++◌, ◌∷◌, [], ap, ◌∙◌, arith}
 use Rattle.obj36_parts.specs.Fields.{LinkFields}
 use Rattle.obj36.specs.Reading.{links_in}
 use Rattle.obj36.proofs.ReadingLoops.{link_read, links_read}

@@ -1,4 +1,4 @@
-use Rattle.std.proofs.Common.{◌++◌, ◌∷◌, [], ap, ◌∙◌, List, arith}
+use Rattle.std.proofs.Common.{◌++◌, ◌∷◌, [], ap, ◌∙◌, arith}
 use Rattle.obj36_parts.specs.Fields.{RelocFields}
 use Rattle.obj36.specs.Reading.{relocations_in}
 use Rattle.obj36.proofs.ReadingLoops.{relocation_read, relocations_read}

@@ -1,4 +1,4 @@
-use Rattle.std.proofs.Common.{List, ℕ, ◌≡◌, refl, sym, ap, ◌∙◌}
+use Rattle.std.proofs.Common.{List, ℕ, refl, sym, ap, ◌∙◌}
 use Rattle.indexmap.specs.IndexMap.{insert_entry}
 use Rattle.obj36_parts.specs.Names.{same, with_name}
 use Rattle.obj36_parts.specs.NameTables.{NameTableFields}
