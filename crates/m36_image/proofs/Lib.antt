@@ -1,0 +1,6 @@
+pub mod CoreWords
+pub mod Headers
+pub mod Images
+pub mod LinesInTurn
+pub mod PlacedLaws
+pub mod Placing

@@ -1,0 +1,172 @@
+-- The bare image: a text that writes out the core of a machine, its descriptor segment base register
+-- and where it starts.
+--
+--     core N          N decimal, 1 to 16384 frames of 1,024 words
+--     dbr E O         two words of 12 octal digits
+--     start S R I     segment, ring and word number, of 5, 1 and 6 octal digits
+--     at A W ..       a core address of 8 octal digits, and one to eight words of 12, there and behind
+--
+-- Each line ends with a line feed, and the words of a line are parted by single spaces. The first three
+-- lines stand once, in this order; any number of `at` lines follows.
+--
+-- I1 is a line not of its form, a missing line or a missing line feed. I2 is an N out of range. I3 is an
+-- `at` whose first address is not above every earlier address, or whose last address is outside core. The
+-- first line with a fault counts, and in it the least code.
+use Rattle.std.specs.Prelude.{ℕ, zero, suc, ◌+◌, ◌*◌, ◌&&◌, nat_le, nat_lt, List, [], ◌∷◌, ◌++◌, length, drop, codes, Option, Some, None, Result, Ok, Err, unwrap_or, if◌then◌else◌}
+use Rattle.std.specs.List.{list_all, filter_map}
+use Rattle.std.specs.Result.{result_unwrap_or}
+use Rattle.m36_word.specs.declared.pair.Pair.{Pair}
+use Rattle.m36_text.specs.Texts.{is_text}
+use Rattle.m36_text.specs.Lines.{lines_of, line_at, words_of, first_told}
+use Rattle.m36_text.specs.Numbers.{octal_in}
+use Rattle.m36_text.specs.Reading.{number_read}
+use Rattle.m36_text.specs.declared.reading.NumberFault.{NumberFault}
+use Rattle.m36_text.specs.declared.reading.NumberFault.TheVariants.{T1, T2}
+use Rattle.m36_model.specs.Fields.{PprFields}
+use Rattle.m36_image.specs.declared.refusal.ImageCode.{ImageCode}
+use Rattle.m36_image.specs.declared.refusal.ImageCode.TheVariants.{I1, I2, I3}
+use Rattle.m36_image.specs.declared.refusal.Refusal.{Refusal}
+use Rattle.m36_image.specs.PlacedWords.{PlacedWords}
+
+-- Line 1. Any count of decimal digits is of the form.
+abbrev pub frames_read : Result ℕ NumberFault → Result ℕ ImageCode
+frames_read (Ok n) = if nat_le 1 n then Ok n else Err I2
+frames_read (Err (T1 place)) = Err I1
+frames_read (Err T2) = Err I2
+
+abbrev pub core_words : List (List ℕ) → Result ℕ ImageCode
+core_words (name ∷ n ∷ []) =
+    if is_text (codes "core") name then frames_read (number_read 10 n 16384) else Err I1
+core_words _ = Err I1
+
+abbrev pub core_line : Option (List ℕ) → Result ℕ ImageCode
+core_line (Some line) = core_words (words_of line)
+core_line None = Err I1
+
+-- Line 2.
+abbrev pub dbr_read : Option ℕ → Option ℕ → Option Pair
+dbr_read (Some even) (Some odd) = Some (record { even = even; odd = odd })
+dbr_read _ _ = None
+
+abbrev pub dbr_words : List (List ℕ) → Option Pair
+dbr_words (name ∷ even ∷ odd ∷ []) =
+    if is_text (codes "dbr") name then dbr_read (octal_in 12 even) (octal_in 12 odd) else None
+dbr_words _ = None
+
+abbrev pub dbr_line : Option (List ℕ) → Option Pair
+dbr_line (Some line) = dbr_words (words_of line)
+dbr_line None = None
+
+-- Line 3.
+abbrev pub start_read : Option ℕ → Option ℕ → Option ℕ → Option PprFields
+start_read (Some seg) (Some ring) (Some word) = Some (record { psr = seg; prr = ring; ic = word })
+start_read _ _ _ = None
+
+abbrev pub start_words : List (List ℕ) → Option PprFields
+start_words (name ∷ seg ∷ ring ∷ word ∷ []) =
+    if is_text (codes "start") name
+    then start_read (octal_in 5 seg) (octal_in 1 ring) (octal_in 6 word) else None
+start_words _ = None
+
+abbrev pub start_line : Option (List ℕ) → Option PprFields
+start_line (Some line) = start_words (words_of line)
+start_line None = None
+
+-- Each further line: words, and the core address of the first of them.
+abbrev pub with_word : Option ℕ → Option (List ℕ) → Option (List ℕ)
+with_word (Some word) (Some words) = Some (word ∷ words)
+with_word _ _ = None
+
+abbrev pub octal_words : List (List ℕ) → Option (List ℕ)
+octal_words [] = Some []
+octal_words (text ∷ texts) = with_word (octal_in 12 text) (octal_words texts)
+
+abbrev pub at_read : Option ℕ → Option (List ℕ) → Option PlacedWords
+at_read (Some first) (Some words) = Some (record { first = first; words = words })
+at_read _ _ = None
+
+-- one to eight words
+abbrev pub one_to_eight : List (List ℕ) → Option (List ℕ)
+one_to_eight [] = None
+one_to_eight (text ∷ texts) = if nat_le (length texts) 7 then octal_words (text ∷ texts) else None
+
+abbrev pub at_words : List (List ℕ) → Option PlacedWords
+at_words (name ∷ address ∷ texts) =
+    if is_text (codes "at") name then at_read (octal_in 8 address) (one_to_eight texts) else None
+at_words _ = None
+
+abbrev pub at_line : Option (List ℕ) → Option PlacedWords
+at_line (Some line) = at_words (words_of line)
+at_line None = None
+
+-- The code of an `at` line in a core of so many words, with the addresses of the earlier ones: the least
+-- that holds.
+abbrev pub at_code : ℕ → List ℕ → Option PlacedWords → Option ImageCode
+at_code size earlier None = Some I1
+at_code size earlier (Some p) =
+    if list_all (λ a. nat_lt a p.first) earlier && nat_le (p.first + length p.words) size
+    then None else Some I3
+
+-- so many numbers from one on
+abbrev pub numbers_from : ℕ → ℕ → List ℕ
+numbers_from n zero = []
+numbers_from n (suc count) = n ∷ numbers_from (n + 1) count
+
+abbrev pub addresses : Option PlacedWords → List ℕ
+addresses None = []
+addresses (Some p) = numbers_from p.first (length p.words)
+
+unfoldable pub at_codes : ℕ → List ℕ → List (Option (List ℕ)) → List (Option ImageCode)
+at_codes size earlier [] = []
+at_codes size earlier (line ∷ lines) =
+    at_code size earlier (at_line line) ∷ at_codes size (earlier ++ addresses (at_line line)) lines
+
+-- the code of each line, in order; a file has three lines at least
+abbrev pub core_code : Result ℕ ImageCode → Option ImageCode
+core_code (Ok frames) = None
+core_code (Err code) = Some code
+
+abbrev pub form_code : {A : Type 0} → Option A → Option ImageCode
+form_code (Some value) = None
+form_code None = Some I1
+
+abbrev pub frames_of : List (Option (List ℕ)) → ℕ
+frames_of lines = result_unwrap_or (core_line (line_at lines 1)) 0
+
+abbrev pub header_codes : List (Option (List ℕ)) → List (Option ImageCode)
+header_codes lines =
+    core_code (core_line (line_at lines 1))
+    ∷ form_code (dbr_line (line_at lines 2))
+    ∷ form_code (start_line (line_at lines 3))
+    ∷ []
+
+abbrev pub line_codes : List (Option (List ℕ)) → List (Option ImageCode)
+line_codes lines = header_codes lines ++ at_codes (1024 * frames_of lines) [] (drop 3 lines)
+
+-- What an image says.
+pub record Image : Type 0 where
+  pub frames : ℕ
+  pub dbr : Pair
+  pub start : PprFields
+  pub placed : List PlacedWords
+
+-- what lines of which none has a fault say
+abbrev pub image_in : List (Option (List ℕ)) → Image
+image_in lines =
+    record {
+      frames = frames_of lines;
+      dbr = unwrap_or (dbr_line (line_at lines 2)) (record { even = 0; odd = 0 });
+      start = unwrap_or (start_line (line_at lines 3)) (record { psr = 0; prr = 0; ic = 0 });
+      placed = filter_map at_line (drop 3 lines);
+    }
+
+abbrev pub refusal_of : ℕ × ImageCode → Refusal
+refusal_of told = record { line = told.0; code = told.1 }
+
+abbrev pub image_by : Option (ℕ × ImageCode) → Image → Result Image Refusal
+image_by None image = Ok image
+image_by (Some told) image = Err (refusal_of told)
+
+-- the image that a file writes out, or why it does not
+unfoldable pub image_of : List ℕ → Result Image Refusal
+image_of text = image_by (first_told 1 (line_codes (lines_of text))) (image_in (lines_of text))

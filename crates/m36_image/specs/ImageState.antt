@@ -1,0 +1,61 @@
+-- The state of a machine that a bare image writes out.
+use Rattle.std.specs.Prelude.{ℕ, false, ◌+◌, ◌*◌, List, [], ◌∷◌, replicate, slice_set, Result, Ok, Err}
+use Rattle.m36_word.specs.declared.pair.Pair.{Pair}
+use Rattle.m36_desc.specs.Fields.{PtrFields}
+use Rattle.m36_desc.specs.Descriptors.{dbr_of}
+use Rattle.m36_model.specs.Fields.{PprFields}
+use Rattle.m36_model.specs.Registers.{RegsFields}
+use Rattle.m36_model.specs.Store.{State}
+use Rattle.m36_image.specs.declared.refusal.Refusal.{Refusal}
+use Rattle.m36_image.specs.PlacedWords.{PlacedWords}
+use Rattle.m36_image.specs.BareImage.{Image, image_of}
+
+-- words written from an address on
+abbrev pub written_at : List ℕ → ℕ → List ℕ → List ℕ
+written_at core address [] = core
+written_at core address (word ∷ words) = written_at (slice_set core address word) (address + 1) words
+
+-- the words of all lines, in order
+abbrev pub written_all : List ℕ → List PlacedWords → List ℕ
+written_all core [] = core
+written_all core (p ∷ placed) = written_all (written_at core p.first p.words) placed
+
+-- every core word that no line writes is zero
+abbrev pub core_of : Image → List ℕ
+core_of image = written_all (replicate (1024 * image.frames) 0) image.placed
+
+abbrev pub no_pointer : PtrFields
+no_pointer = record { seg = 0; ring = 0; word = 0; bit = 0 }
+
+-- The words of the descriptor segment base register and the first instruction: all other registers are
+-- zero.
+abbrev pub regs_of : Pair → PprFields → RegsFields
+regs_of dbr start =
+    record {
+      a = 0;
+      q = 0;
+      x = replicate 8 0;
+      pr = replicate 8 no_pointer;
+      ind =
+          record {
+            zero = false;
+            negative = false;
+            carry = false;
+            overflow = false;
+            mask = false;
+            tally = false;
+          };
+      ppr = start;
+      dbr = dbr_of dbr.even dbr.odd;
+    }
+
+unfoldable pub state_of : Image → State (List ℕ)
+state_of image = record { regs = regs_of image.dbr image.start; store = core_of image }
+
+-- the state that a file writes out, or why it does not
+abbrev pub state_by : Result Image Refusal → Result (State (List ℕ)) Refusal
+state_by (Ok image) = Ok (state_of image)
+state_by (Err refusal) = Err refusal
+
+unfoldable pub state_given : List ℕ → Result (State (List ℕ)) Refusal
+state_given text = state_by (image_of text)

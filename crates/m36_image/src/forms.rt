@@ -1,0 +1,91 @@
+//! The lines of a bare image, each read by its form. A line is given without its line feed.
+
+ghost use Rattle.std.specs.Prelude.{ℕ, ◌≡◌, ◌≤◌, IfOk};
+ghost use Rattle.m36_text.specs.Lines.{words_of};
+ghost use Rattle.m36_text.specs.Numbers.{octal_in};
+ghost use Rattle.m36_image.specs.BareImage.{core_words, frames_read, dbr_words, start_words};
+
+use crate::refusal::ImageCode;
+use m36_model::Ppr;
+use m36_text::{NumberFault, first_word, is_text, octal_in, only_word, read_decimal};
+use m36_word::{Pair, Word};
+
+/// The most frames of core.
+const MOST_FRAMES: u64 = 16384;
+
+/// Twelve octal digits as a word.
+pub fn word_of(text: &[u8]) -> Option<Word>
+    ensures { result ≡ octal_in 12 text.now }
+{
+    let value = octal_in(text, 12)?;
+    Some(Word::low(value))
+}
+
+// The number of frames that a number of the line `core N` gives.
+fn frames_of(read: Result<u64, NumberFault>) -> Result<u32, ImageCode>
+    requires { IfOk read (λ n. n ≤ 16384) }
+    ensures frames { result ≡ frames_read read }
+    ensures some { IfOk result (λ n. 1 ≤ n) }
+    ensures most { IfOk result (λ n. n ≤ 16384) }
+{
+    match read {
+        Ok(0) | Err(NumberFault::T2) => Err(ImageCode::I2),
+        Ok(frames) => Ok(frames as u32),
+        Err(NumberFault::T1(_)) => Err(ImageCode::I1),
+    }
+}
+
+/// The line `core N`: how many frames of core, 1 to 16,384.
+pub fn core_line(line: &[u8]) -> Result<u32, ImageCode>
+    ensures frames { result ≡ core_words (words_of line.now) }
+    ensures some { IfOk result (λ n. 1 ≤ n) }
+    ensures most { IfOk result (λ n. n ≤ 16384) }
+{
+    let (name, rest) = first_word(line);
+    let Some(rest) = rest else {
+        return Err(ImageCode::I1);
+    };
+    let Some(frames) = only_word(rest) else {
+        return Err(ImageCode::I1);
+    };
+    if !is_text(b"core", name) {
+        return Err(ImageCode::I1);
+    }
+    frames_of(read_decimal(frames, MOST_FRAMES))
+}
+
+/// The line `dbr E O`: the words of the descriptor segment base register; none where it is not of its form.
+pub fn dbr_line(line: &[u8]) -> Option<Pair>
+    ensures { result ≡ dbr_words (words_of line.now) }
+{
+    let (name, rest) = first_word(line);
+    let (even, rest) = first_word(rest?);
+    let odd = only_word(rest?)?;
+    if !is_text(b"dbr", name) {
+        return None;
+    }
+    let even = word_of(even)?;
+    let odd = word_of(odd)?;
+    Some(Pair { even, odd })
+}
+
+/// The line `start S R I`: where the machine starts; none where it is not of its form.
+pub fn start_line(line: &[u8]) -> Option<Ppr>
+    ensures { result ≡ start_words (words_of line.now) }
+{
+    let (name, rest) = first_word(line);
+    let (seg, rest) = first_word(rest?);
+    let (ring, rest) = first_word(rest?);
+    let word = only_word(rest?)?;
+    if !is_text(b"start", name) {
+        return None;
+    }
+    let seg = octal_in(seg, 5)?;
+    let ring = octal_in(ring, 1)?;
+    let word = octal_in(word, 6)?;
+    Some(Ppr {
+        ic: word as u32,
+        psr: seg as u16,
+        prr: ring as u8,
+    })
+}

@@ -1,0 +1,77 @@
+//! Bare images: the state of a machine, read from a text.
+
+ghost use Rattle.std.specs.Prelude.{ℕ, ◌≡◌, ◌≤◌, ◌^◌, length};
+ghost use Rattle.m36_image.specs.ImageState.{regs_of, state_given};
+ghost use Rattle.m36_image.specs.ImageSays.{ImageSays};
+
+use crate::core_words::put_lines;
+use crate::header::read_header;
+use crate::refusal::ImageFault;
+use m36_core::Core;
+use m36_desc::{Dbr, Ptr};
+use m36_model::{Ind, Ppr, Regs};
+use m36_word::{Pair, Word};
+use std::alloc::Global;
+use std::marker::Model;
+
+/// Core and registers, as a bare image writes them out.
+#[derive(Drop)]
+pub struct Image {
+    pub core: Core,
+    pub regs: Regs,
+}
+
+impl Model for Image {
+    ghost use Rattle.std.specs.Prelude.{ℕ, List};
+    ghost use Rattle.m36_model.specs.Store.{State};
+
+    ghost Value = { State (List ℕ) };
+
+    ghost view = { λ i. record { regs = i.regs; store = i.core } };
+}
+
+// All registers zero, but for the descriptor segment base register and the first instruction.
+fn registers(dbr: Pair, start: Ppr) -> Regs
+    ensures { result ≡ regs_of dbr start }
+{
+    let none = Ptr {
+        word: 0,
+        seg: 0,
+        ring: 0,
+        bit: 0,
+    };
+    Regs {
+        a: Word::ZERO,
+        q: Word::ZERO,
+        x: [0; 8],
+        pr: [none; 8],
+        dbr: Dbr::of_words(dbr),
+        ppr: start,
+        ind: Ind {
+            zero: false,
+            negative: false,
+            carry: false,
+            overflow: false,
+            mask: false,
+            tally: false,
+        },
+    }
+}
+
+/// Reads a bare image. It is refused exactly where a line has a fault, with the first one.
+#[tactic(auto, using(crate::proofs::Images::images))]
+pub fn read_image(alloc: Global, text: &[u8]) -> Result<Image, ImageFault>
+    requires { length text.now ≤ 2 ^ 31 }
+    ensures { ImageSays result (state_given text.now) }
+{
+    let (header, rest) = match read_header(text) {
+        Ok(read) => read,
+        Err(refusal) => return Err(ImageFault::Refused(refusal)),
+    };
+    let mut core = Core::new(alloc, header.frames)?;
+    put_lines(&mut core, rest)?;
+    Ok(Image {
+        core,
+        regs: registers(header.dbr, header.start),
+    })
+}

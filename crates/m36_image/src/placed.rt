@@ -1,0 +1,66 @@
+//! The line `at A W ..` of a bare image: words, and where they stand in core.
+
+ghost use Rattle.std.specs.Prelude.{ℕ, ◌≡◌, ◌<◌, ◌≤◌, ◌^◌};
+ghost use Rattle.std.specs.Option.{option_map};
+ghost use Rattle.m36_text.specs.Lines.{words_of};
+ghost use Rattle.m36_image.specs.BareImage.{one_to_eight, at_words};
+
+use crate::forms::word_of;
+use arrayvec::ArrayVec;
+use m36_text::{first_word, is_text, octal_in};
+use m36_word::Word;
+use std::marker::Model;
+
+/// Words, and the core address of the first of them.
+#[derive(Drop)]
+pub struct Placed {
+    pub words: ArrayVec<Word, 8>,
+    /// 24 bits.
+    pub first: u32,
+}
+
+impl Model for Placed {
+    ghost use Rattle.std.specs.Prelude.{◌<◌, ◌^◌};
+    ghost use Rattle.m36_image.specs.PlacedWords.{PlacedWords};
+
+    ghost Value = { PlacedWords };
+
+    ghost view = { λ p. record { first = p.first; words = p.words.items } };
+
+    ghost invariant = { λ p. p.first < 2 ^ 24 };
+}
+
+// One to eight words; none where there are more, or one is not of twelve digits.
+#[tactic(auto, using(crate::proofs::PlacedLaws::reading_words))]
+fn eight_words(line: &[u8]) -> Option<ArrayVec<Word, 8>>
+    ensures { option_map (λ v. v.items) result ≡ one_to_eight (words_of line.now) }
+{
+    let mut words = ArrayVec::new();
+    let mut rest = line;
+    for _ in 0..8u32 {
+        let (text, more) = first_word(rest);
+        words.push(word_of(text)?);
+        match more {
+            Some(texts) => rest = texts,
+            None => return Some(words),
+        }
+    }
+    None
+}
+
+/// The line `at A W ..`; none where it is not of its form.
+pub fn at_line(line: &[u8]) -> Option<Placed>
+    ensures { result ≡ at_words (words_of line.now) }
+{
+    let (name, rest) = first_word(line);
+    let (address, rest) = first_word(rest?);
+    let words = eight_words(rest?)?;
+    if !is_text(b"at", name) {
+        return None;
+    }
+    let first = octal_in(address, 8)?;
+    Some(Placed {
+        words,
+        first: first as u32,
+    })
+}

@@ -1,0 +1,5 @@
+pub mod Objects
+pub mod Comings
+pub mod ReadLaws
+pub mod FileLaws
+pub mod EndLaws
