@@ -116,6 +116,7 @@ const PRINT: List = &[b"print", b"e"];
 const ALM: List = &[b"alm", b"e"];
 
 /// The numbers of the reads, writes and puts that fail.
+#[derive(Clone, Copy)]
 struct Failing<'a> {
     reads: &'a [u32],
     writes: &'a [u32],
