@@ -184,7 +184,8 @@ pub fn image_file<F: Folder, S: Sink>(
 ) -> Status
     ensures { Does (state_kind command.now) (state_reads (image_file command.now)) result
         (outside_of F.files F.read_faults F.write_faults S.written S.faults folder.old out.old)
-        (outside_of F.files F.read_faults F.write_faults S.written S.faults folder.new out.new) }
+        (outside_of F.files F.read_faults F.write_faults S.written S.faults folder.new out.new)
+        (F.asked folder.old) (F.asked folder.new) }
 {
     match read_state(alloc, command.file(), folder) {
         Ok(image) => with_image(alloc, command, image, out),

@@ -9,7 +9,7 @@ use Rattle.m36_outside.specs.declared.folder.ReadAnswer.TheVariants as read
 use Rattle.m36_reading.specs.declared.refusal.Refusal.{Refusal}
 use Rattle.m36_reading.specs.declared.refusal.Refusal.TheVariants.{BadFile, ReadFault, NoMemory}
 use Rattle.m36_reading.specs.Reading.{Found, Content, Absent, TooLarge, Reading, decided, asks, Early, then_with, mapped, found_in, outcome_in}
-use Rattle.m36_reading.specs.Asking.{Ask, IsTold, AreTold, Coming, Came, Failed, Wanting, IsDecided, IsWanting, HasFailed, GoesOn, Comes, ComesIn, coming}
+use Rattle.m36_reading.specs.Asking.{Asked, IsTold, AreTold, Coming, Came, Failed, Wanting, IsDecided, IsWanting, HasFailed, GoesOn, Comes, ComesIn, coming}
 
 ok_same : {A : Type 0} (a b : A) → (let r : Early A = Ok a in r) ≡ Ok b → a ≡ b
 ok_same a b e = cc
@@ -22,7 +22,7 @@ at_once (asks name go) = tt
 -- ---- one reading behind another
 
 goes_then :
-    {A B : Type 0} (given : ReadAnswer) (P Q : Found → Type 0) (asked more : List Ask) (a : A) (c : Coming B)
+    {A B : Type 0} (given : ReadAnswer) (P Q : Found → Type 0) (asked more : List Asked) (a : A) (c : Coming B)
     → ((found : Found) → P found → Q found) → GoesOn given P asked (Came a) → GoesOn given Q (asked ++ more) c
 goes_then (read.Read bytes) P Q asked more a c on goes = on (Content bytes) goes
 goes_then read.Absent P Q asked more a c on goes = on Absent goes
@@ -31,7 +31,7 @@ goes_then read.Failed P Q asked more a c on goes = absurd goes.1
 goes_then read.NoMemory P Q asked more a c on goes = absurd goes.1
 
 pub comes_then :
-    {A B : Type 0} (p : Reading (Early A)) (next : A → Reading (Early B)) (asked more : List Ask) (a : A) (c : Coming (Early B))
+    {A B : Type 0} (p : Reading (Early A)) (next : A → Reading (Early B)) (asked more : List Asked) (a : A) (c : Coming (Early B))
     → Comes p asked (Came (Ok a)) → Comes (next a) more c → Comes (then_with p next) (asked ++ more) c
 unfolding then_with
 comes_then (decided (Ok b)) next [] more a c came then = subst (λ x. Comes (next x) more c) (sym (ok_same b a came)) then
@@ -65,7 +65,7 @@ gave_not b p ReadFault is = absurd is
 gave_not b p NoMemory is = at_once p
 
 goes_stop :
-    (A B : Type 0) (given : ReadAnswer) (P Q : Found → Type 0) (asked : List Ask) (r : Refusal)
+    (A B : Type 0) (given : ReadAnswer) (P Q : Found → Type 0) (asked : List Asked) (r : Refusal)
     → ((found : Found) → P found → Q found)
     → GoesOn given P asked (let c : Coming (Early A) = coming (Err r) in c) → GoesOn given Q asked (let c : Coming (Early B) = coming (Err r) in c)
 goes_stop A B (read.Read bytes) P Q asked r on goes = on (Content bytes) goes
@@ -75,7 +75,7 @@ goes_stop A B read.Failed P Q asked r on goes = (goes.0, failed_still A B r goes
 goes_stop A B read.NoMemory P Q asked r on goes = (goes.0, wants_still A B r goes.1)
 
 pub comes_stop :
-    (A B : Type 0) (p : Reading (Early A)) (next : A → Reading (Early B)) (asked : List Ask) (r : Refusal)
+    (A B : Type 0) (p : Reading (Early A)) (next : A → Reading (Early B)) (asked : List Asked) (r : Refusal)
     → Comes p asked (coming (Err r)) → Comes (then_with p next) asked (coming (Err r))
 unfolding then_with
 comes_stop A B (decided (Ok b)) next [] r came = gave_not b (next b) r came
@@ -119,7 +119,7 @@ decided_in files a Failed is = tt
 decided_in files a Wanting is = tt
 
 goes_in :
-    {A : Type 0} (files : Files) (ask : Ask) (given : ReadAnswer) (go : Found → Reading A) (asked : List Ask) (c : Coming A)
+    {A : Type 0} (files : Files) (ask : Asked) (given : ReadAnswer) (go : Found → Reading A) (asked : List Asked) (c : Coming A)
     → ask.1 ≡ given → IsTold (Some files) ask → ((found : Found) → Comes (go found) asked c → ComesIn files (go found) c)
     → GoesOn given (λ found. Comes (go found) asked c) asked c → ComesIn files (asks ask.0 go) c
 goes_in files ask (read.Read bytes) go asked c is told on goes =
@@ -135,7 +135,7 @@ goes_in files ask read.Failed go asked c is told on goes = failed_in files (asks
 goes_in files ask read.NoMemory go asked c is told on goes = wanting_in files (asks ask.0 go) c goes.1
 
 pub comes_in :
-    {A : Type 0} (files : Files) (p : Reading A) (asked : List Ask) (c : Coming A)
+    {A : Type 0} (files : Files) (p : Reading A) (asked : List Asked) (c : Coming A)
     → AreTold (Some files) asked → Comes p asked c → ComesIn files p c
 comes_in files (decided a) [] c told came = decided_in files a c came
 comes_in files (decided a) (ask ∷ asked) c told came = absurd came

@@ -9,7 +9,7 @@ use Rattle.m36_reading.specs.declared.status.Status.{Status}
 use Rattle.m36_reading.specs.declared.refusal.Refusal.{Refusal}
 use Rattle.m36_reading.specs.declared.refusal.Refusal.TheVariants.{BadFile, ReadFault, NoMemory}
 use Rattle.m36_reading.specs.Reading.{Found, Content, Absent, TooLarge, Reading, decided, asks, Early, then_with, mapped}
-use Rattle.m36_reading.specs.Asking.{Ask, AreTold, Coming, Came, Failed, Wanting, IsDecided, IsWanting, HasFailed, GoesOn, Comes, ComesIn, coming}
+use Rattle.m36_reading.specs.Asking.{Asked, AreTold, Coming, Came, Failed, Wanting, IsDecided, IsWanting, HasFailed, GoesOn, Comes, ComesIn, coming}
 use Rattle.m36_reading.specs.Answers.{Answer, unwritten, status_of, IsDueBy}
 use Rattle.m36_reading.specs.Outside.{FolderState, SinkState, Outside, IsIdle}
 use Rattle.m36_reading.specs.Ends.{End, Answered, Cut, Unread, Starved, Unasked, end_of}
@@ -38,26 +38,37 @@ same_folder old now files reads writes = λ i. record { files = files i; read_fa
 
 -- what is due is done
 pub does_on :
-    {D : Type 0} (kind : Kind D) (p : Reading (Early D)) (d : D) (result : Status) (old now : FolderState) (sink : SinkState) (new : Outside)
-    → Reads p (Ok d) old now → Performs kind (Ok d) result (record { folder = now; sink = sink }) new
-    → Does kind p result (record { folder = old; sink = sink }) new
-does_on kind p d result old now sink new reads performs = record {
+    {D : Type 0} (kind : Kind D) (p : Reading (Early D)) (d : D) (result : Status) (old now : FolderState) (sink : SinkState) (new : Outside) (before after : List Asked)
+    → Reads p (Ok d) old now before after → Performs kind (Ok d) result (record { folder = now; sink = sink }) new
+    → Does kind p result (record { folder = old; sink = sink }) new before after
+does_on kind p d result old now sink new before after reads performs = record {
   asked = reads.asked;
+  passed = reads.passed;
   told = reads.told;
   ends =
       subst (λ f. EndsBy kind (Comes p reads.asked) (end_of result) result (record { folder = f; sink = sink }) new) (same_folder old now reads.files reads.cause reads.write_faults)
       (ends_more kind (λ c. c ≡ Came (Ok d)) (Comes p reads.asked) (end_of result) result (record { folder = now; sink = sink }) new (λ c is. subst (Comes p reads.asked) (sym is) reads.comes) performs);
 }
 
+-- the same where what is due is done in the folder too, which is asked nothing by it
+pub does_told :
+    {D : Type 0} (kind : Kind D) (p : Reading (Early D)) (d : D) (result : Status) (old now : FolderState) (sink : SinkState) (new : Outside) (before after last : List Asked)
+    → Reads p (Ok d) old now before after → Performs kind (Ok d) result (record { folder = now; sink = sink }) new → last ≡ after
+    → Does kind p result (record { folder = old; sink = sink }) new before last
+does_told kind p d result old now sink new before after last reads performs same =
+    subst (λ l. Does kind p result (record { folder = old; sink = sink }) new before l) (sym same) (does_on kind p d result old now sink new before after reads performs)
+
 -- the reading has ended early
-idle_after : {D : Type 0} (p : Reading (Early D)) (r : Refusal) (old now : FolderState) (sink : SinkState) → Reads p (Err r) old now → IsIdle (record { folder = old; sink = sink }) (record { folder = now; sink = sink })
-idle_after p r old now sink reads = record { files = reads.files; write_faults = reads.write_faults; written = refl; put_faults = refl }
+idle_after : {D : Type 0} (p : Reading (Early D)) (r : Refusal) (old now : FolderState) (sink : SinkState) (before after : List Asked) → Reads p (Err r) old now before after → IsIdle (record { folder = old; sink = sink }) (record { folder = now; sink = sink })
+idle_after p r old now sink before after reads = record { files = reads.files; write_faults = reads.write_faults; written = refl; put_faults = refl }
 
 pub does_stop :
-    {D : Type 0} (kind : Kind D) (p : Reading (Early D)) (r : Refusal) (old now : FolderState) (sink : SinkState)
-    → Reads p (Err r) old now → Does kind p (status_of r) (record { folder = old; sink = sink }) (record { folder = now; sink = sink })
-does_stop kind p (BadFile bad) old now sink reads = record {
+    {D : Type 0} (kind : Kind D) (p : Reading (Early D)) (r : Refusal) (old now : FolderState) (sink : SinkState) (before after : List Asked)
+    → Reads p (Err r) old now before after
+    → Does kind p (status_of r) (record { folder = old; sink = sink }) (record { folder = now; sink = sink }) before after
+does_stop kind p (BadFile bad) old now sink before after reads = record {
   asked = reads.asked;
+  passed = reads.passed;
   told = reads.told;
   ends = record {
     given = Err (BadFile bad);
@@ -74,15 +85,17 @@ does_stop kind p (BadFile bad) old now sink reads = record {
     };
   };
 }
-does_stop kind p ReadFault old now sink reads = record {
+does_stop kind p ReadFault old now sink before after reads = record {
   asked = reads.asked;
+  passed = reads.passed;
   told = reads.told;
-  ends = record { failed = reads.comes; idle = idle_after p ReadFault old now sink reads; cause = reads.cause };
+  ends = record { failed = reads.comes; idle = idle_after p ReadFault old now sink before after reads; cause = reads.cause };
 }
-does_stop kind p NoMemory old now sink reads = record {
+does_stop kind p NoMemory old now sink before after reads = record {
   asked = reads.asked;
+  passed = reads.passed;
   told = reads.told;
-  ends = inl (record { wanting = reads.comes; idle = idle_after p NoMemory old now sink reads; read_faults = reads.cause });
+  ends = inl (record { wanting = reads.comes; idle = idle_after p NoMemory old now sink before after reads; read_faults = reads.cause });
 }
 
 -- ---- made into another kind
@@ -112,7 +125,7 @@ map_failed make Failed is = tt
 map_failed make Wanting is = absurd is
 
 map_goes :
-    {D E : Type 0} (make : D → E) (given : ReadAnswer) (P Q : Found → Type 0) (asked : List Ask) (c : Coming (Early D))
+    {D E : Type 0} (make : D → E) (given : ReadAnswer) (P Q : Found → Type 0) (asked : List Asked) (c : Coming (Early D))
     → ((found : Found) → P found → Q found) → GoesOn given P asked c → GoesOn given Q asked (map_coming make c)
 map_goes make (read.Read bytes) P Q asked c on goes = on (Content bytes) goes
 map_goes make read.Absent P Q asked c on goes = on Absent goes
@@ -121,7 +134,7 @@ map_goes make read.Failed P Q asked c on goes = (goes.0, map_failed make c goes.
 map_goes make read.NoMemory P Q asked c on goes = (goes.0, map_wanting make c goes.1)
 
 comes_mapped :
-    {D E : Type 0} (make : D → E) (p : Reading (Early D)) (asked : List Ask) (c : Coming (Early D))
+    {D E : Type 0} (make : D → E) (p : Reading (Early D)) (asked : List Asked) (c : Coming (Early D))
     → Comes p asked c → Comes (mapped make p) asked (map_coming make c)
 unfolding mapped then_with
 comes_mapped make (decided (Ok d)) [] c came = map_decided make (Ok d) c came
@@ -144,7 +157,7 @@ due_mapped kind other make (Ok d) due is is_due = is.due d due is_due
 due_mapped kind other make (Err r) due is is_due = is_due
 
 ends_mapped :
-    {D E : Type 0} (kind : Kind D) (other : Kind E) (make : D → E) (p : Reading (Early D)) (asked : List Ask) (end : End) (result : Status) (old new : Outside)
+    {D E : Type 0} (kind : Kind D) (other : Kind E) (make : D → E) (p : Reading (Early D)) (asked : List Asked) (end : End) (result : Status) (old new : Outside)
     → IsKindOf kind other make → EndsBy kind (Comes p asked) end result old new → EndsBy other (Comes (mapped make p) asked) end result old new
 ends_mapped kind other make p asked Answered result old new is e = record {
   given = map_early make e.given;
@@ -172,10 +185,12 @@ ends_mapped kind other make p asked Starved result old new is (inr e) =
 ends_mapped kind other make p asked Unasked result old new is e = absurd e
 
 pub does_mapped :
-    {D E : Type 0} (kind : Kind D) (other : Kind E) (make : D → E) (p : Reading (Early D)) (result : Status) (old new : Outside)
-    → IsKindOf kind other make → Does kind p result old new → Does other (mapped make p) result old new
-does_mapped kind other make p result old new is does = record {
+    {D E : Type 0} (kind : Kind D) (other : Kind E) (make : D → E) (p : Reading (Early D)) (result : Status) (old new : Outside) (before after : List Asked)
+    → IsKindOf kind other make → Does kind p result old new before after
+    → Does other (mapped make p) result old new before after
+does_mapped kind other make p result old new before after is does = record {
   asked = does.asked;
+  passed = does.passed;
   told = does.told;
   ends = ends_mapped kind other make p does.asked (end_of result) result old new is does.ends;
 }
@@ -183,10 +198,11 @@ does_mapped kind other make p result old new is does = record {
 -- ---- by the files
 
 pub ends_in :
-    {D : Type 0} (kind : Kind D) (files : Files) (p : Reading (Early D)) (result : Status) (old new : Outside)
-    → old.folder.files ≡ Some files → Does kind p result old new → EndsBy kind (ComesIn files p) (end_of result) result old new
-ends_in kind files p result old new is does =
+    {D : Type 0} (kind : Kind D) (files : Files) (p : Reading (Early D)) (result : Status) (old new : Outside) (before after : List Asked)
+    → old.folder.files ≡ Some files → Does kind p result old new before after
+    → EndsBy kind (ComesIn files p) (end_of result) result old new
+ends_in kind files p result old new before after is does =
     ends_more kind (Comes p does.asked) (ComesIn files p) (end_of result) result old new
     (λ c came. comes_in files p does.asked c (subst (λ f. AreTold f does.asked) is does.told) came) does.ends
 
-pub ruleset doing = (does_on, does_stop)
+pub ruleset doing = (does_on, does_told, does_stop)

@@ -1,6 +1,7 @@
 -- What a reading comes to by the answers of a folder, one after another and no others.
 use Rattle.std.specs.Prelude.{ℕ, ◌≡◌, ⊤, List, [], ◌∷◌, Option, IfSome, Result, Ok, Err}
 use Rattle.m36_outside.specs.Files.{Files}
+pub use Rattle.m36_outside.specs.FolderCalls.{Asked}
 use Rattle.m36_outside.specs.ReadAnswer.{ReadSays, IsWithinLimit}
 use Rattle.m36_outside.specs.declared.folder.ReadAnswer.{ReadAnswer}
 use Rattle.m36_outside.specs.declared.folder.ReadAnswer.TheVariants as read
@@ -8,17 +9,13 @@ use Rattle.m36_reading.specs.declared.refusal.Refusal.{Refusal}
 use Rattle.m36_reading.specs.declared.refusal.Refusal.TheVariants.{BadFile, ReadFault, NoMemory}
 use Rattle.m36_reading.specs.Reading.{Found, Content, Absent, TooLarge, Reading, decided, asks, Early, outcome_in}
 
--- a name that was asked for, and what was answered
-abbrev pub Ask : Type 0
-Ask = List ℕ × ReadAnswer
-
 -- The answer is that of the files, where these are told.
-pub record IsTold (files : Option Files) (ask : Ask) : Type 0 where
+pub record IsTold (files : Option Files) (ask : Asked) : Type 0 where
   pub told : IfSome files (λ f. ReadSays ask.1 (f ask.0))
   pub limit : IsWithinLimit ask.1
 
 -- each answer is
-abbrev pub AreTold : Option Files → List Ask → Type 0
+abbrev pub AreTold : Option Files → List Asked → Type 0
 AreTold files [] = ⊤
 AreTold files (ask ∷ asked) = IsTold files ask × AreTold files asked
 
@@ -46,7 +43,7 @@ HasFailed Failed = ⊤
 HasFailed Wanting = ⊥
 
 -- by one answer: the reading goes on by what the folder has, and nothing is asked behind an answer that has nothing
-abbrev pub GoesOn : {A : Type 0} → ReadAnswer → (Found → Type 0) → List Ask → Coming A → Type 0
+abbrev pub GoesOn : {A : Type 0} → ReadAnswer → (Found → Type 0) → List Asked → Coming A → Type 0
 GoesOn (read.Read bytes) goes asked coming = goes (Content bytes)
 GoesOn read.Absent goes asked coming = goes Absent
 GoesOn read.TooLarge goes asked coming = goes TooLarge
@@ -54,7 +51,7 @@ GoesOn read.Failed goes asked coming = (asked ≡ []) × HasFailed coming
 GoesOn read.NoMemory goes asked coming = (asked ≡ []) × IsWanting coming
 
 -- The reading asks for these names one after another, and by these answers it comes to this.
-abbrev pub Comes : {A : Type 0} → Reading A → List Ask → Coming A → Type 0
+abbrev pub Comes : {A : Type 0} → Reading A → List Asked → Coming A → Type 0
 Comes (decided a) [] coming = IsDecided a coming
 Comes (decided a) (ask ∷ asked) coming = ⊥
 Comes (asks name go) [] coming = IsWanting coming

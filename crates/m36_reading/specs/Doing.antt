@@ -8,7 +8,7 @@ use Rattle.m36_reading.specs.declared.refusal.Refusal.{Refusal}
 use Rattle.m36_reading.specs.declared.refusal.Refusal.TheVariants.{BadFile, ReadFault, NoMemory}
 use Rattle.m36_reading.specs.declared.setting.Set.{Set}
 use Rattle.m36_reading.specs.Reading.{Reading, Early}
-use Rattle.m36_reading.specs.Asking.{Ask, AreTold, Coming, Came, Failed, Wanting, Comes, coming}
+use Rattle.m36_reading.specs.Asking.{Asked, AreTold, Coming, Came, Failed, Wanting, Comes, coming}
 use Rattle.m36_reading.specs.Answers.{Answer, IsDueBy, with_sets}
 use Rattle.m36_reading.specs.Outside.{FolderState, SinkState, Outside, IsIdle, NoneUnread}
 use Rattle.m36_reading.specs.Ends.{End, Answered, Cut, Unread, Starved, Unasked, end_of}
@@ -26,11 +26,14 @@ ReadCause (Err (BadFile bad)) old new = new ≡ old
 ReadCause (Err ReadFault) old new = Rose old new
 ReadCause (Err NoMemory) old new = new ≡ old
 
--- A call performs a reading: the folder gave some answers, one after another, each that of its files where it tells them,
--- and by them the reading comes to what the call answers. No file changes.
-pub record Reads {A : Type 0} (p : Reading (Early A)) (result : Result A Refusal) (old new : FolderState)
+-- A call performs a reading: what the folder was asked and answered before it, and after, differ by some answers, given
+-- one after another, each that of its files where it tells them; and by them the reading comes to what the call answers.
+-- No file changes.
+pub record Reads
+    {A : Type 0} (p : Reading (Early A)) (result : Result A Refusal) (old new : FolderState) (before after : List Asked)
     : Type 0 where
-  pub asked : List Ask
+  pub asked : List Asked
+  pub passed : after ≡ before ++ asked
   pub told : AreTold old.files asked
   pub comes : Comes p asked (coming result)
   pub files : new.files ≡ old.files
@@ -110,10 +113,13 @@ EndsBy kind Is Unread result old new = IsUnread Is old new
 EndsBy kind Is Starved result old new = IsUnmade Is old new ⊎ IsStarved kind Is old new
 EndsBy kind Is Unasked result old new = ⊥
 
--- A call performs a command: its reading comes to what the answers of the folder are, and what is due by it is done.
-pub record Does {D : Type 0} (kind : Kind D) (p : Reading (Early D)) (result : Status) (old new : Outside)
+-- A call performs a command: its reading comes to what the answers of the folder are, which are all that the folder was
+-- asked in the call, and what is due by it is done.
+pub record Does
+    {D : Type 0} (kind : Kind D) (p : Reading (Early D)) (result : Status) (old new : Outside) (before after : List Asked)
     : Type 0 where
-  pub asked : List Ask
+  pub asked : List Asked
+  pub passed : after ≡ before ++ asked
   pub told : AreTold old.folder.files asked
   pub ends : EndsBy kind (Comes p asked) (end_of result) result old new
 

@@ -58,6 +58,7 @@ pub fn write_sets<F: Folder>(alloc: Global, sets: &[Set], folder: &mut F) -> Wri
         (folder_of F.files F.read_faults F.write_faults folder.old)
         (folder_of F.files F.read_faults F.write_faults folder.new) }
     ensures read_faults { F.read_faults folder.new ≡ F.read_faults folder.old }
+    ensures asked { F.asked folder.new ≡ F.asked folder.old }
 {
     for set in sets {
         match folder.write(alloc, set.name.bytes(), set.content.bytes()) {
@@ -72,9 +73,10 @@ pub fn write_sets<F: Folder>(alloc: Global, sets: &[Set], folder: &mut F) -> Wri
 /// Writes the files, and then puts the text.
 #[tactic(auto, using(crate::proofs::ToldLaws::telling))]
 pub fn tell<F: Folder, S: Sink>(alloc: Global, told: &Told, folder: &mut F, out: &mut S) -> Status
-    ensures { Performs told_kind (Ok told.now) result
+    ensures performs { Performs told_kind (Ok told.now) result
         (outside_of F.files F.read_faults F.write_faults S.written S.faults folder.old out.old)
         (outside_of F.files F.read_faults F.write_faults S.written S.faults folder.new out.new) }
+    ensures asked { F.asked folder.new ≡ F.asked folder.old }
 {
     match write_sets(alloc, told.sets.as_slice(), folder) {
         WriteAnswer::Written => match put_lines(told.text.bytes(), out) {

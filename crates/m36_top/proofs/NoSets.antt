@@ -8,7 +8,7 @@ use Rattle.m36_reading.specs.declared.refusal.Refusal.{Refusal}
 use Rattle.m36_reading.specs.declared.setting.Set.{Set}
 use Rattle.m36_reading.specs.declared.status.Status.{Status}
 use Rattle.m36_reading.specs.Reading.{Found, Content, Absent, TooLarge, Reading, decided, asks, Early, then_with, mapped}
-use Rattle.m36_reading.specs.Asking.{Ask, Came, GoesOn, Comes}
+use Rattle.m36_reading.specs.Asking.{Asked, Came, GoesOn, Comes}
 use Rattle.m36_reading.specs.Readers.{file_object}
 use Rattle.m36_reading.specs.Answers.{Answer, IsDueBy, with_sets}
 use Rattle.m36_reading.specs.Outside.{Outside}
@@ -32,7 +32,7 @@ Always P (decided a) = P a
 Always P (asks name go) = (found : Found) → Always P (go found)
 
 goes_always :
-    {A : Type 0} (P : A → Type 0) (a : A) (given : ReadAnswer) (go : Found → Reading A) (asked : List Ask)
+    {A : Type 0} (P : A → Type 0) (a : A) (given : ReadAnswer) (go : Found → Reading A) (asked : List Asked)
     → ((found : Found) → Comes (go found) asked (Came a) → P a) → GoesOn given (λ found. Comes (go found) asked (Came a)) asked (Came a) → P a
 goes_always P a (read.Read bytes) go asked on goes = on (Content bytes) goes
 goes_always P a read.Absent go asked on goes = on Absent goes
@@ -40,7 +40,7 @@ goes_always P a read.TooLarge go asked on goes = on TooLarge goes
 goes_always P a read.Failed go asked on goes = absurd goes.1
 goes_always P a read.NoMemory go asked on goes = absurd goes.1
 
-comes_always : {A : Type 0} (P : A → Type 0) (p : Reading A) (asked : List Ask) (a : A) → Always P p → Comes p asked (Came a) → P a
+comes_always : {A : Type 0} (P : A → Type 0) (p : Reading A) (asked : List Asked) (a : A) → Always P p → Comes p asked (Came a) → P a
 comes_always P (decided b) [] a always came = subst P came always
 comes_always P (decided b) (ask ∷ asked) a always came = absurd came
 comes_always P (asks name go) [] a always came = absurd came
@@ -101,7 +101,7 @@ reads_none (OfImage command) none = image_none command
 reads_none (Print name) none = print_none name
 reads_none (Alm files) none = absurd (cc)
 
-pub no_sets : (command : Command) (asked : List Ask) (given : Early Due) → writes_files command ≡ false → Comes (reads command) asked (Came given) → NoSets given
+pub no_sets : (command : Command) (asked : List Asked) (given : Early Due) → writes_files command ≡ false → Comes (reads command) asked (Came given) → NoSets given
 no_sets command asked given none came = comes_always NoSets (reads command) asked given (reads_none command none) came
 
 -- ---- causes of failed writes
@@ -126,7 +126,7 @@ wants_stand (Told told) old new w = (w.put_faults, w.write_faults)
 wants_stand (Image image) old new w = (w.put_faults, w.write_faults)
 
 cause_by :
-    (command : Command) (asked : List Ask) (end : End) (result : Status) (old new : Outside)
+    (command : Command) (asked : List Asked) (end : End) (result : Status) (old new : Outside)
     → EndsBy due_kind (Comes (reads command) asked) end result old new → WriteCauseBy (writes_files command) end old new
 cause_by command asked Answered result old new e = (e.made.put_faults, e.made.write_faults)
 cause_by command asked Cut result old new e =
@@ -137,9 +137,9 @@ cause_by command asked Starved result old new (inr e) = wants_stand e.given old 
 cause_by command asked Unasked result old new e = absurd e
 
 pub does_cause :
-    (command : Command) (result : Status) (old new : Outside)
-    → Does due_kind (reads command) result old new → WriteCauseBy (writes_files command) (end_of result) old new
-does_cause command result old new does = cause_by command does.asked (end_of result) result old new does.ends
+    (command : Command) (result : Status) (old new : Outside) (before after : List Asked)
+    → Does due_kind (reads command) result old new before after → WriteCauseBy (writes_files command) (end_of result) old new
+does_cause command result old new before after does = cause_by command does.asked (end_of result) result old new does.ends
 
 -- ---- no file is changed
 
@@ -161,7 +161,7 @@ wants_keeps (Told told) old new none w = absurd (empty_parts w.before w.next w.o
 wants_keeps (Image image) old new none w = w.files
 
 keeps_by :
-    (command : Command) (asked : List Ask) (end : End) (result : Status) (old new : Outside) → writes_files command ≡ false
+    (command : Command) (asked : List Asked) (end : End) (result : Status) (old new : Outside) → writes_files command ≡ false
     → EndsBy due_kind (Comes (reads command) asked) end result old new → Keeps old new
 keeps_by command asked Answered result old new none e = made_keeps e.given e.due result old new (no_sets command asked e.given none e.came) e.is_due e.made
 keeps_by command asked Cut result old new none e = cut_keeps e.due old new (no_sets command asked (Ok e.given) none e.came e.due e.is_due) e.cut
@@ -175,7 +175,7 @@ keeps_where true old new keeps = tt
 keeps_where false old new keeps = keeps refl
 
 pub does_keep :
-    (command : Command) (result : Status) (old new : Outside)
-    → Does due_kind (reads command) result old new → KeepsBy (writes_files command) old new
-does_keep command result old new does =
+    (command : Command) (result : Status) (old new : Outside) (before after : List Asked)
+    → Does due_kind (reads command) result old new before after → KeepsBy (writes_files command) old new
+does_keep command result old new before after does =
     keeps_where (writes_files command) old new (λ none. keeps_by command does.asked (end_of result) result old new none does.ends)

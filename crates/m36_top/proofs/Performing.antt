@@ -5,7 +5,7 @@ use Rattle.m36_model.specs.Store.{State}
 use Rattle.m36_reading.specs.declared.status.Status.{Status}
 use Rattle.m36_reading.specs.declared.status.Status.TheVariants.{Usage}
 use Rattle.m36_reading.specs.Reading.{Reading, Early}
-use Rattle.m36_reading.specs.Asking.{Comes}
+use Rattle.m36_reading.specs.Asking.{Asked, Comes}
 use Rattle.m36_reading.specs.Outside.{Outside}
 use Rattle.m36_reading.specs.Ends.{end_of}
 use Rattle.m36_reading.specs.Doing.{EndsBy, Does}
@@ -30,49 +30,60 @@ image_is : (command : ImageCommand) → IsKindOf (state_kind command) due_kind (
 image_is command = record { due = λ state due is. is; wants = λ state old new wants. wants }
 
 pub performs_image :
-    (command : ImageCommand) (result : Status) (old new : Outside)
-    → Does (state_kind command) (state_reads (image_file command)) result old new → Does due_kind (reads (OfImage command)) result old new
+    (command : ImageCommand) (result : Status) (old new : Outside) (before after : List Asked)
+    → Does (state_kind command) (state_reads (image_file command)) result old new before after
+    → Does due_kind (reads (OfImage command)) result old new before after
 unfolding reads
-performs_image command result old new does =
-    does_mapped (state_kind command) due_kind (λ state. Image (record { command = command; state = state })) (state_reads (image_file command)) result old new (image_is command) does
+performs_image command result old new before after does =
+    does_mapped (state_kind command) due_kind (λ state. Image (record { command = command; state = state })) (state_reads (image_file command)) result old new before after (image_is command) does
 
 pub performs_print :
-    (name lent : List ℕ) (result : Status) (old new : Outside)
-    → lent ≡ name → Does told_kind (print_reads lent) result old new → Does due_kind (reads (Print name)) result old new
+    (name lent : List ℕ) (result : Status) (old new : Outside) (before after : List Asked)
+    → lent ≡ name → Does told_kind (print_reads lent) result old new before after
+    → Does due_kind (reads (Print name)) result old new before after
 unfolding reads
-performs_print name lent result old new is does =
-    does_mapped told_kind due_kind Told (print_reads name) result old new told_is (subst (λ n. Does told_kind (print_reads n) result old new) is does)
+performs_print name lent result old new before after is does =
+    does_mapped told_kind due_kind Told (print_reads name) result old new before after told_is (subst (λ n. Does told_kind (print_reads n) result old new before after) is does)
 
 pub performs_alm :
-    (files : AlmFiles) (result : Status) (old new : Outside)
-    → Does told_kind (alm_reads files) result old new → Does due_kind (reads (Alm files)) result old new
+    (files : AlmFiles) (result : Status) (old new : Outside) (before after : List Asked)
+    → Does told_kind (alm_reads files) result old new before after
+    → Does due_kind (reads (Alm files)) result old new before after
 unfolding reads
-performs_alm files result old new does = does_mapped told_kind due_kind Told (alm_reads files) result old new told_is does
+performs_alm files result old new before after does =
+    does_mapped told_kind due_kind Told (alm_reads files) result old new before after told_is does
 
 pub ruleset performing = (performs_image, performs_print, performs_alm)
 
 -- ---- whether the words are a command
 
-never_usage : (p : Reading (Early Due)) (result : Status) (old new : Outside) → Does due_kind p result old new → result ≡ Usage → ⊥
-never_usage p result old new does is = subst (λ r. EndsBy due_kind (Comes p does.asked) (end_of r) r old new) is does.ends
+never_usage :
+    (p : Reading (Early Due)) (result : Status) (old new : Outside) (before after : List Asked)
+    → Does due_kind p result old new before after → result ≡ Usage → ⊥
+never_usage p result old new before after does is = subst (λ r. EndsBy due_kind (Comes p does.asked) (end_of r) r old new) is does.ends
 
 pub some_usage :
-    (asked : Option Command) (command : Command) (result : Status) (old new : Outside)
-    → Some command ≡ asked → Does due_kind (reads command) result old new → (result ≡ Usage) ↔ (asked ≡ None)
-some_usage asked command result old new is does =
-    (λ e. absurd (never_usage (reads command) result old new does e), λ none. let e : Some command ≡ None = is ∙ none in absurd (cc))
+    (asked : Option Command) (command : Command) (result : Status) (old new : Outside) (before after : List Asked)
+    → Some command ≡ asked → Does due_kind (reads command) result old new before after → (result ≡ Usage) ↔ (asked ≡ None)
+some_usage asked command result old new before after is does =
+    (λ e. absurd (never_usage (reads command) result old new before after does e), λ none. let e : Some command ≡ None = is ∙ none in absurd (cc))
 
 pub some_says :
-    (asked : Option Command) (command : Command) (result : Status) (old new : Outside)
-    → Some command ≡ asked → Does due_kind (reads command) result old new → TopSays asked result old new
-some_says asked command result old new is does = subst (λ a. TopSays a result old new) is does
+    (asked : Option Command) (command : Command) (result : Status) (old new : Outside) (before after : List Asked)
+    → Some command ≡ asked → Does due_kind (reads command) result old new before after
+    → TopSays asked result old new before after
+some_says asked command result old new before after is does =
+    subst (λ a. TopSays a result old new before after) is does
 
 pub none_says :
-    (asked : Option Command) (old : Outside) → None ≡ asked → TopSays asked Usage old old
-none_says asked old is = subst (λ a. TopSays a Usage old old) is (record {
-  usage = refl;
-  idle = record { files = refl; write_faults = refl; written = refl; put_faults = refl };
-  read_faults = refl;
-})
+    (asked : Option Command) (old : Outside) (before : List Asked)
+    → None ≡ asked → TopSays asked Usage old old before before
+none_says asked old before is =
+    let idle : IsUnasked Usage old old = record {
+      usage = refl;
+      idle = record { files = refl; write_faults = refl; written = refl; put_faults = refl };
+      read_faults = refl;
+    } in
+    subst (λ a. TopSays a Usage old old before before) is (idle, refl)
 
 pub ruleset asking = (some_usage, some_says, none_says)

@@ -6,7 +6,7 @@ use Rattle.m36_outside.specs.Files.{Files}
 use Rattle.m36_reading.specs.declared.status.Status.{Status}
 use Rattle.m36_reading.specs.declared.status.Status.TheVariants.{Done, Usage, ReadFault, WriteFault, BadFile, AuditNo, MachineStop, Steps, NoMemory}
 use Rattle.m36_reading.specs.Reading.{Early}
-use Rattle.m36_reading.specs.Asking.{Coming, Comes, ComesIn}
+use Rattle.m36_reading.specs.Asking.{Asked, Coming, Comes, ComesIn}
 use Rattle.m36_reading.specs.Outside.{Outside, NoneUnread}
 use Rattle.m36_reading.specs.Ends.{End, Answered, Cut, Unread, Starved, Unasked, end_of}
 use Rattle.m36_reading.specs.Doing.{IsUnset, IsUnput, IsAnswered, EndsBy, Does}
@@ -14,23 +14,23 @@ use Rattle.m36_reading.proofs.EndLaws.{ends_in}
 use Rattle.m36_top.specs.declared.command.Command.{Command}
 use Rattle.m36_top.specs.Dues.{Due, due_kind}
 use Rattle.m36_top.specs.Commands.{reads, writes_files}
-use Rattle.m36_top.specs.TopCall.{IsUnasked, TopSays, TopOutput, ReadCause, WriteRose, WriteCauseBy, WriteCause, may_write, Completes, KeepsFiles, TopPasses}
+use Rattle.m36_top.specs.TopCall.{IsUnasked, TopSays, TopOutput, ReadCause, WriteRose, WriteCauseBy, WriteCause, may_write, Completes, KeepsFiles, TopPasses, TopAnswersPass}
 use Rattle.m36_top.proofs.NoSets.{does_cause, does_keep}
-use Rattle.m36_top.proofs.YesPasses.{yes_nothing, ends_pass}
+use Rattle.m36_top.proofs.YesPasses.{yes_nothing, ends_pass, does_pass}
 
 -- ---- by the files
 
 output_by :
-    (command : Option Command) (files : Option Files) (result : Status) (old new : Outside)
-    → old.folder.files ≡ files → TopSays command result old new → IfSome files (λ f. TopOutput command f result old new)
-output_by command None result old new is says = tt
-output_by None (Some files) result old new is says = says
-output_by (Some command) (Some files) result old new is says = ends_in due_kind files (reads command) result old new is says
+    (command : Option Command) (files : Option Files) (result : Status) (old new : Outside) (before after : List Asked)
+    → old.folder.files ≡ files → TopSays command result old new before after → IfSome files (λ f. TopOutput command f result old new)
+output_by command None result old new before after is says = tt
+output_by None (Some files) result old new before after is says = says.0
+output_by (Some command) (Some files) result old new before after is says = ends_in due_kind files (reads command) result old new before after is says
 
 pub top_output :
-    (command : Option Command) (result : Status) (old new : Outside)
-    → TopSays command result old new → IfSome old.folder.files (λ f. TopOutput command f result old new)
-top_output command result old new says = output_by command old.folder.files result old new refl says
+    (command : Option Command) (result : Status) (old new : Outside) (before after : List Asked)
+    → TopSays command result old new before after → IfSome old.folder.files (λ f. TopOutput command f result old new)
+top_output command result old new before after says = output_by command old.folder.files result old new before after refl says
 
 -- ---- causes
 
@@ -45,19 +45,19 @@ read_by Is Starved result old new (inr e) = e.read_faults
 read_by Is Unasked result old new e = absurd e
 
 pub top_read :
-    (command : Option Command) (result : Status) (old new : Outside) → TopSays command result old new → ReadCause (end_of result) old new
-top_read None result old new says = subst (λ r. ReadCause (end_of r) old new) (sym says.usage) says.read_faults
-top_read (Some command) result old new says = read_by (Comes (reads command) says.asked) (end_of result) result old new says.ends
+    (command : Option Command) (result : Status) (old new : Outside) (before after : List Asked) → TopSays command result old new before after → ReadCause (end_of result) old new
+top_read None result old new before after says = subst (λ r. ReadCause (end_of r) old new) (sym says.0.usage) says.0.read_faults
+top_read (Some command) result old new before after says = read_by (Comes (reads command) says.asked) (end_of result) result old new says.ends
 
 pub top_write :
-    (command : Option Command) (result : Status) (old new : Outside) → TopSays command result old new → WriteCause command result old new
-top_write None result old new says = subst (λ r. WriteCause None r old new) (sym says.usage) (says.idle.put_faults, says.idle.write_faults)
-top_write (Some command) result old new says = does_cause command result old new says
+    (command : Option Command) (result : Status) (old new : Outside) (before after : List Asked) → TopSays command result old new before after → WriteCause command result old new
+top_write None result old new before after says = subst (λ r. WriteCause None r old new) (sym says.0.usage) (says.0.idle.put_faults, says.0.idle.write_faults)
+top_write (Some command) result old new before after says = does_cause command result old new before after says
 
 pub top_keeps :
-    (command : Option Command) (result : Status) (old new : Outside) → TopSays command result old new → KeepsFiles command old new
-top_keeps None result old new says = says.idle.files
-top_keeps (Some command) result old new says = does_keep command result old new says
+    (command : Option Command) (result : Status) (old new : Outside) (before after : List Asked) → TopSays command result old new before after → KeepsFiles command old new
+top_keeps None result old new before after says = says.0.idle.files
+top_keeps (Some command) result old new before after says = does_keep command result old new before after says
 
 -- ---- completeness
 
@@ -84,31 +84,37 @@ met writes Is Starved result old new is e read write no_read no_write = inl (sta
 met writes Is Unasked result old new is e read write no_read no_write = absurd e
 
 completes_by :
-    (command : Option Command) (files : Option Files) (result : Status) (old new : Outside)
-    → old.folder.files ≡ files → TopSays command result old new → IfSome files (λ f. Completes command f result old new)
-completes_by command None result old new is says = tt
-completes_by None (Some files) result old new is says = says.usage
-completes_by (Some command) (Some files) result old new is says =
-    met (writes_files command) (ComesIn files (reads command)) (end_of result) result old new refl (ends_in due_kind files (reads command) result old new is says) (top_read (Some command) result old new says) (top_write (Some command) result old new says)
+    (command : Option Command) (files : Option Files) (result : Status) (old new : Outside) (before after : List Asked)
+    → old.folder.files ≡ files → TopSays command result old new before after → IfSome files (λ f. Completes command f result old new)
+completes_by command None result old new before after is says = tt
+completes_by None (Some files) result old new before after is says = says.0.usage
+completes_by (Some command) (Some files) result old new before after is says =
+    met (writes_files command) (ComesIn files (reads command)) (end_of result) result old new refl (ends_in due_kind files (reads command) result old new before after is says) (top_read (Some command) result old new before after says) (top_write (Some command) result old new before after says)
 
 pub top_complete :
-    (command : Option Command) (result : Status) (old new : Outside)
-    → TopSays command result old new → IfSome old.folder.files (λ f. Completes command f result old new)
-top_complete command result old new says = completes_by command old.folder.files result old new refl says
+    (command : Option Command) (result : Status) (old new : Outside) (before after : List Asked)
+    → TopSays command result old new before after → IfSome old.folder.files (λ f. Completes command f result old new)
+top_complete command result old new before after says = completes_by command old.folder.files result old new before after refl says
 
 -- ---- what `audit yes` promises
 
 passes_by :
-    (command : Option Command) (files : Option Files) (result : Status) (old new : Outside)
-    → old.folder.files ≡ files → TopSays command result old new → IfSome files (λ f. TopPasses command f old new)
-passes_by command None result old new is says = tt
-passes_by None (Some files) result old new is says = yes_nothing old.sink.written new.sink.written says.idle.written
-passes_by (Some command) (Some files) result old new is says =
-    ends_pass command files (end_of result) result old new (ends_in due_kind files (reads command) result old new is says)
+    (command : Option Command) (files : Option Files) (result : Status) (old new : Outside) (before after : List Asked)
+    → old.folder.files ≡ files → TopSays command result old new before after → IfSome files (λ f. TopPasses command f old new)
+passes_by command None result old new before after is says = tt
+passes_by None (Some files) result old new before after is says = yes_nothing old.sink.written new.sink.written says.0.idle.written
+passes_by (Some command) (Some files) result old new before after is says =
+    ends_pass command files (end_of result) result old new (ends_in due_kind files (reads command) result old new before after is says)
 
 pub top_passes :
-    (command : Option Command) (result : Status) (old new : Outside)
-    → TopSays command result old new → IfSome old.folder.files (λ f. TopPasses command f old new)
-top_passes command result old new says = passes_by command old.folder.files result old new refl says
+    (command : Option Command) (result : Status) (old new : Outside) (before after : List Asked)
+    → TopSays command result old new before after → IfSome old.folder.files (λ f. TopPasses command f old new)
+top_passes command result old new before after says = passes_by command old.folder.files result old new before after refl says
 
-pub ruleset tops = (top_output, top_read, top_write, top_keeps, top_complete, top_passes)
+pub top_answers_pass :
+    (command : Option Command) (result : Status) (old new : Outside) (before after : List Asked)
+    → TopSays command result old new before after → TopAnswersPass command old new before after
+top_answers_pass None result old new before after says = yes_nothing old.sink.written new.sink.written says.0.idle.written
+top_answers_pass (Some command) result old new before after says = does_pass command result old new before after says
+
+pub ruleset tops = (top_output, top_read, top_write, top_keeps, top_complete, top_passes, top_answers_pass)

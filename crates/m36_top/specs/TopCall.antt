@@ -2,10 +2,11 @@
 use Rattle.std.specs.Prelude.{ℕ, ◌≡◌, ◌⊎◌, ⊤, Bool, true, false, ◌++◌, List, Option, Some, None, IfSome, Ok, Err}
 use Rattle.m36_outside.specs.Counts.{Rose}
 use Rattle.m36_outside.specs.Files.{Files}
+use Rattle.m36_outside.specs.FolderCalls.{Asked}
 use Rattle.m36_reading.specs.declared.status.Status.{Status}
 use Rattle.m36_reading.specs.declared.status.Status.TheVariants.{Usage, NoMemory}
 use Rattle.m36_reading.specs.Reading.{Early, outcome_in}
-use Rattle.m36_reading.specs.Asking.{ComesIn}
+use Rattle.m36_reading.specs.Asking.{Came, Comes, ComesIn}
 use Rattle.m36_reading.specs.Outside.{Outside, IsIdle, NoneUnread}
 use Rattle.m36_reading.specs.Ends.{End, Answered, Cut, Unread, Starved, Unasked, end_of}
 use Rattle.m36_reading.specs.Doing.{IsAnswered, EndsBy, Does}
@@ -21,10 +22,11 @@ pub record IsUnasked (result : Status) (old new : Outside) : Type 0 where
   pub idle : IsIdle old new
   pub read_faults : NoneUnread old new
 
--- A command is performed, by whatever answers the folder gives.
-abbrev pub TopSays : Option Command → Status → Outside → Outside → Type 0
-TopSays None result old new = IsUnasked result old new
-TopSays (Some command) result old new = Does due_kind (reads command) result old new
+-- A command is performed, by whatever answers the folder gives: what it was asked and answered before the call, and after,
+-- differ by those that the command's reading asks for. Without a command nothing is asked.
+abbrev pub TopSays : Option Command → Status → Outside → Outside → List Asked → List Asked → Type 0
+TopSays None result old new before after = IsUnasked result old new × (after ≡ before)
+TopSays (Some command) result old new before after = Does due_kind (reads command) result old new before after
 
 -- It ends by what its reading comes to in the files that the folder tells.
 abbrev pub TopOutput : Option Command → Files → Status → Outside → Outside → Type 0
@@ -103,3 +105,13 @@ YesPasses (Err refusal) old new = ¬ SaysYes old.sink.written new.sink.written
 abbrev pub TopPasses : Option Command → Files → Outside → Outside → Type 0
 TopPasses None files old new = ¬ SaysYes old.sink.written new.sink.written
 TopPasses (Some command) files old new = YesPasses (outcome_in files (reads command)) old new
+
+-- The same by what the folder answered, whether it tells its files or not.
+pub record AnswersPass (command : Command) (old new : Outside) (before after : List Asked) : Type 0 where
+  pub asked : List Asked
+  pub passed : after ≡ before ++ asked
+  pub passes : (given : Early Due) → Comes (reads command) asked (Came given) → YesPasses given old new
+
+abbrev pub TopAnswersPass : Option Command → Outside → Outside → List Asked → List Asked → Type 0
+TopAnswersPass None old new before after = ¬ SaysYes old.sink.written new.sink.written
+TopAnswersPass (Some command) old new before after = AnswersPass command old new before after

@@ -7,7 +7,7 @@ ghost use Rattle.m36_reading.specs.Doing.{Does};
 ghost use Rattle.m36_top.specs.Words.{command_of};
 ghost use Rattle.m36_top.specs.Dues.{due_kind};
 ghost use Rattle.m36_top.specs.Commands.{reads};
-ghost use Rattle.m36_top.specs.TopCall.{TopSays, TopOutput, ReadCause, WriteCause, Completes, KeepsFiles, TopPasses};
+ghost use Rattle.m36_top.specs.TopCall.{TopSays, TopOutput, ReadCause, WriteCause, Completes, KeepsFiles, TopPasses, TopAnswersPass};
 
 use crate::command::Command;
 use crate::words::command_of;
@@ -27,7 +27,8 @@ pub fn perform<F: Folder, S: Sink>(
 ) -> Status
     ensures { Does due_kind (reads command.now) result
         (outside_of F.files F.read_faults F.write_faults S.written S.faults folder.old out.old)
-        (outside_of F.files F.read_faults F.write_faults S.written S.faults folder.new out.new) }
+        (outside_of F.files F.read_faults F.write_faults S.written S.faults folder.new out.new)
+        (F.asked folder.old) (F.asked folder.new) }
 {
     match command {
         Command::OfImage(command) => image_file(alloc, command, folder, out),
@@ -41,7 +42,8 @@ pub fn perform<F: Folder, S: Sink>(
 fn answer<F: Folder, S: Sink>(alloc: Global, words: &[Text], folder: &mut F, out: &mut S) -> Status
     ensures says { TopSays (command_of words.now) result
         (outside_of F.files F.read_faults F.write_faults S.written S.faults folder.old out.old)
-        (outside_of F.files F.read_faults F.write_faults S.written S.faults folder.new out.new) }
+        (outside_of F.files F.read_faults F.write_faults S.written S.faults folder.new out.new)
+        (F.asked folder.old) (F.asked folder.new) }
     ensures usage { (result ≡ Status.Usage) ↔ (command_of words.now ≡ None) }
     ensures folder_untouched { command_of words.now ≡ None → folder.new ≡ folder.old }
     ensures sink_untouched { command_of words.now ≡ None → out.new ≡ out.old }
@@ -61,10 +63,11 @@ fn answer<F: Folder, S: Sink>(alloc: Global, words: &[Text], folder: &mut F, out
 /// writes the words of the object, packed, as the file NAME, and then the listing.
 #[tactic(auto, using(crate::proofs::TopEnds::tops))]
 pub fn m36<F: Folder, S: Sink>(alloc: Global, words: &[Text], folder: &mut F, out: &mut S) -> Status
-    // What is answered, written and put, by what the folder answers, told or not.
+    // What is asked, answered, written and put, by what the folder answers, told or not.
     ensures says { TopSays (command_of words.now) result
         (outside_of F.files F.read_faults F.write_faults S.written S.faults folder.old out.old)
-        (outside_of F.files F.read_faults F.write_faults S.written S.faults folder.new out.new) }
+        (outside_of F.files F.read_faults F.write_faults S.written S.faults folder.new out.new)
+        (F.asked folder.old) (F.asked folder.new) }
 
     // The same by the files that the folder tells.
     ensures output { IfSome (F.files folder.old) (λ f. TopOutput (command_of words.now) f result
@@ -80,6 +83,12 @@ pub fn m36<F: Folder, S: Sink>(alloc: Global, words: &[Text], folder: &mut F, ou
     ensures isolated { IfSome (F.files folder.old) (λ f. TopPasses (command_of words.now) f
         (outside_of F.files F.read_faults F.write_faults S.written S.faults folder.old out.old)
         (outside_of F.files F.read_faults F.write_faults S.written S.faults folder.new out.new)) }
+
+    // The same of the image that the folder's answers write out, also where it does not tell its files.
+    ensures isolated_by_answers { TopAnswersPass (command_of words.now)
+        (outside_of F.files F.read_faults F.write_faults S.written S.faults folder.old out.old)
+        (outside_of F.files F.read_faults F.write_faults S.written S.faults folder.new out.new)
+        (F.asked folder.old) (F.asked folder.new) }
 
     // No command but `alm` changes a file.
     ensures files { KeepsFiles (command_of words.now)

@@ -10,4 +10,4 @@ pub returns : goal.returns
 unfolding file_object
 returns g c =
     let name = c.args.name.now in
-    reads_on (file_words name) (λ words. object_by name (object_of words)) c.in_ok-words.words c.object_in.result _ _ c.in_ok-words.ensures.reads (subst (λ w. Gives c.object_in.result (object_by name (object_of w))) c.slice.ensures.value c.object_in.ensures)
+    reads_on (file_words name) (λ words. object_by name (object_of words)) c.in_ok-words.words c.object_in.result _ _ _ _ c.in_ok-words.ensures.reads (subst (λ w. Gives c.object_in.result (object_by name (object_of w))) c.slice.ensures.value c.object_in.ensures)

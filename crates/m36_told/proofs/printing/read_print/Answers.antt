@@ -9,4 +9,4 @@ pub returns : goal.returns
 unfolding print_reads
 returns g c =
     let name = c.args.name.now in
-    reads_on (file_object name) (λ parts. Ok (printed name parts)) c.in_ok-object.object c.printed.result _ _ c.in_ok-object.ensures c.printed.ensures
+    reads_on (file_object name) (λ parts. Ok (printed name parts)) c.in_ok-object.object c.printed.result _ _ _ _ c.in_ok-object.ensures c.printed.ensures

@@ -15,5 +15,6 @@ loop-set-preserved g c =
           sets_more c.args.sets.now c.loop-set.set-index c.set-item.result (files c.args.folder.now) (files c.loop-set.folder) (files c.write.new.self) c.loop-set-test.true c.set-item.is c.loop-set.invariant.files
           (c.in-Written.ensures.says ∙ ap (λ n. with_told_file n (Some c.bytes-in-loop-set.result.now) (files c.loop-set.folder)) c.bytes.ensures.value ∙ ap (λ t. with_told_file c.set-item.result.name (Some t) (files c.loop-set.folder)) c.bytes-in-loop-set.ensures);
       write_faults = c.in-Written.ensures.cause ∙ c.loop-set.invariant.write_faults;
+      asked = c.in-Written.ensures.asked ∙ c.loop-set.invariant.asked;
       read_faults = c.in-Written.ensures.other_count ∙ c.loop-set.invariant.read_faults;
     }

@@ -8,5 +8,6 @@ invariant-loop-set g l =
     record {
       files : folder.files l.folder ≡ with_sets (take l.set-index l.sets) (folder.files l.fn.folder);
       write_faults : folder.write_faults l.folder ≡ folder.write_faults l.fn.folder;
+      asked : folder.asked l.folder ≡ folder.asked l.fn.folder;
       read_faults : folder.read_faults l.folder ≡ folder.read_faults l.fn.folder;
     }
