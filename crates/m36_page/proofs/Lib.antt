@@ -1,0 +1,5 @@
+pub mod Frames
+pub mod Moves
+pub mod Tables
+pub mod Built
+pub mod Parts

@@ -1,0 +1,157 @@
+//! Pagers.
+
+ghost use Rattle.std.specs.Prelude.{ℕ, ◌≡◌, ◌≢◌, ◌+◌, ◌-◌, ◌^◌, ◌*◌, ◌/◌, ◌<◌, ◌≤◌, ◌⊎◌, Bool, true, false, ◌&&◌, nat_eq, if◌then◌else◌, length, slice_index, slice_index_or, Some, None, IsSome, IfSome, IfNone, OnOk, OnErr};
+ghost use Rattle.m36_model.specs.Core.{unmarked};
+ghost use Rattle.m36_page.specs.Residence.{has_page, spot_of, frame_of, content_of, Holds, IsPager, Reads, HasFrames, IsSettled};
+ghost use Rattle.m36_page.specs.Changes.{IsBrought, IsKept, IsSpot, AllPinned};
+ghost use Rattle.m36_page.specs.Choice.{IsFree, IsMarked, AreInCore};
+ghost use Rattle.m36_page.specs.Moved.{IsAway, IsTaken, IsEmptied};
+
+use crate::choice::choose;
+use crate::residence::{frame_at, put_absent, put_resident};
+use crate::table::{Table, copy_page_in, copy_page_out, table_place};
+use m36_core::Core;
+use m36_model::{Reference, Refs};
+use std::marker::Model;
+
+/// The error of a page for which there is no frame: every frame holds a page that must stay.
+#[derive(Clone, Copy, Debug, PartialEq, Eq)]
+pub struct Pinned;
+
+/// The pages of segments: which pageable frame holds which page, and the words of the pages that are in none. It is seen as
+/// the number of the first pageable frame, the page that each of them holds, and the tables with the words that are kept.
+///
+/// Each call that takes a core wants the pageable frames in it, and each page table word of the tables as the last call left
+/// it, but for its marks; before the first call every page is in no frame.
+#[derive(Debug, Drop)]
+pub struct Pager {
+    holders: Vec<Option<(u16, u16)>>,
+    // Of each frame that holds a page the place of its page table word.
+    spots: Vec<u32>,
+    tables: Vec<Table>,
+    first: u32,
+    // The frame at which the hand stands, from 0 on.
+    hand: usize,
+}
+
+impl Model for Pager {
+    ghost use Rattle.std.specs.Prelude.{◌≤◌, length};
+    ghost use Rattle.m36_page.specs.Fields.{PagerFields};
+    ghost use Rattle.m36_page.specs.Residence.{IsInside};
+
+    ghost Value = { PagerFields };
+
+    ghost view = { λ p. record { first = p.first; holders = p.holders.items; tables = p.tables.items } };
+
+    ghost invariant = { λ p. (IsInside (record { first = p.first; holders = p.holders.items; tables = p.tables.items }) p.spots.items) × (p.hand ≤ length p.holders.items) };
+}
+
+impl Pager {
+    // The place of the page table word of a page.
+    fn spot(&self, seg: u16, page: u16) -> u32
+        requires frames { 1024 * self.now.first < 2 ^ 32 }
+        requires page { has_page self.now seg page ≡ true }
+        ensures value { result ≡ spot_of self.now seg page }
+        ensures below { result < 1024 * self.now.first }
+        ensures pager { IsPager self.now }
+    {
+        let table = &self.tables[table_place(&self.tables, seg)];
+        table.at + page as u32
+    }
+
+    // Puts the page of a frame away.
+    fn put_page_away(&mut self, core: &mut Core, k: usize, seg: u16, page: u16)
+        requires settled { IsSettled self.old core.old }
+        requires held { Holds self.old k seg page }
+        ensures { IsAway self.old core.old self.new core.new k seg page }
+    {
+        let frame = self.first + k as u32;
+        let spot = self.spots[k];
+        let i = table_place(&self.tables, seg);
+        copy_page_out(&mut self.tables[i], page, core, frame);
+        put_absent(core, spot);
+        self.holders[k] = None;
+    }
+
+    // Empties a frame.
+    fn empty(&mut self, core: &mut Core, k: usize)
+        requires settled { IsSettled self.old core.old }
+        requires inside { k < length self.old.holders }
+        ensures { IsEmptied self.old core.old self.new core.new k }
+    {
+        match self.holders[k] {
+            Some((seg, page)) => self.put_page_away(core, k, seg, page),
+            None => {}
+        }
+    }
+
+    // Takes a page that is in no frame into one that is empty.
+    fn take_in(&mut self, core: &mut Core, k: usize, seg: u16, page: u16)
+        requires settled { IsSettled self.old core.old }
+        requires inside { k < length self.old.holders }
+        requires empty { slice_index_or self.old.holders k None ≡ None }
+        requires page { has_page self.old seg page ≡ true }
+        requires out { frame_of self.old core.old seg page ≡ None }
+        ensures { IsTaken self.old core.old self.new core.new k seg page }
+    {
+        let frame = self.first + k as u32;
+        let i = table_place(&self.tables, seg);
+        let table = &self.tables[i];
+        let spot = table.at + page as u32;
+        copy_page_in(table, page, core, frame);
+        put_resident(core, spot, frame);
+        self.holders[k] = Some((seg, page));
+        self.spots[k] = spot;
+        self.hand = k + 1;
+    }
+
+    // The frame that is taken next.
+    fn choose(&self, core: &mut Core, references: &[Reference]) -> Option<usize>
+        requires { IsSettled self.now core.old }
+        ensures found { IfSome result (IsFree references.now self.now.holders) }
+        ensures none { IfNone result (AllPinned self.now references.now) }
+        ensures same { IfNone result (core.new ≡ core.old) }
+        ensures marks { IsMarked core.old core.new (IsSpot self.now) }
+    {
+        choose(core, references, &self.holders, &self.spots, self.hand)
+    }
+
+    /// Brings a page into a frame; one that is in a frame is left as it is. The error says that every frame holds a page of
+    /// the references, and then nothing has changed.
+    pub fn bring(&mut self, core: &mut Core, seg: u16, page: u16, pinned: &Refs) -> Result<(), Pinned>
+        requires frames { HasFrames self.old core.old }
+        requires reads { Reads self.old core.old }
+        requires page { has_page self.old seg page ≡ true }
+        ensures ok { OnOk result (IsBrought self.old core.old self.new core.new seg page pinned.now.items) }
+        ensures err { OnErr result ((self.new ≡ self.old) × (core.new ≡ core.old) × AllPinned self.old pinned.now.items) }
+        ensures free { OnOk result (IsSome (frame_of self.old core.old seg page) ⊎ (AllPinned self.old pinned.now.items → ⊥)) }
+        ensures reads { Reads self.new core.new }
+    {
+        let _ = core.len();
+        let spot = self.spot(seg, page);
+        if frame_at(core, spot).is_some() {
+            return Ok(());
+        }
+        let Some(k) = self.choose(core, pinned.as_slice()) else {
+            return Err(Pinned);
+        };
+        self.empty(core, k);
+        self.take_in(core, k, seg, page);
+        Ok(())
+    }
+
+    /// Puts the page of a pageable frame away, if it holds one.
+    pub fn evict(&mut self, core: &mut Core, frame: u32)
+        requires frames { HasFrames self.old core.old }
+        requires reads { Reads self.old core.old }
+        requires first { self.old.first ≤ frame }
+        requires last { frame < self.old.first + length self.old.holders }
+        ensures kept { IsKept self.old core.old self.new core.new }
+        ensures empty { slice_index_or self.new.holders (frame - self.old.first) None ≡ None }
+        ensures reads { Reads self.new core.new }
+    {
+        let _ = core.len();
+        let k = (frame - self.first) as usize;
+        self.empty(core, k);
+    }
+}

@@ -1,0 +1,88 @@
+//! Page tables.
+
+ghost use Rattle.std.specs.Prelude.{◌≡◌, ◌+◌, ◌*◌, ◌≤◌, ◌<◌, length, position, Some, IsSome, IfSome};
+ghost use Rattle.m36_page.specs.Copied.{IsCopied};
+ghost use Rattle.m36_page.specs.Residence.{is_of, table_of};
+
+use crate::copying::{copy_in, copy_out};
+use m36_core::Core;
+use m36_word::{Word, Words};
+use std::marker::Model;
+
+/// The page table of a segment, and the words of its pages.
+#[derive(Debug, Drop)]
+pub struct PageTable {
+    /// The words of the segment, at most 1,024 times `pages`; those that are lacking are zero.
+    pub words: Words,
+    /// The place in core of the page table word of page 0; 24 bits.
+    pub at: u32,
+    /// The number of the segment; 15 bits.
+    pub seg: u16,
+    /// How many pages there are.
+    pub pages: u16,
+}
+
+// A page table with the words that are kept, of every page of it.
+#[derive(Debug, Drop)]
+pub(crate) struct Table {
+    pub(crate) words: Vec<Word>,
+    pub(crate) at: u32,
+    pub(crate) seg: u16,
+    pub(crate) pages: u16,
+}
+
+impl Model for Table {
+    ghost use Rattle.m36_page.specs.Fields.{TableFields};
+
+    ghost Value = { TableFields };
+
+    ghost view = { λ t. record { seg = t.seg; at = t.at; pages = t.pages; words = t.words.items } };
+}
+
+fn is_of(seg: u16, table: &Table) -> bool
+    ensures { result ≡ is_of seg table.now }
+{
+    table.seg == seg
+}
+
+fn place_of(tables: &[Table], seg: u16) -> Option<usize>
+    ensures place { result ≡ position (is_of seg) tables.now }
+    ensures within { IfSome result (λ i. i < length tables.now) }
+{
+    tables.iter().position(|table| is_of(seg, table))
+}
+
+/// The place of the table of a segment that has one.
+#[tactic(auto, using(crate::proofs::Tables::placed))]
+pub(crate) fn table_place(tables: &[Table], seg: u16) -> usize
+    requires { IsSome (table_of tables.now seg) }
+    ensures place { position (is_of seg) tables.now ≡ Some result }
+    ensures within { result < length tables.now }
+{
+    match place_of(tables, seg) {
+        Some(i) => i,
+        None => unreachable!(),
+    }
+}
+
+// Words in a page.
+const PAGE: usize = 1024;
+
+/// Copies the words of a frame into those that are kept of a page.
+pub(crate) fn copy_page_out(table: &mut Table, page: u16, core: &Core, frame: u32)
+    requires frame { 1024 * frame + 1024 ≤ length core.now }
+    requires room { 1024 * page + 1024 ≤ length table.old.words }
+    ensures words { IsCopied core.now (1024 * frame) table.old.words (1024 * page) table.new.words }
+    ensures others { table.new ≡ record table.old { words = table.new.words } }
+{
+    copy_out(core, frame, &mut table.words, PAGE * page as usize);
+}
+
+/// Copies the words that are kept of a page into a frame.
+pub(crate) fn copy_page_in(table: &Table, page: u16, core: &mut Core, frame: u32)
+    requires frame { 1024 * frame + 1024 ≤ length core.old }
+    requires room { 1024 * page + 1024 ≤ length table.now.words }
+    ensures { IsCopied table.now.words (1024 * page) core.old (1024 * frame) core.new }
+{
+    copy_in(core, frame, &table.words, PAGE * page as usize);
+}

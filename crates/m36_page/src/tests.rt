@@ -1,0 +1,1 @@
+//! Pages moved by hand.
