@@ -1,6 +1,6 @@
 -- The pager by its parts.
 use Rattle.std.proofs.Common.{ℕ, ◌≡◌, ◌≢◌, ◌+◌, ◌-◌, ◌*◌, ◌/◌, ◌%◌, ◌^◌, ◌<◌, ◌≤◌, ◌⊎◌, Bool, true, false, List, length, get_or, set, Option, Some, None, refl, sym, ap, subst, inl, inr, ◌∙◌, arith}
-use Rattle.std.specs.Prelude.{position, All, IsSome, IfNone, IfSome, is_some}
+use Rattle.std.specs.Prelude.{nat_lt, option_and_then, slice_get, position, All, IsSome, IfNone, IfSome, is_some}
 use Rattle.std.specs.List.{list_any}
 use Rattle.std.proofs.lemmas.Bool.{cases_eq, eq-eqb, and_from}
 use Rattle.std.proofs.lemmas.List.{get_or-set_same, get_or-set_other, length-set}
@@ -11,11 +11,11 @@ use Rattle.m36_model.specs.declared.place.Reference.{Reference}
 use Rattle.m36_page.specs.Fields.{TableFields, PagerFields}
 use Rattle.m36_page.specs.Copied.{IsCopied}
 use Rattle.m36_page.specs.Choice.{IsFree, ArePinned, IsHeldSpot, IsMarked, AreInCore}
-use Rattle.m36_page.specs.Residence.{is_of, table_of, has_page, spot_of, absent_ptw, resident_ptw, frame_in, frame_of, Holds, IsPager, Reads, HasFrames, IsSettled, IsInside}
+use Rattle.m36_page.specs.Residence.{is_of, table_of, has_page_in, has_page, spot_of, kept_word, word_in, page_word, content_by, content_of, absent_ptw, resident_ptw, frame_in, frame_of, Holds, IsPager, Reads, HasFrames, IsSettled, IsInside}
 use Rattle.m36_page.specs.Changes.{IsSpot, IsKept, is_to, is_pinned, AllPinned, Stays, IsBrought}
 use Rattle.m36_page.specs.Moved.{IsAway, IsTaken, IsEmptied}
 use Rattle.m36_page.proofs.Frames.{held_inside}
-use Rattle.m36_page.proofs.Tables.{HasWords, found}
+use Rattle.m36_page.proofs.Tables.{HasWords, found, words_were}
 use Rattle.m36_page.proofs.Moves.{kept_then, marks_kept, marks_settled, marks_frame, AreMarks, frame_range, taken_kept, taken_settled, taken_in, taken_frame, taken_other}
 use Rattle.m36_page.proofs.Built.{has_table, spot_by, page_room, away_from, taken_from}
 
@@ -168,7 +168,10 @@ brought_same p core seg page refs resident = record {
   stays = all_stay p core p core refs (λ i d below frame has e. e);
 }
 
-marks_of : (p : PagerFields) (core now : List ℕ) → IsMarked core now (IsSpot p) → AreMarks p core now
+pub settled_by : (p : PagerFields) (core : List ℕ) (n : ℕ) → IsPager p → Reads p core → HasFrames p core → length core ≤ 2 ^ 24 → IsSettled p core
+settled_by p core n pager reads frames most = record { pager = pager; reads = reads; frames = frames; most = most }
+
+pub marks_of : (p : PagerFields) (core now : List ℕ) → IsMarked core now (IsSpot p) → AreMarks p core now
 marks_of p core now m = record { size = m.size; unmarks = m.unmarks; others = m.others }
 
 -- a page of a reference is in no frame that may be taken
@@ -286,3 +289,60 @@ spot_below first holders spots tables p core k seg page spot e inside s held at 
     let below = s.pager.below seg page (s.pager.held k seg page held) in
     let frames = s.frames in
     omega (arith, is, below, frames)
+
+-- ---- pages and their words
+
+pub has_is : (first : ℕ) (holders : List (Option (ℕ × ℕ))) (tables ts : List TableFields) (p : PagerFields) (seg page i pages : ℕ) (t : TableFields)
+    → parts first holders tables ≡ p → ts ≡ tables → position (is_of seg) ts ≡ Some i → t ≡ get_or tables i t → pages ≡ t.pages
+    → nat_lt page pages ≡ has_page p seg page
+unfolding has_page
+has_is first holders tables ts p seg page i pages t e same place item is =
+    let q : PagerFields = parts first holders tables in
+    ap (λ n. nat_lt page n) (is ∙ ap (λ (x : TableFields). x.pages) item)
+    ∙ sym (ap (λ o. has_page_in o page) (found tables seg i t (sym (ap (position (is_of seg)) same) ∙ place)).2)
+    ∙ ap (λ x. has_page x seg page) e
+
+pub has_not : (first : ℕ) (holders : List (Option (ℕ × ℕ))) (tables ts : List TableFields) (p : PagerFields) (seg page : ℕ)
+    → parts first holders tables ≡ p → ts ≡ tables → position (is_of seg) ts ≡ None → false ≡ has_page p seg page
+unfolding has_page table_of
+has_not first holders tables ts p seg page e same place =
+    sym (ap (λ o. has_page_in (option_and_then (slice_get tables) o) page) (sym (ap (position (is_of seg)) same) ∙ place))
+    ∙ ap (λ x. has_page x seg page) e
+
+pub kept_is : (first : ℕ) (holders : List (Option (ℕ × ℕ))) (tables ts : List TableFields) (p : PagerFields) (seg w i v : ℕ) (t : TableFields)
+    → parts first holders tables ≡ p → ts ≡ tables → position (is_of seg) ts ≡ Some i → t ≡ get_or tables i t → v ≡ get_or t.words w 0
+    → v ≡ kept_word p seg w
+kept_is first holders tables ts p seg w i v t e same place item is =
+    let q : PagerFields = parts first holders tables in
+    is ∙ ap (λ (x : TableFields). get_or x.words w 0) item
+    ∙ sym (words_were q seg i t (sym (ap (position (is_of seg)) same) ∙ place) w) ∙ ap (λ x. kept_word x seg w) e
+
+pub frame_told : (p : PagerFields) (core : List ℕ) (seg page spot : ℕ) (o : Option ℕ) → spot ≡ spot_of p seg page
+    → o ≡ frame_in (get_or core spot 0) → frame_of p core seg page ≡ o
+unfolding frame_of
+frame_told p core seg page spot o is e = sym (ap (λ a. frame_in (get_or core a 0)) is) ∙ sym e
+
+pub frame_room : (p : PagerFields) (core : List ℕ) (seg page frame : ℕ) → IsSettled p core → has_page p seg page ≡ true
+    → frame_of p core seg page ≡ Some frame → 1024 * frame + 1024 ≤ length core
+frame_room p core seg page frame s has e =
+    let range = frame_range p core seg page frame s has e in
+    let inside = held_inside p.holders range.0 (seg, page) range.2 in
+    let is = range.1 in
+    let room = s.frames in
+    omega (arith, inside, is, room)
+
+pub content_none : (p : PagerFields) (core : List ℕ) (seg w : ℕ) → has_page p seg (w / 1024) ≡ false → content_of p core seg w ≡ None
+unfolding content_of
+content_none p core seg w lacks = ap (λ b. content_by b (page_word p core seg w)) lacks
+
+pub content_some : (p : PagerFields) (core : List ℕ) (seg w frame : ℕ) → has_page p seg (w / 1024) ≡ true
+    → frame_of p core seg (w / 1024) ≡ Some frame → content_of p core seg w ≡ Some (get_or core (1024 * frame + w % 1024) 0)
+unfolding content_of page_word
+content_some p core seg w frame has e =
+    ap (λ b. content_by b (page_word p core seg w)) has ∙ ap (λ f. Some (word_in f core w (kept_word p seg w))) e
+
+pub content_kept : (p : PagerFields) (core : List ℕ) (seg w : ℕ) → has_page p seg (w / 1024) ≡ true
+    → frame_of p core seg (w / 1024) ≡ None → content_of p core seg w ≡ Some (kept_word p seg w)
+unfolding content_of page_word
+content_kept p core seg w has e =
+    ap (λ b. content_by b (page_word p core seg w)) has ∙ ap (λ f. Some (word_in f core w (kept_word p seg w))) e

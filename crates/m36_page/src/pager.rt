@@ -2,17 +2,21 @@
 
 ghost use Rattle.std.specs.Prelude.{ℕ, ◌≡◌, ◌≢◌, ◌+◌, ◌-◌, ◌^◌, ◌*◌, ◌/◌, ◌<◌, ◌≤◌, ◌⊎◌, Bool, true, false, ◌&&◌, nat_eq, if◌then◌else◌, length, slice_index, slice_index_or, Some, None, IsSome, IfSome, IfNone, OnOk, OnErr};
 ghost use Rattle.m36_model.specs.Core.{unmarked};
-ghost use Rattle.m36_page.specs.Residence.{has_page, spot_of, frame_of, content_of, Holds, IsPager, Reads, HasFrames, IsSettled};
+ghost use Rattle.m36_page.specs.Residence.{has_page, spot_of, kept_word, frame_of, content_of, Holds, IsPager, Reads, HasFrames, IsSettled};
 ghost use Rattle.m36_page.specs.Changes.{IsBrought, IsKept, IsSpot, AllPinned};
 ghost use Rattle.m36_page.specs.Choice.{IsFree, IsMarked, AreInCore};
 ghost use Rattle.m36_page.specs.Moved.{IsAway, IsTaken, IsEmptied};
 
 use crate::choice::choose;
 use crate::residence::{frame_at, put_absent, put_resident};
-use crate::table::{Table, copy_page_in, copy_page_out, table_place};
+use crate::table::{Table, copy_page_in, copy_page_out, place_of, table_place, word_of};
 use m36_core::Core;
 use m36_model::{Reference, Refs};
+use m36_word::Word;
 use std::marker::Model;
+
+// Words in a page.
+const PAGE: u32 = 1024;
 
 /// The error of a page for which there is no frame: every frame holds a page that must stay.
 #[derive(Clone, Copy, Debug, PartialEq, Eq)]
@@ -48,7 +52,7 @@ impl Model for Pager {
 
 impl Pager {
     // The place of the page table word of a page.
-    fn spot(&self, seg: u16, page: u16) -> u32
+    fn spot(&self, seg: u16, page: u32) -> u32
         requires frames { 1024 * self.now.first < 2 ^ 32 }
         requires page { has_page self.now seg page ≡ true }
         ensures value { result ≡ spot_of self.now seg page }
@@ -56,7 +60,7 @@ impl Pager {
         ensures pager { IsPager self.now }
     {
         let table = &self.tables[table_place(&self.tables, seg)];
-        table.at + page as u32
+        table.at + page
     }
 
     // Puts the page of a frame away.
@@ -128,7 +132,7 @@ impl Pager {
         ensures reads { Reads self.new core.new }
     {
         let _ = core.len();
-        let spot = self.spot(seg, page);
+        let spot = self.spot(seg, page as u32);
         if frame_at(core, spot).is_some() {
             return Ok(());
         }
@@ -153,5 +157,49 @@ impl Pager {
         let _ = core.len();
         let k = (frame - self.first) as usize;
         self.empty(core, k);
+    }
+
+    // Whether a segment has a page.
+    fn has(&self, seg: u16, page: u32) -> bool
+        ensures { result ≡ has_page self.now seg page }
+    {
+        match place_of(&self.tables, seg) {
+            Some(i) => {
+                let table = &self.tables[i];
+                page < table.pages as u32
+            }
+            None => false,
+        }
+    }
+
+    /// Whether a segment has a page.
+    pub fn has_page(&self, seg: u16, page: u16) -> bool
+        ensures { result ≡ has_page self.now seg page }
+    {
+        self.has(seg, page as u32)
+    }
+
+    // The word that is kept for a word of a segment.
+    fn kept(&self, seg: u16, word: u32) -> Word
+        requires { has_page self.now seg (word / 1024) ≡ true }
+        ensures { result ≡ kept_word self.now seg word }
+    {
+        word_of(&self.tables[table_place(&self.tables, seg)], word)
+    }
+
+    /// The word of a segment; None exactly where the segment has no table, or the word is past its pages.
+    pub fn content(&self, core: &Core, seg: u16, word: u32) -> Option<Word>
+        requires frames { HasFrames self.now core.now }
+        requires reads { Reads self.now core.now }
+        ensures { result ≡ content_of self.now core.now seg word }
+    {
+        let _ = core.len();
+        if !self.has(seg, word / PAGE) {
+            return None;
+        }
+        match frame_at(core, self.spot(seg, word / PAGE)) {
+            Some(frame) => Some(core.peek(PAGE * frame + word % PAGE)),
+            None => Some(self.kept(seg, word)),
+        }
     }
 }

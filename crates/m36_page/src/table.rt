@@ -1,6 +1,6 @@
 //! Page tables.
 
-ghost use Rattle.std.specs.Prelude.{◌≡◌, ◌+◌, ◌*◌, ◌≤◌, ◌<◌, length, position, Some, IsSome, IfSome};
+ghost use Rattle.std.specs.Prelude.{◌≡◌, ◌+◌, ◌*◌, ◌≤◌, ◌<◌, length, position, slice_index, slice_set, Some, IsSome, IfSome};
 ghost use Rattle.m36_page.specs.Copied.{IsCopied};
 ghost use Rattle.m36_page.specs.Residence.{is_of, table_of};
 
@@ -45,7 +45,8 @@ fn is_of(seg: u16, table: &Table) -> bool
     table.seg == seg
 }
 
-fn place_of(tables: &[Table], seg: u16) -> Option<usize>
+/// The place of the table of a segment; None where it has none.
+pub(crate) fn place_of(tables: &[Table], seg: u16) -> Option<usize>
     ensures place { result ≡ position (is_of seg) tables.now }
     ensures within { IfSome result (λ i. i < length tables.now) }
 {
@@ -85,4 +86,20 @@ pub(crate) fn copy_page_in(table: &Table, page: u16, core: &mut Core, frame: u32
     ensures { IsCopied table.now.words (1024 * page) core.old (1024 * frame) core.new }
 {
     copy_in(core, frame, &table.words, PAGE * page as usize);
+}
+
+/// The word that is kept for a word.
+pub(crate) fn word_of(table: &Table, word: u32) -> Word
+    requires { word < length table.now.words }
+    ensures { result ≡ slice_index table.now.words word }
+{
+    table.words[word as usize]
+}
+
+/// Keeps another word for a word.
+pub(crate) fn put_word(table: &mut Table, word: u32, value: Word)
+    requires { word < length table.old.words }
+    ensures { table.new ≡ record table.old { words = slice_set table.old.words word value } }
+{
+    table.words[word as usize] = value;
 }
