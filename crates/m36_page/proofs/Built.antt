@@ -9,8 +9,8 @@ use Rattle.m36_page.specs.Copied.{IsCopied}
 use Rattle.m36_page.specs.Residence.{is_of, table_of, has_page_in, spot_in, kept_in, has_page, spot_of, kept_word, absent_ptw, resident_ptw, frame_of, Holds, IsPager, Reads, IsSettled, IsInside}
 use Rattle.m36_page.specs.Changes.{IsSameShape, IsKept}
 use Rattle.m36_page.proofs.Frames.{held_inside, bounded}
-use Rattle.m36_page.proofs.Tables.{HasWords, found, words_pages, words_spots, words_kept, words_were, words_others, words_whole}
-use Rattle.m36_page.specs.Moved.{IsAway, IsTaken, IsEmptied}
+use Rattle.m36_page.proofs.Tables.{found, words_pages, words_spots, words_kept, words_were, words_others, words_whole}
+use Rattle.m36_page.specs.Moved.{HasWords, IsAway, IsTaken, IsEmptied}
 use Rattle.m36_page.proofs.Moves.{resident_frame, away_kept, away_settled, away_frame, away_out, same_page}
 
 -- ---- put away
@@ -33,11 +33,11 @@ away_from p core new now k seg page i d words s held h first holders copied e =
     let left : (j x q : ℕ) → Holds new j x q → Holds p j x q × (j ≢ k) = λ j x q holds.
     let at : get_or (set p.holders k None) j None ≡ Some (x, q) = sym (ap (λ hs. get_or hs j None) holders) ∙ holds in
     elim (cases_eq j k) [
-      inl same ↦
-        let none : get_or (set p.holders k None) j None ≡ None =
-        ap (λ n. get_or (set p.holders k None) n None) same ∙ get_or-set_same p.holders k None None inside in
-        absurd (cc)
-    | inr other ↦ (sym (get_or-set_other p.holders k j None None other) ∙ at, other)
+      | inl same ↦
+          let none : get_or (set p.holders k None) j None ≡ None =
+          ap (λ n. get_or (set p.holders k None) n None) same ∙ get_or-set_same p.holders k None None inside in
+          absurd (cc)
+      | inr other ↦ (sym (get_or-set_other p.holders k j None None other) ∙ at, other)
     ] in
     record {
       held = held;
@@ -62,19 +62,19 @@ away_from p core new now k seg page i d words s held h first holders copied e =
           ap (λ hs. get_or hs j None) holders ∙ get_or-set_other p.holders k j None None other ∙ holds;
       kept_others = λ x w other.
           elim (cases_eq x seg) [
-            inl same ↦
-              let elsewhere : (w < 1024 * page) ⊎ (1024 * page + 1024 ≤ w) =
-              elim (cases_lt w (1024 * page)) [
-                inl low ↦ inl low
-              | inr high ↦
-                  elim (cases_lt w (1024 * page + 1024)) [
-                    inl within ↦ absurd (other (same, omega (arith, high, within)))
-                  | inr past ↦ inr past
-                  ]
-              ] in
-              ap (λ y. kept_word new y w) same ∙ words_kept p new seg i d words h w ∙ copied.outside w elsewhere ∙ sym (was w)
-              ∙ sym (ap (λ y. kept_word p y w) same)
-          | inr apart ↦ words_others p new seg i d words h x w apart
+            | inl same ↦
+                let elsewhere : (w < 1024 * page) ⊎ (1024 * page + 1024 ≤ w) =
+                elim (cases_lt w (1024 * page)) [
+                  | inl low ↦ inl low
+                  | inr high ↦
+                      elim (cases_lt w (1024 * page + 1024)) [
+                        | inl within ↦ absurd (other (same, omega (arith, high, within)))
+                        | inr past ↦ inr past
+                      ]
+                ] in
+                ap (λ y. kept_word new y w) same ∙ words_kept p new seg i d words h w ∙ copied.outside w elsewhere ∙ sym (was w)
+                ∙ sym (ap (λ y. kept_word p y w) same)
+            | inr apart ↦ words_others p new seg i d words h x w apart
           ];
       kept_page = λ w is.
           let at : w ≡ 1024 * page + w % 1024 = omega (arith, is) in
@@ -121,12 +121,12 @@ taken_from p core new mid now k seg page i d s has out empty inside at first tab
     let left : (j x q : ℕ) → Holds new j x q → ((j ≡ k) × (x ≡ seg) × (q ≡ page)) ⊎ Holds p j x q = λ j x q holds.
     let there : get_or (set p.holders k (Some (seg, page))) j None ≡ Some (x, q) = sym (ap (λ hs. get_or hs j None) holders) ∙ holds in
     elim (cases_eq j k) [
-      inl same ↦
-        let some : get_or (set p.holders k (Some (seg, page))) j None ≡ Some (seg, page) =
-        ap (λ n. get_or (set p.holders k (Some (seg, page))) n None) same ∙ get_or-set_same p.holders k (Some (seg, page)) None inside in
-        let both : (x, q) ≡ (seg, page) = same_some (x, q) (seg, page) (sym there ∙ some) in
-        inl (same, ap (λ (y : ℕ × ℕ). y.0) both, ap (λ (y : ℕ × ℕ). y.1) both)
-    | inr other ↦ inr (sym (get_or-set_other p.holders k j (Some (seg, page)) None other) ∙ there)
+      | inl same ↦
+          let some : get_or (set p.holders k (Some (seg, page))) j None ≡ Some (seg, page) =
+          ap (λ n. get_or (set p.holders k (Some (seg, page))) n None) same ∙ get_or-set_same p.holders k (Some (seg, page)) None inside in
+          let both : (x, q) ≡ (seg, page) = same_some (x, q) (seg, page) (sym there ∙ some) in
+          inl (same, ap (λ (y : ℕ × ℕ). y.0) both, ap (λ (y : ℕ × ℕ). y.1) both)
+      | inr other ↦ inr (sym (get_or-set_other p.holders k j (Some (seg, page)) None other) ∙ there)
     ] in
     record {
       has = has;
@@ -149,8 +149,8 @@ taken_from p core new mid now k seg page i d s has out empty inside at first tab
             s.pager.apart x q x' q' (sym (pages x q) ∙ a) (sym (pages x' q') ∙ b) (sym (spots x q) ∙ same ∙ spots x' q');
         held = λ j x q holds.
             elim (left j x q holds) [
-              inl same ↦ pages x q ∙ ap (λ y. has_page p y q) same.1 ∙ ap (λ y. has_page p seg y) same.2 ∙ has
-            | inr from ↦ pages x q ∙ s.pager.held j x q from
+              | inl same ↦ pages x q ∙ ap (λ y. has_page p y q) same.1 ∙ ap (λ y. has_page p seg y) same.2 ∙ has
+              | inr from ↦ pages x q ∙ s.pager.held j x q from
             ];
       };
       here = ap (λ hs. get_or hs k None) holders ∙ get_or-set_same p.holders k (Some (seg, page)) None inside;
@@ -198,9 +198,9 @@ emptied p core new now k seg page s away = record {
       away_frame p core new now k seg page x q s away has other ∙ e;
   out = λ x q has e.
       elim (same_page x q seg page) [
-        inl same ↦
-          ap (λ y. frame_of new now y q) same.0 ∙ ap (λ y. frame_of new now seg y) same.1 ∙ away_out p core new now k seg page away
-      | inr other ↦ away_frame p core new now k seg page x q s away has other ∙ e
+        | inl same ↦
+            ap (λ y. frame_of new now y q) same.0 ∙ ap (λ y. frame_of new now seg y) same.1 ∙ away_out p core new now k seg page away
+        | inr other ↦ away_frame p core new now k seg page x q s away has other ∙ e
       ];
 }
 

@@ -36,8 +36,8 @@ resident_unmarked frame = omega arith
 pub held_inside : (holders : List (Option (ℕ × ℕ))) (k : ℕ) (h : ℕ × ℕ) → get_or holders k None ≡ Some h → k < length holders
 held_inside holders k h e =
     elim (cases_lt k (length holders)) [
-      inl inside ↦ inside
-    | inr past ↦ let none = get_or_past holders k None past in absurd (cc)
+      | inl inside ↦ inside
+      | inr past ↦ let none = get_or_past holders k None past in absurd (cc)
     ]
 
 pub bounded : (p : PagerFields) (core : List ℕ) (k seg page : ℕ) → IsSettled p core → Holds p k seg page
@@ -65,16 +65,16 @@ pub whereabouts : (p : PagerFields) (core : List ℕ) (seg page : ℕ) → IsSet
 unfolding frame_of
 whereabouts p core seg page s has =
     elim (s.reads.pages seg page has) [
-      inl absent ↦ inl (record { frame = frame_absent (get_or core (spot_of p seg page) 0) absent; word = absent })
-    | inr there ↦
-        let b = bounded p core there.0 seg page s there.1 in
-        inr (record {
-          k = there.0;
-          holds = there.1;
-          inside = b.0;
-          frame = frame_resident (get_or core (spot_of p seg page) 0) (p.first + there.0) b.1 there.2;
-          word = there.2;
-        })
+      | inl absent ↦ inl (record { frame = frame_absent (get_or core (spot_of p seg page) 0) absent; word = absent })
+      | inr there ↦
+          let b = bounded p core there.0 seg page s there.1 in
+          inr (record {
+            k = there.0;
+            holds = there.1;
+            inside = b.0;
+            frame = frame_resident (get_or core (spot_of p seg page) 0) (p.first + there.0) b.1 there.2;
+            word = there.2;
+          })
     ]
 
 -- ---- content
@@ -86,12 +86,12 @@ pub content_same : (old : PagerFields) (core : List ℕ) (new : PagerFields) (no
 unfolding content_of
 content_same old core new now pages words seg w =
     elim (cases_Bool (has_page old seg (w / 1024))) [
-      inl has ↦
-        ap (λ b. content_by b (page_word new now seg w)) (pages seg (w / 1024))
-        ∙ ap (λ v. content_by (has_page old seg (w / 1024)) v) (words seg w has)
-    | inr lacks ↦
-        ap (λ b. content_by b (page_word new now seg w)) (pages seg (w / 1024) ∙ lacks)
-        ∙ sym (ap (λ b. content_by b (page_word old core seg w)) lacks)
+      | inl has ↦
+          ap (λ b. content_by b (page_word new now seg w)) (pages seg (w / 1024))
+          ∙ ap (λ v. content_by (has_page old seg (w / 1024)) v) (words seg w has)
+      | inr lacks ↦
+          ap (λ b. content_by b (page_word new now seg w)) (pages seg (w / 1024) ∙ lacks)
+          ∙ sym (ap (λ b. content_by b (page_word old core seg w)) lacks)
     ]
 
 word_by : (f : Option ℕ) (core now : List ℕ) (w kept kept' : ℕ) → (f ≡ None → kept' ≡ kept)
@@ -105,7 +105,7 @@ pub word_stays : (old : PagerFields) (core : List ℕ) (new : PagerFields) (now 
     → frame_of new now seg (w / 1024) ≡ frame_of old core seg (w / 1024)
     → (frame_of old core seg (w / 1024) ≡ None → kept_word new seg w ≡ kept_word old seg w)
     → ((frame : ℕ) → frame_of old core seg (w / 1024) ≡ Some frame
-        → get_or now (1024 * frame + w % 1024) 0 ≡ get_or core (1024 * frame + w % 1024) 0)
+    → get_or now (1024 * frame + w % 1024) 0 ≡ get_or core (1024 * frame + w % 1024) 0)
     → page_word new now seg w ≡ page_word old core seg w
 unfolding page_word
 word_stays old core new now seg w frame none some =
@@ -124,10 +124,10 @@ unused_set core spot v inside on is = record {
   size = length-set core spot v;
   unmarks = λ a.
       elim (cases_eq a spot) [
-        inl same ↦
-          ap (λ x. unmarked (get_or (set core spot v) x 0)) same ∙ ap unmarked (get_or-set_same core spot v 0 inside)
-          ∙ unused_word (get_or core spot 0) v on is ∙ ap (λ x. unmarked (get_or core x 0)) (sym same)
-      | inr other ↦ ap unmarked (get_or-set_other core spot a v 0 other)
+        | inl same ↦
+            ap (λ x. unmarked (get_or (set core spot v) x 0)) same ∙ ap unmarked (get_or-set_same core spot v 0 inside)
+            ∙ unused_word (get_or core spot 0) v on is ∙ ap (λ x. unmarked (get_or core x 0)) (sym same)
+        | inr other ↦ ap unmarked (get_or-set_other core spot a v 0 other)
       ];
   others = λ a out. get_or-set_other core spot a v 0 out;
 }
@@ -169,6 +169,6 @@ passed_then holders spots core mid now k one two =
     marked_then core mid now (IsHeldSpot holders spots) (λ a. IsSome (get_or holders k None) × (a ≡ get_or spots k 0)) (IsHeldSpot holders spots)
     (λ a h. h)
     (λ a h.
-      let held = some_held (get_or holders k None) h.0 in
-      record { k = k; held = held.0; holds = held.1; is = sym h.1 })
+    let held = some_held (get_or holders k None) h.0 in
+    record { k = k; held = held.0; holds = held.1; is = sym h.1 })
     one two

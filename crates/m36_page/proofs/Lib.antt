@@ -3,3 +3,4 @@ pub mod Moves
 pub mod Tables
 pub mod Built
 pub mod Parts
+pub mod SetWords

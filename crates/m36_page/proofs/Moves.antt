@@ -13,19 +13,19 @@ use Rattle.m36_page.proofs.Frames.{frame_absent, frame_resident, absent_unmarked
 paged_back : (a : PagerFields) (ac : List ℕ) (b : PagerFields) (bc : List ℕ) → IsKept a ac b bc → (x : ℕ) → IsPaged b x → IsPaged a x
 paged_back a ac b bc one x paged =
     elim paged [
-      inl spot ↦
-        inl (record {
-          seg = spot.seg;
-          page = spot.page;
-          has = sym (one.shape.pages spot.seg spot.page) ∙ spot.has;
-          is = sym (one.shape.spots spot.seg spot.page) ∙ spot.is;
-        })
-    | inr range ↦
-        let first = one.shape.first in
-        let frames = one.shape.frames in
-        let low = range.0 in
-        let high = range.1 in
-        inr (omega (arith, first, low), rw (sym first) (rw (sym frames) high))
+      | inl spot ↦
+          inl (record {
+            seg = spot.seg;
+            page = spot.page;
+            has = sym (one.shape.pages spot.seg spot.page) ∙ spot.has;
+            is = sym (one.shape.spots spot.seg spot.page) ∙ spot.is;
+          })
+      | inr range ↦
+          let first = one.shape.first in
+          let frames = one.shape.frames in
+          let low = range.0 in
+          let high = range.1 in
+          inr (omega (arith, first, low), rw (sym first) (rw (sym frames) high))
     ]
 
 pub kept_then : (a : PagerFields) (ac : List ℕ) (b : PagerFields) (bc : List ℕ) (c : PagerFields) (cc' : List ℕ)
@@ -63,8 +63,8 @@ marks_reads : (p : PagerFields) (core now : List ℕ) → Reads p core → AreMa
 marks_reads p core now reads marks = record {
   pages = λ seg page has.
       elim (reads.pages seg page has) [
-        inl absent ↦ inl (marks.unmarks (spot_of p seg page) ∙ absent)
-      | inr there ↦ inr (there.0, there.1, marks.unmarks (spot_of p seg page) ∙ there.2)
+        | inl absent ↦ inl (marks.unmarks (spot_of p seg page) ∙ absent)
+        | inr there ↦ inr (there.0, there.1, marks.unmarks (spot_of p seg page) ∙ there.2)
       ];
   frames = λ k seg page h. marks.unmarks (spot_of p seg page) ∙ reads.frames k seg page h;
 }
@@ -82,11 +82,11 @@ pub marks_frame : (p : PagerFields) (core now : List ℕ) (seg page : ℕ) → I
 unfolding frame_of
 marks_frame p core now seg page s marks has =
     elim (whereabouts p core seg page s has) [
-      inl out ↦
-        frame_absent (get_or now (spot_of p seg page) 0) (marks.unmarks (spot_of p seg page) ∙ out.word) ∙ sym out.frame
-    | inr there ↦
-        frame_resident (get_or now (spot_of p seg page) 0) (p.first + there.k) (bounded p core there.k seg page s there.holds).1
-        (marks.unmarks (spot_of p seg page) ∙ there.word) ∙ sym there.frame
+      | inl out ↦
+          frame_absent (get_or now (spot_of p seg page) 0) (marks.unmarks (spot_of p seg page) ∙ out.word) ∙ sym out.frame
+      | inr there ↦
+          frame_resident (get_or now (spot_of p seg page) 0) (p.first + there.k) (bounded p core there.k seg page s there.holds).1
+          (marks.unmarks (spot_of p seg page) ∙ there.word) ∙ sym there.frame
     ]
 
 -- the frame that a page is in is a pageable one
@@ -94,8 +94,8 @@ pub frame_range : (p : PagerFields) (core : List ℕ) (seg page frame : ℕ) →
     → frame_of p core seg page ≡ Some frame → (k : ℕ) × (frame ≡ p.first + k) × Holds p k seg page
 frame_range p core seg page frame s has e =
     elim (whereabouts p core seg page s has) [
-      inl out ↦ let none = out.frame in absurd (cc)
-    | inr there ↦ let some = there.frame in let same : frame ≡ p.first + there.k = cc in (there.k, same, there.holds)
+      | inl out ↦ let none = out.frame in absurd (cc)
+      | inr there ↦ let some = there.frame in let same : frame ≡ p.first + there.k = cc in (there.k, same, there.holds)
     ]
 
 pub marks_kept : (p : PagerFields) (core now : List ℕ) → IsSettled p core → AreMarks p core now → IsKept p core p now
@@ -105,11 +105,11 @@ marks_kept p core now s marks = record {
   content =
       content_same p core p now (λ seg page. refl)
       (λ seg w has.
-        word_stays p core p now seg w (marks_frame p core now seg (w / 1024) s marks has) (λ none. refl)
-        (λ frame e.
-          let range = frame_range p core seg (w / 1024) frame s has e in
-          let is = range.1 in
-          marks.others (1024 * frame + w % 1024) (no_spot p (1024 * frame + w % 1024) s.pager (omega (arith, is)))));
+      word_stays p core p now seg w (marks_frame p core now seg (w / 1024) s marks has) (λ none. refl)
+      (λ frame e.
+      let range = frame_range p core seg (w / 1024) frame s has e in
+      let is = range.1 in
+      marks.others (1024 * frame + w % 1024) (no_spot p (1024 * frame + w % 1024) s.pager (omega (arith, is)))));
   others = λ a out. marks.others a (λ spot. out (inl spot));
 }
 
@@ -126,8 +126,8 @@ resident_frame p core k seg page s h =
 pub same_page : (s q seg page : ℕ) → ((s ≡ seg) × (q ≡ page)) ⊎ ((s ≡ seg) × (q ≡ page) → ⊥)
 same_page s q seg page =
     elim (cases_eq s seg) [
-      inl e ↦ elim (cases_eq q page) [ inl f ↦ inl (e, f) | inr other ↦ inr (λ both. other both.1) ]
-    | inr other ↦ inr (λ both. other both.0)
+      | inl e ↦ elim (cases_eq q page) [ inl f ↦ inl (e, f) | inr other ↦ inr (λ both. other both.1) ]
+      | inr other ↦ inr (λ both. other both.0)
     ]
 
 -- another page's word is another
@@ -172,38 +172,41 @@ away_reads p core new now k seg page settled away = record {
   pages = λ s q has'.
       let has : has_page p s q ≡ true = sym (away.shape.pages s q) ∙ has' in
       elim (same_page s q seg page) [
-        inl same ↦
-          let at : spot_of new s q ≡ spot_of p seg page =
-          away.shape.spots s q ∙ ap (λ x. spot_of p x q) same.0 ∙ ap (λ y. spot_of p seg y) same.1 in
-          inl (ap (λ a. unmarked (get_or now a 0)) at ∙ ap unmarked away.spot ∙ absent_unmarked)
-      | inr other ↦
-          let word = ap unmarked (away_word p core new now k seg page s q settled away has other) in
-          elim (settled.reads.pages s q has) [
-            inl absent ↦ inl (word ∙ absent)
-          | inr there ↦
-              let apart : there.0 ≢ k = λ e.
-              let P : ℕ → Type 0 = λ j. get_or p.holders j None ≡ Some (s, q) in
-              let here : get_or p.holders k None ≡ Some (s, q) = subst P e there.1 in
-              let held = away.held in
-              let pair : Some (s, q) ≡ Some (seg, page) = sym here ∙ held in
-              let both : (s, q) ≡ (seg, page) = same_some (s, q) (seg, page) pair in
-              other (ap (λ (x : ℕ × ℕ). x.0) both, ap (λ (x : ℕ × ℕ). x.1) both) in
-              inr (there.0, away.stay there.0 s q there.1 apart,
-              word ∙ there.2 ∙ ap (λ f. resident_ptw (f + there.0)) (sym away.shape.first))
-          ]
+        | inl same ↦
+            let at : spot_of new s q ≡ spot_of p seg page =
+            away.shape.spots s q ∙ ap (λ x. spot_of p x q) same.0 ∙ ap (λ y. spot_of p seg y) same.1 in
+            inl (ap (λ a. unmarked (get_or now a 0)) at ∙ ap unmarked away.spot ∙ absent_unmarked)
+        | inr other ↦
+            let word = ap unmarked (away_word p core new now k seg page s q settled away has other) in
+            elim (settled.reads.pages s q has) [
+              | inl absent ↦ inl (word ∙ absent)
+              | inr there ↦
+                  let apart : there.0 ≢ k = λ e.
+                  let P : ℕ → Type 0 = λ j. get_or p.holders j None ≡ Some (s, q) in
+                  let here : get_or p.holders k None ≡ Some (s, q) = subst P e there.1 in
+                  let held = away.held in
+                  let pair : Some (s, q) ≡ Some (seg, page) = sym here ∙ held in
+                  let both : (s, q) ≡ (seg, page) = same_some (s, q) (seg, page) pair in
+                  other (ap (λ (x : ℕ × ℕ). x.0) both, ap (λ (x : ℕ × ℕ). x.1) both) in
+                  inr (
+                    there.0,
+                    away.stay there.0 s q there.1 apart,
+                    word ∙ there.2 ∙ ap (λ f. resident_ptw (f + there.0)) (sym away.shape.first),
+                  )
+            ]
       ];
   frames = λ j s q h.
       let from = away.left j s q h in
       let has = settled.pager.held j s q from.0 in
       elim (same_page s q seg page) [
-        inl same ↦
-          let P : ℕ → Type 0 = λ x. Holds p j x q in
-          let Q : ℕ → Type 0 = λ y. Holds p j seg y in
-          let moved : Holds p j seg page = subst Q same.1 (subst P same.0 from.0) in
-          absurd (from.1 (one_frame p core j k seg page settled moved away.held))
-      | inr other ↦
-          ap unmarked (away_word p core new now k seg page s q settled away has other) ∙ settled.reads.frames j s q from.0
-          ∙ ap (λ f. resident_ptw (f + j)) (sym away.shape.first)
+        | inl same ↦
+            let P : ℕ → Type 0 = λ x. Holds p j x q in
+            let Q : ℕ → Type 0 = λ y. Holds p j seg y in
+            let moved : Holds p j seg page = subst Q same.1 (subst P same.0 from.0) in
+            absurd (from.1 (one_frame p core j k seg page settled moved away.held))
+        | inr other ↦
+            ap unmarked (away_word p core new now k seg page s q settled away has other) ∙ settled.reads.frames j s q from.0
+            ∙ ap (λ f. resident_ptw (f + j)) (sym away.shape.first)
       ];
 }
 
@@ -234,8 +237,8 @@ away_kept p core new now k seg page s away =
       content =
           content_same p core new now away.shape.pages
           (λ x w has.
-            elim (same_page x (w / 1024) seg page) [
-              inl same ↦
+          elim (same_page x (w / 1024) seg page) [
+            | inl same ↦
                 let was : frame_of p core x (w / 1024) ≡ Some (p.first + k) =
                 ap (λ y. frame_of p core y (w / 1024)) same.0 ∙ ap (λ q. frame_of p core seg q) same.1
                 ∙ resident_frame p core k seg page s away.held in
@@ -250,10 +253,10 @@ away_kept p core new now k seg page s away =
                 word_stays p core new now x w (away_frame p core new now k seg page x (w / 1024) s away has other)
                 (λ none. away.kept_others x w other)
                 (λ frame e.
-                  let range = frame_range p core x (w / 1024) frame s has e in
-                  let is = range.1 in
-                  away.others (1024 * frame + w % 1024) (λ at. absurd (omega (arith, at, is, spot_below))))
-            ]);
+                let range = frame_range p core x (w / 1024) frame s has e in
+                let is = range.1 in
+                away.others (1024 * frame + w % 1024) (λ at. absurd (omega (arith, at, is, spot_below))))
+          ]);
       others = λ a out. away.others a (λ at. out (inl (record { seg = seg; page = page; has = has_it; is = sym at })));
     }
 
@@ -307,34 +310,40 @@ taken_reads p core new now k seg page settled taken = record {
   pages = λ s q has'.
       let has : has_page p s q ≡ true = sym (taken.shape.pages s q) ∙ has' in
       elim (same_page s q seg page) [
-        inl same ↦
-          let P : ℕ → Type 0 = λ x. Holds new k x q in
-          let Q : ℕ → Type 0 = λ y. Holds new k seg y in
-          let here : Holds new k s q = subst P (sym same.0) (subst Q (sym same.1) taken.here) in
-          inr (k, here,
-          ap (λ x. unmarked (get_or now (spot_of new x q) 0)) same.0 ∙ ap (λ y. unmarked (get_or now (spot_of new seg y) 0)) same.1
-          ∙ taken_spot p core new now k seg page taken ∙ ap (λ f. resident_ptw (f + k)) (sym taken.shape.first))
-      | inr other ↦
-          let word = ap unmarked (taken_word p core new now k seg page s q settled taken has other) in
-          elim (settled.reads.pages s q has) [
-            inl absent ↦ inl (word ∙ absent)
-          | inr there ↦
-              inr (there.0, taken.stay there.0 s q there.1,
-              word ∙ there.2 ∙ ap (λ f. resident_ptw (f + there.0)) (sym taken.shape.first))
-          ]
+        | inl same ↦
+            let P : ℕ → Type 0 = λ x. Holds new k x q in
+            let Q : ℕ → Type 0 = λ y. Holds new k seg y in
+            let here : Holds new k s q = subst P (sym same.0) (subst Q (sym same.1) taken.here) in
+            inr (
+              k,
+              here,
+              ap (λ x. unmarked (get_or now (spot_of new x q) 0)) same.0 ∙ ap (λ y. unmarked (get_or now (spot_of new seg y) 0)) same.1
+                  ∙ taken_spot p core new now k seg page taken ∙ ap (λ f. resident_ptw (f + k)) (sym taken.shape.first),
+            )
+        | inr other ↦
+            let word = ap unmarked (taken_word p core new now k seg page s q settled taken has other) in
+            elim (settled.reads.pages s q has) [
+              | inl absent ↦ inl (word ∙ absent)
+              | inr there ↦
+                  inr (
+                    there.0,
+                    taken.stay there.0 s q there.1,
+                    word ∙ there.2 ∙ ap (λ f. resident_ptw (f + there.0)) (sym taken.shape.first),
+                  )
+            ]
       ];
   frames = λ j s q h.
       elim (taken.left j s q h) [
-        inl same ↦
-          ap (λ x. unmarked (get_or now (spot_of new x q) 0)) same.1 ∙ ap (λ y. unmarked (get_or now (spot_of new seg y) 0)) same.2
-          ∙ taken_spot p core new now k seg page taken ∙ ap (λ f. resident_ptw (f + k)) (sym taken.shape.first)
-          ∙ ap (λ x. resident_ptw (new.first + x)) (sym same.0)
-      | inr from ↦
-          let has = settled.pager.held j s q from in
-          let in_frame = resident_frame p core j s q settled from in
-          ap unmarked (taken_word p core new now k seg page s q settled taken has
-          (taken_other p core new now k seg page s q (p.first + j) taken in_frame))
-          ∙ settled.reads.frames j s q from ∙ ap (λ f. resident_ptw (f + j)) (sym taken.shape.first)
+        | inl same ↦
+            ap (λ x. unmarked (get_or now (spot_of new x q) 0)) same.1 ∙ ap (λ y. unmarked (get_or now (spot_of new seg y) 0)) same.2
+            ∙ taken_spot p core new now k seg page taken ∙ ap (λ f. resident_ptw (f + k)) (sym taken.shape.first)
+            ∙ ap (λ x. resident_ptw (new.first + x)) (sym same.0)
+        | inr from ↦
+            let has = settled.pager.held j s q from in
+            let in_frame = resident_frame p core j s q settled from in
+            ap unmarked (taken_word p core new now k seg page s q settled taken has
+            (taken_other p core new now k seg page s q (p.first + j) taken in_frame))
+            ∙ settled.reads.frames j s q from ∙ ap (λ f. resident_ptw (f + j)) (sym taken.shape.first)
       ];
 }
 
@@ -374,8 +383,8 @@ taken_kept p core new now k seg page s taken =
       content =
           content_same p core new now taken.shape.pages
           (λ x w has.
-            elim (same_page x (w / 1024) seg page) [
-              inl same ↦
+          elim (same_page x (w / 1024) seg page) [
+            | inl same ↦
                 let was : frame_of p core x (w / 1024) ≡ None =
                 ap (λ y. frame_of p core y (w / 1024)) same.0 ∙ ap (λ q. frame_of p core seg q) same.1 ∙ taken.out in
                 let is : frame_of new now x (w / 1024) ≡ Some (p.first + k) =
@@ -392,23 +401,23 @@ taken_kept p core new now k seg page s taken =
                 word_stays p core new now x w (taken_frame p core new now k seg page x (w / 1024) s taken has other)
                 (λ none. taken.kept x w)
                 (λ frame e.
-                  let range = frame_range p core x (w / 1024) frame s has e in
-                  let is = range.1 in
-                  let apart = taken_apart p core new now k seg page range.0 x (w / 1024) taken range.2 in
-                  taken.others (1024 * frame + w % 1024) (λ at. absurd (omega (arith, at, is, spot_below)))
-                  (elim (cases_lt range.0 k) [
-                    inl low ↦ inl (omega (arith, low, is))
+                let range = frame_range p core x (w / 1024) frame s has e in
+                let is = range.1 in
+                let apart = taken_apart p core new now k seg page range.0 x (w / 1024) taken range.2 in
+                taken.others (1024 * frame + w % 1024) (λ at. absurd (omega (arith, at, is, spot_below)))
+                (elim (cases_lt range.0 k) [
+                  | inl low ↦ inl (omega (arith, low, is))
                   | inr high ↦ inr (omega (arith, high, is, apart))
-                  ]))
-            ]);
+                ]))
+          ]);
       others = λ a out.
           taken.others a (λ at. out (inl (record { seg = seg; page = page; has = taken.has; is = sym at })))
           (elim (cases_lt a (1024 * (p.first + k))) [
-            inl low ↦ inl low
-          | inr high ↦
-              elim (cases_lt a (1024 * (p.first + k) + 1024)) [
-                inl within ↦ absurd (out (inr (omega (arith, high), omega (arith, within, inside))))
-              | inr past ↦ inr past
-              ]
+            | inl low ↦ inl low
+            | inr high ↦
+                elim (cases_lt a (1024 * (p.first + k) + 1024)) [
+                  | inl within ↦ absurd (out (inr (omega (arith, high), omega (arith, within, inside))))
+                  | inr past ↦ inr past
+                ]
           ]);
     }

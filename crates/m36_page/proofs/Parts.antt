@@ -13,9 +13,9 @@ use Rattle.m36_page.specs.Copied.{IsCopied}
 use Rattle.m36_page.specs.Choice.{IsFree, ArePinned, IsHeldSpot, IsMarked, AreInCore}
 use Rattle.m36_page.specs.Residence.{is_of, table_of, has_page_in, has_page, spot_of, kept_word, word_in, page_word, content_by, content_of, absent_ptw, resident_ptw, frame_in, frame_of, Holds, IsPager, Reads, HasFrames, IsSettled, IsInside}
 use Rattle.m36_page.specs.Changes.{IsSpot, IsKept, is_to, is_pinned, AllPinned, Stays, IsBrought}
-use Rattle.m36_page.specs.Moved.{IsAway, IsTaken, IsEmptied}
+use Rattle.m36_page.specs.Moved.{HasWords, IsAway, IsTaken, IsEmptied}
 use Rattle.m36_page.proofs.Frames.{held_inside}
-use Rattle.m36_page.proofs.Tables.{HasWords, found, words_were}
+use Rattle.m36_page.proofs.Tables.{found, words_were}
 use Rattle.m36_page.proofs.Moves.{kept_then, marks_kept, marks_settled, marks_frame, AreMarks, frame_range, taken_kept, taken_settled, taken_in, taken_frame, taken_other}
 use Rattle.m36_page.proofs.Built.{has_table, spot_by, page_room, away_from, taken_from}
 
@@ -49,13 +49,13 @@ marks_parts first holders hs spots sp tables p core now e same same' inside mark
       size = marks.size;
       unmarks = marks.unmarks;
       others = λ a out. marks.others a (λ h.
-        let holds : Holds q h.k h.held.0 h.held.1 = sym (ap (λ x. get_or x h.k None) same) ∙ h.holds in
-        out (record {
-          seg = h.held.0;
-          page = h.held.1;
-          has = inside.pager.held h.k h.held.0 h.held.1 holds;
-          is = sym (inside.spots h.k h.held.0 h.held.1 holds) ∙ sym (ap (λ x. get_or x h.k 0) same') ∙ h.is;
-        }));
+          let holds : Holds q h.k h.held.0 h.held.1 = sym (ap (λ x. get_or x h.k None) same) ∙ h.holds in
+          out (record {
+            seg = h.held.0;
+            page = h.held.1;
+            has = inside.pager.held h.k h.held.0 h.held.1 holds;
+            is = sym (inside.spots h.k h.held.0 h.held.1 holds) ∙ sym (ap (λ x. get_or x h.k 0) same') ∙ h.is;
+          }));
     })
 
 pub all_pinned : (o : Option ℕ) (refs : List Reference) (hs : List (Option (ℕ × ℕ))) (p : PagerFields) → hs ≡ p.holders
@@ -117,16 +117,16 @@ inside_taken p core new now k seg page spots spot inside taken is = record {
       let below = taken.inside in
       let room : k < length spots = omega (arith, count, below) in
       elim (taken.left j s q h) [
-        inl same ↦
-          ap (λ n. get_or (set spots k spot) n 0) same.0 ∙ get_or-set_same spots k spot 0 room ∙ is
-          ∙ ap (λ x. spot_of p x page) (sym same.1) ∙ ap (λ y. spot_of p s y) (sym same.2) ∙ sym (taken.shape.spots s q)
-      | inr from ↦
-          let other : j ≢ k = λ equal.
-          let P : ℕ → Type 0 = λ n. get_or p.holders n None ≡ Some (s, q) in
-          let at : get_or p.holders k None ≡ Some (s, q) = subst P equal from in
-          let empty = taken.empty in
-          absurd (cc) in
-          get_or-set_other spots k j spot 0 other ∙ inside.spots j s q from ∙ sym (taken.shape.spots s q)
+        | inl same ↦
+            ap (λ n. get_or (set spots k spot) n 0) same.0 ∙ get_or-set_same spots k spot 0 room ∙ is
+            ∙ ap (λ x. spot_of p x page) (sym same.1) ∙ ap (λ y. spot_of p s y) (sym same.2) ∙ sym (taken.shape.spots s q)
+        | inr from ↦
+            let other : j ≢ k = λ equal.
+            let P : ℕ → Type 0 = λ n. get_or p.holders n None ≡ Some (s, q) in
+            let at : get_or p.holders k None ≡ Some (s, q) = subst P equal from in
+            let empty = taken.empty in
+            absurd (cc) in
+            get_or-set_other spots k j spot 0 other ∙ inside.spots j s q from ∙ sym (taken.shape.spots s q)
       ];
 }
 
@@ -168,8 +168,8 @@ brought_same p core seg page refs resident = record {
   stays = all_stay p core p core refs (λ i d below frame has e. e);
 }
 
-pub settled_by : (p : PagerFields) (core : List ℕ) (n : ℕ) → IsPager p → Reads p core → HasFrames p core → length core ≤ 2 ^ 24 → IsSettled p core
-settled_by p core n pager reads frames most = record { pager = pager; reads = reads; frames = frames; most = most }
+pub settled_by : (p : PagerFields) (core : List ℕ) → IsPager p → Reads p core → HasFrames p core → length core ≤ 2 ^ 24 → IsSettled p core
+settled_by p core pager reads frames most = record { pager = pager; reads = reads; frames = frames; most = most }
 
 pub marks_of : (p : PagerFields) (core now : List ℕ) → IsMarked core now (IsSpot p) → AreMarks p core now
 marks_of p core now m = record { size = m.size; unmarks = m.unmarks; others = m.others }
@@ -197,18 +197,18 @@ brought p core mid gone left new now k seg page refs s marks emptied taken free 
           (kept_then p mid gone left new now emptied.kept (taken_kept gone left new now k seg page emptied.settled taken));
       resident = ap is_some (taken_in gone left new now k seg page emptied.settled taken);
       stays = all_stay p core new now refs (λ i d below frame has e.
-        let x : ℕ = (get_or refs i d).at.seg in
-        let q : ℕ = (get_or refs i d).at.word / 1024 in
-        let range = frame_range p core x q frame s has e in
-        let marked : frame_of p mid x q ≡ Some frame = marks_frame p core mid x q s m has ∙ e in
-        let apart : frame ≢ p.first + k = λ same.
-        let number = range.1 in
-        let equal : range.0 ≡ k = omega (arith, number, same) in
-        let P : ℕ → Type 0 = λ n. Holds p n x q in
-        unpinned p refs k i d below free (subst P equal range.2) in
-        let there : frame_of gone left x q ≡ Some frame = emptied.stays x q frame has marked apart in
-        let has' : has_page gone x q ≡ true = emptied.kept.shape.pages x q ∙ has in
-        taken_frame gone left new now k seg page x q emptied.settled taken has' (taken_other gone left new now k seg page x q frame taken there) ∙ there);
+          let x : ℕ = (get_or refs i d).at.seg in
+          let q : ℕ = (get_or refs i d).at.word / 1024 in
+          let range = frame_range p core x q frame s has e in
+          let marked : frame_of p mid x q ≡ Some frame = marks_frame p core mid x q s m has ∙ e in
+          let apart : frame ≢ p.first + k = λ same.
+          let number = range.1 in
+          let equal : range.0 ≡ k = omega (arith, number, same) in
+          let P : ℕ → Type 0 = λ n. Holds p n x q in
+          unpinned p refs k i d below free (subst P equal range.2) in
+          let there : frame_of gone left x q ≡ Some frame = emptied.stays x q frame has marked apart in
+          let has' : has_page gone x q ≡ true = emptied.kept.shape.pages x q ∙ has in
+          taken_frame gone left new now k seg page x q emptied.settled taken has' (taken_other gone left new now k seg page x q frame taken there) ∙ there);
     }
 
 -- where a frame is free not all are pinned
@@ -346,3 +346,10 @@ pub content_kept : (p : PagerFields) (core : List ℕ) (seg w : ℕ) → has_pag
 unfolding content_of page_word
 content_kept p core seg w has e =
     ap (λ b. content_by b (page_word p core seg w)) has ∙ ap (λ f. Some (word_in f core w (kept_word p seg w))) e
+
+-- the frame that a page table word names is one of core
+pub frame_here : (p : PagerFields) (core : List ℕ) (seg page spot frame : ℕ) (o : Option ℕ) → IsPager p → Reads p core → HasFrames p core
+    → length core ≤ 2 ^ 24 → has_page p seg page ≡ true → spot ≡ spot_of p seg page → o ≡ frame_in (get_or core spot 0) → o ≡ Some frame
+    → 1024 * frame + 1024 ≤ length core
+frame_here p core seg page spot frame o pager reads frames most has is e some =
+    frame_room p core seg page frame (settled_by p core pager reads frames most) has (frame_told p core seg page spot o is e ∙ some)

@@ -9,7 +9,7 @@ use Rattle.std.proofs.lemmas.List.Quantifiers.{position-Some}
 use Rattle.std.proofs.lemmas.Option.{slice_get-get_or}
 use Rattle.m36_page.specs.Fields.{TableFields, PagerFields}
 use Rattle.m36_page.specs.Residence.{is_of, table_of, has_page_in, spot_in, kept_in, has_page, spot_of, kept_word, Holds, IsPager}
-use Rattle.m36_page.specs.Copied.{IsCopied}
+use Rattle.m36_page.specs.Moved.{HasWords}
 
 -- a table with other words
 abbrev with_words : TableFields → List ℕ → TableFields
@@ -33,9 +33,11 @@ pub found : (tables : List TableFields) (seg i : ℕ) (d : TableFields) → posi
     → (i < length tables) × ((get_or tables i d).seg ≡ seg) × (table_of tables seg ≡ Some (get_or tables i d))
 unfolding table_of
 found tables seg i d at =
-    let is = position-Some (is_of seg) tables i d at in
-    (is.0, eqb-true (get_or tables i d).seg seg is.1,
-    ap (λ o. option_and_then (slice_get tables) o) at ∙ slice_get-get_or tables i d is.0)
+    let is = position-Some (is_of seg) tables i d at in (
+      is.0,
+      eqb-true (get_or tables i d).seg seg is.1,
+      ap (λ o. option_and_then (slice_get tables) o) at ∙ slice_get-get_or tables i d is.0,
+    )
 
 -- the table of a segment where one has other words
 table_at : (tables : List TableFields) (seg i : ℕ) (t d : TableFields) → position (is_of seg) tables ≡ Some i → t.seg ≡ seg
@@ -65,17 +67,15 @@ table_other tables seg s i t d at same other =
     ap (λ o. option_and_then (slice_get (set tables i t)) o) (position_set tables i s t d (same ∙ sym is.1))
     ∙ other_by tables i t d (position (is_of s) tables)
     (λ j e.
-      let there = found tables s j d e in
-      (there.0, λ equal.
-        let P : ℕ → Type 0 = λ n. (get_or tables n d).seg ≡ s in
-        let moved : (get_or tables i d).seg ≡ s = subst P equal there.1 in
-        other (sym moved ∙ is.1)))
+    let there = found tables s j d e in (
+      there.0,
+      λ equal.
+          let P : ℕ → Type 0 = λ n. (get_or tables n d).seg ≡ s in
+          let moved : (get_or tables i d).seg ≡ s = subst P equal there.1 in
+          other (sym moved ∙ is.1),
+    ))
 
 -- ---- what a pager shows after the words of one table have changed
-
-pub record HasWords (p new : PagerFields) (seg i : ℕ) (d : TableFields) (words : List ℕ) : Type 0 where
-  pub at : position (is_of seg) p.tables ≡ Some i
-  pub tables : new.tables ≡ set p.tables i (record (get_or p.tables i d) { words = words })
 
 table_now : (p new : PagerFields) (seg i : ℕ) (d : TableFields) (words : List ℕ) → HasWords p new seg i d words
     → table_of new.tables seg ≡ Some (record (get_or p.tables i d) { words = words })
@@ -94,10 +94,10 @@ pub words_pages : (p new : PagerFields) (seg i : ℕ) (d : TableFields) (words :
 unfolding has_page
 words_pages p new seg i d words h s q =
     elim (cases_eq s seg) [
-      inl same ↦
-        ap (λ x. has_page_in (table_of new.tables x) q) same ∙ ap (λ t. has_page_in t q) (table_now p new seg i d words h)
-        ∙ sym (ap (λ x. has_page_in (table_of p.tables x) q) same ∙ ap (λ t. has_page_in t q) (found p.tables seg i d h.at).2)
-    | inr other ↦ ap (λ t. has_page_in t q) (table_still p new seg s i d words h other)
+      | inl same ↦
+          ap (λ x. has_page_in (table_of new.tables x) q) same ∙ ap (λ t. has_page_in t q) (table_now p new seg i d words h)
+          ∙ sym (ap (λ x. has_page_in (table_of p.tables x) q) same ∙ ap (λ t. has_page_in t q) (found p.tables seg i d h.at).2)
+      | inr other ↦ ap (λ t. has_page_in t q) (table_still p new seg s i d words h other)
     ]
 
 pub words_spots : (p new : PagerFields) (seg i : ℕ) (d : TableFields) (words : List ℕ) → HasWords p new seg i d words
@@ -105,10 +105,10 @@ pub words_spots : (p new : PagerFields) (seg i : ℕ) (d : TableFields) (words :
 unfolding spot_of
 words_spots p new seg i d words h s q =
     elim (cases_eq s seg) [
-      inl same ↦
-        ap (λ x. spot_in (table_of new.tables x) q) same ∙ ap (λ t. spot_in t q) (table_now p new seg i d words h)
-        ∙ sym (ap (λ x. spot_in (table_of p.tables x) q) same ∙ ap (λ t. spot_in t q) (found p.tables seg i d h.at).2)
-    | inr other ↦ ap (λ t. spot_in t q) (table_still p new seg s i d words h other)
+      | inl same ↦
+          ap (λ x. spot_in (table_of new.tables x) q) same ∙ ap (λ t. spot_in t q) (table_now p new seg i d words h)
+          ∙ sym (ap (λ x. spot_in (table_of p.tables x) q) same ∙ ap (λ t. spot_in t q) (found p.tables seg i d h.at).2)
+      | inr other ↦ ap (λ t. spot_in t q) (table_still p new seg s i d words h other)
     ]
 
 pub words_kept : (p new : PagerFields) (seg i : ℕ) (d : TableFields) (words : List ℕ) → HasWords p new seg i d words

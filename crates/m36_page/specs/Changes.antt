@@ -30,6 +30,15 @@ pub record IsKept (old : PagerFields) (core : List ℕ) (new : PagerFields) (now
   pub content : (seg w : ℕ) → content_of new now seg w ≡ content_of old core seg w
   pub others : (a : ℕ) → (IsPaged old a → ⊥) → slice_index now a ≡ slice_index core a
 
+-- A word of a segment was set: the content of no other has changed, nor where any page is.
+pub record IsSet (old : PagerFields) (core : List ℕ) (new : PagerFields) (now : List ℕ) (seg word v : ℕ) : Type 0 where
+  pub shape : IsSameShape old new
+  pub holders : new.holders ≡ old.holders
+  pub size : length now ≡ length core
+  pub here : content_of new now seg word ≡ Some v
+  pub content : (s w : ℕ) → ((s ≡ seg) × (w ≡ word) → ⊥) → content_of new now s w ≡ content_of old core s w
+  pub others : (a : ℕ) → (IsPaged old a → ⊥) → slice_index now a ≡ slice_index core a
+
 -- ---- references that stay
 
 -- a reference is to this page

@@ -4,3 +4,4 @@ pub mod Copied
 pub mod Changes
 pub mod Choice
 pub mod Moved
+pub mod Given

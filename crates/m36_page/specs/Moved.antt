@@ -1,8 +1,13 @@
 -- A page that is put away, and one that is taken in: what has changed, word by word.
-use Rattle.std.specs.Prelude.{ℕ, ◌≡◌, ◌≢◌, ◌+◌, ◌*◌, ◌/◌, ◌%◌, ◌<◌, ◌≤◌, ◌⊎◌, true, List, length, slice_index, slice_index_or, Option, Some, None}
-use Rattle.m36_page.specs.Fields.{PagerFields}
-use Rattle.m36_page.specs.Residence.{has_page, spot_of, kept_word, absent_ptw, resident_ptw, frame_of, Holds, IsPager, IsSettled}
+use Rattle.std.specs.Prelude.{ℕ, ◌≡◌, ◌≢◌, ◌+◌, ◌*◌, ◌/◌, ◌%◌, ◌<◌, ◌≤◌, ◌⊎◌, true, List, length, slice_index, slice_index_or, slice_set, position, Option, Some, None}
+use Rattle.m36_page.specs.Fields.{TableFields, PagerFields}
+use Rattle.m36_page.specs.Residence.{is_of, has_page, spot_of, kept_word, absent_ptw, resident_ptw, frame_of, Holds, IsPager, IsSettled}
 use Rattle.m36_page.specs.Changes.{IsSameShape, IsKept}
+
+-- The table of a segment, at place i, has these words now.
+pub record HasWords (p new : PagerFields) (seg i : ℕ) (d : TableFields) (words : List ℕ) : Type 0 where
+  pub at : position (is_of seg) p.tables ≡ Some i
+  pub tables : new.tables ≡ slice_set p.tables i (record (slice_index_or p.tables i d) { words = words })
 
 -- The page of frame k was put away: its words are kept as they stood in the frame.
 pub record IsAway (p : PagerFields) (core : List ℕ) (new : PagerFields) (now : List ℕ) (k seg page : ℕ) : Type 0 where
@@ -43,3 +48,11 @@ pub record IsEmptied (p : PagerFields) (core : List ℕ) (new : PagerFields) (no
   pub stays : (s q frame : ℕ) → has_page p s q ≡ true → frame_of p core s q ≡ Some frame → frame ≢ p.first + k
       → frame_of new now s q ≡ Some frame
   pub out : (s q : ℕ) → has_page p s q ≡ true → frame_of p core s q ≡ None → frame_of new now s q ≡ None
+
+-- A word that is kept was changed, and nothing else.
+pub record IsKeptWord (p new : PagerFields) (seg word v : ℕ) : Type 0 where
+  pub shape : IsSameShape p new
+  pub holders : new.holders ≡ p.holders
+  pub pager : IsPager new
+  pub here : kept_word new seg word ≡ v
+  pub others : (s w : ℕ) → ((s ≡ seg) × (w ≡ word) → ⊥) → kept_word new s w ≡ kept_word p s w

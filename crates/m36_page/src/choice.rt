@@ -37,7 +37,12 @@ pub(crate) fn is_pinned(references: &[Reference], holder: Option<(u16, u16)>) ->
 }
 
 /// The first frame of some, from one up to another, that holds no page of the references.
-pub(crate) fn free_between(holders: &[Option<(u16, u16)>], references: &[Reference], from: usize, to: usize) -> Option<usize>
+pub(crate) fn free_between(
+    holders: &[Option<(u16, u16)>],
+    references: &[Reference],
+    from: usize,
+    to: usize,
+) -> Option<usize>
     requires { to ≤ length holders.now }
     ensures found { IfSome result (IsFree references.now holders.now) }
     ensures none { IfNone result (ArePinned references.now holders.now from to) }
@@ -51,7 +56,11 @@ pub(crate) fn free_between(holders: &[Option<(u16, u16)>], references: &[Referen
 }
 
 /// A frame that holds no page of the references, the first from one on; None exactly where each frame holds one.
-pub(crate) fn free_from(holders: &[Option<(u16, u16)>], references: &[Reference], from: usize) -> Option<usize>
+pub(crate) fn free_from(
+    holders: &[Option<(u16, u16)>],
+    references: &[Reference],
+    from: usize,
+) -> Option<usize>
     requires { from ≤ length holders.now }
     ensures found { IfSome result (IsFree references.now holders.now) }
     ensures none { IfNone result (ArePinned references.now holders.now 0 (length holders.now)) }
@@ -91,7 +100,12 @@ fn put_off(core: &mut Core, spot: u32) -> bool
 }
 
 // Whether the hand passes over a frame: its page must stay, or was used. The mark of a page that was used is put off.
-fn is_passed(core: &mut Core, references: &[Reference], holder: Option<(u16, u16)>, spot: u32) -> bool
+fn is_passed(
+    core: &mut Core,
+    references: &[Reference],
+    holder: Option<(u16, u16)>,
+    spot: u32,
+) -> bool
     requires { IsSome holder → spot < length core.old }
     ensures free { result ≡ false → is_pinned references.now holder ≡ false }
     ensures marks { IsMarked core.old core.new (λ a. IsSome holder × (a ≡ spot)) }

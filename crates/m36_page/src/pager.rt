@@ -1,18 +1,23 @@
 //! Pagers.
 
-ghost use Rattle.std.specs.Prelude.{ℕ, ◌≡◌, ◌≢◌, ◌+◌, ◌-◌, ◌^◌, ◌*◌, ◌/◌, ◌<◌, ◌≤◌, ◌⊎◌, Bool, true, false, ◌&&◌, nat_eq, if◌then◌else◌, length, slice_index, slice_index_or, Some, None, IsSome, IfSome, IfNone, OnOk, OnErr};
+ghost use Rattle.std.specs.Prelude.{ℕ, ◌≡◌, ◌≢◌, ◌+◌, ◌-◌, ◌^◌, ◌*◌, ◌/◌, ◌<◌, ◌≤◌, ◌⊎◌, Bool, true, false, ◌&&◌, nat_eq, if◌then◌else◌, length, slice_index_or, replicate, All, IfOk, Some, None, IsSome, IfSome, IfNone, OnOk, OnErr};
 ghost use Rattle.m36_model.specs.Core.{unmarked};
 ghost use Rattle.m36_page.specs.Residence.{has_page, spot_of, kept_word, frame_of, content_of, Holds, IsPager, Reads, HasFrames, IsSettled};
-ghost use Rattle.m36_page.specs.Changes.{IsBrought, IsKept, IsSpot, AllPinned};
+ghost use Rattle.m36_page.specs.Changes.{IsBrought, IsKept, IsSet, IsSpot, AllPinned};
 ghost use Rattle.m36_page.specs.Choice.{IsFree, IsMarked, AreInCore};
-ghost use Rattle.m36_page.specs.Moved.{IsAway, IsTaken, IsEmptied};
+ghost use Rattle.m36_page.specs.Given.{HasRoom, pager_given};
+ghost use Rattle.m36_page.specs.Moved.{IsAway, IsTaken, IsEmptied, IsKeptWord};
 
 use crate::choice::choose;
 use crate::residence::{frame_at, put_absent, put_resident};
-use crate::table::{Table, copy_page_in, copy_page_out, place_of, table_place, word_of};
+use crate::table::{
+    PageTable, Table, copy_page_in, copy_page_out, place_of, put_word, table_place, tables_given,
+    word_of,
+};
 use m36_core::Core;
 use m36_model::{Reference, Refs};
-use m36_word::Word;
+use m36_word::{NoMemory, Word};
+use std::alloc::Global;
 use std::marker::Model;
 
 // Words in a page.
@@ -50,7 +55,45 @@ impl Model for Pager {
     ghost invariant = { λ p. (IsInside (record { first = p.first; holders = p.holders.items; tables = p.tables.items }) p.spots.items) × (p.hand ≤ length p.holders.items) };
 }
 
+// So many frames, none of which holds a page.
+fn empty_frames(alloc: Global, frames: usize) -> Result<Vec<Option<(u16, u16)>>, NoMemory>
+    ensures { IfOk result (λ holders. holders.items ≡ replicate frames None) }
+{
+    let mut holders = Vec::with_capacity(alloc, frames)?;
+    holders.resize(frames, None)?;
+    Ok(holders)
+}
+
+fn no_spots(alloc: Global, frames: usize) -> Result<Vec<u32>, NoMemory>
+    ensures { IfOk result (λ spots. spots.items ≡ replicate frames 0) }
+{
+    let mut spots = Vec::with_capacity(alloc, frames)?;
+    spots.resize(frames, 0)?;
+    Ok(spots)
+}
+
 impl Pager {
+    /// A pager over so many frames of core from one on, of which none holds a page yet. Pages are at places of core words that
+    /// no two share, all below the first of these frames. The error is want of memory; later calls take none.
+    pub fn new(
+        alloc: Global,
+        first: u32,
+        frames: u32,
+        tables: &[PageTable],
+    ) -> Result<Pager, NoMemory>
+        requires room { All HasRoom tables.now }
+        requires tables { IsPager (pager_given first frames tables.now) }
+        ensures { IfOk result (λ p. p ≡ pager_given first frames tables.now) }
+    {
+        Ok(Pager {
+            holders: empty_frames(alloc, frames as usize)?,
+            spots: no_spots(alloc, frames as usize)?,
+            tables: tables_given(alloc, tables)?,
+            first,
+            hand: 0,
+        })
+    }
+
     // The place of the page table word of a page.
     fn spot(&self, seg: u16, page: u32) -> u32
         requires frames { 1024 * self.now.first < 2 ^ 32 }
@@ -122,7 +165,13 @@ impl Pager {
 
     /// Brings a page into a frame; one that is in a frame is left as it is. The error says that every frame holds a page of
     /// the references, and then nothing has changed.
-    pub fn bring(&mut self, core: &mut Core, seg: u16, page: u16, pinned: &Refs) -> Result<(), Pinned>
+    pub fn bring(
+        &mut self,
+        core: &mut Core,
+        seg: u16,
+        page: u16,
+        pinned: &Refs,
+    ) -> Result<(), Pinned>
         requires frames { HasFrames self.old core.old }
         requires reads { Reads self.old core.old }
         requires page { has_page self.old seg page ≡ true }
@@ -200,6 +249,30 @@ impl Pager {
         match frame_at(core, self.spot(seg, word / PAGE)) {
             Some(frame) => Some(core.peek(PAGE * frame + word % PAGE)),
             None => Some(self.kept(seg, word)),
+        }
+    }
+
+    // Keeps another word for a word of a segment.
+    fn keep(&mut self, seg: u16, word: u32, value: Word)
+        requires { has_page self.old seg (word / 1024) ≡ true }
+        ensures { IsKeptWord self.old self.new seg word value }
+    {
+        let i = table_place(&self.tables, seg);
+        put_word(&mut self.tables[i], word, value);
+    }
+
+    /// Sets a word of a segment, wherever its page is.
+    pub fn set(&mut self, core: &mut Core, seg: u16, word: u32, w: Word)
+        requires frames { HasFrames self.old core.old }
+        requires reads { Reads self.old core.old }
+        requires page { has_page self.old seg (word / 1024) ≡ true }
+        ensures set { IsSet self.old core.old self.new core.new seg word w }
+        ensures reads { Reads self.new core.new }
+    {
+        let _ = core.len();
+        match frame_at(core, self.spot(seg, word / PAGE)) {
+            Some(frame) => core.poke(PAGE * frame + word % PAGE, w),
+            None => self.keep(seg, word, w),
         }
     }
 }

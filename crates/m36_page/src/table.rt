@@ -1,12 +1,14 @@
 //! Page tables.
 
-ghost use Rattle.std.specs.Prelude.{◌≡◌, ◌+◌, ◌*◌, ◌≤◌, ◌<◌, length, position, slice_index, slice_set, Some, IsSome, IfSome};
+ghost use Rattle.std.specs.Prelude.{◌≡◌, ◌+◌, ◌*◌, ◌≤◌, ◌<◌, length, position, slice_index, slice_set, map, replicate, ◌++◌, ◌-◌, Some, All, IsSome, IfSome, IfOk};
 ghost use Rattle.m36_page.specs.Copied.{IsCopied};
+ghost use Rattle.m36_page.specs.Given.{HasRoom, table_given};
 ghost use Rattle.m36_page.specs.Residence.{is_of, table_of};
 
 use crate::copying::{copy_in, copy_out};
 use m36_core::Core;
-use m36_word::{Word, Words};
+use m36_word::{NoMemory, Word, Words};
+use std::alloc::Global;
 use std::marker::Model;
 
 /// The page table of a segment, and the words of its pages.
@@ -86,6 +88,43 @@ pub(crate) fn copy_page_in(table: &Table, page: u16, core: &mut Core, frame: u32
     ensures { IsCopied table.now.words (1024 * page) core.old (1024 * frame) core.new }
 {
     copy_in(core, frame, &table.words, PAGE * page as usize);
+}
+
+/// A table as it is given, with every word of its pages.
+pub(crate) fn table_given(alloc: Global, given: &PageTable) -> Result<Table, NoMemory>
+    requires { HasRoom given.now }
+    ensures { IfOk result (λ t. t ≡ table_given given.now) }
+{
+    let words = given.words.slice();
+    Ok(Table {
+        words: filled(alloc, words, PAGE * given.pages as usize)?,
+        at: given.at,
+        seg: given.seg,
+        pages: given.pages,
+    })
+}
+
+// Words with zeros behind them, so many in all.
+fn filled(alloc: Global, words: &[Word], count: usize) -> Result<Vec<Word>, NoMemory>
+    requires { length words.now ≤ count }
+    ensures { IfOk result (λ v. v.items ≡ words.now ++ replicate (count - length words.now) 0) }
+{
+    let mut all = Vec::with_capacity(alloc, count)?;
+    all.extend_from_slice(words)?;
+    all.resize(count, Word::ZERO)?;
+    Ok(all)
+}
+
+/// Tables as they are given.
+pub(crate) fn tables_given(alloc: Global, given: &[PageTable]) -> Result<Vec<Table>, NoMemory>
+    requires { All HasRoom given.now }
+    ensures { IfOk result (λ tables. tables.items ≡ map table_given given.now) }
+{
+    let mut tables = Vec::with_capacity(alloc, given.len())?;
+    for one in given {
+        tables.push(table_given(alloc, one)?)?;
+    }
+    Ok(tables)
 }
 
 /// The word that is kept for a word.

@@ -20,7 +20,7 @@ returns-then-is_some-clause-free c =
 pub take_in-requires-clause-out : goal.take_in-requires-clause-out
 take_in-requires-clause-out c =
     let settled : IsSettled c.args.self.now c.args.core.now =
-    settled_by c.args.self.now c.args.core.now c.len.result c.spot-spot.ensures.pager c.requires.reads c.requires.frames c.len.ensures.most in
+    settled_by c.args.self.now c.args.core.now c.spot-spot.ensures.pager c.requires.reads c.requires.frames c.len.ensures.most in
     c.empty.ensures.out c.args.seg c.args.page c.requires.page
     (marks_frame c.args.self.now c.args.core.now c.choose.new.core c.args.seg c.args.page settled
     (marks_of c.args.self.now c.args.core.now c.choose.new.core c.choose.ensures.marks) c.requires.page
@@ -30,7 +30,7 @@ take_in-requires-clause-out c =
 pub returns-clause-ok : goal.returns-clause-ok
 returns-clause-ok c =
     let settled : IsSettled c.args.self.now c.args.core.now =
-    settled_by c.args.self.now c.args.core.now c.len.result c.spot-spot.ensures.pager c.requires.reads c.requires.frames c.len.ensures.most in
+    settled_by c.args.self.now c.args.core.now c.spot-spot.ensures.pager c.requires.reads c.requires.frames c.len.ensures.most in
     let P : List Reference → Type 0 = λ refs. IsBrought c.args.self.now c.args.core.now c.take_in.new.self c.take_in.new.core c.args.seg c.args.page refs in
     subst P c.as_slice.ensures.value
     (brought c.args.self.now c.args.core.now c.choose.new.core c.empty.new.self c.empty.new.core c.take_in.new.self c.take_in.new.core

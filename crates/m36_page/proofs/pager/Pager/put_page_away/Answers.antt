@@ -29,6 +29,7 @@ returns c =
 pub invariant_of-self : goal.invariant_of-self
 invariant_of-self c = (
   inside_away c.args.self.now c.args.core.now (parts c.self.inside.first (set c.self.inside.holders.items c.args.k None) (set c.self.inside.tables.items c.table_place-i.result c.copy_page_out.new.table))
-  c.put_absent.new.core c.args.k c.args.seg c.args.page c.self.inside.spots.items
-  (inside_view _ c.args.self.now c.self.inside.spots.items c.self.view_is c.self.invariant.0) (returns c),
-  (let hand = c.self.invariant.1 in omega (arith, hand, length-set c.self.inside.holders.items c.args.k None)))
+      c.put_absent.new.core c.args.k c.args.seg c.args.page c.self.inside.spots.items
+      (inside_view _ c.args.self.now c.self.inside.spots.items c.self.view_is c.self.invariant.0) (returns c),
+  (let hand = c.self.invariant.1 in omega (arith, hand, length-set c.self.inside.holders.items c.args.k None)),
+)

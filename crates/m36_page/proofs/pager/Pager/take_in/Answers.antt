@@ -49,8 +49,9 @@ invariant_of-self c =
     spot_is c.self.inside.first c.self.inside.holders.items c.self.inside.tables.items c.deref.result.now c.args.self.now c.args.seg c.args.page c.table_place-i.result c.table.inside.at c.index-table.result.now
     c.self.view_is c.deref.ensures.value c.table_place-i.ensures.place c.index-table.ensures (ap (λ (t : TableFields). t.at) c.table.view_is) in
     let count : length c.self.inside.holders.items ≡ length c.args.self.now.holders = ap (λ (x : PagerFields). length x.holders) c.self.view_is in
-    let inside = c.requires.inside in
-    (inside_taken c.args.self.now c.args.core.now (parts c.self.inside.first (set c.self.inside.holders.items c.args.k (Some (c.args.seg, c.args.page))) c.self.inside.tables.items)
-    c.put_resident.new.core c.args.k c.args.seg c.args.page c.self.inside.spots.items (c.table.inside.at + c.args.page)
-    (inside_view _ c.args.self.now c.self.inside.spots.items c.self.view_is c.self.invariant.0) (returns c) is,
-    omega (arith, inside, count, length-set c.self.inside.holders.items c.args.k (Some (c.args.seg, c.args.page))))
+    let inside = c.requires.inside in (
+      inside_taken c.args.self.now c.args.core.now (parts c.self.inside.first (set c.self.inside.holders.items c.args.k (Some (c.args.seg, c.args.page))) c.self.inside.tables.items)
+          c.put_resident.new.core c.args.k c.args.seg c.args.page c.self.inside.spots.items (c.table.inside.at + c.args.page)
+          (inside_view _ c.args.self.now c.self.inside.spots.items c.self.view_is c.self.invariant.0) (returns c) is,
+      omega (arith, inside, count, length-set c.self.inside.holders.items c.args.k (Some (c.args.seg, c.args.page))),
+    )
