@@ -4,3 +4,4 @@ pub mod Tables
 pub mod Built
 pub mod Parts
 pub mod SetWords
+pub mod Placed

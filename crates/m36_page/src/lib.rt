@@ -18,4 +18,4 @@ mod table;
 mod tests;
 
 pub use pager::{Pager, Pinned};
-pub use table::PageTable;
+pub use table::{PageTable, are_placed};

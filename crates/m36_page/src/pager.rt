@@ -5,7 +5,7 @@ ghost use Rattle.m36_model.specs.Core.{unmarked};
 ghost use Rattle.m36_page.specs.Residence.{has_page, spot_of, kept_word, frame_of, content_of, Holds, IsPager, Reads, HasFrames, IsSettled};
 ghost use Rattle.m36_page.specs.Changes.{IsBrought, IsKept, IsSet, IsSpot, AllPinned};
 ghost use Rattle.m36_page.specs.Choice.{IsFree, IsMarked, AreInCore};
-ghost use Rattle.m36_page.specs.Given.{HasRoom, pager_given};
+ghost use Rattle.m36_page.specs.Given.{are_placed, pager_given};
 ghost use Rattle.m36_page.specs.Moved.{IsAway, IsTaken, IsEmptied, IsKeptWord};
 
 use crate::choice::choose;
@@ -81,8 +81,7 @@ impl Pager {
         frames: u32,
         tables: &[PageTable],
     ) -> Result<Pager, NoMemory>
-        requires room { All HasRoom tables.now }
-        requires tables { IsPager (pager_given first frames tables.now) }
+        requires { are_placed first tables.now ≡ true }
         ensures { IfOk result (λ p. p ≡ pager_given first frames tables.now) }
     {
         Ok(Pager {

@@ -1,8 +1,9 @@
 //! Page tables.
 
-ghost use Rattle.std.specs.Prelude.{◌≡◌, ◌+◌, ◌*◌, ◌≤◌, ◌<◌, length, position, slice_index, slice_set, map, replicate, ◌++◌, ◌-◌, Some, All, IsSome, IfSome, IfOk};
+ghost use Rattle.std.specs.Prelude.{◌≡◌, ◌+◌, ◌*◌, ◌≤◌, ◌<◌, length, position, slice_index, slice_set, drop, ◌&&◌, map, replicate, ◌++◌, ◌-◌, Some, All, IsSome, IfSome, IfOk};
 ghost use Rattle.m36_page.specs.Copied.{IsCopied};
-ghost use Rattle.m36_page.specs.Given.{HasRoom, table_given};
+ghost use Rattle.m36_page.specs.Given.{table_given, fits_below, is_apart, are_placed};
+ghost use Rattle.std.specs.List.{list_all};
 ghost use Rattle.m36_page.specs.Residence.{is_of, table_of};
 
 use crate::copying::{copy_in, copy_out};
@@ -22,6 +23,52 @@ pub struct PageTable {
     pub seg: u16,
     /// How many pages there are.
     pub pages: u16,
+}
+
+fn fits_below(first: u32, table: &PageTable) -> bool
+    ensures { result ≡ fits_below first table.now }
+{
+    let end = table.at as u64 + table.pages as u64;
+    end <= PAGE as u64 * first as u64
+        && table.words.slice().len() <= PAGE * table.pages as usize
+}
+
+fn is_apart(a: &PageTable, b: &PageTable) -> bool
+    ensures { result ≡ is_apart a.now b.now }
+{
+    a.at as u64 + a.pages as u64 <= b.at as u64 || b.at as u64 + b.pages as u64 <= a.at as u64
+}
+
+fn is_apart_of_all(table: &PageTable, others: &[PageTable]) -> bool
+    ensures { result ≡ list_all (is_apart table.now) others.now }
+{
+    others.iter().all(|other| is_apart(table, other))
+}
+
+fn is_placed(first: u32, table: &PageTable, others: &[PageTable]) -> bool
+    ensures { result ≡ (fits_below first table.now && list_all (is_apart table.now) others.now) }
+{
+    fits_below(first, table) && is_apart_of_all(table, others)
+}
+
+#[tactic(auto, using(crate::proofs::Placed::rest_of))]
+fn tables_behind(tables: &[PageTable], i: usize) -> &[PageTable]
+    requires { i < length tables.now }
+    ensures { result.now ≡ drop (i + 1) tables.now }
+{
+    &tables[i + 1..]
+}
+
+/// Whether each table ends below frame `first` and has no more words than its pages, and no two share a core word.
+pub fn are_placed(first: u32, tables: &[PageTable]) -> bool
+    ensures { result ≡ are_placed first tables.now }
+{
+    for (i, table) in tables.iter().enumerate() {
+        if !is_placed(first, table, tables_behind(tables, i)) {
+            return false;
+        }
+    }
+    true
 }
 
 // A page table with the words that are kept, of every page of it.
@@ -92,7 +139,7 @@ pub(crate) fn copy_page_in(table: &Table, page: u16, core: &mut Core, frame: u32
 
 /// A table as it is given, with every word of its pages.
 pub(crate) fn table_given(alloc: Global, given: &PageTable) -> Result<Table, NoMemory>
-    requires { HasRoom given.now }
+    requires { length given.now.words ≤ 1024 * given.now.pages }
     ensures { IfOk result (λ t. t ≡ table_given given.now) }
 {
     let words = given.words.slice();
@@ -117,7 +164,7 @@ fn filled(alloc: Global, words: &[Word], count: usize) -> Result<Vec<Word>, NoMe
 
 /// Tables as they are given.
 pub(crate) fn tables_given(alloc: Global, given: &[PageTable]) -> Result<Vec<Table>, NoMemory>
-    requires { All HasRoom given.now }
+    requires { All (λ t. length t.words ≤ 1024 * t.pages) given.now }
     ensures { IfOk result (λ tables. tables.items ≡ map table_given given.now) }
 {
     let mut tables = Vec::with_capacity(alloc, given.len())?;
