@@ -172,3 +172,16 @@ passed_then holders spots core mid now k one two =
     let held = some_held (get_or holders k None) h.0 in
     record { k = k; held = held.0; holds = held.1; is = sym h.1 })
     one two
+
+-- what was passed over first, and then
+pub passed_both : (holders : List (Option (ℕ × ℕ))) (spots core mid now : List ℕ)
+    → IsMarked core mid (IsHeldSpot holders spots) → IsMarked mid now (IsHeldSpot holders spots) → IsMarked core now (IsHeldSpot holders spots)
+passed_both holders spots core mid now one two =
+    marked_then core mid now (IsHeldSpot holders spots) (IsHeldSpot holders spots) (IsHeldSpot holders spots) (λ a h. h) (λ a h. h) one two
+
+pub still_in_core : (holders : List (Option (ℕ × ℕ))) (spots core mid : List ℕ) → AreInCore holders spots core
+    → IsMarked core mid (IsHeldSpot holders spots) → AreInCore holders spots mid
+still_in_core holders spots core mid inside marks k held h =
+    let below = inside k held h in
+    let size = marks.size in
+    omega (arith, below, size)

@@ -5,3 +5,4 @@ pub mod Built
 pub mod Parts
 pub mod SetWords
 pub mod Placed
+pub mod Lay

@@ -63,7 +63,7 @@ first_two a b c e =
     let inner = and_parts a b outer.0 in
     (inner.0, inner.1, outer.1)
 
-split : (first : ℕ) (t : PageTable) (tables : List PageTable) → are_placed first (t ∷ tables) ≡ true
+pub split : (first : ℕ) (t : PageTable) (tables : List PageTable) → are_placed first (t ∷ tables) ≡ true
     → (fits_below first t ≡ true) × (list_all (is_apart t) tables ≡ true) × (are_placed first tables ≡ true)
 split first t tables e =
     first_two (fits_below first t) (list_all (is_apart t) tables) (are_placed first tables) (sym (placed_law first t tables) ∙ e)
@@ -100,7 +100,7 @@ record IsPlaced (first frames : ℕ) (tables : List PageTable) (s q : ℕ) : Typ
   page : q < (get_or tables i none).pages
   spot : spot_of (pager_given first frames tables) s q ≡ (get_or tables i none).at + q
 
-position_some : (tables : List TableFields) (seg : ℕ) (o : Option ℕ) → position (is_of seg) tables ≡ o → (position (is_of seg) tables ≡ None → ⊥)
+pub position_some : (tables : List TableFields) (seg : ℕ) (o : Option ℕ) → position (is_of seg) tables ≡ o → (position (is_of seg) tables ≡ None → ⊥)
     → (i : ℕ) × (position (is_of seg) tables ≡ Some i)
 position_some tables seg None e never = absurd (never e)
 position_some tables seg (Some i) e never = (i, e)
@@ -125,7 +125,7 @@ placed_at first frames tables s q has =
       spot = ap (λ t. spot_in t q) table;
     }
 
-below_end : (first : ℕ) (t : PageTable) → fits_below first t ≡ true → (t.at + t.pages ≤ 1024 * first) × (length t.words ≤ 1024 * t.pages)
+pub below_end : (first : ℕ) (t : PageTable) → fits_below first t ≡ true → (t.at + t.pages ≤ 1024 * first) × (length t.words ≤ 1024 * t.pages)
 below_end first t e =
     let both = and_parts (nat_le (t.at + t.pages) (1024 * first)) (nat_le (length t.words) (1024 * t.pages)) e in
     (leb-true (t.at + t.pages) (1024 * first) both.0, leb-true (length t.words) (1024 * t.pages) both.1)
@@ -153,14 +153,14 @@ room_given first (t ∷ tables) e =
     let parts = split first t tables e in
     All-cons (λ (t : PageTable). length t.words ≤ 1024 * t.pages) t tables (below_end first t parts.0).1 (room_given first tables parts.2)
 
-never_held : (first frames : ℕ) (tables : List PageTable) (k s q : ℕ) → Holds (pager_given first frames tables) k s q → ⊥
+pub never_held : (first frames : ℕ) (tables : List PageTable) (k s q : ℕ) → Holds (pager_given first frames tables) k s q → ⊥
 never_held first frames tables k s q h =
     elim (cases_lt k frames) [
-      inl inside ↦ let none = get_or-replicate frames k (let o : Option (ℕ × ℕ) = None in o) None inside in absurd (cc)
-    | inr past ↦
-        let size : length (replicate frames (let o : Option (ℕ × ℕ) = None in o)) ≡ frames = length-replicate frames None in
-        let none = get_or_past (replicate frames (let o : Option (ℕ × ℕ) = None in o)) k None (omega (arith, past, size)) in
-        absurd (cc)
+      | inl inside ↦ let none = get_or-replicate frames k (let o : Option (ℕ × ℕ) = None in o) None inside in absurd (cc)
+      | inr past ↦
+          let size : length (replicate frames (let o : Option (ℕ × ℕ) = None in o)) ≡ frames = length-replicate frames None in
+          let none = get_or_past (replicate frames (let o : Option (ℕ × ℕ) = None in o)) k None (omega (arith, past, size)) in
+          absurd (cc)
     ]
 
 -- tables at one place are one
@@ -174,17 +174,17 @@ one_place first frames tables s q s' q' e a b same =
     let page = a.page in
     let page' = b.page in
     elim (cases_order a.i b.i) [
-      inl equal ↦ equal
-    | inr (inl less) ↦
-        elim (apart_ends (get_or tables a.i none) (get_or tables b.i none) (each_apart first tables a.i b.i none e less b.inside)) [
-          inl left ↦ absurd (omega (arith, is, is', page, page', same, left))
-        | inr right ↦ absurd (omega (arith, is, is', page, page', same, right))
-        ]
-    | inr (inr more) ↦
-        elim (apart_ends (get_or tables b.i none) (get_or tables a.i none) (each_apart first tables b.i a.i none e more a.inside)) [
-          inl left ↦ absurd (omega (arith, is, is', page, page', same, left))
-        | inr right ↦ absurd (omega (arith, is, is', page, page', same, right))
-        ]
+      | inl equal ↦ equal
+      | inr (inl less) ↦
+          elim (apart_ends (get_or tables a.i none) (get_or tables b.i none) (each_apart first tables a.i b.i none e less b.inside)) [
+            | inl left ↦ absurd (omega (arith, is, is', page, page', same, left))
+            | inr right ↦ absurd (omega (arith, is, is', page, page', same, right))
+          ]
+      | inr (inr more) ↦
+          elim (apart_ends (get_or tables b.i none) (get_or tables a.i none) (each_apart first tables b.i a.i none e more a.inside)) [
+            | inl left ↦ absurd (omega (arith, is, is', page, page', same, left))
+            | inr right ↦ absurd (omega (arith, is, is', page, page', same, right))
+          ]
     ]
 
 pub pager_placed : (first frames : ℕ) (tables : List PageTable) → are_placed first tables ≡ true → IsPager (pager_given first frames tables)

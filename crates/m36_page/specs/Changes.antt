@@ -3,7 +3,7 @@ use Rattle.std.specs.Prelude.{ℕ, ◌≡◌, ◌+◌, ◌*◌, ◌/◌, ◌<◌
 use Rattle.std.specs.List.{list_any}
 use Rattle.m36_model.specs.declared.place.Reference.{Reference}
 use Rattle.m36_page.specs.Fields.{TableFields, PagerFields}
-use Rattle.m36_page.specs.Residence.{has_page, spot_of, frame_of, content_of}
+use Rattle.m36_page.specs.Residence.{has_page, spot_of, absent_ptw, frame_of, content_of, Holds}
 
 -- the same frames, and the same pages at the same places
 pub record IsSameShape (old new : PagerFields) : Type 0 where
@@ -29,6 +29,22 @@ pub record IsKept (old : PagerFields) (core : List ℕ) (new : PagerFields) (now
   pub size : length now ≡ length core
   pub content : (seg w : ℕ) → content_of new now seg w ≡ content_of old core seg w
   pub others : (a : ℕ) → (IsPaged old a → ⊥) → slice_index now a ≡ slice_index core a
+
+-- a core word of a table, counted from 0
+abbrev pub IsTableWord : List TableFields → ℕ → Type 0
+IsTableWord tables a =
+    (j : ℕ) × (t : TableFields) × (slice_get tables j ≡ Some t) × (t.at ≤ a) × (a < t.at + t.pages)
+
+-- Every page table word of so many tables says that its page is in no frame, and no other core word has changed.
+pub record AreAbsent (tables : List TableFields) (count : ℕ) (core now : List ℕ) : Type 0 where
+  pub size : length now ≡ length core
+  pub absent : (j : ℕ) (t : TableFields) (q : ℕ) → j < count → slice_get tables j ≡ Some t → q < t.pages
+      → slice_index now (t.at + q) ≡ absent_ptw
+  pub others : (a : ℕ) → (IsTableWord tables a → ⊥) → slice_index now a ≡ slice_index core a
+
+-- no frame holds a page
+abbrev pub AllEmpty : PagerFields → Type 0
+AllEmpty p = (k seg page : ℕ) → Holds p k seg page → ⊥
 
 -- A word of a segment was set: the content of no other has changed, nor where any page is.
 pub record IsSet (old : PagerFields) (core : List ℕ) (new : PagerFields) (now : List ℕ) (seg word v : ℕ) : Type 0 where

@@ -142,6 +142,28 @@ fn unused_between(
     None
 }
 
+// The same from the hand on, round the frames: it looks at 64 of them at most.
+fn unused_from(
+    core: &mut Core,
+    references: &[Reference],
+    holders: &[Option<(u16, u16)>],
+    spots: &[u32],
+    hand: usize,
+) -> Option<usize>
+    requires hand { hand ≤ length holders.now }
+    requires count { length spots.now ≡ length holders.now }
+    requires inside { AreInCore holders.now spots.now core.old }
+    ensures found { IfSome result (IsFree references.now holders.now) }
+    ensures marks { IsMarked core.old core.new (IsHeldSpot holders.now spots.now) }
+{
+    let ahead = MOST_PASSED.min(holders.len() - hand);
+    if let Some(k) = unused_between(core, references, holders, spots, hand, hand + ahead) {
+        return Some(k);
+    }
+    let behind = (MOST_PASSED - ahead).min(hand);
+    unused_between(core, references, holders, spots, 0, behind)
+}
+
 /// A frame to be taken: one that holds no page of the references, by the hand, which passes over pages that were used and
 /// puts their marks off. None exactly where each frame holds a page of the references.
 pub(crate) fn choose(
@@ -162,12 +184,7 @@ pub(crate) fn choose(
     let Some(free) = free_from(holders, references, hand) else {
         return None;
     };
-    let to = if holders.len() - hand > MOST_PASSED {
-        hand + MOST_PASSED
-    } else {
-        holders.len()
-    };
-    match unused_between(core, references, holders, spots, hand, to) {
+    match unused_from(core, references, holders, spots, hand) {
         Some(k) => Some(k),
         None => Some(free),
     }

@@ -3,7 +3,7 @@
 ghost use Rattle.std.specs.Prelude.{ℕ, ◌≡◌, ◌≢◌, ◌+◌, ◌-◌, ◌^◌, ◌*◌, ◌/◌, ◌<◌, ◌≤◌, ◌⊎◌, Bool, true, false, ◌&&◌, nat_eq, if◌then◌else◌, length, slice_index_or, replicate, All, IfOk, Some, None, IsSome, IfSome, IfNone, OnOk, OnErr};
 ghost use Rattle.m36_model.specs.Core.{unmarked};
 ghost use Rattle.m36_page.specs.Residence.{has_page, spot_of, kept_word, frame_of, content_of, Holds, IsPager, Reads, HasFrames, IsSettled};
-ghost use Rattle.m36_page.specs.Changes.{IsBrought, IsKept, IsSet, IsSpot, AllPinned};
+ghost use Rattle.m36_page.specs.Changes.{IsBrought, IsKept, IsSet, IsSpot, AllPinned, AllEmpty, AreAbsent};
 ghost use Rattle.m36_page.specs.Choice.{IsFree, IsMarked, AreInCore};
 ghost use Rattle.m36_page.specs.Given.{are_placed, pager_given};
 ghost use Rattle.m36_page.specs.Moved.{IsAway, IsTaken, IsEmptied, IsKeptWord};
@@ -11,8 +11,8 @@ ghost use Rattle.m36_page.specs.Moved.{IsAway, IsTaken, IsEmptied, IsKeptWord};
 use crate::choice::choose;
 use crate::residence::{frame_at, put_absent, put_resident};
 use crate::table::{
-    PageTable, Table, copy_page_in, copy_page_out, place_of, put_word, table_place, tables_given,
-    word_of,
+    PageTable, Table, copy_page_in, copy_page_out, place_of, put_absent_tables, put_word,
+    table_place, tables_given, word_of,
 };
 use m36_core::Core;
 use m36_model::{Reference, Refs};
@@ -72,6 +72,14 @@ fn no_spots(alloc: Global, frames: usize) -> Result<Vec<u32>, NoMemory>
     Ok(spots)
 }
 
+// The place behind one, and behind the last the first.
+fn next_of(place: usize, count: usize) -> usize
+    requires { place < count }
+    ensures { result ≤ count }
+{
+    if place + 1 < count { place + 1 } else { 0 }
+}
+
 impl Pager {
     /// A pager over so many frames of core from one on, of which none holds a page yet. Pages are at places of core words that
     /// no two share, all below the first of these frames. The error is want of memory; later calls take none.
@@ -82,7 +90,9 @@ impl Pager {
         tables: &[PageTable],
     ) -> Result<Pager, NoMemory>
         requires { are_placed first tables.now ≡ true }
-        ensures { IfOk result (λ p. p ≡ pager_given first frames tables.now) }
+        ensures given { IfOk result (λ p. p ≡ pager_given first frames tables.now) }
+        ensures empty { IfOk result AllEmpty }
+        ensures room { IfOk result (λ p. All (λ t. t.at + t.pages ≤ 1024 * first) p.tables) }
     {
         Ok(Pager {
             holders: empty_frames(alloc, frames as usize)?,
@@ -91,6 +101,18 @@ impl Pager {
             first,
             hand: 0,
         })
+    }
+
+    /// Writes the page table word of every page: that of a page in no frame. It is for a pager of which no frame holds a page
+    /// yet, and no other core word changes.
+    pub fn lay(&self, core: &mut Core)
+        requires frames { HasFrames self.now core.old }
+        requires empty { AllEmpty self.now }
+        requires room { All (λ t. t.at + t.pages ≤ 1024 * self.now.first) self.now.tables }
+        ensures reads { Reads self.now core.new }
+        ensures others { AreAbsent self.now.tables (length self.now.tables) core.old core.new }
+    {
+        put_absent_tables(core, &self.tables);
     }
 
     // The place of the page table word of a page.
@@ -148,7 +170,7 @@ impl Pager {
         put_resident(core, spot, frame);
         self.holders[k] = Some((seg, page));
         self.spots[k] = spot;
-        self.hand = k + 1;
+        self.hand = next_of(k, self.holders.len());
     }
 
     // The frame that is taken next.
@@ -178,6 +200,7 @@ impl Pager {
         ensures err { OnErr result ((self.new ≡ self.old) × (core.new ≡ core.old) × AllPinned self.old pinned.now.items) }
         ensures free { OnOk result (IsSome (frame_of self.old core.old seg page) ⊎ (AllPinned self.old pinned.now.items → ⊥)) }
         ensures reads { Reads self.new core.new }
+        ensures frames { HasFrames self.new core.new }
     {
         let _ = core.len();
         let spot = self.spot(seg, page as u32);
@@ -201,6 +224,7 @@ impl Pager {
         ensures kept { IsKept self.old core.old self.new core.new }
         ensures empty { slice_index_or self.new.holders (frame - self.old.first) None ≡ None }
         ensures reads { Reads self.new core.new }
+        ensures frames { HasFrames self.new core.new }
     {
         let _ = core.len();
         let k = (frame - self.first) as usize;
@@ -267,6 +291,7 @@ impl Pager {
         requires page { has_page self.old seg (word / 1024) ≡ true }
         ensures set { IsSet self.old core.old self.new core.new seg word w }
         ensures reads { Reads self.new core.new }
+        ensures frames { HasFrames self.new core.new }
     {
         let _ = core.len();
         match frame_at(core, self.spot(seg, word / PAGE)) {

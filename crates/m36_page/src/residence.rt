@@ -1,8 +1,9 @@
 //! Page table words: which frame a page is in.
 
-ghost use Rattle.std.specs.Prelude.{◌≡◌, ◌<◌, slice_index, slice_set, length};
+ghost use Rattle.std.specs.Prelude.{◌≡◌, ◌+◌, ◌<◌, ◌≤◌, ◌^◌, slice_index, slice_set, length};
 ghost use Rattle.m36_desc.specs.Descriptors.{ptw_of};
 ghost use Rattle.m36_model.specs.Core.{unmarked};
+ghost use Rattle.m36_page.specs.Copied.{IsFilled};
 ghost use Rattle.m36_page.specs.Residence.{frame_in, absent_ptw, resident_ptw};
 
 use m36_core::Core;
@@ -50,4 +51,15 @@ pub(crate) fn put_resident(core: &mut Core, spot: u32, frame: u32)
         f: true,
     };
     core.poke(spot, resident.to_words());
+}
+
+/// Writes the page table words of pages in no frame, so many from a place on.
+pub(crate) fn put_all_absent(core: &mut Core, at: u32, pages: u16)
+    requires room { at + pages ≤ length core.old }
+    requires most { length core.old < 2 ^ 32 }
+    ensures { IsFilled at pages absent_ptw core.old core.new }
+{
+    for page in 0..pages {
+        put_absent(core, at + page as u32);
+    }
 }

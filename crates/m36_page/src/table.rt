@@ -1,12 +1,14 @@
 //! Page tables.
 
 ghost use Rattle.std.specs.Prelude.{◌≡◌, ◌+◌, ◌*◌, ◌≤◌, ◌<◌, length, position, slice_index, slice_set, drop, ◌&&◌, map, replicate, ◌++◌, ◌-◌, Some, All, IsSome, IfSome, IfOk};
+ghost use Rattle.m36_page.specs.Changes.{AreAbsent};
 ghost use Rattle.m36_page.specs.Copied.{IsCopied};
 ghost use Rattle.m36_page.specs.Given.{table_given, fits_below, is_apart, are_placed};
 ghost use Rattle.std.specs.List.{list_all};
 ghost use Rattle.m36_page.specs.Residence.{is_of, table_of};
 
 use crate::copying::{copy_in, copy_out};
+use crate::residence::put_all_absent;
 use m36_core::Core;
 use m36_word::{NoMemory, Word, Words};
 use std::alloc::Global;
@@ -29,8 +31,7 @@ fn fits_below(first: u32, table: &PageTable) -> bool
     ensures { result ≡ fits_below first table.now }
 {
     let end = table.at as u64 + table.pages as u64;
-    end <= PAGE as u64 * first as u64
-        && table.words.slice().len() <= PAGE * table.pages as usize
+    end <= PAGE as u64 * first as u64 && table.words.slice().len() <= PAGE * table.pages as usize
 }
 
 fn is_apart(a: &PageTable, b: &PageTable) -> bool
@@ -188,4 +189,15 @@ pub(crate) fn put_word(table: &mut Table, word: u32, value: Word)
     ensures { table.new ≡ record table.old { words = slice_set table.old.words word value } }
 {
     table.words[word as usize] = value;
+}
+
+/// Writes the page table words of tables, all as of pages in no frame.
+pub(crate) fn put_absent_tables(core: &mut Core, tables: &[Table])
+    requires room { All (λ t. t.at + t.pages ≤ length core.old) tables.now }
+    ensures { AreAbsent tables.now (length tables.now) core.old core.new }
+{
+    for table in tables {
+        let _ = core.len();
+        put_all_absent(core, table.at, table.pages);
+    }
 }
