@@ -1,33 +1,26 @@
 -- The names of definitions that are not refused are distinct.
 use Rattle.std.proofs.Common.{◌≡◌, ℕ, Bool, true, false, not, ◌||◌, List, [], ◌∷◌, ◌++◌, Option, Some, None, is_some, refl, ap, ◌∙◌, true≢false}
 use Rattle.std.specs.List.{list_any}
-use Rattle.std.proofs.lemmas.Bool.{and_parts, and_from, not-true}
+use Rattle.std.proofs.lemmas.Bool.{and_parts, and_from, not-true, or_parts, or_from}
 use Rattle.std.proofs.lemmas.List.{append-nil}
 use Rattle.std.proofs.lemmas.Cmp.{nat_list_eq_equiv}
 use Rattle.alm_parse.specs.declared.span.Span.{Span}
 use Rattle.alm_parse.specs.declared.args.Arg.{Arg}
 use Rattle.alm_parse.specs.declared.args.Arg.TheVariants as arg
 use Rattle.alm_parse.specs.declared.line.Line36.{Line36}
-use Rattle.obj36.specs.declared.definition.Named.{Named}
-use Rattle.obj36.specs.ObjectSegment.{definition_names, are_distinct}
-use Rattle.alm_asm.specs.Symbols.{same_name, sum_named}
-use Rattle.alm_asm.specs.Deeds.{deed_of, name_at}
-use Rattle.alm_asm.specs.Spots.{below}
-use Rattle.alm_asm.specs.Refusals.{sooner}
+use Rattle.obj36_parts.specs.declared.definition.Named.{Named}
+use Rattle.obj36_parts.specs.ObjectSegment.{definition_names, are_distinct}
+use Rattle.alm_lines.specs.Symbols.{same_name, sum_named}
+use Rattle.alm_lines.specs.Arguments.{name_at}
+use Rattle.alm_lines.specs.Spots.{below}
+use Rattle.alm_lines.specs.Refusals.{sooner}
 use Rattle.alm_asm.specs.Definitions.{named, named_by, with_names, gives_entries, definitions_by, definitions_after, definitions_from, is_taken, taken_refusal, name_refusal, arg_refusal, names_refused, definitions_refused}
-use Rattle.alm_asm.specs.LineRefusals.{line_refusal, lines_refusal}
-use Rattle.alm_asm.specs.declared.sum.Sum.{Sum}
-use Rattle.alm_asm.specs.declared.spot.Spot.{Spot}
+use Rattle.alm_asm.specs.LineRefusals.{lines_refusal}
+use Rattle.alm_lines.specs.declared.sum.Sum.{Sum}
+use Rattle.alm_lines.specs.declared.spot.Spot.{Spot}
 use Rattle.alm_asm.specs.declared.tables.Tables.{Tables}
-use Rattle.alm_asm.specs.declared.refusal.Refusal.{Refusal}
+use Rattle.alm_lines.specs.declared.refusal.Refusal.{Refusal}
 use Rattle.alm_asm.proofs.Unrefused.{sooner_none, names_first, line_parts, head_line, other_lines}
-
-or_none : (a b : Bool) → (a || b) ≡ false → (a ≡ false) × (b ≡ false)
-or_none true b e = absurd (true≢false e)
-or_none false b e = (refl, e)
-
-or_both : (a b : Bool) → a ≡ false → b ≡ false → (a || b) ≡ false
-or_both a b ea eb = ap (λ x. x || b) ea ∙ eb
 
 same_turned : (a b : List ℕ) → same_name a b ≡ same_name b a
 same_turned a b = nat_list_eq_equiv.symm a b
@@ -36,10 +29,10 @@ same_turned a b = nat_list_eq_equiv.symm a b
 not_among : (name : List ℕ) (done : List Named) (d : Named) → list_any (same_name name) (definition_names done) ≡ false → same_name name d.name ≡ false
     → list_any (same_name name) (definition_names (done ++ d ∷ [])) ≡ false
 unfolding definition_names
-not_among name [] d e f = or_both (same_name name d.name) false f refl
+not_among name [] d e f = or_from (same_name name d.name) false f refl
 not_among name (x ∷ done) d e f =
-    let parts = or_none (same_name name x.name) (list_any (same_name name) (definition_names done)) e in
-    or_both (same_name name x.name) (list_any (same_name name) (definition_names (done ++ d ∷ []))) parts.0 (not_among name done d parts.1 f)
+    let parts = or_parts (same_name name x.name) (list_any (same_name name) (definition_names done)) e in
+    or_from (same_name name x.name) (list_any (same_name name) (definition_names (done ++ d ∷ []))) parts.0 (not_among name done d parts.1 f)
 
 distinct_pushed : (done : List Named) (d : Named) → are_distinct (definition_names done) ≡ true → list_any (λ x. same_name d.name x.name) done ≡ false
     → are_distinct (definition_names (done ++ d ∷ [])) ≡ true
@@ -47,7 +40,7 @@ unfolding definition_names are_distinct
 distinct_pushed [] d e f = refl
 distinct_pushed (x ∷ done) d e f =
     let parts = and_parts (not (list_any (same_name x.name) (definition_names done))) (are_distinct (definition_names done)) e in
-    let others = or_none (same_name d.name x.name) (list_any (λ y. same_name d.name y.name) done) f in
+    let others = or_parts (same_name d.name x.name) (list_any (λ y. same_name d.name y.name) done) f in
     let fresh = not_among x.name done d (not-true (list_any (same_name x.name) (definition_names done)) parts.0) (same_turned x.name d.name ∙ others.0) in
     and_from (not (list_any (same_name x.name) (definition_names (done ++ d ∷ [])))) (are_distinct (definition_names (done ++ d ∷ []))) (ap not fresh) (distinct_pushed done d parts.1 others.1)
 
@@ -90,16 +83,16 @@ line_pushed text symbols line done first None e d = d
 line_pushed text symbols line done first (Some is_entry) e d = args_pushed text symbols line is_entry done first line.args e d
 
 after_pushed : (text : List ℕ) (symbols : List (List ℕ × Sum)) (line : Line36) (done : List Named) (first : Option Refusal)
-    → definitions_refused text symbols line done first line.args (gives_entries (deed_of text line.op)) ≡ None → are_distinct (definition_names done) ≡ true
+    → definitions_refused text symbols line done first line.args (gives_entries line.deed) ≡ None → are_distinct (definition_names done) ≡ true
     → are_distinct (definition_names (definitions_after text symbols done line)) ≡ true
 unfolding definitions_after
-after_pushed text symbols line done first e d = line_pushed text symbols line done first (gives_entries (deed_of text line.op)) e d
+after_pushed text symbols line done first e d = line_pushed text symbols line done first (gives_entries line.deed) e d
 
-pub distinct : (text : List ℕ) (tables : Tables) (done : List Named) (first : Option Refusal) (spot : Spot) (lines : List Line36)
-    → lines_refusal text tables done first spot lines ≡ None → are_distinct (definition_names done) ≡ true
+pub distinct : (text : List ℕ) (tables : Tables) (done : List Named) (spot : Spot) (lines : List Line36)
+    → lines_refusal text tables done spot lines ≡ None → are_distinct (definition_names done) ≡ true
     → are_distinct (definition_names (definitions_from text tables.symbols done lines)) ≡ true
 unfolding definitions_from
-distinct text tables done first spot [] e d = d
-distinct text tables done first spot (line ∷ lines) e d =
-    let parts = line_parts text tables done first spot line (head_line text tables done first spot line lines e) in
-    distinct text tables (definitions_after text tables.symbols done line) (line_refusal text tables done first spot line) (below text spot line) lines (other_lines text tables done first spot line lines e) (after_pushed text tables.symbols line done first parts.0 d)
+distinct text tables done spot [] e d = d
+distinct text tables done spot (line ∷ lines) e d =
+    let parts = line_parts text tables done spot line (head_line text tables done spot line lines e) in
+    distinct text tables (definitions_after text tables.symbols done line) (below text spot line) lines (other_lines text tables done spot line lines e) (after_pushed text tables.symbols line done None parts.0 d)

@@ -8,21 +8,21 @@ use Rattle.alm_parse.specs.declared.expression.Atom.TheVariants as atom
 use Rattle.alm_parse.specs.declared.expression.Term.{Term}
 use Rattle.alm_parse.specs.declared.args.Arg.{Arg}
 use Rattle.alm_parse.specs.declared.line.Line36.{Line36}
-use Rattle.obj36.specs.declared.section.Section.{Section}
-use Rattle.obj36.specs.declared.section.Section.TheVariants.{Text, Linkage, Symbol, Static}
-use Rattle.alm_asm.specs.Sums.{no_sum, sum_plus, sum_turned, kind_of, is_even, is_one}
-use Rattle.alm_asm.specs.Symbols.{same_name, sum_named, with_symbol}
-use Rattle.alm_asm.specs.Deeds.{deed_of, name_at, first_arg, second_arg, symbol_in, terms_in, section_in}
-use Rattle.alm_asm.specs.Spots.{start, here_in, here, place, grown_in, entered, size_of, moved_by, below, end_of}
-use Rattle.alm_asm.specs.Expressions.{symbol_sum, atom_sum, term_sum, added, sum_of}
-use Rattle.alm_asm.specs.Layout.{with_labels, value_refusal, value_by, value_of, own_symbol, own_sum, with_own, symbols_with, labelled, symbols_after, symbols_from}
-use Rattle.alm_asm.specs.declared.sum.Sum.{Sum}
-use Rattle.alm_asm.specs.declared.sum.Kind.{Kind}
-use Rattle.alm_asm.specs.declared.sum.Kind.TheVariants.{Absolute, Moved, Unsaid}
-use Rattle.alm_asm.specs.declared.spot.Spot.{Spot}
-use Rattle.alm_asm.specs.declared.deed.Deed.{Deed}
-use Rattle.alm_asm.specs.declared.deed.Deed.TheVariants as deed
-use Rattle.alm_asm.specs.declared.refusal.Refusal.{Refusal}
+use Rattle.obj36_parts.specs.declared.section.Section.{Section}
+use Rattle.obj36_parts.specs.declared.section.Section.TheVariants.{Text, Linkage, Symbol, Static}
+use Rattle.alm_lines.specs.Sums.{no_sum, sum_plus, sum_turned, kind_of, is_even, is_one}
+use Rattle.alm_lines.specs.Symbols.{same_name, sum_named, with_symbol}
+use Rattle.alm_lines.specs.Arguments.{name_at, first_arg, second_arg, symbol_in, terms_in, section_in}
+use Rattle.alm_lines.specs.Spots.{start, here_in, here, place, grown_in, entered, size_of, moved_by, below, end_of}
+use Rattle.alm_lines.specs.Expressions.{symbol_sum, atom_sum, term_sum, added, sum_of}
+use Rattle.alm_lines.specs.Layout.{with_labels, value_refusal, value_by, value_of, own_symbol, own_sum, with_own, symbols_with, labelled, symbols_after, symbols_from}
+use Rattle.alm_lines.specs.declared.sum.Sum.{Sum}
+use Rattle.alm_lines.specs.declared.sum.Kind.{Kind}
+use Rattle.alm_lines.specs.declared.sum.Kind.TheVariants.{Absolute, Moved, Unsaid}
+use Rattle.alm_lines.specs.declared.spot.Spot.{Spot}
+use Rattle.alm_parse.specs.declared.deed.Deed.{Deed}
+use Rattle.alm_parse.specs.declared.deed.Deed.TheVariants as deed
+use Rattle.alm_lines.specs.declared.refusal.Refusal.{Refusal}
 
 abbrev pub Fits : Bool → Sum → Type 0
 Fits outer sum = outer ≡ false → sum.outer.up ≡ sum.outer.down
@@ -96,7 +96,7 @@ moved_keeps text deed.Bound arguments spot h = h
 pub end_uses : (text : List ℕ) (spot : Spot) (lines : List Line36) → spot.uses_outer ≡ true → (end_of text spot lines).uses_outer ≡ true
 unfolding end_of below
 end_uses text spot [] e = e
-end_uses text spot (line ∷ lines) e = end_uses text (below text spot line) lines (moved_uses text (deed_of text line.op) line.args spot e)
+end_uses text spot (line ∷ lines) e = end_uses text (below text spot line) lines (moved_uses text line.deed line.args spot e)
 
 -- Lines stand at a spot, and at their end it is known whether a line has entered static words of their own.
 pub record StandAt (text : List ℕ) (outer : Bool) (spot : Spot) (lines : List Line36) : Type 0 where
@@ -105,7 +105,7 @@ pub record StandAt (text : List ℕ) (outer : Bool) (spot : Spot) (lines : List 
 
 pub others_stand : (text : List ℕ) (outer : Bool) (spot : Spot) (line : Line36) (lines : List Line36) → StandAt text outer spot (line ∷ lines) → StandAt text outer (below text spot line) lines
 unfolding end_of below
-others_stand text outer spot line lines at = record { kept = moved_keeps text (deed_of text line.op) line.args spot at.kept; ends = at.ends }
+others_stand text outer spot line lines at = record { kept = moved_keeps text line.deed line.args spot at.kept; ends = at.ends }
 
 pub no_static : (text : List ℕ) (outer : Bool) (spot : Spot) (lines : List Line36) → StandAt text outer spot lines → outer ≡ false → is_static spot.section ≡ false
 no_static text outer spot lines at none = by (is_static spot.section) refl
@@ -228,9 +228,9 @@ line_fits : (outer : Bool) (text : List ℕ) (symbols : List (List ℕ × Sum)) 
     → AllFit outer (symbols_after text symbols spot line)
 unfolding symbols_after symbols_with
 line_fits outer text symbols spot line all h =
-    own_fit outer text (own_sum text (labelled text symbols spot line) spot line (deed_of text line.op)) (labelled text symbols spot line) (own_symbol (deed_of text line.op) line.args)
+    own_fit outer text (own_sum text (labelled text symbols spot line) spot line line.deed) (labelled text symbols spot line) (own_symbol line.deed line.args)
     (labels_fit outer text (here spot) symbols line.labels all (here_fits outer spot.section spot h))
-    (own_sum_fits outer text (labelled text symbols spot line) spot line (deed_of text line.op) h)
+    (own_sum_fits outer text (labelled text symbols spot line) spot line line.deed h)
 
 lines_fit : (outer : Bool) (text : List ℕ) (symbols : List (List ℕ × Sum)) (spot : Spot) (lines : List Line36) → AllFit outer symbols → StandAt text outer spot lines
     → AllFit outer (symbols_from text symbols spot lines)

@@ -9,29 +9,30 @@ use Rattle.alm_parse.specs.declared.expression.Term.{Term}
 use Rattle.alm_parse.specs.declared.args.Arg.{Arg}
 use Rattle.alm_parse.specs.declared.args.Arg.TheVariants as arg
 use Rattle.alm_parse.specs.declared.line.Line36.{Line36}
-use Rattle.obj36.specs.declared.section.Section.{Section}
-use Rattle.obj36.specs.declared.section.Section.TheVariants.{Text, Linkage, Symbol, Static}
-use Rattle.obj36.specs.declared.definition.Named.{Named}
-use Rattle.obj36.specs.Fields.{LinkFields}
-use Rattle.obj36.specs.Names.{is_name}
-use Rattle.obj36.specs.ObjectSegment.{is_link}
+use Rattle.obj36_parts.specs.declared.section.Section.{Section}
+use Rattle.obj36_parts.specs.declared.section.Section.TheVariants.{Text, Linkage, Symbol, Static}
+use Rattle.obj36_parts.specs.declared.definition.Named.{Named}
+use Rattle.obj36_parts.specs.Fields.{LinkFields}
+use Rattle.obj36_parts.specs.Names.{is_name}
+use Rattle.obj36_parts.specs.ObjectSegment.{is_link}
 use Rattle.std.specs.Prelude.{codes}
-use Rattle.alm_asm.specs.Sums.{half_of}
-use Rattle.alm_asm.specs.Deeds.{deed_of, name_at, first_arg}
-use Rattle.alm_asm.specs.Spots.{below}
-use Rattle.alm_asm.specs.Expressions.{sum_of}
-use Rattle.alm_asm.specs.Refusals.{refusal_at}
-use Rattle.alm_asm.specs.Links.{own_section, link_kind, link_section, link_name, entry_name, link_of, operand_args, link_by, link_in, same_link, with_link, links_after, links_from}
+use Rattle.alm_lines.specs.Sums.{half_of}
+use Rattle.alm_lines.specs.Arguments.{name_at, first_arg}
+use Rattle.alm_lines.specs.Spots.{below}
+use Rattle.alm_lines.specs.Expressions.{sum_of}
+use Rattle.alm_lines.specs.Refusals.{sooner, refusal_at}
+use Rattle.alm_asm.specs.Links.{own_section, link_kind, link_section, link_name, entry_name, link_of, operand_args, link_by, link_in, with_link, links_after, links_from}
+use Rattle.obj36_parts.specs.Indexes.{same_link}
 use Rattle.alm_asm.specs.Definitions.{definitions_after}
-use Rattle.alm_asm.specs.LineRefusals.{unless, op_place, needs_static, may_name, is_in_reach, link_expression, reach_refusal, operand_refusal, is_text_section, refusal_of_deed, line_refusal, lines_refusal}
+use Rattle.alm_asm.specs.LineRefusals.{unless, op_place, needs_static, may_name, link_expression, reaches, operand_refusal, is_text_section, refusal_of_deed, lines_refusal}
 use Rattle.alm_asm.specs.Assembly.{version_of}
 use Rattle.alm_asm.specs.Laws.{segment_is_named, entry_is_named, args_are_named, lines_are_named}
-use Rattle.alm_asm.specs.declared.spot.Spot.{Spot}
+use Rattle.alm_lines.specs.declared.spot.Spot.{Spot}
 use Rattle.alm_asm.specs.declared.tables.Tables.{Tables}
-use Rattle.alm_asm.specs.declared.deed.Deed.{Deed}
-use Rattle.alm_asm.specs.declared.deed.Deed.TheVariants as deed
-use Rattle.alm_asm.specs.declared.refusal.Code.TheVariants.{E7}
-use Rattle.alm_asm.specs.declared.refusal.Refusal.{Refusal}
+use Rattle.alm_parse.specs.declared.deed.Deed.{Deed}
+use Rattle.alm_parse.specs.declared.deed.Deed.TheVariants as deed
+use Rattle.alm_lines.specs.declared.refusal.Code.TheVariants.{E7}
+use Rattle.alm_lines.specs.declared.refusal.Refusal.{Refusal}
 use Rattle.alm_asm.proofs.Unrefused.{sooner_none, unless_none, line_parts, head_line, other_lines}
 use Rattle.alm_asm.proofs.GoodDefinitions.{half_small}
 
@@ -101,7 +102,7 @@ operand_good text tables links spot line pr None entry terms tag e names all = a
 operand_good text tables links spot line pr (Some segment) entry terms tag e names all =
     let parts = and_parts (segment_is_named text (Some segment)) (entry_is_named text entry) names in
     let at = refusal_at line segment.from E7 in
-    let reached = reach_refusal (link_expression text tables.symbols spot line segment entry terms) (is_in_reach text tables spot segment entry terms tag) at in
+    let reached = sooner (link_expression text tables.symbols spot line segment entry terms) (unless (reaches text tables spot segment entry terms tag) at) in
     let none = (sooner_none reached (unless (may_name tables (own_section (slice_of text segment))) at) e).1 in
     let named = unless_none (may_name tables (own_section (slice_of text segment))) at none in
     let link = link_of text tables.symbols spot segment entry terms tag in
@@ -137,13 +138,13 @@ deed_good text tables links spot line deed.Block e names all = all
 deed_good text tables links spot line deed.Even e names all = all
 deed_good text tables links spot line deed.Bound e names all = all
 
-pub links_good : (text : List ℕ) (tables : Tables) (done : List Named) (first : Option Refusal) (links : List LinkFields) (spot : Spot) (lines : List Line36)
-    → lines_refusal text tables done first spot lines ≡ None → lines_are_named text lines ≡ true → list_all (is_link (version_of tables.uses_outer)) links ≡ true
+pub links_good : (text : List ℕ) (tables : Tables) (done : List Named) (links : List LinkFields) (spot : Spot) (lines : List Line36)
+    → lines_refusal text tables done spot lines ≡ None → lines_are_named text lines ≡ true → list_all (is_link (version_of tables.uses_outer)) links ≡ true
     → list_all (is_link (version_of tables.uses_outer)) (links_from text tables.symbols links spot lines) ≡ true
 unfolding links_from links_after lines_are_named
-links_good text tables done first links spot [] e names all = all
-links_good text tables done first links spot (line ∷ lines) e names all =
+links_good text tables done links spot [] e names all = all
+links_good text tables done links spot (line ∷ lines) e names all =
     let parts = and_parts (args_are_named text line.args) (lines_are_named text lines) names in
-    let own = (line_parts text tables done first spot line (head_line text tables done first spot line lines e)).1 in
-    links_good text tables (definitions_after text tables.symbols done line) (line_refusal text tables done first spot line) (links_after text tables.symbols links spot line) (below text spot line) lines
-    (other_lines text tables done first spot line lines e) parts.1 (deed_good text tables links spot line (deed_of text line.op) own parts.0 all)
+    let own = (line_parts text tables done spot line (head_line text tables done spot line lines e)).1 in
+    links_good text tables (definitions_after text tables.symbols done line) (links_after text tables.symbols links spot line) (below text spot line) lines
+    (other_lines text tables done spot line lines e) parts.1 (deed_good text tables links spot line line.deed own parts.0 all)

@@ -8,25 +8,25 @@ use Rattle.alm_parse.specs.declared.span.Span.{Span}
 use Rattle.alm_parse.specs.declared.args.Arg.{Arg}
 use Rattle.alm_parse.specs.declared.args.Arg.TheVariants as arg
 use Rattle.alm_parse.specs.declared.line.Line36.{Line36}
-use Rattle.obj36.specs.declared.section.Section.{Section}
-use Rattle.obj36.specs.declared.section.Section.TheVariants.{Text, Linkage, Symbol, Static}
-use Rattle.obj36.specs.Fields.{RelocFields}
-use Rattle.obj36.specs.ObjectSegment.{place_number, last_place, is_place, is_relocation, order_of, are_rising}
-use Rattle.alm_asm.specs.Sums.{kind_of}
-use Rattle.alm_asm.specs.Deeds.{deed_of, first_arg, second_arg, terms_in}
-use Rattle.alm_asm.specs.Spots.{count_in, place_in, place, grown_in, moved_by, below, end_of}
-use Rattle.alm_asm.specs.Expressions.{sum_of}
+use Rattle.obj36_parts.specs.declared.section.Section.{Section}
+use Rattle.obj36_parts.specs.declared.section.Section.TheVariants.{Text, Linkage, Symbol, Static}
+use Rattle.obj36_parts.specs.Fields.{RelocFields}
+use Rattle.obj36_parts.specs.ObjectSegment.{place_number, last_place, is_place, is_relocation, order_of, are_rising}
+use Rattle.alm_lines.specs.Sums.{kind_of}
+use Rattle.alm_lines.specs.Arguments.{first_arg, second_arg, terms_in}
+use Rattle.alm_lines.specs.Spots.{count_in, place_in, place, grown_in, moved_by, below, end_of}
+use Rattle.alm_lines.specs.Expressions.{sum_of}
 use Rattle.alm_asm.specs.Words.{same_section}
 use Rattle.alm_asm.specs.Marks.{mark, operand_part, operand_kind, operand_mark, marks_by, marks_after, marks_from}
 use Rattle.alm_asm.specs.Assembly.{version_of}
 use Rattle.alm_asm.specs.Laws.{holds_words}
-use Rattle.alm_asm.specs.declared.sum.Sum.{Sum}
-use Rattle.alm_asm.specs.declared.sum.Kind.{Kind}
-use Rattle.alm_asm.specs.declared.sum.Kind.TheVariants.{Absolute, Moved, Unsaid}
-use Rattle.alm_asm.specs.declared.spot.Spot.{Spot}
+use Rattle.alm_lines.specs.declared.sum.Sum.{Sum}
+use Rattle.alm_lines.specs.declared.sum.Kind.{Kind}
+use Rattle.alm_lines.specs.declared.sum.Kind.TheVariants.{Absolute, Moved, Unsaid}
+use Rattle.alm_lines.specs.declared.spot.Spot.{Spot}
 use Rattle.alm_asm.specs.declared.tables.Tables.{Tables}
-use Rattle.alm_asm.specs.declared.deed.Deed.{Deed}
-use Rattle.alm_asm.specs.declared.deed.Deed.TheVariants as deed
+use Rattle.alm_parse.specs.declared.deed.Deed.{Deed}
+use Rattle.alm_parse.specs.declared.deed.Deed.TheVariants as deed
 use Rattle.alm_asm.proofs.Fitting.{AllFit, StandAt, others_stand, no_static, is_static, sum_fits, good_kind, kind_good}
 use Rattle.alm_asm.proofs.PlaceLaws.{grown_self, moved_grows, grows_to_end}
 
@@ -344,7 +344,7 @@ line_good : (room : Room) (text : List ℕ) (tables : Tables) (to : Section) (sp
     → Good room (word_number to spot) marks → Good room (word_number to (below text spot line)) (marks_after text tables.symbols to marks spot line)
 unfolding below marks_after
 line_good room text tables to spot marks line all none p h l at =
-    line_by room text tables to spot marks line.args (deed_of text line.op) (same_section spot.section to) refl all none p h l at
+    line_by room text tables to spot marks line.args line.deed (same_section spot.section to) refl all none p h l at
 
 pub marks_good : (room : Room) (text : List ℕ) (tables : Tables) (to : Section) (marks : List RelocFields) (spot : Spot) (lines : List Line36) → AllFit room.newer tables.symbols
     → StandAt text room.newer spot lines → holds_words to ≡ true → count_in to (end_of text spot lines) ≤ limit to room → limit to room + 8 < 2 ^ 18

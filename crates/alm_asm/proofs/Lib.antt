@@ -1,8 +1,8 @@
-pub mod SymbolLaws
 pub mod AssemblyLaws
 pub mod PlaceLaws
 pub mod SymbolsStand
 pub mod Unrefused
+pub mod GrowthLaws
 pub mod Distinct
 pub mod Fitting
 pub mod GoodDefinitions

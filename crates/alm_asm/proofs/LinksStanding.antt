@@ -4,15 +4,16 @@ use Rattle.std.specs.List.{list_any}
 use Rattle.std.proofs.lemmas.Bool.{and_from, eq-eqb}
 use Rattle.std.proofs.lemmas.List.Folds.{list_any-append}
 use Rattle.alm_parse.specs.declared.line.Line36.{Line36}
-use Rattle.obj36.specs.Fields.{LinkFields}
-use Rattle.obj36.specs.ObjectSegment.{place_number}
-use Rattle.obj36.proofs.SizeLaws.{same_self}
-use Rattle.alm_asm.specs.Symbols.{same_name}
-use Rattle.alm_asm.specs.Deeds.{deed_of, first_arg}
-use Rattle.alm_asm.specs.Spots.{start, below, end_of}
-use Rattle.alm_asm.specs.Links.{operand_args, link_in, same_link, with_link, links_after, links_from}
-use Rattle.alm_asm.specs.declared.sum.Sum.{Sum}
-use Rattle.alm_asm.specs.declared.spot.Spot.{Spot}
+use Rattle.obj36_parts.specs.Fields.{LinkFields}
+use Rattle.obj36_parts.specs.ObjectSegment.{place_number}
+use Rattle.obj36_parts.proofs.SizeLaws.{same_self}
+use Rattle.alm_lines.specs.Symbols.{same_name}
+use Rattle.alm_lines.specs.Arguments.{first_arg}
+use Rattle.alm_lines.specs.Spots.{start, below, end_of}
+use Rattle.alm_asm.specs.Links.{operand_args, link_in, with_link, links_after, links_from}
+use Rattle.obj36_parts.specs.Indexes.{same_link}
+use Rattle.alm_lines.specs.declared.sum.Sum.{Sum}
+use Rattle.alm_lines.specs.declared.spot.Spot.{Spot}
 
 link_self : (l : LinkFields) → same_link l l ≡ true
 unfolding same_link
@@ -45,7 +46,7 @@ unfolding links_from links_after
 stays_from text symbols l links spot [] e = e
 stays_from text symbols l links spot (line ∷ lines) e =
     stays_from text symbols l (links_after text symbols links spot line) (below text spot line) lines
-    (stays_with l links (link_in text symbols spot (first_arg (operand_args (deed_of text line.op) line.args))) e)
+    (stays_with l links (link_in text symbols spot (first_arg (operand_args line.deed line.args))) e)
 
 added_by : (l : LinkFields) (links : List LinkFields) (b : Bool) → list_any (same_link l) links ≡ b → list_any (same_link l) (cond b links (links ++ l ∷ [])) ≡ true
 added_by l links true e = e
@@ -62,7 +63,7 @@ follows text symbols links spot [] lines = refl
 follows text symbols links spot (line ∷ above) lines = follows text symbols (links_after text symbols links spot line) (below text spot line) above lines
 
 pub link_stands : (text : List ℕ) (symbols : List (List ℕ × Sum)) (lines above : List Line36) (line : Line36) (others : List Line36) (l : LinkFields) → lines ≡ above ++ line ∷ others
-    → link_in text symbols (end_of text start above) (first_arg (operand_args (deed_of text line.op) line.args)) ≡ Some l → list_any (same_link l) (links_from text symbols [] start lines) ≡ true
+    → link_in text symbols (end_of text start above) (first_arg (operand_args line.deed line.args)) ≡ Some l → list_any (same_link l) (links_from text symbols [] start lines) ≡ true
 unfolding links_from links_after
 link_stands text symbols lines above line others l split given =
     let before = links_from text symbols [] start above in
@@ -70,4 +71,4 @@ link_stands text symbols lines above line others l split given =
     ap (λ (x : List Line36). list_any (same_link l) (links_from text symbols [] start x)) split
     ∙ ap (λ (x : List LinkFields). list_any (same_link l) x) (follows text symbols [] start above (line ∷ others))
     ∙ stays_from text symbols l (links_after text symbols before spot line) (below text spot line) others
-    (added_with l before (link_in text symbols spot (first_arg (operand_args (deed_of text line.op) line.args))) given)
+    (added_with l before (link_in text symbols spot (first_arg (operand_args line.deed line.args))) given)

@@ -3,16 +3,16 @@ use Rattle.std.proofs.Common.{◌≡◌, ℕ, ◌+◌, ◌%◌, ◌≤◌, Bool,
 use Rattle.std.proofs.lemmas.List.{length-append, length-replicate}
 use Rattle.alm_parse.specs.declared.args.Arg.{Arg}
 use Rattle.alm_parse.specs.declared.line.Line36.{Line36}
-use Rattle.obj36.specs.declared.section.Section.{Section}
-use Rattle.obj36.specs.declared.section.Section.TheVariants.{Text, Linkage, Symbol, Static}
-use Rattle.alm_asm.specs.Deeds.{deed_of, first_arg, second_arg, symbol_in, number_in, words_of_args, section_in}
-use Rattle.alm_asm.specs.Spots.{start, count_in, place, grown_in, entered, moved_by, below, end_of}
+use Rattle.obj36_parts.specs.declared.section.Section.{Section}
+use Rattle.obj36_parts.specs.declared.section.Section.TheVariants.{Text, Linkage, Symbol, Static}
+use Rattle.alm_lines.specs.Arguments.{first_arg, second_arg, symbol_in, number_in, words_of_args, section_in}
+use Rattle.alm_lines.specs.Spots.{start, count_in, place, grown_in, entered, moved_by, below, end_of}
 use Rattle.alm_asm.specs.Words.{instruction_word, halves_word, words_by, same_section, words_of_line, words_from}
 use Rattle.alm_asm.specs.Laws.{holds_words}
-use Rattle.alm_asm.specs.declared.spot.Spot.{Spot}
+use Rattle.alm_lines.specs.declared.spot.Spot.{Spot}
 use Rattle.alm_asm.specs.declared.tables.Tables.{Tables}
-use Rattle.alm_asm.specs.declared.deed.Deed.{Deed}
-use Rattle.alm_asm.specs.declared.deed.Deed.TheVariants as deed
+use Rattle.alm_parse.specs.declared.deed.Deed.{Deed}
+use Rattle.alm_parse.specs.declared.deed.Deed.TheVariants as deed
 
 -- a section's count grows by the words that are placed in it
 grown_counts : (to from : Section) (spot : Spot) (n : ℕ) → holds_words to ≡ true → count_in to (grown_in from spot n) ≡ count_in to spot + cond (same_section from to) n 0
@@ -83,7 +83,7 @@ counted_by to text tables spot arguments deed.Bound p = none_if (same_section sp
 pub counted : (to : Section) (text : List ℕ) (tables : Tables) (spot : Spot) (line : Line36) → holds_words to ≡ true
     → count_in to (below text spot line) ≡ count_in to spot + length (words_of_line text tables to spot line)
 unfolding below words_of_line
-counted to text tables spot line p = counted_by to text tables spot line.args (deed_of text line.op) p
+counted to text tables spot line p = counted_by to text tables spot line.args line.deed p
 
 all_counted : (to : Section) (text : List ℕ) (tables : Tables) (words : List ℕ) (spot : Spot) (lines : List Line36) → holds_words to ≡ true
     → count_in to spot ≡ length words → count_in to (end_of text spot lines) ≡ length (words_from text tables to words spot lines)

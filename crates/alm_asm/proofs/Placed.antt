@@ -1,22 +1,23 @@
 -- The words of a line stand behind those of the lines above it.
-use Rattle.std.proofs.Common.{◌≡◌, ℕ, ◌+◌, ◌%◌, ◌^◌, Bool, true, false, cond, ◌||◌, eqb, List, [], ◌∷◌, ◌++◌, length, refl, sym, ap, ◌∙◌, true≢false, append_assoc, arith}
+use Rattle.std.proofs.Common.{◌≡◌, ℕ, ◌+◌, ◌%◌, ◌^◌, Bool, true, false, cond, ◌||◌, eqb, List, [], ◌∷◌, ◌++◌, length, refl, sym, ap, ◌∙◌, subst, true≢false, append_assoc, append-nil, arith}
+use Rattle.std.specs.Prelude.{replicate}
 use Rattle.std.specs.List.{list_any}
-use Rattle.std.proofs.lemmas.Bool.{eqb-true, eqb-false}
+use Rattle.std.proofs.lemmas.Bool.{eqb-true, eqb-false, or_parts}
 use Rattle.std.proofs.lemmas.List.{append-nil, length-append}
 use Rattle.alm_parse.specs.declared.args.Arg.{Arg}
 use Rattle.alm_parse.specs.declared.line.Line36.{Line36}
-use Rattle.obj36.specs.declared.section.Section.{Section}
-use Rattle.obj36.specs.declared.section.Section.TheVariants.{Text, Linkage, Symbol, Static}
-use Rattle.alm_asm.specs.Deeds.{deed_of, first_arg, symbol_in, section_in}
-use Rattle.alm_asm.specs.Spots.{start, count_in, place, grown_in, entered, size_of, moved_by, below, end_of}
+use Rattle.obj36_parts.specs.declared.section.Section.{Section}
+use Rattle.obj36_parts.specs.declared.section.Section.TheVariants.{Text, Linkage, Symbol, Static}
+use Rattle.alm_lines.specs.Arguments.{first_arg, symbol_in, section_in}
+use Rattle.alm_lines.specs.Spots.{start, count_in, place, grown_in, entered, size_of, moved_by, below, end_of}
 use Rattle.alm_asm.specs.Words.{words_by, same_section, words_of_line, words_from}
 use Rattle.alm_asm.specs.Assembly.{bound_by, bound_from, evened}
 use Rattle.alm_asm.specs.Laws.{holds_words}
-use Rattle.alm_asm.specs.Assembles.{StandsBehind, evened_count, is_static, enters_static, is_use_static, is_bound, is_entrybound}
-use Rattle.alm_asm.specs.declared.spot.Spot.{Spot}
+use Rattle.alm_asm.specs.Assembles.{StandsBehind, evened_count, is_static, enters_static, is_use_static, is_bound, is_entrybound, evening_words}
+use Rattle.alm_lines.specs.declared.spot.Spot.{Spot}
 use Rattle.alm_asm.specs.declared.tables.Tables.{Tables}
-use Rattle.alm_asm.specs.declared.deed.Deed.{Deed}
-use Rattle.alm_asm.specs.declared.deed.Deed.TheVariants as deed
+use Rattle.alm_parse.specs.declared.deed.Deed.{Deed}
+use Rattle.alm_parse.specs.declared.deed.Deed.TheVariants as deed
 use Rattle.alm_asm.proofs.PlaceLaws.{places_count, words_follow}
 
 gathered : (text : List ℕ) (tables : Tables) (section : Section) (words : List ℕ) (spot : Spot) (lines : List Line36)
@@ -36,14 +37,14 @@ same_self_section Symbol = refl
 same_self_section Static = refl
 
 own_words : (text : List ℕ) (tables : Tables) (section : Section) (spot : Spot) (line : Line36) → spot.section ≡ section
-    → words_of_line text tables section spot line ≡ words_by text tables spot line.args (deed_of text line.op)
+    → words_of_line text tables section spot line ≡ words_by text tables spot line.args line.deed
 unfolding words_of_line
 own_words text tables section spot line e =
-    ap (λ b. cond b (words_by text tables spot line.args (deed_of text line.op)) []) (ap (λ (s : Section). same_section s section) e ∙ same_self_section section)
+    ap (λ b. cond b (words_by text tables spot line.args line.deed) []) (ap (λ (s : Section). same_section s section) e ∙ same_self_section section)
 
 pub stands : (text : List ℕ) (tables : Tables) (section : Section) (lines above : List Line36) (line : Line36) (others : List Line36) → holds_words section ≡ true
     → lines ≡ above ++ line ∷ others → (end_of text start above).section ≡ section
-    → StandsBehind (count_in section (end_of text start above)) (words_by text tables (end_of text start above) line.args (deed_of text line.op)) (words_from text tables section [] start lines)
+    → StandsBehind (count_in section (end_of text start above)) (words_by text tables (end_of text start above) line.args line.deed) (words_from text tables section [] start lines)
 unfolding words_from
 stands text tables section lines above line others p split here =
     let spot = end_of text start above in
@@ -80,6 +81,23 @@ evened_length_by words false e =
     let odd = eqb-false (length words % 2) 0 e in
     let longer = length-append words (0 ∷ []) in
     omega arith
+
+behind_by : (words : List ℕ) (b : Bool) → eqb (length words % 2) 0 ≡ b → StandsBehind (length words) (replicate (length words % 2) 0) (cond b words (words ++ 0 ∷ []))
+behind_by words true e =
+    let z : length words % 2 ≡ 0 = eqb-true (length words % 2) 0 e in
+    record { front = words; rest = []; whole = sym (append-nil words) ∙ ap (λ n. words ++ replicate n 0) (sym z) ∙ sym (append-nil (words ++ replicate (length words % 2) 0)); place = refl }
+behind_by words false e =
+    let odd = eqb-false (length words % 2) 0 e in
+    let o : length words % 2 ≡ 1 = omega arith in
+    record { front = words; rest = []; whole = ap (λ n. words ++ replicate n 0) (sym o) ∙ sym (append-nil (words ++ replicate (length words % 2) 0)); place = refl }
+
+-- behind the words that lines place stands the evening word, where there is one
+evening_by : (newer : Bool) (words : List ℕ) → StandsBehind (length words) (evening_words newer (length words)) (evened newer words)
+evening_by true words = record { front = words; rest = []; whole = sym (append-nil words) ∙ sym (append-nil (words ++ [])); place = refl }
+evening_by false words = behind_by words (eqb (length words % 2) 0) refl
+
+pub evened_behind : (newer : Bool) (words : List ℕ) (count : ℕ) → length words ≡ count → StandsBehind count (evening_words newer count) (evened newer words)
+evened_behind newer words count e = subst (λ n. StandsBehind n (evening_words newer n) (evened newer words)) e (evening_by newer words)
 
 pub evened_length : (newer : Bool) (words : List ℕ) → length (evened newer words) ≡ evened_count newer (length words)
 evened_length true words = refl
@@ -130,14 +148,10 @@ unfolding end_of below is_use_static
 end_outer text spot [] = or_false spot.uses_outer
 end_outer text spot (line ∷ lines) =
     end_outer text (below text spot line) lines
-    ∙ ap (λ b. b || list_any (is_use_static text) lines) (moved_outer text (deed_of text line.op) line.args spot)
+    ∙ ap (λ b. b || list_any (is_use_static text) lines) (moved_outer text line.deed line.args spot)
     ∙ or_assoc spot.uses_outer (is_use_static text line) (list_any (is_use_static text) lines)
 
 -- ---- the entry bound
-
-or_none : (a b : Bool) → (a || b) ≡ false → (a ≡ false) × (b ≡ false)
-or_none true b e = absurd (true≢false e)
-or_none false b e = (refl, e)
 
 no_bound : (spot : Spot) (bound : ℕ) (d : Deed) → is_bound d ≡ false → bound_by spot bound d ≡ bound
 no_bound spot bound deed.Nothing e = refl
@@ -165,26 +179,26 @@ a_bound spot bound deed.Block e = absurd (true≢false (sym e))
 a_bound spot bound deed.Even e = absurd (true≢false (sym e))
 a_bound spot bound deed.Bound e = refl
 
-pub unbound : (text : List ℕ) (bound : ℕ) (spot : Spot) (lines : List Line36) → list_any (is_entrybound text) lines ≡ false → bound_from text bound spot lines ≡ bound
+pub unbound : (text : List ℕ) (bound : ℕ) (spot : Spot) (lines : List Line36) → list_any is_entrybound lines ≡ false → bound_from text bound spot lines ≡ bound
 unfolding bound_from is_entrybound
 unbound text bound spot [] e = refl
 unbound text bound spot (line ∷ lines) e =
-    let parts = or_none (is_entrybound text line) (list_any (is_entrybound text) lines) e in
-    unbound text (bound_by spot bound (deed_of text line.op)) (below text spot line) lines parts.1 ∙ no_bound spot bound (deed_of text line.op) parts.0
+    let parts = or_parts (is_entrybound line) (list_any is_entrybound lines) e in
+    unbound text (bound_by spot bound line.deed) (below text spot line) lines parts.1 ∙ no_bound spot bound line.deed parts.0
 
 bound_follows : (text : List ℕ) (bound : ℕ) (spot : Spot) (above lines : List Line36)
     → bound_from text bound spot (above ++ lines) ≡ bound_from text (bound_from text bound spot above) (end_of text spot above) lines
 unfolding bound_from end_of
 bound_follows text bound spot [] lines = refl
-bound_follows text bound spot (line ∷ above) lines = bound_follows text (bound_by spot bound (deed_of text line.op)) (below text spot line) above lines
+bound_follows text bound spot (line ∷ above) lines = bound_follows text (bound_by spot bound line.deed) (below text spot line) above lines
 
 pub bound_is : (text : List ℕ) (lines above : List Line36) (line : Line36) (others : List Line36) → lines ≡ above ++ line ∷ others
-    → is_entrybound text line ≡ true → list_any (is_entrybound text) others ≡ false → bound_from text 0 start lines ≡ (end_of text start above).text % 2 ^ 18
+    → is_entrybound line ≡ true → list_any is_entrybound others ≡ false → bound_from text 0 start lines ≡ (end_of text start above).text % 2 ^ 18
 unfolding bound_from is_entrybound
 bound_is text lines above line others split this none =
     let before = bound_from text 0 start above in
     let spot = end_of text start above in
     ap (λ (l : List Line36). bound_from text 0 start l) split
     ∙ bound_follows text 0 start above (line ∷ others)
-    ∙ unbound text (bound_by spot before (deed_of text line.op)) (below text spot line) others none
-    ∙ a_bound spot before (deed_of text line.op) this
+    ∙ unbound text (bound_by spot before line.deed) (below text spot line) others none
+    ∙ a_bound spot before line.deed this

@@ -36,10 +36,10 @@ use Rattle.alm_parse.specs.Operations.{operation_of}
 use Rattle.alm_parse.specs.Lines.{missing, args_with, operand_for, args_by, args_of, label_refusal, line_of, line_with, line_by, line_from, line_unless, line_given}
 use Rattle.alm_parse.specs.Rows.{rows_of}
 use Rattle.alm_parse.specs.Sources.{names_end, continued, read_lines, with_text, parsed}
-use Rattle.obj36.specs.declared.section.Section.TheVariants.{Text, Linkage, Static}
-use Rattle.obj36.specs.Names.{is_name_character, is_name}
-use Rattle.obj36.proofs.SizeLaws.{same_is}
-use Rattle.alm_asm.specs.Deeds.{name_at}
+use Rattle.obj36_parts.specs.declared.section.Section.TheVariants.{Text, Linkage, Static}
+use Rattle.obj36_parts.specs.Names.{is_name_character, is_name}
+use Rattle.obj36_parts.proofs.SizeLaws.{same_is}
+use Rattle.alm_lines.specs.Arguments.{name_at}
 use Rattle.alm_asm.specs.Links.{own_section}
 use Rattle.alm_asm.specs.Laws.{segment_is_named, entry_is_named, arg_is_named, args_are_named, lines_are_named}
 
@@ -282,9 +282,9 @@ by_named o text op (Some span) arguments e = with_named o text span arguments e
 by_named o text op None arguments e = carried text [] arguments (unless_ok (missing o op) [] arguments e).1 (no_args text)
 
 line_with_named : (text : List ℕ) (row : Row) (head : Head) (given : Result (List Arg) Refusal) (line : Line36) → ((arguments : List Arg) → given ≡ Ok arguments → args_are_named text arguments ≡ true)
-    → line_with row head given ≡ Ok line → args_are_named text line.args ≡ true
+    → line_with text row head given ≡ Ok line → args_are_named text line.args ≡ true
 line_with_named text row head (Ok arguments) line named e =
-    let same : line_of row head arguments ≡ line = cc in
+    let same : line_of text row head arguments ≡ line = cc in
     sym (ap (λ (l : Line36). args_are_named text l.args) same) ∙ named arguments refl
 line_with_named text row head (Err refusal) line named e = absurd cc
 
@@ -297,7 +297,7 @@ line_by_named text row head op None line e = absurd cc
 line_from_named : (text : List ℕ) (row : Row) (head : Head) (op : Option Span) (line : Line36) → line_from text row head op ≡ Ok line → args_are_named text line.args ≡ true
 line_from_named text row head (Some op) line e = line_by_named text row head op (operation_of (slice_of text op)) line e
 line_from_named text row head None line e =
-    let same : line_of row head [] ≡ line = cc in
+    let same : line_of text row head [] ≡ line = cc in
     sym (ap (λ (l : Line36). args_are_named text l.args) same) ∙ no_args text
 
 line_unless_named : (text : List ℕ) (row : Row) (head : Head) (refusal : Option Refusal) (line : Line36) → line_unless refusal text row head ≡ Ok line → args_are_named text line.args ≡ true

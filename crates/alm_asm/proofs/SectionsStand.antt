@@ -6,22 +6,21 @@ use Rattle.alm_parse.specs.Tokens.{slice_of, is_text}
 use Rattle.alm_parse.specs.declared.span.Span.{Span}
 use Rattle.alm_parse.specs.declared.args.Arg.{Arg}
 use Rattle.alm_parse.specs.declared.line.Line36.{Line36}
-use Rattle.obj36.specs.declared.section.Section.{Section}
-use Rattle.obj36.specs.declared.section.Section.TheVariants.{Text, Linkage, Symbol, Static}
-use Rattle.obj36.specs.declared.definition.Named.{Named}
-use Rattle.alm_asm.specs.Deeds.{deed_of, first_arg, symbol_in, section_in}
-use Rattle.alm_asm.specs.Spots.{start, place, grown_in, entered, size_of, moved_by, below, end_of}
-use Rattle.alm_asm.specs.Refusals.{refusal_at}
-use Rattle.alm_asm.specs.Definitions.{definitions_after, definitions_from}
-use Rattle.alm_asm.specs.LineRefusals.{op_place, may_enter, refusal_of_deed, line_refusal, lines_refusal}
+use Rattle.obj36_parts.specs.declared.section.Section.{Section}
+use Rattle.obj36_parts.specs.declared.section.Section.TheVariants.{Text, Linkage, Symbol, Static}
+use Rattle.obj36_parts.specs.declared.definition.Named.{Named}
+use Rattle.alm_lines.specs.Arguments.{first_arg, symbol_in, section_in}
+use Rattle.alm_lines.specs.Spots.{start, place, grown_in, entered, size_of, moved_by, below, end_of}
+use Rattle.alm_lines.specs.Refusals.{refusal_at}
+use Rattle.alm_asm.specs.Definitions.{definitions_after}
+use Rattle.alm_asm.specs.LineRefusals.{op_place, may_enter, refusal_of_deed, lines_refusal}
 use Rattle.alm_asm.specs.Assembly.{static_section}
-use Rattle.alm_asm.specs.declared.spot.Spot.{Spot}
+use Rattle.alm_lines.specs.declared.spot.Spot.{Spot}
 use Rattle.alm_asm.specs.declared.tables.Tables.{Tables}
-use Rattle.alm_asm.specs.declared.deed.Deed.{Deed}
-use Rattle.alm_asm.specs.declared.deed.Deed.TheVariants as deed
-use Rattle.alm_asm.specs.declared.refusal.Code.TheVariants.{E7}
-use Rattle.alm_asm.specs.declared.refusal.Refusal.{Refusal}
-use Rattle.alm_asm.proofs.Unrefused.{unless_none, line_parts, head_line, other_lines, lines_first}
+use Rattle.alm_parse.specs.declared.deed.Deed.{Deed}
+use Rattle.alm_parse.specs.declared.deed.Deed.TheVariants as deed
+use Rattle.alm_lines.specs.declared.refusal.Code.TheVariants.{E7}
+use Rattle.alm_asm.proofs.Unrefused.{unless_none, line_parts, head_line, other_lines, lines_above}
 use Rattle.alm_asm.proofs.Fitting.{end_uses}
 
 -- what a spot's section says of it: static words are of the kind that a line has entered, and of one kind
@@ -88,9 +87,9 @@ moved_kept text tables spot line deed.Block none e = grown_kept spot.section spo
 moved_kept text tables spot line deed.Even none e = grown_kept spot.section spot (size_of deed.Even line.args (place spot)) ∙ e
 moved_kept text tables spot line deed.Bound none e = e
 
-below_kept : (text : List ℕ) (tables : Tables) (spot : Spot) (line : Line36) → refusal_of_deed text tables spot line (deed_of text line.op) ≡ None → kept spot ≡ true → kept (below text spot line) ≡ true
+below_kept : (text : List ℕ) (tables : Tables) (spot : Spot) (line : Line36) → refusal_of_deed text tables spot line line.deed ≡ None → kept spot ≡ true → kept (below text spot line) ≡ true
 unfolding below
-below_kept text tables spot line none e = moved_kept text tables spot line (deed_of text line.op) none e
+below_kept text tables spot line none e = moved_kept text tables spot line line.deed none e
 
 -- what a line has entered stays so
 grown_inner : (section : Section) (spot : Spot) (n : ℕ) → (grown_in section spot n).uses_inner ≡ spot.uses_inner
@@ -121,14 +120,14 @@ moved_inner text deed.Bound arguments spot e = e
 end_inner : (text : List ℕ) (spot : Spot) (lines : List Line36) → spot.uses_inner ≡ true → (end_of text spot lines).uses_inner ≡ true
 unfolding end_of below
 end_inner text spot [] e = e
-end_inner text spot (line ∷ lines) e = end_inner text (below text spot line) lines (moved_inner text (deed_of text line.op) line.args spot e)
+end_inner text spot (line ∷ lines) e = end_inner text (below text spot line) lines (moved_inner text line.deed line.args spot e)
 
-end_kept : (text : List ℕ) (tables : Tables) (done : List Named) (first : Option Refusal) (spot : Spot) (lines : List Line36) → lines_refusal text tables done first spot lines ≡ None → kept spot ≡ true → kept (end_of text spot lines) ≡ true
+end_kept : (text : List ℕ) (tables : Tables) (done : List Named) (spot : Spot) (lines : List Line36) → lines_refusal text tables done spot lines ≡ None → kept spot ≡ true → kept (end_of text spot lines) ≡ true
 unfolding end_of
-end_kept text tables done first spot [] none e = e
-end_kept text tables done first spot (line ∷ lines) none e =
-    let own = (line_parts text tables done first spot line (head_line text tables done first spot line lines none)).1 in
-    end_kept text tables (definitions_after text tables.symbols done line) (line_refusal text tables done first spot line) (below text spot line) lines (other_lines text tables done first spot line lines none) (below_kept text tables spot line own e)
+end_kept text tables done spot [] none e = e
+end_kept text tables done spot (line ∷ lines) none e =
+    let own = (line_parts text tables done spot line (head_line text tables done spot line lines none)).1 in
+    end_kept text tables (definitions_after text tables.symbols done line) (below text spot line) lines (other_lines text tables done spot line lines none) (below_kept text tables spot line own e)
 
 abbrev Stands : Bool → Section → Type 0
 Stands newer section = (section ≡ Text) ⊎ (section ≡ static_section newer)
@@ -145,31 +144,23 @@ other_kind : (inner outer : Bool) → (inner && outer) ≡ false → inner ≡ t
 other_kind true outer e i = e
 other_kind false outer e i = absurd (true≢false (sym i))
 
-refusals_follow : (text : List ℕ) (tables : Tables) (done : List Named) (first : Option Refusal) (spot : Spot) (above lines : List Line36)
-    → lines_refusal text tables done first spot (above ++ lines) ≡ lines_refusal text tables (definitions_from text tables.symbols done above) (lines_refusal text tables done first spot above) (end_of text spot above) lines
-unfolding lines_refusal definitions_from end_of
-refusals_follow text tables done first spot [] lines = refl
-refusals_follow text tables done first spot (line ∷ above) lines =
-    refusals_follow text tables (definitions_after text tables.symbols done line) (line_refusal text tables done first spot line) (below text spot line) above lines
-
-end_follows : (text : List ℕ) (spot : Spot) (above lines : List Line36) → end_of text spot (above ++ lines) ≡ end_of text (end_of text spot above) lines
+pub end_follows : (text : List ℕ) (spot : Spot) (above lines : List Line36) → end_of text spot (above ++ lines) ≡ end_of text (end_of text spot above) lines
 unfolding end_of
 end_follows text spot [] lines = refl
 end_follows text spot (line ∷ above) lines = end_follows text (below text spot line) above lines
 
-pub section_stands : (text : List ℕ) (tables : Tables) (first : Option Refusal) (lines above : List Line36) (line : Line36) (others : List Line36) → lines ≡ above ++ line ∷ others
-    → lines_refusal text tables [] first start lines ≡ None
+pub section_stands : (text : List ℕ) (tables : Tables) (lines above : List Line36) (line : Line36) (others : List Line36) → lines ≡ above ++ line ∷ others
+    → lines_refusal text tables [] start lines ≡ None
     → ((end_of text start above).section ≡ Text) ⊎ ((end_of text start above).section ≡ static_section (end_of text start lines).uses_outer)
-section_stands text tables first lines above line others split none =
+section_stands text tables lines above line others split none =
     let spot = end_of text start above in
-    let before : lines_refusal text tables [] first start above ≡ None =
-    lines_first text tables (definitions_from text tables.symbols [] above) (lines_refusal text tables [] first start above) spot (line ∷ others)
-    (sym (refusals_follow text tables [] first start above (line ∷ others)) ∙ sym (ap (λ (l : List Line36). lines_refusal text tables [] first start l) split) ∙ none) in
+    let before : lines_refusal text tables [] start above ≡ None =
+    lines_above text tables [] start above (line ∷ others) (sym (ap (λ (l : List Line36). lines_refusal text tables [] start l) split) ∙ none) in
     let whole : end_of text start lines ≡ end_of text spot (line ∷ others) = ap (λ (l : List Line36). end_of text start l) split ∙ end_follows text start above (line ∷ others) in
     let outer : (end_of text start lines).uses_outer ≡ (end_of text spot (line ∷ others)).uses_outer = ap (λ (s : Spot). s.uses_outer) whole in
     let inner : (end_of text start lines).uses_inner ≡ (end_of text spot (line ∷ others)).uses_inner = ap (λ (s : Spot). s.uses_inner) whole in
     let ending = end_of text start lines in
-    let good : kept (end_of text start lines) ≡ true = end_kept text tables [] first start lines none refl in
-    stands_by spot.section spot.uses_inner spot.uses_outer ending.uses_outer (end_kept text tables [] first start above before refl)
+    let good : kept (end_of text start lines) ≡ true = end_kept text tables [] start lines none refl in
+    stands_by spot.section spot.uses_inner spot.uses_outer ending.uses_outer (end_kept text tables [] start above before refl)
     (λ o. outer ∙ end_uses text spot (line ∷ others) o)
     (λ i. other_kind ending.uses_inner ending.uses_outer (one_kind ending.section ending.uses_inner ending.uses_outer good) (inner ∙ end_inner text spot (line ∷ others) i))

@@ -1,18 +1,18 @@
 -- In lines that are not refused each symbol comes to what its line says.
 use Rattle.std.proofs.Common.{◌≡◌, ℕ, Bool, true, false, cond, List, [], ◌∷◌, ◌++◌, Option, Some, None, is_some, refl, sym, ap, ◌∙◌, true≢false}
 use Rattle.std.specs.Map.{lookup}
-use Rattle.obj36.proofs.SizeLaws.{same_self}
+use Rattle.obj36_parts.proofs.SizeLaws.{same_self}
 use Rattle.alm_parse.specs.declared.span.Span.{Span}
 use Rattle.alm_parse.specs.declared.line.Line36.{Line36}
-use Rattle.alm_asm.specs.Symbols.{same_name, sum_named, with_symbol}
-use Rattle.alm_asm.specs.Deeds.{deed_of, name_at}
-use Rattle.alm_asm.specs.Spots.{start, here, below, end_of}
-use Rattle.alm_asm.specs.Refusals.{sooner, refusal_at}
-use Rattle.alm_asm.specs.Layout.{again, with_labels, labels_refused, own_symbol, own_refusal, own_sum, with_own, own_again, symbols_with, refused_with, over, labelled, symbols_after, refused_after, symbols_from, layout_refusal}
-use Rattle.alm_asm.specs.declared.sum.Sum.{Sum}
-use Rattle.alm_asm.specs.declared.spot.Spot.{Spot}
-use Rattle.alm_asm.specs.declared.refusal.Code.TheVariants.{E5}
-use Rattle.alm_asm.specs.declared.refusal.Refusal.{Refusal}
+use Rattle.alm_lines.specs.Symbols.{same_name, sum_named, with_symbol}
+use Rattle.alm_lines.specs.Arguments.{name_at}
+use Rattle.alm_lines.specs.Spots.{start, here, below, end_of}
+use Rattle.alm_lines.specs.Refusals.{sooner, refusal_at}
+use Rattle.alm_lines.specs.Layout.{again, with_labels, labels_refused, own_symbol, own_refusal, own_sum, with_own, own_again, symbols_with, refused_with, over, labelled, symbols_after, refused_after, symbols_from, layout_refusal}
+use Rattle.alm_lines.specs.declared.sum.Sum.{Sum}
+use Rattle.alm_lines.specs.declared.spot.Spot.{Spot}
+use Rattle.alm_lines.specs.declared.refusal.Code.TheVariants.{E5}
+use Rattle.alm_lines.specs.declared.refusal.Refusal.{Refusal}
 use Rattle.alm_asm.proofs.Unrefused.{sooner_none}
 use Rattle.alm_asm.proofs.SymbolsStand.{labels_stay, own_stays, lines_stay}
 
@@ -33,11 +33,11 @@ labels_first text line its symbols first (span ∷ spans) e =
     (sooner_none first (again text line symbols span) (labels_first text line its (with_symbol symbols (name_at text span) its) (sooner first (again text line symbols span)) spans e)).0
 
 after_parts : (text : List ℕ) (first : Option Refusal) (symbols : List (List ℕ × Sum)) (spot : Spot) (line : Line36) → refused_after text first symbols spot line ≡ None
-    → (labels_refused text line (here spot) symbols first line.labels ≡ None) × (refused_with text (labelled text symbols spot line) spot line (deed_of text line.op) ≡ None)
+    → (labels_refused text line (here spot) symbols first line.labels ≡ None) × (refused_with text (labelled text symbols spot line) spot line line.deed ≡ None)
 unfolding refused_after
 after_parts text first symbols spot line e =
-    sooner_none (labels_refused text line (here spot) symbols first line.labels) (refused_with text (labelled text symbols spot line) spot line (deed_of text line.op))
-    (sooner_none (sooner (labels_refused text line (here spot) symbols first line.labels) (refused_with text (labelled text symbols spot line) spot line (deed_of text line.op))) (over line (below text spot line)) e).0
+    sooner_none (labels_refused text line (here spot) symbols first line.labels) (refused_with text (labelled text symbols spot line) spot line line.deed)
+    (sooner_none (sooner (labels_refused text line (here spot) symbols first line.labels) (refused_with text (labelled text symbols spot line) spot line line.deed)) (over line (below text spot line)) e).0
 
 layout_first : (text : List ℕ) (first : Option Refusal) (symbols : List (List ℕ × Sum)) (spot : Spot) (lines : List Line36) → layout_refusal text first symbols spot lines ≡ None → first ≡ None
 unfolding layout_refusal
@@ -88,15 +88,15 @@ labels_of_line text first symbols spot line before span after e split =
     let split_labels : labels_refused text line (here spot) symbols first (before ++ span ∷ after) ≡ None = sym (ap (labels_refused text line (here spot) symbols first) split) ∙ labels in
     let means : sum_named (name_at text span) (labelled text symbols spot line) ≡ Some (here spot) =
     ap (λ (l : List Span). sum_named (name_at text span) (with_labels text (here spot) symbols l)) split ∙ label_means text line (here spot) symbols first before span after split_labels in
-    own_stays text (name_at text span) (own_sum text (labelled text symbols spot line) spot line (deed_of text line.op)) (here spot) (labelled text symbols spot line) (own_symbol (deed_of text line.op) line.args) means
+    own_stays text (name_at text span) (own_sum text (labelled text symbols spot line) spot line line.deed) (here spot) (labelled text symbols spot line) (own_symbol line.deed line.args) means
 
 own_of_line : (text : List ℕ) (first : Option Refusal) (symbols : List (List ℕ × Sum)) (spot : Spot) (line : Line36) (span : Span)
-    → refused_after text first symbols spot line ≡ None → own_symbol (deed_of text line.op) line.args ≡ Some span
-    → sum_named (name_at text span) (symbols_after text symbols spot line) ≡ Some (own_sum text (labelled text symbols spot line) spot line (deed_of text line.op))
+    → refused_after text first symbols spot line ≡ None → own_symbol line.deed line.args ≡ Some span
+    → sum_named (name_at text span) (symbols_after text symbols spot line) ≡ Some (own_sum text (labelled text symbols spot line) spot line line.deed)
 unfolding symbols_after symbols_with refused_with
 own_of_line text first symbols spot line span e own =
-    let parts = sooner_none (own_again text line (labelled text symbols spot line) (own_symbol (deed_of text line.op) line.args)) (own_refusal text (labelled text symbols spot line) spot line (deed_of text line.op)) (after_parts text first symbols spot line e).1 in
-    own_means text line (labelled text symbols spot line) (own_symbol (deed_of text line.op) line.args) (own_sum text (labelled text symbols spot line) spot line (deed_of text line.op)) span own parts.0
+    let parts = sooner_none (own_again text line (labelled text symbols spot line) (own_symbol line.deed line.args)) (own_refusal text (labelled text symbols spot line) spot line line.deed) (after_parts text first symbols spot line e).1 in
+    own_means text line (labelled text symbols spot line) (own_symbol line.deed line.args) (own_sum text (labelled text symbols spot line) spot line line.deed) span own parts.0
 
 -- ---- in lines
 
@@ -145,11 +145,11 @@ labels_mean text lines above line others split e before span after labels =
     (labels_of_line text (layout_refusal text None [] start above) symbols spot line before span after (line_free text lines above line others split e) labels)
 
 pub own_mean : (text : List ℕ) (lines above : List Line36) (line : Line36) (others : List Line36) → lines ≡ above ++ line ∷ others → layout_refusal text None [] start lines ≡ None
-    → (span : Span) → own_symbol (deed_of text line.op) line.args ≡ Some span
+    → (span : Span) → own_symbol line.deed line.args ≡ Some span
     → sum_named (name_at text span) (symbols_from text [] start lines)
-    ≡ Some (own_sum text (labelled text (symbols_from text [] start above) (end_of text start above) line) (end_of text start above) line (deed_of text line.op))
+    ≡ Some (own_sum text (labelled text (symbols_from text [] start above) (end_of text start above) line) (end_of text start above) line line.deed)
 own_mean text lines above line others split e span own =
     let symbols = symbols_from text [] start above in
     let spot = end_of text start above in
-    at_end text (name_at text span) (own_sum text (labelled text symbols spot line) spot line (deed_of text line.op)) lines above line others split
+    at_end text (name_at text span) (own_sum text (labelled text symbols spot line) spot line line.deed) lines above line others split
     (own_of_line text (layout_refusal text None [] start above) symbols spot line span (line_free text lines above line others split e) own)

@@ -3,12 +3,12 @@ use Rattle.std.proofs.Common.{◌≡◌, ℕ, Bool, true, false, cond, List, [],
 use Rattle.std.specs.Map.{lookup}
 use Rattle.alm_parse.specs.declared.span.Span.{Span}
 use Rattle.alm_parse.specs.declared.line.Line36.{Line36}
-use Rattle.alm_asm.specs.Symbols.{same_name, sum_named, with_symbol}
-use Rattle.alm_asm.specs.Deeds.{deed_of, name_at}
-use Rattle.alm_asm.specs.Spots.{start, here, below}
-use Rattle.alm_asm.specs.Layout.{with_labels, own_symbol, own_sum, with_own, symbols_with, labelled, symbols_after, symbols_from}
-use Rattle.alm_asm.specs.declared.sum.Sum.{Sum}
-use Rattle.alm_asm.specs.declared.spot.Spot.{Spot}
+use Rattle.alm_lines.specs.Symbols.{same_name, sum_named, with_symbol}
+use Rattle.alm_lines.specs.Arguments.{name_at}
+use Rattle.alm_lines.specs.Spots.{start, here, below}
+use Rattle.alm_lines.specs.Layout.{with_labels, own_symbol, own_sum, with_own, symbols_with, labelled, symbols_after, symbols_from}
+use Rattle.alm_lines.specs.declared.sum.Sum.{Sum}
+use Rattle.alm_lines.specs.declared.spot.Spot.{Spot}
 
 stays_by : (b : Bool) (first sum : Sum) (rest more : Option Sum) → (rest ≡ Some sum → more ≡ Some sum) → cond b (Some first) rest ≡ Some sum → cond b (Some first) more ≡ Some sum
 stays_by true first sum rest more stays e = e
@@ -45,7 +45,7 @@ line_stays : (text name : List ℕ) (sum : Sum) (symbols : List (List ℕ × Sum
     → sum_named name (symbols_after text symbols spot line) ≡ Some sum
 unfolding symbols_after symbols_with
 line_stays text name sum symbols spot line e =
-    own_stays text name (own_sum text (labelled text symbols spot line) spot line (deed_of text line.op)) sum (labelled text symbols spot line) (own_symbol (deed_of text line.op) line.args)
+    own_stays text name (own_sum text (labelled text symbols spot line) spot line line.deed) sum (labelled text symbols spot line) (own_symbol line.deed line.args)
     (labels_stay text name (here spot) sum symbols line.labels e)
 
 pub lines_stay : (text name : List ℕ) (sum : Sum) (symbols : List (List ℕ × Sum)) (spot : Spot) (lines : List Line36) → sum_named name symbols ≡ Some sum

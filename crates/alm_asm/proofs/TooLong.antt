@@ -5,29 +5,28 @@ use Rattle.std.proofs.lemmas.Bool.{and_from, le-leb, leb-true, eqb-false, eq-eqb
 use Rattle.std.proofs.lemmas.List.{length-append}
 use Rattle.alm_parse.specs.SourceFields.{Source}
 use Rattle.alm_parse.specs.declared.line.Line36.{Line36}
-use Rattle.obj36.specs.declared.section.Section.TheVariants.{Text}
-use Rattle.obj36.specs.declared.definition.Named.{Named}
-use Rattle.obj36.specs.Fields.{LinkFields, RelocFields}
-use Rattle.obj36.specs.PartsFields.{PartsFields}
-use Rattle.obj36.specs.ObjectSegment.{is_newer, inner_statics, outer_statics, words_of, definition_names, are_distinct, is_definition, is_link, is_relocation, are_rising, is_well_formed, place_number}
-use Rattle.obj36.proofs.Formed.{is_formed}
-use Rattle.obj36.proofs.LengthLaws.{length-words_of}
-use Rattle.alm_asm.specs.Deeds.{deed_of}
-use Rattle.alm_asm.specs.Spots.{start, count_in, below, end_of}
+use Rattle.obj36_parts.specs.declared.section.Section.TheVariants.{Text}
+use Rattle.obj36_parts.specs.declared.definition.Named.{Named}
+use Rattle.obj36_parts.specs.Fields.{LinkFields, RelocFields}
+use Rattle.obj36_parts.specs.PartsFields.{PartsFields}
+use Rattle.obj36_parts.specs.ObjectSegment.{is_newer, inner_statics, outer_statics, words_of, definition_names, are_distinct, is_definition, is_link, is_relocation, are_rising, is_well_formed, place_number}
+use Rattle.obj36_parts.proofs.Formed.{is_formed}
+use Rattle.obj36_parts.proofs.LengthLaws.{length-words_of}
+use Rattle.alm_lines.specs.Spots.{start, count_in, below, end_of}
 use Rattle.alm_asm.specs.Links.{links_from}
 use Rattle.alm_asm.specs.Words.{words_from}
 use Rattle.alm_asm.specs.Marks.{marks_from}
-use Rattle.alm_asm.specs.Layout.{symbols_from, layout_refusal}
+use Rattle.alm_lines.specs.Layout.{symbols_from}
 use Rattle.alm_asm.specs.Definitions.{definitions_from}
 use Rattle.alm_asm.specs.LineRefusals.{lines_refusal}
 use Rattle.alm_asm.proofs.Unrefused.{no_lines_refusal}
 use Rattle.alm_asm.specs.Assembly.{tables_of, bound_by, bound_from, static_section, version_of, evened, parts_with, parts_of, refusal_of}
 use Rattle.alm_asm.specs.Laws.{holds_words, lines_are_named}
-use Rattle.alm_asm.specs.declared.sum.Sum.{Sum}
-use Rattle.alm_asm.specs.declared.spot.Spot.{Spot}
+use Rattle.alm_lines.specs.declared.sum.Sum.{Sum}
+use Rattle.alm_lines.specs.declared.spot.Spot.{Spot}
 use Rattle.alm_asm.specs.declared.tables.Tables.{Tables}
-use Rattle.alm_asm.specs.declared.deed.Deed.{Deed}
-use Rattle.alm_asm.specs.declared.deed.Deed.TheVariants as deed
+use Rattle.alm_parse.specs.declared.deed.Deed.{Deed}
+use Rattle.alm_parse.specs.declared.deed.Deed.TheVariants as deed
 use Rattle.alm_asm.proofs.Distinct.{distinct}
 use Rattle.alm_asm.proofs.Fitting.{AllFit, StandAt, start_stands, symbols_fit}
 use Rattle.alm_asm.proofs.GoodDefinitions.{definitions_good}
@@ -96,9 +95,9 @@ bound_good : (text : List ℕ) (tables : Tables) (bound : ℕ) (spot : Spot) (li
 unfolding bound_from end_of
 bound_good text tables bound spot [] h = h
 bound_good text tables bound spot (line ∷ lines) h =
-    let kept = bound_kept spot bound (deed_of text line.op) h in
+    let kept = bound_kept spot bound line.deed h in
     let grown : spot.text ≤ (below text spot line).text = grows Text text tables spot line refl in
-    bound_good text tables (bound_by spot bound (deed_of text line.op)) (below text spot line) lines (omega arith)
+    bound_good text tables (bound_by spot bound line.deed) (below text spot line) lines (omega arith)
 
 -- ---- static words
 
@@ -132,11 +131,12 @@ static_room : (newer : Bool) (text statics : List ℕ) (definitions : List Named
 static_room true text statics definitions links marks bound = refl
 static_room false text statics definitions links marks bound = refl
 
-static_holds : (newer : Bool) → holds_words (static_section newer) ≡ true
+pub static_holds : (newer : Bool) → holds_words (static_section newer) ≡ true
 static_holds true = refl
 static_holds false = refl
 
-fixed : (newer : Bool) → 18 ≤ cond (eqb (version_of newer) 2) 19 18
+-- how many words an object has besides its sections' own
+pub fixed : (b : Bool) → 18 ≤ cond b 19 18
 fixed true = omega arith
 fixed false = omega arith
 
@@ -152,7 +152,7 @@ no_names = refl
 
 module _ (text : List ℕ) (tables : Tables) (lines : List Line36) (uses : (end_of text start lines).uses_outer ≡ tables.uses_outer)
     (symbols : symbols_from text [] start lines ≡ tables.symbols) (links : links_from text tables.symbols [] start lines ≡ tables.links)
-    (names : lines_are_named text lines ≡ true) (none : lines_refusal text tables [] (layout_refusal text None [] start lines) start lines ≡ None) where
+    (names : lines_are_named text lines ≡ true) (none : lines_refusal text tables [] start lines ≡ None) where
   abbrev newer : Bool
   newer = tables.uses_outer
 
@@ -203,7 +203,7 @@ module _ (text : List ℕ) (tables : Tables) (lines : List Line36) (uses : (end_
   are_good size =
       let least = leb-true (length (words_of parts)) (2 ^ 18) size in
       let sum = length-words_of parts in
-      let head = fixed newer in
+      let head = fixed (eqb (version_of newer) 2) in
       let good = relocations_good (omega arith) (omega arith) in
       let in_text : count_in Text (end_of text start lines) ≡ length words = places_count text tables Text lines refl in
       let low = bound_good text tables 0 start lines (omega arith) in
@@ -211,8 +211,8 @@ module _ (text : List ℕ) (tables : Tables) (lines : List Line36) (uses : (end_
         bound = le-leb bound (length words) (omega arith);
         even = statics_even newer statics words definitions tables.links marks bound;
         definitions = definitions_good newer text tables.symbols [] lines fit names refl;
-        distinct = distinct text tables [] (layout_refusal text None [] start lines) start lines none no_names;
-        links = subst (λ (l : List LinkFields). list_all (is_link (version_of newer)) l ≡ true) links (links_good text tables [] (layout_refusal text None [] start lines) [] start lines none names refl);
+        distinct = distinct text tables [] start lines none no_names;
+        links = subst (λ (l : List LinkFields). list_all (is_link (version_of newer)) l ≡ true) links (links_good text tables [] [] start lines none names refl);
         relocations = good.all;
         rising = good.order.rising;
       }

@@ -1,21 +1,20 @@
 -- Where lines are not refused, nothing of them is.
-use Rattle.std.proofs.Common.{◌≡◌, ℕ, Bool, true, false, List, [], ◌∷◌, ◌++◌, Option, Some, None, is_some, refl, ap, true≢false}
+use Rattle.std.proofs.Common.{◌≡◌, ℕ, Bool, true, false, List, [], ◌∷◌, ◌++◌, Option, Some, None, is_some, refl, ap, ◌∙◌, true≢false}
 use Rattle.alm_parse.specs.declared.args.Arg.{Arg}
 use Rattle.alm_parse.specs.declared.line.Line36.{Line36}
-use Rattle.obj36.specs.declared.definition.Named.{Named}
-use Rattle.alm_asm.specs.Deeds.{deed_of}
-use Rattle.alm_asm.specs.Refusals.{sooner}
+use Rattle.obj36_parts.specs.declared.definition.Named.{Named}
+use Rattle.alm_lines.specs.Refusals.{sooner}
 use Rattle.alm_asm.specs.Definitions.{named_by, gives_entries, definitions_after, arg_refusal, names_refused, definitions_refused}
-use Rattle.alm_asm.specs.LineRefusals.{unless, refusal_of_deed, line_refusal, lines_refusal}
+use Rattle.alm_asm.specs.LineRefusals.{unless, otherwise, refusal_of_deed, line_refusal, lines_refusal}
 use Rattle.alm_parse.specs.SourceFields.{Source}
-use Rattle.alm_asm.specs.Spots.{start, below}
-use Rattle.alm_asm.specs.Layout.{layout_refusal}
+use Rattle.alm_lines.specs.Spots.{start, below}
+use Rattle.alm_lines.specs.Layout.{layout_refusal}
 use Rattle.alm_asm.specs.Growth.{at_first, growth_refusal}
 use Rattle.alm_asm.specs.Assembly.{tables_of, refusal_of}
-use Rattle.alm_asm.specs.declared.sum.Sum.{Sum}
-use Rattle.alm_asm.specs.declared.spot.Spot.{Spot}
+use Rattle.alm_lines.specs.declared.sum.Sum.{Sum}
+use Rattle.alm_lines.specs.declared.spot.Spot.{Spot}
 use Rattle.alm_asm.specs.declared.tables.Tables.{Tables}
-use Rattle.alm_asm.specs.declared.refusal.Refusal.{Refusal}
+use Rattle.alm_lines.specs.declared.refusal.Refusal.{Refusal}
 
 pub sooner_none : (a b : Option Refusal) → sooner a b ≡ None → (a ≡ None) × (b ≡ None)
 sooner_none None b e = (refl, e)
@@ -33,42 +32,58 @@ names_first text symbols line is_entry done first [] e = e
 names_first text symbols line is_entry done first (arg ∷ arguments) e =
     (sooner_none first (arg_refusal text symbols line is_entry done arg) (names_first text symbols line is_entry (done ++ named_by text symbols is_entry arg) (sooner first (arg_refusal text symbols line is_entry done arg)) arguments e)).0
 
-definitions_first : (text : List ℕ) (symbols : List (List ℕ × Sum)) (line : Line36) (done : List Named) (first : Option Refusal) (gives : Option Bool)
-    → definitions_refused text symbols line done first line.args gives ≡ None → first ≡ None
-definitions_first text symbols line done first None e = e
-definitions_first text symbols line done first (Some is_entry) e = names_first text symbols line is_entry done first line.args e
+pub otherwise_none : (a b : Option Refusal) → otherwise a b ≡ None → (a ≡ None) × (b ≡ None)
+otherwise_none None b e = (refl, e)
+otherwise_none (Some a) b e = absurd (true≢false (ap is_some e))
 
-pub line_parts : (text : List ℕ) (tables : Tables) (done : List Named) (first : Option Refusal) (spot : Spot) (line : Line36) → line_refusal text tables done first spot line ≡ None
-    → (definitions_refused text tables.symbols line done first line.args (gives_entries (deed_of text line.op)) ≡ None) × (refusal_of_deed text tables spot line (deed_of text line.op) ≡ None)
+pub line_parts : (text : List ℕ) (tables : Tables) (done : List Named) (spot : Spot) (line : Line36) → line_refusal text tables done spot line ≡ None
+    → (definitions_refused text tables.symbols line done None line.args (gives_entries line.deed) ≡ None) × (refusal_of_deed text tables spot line line.deed ≡ None)
 unfolding line_refusal
-line_parts text tables done first spot line e =
-    sooner_none (definitions_refused text tables.symbols line done first line.args (gives_entries (deed_of text line.op))) (refusal_of_deed text tables spot line (deed_of text line.op)) e
-
-pub lines_first : (text : List ℕ) (tables : Tables) (done : List Named) (first : Option Refusal) (spot : Spot) (lines : List Line36)
-    → lines_refusal text tables done first spot lines ≡ None → first ≡ None
-unfolding lines_refusal
-lines_first text tables done first spot [] e = e
-lines_first text tables done first spot (line ∷ lines) e =
-    definitions_first text tables.symbols line done first (gives_entries (deed_of text line.op))
-    (line_parts text tables done first spot line (lines_first text tables (definitions_after text tables.symbols done line) (line_refusal text tables done first spot line) (below text spot line) lines e)).0
+line_parts text tables done spot line e =
+    sooner_none (definitions_refused text tables.symbols line done None line.args (gives_entries line.deed)) (refusal_of_deed text tables spot line line.deed) e
 
 -- the first line is not refused, nor are the others
-pub head_line : (text : List ℕ) (tables : Tables) (done : List Named) (first : Option Refusal) (spot : Spot) (line : Line36) (lines : List Line36)
-    → lines_refusal text tables done first spot (line ∷ lines) ≡ None → line_refusal text tables done first spot line ≡ None
+both_none : (text : List ℕ) (tables : Tables) (done : List Named) (spot : Spot) (line : Line36) (lines : List Line36)
+    → lines_refusal text tables done spot (line ∷ lines) ≡ None
+    → (line_refusal text tables done spot line ≡ None) × (lines_refusal text tables (definitions_after text tables.symbols done line) (below text spot line) lines ≡ None)
 unfolding lines_refusal
-head_line text tables done first spot line lines e =
-    lines_first text tables (definitions_after text tables.symbols done line) (line_refusal text tables done first spot line) (below text spot line) lines e
+both_none text tables done spot line lines e =
+    otherwise_none (line_refusal text tables done spot line) (lines_refusal text tables (definitions_after text tables.symbols done line) (below text spot line) lines) e
 
-pub other_lines : (text : List ℕ) (tables : Tables) (done : List Named) (first : Option Refusal) (spot : Spot) (line : Line36) (lines : List Line36)
-    → lines_refusal text tables done first spot (line ∷ lines) ≡ None
-    → lines_refusal text tables (definitions_after text tables.symbols done line) (line_refusal text tables done first spot line) (below text spot line) lines ≡ None
+pub head_line : (text : List ℕ) (tables : Tables) (done : List Named) (spot : Spot) (line : Line36) (lines : List Line36)
+    → lines_refusal text tables done spot (line ∷ lines) ≡ None → line_refusal text tables done spot line ≡ None
+head_line text tables done spot line lines e = (both_none text tables done spot line lines e).0
+
+pub other_lines : (text : List ℕ) (tables : Tables) (done : List Named) (spot : Spot) (line : Line36) (lines : List Line36)
+    → lines_refusal text tables done spot (line ∷ lines) ≡ None
+    → lines_refusal text tables (definitions_after text tables.symbols done line) (below text spot line) lines ≡ None
+other_lines text tables done spot line lines e = (both_none text tables done spot line lines e).1
+
+-- and where lines are not refused, none of those that they begin with is
+pub lines_above : (text : List ℕ) (tables : Tables) (done : List Named) (spot : Spot) (above lines : List Line36)
+    → lines_refusal text tables done spot (above ++ lines) ≡ None → lines_refusal text tables done spot above ≡ None
 unfolding lines_refusal
-other_lines text tables done first spot line lines e = e
+lines_above text tables done spot [] lines e = refl
+lines_above text tables done spot (line ∷ above) lines e =
+    let parts = both_none text tables done spot line (above ++ lines) e in
+    let rest : lines_refusal text tables (definitions_after text tables.symbols done line) (below text spot line) above ≡ None = lines_above text tables (definitions_after text tables.symbols done line) (below text spot line) above lines parts.1 in
+    ap (λ r. otherwise r (lines_refusal text tables (definitions_after text tables.symbols done line) (below text spot line) above)) parts.0 ∙ rest
 
--- Where a source is not refused, neither are its lines by themselves.
+-- Where a source is not refused, neither are its symbols nor its lines by themselves.
+parts_none :
+    (source : Source) → refusal_of source ≡ None
+    → (layout_refusal source.text None [] start source.lines ≡ None) × (lines_refusal source.text (tables_of source.text source.lines) [] start source.lines ≡ None)
+unfolding refusal_of
+parts_none source none =
+    let symbols = layout_refusal source.text None [] start source.lines in
+    let lines = lines_refusal source.text (tables_of source.text source.lines) [] start source.lines in
+    let long = growth_refusal source.text (tables_of source.text source.lines).symbols at_first start source.lines in
+    sooner_none symbols lines (sooner_none (sooner symbols lines) long none).0
+
+pub no_layout_refusal : (source : Source) → refusal_of source ≡ None → layout_refusal source.text None [] start source.lines ≡ None
+no_layout_refusal source none = (parts_none source none).0
+
 pub no_lines_refusal :
     (source : Source) → refusal_of source ≡ None
-    → lines_refusal source.text (tables_of source.text source.lines) [] (layout_refusal source.text None [] start source.lines) start source.lines ≡ None
-unfolding refusal_of
-no_lines_refusal source none =
-    (sooner_none (lines_refusal source.text (tables_of source.text source.lines) [] (layout_refusal source.text None [] start source.lines) start source.lines) (growth_refusal source.text (tables_of source.text source.lines).symbols at_first start source.lines) none).0
+    → lines_refusal source.text (tables_of source.text source.lines) [] start source.lines ≡ None
+no_lines_refusal source none = (parts_none source none).1

@@ -2,16 +2,16 @@
 
 ghost use Rattle.std.specs.Prelude.{ℕ, Bool, List, [], ◌∷◌, ◌++◌, ◌≡◌, Option, OnOk, IfOk};
 ghost use Rattle.std.specs.List.{list_any};
-ghost use Rattle.alm_asm.specs.Symbols.{same_name};
-ghost use Rattle.alm_asm.specs.Deeds.{deed_of};
+ghost use Rattle.alm_lines.specs.Symbols.{same_name};
 ghost use Rattle.alm_asm.specs.Definitions.{section_of, named, named_by, with_names, gives_entries, definitions_by, definitions_after, definitions_from, is_taken, is_label_kind, is_label, sum_refusal, name_refusal, arg_refusal, names_refused, definitions_refused};
 
-use crate::deed::{Deed, deed_of, name_at};
-use crate::expression::symbol_sum;
-use crate::refusal::{Code, Refusal, Room, has_room, refusal_at, sooner};
-use crate::sum::{Kind, Sum};
-use crate::symbols::Symbols;
-use alm_parse::{Arg, Line36, Span};
+use alm_lines::arguments::name_at;
+use alm_lines::expression::symbol_sum;
+use alm_lines::refusal::{Code, Refusal, Room, has_room, refusal_at, sooner};
+use alm_lines::sum::{Kind, Sum};
+use alm_lines::symbols::Symbols;
+use alm_parse::{Arg, Deed, Line36, Span};
+use m36_text::Name;
 use m36_word::NoMemory;
 use obj36::{Def, Defs, Named, Section};
 use std::alloc::Global;
@@ -73,17 +73,11 @@ pub fn gives_entries(deed: Deed) -> Option<bool>
     }
 }
 
-fn is_named(definition: &Named, name: &[u8]) -> bool
-    ensures { result ≡ same_name name.now definition.now.name }
-{
-    name == definition.name.bytes()
-}
-
 #[tactic(auto, unfolding(crate::specs::Definitions::is_taken))]
-fn is_taken(done: &[Named], name: &[u8]) -> bool
+fn is_taken(done: &Defs, name: &Name) -> bool
     ensures { result ≡ is_taken done.now name.now }
 {
-    done.iter().any(|definition| is_named(definition, name))
+    done.has(name)
 }
 
 fn is_label_kind(is_entry: bool, kind: Kind) -> bool
@@ -126,13 +120,13 @@ fn name_refusal(
     symbols: &Symbols,
     line: &Line36,
     is_entry: bool,
-    done: &[Named],
+    done: &Defs,
     span: Span,
 ) -> Option<Refusal>
     ensures { result ≡ name_refusal text.now symbols.now line.now is_entry done.now span }
 {
     let name = name_at(text, span);
-    if is_taken(done, name.bytes()) {
+    if is_taken(done, &name) {
         return Some(refusal_at(line, span.from as u64, Code::E5));
     }
     sum_refusal(line, span.from as u64, is_entry, symbols.find(&name))
@@ -143,7 +137,7 @@ fn arg_refusal(
     symbols: &Symbols,
     line: &Line36,
     is_entry: bool,
-    done: &[Named],
+    done: &Defs,
     arg: &Arg,
 ) -> Option<Refusal>
     ensures { result ≡ arg_refusal text.now symbols.now line.now is_entry done.now arg.now }
@@ -163,13 +157,15 @@ fn push_names(
     refused: Option<Refusal>,
     done: &mut Defs,
 ) -> Result<Option<Refusal>, NoMemory>
-    ensures definitions { OnOk result (done.new ≡ with_names text.now symbols.now is_entry done.old line.now.args) }
-    ensures refused { IfOk result (λ r. r ≡ names_refused text.now symbols.now line.now is_entry done.old refused line.now.args) }
+    ensures definitions { OnOk result
+        (done.new ≡ with_names text.now symbols.now is_entry done.old line.now.args) }
+    ensures refused { IfOk result (λ r.
+        r ≡ names_refused text.now symbols.now line.now is_entry done.old refused line.now.args) }
 {
     let mut first = refused;
     let mut rest = line.args.items();
     while let [arg, more @ ..] = rest {
-        let refusal = arg_refusal(text, symbols, line, is_entry, done.items(), arg);
+        let refusal = arg_refusal(text, symbols, line, is_entry, done, arg);
         first = sooner(first, refusal);
         push_named(text, symbols, is_entry, arg, done)?;
         rest = more;
@@ -186,12 +182,45 @@ pub fn push_definitions(
     refused: Option<Refusal>,
     done: &mut Defs,
 ) -> Result<Option<Refusal>, NoMemory>
-    ensures definitions { OnOk result (done.new ≡ definitions_after text.now symbols.now done.old line.now) }
-    ensures refused { IfOk result (λ r. r ≡ definitions_refused text.now symbols.now line.now done.old refused line.now.args (gives_entries (deed_of text.now line.now.op))) }
+    ensures definitions { OnOk result
+        (done.new ≡ definitions_after text.now symbols.now done.old line.now) }
+    ensures refused { IfOk result (λ r.
+        r
+        ≡ definitions_refused text.now symbols.now line.now done.old refused line.now.args
+        (gives_entries line.now.deed)) }
 {
-    match gives_entries(deed_of(text, line.op)) {
+    match gives_entries(line.deed) {
         None => Ok(refused),
         Some(is_entry) => push_names(text, symbols, line, is_entry, refused, done),
+    }
+}
+
+// Adds the definitions of a list of names.
+#[tactic(auto, unfolding(crate::specs::Definitions::with_names))]
+fn push_all_named(
+    text: &[u8],
+    symbols: &Symbols,
+    is_entry: bool,
+    args: &[Arg],
+    done: &mut Defs,
+) -> Result<(), NoMemory>
+    ensures { OnOk result (done.new ≡ with_names text.now symbols.now is_entry done.old args.now) }
+{
+    let mut rest = args;
+    while let [arg, more @ ..] = rest {
+        push_named(text, symbols, is_entry, arg, done)?;
+        rest = more;
+    }
+    Ok(())
+}
+
+#[tactic(auto, unfolding(crate::specs::Definitions::definitions_after))]
+fn take_line(text: &[u8], symbols: &Symbols, line: &Line36, done: &mut Defs) -> Result<(), NoMemory>
+    ensures { OnOk result (done.new ≡ definitions_after text.now symbols.now done.old line.now) }
+{
+    match gives_entries(line.deed) {
+        None => Ok(()),
+        Some(is_entry) => push_all_named(text, symbols, is_entry, line.args.items(), done),
     }
 }
 
@@ -208,7 +237,7 @@ pub fn definitions_of(
     let mut done = Defs::new(alloc);
     let mut rest = lines;
     while let [line, more @ ..] = rest {
-        let _refused = push_definitions(text, symbols, line, None, &mut done)?;
+        take_line(text, symbols, line, &mut done)?;
         rest = more;
     }
     Ok(done)

@@ -1,26 +1,28 @@
 //! How the definition, linkage and symbol sections grow with the lines, and the line with which one has too many words.
 
-ghost use Rattle.std.specs.Prelude.{ℕ, Bool, List, [], ◌∷◌, ◌++◌, ◌≡◌, length, Option, OnOk, IfOk};
+ghost use Rattle.std.specs.Prelude.{ℕ, Bool, List, [], ◌∷◌, ◌++◌, ◌≡◌, ◌≤◌, length, if◌then◌else◌, Option, OnOk, IfOk};
 ghost use Rattle.std.specs.List.{list_any};
-ghost use Rattle.alm_asm.specs.Deeds.{deed_of, first_arg};
-ghost use Rattle.alm_asm.specs.Spots.{start};
+ghost use Rattle.alm_lines.specs.Arguments.{first_arg};
+ghost use Rattle.alm_lines.specs.Spots.{start};
 ghost use Rattle.alm_asm.specs.Links.{operand_args};
 ghost use Rattle.alm_asm.specs.Definitions.{gives_entries};
-ghost use Rattle.alm_asm.specs.Growth.{at_first, with_name, with_use, with_definition, with_unrefused, with_arg, with_args, with_definitions, with_new_link, with_link_once, with_unrefused_link, with_operand, with_link, with_marks, grown_by, is_over, growth_refusal};
+ghost use Rattle.alm_asm.specs.Growth.{at_first, with_name, with_names, with_definition, with_unrefused, with_arg, with_args, with_definitions, with_new_link, with_link_once, with_operand, with_link, mark_count, operand_room, is_own, operand_count, half_count, marks_count, with_marks, grown_by, is_over, growth_refusal};
+ghost use Rattle.obj36_parts.specs.ObjectSegment.{has_name, has_entry};
 
-use crate::deed::{deed_of, name_at};
 use crate::definitions::{gives_entries, sum_refusal};
-use crate::line_refusal::link_expression_refusal;
-use crate::links::{is_among, link_of, operand_args};
-use crate::marks::push_marks;
-use crate::refusal::{Code, Refusal, refusal_at};
-use crate::spot::{Spot, below};
-use crate::sum::{absolute, plus};
-use crate::symbols::Symbols;
-use alm_parse::{Arg, Line36, Span, Term};
+use crate::line_refusal::own_room;
+use crate::links::{link_of, operand_args};
+use crate::marks::operand_kind;
+use alm_lines::arguments::{first_terms, name_at, second_terms};
+use alm_lines::expression::sum_of;
+use alm_lines::refusal::{Code, Refusal, Room, has_value, is_over_limit, refusal_at};
+use alm_lines::spot::{Spot, below};
+use alm_lines::sum::{Kind, absolute, plus};
+use alm_lines::symbols::Symbols;
+use alm_parse::{Arg, Deed, Line36, Span, Term};
 use m36_text::Name;
 use m36_word::NoMemory;
-use obj36::{Link, Links, Relocs};
+use obj36::{Link, Links};
 use std::alloc::Global;
 
 /// What the lines so far give to these sections: the names that stand, those that are defined, each once and with a number that says
@@ -47,7 +49,7 @@ impl Growth {
         }
     }
 
-    #[tactic(auto, unfolding(crate::specs::Growth::with_name, obj36::specs::Names::name_length))]
+    #[tactic(auto, unfolding(crate::specs::Growth::with_name, obj36_parts::specs::Names::name_length))]
     fn add_name(&mut self, name: Name) -> Result<(), NoMemory>
         ensures { OnOk result (self.new ≡ with_name self.old name) }
     {
@@ -59,14 +61,14 @@ impl Growth {
         self.names.define(name, absolute(0))
     }
 
-    #[tactic(auto, unfolding(crate::specs::Growth::with_use))]
-    fn add_use(&mut self, name: Name) -> Result<(), NoMemory>
-        ensures { OnOk result (self.new ≡ with_use self.old name) }
+    #[tactic(auto, unfolding(crate::specs::Growth::with_names))]
+    fn add_use(&mut self, is_used: bool, name: Name) -> Result<(), NoMemory>
+        ensures { OnOk result (self.new ≡ with_names self.old (if is_used then name ∷ [] else [])) }
     {
-        if name.bytes().len() == 0 {
-            return Ok(());
+        if is_used {
+            return self.add_name(name);
         }
-        self.add_name(name)
+        Ok(())
     }
 
     #[tactic(auto, unfolding(crate::specs::Growth::with_definition))]
@@ -81,23 +83,24 @@ impl Growth {
         self.add_name(name)
     }
 
-    #[tactic(auto, unfolding(crate::specs::Growth::with_new_link))]
+    #[tactic(auto, using(crate::proofs::GrowthLaws::names_then), unfolding(crate::specs::Growth::with_new_link, obj36_parts::specs::ObjectSegment::link_names, obj36_parts::specs::ObjectSegment::name_used, obj36_parts::specs::ObjectSegment::entry_used))]
     fn add_new_link(&mut self, link: Link) -> Result<(), NoMemory>
         ensures { OnOk result (self.new ≡ with_new_link self.old link) }
     {
+        let kind = link.kind;
         let name = link.name.copied();
         let entry = link.entry.copied();
         self.links.push(link)?;
         self.definition = plus(self.definition, 2)?;
-        self.add_use(name)?;
-        self.add_use(entry)
+        self.add_use(uses_name(kind), name)?;
+        self.add_use(uses_entry(kind), entry)
     }
 
     #[tactic(auto, unfolding(crate::specs::Growth::with_link_once))]
     fn add_link(&mut self, link: Link) -> Result<(), NoMemory>
         ensures { OnOk result (self.new ≡ with_link_once self.old link) }
     {
-        if is_among(self.links.items(), &link) {
+        if self.links.has(&link) {
             return Ok(());
         }
         self.add_new_link(link)
@@ -109,8 +112,21 @@ impl Growth {
     {
         let links = self.links.items().len() as u64;
         let linkage = plus(plus(8, spot.inner)?, plus(links, links)?)?;
-        Ok(258048 < self.definition || 258048 < linkage || 258048 < self.symbol)
+        Ok(is_over_limit(self.definition) || is_over_limit(linkage) || is_over_limit(self.symbol))
     }
+}
+
+// Whether a link of this type refers to a segment by its name, and to an entry by its name.
+fn uses_name(kind: u8) -> bool
+    ensures { result ≡ has_name kind }
+{
+    kind == 3 || kind == 4
+}
+
+fn uses_entry(kind: u8) -> bool
+    ensures { result ≡ has_entry kind }
+{
+    kind == 4 || kind == 5
 }
 
 fn take_arg(
@@ -121,7 +137,8 @@ fn take_arg(
     growth: &mut Growth,
     arg: &Arg,
 ) -> Result<(), NoMemory>
-    ensures { OnOk result (growth.new ≡ with_arg text.now symbols.now line.now is_entry growth.old arg.now) }
+    ensures { OnOk result
+        (growth.new ≡ with_arg text.now symbols.now line.now is_entry growth.old arg.now) }
 {
     match arg {
         Arg::Symbol(span) => {
@@ -143,7 +160,8 @@ fn take_args(
     is_entry: bool,
     growth: &mut Growth,
 ) -> Result<(), NoMemory>
-    ensures { OnOk result (growth.new ≡ with_args text.now symbols.now line.now is_entry growth.old line.now.args) }
+    ensures { OnOk result
+        (growth.new ≡ with_args text.now symbols.now line.now is_entry growth.old line.now.args) }
 {
     let mut rest = line.args.items();
     while let [arg, more @ ..] = rest {
@@ -159,9 +177,11 @@ fn take_definitions(
     line: &Line36,
     growth: &mut Growth,
 ) -> Result<(), NoMemory>
-    ensures { OnOk result (growth.new ≡ with_definitions text.now symbols.now line.now growth.old (gives_entries (deed_of text.now line.now.op))) }
+    ensures { OnOk result
+        (growth.new
+        ≡ with_definitions text.now symbols.now line.now growth.old (gives_entries line.now.deed)) }
 {
-    match gives_entries(deed_of(text, line.op)) {
+    match gives_entries(line.deed) {
         None => Ok(()),
         Some(is_entry) => take_args(text, symbols, line, is_entry, growth),
     }
@@ -171,22 +191,21 @@ fn take_external(
     text: &[u8],
     symbols: &Symbols,
     spot: Spot,
-    line: &Line36,
     growth: &mut Growth,
     segment: Span,
     entry: Option<Span>,
     terms: &[Term],
     tag: u8,
 ) -> Result<(), NoMemory>
-    ensures { OnOk result (growth.new ≡ with_operand text.now symbols.now spot line.now growth.old (Option.Some segment) entry terms.now tag) }
+    ensures { OnOk result
+        (growth.new
+        ≡ with_operand text.now symbols.now spot growth.old (Option.Some segment) entry terms.now tag) }
 {
-    match link_expression_refusal(text, symbols, spot, line, segment, entry, terms)? {
-        Some(_) => Ok(()),
-        None => {
-            let link = link_of(text, symbols, spot, segment, entry, terms, tag)?;
-            growth.add_link(link)
-        }
+    if !has_value(text, symbols, spot, terms, Room::Half, false)? {
+        return Ok(());
     }
+    let link = link_of(text, symbols, spot, segment, entry, terms, tag)?;
+    growth.add_link(link)
 }
 
 fn take_link(
@@ -196,9 +215,12 @@ fn take_link(
     line: &Line36,
     growth: &mut Growth,
 ) -> Result<(), NoMemory>
-    ensures { OnOk result (growth.new ≡ with_link text.now symbols.now spot line.now growth.old (first_arg (operand_args (deed_of text.now line.now.op) line.now.args))) }
+    ensures { OnOk result
+        (growth.new
+        ≡ with_link text.now symbols.now spot growth.old
+        (first_arg (operand_args line.now.deed line.now.args))) }
 {
-    match operand_args(deed_of(text, line.op), line.args.items()) {
+    match operand_args(line.deed, line.args.items()) {
         [
             Arg::Operand {
                 pr: _,
@@ -210,17 +232,102 @@ fn take_link(
             ..
         ] => {
             let terms = expr.items();
-            take_external(
-                text, symbols, spot, line, growth, *segment, *entry, terms, *tag,
-            )
+            take_external(text, symbols, spot, growth, *segment, *entry, terms, *tag)
         }
         _ => Ok(()),
     }
 }
 
+fn mark_count(is_valued: bool, kind: Kind) -> u64
+    ensures value { result ≡ mark_count is_valued kind }
+    ensures bound { result ≤ 1 }
+{
+    match kind {
+        Kind::Moved(_) => is_valued as u64,
+        Kind::Absolute | Kind::Unsaid => 0,
+    }
+}
+
+fn operand_room(pr: Option<u8>, segment: Option<Span>) -> Room
+    ensures { result ≡ operand_room pr segment }
+{
+    match segment {
+        Some(_) => Room::Half,
+        None => own_room(pr),
+    }
+}
+
+fn is_own(segment: Option<Span>) -> bool
+    ensures { result ≡ is_own segment }
+{
+    match segment {
+        Some(_) => false,
+        None => true,
+    }
+}
+
+fn operand_count(text: &[u8], symbols: &Symbols, spot: Spot, args: &[Arg]) -> Result<u64, NoMemory>
+    ensures value { IfOk result (λ n.
+        n ≡ operand_count text.now symbols.now spot (first_arg args.now)) }
+    ensures bound { IfOk result (λ n. n ≤ 1) }
+{
+    match args {
+        [
+            Arg::Operand {
+                pr,
+                seg,
+                entry: _,
+                expr,
+                tag: _,
+            },
+            ..
+        ] => {
+            let terms = expr.items();
+            let room = operand_room(*pr, *seg);
+            let is_valued = has_value(text, symbols, spot, terms, room, is_own(*seg))?;
+            let sum = sum_of(text, symbols, spot, terms)?;
+            Ok(mark_count(is_valued, operand_kind(*seg, sum)))
+        }
+        _ => Ok(0),
+    }
+}
+
+fn half_count(text: &[u8], symbols: &Symbols, spot: Spot, terms: &[Term]) -> Result<u64, NoMemory>
+    ensures value { IfOk result (λ n. n ≡ half_count text.now symbols.now spot terms.now) }
+    ensures bound { IfOk result (λ n. n ≤ 1) }
+{
+    let is_valued = has_value(text, symbols, spot, terms, Room::Half, true)?;
+    let sum = sum_of(text, symbols, spot, terms)?;
+    Ok(mark_count(is_valued, sum.kind()))
+}
+
+fn marks_count(text: &[u8], symbols: &Symbols, spot: Spot, line: &Line36) -> Result<u64, NoMemory>
+    ensures value { IfOk result (λ n.
+        n ≡ marks_count text.now symbols.now spot line.now.args line.now.deed) }
+    ensures bound { IfOk result (λ n. n ≤ 2) }
+{
+    let args = line.args.items();
+    match line.deed {
+        Deed::Instruction(_, _) => operand_count(text, symbols, spot, args),
+        Deed::Zero => {
+            let left = half_count(text, symbols, spot, first_terms(args))?;
+            let right = half_count(text, symbols, spot, second_terms(args))?;
+            Ok(left + right)
+        }
+        Deed::Nothing
+        | Deed::Entry
+        | Deed::Segdef
+        | Deed::Equ
+        | Deed::Use
+        | Deed::Words
+        | Deed::Block
+        | Deed::Even
+        | Deed::Bound => Ok(0),
+    }
+}
+
 #[tactic(auto, unfolding(crate::specs::Growth::with_marks))]
 fn take_marks(
-    alloc: Global,
     text: &[u8],
     symbols: &Symbols,
     spot: Spot,
@@ -229,16 +336,13 @@ fn take_marks(
 ) -> Result<(), NoMemory>
     ensures { OnOk result (growth.new ≡ with_marks text.now symbols.now spot line.now growth.old) }
 {
-    let mut marks = Relocs::new(alloc);
-    let deed = deed_of(text, line.op);
-    push_marks(text, symbols, spot, line.args.items(), deed, &mut marks)?;
-    growth.symbol = plus(growth.symbol, marks.items().len() as u64)?;
+    let marks = marks_count(text, symbols, spot, line)?;
+    growth.symbol = plus(growth.symbol, marks)?;
     Ok(())
 }
 
 #[tactic(auto, unfolding(crate::specs::Growth::grown_by))]
 fn take_line(
-    alloc: Global,
     text: &[u8],
     symbols: &Symbols,
     spot: Spot,
@@ -249,7 +353,7 @@ fn take_line(
 {
     take_definitions(text, symbols, line, growth)?;
     take_link(text, symbols, spot, line, growth)?;
-    take_marks(alloc, text, symbols, spot, line, growth)
+    take_marks(text, symbols, spot, line, growth)
 }
 
 /// The refusal of the first line with which one of these sections has more than 2^18 - 4096 words.
@@ -266,7 +370,7 @@ pub fn growth_refusal(
     let mut spot = Spot::start();
     let mut rest = lines;
     while let [line, more @ ..] = rest {
-        take_line(alloc, text, symbols, spot, line, &mut growth)?;
+        take_line(text, symbols, spot, line, &mut growth)?;
         spot = below(alloc, text, spot, line)?;
         if growth.is_over(spot)? {
             return Ok(Some(refusal_at(line, line.start as u64, Code::E8)));

@@ -1,20 +1,22 @@
 //! What is refused of lines whose symbols are known.
 
 ghost use Rattle.std.specs.Prelude.{ℕ, Bool, List, [], ◌∷◌, ◌≡◌, ◌+◌, ◌<◌, Option, OnOk, IfOk};
-ghost use Rattle.alm_asm.specs.Deeds.{first_arg};
-ghost use Rattle.alm_asm.specs.Spots.{start};
+ghost use Rattle.alm_lines.specs.Arguments.{first_arg};
+ghost use Rattle.alm_lines.specs.Spots.{start};
 ghost use Rattle.alm_asm.specs.Definitions.{definitions_after};
-ghost use Rattle.alm_asm.specs.LineRefusals.{unless, op_place, external_place, needs_static, may_name, is_in_reach, own_room, link_expression, reach_refusal, external_refusal, own_operand, operand_refusal, is_text_section, may_enter, instruction_refusal, use_refusal, halves_refusal, refusal_of_deed, line_refusal, lines_refusal};
+ghost use Rattle.alm_asm.specs.LineRefusals.{unless, op_place, external_place, needs_static, may_name, is_in_reach, own_room, link_expression, reaches, external_refusal, own_operand, operand_refusal, is_text_section, may_enter, instruction_refusal, use_refusal, halves_refusal, refusal_of_deed, line_refusal, lines_refusal};
 
-use crate::deed::{Deed, deed_of, first_symbol, first_terms, second_terms, section_in};
 use crate::definitions::push_definitions;
-use crate::expression::expression_place;
 use crate::links::{link_of, link_place, own_section};
-use crate::refusal::{Code, Refusal, Room, Wanted, expression_refusal, refusal_at, sooner};
-use crate::spot::{Spot, below};
-use crate::symbols::Symbols;
 use crate::tables::Tables;
-use alm_parse::{Arg, Line36, Span, Term};
+use alm_lines::arguments::{first_symbol, first_terms, second_terms, section_in};
+use alm_lines::expression::expression_place;
+use alm_lines::refusal::{
+    Code, Refusal, Room, Wanted, expression_refusal, has_value, refusal_at, sooner,
+};
+use alm_lines::spot::{Spot, below};
+use alm_lines::symbols::Symbols;
+use alm_parse::{Arg, Deed, Line36, Span, Term};
 use m36_word::NoMemory;
 use obj36::{Defs, Section};
 use std::alloc::Global;
@@ -68,14 +70,16 @@ fn is_in_reach(
     terms: &[Term],
     tag: u8,
 ) -> Result<bool, NoMemory>
-    ensures { IfOk result (λ b. b ≡ is_in_reach text.now tables.now spot segment entry terms.now tag) }
+    ensures { IfOk result (λ b.
+        b ≡ is_in_reach text.now tables.now spot segment entry terms.now tag) }
 {
     let link = link_of(text, &tables.symbols, spot, segment, entry, terms, tag)?;
-    let place = link_place(tables.links.items(), tables.first_link, &link)?;
+    let place = link_place(&tables.links, tables.first_link, &link)?;
     Ok(place < 16384)
 }
 
-fn own_room(pr: Option<u8>) -> Room
+/// What the expression of an operand has to fit in.
+pub fn own_room(pr: Option<u8>) -> Room
     ensures { result ≡ own_room pr }
 {
     match pr {
@@ -84,8 +88,7 @@ fn own_room(pr: Option<u8>) -> Room
     }
 }
 
-/// What is refused of the expression behind an external name.
-pub fn link_expression_refusal(
+fn link_expression_refusal(
     text: &[u8],
     symbols: &Symbols,
     spot: Spot,
@@ -94,7 +97,8 @@ pub fn link_expression_refusal(
     entry: Option<Span>,
     terms: &[Term],
 ) -> Result<Option<Refusal>, NoMemory>
-    ensures { IfOk result (λ r. r ≡ link_expression text.now symbols.now spot line.now segment entry terms.now) }
+    ensures { IfOk result (λ r.
+        r ≡ link_expression text.now symbols.now spot line.now segment entry terms.now) }
 {
     let wanted = Wanted {
         place: external_place(segment, entry),
@@ -104,13 +108,22 @@ pub fn link_expression_refusal(
     expression_refusal(text, symbols, spot, line, terms, wanted)
 }
 
-fn reach_refusal(expression: Option<Refusal>, reach: bool, at: Refusal) -> Option<Refusal>
-    ensures { result ≡ reach_refusal expression reach at }
+#[tactic(auto, unfolding(crate::specs::LineRefusals::reaches))]
+fn reaches(
+    text: &[u8],
+    tables: &Tables,
+    spot: Spot,
+    segment: Span,
+    entry: Option<Span>,
+    terms: &[Term],
+    tag: u8,
+) -> Result<bool, NoMemory>
+    ensures { IfOk result (λ b. b ≡ reaches text.now tables.now spot segment entry terms.now tag) }
 {
-    match expression {
-        Some(refusal) => Some(refusal),
-        None => unless(reach, at),
+    if !has_value(text, &tables.symbols, spot, terms, Room::Half, false)? {
+        return Ok(true);
     }
+    is_in_reach(text, tables, spot, segment, entry, terms, tag)
 }
 
 fn external_refusal(
@@ -123,7 +136,8 @@ fn external_refusal(
     terms: &[Term],
     tag: u8,
 ) -> Result<Option<Refusal>, NoMemory>
-    ensures { IfOk result (λ r. r ≡ external_refusal text.now tables.now spot line.now segment entry terms.now tag) }
+    ensures { IfOk result (λ r.
+        r ≡ external_refusal text.now tables.now spot line.now segment entry terms.now tag) }
 {
     let at = refusal_at(line, segment.from as u64, Code::E7);
     let expression = link_expression_refusal(
@@ -135,9 +149,9 @@ fn external_refusal(
         entry,
         terms,
     )?;
-    let reach = is_in_reach(text, tables, spot, segment, entry, terms, tag)?;
+    let reached = reaches(text, tables, spot, segment, entry, terms, tag)?;
     let named = may_name(tables, own_section(text, segment));
-    Ok(sooner(reach_refusal(expression, reach, at), unless(named, at)))
+    Ok(sooner(sooner(expression, unless(reached, at)), unless(named, at)))
 }
 
 fn own_operand_refusal(
@@ -164,7 +178,8 @@ fn operand_refusal(
     spot: Spot,
     line: &Line36,
 ) -> Result<Option<Refusal>, NoMemory>
-    ensures { IfOk result (λ r. r ≡ operand_refusal text.now tables.now spot line.now (first_arg line.now.args)) }
+    ensures { IfOk result (λ r.
+        r ≡ operand_refusal text.now tables.now spot line.now (first_arg line.now.args)) }
 {
     match line.args.items() {
         [
@@ -271,37 +286,37 @@ fn take_line(
     tables: &Tables,
     spot: Spot,
     line: &Line36,
-    refused: Option<Refusal>,
     done: &mut Defs,
 ) -> Result<Option<Refusal>, NoMemory>
-    ensures definitions { OnOk result (done.new ≡ definitions_after text.now tables.now.symbols done.old line.now) }
-    ensures refused { IfOk result (λ r. r ≡ line_refusal text.now tables.now done.old refused spot line.now) }
+    ensures definitions { OnOk result
+        (done.new ≡ definitions_after text.now tables.now.symbols done.old line.now) }
+    ensures refused { IfOk result (λ r.
+        r ≡ line_refusal text.now tables.now done.old spot line.now) }
 {
-    let deed = deed_of(text, line.op);
-    let names = push_definitions(text, &tables.symbols, line, refused, done)?;
-    let own = refusal_of_deed(text, tables, spot, line, deed)?;
+    let names = push_definitions(text, &tables.symbols, line, None, done)?;
+    let own = refusal_of_deed(text, tables, spot, line, line.deed)?;
     Ok(sooner(names, own))
 }
 
-/// The first refusal of lines, or one that comes before.
+/// The refusal of the first of the lines that is refused.
 #[tactic(auto, unfolding(crate::specs::LineRefusals::lines_refusal))]
 pub fn lines_refusal(
     alloc: Global,
     text: &[u8],
     tables: &Tables,
     lines: &[Line36],
-    refused: Option<Refusal>,
 ) -> Result<Option<Refusal>, NoMemory>
-    ensures { IfOk result (λ r. r ≡ lines_refusal text.now tables.now [] refused start lines.now) }
+    ensures { IfOk result (λ r. r ≡ lines_refusal text.now tables.now [] start lines.now) }
 {
     let mut done = Defs::new(alloc);
-    let mut first = refused;
     let mut spot = Spot::start();
     let mut rest = lines;
     while let [line, more @ ..] = rest {
-        first = take_line(text, tables, spot, line, first, &mut done)?;
+        if let Some(refusal) = take_line(text, tables, spot, line, &mut done)? {
+            return Ok(Some(refusal));
+        }
         spot = below(alloc, text, spot, line)?;
         rest = more;
     }
-    Ok(first)
+    Ok(None)
 }

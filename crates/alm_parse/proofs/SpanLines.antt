@@ -261,26 +261,26 @@ args_of_in operation text op rest arguments e =
 
 -- lines
 line_of_in :
-    (count : ℕ) (row : Row) (head : Head) (arguments : List Arg) (line : Line36) → HeadIn count head → All (ArgIn count) arguments
-    → line_of row head arguments ≡ line → LineIn count line
-line_of_in count row head arguments line is all e =
+    (count : ℕ) (text : List ℕ) (row : Row) (head : Head) (arguments : List Arg) (line : Line36) → HeadIn count head → All (ArgIn count) arguments
+    → line_of text row head arguments ≡ line → LineIn count line
+line_of_in count text row head arguments line is all e =
     subst (LineIn count) e (record { labels = is.labels; op = is.op; args = all })
 
 ok_line : (a b : Line36) → let given : Result Line36 Refusal = Ok a in given ≡ Ok b → a ≡ b
 ok_line a b e = cc
 
 line_with_in :
-    (count : ℕ) (row : Row) (head : Head) (r : Result (List Arg) Refusal) (line : Line36) → HeadIn count head
-    → ((arguments : List Arg) → r ≡ Ok arguments → All (ArgIn count) arguments) → line_with row head r ≡ Ok line → LineIn count line
-line_with_in count row head (Ok arguments) line is all e =
-    line_of_in count row head arguments line is (all arguments refl) (ok_line (line_of row head arguments) line e)
-line_with_in count row head (Err refusal) line is all e = absurd (cc)
+    (count : ℕ) (text : List ℕ) (row : Row) (head : Head) (r : Result (List Arg) Refusal) (line : Line36) → HeadIn count head
+    → ((arguments : List Arg) → r ≡ Ok arguments → All (ArgIn count) arguments) → line_with text row head r ≡ Ok line → LineIn count line
+line_with_in count text row head (Ok arguments) line is all e =
+    line_of_in count text row head arguments line is (all arguments refl) (ok_line (line_of text row head arguments) line e)
+line_with_in count text row head (Err refusal) line is all e = absurd (cc)
 
 line_by_in :
     (text : List ℕ) (row : Row) (head : Head) (op : Span) (o : Option Operation) (line : Line36) → HeadIn (length text) head
     → line_by text row head op o ≡ Ok line → LineIn (length text) line
 line_by_in text row head op (Some operation) line is e =
-    line_with_in (length text) row head (args_of operation text op.from (span_at op.to row.span.to)) line is (λ arguments f. args_of_in operation text op.from (span_at op.to row.span.to) arguments f) e
+    line_with_in (length text) text row head (args_of operation text op.from (span_at op.to row.span.to)) line is (λ arguments f. args_of_in operation text op.from (span_at op.to row.span.to) arguments f) e
 line_by_in text row head op None line is e = absurd (cc)
 
 line_from_in :
@@ -288,7 +288,7 @@ line_from_in :
     → line_from text row head o ≡ Ok line → LineIn (length text) line
 line_from_in text row head (Some op) line is e = line_by_in text row head op (operation_of (slice_of text op)) line is e
 line_from_in text row head None line is e =
-    line_of_in (length text) row head [] line is (All-nil (ArgIn (length text))) (ok_line (line_of row head []) line e)
+    line_of_in (length text) text row head [] line is (All-nil (ArgIn (length text))) (ok_line (line_of text row head []) line e)
 
 line_unless_in :
     (text : List ℕ) (row : Row) (head : Head) (o : Option Refusal) (line : Line36) → HeadIn (length text) head

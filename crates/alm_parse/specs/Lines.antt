@@ -20,8 +20,10 @@ use Rattle.alm_parse.specs.Pairs.{value_given, halves_given, block_given, sectio
 use Rattle.alm_parse.specs.Characters.{characters_given}
 use Rattle.alm_parse.specs.Heads.{head_of, operand_in, delimited_in}
 use Rattle.alm_parse.specs.Operations.{operation_of}
+use Rattle.alm_parse.specs.Deeds.{deed_of}
 
--- A missing operand of an instruction is 0, and some operations have none; any other is told at the operation.
+-- A missing operand of an instruction is 0, and some operations have none; any other is told at the
+-- operation.
 abbrev pub missing : Operation → ℕ → Option Refusal
 missing Instruction at = None
 missing Bare at = None
@@ -74,25 +76,33 @@ abbrev pub is_no_symbol : List ℕ → Span → Bool
 is_no_symbol text span = not (is_symbol (slice_of text span))
 
 unfoldable pub label_refusal : List ℕ → List Span → Option Refusal
-label_refusal text marks = option_map (λ mark. told text mark.from E2) (find (is_no_symbol text) marks)
+label_refusal text marks =
+    option_map (λ mark. told text mark.from E2) (find (is_no_symbol text) marks)
 
 -- a line by its parts
-abbrev pub line_of : Row → Head → List Arg → Line36
-line_of row head arguments =
-    record { labels = head.labels; args = arguments; op = head.op; start = row.span.from; line = row.number }
+abbrev pub line_of : List ℕ → Row → Head → List Arg → Line36
+line_of text row head arguments =
+    record {
+      labels = head.labels;
+      args = arguments;
+      op = head.op;
+      deed = deed_of text head.op;
+      start = row.span.from;
+      line = row.number;
+    }
 
-abbrev pub line_with : Row → Head → Result (List Arg) Refusal → Result Line36 Refusal
-line_with row head (Ok arguments) = Ok (line_of row head arguments)
-line_with row head (Err refusal) = Err refusal
+abbrev pub line_with : List ℕ → Row → Head → Result (List Arg) Refusal → Result Line36 Refusal
+line_with text row head (Ok arguments) = Ok (line_of text row head arguments)
+line_with text row head (Err refusal) = Err refusal
 
 abbrev pub line_by : List ℕ → Row → Head → Span → Option Operation → Result Line36 Refusal
 line_by text row head op (Some operation) =
-    line_with row head (args_of operation text op.from (span_at op.to row.span.to))
+    line_with text row head (args_of operation text op.from (span_at op.to row.span.to))
 line_by text row head op None = Err (told text op.from E3)
 
 abbrev pub line_from : List ℕ → Row → Head → Option Span → Result Line36 Refusal
 line_from text row head (Some op) = line_by text row head op (operation_of (slice_of text op))
-line_from text row head None = Ok (line_of row head [])
+line_from text row head None = Ok (line_of text row head [])
 
 abbrev pub line_unless : Option Refusal → List ℕ → Row → Head → Result Line36 Refusal
 line_unless (Some refusal) text row head = Err refusal

@@ -32,6 +32,7 @@ pub mod args;
 mod body;
 mod bytes;
 mod characters;
+pub mod deed;
 pub mod expression;
 pub mod fault;
 mod head;
@@ -53,6 +54,7 @@ mod tests;
 mod tokens;
 
 pub use args::{Arg, Args};
+pub use deed::Deed;
 pub use expression::{Atom, Expr, Term};
 pub use fault::AlmFault;
 pub use line::Line36;

@@ -8,6 +8,7 @@ ghost use Rattle.alm_parse.specs.Refusals.{Reads, IsInside, HaltsInside};
 
 use crate::args::Args;
 use crate::characters::characters_args;
+use crate::deed::deed_of;
 use crate::head::{Head, delimited_in, head_of, operand_in};
 use crate::line::Line36;
 use crate::members::{numbers_args, symbols_args};
@@ -116,16 +117,18 @@ fn label_refusal(text: &[u8], labels: &[Span]) -> Option<Refusal>
     }
 }
 
-fn line_of(row: Row, head: Head, args: Args) -> Line36
-    ensures { result ≡ line_of row head args }
+fn line_of(text: &[u8], row: Row, head: Head, args: Args) -> Line36
+    ensures { result ≡ line_of text.now row head args }
 {
     let Head { labels, op } = head;
+    let deed = deed_of(text, op);
     Line36 {
         labels,
         args,
         op,
         start: row.span.from,
         line: row.number,
+        deed,
     }
 }
 
@@ -141,7 +144,7 @@ pub fn read_line(alloc: Global, text: &[u8], row: Row) -> Result<Line36, Halt>
         return Err(Halt::Refused(refusal));
     }
     let Some(op) = head.op else {
-        return Ok(line_of(row, head, Args::new(alloc)));
+        return Ok(line_of(text, row, head, Args::new(alloc)));
     };
     let Some(operation) = operation_of(bytes_of(text, op)) else {
         return Err(Halt::Refused(told(text, op.from, Code::E3)));
@@ -151,7 +154,7 @@ pub fn read_line(alloc: Global, text: &[u8], row: Row) -> Result<Line36, Halt>
         to: row.span.to,
     };
     match args_of(alloc, operation, text, op.from, rest) {
-        Ok(args) => Ok(line_of(row, head, args)),
+        Ok(args) => Ok(line_of(text, row, head, args)),
         Err(Halt::Refused(refusal)) => Err(Halt::Refused(refusal)),
         Err(Halt::NoMemory) => Err(Halt::NoMemory),
     }

@@ -1,8 +1,10 @@
--- What a shift gives: its number with zero and negative, and for a left shift the carry. Overflow is off, and so is the carry of
--- every other shift. Multics Processor Manual AL39, "Fixed-point data movement shift instructions".
+-- What a shift gives: its number with zero and negative, and for a left shift the carry. Overflow
+-- is off, and so is the carry of every other shift. Multics Processor Manual AL39, "Fixed-point
+-- data movement shift instructions".
 use Rattle.std.specs.Prelude.{ℕ, ◌-◌, ◌^◌, Bool, false, ◌==◌}
 use Rattle.m36_model.specs.Arithmetic.{SumFields, is_negative}
-use Rattle.m36_model.specs.Shifts.{left_shift, left_shift_carry, copying_right_shift, plain_right_shift, rotation}
+use Rattle.m36_model.specs.Shifts.{left_shift, left_shift_carry, copying_right_shift}
+use Rattle.m36_model.specs.Shifts.{plain_right_shift, rotation}
 use Rattle.m36_arith.specs.declared.shifts.Shift.{Shift}
 use Rattle.m36_arith.specs.declared.shifts.Shift.TheVariants as shift
 

@@ -1,7 +1,8 @@
 //! Shifts of numbers of 72 bits.
 
 ghost use Rattle.std.specs.Prelude.{◌≡◌, ◌-◌, ◌/◌, ◌^◌, ◌<◌, ◌≤◌, ◌==◌, ◌&&◌, not};
-ghost use Rattle.m36_model.specs.Shifts.{left_shift, left_shift_carry, copying_right_shift, plain_right_shift, rotation};
+ghost use Rattle.m36_model.specs.Shifts.{left_shift, left_shift_carry, copying_right_shift};
+ghost use Rattle.m36_model.specs.Shifts.{plain_right_shift, rotation};
 
 #[tactic(auto, unfolding(m36_model::specs::Shifts::left_shift))]
 pub fn left(v: u128, n: u32) -> u128

@@ -8,7 +8,10 @@ use Rattle.m36_desc.specs.Access.{in_order}
 use Rattle.m36_model.specs.Place.{in_bounds, core_sdw}
 use Rattle.m36_model.specs.Audit.{Finds, IsOutOfOrder, IsCallable, IsNoGate, is_stack_of, HasNoStack}
 use Rattle.m36_model.specs.declared.outcome.Refusal.{Refusal}
+use Rattle.m36_audit.specs.Breaks.{Breaks}
 use Rattle.m36_audit.specs.Live.{Tells, disordered, callable, enterable, serves}
+use Rattle.m36_audit.specs.declared.breaking.Condition.{Condition}
+use Rattle.m36_audit.specs.declared.breaking.Condition.TheVariants.{Brackets, Gate, Stack}
 use Rattle.m36_audit.proofs.Bounds.{live_in_bounds}
 
 same_live : {E : Type 0} (r : Result SdwFields E) (d e : SdwFields) → r ≡ Ok d → r ≡ Ok e → e ≡ d
@@ -83,14 +86,11 @@ found_none Breaks dbr n m inside bounds enough below =
     let far : q < m = omega arith in
     below q far h
 
-pub disorder_inside : (core : List ℕ) (dbr : DbrFields) (q : ℕ) → IsOutOfOrder core dbr q → in_bounds dbr q ≡ true
-disorder_inside core dbr q k = live_in_bounds core dbr q k.sdw k.live
-
-pub no_gate_inside : (core : List ℕ) (dbr : DbrFields) (q : ℕ) → IsNoGate core dbr q → in_bounds dbr q ≡ true
-no_gate_inside core dbr q k = live_in_bounds core dbr q k.sdw k.callable.live
-
-pub no_stack_inside : (core : List ℕ) (dbr : DbrFields) (q : ℕ) → HasNoStack core dbr q → in_bounds dbr q ≡ true
-no_stack_inside core dbr q k = live_in_bounds core dbr q k.sdw k.callable.live
+-- what breaks a condition is in bounds
+pub broken_inside : (condition : Condition) (core : List ℕ) (dbr : DbrFields) (q : ℕ) → Breaks condition core dbr q → in_bounds dbr q ≡ true
+broken_inside Brackets core dbr q k = live_in_bounds core dbr q k.sdw k.live
+broken_inside Gate core dbr q k = live_in_bounds core dbr q k.sdw k.callable.live
+broken_inside Stack core dbr q k = live_in_bounds core dbr q k.sdw k.callable.live
 
 pub not_broken : (P : Type 0) (r : Bool) → Decides r P → r ≡ false → P → ⊥
 not_broken P r d h p = let k = d.1 p in cc

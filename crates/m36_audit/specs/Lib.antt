@@ -2,3 +2,4 @@ pub mod Live
 pub mod TableMarks
 pub mod Runs
 pub mod Findings
+pub mod Breaks

@@ -8,8 +8,7 @@ ghost use Rattle.m36_audit.specs.Findings.{pairs};
 ghost use Rattle.m36_audit.specs.TableMarks.{AreMarked};
 ghost use Rattle.m36_audit.specs.Runs.{run, AreCounted};
 
-use crate::brackets::out_of_order;
-use crate::gates::{no_gate, no_stack};
+use crate::breaking::{Condition, first_segment};
 use crate::run::RunCounts;
 use crate::segment_runs::count_segments;
 use crate::table_words::mark_tables;
@@ -25,16 +24,18 @@ use std::alloc::Global;
 
 /// The findings by the marks and the counts, one condition after another.
 fn found(marks: &TableMarks, counts: &RunCounts, core: &Core, dbr: Dbr) -> Verdict
-    requires marked { AreMarked (IsOf core.now dbr) (length core.now) marks.now.tables.items marks.now.least }
-    requires counted { AreCounted (run core.now dbr) (2 ^ 23) (length core.now) counts.now.starts.items counts.now.stops.items }
+    requires marked { AreMarked (IsOf core.now dbr) (length core.now) marks.now.tables.items
+        marks.now.least }
+    requires counted { AreCounted (run core.now dbr) (2 ^ 23) (length core.now)
+        counts.now.starts.items counts.now.stops.items }
     ensures { AreFindings core.now dbr (pairs result.findings.items) }
 {
-    let first = out_of_order(core, dbr);
+    let first = first_segment(Condition::Brackets, core, dbr);
     let second = marks.least;
     let third = on_table(marks, counts, core, dbr);
     let fourth = on_segment(counts, core, dbr);
-    let fifth = no_gate(core, dbr);
-    let sixth = no_stack(core, dbr);
+    let fifth = first_segment(Condition::Gate, core, dbr);
+    let sixth = first_segment(Condition::Stack, core, dbr);
     let mut findings = ArrayVec::new();
     note(&mut findings, 1, first);
     note(&mut findings, 2, second);
@@ -65,7 +66,8 @@ fn judged(marks: &mut TableMarks, counts: &mut RunCounts, core: &Core, dbr: Dbr)
 pub fn audit(alloc: Global, core: &Core, dbr: Dbr) -> Result<Verdict, NoMemory>
     ensures findings { IfOk result (λ v. AreFindings core.now dbr (pairs v.findings.items)) }
     ensures audited { IfOk result (λ v. (v.findings.items ≡ []) ↔ IsAudited core.now dbr) }
-    ensures isolated { IfOk result (λ v. v.findings.items ≡ [] → Isolated core_store (core_tables core.now dbr)) }
+    ensures isolated { IfOk result (λ v. v.findings.items ≡ []
+        → Isolated core_store (core_tables core.now dbr)) }
 {
     let size = core.len();
     let mut marks = TableMarks::new(alloc, size)?;

@@ -3,10 +3,10 @@
 
 ghost use Rattle.std.specs.Prelude.{ℕ, ◌≡◌, ◌<◌, ◌^◌};
 ghost use Rattle.std.specs.Bool.{Decides};
-ghost use Rattle.m36_model.specs.Audit.{Finds, IsNoGate, HasNoStack};
+ghost use Rattle.m36_model.specs.Audit.{IsNoGate, HasNoStack};
 ghost use Rattle.m36_audit.specs.Live.{callable, enterable, serves};
 
-use crate::descriptor::{descriptor, segments};
+use crate::live::live;
 use m36_core::Core;
 use m36_desc::{Dbr, Sdw};
 
@@ -39,47 +39,23 @@ fn serves(ring: u8, found: Option<Sdw>) -> bool
 
 /// Whether a segment breaks the fifth condition.
 #[tactic(auto, using(crate::proofs::Segments::no_gate))]
-fn is_no_gate(core: &Core, dbr: Dbr, seg: u32) -> bool
+pub(crate) fn is_no_gate(core: &Core, dbr: Dbr, seg: u16) -> bool
     requires { seg < 2 ^ 15 }
     ensures { Decides result (IsNoGate core.now dbr seg) }
 {
-    enterable(descriptor(core, dbr, seg))
+    enterable(live(core, dbr, seg))
 }
 
 /// Whether a segment breaks the sixth condition.
-fn has_no_stack(core: &Core, dbr: Dbr, seg: u32) -> bool
+pub(crate) fn has_no_stack(core: &Core, dbr: Dbr, seg: u16) -> bool
     requires { seg < 2 ^ 15 }
     ensures { Decides result (HasNoStack core.now dbr seg) }
 {
-    match descriptor(core, dbr, seg) {
+    match live(core, dbr, seg) {
         Some(sdw) => {
-            let stack = 8 * dbr.stack as u32 + sdw.r2 as u32;
-            callable(&sdw) && !serves(sdw.r2, descriptor(core, dbr, stack))
+            let stack = 8 * dbr.stack + sdw.r2 as u16;
+            callable(&sdw) && !serves(sdw.r2, live(core, dbr, stack))
         }
         None => false,
     }
-}
-
-/// The first live segment that outer rings may call and that is no gate.
-pub(crate) fn no_gate(core: &Core, dbr: Dbr) -> Option<u32>
-    ensures { Finds (IsNoGate core.now dbr) result }
-{
-    for seg in 0..segments(dbr) {
-        if is_no_gate(core, dbr, seg) {
-            return Some(seg);
-        }
-    }
-    None
-}
-
-/// The first live segment that outer rings may call, where the ring that a call enters has no stack.
-pub(crate) fn no_stack(core: &Core, dbr: Dbr) -> Option<u32>
-    ensures { Finds (HasNoStack core.now dbr) result }
-{
-    for seg in 0..segments(dbr) {
-        if has_no_stack(core, dbr, seg) {
-            return Some(seg);
-        }
-    }
-    None
 }

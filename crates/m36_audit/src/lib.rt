@@ -28,8 +28,9 @@
 
 pub mod auditor;
 mod brackets;
-mod descriptor;
+mod breaking;
 mod gates;
+mod live;
 mod run;
 mod segment_runs;
 mod table_words;

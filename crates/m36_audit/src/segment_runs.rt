@@ -5,11 +5,11 @@ ghost use Rattle.m36_desc.specs.Access.{in_order};
 ghost use Rattle.m36_model.specs.Place.{core_sdw};
 ghost use Rattle.m36_audit.specs.Runs.{whole_run, page_run, run, AreCounted};
 
-use crate::brackets::in_order;
-use crate::descriptor::{descriptor, in_frame, page_at, ptw_at, segments};
+use crate::live::live;
 use crate::run::{Run, RunCounts};
 use m36_core::Core;
 use m36_desc::{Dbr, Sdw};
+use m36_tables::{in_order, page_frame, segment_count};
 
 /// Addresses have 24 bits.
 const ADDRESSES: u32 = 1 << 24;
@@ -30,12 +30,12 @@ fn page_run(core: &Core, sdw: &Sdw, page: u32) -> Option<Run>
     ensures { result ≡ page_run core.now sdw.now page }
 {
     let count = words(sdw) - PAGE * page;
-    match in_frame(ptw_at(core, page_at(sdw, page)), 0) {
-        Some(first) => Some(Run {
+    match page_frame(core, sdw, page) {
+        Ok(first) => Some(Run {
             first,
             end: first + count.min(PAGE),
         }),
-        None => None,
+        Err(_) => None,
     }
 }
 
@@ -60,28 +60,32 @@ fn second_run(sdw: &Sdw) -> Run
 }
 
 /// Counts the two runs of an unpaged segment.
-fn count_whole(counts: &mut RunCounts, core: &Core, dbr: Dbr, seg: u32, sdw: &Sdw)
+fn count_whole(counts: &mut RunCounts, core: &Core, dbr: Dbr, seg: u16, sdw: &Sdw)
     requires seg { seg < 2 ^ 15 }
     requires live { core_sdw core.now dbr seg ≡ Ok sdw.now }
     requires order { in_order sdw.now ≡ true }
     requires whole { sdw.now.unpaged ≡ true }
-    requires before { AreCounted (run core.now dbr) (256 * seg) (length core.now) counts.old.starts.items counts.old.stops.items }
-    ensures { AreCounted (run core.now dbr) (256 * (seg + 1)) (length core.now) counts.new.starts.items counts.new.stops.items }
+    requires before { AreCounted (run core.now dbr) (256 * seg) (length core.now)
+        counts.old.starts.items counts.old.stops.items }
+    ensures { AreCounted (run core.now dbr) (256 * (seg + 1)) (length core.now)
+        counts.new.starts.items counts.new.stops.items }
 {
     counts.add(first_run(sdw));
     counts.add(second_run(sdw));
 }
 
 /// Counts the run of one page, where the page is in core.
-fn count_page(counts: &mut RunCounts, core: &Core, dbr: Dbr, seg: u32, sdw: &Sdw, page: u32)
+fn count_page(counts: &mut RunCounts, core: &Core, dbr: Dbr, seg: u16, sdw: &Sdw, page: u32)
     requires seg { seg < 2 ^ 15 }
     requires live { core_sdw core.now dbr seg ≡ Ok sdw.now }
     requires order { in_order sdw.now ≡ true }
     requires paged { sdw.now.unpaged ≡ false }
     requires page { page ≤ sdw.now.bound / 64 }
     requires few { page < 256 }
-    requires before { AreCounted (run core.now dbr) (256 * seg + page) (length core.now) counts.old.starts.items counts.old.stops.items }
-    ensures { AreCounted (run core.now dbr) (256 * seg + page + 1) (length core.now) counts.new.starts.items counts.new.stops.items }
+    requires before { AreCounted (run core.now dbr) (256 * seg + page) (length core.now)
+        counts.old.starts.items counts.old.stops.items }
+    ensures { AreCounted (run core.now dbr) (256 * seg + page + 1) (length core.now)
+        counts.new.starts.items counts.new.stops.items }
 {
     match page_run(core, sdw, page) {
         Some(run) => counts.add(run),
@@ -90,13 +94,15 @@ fn count_page(counts: &mut RunCounts, core: &Core, dbr: Dbr, seg: u32, sdw: &Sdw
 }
 
 /// Counts the runs of a paged segment.
-fn count_pages(counts: &mut RunCounts, core: &Core, dbr: Dbr, seg: u32, sdw: &Sdw)
+fn count_pages(counts: &mut RunCounts, core: &Core, dbr: Dbr, seg: u16, sdw: &Sdw)
     requires seg { seg < 2 ^ 15 }
     requires live { core_sdw core.now dbr seg ≡ Ok sdw.now }
     requires order { in_order sdw.now ≡ true }
     requires paged { sdw.now.unpaged ≡ false }
-    requires before { AreCounted (run core.now dbr) (256 * seg) (length core.now) counts.old.starts.items counts.old.stops.items }
-    ensures { AreCounted (run core.now dbr) (256 * (seg + 1)) (length core.now) counts.new.starts.items counts.new.stops.items }
+    requires before { AreCounted (run core.now dbr) (256 * seg) (length core.now)
+        counts.old.starts.items counts.old.stops.items }
+    ensures { AreCounted (run core.now dbr) (256 * (seg + 1)) (length core.now)
+        counts.new.starts.items counts.new.stops.items }
 {
     let pages = sdw.bound as u32 / 64 + 1;
     for page in 0..pages {
@@ -105,12 +111,14 @@ fn count_pages(counts: &mut RunCounts, core: &Core, dbr: Dbr, seg: u32, sdw: &Sd
 }
 
 /// Counts the runs of a segment, if it is live and its brackets are in order.
-fn count_segment(counts: &mut RunCounts, core: &Core, dbr: Dbr, seg: u32)
+fn count_segment(counts: &mut RunCounts, core: &Core, dbr: Dbr, seg: u16)
     requires seg { seg < 2 ^ 15 }
-    requires before { AreCounted (run core.now dbr) (256 * seg) (length core.now) counts.old.starts.items counts.old.stops.items }
-    ensures { AreCounted (run core.now dbr) (256 * (seg + 1)) (length core.now) counts.new.starts.items counts.new.stops.items }
+    requires before { AreCounted (run core.now dbr) (256 * seg) (length core.now)
+        counts.old.starts.items counts.old.stops.items }
+    ensures { AreCounted (run core.now dbr) (256 * (seg + 1)) (length core.now)
+        counts.new.starts.items counts.new.stops.items }
 {
-    match descriptor(core, dbr, seg) {
+    match live(core, dbr, seg) {
         Some(sdw) => {
             if in_order(&sdw) {
                 if sdw.unpaged {
@@ -126,10 +134,12 @@ fn count_segment(counts: &mut RunCounts, core: &Core, dbr: Dbr, seg: u32)
 
 /// Counts the runs of all segments. None is counted before.
 pub(crate) fn count_segments(counts: &mut RunCounts, core: &Core, dbr: Dbr)
-    requires before { AreCounted (run core.now dbr) 0 (length core.now) counts.old.starts.items counts.old.stops.items }
-    ensures { AreCounted (run core.now dbr) (2 ^ 23) (length core.now) counts.new.starts.items counts.new.stops.items }
+    requires before { AreCounted (run core.now dbr) 0 (length core.now) counts.old.starts.items
+        counts.old.stops.items }
+    ensures { AreCounted (run core.now dbr) (2 ^ 23) (length core.now) counts.new.starts.items
+        counts.new.stops.items }
 {
-    for seg in 0..segments(dbr) {
+    for seg in 0..segment_count(dbr) {
         count_segment(counts, core, dbr, seg);
     }
 }

@@ -6,32 +6,37 @@ ghost use Rattle.m36_model.specs.Audit.{IsOf};
 ghost use Rattle.m36_model.specs.Place.{core_sdw, page_at, in_bounds};
 ghost use Rattle.m36_audit.specs.TableMarks.{AreMarked, SoFar};
 
-use crate::descriptor::{descriptor, directory_at, page_at, sdw_place, segments, wrapped};
+use crate::live::live;
 use crate::tables::{DIRECTORY, PAGES, SDWS, TableMarks};
 use m36_core::Core;
 use m36_desc::{Dbr, Sdw};
+use m36_tables::{descriptor_place, directory_at, page_at, segment_count, wrapped};
 
 /// Marks the two words of a segment's descriptor.
-fn mark_descriptor(marks: &mut TableMarks, core: &Core, dbr: Dbr, seg: u32)
+fn mark_descriptor(marks: &mut TableMarks, core: &Core, dbr: Dbr, seg: u16)
     requires seg { seg < 2 ^ 15 }
-    requires before { AreMarked (SoFar core.now dbr seg seg (256 * seg)) (length core.now) marks.old.tables.items marks.old.least }
-    ensures { AreMarked (SoFar core.now dbr (seg + 1) seg (256 * seg)) (length core.now) marks.new.tables.items marks.new.least }
+    requires before { AreMarked (SoFar core.now dbr seg seg (256 * seg)) (length core.now)
+        marks.old.tables.items marks.old.least }
+    ensures { AreMarked (SoFar core.now dbr (seg + 1) seg (256 * seg)) (length core.now)
+        marks.new.tables.items marks.new.least }
 {
-    match sdw_place(core, dbr, seg) {
-        Some(even) => {
+    match descriptor_place(core, dbr, seg) {
+        Ok(even) => {
             marks.mark(SDWS, even);
             marks.mark(SDWS, wrapped(even + 1));
         }
-        None => {}
+        Err(_) => {}
     }
 }
 
 /// Marks the word of the descriptor segment's page table by which a segment's descriptor is found.
-fn mark_directory(marks: &mut TableMarks, core: &Core, dbr: Dbr, seg: u32)
+fn mark_directory(marks: &mut TableMarks, core: &Core, dbr: Dbr, seg: u16)
     requires seg { seg < 2 ^ 15 }
     requires bounds { in_bounds dbr seg ≡ true }
-    requires before { AreMarked (SoFar core.now dbr (seg + 1) seg (256 * seg)) (length core.now) marks.old.tables.items marks.old.least }
-    ensures { AreMarked (SoFar core.now dbr (seg + 1) (seg + 1) (256 * seg)) (length core.now) marks.new.tables.items marks.new.least }
+    requires before { AreMarked (SoFar core.now dbr (seg + 1) seg (256 * seg)) (length core.now)
+        marks.old.tables.items marks.old.least }
+    ensures { AreMarked (SoFar core.now dbr (seg + 1) (seg + 1) (256 * seg)) (length core.now)
+        marks.new.tables.items marks.new.least }
 {
     if !dbr.unpaged {
         marks.mark(DIRECTORY, directory_at(dbr, seg));
@@ -39,26 +44,30 @@ fn mark_directory(marks: &mut TableMarks, core: &Core, dbr: Dbr, seg: u32)
 }
 
 /// Marks the words of the page table of a live paged segment.
-fn mark_page_table(marks: &mut TableMarks, core: &Core, dbr: Dbr, seg: u32, sdw: &Sdw)
+fn mark_page_table(marks: &mut TableMarks, core: &Core, dbr: Dbr, seg: u16, sdw: &Sdw)
     requires seg { seg < 2 ^ 15 }
     requires live { core_sdw core.now dbr seg ≡ Ok sdw.now }
     requires paged { sdw.now.unpaged ≡ false }
-    requires before { AreMarked (SoFar core.now dbr (seg + 1) (seg + 1) (256 * seg)) (length core.now) marks.old.tables.items marks.old.least }
-    ensures { AreMarked (SoFar core.now dbr (seg + 1) (seg + 1) (256 * (seg + 1))) (length core.now) marks.new.tables.items marks.new.least }
+    requires before { AreMarked (SoFar core.now dbr (seg + 1) (seg + 1) (256 * seg))
+        (length core.now) marks.old.tables.items marks.old.least }
+    ensures { AreMarked (SoFar core.now dbr (seg + 1) (seg + 1) (256 * (seg + 1))) (length core.now)
+        marks.new.tables.items marks.new.least }
 {
     let pages = sdw.bound as u32 / 64 + 1;
     for page in 0..pages {
-        marks.mark(seg as u16 + PAGES, page_at(sdw, page));
+        marks.mark(seg + PAGES, page_at(sdw, page));
     }
 }
 
 /// Marks the words of a segment's page table, if it has one.
-fn mark_pages(marks: &mut TableMarks, core: &Core, dbr: Dbr, seg: u32)
+fn mark_pages(marks: &mut TableMarks, core: &Core, dbr: Dbr, seg: u16)
     requires seg { seg < 2 ^ 15 }
-    requires before { AreMarked (SoFar core.now dbr (seg + 1) (seg + 1) (256 * seg)) (length core.now) marks.old.tables.items marks.old.least }
-    ensures { AreMarked (SoFar core.now dbr (seg + 1) (seg + 1) (256 * (seg + 1))) (length core.now) marks.new.tables.items marks.new.least }
+    requires before { AreMarked (SoFar core.now dbr (seg + 1) (seg + 1) (256 * seg))
+        (length core.now) marks.old.tables.items marks.old.least }
+    ensures { AreMarked (SoFar core.now dbr (seg + 1) (seg + 1) (256 * (seg + 1))) (length core.now)
+        marks.new.tables.items marks.new.least }
 {
-    match descriptor(core, dbr, seg) {
+    match live(core, dbr, seg) {
         Some(sdw) => {
             if !sdw.unpaged {
                 mark_page_table(marks, core, dbr, seg, &sdw);
@@ -70,10 +79,12 @@ fn mark_pages(marks: &mut TableMarks, core: &Core, dbr: Dbr, seg: u32)
 
 /// Marks every table word. No word has a mark before.
 pub(crate) fn mark_tables(marks: &mut TableMarks, core: &Core, dbr: Dbr)
-    requires before { AreMarked (SoFar core.now dbr 0 0 0) (length core.now) marks.old.tables.items marks.old.least }
-    ensures { AreMarked (IsOf core.now dbr) (length core.now) marks.new.tables.items marks.new.least }
+    requires before { AreMarked (SoFar core.now dbr 0 0 0) (length core.now) marks.old.tables.items
+        marks.old.least }
+    ensures { AreMarked (IsOf core.now dbr) (length core.now) marks.new.tables.items
+        marks.new.least }
 {
-    for seg in 0..segments(dbr) {
+    for seg in 0..segment_count(dbr) {
         mark_descriptor(marks, core, dbr, seg);
         mark_directory(marks, core, dbr, seg);
         mark_pages(marks, core, dbr, seg);

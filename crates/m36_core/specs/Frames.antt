@@ -1,5 +1,5 @@
 -- Core in frames.
-use Rattle.std.specs.Prelude.{ℕ, ◌+◌, ◌*◌, ◌%◌, ◌≡◌, ◌≤◌, ◌^◌, List, ◌++◌, length, take, drop, slice_range}
+use Rattle.std.specs.Prelude.{ℕ, ◌+◌, ◌*◌, ◌%◌, ◌≡◌, ◌<◌, ◌≤◌, ◌^◌, List, ◌++◌, length, take, drop, slice_index, slice_range}
 
 -- Core has whole frames of 1,024 words, and no more words than an address of 24 bits can name.
 pub record IsCore (core : List ℕ) : Type 0 where
@@ -10,6 +10,25 @@ pub record IsCore (core : List ℕ) : Type 0 where
 abbrev pub frame_words : List ℕ → ℕ → List ℕ
 frame_words core f = slice_range core (1024 * f) (1024 * f + 1024)
 
+-- a list with words written over as many of its own, from a place on; it keeps its length
+abbrev pub written_over : List ℕ → ℕ → List ℕ → List ℕ
+written_over core first words =
+    let all = take first core ++ (words ++ drop (length words) (drop first core)) in
+    take (length core) (all ++ drop (length all) core)
+
 -- core with other words in a frame
 abbrev pub with_frame : List ℕ → ℕ → List ℕ → List ℕ
-with_frame core f words = take (1024 * f) core ++ (words ++ drop (1024 * f + 1024) core)
+with_frame core f words = written_over core (1024 * f) words
+
+-- the words of a frame are others, and each other word is as it was
+pub record IsFrameWritten (core words new : List ℕ) (f : ℕ) : Type 0 where
+  pub size : length new ≡ length core
+  pub inside : (k : ℕ) → k < 1024 → slice_index new (1024 * f + k) ≡ slice_index words k
+  pub before : (a : ℕ) → a < 1024 * f → slice_index new a ≡ slice_index core a
+  pub behind : (a : ℕ) → 1024 * f + 1024 ≤ a → slice_index new a ≡ slice_index core a
+
+-- Other words in a frame are as many words: that is all that changes.
+abbrev pub FrameLaw : Type 0
+FrameLaw =
+    (core words : List ℕ) (f : ℕ) → 1024 * f + 1024 ≤ length core → length words ≡ 1024
+    → IsFrameWritten core words (with_frame core f words) f

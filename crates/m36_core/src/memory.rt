@@ -1,6 +1,7 @@
 //! Core memory.
 
 ghost use Rattle.std.specs.Prelude.{ℕ, List, ◌≡◌, ◌+◌, ◌*◌, ◌%◌, ◌<◌, ◌≤◌, ◌^◌, IfOk, length, replicate, slice_index, slice_set};
+ghost use Rattle.std.specs.Borrow.{sem};
 ghost use Rattle.m36_core.specs.Frames.{frame_words};
 
 use m36_word::{NoMemory, Word};
@@ -28,6 +29,8 @@ impl Model for Core {
 }
 
 impl Core {
+    ghost use Rattle.m36_core.specs.Lending.{LendsFrame};
+
     /// Core of so many frames, with every word zero. The error is want of memory alone.
     pub fn new(alloc: Global, frames: u32) -> Result<Core, NoMemory>
         requires some { 1 ≤ frames }
@@ -81,6 +84,25 @@ impl Core {
         let first = f as usize * FRAME;
         &self.words[first..first + FRAME]
     }
+
+    /// The words of frame `f`, to be written. No other word changes.
+    pub fn page_mut(&mut self, f: u32) -> &mut [Word]
+        requires { 1024 * f < length self.old }
+        ensures* lends { sem 𝓛 (LendsFrame self.entry f result) }
+        ensures words { result.now ≡ frame_words self.old f }
+        ensures len { length result.now ≡ 1024 }
+    {
+        let first = f as usize * FRAME;
+        self.words.slice_mut(first..first + FRAME)
+    }
+
+    /// A second core with the same words. The error is want of memory alone.
+    pub fn copy(&self, alloc: Global) -> Result<Core, NoMemory>
+        ensures { IfOk result (λ core. core ≡ self.now) }
+    {
+        let words = self.words.as_slice().to_vec(alloc)?;
+        Ok(Core { words })
+    }
 }
 
 #[cfg(test)]
@@ -96,6 +118,10 @@ mod tests {
         assert!(rt; core.peek(1025) == Word::low(0o777777777777));
         assert!(rt; core.page(1)[1] == Word::low(0o777777777777));
         assert!(rt; core.page(0).len() == 1024);
+        let before = core.copy(rt.alloc())?;
+        core.page_mut(1)[1] = Word::ZERO;
+        assert!(rt; core.peek(1025) == Word::ZERO);
+        assert!(rt; before.words()[1025] == Word::low(0o777777777777));
         Ok(())
     }
 }

@@ -1,7 +1,7 @@
--- Descriptors in their words: each is a record of fields of its words, and its words are the sums of its fields, each at
--- its place. Every bit that has no name is zero in the words that are made.
--- Multics Processor Manual AL39, "Segment descriptor word", "Page table word", "Descriptor segment base register",
--- "Indirect word formats" and "Pointer registers".
+-- Descriptors in their words: each is a record of fields of its words, and its words are the sums
+-- of its fields, each at its place. Every bit that has no name is zero in the words that are made.
+-- Multics Processor Manual AL39, "Segment descriptor word", "Page table word", "Descriptor segment
+-- base register", "Indirect word formats" and "Pointer registers".
 use Rattle.std.specs.Prelude.{ℕ, ◌+◌, ◌-◌, ◌*◌, ◌^◌, ◌==◌, if◌then◌else◌}
 use Rattle.m36_word.specs.Field.{field}
 use Rattle.m36_word.specs.Bits.{is_on, of_bit}
@@ -30,24 +30,39 @@ sdw_of even odd =
     }
 
 abbrev pub sdw_even : SdwFields → ℕ
-sdw_even s = s.addr * 2 ^ 12 + s.r1 * 2 ^ 9 + s.r2 * 2 ^ 6 + s.r3 * 2 ^ 3 + of_bit s.f * 2 ^ 2 + s.fc
+sdw_even s =
+    s.addr * 2 ^ 12 + s.r1 * 2 ^ 9 + s.r2 * 2 ^ 6 + s.r3 * 2 ^ 3 + of_bit s.f * 2 ^ 2 + s.fc
 
 abbrev pub sdw_odd : SdwFields → ℕ
 sdw_odd s =
-    s.bound * 2 ^ 21 + of_bit s.readable * 2 ^ 20 + of_bit s.executable * 2 ^ 19 + of_bit s.writable * 2 ^ 18 + of_bit s.privileged * 2 ^ 17 + of_bit s.unpaged * 2 ^ 16 + of_bit s.no_gate * 2 ^ 15 + of_bit s.cached * 2 ^ 14 + s.limit
+    s.bound * 2 ^ 21 + of_bit s.readable * 2 ^ 20 + of_bit s.executable * 2 ^ 19
+    + of_bit s.writable * 2 ^ 18 + of_bit s.privileged * 2 ^ 17 + of_bit s.unpaged * 2 ^ 16
+    + of_bit s.no_gate * 2 ^ 15 + of_bit s.cached * 2 ^ 14 + s.limit
 
 -- Page table word: ADDR 0-17, used 26, modified 29, F 33, FC 34-35.
 abbrev pub ptw_of : ℕ → PtwFields
 ptw_of w =
-    record { addr = field w 0 18; used = is_on w 26; modified = is_on w 29; f = is_on w 33; fc = field w 34 2 }
+    record {
+      addr = field w 0 18;
+      used = is_on w 26;
+      modified = is_on w 29;
+      f = is_on w 33;
+      fc = field w 34 2;
+    }
 
 abbrev pub ptw_word : PtwFields → ℕ
-ptw_word p = p.addr * 2 ^ 18 + of_bit p.used * 2 ^ 9 + of_bit p.modified * 2 ^ 6 + of_bit p.f * 2 ^ 2 + p.fc
+ptw_word p =
+    p.addr * 2 ^ 18 + of_bit p.used * 2 ^ 9 + of_bit p.modified * 2 ^ 6 + of_bit p.f * 2 ^ 2 + p.fc
 
 -- Descriptor segment base register. Even word: ADDR 0-23. Odd word: BND 1-14, U 19, STACK 24-35.
 abbrev pub dbr_of : ℕ → ℕ → DbrFields
 dbr_of even odd =
-    record { addr = field even 0 24; bnd = field odd 1 14; unpaged = is_on odd 19; stack = field odd 24 12 }
+    record {
+      addr = field even 0 24;
+      bnd = field odd 1 14;
+      unpaged = is_on odd 19;
+      stack = field odd 24 12;
+    }
 
 abbrev pub dbr_even : DbrFields → ℕ
 dbr_even d = d.addr * 2 ^ 12
@@ -76,12 +91,19 @@ its_even p = p.seg * 2 ^ 18 + p.ring * 2 ^ 15 + its_tag
 abbrev pub its_odd : ItsFields → ℕ
 its_odd p = p.word * 2 ^ 18 + p.bit * 2 ^ 9 + p.tag
 
--- Indirect through a pointer register. Even word: PRNUM 0-2, tag 41 octal in 30-35. Odd word as of ITS.
+-- Indirect through a pointer register. Even word: PRNUM 0-2, tag 41 octal in 30-35. Odd word as of
+-- ITS.
 abbrev pub itp_tag : ℕ
 itp_tag = 0o41
 
 abbrev pub itp_of : ℕ → ℕ → ItpFields
-itp_of even odd = record { pr = field even 0 3; word = field odd 0 18; bit = field odd 21 6; tag = field odd 30 6 }
+itp_of even odd =
+    record {
+      pr = field even 0 3;
+      word = field odd 0 18;
+      bit = field odd 21 6;
+      tag = field odd 30 6;
+    }
 
 abbrev pub itp_even : ItpFields → ℕ
 itp_even p = p.pr * 2 ^ 33 + itp_tag
@@ -92,7 +114,12 @@ itp_odd p = p.word * 2 ^ 18 + p.bit * 2 ^ 9 + p.tag
 -- Pointer register: its pair is the ITS pair of its fields with tag 0 in the odd word.
 abbrev pub ptr_of : ℕ → ℕ → PtrFields
 ptr_of even odd =
-    record { seg = field even 3 15; ring = field even 18 3; word = field odd 0 18; bit = field odd 21 6 }
+    record {
+      seg = field even 3 15;
+      ring = field even 18 3;
+      word = field odd 0 18;
+      bit = field odd 21 6;
+    }
 
 abbrev pub its_of_ptr : PtrFields → ItsFields
 its_of_ptr p = record { seg = p.seg; ring = p.ring; word = p.word; bit = p.bit; tag = 0 }
@@ -103,12 +130,17 @@ ptr_even p = its_even (its_of_ptr p)
 abbrev pub ptr_odd : PtrFields → ℕ
 ptr_odd p = its_odd (its_of_ptr p)
 
--- Packed pointer: BITNO 0-5, SEGNO 6-17, WORDNO 18-35. Of the segment number it has 12 bits: the three before them are
--- ones where all of these are ones, and else zeros.
+-- Packed pointer: BITNO 0-5, SEGNO 6-17, WORDNO 18-35. Of the segment number it has 12 bits: the
+-- three before them are ones where all of these are ones, and else zeros.
 abbrev pub unpacked_segment : ℕ → ℕ
 unpacked_segment seg = if seg == 2 ^ 12 - 1 then 2 ^ 15 - 1 else seg
 
 -- the pointer that a packed pointer means in a ring
 abbrev pub packed_of : ℕ → ℕ → PtrFields
 packed_of w ring =
-    record { seg = unpacked_segment (field w 6 12); ring = ring; word = field w 18 18; bit = field w 0 6 }
+    record {
+      seg = unpacked_segment (field w 6 12);
+      ring = ring;
+      word = field w 18 18;
+      bit = field w 0 6;
+    }

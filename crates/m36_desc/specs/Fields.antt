@@ -1,5 +1,5 @@
--- What contracts see of a descriptor: its fields, as numbers and tests. Each number is below 2 to the power of its
--- width, which the types keep.
+-- What contracts see of a descriptor: its fields, as numbers and tests. Each number is below 2 to
+-- the power of its width, which the types keep.
 use Rattle.std.specs.Prelude.{ℕ, Bool}
 
 -- a segment descriptor word

@@ -1,7 +1,9 @@
 -- The widths of a descriptor's fields.
 use Rattle.std.specs.Prelude.{ℕ, ◌^◌, ◌<◌}
 use Rattle.m36_desc.specs.Fields.{SdwFields, PtwFields, DbrFields, PtrFields, ItsFields, ItpFields}
-use Rattle.m36_desc.specs.Descriptors.{sdw_of, sdw_even, sdw_odd, ptw_of, ptw_word, dbr_of, dbr_even, dbr_odd, ptr_of, ptr_even, ptr_odd, its_of, its_even, its_odd, itp_of, itp_even, itp_odd, packed_of}
+use Rattle.m36_desc.specs.Descriptors.{sdw_of, sdw_even, sdw_odd, ptw_of, ptw_word, dbr_of}
+use Rattle.m36_desc.specs.Descriptors.{dbr_even, dbr_odd, ptr_of, ptr_even, ptr_odd, its_of}
+use Rattle.m36_desc.specs.Descriptors.{its_even, its_odd, itp_of, itp_even, itp_odd, packed_of}
 
 pub record IsSdw (s : SdwFields) : Type 0 where
   pub addr : s.addr < 2 ^ 24

@@ -1,7 +1,8 @@
 //! The rights that a segment descriptor gives to a reference.
 
 ghost use Rattle.std.specs.Prelude.{◌≡◌, ◌<◌, ◌^◌, IfOk, not, [], ◌∷◌};
-ghost use Rattle.m36_desc.specs.Access.{first_of, allowed, read_rows, write_rows, fetch_rows, transfer_rows, call_rows, ring_called, in_order};
+ghost use Rattle.m36_desc.specs.Access.{first_of, allowed, read_rows, write_rows, fetch_rows};
+ghost use Rattle.m36_desc.specs.Access.{transfer_rows, call_rows, ring_called, in_order};
 
 use crate::sdw::Sdw;
 
@@ -65,7 +66,8 @@ pub fn may_transfer(s: &Sdw, trr: u8, prr: u8) -> Result<(), Acv>
 /// The ring in which a call to a word goes on, where it is allowed in ring `trr` from ring `prr`. `same` says that
 /// the segment is the one that executes.
 pub fn call_ring(s: &Sdw, trr: u8, prr: u8, same: bool, word: u32) -> Result<u8, Acv>
-    ensures answer { result ≡ allowed (ring_called s.now trr) (first_of (call_rows s.now trr prr same word)) }
+    ensures answer { result
+        ≡ allowed (ring_called s.now trr) (first_of (call_rows s.now trr prr same word)) }
     ensures ring { IfOk result (λ ring. ring < 2 ^ 3) }
 {
     brackets_in_order(s)?;

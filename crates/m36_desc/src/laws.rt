@@ -1,7 +1,10 @@
 //! What holds of all descriptors, as the contracts of functions that do nothing.
 
-ghost use Rattle.m36_desc.specs.RoundTrips.{SdwComesBack, PtwComesBack, DbrComesBack, PtrComesBack, ItsComesBack, ItpComesBack};
-ghost use Rattle.m36_desc.specs.Widths.{SdwFits, PtwFits, DbrFits, PtrFits, ItsFits, ItpFits, PackedFits, SdwWords, PtwWords, DbrWords, PtrWords, ItsWords, ItpWords};
+ghost use Rattle.m36_desc.specs.RoundTrips.{SdwComesBack, PtwComesBack, DbrComesBack, PtrComesBack};
+ghost use Rattle.m36_desc.specs.RoundTrips.{ItsComesBack, ItpComesBack};
+ghost use Rattle.m36_desc.specs.Widths.{SdwFits, PtwFits, DbrFits, PtrFits, ItsFits, ItpFits};
+ghost use Rattle.m36_desc.specs.Widths.{PackedFits, SdwWords, PtwWords, DbrWords, PtrWords};
+ghost use Rattle.m36_desc.specs.Widths.{ItsWords, ItpWords};
 
 /// Each descriptor that is written to words is read back as it was, whatever its fields within their widths.
 #[tactic(auto, using(crate::proofs::RoundTrips::comes_back))]

@@ -19,13 +19,19 @@ abbrev pub formation : RegsFields → InstFields → Formation
 formation g i = chain indirect_words g (first_point g i)
 
 -- that program over core, in a step that has completed these references and claimed nothing
-abbrev pub formed_from : RegsFields → InstFields → List ℕ → List Reference → Ran (Result ChainEnd Halt) (List ℕ)
+abbrev pub formed_from :
+    RegsFields → InstFields → List ℕ → List Reference → Ran (Result ChainEnd Halt) (List ℕ)
 formed_from g i core refs = run core_store g (formation g i) (standing core [] refs)
 
--- how an answer of the code ends it: the address, the place of the tally word, if there is one, as the step's first claim, and
--- core and the references as they stand
-abbrev pub ended : List ℕ → List Reference → Result Formed Halt → Ran (Result ChainEnd Halt) (List ℕ)
-ended core refs (Ok f) = record { value = Ok (chain_end_fields f); mid = standing core (claimed_by f.tally f.place) refs }
+-- how an answer of the code ends it: the address, the place of the tally word, if there is one, as
+-- the step's first claim, and core and the references as they stand
+abbrev pub ended :
+    List ℕ → List Reference → Result Formed Halt → Ran (Result ChainEnd Halt) (List ℕ)
+ended core refs (Ok f) =
+    record {
+      value = Ok (chain_end_fields f);
+      mid = standing core (claimed_by f.tally f.place) refs;
+    }
 ended core refs (Err h) = record { value = Err h; mid = standing core [] refs }
 
 -- this is the last of the references

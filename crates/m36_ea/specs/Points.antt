@@ -1,5 +1,6 @@
 -- What the code finds at a point of a chain, as the definitions say it.
-use Rattle.std.specs.Prelude.{ℕ, ◌≡◌, ◌+◌, ◌%◌, ◌<◌, ◌^◌, IfSome, List, [], ◌∷◌, ◌++◌, Option, Result, Ok, Err}
+use Rattle.std.specs.Prelude.{ℕ, ◌≡◌, ◌+◌, ◌%◌, ◌<◌, ◌^◌, IfSome, List, [], ◌∷◌, ◌++◌, Option}
+use Rattle.std.specs.Prelude.{Result, Ok, Err}
 use Rattle.m36_desc.specs.Fields.{SdwFields}
 use Rattle.m36_model.specs.Fields.{FinalFields}
 use Rattle.m36_model.specs.Registers.{RegsFields}
@@ -7,7 +8,8 @@ use Rattle.m36_model.specs.Act.{Indirect, Odd, done}
 use Rattle.m36_model.specs.Store.{Served, Ran, serve, run}
 use Rattle.m36_model.specs.Core.{core_store}
 use Rattle.m36_model.specs.Modification.{Point, Move, Ends, Fails, Reads, Counts}
-use Rattle.m36_model.specs.Chain.{ChainEnd, Formation, Found, Plain, Its, Itp, at_point, indirect, chain_by, chain_end_fields, claimed_by}
+use Rattle.m36_model.specs.Chain.{ChainEnd, Formation, Found, Plain, Its, Itp, at_point, indirect}
+use Rattle.m36_model.specs.Chain.{chain_by, chain_end_fields, claimed_by}
 use Rattle.m36_model.specs.declared.effects.Formed.{Formed}
 use Rattle.m36_model.specs.declared.outcome.Fault.{Fault}
 use Rattle.m36_model.specs.declared.outcome.Halt.{Halt}
@@ -54,24 +56,35 @@ FollowsEven word format.Itp = word % 2 ≡ 0
 
 -- a completed reference to an indirect word, or to a pair
 abbrev pub indirect_reference : Point → ℕ → ℕ → Reference
-indirect_reference p word count = record { kind = reference.Indirect; at = at_point p word; count = count }
+indirect_reference p word count =
+    record { kind = reference.Indirect; at = at_point p word; count = count }
 
--- A reference to one word that is answered tells the word and completes the reference; one that is refused completes
--- nothing. The step has claimed nothing.
-abbrev pub told_word : SdwFields → List ℕ → List Reference → List Reference → Result ℕ Fault → Served (List ℕ)
+-- A reference to one word that is answered tells the word and completes the reference; one that is
+-- refused completes nothing. The step has claimed nothing.
+abbrev pub told_word :
+    SdwFields → List ℕ → List Reference → List Reference → Result ℕ Fault → Served (List ℕ)
 told_word d core answered refused (Ok w) =
-    record { reply = Ok (record { sdw = d; words = w ∷ []; first = 0; place = 0 }); mid = standing core [] answered }
+    record {
+      reply = Ok (record { sdw = d; words = w ∷ []; first = 0; place = 0 });
+      mid = standing core [] answered;
+    }
 told_word d core answered refused (Err f) = record { reply = Err f; mid = standing core [] refused }
 
 -- The word of a point at a word number, whatever was referenced before it.
 abbrev pub ServesIndirect : RegsFields → Point → ℕ → Memory → List ℕ → Result ℕ Fault → Type 0
 ServesIndirect g p word m core' result =
-    (refs : List Reference) → serve core_store g (standing m.core [] refs) (indirect Indirect p word) ≡ told_word (sdw_in m p.seg) core' (refs ++ indirect_reference p word 1 ∷ []) refs result
+    (refs : List Reference)
+    → serve core_store g (standing m.core [] refs) (indirect Indirect p word)
+    ≡ told_word (sdw_in m p.seg) core' (refs ++ indirect_reference p word 1 ∷ []) refs result
 
 -- The odd word of a pair, whose even word was referenced before it.
-abbrev pub ServesOdd : RegsFields → Point → ℕ → Memory → List Reference → List ℕ → List Reference → Result ℕ Fault → Type 0
+abbrev pub ServesOdd :
+    RegsFields → Point → ℕ → Memory → List Reference → List ℕ → List Reference → Result ℕ Fault
+    → Type 0
 ServesOdd g p word m refs core' refs' result =
-    serve core_store g (standing m.core [] (refs ++ indirect_reference p word 1 ∷ [])) (indirect Odd p (word + 1)) ≡ told_word (sdw_in m p.seg) core' refs' refs' result
+    serve core_store g (standing m.core [] (refs ++ indirect_reference p word 1 ∷ []))
+    (indirect Odd p (word + 1))
+    ≡ told_word (sdw_in m p.seg) core' refs' refs' result
 
 -- what goes on at the next point, or has ended by a fault
 abbrev pub goes_on : (Point → Formation) → Result Point Fault → Formation
@@ -79,15 +92,24 @@ goes_on next (Ok p) = next p
 goes_on next (Err f) = done (Err (halt.Fault f))
 
 -- Whatever follows, the chain that reads its indirect word here goes on so.
-abbrev pub Follows : RegsFields → Point → ℕ → Option ℕ → List ℕ → List Reference → List ℕ → List Reference → Result Point Fault → Type 0
+abbrev pub Follows :
+    RegsFields → Point → ℕ → Option ℕ → List ℕ → List Reference → List ℕ → List Reference
+    → Result Point Fault → Type 0
 Follows g p word held core refs core' refs' result =
-    (next : Point → Formation) → run core_store g (chain_by next g p (Reads word held)) (standing core [] refs) ≡ run core_store g (goes_on next result) (standing core' [] refs')
+    (next : Point → Formation)
+    → run core_store g (chain_by next g p (Reads word held)) (standing core [] refs)
+    ≡ run core_store g (goes_on next result) (standing core' [] refs')
 
 -- The chain that reads a tally word here ends so.
-abbrev pub counted_end : List ℕ → List Reference → Result Formed Fault → Ran (Result ChainEnd Halt) (List ℕ)
+abbrev pub counted_end :
+    List ℕ → List Reference → Result Formed Fault → Ran (Result ChainEnd Halt) (List ℕ)
 counted_end core refs (Ok f) = ended core refs (Ok f)
 counted_end core refs (Err f) = ended core refs (Err (halt.Fault f))
 
-abbrev pub CountsTally : RegsFields → Point → List ℕ → List Reference → List ℕ → List Reference → Result Formed Fault → Type 0
+abbrev pub CountsTally :
+    RegsFields → Point → List ℕ → List Reference → List ℕ → List Reference → Result Formed Fault
+    → Type 0
 CountsTally g p core refs core' refs' result =
-    (next : Point → Formation) → run core_store g (chain_by next g p Counts) (standing core [] refs) ≡ counted_end core' refs' result
+    (next : Point → Formation)
+    → run core_store g (chain_by next g p Counts) (standing core [] refs)
+    ≡ counted_end core' refs' result

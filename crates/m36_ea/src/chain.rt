@@ -33,8 +33,10 @@ fn lockup(tpr: &Tpr, word: u32) -> Halt
 pub fn effective(walk: &mut Walk, regs: &Regs, inst: &Inst, refs: &mut Refs) -> Result<Formed, Halt>
     requires dbr { walk.old.dbr ≡ regs.now.dbr }
     requires room { length refs.old.items ≤ 4 }
-    ensures forms { formed_from regs.now inst.now walk.old.core refs.old.items ≡ ended walk.new.core refs.new.items result }
-    ensures tally { IfOk result (λ f. TallyLies f.tally f.place (length walk.new.core) refs.new.items) }
+    ensures forms { formed_from regs.now inst.now walk.old.core refs.old.items
+        ≡ ended walk.new.core refs.new.items result }
+    ensures tally { IfOk result
+        (λ f. TallyLies f.tally f.place (length walk.new.core) refs.new.items) }
     ensures dbr { walk.new.dbr ≡ walk.old.dbr }
     ensures len { length walk.new.core ≡ length walk.old.core }
     ensures count { length refs.new.items ≤ length refs.old.items + 17 }
@@ -71,8 +73,10 @@ pub fn effective(walk: &mut Walk, regs: &Regs, inst: &Inst, refs: &mut Refs) -> 
 /// The tally word of an address, as the references of the operand are to see it.
 #[tactic(auto, unfolding(m36_model::specs::Store::changes))]
 pub fn pending(formed: &Formed) -> Option<Pending>
-    ensures value { result ≡ option_map (λ t. record { word = t.word; place = formed.now.place }) formed.now.tally }
-    ensures changes { changes (claimed_by formed.now.tally formed.now.place) (pending_of formed.now.tally) ≡ pending_changes result }
+    ensures value { result
+        ≡ option_map (λ t. record { word = t.word; place = formed.now.place }) formed.now.tally }
+    ensures changes { changes (claimed_by formed.now.tally formed.now.place)
+        (pending_of formed.now.tally) ≡ pending_changes result }
 {
     formed.tally.map(|tally| Pending {
         word: tally.word,

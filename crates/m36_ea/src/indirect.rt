@@ -1,10 +1,12 @@
 //! Indirect words: plain ones, pairs, and tally words.
 
-ghost use Rattle.std.specs.Prelude.{◌≡◌, ◌+◌, ◌<◌, ◌≤◌, ◌^◌, [], ◌∷◌, ◌++◌, None, IfOk, IfSome, length};
+ghost use Rattle.std.specs.Prelude.{◌≡◌, ◌+◌, ◌<◌, ◌≤◌, ◌^◌, [], ◌∷◌, ◌++◌, None, IfOk, IfSome};
+ghost use Rattle.std.specs.Prelude.{length};
 ghost use Rattle.m36_model.specs.Chain.{found};
 ghost use Rattle.m36_walk.specs.Served.{sdw_in, ok_map};
 ghost use Rattle.m36_ea.specs.Formed.{TallyLies};
-ghost use Rattle.m36_ea.specs.Points.{found_is, FollowsEven, ServesIndirect, ServesOdd, Follows, CountsTally};
+ghost use Rattle.m36_ea.specs.Points.{found_is, FollowsEven, ServesIndirect, ServesOdd, Follows};
+ghost use Rattle.m36_ea.specs.Points.{CountsTally};
 
 use crate::registers::procedure_segment;
 use crate::tallies::{INDIRECT_ONLY, address, tally};
@@ -44,7 +46,8 @@ fn format_of(word: u32, w: Word) -> Format
 /// Adds a completed reference.
 fn complete(refs: &mut Refs, kind: Kind, at: At, count: u8)
     requires { length refs.old.items < 40 }
-    ensures items { refs.new.items ≡ refs.old.items ++ record { kind = kind; at = at; count = count } ∷ [] }
+    ensures items { refs.new.items
+        ≡ refs.old.items ++ record { kind = kind; at = at; count = count } ∷ [] }
     ensures count { length refs.new.items ≡ length refs.old.items + 1 }
 {
     refs.push(Reference { at, kind, count });
@@ -54,7 +57,8 @@ fn complete(refs: &mut Refs, kind: Kind, at: At, count: u8)
 fn indirect_word(walk: &mut Walk, regs: &Regs, tpr: &Tpr, word: u32) -> Result<(Word, u8), Fault>
     requires dbr { walk.old.dbr ≡ regs.now.dbr }
     requires word { word < 2 ^ 18 }
-    ensures serves { ServesIndirect regs.now tpr.now word walk.old walk.new.core (ok_map (λ r. r.0) result) }
+    ensures serves { ServesIndirect regs.now tpr.now word walk.old walk.new.core
+        (ok_map (λ r. r.0) result) }
     ensures ring { IfOk result (λ r. r.1 ≡ (sdw_in walk.old tpr.now.seg).r1) }
     ensures bound { IfOk result (λ r. r.1 < 2 ^ 3) }
     ensures dbr { walk.new.dbr ≡ walk.old.dbr }
@@ -75,7 +79,8 @@ fn odd_word(
     requires dbr { walk.old.dbr ≡ regs.now.dbr }
     requires room { length refs.old.items < 40 }
     requires word { word + 1 < 2 ^ 18 }
-    ensures serves { ServesOdd regs.now tpr.now word walk.old refs.old.items walk.new.core refs.new.items result }
+    ensures serves { ServesOdd regs.now tpr.now word walk.old refs.old.items walk.new.core
+        refs.new.items result }
     ensures dbr { walk.new.dbr ≡ walk.old.dbr }
     ensures len { length walk.new.core ≡ length walk.old.core }
     ensures count { length refs.new.items ≡ length refs.old.items + 1 }
@@ -106,7 +111,8 @@ pub(crate) fn follow(
     requires room { length refs.old.items < 40 }
     requires word { word < 2 ^ 18 }
     requires held { IfSome held (λ h. h < 2 ^ 18) }
-    ensures follows { Follows regs.now tpr.now word held walk.old.core refs.old.items walk.new.core refs.new.items result }
+    ensures follows { Follows regs.now tpr.now word held walk.old.core refs.old.items walk.new.core
+        refs.new.items result }
     ensures dbr { walk.new.dbr ≡ walk.old.dbr }
     ensures len { length walk.new.core ≡ length walk.old.core }
     ensures count { length refs.new.items ≤ length refs.old.items + 1 }
@@ -149,8 +155,10 @@ pub(crate) fn count(
 ) -> Result<Formed, Fault>
     requires dbr { walk.old.dbr ≡ regs.now.dbr }
     requires room { length refs.old.items + 1 < 40 }
-    ensures counts { CountsTally regs.now tpr.now walk.old.core refs.old.items walk.new.core refs.new.items result }
-    ensures lies { IfOk result (λ f. TallyLies f.tally f.place (length walk.new.core) refs.new.items) }
+    ensures counts { CountsTally regs.now tpr.now walk.old.core refs.old.items walk.new.core
+        refs.new.items result }
+    ensures lies { IfOk result
+        (λ f. TallyLies f.tally f.place (length walk.new.core) refs.new.items) }
     ensures dbr { walk.new.dbr ≡ walk.old.dbr }
     ensures len { length walk.new.core ≡ length walk.old.core }
     ensures count { length refs.new.items ≤ length refs.old.items + 2 }

@@ -1,7 +1,10 @@
 //! Address modification: what the tag of a point does.
 
 ghost use Rattle.std.specs.Prelude.{◌≡◌, ◌<◌, ◌%◌, ◌^◌};
-ghost use Rattle.m36_model.specs.Modification.{Ends, Fails, here, fault_at, is_direct, move_register, move_register_then_indirect, move_indirect_then_tally, move_indirect_then_register, move_of_point};
+ghost use Rattle.m36_model.specs.Modification.{Ends, Fails, here, fault_at, is_direct};
+ghost use Rattle.m36_model.specs.Modification.{move_register, move_register_then_indirect};
+ghost use Rattle.m36_model.specs.Modification.{move_indirect_then_tally};
+ghost use Rattle.m36_model.specs.Modification.{move_indirect_then_register, move_of_point};
 ghost use Rattle.m36_ea.specs.Points.{move_is, IsInRange};
 
 use crate::registers::index;

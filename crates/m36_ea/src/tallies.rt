@@ -1,7 +1,8 @@
 //! Tally words: an address, a tally and an increment, which the tags of indirect then tally count.
 
 ghost use Rattle.std.specs.Prelude.{◌≡◌, ◌<◌, ◌≤◌, ◌^◌};
-ghost use Rattle.m36_model.specs.Tally.{tally, tally_word, tally_address, tally_delta, counted_down, counted_up};
+ghost use Rattle.m36_model.specs.Tally.{tally, tally_word, tally_address, tally_delta};
+ghost use Rattle.m36_model.specs.Tally.{counted_down, counted_up};
 
 use m36_word::{Field, Word};
 use std::marker::Model;

@@ -78,6 +78,14 @@ const NO_POINTER: Ptr = Ptr {
     bit: 0,
 };
 
+/// A pointer to word 0 of segment 2 in ring 1.
+const TO_SEGMENT_2: Ptr = Ptr {
+    word: 0,
+    seg: 2,
+    ring: 1,
+    bit: 0,
+};
+
 /// The address of an instruction's word.
 fn form(walk: &mut Walk, regs: &Regs, word: u64) -> Result<Formed, Halt>
     requires { walk.old.dbr ≡ regs.now.dbr }
@@ -121,13 +129,7 @@ fn pair_takes_the_bracket_of_its_segment(rt: HostRuntime) -> Result<(), NoMemory
         (0o247, 0o000004300000),
         (0o340, 0o000123100043),
     ];
-    let base = Ptr {
-        word: 0,
-        seg: 2,
-        ring: 1,
-        bit: 0,
-    };
-    let regs = regs(1, 0, base);
+    let regs = regs(1, 0, TO_SEGMENT_2);
     let mut walk = walk(rt.alloc(), &regs, &words)?;
     let found = at(0o123, 0, 4);
     assert!(rt; form(&mut walk, &regs, 0o000000235120) == Ok(ends_at(found)));
@@ -135,75 +137,77 @@ fn pair_takes_the_bracket_of_its_segment(rt: HostRuntime) -> Result<(), NoMemory
     Ok(())
 }
 
-#[test]
-fn sixteen_indirect_words_are_served(rt: HostRuntime) -> Result<(), NoMemory> {
-    let mut words = [(0o61, 0o000022000000); 17];
+/// The address of an instruction's word over a core that has these words.
+fn address(
+    alloc: Global,
+    regs: &Regs,
+    words: &[(u32, u64)],
+    word: u64,
+) -> Result<Result<Formed, Halt>, NoMemory> {
+    let mut walk = walk(alloc, regs, words)?;
+    Ok(form(&mut walk, regs, word))
+}
+
+/// Words 1 to 21 of segment 1, each of which goes on to the next: from word 2 on there are 16 of them to word 22. Word 30
+/// goes on to word 20.
+fn indirect_words() -> [(u32, u64); 18] {
+    let mut words = [(0o61, 0o000022000000); 18];
     for k in 0..16 {
         words[k as usize] = (0o41 + k, ((k as u64 + 2) << 18) + 0o20);
     }
-    let regs = regs(0, 0, NO_POINTER);
-    let mut walk = walk(rt.alloc(), &regs, &words)?;
-    assert!(rt; form(&mut walk, &regs, 0o000002235020) == Ok(ends_at(at(1, 0o22, 0))));
-    let seventeenth = faults(7, 0, at(1, 0o21, 0));
-    assert!(rt; form(&mut walk, &regs, 0o000001235020) == Err(Halt::Fault(seventeenth)));
-    Ok(())
+    words[17] = (0o70, 0o000020000000);
+    words
 }
+
+/// Instructions through word 2, through word 1, and through word 30 with X1 held, and the address or the place of the fault.
+const CHAINS: [(u64, Result<u32, u32>); 3] = [
+    (0o000002235020, Ok(0o22)),
+    (0o000001235020, Err(0o21)),
+    (0o000030235071, Ok(0o25)),
+];
 
 #[test]
-fn index_is_held_over_the_indirect_word(rt: HostRuntime) -> Result<(), NoMemory> {
+fn chains_of_indirect_words(rt: HostRuntime) -> Result<(), NoMemory> {
     let regs = regs(0, 0o5, NO_POINTER);
-    let mut walk = walk(rt.alloc(), &regs, &[(0o50, 0o000020000000)])?;
-    assert!(rt; form(&mut walk, &regs, 0o000010235071) == Ok(ends_at(at(1, 0o25, 0))));
+    for (word, expected) in CHAINS {
+        let expected = match expected {
+            Ok(address) => Ok(ends_at(at(1, address % (1 << 18), 0))),
+            Err(place) => Err(Halt::Fault(faults(7, 0, at(1, place % (1 << 18), 0)))),
+        };
+        let found = address(rt.alloc(), &regs, &indirect_words(), word)?;
+        assert!(rt; found == expected, "{word:o}");
+    }
     Ok(())
 }
 
-/// Forms an address through the tally word at word octal 10, and then writes the word as an instruction does.
-fn count(walk: &mut Walk, regs: &Regs, word: u64) -> Result<Formed, Halt>
-    requires { walk.old.dbr ≡ regs.now.dbr }
-    ensures { walk.new.dbr ≡ walk.old.dbr }
-{
-    let formed = form(walk, regs, word)?;
-    if let Some(tally) = pending(&formed)
-        && tally.place < walk.core().len()
-    {
-        walk.store(tally.place, tally.word);
-    }
-    Ok(formed)
-}
+/// A tally word at word 10, an instruction through it, its address, the tally word afterwards, and whether it ran out.
+const TALLIES: [(u64, u64, u32, u64, bool); 5] = [
+    (0o000100000200, 0o000010235056, 0o100, 0o000101000100, false),
+    (0o000101000100, 0o000010235056, 0o101, 0o000102000000, true),
+    (0o000100777703, 0o000010235044, 0o75, 0o000075000003, true),
+    (0o000100000103, 0o000010235053, 0o100, 0o000103000003, true),
+    (0, 0o000010235054, 0o777777, 0o777777000100, false),
+];
 
 #[test]
 fn tally_words_count(rt: HostRuntime) -> Result<(), NoMemory> {
     let regs = regs(0, 0, NO_POINTER);
-    let mut walk = walk(rt.alloc(), &regs, &[(0o50, 0o000100000200)])?;
     let plain = ends_at(at(1, 0o100, 0));
-    assert!(rt; count(&mut walk, &regs, 0o000010235051) == Ok(plain));
-    let counted = |address: u32, word: u64, runout: bool| -> Formed
-        requires { address < 2 ^ 18 }
-    {
-        let mut formed = ends_at(at(1, address, 0));
-        formed.tally = Some(Tally {
-            word: Word::low(word),
-            at: at(1, 0o10, 0),
-            runout,
-        });
-        formed.place = 0o50;
-        formed
-    };
-    assert!(rt;
-        count(&mut walk, &regs, 0o000010235056) == Ok(counted(0o100, 0o000101000100, false))
-    );
-    assert!(rt;
-        count(&mut walk, &regs, 0o000010235056) == Ok(counted(0o101, 0o000102000000, true))
-    );
-    put(walk.core_mut(), &[(0o50, 0o000100777703)]);
-    assert!(rt; count(&mut walk, &regs, 0o000010235044) == Ok(counted(0o75, 0o000075000003, true)));
-    put(walk.core_mut(), &[(0o50, 0o000100000103)]);
-    assert!(rt;
-        count(&mut walk, &regs, 0o000010235053) == Ok(counted(0o100, 0o000103000003, true))
-    );
-    put(walk.core_mut(), &[(0o50, 0)]);
-    assert!(rt;
-        count(&mut walk, &regs, 0o000010235054) == Ok(counted(0o777777, 0o777777000100, false))
-    );
+    let found = address(rt.alloc(), &regs, &[(0o50, 0o000100000200)], 0o000010235051)?;
+    assert!(rt; found == Ok(plain) && pending(&plain).is_none());
+    for (before, word, operand, after, runout) in TALLIES {
+        let counted = Formed {
+            tally: Some(Tally {
+                word: Word::low(after),
+                at: at(1, 0o10, 0),
+                runout,
+            }),
+            place: 0o50,
+            ..ends_at(at(1, operand % (1 << 18), 0))
+        };
+        let found = address(rt.alloc(), &regs, &[(0o50, before)], word)?;
+        assert!(rt; found == Ok(counted), "{word:o} {before:o}");
+        assert!(rt; pending(&counted).is_some_and(|it| it.place == 0o50));
+    }
     Ok(())
 }

@@ -62,7 +62,7 @@ sound e h =
     }
 
 -- tests of codes and of names
-same_bit_true : (a b : Bool) → same_bit a b ≡ true → a ≡ b
+pub same_bit_true : (a b : Bool) → same_bit a b ≡ true → a ≡ b
 same_bit_true true b h = sym h
 same_bit_true false true h = h
 same_bit_true false false h = refl

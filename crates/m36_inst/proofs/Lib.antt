@@ -5,3 +5,4 @@ pub mod Entries
 pub mod Parts
 pub mod OneToOne
 pub mod Texts
+pub mod NamesInOrder

@@ -1,5 +1,5 @@
 -- Names and codes are one to one.
-use Rattle.std.proofs.Common.{◌≡◌, ℕ, ◌<◌, ◌↔◌, Bool, Option, Some, None, List, refl, subst, arith}
+use Rattle.std.proofs.Common.{◌≡◌, ℕ, ◌↔◌, Bool, Option, Some, None, List, refl, subst, arith}
 use Rattle.std.specs.Prelude.{option_map, IsSome}
 use Rattle.std.proofs.lemmas.Option.{some_pair_parts}
 use Rattle.m36_inst.specs.Table.{Entry}
@@ -38,16 +38,16 @@ code_name code bit27 name h = name_by code bit27 name (entry_named name) refl h
 pub one_to_one : OneToOne
 one_to_one code bit27 name = (named_code code bit27 name, code_name code bit27 name)
 
--- a name that no code of nine bits has is none
-unnamed_by : (name : List ℕ) (o : Option Entry) → entry_named name ≡ o → ((code : ℕ) (bit27 : Bool) → code < 512 → name_at code bit27 ≡ Some name → ⊥) → o ≡ None
+-- a name that no code has is none
+unnamed_by : (name : List ℕ) (o : Option Entry) → entry_named name ≡ o → ((code : ℕ) (bit27 : Bool) → name_at code bit27 ≡ Some name → ⊥) → o ≡ None
 unnamed_by name None e h = refl
 unnamed_by name (Some x) e h =
     let f = named name x e in
     let same = f.same_name in
     let there : name_at x.code x.bit27 ≡ Some name = rw f.placed cc in
-    absurd (h x.code x.bit27 f.sound.code there)
+    absurd (h x.code x.bit27 there)
 
-pub unnamed : (name : List ℕ) → ((code : ℕ) (bit27 : Bool) → code < 512 → name_at code bit27 ≡ Some name → ⊥) → code_named name ≡ None
+pub unnamed : (name : List ℕ) → ((code : ℕ) (bit27 : Bool) → name_at code bit27 ≡ Some name → ⊥) → code_named name ≡ None
 unnamed name h = rw (unnamed_by name (entry_named name) refl h) refl
 
 rows_by : (o : Option Entry) → IsSome (option_map (λ e. row_of e.effect e.reg) o) ↔ IsSome (option_map (λ e. e.name) o)
@@ -71,7 +71,5 @@ fit_by code bit27 row (Some x) e h =
 
 pub rows_fit : RowsFit
 rows_fit code bit27 row h = fit_by code bit27 row (entry_at code bit27) refl h
-
-pub ruleset by_names = (named_code, unnamed)
 
 pub ruleset laws = (one_to_one, rows_have_names, rows_fit)

@@ -1,5 +1,5 @@
--- Instruction words. Multics Processor Manual AL39, "Machine instruction format": address 0-17, operation code 18-26 with
--- bit 27, interrupt inhibit 28, pointer register flag 29, tag 30-35.
+-- Instruction words. Multics Processor Manual AL39, "Machine instruction format": address 0-17,
+-- operation code 18-26 with bit 27, interrupt inhibit 28, pointer register flag 29, tag 30-35.
 use Rattle.std.specs.Prelude.{ℕ, ◌+◌, ◌*◌, ◌/◌, ◌%◌, ◌^◌, ◌<◌, ◌≡◌, nat_lt, if◌then◌else◌}
 use Rattle.m36_word.specs.Field.{field}
 use Rattle.m36_word.specs.Bits.{is_on, of_bit}
@@ -18,17 +18,20 @@ inst_of w =
 
 abbrev pub inst_word : InstFields → ℕ
 inst_word i =
-    i.y * 2 ^ 18 + i.code * 2 ^ 9 + of_bit i.bit27 * 2 ^ 8 + of_bit i.inhibit * 2 ^ 7 + of_bit i.by_pr * 2 ^ 6 + i.tag
+    i.y * 2 ^ 18 + i.code * 2 ^ 9 + of_bit i.bit27 * 2 ^ 8 + of_bit i.inhibit * 2 ^ 7
+    + of_bit i.by_pr * 2 ^ 6 + i.tag
 
--- where the address is through a pointer register: the register's number in bits 0-2, and the signed offset in bits 3-17,
--- as a word number modulo 2^18
+-- where the address is through a pointer register: the register's number in bits 0-2, and the
+-- signed offset in bits 3-17, as a word number modulo 2^18
 abbrev pub pr_number : InstFields → ℕ
 pr_number i = i.y / 2 ^ 15
 
 abbrev pub pr_offset : InstFields → ℕ
-pr_offset i = let offset = i.y % 2 ^ 15 in if nat_lt offset (2 ^ 14) then offset else offset + 7 * 2 ^ 15
+pr_offset i =
+    let offset = i.y % 2 ^ 15 in if nat_lt offset (2 ^ 14) then offset else offset + 7 * 2 ^ 15
 
--- An instruction that is written to a word is read back, and a word is the word of the instruction that is read from it.
+-- An instruction that is written to a word is read back, and a word is the word of the instruction
+-- that is read from it.
 abbrev pub InstComesBack : Type 0
 InstComesBack = (i : InstFields) → IsInst i → inst_of (inst_word i) ≡ i
 

@@ -4,3 +4,4 @@ pub mod Operands
 pub mod Table
 pub mod Lookup
 pub mod Named
+pub mod Names

@@ -1,5 +1,6 @@
 -- The instruction of an operation code with bit 27, and the code of a name.
-use Rattle.std.specs.Prelude.{ℕ, ◌≡◌, ◌^◌, ◌<◌, ◌↔◌, Bool, true, false, not, ◌&&◌, ◌==◌, nat_eq, List, Option, Some, option_map, IsSome}
+use Rattle.std.specs.Prelude.{ℕ, ◌≡◌, ◌^◌, ◌<◌, ◌↔◌, Bool, true, false, not, ◌&&◌, ◌==◌, nat_eq}
+use Rattle.std.specs.Prelude.{List, Option, Some, option_map, IsSome}
 use Rattle.std.specs.List.{find}
 use Rattle.std.specs.Cmp.Lexicographic.{pointwise}
 use Rattle.m36_inst.specs.Operands.{operand_of, takes_direct, is_privileged}
@@ -47,17 +48,20 @@ code_of e = (e.code, e.bit27)
 abbrev pub code_named : List ℕ → Option (ℕ × Bool)
 code_named name = option_map code_of (entry_named name)
 
--- how an operand is referenced, whether it may be direct and whether the instruction is privileged are as its effect has it
+-- how an operand is referenced, whether it may be direct and whether the instruction is privileged
+-- are as its effect has it
 pub record IsRow (row : Row) : Type 0 where
   pub operand : row.operand ≡ operand_of row.effect
   pub direct : row.direct ≡ takes_direct row.effect
   pub privileged : row.privileged ≡ is_privileged row.effect
   pub reg : row.reg < 8
 
--- Names and codes are one to one: a code with bit 27 has a name exactly where that name has this code with bit 27.
+-- Names and codes are one to one: a code with bit 27 has a name exactly where that name has this
+-- code with bit 27.
 abbrev pub OneToOne : Type 0
 OneToOne =
-    (code : ℕ) (bit27 : Bool) (name : List ℕ) → (name_at code bit27 ≡ Some name) ↔ (code_named name ≡ Some (code, bit27))
+    (code : ℕ) (bit27 : Bool) (name : List ℕ)
+    → (name_at code bit27 ≡ Some name) ↔ (code_named name ≡ Some (code, bit27))
 
 -- A code with a name has a row, and a code with a row has a name.
 abbrev pub RowsHaveNames : Type 0

@@ -1,6 +1,7 @@
--- An instruction as the processor's own table has it: what it has to know, and the name with blanks behind it to five
--- characters, the length of the longest name.
-use Rattle.std.specs.Prelude.{ℕ, Bool, List, ◌++◌, ◌==◌, ◌<◌, ◌≤◌, length, take, replicate, map, Option, option_map}
+-- An instruction as the processor's own table has it: what it has to know, and the name with blanks
+-- behind it to five characters, the length of the longest name.
+use Rattle.std.specs.Prelude.{ℕ, Bool, List, ◌++◌, ◌==◌, ◌<◌, ◌≤◌, length, take, replicate, map}
+use Rattle.std.specs.Prelude.{Option, option_map}
 use Rattle.std.specs.List.{before_first, range_with_len, All}
 use Rattle.m36_inst.specs.Lookup.{entry_at, row_of}
 use Rattle.m36_inst.specs.Table.{Entry}

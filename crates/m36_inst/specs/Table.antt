@@ -1,5 +1,6 @@
--- The table of instructions: operation code with bit 27, mnemonic, effect, and the register that the mnemonic's digit
--- names. Multics Processor Manual AL39, "Operation code map" and "Machine instructions".
+-- The table of instructions: operation code with bit 27, mnemonic, effect, and the register that
+-- the mnemonic's digit names. Multics Processor Manual AL39, "Operation code map" and "Machine
+-- instructions".
 use Rattle.std.specs.Prelude.{ℕ, ◌+◌, Bool, true, false, List, [], ◌∷◌, ◌++◌, codes}
 use Rattle.m36_inst.specs.declared.effect.Effect.{Effect}
 use Rattle.m36_inst.specs.declared.effect.Effect.TheVariants as effect
@@ -14,34 +15,54 @@ pub record Entry : Type 0 where
 
 -- an instruction whose bit 27 is off, and one whose bit 27 is on
 abbrev pub off : ℕ → List ℕ → Effect → List Entry
-off code name effect = record { code = code; bit27 = false; name = name; effect = effect; reg = 0 } ∷ []
+off code name effect =
+    record { code = code; bit27 = false; name = name; effect = effect; reg = 0 } ∷ []
 
 abbrev pub on : ℕ → List ℕ → Effect → List Entry
-on code name effect = record { code = code; bit27 = true; name = name; effect = effect; reg = 0 } ∷ []
+on code name effect =
+    record { code = code; bit27 = true; name = name; effect = effect; reg = 0 } ∷ []
 
 -- an instruction for one of eight registers: the stem of the mnemonic, and the register's digit
 abbrev pub numbered : ℕ → Bool → List ℕ → ℕ → Effect → Entry
 numbered code bit27 stem reg effect =
-    record { code = code; bit27 = bit27; name = stem ++ (0x30 + reg) ∷ []; effect = effect; reg = reg }
+    record {
+      code = code;
+      bit27 = bit27;
+      name = stem ++ (0x30 + reg) ∷ [];
+      effect = effect;
+      reg = reg;
+    }
 
 -- eight codes in a row with bit 27 off, for registers 0 to 7
 abbrev pub eight : ℕ → List ℕ → Effect → List Entry
 eight code stem effect =
-    numbered code false stem 0 effect ∷ numbered (code + 1) false stem 1 effect ∷ numbered (code + 2) false stem 2 effect ∷ numbered (code + 3) false stem 3 effect ∷ numbered (code + 4) false stem 4 effect ∷ numbered (code + 5) false stem 5 effect ∷ numbered (code + 6) false stem 6 effect ∷ numbered (code + 7) false stem 7 effect ∷ []
+    numbered code false stem 0 effect ∷ numbered (code + 1) false stem 1 effect
+    ∷ numbered (code + 2) false stem 2 effect ∷ numbered (code + 3) false stem 3 effect
+    ∷ numbered (code + 4) false stem 4 effect ∷ numbered (code + 5) false stem 5 effect
+    ∷ numbered (code + 6) false stem 6 effect ∷ numbered (code + 7) false stem 7 effect ∷ []
 
 -- eight codes in two runs of four, for registers 0 to 3 and 4 to 7, with bit 27 off
 abbrev pub two_fours : ℕ → ℕ → List ℕ → Effect → List Entry
 two_fours low high stem effect =
-    numbered low false stem 0 effect ∷ numbered (low + 1) false stem 1 effect ∷ numbered (low + 2) false stem 2 effect ∷ numbered (low + 3) false stem 3 effect ∷ numbered high false stem 4 effect ∷ numbered (high + 1) false stem 5 effect ∷ numbered (high + 2) false stem 6 effect ∷ numbered (high + 3) false stem 7 effect ∷ []
+    numbered low false stem 0 effect ∷ numbered (low + 1) false stem 1 effect
+    ∷ numbered (low + 2) false stem 2 effect ∷ numbered (low + 3) false stem 3 effect
+    ∷ numbered high false stem 4 effect ∷ numbered (high + 1) false stem 5 effect
+    ∷ numbered (high + 2) false stem 6 effect ∷ numbered (high + 3) false stem 7 effect ∷ []
 
 -- the same runs with bit 27 off for even registers and on for odd ones, and the other way
 abbrev pub even_off : ℕ → ℕ → List ℕ → Effect → List Entry
 even_off low high stem effect =
-    numbered low false stem 0 effect ∷ numbered (low + 1) true stem 1 effect ∷ numbered (low + 2) false stem 2 effect ∷ numbered (low + 3) true stem 3 effect ∷ numbered high false stem 4 effect ∷ numbered (high + 1) true stem 5 effect ∷ numbered (high + 2) false stem 6 effect ∷ numbered (high + 3) true stem 7 effect ∷ []
+    numbered low false stem 0 effect ∷ numbered (low + 1) true stem 1 effect
+    ∷ numbered (low + 2) false stem 2 effect ∷ numbered (low + 3) true stem 3 effect
+    ∷ numbered high false stem 4 effect ∷ numbered (high + 1) true stem 5 effect
+    ∷ numbered (high + 2) false stem 6 effect ∷ numbered (high + 3) true stem 7 effect ∷ []
 
 abbrev pub even_on : ℕ → ℕ → List ℕ → Effect → List Entry
 even_on low high stem effect =
-    numbered low true stem 0 effect ∷ numbered (low + 1) false stem 1 effect ∷ numbered (low + 2) true stem 2 effect ∷ numbered (low + 3) false stem 3 effect ∷ numbered high true stem 4 effect ∷ numbered (high + 1) false stem 5 effect ∷ numbered (high + 2) true stem 6 effect ∷ numbered (high + 3) false stem 7 effect ∷ []
+    numbered low true stem 0 effect ∷ numbered (low + 1) false stem 1 effect
+    ∷ numbered (low + 2) true stem 2 effect ∷ numbered (low + 3) false stem 3 effect
+    ∷ numbered high true stem 4 effect ∷ numbered (high + 1) false stem 5 effect
+    ∷ numbered (high + 2) true stem 6 effect ∷ numbered (high + 3) false stem 7 effect ∷ []
 
 -- Data movement: load and store.
 abbrev pub data_movement : List Entry
@@ -161,7 +182,8 @@ shifts =
     ++ off 0o776 (codes "qlr") effect.Qlr
     ++ off 0o777 (codes "llr") effect.Llr
 
--- Pointer registers. Of an effective pointer and a base pointer of one code, and of the two stores, bit 27 tells which.
+-- Pointer registers. Of an effective pointer and a base pointer of one code, and of the two stores,
+-- bit 27 tells which.
 abbrev pub pointer_registers : List Entry
 pointer_registers =
     even_off 0o350 0o370 (codes "epp") effect.EppN
@@ -218,4 +240,5 @@ privileged =
 
 abbrev pub table : List Entry
 table =
-    data_movement ++ fixed_point ++ boolean ++ shifts ++ pointer_registers ++ special_stores ++ transfers ++ miscellaneous ++ privileged
+    data_movement ++ fixed_point ++ boolean ++ shifts ++ pointer_registers ++ special_stores
+    ++ transfers ++ miscellaneous ++ privileged

@@ -15,6 +15,7 @@ pub mod effect;
 pub mod inst;
 pub mod laws;
 pub mod lookup;
+mod names;
 pub mod operand;
 pub mod rows;
 

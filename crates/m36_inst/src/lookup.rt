@@ -1,11 +1,13 @@
 //! The table by operation code and by name.
 
-ghost use Rattle.std.specs.Prelude.{◌≡◌, ◌<◌, ◌↔◌, Some, option_map, IfSome, IsTrue};
+ghost use Rattle.std.specs.Prelude.{ℕ, ◌≡◌, ◌≢◌, ◌<◌, ◌↔◌, Some, length, option_map, IfSome, IfNone, IsTrue};
 ghost use Rattle.std.specs.List.{position};
 ghost use Rattle.m36_inst.specs.Lookup.{row_at, name_at, code_named, IsRow};
+ghost use Rattle.m36_inst.specs.Names.{letter, key, key_at, code_at, bit27_at, IsRising};
 ghost use Rattle.m36_inst.specs.Named.{is_blank, text_of, IsPlain};
 
 use crate::codes::named;
+use crate::names::{Coded, names};
 use crate::rows::Row;
 use arrayvec::ArrayString;
 
@@ -31,20 +33,92 @@ pub fn name_of(code: u16, bit27: bool) -> Option<ArrayString<8>>
     }
 }
 
-/// The operation code and bit 27 of the instruction with this name; None exactly where there is none.
-#[tactic(auto, using(crate::proofs::OneToOne::by_names))]
+/// The operation code and bit 27 of the instruction with this name; None exactly where there is none. It takes nine
+/// comparisons at most.
+#[tactic(auto, using(crate::proofs::NamesInOrder::named_or_not))]
 pub fn by_name(n: &[u8]) -> Option<(u16, bool)>
     ensures { result ≡ code_named n.now }
 {
-    for code in 0..512 {
-        if has_name(code, false, n) {
-            return Some((code, false));
+    let rows = names();
+    let place = match place_of(rows, key(n)) {
+        Some(place) => place,
+        None => return None,
+    };
+    let code = code_at(rows, place);
+    let bit27 = bit27_at(rows, place);
+    if has_name(code, bit27, n) {
+        return Some((code, bit27));
+    }
+    None
+}
+
+// The place of a row whose name has this number.
+fn place_of(rows: &[Coded], wanted: u64) -> Option<usize>
+    requires { IsRising rows.now }
+    ensures inside { IfSome result (λ i. i < length rows.now) }
+    ensures key { IfSome result (λ i. key_at rows.now i ≡ wanted) }
+    ensures none { IfNone result ((i : ℕ) → i < length rows.now → key_at rows.now i ≢ wanted) }
+{
+    let mut low = 0;
+    let mut high = rows.len();
+    while low < high {
+        let middle = low + (high - low) / 2;
+        let here = key_at(rows, middle);
+        if here == wanted {
+            return Some(middle);
         }
-        if has_name(code, true, n) {
-            return Some((code, true));
+        if here < wanted {
+            low = middle + 1;
+        } else {
+            high = middle;
         }
     }
     None
+}
+
+#[tactic(auto, unfolding(crate::specs::Names::key))]
+fn key(name: &[u8]) -> u64
+    ensures { result ≡ key name.now }
+{
+    (letter(name, 0) << 32)
+        + (letter(name, 1) << 24)
+        + (letter(name, 2) << 16)
+        + (letter(name, 3) << 8)
+        + letter(name, 4)
+}
+
+fn letter(name: &[u8], i: usize) -> u64
+    ensures value { result ≡ letter name.now i }
+    ensures bound { result < 256 }
+{
+    if i < name.len() {
+        return name[i] as u64;
+    }
+    b' ' as u64
+}
+
+#[tactic(auto, using(crate::proofs::NamesInOrder::columns))]
+fn key_at(rows: &[Coded], i: usize) -> u64
+    requires { i < length rows.now }
+    ensures { result ≡ key_at rows.now i }
+{
+    key(&rows[i].name)
+}
+
+#[tactic(auto, using(crate::proofs::NamesInOrder::columns))]
+fn code_at(rows: &[Coded], i: usize) -> u16
+    requires { i < length rows.now }
+    ensures { result ≡ code_at rows.now i }
+{
+    rows[i].code
+}
+
+#[tactic(auto, using(crate::proofs::NamesInOrder::columns))]
+fn bit27_at(rows: &[Coded], i: usize) -> bool
+    requires { i < length rows.now }
+    ensures { result ≡ bit27_at rows.now i }
+{
+    rows[i].bit27
 }
 
 fn has_name(code: u16, bit27: bool, n: &[u8]) -> bool

@@ -3,34 +3,41 @@
 use super::*;
 use m36_word::Word;
 
-fn shown(code: u16, bit27: bool) -> Option<(Effect, u8, Operand, bool, bool)> {
-    let r = row(code, bit27)?;
-    Some((r.effect, r.reg, r.operand, r.direct, r.privileged))
-}
+/// Operation codes with bit 27, and what their rows say: effect, register, operand, direct, privileged.
+const ROWS: [(u16, bool, (Effect, u8, Operand, bool, bool)); 18] = [
+    (0o235, false, (Effect::Lda, 0, Operand::R, true, false)),
+    (0o317, false, (Effect::Canaq, 0, Operand::R2, false, false)),
+    (0o745, false, (Effect::StxN, 5, Operand::Wl, false, false)),
+    (0o754, false, (Effect::Sti, 0, Operand::Wr, false, false)),
+    (0o046, false, (Effect::AsxN, 6, Operand::Rwl, false, false)),
+    (0o654, false, (Effect::Stacq, 0, Operand::Rw, false, false)),
+    (0o351, false, (Effect::EpbpN, 1, Operand::A, false, false)),
+    (0o351, true, (Effect::EppN, 1, Operand::A, false, false)),
+    (0o652, true, (Effect::SpbpN, 6, Operand::W2, false, false)),
+    (0o254, false, (Effect::Spri, 0, Operand::W16, false, false)),
+    (0o173, false, (Effect::Lpri, 0, Operand::R16, false, false)),
+    (0o764, false, (Effect::LprpN, 4, Operand::R, false, false)),
+    (0o607, false, (Effect::Ttf, 0, Operand::T, false, false)),
+    (0o672, false, (Effect::TspN, 6, Operand::T, false, false)),
+    (
+        0o713,
+        false,
+        (Effect::Call6, 0, Operand::Call6, false, false),
+    ),
+    (0o011, false, (Effect::Nop, 0, Operand::A, true, false)),
+    (0o616, false, (Effect::Dis, 0, Operand::N, false, true)),
+    (0o532, true, (Effect::Camp, 0, Operand::A, false, true)),
+];
 
 #[test]
 fn rows_of_codes(rt: HostRuntime) {
-    assert!(rt; shown(0o235, false) == Some((Effect::Lda, 0, Operand::R, true, false)));
-    assert!(rt; shown(0o317, false) == Some((Effect::Canaq, 0, Operand::R2, false, false)));
-    assert!(rt; shown(0o745, false) == Some((Effect::StxN, 5, Operand::Wl, false, false)));
-    assert!(rt; shown(0o754, false) == Some((Effect::Sti, 0, Operand::Wr, false, false)));
-    assert!(rt; shown(0o046, false) == Some((Effect::AsxN, 6, Operand::Rwl, false, false)));
-    assert!(rt; shown(0o654, false) == Some((Effect::Stacq, 0, Operand::Rw, false, false)));
-    assert!(rt; shown(0o351, false) == Some((Effect::EpbpN, 1, Operand::A, false, false)));
-    assert!(rt; shown(0o351, true) == Some((Effect::EppN, 1, Operand::A, false, false)));
-    assert!(rt; shown(0o652, true) == Some((Effect::SpbpN, 6, Operand::W2, false, false)));
-    assert!(rt; shown(0o254, false) == Some((Effect::Spri, 0, Operand::W16, false, false)));
-    assert!(rt; shown(0o173, false) == Some((Effect::Lpri, 0, Operand::R16, false, false)));
-    assert!(rt; shown(0o764, false) == Some((Effect::LprpN, 4, Operand::R, false, false)));
-    assert!(rt; shown(0o607, false) == Some((Effect::Ttf, 0, Operand::T, false, false)));
-    assert!(rt; shown(0o672, false) == Some((Effect::TspN, 6, Operand::T, false, false)));
-    assert!(rt; shown(0o713, false) == Some((Effect::Call6, 0, Operand::Call6, false, false)));
-    assert!(rt; shown(0o011, false) == Some((Effect::Nop, 0, Operand::A, true, false)));
-    assert!(rt; shown(0o616, false) == Some((Effect::Dis, 0, Operand::N, false, true)));
-    assert!(rt; shown(0o532, true) == Some((Effect::Camp, 0, Operand::A, false, true)));
-    assert!(rt; shown(0o000, false) == None);
-    assert!(rt; shown(0o235, true) == None);
-    assert!(rt; shown(0o1235, false) == None);
+    for (code, bit27, said) in ROWS {
+        let found = row(code, bit27).map(|r| (r.effect, r.reg, r.operand, r.direct, r.privileged));
+        assert!(rt; found == Some(said), "at {code:o}");
+    }
+    for (code, bit27) in [(0o000, false), (0o235, true), (0o1235, false)] {
+        assert!(rt; row(code, bit27) == None, "at {code:o}");
+    }
 }
 
 #[test]

@@ -13,7 +13,7 @@ use Rattle.m36_model.specs.CoreLaw.{HasTables, IsSegmentSpot, IsMarkedFrom}
 use Rattle.m36_model.specs.Isolation.{HasPointers, Isolated}
 use Rattle.m36_model.specs.Laws.{IsAbove, SightLaw, DependsLaw, ReachLaw, FallLaw, AgreeLaw, MarksLaw}
 use Rattle.m36_isol.proofs.CoreTables.{descriptor_of}
-use Rattle.m36_isol.proofs.CoreLaw.{lawful}
+use Rattle.m36_isol.proofs.CoreLaw.{are_apart, lawful}
 use Rattle.m36_isol.proofs.StepLaws.{Backed, sight_law, depends_law, reach_law, fall_law, agree_law, marks_law, pointers_stay}
 use Rattle.m36_isol.proofs.AuditedBy.{same_dbr}
 use Rattle.m36_isol.proofs.Windows.{windows_kept}
@@ -44,10 +44,10 @@ module _ (core : List ℕ) (dbr : DbrFields) (audited : IsAudited core dbr) wher
       }
 
   -- the descriptors of which the store's law speaks are those in core
-  descriptor : (seg : ℕ) → core_sdw core dbr seg ≡ (lawful core dbr audited).sdws seg
-  descriptor seg = (lawful core dbr audited).sdw_is core refl seg
+  descriptor : (seg : ℕ) → core_sdw core dbr seg ≡ (lawful core dbr (are_apart core dbr audited)).sdws seg
+  descriptor seg = (lawful core dbr (are_apart core dbr audited)).sdw_is core refl seg
 
-  pub guarded_by : IsGuarded dbr (lawful core dbr audited).sdws
+  pub guarded_by : IsGuarded dbr (lawful core dbr (are_apart core dbr audited)).sdws
   guarded_by =
       record {
         gates = λ seg d live executable outer. core_gates.gates seg d (descriptor seg ∙ live) executable outer;
@@ -60,7 +60,7 @@ module _ (core : List ℕ) (dbr : DbrFields) (audited : IsAudited core dbr) wher
         Has = HasTables core dbr;
         Lies = IsSegmentSpot core dbr;
         Near = IsMarkedFrom core dbr;
-        law = lawful core dbr audited;
+        law = lawful core dbr (are_apart core dbr audited);
         guarded = guarded_by;
         has = λ s h. h;
         tables = λ s h. h;
@@ -71,7 +71,7 @@ module _ (core : List ℕ) (dbr : DbrFields) (audited : IsAudited core dbr) wher
       subst (λ (d : DbrFields). Backed core_store (core_tables core dbr) d) (sym (same_dbr core s.store dbr s.regs.dbr h)) backed_here
 
   -- descriptors are by the tables
-  by_tables : (s : State (List ℕ)) → tables_of core_store s ≡ core_tables core dbr → (seg : ℕ) → core_sdw s.store s.regs.dbr seg ≡ core_sdw core dbr seg
+  pub by_tables : (s : State (List ℕ)) → tables_of core_store s ≡ core_tables core dbr → (seg : ℕ) → core_sdw s.store s.regs.dbr seg ≡ core_sdw core dbr seg
   by_tables s h seg =
       let e = same_dbr core s.store dbr s.regs.dbr h in
       ap (λ (d : DbrFields). core_sdw s.store d seg) e ∙ descriptor_of core dbr s.store (subst (λ (d : DbrFields). core_tables s.store d ≡ core_tables core dbr) e h) seg
@@ -91,7 +91,7 @@ module _ (core : List ℕ) (dbr : DbrFields) (audited : IsAudited core dbr) wher
   pub core_agree : AgreeLaw core_store (core_tables core dbr)
   core_agree = agree_law core_store (core_tables core dbr) backed
 
-  pointers_after : (r : ℕ) (s : State (List ℕ)) → IsAbove core_store (core_tables core dbr) r s → HasPointers (state_after core_store s).regs
+  pub pointers_after : (r : ℕ) (s : State (List ℕ)) → IsAbove core_store (core_tables core dbr) r s → HasPointers (state_after core_store s).regs
   pointers_after r s above =
       pointers_stay core_store (core_tables core dbr) s.regs (backed s above.tables) r above.low s.store above.tables above.pointers
 

@@ -10,7 +10,7 @@ use Rattle.m36_model.specs.Store.{Spot, Core_word, Segment_word, Change, within,
 use Rattle.m36_model.specs.Sight.{content_in}
 use Rattle.m36_model.specs.Place.{core_sdw, core_spot, core_marked, marks}
 use Rattle.m36_model.specs.Core.{core_store, core_word, put_one, core_put}
-use Rattle.m36_model.specs.Audit.{Sdws, Directory, Pages, IsAudited, IsSegmentWord}
+use Rattle.m36_model.specs.Audit.{Sdws, Directory, Pages, AreApart, IsAudited, IsSegmentWord}
 use Rattle.m36_model.specs.StoreLaw.{Each, same_spot, overlay, IsWord, IsSpot, Lawful}
 use Rattle.m36_model.specs.CoreLaw.{HasTables, IsSegmentSpot, IsPtwWord, IsMarkedFrom}
 use Rattle.m36_model.specs.declared.outcome.Refusal.{Refusal}
@@ -44,7 +44,7 @@ size_put : (now : List ℕ) (spot : Spot) (part : Part) (v : ℕ) → length (pu
 size_put now (Core_word a) part v = length-set now a _
 size_put now (Segment_word s w) part v = refl
 
-words_put : (now : List ℕ) (puts : List Change) (a : ℕ) → a < length now → core_word (core_put now puts) (Core_word a) ≡ overlay puts (Core_word a) (core_word now (Core_word a))
+pub words_put : (now : List ℕ) (puts : List Change) (a : ℕ) → a < length now → core_word (core_put now puts) (Core_word a) ≡ overlay puts (Core_word a) (core_word now (Core_word a))
 unfolding core_put
 words_put now [] a inside = refl
 words_put now (p ∷ puts) a inside =
@@ -52,19 +52,24 @@ words_put now (p ∷ puts) a inside =
     let more = words_put next puts a (subst (λ (n : ℕ). a < n) (sym (size_put now p.spot p.part p.value)) inside) in
     more ∙ ap (overlay puts (Core_word a)) (word_put now p.spot p.part p.value a inside)
 
-module _ (core : List ℕ) (dbr : DbrFields) (audited : IsAudited core dbr) where
-  abbrev sdws_of : ℕ → Result SdwFields Refusal
+-- the audit has three conditions on core words
+pub are_apart : (core : List ℕ) (dbr : DbrFields) → IsAudited core dbr → AreApart core dbr
+are_apart core dbr audited =
+    record { tables = audited.second; segments = audited.third; words = audited.fourth }
+
+module _ (core : List ℕ) (dbr : DbrFields) (apart : AreApart core dbr) where
+  abbrev pub sdws_of : ℕ → Result SdwFields Refusal
   sdws_of = core_sdw core dbr
 
-  abbrev spots_by : SdwFields → ℕ → ℕ → Result Spot Refusal
+  abbrev pub spots_by : SdwFields → ℕ → ℕ → Result Spot Refusal
   spots_by d seg w = core_spot core dbr d seg w
 
   -- a word by the tables lies at a word of a segment
-  segment_spot : (seg w a : ℕ) (p : Spot) → IsWord sdws_of spots_by seg w p → p ≡ Core_word a → IsSegmentWord core dbr seg w a
+  pub segment_spot : (seg w a : ℕ) (p : Spot) → IsWord sdws_of spots_by seg w p → p ≡ Core_word a → IsSegmentWord core dbr seg w a
   segment_spot seg w a p h e =
       place_is core_store core dbr seg w (Core_word a) (record { sdw = h.sdw; live = h.live; inside = h.inside; found = h.found ∙ ap (λ (q : Spot). Ok q) e })
 
-  lies_at : (seg w : ℕ) (p : Spot) → IsWord sdws_of spots_by seg w p → IsSegmentSpot core dbr p
+  pub lies_at : (seg w : ℕ) (p : Spot) → IsWord sdws_of spots_by seg w p → IsSegmentSpot core dbr p
   lies_at seg w p h =
       let inside = core_spot_inside core dbr h.sdw seg w p h.found in
       subst (λ (q : Spot). IsSegmentSpot core dbr q) (sym inside.spot) (seg, w, segment_spot seg w inside.address p h inside.spot)
@@ -73,15 +78,15 @@ module _ (core : List ℕ) (dbr : DbrFields) (audited : IsAudited core dbr) wher
   segment_harmless : (now : List ℕ) (a v : ℕ) → IsSegmentSpot core dbr (Core_word a) → IsHarmless core dbr now a v
   segment_harmless now a v h =
       record {
-        descriptor = λ x here seg k. audited.third a (record { table = Sdws; of = (seg, k); seg = h.0; w = h.1; word = h.2 });
-        ptw = λ x here k. ⊎_elim (λ d. absurd (audited.third a (record { table = Directory; of = d; seg = h.0; w = h.1; word = h.2 }))) (λ p. absurd (audited.third a (record { table = Pages p.0; of = (p.1, p.2); seg = h.0; w = h.1; word = h.2 }))) k;
+        descriptor = λ x here seg k. apart.segments a (record { table = Sdws; of = (seg, k); seg = h.0; w = h.1; word = h.2 });
+        ptw = λ x here k. ⊎_elim (λ d. absurd (apart.segments a (record { table = Directory; of = d; seg = h.0; w = h.1; word = h.2 }))) (λ p. absurd (apart.segments a (record { table = Pages p.0; of = (p.1, p.2); seg = h.0; w = h.1; word = h.2 }))) k;
       }
 
   one_put : (now : List ℕ) (spot : Spot) (part : Part) (v : ℕ) → IsSegmentSpot core dbr spot → Matches core dbr now → Matches core dbr (put_one now spot part v)
   one_put now (Core_word a) part v h m = set_matches core dbr now a _ m (segment_harmless now a _ h)
   one_put now (Segment_word s w) part v h m = m
 
-  puts_match : (now : List ℕ) (puts : List Change) → Each (λ (p : Change). IsSegmentSpot core dbr p.spot) puts → Matches core dbr now → Matches core dbr (core_put now puts)
+  pub puts_match : (now : List ℕ) (puts : List Change) → Each (λ (p : Change). IsSegmentSpot core dbr p.spot) puts → Matches core dbr now → Matches core dbr (core_put now puts)
   unfolding core_put
   puts_match now [] h m = m
   puts_match now (p ∷ puts) h m =
@@ -91,7 +96,7 @@ module _ (core : List ℕ) (dbr : DbrFields) (audited : IsAudited core dbr) wher
   lies_each puts h = each_map (IsSpot sdws_of spots_by) (λ (p : Change). IsSegmentSpot core dbr p.spot) (λ p k. lies_at k.seg k.w p.spot k.word) puts h
 
   -- a word of a segment lies inside core
-  inside_at : (a seg w : ℕ) → IsSegmentWord core dbr seg w a → a < length core
+  pub inside_at : (a seg w : ℕ) → IsSegmentWord core dbr seg w a → a < length core
   inside_at a seg w h =
       let k = place_parts core_store core dbr seg w (Core_word a) h in
       let i = core_spot_inside core dbr k.sdw seg w (Core_word a) k.found in
@@ -108,18 +113,18 @@ module _ (core : List ℕ) (dbr : DbrFields) (audited : IsAudited core dbr) wher
   marked_matches : (now : List ℕ) → Matches core dbr now → (kind : RequestKind) (seg w : ℕ) (p : Spot) → IsWord sdws_of spots_by seg w p → Matches core dbr (core_marked now dbr kind seg w)
   unfolding core_marked
   marked_matches now m kind seg w p h =
-      marks_match core dbr audited now (marks now dbr kind seg w) m (marks_are_ptws core dbr now m kind seg w h.sdw h.live (placed_within h.sdw w h.inside))
+      marks_match core dbr apart now (marks now dbr kind seg w) m (marks_are_ptws core dbr now m kind seg w h.sdw h.live (placed_within h.sdw w h.inside))
 
-  marked_near : (now : List ℕ) → Matches core dbr now → (kind : RequestKind) (seg w : ℕ) (p : Spot) → IsWord sdws_of spots_by seg w p → IsMarkedFrom core dbr now (core_marked now dbr kind seg w)
+  pub marked_near : (now : List ℕ) → Matches core dbr now → (kind : RequestKind) (seg w : ℕ) (p : Spot) → IsWord sdws_of spots_by seg w p → IsMarkedFrom core dbr now (core_marked now dbr kind seg w)
   unfolding core_marked
   marked_near now m kind seg w p h =
       marks_near core dbr now (marks now dbr kind seg w) (marks_are_ptws core dbr now m kind seg w h.sdw h.live (placed_within h.sdw w h.inside))
 
   ptw_no_segment : (a : ℕ) → IsPtwWord core dbr a → IsSegmentSpot core dbr (Core_word a) → ⊥
-  ptw_no_segment a (inl d) h = audited.third a (record { table = Directory; of = d; seg = h.0; w = h.1; word = h.2 })
-  ptw_no_segment a (inr p) h = audited.third a (record { table = Pages p.0; of = (p.1, p.2); seg = h.0; w = h.1; word = h.2 })
+  ptw_no_segment a (inl d) h = apart.segments a (record { table = Directory; of = d; seg = h.0; w = h.1; word = h.2 })
+  ptw_no_segment a (inr p) h = apart.segments a (record { table = Pages p.0; of = (p.1, p.2); seg = h.0; w = h.1; word = h.2 })
 
-  marked_at : (now new : List ℕ) → IsMarkedFrom core dbr now new → (p : Spot) → IsSegmentSpot core dbr p → core_word new p ≡ core_word now p
+  pub marked_at : (now new : List ℕ) → IsMarkedFrom core dbr now new → (p : Spot) → IsSegmentSpot core dbr p → core_word new p ≡ core_word now p
   marked_at now new near (Segment_word s w) lies = absurd lies
   marked_at now new near (Core_word a) lies =
       ⊎_elim (λ e. e) (λ k. absurd (ptw_no_segment a k.0 lies)) (near.words a)
@@ -133,17 +138,17 @@ module _ (core : List ℕ) (dbr : DbrFields) (audited : IsAudited core dbr) wher
   apart_by : (a seg w seg' w' : ℕ) → IsSegmentWord core dbr seg w a → IsSegmentWord core dbr seg' w' a → (s t : Bool) → (seg == seg') ≡ s → (w == w') ≡ t → (seg ≡ seg') × (w ≡ w')
   apart_by a seg w seg' w' h k true true e f = (eqb-true seg seg' e, eqb-true w w' f)
   apart_by a seg w seg' w' h k false t e f =
-      absurd (audited.fourth a (record { seg = seg; w = w; word = h; other_seg = seg'; other_w = w'; other_word = k; differ = inl (eqb-false seg seg' e) }))
+      absurd (apart.words a (record { seg = seg; w = w; word = h; other_seg = seg'; other_w = w'; other_word = k; differ = inl (eqb-false seg seg' e) }))
   apart_by a seg w seg' w' h k true false e f =
-      absurd (audited.fourth a (record { seg = seg; w = w; word = h; other_seg = seg'; other_w = w'; other_word = k; differ = inr (eqb-false w w' f) }))
+      absurd (apart.words a (record { seg = seg; w = w; word = h; other_seg = seg'; other_w = w'; other_word = k; differ = inr (eqb-false w w' f) }))
 
-  apart_at : (seg w seg' w' : ℕ) (p p' : Spot) → IsWord sdws_of spots_by seg w p → IsWord sdws_of spots_by seg' w' p' → same_spot p p' ≡ true → (seg ≡ seg') × (w ≡ w')
+  pub apart_at : (seg w seg' w' : ℕ) (p p' : Spot) → IsWord sdws_of spots_by seg w p → IsWord sdws_of spots_by seg' w' p' → same_spot p p' ≡ true → (seg ≡ seg') × (w ≡ w')
   apart_at seg w seg' w' p p' h k e =
       let i = core_spot_inside core dbr h.sdw seg w p h.found in
       let same = same_place p p' e (lies_at seg w p h) in
       apart_by i.address seg w seg' w' (segment_spot seg w i.address p h i.spot) (segment_spot seg' w' i.address p' k (sym same ∙ i.spot)) (seg == seg') (w == w') refl refl
 
-  word_at : (now : List ℕ) → Matches core dbr now → (seg w : ℕ) (p : Spot) → IsWord sdws_of spots_by seg w p → content_in core_store now dbr seg w ≡ Some (core_word now p)
+  pub word_at : (now : List ℕ) → Matches core dbr now → (seg w : ℕ) (p : Spot) → IsWord sdws_of spots_by seg w p → content_in core_store now dbr seg w ≡ Some (core_word now p)
   word_at now m seg w p h =
       content_placed core_store now dbr seg w p (record {
         sdw = h.sdw;

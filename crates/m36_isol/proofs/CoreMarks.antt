@@ -9,7 +9,7 @@ use Rattle.m36_model.specs.Act.{RequestKind}
 use Rattle.m36_model.specs.Store.{within}
 use Rattle.m36_model.specs.Place.{with_used, with_modified, marked_word, Mark, directory_marks, page_marks, is_write, marks, with_mark, with_marks, core_sdw, sdw_place_by, sdw_at, ptw_at, directory_at, page_at, in_bounds}
 use Rattle.m36_model.specs.Core.{unmarked}
-use Rattle.m36_model.specs.Audit.{IsSdwWord, Sdws, Directory, Pages, IsAudited}
+use Rattle.m36_model.specs.Audit.{IsSdwWord, Sdws, Directory, Pages, AreApart}
 use Rattle.m36_model.specs.StoreLaw.{Each}
 use Rattle.m36_model.specs.CoreLaw.{IsPtwWord, IsMarked, IsButMarked, IsMarkedFrom}
 use Rattle.m36_model.specs.declared.outcome.Refusal.{Refusal}
@@ -104,12 +104,12 @@ module _ (core : List ℕ) (dbr : DbrFields) where
   set_matches now a v m h = set_by now a v (slice_get now a) refl m h
 
   -- where the audit holds, a mark on a PTW changes no table but for marks
-  module _ (audited : IsAudited core dbr) where
-    ptw_apart : (a seg : ℕ) → a < length core → IsPtwWord core dbr a → IsSdwWord core dbr seg a → ⊥
+  module _ (apart : AreApart core dbr) where
+    pub ptw_apart : (a seg : ℕ) → a < length core → IsPtwWord core dbr a → IsSdwWord core dbr seg a → ⊥
     ptw_apart a seg inside (inl k) h =
-        audited.second a (record { inside = inside; table = Sdws; other = Directory; of = (seg, h); of_other = k; differ = λ e. cc })
+        apart.tables a (record { inside = inside; table = Sdws; other = Directory; of = (seg, h); of_other = k; differ = λ e. cc })
     ptw_apart a seg inside (inr k) h =
-        audited.second a (record { inside = inside; table = Sdws; other = Pages k.0; of = (seg, h); of_other = (k.1, k.2); differ = λ e. cc })
+        apart.tables a (record { inside = inside; table = Sdws; other = Pages k.0; of = (seg, h); of_other = (k.1, k.2); differ = λ e. cc })
 
     mark_harmless : (now : List ℕ) (m : Mark) → Matches core dbr now → IsPtwWord core dbr m.address → IsHarmless now m.address (marked_word m.modified (slice_index now m.address))
     mark_harmless now m k ptw =

@@ -15,7 +15,7 @@ use Rattle.m36_model.specs.Laws.{IsReachable, CoreReachLaw, KeptLaw}
 use Rattle.m36_isol.proofs.Alike.{IsReached}
 use Rattle.m36_isol.proofs.Spots.{each_map}
 use Rattle.m36_isol.proofs.Places.{place_is}
-use Rattle.m36_isol.proofs.CoreLaw.{lawful}
+use Rattle.m36_isol.proofs.CoreLaw.{are_apart, lawful}
 use Rattle.m36_isol.proofs.OneStep.{one_run, reached_writes}
 use Rattle.m36_isol.proofs.StepLaws.{tables_by, dbr_or}
 use Rattle.m36_isol.proofs.AuditedBy.{same_dbr, audited_by}
@@ -35,7 +35,7 @@ puts_elsewhere now (p ∷ puts) a h =
 
 module _ (core : List ℕ) (g : RegsFields) (audited : IsAudited core g.dbr) (store : List ℕ) (tables : HasTables core g.dbr store) (r : ℕ) (low : r ≤ g.ppr.prr) where
   abbrev law : Lawful core_store g.dbr (HasTables core g.dbr) (IsSegmentSpot core g.dbr) (IsMarkedFrom core g.dbr)
-  law = lawful core g.dbr audited
+  law = lawful core g.dbr (are_apart core g.dbr audited)
 
   abbrev here : State (List ℕ)
   here = record { regs = g; store = store }

@@ -6,13 +6,13 @@ use Rattle.m36_model.specs.Audit.{Finds, noted, AreFindings, IsAudited}
 use Rattle.m36_isol.specs.Findings.{FindingsLaw}
 
 -- what is found of one condition is determined
-same_find : (Breaks : ℕ → Type 0) (x y : Option ℕ) → Finds Breaks x → Finds Breaks y → x ≡ y
+pub same_find : (Breaks : ℕ → Type 0) (x y : Option ℕ) → Finds Breaks x → Finds Breaks y → x ≡ y
 same_find Breaks None None h k = refl
 same_find Breaks None (Some p) h k = absurd (h p k.0)
 same_find Breaks (Some p) None h k = absurd (k p h.0)
 same_find Breaks (Some p) (Some q) h k = ap (λ (n : ℕ). Some n) (le_antisymm (h.1 q k.0) (k.1 p h.0))
 
-holds : (Breaks : ℕ → Type 0) (x : Option ℕ) → x ≡ None → Finds Breaks x → (p : ℕ) → Breaks p → ⊥
+pub holds : (Breaks : ℕ → Type 0) (x : Option ℕ) → x ≡ None → Finds Breaks x → (p : ℕ) → Breaks p → ⊥
 holds Breaks x e h = subst (Finds Breaks) e h
 
 finds_none : (Breaks : ℕ → Type 0) → ((p : ℕ) → Breaks p → ⊥) → (x : Option ℕ) → Finds Breaks x → x ≡ None
@@ -60,7 +60,7 @@ unique_law core dbr findings others f g =
     let same : noted 1 f.first ++ noted 2 f.second ++ noted 3 f.third ++ noted 4 f.fourth ++ noted 5 f.fifth ++ noted 6 f.sixth ≡ noted 1 g.first ++ noted 2 g.second ++ noted 3 g.third ++ noted 4 g.fourth ++ noted 5 g.fifth ++ noted 6 g.sixth = λ i. noted 1 (first i) ++ noted 2 (second i) ++ noted 3 (third i) ++ noted 4 (fourth i) ++ noted 5 (fifth i) ++ noted 6 (sixth i) in
     f.listed ∙ same ∙ sym g.listed
 
-none_found : (core : List ℕ) (dbr : DbrFields) → IsAudited core dbr → AreFindings core dbr []
+pub none_found : (core : List ℕ) (dbr : DbrFields) → IsAudited core dbr → AreFindings core dbr []
 none_found core dbr audited =
     record {
       first = None;

@@ -21,3 +21,16 @@ pub mod AuditedBy
 pub mod CoreIsolated
 pub mod CoreReach
 pub mod Findings
+pub mod JointLaw
+pub mod JointStep
+pub mod Schedules
+pub mod JointFindings
+pub mod FlatLaw
+pub mod Mirror
+pub mod MirrorStep
+pub mod EffectRefusals
+pub mod Laid
+pub mod Booted
+pub mod PagedStep
+pub mod Moved
+pub mod LaidAudit

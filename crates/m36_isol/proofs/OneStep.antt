@@ -15,13 +15,13 @@ use Rattle.m36_isol.proofs.Programs.{IsEnded, program_meets}
 use Rattle.m36_isol.proofs.Contents.{overlay_none, content_equal, words_equal}
 
 module _ {S : Type 0} (o : Store S) (g : RegsFields) (Has : S → Type 0) (Lies : Spot → Type 0) (Near : S → S → Type 0) (L : Lawful o g.dbr Has Lies Near) (guarded : IsGuarded g.dbr L.sdws) (r : ℕ) (low : r ≤ g.ppr.prr) where
-  abbrev step_run : S → Ran Ending S
+  abbrev pub step_run : S → Ran Ending S
   step_run s = run o g (program g) (record { store = s; claims = []; refs = [] })
 
-  abbrev after_run : S → S
+  abbrev pub after_run : S → S
   after_run s = let t = step_run s in o.put t.mid.store (changes t.mid.claims t.value.puts)
 
-  abbrev writes_of : S → List Change
+  abbrev pub writes_of : S → List Change
   writes_of s = let t = step_run s in changes t.mid.claims t.value.puts
 
   begins_alike : (s t : S) → Has s → Has t → Alike o Has Lies Near L.sdws L.spots r s t (record { store = s; claims = []; refs = [] }) (record { store = t; claims = []; refs = [] })
@@ -90,7 +90,7 @@ module _ {S : Type 0} (o : Store S) (g : RegsFields) (Has : S → Type 0) (Lies 
           outcome = (value i).outcome;
         }
 
-    same_writes : writes_of s ≡ writes_of t
+    pub same_writes : writes_of s ≡ writes_of t
     same_writes =
         let b = both_run s t h k equal in
         let value = b.value in

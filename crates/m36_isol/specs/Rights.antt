@@ -1,4 +1,5 @@
--- What an allowed reference tells of the descriptor: the brackets and rights in plain terms, which the laws use.
+-- What an allowed reference tells of the descriptor: the brackets and rights in plain terms, which
+-- the laws use.
 use Rattle.std.specs.Prelude.{◌≡◌, ℕ, ◌<◌, ◌≤◌, ◌⊎◌, Bool, true, false, None}
 use Rattle.m36_desc.specs.Fields.{SdwFields}
 use Rattle.m36_model.specs.Act.{RequestKind, Fetch, Indirect, Odd, Read, Write, Transfer, Call}
@@ -32,7 +33,8 @@ pub record MayTransfer (d : SdwFields) (trr prr : ℕ) : Type 0 where
   pub executable : d.executable ≡ true
   pub ring : trr ≡ prr
 
--- a caller stands between the first and the third bracket, and enters the gate of another segment below its limiter
+-- a caller stands between the first and the third bracket, and enters the gate of another segment
+-- below its limiter
 pub record MayCall (d : SdwFields) (trr : ℕ) (same : Bool) (word : ℕ) : Type 0 where
   pub executable : d.executable ≡ true
   pub entry : d.no_gate ≡ false → same ≡ false → word < d.limit
@@ -40,11 +42,27 @@ pub record MayCall (d : SdwFields) (trr : ℕ) (same : Bool) (word : ℕ) : Type
   pub low : d.r1 ≤ trr
 
 pub record RightsLaw : Type 0 where
-  pub order : (kind : RequestKind) (d : SdwFields) (trr prr : ℕ) (same : Bool) (word : ℕ) → denied kind d trr prr same word ≡ None → IsOrdered d
-  pub fetch : (d : SdwFields) (trr prr : ℕ) (same : Bool) (word : ℕ) → denied Fetch d trr prr same word ≡ None → MayFetch d prr
-  pub indirect : (d : SdwFields) (trr prr : ℕ) (same : Bool) (word : ℕ) → denied Indirect d trr prr same word ≡ None → MayRead d trr same
-  pub odd : (d : SdwFields) (trr prr : ℕ) (same : Bool) (word : ℕ) → denied Odd d trr prr same word ≡ None → MayRead d trr same
-  pub read : (d : SdwFields) (trr prr : ℕ) (same : Bool) (word : ℕ) → denied Read d trr prr same word ≡ None → MayRead d trr same
-  pub write : (d : SdwFields) (trr prr : ℕ) (same : Bool) (word : ℕ) → denied Write d trr prr same word ≡ None → MayWrite d trr
-  pub transfer : (d : SdwFields) (trr prr : ℕ) (same : Bool) (word : ℕ) → denied Transfer d trr prr same word ≡ None → MayTransfer d trr prr
-  pub call : (d : SdwFields) (trr prr : ℕ) (same : Bool) (word : ℕ) → denied Call d trr prr same word ≡ None → MayCall d trr same word
+  pub order :
+      (kind : RequestKind) (d : SdwFields) (trr prr : ℕ) (same : Bool) (word : ℕ)
+      → denied kind d trr prr same word ≡ None → IsOrdered d
+  pub fetch :
+      (d : SdwFields) (trr prr : ℕ) (same : Bool) (word : ℕ)
+      → denied Fetch d trr prr same word ≡ None → MayFetch d prr
+  pub indirect :
+      (d : SdwFields) (trr prr : ℕ) (same : Bool) (word : ℕ)
+      → denied Indirect d trr prr same word ≡ None → MayRead d trr same
+  pub odd :
+      (d : SdwFields) (trr prr : ℕ) (same : Bool) (word : ℕ) → denied Odd d trr prr same word ≡ None
+      → MayRead d trr same
+  pub read :
+      (d : SdwFields) (trr prr : ℕ) (same : Bool) (word : ℕ)
+      → denied Read d trr prr same word ≡ None → MayRead d trr same
+  pub write :
+      (d : SdwFields) (trr prr : ℕ) (same : Bool) (word : ℕ)
+      → denied Write d trr prr same word ≡ None → MayWrite d trr
+  pub transfer :
+      (d : SdwFields) (trr prr : ℕ) (same : Bool) (word : ℕ)
+      → denied Transfer d trr prr same word ≡ None → MayTransfer d trr prr
+  pub call :
+      (d : SdwFields) (trr prr : ℕ) (same : Bool) (word : ℕ)
+      → denied Call d trr prr same word ≡ None → MayCall d trr same word

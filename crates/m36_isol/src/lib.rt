@@ -15,18 +15,24 @@
 //! Manual AL39, "Access control".
 #![tactic(auto)]
 
-ghost use Rattle.std.specs.Prelude.{ℕ, List};
+ghost use Rattle.std.specs.Prelude.{ℕ, List, map};
 ghost use Rattle.m36_desc.specs.Fields.{DbrFields};
 ghost use Rattle.m36_model.specs.Core.{core_store, core_tables};
-ghost use Rattle.m36_model.specs.Audit.{IsAudited};
+ghost use Rattle.m36_model.specs.Audit.{AreApart, IsAudited};
 ghost use Rattle.m36_model.specs.StoreLaw.{Lawful};
 ghost use Rattle.m36_model.specs.CoreLaw.{HasTables, IsSegmentSpot, IsMarkedFrom};
 ghost use Rattle.m36_model.specs.Isolation.{Isolated};
-ghost use Rattle.m36_isol.specs.Findings.{FindingsLaw};
+ghost use Rattle.m36_model.specs.Flat.{Flat, flat_store, flat_tables, HasDescriptors, IsFlatSpot, IsSameFlat, IsFlatAudited};
+ghost use Rattle.m36_model.specs.BootedCore.{booted_dbr, IsLaid};
+ghost use Rattle.m36_model.specs.PagedStep.{PagedStepLaw, MovedLaw, SameAuditLaw, FlatAuditLaw};
+ghost use Rattle.m36_model.specs.JointAudit.{IsJointlyAudited};
+ghost use Rattle.m36_model.specs.JointIsolation.{JointlyIsolated};
+ghost use Rattle.m36_isol.specs.Findings.{FindingsLaw, JointFindingsLaw};
 ghost use Rattle.m36_isol.specs.Rights.{RightsLaw};
 ghost use Rattle.m36_isol.specs.Gates.{GatesLaw};
 ghost use Rattle.m36_isol.specs.MarkBits.{MarksKeepBits};
-ghost use Rattle.m36_model.specs.Laws.{EffectLaw, DependsLaw, SightLaw, ReachLaw, CoreReachLaw, FallLaw, MarksLaw, AgreeLaw, KeptLaw};
+ghost use Rattle.m36_model.specs.Laws.{EffectLaw, EffectRefusals, DependsLaw, SightLaw, ReachLaw, CoreReachLaw};
+ghost use Rattle.m36_model.specs.Laws.{FallLaw, MarksLaw, AgreeLaw, KeptLaw};
 
 /// An audit finds nothing exactly where all six conditions hold, and there is one list of findings.
 pub fn law_findings()
@@ -44,55 +50,99 @@ pub fn law_gates()
     ensures { GatesLaw }
 {}
 
-/// Core as a store owes what the laws want, where the audit conditions hold: descriptors and places are by the tables
+/// Core as a store owes what the laws want, where table words and words of segments are apart, as three of the audit
+/// conditions say: descriptors and places are by the tables
 /// but for marks; a word at the place of a segment word is its content; marks and words written at segment words change
 /// neither tables nor other words. A mark changes no other bit of its page table word.
 pub fn law_store()
     ensures marks { MarksKeepBits }
-    ensures store { (core : List ℕ) (dbr : DbrFields) → IsAudited core dbr → Lawful core_store dbr (HasTables core dbr) (IsSegmentSpot core dbr) (IsMarkedFrom core dbr) }
+    ensures store { (core : List ℕ) (dbr : DbrFields) → AreApart core dbr
+        → Lawful core_store dbr (HasTables core dbr) (IsSegmentSpot core dbr)
+        (IsMarkedFrom core dbr) }
 {}
 
 /// An effect changes the ring in CALL6 and RTCD alone and the DBR in LDBR alone, and puts as many words as its operand
-/// kind writes.
+/// kind writes. None is refused with a directed fault, an access violation or a fault tag.
 pub fn law_effect()
-    ensures { EffectLaw }
+    ensures effects { EffectLaw }
+    ensures refusals { EffectRefusals }
 {}
 
 /// In ring r and above a step refers to segments in sight of r alone, and writes to segments in reach of r alone; and
 /// what stands outside the sight of r alters no record.
 pub fn law_sight()
-    ensures depends { (core : List ℕ) (dbr : DbrFields) → IsAudited core dbr → DependsLaw core_store (core_tables core dbr) }
-    ensures refers { (core : List ℕ) (dbr : DbrFields) → IsAudited core dbr → SightLaw core_store (core_tables core dbr) }
+    ensures depends { (core : List ℕ) (dbr : DbrFields) → IsAudited core dbr
+        → DependsLaw core_store (core_tables core dbr) }
+    ensures refers { (core : List ℕ) (dbr : DbrFields) → IsAudited core dbr
+        → SightLaw core_store (core_tables core dbr) }
 {}
 
 /// In ring r and above a step changes no content outside the reach of r, and of core words those in reach alone, but
 /// for marks on page table words.
 pub fn law_reach()
-    ensures content { (core : List ℕ) (dbr : DbrFields) → IsAudited core dbr → ReachLaw core_store (core_tables core dbr) }
+    ensures content { (core : List ℕ) (dbr : DbrFields) → IsAudited core dbr
+        → ReachLaw core_store (core_tables core dbr) }
     ensures words { (core : List ℕ) (dbr : DbrFields) → IsAudited core dbr → CoreReachLaw core dbr }
 {}
 
 /// From ring r and above a step ends below r by a gate call alone.
 pub fn law_fall()
-    ensures { (core : List ℕ) (dbr : DbrFields) → IsAudited core dbr → FallLaw core_store (core_tables core dbr) }
+    ensures { (core : List ℕ) (dbr : DbrFields) → IsAudited core dbr
+        → FallLaw core_store (core_tables core dbr) }
 {}
 
 /// Marks alter no descriptor, no place and no record.
 pub fn law_marks()
-    ensures { (core : List ℕ) (dbr : DbrFields) → IsAudited core dbr → MarksLaw core_store (core_tables core dbr) }
+    ensures { (core : List ℕ) (dbr : DbrFields) → IsAudited core dbr
+        → MarksLaw core_store (core_tables core dbr) }
 {}
 
 /// In ring r and above one step of two states that agree tells the same, and leaves them agreeing.
 pub fn law_agree()
-    ensures { (core : List ℕ) (dbr : DbrFields) → IsAudited core dbr → AgreeLaw core_store (core_tables core dbr) }
+    ensures { (core : List ℕ) (dbr : DbrFields) → IsAudited core dbr
+        → AgreeLaw core_store (core_tables core dbr) }
 {}
 
 /// Where the audit conditions hold, the tables isolate each ring.
 pub fn law_window()
-    ensures { (core : List ℕ) (dbr : DbrFields) → IsAudited core dbr → Isolated core_store (core_tables core dbr) }
+    ensures { (core : List ℕ) (dbr : DbrFields) → IsAudited core dbr
+        → Isolated core_store (core_tables core dbr) }
 {}
 
 /// A step in any ring that executes no LDBR keeps the audit conditions.
 pub fn law_kept()
     ensures { KeptLaw }
+{}
+
+/// A joint audit of several processes finds nothing exactly where all its conditions hold, and there is one list of
+/// findings.
+pub fn law_joint_findings()
+    ensures { JointFindingsLaw }
+{}
+
+/// Where the joint audit conditions hold of a core and the descriptor segment base registers of several processes, every
+/// schedule of them is isolated in each ring from 1 to 7: whatever the processes do in that ring and above, until one of
+/// them faults, stops, or leaves through a gate, no word changes that the ring may not write, and no event depends on a
+/// word that it may not read; the event that ends below the ring is a call through a gate of its own process.
+pub fn law_schedule()
+    ensures { (core : List ℕ) (dbrs : List DbrFields) → IsJointlyAudited core dbrs → JointlyIsolated core_store (map (core_tables core) dbrs) }
+{}
+
+/// A flat memory, of descriptors and of the content of segments without page tables, owes what the laws want, and where
+/// the audit conditions that speak of descriptors hold of it, its tables isolate each ring.
+pub fn law_flat()
+    ensures store { (s : Flat) (dbr : DbrFields) → Lawful flat_store dbr (HasDescriptors s dbr) IsFlatSpot IsSameFlat }
+    ensures window { (s : Flat) (dbr : DbrFields) → IsFlatAudited s dbr → Isolated flat_store (flat_tables s dbr) }
+{}
+
+/// Of the core of a booted image, whatever frames its pages are in, table words and words of segments are apart. A step
+/// over it is the step over the flat memory for which it stands, or ends at a page that is in no frame, or executes ABSA,
+/// and leaves the core that of the image. Moves of pages between frames and the words that are kept change nothing that
+/// the flat memory shows. The audit conditions hold of it as of its descriptors.
+pub fn law_paged()
+    ensures apart { (core : List ℕ) (frames : ℕ) → IsLaid core frames → AreApart core booted_dbr }
+    ensures step { PagedStepLaw }
+    ensures moved { MovedLaw }
+    ensures audit { SameAuditLaw }
+    ensures flat { FlatAuditLaw }
 {}

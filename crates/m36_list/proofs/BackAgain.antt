@@ -24,10 +24,10 @@ use Rattle.alm_parse.specs.Members.{members, numbers_given, place_out}
 use Rattle.alm_parse.specs.Operations.{operation_of, directive}
 use Rattle.alm_parse.specs.Rows.{row_at}
 use Rattle.alm_parse.specs.Lines.{line_given}
-use Rattle.alm_asm.specs.declared.spot.Spot.{Spot}
+use Rattle.alm_lines.specs.declared.spot.Spot.{Spot}
 use Rattle.alm_asm.specs.declared.tables.Tables.{Tables}
-use Rattle.alm_asm.specs.declared.deed.Deed.TheVariants as deed
-use Rattle.alm_asm.specs.Deeds.{deed_named, deed_of}
+use Rattle.alm_parse.specs.declared.deed.Deed.TheVariants as deed
+use Rattle.alm_parse.specs.Deeds.{deed_named}
 use Rattle.alm_asm.specs.Words.{words_by}
 use Rattle.alm_asm.specs.Assembly.{assembled}
 use Rattle.m36_list.specs.Modifiers.{modifier_text}
@@ -48,7 +48,7 @@ use Rattle.m36_list.proofs.LineRead.{line_read}
 pub record IsWord (w number : ℕ) (before text after : List ℕ) : Type 0 where
   pub line : Line36
   pub given : line_given (before ++ (text ++ after)) (row_at number (length before) (length before + length text)) ≡ Ok line
-  pub places : (tables : Tables) (spot : Spot) → words_by (before ++ (text ++ after)) tables spot line.args (deed_of (before ++ (text ++ after)) line.op) ≡ w ∷ []
+  pub places : (tables : Tables) (spot : Spot) → words_by (before ++ (text ++ after)) tables spot line.args line.deed ≡ w ∷ []
   pub alone : assembled record { text = before ++ (text ++ after); lines = line ∷ [] } ≡ Ok (object_of_word w)
 
 some_of : (name : List ℕ) → bytes_eq name [] ≡ false → 0 < length name
@@ -97,13 +97,13 @@ named_back w i name text before after line number word sized off named tagged sh
     let whole : source ≡ (before ++ (name ++ codes " ")) ++ (operand ++ after) = ap (λ (t : List ℕ). before ++ (t ++ after)) shape ∙ simp append_assoc in
     let said = operand_at source (before ++ (name ++ codes " ")) after (length before + length name + 1) (length before + length line) i text fits m.back whole (omega arith) (omega arith) in
     let read = line_read number line before name operand after Instruction (operand_of said.pr said.minus said.v said.span i.tag) shape o.plain (some_of name o.some) plain (omega arith) (instruction_operation i.code i.bit27 name named o) (λ source rest. refl) said.says in
-    let does : deed_named (slice_of source read.op) ≡ deed.Instruction i.code i.bit27 = ap deed_named read.named ∙ instruction_deed i.code i.bit27 name named o.instruction in
+    let does = instruction_deed i.code i.bit27 name named o.instruction in
     let back : gives said.pr said.minus said.v i.tag i.code i.bit27 ≡ w = ap (λ (j : InstFields). inst_word j) (said.address.back i.code i.bit27 i.tag) ∙ same_word i sized off ∙ word in
     record {
-      line = line_of number (length before) read.op (operand_of said.pr said.minus said.v said.span i.tag);
+      line = line_of number (length before) read.op (deed_named name) (operand_of said.pr said.minus said.v said.span i.tag);
       given = read.given;
-      places = λ tables spot. instruction_placed source tables spot read.op i.code i.bit27 said.pr said.minus said.v said.span i.tag does ∙ ap (λ (n : ℕ). n ∷ []) back;
-      alone = instruction_alone source number (length before) read.op i.code i.bit27 said.pr said.minus said.v said.span i.tag w does said.address.room back;
+      places = λ tables spot. instruction_placed source tables spot read.op (deed_named name) i.code i.bit27 said.pr said.minus said.v said.span i.tag does ∙ ap (λ (n : ℕ). n ∷ []) back;
+      alone = instruction_alone source number (length before) read.op (deed_named name) i.code i.bit27 said.pr said.minus said.v said.span i.tag w does said.address.room back;
     }
 
 -- an octal constant
@@ -133,12 +133,12 @@ constant_back w number before after fits =
     let all = length-append (codes "oct ") digits in
     let slice = slice_at source (before ++ codes "oct ") digits after (length before + 3 + 1) (length before + length (codes "oct " ++ digits)) whole (omega arith) (omega arith) in
     let read = line_read number (codes "oct " ++ digits) before (codes "oct") digits after Octal (Number w ∷ []) refl refl (omega arith) (octal_passes_none is_ending 12 w no_ending) (omega arith) octal_operation (λ source rest. refl) (octal_said _ (length before + 3 + 1) _ w fits slice (omega arith)) in
-    let does : deed_named (slice_of source read.op) ≡ deed.Words = ap deed_named read.named ∙ constant_deed in
+    let does = constant_deed in
     record {
-      line = line_of number (length before) read.op (Number w ∷ []);
+      line = line_of number (length before) read.op (deed_named (codes "oct")) (Number w ∷ []);
       given = read.given;
-      places = λ tables spot. constant_placed source tables spot read.op w does;
-      alone = constant_alone source number (length before) read.op w does;
+      places = λ tables spot. constant_placed source tables spot read.op (deed_named (codes "oct")) w does;
+      alone = constant_alone source number (length before) read.op (deed_named (codes "oct")) w does;
     }
 
 parts_back : (w number : ℕ) (before after : List ℕ) (i : InstFields) (name text : Option (List ℕ)) → w < 2 ^ 36 → inst_word i ≡ w → IsInst i → i.inhibit ≡ false → name_at i.code i.bit27 ≡ name → modifier_text i.tag ≡ text

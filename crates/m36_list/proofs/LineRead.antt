@@ -11,6 +11,7 @@ use Rattle.alm_parse.specs.Bodies.{span_at}
 use Rattle.alm_parse.specs.declared.operation.Operation.{Operation}
 use Rattle.alm_parse.specs.declared.args.Arg.{Arg}
 use Rattle.alm_parse.specs.Operations.{operation_of}
+use Rattle.alm_parse.specs.Deeds.{deed_named}
 use Rattle.alm_parse.specs.Lines.{line_given, label_refusal, args_of, args_with, operand_for}
 use Rattle.alm_parse.specs.Rows.{row_at}
 use Rattle.alm_parse.specs.Heads.{head_from, head_of, operand_start, end_from, operand_in}
@@ -79,7 +80,7 @@ operation_at_name source before name rest after from to whole begin end = slice_
 pub record IsLine (number : ℕ) (before text after name : List ℕ) (arguments : List Arg) : Type 0 where
   pub op : Span
   pub named : slice_of (before ++ (text ++ after)) op ≡ name
-  pub given : line_given (before ++ (text ++ after)) (row_at number (length before) (length before + length text)) ≡ Ok (line_of number (length before) op arguments)
+  pub given : line_given (before ++ (text ++ after)) (row_at number (length before) (length before + length text)) ≡ Ok (line_of number (length before) op (deed_named name) arguments)
 
 pub line_read : (number : ℕ) (text before name operand after : List ℕ) (operation : Operation) (arguments : List Arg)
     → text ≡ name ++ 32 ∷ operand → list_any is_parting name ≡ false → 0 < length name → list_any is_ending operand ≡ false → 0 < length operand
@@ -101,5 +102,5 @@ line_read number text before name operand after operation arguments shape plain 
     record {
       op = span_at from (from + length name);
       named = op;
-      given = rw (head, op, known, taken source (span_at (from + length name) to), rest, said) refl;
+      given = rw (head, op, known, taken source (span_at (from + length name) to), rest, said, op) refl;
     }

@@ -6,8 +6,8 @@ use Rattle.m36_inst.proofs.OneToOne.{named_code}
 use Rattle.alm_parse.specs.declared.operation.Operation.TheVariants.{Names, Value, Section, Decimal, Octal, Characters, Halves, Block, Bare, End}
 use Rattle.alm_parse.specs.Tokens.{is_text}
 use Rattle.alm_parse.specs.Operations.{directive}
-use Rattle.alm_asm.specs.declared.deed.Deed.TheVariants as deed
-use Rattle.alm_asm.specs.Deeds.{instruction_of, deed_named}
+use Rattle.alm_parse.specs.declared.deed.Deed.TheVariants as deed
+use Rattle.alm_parse.specs.Deeds.{instruction_of, deed_named}
 
 -- what the parser takes for no directive, the assembler takes for none
 no_directive : (code : Option (ℕ × Bool)) (a b c d e f g h i j k l : Bool)

@@ -5,12 +5,12 @@ use Rattle.m36_inst.specs.Fields.{InstFields}
 use Rattle.alm_parse.specs.declared.span.Span.{Span}
 use Rattle.alm_parse.specs.declared.expression.Atom.TheVariants.{Number}
 use Rattle.alm_parse.specs.declared.expression.Term.{Term}
-use Rattle.alm_asm.specs.declared.sum.Sum.{Sum}
-use Rattle.alm_asm.specs.declared.sum.Kind.TheVariants.{Absolute}
-use Rattle.alm_asm.specs.declared.spot.Spot.{Spot}
-use Rattle.alm_asm.specs.Sums.{balance, nothing, half_of, offset_of, absolute, sum_plus, sum_turned, kind_of}
-use Rattle.alm_asm.specs.Expressions.{term_sum, added, sum_of, is_undefined, place_undefined}
-use Rattle.alm_asm.specs.Refusals.{has_room}
+use Rattle.alm_lines.specs.declared.sum.Sum.{Sum}
+use Rattle.alm_lines.specs.declared.sum.Kind.TheVariants.{Absolute}
+use Rattle.alm_lines.specs.declared.spot.Spot.{Spot}
+use Rattle.alm_lines.specs.Sums.{balance, nothing, half_of, offset_of, absolute, sum_plus, sum_turned, kind_of}
+use Rattle.alm_lines.specs.Expressions.{term_sum, added, sum_of, is_undefined, place_undefined}
+use Rattle.alm_lines.specs.Refusals.{has_room}
 use Rattle.alm_asm.specs.LineRefusals.{own_room}
 use Rattle.alm_asm.specs.Words.{own_inst}
 
@@ -20,22 +20,26 @@ number_term minus v span = record { what = Number v; span = span; minus = minus 
 -- a number that is added, and one that is taken away
 abbrev pub number_sum : Bool → ℕ → Sum
 number_sum false v = absolute v
-number_sum true v = record { value = balance 0 v; text = nothing; inner = nothing; outer = nothing }
+number_sum true v = record { value = balance 0 v; text = nothing; inner = nothing; outer = nothing; unknown = false }
 
 pub sum_is : (text : List ℕ) (symbols : List (List ℕ × Sum)) (spot : Spot) (minus : Bool) (v : ℕ) (span : Span) → sum_of text symbols spot (number_term minus v span ∷ []) ≡ number_sum minus v
 unfolding added term_sum sum_plus sum_turned
 sum_is text symbols spot false v span =
     let same : 0 + v ≡ v = omega arith in
-    λ k. record { value = balance (same k) 0; text = nothing; inner = nothing; outer = nothing }
+    λ k. record { value = balance (same k) 0; text = nothing; inner = nothing; outer = nothing; unknown = false }
 sum_is text symbols spot true v span =
     let same : 0 + v ≡ v = omega arith in
-    λ k. record { value = balance 0 (same k); text = nothing; inner = nothing; outer = nothing }
+    λ k. record { value = balance 0 (same k); text = nothing; inner = nothing; outer = nothing; unknown = false }
 
 -- it is a number, and no symbol of it is missing
 pub kind_is : (minus : Bool) (v : ℕ) → kind_of (number_sum minus v) ≡ Absolute
 unfolding kind_of
 kind_is false v = refl
 kind_is true v = refl
+
+pub known_is : (minus : Bool) (v : ℕ) → (number_sum minus v).unknown ≡ false
+known_is false v = refl
+known_is true v = refl
 
 pub none_missing : (text : List ℕ) (symbols : List (List ℕ × Sum)) (minus : Bool) (v : ℕ) (span : Span) → place_undefined text symbols (number_term minus v span ∷ []) ≡ None
 unfolding place_undefined is_undefined

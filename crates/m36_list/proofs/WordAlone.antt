@@ -1,41 +1,41 @@
 -- Lines that place one word: an instruction whose address is one number, and one octal constant.
-use Rattle.std.proofs.Common.{ℕ, ◌≡◌, Bool, true, List, [], ◌∷◌, Option, Some, None, Ok, refl}
+use Rattle.std.proofs.Common.{ℕ, ◌≡◌, Bool, true, List, [], ◌∷◌, Option, Some, None, Ok, refl, ap}
 use Rattle.alm_parse.specs.declared.span.Span.{Span}
 use Rattle.alm_parse.specs.declared.args.Arg.{Arg}
 use Rattle.alm_parse.specs.declared.args.Arg.TheVariants.{Number, Operand}
 use Rattle.alm_parse.specs.declared.line.Line36.{Line36}
 use Rattle.alm_parse.specs.SourceFields.{Source}
-use Rattle.alm_parse.specs.Tokens.{slice_of}
 use Rattle.m36_inst.specs.Instruction.{inst_word}
-use Rattle.obj36.specs.ObjectSegment.{definition_part, definition_section, linkage_part, linkage_section, symbol_part, symbol_section, map_part, map_words, words_of, definition_names, are_distinct, are_rising, is_well_formed, all_link_names, definition_words, expression_words, link_words, relocation_words}
-use Rattle.obj36.specs.Names.{with_names, all_name_words}
-use Rattle.alm_asm.specs.declared.spot.Spot.{Spot}
+use Rattle.obj36_parts.specs.ObjectSegment.{definition_part, definition_section, linkage_part, linkage_section, symbol_part, symbol_section, map_part, map_words, words_of, definition_names, are_distinct, are_rising, is_well_formed, all_link_names, definition_words, expression_words, link_words, relocation_words}
+use Rattle.obj36_parts.specs.Names.{with_names, all_name_words}
+use Rattle.alm_lines.specs.declared.spot.Spot.{Spot}
 use Rattle.alm_asm.specs.declared.tables.Tables.{Tables}
-use Rattle.alm_asm.specs.declared.deed.Deed.TheVariants as deed
-use Rattle.alm_asm.specs.declared.refusal.Refusal.{Refusal}
-use Rattle.alm_asm.specs.declared.sum.Sum.{Sum}
-use Rattle.alm_asm.specs.Sums.{half_of, offset_of}
-use Rattle.alm_asm.specs.Expressions.{expression_place}
-use Rattle.alm_asm.specs.Refusals.{sooner, has_room, is_said, expression_refusal}
-use Rattle.alm_asm.specs.Deeds.{deed_named, deed_of, words_of_args}
-use Rattle.alm_asm.specs.Spots.{start, below, end_of}
-use Rattle.alm_asm.specs.Layout.{labels_refused, refused_with, over, refused_after, layout_refusal}
+use Rattle.alm_parse.specs.declared.deed.Deed.{Deed}
+use Rattle.alm_parse.specs.declared.deed.Deed.TheVariants as deed
+use Rattle.alm_lines.specs.declared.refusal.Refusal.{Refusal}
+use Rattle.alm_lines.specs.declared.sum.Sum.{Sum}
+use Rattle.alm_lines.specs.Sums.{half_of, offset_of}
+use Rattle.alm_lines.specs.Expressions.{expression_place}
+use Rattle.alm_lines.specs.Refusals.{sooner, has_room, is_said, expression_refusal}
+use Rattle.alm_lines.specs.Arguments.{words_of_args}
+use Rattle.alm_lines.specs.Spots.{start, below, end_of}
+use Rattle.alm_lines.specs.Layout.{labels_refused, refused_with, over, refused_after, layout_refusal}
 use Rattle.alm_asm.specs.Links.{links_after, links_from}
 use Rattle.alm_asm.specs.Words.{own_inst, instruction_word, words_by, words_of_line, words_from}
 use Rattle.alm_asm.specs.Marks.{marks_after, marks_from}
 use Rattle.alm_asm.specs.Definitions.{definitions_after, definitions_from}
-use Rattle.alm_asm.specs.LineRefusals.{own_room, line_refusal, lines_refusal}
+use Rattle.alm_asm.specs.LineRefusals.{own_room, line_refusal, otherwise, lines_refusal}
 use Rattle.alm_asm.specs.Growth.{at_first, with_marks, grown_by, is_over, growth_refusal}
 use Rattle.alm_asm.specs.Assembly.{tables_of, bound_from, parts_with, parts_of, refusal_of, assembled}
 use Rattle.m36_list.specs.Assembled.{object_of_word}
-use Rattle.m36_list.proofs.NumberSums.{number_term, number_sum, sum_is, kind_is, none_missing}
+use Rattle.m36_list.proofs.NumberSums.{number_term, number_sum, sum_is, kind_is, known_is, none_missing}
 
 -- such a line alone
-abbrev pub line_of : ℕ → ℕ → Span → List Arg → Line36
-line_of number at op arguments = record { labels = []; args = arguments; op = Some op; start = at; line = number }
+abbrev pub line_of : ℕ → ℕ → Span → Deed → List Arg → Line36
+line_of number at op d arguments = record { labels = []; args = arguments; op = Some op; deed = d; start = at; line = number }
 
-abbrev pub source_of : List ℕ → ℕ → ℕ → Span → List Arg → Source
-source_of text number at op arguments = record { text = text; lines = line_of number at op arguments ∷ [] }
+abbrev pub source_of : List ℕ → ℕ → ℕ → Span → Deed → List Arg → Source
+source_of text number at op d arguments = record { text = text; lines = line_of number at op d arguments ∷ [] }
 
 abbrev pub operand_of : Option ℕ → Bool → ℕ → Span → ℕ → List Arg
 operand_of pr minus v span tag = Operand pr None None (number_term minus v span ∷ []) tag ∷ []
@@ -55,42 +55,42 @@ neither a b first second = rw (first, second) refl
 -- what the lines of a source are refused for, beside the lengths of sections
 abbrev lines_of : Source → Option Refusal
 lines_of source =
-    lines_refusal source.text (tables_of source.text source.lines) [] (layout_refusal source.text None [] start source.lines) start source.lines
+    sooner (layout_refusal source.text None [] start source.lines) (lines_refusal source.text (tables_of source.text source.lines) [] start source.lines)
 
 -- ---- an octal constant
 
-pub constant_placed : (text : List ℕ) (tables : Tables) (spot : Spot) (op : Span) (w : ℕ) → deed_named (slice_of text op) ≡ deed.Words
-    → words_by text tables spot (Number w ∷ []) (deed_of text (Some op)) ≡ w ∷ []
+pub constant_placed : (text : List ℕ) (tables : Tables) (spot : Spot) (op : Span) (d : Deed) (w : ℕ) → d ≡ deed.Words
+    → words_by text tables spot (Number w ∷ []) d ≡ w ∷ []
 unfolding words_of_args
-constant_placed text tables spot op w does = rw (does) refl
+constant_placed text tables spot op d w does = rw (does) refl
 
-constant_lines : (text : List ℕ) (number at : ℕ) (op : Span) (w : ℕ) → deed_named (slice_of text op) ≡ deed.Words
-    → lines_of (source_of text number at op (Number w ∷ [])) ≡ None
+constant_lines : (text : List ℕ) (number at : ℕ) (op : Span) (d : Deed) (w : ℕ) → d ≡ deed.Words
+    → lines_of (source_of text number at op d (Number w ∷ [])) ≡ None
 unfolding lines_refusal line_refusal layout_refusal refused_after labels_refused refused_with over below words_of_args
-constant_lines text number at op w does = rw (does) refl
+constant_lines text number at op d w does = rw (does) refl
 
-constant_short : (text : List ℕ) (symbols : List (List ℕ × Sum)) (number at : ℕ) (op : Span) (w : ℕ) → deed_named (slice_of text op) ≡ deed.Words
-    → growth_refusal text symbols at_first start (line_of number at op (Number w ∷ []) ∷ []) ≡ None
+constant_short : (text : List ℕ) (symbols : List (List ℕ × Sum)) (number at : ℕ) (op : Span) (d : Deed) (w : ℕ) → d ≡ deed.Words
+    → growth_refusal text symbols at_first start (line_of number at op d (Number w ∷ []) ∷ []) ≡ None
 unfolding growth_refusal grown_by with_marks is_over below words_of_args
-constant_short text symbols number at op w does = rw (does) refl
+constant_short text symbols number at op d w does = rw (does) refl
 
-constant_unrefused : (text : List ℕ) (number at : ℕ) (op : Span) (w : ℕ) → deed_named (slice_of text op) ≡ deed.Words
-    → refusal_of (source_of text number at op (Number w ∷ [])) ≡ None
+constant_unrefused : (text : List ℕ) (number at : ℕ) (op : Span) (d : Deed) (w : ℕ) → d ≡ deed.Words
+    → refusal_of (source_of text number at op d (Number w ∷ [])) ≡ None
 unfolding refusal_of
-constant_unrefused text number at op w does =
-    let source = source_of text number at op (Number w ∷ []) in
+constant_unrefused text number at op d w does =
+    let source = source_of text number at op d (Number w ∷ []) in
     let symbols = (tables_of text source.lines).symbols in
-    neither (lines_of source) (growth_refusal text symbols at_first start source.lines) (constant_lines text number at op w does) (constant_short text symbols number at op w does)
+    neither (lines_of source) (growth_refusal text symbols at_first start source.lines) (constant_lines text number at op d w does) (constant_short text symbols number at op d w does)
 
-constant_parts : (text : List ℕ) (number at : ℕ) (op : Span) (w : ℕ) → deed_named (slice_of text op) ≡ deed.Words
-    → parts_of (source_of text number at op (Number w ∷ [])) ≡ object_of_word w
+constant_parts : (text : List ℕ) (number at : ℕ) (op : Span) (d : Deed) (w : ℕ) → d ≡ deed.Words
+    → parts_of (source_of text number at op d (Number w ∷ [])) ≡ object_of_word w
 unfolding parts_with tables_of words_from words_of_line definitions_from definitions_after links_from links_after marks_from marks_after bound_from end_of below words_of_args
-constant_parts text number at op w does = rw (does) refl
+constant_parts text number at op d w does = rw (does) refl
 
-pub constant_alone : (text : List ℕ) (number at : ℕ) (op : Span) (w : ℕ) → deed_named (slice_of text op) ≡ deed.Words
-    → assembled (source_of text number at op (Number w ∷ [])) ≡ Ok (object_of_word w)
-constant_alone text number at op w does =
-    by_parts (source_of text number at op (Number w ∷ [])) w (constant_unrefused text number at op w does) (constant_parts text number at op w does)
+pub constant_alone : (text : List ℕ) (number at : ℕ) (op : Span) (d : Deed) (w : ℕ) → d ≡ deed.Words
+    → assembled (source_of text number at op d (Number w ∷ [])) ≡ Ok (object_of_word w)
+constant_alone text number at op d w does =
+    by_parts (source_of text number at op d (Number w ∷ [])) w (constant_unrefused text number at op d w does) (constant_parts text number at op d w does)
 
 -- ---- an instruction
 
@@ -99,53 +99,53 @@ abbrev pub gives : Option ℕ → Bool → ℕ → ℕ → ℕ → Bool → ℕ
 gives pr minus v tag code bit27 =
     inst_word (own_inst code bit27 pr (half_of (number_sum minus v).value) (offset_of (number_sum minus v).value) tag)
 
-pub instruction_placed : (text : List ℕ) (tables : Tables) (spot : Spot) (op : Span) (code : ℕ) (bit27 : Bool) (pr : Option ℕ) (minus : Bool) (v : ℕ) (span : Span) (tag : ℕ) → deed_named (slice_of text op) ≡ deed.Instruction code bit27
-    → words_by text tables spot (operand_of pr minus v span tag) (deed_of text (Some op)) ≡ gives pr minus v tag code bit27 ∷ []
+pub instruction_placed : (text : List ℕ) (tables : Tables) (spot : Spot) (op : Span) (d : Deed) (code : ℕ) (bit27 : Bool) (pr : Option ℕ) (minus : Bool) (v : ℕ) (span : Span) (tag : ℕ) → d ≡ deed.Instruction code bit27
+    → words_by text tables spot (operand_of pr minus v span tag) d ≡ gives pr minus v tag code bit27 ∷ []
 unfolding instruction_word
-instruction_placed text tables spot op code bit27 pr minus v span tag does = rw (does, sum_is text tables.symbols spot minus v span) refl
+instruction_placed text tables spot op d code bit27 pr minus v span tag does = rw (does, sum_is text tables.symbols spot minus v span) refl
 
 expression_unrefused : (text : List ℕ) (symbols : List (List ℕ × Sum)) (spot : Spot) (line : Line36) (pr : Option ℕ) (minus : Bool) (v : ℕ) (span : Span) (place : ℕ) → has_room (own_room pr) (number_sum minus v).value ≡ true
     → expression_refusal text symbols spot line (number_term minus v span ∷ []) place (own_room pr) true ≡ None
 unfolding expression_refusal is_said
 expression_unrefused text symbols spot line pr minus v span place room =
-    rw (none_missing text symbols minus v span, sum_is text symbols spot minus v span, room, kind_is minus v) refl
+    rw (none_missing text symbols minus v span, sum_is text symbols spot minus v span, known_is minus v, room, kind_is minus v) refl
 
-instruction_lines : (text : List ℕ) (number at : ℕ) (op : Span) (code : ℕ) (bit27 : Bool) (pr : Option ℕ) (minus : Bool) (v : ℕ) (span : Span) (tag : ℕ) → deed_named (slice_of text op) ≡ deed.Instruction code bit27
+instruction_lines : (text : List ℕ) (number at : ℕ) (op : Span) (d : Deed) (code : ℕ) (bit27 : Bool) (pr : Option ℕ) (minus : Bool) (v : ℕ) (span : Span) (tag : ℕ) → d ≡ deed.Instruction code bit27
     → has_room (own_room pr) (number_sum minus v).value ≡ true
-    → lines_of (source_of text number at op (operand_of pr minus v span tag)) ≡ None
+    → lines_of (source_of text number at op d (operand_of pr minus v span tag)) ≡ None
 unfolding lines_refusal line_refusal layout_refusal refused_after labels_refused refused_with over below
-instruction_lines text number at op code bit27 pr minus v span tag does room =
+instruction_lines text number at op d code bit27 pr minus v span tag does room =
     let arguments = operand_of pr minus v span tag in
-    let line = line_of number at op arguments in
+    let line = line_of number at op d arguments in
     let symbols = (tables_of text (line ∷ [])).symbols in
-    rw does (expression_unrefused text symbols start line pr minus v span (expression_place (number_term minus v span ∷ [])) room)
+    rw does (ap (λ (r : Option Refusal). otherwise r None) (expression_unrefused text symbols start line pr minus v span (expression_place (number_term minus v span ∷ [])) room))
 
-instruction_short : (text : List ℕ) (symbols : List (List ℕ × Sum)) (number at : ℕ) (op : Span) (code : ℕ) (bit27 : Bool) (pr : Option ℕ) (minus : Bool) (v : ℕ) (span : Span) (tag : ℕ) → deed_named (slice_of text op) ≡ deed.Instruction code bit27
-    → growth_refusal text symbols at_first start (line_of number at op (operand_of pr minus v span tag) ∷ []) ≡ None
+instruction_short : (text : List ℕ) (symbols : List (List ℕ × Sum)) (number at : ℕ) (op : Span) (d : Deed) (code : ℕ) (bit27 : Bool) (pr : Option ℕ) (minus : Bool) (v : ℕ) (span : Span) (tag : ℕ) → d ≡ deed.Instruction code bit27
+    → growth_refusal text symbols at_first start (line_of number at op d (operand_of pr minus v span tag) ∷ []) ≡ None
 unfolding growth_refusal grown_by with_marks is_over below
-instruction_short text symbols number at op code bit27 pr minus v span tag does =
+instruction_short text symbols number at op d code bit27 pr minus v span tag does =
     rw (does, sum_is, kind_is minus v) refl
 
-instruction_unrefused : (text : List ℕ) (number at : ℕ) (op : Span) (code : ℕ) (bit27 : Bool) (pr : Option ℕ) (minus : Bool) (v : ℕ) (span : Span) (tag : ℕ) → deed_named (slice_of text op) ≡ deed.Instruction code bit27
+instruction_unrefused : (text : List ℕ) (number at : ℕ) (op : Span) (d : Deed) (code : ℕ) (bit27 : Bool) (pr : Option ℕ) (minus : Bool) (v : ℕ) (span : Span) (tag : ℕ) → d ≡ deed.Instruction code bit27
     → has_room (own_room pr) (number_sum minus v).value ≡ true
-    → refusal_of (source_of text number at op (operand_of pr minus v span tag)) ≡ None
+    → refusal_of (source_of text number at op d (operand_of pr minus v span tag)) ≡ None
 unfolding refusal_of
-instruction_unrefused text number at op code bit27 pr minus v span tag does room =
-    let source = source_of text number at op (operand_of pr minus v span tag) in
+instruction_unrefused text number at op d code bit27 pr minus v span tag does room =
+    let source = source_of text number at op d (operand_of pr minus v span tag) in
     let symbols = (tables_of text source.lines).symbols in
     neither (lines_of source) (growth_refusal text symbols at_first start source.lines)
-    (instruction_lines text number at op code bit27 pr minus v span tag does room)
-    (instruction_short text symbols number at op code bit27 pr minus v span tag does)
+    (instruction_lines text number at op d code bit27 pr minus v span tag does room)
+    (instruction_short text symbols number at op d code bit27 pr minus v span tag does)
 
-instruction_parts : (text : List ℕ) (number at : ℕ) (op : Span) (code : ℕ) (bit27 : Bool) (pr : Option ℕ) (minus : Bool) (v : ℕ) (span : Span) (tag w : ℕ) → deed_named (slice_of text op) ≡ deed.Instruction code bit27
+instruction_parts : (text : List ℕ) (number at : ℕ) (op : Span) (d : Deed) (code : ℕ) (bit27 : Bool) (pr : Option ℕ) (minus : Bool) (v : ℕ) (span : Span) (tag w : ℕ) → d ≡ deed.Instruction code bit27
     → gives pr minus v tag code bit27 ≡ w
-    → parts_of (source_of text number at op (operand_of pr minus v span tag)) ≡ object_of_word w
+    → parts_of (source_of text number at op d (operand_of pr minus v span tag)) ≡ object_of_word w
 unfolding parts_with tables_of words_from words_of_line definitions_from definitions_after links_from links_after marks_from marks_after bound_from end_of below instruction_word
-instruction_parts text number at op code bit27 pr minus v span tag w does word =
+instruction_parts text number at op d code bit27 pr minus v span tag w does word =
     rw (does, sum_is, kind_is minus v, word) refl
 
-pub instruction_alone : (text : List ℕ) (number at : ℕ) (op : Span) (code : ℕ) (bit27 : Bool) (pr : Option ℕ) (minus : Bool) (v : ℕ) (span : Span) (tag w : ℕ) → deed_named (slice_of text op) ≡ deed.Instruction code bit27
+pub instruction_alone : (text : List ℕ) (number at : ℕ) (op : Span) (d : Deed) (code : ℕ) (bit27 : Bool) (pr : Option ℕ) (minus : Bool) (v : ℕ) (span : Span) (tag w : ℕ) → d ≡ deed.Instruction code bit27
     → has_room (own_room pr) (number_sum minus v).value ≡ true → gives pr minus v tag code bit27 ≡ w
-    → assembled (source_of text number at op (operand_of pr minus v span tag)) ≡ Ok (object_of_word w)
-instruction_alone text number at op code bit27 pr minus v span tag w does room word =
-    by_parts (source_of text number at op (operand_of pr minus v span tag)) w (instruction_unrefused text number at op code bit27 pr minus v span tag does room) (instruction_parts text number at op code bit27 pr minus v span tag w does word)
+    → assembled (source_of text number at op d (operand_of pr minus v span tag)) ≡ Ok (object_of_word w)
+instruction_alone text number at op d code bit27 pr minus v span tag w does room word =
+    by_parts (source_of text number at op d (operand_of pr minus v span tag)) w (instruction_unrefused text number at op d code bit27 pr minus v span tag does room) (instruction_parts text number at op d code bit27 pr minus v span tag w does word)

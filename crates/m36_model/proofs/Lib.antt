@@ -6,3 +6,4 @@ pub mod PutLaw
 pub mod ChainClaims
 pub mod OperationLaw
 pub mod StepLaw
+pub mod OneStepLaw

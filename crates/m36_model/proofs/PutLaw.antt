@@ -1,5 +1,5 @@
 -- Each effect puts as many words as its operand kind writes, and each put reaches the spot that was claimed for it.
-use Rattle.std.proofs.Common.{ℕ, ◌≡◌, ◌+◌, refl, ap, ◌∙◌, ◌==◌, Option, Some, None, Bool, true, false, List, [], ◌∷◌, ◌++◌, map, length, slice_get, append_assoc, length-append, ◌⊎◌, inl, inr, Result, Ok, Err, arith}
+use Rattle.std.proofs.Common.{ℕ, ◌≡◌, ◌+◌, ◌<◌, refl, ap, ◌∙◌, ◌==◌, Option, Some, None, Bool, true, false, List, [], ◌∷◌, ◌++◌, map, length, slice_get, append_assoc, length-append, ◌⊎◌, inl, inr, Result, Ok, Err, arith}
 use Rattle.m36_word.specs.Field.{field}
 use Rattle.m36_inst.specs.Operands.{operand_of}
 use Rattle.m36_inst.specs.declared.effect.Effect.{Effect}
@@ -20,10 +20,10 @@ use Rattle.m36_model.specs.Step.{puts_from}
 use Rattle.m36_model.specs.StepCases.{at_spots}
 use Rattle.m36_model.proofs.Computed.{everything}
 
--- of what an effect gives, where it is not refused
+-- what an effect puts; and where it is refused, its fault is none of those from 16 on
 abbrev pub PutsSo : ℕ → Result EffectFields ℕ → Type 0
 PutsSo n (Ok x) = length x.put ≡ n
-PutsSo n (Err number) = Unit {0}
+PutsSo n (Err number) = number < 16
 
 puts_of_transfer : (taken : Bool) (f : FinalFields) (g : RegsFields) → PutsSo 0 (transfer_by taken f g)
 puts_of_transfer true f g = refl
@@ -34,11 +34,11 @@ puts_of_overflow_transfer true f g = refl
 puts_of_overflow_transfer false f g = refl
 
 puts_of_division : (check : Bool) (v : ℕ) (g : RegsFields) → PutsSo 0 (divide_by check v g)
-puts_of_division true v g = tt
+puts_of_division true v g = omega arith
 puts_of_division false v g = refl
 
 puts_of_packed : (wrong : Bool) (n w : ℕ) (g : RegsFields) (f : FinalFields) → PutsSo 0 (load_packed_by wrong n w g f)
-puts_of_packed true n w g f = tt
+puts_of_packed true n w g f = omega arith
 puts_of_packed false n w g f = refl
 
 pub puts_so : (e : Effect) (n : ℕ) (g : RegsFields) (f : FinalFields) (o : OperandFields) → PutsSo (words_written (operand_of e)) (exec e n g f o)
@@ -56,8 +56,8 @@ puts_so effect.Ttf n g f o = puts_of_transfer (is_taken effect.Ttf g) f g
 puts_so effect.Tov n g f o = puts_of_overflow_transfer (is_taken effect.Tov g) f g
 puts_so effect.Div n g f o = puts_of_division (is_divide_check g.q (word o)) (word o) g
 puts_so effect.LprpN n g f o = puts_of_packed (field (word o) 0 2 == 3) n (word o) g f
-puts_so effect.Mme n g f o = tt
-puts_so effect.Drl n g f o = tt
+puts_so effect.Mme n g f o = omega arith
+puts_so effect.Drl n g f o = omega arith
 puts_so _ n g f o = refl
 
 -- words for claimed spots

@@ -16,7 +16,7 @@ use Rattle.m36_model.specs.Chain.{ChainEnd, chain}
 use Rattle.m36_model.specs.Results.{EffectFields}
 use Rattle.m36_model.specs.Effect.{exec}
 use Rattle.m36_model.specs.Step.{Performed, puts_from, tallied, operate, Ending, outcome_of, halted, completed, operated, addressed, no_address, started, admitted, decoded, fetched, indirect_words, decode, fetch_request, program, start, step_record, stepped, record_of, state_after}
-use Rattle.m36_model.specs.StepCases.{HasLeft, IsFetched, IsAdmitted, IsFormed, Reached, IsOperand, at_spots, at_once, StepCase, fetch_refused, no_instruction, privilege_refused, no_address as no_address_case, address_refused, operation_refused, effected, StepHasACase}
+use Rattle.m36_model.specs.StepCases.{HasLeft, IsFetched, IsAdmitted, IsFormed, forms_address, Reached, IsOperand, at_spots, at_once, StepCase, fetch_refused, no_instruction, privilege_refused, no_address as no_address_case, address_refused, operation_refused, effected, StepHasACase}
 use Rattle.m36_model.proofs.PutLaw.{IsTallied, tally_changes, all_changes}
 use Rattle.m36_model.specs.declared.outcome.Fault.{Fault}
 use Rattle.m36_model.specs.declared.outcome.Halt.{Halt}
@@ -85,22 +85,22 @@ module _ {S : Type 0} (o : Store S) (quiet : (x : S) → o.put x [] ≡ x) (s : 
       let r = run o s.regs (operate i n s.regs c) m in
       subst CaseOf (sym (run_then o s.regs (operate i n s.regs c) k m)) (operation_by w i n c m formed t r refl (operation_case o s.regs i n c m))
 
-  address_by : (w : ℕ) (i : Effect) (n : ℕ) (before : Mid S) → IsAdmitted o s w i n before → (v : Result ChainEnd Halt) (m : Mid S) → run o s.regs (chain indirect_words s.regs (first_point s.regs (inst_of w))) before ≡ record { value = v; mid = m } → PostOf v m → CaseOf (run o s.regs (either (operated i n s.regs w) (halted s.regs (Some w) None) v) m)
-  address_by w i n before admitted (Err h) m known post =
-      address_refused w before m i n h admitted known (has_left m (Some w) None h)
-  address_by w i n before admitted (Ok c) m known post =
-      operated_case w i n c m (record { before = before; admitted = admitted; formed = known }) post
+  address_by : (w : ℕ) (i : Effect) (n : ℕ) (before : Mid S) → IsAdmitted o s w i n before → forms_address (operand_of i) ≡ true → (v : Result ChainEnd Halt) (m : Mid S) → run o s.regs (chain indirect_words s.regs (first_point s.regs (inst_of w))) before ≡ record { value = v; mid = m } → PostOf v m → CaseOf (run o s.regs (either (operated i n s.regs w) (halted s.regs (Some w) None) v) m)
+  address_by w i n before admitted forms (Err h) m known post =
+      address_refused w before m i n h admitted forms known (has_left m (Some w) None h)
+  address_by w i n before admitted forms (Ok c) m known post =
+      operated_case w i n c m (record { before = before; admitted = admitted; forms = forms; formed = known }) post
 
-  addressed_case : (w : ℕ) (i : Effect) (n : ℕ) (before : Mid S) → IsAdmitted o s w i n before → before.claims ≡ [] → CaseOf (run o s.regs (addressed i n s.regs w) before)
-  addressed_case w i n before admitted e =
+  addressed_case : (w : ℕ) (i : Effect) (n : ℕ) (before : Mid S) → IsAdmitted o s w i n before → forms_address (operand_of i) ≡ true → before.claims ≡ [] → CaseOf (run o s.regs (addressed i n s.regs w) before)
+  addressed_case w i n before admitted forms e =
       let act = chain indirect_words s.regs (first_point s.regs (inst_of w)) in
       let k = either (operated i n s.regs w) (halted s.regs (Some w) None) in
       let r = run o s.regs act before in
-      subst CaseOf (sym (run_then o s.regs act k before)) (address_by w i n before admitted r.value r.mid refl (chain_claims o s.regs indirect_words (first_point s.regs (inst_of w)) before e))
+      subst CaseOf (sym (run_then o s.regs act k before)) (address_by w i n before admitted forms r.value r.mid refl (chain_claims o s.regs indirect_words (first_point s.regs (inst_of w)) before e))
 
   started_case : (w : ℕ) (i : Effect) (n : ℕ) (m : Mid S) → IsAdmitted o s w i n m → m.claims ≡ [] → (k : Operand) → operand_of i ≡ k → CaseOf (run o s.regs (started i n s.regs w k) m)
   started_case w i n m admitted e kind.N h = no_address_case w m i n admitted h (at_once_left i w m)
-  started_case w i n m admitted e _ h = addressed_case w i n m admitted e
+  started_case w i n m admitted e k h = addressed_case w i n m admitted (ap forms_address h) e
 
   admitted_case : (w : ℕ) (right : Bool) (m : Mid S) → IsFetched o s w right m → m.claims ≡ [] → (i : Effect) (n : ℕ) → decode w ≡ Some (i, n) → (b : Bool) → (is_privileged i && not right) ≡ b → CaseOf (run o s.regs (admitted i n s.regs w b) m)
   admitted_case w right m fetched e i n h true p =
@@ -131,7 +131,7 @@ module _ {S : Type 0} (o : Store S) (quiet : (x : S) → o.put x [] ≡ x) (s : 
   unfolding record_of state_after program run
   step_case = fetched_case (serve o s.regs (start s) (fetch_request s.regs)).reply refl
 
-core_quiet : (core : List ℕ) → core_put core [] ≡ core
+pub core_quiet : (core : List ℕ) → core_put core [] ≡ core
 unfolding core_put
 core_quiet core = refl
 

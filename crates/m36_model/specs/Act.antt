@@ -1,5 +1,5 @@
--- A step as a program: what it asks of the store, and what it does with each answer. A program depends on the registers
--- alone; nothing here knows of core.
+-- A step as a program: what it asks of the store, and what it does with each answer. A program
+-- depends on the registers alone; nothing here knows of core.
 use Rattle.std.specs.Prelude.{ℕ, List, Result, Ok, Err}
 use Rattle.m36_desc.specs.Fields.{SdwFields}
 use Rattle.m36_model.specs.Fields.{AtFields}
@@ -28,8 +28,8 @@ pub data Part : Type 0 where
   Left : Part
   Right : Part
 
--- a word to be written, into the word that a Write of this step has claimed under this number; a half stands
--- right-justified
+-- a word to be written, into the word that a Write of this step has claimed under this number; a
+-- half stands right-justified
 pub record Put : Type 0 where
   pub claim : ℕ
   pub part : Part
@@ -60,7 +60,8 @@ and_then (done a) k = k a
 and_then (ask q next) k = ask q (λ reply. and_then (next reply) k)
 
 -- a refused reference ends the program; else it goes on with the answer
-abbrev pub answered : {A : Type 0} → (Answer → Act (Result A Halt)) → Result Answer Fault → Act (Result A Halt)
+abbrev pub answered :
+    {A : Type 0} → (Answer → Act (Result A Halt)) → Result Answer Fault → Act (Result A Halt)
 answered k (Ok a) = k a
 answered k (Err f) = done (Err (halt.Fault f))
 

@@ -1,13 +1,16 @@
--- Arithmetic on numbers of k bits, which are whole numbers below 2^k. `half` is 2^(k-1): 2^17 for an index register, 2^35
--- for a word, 2^71 for a pair. Numbers from half on count as negative.
--- Multics Processor Manual AL39, "Number representation" and the fixed point instructions; carry and overflow as written
--- here are this project's choice.
-use Rattle.std.specs.Prelude.{ℕ, ◌+◌, ◌-◌, ◌*◌, ◌%◌, ◌^◌, Bool, false, not, ◌&&◌, ◌||◌, ◌==◌, nat_le, ℤ, pos, ◌+ℤ◌, ◌-ℤ◌, ◌*ℤ◌, int_lt, int_le, int_div, int_rem, unsigned_abs}
+-- Arithmetic on numbers of k bits, which are whole numbers below 2^k. `half` is 2^(k-1): 2^17 for
+-- an index register, 2^35 for a word, 2^71 for a pair. Numbers from half on count as negative.
+-- Multics Processor Manual AL39, "Number representation" and the fixed point instructions; carry
+-- and overflow as written here are this project's choice.
+use Rattle.std.specs.Prelude.{ℕ, ◌+◌, ◌-◌, ◌*◌, ◌%◌, ◌^◌, Bool, false, not, ◌&&◌, ◌||◌, ◌==◌}
+use Rattle.std.specs.Prelude.{nat_le, ℤ, pos, ◌+ℤ◌, ◌-ℤ◌, ◌*ℤ◌, int_lt, int_le, int_div, int_rem}
+use Rattle.std.specs.Prelude.{unsigned_abs}
 use Rattle.std.specs.Int.{int_rem_euclid}
 use Rattle.m36_word.specs.Bits.{of_bit}
 use Rattle.m36_word.specs.Signed.{signed}
 
--- what an operation gives: a number, whether it is 0, whether its first bit is on, carry and overflow
+-- what an operation gives: a number, whether it is 0, whether its first bit is on, carry and
+-- overflow
 pub record SumFields : Type 0 where
   pub value : ℕ
   pub zero : Bool
@@ -27,8 +30,8 @@ in_range half z = int_le (pos 0 -ℤ pos half) z && int_lt z (pos half)
 unfoldable pub modulo : ℤ → ℕ → ℕ
 modulo z n = unsigned_abs (int_rem_euclid z (pos n))
 
--- A sum with a carry in: the true result modulo 2^k. Carry is on exactly where the unsigned sum is at least 2^k, overflow
--- exactly where the signed true result is out of range.
+-- A sum with a carry in: the true result modulo 2^k. Carry is on exactly where the unsigned sum is
+-- at least 2^k, overflow exactly where the signed true result is out of range.
 unfoldable pub sum_value : ℕ → ℕ → ℕ → Bool → ℕ
 sum_value half x y carry_in = (x + y + of_bit carry_in) % (2 * half)
 
@@ -36,7 +39,8 @@ unfoldable pub sum_carry : ℕ → ℕ → ℕ → Bool → Bool
 sum_carry half x y carry_in = nat_le (2 * half) (x + y + of_bit carry_in)
 
 unfoldable pub sum_overflow : ℕ → ℕ → ℕ → Bool → Bool
-sum_overflow half x y carry_in = not (in_range half (signed half x +ℤ signed half y +ℤ pos (of_bit carry_in)))
+sum_overflow half x y carry_in =
+    not (in_range half (signed half x +ℤ signed half y +ℤ pos (of_bit carry_in)))
 
 unfoldable pub sum : ℕ → ℕ → ℕ → Bool → SumFields
 sum half x y carry_in =
@@ -48,8 +52,8 @@ sum half x y carry_in =
       overflow = sum_overflow half x y carry_in;
     }
 
--- A difference with a borrow: the true result modulo 2^k. Carry is on exactly where the unsigned minuend is at least the
--- subtrahend plus the borrow.
+-- A difference with a borrow: the true result modulo 2^k. Carry is on exactly where the unsigned
+-- minuend is at least the subtrahend plus the borrow.
 unfoldable pub difference_value : ℕ → ℕ → ℕ → Bool → ℕ
 difference_value half x y borrow = (x + 2 * half - (y + of_bit borrow)) % (2 * half)
 
@@ -57,7 +61,8 @@ unfoldable pub difference_carry : ℕ → ℕ → ℕ → Bool → Bool
 difference_carry half x y borrow = nat_le (y + of_bit borrow) x
 
 unfoldable pub difference_overflow : ℕ → ℕ → ℕ → Bool → Bool
-difference_overflow half x y borrow = not (in_range half (signed half x -ℤ signed half y -ℤ pos (of_bit borrow)))
+difference_overflow half x y borrow =
+    not (in_range half (signed half x -ℤ signed half y -ℤ pos (of_bit borrow)))
 
 unfoldable pub difference : ℕ → ℕ → ℕ → Bool → SumFields
 difference half x y borrow =
@@ -73,8 +78,8 @@ difference half x y borrow =
 unfoldable pub negation : ℕ → ℕ → SumFields
 negation half x = difference half 0 x false
 
--- What a comparison tells: zero where both are equal, negative where the first is less as a signed number, carry as for
--- their difference.
+-- What a comparison tells: zero where both are equal, negative where the first is less as a signed
+-- number, carry as for their difference.
 pub record ComparisonFields : Type 0 where
   pub zero : Bool
   pub negative : Bool
@@ -84,20 +89,22 @@ unfoldable pub is_less : ℕ → ℕ → ℕ → Bool
 is_less half x y = int_lt (signed half x) (signed half y)
 
 unfoldable pub comparison : ℕ → ℕ → ℕ → ComparisonFields
-comparison half x y = record { zero = x == y; negative = is_less half x y; carry = difference_carry half x y false }
+comparison half x y =
+    record { zero = x == y; negative = is_less half x y; carry = difference_carry half x y false }
 
 -- the product of two words as a number of 72 bits
 unfoldable pub product : ℕ → ℕ → ℕ
 product x y = modulo (signed (2 ^ 35) x *ℤ signed (2 ^ 35) y) (2 ^ 72)
 
--- Division of words: the quotient is cut toward zero, and the remainder has the sign of the dividend.
+-- Division of words: the quotient is cut toward zero, and the remainder has the sign of the
+-- dividend.
 unfoldable pub quotient : ℕ → ℕ → ℕ
 quotient x y = modulo (int_div (signed (2 ^ 35) x) (signed (2 ^ 35) y)) (2 ^ 36)
 
 unfoldable pub remainder : ℕ → ℕ → ℕ
 remainder x y = modulo (int_rem (signed (2 ^ 35) x) (signed (2 ^ 35) y)) (2 ^ 36)
 
--- A division is refused exactly where the divisor is 0, or where the quotient, -2^35 over -1, is out of range (this
--- project's choice).
+-- A division is refused exactly where the divisor is 0, or where the quotient, -2^35 over -1, is
+-- out of range (this project's choice).
 unfoldable pub is_divide_check : ℕ → ℕ → Bool
 is_divide_check x y = (y == 0) || ((x == 2 ^ 35) && (y == 2 ^ 36 - 1))

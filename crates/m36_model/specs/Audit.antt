@@ -1,5 +1,7 @@
 -- The six conditions of the audit, each by the places that break it, and what the audit finds.
-use Rattle.std.specs.Prelude.{◌≡◌, ◌≢◌, ℕ, ◌+◌, ◌*◌, ◌/◌, ◌<◌, ◌≤◌, ◌⊎◌, Bool, true, false, ◌&&◌, ◌==◌, List, [], ◌∷◌, ◌++◌, length, Option, Some, None, Result, Ok, Err}
+use Rattle.std.specs.Prelude.{◌≡◌, ◌≢◌, ℕ, ◌+◌, ◌*◌, ◌/◌, ◌<◌, ◌≤◌, ◌⊎◌, Bool, true, false, ◌&&◌}
+use Rattle.std.specs.Prelude.{◌==◌, List, [], ◌∷◌, ◌++◌, length, Option, Some, None, Result, Ok}
+use Rattle.std.specs.Prelude.{Err}
 use Rattle.m36_desc.specs.Fields.{SdwFields, DbrFields}
 use Rattle.m36_desc.specs.Access.{in_order}
 use Rattle.m36_model.specs.Store.{Core_word, place}
@@ -27,7 +29,8 @@ pub record IsPageWord (core : List ℕ) (dbr : DbrFields) (seg page a : ℕ) : T
   pub begins : page ≤ sdw.bound / 64
   pub found : a ≡ page_at sdw page
 
--- the descriptors, the page table of the descriptor segment, and the page table of each live paged segment
+-- the descriptors, the page table of the descriptor segment, and the page table of each live paged
+-- segment
 pub data Table : Type 0 where
   Sdws : Table
   Directory : Table
@@ -76,13 +79,20 @@ pub record IsInTwoSegments (core : List ℕ) (dbr : DbrFields) (a : ℕ) : Type 
   pub other_word : IsSegmentWord core dbr other_seg other_w a
   pub differ : (seg ≢ other_seg) ⊎ (w ≢ other_w)
 
+-- the second, the third and the fourth condition: table words and words of segments are apart
+pub record AreApart (core : List ℕ) (dbr : DbrFields) : Type 0 where
+  pub tables : (a : ℕ) → IsInTwoTables core dbr a → ⊥
+  pub segments : (a : ℕ) → IsTableAndSegment core dbr a → ⊥
+  pub words : (a : ℕ) → IsInTwoSegments core dbr a → ⊥
+
 -- a live segment that rings outside its read bracket may call
 pub record IsCallable (core : List ℕ) (dbr : DbrFields) (seg : ℕ) (sdw : SdwFields) : Type 0 where
   pub live : core_sdw core dbr seg ≡ Ok sdw
   pub executable : sdw.executable ≡ true
   pub outer : sdw.r2 < sdw.r3
 
--- Fifth condition: each live segment with E on and R3 greater than R2 is a gate. A segment breaks it.
+-- Fifth condition: each live segment with E on and R3 greater than R2 is a gate. A segment breaks
+-- it.
 pub record IsNoGate (core : List ℕ) (dbr : DbrFields) (seg : ℕ) : Type 0 where
   pub sdw : SdwFields
   pub callable : IsCallable core dbr seg sdw
@@ -93,8 +103,8 @@ abbrev pub is_stack_of : ℕ → Result SdwFields Refusal → Bool
 is_stack_of ring (Ok d) = (d.readable && d.writable) && (d.r1 == ring && d.r2 == ring)
 is_stack_of ring (Err e) = false
 
--- Sixth condition: each live segment with E on and R3 greater than R2 has a stack in the ring that a call enters. A
--- segment breaks it.
+-- Sixth condition: each live segment with E on and R3 greater than R2 has a stack in the ring that
+-- a call enters. A segment breaks it.
 pub record HasNoStack (core : List ℕ) (dbr : DbrFields) (seg : ℕ) : Type 0 where
   pub sdw : SdwFields
   pub callable : IsCallable core dbr seg sdw
@@ -133,4 +143,7 @@ pub record AreFindings (core : List ℕ) (dbr : DbrFields) (findings : List (ℕ
   pub finds_fifth : Finds (IsNoGate core dbr) fifth
   pub sixth : Option ℕ
   pub finds_sixth : Finds (HasNoStack core dbr) sixth
-  pub listed : findings ≡ noted 1 first ++ noted 2 second ++ noted 3 third ++ noted 4 fourth ++ noted 5 fifth ++ noted 6 sixth
+  pub listed :
+      findings
+      ≡ noted 1 first ++ noted 2 second ++ noted 3 third ++ noted 4 fourth ++ noted 5 fifth
+      ++ noted 6 sixth

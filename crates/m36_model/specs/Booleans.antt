@@ -1,6 +1,7 @@
 -- Boolean operations, bit by bit.
 -- Multics Processor Manual AL39, "Boolean operation instructions".
-use Rattle.std.specs.Prelude.{ℕ, zero, suc, ◌+◌, ◌*◌, ◌/◌, ◌%◌, ◌^◌, Bool, true, false, not, ◌&&◌, ◌||◌, ◌==◌, List, [], ◌∷◌, length}
+use Rattle.std.specs.Prelude.{ℕ, zero, suc, ◌+◌, ◌*◌, ◌/◌, ◌%◌, ◌^◌, Bool, true, false, not, ◌&&◌}
+use Rattle.std.specs.Prelude.{◌||◌, ◌==◌, List, [], ◌∷◌, length}
 use Rattle.m36_word.specs.Bits.{of_bit}
 
 -- the bits of a number of k bits, the first one first

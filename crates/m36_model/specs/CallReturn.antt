@@ -1,6 +1,8 @@
 -- Calls and returns between rings: CALL6 and RTCD.
--- Multics Processor Manual AL39, "Call (using PR6 and PR7)", "Return control double"; Schroeder and Saltzer (1972).
-use Rattle.std.specs.Prelude.{ℕ, ◌+◌, ◌*◌, max, false, ◌==◌, if◌then◌else◌, List, [], map, Result, Ok, slice_index}
+-- Multics Processor Manual AL39, "Call (using PR6 and PR7)", "Return control double"; Schroeder and
+-- Saltzer (1972).
+use Rattle.std.specs.Prelude.{ℕ, ◌+◌, ◌*◌, max, false, ◌==◌, if◌then◌else◌, List, [], map, Result}
+use Rattle.std.specs.Prelude.{Ok, slice_index}
 use Rattle.m36_desc.specs.Fields.{PtrFields, ItsFields}
 use Rattle.m36_desc.specs.Descriptors.{its_of}
 use Rattle.m36_model.specs.Fields.{FinalFields}
@@ -9,25 +11,30 @@ use Rattle.m36_model.specs.Modification.{ptr}
 use Rattle.m36_model.specs.Pointers.{with_pr}
 use Rattle.m36_model.specs.Results.{OperandFields, EffectFields}
 
--- PR7 after CALL6 is the base of a stack in the new ring: where the ring changes, the stack that the DBR gives to it, and
--- where it does not, the segment of PR6.
+-- PR7 after CALL6 is the base of a stack in the new ring: where the ring changes, the stack that
+-- the DBR gives to it, and where it does not, the segment of PR6.
 abbrev pub stack_segment : RegsFields → ℕ → ℕ
 stack_segment g ring = if ring == g.ppr.prr then (ptr g 6).seg else 8 * g.dbr.stack + ring
 
 abbrev pub stack_pointer : RegsFields → ℕ → PtrFields
 stack_pointer g ring = record { seg = stack_segment g ring; ring = ring; word = 0; bit = 0 }
 
--- CALL6: control goes to the final address in the new ring, which is the operand's; access has found it as the lesser of TRR
--- and R2 of the target.
+-- CALL6: control goes to the final address in the new ring, which is the operand's; access has
+-- found it as the lesser of TRR and R2 of the target.
 abbrev pub in_ring : FinalFields → ℕ → RegsFields → RegsFields
 in_ring f ring g = record g { ppr = record { psr = f.at.seg; prr = ring; ic = f.at.word } }
 
 unfoldable pub call : FinalFields → ℕ → RegsFields → Result EffectFields ℕ
 call f ring g =
-    Ok (record { regs = in_ring f ring (with_pr 7 (stack_pointer g ring) g); put = []; overflow = false })
+    Ok (record {
+      regs = in_ring f ring (with_pr 7 (stack_pointer g ring) g);
+      put = [];
+      overflow = false;
+    })
 
--- RTCD: the ring after a return is the greatest of the pair's ring, TRR and R1 of the pair's segment. No pointer register
--- keeps another ring. The target is examined by the next fetch (this project's choice).
+-- RTCD: the ring after a return is the greatest of the pair's ring, TRR and R1 of the pair's
+-- segment. No pointer register keeps another ring. The target is examined by the next fetch (this
+-- project's choice).
 abbrev pub return_ring : ItsFields → FinalFields → OperandFields → ℕ
 return_ring its f o = max (max f.at.ring o.ring) its.ring
 
@@ -39,10 +46,14 @@ all_in_ring ring pointers = map (pointer_in_ring ring) pointers
 
 abbrev pub returned : ItsFields → ℕ → RegsFields → RegsFields
 returned its ring g =
-    record g { pr = all_in_ring ring g.pr; ppr = record { psr = its.seg; prr = ring; ic = its.word } }
+    record g {
+      pr = all_in_ring ring g.pr;
+      ppr = record { psr = its.seg; prr = ring; ic = its.word };
+    }
 
 abbrev pub return_by : ItsFields → FinalFields → OperandFields → RegsFields → Result EffectFields ℕ
-return_by its f o g = Ok (record { regs = returned its (return_ring its f o) g; put = []; overflow = false })
+return_by its f o g =
+    Ok (record { regs = returned its (return_ring its f o) g; put = []; overflow = false })
 
 unfoldable pub return_to : FinalFields → OperandFields → RegsFields → Result EffectFields ℕ
 return_to f o g = return_by (its_of (slice_index o.got 0) (slice_index o.got 1)) f o g

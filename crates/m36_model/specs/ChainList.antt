@@ -1,7 +1,9 @@
--- The address chain as a list of points, each of which is the next of the one before, over what a store answers. The first
--- point is that of the instruction; the last one ends or is refused, and its answer is the answer of the chain. Each point
--- stands with the count of indirect words that were read to reach it.
-use Rattle.std.specs.Prelude.{ℕ, ◌≡◌, ◌+◌, ◌%◌, ◌≤◌, Bool, true, false, ◌==◌, nat_lt, List, [], ◌∷◌, length, Option, None, Result, Ok, Err, slice_index}
+-- The address chain as a list of points, each of which is the next of the one before, over what a
+-- store answers. The first point is that of the instruction; the last one ends or is refused, and
+-- its answer is the answer of the chain. Each point stands with the count of indirect words that
+-- were read to reach it.
+use Rattle.std.specs.Prelude.{ℕ, ◌≡◌, ◌+◌, ◌%◌, ◌≤◌, Bool, true, false, ◌==◌, nat_lt, List, [], ◌∷◌}
+use Rattle.std.specs.Prelude.{length, Option, None, Result, Ok, Err, slice_index}
 use Rattle.m36_model.specs.Fields.{FinalFields}
 use Rattle.m36_model.specs.Registers.{RegsFields}
 use Rattle.m36_model.specs.Act.{Indirect, Odd, Write, Answer}
@@ -9,7 +11,8 @@ use Rattle.m36_model.specs.Store.{Store, Mid, Ran, serve, run}
 use Rattle.m36_model.specs.Core.{core_store}
 use Rattle.m36_model.specs.Modification.{Point, Move, Ends, Fails, Reads, Counts, move_of_point}
 use Rattle.m36_model.specs.Tally.{tally, tally_address, indirect_only}
-use Rattle.m36_model.specs.Chain.{ChainEnd, Found, Its, Itp, Plain, found, indirect, plain_point, its_point, itp_point, tally_final, tally_end, lockup, chain}
+use Rattle.m36_model.specs.Chain.{ChainEnd, Found, Its, Itp, Plain, found, indirect, plain_point}
+use Rattle.m36_model.specs.Chain.{its_point, itp_point, tally_final, tally_end, lockup, chain}
 use Rattle.m36_model.specs.declared.outcome.Fault.{Fault}
 use Rattle.m36_model.specs.declared.outcome.Halt.{Halt}
 use Rattle.m36_model.specs.declared.outcome.Halt.TheVariants as halt
@@ -43,23 +46,31 @@ turn_odd s next m (Ok b) = goes_on_at s (next (slice_index b.words 0)) m
 turn_odd s next m (Err f) = refused_with (halt.Fault f) m
 
 -- the word that was read: plain, or the even word of a pair
-abbrev pub turn_found : {S : Type 0} → Store S → RegsFields → Stage S → ℕ → Option ℕ → Answer → Mid S → Found → Turn S
-turn_found o g s word held a m Plain = goes_on_at s (plain_point s.point word held (slice_index a.words 0) a.sdw.r1) m
+abbrev pub turn_found :
+    {S : Type 0} → Store S → RegsFields → Stage S → ℕ → Option ℕ → Answer → Mid S → Found → Turn S
+turn_found o g s word held a m Plain =
+    goes_on_at s (plain_point s.point word held (slice_index a.words 0) a.sdw.r1) m
 turn_found o g s word held a m Its =
     let t = serve o g m (indirect Odd s.point (word + 1)) in
-    turn_odd s (λ odd. its_point s.point word held (slice_index a.words 0) odd a.sdw.r1) t.mid t.reply
+    turn_odd s (λ odd. its_point s.point word held (slice_index a.words 0) odd a.sdw.r1) t.mid
+    t.reply
 turn_found o g s word held a m Itp =
     let t = serve o g m (indirect Odd s.point (word + 1)) in
-    turn_odd s (λ odd. itp_point g s.point word held (slice_index a.words 0) odd a.sdw.r1) t.mid t.reply
+    turn_odd s (λ odd. itp_point g s.point word held (slice_index a.words 0) odd a.sdw.r1) t.mid
+    t.reply
 
-abbrev pub turn_even : {S : Type 0} → Store S → RegsFields → Stage S → ℕ → Option ℕ → Mid S → Result Answer Fault → Turn S
-turn_even o g s word held m (Ok a) = turn_found o g s word held a m (found word (slice_index a.words 0))
+abbrev pub turn_even :
+    {S : Type 0} → Store S → RegsFields → Stage S → ℕ → Option ℕ → Mid S → Result Answer Fault
+    → Turn S
+turn_even o g s word held m (Ok a) =
+    turn_found o g s word held a m (found word (slice_index a.words 0))
 turn_even o g s word held m (Err f) = refused_with (halt.Fault f) m
 
 -- a 17th indirect word is not read
 abbrev pub turn_reads : {S : Type 0} → Store S → RegsFields → Stage S → ℕ → Option ℕ → Bool → Turn S
 turn_reads o g s word held true =
-    let t = serve o g s.mid (indirect Indirect s.point word) in turn_even o g s word held t.mid t.reply
+    let t = serve o g s.mid (indirect Indirect s.point word) in
+    turn_even o g s word held t.mid t.reply
 turn_reads o g s word held false = refused_with (lockup s.point word) s.mid
 
 -- the tally word: I leaves it, and the others reference it as a Write and give its new value
@@ -68,13 +79,15 @@ turn_claimed s a m (Ok b) =
     ends_with (tally_end s.point b.first (tally (s.point.tag % 16) (slice_index a.words 0))) m
 turn_claimed s a m (Err f) = refused_with (halt.Fault f) m
 
-abbrev pub turn_tally_by : {S : Type 0} → Store S → RegsFields → Stage S → Answer → Mid S → Bool → Turn S
+abbrev pub turn_tally_by :
+    {S : Type 0} → Store S → RegsFields → Stage S → Answer → Mid S → Bool → Turn S
 turn_tally_by o g s a m true =
     ends_with (without_tally (tally_final s.point (tally_address (slice_index a.words 0)))) m
 turn_tally_by o g s a m false =
     let t = serve o g m (indirect Write s.point s.point.y) in turn_claimed s a t.mid t.reply
 
-abbrev pub turn_tally : {S : Type 0} → Store S → RegsFields → Stage S → Mid S → Result Answer Fault → Turn S
+abbrev pub turn_tally :
+    {S : Type 0} → Store S → RegsFields → Stage S → Mid S → Result Answer Fault → Turn S
 turn_tally o g s m (Ok a) = turn_tally_by o g s a m (s.point.tag % 16 == indirect_only)
 turn_tally o g s m (Err f) = refused_with (halt.Fault f) m
 
@@ -92,8 +105,10 @@ turn_by o g s Counts = turn_counts o g s (nat_lt s.count 16)
 unfoldable pub turn : {S : Type 0} → Store S → RegsFields → Stage S → Turn S
 turn o g s = turn_by o g s (move_of_point g s.point)
 
--- a list of points in which each is the next of the one before, and the last closes the chain with this answer
-abbrev pub IsChain : {S : Type 0} → Store S → RegsFields → List (Stage S) → Ran (Result ChainEnd Halt) S → Type 0
+-- a list of points in which each is the next of the one before, and the last closes the chain with
+-- this answer
+abbrev pub IsChain :
+    {S : Type 0} → Store S → RegsFields → List (Stage S) → Ran (Result ChainEnd Halt) S → Type 0
 IsChain o g [] answer = ⊥
 IsChain o g (s ∷ []) answer = turn o g s ≡ Closes answer
 IsChain o g (s ∷ next ∷ more) answer = (turn o g s ≡ Goes next) × IsChain o g (next ∷ more) answer
@@ -101,14 +116,17 @@ IsChain o g (s ∷ next ∷ more) answer = (turn o g s ≡ Goes next) × IsChain
 abbrev pub first_stage : {S : Type 0} → Point → Mid S → Stage S
 first_stage p m = record { point = p; count = 0; mid = m }
 
--- There is exactly one chain from a point, of at most 17 points, and its answer is that of the program that forms the
--- address.
-pub record IsOneChain {S : Type 0} (o : Store S) (g : RegsFields) (p : Point) (m : Mid S) : Type 0 where
+-- There is exactly one chain from a point, of at most 17 points, and its answer is that of the
+-- program that forms the address.
+pub record IsOneChain {S : Type 0} (o : Store S) (g : RegsFields) (p : Point)
+    (m : Mid S) : Type 0 where
   pub more : List (Stage S)
   pub answer : Ran (Result ChainEnd Halt) S
   pub linked : IsChain o g (first_stage p m ∷ more) answer
   pub short : length more ≤ 16
-  pub only : (other : List (Stage S)) (said : Ran (Result ChainEnd Halt) S) → IsChain o g (first_stage p m ∷ other) said → (other ≡ more) × (said ≡ answer)
+  pub only :
+      (other : List (Stage S)) (said : Ran (Result ChainEnd Halt) S)
+      → IsChain o g (first_stage p m ∷ other) said → (other ≡ more) × (said ≡ answer)
   pub same : run o g (chain 16 g p) m ≡ answer
 
 abbrev pub OneChain : Type 0

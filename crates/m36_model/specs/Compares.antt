@@ -1,11 +1,12 @@
 -- Comparisons and tests, which change indicators alone.
--- Multics Processor Manual AL39, "Fixed-point comparison instructions", "Fixed-point miscellaneous instructions", "Boolean
--- comparative AND and NOT instructions".
+-- Multics Processor Manual AL39, "Fixed-point comparison instructions", "Fixed-point miscellaneous
+-- instructions", "Boolean comparative AND and NOT instructions".
 use Rattle.std.specs.Prelude.{ℕ, ◌^◌, [], ◌∷◌, Result}
 use Rattle.m36_model.specs.Registers.{RegsFields}
 use Rattle.m36_model.specs.Arithmetic.{comparison}
 use Rattle.m36_model.specs.Booleans.{and_of, xor_of, and_not_of}
-use Rattle.m36_model.specs.Results.{EffectFields, Working, half, width, value, with_indicators, zn, compared, completes, completes_with}
+use Rattle.m36_model.specs.Results.{EffectFields, Working, half, width, value, with_indicators, zn}
+use Rattle.m36_model.specs.Results.{compared, completes, completes_with}
 
 -- CMPA, CMPQ, CMPAQ, CMPX: register and value are compared
 unfoldable pub compare : Working → ℕ → RegsFields → Result EffectFields ℕ

@@ -1,9 +1,13 @@
 -- The store Core: a list of words, in which descriptors and pages are found by tables.
-use Rattle.std.specs.Prelude.{ℕ, zero, suc, ◌+◌, ◌*◌, ◌/◌, ◌%◌, not, ◌&&◌, if◌then◌else◌, List, [], ◌∷◌, length, slice_get, slice_index, slice_set, Option, option_map, Result, Ok, Err}
+use Rattle.std.specs.Prelude.{ℕ, zero, suc, ◌+◌, ◌*◌, ◌/◌, ◌%◌, not, ◌&&◌, if◌then◌else◌, List, []}
+use Rattle.std.specs.Prelude.{◌∷◌, length, slice_get, slice_index, slice_set, Option, option_map}
+use Rattle.std.specs.Prelude.{Result, Ok, Err}
 use Rattle.m36_desc.specs.Fields.{SdwFields, DbrFields}
 use Rattle.m36_model.specs.Act.{Part}
-use Rattle.m36_model.specs.Place.{wrapped, directory_at, page_at, in_bounds, sdw_place, core_sdw, core_spot, core_marked}
-use Rattle.m36_model.specs.Store.{Spot, Core_word, Segment_word, Change, SegTable, Tables, Store, written}
+use Rattle.m36_model.specs.Place.{wrapped, directory_at, page_at, in_bounds, sdw_place, core_sdw}
+use Rattle.m36_model.specs.Place.{core_spot, core_marked}
+use Rattle.m36_model.specs.Store.{Spot, Core_word, Segment_word, Change, SegTable, Tables, Store}
+use Rattle.m36_model.specs.Store.{written}
 use Rattle.m36_model.specs.declared.outcome.Refusal.{Refusal}
 
 abbrev pub core_word : List ℕ → Spot → ℕ
@@ -47,7 +51,10 @@ page_entries core (Ok d) = if d.unpaged then [] else pages_to core d (d.bound / 
 abbrev pub segment_table : List ℕ → DbrFields → ℕ → SegTable
 segment_table core dbr seg =
     record {
-      directory = if in_bounds dbr seg && not dbr.unpaged then ptw_entry core (directory_at dbr seg) ∷ [] else [];
+      directory =
+          if in_bounds dbr seg && not dbr.unpaged
+          then ptw_entry core (directory_at dbr seg) ∷ []
+          else [];
       sdw = sdw_entries core (sdw_place core dbr seg);
       pages = page_entries core (core_sdw core dbr seg);
     }
@@ -57,4 +64,11 @@ core_tables core dbr = record { dbr = dbr; size = length core; of = segment_tabl
 
 abbrev pub core_store : Store (List ℕ)
 core_store =
-    record { sdw = core_sdw; spot = core_spot; word = core_word; marked = core_marked; put = core_put; tables = core_tables }
+    record {
+      sdw = core_sdw;
+      spot = core_spot;
+      word = core_word;
+      marked = core_marked;
+      put = core_put;
+      tables = core_tables;
+    }

@@ -18,7 +18,8 @@ IsSegmentSpot core dbr (Segment_word s w) = ⊥
 -- a page table word, of the descriptor segment or of a live segment
 abbrev pub IsPtwWord : List ℕ → DbrFields → ℕ → Type 0
 IsPtwWord core dbr a =
-    ((seg : ℕ) × IsDirectoryWord dbr seg a) ⊎ ((seg : ℕ) × (page : ℕ) × IsPageWord core dbr seg page a)
+    ((seg : ℕ) × IsDirectoryWord dbr seg a)
+    ⊎ ((seg : ℕ) × (page : ℕ) × IsPageWord core dbr seg page a)
 
 -- the word with its used bit put on, and perhaps its modified bit
 abbrev pub IsMarked : ℕ → ℕ → Type 0

@@ -1,6 +1,7 @@
--- Isolation: programs of a ring and above neither change words that the ring may not write nor depend on words that it
--- may not read, until they fault, stop, or leave through a gate.
-use Rattle.std.specs.Prelude.{◌≡◌, ℕ, ◌<◌, ◌≤◌, true, false, ◌&&◌, List, [], ◌∷◌, map, length, slice_get, Some}
+-- Isolation: programs of a ring and above neither change words that the ring may not write nor
+-- depend on words that it may not read, until they fault, stop, or leave through a gate.
+use Rattle.std.specs.Prelude.{◌≡◌, ℕ, ◌<◌, ◌≤◌, true, false, ◌&&◌, List, [], ◌∷◌, map, length}
+use Rattle.std.specs.Prelude.{slice_get, Some}
 use Rattle.m36_desc.specs.Fields.{SdwFields}
 use Rattle.m36_inst.specs.declared.effect.Effect.TheVariants as effect
 use Rattle.m36_model.specs.Fields.{FinalFields}
@@ -14,9 +15,11 @@ use Rattle.m36_model.specs.StoreLaw.{Each}
 use Rattle.m36_model.specs.declared.outcome.Outcome.TheVariants.{Next}
 use Rattle.m36_model.specs.declared.record.StepRecord.{StepRecord}
 
--- A gate call out of ring r: a CALL6 that went to a word below the call limiter of a live gate, whose second bracket is
--- below r and whose third is not. The new ring is the second bracket, and PR7 is the base of a stack of the new ring.
-pub record IsGateCall {S : Type 0} (o : Store S) (s : State S) (r : ℕ) (e : StepRecord) : Type 0 where
+-- A gate call out of ring r: a CALL6 that went to a word below the call limiter of a live gate,
+-- whose second bracket is below r and whose third is not. The new ring is the second bracket, and
+-- PR7 is the base of a stack of the new ring.
+pub record IsGateCall {S : Type 0} (o : Store S) (s : State S) (r : ℕ)
+    (e : StepRecord) : Type 0 where
   pub word : ℕ
   pub fetched : e.word ≡ Some word
   pub number : ℕ
@@ -33,7 +36,8 @@ pub record IsGateCall {S : Type 0} (o : Store S) (s : State S) (r : ℕ) (e : St
   pub entry : final.at.word < sdw.limit
   pub new_ring : e.after.ppr.prr ≡ sdw.r2
   pub stack : ℕ
-  pub stack_pointer : slice_get e.after.pr 7 ≡ Some (record { seg = stack; ring = sdw.r2; word = 0; bit = 0 })
+  pub stack_pointer :
+      slice_get e.after.pr 7 ≡ Some (record { seg = stack; ring = sdw.r2; word = 0; bit = 0 })
   pub stack_sdw : SdwFields
   pub stack_live : IsLive o s stack stack_sdw
   pub stack_open : (stack_sdw.readable && stack_sdw.writable) ≡ true
@@ -45,15 +49,17 @@ EachTwo P [] (y ∷ ys) = ⊥
 EachTwo P (x ∷ xs) [] = ⊥
 EachTwo P (x ∷ xs) (y ∷ ys) = P x y × EachTwo P xs ys
 
--- what is said of each step of one window: no word outside the reach of r and no table changes, and the ring falls below
--- r through a gate alone
-pub record IsKept {S : Type 0} (o : Store S) (T : Tables) (r : ℕ) (start : State S) (v : Visited S) : Type 0 where
+-- what is said of each step of one window: no word outside the reach of r and no table changes, and
+-- the ring falls below r through a gate alone
+pub record IsKept {S : Type 0} (o : Store S) (T : Tables) (r : ℕ) (start : State S)
+    (v : Visited S) : Type 0 where
   pub unreached : Unreached o r start v.after
   pub tables : tables_of o v.after ≡ T
   pub falls : v.told.after.ppr.prr < r → IsGateCall o v.before r v.told
 
 -- what is said of the windows of two states
-pub record AreIsolated {S : Type 0} (o : Store S) (T : Tables) (r n : ℕ) (a b : State S) : Type 0 where
+pub record AreIsolated {S : Type 0} (o : Store S) (T : Tables) (r n : ℕ)
+    (a b : State S) : Type 0 where
   pub told : map (λ v. v.told) (window o r n a) ≡ map (λ v. v.told) (window o r n b)
   pub agree : EachTwo (λ v w. Agree o r v.after w.after) (window o r n a) (window o r n b)
   pub kept : Each (IsKept o T r a) (window o r n a)
@@ -63,8 +69,9 @@ pub record AreIsolated {S : Type 0} (o : Store S) (T : Tables) (r n : ℕ) (a b 
 abbrev pub HasPointers : RegsFields → Type 0
 HasPointers g = length g.pr ≡ 8
 
--- The tables T isolate each ring from 1: whatever two states with these tables agree on, in a ring of at least r, stays
--- so through their windows of any length.
+-- The tables T isolate each ring from 1: whatever two states with these tables agree on, in a ring
+-- of at least r, stays so through their windows of any length.
 abbrev pub Isolated : {S : Type 0} → Store S → Tables → Type 0
 Isolated {S} o T =
-    (r : ℕ) → 1 ≤ r → r ≤ 7 → (a b : State S) → HasPointers a.regs → tables_of o a ≡ T → tables_of o b ≡ T → r ≤ a.regs.ppr.prr → Agree o r a b → (n : ℕ) → AreIsolated o T r n a b
+    (r : ℕ) → 1 ≤ r → r ≤ 7 → (a b : State S) → HasPointers a.regs → tables_of o a ≡ T
+    → tables_of o b ≡ T → r ≤ a.regs.ppr.prr → Agree o r a b → (n : ℕ) → AreIsolated o T r n a b

@@ -1,5 +1,6 @@
 -- The laws on which isolation rests, as statements on one step.
-use Rattle.std.specs.Prelude.{◌≡◌, ℕ, ◌<◌, ◌≤◌, ◌⊎◌, false, List, length, slice_get, slice_index, Some, Ok}
+use Rattle.std.specs.Prelude.{◌≡◌, ℕ, ◌<◌, ◌≤◌, ◌⊎◌, false, List, length, slice_get, slice_index}
+use Rattle.std.specs.Prelude.{Some, Ok, Err}
 use Rattle.m36_desc.specs.Fields.{DbrFields}
 use Rattle.m36_inst.specs.Operands.{operand_of}
 use Rattle.m36_inst.specs.declared.effect.Effect.{Effect}
@@ -37,24 +38,36 @@ words_written kind.Rw = 1
 words_written kind.Rwl = 1
 words_written _ = 0
 
--- CALL6 goes to the final address in the operand's ring, and PR7 becomes the base of that ring's stack
-pub record IsCalled (g : RegsFields) (f : FinalFields) (o : OperandFields) (x : EffectFields) : Type 0 where
+-- CALL6 goes to the final address in the operand's ring, and PR7 becomes the base of that ring's
+-- stack
+pub record IsCalled (g : RegsFields) (f : FinalFields) (o : OperandFields)
+    (x : EffectFields) : Type 0 where
   pub ring : x.regs.ppr.prr ≡ o.ring
   pub target : (x.regs.ppr.psr ≡ f.at.seg) × (x.regs.ppr.ic ≡ f.at.word)
   pub pointer : HasPointers g → slice_get x.regs.pr 7 ≡ Some (stack_pointer g o.ring)
   pub overflow : x.overflow ≡ false
 
--- An effect changes the ring in CALL6 and RTCD alone, and RTCD not below the ring of the address; it changes the DBR in
--- LDBR alone; and it puts as many words as its operand kind writes.
-pub record IsEffect (e : Effect) (g : RegsFields) (f : FinalFields) (o : OperandFields) (x : EffectFields) : Type 0 where
-  pub ring : (x.regs.ppr.prr ≡ g.ppr.prr) ⊎ ((e ≡ effect.Call6) × IsCalled g f o x) ⊎ ((e ≡ effect.Rtcd) × (f.at.ring ≤ x.regs.ppr.prr))
+-- An effect changes the ring in CALL6 and RTCD alone, and RTCD not below the ring of the address;
+-- it changes the DBR in LDBR alone; and it puts as many words as its operand kind writes.
+pub record IsEffect (e : Effect) (g : RegsFields) (f : FinalFields) (o : OperandFields)
+    (x : EffectFields) : Type 0 where
+  pub ring :
+      (x.regs.ppr.prr ≡ g.ppr.prr) ⊎ ((e ≡ effect.Call6) × IsCalled g f o x)
+      ⊎ ((e ≡ effect.Rtcd) × (f.at.ring ≤ x.regs.ppr.prr))
   pub dbr : (x.regs.dbr ≡ g.dbr) ⊎ ((e ≡ effect.Ldbr) × (x.overflow ≡ false))
   pub count : length x.put ≡ words_written (operand_of e)
   pub pointers : HasPointers g → HasPointers x.regs
 
 abbrev pub EffectLaw : Type 0
 EffectLaw =
-    (e : Effect) (n : ℕ) (g : RegsFields) (f : FinalFields) (o : OperandFields) (x : EffectFields) → exec e n g f o ≡ Ok x → IsEffect e g f o x
+    (e : Effect) (n : ℕ) (g : RegsFields) (f : FinalFields) (o : OperandFields) (x : EffectFields)
+    → exec e n g f o ≡ Ok x → IsEffect e g f o x
+
+-- No effect is refused with a directed fault, an access violation or a fault tag.
+abbrev pub EffectRefusals : Type 0
+EffectRefusals =
+    (e : Effect) (n : ℕ) (g : RegsFields) (f : FinalFields) (o : OperandFields) (number : ℕ)
+    → exec e n g f o ≡ Err number → number < 16
 
 -- a state of which the laws speak: its tables are T but for marks, and it runs in ring r or above
 pub record IsAbove {S : Type 0} (o : Store S) (T : Tables) (r : ℕ) (s : State S) : Type 0 where
@@ -74,15 +87,18 @@ IsWithin o r s e = MayRefer o r s e.at.seg e.kind
 
 -- Each completed reference of a step is to a segment in sight, for a Write in reach.
 abbrev pub SightLaw : {S : Type 0} → Store S → Tables → Type 0
-SightLaw {S} o T = (r : ℕ) (s : State S) → IsAbove o T r s → Each (IsWithin o r s) (record_of o s).refs.items
+SightLaw {S} o T =
+    (r : ℕ) (s : State S) → IsAbove o T r s → Each (IsWithin o r s) (record_of o s).refs.items
 
 -- What stands outside the sight of ring r alters no record.
 abbrev pub DependsLaw : {S : Type 0} → Store S → Tables → Type 0
-DependsLaw {S} o T = (r : ℕ) (a b : State S) → IsAbove o T r a → Agree o r a b → record_of o a ≡ record_of o b
+DependsLaw {S} o T =
+    (r : ℕ) (a b : State S) → IsAbove o T r a → Agree o r a b → record_of o a ≡ record_of o b
 
 -- A step changes the content of no live segment outside reach.
 abbrev pub ReachLaw : {S : Type 0} → Store S → Tables → Type 0
-ReachLaw {S} o T = (r : ℕ) (s : State S) → 1 ≤ r → IsAbove o T r s → Unreached o r s (state_after o s)
+ReachLaw {S} o T =
+    (r : ℕ) (s : State S) → 1 ≤ r → IsAbove o T r s → Unreached o r s (state_after o s)
 
 -- a word of a segment in reach lies at the address
 pub record IsReachable (r : ℕ) (s : State (List ℕ)) (a : ℕ) : Type 0 where
@@ -94,15 +110,19 @@ pub record IsReachable (r : ℕ) (s : State (List ℕ)) (a : ℕ) : Type 0 where
 -- Of core words a step changes those of segments in reach alone, but for marks on page table words.
 abbrev pub CoreReachLaw : List ℕ → DbrFields → Type 0
 CoreReachLaw core dbr =
-    (r : ℕ) (s : State (List ℕ)) → IsAbove core_store (core_tables core dbr) r s → (a : ℕ) → (IsReachable r s a → ⊥) → IsButMarked core dbr a (slice_index s.store a) (slice_index (state_after core_store s).store a)
+    (r : ℕ) (s : State (List ℕ)) → IsAbove core_store (core_tables core dbr) r s → (a : ℕ)
+    → (IsReachable r s a → ⊥)
+    → IsButMarked core dbr a (slice_index s.store a)
+    (slice_index (state_after core_store s).store a)
 
 -- A step ends below r by a gate call alone.
 abbrev pub FallLaw : {S : Type 0} → Store S → Tables → Type 0
 FallLaw {S} o T =
-    (r : ℕ) (s : State S) → 1 ≤ r → IsAbove o T r s → (state_after o s).regs.ppr.prr < r → IsGateCall o s r (record_of o s)
+    (r : ℕ) (s : State S) → 1 ≤ r → IsAbove o T r s → (state_after o s).regs.ppr.prr < r
+    → IsGateCall o s r (record_of o s)
 
--- Marks alter no descriptor, no place and no record: two states with equal registers, tables equal but for marks and equal
--- content tell the same.
+-- Marks alter no descriptor, no place and no record: two states with equal registers, tables equal
+-- but for marks and equal content tell the same.
 pub record MarksAlterNothing {S : Type 0} (o : Store S) (a b : State S) : Type 0 where
   pub descriptors : (seg : ℕ) → o.sdw a.store a.regs.dbr seg ≡ o.sdw b.store b.regs.dbr seg
   pub places : (seg w : ℕ) → place o a.store a.regs.dbr seg w ≡ place o b.store b.regs.dbr seg w
@@ -110,18 +130,23 @@ pub record MarksAlterNothing {S : Type 0} (o : Store S) (a b : State S) : Type 0
 
 abbrev pub MarksLaw : {S : Type 0} → Store S → Tables → Type 0
 MarksLaw {S} o T =
-    (a b : State S) → a.regs ≡ b.regs → tables_of o a ≡ T → tables_of o b ≡ T → ((seg w : ℕ) → content o a seg w ≡ content o b seg w) → MarksAlterNothing o a b
+    (a b : State S) → a.regs ≡ b.regs → tables_of o a ≡ T → tables_of o b ≡ T
+    → ((seg w : ℕ) → content o a seg w ≡ content o b seg w) → MarksAlterNothing o a b
 
 -- one step of two agreeing states: equal records, and they agree again
 pub record IsAlike {S : Type 0} (o : Store S) (T : Tables) (r : ℕ) (a b : State S) : Type 0 where
   pub told : record_of o a ≡ record_of o b
   pub agree : Agree o r (state_after o a) (state_after o b)
-  -- content that was equal stays equal, in sight or not: so the half of a word that a store keeps shows nowhere else
-  pub words : (seg w : ℕ) → content o a seg w ≡ content o b seg w → content o (state_after o a) seg w ≡ content o (state_after o b) seg w
+  -- content that was equal stays equal, in sight or not: so the half of a word that a store keeps
+  -- shows nowhere else
+  pub words :
+      (seg w : ℕ) → content o a seg w ≡ content o b seg w
+      → content o (state_after o a) seg w ≡ content o (state_after o b) seg w
   pub tables : tables_of o (state_after o a) ≡ T
 
 abbrev pub AgreeLaw : {S : Type 0} → Store S → Tables → Type 0
-AgreeLaw {S} o T = (r : ℕ) (a b : State S) → 1 ≤ r → IsAbove o T r a → Agree o r a b → IsAlike o T r a b
+AgreeLaw {S} o T =
+    (r : ℕ) (a b : State S) → 1 ≤ r → IsAbove o T r a → Agree o r a b → IsAlike o T r a b
 
 -- the step was an LDBR that completed
 pub record ExecutesLdbr (e : StepRecord) : Type 0 where
@@ -134,4 +159,6 @@ pub record ExecutesLdbr (e : StepRecord) : Type 0 where
 -- A step in any ring that executes no LDBR keeps the audit conditions.
 abbrev pub KeptLaw : Type 0
 KeptLaw =
-    (s : State (List ℕ)) → IsAudited s.store s.regs.dbr → (ExecutesLdbr (record_of core_store s) → ⊥) → IsAudited (state_after core_store s).store (state_after core_store s).regs.dbr
+    (s : State (List ℕ)) → IsAudited s.store s.regs.dbr
+    → (ExecutesLdbr (record_of core_store s) → ⊥)
+    → IsAudited (state_after core_store s).store (state_after core_store s).regs.dbr

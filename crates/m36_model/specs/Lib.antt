@@ -1,3 +1,17 @@
+-- The machine by the manual. Two modules tell the whole of it: `Step` has the program of one step,
+-- and `Store` says how a store serves what the program asks. `StepCases` says it as a relation.
+--
+-- Letters stand for what lives for a line or two, and for the same in every module:
+--
+--   g  registers                        e  an instruction, and n the number in its name
+--   w  a word, or the number of one     f  a final address
+--   p  a point of an address chain      c  the end of one
+--   q  a request                        a  the answer to one, and b to a second
+--   d  a segment descriptor             r  a working register, or in laws a ring
+--   m  where a step stands              s  a state, or what a store holds
+--   i  indicators                       t  what came of a run, or of one reference
+--   o  in effects an operand, and else a store
+pub mod Faults
 pub mod Fields
 pub mod Registers
 pub mod Act
@@ -43,3 +57,10 @@ pub mod Laws
 pub mod Completed
 pub mod OperandWords
 pub mod StepCases
+pub mod Schedule
+pub mod JointAudit
+pub mod JointIsolation
+pub mod Flat
+pub mod BootedCore
+pub mod Residence
+pub mod PagedStep

@@ -1,9 +1,11 @@
--- Loads. Multics Processor Manual AL39, "Fixed-point data movement load instructions", "Load indicator register".
+-- Loads. Multics Processor Manual AL39, "Fixed-point data movement load instructions", "Load
+-- indicator register".
 use Rattle.std.specs.Prelude.{ℕ, ◌*◌, ◌^◌, [], ◌∷◌, Result}
 use Rattle.m36_word.specs.Bits.{is_on}
 use Rattle.m36_model.specs.Registers.{RegsFields}
 use Rattle.m36_model.specs.Arithmetic.{negation}
-use Rattle.m36_model.specs.Results.{EffectFields, Working, half, with_indicators, zn, zn_overflow, takes, completes, completes_with, completes_or_overflows}
+use Rattle.m36_model.specs.Results.{EffectFields, Working, half, with_indicators, zn, zn_overflow}
+use Rattle.m36_model.specs.Results.{takes, completes, completes_with, completes_or_overflows}
 use Rattle.m36_model.specs.declared.registers.Ind.{Ind}
 
 -- LDA, LDQ, LDAQ, LDX, LXL: the register becomes the value
@@ -13,7 +15,8 @@ load r v g = completes (takes r v (zn (half r) v g.ind) g)
 -- LCA, LCQ, LCAQ, LCX: the register becomes the negative of the value
 unfoldable pub load_complement : Working → ℕ → RegsFields → Result EffectFields ℕ
 load_complement r v g =
-    let s = negation (half r) v in completes_or_overflows (takes r s.value (zn_overflow s g.ind) g) [] s.overflow
+    let s = negation (half r) v in
+    completes_or_overflows (takes r s.value (zn_overflow s g.ind) g) [] s.overflow
 
 -- LDAC, LDQC: the register becomes the value, and the word becomes 0
 unfoldable pub load_and_clear : Working → ℕ → RegsFields → Result EffectFields ℕ
@@ -23,7 +26,8 @@ load_and_clear r v g = completes_with (takes r v (zn (half r) v g.ind) g) (0 ∷
 abbrev pub address_in_upper : ℕ → ℕ
 address_in_upper address = address * 2 ^ 18
 
--- The indicators in a word: 18 zero, 19 negative, 20 carry, 21 overflow, 24 overflow mask, 25 tally runout.
+-- The indicators in a word: 18 zero, 19 negative, 20 carry, 21 overflow, 24 overflow mask, 25 tally
+-- runout.
 unfoldable pub indicators_of : ℕ → Ind
 indicators_of w =
     record {

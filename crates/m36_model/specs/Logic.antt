@@ -1,9 +1,11 @@
 -- Boolean instructions on registers and on storage.
--- Multics Processor Manual AL39, "Boolean AND instructions", "Boolean OR instructions", "Boolean exclusive OR instructions".
+-- Multics Processor Manual AL39, "Boolean AND instructions", "Boolean OR instructions", "Boolean
+-- exclusive OR instructions".
 use Rattle.std.specs.Prelude.{ℕ, Result}
 use Rattle.m36_model.specs.Registers.{RegsFields}
 use Rattle.m36_model.specs.Booleans.{and_of, or_of, xor_of}
-use Rattle.m36_model.specs.Results.{EffectFields, Working, half, width, value, words, takes, with_indicators, zn, completes, completes_with}
+use Rattle.m36_model.specs.Results.{EffectFields, Working, half, width, value, words, takes}
+use Rattle.m36_model.specs.Results.{with_indicators, zn, completes, completes_with}
 
 abbrev pub bits_into_register : Working → ℕ → RegsFields → Result EffectFields ℕ
 bits_into_register r v g = completes (takes r v (zn (half r) v g.ind) g)

@@ -1,17 +1,21 @@
 -- Address modification: the points of an address chain, and what the tag of a point does.
--- Multics Processor Manual AL39, "Effective address formation", "Address modification features" and "Tag field".
-use Rattle.std.specs.Prelude.{ℕ, ◌+◌, ◌-◌, ◌*◌, ◌/◌, ◌%◌, ◌^◌, Bool, ◌||◌, ◌==◌, if◌then◌else◌, Option, Some, None, slice_index, slice_index_or}
+-- Multics Processor Manual AL39, "Effective address formation", "Address modification features" and
+-- "Tag field".
+use Rattle.std.specs.Prelude.{ℕ, ◌+◌, ◌-◌, ◌*◌, ◌/◌, ◌%◌, ◌^◌, Bool, ◌||◌, ◌==◌, if◌then◌else◌}
+use Rattle.std.specs.Prelude.{Option, Some, None, slice_index, slice_index_or}
 use Rattle.m36_word.specs.Field.{field}
 use Rattle.m36_desc.specs.Fields.{PtrFields}
+use Rattle.m36_model.specs.Faults.{fault_tag_1, fault_tag_2, fault_tag_3, illegal_procedure}
+use Rattle.m36_model.specs.Tally.{is_tally_tag}
 use Rattle.m36_model.specs.Fields.{AtFields, FinalFields}
 use Rattle.m36_model.specs.Registers.{RegsFields}
 use Rattle.m36_model.specs.declared.outcome.Halt.{Halt}
 use Rattle.m36_model.specs.declared.outcome.Halt.TheVariants as halt
 use Rattle.m36_model.specs.declared.outcome.Stop.TheVariants as stop
 
--- A point of a chain: segment TSR, ring TRR, address y, bit number, tag and perhaps a held register, of which the chain
--- keeps the value. The last field is the word that carried the tag, with the ring that a fault tag names: the greater of
--- TRR and R1 of that word's segment.
+-- A point of a chain: segment TSR, ring TRR, address y, bit number, tag and perhaps a held
+-- register, of which the chain keeps the value. The last field is the word that carried the tag,
+-- with the ring that a fault tag names: the greater of TRR and R1 of that word's segment.
 pub record Point : Type 0 where
   pub seg : ℕ
   pub ring : ℕ
@@ -37,8 +41,8 @@ no_ptr = record { seg = 0; ring = 0; word = 0; bit = 0 }
 abbrev pub ptr : RegsFields → ℕ → PtrFields
 ptr g n = slice_index_or g.pr n no_ptr
 
--- The value of the register that Td names: none (which is 0), au, qu, ic, al, ql, x0 to x7. Td 3 and 7, du and dl, name a
--- direct operand and no register.
+-- The value of the register that Td names: none (which is 0), au, qu, ic, al, ql, x0 to x7. Td 3
+-- and 7, du and dl, name a direct operand and no register.
 unfoldable pub index_of : RegsFields → ℕ → ℕ
 index_of g td =
     if td == 0 then 0
@@ -70,16 +74,27 @@ pub data Move : Type 0 where
   -- the tally word at y is read
   Counts : Move
 
--- the end of a chain at a word of the point's segment, and at a direct operand: then the place is that of the point itself
+-- the end of a chain at a word of the point's segment, and at a direct operand: then the place is
+-- that of the point itself
 abbrev pub ends_at : Point → ℕ → Move
-ends_at p word = Ends (record { at = record { seg = p.seg; word = word; ring = p.ring }; bit = p.bit; direct = None })
+ends_at p word =
+    Ends (record {
+      at = record { seg = p.seg; word = word; ring = p.ring };
+      bit = p.bit;
+      direct = None;
+    })
 
 abbrev pub ends_direct : Point → ℕ → Move
-ends_direct p operand = Ends (record { at = record { seg = p.seg; word = p.y; ring = p.ring }; bit = p.bit; direct = Some operand })
+ends_direct p operand =
+    Ends (record {
+      at = record { seg = p.seg; word = p.y; ring = p.ring };
+      bit = p.bit;
+      direct = Some operand;
+    })
 
--- Register modification (R). With a held register the chain ends at y plus that register, whatever Td is. Without one, du
--- ends it with y as bits 0 to 17 of a direct operand and dl with y as bits 18 to 35; any other Td ends it at y plus the
--- register that Td names.
+-- Register modification (R). With a held register the chain ends at y plus that register, whatever
+-- Td is. Without one, du ends it with y as bits 0 to 17 of a direct operand and dl with y as bits
+-- 18 to 35; any other Td ends it at y plus the register that Td names.
 abbrev pub move_register : RegsFields → Point → ℕ → Option ℕ → Move
 move_register g p td (Some held) = ends_at p ((p.y + held) % 2 ^ 18)
 move_register g p td None =
@@ -87,28 +102,46 @@ move_register g p td None =
     else if td == direct_lower then ends_direct p p.y
     else ends_at p ((p.y + index_of g td) % 2 ^ 18)
 
--- Register then indirect (RI). The indirect word is at y plus the register; a held register stays. du and dl are an illegal
--- procedure (this project's choice).
+-- Register then indirect (RI). The indirect word is at y plus the register; a held register stays.
+-- du and dl are an illegal procedure (this project's choice).
 abbrev pub move_register_then_indirect : RegsFields → Point → ℕ → Move
 move_register_then_indirect g p td =
-    if is_direct td then Fails (fault_at 10 (here g)) else Reads ((p.y + index_of g td) % 2 ^ 18) p.held
+    if is_direct td
+    then Fails (fault_at illegal_procedure (here g))
+    else Reads ((p.y + index_of g td) % 2 ^ 18) p.held
 
--- Indirect then register (IR). The indirect word is at y; the register is held in place of any earlier one, and none is held as 0. du
--- and dl are an illegal procedure (this project's choice).
+-- Indirect then register (IR). The indirect word is at y; the register is held in place of any
+-- earlier one, and none is held as 0. du and dl are an illegal procedure (this project's choice).
 abbrev pub move_indirect_then_register : RegsFields → Point → ℕ → Move
 move_indirect_then_register g p td =
-    if is_direct td then Fails (fault_at 10 (here g)) else Reads p.y (Some (index_of g td))
+    if is_direct td
+    then Fails (fault_at illegal_procedure (here g))
+    else Reads p.y (Some (index_of g td))
 
--- Indirect then tally (IT). Fault tags 1, 2 and 3 (octal 40, 46, 47) are told at the word that carried the tag. The pair
--- tags ITP and ITS (41, 43) count only in the even word of a pair that RI or IR has reached; here they are an illegal procedure
--- (this project's choice). SD, I, AD, DI and ID (44, 51, 53, 54, 56) read a tally word. The others stop the machine.
+-- Td of the three fault tags, and of the pair tags ITP and ITS, all of Tm IT
+abbrev pub first_fault_tag : ℕ
+first_fault_tag = 0o0
+
+abbrev pub second_fault_tag : ℕ
+second_fault_tag = 0o6
+
+abbrev pub third_fault_tag : ℕ
+third_fault_tag = 0o7
+
+abbrev pub is_pair_tag : ℕ → Bool
+is_pair_tag td = (td == 0o1) || (td == 0o3)
+
+-- Indirect then tally (IT). Fault tags 1, 2 and 3 (octal 40, 46, 47) are told at the word that
+-- carried the tag. The pair tags ITP and ITS (41, 43) count only in the even word of a pair that RI
+-- or IR has reached; here they are an illegal procedure (this project's choice). SD, I, AD, DI and
+-- ID (44, 51, 53, 54, 56) read a tally word. The others stop the machine.
 abbrev pub move_indirect_then_tally : RegsFields → Point → ℕ → Move
 move_indirect_then_tally g p td =
-    if td == 0o0 then Fails (fault_at 3 p.carrier)
-    else if td == 0o6 then Fails (fault_at 24 p.carrier)
-    else if td == 0o7 then Fails (fault_at 25 p.carrier)
-    else if (td == 0o1) || (td == 0o3) then Fails (fault_at 10 (here g))
-    else if (td == 0o4) || (td == 0o11) || (td == 0o13) || (td == 0o14) || (td == 0o16) then Counts
+    if td == first_fault_tag then Fails (fault_at fault_tag_1 p.carrier)
+    else if td == second_fault_tag then Fails (fault_at fault_tag_2 p.carrier)
+    else if td == third_fault_tag then Fails (fault_at fault_tag_3 p.carrier)
+    else if is_pair_tag td then Fails (fault_at illegal_procedure (here g))
+    else if is_tally_tag td then Counts
     else Fails (halt.Stop stop.Tag)
 
 -- The tag has Tm in its first two bits (R, RI, IT, IR) and Td in the other four.

@@ -1,5 +1,5 @@
--- Which words an effect is given, by how its instruction references its operand: the word, the pair or the block that it
--- reads, and none where it reads nothing. A direct operand is a word.
+-- Which words an effect is given, by how its instruction references its operand: the word, the pair
+-- or the block that it reads, and none where it reads nothing. A direct operand is a word.
 use Rattle.std.specs.Prelude.{Bool, true, false, IsTrue}
 use Rattle.m36_inst.specs.declared.operand.Operand.{Operand}
 use Rattle.m36_inst.specs.declared.operand.Operand.TheVariants as operand

@@ -1,5 +1,5 @@
--- The words of an operand: a word, a pair or a block is words that follow one another, and the k-th of them is the word at
--- the place of the first word number plus k.
+-- The words of an operand: a word, a pair or a block is words that follow one another, and the k-th
+-- of them is the word at the place of the first word number plus k.
 use Rattle.std.specs.Prelude.{ℕ, ◌≡◌, ◌+◌, ◌<◌, true, List, ◌++◌, map, length, slice_get, Some, Ok}
 use Rattle.m36_desc.specs.Fields.{SdwFields}
 use Rattle.m36_model.specs.Registers.{RegsFields}
@@ -7,21 +7,29 @@ use Rattle.m36_model.specs.Act.{Read, Write, Request, Answer}
 use Rattle.m36_model.specs.Store.{Spot, Store, Mid, serve, changes, within}
 use Rattle.m36_model.specs.Core.{core_store}
 
--- the spots of so many words of a segment from a word on, each within the bound and placed by the descriptor
-pub record ArePlaces {S : Type 0} (o : Store S) (s : S) (g : RegsFields) (q : Request) (d : SdwFields) (spots : List Spot) : Type 0 where
+-- the spots of so many words of a segment from a word on, each within the bound and placed by the
+-- descriptor
+pub record ArePlaces {S : Type 0} (o : Store S) (s : S) (g : RegsFields) (q : Request)
+    (d : SdwFields) (spots : List Spot) : Type 0 where
   pub count : length spots ≡ q.count
   pub inside : (k : ℕ) → k < q.count → within d (q.at.word + k) ≡ true
-  pub each : (k : ℕ) (spot : Spot) → slice_get spots k ≡ Some spot → o.spot s g.dbr d q.at.seg (q.at.word + k) ≡ Ok spot
+  pub each :
+      (k : ℕ) (spot : Spot) → slice_get spots k ≡ Some spot
+      → o.spot s g.dbr d q.at.seg (q.at.word + k) ≡ Ok spot
 
--- an answered request to read: its words are those at these places, with the marks set and the pending words written
-pub record AreReadWords {S : Type 0} (o : Store S) (g : RegsFields) (m : Mid S) (q : Request) (a : Answer) (after : Mid S) : Type 0 where
+-- an answered request to read: its words are those at these places, with the marks set and the
+-- pending words written
+pub record AreReadWords {S : Type 0} (o : Store S) (g : RegsFields) (m : Mid S) (q : Request)
+    (a : Answer) (after : Mid S) : Type 0 where
   pub spots : List Spot
   pub found : o.sdw m.store g.dbr q.at.seg ≡ Ok a.sdw
   pub places : ArePlaces o m.store g q a.sdw spots
   pub words : a.words ≡ map (o.word (o.put after.store (changes m.claims q.pending))) spots
 
--- an answered request to write: these places are claimed, after those that the step has claimed before
-pub record AreWrittenWords {S : Type 0} (o : Store S) (g : RegsFields) (m : Mid S) (q : Request) (a : Answer) (after : Mid S) : Type 0 where
+-- an answered request to write: these places are claimed, after those that the step has claimed
+-- before
+pub record AreWrittenWords {S : Type 0} (o : Store S) (g : RegsFields) (m : Mid S) (q : Request)
+    (a : Answer) (after : Mid S) : Type 0 where
   pub spots : List Spot
   pub found : o.sdw m.store g.dbr q.at.seg ≡ Ok a.sdw
   pub places : ArePlaces o m.store g q a.sdw spots
@@ -30,8 +38,12 @@ pub record AreWrittenWords {S : Type 0} (o : Store S) (g : RegsFields) (m : Mid 
 
 abbrev pub ReadsWordsInOrder : Type 0
 ReadsWordsInOrder =
-    (g : RegsFields) (m after : Mid (List ℕ)) (q : Request) (a : Answer) → q.kind ≡ Read → serve core_store g m q ≡ record { reply = Ok a; mid = after } → AreReadWords core_store g m q a after
+    (g : RegsFields) (m after : Mid (List ℕ)) (q : Request) (a : Answer) → q.kind ≡ Read
+    → serve core_store g m q ≡ record { reply = Ok a; mid = after }
+    → AreReadWords core_store g m q a after
 
 abbrev pub WritesWordsInOrder : Type 0
 WritesWordsInOrder =
-    (g : RegsFields) (m after : Mid (List ℕ)) (q : Request) (a : Answer) → q.kind ≡ Write → serve core_store g m q ≡ record { reply = Ok a; mid = after } → AreWrittenWords core_store g m q a after
+    (g : RegsFields) (m after : Mid (List ℕ)) (q : Request) (a : Answer) → q.kind ≡ Write
+    → serve core_store g m q ≡ record { reply = Ok a; mid = after }
+    → AreWrittenWords core_store g m q a after

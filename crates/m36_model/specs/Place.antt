@@ -1,12 +1,16 @@
--- Places of words in core: how a descriptor is found, how a word is found by it, and which marks a reference sets.
--- Multics Processor Manual AL39, "Address appending", "Segment descriptor word", "Page table word".
-use Rattle.std.specs.Prelude.{ℕ, ◌+◌, ◌*◌, ◌/◌, ◌%◌, ◌^◌, Bool, true, false, ◌&&◌, nat_lt, if◌then◌else◌, List, [], ◌∷◌, ◌++◌, length, slice_get, slice_index, slice_set, Option, Some, None, option_map, Result, Ok, Err}
+-- Places of words in core: how a descriptor is found, how a word is found by it, and which marks a
+-- reference sets. Multics Processor Manual AL39, "Address appending", "Segment descriptor word",
+-- "Page table word".
+use Rattle.std.specs.Prelude.{ℕ, ◌+◌, ◌*◌, ◌/◌, ◌%◌, ◌^◌, Bool, true, false, ◌&&◌, nat_lt}
+use Rattle.std.specs.Prelude.{if◌then◌else◌, List, [], ◌∷◌, ◌++◌, length, slice_get, slice_index}
+use Rattle.std.specs.Prelude.{slice_set, Option, Some, None, option_map, Result, Ok, Err}
 use Rattle.m36_word.specs.Bits.{is_on}
 use Rattle.m36_word.specs.Field.{field}
 use Rattle.m36_desc.specs.Fields.{SdwFields, PtwFields, DbrFields}
 use Rattle.m36_desc.specs.Descriptors.{sdw_of, ptw_of}
-use Rattle.m36_model.specs.Act.{RequestKind, Fetch, Indirect, Odd, Read, Write, Transfer, Call, Locate}
-use Rattle.m36_model.specs.Store.{Spot, Core_word, violation}
+use Rattle.m36_model.specs.Act.{RequestKind}
+use Rattle.m36_desc.specs.Violations.{out_of_segment_bounds}
+use Rattle.m36_model.specs.Store.{Spot, Core_word, violation, claims_words}
 use Rattle.m36_model.specs.declared.outcome.Refusal.{Refusal}
 
 -- a table word or a place at or past the end of core
@@ -51,12 +55,13 @@ in_bounds dbr seg = nat_lt (2 * seg) (16 * (dbr.bnd + 1)) && nat_lt seg (2 ^ 15)
 
 -- the address of the descriptor's even word
 abbrev pub sdw_place_by : Bool → Bool → DbrFields → ℕ → Option PtwFields → Result ℕ Refusal
-sdw_place_by false unpaged dbr seg p = Err (violation 15)
+sdw_place_by false unpaged dbr seg p = Err (violation out_of_segment_bounds)
 sdw_place_by true true dbr seg p = Ok (wrapped (dbr.addr + 2 * seg))
 sdw_place_by true false dbr seg p = in_frame p ((2 * seg) % 1024)
 
 abbrev pub sdw_place : List ℕ → DbrFields → ℕ → Result ℕ Refusal
-sdw_place core dbr seg = sdw_place_by (in_bounds dbr seg) dbr.unpaged dbr seg (ptw_at core (directory_at dbr seg))
+sdw_place core dbr seg =
+    sdw_place_by (in_bounds dbr seg) dbr.unpaged dbr seg (ptw_at core (directory_at dbr seg))
 
 -- the descriptor in two words; both stand in core before F is looked at
 abbrev pub live_by : Bool → ℕ → ℕ → Result SdwFields Refusal
@@ -94,7 +99,8 @@ unfoldable pub core_spot : List ℕ → DbrFields → SdwFields → ℕ → ℕ 
 core_spot core dbr d seg w =
     inside_core (length core) (word_place_by d.unpaged d w (ptw_at core (page_at d (w / 1024))))
 
--- a mark to be set in the PTW at an address: the used bit, and with it the modified bit where modified is on
+-- a mark to be set in the PTW at an address: the used bit, and with it the modified bit where
+-- modified is on
 pub record Mark : Type 0 where
   pub address : ℕ
   pub modified : Bool
@@ -112,25 +118,21 @@ marked_word false w = with_used w
 
 -- a Write sets the modified bit of the segment's own PTW
 abbrev pub is_write : RequestKind → Bool
-is_write Write = true
-is_write Fetch = false
-is_write Indirect = false
-is_write Odd = false
-is_write Read = false
-is_write Transfer = false
-is_write Call = false
-is_write Locate = false
+is_write kind = claims_words kind
 
 abbrev pub directory_marks : DbrFields → ℕ → List Mark
-directory_marks dbr seg = if dbr.unpaged then [] else record { address = directory_at dbr seg; modified = false } ∷ []
+directory_marks dbr seg =
+    if dbr.unpaged then [] else record { address = directory_at dbr seg; modified = false } ∷ []
 
 abbrev pub page_marks : Bool → ℕ → Result SdwFields Refusal → List Mark
 page_marks write w (Err e) = []
-page_marks write w (Ok d) = if d.unpaged then [] else record { address = page_at d (w / 1024); modified = write } ∷ []
+page_marks write w (Ok d) =
+    if d.unpaged then [] else record { address = page_at d (w / 1024); modified = write } ∷ []
 
 -- the marks of a reference: one for each PTW that it passes
 unfoldable pub marks : List ℕ → DbrFields → RequestKind → ℕ → ℕ → List Mark
-marks core dbr kind seg w = directory_marks dbr seg ++ page_marks (is_write kind) w (core_sdw core dbr seg)
+marks core dbr kind seg w =
+    directory_marks dbr seg ++ page_marks (is_write kind) w (core_sdw core dbr seg)
 
 abbrev pub with_mark : List ℕ → Mark → List ℕ
 with_mark core m = slice_set core m.address (marked_word m.modified (slice_index core m.address))

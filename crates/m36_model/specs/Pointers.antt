@@ -1,13 +1,17 @@
--- Pointer register instructions. Multics Processor Manual AL39, "Pointer register data movement load instructions", "Pointer
--- register data movement store instructions", "Effective address to AQ", "Store control double".
-use Rattle.std.specs.Prelude.{ℕ, ◌+◌, ◌*◌, ◌%◌, ◌^◌, max, Bool, true, false, ◌&&◌, ◌==◌, List, [], ◌∷◌, Result, Err, slice_index, slice_set}
+-- Pointer register instructions. Multics Processor Manual AL39, "Pointer register data movement
+-- load instructions", "Pointer register data movement store instructions", "Effective address to
+-- AQ", "Store control double".
+use Rattle.std.specs.Prelude.{ℕ, ◌+◌, ◌*◌, ◌%◌, ◌^◌, max, Bool, true, false, ◌&&◌, ◌==◌, List, []}
+use Rattle.std.specs.Prelude.{◌∷◌, Result, Err, slice_index, slice_set}
 use Rattle.m36_word.specs.Field.{field}
 use Rattle.m36_desc.specs.Fields.{PtrFields}
 use Rattle.m36_desc.specs.Descriptors.{ptr_of, ptr_even, ptr_odd, packed_of}
+use Rattle.m36_model.specs.Faults.{command}
 use Rattle.m36_model.specs.Fields.{FinalFields}
 use Rattle.m36_model.specs.Registers.{RegsFields}
 use Rattle.m36_model.specs.Modification.{ptr}
-use Rattle.m36_model.specs.Results.{OperandFields, EffectFields, with_zero, completes, completes_with}
+use Rattle.m36_model.specs.Results.{OperandFields, EffectFields, with_zero, completes}
+use Rattle.m36_model.specs.Results.{completes_with}
 
 unfoldable pub with_pr : ℕ → PtrFields → RegsFields → RegsFields
 with_pr n p g = record g { pr = slice_set g.pr n p }
@@ -41,38 +45,47 @@ pair_before p words = ptr_even p ∷ ptr_odd p ∷ words
 
 abbrev pub pointer_block : RegsFields → List ℕ
 pointer_block g =
-    pair_before (ptr g 0) (pair_before (ptr g 1) (pair_before (ptr g 2) (pair_before (ptr g 3) (pair_before (ptr g 4) (pair_before (ptr g 5) (pair_before (ptr g 6) (pair_before (ptr g 7) [])))))))
+    pair_before (ptr g 0)
+    (pair_before (ptr g 1)
+    (pair_before (ptr g 2)
+    (pair_before (ptr g 3)
+    (pair_before (ptr g 4)
+    (pair_before (ptr g 5) (pair_before (ptr g 6) (pair_before (ptr g 7) [])))))))
 
 unfoldable pub store_pointers : RegsFields → Result EffectFields ℕ
 store_pointers g = completes_with g (pointer_block g)
 
--- LPRI: each pointer register becomes segment, word and bit of its pair, in the greatest of the pair's ring, TRR and R1 of
--- the block's segment. The tags of the pairs are not examined (this project's choice).
+-- LPRI: each pointer register becomes segment, word and bit of its pair, in the greatest of the
+-- pair's ring, TRR and R1 of the block's segment. The tags of the pairs are not examined (this
+-- project's choice).
 abbrev pub pointer_raised : PtrFields → ℕ → ℕ → PtrFields
 pointer_raised p ring r1 = record p { ring = max (max ring r1) p.ring }
 
 abbrev pub pointer_in : OperandFields → FinalFields → ℕ → PtrFields
 pointer_in o f n =
-    pointer_raised (ptr_of (slice_index o.got (2 * n)) (slice_index o.got (2 * n + 1))) f.at.ring o.ring
+    pointer_raised (ptr_of (slice_index o.got (2 * n)) (slice_index o.got (2 * n + 1))) f.at.ring
+    o.ring
 
 abbrev pub pointers_in : OperandFields → FinalFields → List PtrFields
 pointers_in o f =
-    pointer_in o f 0 ∷ pointer_in o f 1 ∷ pointer_in o f 2 ∷ pointer_in o f 3 ∷ pointer_in o f 4 ∷ pointer_in o f 5 ∷ pointer_in o f 6 ∷ pointer_in o f 7 ∷ []
+    pointer_in o f 0 ∷ pointer_in o f 1 ∷ pointer_in o f 2 ∷ pointer_in o f 3 ∷ pointer_in o f 4
+    ∷ pointer_in o f 5 ∷ pointer_in o f 6 ∷ pointer_in o f 7 ∷ []
 
 unfoldable pub load_pointers : RegsFields → FinalFields → OperandFields → Result EffectFields ℕ
 load_pointers g f o = completes (record g { pr = pointers_in o f })
 
--- LPRP: the pointer register becomes what the packed pointer means in ring TRR. Where bits 0 and 1 of the word are both on,
--- the fault is command.
+-- LPRP: the pointer register becomes what the packed pointer means in ring TRR. Where bits 0 and 1
+-- of the word are both on, the fault is command.
 abbrev pub load_packed_by : Bool → ℕ → ℕ → RegsFields → FinalFields → Result EffectFields ℕ
-load_packed_by true n w g f = Err 5
+load_packed_by true n w g f = Err command
 load_packed_by false n w g f = completes (with_pr n (packed_of w f.at.ring) g)
 
 unfoldable pub load_packed : ℕ → ℕ → RegsFields → FinalFields → Result EffectFields ℕ
 load_packed n w g f = load_packed_by (field w 0 2 == 3) n w g f
 
--- EPAQ: A 3-17 become the segment, A 33-35 the ring, Q 0-17 the computed address, Q 30-35 the bit number, all else 0. Zero is
--- on where AQ is 0, and no other indicator changes (this project's choice).
+-- EPAQ: A 3-17 become the segment, A 33-35 the ring, Q 0-17 the computed address, Q 30-35 the bit
+-- number, all else 0. Zero is on where AQ is 0, and no other indicator changes (this project's
+-- choice).
 abbrev pub address_even : FinalFields → ℕ
 address_even f = f.at.seg * 2 ^ 18 + f.at.ring
 
@@ -86,7 +99,8 @@ load_address_pair g f =
 
 -- STCD: the pair becomes the ITS form of the second instruction from here
 abbrev pub control_pointer : RegsFields → PtrFields
-control_pointer g = record { seg = g.ppr.psr; ring = g.ppr.prr; word = (g.ppr.ic + 2) % 2 ^ 18; bit = 0 }
+control_pointer g =
+    record { seg = g.ppr.psr; ring = g.ppr.prr; word = (g.ppr.ic + 2) % 2 ^ 18; bit = 0 }
 
 unfoldable pub store_control : RegsFields → Result EffectFields ℕ
 store_control g = completes_with g (ptr_even (control_pointer g) ∷ ptr_odd (control_pointer g) ∷ [])

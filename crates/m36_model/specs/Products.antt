@@ -1,6 +1,7 @@
--- Multiplication and division. Multics Processor Manual AL39, "Fixed-point multiplication instructions", "Fixed-point
--- division instructions".
+-- Multiplication and division. Multics Processor Manual AL39, "Fixed-point multiplication
+-- instructions", "Fixed-point division instructions".
 use Rattle.std.specs.Prelude.{ℕ, Bool, true, false, Result, Err}
+use Rattle.m36_model.specs.Faults.{divide_check}
 use Rattle.m36_model.specs.Registers.{RegsFields}
 use Rattle.m36_model.specs.Arithmetic.{product, quotient, remainder, is_divide_check}
 use Rattle.m36_model.specs.Results.{EffectFields, A, Q, AQ, half, with_value, takes, zn, completes}
@@ -11,7 +12,7 @@ multiply v g = let p = product g.q v in completes (takes AQ p (zn (half AQ) p g.
 
 -- DIV: Q becomes Q over the value, and A the remainder; a divide check changes nothing
 abbrev pub divide_by : Bool → ℕ → RegsFields → Result EffectFields ℕ
-divide_by true v g = Err 14
+divide_by true v g = Err divide_check
 divide_by false v g =
     let q = quotient g.q v in
     completes (takes Q q (zn (half Q) q g.ind) (with_value A (remainder g.q v) g))

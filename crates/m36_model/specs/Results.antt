@@ -1,6 +1,7 @@
 -- What an effect is given and what it gives: operands, working registers, indicators.
 -- Multics Processor Manual AL39, "Processor registers" and "Indicator register".
-use Rattle.std.specs.Prelude.{ℕ, ◌+◌, ◌*◌, ◌/◌, ◌%◌, ◌^◌, Bool, false, ◌||◌, ◌==◌, List, [], ◌∷◌, Result, Ok, slice_index, slice_set}
+use Rattle.std.specs.Prelude.{ℕ, ◌+◌, ◌*◌, ◌/◌, ◌%◌, ◌^◌, Bool, false, ◌||◌, ◌==◌, List, [], ◌∷◌}
+use Rattle.std.specs.Prelude.{Result, Ok, slice_index, slice_set}
 use Rattle.m36_word.specs.Field.{field}
 use Rattle.m36_word.specs.declared.pair.Pair.{Pair}
 use Rattle.m36_model.specs.Registers.{RegsFields}
@@ -11,15 +12,15 @@ use Rattle.m36_model.specs.declared.effects.Operand36.{Operand36}
 use Rattle.m36_model.specs.declared.effects.Effect36.{Effect36}
 use Rattle.m36_model.specs.declared.registers.Ind.{Ind}
 
--- The operand of an effect: the words that were read; for pairs and blocks R1 of their segment, for CALL6 the new ring; for
--- ABSA the place in core.
+-- The operand of an effect: the words that were read; for pairs and blocks R1 of their segment, for
+-- CALL6 the new ring; for ABSA the place in core.
 pub record OperandFields : Type 0 where
   pub got : List ℕ
   pub ring : ℕ
   pub place : ℕ
 
--- What an effect gives: the new registers, the words to write, and whether it has put overflow on. A half to write stands
--- right-justified in its word.
+-- What an effect gives: the new registers, the words to write, and whether it has put overflow on.
+-- A half to write stands right-justified in its word.
 pub record EffectFields : Type 0 where
   pub regs : RegsFields
   pub put : List ℕ
@@ -55,8 +56,8 @@ lower o = field (word o) 18 18
 abbrev pub pair : OperandFields → ℕ
 pair o = slice_index o.got 0 * 2 ^ 36 + slice_index o.got 1
 
--- The registers that arithmetic works on: the accumulator, the quotient register, both as one number of 72 bits, and an index
--- register.
+-- The registers that arithmetic works on: the accumulator, the quotient register, both as one
+-- number of 72 bits, and an index register.
 pub data Working : Type 0 where
   A : Working
   Q : Working
@@ -102,8 +103,8 @@ words Q v = v ∷ []
 words AQ v = v / 2 ^ 36 ∷ v % 2 ^ 36 ∷ []
 words (X n) v = v ∷ []
 
--- Indicators. Zero is on where the result is 0 and negative where its first bit is on; an indicator that is not named stays.
--- Overflow is put on and never off.
+-- Indicators. Zero is on where the result is 0 and negative where its first bit is on; an indicator
+-- that is not named stays. Overflow is put on and never off.
 unfoldable pub zn : ℕ → ℕ → Ind → Ind
 zn h v i = record i { zero = v == 0; negative = is_negative h v }
 
@@ -111,11 +112,17 @@ unfoldable pub zn_carry : SumFields → Ind → Ind
 zn_carry s i = record i { zero = s.zero; negative = s.negative; carry = s.carry }
 
 unfoldable pub zn_overflow : SumFields → Ind → Ind
-zn_overflow s i = record i { zero = s.zero; negative = s.negative; overflow = i.overflow || s.overflow }
+zn_overflow s i =
+    record i { zero = s.zero; negative = s.negative; overflow = i.overflow || s.overflow }
 
 unfoldable pub zn_carry_overflow : SumFields → Ind → Ind
 zn_carry_overflow s i =
-    record i { zero = s.zero; negative = s.negative; carry = s.carry; overflow = i.overflow || s.overflow }
+    record i {
+      zero = s.zero;
+      negative = s.negative;
+      carry = s.carry;
+      overflow = i.overflow || s.overflow;
+    }
 
 unfoldable pub compared : ComparisonFields → Ind → Ind
 compared c i = record i { zero = c.zero; negative = c.negative; carry = c.carry }
@@ -130,7 +137,8 @@ with_indicators i g = record g { ind = i }
 unfoldable pub moved_on : RegsFields → RegsFields
 moved_on g = record g { ppr = record g.ppr { ic = (g.ppr.ic + 1) % 2 ^ 18 } }
 
--- An effect on registers that moves on to the next instruction: alone, with words to write, and with overflow.
+-- An effect on registers that moves on to the next instruction: alone, with words to write, and
+-- with overflow.
 abbrev pub completes : RegsFields → Result EffectFields ℕ
 completes g = Ok (record { regs = moved_on g; put = []; overflow = false })
 
@@ -138,7 +146,8 @@ abbrev pub completes_with : RegsFields → List ℕ → Result EffectFields ℕ
 completes_with g put = Ok (record { regs = moved_on g; put = put; overflow = false })
 
 abbrev pub completes_or_overflows : RegsFields → List ℕ → Bool → Result EffectFields ℕ
-completes_or_overflows g put overflow = Ok (record { regs = moved_on g; put = put; overflow = overflow })
+completes_or_overflows g put overflow =
+    Ok (record { regs = moved_on g; put = put; overflow = overflow })
 
 -- a register takes a value, with the indicators as they are to be
 abbrev pub takes : Working → ℕ → Ind → RegsFields → RegsFields

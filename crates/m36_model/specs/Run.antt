@@ -27,7 +27,8 @@ visit o s = record { before = s; told = record_of o s; after = state_after o s }
 -- the run of at most n steps; it ends after the first that is a fault or a stop
 unfoldable pub visits : {S : Type 0} → Store S → ℕ → State S → List (Visited S)
 visits o zero s = []
-visits o (suc n) s = visit o s ∷ only_if (is_next (record_of o s).outcome) (visits o n (state_after o s))
+visits o (suc n) s =
+    visit o s ∷ only_if (is_next (record_of o s).outcome) (visits o n (state_after o s))
 
 -- the records of a run
 abbrev pub told : {S : Type 0} → Store S → ℕ → State S → List StepRecord
@@ -38,6 +39,7 @@ unfoldable pub cut_below : {S : Type 0} → ℕ → List (Visited S) → List (V
 cut_below r [] = []
 cut_below r (v ∷ steps) = v ∷ only_if (nat_le r v.told.after.ppr.prr) (cut_below r steps)
 
--- the window of ring r: the run up to the first fault, stop or step into a ring below r, that step included
+-- the window of ring r: the run up to the first fault, stop or step into a ring below r, that step
+-- included
 abbrev pub window : {S : Type 0} → Store S → ℕ → ℕ → State S → List (Visited S)
 window o r n s = cut_below r (visits o n s)

@@ -2,7 +2,8 @@
 -- Multics Processor Manual AL39, "Fixed-point data movement shift instructions".
 use Rattle.std.specs.Prelude.{ℕ, Bool, Result}
 use Rattle.m36_model.specs.Registers.{RegsFields}
-use Rattle.m36_model.specs.Shifts.{count_of, left_shift, left_shift_carry, copying_right_shift, plain_right_shift, rotation}
+use Rattle.m36_model.specs.Shifts.{count_of, left_shift, left_shift_carry, copying_right_shift}
+use Rattle.m36_model.specs.Shifts.{plain_right_shift, rotation}
 use Rattle.m36_model.specs.Results.{EffectFields, Working, half, width, value, takes, zn, completes}
 use Rattle.m36_model.specs.declared.registers.Ind.{Ind}
 
@@ -25,9 +26,11 @@ shift_right r address g =
 -- ARL, QRL, LRL
 unfoldable pub shift_right_logical : Working → ℕ → RegsFields → Result EffectFields ℕ
 shift_right_logical r address g =
-    let v = plain_right_shift (value r g) (count_of address) in completes (takes r v (zn (half r) v g.ind) g)
+    let v = plain_right_shift (value r g) (count_of address) in
+    completes (takes r v (zn (half r) v g.ind) g)
 
 -- ALR, QLR, LLR
 unfoldable pub rotate_left : Working → ℕ → RegsFields → Result EffectFields ℕ
 rotate_left r address g =
-    let v = rotation (width r) (value r g) (count_of address) in completes (takes r v (zn (half r) v g.ind) g)
+    let v = rotation (width r) (value r g) (count_of address) in
+    completes (takes r v (zn (half r) v g.ind) g)

@@ -1,6 +1,6 @@
 -- Shifts of numbers of k bits by a count, which is the address modulo 128.
--- Multics Processor Manual AL39, "Fixed-point data movement shift instructions"; the carry of a left shift as written here
--- is this project's choice.
+-- Multics Processor Manual AL39, "Fixed-point data movement shift instructions"; the carry of a
+-- left shift as written here is this project's choice.
 use Rattle.std.specs.Prelude.{ℕ, ◌+◌, ◌-◌, ◌*◌, ◌/◌, ◌%◌, ◌^◌, Bool, not, ◌&&◌, ◌==◌, pos}
 use Rattle.std.specs.Int.{int_div_euclid}
 use Rattle.m36_word.specs.Signed.{signed}

@@ -39,4 +39,5 @@ pub record InReach {S : Type 0} (o : Store S) (s : State S) (r seg : ℕ) : Type
 
 -- every live segment outside the reach of ring r has the content that it had
 abbrev pub Unreached : {S : Type 0} → Store S → ℕ → State S → State S → Type 0
-Unreached o r old new = (seg w : ℕ) → (InReach o old r seg → ⊥) → content o new seg w ≡ content o old seg w
+Unreached o r old new =
+    (seg w : ℕ) → (InReach o old r seg → ⊥) → content o new seg w ≡ content o old seg w

@@ -1,5 +1,6 @@
--- One step, from the fetch of an instruction to its stored result, as a program that depends on the registers alone.
--- Multics Processor Manual AL39, "Instruction execution", "Processor modes"; the order of the parts is this project's choice:
+-- One step, from the fetch of an instruction to its stored result, as a program that depends on the
+-- registers alone. Multics Processor Manual AL39, "Instruction execution", "Processor modes"; the
+-- order of the parts is this project's choice:
 --
 --   1. the instruction is fetched;
 --   2. a code without an instruction stops the machine;
@@ -7,9 +8,12 @@
 --   4. MME and DRL give their faults, and DIS stops the machine;
 --   5. the address is formed;
 --   6. a direct operand that the instruction does not take is an illegal procedure;
---   7. the operand is referenced, or whether a transfer is taken decides that its target is examined;
+--   7. the operand is referenced, or whether a transfer is taken decides that its target is
+--   examined;
 --   8. the effect happens.
-use Rattle.std.specs.Prelude.{ℕ, zero, suc, ◌+◌, ◌-◌, ◌%◌, Bool, true, false, not, ◌&&◌, ◌==◌, List, [], ◌∷◌, ◌++◌, Option, Some, None, option_map, Result, Ok, Err, slice_index}
+use Rattle.std.specs.Prelude.{ℕ, zero, suc, ◌+◌, ◌-◌, ◌%◌, Bool, true, false, not, ◌&&◌, ◌==◌, List}
+use Rattle.std.specs.Prelude.{[], ◌∷◌, ◌++◌, Option, Some, None, option_map, Result, Ok, Err}
+use Rattle.std.specs.Prelude.{slice_index}
 use Rattle.m36_desc.specs.Access.{ring_called}
 use Rattle.m36_inst.specs.Instruction.{inst_of}
 use Rattle.m36_inst.specs.Operands.{operand_of, is_privileged, takes_direct}
@@ -19,9 +23,12 @@ use Rattle.m36_inst.specs.declared.effect.Effect.{Effect}
 use Rattle.m36_inst.specs.declared.effect.Effect.TheVariants as effect
 use Rattle.m36_inst.specs.declared.operand.Operand.{Operand}
 use Rattle.m36_inst.specs.declared.operand.Operand.TheVariants as kind
+use Rattle.m36_model.specs.Faults.{master_mode_entry, derail, illegal_procedure, overflow_fault}
 use Rattle.m36_model.specs.Fields.{FinalFields}
 use Rattle.m36_model.specs.Registers.{RegsFields}
-use Rattle.m36_model.specs.Act.{RequestKind, Fetch, Read, Write, Transfer, Call, Locate, Part, Whole, Left, Right, Put, Request, Answer, Act, done, ask, refer, otherwise}
+use Rattle.m36_model.specs.Act.{RequestKind, Fetch, Read, Write, Transfer, Call, Locate, Part}
+use Rattle.m36_model.specs.Act.{Whole, Left, Right, Put, Request, Answer, Act, done, ask, refer}
+use Rattle.m36_model.specs.Act.{otherwise}
 use Rattle.m36_model.specs.Modification.{here, fault_at}
 use Rattle.m36_model.specs.FirstPoint.{first_point}
 use Rattle.m36_model.specs.Chain.{ChainEnd, chain}
@@ -37,7 +44,8 @@ use Rattle.m36_model.specs.declared.outcome.Outcome.{Outcome}
 use Rattle.m36_model.specs.declared.outcome.Outcome.TheVariants.{Next, Faulted, Stopped}
 use Rattle.m36_model.specs.declared.record.StepRecord.{StepRecord}
 
--- an operation that nothing has refused: the new registers, the words to write in order, and whether overflow was put on
+-- an operation that nothing has refused: the new registers, the words to write in order, and
+-- whether overflow was put on
 pub record Performed : Type 0 where
   pub regs : RegsFields
   pub puts : List Put
@@ -49,12 +57,18 @@ Operation = Act (Result Performed Halt)
 -- words for the claimed words from a number on
 abbrev pub puts_from : Part → ℕ → List ℕ → List Put
 puts_from part first [] = []
-puts_from part first (w ∷ words) = record { claim = first; part = part; value = w } ∷ puts_from part (first + 1) words
+puts_from part first (w ∷ words) =
+    record { claim = first; part = part; value = w } ∷ puts_from part (first + 1) words
 
 -- the tally word is written first, and then the words of the operand
-abbrev pub performed : RegsFields → ChainEnd → Part → ℕ → Result EffectFields ℕ → Result Performed Halt
+abbrev pub performed :
+    RegsFields → ChainEnd → Part → ℕ → Result EffectFields ℕ → Result Performed Halt
 performed g c part first (Ok e) =
-    Ok (record { regs = e.regs; puts = c.pending ++ puts_from part first e.put; overflow = e.overflow })
+    Ok (record {
+      regs = e.regs;
+      puts = c.pending ++ puts_from part first e.put;
+      overflow = e.overflow;
+    })
 performed g c part first (Err number) = Err (fault_at number (here g))
 
 -- tally runout as the chain has set it
@@ -85,44 +99,59 @@ request_at kind c count =
       kind = kind;
       count = count;
       pending = c.pending;
-      at = record { seg = c.last.at.seg; word = aligned count c.last.at.word; ring = c.last.at.ring };
+      at =
+          record {
+            seg = c.last.at.seg;
+            word = aligned count c.last.at.word;
+            ring = c.last.at.ring;
+          };
     }
 
 -- a word is read; and a pair or a block, whose segment's R1 goes with it
 abbrev pub reading_word : Effect → ℕ → RegsFields → ChainEnd → Operation
 reading_word e n g c =
-    refer (request_at Read c 1) (λ a. perform e n g c Whole 0 (record { got = a.words; ring = 0; place = 0 }))
+    refer (request_at Read c 1) (λ a.
+    perform e n g c Whole 0 (record { got = a.words; ring = 0; place = 0 }))
 
 abbrev pub reading_words : Effect → ℕ → RegsFields → ChainEnd → ℕ → Operation
 reading_words e n g c count =
-    refer (request_at Read c count) (λ a. perform e n g c Whole 0 (record { got = a.words; ring = a.sdw.r1; place = 0 }))
+    refer (request_at Read c count) (λ a.
+    perform e n g c Whole 0 (record { got = a.words; ring = a.sdw.r1; place = 0 }))
 
 -- words are written, or a half of one word
 abbrev pub writing : Effect → ℕ → RegsFields → ChainEnd → ℕ → Part → Operation
-writing e n g c count part = refer (request_at Write c count) (λ a. perform e n g c part a.first no_operand)
+writing e n g c count part =
+    refer (request_at Write c count) (λ a. perform e n g c part a.first no_operand)
 
 -- a word is read, and then it is written: two references
 abbrev pub changing : Effect → ℕ → RegsFields → ChainEnd → Part → Operation
 changing e n g c part =
     refer (request_at Read c 1) (λ a.
-    refer (request_at Write c 1) (λ b. perform e n g c part b.first (record { got = a.words; ring = 0; place = 0 })))
+    refer (request_at Write c 1) (λ b.
+    perform e n g c part b.first (record { got = a.words; ring = 0; place = 0 })))
 
 -- the address alone is used; ABSA asks for its place
 abbrev pub addressing : Effect → ℕ → RegsFields → ChainEnd → Bool → Operation
 addressing e n g c false = perform e n g c Whole 0 no_operand
 addressing e n g c true =
-    refer (request_at Locate c 1) (λ a. perform e n g c Whole 0 (record { got = []; ring = 0; place = a.place }))
+    refer (request_at Locate c 1) (λ a.
+    perform e n g c Whole 0 (record { got = []; ring = 0; place = a.place }))
 
 -- a transfer that is taken examines its target, and one that is not taken does not
 abbrev pub transferring : Effect → ℕ → RegsFields → ChainEnd → Bool → Operation
 transferring e n g c false = perform e n g c Whole 0 no_operand
-transferring e n g c true = refer (request_at Transfer c 1) (λ a. perform e n g c Whole 0 no_operand)
+transferring e n g c true =
+    refer (request_at Transfer c 1) (λ a. perform e n g c Whole 0 no_operand)
 
 -- CALL6 examines its target, and the target gives the new ring
 abbrev pub calling : Effect → ℕ → RegsFields → ChainEnd → Operation
 calling e n g c =
     refer (request_at Call c 1) (λ a.
-    perform e n g c Whole 0 (record { got = []; ring = ring_called a.sdw c.last.at.ring; place = 0 }))
+    perform e n g c Whole 0 (record {
+      got = [];
+      ring = ring_called a.sdw c.last.at.ring;
+      place = 0;
+    }))
 
 -- by operand kind, where the operand is not direct
 abbrev pub by_kind : Effect → ℕ → RegsFields → ChainEnd → Operand → Operation
@@ -141,14 +170,16 @@ by_kind e n g c kind.T = transferring e n g c (is_taken e (tallied g c))
 by_kind e n g c kind.N = perform e n g c Whole 0 no_operand
 by_kind e n g c kind.Call6 = calling e n g c
 
--- A direct operand is the operand word of an instruction that reads one. NOP takes it and looks at nothing.
+-- A direct operand is the operand word of an instruction that reads one. NOP takes it and looks at
+-- nothing.
 abbrev pub direct_word : Operand → ℕ → List ℕ
 direct_word kind.R w = w ∷ []
 direct_word _ w = []
 
 abbrev pub by_direct : Effect → ℕ → RegsFields → ChainEnd → ℕ → Bool → Operation
-by_direct e n g c w true = perform e n g c Whole 0 (record { got = direct_word (operand_of e) w; ring = 0; place = 0 })
-by_direct e n g c w false = done (Err (fault_at 10 (here g)))
+by_direct e n g c w true =
+    perform e n g c Whole 0 (record { got = direct_word (operand_of e) w; ring = 0; place = 0 })
+by_direct e n g c w false = done (Err (fault_at illegal_procedure (here g)))
 
 abbrev pub operate_on : Effect → ℕ → RegsFields → ChainEnd → Option ℕ → Operation
 operate_on e n g c None = by_kind e n g c (operand_of e)
@@ -172,11 +203,13 @@ outcome_of (halt.Stop s) = Stopped s
 
 -- A step that is refused leaves the registers, and writes nothing.
 abbrev pub halted : RegsFields → Option ℕ → Option FinalFields → Halt → Act Ending
-halted g word at h = done (record { word = word; at = at; after = g; puts = []; outcome = outcome_of h })
+halted g word at h =
+    done (record { word = word; at = at; after = g; puts = []; outcome = outcome_of h })
 
--- A step that has put overflow on gives its fault where the overflow mask is off. Its effect stands.
+-- A step that has put overflow on gives its fault where the overflow mask is off. Its effect
+-- stands.
 abbrev pub outcome_by : Bool → RegsFields → Outcome
-outcome_by true g = Faulted (record { at = here g; number = 13; acv = 0 })
+outcome_by true g = Faulted (record { at = here g; number = overflow_fault; acv = 0 })
 outcome_by false g = Next
 
 abbrev pub completed : RegsFields → ℕ → FinalFields → Performed → Act Ending
@@ -191,7 +224,8 @@ completed g w last e =
 
 -- the operation, once the address is formed
 abbrev pub operated : Effect → ℕ → RegsFields → ℕ → ChainEnd → Act Ending
-operated e n g w c = otherwise (operate e n g c) (completed g w c.last) (halted g (Some w) (Some c.last))
+operated e n g w c =
+    otherwise (operate e n g c) (completed g w c.last) (halted g (Some w) (Some c.last))
 
 -- at most so many indirect words an address (this project's choice)
 abbrev pub indirect_words : ℕ
@@ -200,12 +234,13 @@ indirect_words = 16
 -- the address, and then the operation
 abbrev pub addressed : Effect → ℕ → RegsFields → ℕ → Act Ending
 addressed e n g w =
-    otherwise (chain indirect_words g (first_point g (inst_of w))) (operated e n g w) (halted g (Some w) None)
+    otherwise (chain indirect_words g (first_point g (inst_of w))) (operated e n g w)
+    (halted g (Some w) None)
 
 -- MME, DRL and DIS form no address (this project's choice).
 abbrev pub no_address : Effect → RegsFields → ℕ → Act Ending
-no_address effect.Mme g w = halted g (Some w) None (fault_at 2 (here g))
-no_address effect.Drl g w = halted g (Some w) None (fault_at 6 (here g))
+no_address effect.Mme g w = halted g (Some w) None (fault_at master_mode_entry (here g))
+no_address effect.Drl g w = halted g (Some w) None (fault_at derail (here g))
 no_address _ g w = halted g (Some w) None (halt.Stop stop.Dis)
 
 abbrev pub started : Effect → ℕ → RegsFields → ℕ → Operand → Act Ending
@@ -214,7 +249,7 @@ started e n g w _ = addressed e n g w
 
 -- a privileged instruction without the right to it
 abbrev pub admitted : Effect → ℕ → RegsFields → ℕ → Bool → Act Ending
-admitted e n g w true = halted g (Some w) None (fault_at 10 (here g))
+admitted e n g w true = halted g (Some w) None (fault_at illegal_procedure (here g))
 admitted e n g w false = started e n g w (operand_of e)
 
 -- The instruction that a word is, with the number in its name. The inhibit bit is ignored.
@@ -232,7 +267,8 @@ decoded g w privileged (Some row) = admitted row.0 row.1 g w (is_privileged row.
 abbrev pub fetched : RegsFields → Result Answer Fault → Act Ending
 fetched g (Err f) = halted g None None (halt.Fault f)
 fetched g (Ok a) =
-    decoded g (slice_index a.words 0) (a.sdw.privileged && (g.ppr.prr == 0)) (decode (slice_index a.words 0))
+    decoded g (slice_index a.words 0) (a.sdw.privileged && (g.ppr.prr == 0))
+    (decode (slice_index a.words 0))
 
 abbrev pub fetch_request : RegsFields → Request
 fetch_request g = record { kind = Fetch; at = here g; count = 1; pending = [] }
@@ -255,7 +291,8 @@ step_record g t =
 
 -- All words of an instruction are written together, once nothing can refuse it.
 abbrev pub stepped : {S : Type 0} → Store S → Ran Ending S → State S
-stepped o t = record { regs = t.value.after; store = o.put t.mid.store (changes t.mid.claims t.value.puts) }
+stepped o t =
+    record { regs = t.value.after; store = o.put t.mid.store (changes t.mid.claims t.value.puts) }
 
 -- where a step begins: it has claimed nothing, and completed no reference
 abbrev pub start : {S : Type 0} → State S → Mid S

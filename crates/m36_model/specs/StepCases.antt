@@ -1,13 +1,16 @@
 -- The cases of a step, and what stands after each.
 --
---   the fetch, the address, the operand or the effect is refused: a fault or a stop; registers as before
+--   the fetch, the address, the operand or the effect is refused: a fault or a stop; registers as
+--   before
 --   no instruction, no right to it, MME, DRL, DIS: a fault or a stop; registers as before
 --   the effect has put overflow on and the mask is off: the overflow fault; the full effect
 --   otherwise: the next instruction; the full effect
 --
--- Where registers are as before no word is written. The full effect has the new tally word and the tally runout of the
--- chain, the new registers, and the words that the instruction writes. Marks are those of the completed references.
-use Rattle.std.specs.Prelude.{ℕ, ◌≡◌, Bool, true, false, not, ◌&&◌, ◌==◌, List, [], ◌∷◌, ◌++◌, map, length, Option, Some, None, Ok, Err, slice_index}
+-- Where registers are as before no word is written. The full effect has the new tally word and the
+-- tally runout of the chain, the new registers, and the words that the instruction writes. Marks
+-- are those of the completed references.
+use Rattle.std.specs.Prelude.{ℕ, ◌≡◌, Bool, true, false, not, ◌&&◌, ◌==◌, List, [], ◌∷◌, ◌++◌, map}
+use Rattle.std.specs.Prelude.{length, Option, Some, None, Ok, Err, slice_index}
 use Rattle.m36_inst.specs.Instruction.{inst_of}
 use Rattle.m36_inst.specs.Operands.{operand_of, is_privileged, takes_direct}
 use Rattle.m36_inst.specs.declared.effect.Effect.{Effect}
@@ -15,9 +18,11 @@ use Rattle.m36_inst.specs.declared.effect.Effect.TheVariants as effect
 use Rattle.m36_inst.specs.declared.operand.Operand.{Operand}
 use Rattle.m36_inst.specs.declared.operand.Operand.TheVariants as kind
 use Rattle.m36_desc.specs.Access.{ring_called}
+use Rattle.m36_model.specs.Faults.{master_mode_entry, derail, illegal_procedure}
 use Rattle.m36_model.specs.Fields.{FinalFields}
 use Rattle.m36_model.specs.Registers.{RegsFields}
-use Rattle.m36_model.specs.Act.{Read, Write, Transfer, Call, Locate, Part, Whole, Left, Right, Request, Answer}
+use Rattle.m36_model.specs.Act.{Read, Write, Transfer, Call, Locate, Part, Whole, Left, Right}
+use Rattle.m36_model.specs.Act.{Request, Answer}
 use Rattle.m36_model.specs.Store.{Spot, Change, Store, Mid, State, serve, run}
 use Rattle.m36_model.specs.Core.{core_store}
 use Rattle.m36_model.specs.Modification.{here, fault_at}
@@ -26,7 +31,9 @@ use Rattle.m36_model.specs.Chain.{ChainEnd, chain}
 use Rattle.m36_model.specs.Results.{OperandFields, EffectFields}
 use Rattle.m36_model.specs.Transfers.{is_taken}
 use Rattle.m36_model.specs.Effect.{exec, is_absa}
-use Rattle.m36_model.specs.Step.{tallied, no_operand, request_at, direct_word, operate, outcome_of, outcome_by, indirect_words, decode, fetch_request, start, record_of, state_after}
+use Rattle.m36_model.specs.Step.{tallied, no_operand, request_at, direct_word, operate, outcome_of}
+use Rattle.m36_model.specs.Step.{outcome_by, indirect_words, decode, fetch_request, start}
+use Rattle.m36_model.specs.Step.{record_of, state_after}
 use Rattle.m36_model.specs.declared.outcome.Fault.{Fault}
 use Rattle.m36_model.specs.declared.outcome.Halt.{Halt}
 use Rattle.m36_model.specs.declared.outcome.Halt.TheVariants as halt
@@ -36,32 +43,54 @@ use Rattle.m36_model.specs.declared.outcome.Outcome.TheVariants.{Faulted}
 use Rattle.m36_model.specs.declared.record.StepRecord.{StepRecord}
 
 -- A step that has changed nothing: its record, and the state, whose store has marks alone.
-pub record HasLeft {S : Type 0} (s : State S) (e : StepRecord) (t : State S) (m : Mid S) (word : Option ℕ) (at : Option FinalFields) (outcome : Outcome) : Type 0 where
-  pub told : e ≡ record { ppr = s.regs.ppr; word = word; at = at; refs = record { items = m.refs }; after = s.regs; outcome = outcome }
+pub record HasLeft {S : Type 0} (s : State S) (e : StepRecord) (t : State S) (m : Mid S)
+    (word : Option ℕ) (at : Option FinalFields) (outcome : Outcome) : Type 0 where
+  pub told :
+      e
+      ≡ record {
+        ppr = s.regs.ppr;
+        word = word;
+        at = at;
+        refs = record { items = m.refs };
+        after = s.regs;
+        outcome = outcome;
+      }
   pub left : t ≡ record { regs = s.regs; store = m.store }
 
 -- The instruction word is fetched, with the right to privileged instructions.
-pub record IsFetched {S : Type 0} (o : Store S) (s : State S) (word : ℕ) (right : Bool) (m : Mid S) : Type 0 where
+pub record IsFetched {S : Type 0} (o : Store S) (s : State S) (word : ℕ) (right : Bool)
+    (m : Mid S) : Type 0 where
   pub answer : Answer
-  pub served : serve o s.regs (start s) (fetch_request s.regs) ≡ record { reply = Ok answer; mid = m }
+  pub served :
+      serve o s.regs (start s) (fetch_request s.regs) ≡ record { reply = Ok answer; mid = m }
   pub word_is : slice_index answer.words 0 ≡ word
   pub right_is : (answer.sdw.privileged && (s.regs.ppr.prr == 0)) ≡ right
 
 -- The instruction may be executed.
-pub record IsAdmitted {S : Type 0} (o : Store S) (s : State S) (word : ℕ) (e : Effect) (n : ℕ) (m : Mid S) : Type 0 where
+pub record IsAdmitted {S : Type 0} (o : Store S) (s : State S) (word : ℕ) (e : Effect) (n : ℕ)
+    (m : Mid S) : Type 0 where
   pub right : Bool
   pub fetched : IsFetched o s word right m
   pub decoded : decode word ≡ Some (e, n)
   pub allowed : (is_privileged e && not right) ≡ false
 
+-- MME, DRL and DIS form no address.
+abbrev pub forms_address : Operand → Bool
+forms_address kind.N = false
+forms_address _ = true
+
 -- Its address is formed.
-pub record IsFormed {S : Type 0} (o : Store S) (s : State S) (word : ℕ) (e : Effect) (n : ℕ) (c : ChainEnd) (m : Mid S) : Type 0 where
+pub record IsFormed {S : Type 0} (o : Store S) (s : State S) (word : ℕ) (e : Effect) (n : ℕ)
+    (c : ChainEnd) (m : Mid S) : Type 0 where
   pub before : Mid S
   pub admitted : IsAdmitted o s word e n before
-  pub formed : run o s.regs (chain indirect_words s.regs (first_point s.regs (inst_of word))) before ≡ record { value = Ok c; mid = m }
+  pub forms : forms_address (operand_of e) ≡ true
+  pub formed :
+      run o s.regs (chain indirect_words s.regs (first_point s.regs (inst_of word))) before
+      ≡ record { value = Ok c; mid = m }
 
--- An operand that is there: what the effect is given, which part of words it writes, the spots of these words, and where
--- the step stands.
+-- An operand that is there: what the effect is given, which part of words it writes, the spots of
+-- these words, and where the step stands.
 pub record Reached (S : Type 0) : Type 0 where
   pub operand : OperandFields
   pub part : Part
@@ -72,20 +101,23 @@ abbrev pub words_only : List ℕ → OperandFields
 words_only got = record { got = got; ring = 0; place = 0 }
 
 -- nothing is referenced
-pub record IsUnreferenced {S : Type 0} (m : Mid S) (got : OperandFields) (u : Reached S) : Type 0 where
+pub record IsUnreferenced {S : Type 0} (m : Mid S) (got : OperandFields)
+    (u : Reached S) : Type 0 where
   pub operand : u.operand ≡ got
   pub nothing : u.spots ≡ []
   pub mid : u.mid ≡ m
 
 -- a reference that writes nothing, with what its answer gives to the effect
-pub record IsReferenced {S : Type 0} (o : Store S) (g : RegsFields) (q : Request) (gives : Answer → OperandFields) (m : Mid S) (u : Reached S) : Type 0 where
+pub record IsReferenced {S : Type 0} (o : Store S) (g : RegsFields) (q : Request)
+    (gives : Answer → OperandFields) (m : Mid S) (u : Reached S) : Type 0 where
   pub answer : Answer
   pub served : serve o g m q ≡ record { reply = Ok answer; mid = u.mid }
   pub operand : u.operand ≡ gives answer
   pub nothing : u.spots ≡ []
 
 -- words to be written
-pub record IsClaimed {S : Type 0} (o : Store S) (g : RegsFields) (q : Request) (part : Part) (got : OperandFields) (m : Mid S) (u : Reached S) : Type 0 where
+pub record IsClaimed {S : Type 0} (o : Store S) (g : RegsFields) (q : Request) (part : Part)
+    (got : OperandFields) (m : Mid S) (u : Reached S) : Type 0 where
   pub answer : Answer
   pub served : serve o g m q ≡ record { reply = Ok answer; mid = u.mid }
   pub operand : u.operand ≡ got
@@ -93,7 +125,8 @@ pub record IsClaimed {S : Type 0} (o : Store S) (g : RegsFields) (q : Request) (
   pub claims : u.mid.claims ≡ m.claims ++ u.spots
 
 -- a word that is read and then written
-pub record IsChanged {S : Type 0} (o : Store S) (g : RegsFields) (c : ChainEnd) (part : Part) (m : Mid S) (u : Reached S) : Type 0 where
+pub record IsChanged {S : Type 0} (o : Store S) (g : RegsFields) (c : ChainEnd) (part : Part)
+    (m : Mid S) (u : Reached S) : Type 0 where
   pub answer : Answer
   pub between : Mid S
   pub read : serve o g m (request_at Read c 1) ≡ record { reply = Ok answer; mid = between }
@@ -114,16 +147,19 @@ got_nothing a = no_operand
 abbrev pub got_ring : ℕ → Answer → OperandFields
 got_ring trr a = record { got = []; ring = ring_called a.sdw trr; place = 0 }
 
-abbrev pub IsAddressed : {S : Type 0} → Store S → RegsFields → ChainEnd → Bool → Mid S → Reached S → Type 0
+abbrev pub IsAddressed :
+    {S : Type 0} → Store S → RegsFields → ChainEnd → Bool → Mid S → Reached S → Type 0
 IsAddressed o g c false m u = IsUnreferenced m no_operand u
 IsAddressed o g c true m u = IsReferenced o g (request_at Locate c 1) got_place m u
 
-abbrev pub IsTargeted : {S : Type 0} → Store S → RegsFields → ChainEnd → Bool → Mid S → Reached S → Type 0
+abbrev pub IsTargeted :
+    {S : Type 0} → Store S → RegsFields → ChainEnd → Bool → Mid S → Reached S → Type 0
 IsTargeted o g c false m u = IsUnreferenced m no_operand u
 IsTargeted o g c true m u = IsReferenced o g (request_at Transfer c 1) got_nothing m u
 
 -- by operand kind
-abbrev pub IsOperandOf : {S : Type 0} → Store S → RegsFields → Effect → ChainEnd → Operand → Mid S → Reached S → Type 0
+abbrev pub IsOperandOf :
+    {S : Type 0} → Store S → RegsFields → Effect → ChainEnd → Operand → Mid S → Reached S → Type 0
 IsOperandOf o g e c kind.R m u = IsReferenced o g (request_at Read c 1) got_word m u
 IsOperandOf o g e c kind.R2 m u = IsReferenced o g (request_at Read c 2) got_words m u
 IsOperandOf o g e c kind.R16 m u = IsReferenced o g (request_at Read c 16) got_words m u
@@ -137,10 +173,12 @@ IsOperandOf o g e c kind.Rwl m u = IsChanged o g c Left m u
 IsOperandOf o g e c kind.A m u = IsAddressed o g c (is_absa e) m u
 IsOperandOf o g e c kind.T m u = IsTargeted o g c (is_taken e (tallied g c)) m u
 IsOperandOf o g e c kind.N m u = IsUnreferenced m no_operand u
-IsOperandOf o g e c kind.Call6 m u = IsReferenced o g (request_at Call c 1) (got_ring c.last.at.ring) m u
+IsOperandOf o g e c kind.Call6 m u =
+    IsReferenced o g (request_at Call c 1) (got_ring c.last.at.ring) m u
 
 -- a direct operand that the instruction takes is the operand itself
-abbrev pub IsOperand : {S : Type 0} → Store S → RegsFields → Effect → ChainEnd → Option ℕ → Mid S → Reached S → Type 0
+abbrev pub IsOperand :
+    {S : Type 0} → Store S → RegsFields → Effect → ChainEnd → Option ℕ → Mid S → Reached S → Type 0
 IsOperand o g e c None m u = IsOperandOf o g e c (operand_of e) m u
 IsOperand o g e c (Some w) m u =
     (takes_direct e ≡ true) × IsUnreferenced m (words_only (direct_word (operand_of e) w)) u
@@ -149,10 +187,13 @@ IsOperand o g e c (Some w) m u =
 abbrev pub at_spots : Part → List Spot → List ℕ → List Change
 at_spots part [] words = []
 at_spots part (spot ∷ spots) [] = []
-at_spots part (spot ∷ spots) (w ∷ words) = record { spot = spot; part = part; value = w } ∷ at_spots part spots words
+at_spots part (spot ∷ spots) (w ∷ words) =
+    record { spot = spot; part = part; value = w } ∷ at_spots part spots words
 
--- The full effect: the tally word, whose spot the chain has claimed, is written first, and then the words of the operand.
-pub record HasEffect {S : Type 0} (o : Store S) (s : State S) (e : StepRecord) (t : State S) : Type 0 where
+-- The full effect: the tally word, whose spot the chain has claimed, is written first, and then the
+-- words of the operand.
+pub record HasEffect {S : Type 0} (o : Store S) (s : State S) (e : StepRecord)
+    (t : State S) : Type 0 where
   pub word : ℕ
   pub instruction : Effect
   pub number : ℕ
@@ -175,23 +216,55 @@ pub record HasEffect {S : Type 0} (o : Store S) (s : State S) (e : StepRecord) (
   }
   pub left : t ≡ record {
     regs = result.regs;
-    store = o.put reached.mid.store (at_spots Whole chained.claims (map (λ p. p.value) end.pending) ++ at_spots reached.part reached.spots result.put);
+    store =
+        o.put reached.mid.store
+        (at_spots Whole chained.claims (map (λ p. p.value) end.pending)
+        ++ at_spots reached.part reached.spots result.put);
   }
 
 -- MME, DRL and DIS
 abbrev pub at_once : Effect → RegsFields → Outcome
-at_once effect.Mme g = outcome_of (fault_at 2 (here g))
-at_once effect.Drl g = outcome_of (fault_at 6 (here g))
+at_once effect.Mme g = outcome_of (fault_at master_mode_entry (here g))
+at_once effect.Drl g = outcome_of (fault_at derail (here g))
 at_once _ g = outcome_of (halt.Stop stop.Dis)
 
-pub data StepCase {S : Type 0} (o : Store S) (s : State S) (e : StepRecord) (t : State S) : Type 0 where
-  fetch_refused : (f : Fault) (m : Mid S) → serve o s.regs (start s) (fetch_request s.regs) ≡ record { reply = Err f; mid = m } → HasLeft s e t m None None (Faulted f) → StepCase o s e t
-  no_instruction : (word : ℕ) (right : Bool) (m : Mid S) → IsFetched o s word right m → decode word ≡ None → HasLeft s e t m (Some word) None (outcome_of (halt.Stop stop.Operation)) → StepCase o s e t
-  privilege_refused : (word : ℕ) (m : Mid S) (i : Effect) (n : ℕ) → IsFetched o s word false m → decode word ≡ Some (i, n) → is_privileged i ≡ true → HasLeft s e t m (Some word) None (outcome_of (fault_at 10 (here s.regs))) → StepCase o s e t
-  no_address : (word : ℕ) (m : Mid S) (i : Effect) (n : ℕ) → IsAdmitted o s word i n m → operand_of i ≡ kind.N → HasLeft s e t m (Some word) None (at_once i s.regs) → StepCase o s e t
-  address_refused : (word : ℕ) (before m : Mid S) (i : Effect) (n : ℕ) (h : Halt) → IsAdmitted o s word i n before → run o s.regs (chain indirect_words s.regs (first_point s.regs (inst_of word))) before ≡ record { value = Err h; mid = m } → HasLeft s e t m (Some word) None (outcome_of h) → StepCase o s e t
-  operation_refused : (word : ℕ) (before m : Mid S) (i : Effect) (n : ℕ) (c : ChainEnd) (h : Halt) → IsFormed o s word i n c before → run o s.regs (operate i n s.regs c) before ≡ record { value = Err h; mid = m } → HasLeft s e t m (Some word) (Some c.last) (outcome_of h) → StepCase o s e t
+pub data StepCase {S : Type 0} (o : Store S) (s : State S) (e : StepRecord)
+    (t : State S) : Type 0 where
+  fetch_refused :
+      (f : Fault) (m : Mid S)
+      → serve o s.regs (start s) (fetch_request s.regs) ≡ record { reply = Err f; mid = m }
+      → HasLeft s e t m None None (Faulted f) → StepCase o s e t
+  no_instruction :
+      (word : ℕ) (right : Bool) (m : Mid S) → IsFetched o s word right m → decode word ≡ None
+      → HasLeft s e t m (Some word) None (outcome_of (halt.Stop stop.Operation)) → StepCase o s e t
+  privilege_refused :
+      (word : ℕ) (m : Mid S) (i : Effect) (n : ℕ) → IsFetched o s word false m
+      → decode word ≡ Some (i, n) → is_privileged i ≡ true
+      → HasLeft s e t m (Some word) None (outcome_of (fault_at illegal_procedure (here s.regs)))
+      → StepCase o s e t
+  no_address :
+      (word : ℕ) (m : Mid S) (i : Effect) (n : ℕ) → IsAdmitted o s word i n m
+      → operand_of i ≡ kind.N → HasLeft s e t m (Some word) None (at_once i s.regs)
+      → StepCase o s e t
+  address_refused :
+      (word : ℕ) (before m : Mid S) (i : Effect) (n : ℕ) (h : Halt) → IsAdmitted o s word i n before
+      → forms_address (operand_of i) ≡ true
+      → run o s.regs (chain indirect_words s.regs (first_point s.regs (inst_of word))) before
+      ≡ record { value = Err h; mid = m }
+      → HasLeft s e t m (Some word) None (outcome_of h) → StepCase o s e t
+  operation_refused :
+      (word : ℕ) (before m : Mid S) (i : Effect) (n : ℕ) (c : ChainEnd) (h : Halt)
+      → IsFormed o s word i n c before
+      → run o s.regs (operate i n s.regs c) before ≡ record { value = Err h; mid = m }
+      → HasLeft s e t m (Some word) (Some c.last) (outcome_of h) → StepCase o s e t
   effected : HasEffect o s e t → StepCase o s e t
 
 abbrev pub StepHasACase : Type 0
-StepHasACase = (s : State (List ℕ)) → StepCase core_store s (record_of core_store s) (state_after core_store s)
+StepHasACase =
+    (s : State (List ℕ)) → StepCase core_store s (record_of core_store s) (state_after core_store s)
+
+-- Of no other record and no other state is there a case.
+abbrev pub CaseIsTheStep : Type 0
+CaseIsTheStep =
+    (s : State (List ℕ)) (e : StepRecord) (t : State (List ℕ)) → StepCase core_store s e t
+    → (e ≡ record_of core_store s) × (t ≡ state_after core_store s)

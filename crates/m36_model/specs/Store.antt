@@ -1,17 +1,24 @@
 -- A store, how it serves the requests of a step, and a run of a program over it.
 -- Multics Processor Manual AL39, "Address appending" and "Access control".
-use Rattle.std.specs.Prelude.{ℕ, zero, suc, ◌+◌, ◌-◌, ◌*◌, ◌/◌, ◌%◌, ◌^◌, Bool, true, false, not, ◌&&◌, ◌==◌, nat_le, if◌then◌else◌, List, [], ◌∷◌, ◌++◌, map, length, slice_get, Option, Some, None, Result, Ok, Err}
+use Rattle.std.specs.Prelude.{ℕ, zero, suc, ◌+◌, ◌-◌, ◌*◌, ◌/◌, ◌%◌, ◌^◌, Bool, true, false, not}
+use Rattle.std.specs.Prelude.{◌&&◌, ◌==◌, nat_le, if◌then◌else◌, List, [], ◌∷◌, ◌++◌, map, length}
+use Rattle.std.specs.Prelude.{slice_get, Option, Some, None, Result, Ok, Err}
 use Rattle.m36_desc.specs.Fields.{SdwFields, DbrFields}
-use Rattle.m36_desc.specs.Access.{first_of, in_order, read_rows, write_rows, fetch_rows, transfer_rows, call_rows}
+use Rattle.m36_desc.specs.Access.{first_of, in_order, read_rows, write_rows, fetch_rows}
+use Rattle.m36_desc.specs.Access.{transfer_rows, call_rows}
+use Rattle.m36_desc.specs.Violations.{illegal_ring_order, out_of_segment_bounds}
+use Rattle.m36_model.specs.Faults.{access_violation}
 use Rattle.m36_model.specs.Fields.{AtFields}
 use Rattle.m36_model.specs.Registers.{RegsFields}
-use Rattle.m36_model.specs.Act.{Whole, Left, Right, RequestKind, Fetch, Indirect, Odd, Read, Write, Transfer, Call, Locate, Part, Put, Request, Answer, Act, done, ask}
+use Rattle.m36_model.specs.Act.{Whole, Left, Right, RequestKind, Fetch, Indirect, Odd, Read, Write}
+use Rattle.m36_model.specs.Act.{Transfer, Call, Locate, Part, Put, Request, Answer, Act, done, ask}
 use Rattle.m36_model.specs.declared.outcome.Fault.{Fault}
 use Rattle.m36_model.specs.declared.outcome.Refusal.{Refusal}
 use Rattle.m36_model.specs.declared.place.Reference.{Reference}
 use Rattle.m36_model.specs.declared.place.Kind.TheVariants as reference
 
--- where a word lies in a store: its address in core, or in a flat store the word of the segment itself
+-- where a word lies in a store: its address in core, or in a flat store the word of the segment
+-- itself
 pub data Spot : Type 0 where
   Core_word : ℕ → Spot
   Segment_word : (seg word : ℕ) → Spot
@@ -30,14 +37,15 @@ written Right old v = (old / 2 ^ 18) * 2 ^ 18 + v
 
 -- the access violation of this number
 abbrev pub violation : ℕ → Refusal
-violation acv = record { number = 20; acv = acv }
+violation acv = record { number = access_violation; acv = acv }
 
 -- the fault of a refusal, at a word
 abbrev pub fault_by : Refusal → AtFields → Fault
 fault_by why at = record { at = at; number = why.number; acv = why.acv }
 
--- the table words by which one segment is found: the PTW of the descriptor segment's page, the SDW, and the PTWs of its
--- pages within its bound. Each is an address and the word there, of a PTW but for its marks; none past the end of core
+-- the table words by which one segment is found: the PTW of the descriptor segment's page, the SDW,
+-- and the PTWs of its pages within its bound. Each is an address and the word there, of a PTW but
+-- for its marks; none past the end of core
 pub record SegTable : Type 0 where
   pub directory : List (ℕ × Option ℕ)
   pub sdw : List (ℕ × Option ℕ)
@@ -52,14 +60,46 @@ pub record Tables : Type 0 where
 -- what a store answers, and how it is changed
 pub record Store (S : Type 0) : Type 0 where
   pub sdw : S → DbrFields → ℕ → Result SdwFields Refusal  -- the descriptor of a segment
-  pub spot : S → DbrFields → SdwFields → ℕ → ℕ → Result Spot Refusal  -- where a word within the bound lies
+  -- where a word within the bound lies
+  pub spot : S → DbrFields → SdwFields → ℕ → ℕ → Result Spot Refusal
   pub word : S → Spot → ℕ
   pub marked : S → DbrFields → RequestKind → ℕ → ℕ → S  -- with the marks of a reference
   pub put : S → List Change → S  -- with these words written, in order
   pub tables : S → DbrFields → Tables
 
--- the rows of refusals by kind of reference, with the ring of the reference, the ring of execution, and whether the
--- segment is the one that executes
+-- What a reference of each kind does: it reads the words at its places; it sets marks, and stands
+-- among the references of the step; it claims its words, to be written, and marks their page as
+-- modified; it examines a target, and stops at its bound.
+pub record Conduct : Type 0 where
+  pub reads : Bool
+  pub touches : Bool
+  pub claims : Bool
+  pub target : Bool
+
+abbrev pub conduct : RequestKind → Conduct
+conduct Fetch = record { reads = true; touches = true; claims = false; target = false }
+conduct Indirect = record { reads = true; touches = true; claims = false; target = false }
+conduct Odd = record { reads = true; touches = true; claims = false; target = false }
+conduct Read = record { reads = true; touches = true; claims = false; target = false }
+conduct Write = record { reads = false; touches = true; claims = true; target = false }
+conduct Transfer = record { reads = false; touches = false; claims = false; target = true }
+conduct Call = record { reads = false; touches = false; claims = false; target = true }
+conduct Locate = record { reads = false; touches = false; claims = false; target = false }
+
+abbrev pub reads : RequestKind → Bool
+reads kind = (conduct kind).reads
+
+abbrev pub touches : RequestKind → Bool
+touches kind = (conduct kind).touches
+
+abbrev pub claims_words : RequestKind → Bool
+claims_words kind = (conduct kind).claims
+
+abbrev pub is_target : RequestKind → Bool
+is_target kind = (conduct kind).target
+
+-- the rows of refusals by kind of reference, with the ring of the reference, the ring of execution,
+-- and whether the segment is the one that executes
 abbrev pub rows : RequestKind → SdwFields → ℕ → ℕ → Bool → ℕ → List (Bool × ℕ)
 rows Fetch d trr prr same word = fetch_rows d prr
 rows Indirect d trr prr same word = read_rows d trr same
@@ -68,7 +108,7 @@ rows Read d trr prr same word = read_rows d trr same
 rows Write d trr prr same word = write_rows d trr
 rows Transfer d trr prr same word = transfer_rows d trr prr
 rows Call d trr prr same word = call_rows d trr prr same word
-rows Locate d trr prr same word = (not (in_order d), 0) ∷ []
+rows Locate d trr prr same word = (not (in_order d), illegal_ring_order) ∷ []
 
 -- brackets in order and rights: the violation, if any
 unfoldable pub denied : RequestKind → SdwFields → ℕ → ℕ → Bool → ℕ → Option ℕ
@@ -78,20 +118,23 @@ denied kind d trr prr same word = first_of (rows kind d trr prr same word)
 abbrev pub within : SdwFields → ℕ → Bool
 within d word = nat_le (word / 16) d.bound
 
--- the descriptor gives the word a place: its brackets are in order, and the word is within its bound
+-- the descriptor gives the word a place: its brackets are in order, and the word is within its
+-- bound
 abbrev pub placed : SdwFields → ℕ → Bool
 placed d word = in_order d && within d word
 
--- the place of a word of a segment, whoever asks for it: descriptor, brackets in order, bound, and where it lies
+-- the place of a word of a segment, whoever asks for it: descriptor, brackets in order, bound, and
+-- where it lies
 abbrev pub place_within : Bool → Result Spot Refusal → Result Spot Refusal
 place_within true spot = spot
-place_within false spot = Err (violation 15)
+place_within false spot = Err (violation out_of_segment_bounds)
 
 abbrev pub place_ordered : Bool → Result Spot Refusal → Result Spot Refusal
 place_ordered true spot = spot
-place_ordered false spot = Err (violation 0)
+place_ordered false spot = Err (violation illegal_ring_order)
 
-abbrev pub place_by : Result SdwFields Refusal → (SdwFields → Result Spot Refusal) → ℕ → Result Spot Refusal
+abbrev pub place_by :
+    Result SdwFields Refusal → (SdwFields → Result Spot Refusal) → ℕ → Result Spot Refusal
 place_by (Ok d) spot word = place_ordered (in_order d) (place_within (within d word) (spot d))
 place_by (Err e) spot word = Err e
 
@@ -101,7 +144,7 @@ place o s dbr seg word = place_by (o.sdw s dbr seg) (λ d. o.spot s dbr d seg wo
 -- the first ring bracket of a segment: descriptor, and brackets in order
 abbrev pub first_ring_of : Bool → SdwFields → Result ℕ Refusal
 first_ring_of true d = Ok d.r1
-first_ring_of false d = Err (violation 0)
+first_ring_of false d = Err (violation illegal_ring_order)
 
 abbrev pub first_ring_by : Result SdwFields Refusal → Result ℕ Refusal
 first_ring_by (Ok d) = first_ring_of (in_order d) d
@@ -115,12 +158,16 @@ abbrev pub placed_next : Result (List Spot) (ℕ × Refusal) → Spot → Result
 placed_next (Ok spots) spot = Ok (spot ∷ spots)
 placed_next (Err e) spot = Err e
 
-abbrev pub placed_one : Bool → ℕ → Result Spot Refusal → Result (List Spot) (ℕ × Refusal) → Result (List Spot) (ℕ × Refusal)
-placed_one false word spot rest = Err (word, violation 15)
+abbrev pub placed_one :
+    Bool → ℕ → Result Spot Refusal → Result (List Spot) (ℕ × Refusal)
+    → Result (List Spot) (ℕ × Refusal)
+placed_one false word spot rest = Err (word, violation out_of_segment_bounds)
 placed_one true word (Err e) rest = Err (word, e)
 placed_one true word (Ok spot) rest = placed_next rest spot
 
-unfoldable pub spots_of : {S : Type 0} → Store S → S → DbrFields → SdwFields → ℕ → ℕ → ℕ → Result (List Spot) (ℕ × Refusal)
+unfoldable pub spots_of :
+    {S : Type 0} → Store S → S → DbrFields → SdwFields → ℕ → ℕ → ℕ
+    → Result (List Spot) (ℕ × Refusal)
 spots_of o s dbr d seg word zero = Ok []
 spots_of o s dbr d seg word (suc n) =
     placed_one (within d word) word (o.spot s dbr d seg word) (spots_of o s dbr d seg (word + 1) n)
@@ -128,50 +175,22 @@ spots_of o s dbr d seg word (suc n) =
 -- a Transfer and a CALL6 touch no page of the target
 abbrev pub bound_only : Bool → ℕ → Result (List Spot) (ℕ × Refusal)
 bound_only true word = Ok []
-bound_only false word = Err (word, violation 15)
+bound_only false word = Err (word, violation out_of_segment_bounds)
 
--- the kinds that examine a target and stop at its bound
-abbrev pub is_target : RequestKind → Bool
-is_target Transfer = true
-is_target Call = true
-is_target Fetch = false
-is_target Indirect = false
-is_target Odd = false
-is_target Read = false
-is_target Write = false
-is_target Locate = false
-
-abbrev pub places_by : Bool → Result (List Spot) (ℕ × Refusal) → Result (List Spot) (ℕ × Refusal) → Result (List Spot) (ℕ × Refusal)
+abbrev pub places_by :
+    Bool → Result (List Spot) (ℕ × Refusal) → Result (List Spot) (ℕ × Refusal)
+    → Result (List Spot) (ℕ × Refusal)
 places_by true target spots = target
 places_by false target spots = spots
 
-unfoldable pub places : {S : Type 0} → Store S → S → DbrFields → SdwFields → Request → Result (List Spot) (ℕ × Refusal)
+unfoldable pub places :
+    {S : Type 0} → Store S → S → DbrFields → SdwFields → Request → Result (List Spot) (ℕ × Refusal)
 places o s dbr d q =
-    places_by (is_target q.kind) (bound_only (within d q.at.word) q.at.word) (spots_of o s dbr d q.at.seg q.at.word q.count)
+    places_by (is_target q.kind) (bound_only (within d q.at.word) q.at.word)
+    (spots_of o s dbr d q.at.seg q.at.word q.count)
 
--- the kinds that read the words
-abbrev pub reads : RequestKind → Bool
-reads Fetch = true
-reads Indirect = true
-reads Odd = true
-reads Read = true
-reads Write = false
-reads Transfer = false
-reads Call = false
-reads Locate = false
-
--- the kinds that set marks and stand among the references of a step
-abbrev pub touches : RequestKind → Bool
-touches Transfer = false
-touches Call = false
-touches Locate = false
-touches Fetch = true
-touches Indirect = true
-touches Odd = true
-touches Read = true
-touches Write = true
-
--- where a step stands: its store, the spots that its Writes have claimed, and its completed references, oldest first
+-- where a step stands: its store, the spots that its Writes have claimed, and its completed
+-- references, oldest first
 pub record Mid (S : Type 0) : Type 0 where
   pub store : S
   pub claims : List Spot
@@ -193,7 +212,10 @@ pub record Served (S : Type 0) : Type 0 where
 
 abbrev pub refused : {S : Type 0} → Mid S → Request → ℕ → Refusal → Served S
 refused m q word why =
-    record { reply = Err (fault_by why (record { seg = q.at.seg; word = word; ring = q.at.ring })); mid = m }
+    record {
+      reply = Err (fault_by why (record { seg = q.at.seg; word = word; ring = q.at.ring }));
+      mid = m;
+    }
 
 abbrev pub after_marks : {S : Type 0} → Store S → S → DbrFields → Request → S
 after_marks o s dbr q = if touches q.kind then o.marked s dbr q.kind q.at.seg q.at.word else s
@@ -202,35 +224,39 @@ after_marks o s dbr q = if touches q.kind then o.marked s dbr q.kind q.at.seg q.
 abbrev pub with_odd : Request → List Reference → List Reference
 with_odd q [] = []
 with_odd q (e ∷ []) =
-    record { kind = reference.Indirect; at = record { seg = q.at.seg; word = q.at.word - 1; ring = q.at.ring }; count = 2 } ∷ []
+    record {
+      kind = reference.Indirect;
+      at = record { seg = q.at.seg; word = q.at.word - 1; ring = q.at.ring };
+      count = 2;
+    }
+    ∷ []
 with_odd q (e ∷ f ∷ refs) = e ∷ with_odd q (f ∷ refs)
 
 abbrev pub with_reference : RequestKind → Request → List Reference → List Reference
-with_reference Fetch q refs = refs ++ record { kind = reference.Fetch; at = q.at; count = q.count } ∷ []
-with_reference Indirect q refs = refs ++ record { kind = reference.Indirect; at = q.at; count = q.count } ∷ []
+with_reference Fetch q refs =
+    refs ++ record { kind = reference.Fetch; at = q.at; count = q.count } ∷ []
+with_reference Indirect q refs =
+    refs ++ record { kind = reference.Indirect; at = q.at; count = q.count } ∷ []
 with_reference Odd q refs = with_odd q refs
-with_reference Read q refs = refs ++ record { kind = reference.Read; at = q.at; count = q.count } ∷ []
-with_reference Write q refs = refs ++ record { kind = reference.Write; at = q.at; count = q.count } ∷ []
+with_reference Read q refs =
+    refs ++ record { kind = reference.Read; at = q.at; count = q.count } ∷ []
+with_reference Write q refs =
+    refs ++ record { kind = reference.Write; at = q.at; count = q.count } ∷ []
 with_reference Transfer q refs = refs
 with_reference Call q refs = refs
 with_reference Locate q refs = refs
 
 abbrev pub with_claims : RequestKind → List Spot → List Spot → List Spot
-with_claims Write spots claims = claims ++ spots
-with_claims Fetch spots claims = claims
-with_claims Indirect spots claims = claims
-with_claims Odd spots claims = claims
-with_claims Read spots claims = claims
-with_claims Transfer spots claims = claims
-with_claims Call spots claims = claims
-with_claims Locate spots claims = claims
+with_claims kind spots claims = if claims_words kind then claims ++ spots else claims
 
 -- what a Locate is told: the place in core of its word
 abbrev pub located : RequestKind → List Spot → ℕ
 located Locate (Core_word a ∷ spots) = a
 located _ _ = 0
 
-abbrev pub serve_places : {S : Type 0} → Store S → RegsFields → Mid S → Request → SdwFields → Result (List Spot) (ℕ × Refusal) → Served S
+abbrev pub serve_places :
+    {S : Type 0} → Store S → RegsFields → Mid S → Request → SdwFields
+    → Result (List Spot) (ℕ × Refusal) → Served S
 serve_places o g m q d (Err e) = refused m q e.0 e.1
 serve_places o g m q d (Ok spots) =
     let s = after_marks o m.store g.dbr q in
@@ -239,32 +265,42 @@ serve_places o g m q d (Ok spots) =
         sdw = d;
         first = length m.claims;
         place = located q.kind spots;
-        words = if reads q.kind then map (o.word (o.put s (changes m.claims q.pending))) spots else [];
+        words =
+            if reads q.kind then map (o.word (o.put s (changes m.claims q.pending))) spots else [];
       });
-      mid = record { store = s; claims = with_claims q.kind spots m.claims; refs = with_reference q.kind q m.refs };
+      mid =
+          record {
+            store = s;
+            claims = with_claims q.kind spots m.claims;
+            refs = with_reference q.kind q m.refs;
+          };
     }
 
-abbrev pub serve_rights : {S : Type 0} → Store S → RegsFields → Mid S → Request → SdwFields → Option ℕ → Served S
+abbrev pub serve_rights :
+    {S : Type 0} → Store S → RegsFields → Mid S → Request → SdwFields → Option ℕ → Served S
 serve_rights o g m q d (Some acv) = refused m q q.at.word (violation acv)
 serve_rights o g m q d None = serve_places o g m q d (places o m.store g.dbr d q)
 
-abbrev pub serve_sdw : {S : Type 0} → Store S → RegsFields → Mid S → Request → Result SdwFields Refusal → Served S
+abbrev pub serve_sdw :
+    {S : Type 0} → Store S → RegsFields → Mid S → Request → Result SdwFields Refusal → Served S
 serve_sdw o g m q (Err why) = refused m q q.at.word why
 serve_sdw o g m q (Ok d) =
     serve_rights o g m q d (denied q.kind d q.at.ring g.ppr.prr (q.at.seg == g.ppr.psr) q.at.word)
 
--- a reference: descriptor, brackets, rights, bound and place in this order, then its marks, then its words
+-- a reference: descriptor, brackets, rights, bound and place in this order, then its marks, then
+-- its words
 unfoldable pub serve : {S : Type 0} → Store S → RegsFields → Mid S → Request → Served S
 serve o g m q = serve_sdw o g m q (o.sdw m.store g.dbr q.at.seg)
 
--- A word read outside of any step, by the ring rules, that sets no marks and stands among no references: so the services
--- read.
+-- A word read outside of any step, by the ring rules, that sets no marks and stands among no
+-- references.
 abbrev pub without_marks : {S : Type 0} → Store S → Store S
 without_marks o = record o { marked = λ s dbr kind seg word. s }
 
 unfoldable pub examined : {S : Type 0} → Store S → RegsFields → S → AtFields → Result Answer Fault
 examined o g s at =
-    (serve (without_marks o) g (record { store = s; claims = []; refs = [] }) (record { kind = Read; at = at; count = 1; pending = [] })).reply
+    (serve (without_marks o) g (record { store = s; claims = []; refs = [] })
+    (record { kind = Read; at = at; count = 1; pending = [] })).reply
 
 -- what a program gives, and where the step stands then
 pub record Ran (A S : Type 0) : Type 0 where

@@ -1,5 +1,6 @@
 -- What a store owes to the laws of isolation: three facts, by its tables alone.
-use Rattle.std.specs.Prelude.{◌≡◌, ℕ, Bool, true, false, ◌&&◌, ◌==◌, if◌then◌else◌, List, [], ◌∷◌, Some, Result, Ok}
+use Rattle.std.specs.Prelude.{◌≡◌, ℕ, Bool, true, false, ◌&&◌, ◌==◌, if◌then◌else◌, List, [], ◌∷◌}
+use Rattle.std.specs.Prelude.{Some, Result, Ok}
 use Rattle.m36_desc.specs.Fields.{SdwFields, DbrFields}
 use Rattle.m36_model.specs.Act.{RequestKind}
 use Rattle.m36_model.specs.Store.{Spot, Core_word, Segment_word, Change, Store, written, placed}
@@ -19,40 +20,59 @@ same_spot (Segment_word s w) (Segment_word s' w') = (s == s') && (w == w')
 -- the word at a spot after these writes
 abbrev pub overlay : List Change → Spot → ℕ → ℕ
 overlay [] spot v = v
-overlay (p ∷ puts) spot v = overlay puts spot (if same_spot p.spot spot then written p.part v p.value else v)
+overlay (p ∷ puts) spot v =
+    overlay puts spot (if same_spot p.spot spot then written p.part v p.value else v)
 
 -- a word of a segment and where it lies, by the tables alone
-pub record IsWord (sdws : ℕ → Result SdwFields Refusal) (spots : SdwFields → ℕ → ℕ → Result Spot Refusal) (seg w : ℕ) (spot : Spot) : Type 0 where
+pub record IsWord (sdws : ℕ → Result SdwFields Refusal)
+    (spots : SdwFields → ℕ → ℕ → Result Spot Refusal) (seg w : ℕ) (spot : Spot) : Type 0 where
   pub sdw : SdwFields
   pub live : sdws seg ≡ Ok sdw
   pub inside : placed sdw w ≡ true
   pub found : spots sdw seg w ≡ Ok spot
 
 -- the change is made at a word of a segment
-pub record IsSpot (sdws : ℕ → Result SdwFields Refusal) (spots : SdwFields → ℕ → ℕ → Result Spot Refusal) (p : Change) : Type 0 where
+pub record IsSpot (sdws : ℕ → Result SdwFields Refusal)
+    (spots : SdwFields → ℕ → ℕ → Result Spot Refusal) (p : Change) : Type 0 where
   pub seg : ℕ
   pub w : ℕ
   pub word : IsWord sdws spots seg w p.spot
 
--- What a store owes where its tables are as Has says, of the spots that Lies names: those of all words of segments.
--- Near old new says that new is old but for marks.
-pub record Lawful {S : Type 0} (o : Store S) (dbr : DbrFields) (Has : S → Type 0) (Lies : Spot → Type 0) (Near : S → S → Type 0) : Type 0 where
+-- What a store owes where its tables are as Has says, of the spots that Lies names: those of all
+-- words of segments. Near old new says that new is old but for marks.
+pub record Lawful {S : Type 0} (o : Store S) (dbr : DbrFields) (Has : S → Type 0)
+    (Lies : Spot → Type 0) (Near : S → S → Type 0) : Type 0 where
   -- First: the descriptor, the refusal and the spot of a word depend on the tables alone.
   pub sdws : ℕ → Result SdwFields Refusal
   pub spots : SdwFields → ℕ → ℕ → Result Spot Refusal
   pub sdw_is : (s : S) → Has s → (seg : ℕ) → o.sdw s dbr seg ≡ sdws seg
-  pub spot_is : (s : S) → Has s → (seg w : ℕ) (d : SdwFields) → sdws seg ≡ Ok d → placed d w ≡ true → o.spot s dbr d seg w ≡ spots d seg w
+  pub spot_is :
+      (s : S) → Has s → (seg w : ℕ) (d : SdwFields) → sdws seg ≡ Ok d → placed d w ≡ true
+      → o.spot s dbr d seg w ≡ spots d seg w
   pub lies : (seg w : ℕ) (p : Spot) → IsWord sdws spots seg w p → Lies p
   -- Second: the word at the spot of a word of a segment is its content.
-  pub word_is : (s : S) → Has s → (seg w : ℕ) (p : Spot) → IsWord sdws spots seg w p → content_in o s dbr seg w ≡ Some (o.word s p)
+  pub word_is :
+      (s : S) → Has s → (seg w : ℕ) (p : Spot) → IsWord sdws spots seg w p
+      → content_in o s dbr seg w ≡ Some (o.word s p)
   -- two words of segments have two spots
-  pub apart : (seg w seg' w' : ℕ) (p p' : Spot) → IsWord sdws spots seg w p → IsWord sdws spots seg' w' p' → same_spot p p' ≡ true → (seg ≡ seg') × (w ≡ w')
+  pub apart :
+      (seg w seg' w' : ℕ) (p p' : Spot) → IsWord sdws spots seg w p → IsWord sdws spots seg' w' p'
+      → same_spot p p' ≡ true → (seg ≡ seg') × (w ≡ w')
   -- Third: marks change no table but for marks, and no word of a segment;
-  pub marks_tables : (s : S) → Has s → (kind : RequestKind) (seg w : ℕ) (p : Spot) → IsWord sdws spots seg w p → Has (o.marked s dbr kind seg w)
-  pub marks_word : (s : S) → Has s → (kind : RequestKind) (seg w : ℕ) (p p' : Spot) → IsWord sdws spots seg w p → Lies p' → o.word (o.marked s dbr kind seg w) p' ≡ o.word s p'
-  pub marks_near : (s : S) → Has s → (kind : RequestKind) (seg w : ℕ) (p : Spot) → IsWord sdws spots seg w p → Near s (o.marked s dbr kind seg w)
+  pub marks_tables :
+      (s : S) → Has s → (kind : RequestKind) (seg w : ℕ) (p : Spot) → IsWord sdws spots seg w p
+      → Has (o.marked s dbr kind seg w)
+  pub marks_word :
+      (s : S) → Has s → (kind : RequestKind) (seg w : ℕ) (p p' : Spot) → IsWord sdws spots seg w p
+      → Lies p' → o.word (o.marked s dbr kind seg w) p' ≡ o.word s p'
+  pub marks_near :
+      (s : S) → Has s → (kind : RequestKind) (seg w : ℕ) (p : Spot) → IsWord sdws spots seg w p
+      → Near s (o.marked s dbr kind seg w)
   pub near_self : (s : S) → Near s s
   pub near_then : (s t u : S) → Near s t → Near t u → Near s u
   -- and words written at words of segments change those alone.
-  pub put_tables : (s : S) → Has s → (puts : List Change) → Each (IsSpot sdws spots) puts → Has (o.put s puts)
-  pub put_word : (s : S) → Has s → (puts : List Change) → Each (IsSpot sdws spots) puts → (p : Spot) → Lies p → o.word (o.put s puts) p ≡ overlay puts p (o.word s p)
+  pub put_tables :
+      (s : S) → Has s → (puts : List Change) → Each (IsSpot sdws spots) puts → Has (o.put s puts)
+  pub put_word :
+      (s : S) → Has s → (puts : List Change) → Each (IsSpot sdws spots) puts → (p : Spot) → Lies p
+      → o.word (o.put s puts) p ≡ overlay puts p (o.word s p)

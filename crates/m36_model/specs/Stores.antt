@@ -1,8 +1,10 @@
--- Stores. Multics Processor Manual AL39, "Fixed-point data movement store instructions", "Store indicator register".
+-- Stores. Multics Processor Manual AL39, "Fixed-point data movement store instructions", "Store
+-- indicator register".
 use Rattle.std.specs.Prelude.{ℕ, ◌+◌, ◌*◌, ◌^◌, ◌==◌, if◌then◌else◌, [], ◌∷◌, Result}
 use Rattle.m36_word.specs.Bits.{of_bit}
 use Rattle.m36_model.specs.Registers.{RegsFields}
-use Rattle.m36_model.specs.Results.{EffectFields, Working, value, words, with_indicators, with_zero, completes_with}
+use Rattle.m36_model.specs.Results.{EffectFields, Working, value, words, with_indicators, with_zero}
+use Rattle.m36_model.specs.Results.{completes_with}
 use Rattle.m36_model.specs.declared.registers.Ind.{Ind}
 
 -- STA, STQ, STAQ, STX, SXL: the word, the pair or the half becomes the register
@@ -13,11 +15,12 @@ store r g = completes_with g (words r (value r g))
 unfoldable pub store_zero : RegsFields → Result EffectFields ℕ
 store_zero g = completes_with g (0 ∷ [])
 
--- The indicators as bits 18 to 35 of a word: 18 zero, 19 negative, 20 carry, 21 overflow, 24 overflow mask, 25 tally runout, all
--- others 0 (this project's choice).
+-- The indicators as bits 18 to 35 of a word: 18 zero, 19 negative, 20 carry, 21 overflow, 24
+-- overflow mask, 25 tally runout, all others 0 (this project's choice).
 unfoldable pub indicators_half : Ind → ℕ
 indicators_half i =
-    of_bit i.zero * 2 ^ 17 + of_bit i.negative * 2 ^ 16 + of_bit i.carry * 2 ^ 15 + of_bit i.overflow * 2 ^ 14 + of_bit i.mask * 2 ^ 11 + of_bit i.tally * 2 ^ 10
+    of_bit i.zero * 2 ^ 17 + of_bit i.negative * 2 ^ 16 + of_bit i.carry * 2 ^ 15
+    + of_bit i.overflow * 2 ^ 14 + of_bit i.mask * 2 ^ 11 + of_bit i.tally * 2 ^ 10
 
 -- STI: bits 18 to 35 of the word become the indicators
 unfoldable pub store_indicators : RegsFields → Result EffectFields ℕ
@@ -31,4 +34,5 @@ store_where_zero v g =
 -- STACQ: where the word equals Q it becomes A, and else stays; zero tells which
 unfoldable pub store_where_equal : ℕ → RegsFields → Result EffectFields ℕ
 store_where_equal v g =
-    completes_with (with_indicators (with_zero (v == g.q) g.ind) g) ((if v == g.q then g.a else v) ∷ [])
+    completes_with (with_indicators (with_zero (v == g.q) g.ind) g)
+    ((if v == g.q then g.a else v) ∷ [])

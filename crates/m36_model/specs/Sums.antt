@@ -1,13 +1,16 @@
--- Additions and subtractions. Multics Processor Manual AL39, "Fixed-point addition instructions", "Fixed-point subtraction
--- instructions", "Fixed-point negate instructions".
+-- Additions and subtractions. Multics Processor Manual AL39, "Fixed-point addition instructions",
+-- "Fixed-point subtraction instructions", "Fixed-point negate instructions".
 use Rattle.std.specs.Prelude.{ℕ, ◌+◌, ◌-◌, ◌^◌, false, not, nat_lt, if◌then◌else◌, [], Result}
 use Rattle.m36_model.specs.Registers.{RegsFields}
 use Rattle.m36_model.specs.Arithmetic.{SumFields, sum, difference, negation}
-use Rattle.m36_model.specs.Results.{EffectFields, Working, A, half, value, words, takes, with_indicators, zn_carry, zn_overflow, zn_carry_overflow, completes, completes_or_overflows}
+use Rattle.m36_model.specs.Results.{EffectFields, Working, A, half, value, words, takes}
+use Rattle.m36_model.specs.Results.{with_indicators, zn_carry, zn_overflow, zn_carry_overflow}
+use Rattle.m36_model.specs.Results.{completes, completes_or_overflows}
 
 -- a result that goes into the register, with carry and overflow, and one with carry alone
 unfoldable pub into_register : Working → SumFields → RegsFields → Result EffectFields ℕ
-into_register r s g = completes_or_overflows (takes r s.value (zn_carry_overflow s g.ind) g) [] s.overflow
+into_register r s g =
+    completes_or_overflows (takes r s.value (zn_carry_overflow s g.ind) g) [] s.overflow
 
 unfoldable pub into_register_logical : Working → SumFields → RegsFields → Result EffectFields ℕ
 into_register_logical r s g = completes (takes r s.value (zn_carry s g.ind) g)
@@ -15,7 +18,8 @@ into_register_logical r s g = completes (takes r s.value (zn_carry s g.ind) g)
 -- a result that goes into the operand
 unfoldable pub into_operand : Working → SumFields → RegsFields → Result EffectFields ℕ
 into_operand r s g =
-    completes_or_overflows (with_indicators (zn_carry_overflow s g.ind) g) (words r s.value) s.overflow
+    completes_or_overflows (with_indicators (zn_carry_overflow s g.ind) g) (words r s.value)
+    s.overflow
 
 -- ADA, ADQ, ADAQ, ADX, ADL: register plus value
 unfoldable pub add : Working → ℕ → RegsFields → Result EffectFields ℕ

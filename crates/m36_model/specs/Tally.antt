@@ -1,6 +1,7 @@
--- Indirect then tally: what the tags SD, I, AD, DI and ID do with a tally word. The word has an address A (bits 0 to 17),
--- a tally T (18 to 29) and an increment D (30 to 35); A counts modulo 2^18 and T modulo 2^12.
--- After the Multics Processor Manual AL39, "Indirect then tally (IT) modification"; as written here, this project's profile.
+-- Indirect then tally: what the tags SD, I, AD, DI and ID do with a tally word. The word has an
+-- address A (bits 0 to 17), a tally T (18 to 29) and an increment D (30 to 35); A counts modulo
+-- 2^18 and T modulo 2^12. After the Multics Processor Manual AL39, "Indirect then tally (IT)
+-- modification"; as written here, this project's profile.
 --
 --   tag  name  computed address  new A  new T   tally runout
 --   51   I     A                 A      T       as it was
@@ -8,7 +9,7 @@
 --   54   DI    A - 1             A - 1  T + 1   on exactly where the new T is 0
 --   53   AD    A                 A + D  T - 1   on exactly where the new T is 0
 --   44   SD    A - D             A - D  T + 1   on exactly where the new T is 0
-use Rattle.std.specs.Prelude.{ℕ, ◌+◌, ◌-◌, ◌*◌, ◌%◌, ◌^◌, Bool, ◌==◌, if◌then◌else◌}
+use Rattle.std.specs.Prelude.{ℕ, ◌+◌, ◌-◌, ◌*◌, ◌%◌, ◌^◌, Bool, ◌||◌, ◌==◌, if◌then◌else◌}
 use Rattle.m36_word.specs.Field.{field}
 
 -- Td of the five tags
@@ -26,6 +27,11 @@ decrement_increment = 0o14
 
 abbrev pub increment_decrement : ℕ
 increment_decrement = 0o16
+
+abbrev pub is_tally_tag : ℕ → Bool
+is_tally_tag td =
+    (td == subtract_delta) || (td == indirect_only) || (td == add_delta)
+    || (td == decrement_increment) || (td == increment_decrement)
 
 -- the parts of a tally word
 abbrev pub tally_address : ℕ → ℕ
@@ -51,7 +57,11 @@ abbrev pub counted_down : ℕ → ℕ → Counted
 counted_down w step =
     let a = tally_address w in
     let t = (tally_count w + (2 ^ 12 - 1)) % 2 ^ 12 in
-    record { address = a; word = tally_word ((a + step) % 2 ^ 18) t (tally_delta w); runs_out = t == 0 }
+    record {
+      address = a;
+      word = tally_word ((a + step) % 2 ^ 18) t (tally_delta w);
+      runs_out = t == 0;
+    }
 
 -- the address goes down and is then used, and the tally goes up
 abbrev pub counted_up : ℕ → ℕ → Counted

@@ -8,7 +8,8 @@ use Rattle.m36_model.specs.Registers.{RegsFields}
 use Rattle.m36_model.specs.Pointers.{with_pr}
 use Rattle.m36_model.specs.Results.{EffectFields, X, with_value, completes}
 
--- Whether a transfer is taken, by the indicators. One that is not taken examines no target (this project's choice).
+-- Whether a transfer is taken, by the indicators. One that is not taken examines no target (this
+-- project's choice).
 unfoldable pub is_taken : Effect → RegsFields → Bool
 is_taken effect.Tze g = g.ind.zero
 is_taken effect.Tnz g = not g.ind.zero
@@ -22,7 +23,8 @@ is_taken effect.Tov g = g.ind.overflow
 is_taken effect.Ttf g = not g.ind.tally
 is_taken _ g = true
 
--- the procedure segment becomes that of the final address, and the instruction counter its word; the ring stays
+-- the procedure segment becomes that of the final address, and the instruction counter its word;
+-- the ring stays
 unfoldable pub gone_to : FinalFields → RegsFields → RegsFields
 gone_to f g = record g { ppr = record g.ppr { psr = f.at.seg; ic = f.at.word } }
 

@@ -1,4 +1,5 @@
--- Which words an effect gives to be written, by how its instruction references its operand. A half stands right-justified in a word.
+-- Which words an effect gives to be written, by how its instruction references its operand. A half
+-- stands right-justified in a word.
 use Rattle.std.specs.Prelude.{ℕ, ◌≡◌, ◌^◌, ◌<◌, List, length}
 use Rattle.std.specs.List.{All}
 use Rattle.m36_inst.specs.declared.operand.Operand.{Operand}

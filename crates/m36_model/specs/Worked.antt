@@ -1,6 +1,10 @@
--- Worked steps: small cores, written out word by word in octal. What a step does on them is computed from the definitions.
-use Rattle.std.specs.Prelude.{ℕ, false, true, List, [], ◌∷◌, replicate, slice_set, slice_index, Option, None}
-use Rattle.m36_desc.specs.Fields.{PtrFields}
+-- Worked steps: small cores of some segments, with their words in octal. What a step does on them
+-- is computed from the definitions.
+use Rattle.std.specs.Prelude.{ℕ, ◌+◌, ◌*◌, false, true, List, [], ◌∷◌, replicate, slice_set}
+use Rattle.std.specs.Prelude.{slice_index, Option, None}
+use Rattle.m36_desc.specs.Fields.{SdwFields, PtrFields}
+use Rattle.m36_desc.specs.Descriptors.{sdw_even, sdw_odd}
+use Rattle.m36_model.specs.Faults.{access_violation}
 use Rattle.m36_model.specs.Fields.{AtFields, FinalFields}
 use Rattle.m36_model.specs.Registers.{RegsFields}
 use Rattle.m36_model.specs.Store.{State}
@@ -21,9 +25,73 @@ placed (w ∷ words) core = placed words (slice_set core w.0 w.1)
 abbrev pub core_of : ℕ → List (ℕ × ℕ) → List ℕ
 core_of size words = placed words (replicate size 0)
 
--- registers that hold nothing, at an instruction; the descriptor segment lies in one piece from core word 0 on
+-- words one behind the other, from a place on
+abbrev pub words_from : ℕ → List ℕ → List (ℕ × ℕ)
+words_from place [] = []
+words_from place (w ∷ words) = (place, w) ∷ words_from (place + 1) words
+
+-- the descriptor of a segment that lies in one piece and has one block of 16 words, with these
+-- brackets and no rights; and the same with a right, as a gate with so many entries, or with more
+-- blocks
+abbrev pub rings : ℕ → ℕ → ℕ → SdwFields
+rings r1 r2 r3 =
+    record {
+      addr = 0;
+      r1 = r1;
+      r2 = r2;
+      r3 = r3;
+      f = true;
+      fc = 0;
+      bound = 0;
+      readable = false;
+      executable = false;
+      writable = false;
+      privileged = false;
+      unpaged = true;
+      no_gate = true;
+      cached = false;
+      limit = 0;
+    }
+
+abbrev pub readable : SdwFields → SdwFields
+readable d = record d { readable = true }
+
+abbrev pub executable : SdwFields → SdwFields
+executable d = record d { executable = true }
+
+abbrev pub writable : SdwFields → SdwFields
+writable d = record d { writable = true }
+
+abbrev pub privileged : SdwFields → SdwFields
+privileged d = record d { privileged = true }
+
+abbrev pub gate_with_entries : ℕ → SdwFields → SdwFields
+gate_with_entries n d = record d { no_gate = false; limit = n }
+
+abbrev pub last_block : ℕ → SdwFields → SdwFields
+last_block n d = record d { bound = n }
+
+-- the descriptor of a segment that lies at a place, in the descriptor segment at word 0
+abbrev pub segment : ℕ → ℕ → SdwFields → List (ℕ × ℕ)
+segment n place d =
+    words_from (2 * n) (sdw_even (record d { addr = place }) ∷ sdw_odd d ∷ [])
+
+-- a segment of instructions that is read too
+abbrev pub procedure : SdwFields → SdwFields
+procedure d = readable (executable d)
+
+-- registers that hold nothing, at an instruction; the descriptor segment lies in one piece from
+-- core word 0 on
 abbrev pub no_indicators : Ind
-no_indicators = record { zero = false; negative = false; carry = false; overflow = false; mask = false; tally = false }
+no_indicators =
+    record {
+      zero = false;
+      negative = false;
+      carry = false;
+      overflow = false;
+      mask = false;
+      tally = false;
+    }
 
 abbrev pub at_instruction : ℕ → ℕ → ℕ → RegsFields
 at_instruction seg ring word =
@@ -48,16 +116,18 @@ abbrev pub ends_in : ℕ → ℕ → ℕ → FinalFields
 ends_in seg word ring = record { at = at_word seg word ring; bit = 0; direct = None }
 
 abbrev pub referred : Kind → ℕ → ℕ → ℕ → ℕ → Reference
-referred kind seg word ring count = record { at = at_word seg word ring; kind = kind; count = count }
+referred kind seg word ring count =
+    record { at = at_word seg word ring; kind = kind; count = count }
 
 -- faults, and access violations
 abbrev pub faults : ℕ → AtFields → Outcome
 faults number at = Faulted (record { at = at; number = number; acv = 0 })
 
 abbrev pub violates : ℕ → AtFields → Outcome
-violates acv at = Faulted (record { at = at; number = 20; acv = acv })
+violates acv at = Faulted (record { at = at; number = access_violation; acv = acv })
 
--- what one step does: how it ends, the end of its chain, the registers afterwards, the core afterwards
+-- what one step does: how it ends, the end of its chain, the registers afterwards, the core
+-- afterwards
 abbrev pub outcome_of_step : State (List ℕ) → Outcome
 outcome_of_step s = (record_of core_store s).outcome
 

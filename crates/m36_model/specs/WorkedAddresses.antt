@@ -1,10 +1,19 @@
 -- Worked steps on addresses: a load and a stop, the bound, indirect words, pairs, tally words.
-use Rattle.std.specs.Prelude.{ℕ, ◌≡◌, false, true, List, [], ◌∷◌, replicate, slice_set, Some, None}
+use Rattle.std.specs.Prelude.{ℕ, ◌≡◌, ◌++◌, false, true, List, [], ◌∷◌, replicate, slice_set, Some}
+use Rattle.std.specs.Prelude.{None}
+use Rattle.m36_desc.specs.Fields.{SdwFields}
+use Rattle.m36_desc.specs.Violations.{no_write_right, out_of_read_bracket, out_of_segment_bounds}
+use Rattle.m36_model.specs.Faults.{fault_tag_1, fault_tag_2, fault_tag_3, illegal_procedure}
+use Rattle.m36_model.specs.Faults.{lockup_fault}
 use Rattle.m36_model.specs.Store.{State}
 use Rattle.m36_model.specs.Core.{core_store}
 use Rattle.m36_model.specs.Step.{record_of, state_after}
 use Rattle.m36_model.specs.Tally.{tally}
-use Rattle.m36_model.specs.Worked.{core_of, at_instruction, pointer, at_word, ends_in, referred, faults, violates, outcome_of_step, address_of_step, references_of_step, registers_after, word_after}
+use Rattle.m36_model.specs.Worked.{words_from, segment, rings, readable, writable, privileged}
+use Rattle.m36_model.specs.Worked.{gate_with_entries, last_block, procedure}
+use Rattle.m36_model.specs.Worked.{core_of, at_instruction, pointer, at_word, ends_in, referred}
+use Rattle.m36_model.specs.Worked.{faults, violates, outcome_of_step, address_of_step}
+use Rattle.m36_model.specs.Worked.{references_of_step, registers_after, word_after}
 use Rattle.m36_model.specs.declared.place.Kind.TheVariants.{Fetch, Indirect, Read, Write}
 use Rattle.m36_model.specs.declared.outcome.Stop.TheVariants as stop
 use Rattle.m36_model.specs.declared.outcome.Outcome.TheVariants.{Next, Stopped}
@@ -12,7 +21,9 @@ use Rattle.m36_model.specs.declared.outcome.Outcome.TheVariants.{Next, Stopped}
 -- Segment 1 lies at core word 40, in ring 0, with R, E and P on: `lda 2`, `dis`, and the number 5.
 abbrev pub load_core : List ℕ
 load_core =
-    core_of 0o100 ((0o2, 0o000000400004) ∷ (0o3, 0o000006700000) ∷ (0o40, 0o000002235000) ∷ (0o41, 0o000000616000) ∷ (0o42, 0o000000000005) ∷ [])
+    core_of 0o100
+    (segment 1 0o40 (privileged (procedure (rings 0 0 0)))
+    ++ words_from 0o40 (0o000002235000 ∷ 0o000000616000 ∷ 5 ∷ []))
 
 abbrev pub at_load : State (List ℕ)
 at_load = record { regs = at_instruction 1 0 0; store = load_core }
@@ -39,53 +50,86 @@ StopFollows = record_of core_store (state_after core_store at_load) ≡ record {
   ppr = record { psr = 1; prr = 0; ic = 1 };
 }
 
--- The bound counts blocks of 16 words: with bound 0 word 17 is read (here by `lda 15`), and word 20 is not (`lda 16`).
+-- The bound counts blocks of 16 words: with bound 0 word 17 is read (here by `lda 15`), and word 20
+-- is not (`lda 16`).
 abbrev pub bound_state : ℕ → State (List ℕ)
-bound_state instruction = record { regs = at_instruction 1 0 0; store = slice_set load_core 0o40 instruction }
+bound_state instruction =
+    record { regs = at_instruction 1 0 0; store = slice_set load_core 0o40 instruction }
 
 abbrev pub LastWordOfTheBoundIsRead : Type 0
 LastWordOfTheBoundIsRead = outcome_of_step (bound_state 0o000017235000) ≡ Next
 
 abbrev pub WordPastTheBoundIsNot : Type 0
-WordPastTheBoundIsNot = outcome_of_step (bound_state 0o000020235000) ≡ violates 15 (at_word 1 0o20 0)
+WordPastTheBoundIsNot =
+    outcome_of_step (bound_state 0o000020235000) ≡ violates out_of_segment_bounds (at_word 1 0o20 0)
 
--- `lda pr0|0,*` in ring 1 reads the ITS pair 000123100043 000000000000 in segment 2, whose R1 is 4, so the ring goes up to 4.
--- Segment 123 has brackets 0, 3, 3, and is not read from ring 4.
+-- `lda pr0|0,*` in ring 1 reads the ITS pair 000123100043 000000000000 in segment 2, whose R1 is 4,
+-- so the ring goes up to 4. Segment 123 has brackets 0, 3, 3, and is not read from ring 4.
 abbrev pub pair_core : List ℕ
 pair_core =
-    core_of 0o400 ((0o2, 0o000003201114) ∷ (0o3, 0o000006300000) ∷ (0o4, 0o000003404444) ∷ (0o5, 0o000004200000) ∷ (0o246, 0o000003600334) ∷ (0o247, 0o000004300000) ∷ (0o320, 0o000000235120) ∷ (0o340, 0o000123100043) ∷ [])
+    core_of 0o400
+    (segment 1 0o320 (procedure (rings 1 1 1))
+    ++ segment 2 0o340 (gate_with_entries 0 (readable (rings 4 4 4)))
+    ++ segment 0o123 0o360 (readable (rings 0 3 3))
+    ++ words_from 0o320 (0o000000235120 ∷ [])
+    ++ words_from 0o340 (0o000123100043 ∷ []))
 
 abbrev pub at_pair : State (List ℕ)
 at_pair =
-    record { regs = record (at_instruction 1 1 0) { pr = slice_set (replicate 8 (pointer 0 0 0)) 0 (pointer 2 1 0) }; store = pair_core }
+    record {
+      regs =
+          record (at_instruction 1 1 0)
+          { pr = slice_set (replicate 8 (pointer 0 0 0)) 0 (pointer 2 1 0) };
+      store = pair_core;
+    }
 
 abbrev pub PairTakesTheBracketOfItsSegment : Type 0
 PairTakesTheBracketOfItsSegment =
-    (address_of_step at_pair ≡ Some (ends_in 0o123 0 4)) × (outcome_of_step at_pair ≡ violates 3 (at_word 0o123 0 4)) × (references_of_step at_pair ≡ referred Fetch 1 0 1 1 ∷ referred Indirect 2 0 1 2 ∷ [])
+    (address_of_step at_pair ≡ Some (ends_in 0o123 0 4))
+    × (outcome_of_step at_pair ≡ violates out_of_read_bracket (at_word 0o123 0 4))
+    × (references_of_step at_pair ≡ referred Fetch 1 0 1 1 ∷ referred Indirect 2 0 1 2 ∷ [])
 
--- Words 1 to 16 of segment 1 point each to the next one, indirectly; word 17 is `5`. `lda 1,*` meets 17 indirect words, and
--- `lda 2,*` meets 16.
+-- Words 1 to 16 of segment 1 point each to the next one, indirectly; word 17 is `5`. `lda 1,*`
+-- meets 17 indirect words, and `lda 2,*` meets 16.
 abbrev pub long_chain_core : ℕ → List ℕ
 long_chain_core instruction =
-    core_of 0o100 ((0o2, 0o000000400004) ∷ (0o3, 0o000026300000) ∷ (0o40, instruction) ∷ (0o41, 0o000002000020) ∷ (0o42, 0o000003000020) ∷ (0o43, 0o000004000020) ∷ (0o44, 0o000005000020) ∷ (0o45, 0o000006000020) ∷ (0o46, 0o000007000020) ∷ (0o47, 0o000010000020) ∷ (0o50, 0o000011000020) ∷ (0o51, 0o000012000020) ∷ (0o52, 0o000013000020) ∷ (0o53, 0o000014000020) ∷ (0o54, 0o000015000020) ∷ (0o55, 0o000016000020) ∷ (0o56, 0o000017000020) ∷ (0o57, 0o000020000020) ∷ (0o60, 0o000021000020) ∷ (0o61, 0o000022000000) ∷ (0o62, 0o000000000005) ∷ [])
+    core_of 0o100
+    (segment 1 0o40 (last_block 2 (procedure (rings 0 0 0)))
+    ++ words_from 0o40
+    (instruction
+    ∷ 0o000002000020 ∷ 0o000003000020 ∷ 0o000004000020 ∷ 0o000005000020
+    ∷ 0o000006000020 ∷ 0o000007000020 ∷ 0o000010000020 ∷ 0o000011000020
+    ∷ 0o000012000020 ∷ 0o000013000020 ∷ 0o000014000020 ∷ 0o000015000020
+    ∷ 0o000016000020 ∷ 0o000017000020 ∷ 0o000020000020 ∷ 0o000021000020
+    ∷ 0o000022000000 ∷ 5 ∷ []))
 
 abbrev pub long_chain : ℕ → State (List ℕ)
 long_chain instruction = record { regs = at_instruction 1 0 0; store = long_chain_core instruction }
 
 abbrev pub SeventeenthIndirectWordLocksUp : Type 0
-SeventeenthIndirectWordLocksUp = outcome_of_step (long_chain 0o000001235020) ≡ faults 7 (at_word 1 0o21 0)
+SeventeenthIndirectWordLocksUp =
+    outcome_of_step (long_chain 0o000001235020) ≡ faults lockup_fault (at_word 1 0o21 0)
 
 abbrev pub SixteenIndirectWordsAreServed : Type 0
 SixteenIndirectWordsAreServed =
-    (outcome_of_step (long_chain 0o000002235020) ≡ Next) × ((registers_after (long_chain 0o000002235020)).a ≡ 5)
+    (outcome_of_step (long_chain 0o000002235020) ≡ Next)
+    × ((registers_after (long_chain 0o000002235020)).a ≡ 5)
 
--- `lda 8,*x1` holds X1 while it reads the word at 10, which is 000020000000: the address is 20 and 5.
+-- `lda 8,*x1` holds X1 while it reads the word at 10, which is 000020000000: the address is 20 and
+-- 5.
 abbrev pub held_core : List ℕ
 held_core =
-    core_of 0o100 ((0o2, 0o000000400004) ∷ (0o3, 0o000026300000) ∷ (0o40, 0o000010235071) ∷ (0o50, 0o000020000000) ∷ [])
+    core_of 0o100
+    (segment 1 0o40 (last_block 2 (procedure (rings 0 0 0)))
+    ++ words_from 0o40 (0o000010235071 ∷ [])
+    ++ words_from 0o50 (0o000020000000 ∷ []))
 
 abbrev pub at_held : State (List ℕ)
-at_held = record { regs = record (at_instruction 1 0 0) { x = slice_set (replicate 8 0) 1 0o5 }; store = held_core }
+at_held =
+    record {
+      regs = record (at_instruction 1 0 0) { x = slice_set (replicate 8 0) 1 0o5 };
+      store = held_core;
+    }
 
 abbrev pub IndexIsHeldOverTheIndirectWord : Type 0
 IndexIsHeldOverTheIndirectWord = address_of_step at_held ≡ Some (ends_in 1 0o25 0)
@@ -93,27 +137,57 @@ IndexIsHeldOverTheIndirectWord = address_of_step at_held ≡ Some (ends_in 1 0o2
 -- Tally words. ID twice, the second time with a runout; then SD, AD and DI.
 abbrev pub TallyWordsCount : Type 0
 TallyWordsCount =
-    (tally 0o16 0o000100000200 ≡ record { address = 0o100; word = 0o000101000100; runs_out = false }) × (tally 0o16 0o000101000100 ≡ record { address = 0o101; word = 0o000102000000; runs_out = true }) × (tally 0o4 0o000100777703 ≡ record { address = 0o75; word = 0o000075000003; runs_out = true }) × (tally 0o13 0o000100000103 ≡ record { address = 0o100; word = 0o000103000003; runs_out = true }) × (tally 0o14 0 ≡ record { address = 0o777777; word = 0o777777000100; runs_out = false })
+    (tally 0o16 0o000100000200 ≡ record {
+      address = 0o100;
+      word = 0o000101000100;
+      runs_out = false;
+    })
+    × (tally 0o16 0o000101000100 ≡ record {
+      address = 0o101;
+      word = 0o000102000000;
+      runs_out = true;
+    })
+    × (tally 0o4 0o000100777703 ≡ record { address = 0o75; word = 0o000075000003; runs_out = true })
+    × (tally 0o13 0o000100000103 ≡ record {
+      address = 0o100;
+      word = 0o000103000003;
+      runs_out = true;
+    })
+    × (tally 0o14 0 ≡ record { address = 0o777777; word = 0o777777000100; runs_out = false })
 
--- The tally word at 10 of segment 1 is 000010000200, so its own address is its first operand: `lda 8,id` loads its new value, and
--- `sta 8,id` leaves A in it, since the operand is written after it.
-abbrev pub tally_core : ℕ → ℕ → List ℕ
+-- The tally word at 10 of segment 1 is 000010000200, so its own address is its first operand: `lda
+-- 8,id` loads its new value, and `sta 8,id` leaves A in it, since the operand is written after it.
+abbrev pub data_and_procedure : SdwFields → SdwFields
+data_and_procedure d = writable (procedure d)
+
+abbrev pub tally_core : (SdwFields → SdwFields) → ℕ → List ℕ
 tally_core rights instruction =
-    core_of 0o100 ((0o2, 0o000000400004) ∷ (0o3, rights) ∷ (0o40, instruction) ∷ (0o50, 0o000010000200) ∷ [])
+    core_of 0o100
+    (segment 1 0o40 (rights (rings 0 0 0))
+    ++ words_from 0o40 (instruction ∷ [])
+    ++ words_from 0o50 (0o000010000200 ∷ []))
 
-abbrev pub at_tally : ℕ → ℕ → State (List ℕ)
+abbrev pub at_tally : (SdwFields → SdwFields) → ℕ → State (List ℕ)
 at_tally rights instruction =
-    record { regs = record (at_instruction 1 0 0) { a = 0o123456 }; store = tally_core rights instruction }
+    record {
+      regs = record (at_instruction 1 0 0) { a = 0o123456 };
+      store = tally_core rights instruction;
+    }
 
 abbrev pub load_through_tally : State (List ℕ)
-load_through_tally = at_tally 0o000007300000 0o000010235056
+load_through_tally = at_tally data_and_procedure 0o000010235056
 
 abbrev pub store_through_tally : State (List ℕ)
-store_through_tally = at_tally 0o000007300000 0o000010755056
+store_through_tally = at_tally data_and_procedure 0o000010755056
 
 abbrev pub LoadSeesTheNewTallyWord : Type 0
 LoadSeesTheNewTallyWord =
-    (outcome_of_step load_through_tally ≡ Next) × ((registers_after load_through_tally).a ≡ 0o000011000100) × (word_after load_through_tally 0o50 ≡ 0o000011000100) × (references_of_step load_through_tally ≡ referred Fetch 1 0 0 1 ∷ referred Indirect 1 0o10 0 1 ∷ referred Write 1 0o10 0 1 ∷ referred Read 1 0o10 0 1 ∷ [])
+    (outcome_of_step load_through_tally ≡ Next)
+    × ((registers_after load_through_tally).a ≡ 0o000011000100)
+    × (word_after load_through_tally 0o50 ≡ 0o000011000100)
+    × (references_of_step load_through_tally
+    ≡ referred Fetch 1 0 0 1 ∷ referred Indirect 1 0o10 0 1 ∷ referred Write 1 0o10 0 1
+    ∷ referred Read 1 0o10 0 1 ∷ [])
 
 abbrev pub StoreComesAfterTheTallyWord : Type 0
 StoreComesAfterTheTallyWord =
@@ -122,35 +196,51 @@ StoreComesAfterTheTallyWord =
 -- Without the right to write, the Write of the tally word is refused, and nothing has changed.
 abbrev pub RefusedTallyWordChangesNothing : Type 0
 RefusedTallyWordChangesNothing =
-    (record_of core_store (at_tally 0o000006300000 0o000010235056) ≡ record {
+    (record_of core_store (at_tally procedure 0o000010235056) ≡ record {
       refs = record { items = referred Fetch 1 0 0 1 ∷ referred Indirect 1 0o10 0 1 ∷ [] };
       after = record (at_instruction 1 0 0) { a = 0o123456 };
       word = Some 0o000010235056;
       at = None;
-      outcome = violates 6 (at_word 1 0o10 0);
+      outcome = violates no_write_right (at_word 1 0o10 0);
       ppr = record { psr = 1; prr = 0; ic = 0 };
-    }) × (state_after core_store (at_tally 0o000006300000 0o000010755056) ≡ at_tally 0o000006300000 0o000010755056)
+    })
+    × (state_after core_store (at_tally procedure 0o000010755056)
+    ≡ at_tally procedure 0o000010755056)
 
 -- `lda 3,dl` has its operand in the address: no word is read.
 abbrev pub DirectOperandIsTheAddress : Type 0
 DirectOperandIsTheAddress =
-    ((registers_after (bound_state 0o000003235007)).a ≡ 3) × (references_of_step (bound_state 0o000003235007) ≡ referred Fetch 1 0 0 1 ∷ []) × (address_of_step (bound_state 0o000003235007) ≡ Some (record { at = at_word 1 3 0; bit = 0; direct = Some 3 }))
+    ((registers_after (bound_state 0o000003235007)).a ≡ 3)
+    × (references_of_step (bound_state 0o000003235007) ≡ referred Fetch 1 0 0 1 ∷ [])
+    × (address_of_step (bound_state 0o000003235007) ≡ Some (record {
+      at = at_word 1 3 0;
+      bit = 0;
+      direct = Some 3;
+    }))
 
--- `tze 3,du` with zero off is not taken, but its direct operand is refused all the same; `lprp4 3,dl` refuses one, and `nop 3,dl`
--- takes it.
+-- `tze 3,du` with zero off is not taken, but its direct operand is refused all the same; `lprp4
+-- 3,dl` refuses one, and `nop 3,dl` takes it.
 abbrev pub DirectOperandsAreRefused : Type 0
 DirectOperandsAreRefused =
-    (outcome_of_step (bound_state 0o000003600003) ≡ faults 10 (at_word 1 0 0)) × (outcome_of_step (bound_state 0o000003764007) ≡ faults 10 (at_word 1 0 0)) × (outcome_of_step (bound_state 0o000003011007) ≡ Next)
+    (outcome_of_step (bound_state 0o000003600003) ≡ faults illegal_procedure (at_word 1 0 0))
+    × (outcome_of_step (bound_state 0o000003764007) ≡ faults illegal_procedure (at_word 1 0 0))
+    × (outcome_of_step (bound_state 0o000003011007) ≡ Next)
 
--- The tags of the instruction `lda 3` with tags 40, 41, 46, 47 and 50: three fault tags, told at the instruction; a pair's tag out
--- of place; a modification that is not provided.
+-- The tags of the instruction `lda 3` with tags 40, 41, 46, 47 and 50: three fault tags, told at
+-- the instruction; a pair's tag out of place; a modification that is not provided.
 abbrev pub TagsOfTheInstruction : Type 0
 TagsOfTheInstruction =
-    (outcome_of_step (bound_state 0o000003235040) ≡ faults 3 (at_word 1 0 0)) × (outcome_of_step (bound_state 0o000003235041) ≡ faults 10 (at_word 1 0 0)) × (outcome_of_step (bound_state 0o000003235046) ≡ faults 24 (at_word 1 0 0)) × (outcome_of_step (bound_state 0o000003235047) ≡ faults 25 (at_word 1 0 0)) × (outcome_of_step (bound_state 0o000003235050) ≡ Stopped stop.Tag)
+    (outcome_of_step (bound_state 0o000003235040) ≡ faults fault_tag_1 (at_word 1 0 0))
+    × (outcome_of_step (bound_state 0o000003235041) ≡ faults illegal_procedure (at_word 1 0 0))
+    × (outcome_of_step (bound_state 0o000003235046) ≡ faults fault_tag_2 (at_word 1 0 0))
+    × (outcome_of_step (bound_state 0o000003235047) ≡ faults fault_tag_3 (at_word 1 0 0))
+    × (outcome_of_step (bound_state 0o000003235050) ≡ Stopped stop.Tag)
 
--- `lda pr0|0,*` again, through a word with tag 46 in the segment whose R1 is 4: the fault tag is told at that word, in ring 4.
+-- `lda pr0|0,*` again, through a word with tag 46 in the segment whose R1 is 4: the fault tag is
+-- told at that word, in ring 4.
 abbrev pub at_fault_tag : State (List ℕ)
 at_fault_tag = record { regs = at_pair.regs; store = slice_set pair_core 0o340 0o000000000046 }
 
 abbrev pub FaultTagTakesTheBracketOfItsSegment : Type 0
-FaultTagTakesTheBracketOfItsSegment = outcome_of_step at_fault_tag ≡ faults 24 (at_word 2 0 4)
+FaultTagTakesTheBracketOfItsSegment =
+    outcome_of_step at_fault_tag ≡ faults fault_tag_2 (at_word 2 0 4)

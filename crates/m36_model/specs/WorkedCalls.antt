@@ -1,110 +1,169 @@
 -- Worked steps on calls, returns and pointer registers.
-use Rattle.std.specs.Prelude.{ℕ, ◌≡◌, List, [], ◌∷◌, replicate, slice_set, true, false}
+use Rattle.std.specs.Prelude.{ℕ, ◌≡◌, ◌++◌, List, [], ◌∷◌, replicate, slice_set, true, false}
+use Rattle.m36_desc.specs.Fields.{SdwFields}
+use Rattle.m36_desc.specs.Violations.{bad_outward_call, not_a_gate, out_of_call_bracket}
+use Rattle.m36_desc.specs.Violations.{outward_call}
+use Rattle.m36_model.specs.Faults.{command, illegal_procedure}
 use Rattle.m36_model.specs.Store.{State}
 use Rattle.m36_model.specs.Core.{core_store}
 use Rattle.m36_model.specs.Step.{state_after}
 use Rattle.m36_model.specs.Modification.{ptr}
-use Rattle.m36_model.specs.Worked.{core_of, at_instruction, pointer, at_word, faults, violates, outcome_of_step, registers_after, word_after}
+use Rattle.m36_model.specs.Worked.{words_from, segment, rings, readable, executable, writable}
+use Rattle.m36_model.specs.Worked.{privileged, gate_with_entries, procedure}
+use Rattle.m36_model.specs.Worked.{core_of, at_instruction, pointer, at_word, faults, violates}
+use Rattle.m36_model.specs.Worked.{outcome_of_step, registers_after, word_after}
 use Rattle.m36_model.specs.declared.outcome.Outcome.TheVariants.{Next}
 
--- Segment 1 holds one instruction and may be executed in every ring. Segment 3 is a gate: E on, G off, brackets 0, 0, 5, two
--- entries. Pointer register 2 points to its word 0.
+-- Segment 1 holds one instruction and may be executed in every ring. Segment 3 is a gate: E on, G
+-- off, brackets 0, 0, 5, two entries. Pointer register 2 points to its word 0.
 abbrev pub gate_core : ℕ → List ℕ
 gate_core instruction =
-    core_of 0o100 ((0o2, 0o000000400774) ∷ (0o3, 0o000006300000) ∷ (0o6, 0o000000600054) ∷ (0o7, 0o000002200002) ∷ (0o40, instruction) ∷ [])
+    core_of 0o100
+    (segment 1 0o40 (procedure (rings 0 7 7))
+    ++ segment 3 0o60 (gate_with_entries 2 (executable (rings 0 0 5)))
+    ++ words_from 0o40 (instruction ∷ []))
 
 abbrev pub at_gate : ℕ → ℕ → State (List ℕ)
 at_gate ring instruction =
     record {
-      regs = record (at_instruction 1 ring 0) { pr = slice_set (replicate 8 (pointer 0 0 0)) 2 (pointer 3 ring 0) };
+      regs =
+          record (at_instruction 1 ring 0)
+          { pr = slice_set (replicate 8 (pointer 0 0 0)) 2 (pointer 3 ring 0) };
       store = gate_core instruction;
     }
 
--- `call6 pr2|1` from ring 4 enters ring 0 at word 1, and PR7 is the base of ring 0's stack, segment 10.
+-- `call6 pr2|1` from ring 4 enters ring 0 at word 1, and PR7 is the base of ring 0's stack, segment
+-- 10.
 abbrev pub CallThroughAGate : Type 0
 CallThroughAGate =
-    (outcome_of_step (at_gate 4 0o200001713100) ≡ Next) × ((registers_after (at_gate 4 0o200001713100)).ppr ≡ record { psr = 3; prr = 0; ic = 1 }) × (ptr (registers_after (at_gate 4 0o200001713100)) 7 ≡ pointer 0o10 0 0)
+    (outcome_of_step (at_gate 4 0o200001713100) ≡ Next)
+    × ((registers_after (at_gate 4 0o200001713100)).ppr ≡ record { psr = 3; prr = 0; ic = 1 })
+    × (ptr (registers_after (at_gate 4 0o200001713100)) 7 ≡ pointer 0o10 0 0)
 
 -- Word 2 is no entry, and ring 6 is above the call bracket.
 abbrev pub CallPastTheLimiter : Type 0
-CallPastTheLimiter = outcome_of_step (at_gate 4 0o200002713100) ≡ violates 7 (at_word 3 2 4)
+CallPastTheLimiter =
+    outcome_of_step (at_gate 4 0o200002713100) ≡ violates not_a_gate (at_word 3 2 4)
 
 abbrev pub CallFromAboveTheBracket : Type 0
-CallFromAboveTheBracket = outcome_of_step (at_gate 6 0o200001713100) ≡ violates 8 (at_word 3 1 6)
+CallFromAboveTheBracket =
+    outcome_of_step (at_gate 6 0o200001713100) ≡ violates out_of_call_bracket (at_word 3 1 6)
 
--- Segment 4 has E and G on and brackets 2, 3, 3. Pointer register 2 points to it in some ring; pointer register 6 to segment 5.
+-- Segment 4 has E and G on and brackets 2, 3, 3. Pointer register 2 points to it in some ring;
+-- pointer register 6 to segment 5.
 abbrev pub call_core : List ℕ
 call_core =
-    core_of 0o100 ((0o2, 0o000000400774) ∷ (0o3, 0o000006300000) ∷ (0o10, 0o000000602334) ∷ (0o11, 0o000002300000) ∷ (0o40, 0o200001713100) ∷ [])
+    core_of 0o100
+    (segment 1 0o40 (procedure (rings 0 7 7))
+    ++ segment 4 0o60 (executable (rings 2 3 3))
+    ++ words_from 0o40 (0o200001713100 ∷ []))
 
 abbrev pub at_call : ℕ → ℕ → State (List ℕ)
 at_call ring pointed =
     record {
-      regs = record (at_instruction 1 ring 0) { pr = slice_set (slice_set (replicate 8 (pointer 0 0 0)) 2 (pointer 4 pointed 0)) 6 (pointer 5 ring 7) };
+      regs =
+          record (at_instruction 1 ring 0) {
+            pr =
+                slice_set (slice_set (replicate 8 (pointer 0 0 0)) 2 (pointer 4 pointed 0)) 6
+                (pointer 5 ring 7);
+          };
       store = call_core;
     }
 
 abbrev pub OutwardCall : Type 0
-OutwardCall = outcome_of_step (at_call 1 1) ≡ violates 9 (at_word 4 1 1)
+OutwardCall = outcome_of_step (at_call 1 1) ≡ violates outward_call (at_word 4 1 1)
 
 abbrev pub CallWithRaisedRing : Type 0
-CallWithRaisedRing = outcome_of_step (at_call 1 3) ≡ violates 10 (at_word 4 1 3)
+CallWithRaisedRing = outcome_of_step (at_call 1 3) ≡ violates bad_outward_call (at_word 4 1 3)
 
 abbrev pub CallWithinTheRing : Type 0
 CallWithinTheRing =
-    (outcome_of_step (at_call 3 3) ≡ Next) × ((registers_after (at_call 3 3)).ppr ≡ record { psr = 4; prr = 3; ic = 1 }) × (ptr (registers_after (at_call 3 3)) 7 ≡ pointer 5 3 0)
+    (outcome_of_step (at_call 3 3) ≡ Next)
+    × ((registers_after (at_call 3 3)).ppr ≡ record { psr = 4; prr = 3; ic = 1 })
+    × (ptr (registers_after (at_call 3 3)) 7 ≡ pointer 5 3 0)
 
--- `rtcd pr2|0` through the pair of segment 2: to word 1 of segment 1, which is `dis`. R1 of segment 2 is given.
-abbrev pub return_core : ℕ → ℕ → List ℕ
+-- `rtcd pr2|0` through the pair of segment 2: to word 1 of segment 1, which is `dis`. R1 of segment
+-- 2 is given.
+abbrev pub return_core : SdwFields → ℕ → List ℕ
 return_core brackets pair =
-    core_of 0o200 ((0o2, 0o000000400774) ∷ (0o3, 0o000006700000) ∷ (0o4, brackets) ∷ (0o5, 0o000005300000) ∷ (0o40, 0o200000610100) ∷ (0o41, 0o000000616000) ∷ (0o100, pair) ∷ (0o101, 0o000001000000) ∷ [])
+    core_of 0o200
+    (segment 1 0o40 (privileged (procedure (rings 0 7 7)))
+    ++ segment 2 0o100 (readable (writable brackets))
+    ++ words_from 0o40 (0o200000610100 ∷ 0o000000616000 ∷ [])
+    ++ words_from 0o100 (pair ∷ 0o000001000000 ∷ []))
 
-abbrev pub at_return : ℕ → ℕ → ℕ → State (List ℕ)
+abbrev pub at_return : ℕ → SdwFields → ℕ → State (List ℕ)
 at_return ring brackets pair =
     record {
-      regs = record (at_instruction 1 ring 0) { pr = slice_set (replicate 8 (pointer 0 0 0)) 2 (pointer 2 ring 0) };
+      regs =
+          record (at_instruction 1 ring 0)
+          { pr = slice_set (replicate 8 (pointer 0 0 0)) 2 (pointer 2 ring 0) };
       store = return_core brackets pair;
     }
 
--- From ring 0 through a pair of ring 4: ring 4 in every register, and there DIS is an illegal procedure.
+-- From ring 0 through a pair of ring 4: ring 4 in every register, and there DIS is an illegal
+-- procedure.
 abbrev pub returns_outward : State (List ℕ)
-returns_outward = at_return 0 0o000001000004 0o000001400043
+returns_outward = at_return 0 (rings 0 0 0) 0o000001400043
 
 abbrev pub ReturnTakesThePairsRing : Type 0
 ReturnTakesThePairsRing =
-    ((registers_after returns_outward).ppr ≡ record { psr = 1; prr = 4; ic = 1 }) × ((registers_after returns_outward).pr ≡ slice_set (replicate 8 (pointer 0 4 0)) 2 (pointer 2 4 0)) × (outcome_of_step (state_after core_store returns_outward) ≡ faults 10 (at_word 1 1 4))
+    ((registers_after returns_outward).ppr ≡ record { psr = 1; prr = 4; ic = 1 })
+    ×
+    ((registers_after returns_outward).pr
+    ≡ slice_set (replicate 8 (pointer 0 4 0)) 2 (pointer 2 4 0))
+    ×
+    (outcome_of_step (state_after core_store returns_outward)
+    ≡ faults illegal_procedure (at_word 1 1 4))
 
 -- From ring 4 through a pair of ring 0 in its own stack: still ring 4.
 abbrev pub ReturnTakesTheGreatestRing : Type 0
-ReturnTakesTheGreatestRing = (registers_after (at_return 4 0o000001004444 0o000001000043)).ppr ≡ record { psr = 1; prr = 4; ic = 1 }
+ReturnTakesTheGreatestRing =
+    (registers_after (at_return 4 (rings 4 4 4) 0o000001000043)).ppr
+    ≡ record { psr = 1; prr = 4; ic = 1 }
 
 -- `lprp4 1` of a word that begins with octal 60 is a command fault, and PR4 is as before.
 abbrev pub packed_core : List ℕ
 packed_core =
-    core_of 0o100 ((0o2, 0o000000400774) ∷ (0o3, 0o000006300000) ∷ (0o40, 0o000001764000) ∷ (0o41, 0o600003000007) ∷ [])
+    core_of 0o100
+    (segment 1 0o40 (procedure (rings 0 7 7))
+    ++ words_from 0o40 (0o000001764000 ∷ 0o600003000007 ∷ []))
 
 abbrev pub at_packed : State (List ℕ)
 at_packed = record { regs = at_instruction 1 0 0; store = packed_core }
 
 abbrev pub PackedPointerWithAWrongBitNumber : Type 0
 PackedPointerWithAWrongBitNumber =
-    (outcome_of_step at_packed ≡ faults 5 (at_word 1 0 0)) × (registers_after at_packed ≡ at_instruction 1 0 0)
+    (outcome_of_step at_packed ≡ faults command (at_word 1 0 0))
+    × (registers_after at_packed ≡ at_instruction 1 0 0)
 
--- A lock: `stac pr1|0` puts A into word 0 of segment 2 where it is zero, and tells so; a second one finds it taken.
+-- A lock: `stac pr1|0` puts A into word 0 of segment 2 where it is zero, and tells so; a second one
+-- finds it taken.
 abbrev pub lock_core : List ℕ
 lock_core =
-    core_of 0o200 ((0o2, 0o000000400774) ∷ (0o3, 0o000006300000) ∷ (0o4, 0o000001004444) ∷ (0o5, 0o000005300000) ∷ (0o42, 0o100000354100) ∷ [])
+    core_of 0o200
+    (segment 1 0o40 (procedure (rings 0 7 7))
+    ++ segment 2 0o100 (readable (writable (rings 4 4 4)))
+    ++ words_from 0o42 (0o100000354100 ∷ []))
 
 abbrev pub at_lock : State (List ℕ)
 at_lock =
     record {
-      regs = record (at_instruction 1 4 2) { a = 0o000002000000; pr = slice_set (replicate 8 (pointer 0 0 0)) 1 (pointer 2 4 0) };
+      regs =
+          record (at_instruction 1 4 2)
+          { a = 0o000002000000; pr = slice_set (replicate 8 (pointer 0 0 0)) 1 (pointer 2 4 0) };
       store = lock_core;
     }
 
 abbrev pub at_taken_lock : State (List ℕ)
-at_taken_lock = record { regs = record at_lock.regs { a = 0o000004000000 }; store = (state_after core_store at_lock).store }
+at_taken_lock =
+    record {
+      regs = record at_lock.regs { a = 0o000004000000 };
+      store = (state_after core_store at_lock).store;
+    }
 
 abbrev pub OneTakesTheLock : Type 0
 OneTakesTheLock =
-    ((registers_after at_lock).ind.zero ≡ true) × (word_after at_lock 0o100 ≡ 0o000002000000) × ((registers_after at_taken_lock).ind.zero ≡ false) × (word_after at_taken_lock 0o100 ≡ 0o000002000000)
+    ((registers_after at_lock).ind.zero ≡ true) × (word_after at_lock 0o100 ≡ 0o000002000000)
+    × ((registers_after at_taken_lock).ind.zero ≡ false)
+    × (word_after at_taken_lock 0o100 ≡ 0o000002000000)

@@ -1,45 +1,59 @@
 -- Worked effects: sums, comparisons, products, shifts, a call of a subroutine.
-use Rattle.std.specs.Prelude.{ℕ, ◌≡◌, ◌-◌, ◌^◌, false, true, List, [], ◌∷◌, replicate, slice_set, Ok, Err}
+use Rattle.std.specs.Prelude.{ℕ, ◌≡◌, ◌++◌, ◌-◌, ◌^◌, false, true, List, [], ◌∷◌, replicate}
+use Rattle.std.specs.Prelude.{slice_set}
+use Rattle.std.specs.Prelude.{Ok, Err}
+use Rattle.m36_model.specs.Faults.{divide_check, overflow_fault}
 use Rattle.m36_model.specs.Registers.{RegsFields}
 use Rattle.m36_model.specs.Store.{State}
 use Rattle.m36_model.specs.Arithmetic.{comparison}
 use Rattle.m36_model.specs.Results.{A}
 use Rattle.m36_model.specs.Booleans.{and_of, or_of, xor_of, and_not_of}
-use Rattle.m36_model.specs.Shifts.{left_shift, left_shift_carry, copying_right_shift, plain_right_shift, rotation}
+use Rattle.m36_model.specs.Shifts.{left_shift, left_shift_carry, copying_right_shift}
+use Rattle.m36_model.specs.Shifts.{plain_right_shift, rotation}
 use Rattle.m36_model.specs.Loads.{load_complement, indicators_of}
 use Rattle.m36_model.specs.Stores.{indicators_half}
 use Rattle.m36_model.specs.Sums.{sign_extended}
 use Rattle.m36_model.specs.Products.{multiply, divide}
 use Rattle.m36_model.specs.ShiftEffects.{shift_left, shift_right, rotate_left}
-use Rattle.m36_model.specs.Worked.{core_of, at_instruction, no_indicators, at_word, faults, outcome_of_step, registers_after}
+use Rattle.m36_model.specs.Worked.{words_from, segment, rings, procedure}
+use Rattle.m36_model.specs.Worked.{core_of, at_instruction, no_indicators, at_word, faults}
+use Rattle.m36_model.specs.Worked.{outcome_of_step, registers_after}
 use Rattle.m36_model.specs.declared.outcome.Outcome.TheVariants.{Next}
 
 -- 400000000000 against 1: the signed value is less, and the difference, which wraps, has carry.
 abbrev pub ComparisonIsSigned : Type 0
-ComparisonIsSigned = comparison (2 ^ 35) 0o400000000000 1 ≡ record { zero = false; negative = true; carry = true }
+ComparisonIsSigned =
+    comparison (2 ^ 35) 0o400000000000 1 ≡ record { zero = false; negative = true; carry = true }
 
--- `ada 1` of A 377777777777 and 1: the sum is stored and the instruction counter moves on; then the overflow fault is given, but not
--- while the mask is on.
+-- `ada 1` of A 377777777777 and 1: the sum is stored and the instruction counter moves on; then the
+-- overflow fault is given, but not while the mask is on.
 abbrev pub sum_core : List ℕ
 sum_core =
-    core_of 0o100 ((0o2, 0o000000400004) ∷ (0o3, 0o000006300000) ∷ (0o40, 0o000001075000) ∷ (0o41, 1) ∷ [])
+    core_of 0o100
+    (segment 1 0o40 (procedure (rings 0 0 0)) ++ words_from 0o40 (0o000001075000 ∷ 1 ∷ []))
 
 abbrev pub at_sum : State (List ℕ)
 at_sum = record { regs = record (at_instruction 1 0 0) { a = 0o377777777777 }; store = sum_core }
 
 abbrev pub at_masked_sum : State (List ℕ)
-at_masked_sum = record { regs = record at_sum.regs { ind = record no_indicators { mask = true } }; store = sum_core }
+at_masked_sum =
+    record {
+      regs = record at_sum.regs { ind = record no_indicators { mask = true } };
+      store = sum_core;
+    }
 
 abbrev pub OverflowStoresAndFaults : Type 0
 OverflowStoresAndFaults =
-    (outcome_of_step at_sum ≡ faults 13 (at_word 1 0 0)) × (registers_after at_sum ≡ record (at_instruction 1 0 1) {
+    (outcome_of_step at_sum ≡ faults overflow_fault (at_word 1 0 0))
+    × (registers_after at_sum ≡ record (at_instruction 1 0 1) {
       a = 0o400000000000;
       ind = record no_indicators { negative = true; overflow = true };
     })
 
 abbrev pub MaskedOverflowGoesOn : Type 0
 MaskedOverflowGoesOn =
-    (outcome_of_step at_masked_sum ≡ Next) × (registers_after at_masked_sum ≡ record (at_instruction 1 0 1) {
+    (outcome_of_step at_masked_sum ≡ Next)
+    × (registers_after at_masked_sum ≡ record (at_instruction 1 0 1) {
       a = 0o400000000000;
       ind = record no_indicators { negative = true; overflow = true; mask = true };
     })
@@ -72,13 +86,15 @@ SquareOfTheLeastNumber = multiply 0o400000000000 (with_q 0o400000000000) ≡ Ok 
 
 abbrev pub QuotientIsCutTowardZero : Type 0
 QuotientIsCutTowardZero = divide 0o777777777775 (with_q 7) ≡ Ok (record {
-  regs = record (at_instruction 1 0 1) { a = 1; q = 0o777777777776; ind = record no_indicators { negative = true } };
+  regs =
+      record (at_instruction 1 0 1)
+      { a = 1; q = 0o777777777776; ind = record no_indicators { negative = true } };
   put = [];
   overflow = false;
 })
 
 abbrev pub DivisionByZeroIsRefused : Type 0
-DivisionByZeroIsRefused = divide 0 (with_q 7) ≡ Err 14
+DivisionByZeroIsRefused = divide 0 (with_q 7) ≡ Err divide_check
 
 -- shifts by 1
 abbrev pub LeftShiftSetsCarry : Type 0
@@ -93,7 +109,9 @@ LeftShiftSetsCarry = shift_left A 1 (with_a 0o200000000000) ≡ Ok (record {
 
 abbrev pub RightShiftCopiesTheSign : Type 0
 RightShiftCopiesTheSign = shift_right A 1 (with_a 0o400000000000) ≡ Ok (record {
-  regs = record (at_instruction 1 0 1) { a = 0o600000000000; ind = record no_indicators { negative = true } };
+  regs =
+      record (at_instruction 1 0 1)
+      { a = 0o600000000000; ind = record no_indicators { negative = true } };
   put = [];
   overflow = false;
 })
@@ -107,33 +125,53 @@ RotationComesRound = rotate_left A 1 (with_a 0o400000000001) ≡ Ok (record {
 
 -- `tsx1 5` at word 3 leaves the word of the next instruction in X1
 abbrev pub subroutine_core : List ℕ
-subroutine_core = core_of 0o100 ((0o2, 0o000000400004) ∷ (0o3, 0o000006300000) ∷ (0o43, 0o000005701000) ∷ [])
+subroutine_core =
+    core_of 0o100
+    (segment 1 0o40 (procedure (rings 0 0 0)) ++ words_from 0o43 (0o000005701000 ∷ []))
 
 abbrev pub at_subroutine : State (List ℕ)
 at_subroutine = record { regs = at_instruction 1 0 3; store = subroutine_core }
 
 abbrev pub TransferSetsTheIndex : Type 0
-TransferSetsTheIndex = registers_after at_subroutine ≡ record (at_instruction 1 0 5) { x = slice_set (replicate 8 0) 1 4 }
+TransferSetsTheIndex =
+    registers_after at_subroutine
+    ≡ record (at_instruction 1 0 5) { x = slice_set (replicate 8 0) 1 4 }
 
 -- 14 and 12 in octal, bit by bit
 abbrev pub BooleansGoBitByBit : Type 0
 BooleansGoBitByBit =
-    (and_of 36 0o14 0o12 ≡ 0o10) × (or_of 36 0o14 0o12 ≡ 0o16) × (xor_of 36 0o14 0o12 ≡ 0o6) × (and_not_of 36 0o14 0o12 ≡ 0o4) × (and_of 72 0o200000000000000000000000 (2 ^ 72 - 1) ≡ 0o200000000000000000000000)
+    (and_of 36 0o14 0o12 ≡ 0o10) × (or_of 36 0o14 0o12 ≡ 0o16) × (xor_of 36 0o14 0o12 ≡ 0o6)
+    × (and_not_of 36 0o14 0o12 ≡ 0o4)
+    × (and_of 72 0o200000000000000000000000 (2 ^ 72 - 1) ≡ 0o200000000000000000000000)
 
--- shifts of 72 bits by more than a word: the one bit of Q goes into A, and back; nothing is left after 72 or more
+-- shifts of 72 bits by more than a word: the one bit of Q goes into A, and back; nothing is left
+-- after 72 or more
 abbrev pub LongShiftsCrossTheWords : Type 0
 LongShiftsCrossTheWords =
-    (left_shift 72 1 36 ≡ 2 ^ 36) × (plain_right_shift (2 ^ 36) 36 ≡ 1) × (left_shift 72 1 127 ≡ 0) × (copying_right_shift 72 (2 ^ 71) 127 ≡ 2 ^ 72 - 1) × (rotation 72 1 73 ≡ 2) × (left_shift_carry 36 0o777777777777 35 ≡ false) × (left_shift_carry 36 0o777777777777 36 ≡ true) × (left_shift_carry 36 0o400000000000 0 ≡ false)
+    (left_shift 72 1 36 ≡ 2 ^ 36) × (plain_right_shift (2 ^ 36) 36 ≡ 1) × (left_shift 72 1 127 ≡ 0)
+    × (copying_right_shift 72 (2 ^ 71) 127 ≡ 2 ^ 72 - 1) × (rotation 72 1 73 ≡ 2)
+    × (left_shift_carry 36 0o777777777777 35 ≡ false)
+    × (left_shift_carry 36 0o777777777777 36 ≡ true)
+    × (left_shift_carry 36 0o400000000000 0 ≡ false)
 
 -- -1 as a word is -1 as a pair
 abbrev pub SignIsExtended : Type 0
-SignIsExtended = (sign_extended 0o777777777777 ≡ 2 ^ 72 - 1) × (sign_extended 0o377777777777 ≡ 0o377777777777)
+SignIsExtended =
+    (sign_extended 0o777777777777 ≡ 2 ^ 72 - 1) × (sign_extended 0o377777777777 ≡ 0o377777777777)
 
 -- Each indicator has its bit, where LDI loads it and where STI stores it.
 abbrev pub IndicatorsAreLoaded : Type 0
 IndicatorsAreLoaded =
-    (indicators_of 0o400000 ≡ record no_indicators { zero = true }) × (indicators_of 0o200000 ≡ record no_indicators { negative = true }) × (indicators_of 0o100000 ≡ record no_indicators { carry = true }) × (indicators_of 0o040000 ≡ record no_indicators { overflow = true }) × (indicators_of 0o004000 ≡ record no_indicators { mask = true }) × (indicators_of 0o002000 ≡ record no_indicators { tally = true })
+    (indicators_of 0o400000 ≡ record no_indicators { zero = true })
+    × (indicators_of 0o200000 ≡ record no_indicators { negative = true })
+    × (indicators_of 0o100000 ≡ record no_indicators { carry = true })
+    × (indicators_of 0o040000 ≡ record no_indicators { overflow = true })
+    × (indicators_of 0o004000 ≡ record no_indicators { mask = true })
+    × (indicators_of 0o002000 ≡ record no_indicators { tally = true })
 
 abbrev pub IndicatorsAreStored : Type 0
 IndicatorsAreStored =
-    (indicators_half (record no_indicators { zero = true; negative = true; carry = true }) ≡ 0o700000) × (indicators_half (record no_indicators { overflow = true; mask = true; tally = true }) ≡ 0o046000)
+    (indicators_half (record no_indicators { zero = true; negative = true; carry = true })
+    ≡ 0o700000)
+    × (indicators_half (record no_indicators { overflow = true; mask = true; tally = true })
+    ≡ 0o046000)

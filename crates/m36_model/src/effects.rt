@@ -79,7 +79,8 @@ pub struct Effect36 {
 }
 
 impl Effect36 {
-    ghost use Rattle.m36_model.specs.Results.{words_of_held, effect_fields, completes, completes_with};
+    ghost use Rattle.m36_model.specs.Results.{words_of_held, effect_fields, completes};
+    ghost use Rattle.m36_model.specs.Results.{completes_with};
 
     /// An effect that leaves these registers, but for the instruction counter, which moves on to the next instruction.
     pub fn completed(regs: Regs) -> Effect36

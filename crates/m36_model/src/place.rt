@@ -54,7 +54,8 @@ pub struct Reference {
 impl Default for Reference {
     /// What fills the places of a list that hold no reference yet.
     fn default() -> Reference
-        ensures { result ≡ record { at = record { seg = 0; word = 0; ring = 0 }; kind = Kind.Fetch; count = 1 } }
+        ensures { result
+            ≡ record { at = record { seg = 0; word = 0; ring = 0 }; kind = Kind.Fetch; count = 1 } }
     {
         Reference {
             at: At {

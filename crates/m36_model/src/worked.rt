@@ -1,8 +1,30 @@
 //! Steps worked out by hand, each computed from the definitions.
 
-ghost use Rattle.m36_model.specs.WorkedAddresses.{LoadReadsItsWord, StopFollows, LastWordOfTheBoundIsRead, WordPastTheBoundIsNot, PairTakesTheBracketOfItsSegment, SeventeenthIndirectWordLocksUp, SixteenIndirectWordsAreServed, IndexIsHeldOverTheIndirectWord, TallyWordsCount, LoadSeesTheNewTallyWord, StoreComesAfterTheTallyWord, RefusedTallyWordChangesNothing, DirectOperandIsTheAddress, DirectOperandsAreRefused, TagsOfTheInstruction, FaultTagTakesTheBracketOfItsSegment};
-ghost use Rattle.m36_model.specs.WorkedCalls.{CallThroughAGate, CallPastTheLimiter, CallFromAboveTheBracket, OutwardCall, CallWithRaisedRing, CallWithinTheRing, ReturnTakesThePairsRing, ReturnTakesTheGreatestRing, PackedPointerWithAWrongBitNumber, OneTakesTheLock};
-ghost use Rattle.m36_model.specs.WorkedEffects.{ComparisonIsSigned, OverflowStoresAndFaults, MaskedOverflowGoesOn, LeastNumberHasNoNegative, SquareOfTheLeastNumber, QuotientIsCutTowardZero, DivisionByZeroIsRefused, LeftShiftSetsCarry, RightShiftCopiesTheSign, RotationComesRound, TransferSetsTheIndex, BooleansGoBitByBit, LongShiftsCrossTheWords, SignIsExtended, IndicatorsAreLoaded, IndicatorsAreStored};
+ghost use Rattle.m36_model.specs.WorkedAddresses.{LoadReadsItsWord, StopFollows};
+ghost use Rattle.m36_model.specs.WorkedAddresses.{LastWordOfTheBoundIsRead, WordPastTheBoundIsNot};
+ghost use Rattle.m36_model.specs.WorkedAddresses.{PairTakesTheBracketOfItsSegment};
+ghost use Rattle.m36_model.specs.WorkedAddresses.{SeventeenthIndirectWordLocksUp};
+ghost use Rattle.m36_model.specs.WorkedAddresses.{SixteenIndirectWordsAreServed};
+ghost use Rattle.m36_model.specs.WorkedAddresses.{IndexIsHeldOverTheIndirectWord, TallyWordsCount};
+ghost use Rattle.m36_model.specs.WorkedAddresses.{LoadSeesTheNewTallyWord};
+ghost use Rattle.m36_model.specs.WorkedAddresses.{StoreComesAfterTheTallyWord};
+ghost use Rattle.m36_model.specs.WorkedAddresses.{RefusedTallyWordChangesNothing};
+ghost use Rattle.m36_model.specs.WorkedAddresses.{DirectOperandIsTheAddress};
+ghost use Rattle.m36_model.specs.WorkedAddresses.{DirectOperandsAreRefused, TagsOfTheInstruction};
+ghost use Rattle.m36_model.specs.WorkedAddresses.{FaultTagTakesTheBracketOfItsSegment};
+ghost use Rattle.m36_model.specs.WorkedCalls.{CallThroughAGate, CallPastTheLimiter};
+ghost use Rattle.m36_model.specs.WorkedCalls.{CallFromAboveTheBracket, OutwardCall};
+ghost use Rattle.m36_model.specs.WorkedCalls.{CallWithRaisedRing, CallWithinTheRing};
+ghost use Rattle.m36_model.specs.WorkedCalls.{ReturnTakesThePairsRing, ReturnTakesTheGreatestRing};
+ghost use Rattle.m36_model.specs.WorkedCalls.{PackedPointerWithAWrongBitNumber, OneTakesTheLock};
+ghost use Rattle.m36_model.specs.WorkedEffects.{ComparisonIsSigned, OverflowStoresAndFaults};
+ghost use Rattle.m36_model.specs.WorkedEffects.{MaskedOverflowGoesOn, LeastNumberHasNoNegative};
+ghost use Rattle.m36_model.specs.WorkedEffects.{SquareOfTheLeastNumber, QuotientIsCutTowardZero};
+ghost use Rattle.m36_model.specs.WorkedEffects.{DivisionByZeroIsRefused, LeftShiftSetsCarry};
+ghost use Rattle.m36_model.specs.WorkedEffects.{RightShiftCopiesTheSign, RotationComesRound};
+ghost use Rattle.m36_model.specs.WorkedEffects.{TransferSetsTheIndex, BooleansGoBitByBit};
+ghost use Rattle.m36_model.specs.WorkedEffects.{LongShiftsCrossTheWords, SignIsExtended};
+ghost use Rattle.m36_model.specs.WorkedEffects.{IndicatorsAreLoaded, IndicatorsAreStored};
 
 /// Each worked step is what the definitions compute.
 pub fn worked_steps()

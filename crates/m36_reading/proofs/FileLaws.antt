@@ -5,9 +5,7 @@ use Rattle.std.proofs.lemmas.Bool.{le-ltb, lt-ltb}
 use Rattle.m36_text.specs.Packing.{unpacked}
 use Rattle.m36_text.specs.declared.packing.PackFault.{PackFault}
 use Rattle.m36_text.specs.declared.packing.PackFault.TheVariants as pack
-use Rattle.obj36.specs.PartsFields.{PartsFields}
-use Rattle.obj36.specs.ObjectSegment.{Stands}
-use Rattle.obj36.specs.Faults.{ReadSays, IsRefused}
+use Rattle.obj36_parts.specs.PartsFields.{PartsFields}
 use Rattle.obj36.specs.declared.fault.ObjectFault.{ObjectFault}
 use Rattle.obj36.specs.declared.fault.ObjectFault.TheVariants as fault
 use Rattle.m36_reading.specs.declared.status.Code.TheVariants as code
@@ -15,9 +13,8 @@ use Rattle.m36_reading.specs.declared.refusal.Refusal.{Refusal}
 use Rattle.m36_reading.specs.declared.refusal.Refusal.TheVariants.{BadFile, ReadFault, NoMemory}
 use Rattle.m36_reading.specs.Reading.{Early}
 use Rattle.m36_reading.specs.Asking.{Gives, Refuses}
-use Rattle.m36_reading.specs.ObjectOf.{object_of}
+use Rattle.obj36.specs.ObjectOf.{object_of, IsObjectOf}
 use Rattle.m36_reading.specs.Readers.{refused, sized, words_by, object_refused, object_by}
-use Rattle.m36_reading.proofs.Objects.{object_is, no_object_is}
 use Rattle.m36_reading.proofs.ReadLaws.{gives_by, memory_given}
 
 -- more words than an object has, or not
@@ -51,19 +48,21 @@ place_refused name place given r is refuses = gives_by (List ℕ) r (refused nam
 pub ruleset unpacking = (words_given, count_refused, place_refused)
 
 -- words that are an object
-pub object_given : (name words : List ℕ) (parts : PartsFields) → Stands parts words → Gives (Ok parts) (object_by name (object_of words))
-object_given name words parts stands = ap (object_by name) (object_is words parts stands)
+pub object_given :
+    (name words : List ℕ) (parts : PartsFields)
+    → IsObjectOf words (Ok parts) → Gives (Ok parts) (object_by name (object_of words))
+object_given name words parts is = ap (object_by name) is
 
 -- and words that are none
 none_given :
     (name words : List ℕ) (f : ObjectFault) (r : Refusal)
-    → IsRefused words f → Refuses r (object_refused name f) → Gives (Err r) (object_by name (object_of words))
+    → object_of words ≡ Err f → Refuses r (object_refused name f) → Gives (Err r) (object_by name (object_of words))
 none_given name words f r is refuses =
-    gives_by PartsFields r (object_refused name f) (object_by name (object_of words)) (ap (object_by name) (no_object_is words f is)) refuses
+    gives_by PartsFields r (object_refused name f) (object_by name (object_of words)) (ap (object_by name) is) refuses
 
 pub object_none :
     (name words : List ℕ) (f : ObjectFault) (r : Refusal)
-    → ReadSays words (Err f) → Refuses r (object_refused name f) → Gives (Err r) (object_by name (object_of words))
+    → IsObjectOf words (Err f) → Refuses r (object_refused name f) → Gives (Err r) (object_by name (object_of words))
 object_none name words (fault.O1 at) r is refuses = none_given name words (fault.O1 at) r is refuses
 object_none name words (fault.O2 at) r is refuses = none_given name words (fault.O2 at) r is refuses
 object_none name words (fault.O3 at) r is refuses = none_given name words (fault.O3 at) r is refuses

@@ -1,4 +1,3 @@
-pub mod Objects
 pub mod Comings
 pub mod ReadLaws
 pub mod FileLaws

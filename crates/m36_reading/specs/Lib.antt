@@ -1,7 +1,6 @@
 pub mod Names
 pub mod Reading
 pub mod Asking
-pub mod ObjectOf
 pub mod Readers
 pub mod Answers
 pub mod Outside

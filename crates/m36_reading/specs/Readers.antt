@@ -3,7 +3,7 @@ use Rattle.std.specs.Prelude.{ℕ, nat_lt, if◌then◌else◌, List, length, Re
 use Rattle.m36_text.specs.Packing.{unpacked}
 use Rattle.m36_text.specs.declared.packing.PackFault.{PackFault}
 use Rattle.m36_text.specs.declared.packing.PackFault.TheVariants as pack
-use Rattle.obj36.specs.PartsFields.{PartsFields}
+use Rattle.obj36_parts.specs.PartsFields.{PartsFields}
 use Rattle.obj36.specs.declared.fault.ObjectFault.{ObjectFault}
 use Rattle.obj36.specs.declared.fault.ObjectFault.TheVariants as fault
 use Rattle.m36_reading.specs.declared.status.Bad.{Bad}
@@ -12,7 +12,7 @@ use Rattle.m36_reading.specs.declared.status.Code.TheVariants as code
 use Rattle.m36_reading.specs.declared.refusal.Refusal.{Refusal}
 use Rattle.m36_reading.specs.declared.refusal.Refusal.TheVariants.{BadFile, ReadFault, NoMemory}
 use Rattle.m36_reading.specs.Reading.{Found, Content, Absent, TooLarge, Reading, decided, asks, Early, then_with}
-use Rattle.m36_reading.specs.ObjectOf.{object_of}
+use Rattle.obj36.specs.ObjectOf.{object_of}
 
 -- a refused file by its name, a code, a place and a column
 abbrev pub refused_at : List ℕ → Code → ℕ → ℕ → Refusal

@@ -4,7 +4,7 @@ ghost use Rattle.std.specs.Prelude.{◌≡◌, ◌≤◌, ◌<◌, ◌^◌, leng
 ghost use Rattle.m36_outside.specs.ReadAnswer.{file_limit};
 ghost use Rattle.m36_text.specs.Packing.{unpacked};
 ghost use Rattle.m36_reading.specs.Asking.{Gives, Refuses};
-ghost use Rattle.m36_reading.specs.ObjectOf.{object_of};
+ghost use Rattle.obj36.specs.ObjectOf.{object_of};
 ghost use Rattle.m36_reading.specs.Readers.{refused, sized, refused_at, words_by, object_refused, object_by, file_bytes, file_words, file_object};
 ghost use Rattle.m36_reading.specs.Outside.{folder_of};
 ghost use Rattle.m36_reading.specs.Doing.{Reads};

@@ -37,14 +37,27 @@ end_of t =
 -- the end that the code gives, with the registers as it leaves them
 abbrev pub given_end : List ℕ → List Reference → RegsFields → Ended → End
 given_end core refs after e =
-    record { word = e.word; at = e.at; after = after; outcome = e.outcome; refs = refs; core = core }
+    record {
+      word = e.word;
+      at = e.at;
+      after = after;
+      outcome = e.outcome;
+      refs = refs;
+      core = core;
+    }
 
--- A program over core, in a step that has completed these references and claimed nothing, ends as the code does.
-abbrev pub EndsSo : RegsFields → Act Ending → List ℕ → List Reference → List ℕ → List Reference → RegsFields → Ended → Type 0
+-- A program over core, in a step that has completed these references and claimed nothing, ends as
+-- the code does.
+abbrev pub EndsSo :
+    RegsFields → Act Ending → List ℕ → List Reference → List ℕ → List Reference → RegsFields → Ended
+    → Type 0
 EndsSo g program core refs core' refs' g' e =
     end_of (run core_store g program (standing core [] refs)) ≡ given_end core' refs' g' e
 
 -- The same once the address is formed: the step has claimed the word of the tally, if there is one.
-abbrev pub EndsFormed : RegsFields → Act Ending → List ℕ → Formed → List Reference → List ℕ → List Reference → RegsFields → Ended → Type 0
+abbrev pub EndsFormed :
+    RegsFields → Act Ending → List ℕ → Formed → List Reference → List ℕ → List Reference
+    → RegsFields → Ended → Type 0
 EndsFormed g program core f refs core' refs' g' e =
-    end_of (run core_store g program (standing core (claimed_by f.tally f.place) refs)) ≡ given_end core' refs' g' e
+    end_of (run core_store g program (standing core (claimed_by f.tally f.place) refs))
+    ≡ given_end core' refs' g' e

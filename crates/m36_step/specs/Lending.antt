@@ -7,4 +7,5 @@ use Rattle.m36_step.specs.contracts.machine.Machine as machine
 
 -- The machine ends with core as it was last left, and with its registers.
 abbrev pub LendsCore : MutBor (State (List ℕ)) → MutBor (List ℕ) → Fml
-LendsCore m r = Lends machine.the_row core.the_row m r (λ c. record { regs = m.now.regs; store = c })
+LendsCore m r =
+    Lends machine.the_row core.the_row m r (λ c. record { regs = m.now.regs; store = c })

@@ -1,4 +1,5 @@
--- An operation: what the program of an operand and its effect gives over core, and the words that it leaves to be written.
+-- An operation: what the program of an operand and its effect gives over core, and the words that
+-- it leaves to be written.
 use Rattle.std.specs.Prelude.{ℕ, ◌<◌, ◌^◌, List, ◌++◌, length, Option, Some, None, Result, Ok, Err}
 use Rattle.m36_inst.specs.declared.effect.Effect.{Effect}
 use Rattle.m36_model.specs.Act.{Part, Whole, Left, Right, Put}
@@ -36,20 +37,28 @@ claims_of f put o = claimed_by f.tally f.place ++ run_from o.place (length (word
 
 -- what is written there
 abbrev pub puts_of : Formed → Held → Operated → List Put
-puts_of f put o = pending_of f.tally ++ puts_from (part_of o.part) (length (claimed_by f.tally f.place)) (words_of_held put)
+puts_of f put o =
+    pending_of f.tally
+    ++ puts_from (part_of o.part) (length (claimed_by f.tally f.place)) (words_of_held put)
 
 -- with the registers as the effect leaves them
 abbrev pub performed_by : Formed → RegsFields → Held → Operated → Performed
 performed_by f g put o = record { regs = g; puts = puts_of f put o; overflow = o.overflow }
 
 -- the program of an operation over core, once the address is formed
-abbrev pub operation_from : Effect → ℕ → RegsFields → Formed → List ℕ → List Reference → Ran (Result Performed Halt) (List ℕ)
-operation_from e n g f core refs = run core_store g (operate e n g (chain_end_fields f)) (formed_mid core f refs)
+abbrev pub operation_from :
+    Effect → ℕ → RegsFields → Formed → List ℕ → List Reference
+    → Ran (Result Performed Halt) (List ℕ)
+operation_from e n g f core refs =
+    run core_store g (operate e n g (chain_end_fields f)) (formed_mid core f refs)
 
--- How an answer of the code ends it, with the registers as they then stand and the words that are to be written. Where it is
--- refused, nothing more is claimed.
-abbrev pub operated_end : List ℕ → List Reference → Formed → RegsFields → Held → Result Operated Halt → Ran (Result Performed Halt) (List ℕ)
-operated_end core refs f g put (Ok o) = record { value = Ok (performed_by f g put o); mid = standing core (claims_of f put o) refs }
+-- How an answer of the code ends it, with the registers as they then stand and the words that are
+-- to be written. Where it is refused, nothing more is claimed.
+abbrev pub operated_end :
+    List ℕ → List Reference → Formed → RegsFields → Held → Result Operated Halt
+    → Ran (Result Performed Halt) (List ℕ)
+operated_end core refs f g put (Ok o) =
+    record { value = Ok (performed_by f g put o); mid = standing core (claims_of f put o) refs }
 operated_end core refs f g put (Err h) = record { value = Err h; mid = formed_mid core f refs }
 
 -- the tally word lies in core

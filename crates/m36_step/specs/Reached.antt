@@ -4,6 +4,7 @@ use Rattle.m36_inst.specs.Operands.{operand_of, takes_direct}
 use Rattle.m36_inst.specs.declared.effect.Effect.{Effect}
 use Rattle.m36_inst.specs.declared.operand.Operand.{Operand}
 use Rattle.m36_inst.specs.declared.operand.Operand.TheVariants as kind
+use Rattle.m36_model.specs.Faults.{illegal_procedure}
 use Rattle.m36_model.specs.Chain.{chain_end_fields, claimed_by}
 use Rattle.m36_model.specs.Core.{core_store}
 use Rattle.m36_model.specs.Registers.{RegsFields}
@@ -25,28 +26,40 @@ use Rattle.m36_step.specs.declared.operated.Part.TheVariants as part
 use Rattle.m36_step.specs.declared.operated.Reached.{Reached}
 
 -- the program of an operation over core, from where the address is formed
-abbrev pub ran_from : RegsFields → Operation → Formed → List ℕ → List Reference → Ran (Result Performed Halt) (List ℕ)
+abbrev pub ran_from :
+    RegsFields → Operation → Formed → List ℕ → List Reference → Ran (Result Performed Halt) (List ℕ)
 ran_from g program f core refs = run core_store g program (formed_mid core f refs)
 
 -- where the operand is refused, the program ends
-abbrev pub refused_end : Formed → List ℕ → List Reference → Fault → Ran (Result Performed Halt) (List ℕ)
-refused_end f core refs fault = record { value = Err (halt.Fault fault); mid = formed_mid core f refs }
+abbrev pub refused_end :
+    Formed → List ℕ → List Reference → Fault → Ran (Result Performed Halt) (List ℕ)
+refused_end f core refs fault =
+    record { value = Err (halt.Fault fault); mid = formed_mid core f refs }
 
 -- Nothing is to be written: the effect follows.
-abbrev pub unwritten_end : Effect → ℕ → RegsFields → Formed → List ℕ → List Reference → Operand36 → Result Reached Fault → Ran (Result Performed Halt) (List ℕ)
+abbrev pub unwritten_end :
+    Effect → ℕ → RegsFields → Formed → List ℕ → List Reference → Operand36 → Result Reached Fault
+    → Ran (Result Performed Halt) (List ℕ)
 unwritten_end e n g f core refs o (Ok u) =
-    ran_from g (perform e n g (chain_end_fields f) (part_of u.part) 0 (operand_fields o)) f core refs
+    ran_from g (perform e n g (chain_end_fields f) (part_of u.part) 0 (operand_fields o)) f core
+    refs
 unwritten_end e n g f core refs o (Err fault) = refused_end f core refs fault
 
 -- So many words are to be written, and their places are claimed behind that of the tally word.
-abbrev pub written_end : Effect → ℕ → RegsFields → Formed → ℕ → List ℕ → List Reference → Operand36 → Result Reached Fault → Ran (Result Performed Halt) (List ℕ)
+abbrev pub written_end :
+    Effect → ℕ → RegsFields → Formed → ℕ → List ℕ → List Reference → Operand36
+    → Result Reached Fault → Ran (Result Performed Halt) (List ℕ)
 written_end e n g f count core refs o (Ok u) =
-    run core_store g (perform e n g (chain_end_fields f) (part_of u.part) (length (claimed_by f.tally f.place)) (operand_fields o))
+    run core_store g
+    (perform e n g (chain_end_fields f) (part_of u.part) (length (claimed_by f.tally f.place))
+    (operand_fields o))
     (standing core (claimed_by f.tally f.place ++ run_from u.place count) refs)
 written_end e n g f count core refs o (Err fault) = refused_end f core refs fault
 
 -- by operand kind
-abbrev pub reached_end : Effect → ℕ → RegsFields → Formed → Operand → List ℕ → List Reference → Operand36 → Result Reached Fault → Ran (Result Performed Halt) (List ℕ)
+abbrev pub reached_end :
+    Effect → ℕ → RegsFields → Formed → Operand → List ℕ → List Reference → Operand36
+    → Result Reached Fault → Ran (Result Performed Halt) (List ℕ)
 reached_end e n g f kind.W core refs o u = written_end e n g f 1 core refs o u
 reached_end e n g f kind.W2 core refs o u = written_end e n g f 2 core refs o u
 reached_end e n g f kind.W16 core refs o u = written_end e n g f 16 core refs o u
@@ -57,13 +70,19 @@ reached_end e n g f kind.Rwl core refs o u = written_end e n g f 1 core refs o u
 reached_end e n g f _ core refs o u = unwritten_end e n g f core refs o u
 
 -- A program that references its operand goes on as the code does, whatever the instruction.
-abbrev pub Reads : (Effect → ℕ → Operation) → RegsFields → Formed → List ℕ → List Reference → List ℕ → List Reference → Operand36 → Result Reached Fault → Type 0
+abbrev pub Reads :
+    (Effect → ℕ → Operation) → RegsFields → Formed → List ℕ → List Reference → List ℕ
+    → List Reference → Operand36 → Result Reached Fault → Type 0
 Reads program g f core refs core' refs' o u =
-    (e : Effect) (n : ℕ) → ran_from g (program e n) f core refs ≡ unwritten_end e n g f core' refs' o u
+    (e : Effect) (n : ℕ)
+    → ran_from g (program e n) f core refs ≡ unwritten_end e n g f core' refs' o u
 
-abbrev pub Writes : (Effect → ℕ → Operation) → RegsFields → Formed → ℕ → List ℕ → List Reference → List ℕ → List Reference → Operand36 → Result Reached Fault → Type 0
+abbrev pub Writes :
+    (Effect → ℕ → Operation) → RegsFields → Formed → ℕ → List ℕ → List Reference → List ℕ
+    → List Reference → Operand36 → Result Reached Fault → Type 0
 Writes program g f count core refs core' refs' o u =
-    (e : Effect) (n : ℕ) → ran_from g (program e n) f core refs ≡ written_end e n g f count core' refs' o u
+    (e : Effect) (n : ℕ)
+    → ran_from g (program e n) f core refs ≡ written_end e n g f count core' refs' o u
 
 -- which part an operand kind writes
 abbrev pub part_for : Operand → code.Part
@@ -75,7 +94,7 @@ part_for _ = part.Whole
 -- A direct operand is given to the effect as it stands, where the instruction takes it.
 abbrev pub takes_word : Effect → RegsFields → ℕ → Bool → Result OperandFields Fault
 takes_word e g w true = Ok (record { got = direct_word (operand_of e) w; ring = 0; place = 0 })
-takes_word e g w false = Err (record { at = here g; number = 10; acv = 0 })
+takes_word e g w false = Err (record { at = here g; number = illegal_procedure; acv = 0 })
 
 abbrev pub fields_reached : Operand36 → Result Reached Fault → Result OperandFields Fault
 fields_reached o (Ok u) = Ok (operand_fields o)

@@ -1,4 +1,5 @@
--- How core serves the references of an operand, at the end of an address chain that has claimed its tally word alone.
+-- How core serves the references of an operand, at the end of an address chain that has claimed its
+-- tally word alone.
 use Rattle.std.specs.Prelude.{ℕ, ◌≡◌, List, [], ◌++◌, length, Result, Ok, Err}
 use Rattle.m36_desc.specs.Fields.{SdwFields}
 use Rattle.m36_model.specs.Act.{Read, Write}
@@ -16,27 +17,48 @@ use Rattle.m36_walk.specs.Served.{standing, sdw_in}
 use Rattle.m36_step.specs.Operated.{formed_mid}
 
 -- words that are read, or the refusal
-abbrev pub read_served : SdwFields → List ℕ → Formed → List Reference → Result (List ℕ) Fault → Served (List ℕ)
+abbrev pub read_served :
+    SdwFields → List ℕ → Formed → List Reference → Result (List ℕ) Fault → Served (List ℕ)
 read_served d core f refs (Ok words) =
     record {
-      reply = Ok (record { sdw = d; words = words; first = length (claimed_by f.tally f.place); place = 0 });
+      reply =
+          Ok (record {
+            sdw = d;
+            words = words;
+            first = length (claimed_by f.tally f.place);
+            place = 0;
+          });
       mid = formed_mid core f refs;
     }
 read_served d core f refs (Err fault) = record { reply = Err fault; mid = formed_mid core f refs }
 
-abbrev pub ServesRead : RegsFields → Formed → ℕ → Memory → List Reference → List ℕ → List Reference → Result (List ℕ) Fault → Type 0
+abbrev pub ServesRead :
+    RegsFields → Formed → ℕ → Memory → List Reference → List ℕ → List Reference
+    → Result (List ℕ) Fault → Type 0
 ServesRead g f count m refs core refs' words =
-    serve core_store g (formed_mid m.core f refs) (request_at Read (chain_end_fields f) count) ≡ read_served (sdw_in m f.last.at.seg) core f refs' words
+    serve core_store g (formed_mid m.core f refs) (request_at Read (chain_end_fields f) count)
+    ≡ read_served (sdw_in m f.last.at.seg) core f refs' words
 
 -- words that are to be written, by the place of the first, or the refusal
-abbrev pub write_served : SdwFields → List ℕ → Formed → ℕ → List Reference → Result ℕ Fault → Served (List ℕ)
+abbrev pub write_served :
+    SdwFields → List ℕ → Formed → ℕ → List Reference → Result ℕ Fault → Served (List ℕ)
 write_served d core f count refs (Ok place) =
     record {
-      reply = Ok (record { sdw = d; words = []; first = length (claimed_by f.tally f.place); place = 0 });
+      reply =
+          Ok (record {
+            sdw = d;
+            words = [];
+            first = length (claimed_by f.tally f.place);
+            place = 0;
+          });
       mid = standing core (claimed_by f.tally f.place ++ run_from place count) refs;
     }
-write_served d core f count refs (Err fault) = record { reply = Err fault; mid = formed_mid core f refs }
+write_served d core f count refs (Err fault) =
+    record { reply = Err fault; mid = formed_mid core f refs }
 
-abbrev pub ServesWrite : RegsFields → Formed → ℕ → Memory → List Reference → List ℕ → List Reference → Result ℕ Fault → Type 0
+abbrev pub ServesWrite :
+    RegsFields → Formed → ℕ → Memory → List Reference → List ℕ → List Reference → Result ℕ Fault
+    → Type 0
 ServesWrite g f count m refs core refs' place =
-    serve core_store g (formed_mid m.core f refs) (request_at Write (chain_end_fields f) count) ≡ write_served (sdw_in m f.last.at.seg) core f count refs' place
+    serve core_store g (formed_mid m.core f refs) (request_at Write (chain_end_fields f) count)
+    ≡ write_served (sdw_in m f.last.at.seg) core f count refs' place

@@ -85,7 +85,9 @@ fn execute_pointer(
     requires group { IsTrue (is_pointer row.now.effect) }
     requires reg { row.now.reg < 8 }
     requires got { HoldsFor (operand_of row.now.effect) operand.now.got }
-    ensures value { LeavesSo regs.old regs.new put.new result (refused_here regs.old (exec row.now.effect row.now.reg regs.old last.now (operand_fields operand.now))) }
+    ensures value { LeavesSo regs.old regs.new put.new result
+        (refused_here regs.old
+        (exec row.now.effect row.now.reg regs.old last.now (operand_fields operand.now))) }
     ensures put { IfOk result (λ o. PutsFor (operand_of row.now.effect) (words_of_held put.new)) }
 {
     match m36_xptr::exec(row, regs, last, *operand) {
@@ -102,7 +104,9 @@ fn execute_pointer(
 /// `execute_control`, whose answer has all registers.
 fn execute_transfer(row: &Row, regs: &mut Regs, last: &Final, put: &mut Held) -> bool
     requires group { IsTrue (is_transfer row.now.effect) }
-    ensures value { (o : OperandFields) → Ok (record { regs = regs.new; put = words_of_held put.new; overflow = result }) ≡ refused_here regs.old (exec row.now.effect row.now.reg regs.old last.now o) }
+    ensures value { (o : OperandFields)
+        → Ok (record { regs = regs.new; put = words_of_held put.new; overflow = result })
+        ≡ refused_here regs.old (exec row.now.effect row.now.reg regs.old last.now o) }
     ensures put { PutsFor (operand_of row.now.effect) (words_of_held put.new) }
 {
     m36_xfer::transfer(row.effect, regs, last);
@@ -121,7 +125,9 @@ fn execute_control(
     requires group { IsTrue (is_control row.now.effect) }
     requires reg { row.now.reg < 8 }
     requires got { HoldsFor (operand_of row.now.effect) operand.now.got }
-    ensures value { LeavesSo regs.old regs.new put.new result (refused_here regs.old (exec row.now.effect row.now.reg regs.old last.now (operand_fields operand.now))) }
+    ensures value { LeavesSo regs.old regs.new put.new result
+        (refused_here regs.old
+        (exec row.now.effect row.now.reg regs.old last.now (operand_fields operand.now))) }
     ensures put { IfOk result (λ o. PutsFor (operand_of row.now.effect) (words_of_held put.new)) }
 {
     match m36_xfer::exec(row, regs, last, *operand) {
@@ -146,7 +152,9 @@ fn execute(
     requires addressed { operand_of row.now.effect ≢ N }
     requires reg { row.now.reg < 8 }
     requires got { HoldsFor (operand_of row.now.effect) operand.now.got }
-    ensures value { LeavesSo regs.old regs.new put.new result (refused_here regs.old (exec row.now.effect row.now.reg regs.old last.now (operand_fields operand.now))) }
+    ensures value { LeavesSo regs.old regs.new put.new result
+        (refused_here regs.old
+        (exec row.now.effect row.now.reg regs.old last.now (operand_fields operand.now))) }
     ensures put { IfOk result (λ o. PutsFor (operand_of row.now.effect) (words_of_held put.new)) }
 {
     if is_pointer(row.effect) {
@@ -173,7 +181,10 @@ pub(crate) fn effect(
     requires addressed { operand_of row.now.effect ≢ N }
     requires reg { row.now.reg < 8 }
     requires got { HoldsFor (operand_of row.now.effect) operand.now.got }
-    ensures value { LeavesSo regs.old regs.new put.new result (refused_here regs.old (exec row.now.effect row.now.reg (tallied regs.old (chain_end_fields formed.now)) formed.now.last (operand_fields operand.now))) }
+    ensures value { LeavesSo regs.old regs.new put.new result
+        (refused_here regs.old
+        (exec row.now.effect row.now.reg (tallied regs.old (chain_end_fields formed.now))
+        formed.now.last (operand_fields operand.now))) }
     ensures put { IfOk result (λ o. PutsFor (operand_of row.now.effect) (words_of_held put.new)) }
 {
     match formed.tally {

@@ -1,7 +1,8 @@
 //! The parts of a step, in order: the fetch, the instruction's row, the right to it, its address, its operation, and its
 //! words.
 
-ghost use Rattle.std.specs.Prelude.{ℕ, Some, None, ◌≡◌, ◌≢◌, ◌+◌, ◌<◌, ◌≤◌, [], ◌∷◌, ◌++◌, ◌&&◌, ◌==◌, not, length};
+ghost use Rattle.std.specs.Prelude.{ℕ, Some, None, ◌≡◌, ◌≢◌, ◌+◌, ◌<◌, ◌≤◌, [], ◌∷◌, ◌++◌, ◌&&◌};
+ghost use Rattle.std.specs.Prelude.{◌==◌, not, length};
 ghost use Rattle.m36_inst.specs.Instruction.{inst_of};
 ghost use Rattle.m36_inst.specs.Lookup.{IsRow};
 ghost use Rattle.m36_inst.specs.declared.operand.Operand.TheVariants.{N};
@@ -10,7 +11,8 @@ ghost use Rattle.m36_inst.specs.Operands.{operand_of, is_privileged};
 ghost use Rattle.m36_model.specs.Chain.{chain_end_fields};
 ghost use Rattle.m36_model.specs.Modification.{here};
 ghost use Rattle.m36_model.specs.Registers.{RegsFields};
-ghost use Rattle.m36_model.specs.Step.{program, decoded, decode, admitted, started, no_address, addressed, operated, halted, outcome_by};
+ghost use Rattle.m36_model.specs.Step.{program, decoded, decode, admitted, started, no_address};
+ghost use Rattle.m36_model.specs.Step.{addressed, operated, halted, outcome_by};
 ghost use Rattle.m36_step.specs.Ended.{EndsSo, EndsFormed};
 
 use crate::ended::{Ended, fault_here, halted, outcome_by};
@@ -32,7 +34,13 @@ fn completed(
     last: Final,
     overflow: bool,
 ) -> Ended
-    ensures end { (g : RegsFields) → place ≡ here g → result ≡ record { word = Some word; at = Some last; outcome = outcome_by (overflow && not regs.now.ind.mask) g } }
+    ensures end { (g : RegsFields) → place ≡ here g
+        → result
+        ≡ record {
+          word = Some word;
+          at = Some last;
+          outcome = outcome_by (overflow && not regs.now.ind.mask) g;
+        } }
     ensures core { walk.new.core ≡ walk.old.core }
     ensures dbr { walk.new.dbr ≡ regs.now.dbr }
 {
@@ -58,9 +66,12 @@ fn operated(
     requires dbr { walk.old.dbr ≡ regs.old.dbr }
     requires row { IsRow row.now }
     requires addressed { row.now.operand ≢ N }
-    requires tally { TallyLies formed.now.tally formed.now.place (length walk.old.core) refs.old.items }
+    requires tally { TallyLies formed.now.tally formed.now.place (length walk.old.core)
+        refs.old.items }
     requires room { length refs.old.items ≤ 38 }
-    ensures ends { EndsFormed regs.old (operated row.now.effect row.now.reg regs.old word (chain_end_fields formed.now)) walk.old.core formed.now refs.old.items walk.new.core refs.new.items regs.new result }
+    ensures ends { EndsFormed regs.old
+        (operated row.now.effect row.now.reg regs.old word (chain_end_fields formed.now))
+        walk.old.core formed.now refs.old.items walk.new.core refs.new.items regs.new result }
     ensures dbr { walk.new.dbr ≡ regs.new.dbr }
 {
     let last = formed.last;
@@ -89,7 +100,8 @@ fn addressed(
     requires addressed { row.now.operand ≢ N }
     requires inst { inst.now ≡ inst_of word }
     requires room { length refs.old.items ≤ 4 }
-    ensures ends { EndsSo regs.old (addressed row.now.effect row.now.reg regs.old word) walk.old.core refs.old.items walk.new.core refs.new.items regs.new result }
+    ensures ends { EndsSo regs.old (addressed row.now.effect row.now.reg regs.old word)
+        walk.old.core refs.old.items walk.new.core refs.new.items regs.new result }
     ensures dbr { walk.new.dbr ≡ regs.new.dbr }
 {
     match effective(walk, regs, inst, refs) {
@@ -100,7 +112,8 @@ fn addressed(
 
 /// MME, DRL and DIS form no address.
 fn no_address(regs: &Regs, effect: Effect) -> Halt
-    ensures { (word : ℕ) → no_address effect regs.now word ≡ halted regs.now (Some word) None result }
+    ensures { (word : ℕ)
+        → no_address effect regs.now word ≡ halted regs.now (Some word) None result }
 {
     match effect {
         Effect::Mme => Halt::Fault(fault_here(regs, 2)),
@@ -122,7 +135,9 @@ fn started(
     requires row { IsRow row.now }
     requires inst { inst.now ≡ inst_of word }
     requires room { length refs.old.items ≤ 4 }
-    ensures ends { EndsSo regs.old (started row.now.effect row.now.reg regs.old word (operand_of row.now.effect)) walk.old.core refs.old.items walk.new.core refs.new.items regs.new result }
+    ensures ends { EndsSo regs.old
+        (started row.now.effect row.now.reg regs.old word (operand_of row.now.effect)) walk.old.core
+        refs.old.items walk.new.core refs.new.items regs.new result }
     ensures dbr { walk.new.dbr ≡ regs.new.dbr }
 {
     match row.operand {
@@ -145,7 +160,10 @@ fn admitted(
     requires row { IsRow row.now }
     requires inst { inst.now ≡ inst_of word }
     requires room { length refs.old.items ≤ 4 }
-    ensures ends { EndsSo regs.old (admitted row.now.effect row.now.reg regs.old word (is_privileged row.now.effect && not privileged)) walk.old.core refs.old.items walk.new.core refs.new.items regs.new result }
+    ensures ends { EndsSo regs.old
+        (admitted row.now.effect row.now.reg regs.old word
+        (is_privileged row.now.effect && not privileged)) walk.old.core refs.old.items
+        walk.new.core refs.new.items regs.new result }
     ensures dbr { walk.new.dbr ≡ regs.new.dbr }
 {
     if row.privileged && !privileged {
@@ -158,7 +176,8 @@ fn admitted(
 fn decoded(walk: &mut Walk, regs: &mut Regs, word: Word, privileged: bool, refs: &mut Refs) -> Ended
     requires dbr { walk.old.dbr ≡ regs.old.dbr }
     requires room { length refs.old.items ≤ 4 }
-    ensures ends { EndsSo regs.old (decoded regs.old word privileged (decode word)) walk.old.core refs.old.items walk.new.core refs.new.items regs.new result }
+    ensures ends { EndsSo regs.old (decoded regs.old word privileged (decode word)) walk.old.core
+        refs.old.items walk.new.core refs.new.items regs.new result }
     ensures dbr { walk.new.dbr ≡ regs.new.dbr }
 {
     let inst = Inst::of_word(word);
@@ -173,7 +192,8 @@ fn decoded(walk: &mut Walk, regs: &mut Regs, word: Word, privileged: bool, refs:
 pub(crate) fn execute(walk: &mut Walk, regs: &mut Regs, refs: &mut Refs) -> Ended
     requires dbr { walk.old.dbr ≡ regs.old.dbr }
     requires room { length refs.old.items ≤ 3 }
-    ensures ends { EndsSo regs.old (program regs.old) walk.old.core refs.old.items walk.new.core refs.new.items regs.new result }
+    ensures ends { EndsSo regs.old (program regs.old) walk.old.core refs.old.items walk.new.core
+        refs.new.items regs.new result }
     ensures dbr { walk.new.dbr ≡ regs.new.dbr }
 {
     let here = regs.here();

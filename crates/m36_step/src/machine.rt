@@ -39,8 +39,10 @@ impl Model for Machine {
 /// may have filled.
 fn turn(walk: &mut Walk, regs: &mut Regs, told: &mut StepRecord)
     requires dbr { walk.old.dbr ≡ regs.old.dbr }
-    ensures told { told.new ≡ record_of core_store (record { regs = regs.old; store = walk.old.core }) }
-    ensures state { record { regs = regs.new; store = walk.new.core } ≡ state_after core_store (record { regs = regs.old; store = walk.old.core }) }
+    ensures told { told.new
+        ≡ record_of core_store (record { regs = regs.old; store = walk.old.core }) }
+    ensures state { record { regs = regs.new; store = walk.new.core }
+        ≡ state_after core_store (record { regs = regs.old; store = walk.old.core }) }
     ensures dbr { walk.new.dbr ≡ regs.new.dbr }
 {
     told.refs.clear();
@@ -54,7 +56,15 @@ fn turn(walk: &mut Walk, regs: &mut Regs, told: &mut StepRecord)
 
 /// A record that tells of no step yet.
 fn untold(regs: &Regs) -> StepRecord
-    ensures { result ≡ record { refs = record { items = [] }; after = regs.now; word = None; at = None; outcome = Next; ppr = regs.now.ppr } }
+    ensures { result
+        ≡ record {
+          refs = record { items = [] };
+          after = regs.now;
+          word = None;
+          at = None;
+          outcome = Next;
+          ppr = regs.now.ppr;
+        } }
 {
     StepRecord {
         refs: Refs::new(),
@@ -82,7 +92,9 @@ impl Machine {
     pub fn step(&mut self) -> StepRecord
         ensures told { result ≡ record_of core_store self.old }
         ensures state { self.new ≡ state_after core_store self.old }
-        ensures kept { IsAudited self.old.store self.old.regs.dbr → (ExecutesLdbr (record_of core_store self.old) → ⊥) → IsAudited self.new.store self.new.regs.dbr }
+        ensures kept { IsAudited self.old.store self.old.regs.dbr
+            → (ExecutesLdbr (record_of core_store self.old) → ⊥)
+            → IsAudited self.new.store self.new.regs.dbr }
     {
         let mut told = self.untold();
         self.step_into(&mut told);
@@ -95,7 +107,9 @@ impl Machine {
     pub fn step_into(&mut self, told: &mut StepRecord)
         ensures told { told.new ≡ record_of core_store self.old }
         ensures state { self.new ≡ state_after core_store self.old }
-        ensures kept { IsAudited self.old.store self.old.regs.dbr → (ExecutesLdbr (record_of core_store self.old) → ⊥) → IsAudited self.new.store self.new.regs.dbr }
+        ensures kept { IsAudited self.old.store self.old.regs.dbr
+            → (ExecutesLdbr (record_of core_store self.old) → ⊥)
+            → IsAudited self.new.store self.new.regs.dbr }
     {
         law_kept();
         let Machine { walk, regs } = self;
@@ -104,7 +118,15 @@ impl Machine {
 
     /// A record for `step_into` to fill: it has the registers as they stand, and tells of no step.
     pub fn untold(&self) -> StepRecord
-        ensures { result ≡ record { refs = record { items = [] }; after = self.now.regs; word = None; at = None; outcome = Next; ppr = self.now.regs.ppr } }
+        ensures { result
+            ≡ record {
+              refs = record { items = [] };
+              after = self.now.regs;
+              word = None;
+              at = None;
+              outcome = Next;
+              ppr = self.now.regs.ppr;
+            } }
     {
         untold(&self.regs)
     }
@@ -117,6 +139,19 @@ impl Machine {
     {
         let ic = self.regs.ppr.ic;
         self.regs.ppr.ic = (ic + 1) % (1 << 18);
+    }
+
+    /// Exchanges the registers with others, as where another process is to run on the same core. From here on segments are
+    /// found by the descriptor segment base register of those that were taken in.
+    pub fn swap(&mut self, regs: &mut Regs)
+        ensures machine { self.new ≡ record { regs = regs.old; store = self.old.store } }
+        ensures regs { regs.new ≡ self.old.regs }
+    {
+        let before = self.regs;
+        let taken = *regs;
+        self.walk.set_dbr(taken.dbr);
+        self.regs = taken;
+        *regs = before;
     }
 
     /// The registers as they stand.

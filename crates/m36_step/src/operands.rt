@@ -20,7 +20,8 @@ use m36_walk::Walk;
 #[inline(always)]
 pub(crate) fn give(got: Held, ring: u8, operand: &mut Operand36)
     requires { ring < 2 ^ 3 }
-    ensures operand { operand_fields operand.new ≡ record { got = words_of_held got; ring = ring; place = 0 } }
+    ensures operand { operand_fields operand.new
+        ≡ record { got = words_of_held got; ring = ring; place = 0 } }
     ensures got { operand.new.got ≡ got }
 {
     *operand = Operand36 {
@@ -52,7 +53,8 @@ pub(crate) fn reach_word(
 ) -> Result<Reached, Fault>
     requires dbr { walk.old.dbr ≡ regs.now.dbr }
     requires room { length refs.old.items < 40 }
-    ensures reads { Reads (λ e n. reading_word e n regs.now (chain_end_fields formed.now)) regs.now formed.now walk.old.core refs.old.items walk.new.core refs.new.items operand.new result }
+    ensures reads { Reads (λ e n. reading_word e n regs.now (chain_end_fields formed.now)) regs.now
+        formed.now walk.old.core refs.old.items walk.new.core refs.new.items operand.new result }
     ensures got { IfOk result (λ u. IsTrue (is_word operand.new.got)) }
     ensures run { IfOk result (λ u. LiesIn (length walk.new.core) u.place 0) }
     ensures place { IfOk result (λ u. u.place < 2 ^ 24) }
@@ -81,7 +83,9 @@ pub(crate) fn reach_pair(
 ) -> Result<Reached, Fault>
     requires dbr { walk.old.dbr ≡ regs.now.dbr }
     requires room { length refs.old.items < 40 }
-    ensures reads { Reads (λ e n. reading_words e n regs.now (chain_end_fields formed.now) 2) regs.now formed.now walk.old.core refs.old.items walk.new.core refs.new.items operand.new result }
+    ensures reads { Reads (λ e n. reading_words e n regs.now (chain_end_fields formed.now) 2)
+        regs.now formed.now walk.old.core refs.old.items walk.new.core refs.new.items operand.new
+        result }
     ensures got { IfOk result (λ u. IsTrue (is_pair operand.new.got)) }
     ensures run { IfOk result (λ u. LiesIn (length walk.new.core) u.place 0) }
     ensures place { IfOk result (λ u. u.place < 2 ^ 24) }
@@ -110,7 +114,9 @@ pub(crate) fn reach_block(
 ) -> Result<Reached, Fault>
     requires dbr { walk.old.dbr ≡ regs.now.dbr }
     requires room { length refs.old.items < 40 }
-    ensures reads { Reads (λ e n. reading_words e n regs.now (chain_end_fields formed.now) 16) regs.now formed.now walk.old.core refs.old.items walk.new.core refs.new.items operand.new result }
+    ensures reads { Reads (λ e n. reading_words e n regs.now (chain_end_fields formed.now) 16)
+        regs.now formed.now walk.old.core refs.old.items walk.new.core refs.new.items operand.new
+        result }
     ensures got { IfOk result (λ u. IsTrue (is_block operand.new.got)) }
     ensures run { IfOk result (λ u. LiesIn (length walk.new.core) u.place 0) }
     ensures place { IfOk result (λ u. u.place < 2 ^ 24) }
@@ -143,7 +149,10 @@ pub(crate) fn reach_written(
     requires dbr { walk.old.dbr ≡ regs.now.dbr }
     requires room { length refs.old.items < 40 }
     requires count { IsCount count }
-    ensures writes { Writes (λ e n. writing e n regs.now (chain_end_fields formed.now) count (part_of part)) regs.now formed.now count walk.old.core refs.old.items walk.new.core refs.new.items operand.new result }
+    ensures writes { Writes
+        (λ e n. writing e n regs.now (chain_end_fields formed.now) count (part_of part)) regs.now
+        formed.now count walk.old.core refs.old.items walk.new.core refs.new.items operand.new
+        result }
     ensures got { IfOk result (λ u. IsTrue (is_empty operand.new.got)) }
     ensures run { IfOk result (λ u. LiesIn (length walk.new.core) u.place count) }
     ensures place { IfOk result (λ u. u.place < 2 ^ 24) }
@@ -173,7 +182,9 @@ pub(crate) fn reach_changed(
 ) -> Result<Reached, Fault>
     requires dbr { walk.old.dbr ≡ regs.now.dbr }
     requires room { length refs.old.items + 1 < 40 }
-    ensures writes { Writes (λ e n. changing e n regs.now (chain_end_fields formed.now) (part_of part)) regs.now formed.now 1 walk.old.core refs.old.items walk.new.core refs.new.items operand.new result }
+    ensures writes { Writes
+        (λ e n. changing e n regs.now (chain_end_fields formed.now) (part_of part)) regs.now
+        formed.now 1 walk.old.core refs.old.items walk.new.core refs.new.items operand.new result }
     ensures got { IfOk result (λ u. IsTrue (is_word operand.new.got)) }
     ensures run { IfOk result (λ u. LiesIn (length walk.new.core) u.place 1) }
     ensures place { IfOk result (λ u. u.place < 2 ^ 24) }

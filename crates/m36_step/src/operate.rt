@@ -30,9 +30,12 @@ pub(crate) fn operate(
     requires dbr { walk.old.dbr ≡ regs.old.dbr }
     requires row { IsRow row.now }
     requires addressed { row.now.operand ≢ N }
-    requires tally { TallyLies formed.now.tally formed.now.place (length walk.old.core) refs.old.items }
+    requires tally { TallyLies formed.now.tally formed.now.place (length walk.old.core)
+        refs.old.items }
     requires room { length refs.old.items ≤ 38 }
-    ensures operates { operation_from row.now.effect row.now.reg regs.old formed.now walk.old.core refs.old.items ≡ operated_end walk.new.core refs.new.items formed.now regs.new put.new result }
+    ensures operates { operation_from row.now.effect row.now.reg regs.old formed.now walk.old.core
+        refs.old.items ≡ operated_end walk.new.core refs.new.items formed.now regs.new put.new
+        result }
     ensures stays { IfErr result (λ h. regs.new ≡ regs.old) }
     ensures lies { IfOk result (λ o. Lies (length walk.new.core) formed.now put.new o) }
     ensures dbr { walk.new.dbr ≡ walk.old.dbr }

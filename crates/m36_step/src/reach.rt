@@ -37,9 +37,13 @@ fn reach_by_kind(
     requires dbr { walk.old.dbr ≡ regs.now.dbr }
     requires addressed { row.now.operand ≢ N }
     requires room { length refs.old.items + 1 < 40 }
-    ensures reaches { ran_from regs.now (by_kind row.now.effect row.now.reg regs.now (chain_end_fields formed.now) row.now.operand) formed.now walk.old.core refs.old.items ≡ reached_end row.now.effect row.now.reg regs.now formed.now row.now.operand walk.new.core refs.new.items operand.new result }
+    ensures reaches { ran_from regs.now
+        (by_kind row.now.effect row.now.reg regs.now (chain_end_fields formed.now) row.now.operand)
+        formed.now walk.old.core refs.old.items ≡ reached_end row.now.effect row.now.reg regs.now
+        formed.now row.now.operand walk.new.core refs.new.items operand.new result }
     ensures got { IfOk result (λ u. HoldsFor row.now.operand operand.new.got) }
-    ensures run { IfOk result (λ u. LiesIn (length walk.new.core) u.place (words_written row.now.operand)) }
+    ensures run { IfOk result
+        (λ u. LiesIn (length walk.new.core) u.place (words_written row.now.operand)) }
     ensures place { IfOk result (λ u. u.place < 2 ^ 24) }
     ensures part { IfOk result (λ u. u.part ≡ part_for row.now.operand) }
     ensures dbr { walk.new.dbr ≡ walk.old.dbr }
@@ -109,9 +113,12 @@ pub(crate) fn reach(
     requires row { IsRow row.now }
     requires addressed { row.now.operand ≢ N }
     requires room { length refs.old.items + 1 < 40 }
-    ensures reaches { operation_from row.now.effect row.now.reg regs.now formed.now walk.old.core refs.old.items ≡ reached_end row.now.effect row.now.reg regs.now formed.now row.now.operand walk.new.core refs.new.items operand.new result }
+    ensures reaches { operation_from row.now.effect row.now.reg regs.now formed.now walk.old.core
+        refs.old.items ≡ reached_end row.now.effect row.now.reg regs.now formed.now row.now.operand
+        walk.new.core refs.new.items operand.new result }
     ensures got { IfOk result (λ u. HoldsFor row.now.operand operand.new.got) }
-    ensures run { IfOk result (λ u. LiesIn (length walk.new.core) u.place (words_written row.now.operand)) }
+    ensures run { IfOk result
+        (λ u. LiesIn (length walk.new.core) u.place (words_written row.now.operand)) }
     ensures place { IfOk result (λ u. u.place < 2 ^ 24) }
     ensures part { IfOk result (λ u. u.part ≡ part_for row.now.operand) }
     ensures dbr { walk.new.dbr ≡ walk.old.dbr }

@@ -52,7 +52,8 @@ fn first_at(at: At, count: u8) -> At
 fn complete(refs: &mut Refs, kind: Kind, at: At, count: u8)
     requires room { length refs.old.items < 40 }
     requires count { IsCount count }
-    ensures items { refs.new.items ≡ refs.old.items ++ record { kind = kind; at = aligned_at count at; count = count } ∷ [] }
+    ensures items { refs.new.items
+        ≡ refs.old.items ++ record { kind = kind; at = aligned_at count at; count = count } ∷ [] }
     ensures count { length refs.new.items ≡ length refs.old.items + 1 }
 {
     refs.push(Reference {
@@ -72,7 +73,8 @@ pub(crate) fn read_word(
 ) -> Result<Word, Fault>
     requires dbr { walk.old.dbr ≡ regs.now.dbr }
     requires room { length refs.old.items < 40 }
-    ensures serves { ServesRead regs.now formed.now 1 walk.old refs.old.items walk.new.core refs.new.items (ok_map (λ w. w ∷ []) result) }
+    ensures serves { ServesRead regs.now formed.now 1 walk.old refs.old.items walk.new.core
+        refs.new.items (ok_map (λ w. w ∷ []) result) }
     ensures dbr { walk.new.dbr ≡ walk.old.dbr }
     ensures len { length walk.new.core ≡ length walk.old.core }
     ensures count { length refs.new.items ≤ length refs.old.items + 1 }
@@ -96,7 +98,8 @@ pub(crate) fn read_pair(
 ) -> Result<(Pair, u8), Fault>
     requires dbr { walk.old.dbr ≡ regs.now.dbr }
     requires room { length refs.old.items < 40 }
-    ensures serves { ServesRead regs.now formed.now 2 walk.old refs.old.items walk.new.core refs.new.items (ok_map (λ r. pair_words r.0) result) }
+    ensures serves { ServesRead regs.now formed.now 2 walk.old refs.old.items walk.new.core
+        refs.new.items (ok_map (λ r. pair_words r.0) result) }
     ensures ring { IfOk result (λ r. r.1 ≡ (sdw_in walk.old formed.now.last.at.seg).r1) }
     ensures bound { IfOk result (λ r. r.1 < 2 ^ 3) }
     ensures dbr { walk.new.dbr ≡ walk.old.dbr }
@@ -122,7 +125,8 @@ pub(crate) fn read_block(
 ) -> Result<([Pair; 8], u8), Fault>
     requires dbr { walk.old.dbr ≡ regs.now.dbr }
     requires room { length refs.old.items < 40 }
-    ensures serves { ServesRead regs.now formed.now 16 walk.old refs.old.items walk.new.core refs.new.items (ok_map (λ r. block_words r.0) result) }
+    ensures serves { ServesRead regs.now formed.now 16 walk.old refs.old.items walk.new.core
+        refs.new.items (ok_map (λ r. block_words r.0) result) }
     ensures ring { IfOk result (λ r. r.1 ≡ (sdw_in walk.old formed.now.last.at.seg).r1) }
     ensures bound { IfOk result (λ r. r.1 < 2 ^ 3) }
     ensures dbr { walk.new.dbr ≡ walk.old.dbr }
@@ -151,7 +155,8 @@ pub(crate) fn hold_words(
     requires dbr { walk.old.dbr ≡ regs.now.dbr }
     requires count { IsCount count }
     requires room { length refs.old.items < 40 }
-    ensures serves { ServesWrite regs.now formed.now count walk.old refs.old.items walk.new.core refs.new.items result }
+    ensures serves { ServesWrite regs.now formed.now count walk.old refs.old.items walk.new.core
+        refs.new.items result }
     ensures inside { IfOk result (λ a. LiesIn (length walk.new.core) a count) }
     ensures bound { IfOk result (λ a. a < 2 ^ 24) }
     ensures dbr { walk.new.dbr ≡ walk.old.dbr }

@@ -40,7 +40,9 @@ pub(crate) fn reach_address(
     operand: &mut Operand36,
 ) -> Result<Reached, Fault>
     requires dbr { walk.old.dbr ≡ regs.now.dbr }
-    ensures reads { (refs : List Reference) → Reads (λ e n. addressing e n regs.now (chain_end_fields formed.now) absa) regs.now formed.now walk.old.core refs walk.new.core refs operand.new result }
+    ensures reads { (refs : List Reference)
+        → Reads (λ e n. addressing e n regs.now (chain_end_fields formed.now) absa) regs.now
+        formed.now walk.old.core refs walk.new.core refs operand.new result }
     ensures got { IfOk result (λ u. IsTrue (is_empty operand.new.got)) }
     ensures run { IfOk result (λ u. LiesIn (length walk.new.core) u.place 0) }
     ensures place { IfOk result (λ u. u.place < 2 ^ 24) }
@@ -70,7 +72,9 @@ pub(crate) fn reach_target(
     operand: &mut Operand36,
 ) -> Result<Reached, Fault>
     requires dbr { walk.old.dbr ≡ regs.now.dbr }
-    ensures reads { (refs : List Reference) → Reads (λ e n. transferring e n regs.now (chain_end_fields formed.now) taken) regs.now formed.now walk.old.core refs walk.new.core refs operand.new result }
+    ensures reads { (refs : List Reference)
+        → Reads (λ e n. transferring e n regs.now (chain_end_fields formed.now) taken) regs.now
+        formed.now walk.old.core refs walk.new.core refs operand.new result }
     ensures got { IfOk result (λ u. IsTrue (is_empty operand.new.got)) }
     ensures run { IfOk result (λ u. LiesIn (length walk.new.core) u.place 0) }
     ensures place { IfOk result (λ u. u.place < 2 ^ 24) }
@@ -100,7 +104,9 @@ pub(crate) fn reach_call(
     operand: &mut Operand36,
 ) -> Result<Reached, Fault>
     requires dbr { walk.old.dbr ≡ regs.now.dbr }
-    ensures reads { (refs : List Reference) → Reads (λ e n. calling e n regs.now (chain_end_fields formed.now)) regs.now formed.now walk.old.core refs walk.new.core refs operand.new result }
+    ensures reads { (refs : List Reference)
+        → Reads (λ e n. calling e n regs.now (chain_end_fields formed.now)) regs.now formed.now
+        walk.old.core refs walk.new.core refs operand.new result }
     ensures got { IfOk result (λ u. IsTrue (is_empty operand.new.got)) }
     ensures run { IfOk result (λ u. LiesIn (length walk.new.core) u.place 0) }
     ensures place { IfOk result (λ u. u.place < 2 ^ 24) }

@@ -65,14 +65,10 @@ fn pointer(seg: u16, ring: u8, word: u32) -> Ptr
     }
 }
 
-/// Registers at word 0 of segment 1 in ring 0, with this accumulator and this overflow mask.
-fn with_a(a: u64, mask: bool) -> Regs {
+/// Registers at word 0 of segment 1 in ring 0, with this accumulator.
+fn with_a(a: u64) -> Regs {
     let mut regs = regs(0, 0);
     regs.a = Word::low(a);
-    regs.ind = Ind {
-        mask,
-        ..NO_INDICATORS
-    };
     regs
 }
 
@@ -126,15 +122,8 @@ fn violates(acv: u8, at: At) -> Outcome {
 
 /// Makes one step. Whether it has this outcome, and completes so many references.
 fn gives(machine: &mut Machine, expected: Outcome, references: usize) -> bool {
-    let StepRecord {
-        refs,
-        after: _,
-        word: _,
-        at: _,
-        outcome,
-        ppr: _,
-    } = machine.step();
-    outcome == expected && refs.len() == references
+    let told = machine.step();
+    told.outcome == expected && told.refs.len() == references
 }
 
 /// Where the machine stands.
@@ -149,9 +138,24 @@ fn accumulator(machine: &Machine) -> u64 {
     regs.a.value()
 }
 
-fn indicators(machine: &Machine) -> Ind {
-    let regs = machine.regs();
-    regs.ind
+/// Whether a step loaded word 2 of segment 1, by the instruction at word 0.
+fn is_load(told: &StepRecord) -> bool {
+    let operand = at(1, 2, 0);
+    let read = Reference {
+        at: operand,
+        kind: Kind::Read,
+        count: 1,
+    };
+    let last = Final {
+        direct: None,
+        at: operand,
+        bit: 0,
+    };
+    told.refs.as_slice().last() == Some(&read)
+        && told.refs.len() == 2
+        && told.word == Some(Word::low(0o000002235000))
+        && told.at == Some(last)
+        && told.outcome == Outcome::Next
 }
 
 #[test]
@@ -164,33 +168,9 @@ fn loads_and_stops(rt: HostRuntime) -> Result<(), NoMemory> {
         (0o42, 5),
     ];
     let mut machine = machine(rt.alloc(), &regs(0, 0), &words)?;
-    let StepRecord {
-        refs,
-        after,
-        word,
-        at: last,
-        outcome,
-        ppr,
-    } = machine.step();
-    let operand = at(1, 2, 0);
-    let read = Reference {
-        at: operand,
-        kind: Kind::Read,
-        count: 1,
-    };
-    assert!(rt; refs.len() == 2);
-    assert!(rt; refs.as_slice().last() == Some(&read));
-    assert!(rt; word == Some(Word::low(0o000002235000)));
-    assert!(rt;
-        last == Some(Final {
-            direct: None,
-            at: operand,
-            bit: 0
-        })
-    );
-    assert!(rt; outcome == Outcome::Next);
-    assert!(rt; ppr == regs(0, 0).ppr);
-    assert!(rt; after == *machine.regs());
+    let told = machine.step();
+    assert!(rt; is_load(&told));
+    assert!(rt; told.ppr == regs(0, 0).ppr && told.after == *machine.regs());
     assert!(rt; accumulator(&machine) == 5 && stands(&machine, 1, 0, 1));
     assert!(rt; gives(&mut machine, Outcome::Stopped(Stop::Dis), 1));
     assert!(rt; stands(&machine, 1, 0, 1));
@@ -240,109 +220,89 @@ const WRITABLE: u64 = 0o000007300000;
 
 const READABLE: u64 = 0o000006300000;
 
-#[test]
-fn counts_tally_words(rt: HostRuntime) -> Result<(), NoMemory> {
-    // `eaa 8` through ID, once more, SD, AD and DI: the tally word before, its address, and the word afterwards.
-    let counted: [(u64, u64, u64, u64, bool); 5] = [
-        (
-            0o000010635056,
-            0o000100000200,
-            0o000100,
-            0o000101000100,
-            false,
-        ),
-        (
-            0o000010635056,
-            0o000101000100,
-            0o000101,
-            0o000102000000,
-            true,
-        ),
-        (
-            0o000010635044,
-            0o000100777703,
-            0o000075,
-            0o000075000003,
-            true,
-        ),
-        (
-            0o000010635053,
-            0o000100000103,
-            0o000100,
-            0o000103000003,
-            true,
-        ),
-        (
-            0o000010635054,
-            0o000000000000,
-            0o777777,
-            0o777777000100,
-            false,
-        ),
-    ];
-    for (instruction, before, address, after, runout) in counted {
-        let mut machine = with_word(rt.alloc(), &regs(0, 0), WRITABLE, instruction, before)?;
-        assert!(rt; gives(&mut machine, Outcome::Next, 3));
-        assert!(rt; accumulator(&machine) == address << 18);
-        assert!(rt; indicators(&machine).tally == runout);
-        assert!(rt; word_at(&machine, 0o50) == after);
-    }
-    Ok(())
-}
+/// `eaa 8` through ID, once more, SD, AD and DI, and `lda` and `sta` through ID and a tally word that is its own operand: it
+/// is read as it was counted, and written over. The instruction, the tally word before, A, the word and tally runout
+/// afterwards, and the number of references. A is 123456 before.
+const TALLIES: [(u64, u64, u64, u64, bool, usize); 7] = [
+    (
+        0o000010635056,
+        0o000100000200,
+        0o000100000000,
+        0o000101000100,
+        false,
+        3,
+    ),
+    (
+        0o000010635056,
+        0o000101000100,
+        0o000101000000,
+        0o000102000000,
+        true,
+        3,
+    ),
+    (
+        0o000010635044,
+        0o000100777703,
+        0o000075000000,
+        0o000075000003,
+        true,
+        3,
+    ),
+    (
+        0o000010635053,
+        0o000100000103,
+        0o000100000000,
+        0o000103000003,
+        true,
+        3,
+    ),
+    (
+        0o000010635054,
+        0o000000000000,
+        0o777777000000,
+        0o777777000100,
+        false,
+        3,
+    ),
+    (
+        0o000010235056,
+        0o000010000200,
+        0o000011000100,
+        0o000011000100,
+        false,
+        4,
+    ),
+    (
+        0o000010755056,
+        0o000010000200,
+        0o000000123456,
+        0o000000123456,
+        false,
+        4,
+    ),
+];
 
-/// A tally word that is its own first operand.
-const OWN_TALLY: u64 = 0o000010000200;
-
 #[test]
-fn sees_the_new_tally_word(rt: HostRuntime) -> Result<(), NoMemory> {
-    // `lda` reads the new value of the tally word, and `sta` writes over it.
-    let start = with_a(0o123456, false);
-    let cases: [(u64, u64, u64); 2] = [
-        (0o000010235056, 0o000011000100, 0o000011000100),
-        (0o000010755056, 0o123456, 0o123456),
-    ];
-    for (instruction, a, word) in cases {
-        let mut machine = with_word(rt.alloc(), &start, WRITABLE, instruction, OWN_TALLY)?;
-        assert!(rt; gives(&mut machine, Outcome::Next, 4));
-        assert!(rt; accumulator(&machine) == a);
-        assert!(rt; word_at(&machine, 0o50) == word);
+fn tally_words(rt: HostRuntime) -> Result<(), NoMemory> {
+    let start = with_a(0o123456);
+    for (instruction, before, a, after, runout, references) in TALLIES {
+        let mut machine = with_word(rt.alloc(), &start, WRITABLE, instruction, before)?;
+        assert!(rt;
+            gives(&mut machine, Outcome::Next, references),
+            "{instruction:o}"
+        );
+        assert!(rt; accumulator(&machine) == a, "{instruction:o}");
+        assert!(rt; word_at(&machine, 0o50) == after, "{instruction:o}");
+        assert!(rt; machine.regs().ind.tally == runout, "{instruction:o}");
 
         // Without the right to write, nothing has changed.
-        let mut machine = with_word(rt.alloc(), &start, READABLE, instruction, OWN_TALLY)?;
-        assert!(rt; gives(&mut machine, violates(6, at(1, 0o10, 0)), 2));
-        assert!(rt; *machine.regs() == start);
-        assert!(rt; word_at(&machine, 0o50) == OWN_TALLY);
-    }
-    Ok(())
-}
-
-#[test]
-fn overflows(rt: HostRuntime) -> Result<(), NoMemory> {
-    // `ada 8`, `lca 8`, `als 1`, `ars 1`, `alr 1`: A before, the word, A afterwards, and whether it overflows.
-    let cases: [(u64, u64, u64, u64, bool); 5] = [
-        (0o000010075000, 0o377777777777, 1, 0o400000000000, true),
-        (0o000010335000, 0, 0o400000000000, 0o400000000000, true),
-        (0o000001735000, 0o200000000000, 0, 0o400000000000, false),
-        (0o000001731000, 0o400000000000, 0, 0o600000000000, false),
-        (0o000001775000, 0o400000000001, 0, 0o000000000003, false),
-    ];
-    for (instruction, a, word, result, overflow) in cases {
-        let references = if word == 0 { 1 } else { 2 };
-        let mut machine = with_word(rt.alloc(), &with_a(a, false), READABLE, instruction, word)?;
-        let outcome = if overflow {
-            faults(13, at(1, 0, 0))
-        } else {
-            Outcome::Next
-        };
-        assert!(rt; gives(&mut machine, outcome, references));
-        assert!(rt; accumulator(&machine) == result);
-        assert!(rt; indicators(&machine).overflow == overflow);
-        assert!(rt; stands(&machine, 1, 0, 1));
-
-        let mut machine = with_word(rt.alloc(), &with_a(a, true), READABLE, instruction, word)?;
-        assert!(rt; gives(&mut machine, Outcome::Next, references));
-        assert!(rt; accumulator(&machine) == result);
-        assert!(rt; indicators(&machine).overflow == overflow);
+        let mut machine = with_word(rt.alloc(), &start, READABLE, instruction, before)?;
+        assert!(rt;
+            gives(&mut machine, violates(6, at(1, 0o10, 0)), 2),
+            "{instruction:o}"
+        );
+        assert!(rt; *machine.regs() == start, "{instruction:o}");
+        assert!(rt; word_at(&machine, 0o50) == before, "{instruction:o}");
     }
     Ok(())
 }
@@ -375,12 +335,6 @@ fn with_segment(
     machine(alloc, &start, &words)
 }
 
-fn pointer_of(machine: &Machine, n: u8) -> Ptr
-    requires { n < 8 }
-{
-    machine.regs().pointer(n)
-}
-
 /// A gate of two entries with brackets 0, 0 and 5, and a segment with brackets 2, 3 and 3 that may be called from ring 3.
 const GATE: (u64, u64) = (0o000001000054, 0o000002200002);
 
@@ -388,52 +342,74 @@ const INNER: (u64, u64) = (0o000001002334, 0o000002300000);
 
 const NO_PAIR: (u64, u64) = (0, 0);
 
+/// The rings of the caller and of the pointer, the segment that is called, the word, and the access violation.
+const REFUSED_CALLS: [((u8, u8), (u64, u64), u32, u8); 4] = [
+    ((4, 4), GATE, 2, 7),
+    ((6, 6), GATE, 1, 8),
+    ((1, 1), INNER, 1, 9),
+    ((1, 3), INNER, 1, 10),
+];
+
+/// The ring of the caller and of the pointer, the segment whose word 1 is called, the ring then, and the segment of the
+/// stack, to which pointer register 7 points.
+const CALLS: [(u8, (u64, u64), u8, u16); 2] = [(4, GATE, 0, 0o10), (3, INNER, 3, 5)];
+
+/// `call6 pr2|0`
+const CALL: u64 = 0o200000713100;
+
 #[test]
 fn calls(rt: HostRuntime) -> Result<(), NoMemory> {
-    // The rings of the caller and of the pointer, the segment, and the outcome of `call6 pr2|1`.
-    let refused = [
-        ((6, 6), GATE, violates(8, at(3, 1, 6))),
-        ((1, 1), INNER, violates(9, at(3, 1, 1))),
-        ((1, 3), INNER, violates(10, at(3, 1, 3))),
-    ];
-    for (rings, segment, outcome) in refused {
-        let mut machine = with_segment(rt.alloc(), rings, 0o200001713100, segment, NO_PAIR)?;
-        assert!(rt; gives(&mut machine, outcome, 1));
+    for (rings, segment, word, acv) in REFUSED_CALLS {
+        let (ring, pointed) = (rings.0 % 8, rings.1 % 8);
+        let called = word % 8;
+        let instruction = CALL + ((called as u64) << 18);
+        let mut machine = with_segment(rt.alloc(), (ring, pointed), instruction, segment, NO_PAIR)?;
+        assert!(rt;
+            gives(&mut machine, violates(acv, at(3, called, pointed)), 1),
+            "{acv}"
+        );
     }
-    let mut machine = with_segment(rt.alloc(), (4, 4), 0o200002713100, GATE, NO_PAIR)?;
-    assert!(rt; gives(&mut machine, violates(7, at(3, 2, 4)), 1));
-
-    let mut machine = with_segment(rt.alloc(), (4, 4), 0o200001713100, GATE, NO_PAIR)?;
-    assert!(rt; gives(&mut machine, Outcome::Next, 1));
-    assert!(rt; stands(&machine, 3, 0, 1));
-    assert!(rt; pointer_of(&machine, 7) == pointer(0o10, 0, 0));
-
-    let mut machine = with_segment(rt.alloc(), (3, 3), 0o200001713100, INNER, NO_PAIR)?;
-    assert!(rt; gives(&mut machine, Outcome::Next, 1));
-    assert!(rt; stands(&machine, 3, 3, 1));
-    assert!(rt; pointer_of(&machine, 7) == pointer(5, 3, 0));
+    for (ring, segment, entered, stack) in CALLS {
+        let ring = ring % 8;
+        let entered = entered % 8;
+        let stack = pointer(stack % (1 << 15), entered, 0);
+        let instruction = CALL + (1 << 18);
+        let mut machine = with_segment(rt.alloc(), (ring, ring), instruction, segment, NO_PAIR)?;
+        assert!(rt; gives(&mut machine, Outcome::Next, 1), "{ring}");
+        assert!(rt; stands(&machine, 3, entered, 1), "{ring}");
+        assert!(rt; machine.regs().pointer(7) == stack, "{ring}");
+    }
     Ok(())
 }
 
-#[test]
-fn returns(rt: HostRuntime) -> Result<(), NoMemory> {
-    // `rtcd pr2|0` from ring 0 by a pair of ring 4: there DIS has no right.
-    let segment = (0o000001000004, 0o000005300000);
-    let pair = (0o000001400043, 0o000001000000);
-    let mut machine = with_segment(rt.alloc(), (0, 0), 0o200000610100, segment, pair)?;
-    assert!(rt; gives(&mut machine, Outcome::Next, 2));
-    assert!(rt; stands(&machine, 1, 4, 1));
-    for n in 0..8 {
-        assert!(rt; pointer_of(&machine, n).ring == 4);
-    }
-    assert!(rt; gives(&mut machine, faults(10, at(1, 1, 4)), 1));
+/// The ring that executes `rtcd pr2|0`, the segment of the pair, and the pair: of ring 4, and of ring 0 in the own stack of
+/// ring 4.
+const RETURNS: [(u8, (u64, u64), (u64, u64)); 2] = [
+    (
+        0,
+        (0o000001000004, 0o000005300000),
+        (0o000001400043, 0o000001000000),
+    ),
+    (
+        4,
+        (0o000001004444, 0o000005300000),
+        (0o000001000043, 0o000001000000),
+    ),
+];
 
-    // From ring 4 by a pair of ring 0 in its own stack.
-    let segment = (0o000001004444, 0o000005300000);
-    let pair = (0o000001000043, 0o000001000000);
-    let mut machine = with_segment(rt.alloc(), (4, 4), 0o200000610100, segment, pair)?;
-    assert!(rt; gives(&mut machine, Outcome::Next, 2));
-    assert!(rt; stands(&machine, 1, 4, 1));
+#[test]
+fn returns_to_ring_4(rt: HostRuntime) -> Result<(), NoMemory> {
+    for (ring, segment, pair) in RETURNS {
+        let ring = ring % 8;
+        let mut machine = with_segment(rt.alloc(), (ring, ring), 0o200000610100, segment, pair)?;
+        assert!(rt; gives(&mut machine, Outcome::Next, 2), "{ring}");
+        assert!(rt; stands(&machine, 1, 4, 1), "{ring}");
+        for n in 0..8 {
+            assert!(rt; machine.regs().pointer(n).ring == 4, "{ring}");
+        }
+        // DIS has no right there.
+        assert!(rt; gives(&mut machine, faults(10, at(1, 1, 4)), 1), "{ring}");
+    }
     Ok(())
 }
 

@@ -8,7 +8,8 @@ ghost use Rattle.m36_model.specs.Results.{words_of_held, words_of_pairs};
 ghost use Rattle.m36_model.specs.StepCases.{at_spots};
 ghost use Rattle.m36_model.specs.Store.{Core_word, changes, written};
 ghost use Rattle.m36_walk.specs.Runs.{run_from, LiesIn};
-ghost use Rattle.m36_step.specs.Operated.{part_of, claims_of, puts_of, TallyIn, PartFits, PartHolds, Lies};
+ghost use Rattle.m36_step.specs.Operated.{part_of, claims_of, puts_of, TallyIn, PartFits};
+ghost use Rattle.m36_step.specs.Operated.{PartHolds, Lies};
 ghost use Rattle.m36_step.specs.declared.operated.Part.TheVariants as part;
 
 use crate::operated::{Operated, Part};
@@ -60,7 +61,10 @@ fn write_word(walk: &mut Walk, place: u32, part: Part, value: Word)
 fn write_block(walk: &mut Walk, place: u32, block: &[Pair; 8])
     requires place { place < 2 ^ 24 }
     requires inside { LiesIn (length walk.old.core) place (length (words_of_pairs block.now)) }
-    ensures core { walk.new.core ≡ core_put walk.old.core (at_spots Whole (run_from place (length (words_of_pairs block.now))) (words_of_pairs block.now)) }
+    ensures core { walk.new.core
+        ≡ core_put walk.old.core
+        (at_spots Whole (run_from place (length (words_of_pairs block.now)))
+        (words_of_pairs block.now)) }
     ensures dbr { walk.new.dbr ≡ walk.old.dbr }
     ensures len { length walk.new.core ≡ length walk.old.core }
 {
@@ -70,10 +74,15 @@ fn write_block(walk: &mut Walk, place: u32, block: &[Pair; 8])
 /// Writes the words that an effect gives, or its half.
 #[tactic(auto, unfolding(m36_model::specs::Core::core_put, m36_walk::specs::Runs::run_from, m36_walk::specs::Runs::LiesIn))]
 fn write_operand(walk: &mut Walk, operated: &Operated, put: &Held)
-    requires run { LiesIn (length walk.old.core) operated.now.place (length (words_of_held put.now)) }
+    requires run { LiesIn (length walk.old.core) operated.now.place
+        (length (words_of_held put.now)) }
     requires place { operated.now.place < 2 ^ 24 }
     requires part { PartFits operated.now.part (words_of_held put.now) }
-    ensures core { walk.new.core ≡ core_put walk.old.core (at_spots (part_of operated.now.part) (run_from operated.now.place (length (words_of_held put.now))) (words_of_held put.now)) }
+    ensures core { walk.new.core
+        ≡ core_put walk.old.core
+        (at_spots (part_of operated.now.part)
+        (run_from operated.now.place (length (words_of_held put.now)))
+        (words_of_held put.now)) }
     ensures dbr { walk.new.dbr ≡ walk.old.dbr }
     ensures len { length walk.new.core ≡ length walk.old.core }
 {
@@ -89,7 +98,9 @@ fn write_operand(walk: &mut Walk, operated: &Operated, put: &Held)
 #[tactic(auto, unfolding(m36_model::specs::Core::core_put, m36_model::specs::Store::changes))]
 fn write_tally(walk: &mut Walk, formed: &Formed)
     requires { TallyIn formed.now.tally formed.now.place (length walk.old.core) }
-    ensures core { walk.new.core ≡ core_put walk.old.core (changes (claimed_by formed.now.tally formed.now.place) (pending_of formed.now.tally)) }
+    ensures core { walk.new.core
+        ≡ core_put walk.old.core
+        (changes (claimed_by formed.now.tally formed.now.place) (pending_of formed.now.tally)) }
     ensures dbr { walk.new.dbr ≡ walk.old.dbr }
     ensures len { length walk.new.core ≡ length walk.old.core }
 {
@@ -102,7 +113,10 @@ fn write_tally(walk: &mut Walk, formed: &Formed)
 #[tactic(auto, using(crate::proofs::Writing::written_together))]
 pub(crate) fn write_words(walk: &mut Walk, formed: &Formed, operated: &Operated, put: &Held)
     requires lies { Lies (length walk.old.core) formed.now put.now operated.now }
-    ensures core { walk.new.core ≡ core_put walk.old.core (changes (claims_of formed.now put.now operated.now) (puts_of formed.now put.now operated.now)) }
+    ensures core { walk.new.core
+        ≡ core_put walk.old.core
+        (changes (claims_of formed.now put.now operated.now)
+        (puts_of formed.now put.now operated.now)) }
     ensures dbr { walk.new.dbr ≡ walk.old.dbr }
     ensures len { length walk.new.core ≡ length walk.old.core }
 {

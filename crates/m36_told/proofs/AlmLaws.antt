@@ -6,8 +6,8 @@ use Rattle.alm_parse.specs.Sources.{parsed, Refuses}
 use Rattle.alm_parse.specs.declared.fault.AlmFault.{AlmFault}
 use Rattle.alm_parse.specs.declared.fault.AlmFault.TheVariants as alm
 use Rattle.alm_asm.specs.Assembly.{assembled}
-use Rattle.obj36.specs.PartsFields.{PartsFields}
-use Rattle.obj36.specs.ObjectSegment.{Stands}
+use Rattle.obj36_parts.specs.PartsFields.{PartsFields}
+use Rattle.obj36_parts.specs.ObjectSegment.{Stands}
 use Rattle.m36_list.specs.Listing.{listing_of}
 use Rattle.m36_reading.specs.declared.refusal.Refusal.{Refusal}
 use Rattle.m36_reading.specs.Asking as asking

@@ -5,8 +5,8 @@ use Rattle.alm_parse.specs.SourceFields.{Source}
 use Rattle.alm_parse.specs.Sources.{parsed}
 use Rattle.alm_parse.specs.declared.fault.AlmFault.{AlmFault}
 use Rattle.alm_asm.specs.Assembly.{assembled}
-use Rattle.obj36.specs.PartsFields.{PartsFields}
-use Rattle.obj36.specs.ObjectSegment.{words_of}
+use Rattle.obj36_parts.specs.PartsFields.{PartsFields}
+use Rattle.obj36_parts.specs.ObjectSegment.{words_of}
 
 -- a source in its lines, and the parts of the object that it means
 pub record Assembly : Type 0 where

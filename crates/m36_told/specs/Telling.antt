@@ -3,7 +3,7 @@ use Rattle.std.specs.Prelude.{ℕ, ◌≡◌, List, [], ◌∷◌, Result, Ok, E
 use Rattle.alm_parse.specs.Sources.{Refuses}
 use Rattle.alm_parse.specs.declared.fault.AlmFault.{AlmFault}
 use Rattle.alm_parse.specs.declared.fault.AlmFault.TheVariants as alm
-use Rattle.obj36.specs.PartsFields.{PartsFields}
+use Rattle.obj36_parts.specs.PartsFields.{PartsFields}
 use Rattle.m36_list.specs.Print.{print_of}
 use Rattle.m36_list.specs.Listing.{listing_of}
 use Rattle.m36_reading.specs.declared.status.Code.TheVariants as code

@@ -116,18 +116,11 @@ const PRINT: List = &[b"print", b"e"];
 const ALM: List = &[b"alm", b"e"];
 
 /// The numbers of the reads, writes and puts that fail.
-#[derive(Clone, Copy)]
-struct Failing<'a> {
-    reads: &'a [u32],
-    writes: &'a [u32],
-    puts: &'a [u32],
-}
+type Failing<'a> = (&'a [u32], &'a [u32], &'a [u32]);
 
-const NONE: Failing = Failing {
-    reads: &[],
-    writes: &[],
-    puts: &[],
-};
+const NO: &[u32] = &[];
+
+const FIRST: &[u32] = &[1];
 
 pub(crate) fn words(alloc: Global, list: &[&[u8]]) -> Result<Vec<Text>, NoMemory> {
     let mut words = Vec::new(alloc);
@@ -142,11 +135,11 @@ fn called(
     alloc: Global,
     list: List,
     file: (&[u8], &[u8]),
-    failing: &Failing,
+    failing: Failing,
 ) -> Result<(Status, MemFolder, MemSink), NoMemory> {
-    let mut folder = MemFolder::new(alloc, failing.reads, failing.writes)?;
+    let mut folder = MemFolder::new(alloc, failing.0, failing.1)?;
     folder.add(file.0, file.1)?;
-    let mut out = MemSink::new(alloc, 10_000_000, failing.puts)?;
+    let mut out = MemSink::new(alloc, 10_000_000, failing.2)?;
     let words = words(alloc, list)?;
     let status = m36(alloc, words.as_slice(), &mut folder, &mut out);
     Ok((status, folder, out))
@@ -167,7 +160,7 @@ fn writes_outputs(rt: HostRuntime) -> Result<(), NoMemory> {
         (PRINT, (b"e", EMPTY.as_slice()), 0, EMPTY_PRINT),
         (ALM, (b"e.alm", b""), 0, EMPTY_PRINT),
     ] {
-        let (status, _, out) = called(rt.alloc(), list, file, &NONE)?;
+        let (status, _, out) = called(rt.alloc(), list, file, (NO, NO, NO))?;
         assert_eq!(rt; status.number(), number);
         assert!(rt; out.bytes() == output, "{list:?}");
     }
@@ -176,7 +169,7 @@ fn writes_outputs(rt: HostRuntime) -> Result<(), NoMemory> {
 
 #[test]
 fn ends_at_the_limit(rt: HostRuntime) -> Result<(), NoMemory> {
-    let (status, _, out) = called(rt.alloc(), BARE, (b"f", ENDLESS), &NONE)?;
+    let (status, _, out) = called(rt.alloc(), BARE, (b"f", ENDLESS), (NO, NO, NO))?;
     assert_eq!(rt; status.number(), 7);
     assert!(rt; out.bytes().ends_with(b"\nend limit 100000\n"));
     assert!(rt;
@@ -220,7 +213,7 @@ fn refuses_files(rt: HostRuntime) -> Result<(), NoMemory> {
         ),
         (ALM, (b"e", b""), b"e.alm", (Code::F1, 0, 0)),
     ] {
-        let (status, _, out) = called(alloc, list, file, &NONE)?;
+        let (status, _, out) = called(alloc, list, file, (NO, NO, NO))?;
         assert!(rt; out.bytes().is_empty());
         match status {
             Status::BadFile(bad) => {
@@ -233,49 +226,31 @@ fn refuses_files(rt: HostRuntime) -> Result<(), NoMemory> {
     Ok(())
 }
 
-fn puts(puts: &[u32]) -> Failing<'_> {
-    Failing {
-        reads: &[],
-        writes: &[],
-        puts,
-    }
-}
-
 // Reads, writes and puts that fail: the status, how much is written, and whether the object is there.
 #[test]
 fn tells_faults(rt: HostRuntime) -> Result<(), NoMemory> {
-    let read = Failing {
-        reads: &[1],
-        writes: &[],
-        puts: &[],
-    };
-    let write = Failing {
-        reads: &[],
-        writes: &[1],
-        puts: &[],
-    };
-    for (list, file, failing, number, whole, is_there) in [
-        (BARE, (b"f".as_slice(), LEAST), &read, 2, 0, false),
-        (PRINT, (b"e", EMPTY.as_slice()), &read, 2, 0, true),
-        (ALM, (b"e.alm", b""), &read, 2, 0, false),
-        (ALM, (b"e.alm", b""), &write, 3, 0, false),
-        (ALM, (b"e.alm", b""), &puts(&[1]), 3, 0, true),
-        (ALM, (b"e.alm", b""), &puts(&[3]), 3, 31, true),
-        (PRINT, (b"e", EMPTY.as_slice()), &puts(&[6]), 3, 99, true),
-        (BARE, (b"f", LEAST), &puts(&[1]), 3, 0, false),
-        (BARE, (b"f", LEAST), &puts(&[2]), 3, 10, false),
-        (BARE, (b"f", LEAST), &puts(&[3]), 3, 93, false),
-        (BARE, (b"f", LEAST), &puts(&[4]), 3, 162, false),
-        (AUDIT, (b"f", SEGMENTS), &puts(&[2]), 3, 18, false),
+    for (list, file, reads, writes, puts, number, whole, is_there) in [
+        (BARE, (b"f".as_slice(), LEAST), FIRST, NO, NO, 2, 0, false),
+        (PRINT, (b"e", EMPTY.as_slice()), FIRST, NO, NO, 2, 0, false),
+        (ALM, (b"e.alm", b""), FIRST, NO, NO, 2, 0, false),
+        (ALM, (b"e.alm", b""), NO, FIRST, NO, 3, 0, false),
+        (ALM, (b"e.alm", b""), NO, NO, FIRST, 3, 0, true),
+        (ALM, (b"e.alm", b""), NO, NO, &[3], 3, 31, true),
+        (PRINT, (b"e", EMPTY.as_slice()), NO, NO, &[6], 3, 99, true),
+        (BARE, (b"f", LEAST), NO, NO, FIRST, 3, 0, false),
+        (BARE, (b"f", LEAST), NO, NO, &[2], 3, 10, false),
+        (BARE, (b"f", LEAST), NO, NO, &[3], 3, 93, false),
+        (BARE, (b"f", LEAST), NO, NO, &[4], 3, 162, false),
+        (AUDIT, (b"f", SEGMENTS), NO, NO, &[2], 3, 18, false),
     ] {
-        let (status, mut folder, out) = called(rt.alloc(), list, file, failing)?;
+        let (status, mut folder, out) = called(rt.alloc(), list, file, (reads, writes, puts))?;
         assert_eq!(rt; status.number(), number);
         assert_eq!(rt; out.bytes().len(), whole);
-        let object = match folder.read(rt.alloc(), b"e") {
+        let is_object = match folder.read(rt.alloc(), b"e") {
             ReadAnswer::Read(text) => text.bytes() == EMPTY.as_slice(),
             _ => false,
         };
-        assert!(rt; object == is_there || number == 2, "{list:?}");
+        assert!(rt; number == 2 || is_object == is_there, "{list:?}");
     }
     Ok(())
 }

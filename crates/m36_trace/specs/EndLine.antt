@@ -14,4 +14,5 @@ ending_text (Stopped stop) = stop_text stop
 
 -- the line, without its line feed
 unfoldable pub end_line_of : Outcome → ℕ → List ℕ
-end_line_of outcome steps = join_with_byte 32 (codes "end" ∷ ending_text outcome ∷ decimal_text steps ∷ [])
+end_line_of outcome steps =
+    join_with_byte 32 (codes "end" ∷ ending_text outcome ∷ decimal_text steps ∷ [])

@@ -1,5 +1,6 @@
 -- The trace line of a step: its fields in order, parted by one space.
-use Rattle.std.specs.Prelude.{ℕ, Bool, List, [], ◌∷◌, ◌++◌, Option, Some, None, codes, if◌then◌else◌, ◌==◌}
+use Rattle.std.specs.Prelude.{ℕ, Bool, List, [], ◌∷◌, ◌++◌, Option, Some, None, codes}
+use Rattle.std.specs.Prelude.{if◌then◌else◌, ◌==◌}
 use Rattle.std.specs.List.{join_with_byte}
 use Rattle.m36_text.specs.Digits.{octal_text, decimal_text}
 use Rattle.m36_model.specs.Fields.{AtFields, FinalFields}
@@ -41,12 +42,15 @@ letter name on = if on then name else codes "."
 -- zero, negative, carry, overflow, overflow mask, tally runout
 abbrev pub indicators_text : Ind → List ℕ
 indicators_text i =
-    letter (codes "z") i.zero ++ letter (codes "n") i.negative ++ letter (codes "c") i.carry ++ letter (codes "o") i.overflow ++ letter (codes "m") i.mask ++ letter (codes "t") i.tally
+    letter (codes "z") i.zero ++ letter (codes "n") i.negative ++ letter (codes "c") i.carry
+    ++ letter (codes "o") i.overflow ++ letter (codes "m") i.mask ++ letter (codes "t") i.tally
 
 -- a fault by its number, and an access violation by its own number too
 abbrev pub fault_text : Fault → List ℕ
 fault_text f =
-    if f.number == 20 then codes "fault " ++ decimal_text f.number ++ codes "." ++ decimal_text f.acv else codes "fault " ++ decimal_text f.number
+    if f.number == 20
+    then codes "fault " ++ decimal_text f.number ++ codes "." ++ decimal_text f.acv
+    else codes "fault " ++ decimal_text f.number
 
 abbrev pub stop_text : Stop → List ℕ
 stop_text Dis = codes "dis"

@@ -2,7 +2,9 @@
 
 ghost use Rattle.std.specs.Prelude.{◌≡◌, ◌+◌, ◌≤◌, ◌<◌, ◌^◌, ◌++◌, length, codes, if◌then◌else◌};
 ghost use Rattle.m36_text.specs.Digits.{octal_text, decimal_text};
-ghost use Rattle.m36_trace.specs.TraceLine.{word_of_segment, instruction_text, address_text, operand_text, final_text, indicators_text, fault_text, stop_text, outcome_text};
+ghost use Rattle.m36_trace.specs.TraceLine.{word_of_segment, instruction_text, address_text};
+ghost use Rattle.m36_trace.specs.TraceLine.{operand_text, final_text, indicators_text, fault_text};
+ghost use Rattle.m36_trace.specs.TraceLine.{stop_text, outcome_text};
 
 use crate::digits::{place_digits, put_characters, ring_digit, word_digits};
 use arrayvec::ArrayString;

@@ -1,6 +1,5 @@
 pub mod Memory
 pub mod Runs
-pub mod Tables
 pub mod Reached
 pub mod Served
 pub mod Words

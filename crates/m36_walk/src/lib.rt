@@ -14,7 +14,6 @@
 #![tactic(auto)]
 
 mod asks;
-mod descriptor;
 mod marks;
 mod place;
 mod reads;

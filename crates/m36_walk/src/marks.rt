@@ -2,12 +2,11 @@
 
 ghost use Rattle.std.specs.Prelude.{ℕ, ◌≡◌, ◌+◌, ◌*◌, ◌/◌, ◌%◌, ◌<◌, ◌^◌, ◌++◌, true, false, Ok, length};
 ghost use Rattle.m36_model.specs.Place.{directory_at, page_at, marked_word, with_mark, with_marks, directory_marks, page_marks};
-ghost use Rattle.m36_walk.specs.Tables.{TableIn};
+ghost use Rattle.m36_tables.specs.Tables.{TableIn};
 
-use crate::descriptor::directory_at;
-use crate::place::page_at;
 use m36_core::Core;
 use m36_desc::{Dbr, Sdw};
+use m36_tables::{directory_at, page_at};
 use m36_word::Word;
 
 /// A page table word with its used bit on.
@@ -75,7 +74,8 @@ pub(crate) fn set_marks(core: &mut Core, dbr: Dbr, sdw: &Sdw, seg: u16, word: u3
     requires word { word < 2 ^ 18 }
     requires directory { TableIn (length core.old) dbr.unpaged (directory_at dbr seg) }
     requires page { TableIn (length core.old) sdw.now.unpaged (page_at sdw.now (word / 1024)) }
-    ensures marked { core.new ≡ with_marks core.old (directory_marks dbr seg ++ page_marks write word (Ok sdw.now)) }
+    ensures marked { core.new
+        ≡ with_marks core.old (directory_marks dbr seg ++ page_marks write word (Ok sdw.now)) }
     ensures len { length core.new ≡ length core.old }
 {
     mark_directory(core, dbr, seg);

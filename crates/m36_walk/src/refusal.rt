@@ -1,35 +1,9 @@
 //! Why a reference is refused.
 
-ghost use Rattle.std.specs.Prelude.{◌≡◌, ◌+◌, ◌%◌, ◌<◌, ◌^◌};
-ghost use Rattle.m36_model.specs.Place.{store_fault, directed};
-ghost use Rattle.m36_model.specs.Store.{violation, fault_by};
+ghost use Rattle.std.specs.Prelude.{◌≡◌, ◌+◌, ◌%◌, ◌<◌};
+ghost use Rattle.m36_model.specs.Store.{fault_by};
 
 use m36_model::{At, Fault, Refusal};
-
-/// A table word or a place at or past the end of core.
-pub(crate) fn store_fault() -> Refusal
-    ensures { result ≡ store_fault }
-{
-    Refusal { number: 1, acv: 0 }
-}
-
-/// The access violation of this number.
-pub(crate) fn violation(acv: u8) -> Refusal
-    ensures { result ≡ violation acv }
-{
-    Refusal { number: 20, acv }
-}
-
-/// The directed fault that a descriptor with F off names.
-pub(crate) fn directed(fc: u8) -> Refusal
-    requires { fc < 2 ^ 2 }
-    ensures { result ≡ directed fc }
-{
-    Refusal {
-        number: 16 + fc,
-        acv: 0,
-    }
-}
 
 /// The fault of a refusal, at a word.
 pub(crate) fn fault(why: Refusal, at: At) -> Fault
@@ -52,7 +26,9 @@ pub(crate) struct Refused {
 /// The fault of a refused word of a block, told at it.
 pub(crate) fn fault_further(refused: Refused, at: At) -> Fault
     requires { at.word % 16 + refused.further < 16 }
-    ensures { result ≡ fault_by refused.why (record { seg = at.seg; word = at.word + refused.further; ring = at.ring }) }
+    ensures { result
+        ≡ fault_by refused.why (record
+        { seg = at.seg; word = at.word + refused.further; ring = at.ring }) }
 {
     fault(
         refused.why,

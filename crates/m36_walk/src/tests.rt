@@ -1,11 +1,11 @@
-//! Worked references: a bound, marks, calls through a gate, pairs and blocks.
+//! Worked references: rights, a bound, marks, calls through a gate, pairs and blocks.
 
 ghost use Rattle.std.specs.Prelude.{◌<◌, ◌^◌};
 
 use crate::walk::Walk;
 use crate::words::Pending;
 use m36_core::Core;
-use m36_desc::{Dbr, Sdw};
+use m36_desc::{Dbr, Ptw, Sdw};
 use m36_model::{At, Fault, Ppr};
 use m36_word::{NoMemory, Pair, Word};
 use std::alloc::Global;
@@ -18,28 +18,14 @@ const DBR: Dbr = Dbr {
     unpaged: true,
 };
 
-/// A walk over two frames with words at places.
-fn walk(alloc: Global, words: &[(u32, u64)]) -> Result<Walk, NoMemory> {
-    let mut core = Core::new(alloc, 2)?;
-    for (place, word) in words {
-        if *place < core.len() {
-            core.poke(*place, Word::low(*word));
-        }
-    }
-    match Walk::new(alloc, core, DBR) {
-        Ok(walk) => Ok(walk),
-        Err(_core) => Err(NoMemory),
-    }
-}
-
-/// An unpaged segment at core word octal 2000 with these brackets and a bound of so many blocks and one.
-fn segment(brackets: (u8, u8, u8), bound: u16, gate: bool) -> Pair
+/// A segment of four blocks with these brackets, which may be executed, read and written.
+fn segment(addr: u32, brackets: (u8, u8, u8), unpaged: bool) -> Sdw
+    requires addr { addr < 2 ^ 24 }
     requires rings { (brackets.0 < 8) × (brackets.1 < 8) × (brackets.2 < 8) }
-    requires bound { bound < 2 ^ 14 }
 {
-    let sdw = Sdw {
-        addr: 0o2000,
-        bound,
+    Sdw {
+        addr,
+        bound: 3,
         limit: 2,
         r1: brackets.0,
         r2: brackets.1,
@@ -50,11 +36,58 @@ fn segment(brackets: (u8, u8, u8), bound: u16, gate: bool) -> Pair
         executable: true,
         writable: true,
         privileged: true,
-        unpaged: true,
-        no_gate: !gate,
+        unpaged,
+        no_gate: brackets.1 >= brackets.2,
         cached: false,
+    }
+}
+
+/// A walk over two frames. Segment 0 is of ring 0, 1 a gate of ring 0, 2 of rings 2 and 3, and 3 of ring 4, each at core
+/// word octal 2000; segment 4 is of ring 4 and has a page table at octal 100, whose page is frame 1.
+fn walk(alloc: Global) -> Result<Walk, NoMemory> {
+    let segments = [
+        segment(0o2000, (0, 0, 0), true),
+        segment(0o2000, (0, 0, 5), true),
+        segment(0o2000, (2, 3, 3), true),
+        segment(0o2000, (4, 4, 4), true),
+        segment(0o100, (4, 4, 4), false),
+    ];
+    let frame = Ptw {
+        addr: 16,
+        fc: 0,
+        used: false,
+        modified: false,
+        f: true,
     };
-    sdw.to_words()
+    let mut core = Core::new(alloc, 2)?;
+    let mut next = 0;
+    for sdw in segments.iter() {
+        let pair = sdw.to_words();
+        put(&mut core, next, pair.even);
+        put(&mut core, next.wrapping_add(1), pair.odd);
+        next = next.wrapping_add(2);
+    }
+    put(&mut core, 0o100, frame.to_words());
+    match Walk::new(alloc, core, DBR) {
+        Ok(walk) => Ok(walk),
+        Err(_core) => Err(NoMemory),
+    }
+}
+
+fn put(core: &mut Core, place: u32, word: Word) {
+    if place < core.len() {
+        core.poke(place, word);
+    }
+}
+
+/// Whether the page of segment 4 is marked as used, and as modified.
+fn marks(walk: &Walk) -> (bool, bool) {
+    let core = walk.core();
+    if core.len() <= 0o100 {
+        return (false, false);
+    }
+    let ptw = Ptw::of_words(core.peek(0o100));
+    (ptw.used, ptw.modified)
 }
 
 fn at(seg: u16, word: u32, ring: u8) -> At
@@ -72,15 +105,6 @@ fn pair(even: u64, odd: u64) -> Pair {
     }
 }
 
-fn word_at(walk: &Walk, place: u32) -> Option<Word> {
-    let core = walk.core();
-    if place < core.len() {
-        Some(core.peek(place))
-    } else {
-        None
-    }
-}
-
 fn violation(acv: u8, at: At) -> Fault {
     Fault {
         at,
@@ -90,52 +114,26 @@ fn violation(acv: u8, at: At) -> Fault {
 }
 
 #[test]
-fn bound_counts_blocks_of_16_words(rt: HostRuntime) -> Result<(), NoMemory> {
-    let sdw = segment((0, 0, 0), 0, false);
-    let words = [(2, sdw.even.value()), (3, sdw.odd.value()), (0o2017, 5)];
-    let mut walk = walk(rt.alloc(), &words)?;
-    assert!(rt; walk.read(at(1, 0o17, 0), 1) == Ok(Word::low(5)));
-    let beyond = at(1, 0o20, 0);
-    assert!(rt; walk.read(beyond, 1) == Err(violation(15, beyond)));
-    Ok(())
-}
-
-#[test]
-fn marks_the_pages_that_it_passes(rt: HostRuntime) -> Result<(), NoMemory> {
-    let words = [
-        (0o2, 0o000001000004),
-        (0o3, 0o000007500000),
-        (0o100, 0o000020000004),
-        (0o2000, 0o000002755000),
+fn targets_of_calls(rt: HostRuntime) -> Result<(), NoMemory> {
+    let mut walk = walk(rt.alloc())?;
+    // The target and the ring of the call, and the ring in which it goes on or the violation.
+    let calls = [
+        (at(1, 1, 4), Ok(0)),
+        (at(1, 2, 4), Err(7)),
+        (at(1, 1, 6), Err(8)),
+        (at(2, 0, 1), Err(9)),
+        (at(2, 0, 3), Ok(3)),
+        (at(2, 0o77, 3), Ok(3)),
+        (at(2, 0o100, 3), Err(15)),
     ];
-    let mut walk = walk(rt.alloc(), &words)?;
-    assert!(rt; walk.fetch(at(1, 0, 0)) == Ok((Word::low(0o000002755000), true)));
-    assert!(rt; word_at(&walk, 0o100) == Some(Word::low(0o000020001004)));
-    assert!(rt; walk.write(at(1, 2, 0), Word::low(7)) == Ok(()));
-    assert!(rt; word_at(&walk, 0o100) == Some(Word::low(0o000020001104)));
-    Ok(())
-}
-
-#[test]
-fn calls_through_a_gate(rt: HostRuntime) -> Result<(), NoMemory> {
-    let gate = segment((0, 0, 5), 3, true);
-    let outer = segment((2, 3, 3), 3, false);
-    let words = [
-        (2, gate.even.value()),
-        (3, gate.odd.value()),
-        (4, outer.even.value()),
-        (5, outer.odd.value()),
-    ];
-    let mut walk = walk(rt.alloc(), &words)?;
-    let from = |prr: u8| -> Ppr
-        requires { prr < 8 }
-    { Ppr { ic: 0, psr: 7, prr } };
-    assert!(rt; walk.call(at(1, 1, 4), from(4)) == Ok(0));
-    assert!(rt; walk.call(at(1, 2, 4), from(4)) == Err(violation(7, at(1, 2, 4))));
-    assert!(rt; walk.call(at(1, 1, 6), from(6)) == Err(violation(8, at(1, 1, 6))));
-    assert!(rt; walk.call(at(2, 0, 1), from(1)) == Err(violation(9, at(2, 0, 1))));
-    assert!(rt; walk.call(at(2, 0, 3), from(1)) == Err(violation(10, at(2, 0, 3))));
-    assert!(rt; walk.call(at(2, 0, 3), from(3)) == Ok(3));
+    for (target, expected) in calls.iter() {
+        let from = Ppr {
+            ic: 0,
+            psr: 7,
+            prr: target.ring,
+        };
+        assert!(rt; walk.call(*target, from) == expected.map_err(|acv| violation(acv, *target)));
+    }
     assert!(rt; walk.transfer(at(2, 0, 3), 3) == Ok(()));
     assert!(rt; walk.transfer(at(2, 0, 3), 2) == Err(violation(12, at(2, 0, 3))));
     assert!(rt; walk.first_ring(2) == Ok(2));
@@ -143,43 +141,47 @@ fn calls_through_a_gate(rt: HostRuntime) -> Result<(), NoMemory> {
 }
 
 #[test]
-fn reads_and_writes_pairs_and_blocks(rt: HostRuntime) -> Result<(), NoMemory> {
-    let sdw = segment((4, 4, 4), 3, false);
-    let words = [(2, sdw.even.value()), (3, sdw.odd.value())];
-    let mut walk = walk(rt.alloc(), &words)?;
-    assert!(rt; walk.write_pair(at(1, 5, 4), pair(1, 2)) == Ok(()));
-    assert!(rt; walk.read_pair(at(1, 4, 4), 0) == Ok(pair(1, 2)));
-    assert!(rt; walk.indirect(at(1, 4, 4), 0) == Ok((Word::low(1), 4)));
-    assert!(rt; walk.odd(at(1, 5, 4), 0) == Ok(Word::low(2)));
-    assert!(rt; walk.write_block(at(1, 0o27, 4), [pair(3, 4); 8]) == Ok(()));
-    assert!(rt; walk.read_block(at(1, 0o20, 4), 0) == Ok([pair(3, 4); 8]));
-    assert!(rt; walk.operand_pair(at(1, 0o77, 5), 0, &None) == Err(violation(3, at(1, 0o76, 5))));
+fn words_and_marks(rt: HostRuntime) -> Result<(), NoMemory> {
+    let mut walk = walk(rt.alloc())?;
+    assert!(rt; walk.fetch(at(0, 0o77, 0)) == Ok((Word::ZERO, true)));
+    assert!(rt; walk.read(at(0, 0o100, 0), 0) == Err(violation(15, at(0, 0o100, 0))));
+    assert!(rt; walk.content(4, 2) == Some(Word::ZERO) && marks(&walk) == (false, false));
+    assert!(rt; walk.write(at(4, 2, 5), Word::low(7)) == Err(violation(5, at(4, 2, 5))));
+    assert!(rt; walk.read(at(4, 2, 4), 0) == Ok(Word::ZERO) && marks(&walk) == (true, false));
+    assert!(rt; walk.write(at(4, 2, 4), Word::low(7)) == Ok(()) && marks(&walk) == (true, true));
+    assert!(rt; walk.write_pair(at(3, 5, 4), pair(1, 2)) == Ok(()));
+    assert!(rt; walk.read_pair(at(3, 4, 4), 0) == Ok(pair(1, 2)));
+    assert!(rt; walk.indirect(at(3, 4, 4), 0) == Ok((Word::low(1), 4)));
+    assert!(rt; walk.odd(at(3, 5, 4), 0) == Ok(Word::low(2)));
+    assert!(rt; walk.write_block(at(3, 0o27, 4), [pair(3, 4); 8]) == Ok(()));
+    assert!(rt; walk.read_block(at(3, 0o20, 4), 0) == Ok([pair(3, 4); 8]));
+    assert!(rt; walk.operand_pair(at(3, 0o77, 5), 0, &None) == Err(violation(3, at(3, 0o76, 5))));
     Ok(())
 }
 
 #[test]
 fn finds_places_as_core_stands(rt: HostRuntime) -> Result<(), NoMemory> {
-    let sdw = segment((4, 4, 4), 3, false);
-    let words = [(2, sdw.even.value()), (3, sdw.odd.value()), (0o2004, 3)];
-    let mut walk = walk(rt.alloc(), &words)?;
-    assert!(rt; walk.place(at(1, 0o37, 7)) == Ok(0o2037));
-    assert!(rt; walk.hold(at(1, 5, 4), 2) == Ok(0o2004));
+    let mut walk = walk(rt.alloc())?;
+    assert!(rt; walk.place(at(3, 0o37, 7)) == Ok(0o2037));
+    assert!(rt; walk.hold(at(3, 5, 4), 2) == Ok(0o2004));
     let pending = Some(Pending {
         word: Word::low(9),
         place: 0o2005,
     });
-    assert!(rt; walk.operand(at(1, 4, 4), 0, &pending) == Ok(Word::low(3)));
-    assert!(rt; walk.operand(at(1, 5, 4), 0, &pending) == Ok(Word::low(9)));
+    assert!(rt; walk.operand(at(3, 4, 4), 0, &pending) == Ok(Word::ZERO));
+    assert!(rt; walk.operand(at(3, 5, 4), 0, &pending) == Ok(Word::low(9)));
+    let before = walk.copy(rt.alloc())?;
     if walk.core().len() > 0o2005 {
         walk.store(0o2005, Word::low(6));
-        walk.core_mut().poke(0o2, Word::ZERO);
+        walk.core_mut().poke(0o6, Word::ZERO);
     }
     let missing = Fault {
-        at: at(1, 5, 4),
+        at: at(3, 5, 4),
         number: 16,
         acv: 0,
     };
-    assert!(rt; walk.read(at(1, 5, 4), 0) == Err(missing));
+    assert!(rt; walk.read(at(3, 5, 4), 0) == Err(missing));
+    assert!(rt; before.content(3, 5) == Some(Word::ZERO));
     walk.set_dbr(DBR);
     assert!(rt; walk.dbr() == DBR);
     Ok(())

@@ -5,6 +5,7 @@ ghost use Rattle.std.specs.Borrow.{sem};
 
 use m36_core::Core;
 use m36_desc::Dbr;
+use m36_word::NoMemory;
 use std::alloc::Global;
 use std::marker::Model;
 
@@ -32,6 +33,16 @@ impl Walk {
         ensures err { IfErr result (λ back. back ≡ core) }
     {
         Ok(Walk { core, dbr })
+    }
+
+    /// A second walk over a copy of core, by the same register. The error is want of memory alone.
+    pub fn copy(&self, alloc: Global) -> Result<Walk, NoMemory>
+        ensures { IfOk result (λ walk. (walk.core ≡ self.now.core) × (walk.dbr ≡ self.now.dbr)) }
+    {
+        Ok(Walk {
+            core: self.core.copy(alloc)?,
+            dbr: self.dbr,
+        })
     }
 
     /// Core as it stands.

@@ -6,8 +6,8 @@ ghost use Rattle.m36_model.specs.Place.{wrapped};
 ghost use Rattle.m36_walk.specs.Runs.{LiesIn, words_from};
 ghost use Rattle.m36_walk.specs.Words.{seen, run_changes, pair_words, block_words};
 
-use crate::descriptor::wrapped;
 use m36_core::Core;
+use m36_tables::wrapped;
 use m36_word::{Pair, Word};
 
 /// A word that an instruction is still to write, and that its own references see as written.

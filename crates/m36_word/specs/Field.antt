@@ -17,14 +17,17 @@ bit w i = field w i 1
 -- Getting after putting gives what was put.
 abbrev pub GetsWhatWasPut : Type 0
 GetsWhatWasPut =
-    (w first len v : ℕ) → 1 ≤ len → first + len ≤ 36 → v < 2 ^ len → field (with_field w first len v) first len ≡ v
+    (w first len v : ℕ) → 1 ≤ len → first + len ≤ 36 → v < 2 ^ len
+    → field (with_field w first len v) first len ≡ v
 
 -- Every other bit stays.
 abbrev pub KeepsOtherBits : Type 0
 KeepsOtherBits =
-    (w first len v i : ℕ) → 1 ≤ len → first + len ≤ 36 → v < 2 ^ len → i < 36 → (i < first) ⊎ (first + len ≤ i) → bit (with_field w first len v) i ≡ bit w i
+    (w first len v i : ℕ) → 1 ≤ len → first + len ≤ 36 → v < 2 ^ len → i < 36
+    → (i < first) ⊎ (first + len ≤ i) → bit (with_field w first len v) i ≡ bit w i
 
 -- A second put replaces the first.
 abbrev pub ReplacesFirstPut : Type 0
 ReplacesFirstPut =
-    (w first len v u : ℕ) → 1 ≤ len → first + len ≤ 36 → v < 2 ^ len → u < 2 ^ len → with_field (with_field w first len v) first len u ≡ with_field w first len u
+    (w first len v u : ℕ) → 1 ≤ len → first + len ≤ 36 → v < 2 ^ len → u < 2 ^ len
+    → with_field (with_field w first len v) first len u ≡ with_field w first len u

@@ -1,7 +1,8 @@
 //! Fields of a word, with their places as constants.
 
 ghost use Rattle.std.specs.Prelude.{ℕ, ◌≡◌, ◌+◌, ◌-◌, ◌≤◌, ◌^◌, ◌<◌};
-ghost use Rattle.m36_word.specs.Field.{field, with_field, GetsWhatWasPut, KeepsOtherBits, ReplacesFirstPut};
+ghost use Rattle.m36_word.specs.Field.{field, with_field, GetsWhatWasPut, KeepsOtherBits};
+ghost use Rattle.m36_word.specs.Field.{ReplacesFirstPut};
 
 use crate::word::Word;
 

@@ -1,7 +1,9 @@
--- What the code's changes are: the effects of the definitions, on the registers that the instruction began with.
+-- What the code's changes are: the effects of the definitions, on the registers that the
+-- instruction began with.
 use Rattle.std.specs.Prelude.{◌≡◌, ℕ, Bool, List, [], ◌∷◌, Result, Ok, Err}
 use Rattle.m36_model.specs.Registers.{RegsFields}
-use Rattle.m36_model.specs.Results.{EffectFields, A, Q, X, with_value, with_indicators, moved_on, words_of_held}
+use Rattle.m36_model.specs.Results.{EffectFields, A, Q, X, with_value, with_indicators, moved_on}
+use Rattle.m36_model.specs.Results.{words_of_held}
 use Rattle.m36_model.specs.Effect.{refused_here}
 use Rattle.m36_model.specs.declared.effects.Held.{Held}
 use Rattle.m36_model.specs.declared.outcome.Fault.{Fault}
@@ -25,7 +27,12 @@ stored (put_as.Two p) = p.even ∷ p.odd ∷ []
 
 -- the effect of a change on these registers
 abbrev pub changed : Change → RegsFields → EffectFields
-changed c g = record { regs = moved_on (with_indicators c.ind (taken c.taken g)); put = stored c.put; overflow = c.overflow }
+changed c g =
+    record {
+      regs = moved_on (with_indicators c.ind (taken c.taken g));
+      put = stored c.put;
+      overflow = c.overflow;
+    }
 
 -- an effect that is not refused, on these registers
 abbrev pub Gives : Change → RegsFields → Result EffectFields ℕ → Type 0
@@ -36,9 +43,10 @@ abbrev pub answer_changed : Result Change Fault → RegsFields → Result Effect
 answer_changed (Ok c) g = Ok (changed c g)
 answer_changed (Err f) g = Err f
 
--- Registers that stood as g, and stand as g' after the code's effect, with the words that it puts and whether it overflows. A refused
--- effect leaves them.
-abbrev pub LeavesSo : RegsFields → RegsFields → Held → Result Bool Fault → Result EffectFields Fault → Type 0
+-- Registers that stood as g, and stand as g' after the code's effect, with the words that it puts
+-- and whether it overflows. A refused effect leaves them.
+abbrev pub LeavesSo :
+    RegsFields → RegsFields → Held → Result Bool Fault → Result EffectFields Fault → Type 0
 LeavesSo g g' put (Ok overflow) definition =
     Ok (record { regs = g'; put = words_of_held put; overflow = overflow }) ≡ definition
 LeavesSo g g' put (Err f) definition = (Err f ≡ definition) × (g' ≡ g)

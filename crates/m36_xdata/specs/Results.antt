@@ -3,4 +3,11 @@ use Rattle.m36_model.specs.Arithmetic.{SumFields}
 use Rattle.m36_xdata.specs.declared.numbers.Computed.{Computed}
 
 abbrev pub sum_fields : Computed → SumFields
-sum_fields s = record { value = s.value; zero = s.zero; negative = s.negative; carry = s.carry; overflow = s.overflow }
+sum_fields s =
+    record {
+      value = s.value;
+      zero = s.zero;
+      negative = s.negative;
+      carry = s.carry;
+      overflow = s.overflow;
+    }

@@ -49,7 +49,8 @@ fn held(put: Stored) -> Held
 #[tactic(auto, unfolding(m36_model::specs::Results::moved_on, m36_model::specs::Results::with_value))]
 #[inline(always)]
 pub fn applied(c: &Change, regs: &mut Regs, put: &mut Held) -> bool
-    ensures value { record { regs = regs.new; put = words_of_held put.new; overflow = result } ≡ changed c.now regs.old }
+    ensures value { record { regs = regs.new; put = words_of_held put.new; overflow = result }
+        ≡ changed c.now regs.old }
     ensures put { words_of_held put.new ≡ stored c.now.put }
     ensures dbr { regs.new.dbr ≡ regs.old.dbr }
 {

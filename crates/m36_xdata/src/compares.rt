@@ -3,7 +3,8 @@
 ghost use Rattle.std.specs.Prelude.{◌≡◌, IsTrue, length};
 ghost use Rattle.m36_model.specs.OperandHeld.{is_word};
 ghost use Rattle.m36_model.specs.Results.{operand, operand_fields, word};
-ghost use Rattle.m36_model.specs.Compares.{compare, test_word, test_and_clear, compare_masked, test_and, test_and_not};
+ghost use Rattle.m36_model.specs.Compares.{compare, test_word, test_and_clear, compare_masked};
+ghost use Rattle.m36_model.specs.Compares.{test_and, test_and_not};
 ghost use Rattle.m36_xdata.specs.Registers.{working, IsRegister, HoldsNumber};
 ghost use Rattle.m36_xdata.specs.Changes.{Gives, stored};
 
@@ -22,7 +23,8 @@ use m36_word::Word;
 pub fn compare(r: Register, given: &Operand36, regs: &Regs) -> Change
     requires register { IsRegister r }
     requires got { HoldsNumber r given.now.got }
-    ensures value { Gives result regs.now (compare (working r) (operand (working r) (operand_fields given.now)) regs.now) }
+    ensures value { Gives result regs.now
+        (compare (working r) (operand (working r) (operand_fields given.now)) regs.now) }
     ensures put { length (stored result.put) ≡ 0 }
 {
     sets(
@@ -55,7 +57,8 @@ pub fn test_word(given: &Operand36, regs: &Regs) -> Change
 #[tactic(auto, unfolding(m36_model::specs::Compares::test_and_clear))]
 pub fn test_and_clear(given: &Operand36, regs: &Regs) -> Change
     requires { IsTrue (is_word given.now.got) }
-    ensures value { Gives result regs.now (test_and_clear (word (operand_fields given.now)) regs.now) }
+    ensures value { Gives result regs.now
+        (test_and_clear (word (operand_fields given.now)) regs.now) }
     ensures put { length (stored result.put) ≡ 1 }
 {
     let ind = zn(
@@ -75,7 +78,8 @@ pub fn test_and_clear(given: &Operand36, regs: &Regs) -> Change
 #[tactic(auto, unfolding(m36_model::specs::Compares::compare_masked))]
 pub fn compare_masked(given: &Operand36, regs: &Regs) -> Change
     requires { IsTrue (is_word given.now.got) }
-    ensures value { Gives result regs.now (compare_masked (word (operand_fields given.now)) regs.now) }
+    ensures value { Gives result regs.now
+        (compare_masked (word (operand_fields given.now)) regs.now) }
     ensures put { length (stored result.put) ≡ 0 }
 {
     let other = differing(
@@ -92,7 +96,8 @@ pub fn compare_masked(given: &Operand36, regs: &Regs) -> Change
 pub fn test_and(r: Register, given: &Operand36, regs: &Regs) -> Change
     requires register { IsRegister r }
     requires got { HoldsNumber r given.now.got }
-    ensures value { Gives result regs.now (test_and (working r) (operand (working r) (operand_fields given.now)) regs.now) }
+    ensures value { Gives result regs.now
+        (test_and (working r) (operand (working r) (operand_fields given.now)) regs.now) }
     ensures put { length (stored result.put) ≡ 0 }
 {
     sets(
@@ -110,7 +115,8 @@ pub fn test_and(r: Register, given: &Operand36, regs: &Regs) -> Change
 pub fn test_and_not(r: Register, given: &Operand36, regs: &Regs) -> Change
     requires register { IsRegister r }
     requires got { HoldsNumber r given.now.got }
-    ensures value { Gives result regs.now (test_and_not (working r) (operand (working r) (operand_fields given.now)) regs.now) }
+    ensures value { Gives result regs.now
+        (test_and_not (working r) (operand (working r) (operand_fields given.now)) regs.now) }
     ensures put { length (stored result.put) ≡ 0 }
 {
     sets(

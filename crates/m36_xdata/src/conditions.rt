@@ -1,7 +1,8 @@
 //! The indicators that results set.
 
 ghost use Rattle.std.specs.Prelude.{◌≡◌, ◌||◌};
-ghost use Rattle.m36_model.specs.Results.{half, zn, zn_carry, zn_overflow, zn_carry_overflow, compared, with_zero};
+ghost use Rattle.m36_model.specs.Results.{half, zn, zn_carry, zn_overflow, zn_carry_overflow};
+ghost use Rattle.m36_model.specs.Results.{compared, with_zero};
 ghost use Rattle.m36_model.specs.ShiftEffects.{with_carry};
 ghost use Rattle.m36_xdata.specs.Registers.{working};
 ghost use Rattle.m36_xdata.specs.Results.{sum_fields};

@@ -35,7 +35,8 @@ fn changed_by(row: &Row, regs: &Regs, f: &Final, given: &Operand36) -> Change
     requires whole { IsTrue (is_never_refused row.now.effect) }
     requires reg { row.now.reg < 8 }
     requires got { HoldsFor (operand_of row.now.effect) given.now.got }
-    ensures value { Gives result regs.now (exec row.now.effect row.now.reg regs.now f.now (operand_fields given.now)) }
+    ensures value { Gives result regs.now
+        (exec row.now.effect row.now.reg regs.now f.now (operand_fields given.now)) }
     ensures put { PutsFor (operand_of row.now.effect) (stored result.put) }
 {
     match row.effect {
@@ -163,7 +164,9 @@ pub fn exec_in_place(
     requires data { IsTrue (is_data row.now.effect) }
     requires reg { row.now.reg < 8 }
     requires got { HoldsFor (operand_of row.now.effect) operand.now.got }
-    ensures value { LeavesSo regs.old regs.new put.new result (refused_here regs.old (exec row.now.effect row.now.reg regs.old f.now (operand_fields operand.now))) }
+    ensures value { LeavesSo regs.old regs.new put.new result
+        (refused_here regs.old
+        (exec row.now.effect row.now.reg regs.old f.now (operand_fields operand.now))) }
     ensures put { IfOk result (λ o. PutsFor (operand_of row.now.effect) (words_of_held put.new)) }
     ensures dbr { regs.new.dbr ≡ regs.old.dbr }
 {
@@ -189,7 +192,9 @@ pub fn exec(row: &Row, regs: &Regs, f: &Final, operand: Operand36) -> Result<Eff
     requires data { IsTrue (is_data row.now.effect) }
     requires reg { row.now.reg < 8 }
     requires got { HoldsFor (operand_of row.now.effect) operand.got }
-    ensures value { answer_fields result ≡ refused_here regs.now (exec row.now.effect row.now.reg regs.now f.now (operand_fields operand)) }
+    ensures value { answer_fields result
+        ≡ refused_here regs.now
+        (exec row.now.effect row.now.reg regs.now f.now (operand_fields operand)) }
     ensures put { IfOk result (λ e. PutsFor (operand_of row.now.effect) (words_of_held e.put)) }
 {
     let mut after = *regs;

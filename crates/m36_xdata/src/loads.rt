@@ -3,7 +3,8 @@
 ghost use Rattle.std.specs.Prelude.{◌≡◌, ◌*◌, ◌^◌, ◌<◌, IsTrue, length};
 ghost use Rattle.m36_model.specs.OperandHeld.{is_word};
 ghost use Rattle.m36_model.specs.Results.{A, Q, X, half, operand, operand_fields, word, lower};
-ghost use Rattle.m36_model.specs.Loads.{load, load_complement, load_and_clear, address_in_upper, indicators_of, load_indicators};
+ghost use Rattle.m36_model.specs.Loads.{load, load_complement, load_and_clear, address_in_upper};
+ghost use Rattle.m36_model.specs.Loads.{indicators_of, load_indicators};
 ghost use Rattle.m36_xdata.specs.Registers.{working, IsRegister, HoldsNumber};
 ghost use Rattle.m36_xdata.specs.Changes.{Gives, stored};
 
@@ -30,7 +31,8 @@ fn load_number(r: Register, v: u128, regs: &Regs) -> Change
 pub fn load(r: Register, given: &Operand36, regs: &Regs) -> Change
     requires register { IsRegister r }
     requires got { HoldsNumber r given.now.got }
-    ensures value { Gives result regs.now (load (working r) (operand (working r) (operand_fields given.now)) regs.now) }
+    ensures value { Gives result regs.now
+        (load (working r) (operand (working r) (operand_fields given.now)) regs.now) }
     ensures put { length (stored result.put) ≡ 0 }
 {
     load_number(r, number_got(r, given), regs)
@@ -51,7 +53,8 @@ pub fn load_lower(n: u8, given: &Operand36, regs: &Regs) -> Change
 pub fn load_complement(r: Register, given: &Operand36, regs: &Regs) -> Change
     requires register { IsRegister r }
     requires got { HoldsNumber r given.now.got }
-    ensures value { Gives result regs.now (load_complement (working r) (operand (working r) (operand_fields given.now)) regs.now) }
+    ensures value { Gives result regs.now
+        (load_complement (working r) (operand (working r) (operand_fields given.now)) regs.now) }
     ensures put { length (stored result.put) ≡ 0 }
 {
     let s = negation(r, number_got(r, given));
@@ -69,7 +72,8 @@ pub fn load_complement(r: Register, given: &Operand36, regs: &Regs) -> Change
 pub fn load_and_clear(r: Register, given: &Operand36, regs: &Regs) -> Change
     requires register { IsRegister r }
     requires got { HoldsNumber r given.now.got }
-    ensures value { Gives result regs.now (load_and_clear (working r) (operand (working r) (operand_fields given.now)) regs.now) }
+    ensures value { Gives result regs.now
+        (load_and_clear (working r) (operand (working r) (operand_fields given.now)) regs.now) }
     ensures put { length (stored result.put) ≡ 1 }
 {
     let v = number_got(r, given);
@@ -132,7 +136,8 @@ fn indicators_of(w: Word) -> Ind
 #[tactic(auto, unfolding(m36_model::specs::Loads::load_indicators))]
 pub fn load_indicators(given: &Operand36, regs: &Regs) -> Change
     requires { IsTrue (is_word given.now.got) }
-    ensures value { Gives result regs.now (load_indicators (word (operand_fields given.now)) regs.now) }
+    ensures value { Gives result regs.now
+        (load_indicators (word (operand_fields given.now)) regs.now) }
     ensures put { length (stored result.put) ≡ 0 }
 {
     sets(indicators_of(word_got(given)), regs)

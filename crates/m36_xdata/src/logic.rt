@@ -2,7 +2,8 @@
 
 ghost use Rattle.std.specs.Prelude.{◌≡◌, ◌*◌, ◌<◌, length};
 ghost use Rattle.m36_model.specs.Results.{half, operand, operand_fields};
-ghost use Rattle.m36_model.specs.Logic.{bits_into_operand, and_register, or_register, xor_register, and_storage, or_storage, xor_storage};
+ghost use Rattle.m36_model.specs.Logic.{bits_into_operand, and_register, or_register, xor_register};
+ghost use Rattle.m36_model.specs.Logic.{and_storage, or_storage, xor_storage};
 ghost use Rattle.m36_xdata.specs.Registers.{working, IsRegister, HoldsNumber, PutsNumber};
 ghost use Rattle.m36_xdata.specs.Changes.{Gives, stored};
 
@@ -19,7 +20,8 @@ use m36_model::{Operand36, Regs};
 pub fn and_register(r: Register, given: &Operand36, regs: &Regs) -> Change
     requires register { IsRegister r }
     requires got { HoldsNumber r given.now.got }
-    ensures value { Gives result regs.now (and_register (working r) (operand (working r) (operand_fields given.now)) regs.now) }
+    ensures value { Gives result regs.now
+        (and_register (working r) (operand (working r) (operand_fields given.now)) regs.now) }
     ensures put { length (stored result.put) ≡ 0 }
 {
     takes_tested(r, both(r, number_in(r, regs), number_got(r, given)), regs)
@@ -30,7 +32,8 @@ pub fn and_register(r: Register, given: &Operand36, regs: &Regs) -> Change
 pub fn or_register(r: Register, given: &Operand36, regs: &Regs) -> Change
     requires register { IsRegister r }
     requires got { HoldsNumber r given.now.got }
-    ensures value { Gives result regs.now (or_register (working r) (operand (working r) (operand_fields given.now)) regs.now) }
+    ensures value { Gives result regs.now
+        (or_register (working r) (operand (working r) (operand_fields given.now)) regs.now) }
     ensures put { length (stored result.put) ≡ 0 }
 {
     takes_tested(r, either(r, number_in(r, regs), number_got(r, given)), regs)
@@ -41,7 +44,8 @@ pub fn or_register(r: Register, given: &Operand36, regs: &Regs) -> Change
 pub fn xor_register(r: Register, given: &Operand36, regs: &Regs) -> Change
     requires register { IsRegister r }
     requires got { HoldsNumber r given.now.got }
-    ensures value { Gives result regs.now (xor_register (working r) (operand (working r) (operand_fields given.now)) regs.now) }
+    ensures value { Gives result regs.now
+        (xor_register (working r) (operand (working r) (operand_fields given.now)) regs.now) }
     ensures put { length (stored result.put) ≡ 0 }
 {
     takes_tested(
@@ -65,7 +69,8 @@ fn bits_into_operand(r: Register, v: u128, regs: &Regs) -> Change
 pub fn and_storage(r: Register, given: &Operand36, regs: &Regs) -> Change
     requires register { IsRegister r }
     requires got { HoldsNumber r given.now.got }
-    ensures value { Gives result regs.now (and_storage (working r) (operand (working r) (operand_fields given.now)) regs.now) }
+    ensures value { Gives result regs.now
+        (and_storage (working r) (operand (working r) (operand_fields given.now)) regs.now) }
     ensures put { PutsNumber r (stored result.put) }
 {
     bits_into_operand(r, both(r, number_in(r, regs), number_got(r, given)), regs)
@@ -76,7 +81,8 @@ pub fn and_storage(r: Register, given: &Operand36, regs: &Regs) -> Change
 pub fn or_storage(r: Register, given: &Operand36, regs: &Regs) -> Change
     requires register { IsRegister r }
     requires got { HoldsNumber r given.now.got }
-    ensures value { Gives result regs.now (or_storage (working r) (operand (working r) (operand_fields given.now)) regs.now) }
+    ensures value { Gives result regs.now
+        (or_storage (working r) (operand (working r) (operand_fields given.now)) regs.now) }
     ensures put { PutsNumber r (stored result.put) }
 {
     bits_into_operand(r, either(r, number_in(r, regs), number_got(r, given)), regs)
@@ -87,7 +93,8 @@ pub fn or_storage(r: Register, given: &Operand36, regs: &Regs) -> Change
 pub fn xor_storage(r: Register, given: &Operand36, regs: &Regs) -> Change
     requires register { IsRegister r }
     requires got { HoldsNumber r given.now.got }
-    ensures value { Gives result regs.now (xor_storage (working r) (operand (working r) (operand_fields given.now)) regs.now) }
+    ensures value { Gives result regs.now
+        (xor_storage (working r) (operand (working r) (operand_fields given.now)) regs.now) }
     ensures put { PutsNumber r (stored result.put) }
 {
     bits_into_operand(

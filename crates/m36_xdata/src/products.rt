@@ -47,7 +47,8 @@ fn here(regs: &Regs) -> At
 #[tactic(auto, unfolding(m36_model::specs::Products::divide, m36_model::specs::Results::with_value))]
 pub fn divide(given: &Operand36, regs: &Regs) -> Result<Change, Fault>
     requires { IsTrue (is_word given.now.got) }
-    ensures value { answer_changed result regs.now ≡ refused_here regs.now (divide (word (operand_fields given.now)) regs.now) }
+    ensures value { answer_changed result regs.now
+        ≡ refused_here regs.now (divide (word (operand_fields given.now)) regs.now) }
     ensures put { IfOk result (λ e. length (stored e.put) ≡ 0) }
 {
     match div(quotient(regs), word_got(given)) {

@@ -1,7 +1,8 @@
 //! What most effects come to: a register takes a number, indicators are set, or words are written.
 
 ghost use Rattle.std.specs.Prelude.{◌≡◌, ◌*◌, ◌<◌, [], length};
-ghost use Rattle.m36_model.specs.Results.{half, words, takes, with_indicators, with_value, zn, completes, completes_or_overflows};
+ghost use Rattle.m36_model.specs.Results.{half, words, takes, with_indicators, with_value, zn};
+ghost use Rattle.m36_model.specs.Results.{completes, completes_or_overflows};
 ghost use Rattle.m36_xdata.specs.Registers.{working, IsRegister, PutsNumber};
 ghost use Rattle.m36_xdata.specs.Changes.{Gives, stored, taken};
 
@@ -31,7 +32,8 @@ pub fn new_value(r: Register, v: u128, regs: &Regs) -> Taken
 pub fn takes(r: Register, v: u128, ind: Ind, overflow: bool, regs: &Regs) -> Change
     requires register { IsRegister r }
     requires number { v < 2 * half (working r) }
-    ensures value { Gives result regs.now (completes_or_overflows (takes (working r) v ind regs.now) [] overflow) }
+    ensures value { Gives result regs.now
+        (completes_or_overflows (takes (working r) v ind regs.now) [] overflow) }
     ensures put { length (stored result.put) ≡ 0 }
 {
     Change {
@@ -46,7 +48,8 @@ pub fn takes(r: Register, v: u128, ind: Ind, overflow: bool, regs: &Regs) -> Cha
 pub fn takes_tested(r: Register, v: u128, regs: &Regs) -> Change
     requires register { IsRegister r }
     requires number { v < 2 * half (working r) }
-    ensures value { Gives result regs.now (completes (takes (working r) v (zn (half (working r)) v regs.now.ind) regs.now)) }
+    ensures value { Gives result regs.now
+        (completes (takes (working r) v (zn (half (working r)) v regs.now.ind) regs.now)) }
     ensures put { length (stored result.put) ≡ 0 }
 {
     takes(r, v, zn(r, v, indicators(regs)), false, regs)
@@ -68,7 +71,8 @@ pub fn sets(ind: Ind, regs: &Regs) -> Change
 /// A number of a register's width goes into the operand, and these indicators are set.
 pub fn puts(r: Register, v: u128, ind: Ind, overflow: bool, regs: &Regs) -> Change
     requires { v < 2 * half (working r) }
-    ensures value { Gives result regs.now (completes_or_overflows (with_indicators ind regs.now) (words (working r) v) overflow) }
+    ensures value { Gives result regs.now
+        (completes_or_overflows (with_indicators ind regs.now) (words (working r) v) overflow) }
     ensures put { PutsNumber r (stored result.put) }
 {
     Change {

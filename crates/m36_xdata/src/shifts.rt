@@ -4,7 +4,8 @@ ghost use Rattle.std.specs.Prelude.{◌≡◌, ◌*◌, ◌<◌, length};
 ghost use Rattle.m36_arith.specs.ShiftResult.{shifted, shift_carry};
 ghost use Rattle.m36_model.specs.Shifts.{count_of};
 ghost use Rattle.m36_model.specs.Results.{half, width};
-ghost use Rattle.m36_model.specs.ShiftEffects.{shift_left, shift_right, shift_right_logical, rotate_left};
+ghost use Rattle.m36_model.specs.ShiftEffects.{shift_left, shift_right, shift_right_logical};
+ghost use Rattle.m36_model.specs.ShiftEffects.{rotate_left};
 ghost use Rattle.m36_xdata.specs.Registers.{working, IsRegister, IsShifted};
 ghost use Rattle.m36_xdata.specs.Changes.{Gives, stored};
 

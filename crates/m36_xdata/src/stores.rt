@@ -4,7 +4,8 @@ ghost use Rattle.std.specs.Prelude.{◌≡◌, ◌*◌, ◌^◌, ◌<◌, ◌==�
 ghost use Rattle.m36_word.specs.Bits.{of_bit};
 ghost use Rattle.m36_model.specs.OperandHeld.{is_word};
 ghost use Rattle.m36_model.specs.Results.{operand_fields, word};
-ghost use Rattle.m36_model.specs.Stores.{store, store_zero, indicators_half, store_indicators, store_where_zero, store_where_equal};
+ghost use Rattle.m36_model.specs.Stores.{store, store_zero, indicators_half, store_indicators};
+ghost use Rattle.m36_model.specs.Stores.{store_where_zero, store_where_equal};
 ghost use Rattle.m36_xdata.specs.Registers.{working, IsRegister, PutsNumber};
 ghost use Rattle.m36_model.specs.WordsPut.{IsHalf};
 ghost use Rattle.m36_xdata.specs.Changes.{Gives, stored};
@@ -97,7 +98,8 @@ fn chosen(first: bool, a: Word, b: Word) -> Word
 #[tactic(auto, unfolding(m36_model::specs::Stores::store_where_zero))]
 pub fn store_where_zero(given: &Operand36, regs: &Regs) -> Change
     requires { IsTrue (is_word given.now.got) }
-    ensures value { Gives result regs.now (store_where_zero (word (operand_fields given.now)) regs.now) }
+    ensures value { Gives result regs.now
+        (store_where_zero (word (operand_fields given.now)) regs.now) }
     ensures put { length (stored result.put) ≡ 1 }
 {
     let old = word_got(given);
@@ -114,7 +116,8 @@ pub fn store_where_zero(given: &Operand36, regs: &Regs) -> Change
 #[tactic(auto, unfolding(m36_model::specs::Stores::store_where_equal))]
 pub fn store_where_equal(given: &Operand36, regs: &Regs) -> Change
     requires { IsTrue (is_word given.now.got) }
-    ensures value { Gives result regs.now (store_where_equal (word (operand_fields given.now)) regs.now) }
+    ensures value { Gives result regs.now
+        (store_where_equal (word (operand_fields given.now)) regs.now) }
     ensures put { length (stored result.put) ≡ 1 }
 {
     let old = word_got(given);

@@ -3,7 +3,10 @@
 ghost use Rattle.std.specs.Prelude.{◌≡◌, ◌*◌, ◌^◌, ◌<◌, IsTrue, length, not};
 ghost use Rattle.m36_model.specs.OperandHeld.{is_word};
 ghost use Rattle.m36_model.specs.Results.{AQ, half, operand, operand_fields, word};
-ghost use Rattle.m36_model.specs.Sums.{into_register, into_register_logical, into_operand, add, add_logical, add_with_carry, sign_extended, subtract, subtract_logical, subtract_with_carry, add_one_to_storage, add_to_storage, subtract_stored, negate};
+ghost use Rattle.m36_model.specs.Sums.{into_register, into_register_logical, into_operand, add};
+ghost use Rattle.m36_model.specs.Sums.{add_logical, add_with_carry, sign_extended, subtract};
+ghost use Rattle.m36_model.specs.Sums.{subtract_logical, subtract_with_carry, add_one_to_storage};
+ghost use Rattle.m36_model.specs.Sums.{add_to_storage, subtract_stored, negate};
 ghost use Rattle.m36_xdata.specs.Registers.{working, IsRegister, HoldsNumber, PutsNumber};
 ghost use Rattle.m36_xdata.specs.Results.{sum_fields};
 ghost use Rattle.m36_xdata.specs.Changes.{Gives, stored};
@@ -43,7 +46,8 @@ fn into_register(r: Register, s: Computed, regs: &Regs) -> Change
 fn into_register_logical(r: Register, s: Computed, regs: &Regs) -> Change
     requires register { IsRegister r }
     requires number { s.value < 2 * half (working r) }
-    ensures value { Gives result regs.now (into_register_logical (working r) (sum_fields s) regs.now) }
+    ensures value { Gives result regs.now
+        (into_register_logical (working r) (sum_fields s) regs.now) }
     ensures put { length (stored result.put) ≡ 0 }
 {
     takes(r, s.value, zn_carry(s, indicators(regs)), false, regs)
@@ -78,7 +82,8 @@ fn add_number(r: Register, v: u128, regs: &Regs) -> Change
 pub fn add(r: Register, given: &Operand36, regs: &Regs) -> Change
     requires register { IsRegister r }
     requires got { HoldsNumber r given.now.got }
-    ensures value { Gives result regs.now (add (working r) (operand (working r) (operand_fields given.now)) regs.now) }
+    ensures value { Gives result regs.now
+        (add (working r) (operand (working r) (operand_fields given.now)) regs.now) }
     ensures put { length (stored result.put) ≡ 0 }
 {
     add_number(r, number_got(r, given), regs)
@@ -100,7 +105,8 @@ fn sign_extended(w: Word) -> u128
 /// ADL: AQ plus the word with its sign extended.
 pub fn add_low(given: &Operand36, regs: &Regs) -> Change
     requires { IsTrue (is_word given.now.got) }
-    ensures value { Gives result regs.now (add AQ (sign_extended (word (operand_fields given.now))) regs.now) }
+    ensures value { Gives result regs.now
+        (add AQ (sign_extended (word (operand_fields given.now))) regs.now) }
     ensures put { length (stored result.put) ≡ 0 }
 {
     add_number(Register::Aq, sign_extended(word_got(given)), regs)
@@ -111,7 +117,8 @@ pub fn add_low(given: &Operand36, regs: &Regs) -> Change
 pub fn add_logical(r: Register, given: &Operand36, regs: &Regs) -> Change
     requires register { IsRegister r }
     requires got { HoldsNumber r given.now.got }
-    ensures value { Gives result regs.now (add_logical (working r) (operand (working r) (operand_fields given.now)) regs.now) }
+    ensures value { Gives result regs.now
+        (add_logical (working r) (operand (working r) (operand_fields given.now)) regs.now) }
     ensures put { length (stored result.put) ≡ 0 }
 {
     into_register_logical(
@@ -126,7 +133,8 @@ pub fn add_logical(r: Register, given: &Operand36, regs: &Regs) -> Change
 pub fn add_with_carry(r: Register, given: &Operand36, regs: &Regs) -> Change
     requires register { IsRegister r }
     requires got { HoldsNumber r given.now.got }
-    ensures value { Gives result regs.now (add_with_carry (working r) (operand (working r) (operand_fields given.now)) regs.now) }
+    ensures value { Gives result regs.now
+        (add_with_carry (working r) (operand (working r) (operand_fields given.now)) regs.now) }
     ensures put { length (stored result.put) ≡ 0 }
 {
     into_register(
@@ -141,7 +149,8 @@ pub fn add_with_carry(r: Register, given: &Operand36, regs: &Regs) -> Change
 pub fn subtract(r: Register, given: &Operand36, regs: &Regs) -> Change
     requires register { IsRegister r }
     requires got { HoldsNumber r given.now.got }
-    ensures value { Gives result regs.now (subtract (working r) (operand (working r) (operand_fields given.now)) regs.now) }
+    ensures value { Gives result regs.now
+        (subtract (working r) (operand (working r) (operand_fields given.now)) regs.now) }
     ensures put { length (stored result.put) ≡ 0 }
 {
     into_register(
@@ -156,7 +165,8 @@ pub fn subtract(r: Register, given: &Operand36, regs: &Regs) -> Change
 pub fn subtract_logical(r: Register, given: &Operand36, regs: &Regs) -> Change
     requires register { IsRegister r }
     requires got { HoldsNumber r given.now.got }
-    ensures value { Gives result regs.now (subtract_logical (working r) (operand (working r) (operand_fields given.now)) regs.now) }
+    ensures value { Gives result regs.now
+        (subtract_logical (working r) (operand (working r) (operand_fields given.now)) regs.now) }
     ensures put { length (stored result.put) ≡ 0 }
 {
     into_register_logical(
@@ -171,7 +181,9 @@ pub fn subtract_logical(r: Register, given: &Operand36, regs: &Regs) -> Change
 pub fn subtract_with_carry(r: Register, given: &Operand36, regs: &Regs) -> Change
     requires register { IsRegister r }
     requires got { HoldsNumber r given.now.got }
-    ensures value { Gives result regs.now (subtract_with_carry (working r) (operand (working r) (operand_fields given.now)) regs.now) }
+    ensures value { Gives result regs.now
+        (subtract_with_carry (working r) (operand (working r) (operand_fields given.now))
+        regs.now) }
     ensures put { length (stored result.put) ≡ 0 }
 {
     into_register(
@@ -185,7 +197,8 @@ pub fn subtract_with_carry(r: Register, given: &Operand36, regs: &Regs) -> Chang
 #[tactic(auto, unfolding(m36_model::specs::Sums::add_one_to_storage))]
 pub fn add_one_to_storage(given: &Operand36, regs: &Regs) -> Change
     requires { IsTrue (is_word given.now.got) }
-    ensures value { Gives result regs.now (add_one_to_storage (word (operand_fields given.now)) regs.now) }
+    ensures value { Gives result regs.now
+        (add_one_to_storage (word (operand_fields given.now)) regs.now) }
     ensures put { length (stored result.put) ≡ 1 }
 {
     into_operand(
@@ -200,7 +213,8 @@ pub fn add_one_to_storage(given: &Operand36, regs: &Regs) -> Change
 pub fn add_to_storage(r: Register, given: &Operand36, regs: &Regs) -> Change
     requires register { IsRegister r }
     requires got { HoldsNumber r given.now.got }
-    ensures value { Gives result regs.now (add_to_storage (working r) (operand (working r) (operand_fields given.now)) regs.now) }
+    ensures value { Gives result regs.now
+        (add_to_storage (working r) (operand (working r) (operand_fields given.now)) regs.now) }
     ensures put { PutsNumber r (stored result.put) }
 {
     into_operand(
@@ -215,7 +229,8 @@ pub fn add_to_storage(r: Register, given: &Operand36, regs: &Regs) -> Change
 pub fn subtract_stored(r: Register, given: &Operand36, regs: &Regs) -> Change
     requires register { IsRegister r }
     requires got { HoldsNumber r given.now.got }
-    ensures value { Gives result regs.now (subtract_stored (working r) (operand (working r) (operand_fields given.now)) regs.now) }
+    ensures value { Gives result regs.now
+        (subtract_stored (working r) (operand (working r) (operand_fields given.now)) regs.now) }
     ensures put { PutsNumber r (stored result.put) }
 {
     into_operand(

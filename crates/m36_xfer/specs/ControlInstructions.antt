@@ -1,6 +1,6 @@
--- The instructions of this crate: transfers of control, call and return, no operation, and the privileged instructions that
--- have an address. Multics Processor Manual AL39, "Transfer of control instructions", "Miscellaneous instructions",
--- "Privileged instructions".
+-- The instructions of this crate: transfers of control, call and return, no operation, and the
+-- privileged instructions that have an address. Multics Processor Manual AL39, "Transfer of control
+-- instructions", "Miscellaneous instructions", "Privileged instructions".
 use Rattle.std.specs.Prelude.{Bool, true, false}
 use Rattle.m36_inst.specs.declared.effect.Effect.{Effect}
 use Rattle.m36_inst.specs.declared.effect.Effect.TheVariants as effect

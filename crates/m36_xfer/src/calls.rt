@@ -3,7 +3,8 @@
 ghost use Rattle.std.specs.Prelude.{◌≡◌, ◌<◌, ◌^◌, Ok, IsTrue, map};
 ghost use Rattle.m36_model.specs.OperandHeld.{is_pair};
 ghost use Rattle.m36_model.specs.Results.{effect_fields, operand_fields};
-ghost use Rattle.m36_model.specs.CallReturn.{call, return_to, stack_segment, stack_pointer, return_ring, pointer_in_ring};
+ghost use Rattle.m36_model.specs.CallReturn.{call, return_to, stack_segment, stack_pointer};
+ghost use Rattle.m36_model.specs.CallReturn.{return_ring, pointer_in_ring};
 
 use m36_desc::{Its, Ptr};
 use m36_model::{Effect36, Final, Held, Operand36, Ppr, Regs};

@@ -23,7 +23,9 @@ pub fn exec(row: &Row, regs: &Regs, f: &Final, operand: Operand36) -> Result<Eff
     requires control { IsTrue (is_control row.now.effect) }
     requires reg { row.now.reg < 8 }
     requires got { HoldsFor (operand_of row.now.effect) operand.got }
-    ensures value { answer_fields result ≡ refused_here regs.now (exec row.now.effect row.now.reg regs.now f.now (operand_fields operand)) }
+    ensures value { answer_fields result
+        ≡ refused_here regs.now
+        (exec row.now.effect row.now.reg regs.now f.now (operand_fields operand)) }
     ensures put { IfOk result (λ e. PutsFor (operand_of row.now.effect) (words_of_held e.put)) }
 {
     dispatch(row, regs, f, operand)
@@ -35,7 +37,9 @@ fn dispatch(row: &Row, regs: &Regs, f: &Final, operand: Operand36) -> Result<Eff
     requires control { IsTrue (is_control row.now.effect) }
     requires reg { row.now.reg < 8 }
     requires got { HoldsFor (operand_of row.now.effect) operand.got }
-    ensures { answer_fields result ≡ refused_here regs.now (exec row.now.effect row.now.reg regs.now f.now (operand_fields operand)) }
+    ensures { answer_fields result
+        ≡ refused_here regs.now
+        (exec row.now.effect row.now.reg regs.now f.now (operand_fields operand)) }
 {
     match row.effect {
         Effect::Tra

@@ -41,7 +41,8 @@ pub fn store_dbr(regs: &Regs) -> Effect36
 /// ABSA: a place in core, in the first 24 bits of A.
 #[tactic(auto, unfolding(m36_model::specs::Privileged::load_absolute_address, m36_model::specs::Results::with_value, m36_model::specs::Results::zn))]
 pub fn load_absolute_address(regs: &Regs, operand: &Operand36) -> Effect36
-    ensures { Ok (effect_fields result) ≡ load_absolute_address (operand_fields operand.now) regs.now }
+    ensures { Ok (effect_fields result)
+        ≡ load_absolute_address (operand_fields operand.now) regs.now }
 {
     let place = operand.place;
     let mut after = *regs;

@@ -95,41 +95,36 @@ fn stands_at(regs: &Regs, seg: u16, ring: u8, word: u32) -> bool {
     ppr.psr == seg && ppr.prr == ring && ppr.ic == word
 }
 
+/// Whether a pointer register points to a word, and no bit behind its first.
+fn points_to(pointer: Ptr, seg: u16, ring: u8, word: u32) -> bool {
+    pointer.seg == seg && pointer.ring == ring && pointer.word == word && pointer.bit == 0
+}
+
+/// The ring of the caller, the ring that is entered, and the segment of the stack: in another ring that of the entered
+/// ring, in the same that of PR6.
+const CALLS: [(u8, u8, u16); 2] = [(4, 0, 0o10), (3, 3, 5)];
+
+/// The ring that returns, the pair, and the first bracket of its segment, for a return to ring 4: by the pair's ring, by the
+/// ring of the reference, and by the first bracket.
+const RETURNS: [(u8, u64, u8); 3] = [
+    (0, 0o000001400043, 0),
+    (4, 0o000001000043, 0),
+    (0, 0o000001000043, 4),
+];
+
 #[test]
 fn calls_and_returns(rt: HostRuntime) -> Result<(), Fail> {
-    // From ring 4 into ring 0: the stack of ring 0 is segment 10.
-    let called = effect_of(Effect::Call6, 0, &registers(4), Held::Empty, 0)?.regs;
-    assert!(rt; stands_at(&called, 3, 0, 1));
-    let stack = called.pr[7];
-    assert_eq!(rt;
-        (stack.seg, stack.ring, stack.word, stack.bit),
-        (0o10, 0, 0, 0)
-    );
-
-    // From ring 3 into ring 3: the stack is that of PR6.
-    let called = effect_of(Effect::Call6, 0, &registers(3), Held::Empty, 3)?.regs;
-    assert!(rt; stands_at(&called, 3, 3, 1));
-    let stack = called.pr[7];
-    assert_eq!(rt;
-        (stack.seg, stack.ring, stack.word, stack.bit),
-        (5, 3, 0, 0)
-    );
-
-    // Three returns to ring 4: by the pair's ring, by the ring of the reference, and by the first bracket of the pair's
-    // segment.
-    let to_ring_4 = Held::Two(pair(0o000001400043, 0o000002000000));
-    let to_ring_0 = Held::Two(pair(0o000001000043, 0o000002000000));
-    let returned = [
-        effect_of(Effect::Rtcd, 0, &registers(0), to_ring_4, 0)?.regs,
-        effect_of(Effect::Rtcd, 0, &registers(4), to_ring_0, 0)?.regs,
-        effect_of(Effect::Rtcd, 0, &registers(0), to_ring_0, 4)?.regs,
-    ];
-    for regs in returned {
-        assert!(rt; stands_at(&regs, 1, 4, 2));
-        for n in 0..8 {
-            let pointer = regs.pr[n];
-            assert_eq!(rt; (pointer.seg, pointer.ring), (5, 4));
-            assert_eq!(rt; (pointer.word, pointer.bit), (0o22, 9));
+    for (from, to, stack) in CALLS {
+        let called = effect_of(Effect::Call6, 0, &registers(from % 8), Held::Empty, to % 8)?.regs;
+        assert!(rt; stands_at(&called, 3, to, 1), "{from}");
+        assert!(rt; points_to(called.pr[7], stack, to, 0), "{from}");
+    }
+    for (from, even, bracket) in RETURNS {
+        let held = Held::Two(pair(even, 0o000002000000));
+        let regs = effect_of(Effect::Rtcd, 0, &registers(from % 8), held, bracket % 8)?.regs;
+        assert!(rt; stands_at(&regs, 1, 4, 2), "{from} {bracket}");
+        for pointer in regs.pr {
+            assert!(rt; pointer == registers(4).pr[0], "{from} {bracket}");
         }
     }
     Ok(())
@@ -138,25 +133,17 @@ fn calls_and_returns(rt: HostRuntime) -> Result<(), Fail> {
 #[test]
 fn transfers_and_descriptor_base(rt: HostRuntime) -> Result<(), Fail> {
     let gone = effect_of(Effect::TsxN, 1, &registers(4), Held::Empty, 0)?.regs;
-    assert_eq!(rt; gone.x[1], 4);
-    assert!(rt; stands_at(&gone, 3, 4, 1));
-
+    assert!(rt; gone.x[1] == 4 && stands_at(&gone, 3, 4, 1));
     let gone = effect_of(Effect::TspN, 2, &registers(4), Held::Empty, 0)?.regs;
-    let back = gone.pr[2];
-    assert_eq!(rt; (back.seg, back.ring, back.word, back.bit), (1, 4, 4, 0));
-    assert!(rt; stands_at(&gone, 3, 4, 1));
-
-    let mut regs = registers(4);
-    let gone = effect_of(Effect::Tov, 0, &regs, Held::Empty, 0)?.regs;
+    assert!(rt; points_to(gone.pr[2], 1, 4, 4) && stands_at(&gone, 3, 4, 1));
+    let gone = effect_of(Effect::Tov, 0, &registers(4), Held::Empty, 0)?.regs;
     assert!(rt; stands_at(&gone, 1, 4, 4));
+    let mut regs = registers(4);
     regs.ind.overflow = true;
     let gone = effect_of(Effect::Tov, 0, &regs, Held::Empty, 0)?.regs;
-    assert!(rt; stands_at(&gone, 3, 4, 1));
-    assert!(rt; gone.ind == NOTHING_ON);
-
+    assert!(rt; stands_at(&gone, 3, 4, 1) && gone.ind == NOTHING_ON);
     let gone = effect_of(Effect::Nop, 0, &regs, Held::Empty, 0)?.regs;
-    assert!(rt; stands_at(&gone, 1, 4, 4));
-    assert!(rt; gone.ind == regs.ind);
+    assert!(rt; stands_at(&gone, 1, 4, 4) && gone.ind == regs.ind);
 
     let words = Held::Two(pair(0o000001000000, 0o000010200007));
     let loaded = effect_of(Effect::Ldbr, 0, &registers(0), words, 0)?.regs;
@@ -166,15 +153,27 @@ fn transfers_and_descriptor_base(rt: HostRuntime) -> Result<(), Fail> {
         stack: 7,
         unpaged: true,
     };
-    assert_eq!(rt; loaded.dbr, dbr);
-    let stored = effect_of(Effect::Sdbr, 0, &loaded, Held::Empty, 0)?;
-    assert_eq!(rt; stored.put, words);
-
+    assert!(rt; loaded.dbr == dbr);
+    assert!(rt; effect_of(Effect::Sdbr, 0, &loaded, Held::Empty, 0)?.put == words);
     let found = effect_of(Effect::Absa, 0, &loaded, Held::Empty, 0)?.regs;
-    assert_eq!(rt; found.a.value(), 0o400000000000);
+    assert!(rt; found.a.value() == 0o400000000000);
     assert!(rt; found.ind.negative && !found.ind.zero);
     Ok(())
 }
+
+/// Conditional transfers, and whether each is taken where its indicators are on; where they are off it is the opposite.
+const CONDITIONS: [(Effect, bool); 10] = [
+    (Effect::Tze, true),
+    (Effect::Tmi, true),
+    (Effect::Trc, true),
+    (Effect::Tmoz, true),
+    (Effect::Tov, true),
+    (Effect::Tnz, false),
+    (Effect::Tpl, false),
+    (Effect::Tnc, false),
+    (Effect::Tpnz, false),
+    (Effect::Ttf, false),
+];
 
 #[test]
 fn conditions(rt: HostRuntime) {
@@ -188,25 +187,11 @@ fn conditions(rt: HostRuntime) {
         mask: false,
         tally: true,
     };
-    let taken_where_on = [
-        Effect::Tze,
-        Effect::Tmi,
-        Effect::Trc,
-        Effect::Tmoz,
-        Effect::Tov,
-    ];
-    for effect in taken_where_on {
-        assert!(rt; is_taken(effect, &on) && !is_taken(effect, &off));
-    }
-    let taken_where_off = [
-        Effect::Tnz,
-        Effect::Tpl,
-        Effect::Tnc,
-        Effect::Tpnz,
-        Effect::Ttf,
-    ];
-    for effect in taken_where_off {
-        assert!(rt; is_taken(effect, &off) && !is_taken(effect, &on));
+    for (effect, taken) in CONDITIONS {
+        assert!(rt;
+            is_taken(effect, &on) == taken && is_taken(effect, &off) != taken,
+            "{effect:?}"
+        );
     }
     assert!(rt; is_taken(Effect::Tra, &on) && is_taken(Effect::TsxN, &off));
     assert!(rt; is_absa(Effect::Absa) && !is_absa(Effect::Eaa));

@@ -5,7 +5,9 @@ ghost use Rattle.m36_inst.specs.Operands.{operand_of};
 ghost use Rattle.m36_inst.specs.declared.operand.Operand.TheVariants.{T};
 ghost use Rattle.m36_model.specs.Effect.{exec};
 ghost use Rattle.m36_model.specs.Results.{OperandFields, effect_fields};
-ghost use Rattle.m36_model.specs.Transfers.{is_taken, gone_to, goes_to, transfer_where, transfer_on_overflow, transfer_and_set_index, transfer_and_set_pointer, next_word, without_overflow};
+ghost use Rattle.m36_model.specs.Transfers.{is_taken, gone_to, goes_to, transfer_where};
+ghost use Rattle.m36_model.specs.Transfers.{transfer_on_overflow, transfer_and_set_index};
+ghost use Rattle.m36_model.specs.Transfers.{transfer_and_set_pointer, next_word, without_overflow};
 ghost use Rattle.m36_xfer.specs.ControlInstructions.{is_transfer};
 
 use m36_desc::Ptr;
@@ -56,7 +58,8 @@ pub fn is_transfer(effect: Effect) -> bool
 /// Goes to the final address, or on to the next instruction.
 #[tactic(auto, unfolding(m36_model::specs::Transfers::transfer_where, m36_model::specs::Transfers::gone_to, m36_model::specs::Results::moved_on))]
 fn go(taken: bool, regs: &mut Regs, f: &Final)
-    ensures { transfer_where taken f.now regs.old ≡ Ok (record { regs = regs.new; put = []; overflow = false }) }
+    ensures { transfer_where taken f.now regs.old
+        ≡ Ok (record { regs = regs.new; put = []; overflow = false }) }
 {
     if taken {
         let at = f.at;
@@ -71,7 +74,9 @@ fn go(taken: bool, regs: &mut Regs, f: &Final)
 #[tactic(auto, unfolding(m36_model::specs::Effect::exec))]
 pub fn transfer(effect: Effect, regs: &mut Regs, f: &Final)
     requires { IsTrue (is_transfer effect) }
-    ensures value { (n : ℕ) (o : OperandFields) → exec effect n regs.old f.now o ≡ Ok (record { regs = regs.new; put = []; overflow = false }) }
+    ensures value { (n : ℕ) (o : OperandFields)
+        → exec effect n regs.old f.now o
+        ≡ Ok (record { regs = regs.new; put = []; overflow = false }) }
     ensures kind { operand_of effect ≡ T }
 {
     match effect {

@@ -1,5 +1,6 @@
--- The instructions of this crate: loads and stores of pointer registers, and the store of the control double word.
--- Multics Processor Manual AL39, "Pointer register instructions", "Effective address to AQ", "Store control double".
+-- The instructions of this crate: loads and stores of pointer registers, and the store of the
+-- control double word. Multics Processor Manual AL39, "Pointer register instructions", "Effective
+-- address to AQ", "Store control double".
 use Rattle.std.specs.Prelude.{Bool, true, false}
 use Rattle.m36_inst.specs.declared.effect.Effect.{Effect}
 use Rattle.m36_inst.specs.declared.effect.Effect.TheVariants as effect

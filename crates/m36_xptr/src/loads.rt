@@ -6,7 +6,8 @@ ghost use Rattle.m36_model.specs.Modification.{here};
 ghost use Rattle.m36_model.specs.Effect.{answer_fields, refused_here};
 ghost use Rattle.m36_model.specs.OperandHeld.{is_block};
 ghost use Rattle.m36_model.specs.Results.{operand_fields, effect_fields};
-ghost use Rattle.m36_model.specs.Pointers.{load_pointer, load_base_pointer, load_pointers, pointers_in, load_packed, load_address_pair};
+ghost use Rattle.m36_model.specs.Pointers.{load_pointer, load_base_pointer, load_pointers};
+ghost use Rattle.m36_model.specs.Pointers.{pointers_in, load_packed, load_address_pair};
 
 use crate::registers::{pointers, with_pointers};
 use m36_desc::Ptr;
@@ -49,7 +50,8 @@ pub fn load_base_pointer(regs: &Regs, n: u8, f: &Final) -> Effect36
 #[tactic(auto, unfolding(m36_model::specs::Pointers::load_pointers))]
 pub fn load_pointers(regs: &Regs, f: &Final, operand: &Operand36) -> Effect36
     requires { IsTrue (is_block operand.now.got) }
-    ensures { Ok (effect_fields result) ≡ load_pointers regs.now f.now (operand_fields operand.now) }
+    ensures { Ok (effect_fields result)
+        ≡ load_pointers regs.now f.now (operand_fields operand.now) }
 {
     Effect36::completed(with_pointers(regs, raised_pointers(f, operand)))
 }

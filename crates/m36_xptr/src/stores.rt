@@ -2,7 +2,8 @@
 
 ghost use Rattle.std.specs.Prelude.{◌≡◌, ◌<◌, Ok};
 ghost use Rattle.m36_model.specs.Results.{effect_fields};
-ghost use Rattle.m36_model.specs.Pointers.{store_pointer, store_base_pointer, store_pointers, store_control};
+ghost use Rattle.m36_model.specs.Pointers.{store_pointer, store_base_pointer, store_pointers};
+ghost use Rattle.m36_model.specs.Pointers.{store_control};
 
 use crate::registers::pairs;
 use m36_desc::Ptr;

@@ -1,7 +1,7 @@
 //! Loads, stores, arithmetic and comparisons, one a line, in the form that `reading` says.
 
 /// Loads and stores.
-pub static LOADS: [&str; 76] = [
+pub static LOADS: [&str; 77] = [
     "lda 000200235000 y0=412345670123 > a=412345670123 i=n",
     "lda 000005235003 i=n > a=000005000000 i=",
     "lda 000005235007 i=z > a=000000000005 i=",
@@ -26,6 +26,7 @@ pub static LOADS: [&str; 76] = [
     "lxl7 000200727000 y0=777777700006 > x7=700006 i=n",
     "lca 000200335000 y0=1 i=c > a=777777777777 i=nc",
     "lca 000200335000 y0=400000000000 > a=400000000000 i=no fault=13",
+    "lca 000200335000 y0=400000000000 i=m > a=400000000000 i=nom",
     "lcq 000200336000 y0=777777777776 i=zn > q=2 i=",
     "lcq 000200336000 y0=400000000000 i=m > q=400000000000 i=nom",
     "lcaq 000200337000 y1=1 > a=777777777777 q=777777777777 i=n",
@@ -81,9 +82,10 @@ pub static LOADS: [&str; 76] = [
 ];
 
 /// Sums, differences, products, quotients and comparisons.
-pub static SUMS: [&str; 108] = [
+pub static SUMS: [&str; 109] = [
     "ada 000200075000 a=5 y0=3 i=zn > a=10 i=",
     "ada 000200075000 a=377777777777 y0=1 > a=400000000000 i=no fault=13",
+    "ada 000200075000 a=377777777777 y0=1 i=m > a=400000000000 i=nom",
     "ada 000200075000 a=400000000000 y0=400000000000 i=m > i=zcom a=0",
     "adq 000200076000 q=777777777777 y0=1 i=o > q=0 i=zco",
     "adaq 000200077000 q=777777777777 y1=1 i=c > a=1 q=0 i=",

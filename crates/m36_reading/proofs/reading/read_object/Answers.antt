@@ -1,7 +1,7 @@
 -- The words were read.
 use Rattle.std.proofs.Common.{subst}
 use Rattle.m36_reading.specs.Asking.{Gives}
-use Rattle.m36_reading.specs.ObjectOf.{object_of}
+use Rattle.obj36.specs.ObjectOf.{object_of}
 use Rattle.m36_reading.specs.Readers.{object_by, file_words, file_object}
 use Rattle.m36_reading.proofs.ReadLaws.{reads_on}
 use Rattle.m36_reading.proofs.reading.read_object.Goals as goal

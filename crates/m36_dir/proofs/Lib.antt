@@ -1,0 +1,6 @@
+pub mod LineForms
+pub mod LineLoops
+pub mod TextLoops
+pub mod CleanLines
+pub mod LineBounds
+pub mod Kept

@@ -1,0 +1,18 @@
+use Rattle.std.proofs.Common.{◌≡◌, ◌+◌, ◌++◌, length}
+use Rattle.m36_text.specs.Lines.{lines_of, first_told}
+use Rattle.m36_dir.specs.BootOrder.{codes_from, all_lines, lines_given, first_code}
+use Rattle.m36_dir.proofs.TextLoops.{FewLines}
+use Rattle.m36_dir.proofs.reading.lines_of.Given as goal
+
+-- What is told of the rest is told of the text, the lines of the rest complete those above, and the number of the line
+-- is one more than that of the lines above.
+abbrev pub invariant-loop-line : goal.invariant-loop-line
+invariant-loop-line l = record {
+  told : first_told l.number (codes_from (all_lines l.text) l.above.items (lines_given l.rest)) ≡ first_code l.text;
+  lines : l.above.items ++ all_lines l.rest ≡ all_lines l.text;
+  count : l.number + length (lines_of l.rest) ≡ length (lines_of l.text) + 1;
+  few : FewLines l.text l.rest;
+}
+
+abbrev pub decreases-loop-line : goal.decreases-loop-line
+decreases-loop-line l = length l.rest

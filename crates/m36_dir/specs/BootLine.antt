@@ -1,0 +1,150 @@
+-- The lines of a boot text, each read by itself.
+--
+--     frames N                                     N decimal, 1 to 8192
+--     work DIR
+--     library DIR
+--     segment DIR NAME FILE KIND MODE R1 R2 R3      KIND object, gate or data; each ring one octal digit
+--     name NAME
+--     start RING NAME$ENTRY
+--
+-- The words of a line are parted by single spaces. MODE is one or more of the letters r, e, w and p in this order, or
+-- `null`. DIR is 1 to 64 characters of `A-Z a-z 0-9 _ . >`; NAME, FILE and ENTRY are names of files.
+use Rattle.std.specs.Prelude.{ℕ, ◌+◌, Bool, true, false, ◌||◌, ◌==◌, if◌then◌else◌, List, [], ◌∷◌, take, drop, codes, Option, Some, None, option_map}
+use Rattle.std.specs.List.{position}
+use Rattle.m36_text.specs.Texts.{is_text, is_name_character, is_run_of, is_file_name}
+use Rattle.m36_text.specs.Lines.{words_of}
+use Rattle.m36_text.specs.Numbers.{octal_in, decimal_in}
+use Rattle.m36_dir.specs.declared.segment.SegKind.{SegKind}
+use Rattle.m36_dir.specs.declared.segment.SegKind.TheVariants.{Object, Gate, Plain}
+use Rattle.m36_dir.specs.declared.segment.Mode.{Mode}
+use Rattle.m36_dir.specs.declared.boot_line.BootLine.{BootLine}
+use Rattle.m36_dir.specs.declared.boot_line.BootLine.TheVariants as line
+use Rattle.m36_dir.specs.declared.boot_line.Brackets.{Brackets}
+
+-- ---- words
+
+abbrev pub is_directory_character : ℕ → Bool
+is_directory_character c = is_name_character c || (c == 62)
+
+abbrev pub directory_of : List ℕ → Option (List ℕ)
+directory_of word = if is_run_of is_directory_character 64 word then Some word else None
+
+abbrev pub name_of : List ℕ → Option (List ℕ)
+name_of word = if is_file_name word then Some word else None
+
+abbrev pub kind_of : List ℕ → Option SegKind
+kind_of word =
+    if is_text (codes "object") word then Some Object
+    else if is_text (codes "gate") word then Some Gate
+    else if is_text (codes "data") word then Some Plain
+    else None
+
+-- whether letters begin with this one, and those behind it
+pub record Taken : Type 0 where
+  pub stands : Bool
+  pub rest : List ℕ
+
+abbrev pub taken : ℕ → List ℕ → Taken
+taken letter [] = record { stands = false; rest = [] }
+taken letter (c ∷ letters) =
+    if c == letter then record { stands = true; rest = letters } else record { stands = false; rest = c ∷ letters }
+
+-- where no letter is left
+abbrev pub whole : Mode → List ℕ → Option Mode
+whole mode [] = Some mode
+whole mode (c ∷ letters) = None
+
+abbrev pub mode_of_letters : List ℕ → Option Mode
+mode_of_letters letters =
+    let r = taken 114 letters in
+    let e = taken 101 r.rest in
+    let w = taken 119 e.rest in
+    let p = taken 112 w.rest in
+    whole (record { readable = r.stands; executable = e.stands; writable = w.stands; privileged = p.stands }) p.rest
+
+abbrev pub no_mode : Mode
+no_mode = record { readable = false; executable = false; writable = false; privileged = false }
+
+unfoldable pub mode_of : List ℕ → Option Mode
+mode_of [] = None
+mode_of (c ∷ word) = if is_text (codes "null") (c ∷ word) then Some no_mode else mode_of_letters (c ∷ word)
+
+-- ---- what stands behind the first word of a line
+
+abbrev pub frames_line : List (List ℕ) → Option BootLine
+frames_line (n ∷ []) = option_map line.Frames (decimal_in 1 8192 n)
+frames_line _ = None
+
+abbrev pub work_line : List (List ℕ) → Option BootLine
+work_line (dir ∷ []) = option_map line.Work (directory_of dir)
+work_line _ = None
+
+abbrev pub library_line : List (List ℕ) → Option BootLine
+library_line (dir ∷ []) = option_map line.Library (directory_of dir)
+library_line _ = None
+
+abbrev pub name_line : List (List ℕ) → Option BootLine
+name_line (name ∷ []) = option_map line.Name (name_of name)
+name_line _ = None
+
+-- NAME and ENTRY stand before and behind the first dollar sign, and neither has another
+abbrev pub start_read : Option ℕ → Option (List ℕ) → Option (List ℕ) → Option BootLine
+start_read (Some ring) (Some name) (Some entry) = Some (line.Start (record { name = name; entry = entry; ring = ring }))
+start_read _ _ _ = None
+
+abbrev pub start_parts : Option ℕ → List ℕ → Option ℕ → Option BootLine
+start_parts ring word (Some dollar) = start_read ring (name_of (take dollar word)) (name_of (drop (dollar + 1) word))
+start_parts ring word None = None
+
+abbrev pub start_line : List (List ℕ) → Option BootLine
+start_line (ring ∷ word ∷ []) = start_parts (octal_in 1 ring) word (position (λ c. c == 36) word)
+start_line _ = None
+
+abbrev pub brackets_read : Option ℕ → Option ℕ → Option ℕ → Option Brackets
+brackets_read (Some r1) (Some r2) (Some r3) = Some (record { r1 = r1; r2 = r2; r3 = r3 })
+brackets_read _ _ _ = None
+
+abbrev pub brackets_of : List (List ℕ) → Option Brackets
+brackets_of (r1 ∷ r2 ∷ r3 ∷ []) = brackets_read (octal_in 1 r1) (octal_in 1 r2) (octal_in 1 r3)
+brackets_of _ = None
+
+abbrev pub segment_read :
+    Option (List ℕ) → Option (List ℕ) → Option (List ℕ) → Option SegKind → Option Mode → Option Brackets → Option BootLine
+segment_read (Some dir) (Some name) (Some file) (Some kind) (Some mode) (Some ends) =
+    Some (line.Segment (record {
+      dir = dir;
+      name = name;
+      file = file;
+      kind = kind;
+      mode = mode;
+      r1 = ends.r1;
+      r2 = ends.r2;
+      r3 = ends.r3;
+    }))
+segment_read _ _ _ _ _ _ = None
+
+abbrev pub segment_line : List (List ℕ) → Option BootLine
+segment_line (dir ∷ name ∷ file ∷ kind ∷ mode ∷ ends) =
+    segment_read (directory_of dir) (name_of name) (name_of file) (kind_of kind) (mode_of mode) (brackets_of ends)
+segment_line _ = None
+
+-- ---- lines
+
+abbrev pub line_named : List ℕ → List (List ℕ) → Option BootLine
+line_named word given =
+    if is_text (codes "frames") word then frames_line given
+    else if is_text (codes "work") word then work_line given
+    else if is_text (codes "library") word then library_line given
+    else if is_text (codes "segment") word then segment_line given
+    else if is_text (codes "name") word then name_line given
+    else if is_text (codes "start") word then start_line given
+    else None
+
+abbrev pub line_of_words : List (List ℕ) → Option BootLine
+line_of_words [] = None
+line_of_words (word ∷ given) = line_named word given
+
+-- a line that lacks its line feed is of no form
+unfoldable pub line_given : Option (List ℕ) → Option BootLine
+line_given None = None
+line_given (Some line) = line_of_words (words_of line)

@@ -1,0 +1,216 @@
+-- Which lines of a boot text may follow which, and the code of each line by the lines above it.
+--
+--     D1   the line is not of its form, or not in its order
+--     D2   a name stands a second time in one directory
+--     D3   no segment line of the text, anywhere in it, has the directory of a `work` or `library` line
+--     D4   not R1 <= R2 <= R3, or a gate that may not be executed, or with R2 = R3
+--     D5   a 513th segment, an eighth further name, or a 17th library
+--     D6   the text ends without `start`: behind its last line
+--
+-- The least line that has a code is told, and its least code.
+use Rattle.std.specs.Prelude.{ℕ, ◌≡◌, ◌+◌, ◌-◌, Bool, true, false, not, ◌&&◌, ◌||◌, nat_eq, nat_le, if◌then◌else◌, List, [], ◌∷◌, ◌++◌, length, slice_get, count_by, filter_map, map, Option, Some, None, Result, Ok, Err}
+use Rattle.std.specs.List.{list_any}
+use Rattle.m36_text.specs.Texts.{is_text}
+use Rattle.m36_text.specs.Lines.{lines_of, first_met, first_told}
+use Rattle.m36_dir.specs.declared.segment.SegKind.{SegKind}
+use Rattle.m36_dir.specs.declared.segment.SegKind.TheVariants.{Gate}
+use Rattle.m36_dir.specs.declared.boot_line.BootLine.{BootLine}
+use Rattle.m36_dir.specs.declared.boot_line.BootLine.TheVariants as line
+use Rattle.m36_dir.specs.declared.boot_code.BootCode.{BootCode}
+use Rattle.m36_dir.specs.declared.boot_code.BootCode.TheVariants.{D1, D2, D3, D4, D5, D6}
+use Rattle.m36_dir.specs.Fields.{SegmentGiven}
+use Rattle.m36_dir.specs.BootLine.{line_given}
+
+-- ---- kinds of lines
+
+abbrev pub is_frames : BootLine → Bool
+is_frames (line.Frames n) = true
+is_frames _ = false
+
+abbrev pub is_start : BootLine → Bool
+is_start (line.Start start) = true
+is_start _ = false
+
+abbrev pub is_library : BootLine → Bool
+is_library (line.Library dir) = true
+is_library _ = false
+
+abbrev pub is_segment : BootLine → Bool
+is_segment (line.Segment given) = true
+is_segment _ = false
+
+abbrev pub is_work_or_library : BootLine → Bool
+is_work_or_library (line.Work dir) = true
+is_work_or_library (line.Library dir) = true
+is_work_or_library _ = false
+
+abbrev pub is_segment_or_name : BootLine → Bool
+is_segment_or_name (line.Segment given) = true
+is_segment_or_name (line.Name name) = true
+is_segment_or_name _ = false
+
+-- ---- order: D1
+
+abbrev pub may_follow : BootLine → BootLine → Bool
+may_follow above (line.Frames n) = false
+may_follow above (line.Work dir) = is_frames above
+may_follow above (line.Library dir) = is_work_or_library above
+may_follow above (line.Segment given) = is_work_or_library above || is_segment_or_name above
+may_follow above (line.Name name) = is_segment_or_name above
+may_follow above (line.Start start) = is_work_or_library above || is_segment_or_name above
+
+-- the text begins with `frames`
+abbrev pub is_in_order_behind : Option BootLine → BootLine → Bool
+is_in_order_behind None next = is_frames next
+is_in_order_behind (Some above) next = may_follow above next
+
+abbrev pub last_of : List BootLine → Option BootLine
+last_of lines = slice_get lines (length lines - 1)
+
+-- ---- names: D2
+
+-- a name in a directory
+pub record Entry : Type 0 where
+  pub dir : List ℕ
+  pub name : List ℕ
+
+abbrev pub entry : List ℕ → List ℕ → Entry
+entry dir name = record { dir = dir; name = name }
+
+abbrev pub is_entry : Entry → Entry → Bool
+is_entry a b = is_text a.dir b.dir && is_text a.name b.name
+
+-- A further name belongs to the directory of the last segment line.
+abbrev pub directory_behind : List ℕ → BootLine → List ℕ
+directory_behind dir (line.Segment given) = given.dir
+directory_behind dir _ = dir
+
+unfoldable pub directory_at_end : List ℕ → List BootLine → List ℕ
+directory_at_end dir [] = dir
+directory_at_end dir (next ∷ lines) = directory_at_end (directory_behind dir next) lines
+
+abbrev pub entries_of_line : List ℕ → BootLine → List Entry
+entries_of_line dir (line.Segment given) = entry given.dir given.name ∷ []
+entries_of_line dir (line.Name name) = entry dir name ∷ []
+entries_of_line dir _ = []
+
+-- what lines put into directories, the first of them behind a segment line with this directory
+unfoldable pub entries_from : List ℕ → List BootLine → List Entry
+entries_from dir [] = []
+entries_from dir (next ∷ lines) = entries_of_line dir next ++ entries_from (directory_behind dir next) lines
+
+unfoldable pub has_entry : List BootLine → List ℕ → List ℕ → Bool
+has_entry lines dir name = list_any (is_entry (entry dir name)) (entries_from [] lines)
+
+abbrev pub stands_twice : List BootLine → BootLine → Bool
+stands_twice above (line.Segment given) = has_entry above given.dir given.name
+stands_twice above (line.Name name) = has_entry above (directory_at_end [] above) name
+stands_twice above _ = false
+
+-- ---- directories: D3
+
+abbrev pub is_in_directory : List ℕ → BootLine → Bool
+is_in_directory dir (line.Segment given) = is_text dir given.dir
+is_in_directory dir _ = false
+
+abbrev pub is_given_in_directory : List ℕ → Option BootLine → Bool
+is_given_in_directory dir (Some next) = is_in_directory dir next
+is_given_in_directory dir None = false
+
+unfoldable pub has_directory : List BootLine → List ℕ → Bool
+has_directory lines dir = list_any (is_in_directory dir) lines
+
+abbrev pub names_no_directory : List BootLine → BootLine → Bool
+names_no_directory all (line.Work dir) = not (has_directory all dir)
+names_no_directory all (line.Library dir) = not (has_directory all dir)
+names_no_directory all _ = false
+
+-- ---- brackets: D4
+
+abbrev pub is_no_gate : SegKind → SegmentGiven → Bool
+is_no_gate Gate given = not given.mode.executable || nat_eq given.r2 given.r3
+is_no_gate _ given = false
+
+abbrev pub are_in_order : SegmentGiven → Bool
+are_in_order given = nat_le given.r1 given.r2 && nat_le given.r2 given.r3
+
+abbrev pub has_wrong_brackets : BootLine → Bool
+has_wrong_brackets (line.Segment given) = not (are_in_order given) || is_no_gate given.kind given
+has_wrong_brackets _ = false
+
+-- ---- counts: D5
+
+-- the further names that stand right above: none behind a segment line
+abbrev pub names_with : ℕ → BootLine → ℕ
+names_with n (line.Name name) = n + 1
+names_with n _ = 0
+
+unfoldable pub names_at_end : ℕ → List BootLine → ℕ
+names_at_end n [] = n
+names_at_end n (next ∷ lines) = names_at_end (names_with n next) lines
+
+abbrev pub is_too_many : List BootLine → BootLine → Bool
+is_too_many above (line.Segment given) = nat_le 512 (count_by is_segment above)
+is_too_many above (line.Name name) = nat_le 7 (names_at_end 0 above)
+is_too_many above (line.Library dir) = nat_le 16 (count_by is_library above)
+is_too_many above _ = false
+
+-- ---- the code of a line
+
+-- by all lines of the text that are of their form, and those above
+unfoldable pub code_of : List BootLine → List BootLine → BootLine → Option BootCode
+code_of all above next =
+    first_met (
+    (not (is_in_order_behind (last_of above) next), D1)
+    ∷ (stands_twice above next, D2)
+    ∷ (names_no_directory all next, D3)
+    ∷ (has_wrong_brackets next, D4)
+    ∷ (is_too_many above next, D5)
+    ∷ []
+    )
+
+abbrev pub code_given : List BootLine → List BootLine → Option BootLine → Option BootCode
+code_given all above None = Some D1
+code_given all above (Some next) = code_of all above next
+
+abbrev pub with_line : List BootLine → Option BootLine → List BootLine
+with_line above None = above
+with_line above (Some next) = above ++ next ∷ []
+
+-- The text ends behind its start line.
+abbrev pub ends : Option BootLine → Bool
+ends None = false
+ends (Some last) = is_start last
+
+abbrev pub code_at_end : Option BootLine → Option BootCode
+code_at_end last = if ends last then None else Some D6
+
+-- The code behind the last whole line: of a line that lacks its line feed, or of the end.
+abbrev pub code_of_rest : List BootLine → List ℕ → Option BootCode
+code_of_rest above [] = code_at_end (last_of above)
+code_of_rest above (c ∷ rest) = Some D1
+
+-- A line that has no code; else its code.
+abbrev pub Judges : List BootLine → List BootLine → Option BootLine → Result BootLine BootCode → Type 0
+Judges all above given (Ok next) = (given ≡ Some next) × (code_of all above next ≡ None)
+Judges all above given (Err code) = code_given all above given ≡ Some code
+
+unfoldable pub codes_from : List BootLine → List BootLine → List (Option BootLine) → List (Option BootCode)
+codes_from all above [] = code_at_end (last_of above) ∷ []
+codes_from all above (next ∷ lines) = code_given all above next ∷ codes_from all (with_line above next) lines
+
+-- ---- the text
+
+-- each line read by itself, and those that are of their form
+unfoldable pub lines_given : List ℕ → List (Option BootLine)
+lines_given text = map line_given (lines_of text)
+
+abbrev pub formed : List (Option BootLine) → List BootLine
+formed lines = filter_map (λ next. next) lines
+
+unfoldable pub all_lines : List ℕ → List BootLine
+all_lines text = formed (lines_given text)
+
+-- the first line that has a code, counted from 1, and its code
+unfoldable pub first_code : List ℕ → Option (ℕ × BootCode)
+first_code text = first_told 1 (codes_from (all_lines text) [] (lines_given text))

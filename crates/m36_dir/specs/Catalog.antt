@@ -1,0 +1,151 @@
+-- The catalog that a boot text writes out, or why it does not.
+use Rattle.std.specs.Prelude.{ℕ, ◌≡◌, Bool, ◌&&◌, nat_eq, if◌then◌else◌, List, [], ◌∷◌, ◌++◌, position, slice_get, slice_set, Option, Some, None, unwrap_or, Result, Ok, Err, IfSome}
+use Rattle.std.specs.List.{list_any}
+use Rattle.m36_text.specs.Texts.{is_text}
+use Rattle.m36_dir.specs.declared.fault.CatalogFault.{CatalogFault}
+use Rattle.m36_dir.specs.declared.fault.CatalogFault.TheVariants as fault
+use Rattle.m36_dir.specs.declared.boot_line.BootLine.{BootLine}
+use Rattle.m36_dir.specs.declared.boot_line.BootLine.TheVariants as line
+use Rattle.m36_dir.specs.declared.boot_code.BootCode.{BootCode}
+use Rattle.m36_dir.specs.declared.boot_code.BootCode.TheVariants.{D1, D2, D3, D4, D5, D6}
+use Rattle.m36_dir.specs.Fields.{SegmentFields, SegmentGiven}
+use Rattle.m36_dir.specs.StartFields.{StartFields}
+use Rattle.m36_dir.specs.BootOrder.{all_lines, first_code, last_of}
+
+-- A catalog. Directories are told by their numbers, from 0 on.
+pub record CatalogFields : Type 0 where
+  pub frames : ℕ
+  pub directories : List (List ℕ)
+  pub work : ℕ
+  pub libraries : List ℕ
+  pub segments : List SegmentFields
+  pub start : StartFields
+
+-- ---- directories, in the order of the segment lines that first have them
+
+abbrev pub with_directory : List (List ℕ) → List ℕ → List (List ℕ)
+with_directory dirs dir = if list_any (is_text dir) dirs then dirs else dirs ++ dir ∷ []
+
+abbrev pub with_directory_of : List (List ℕ) → BootLine → List (List ℕ)
+with_directory_of dirs (line.Segment given) = with_directory dirs given.dir
+with_directory_of dirs _ = dirs
+
+unfoldable pub directories_from : List (List ℕ) → List BootLine → List (List ℕ)
+directories_from dirs [] = dirs
+directories_from dirs (next ∷ lines) = directories_from (with_directory_of dirs next) lines
+
+unfoldable pub number_in : List (List ℕ) → List ℕ → ℕ
+number_in dirs dir = unwrap_or (position (is_text dir) dirs) 0
+
+-- ---- segments
+
+-- the further names that the lines right behind a segment line give
+unfoldable pub names_behind : List BootLine → List (List ℕ)
+names_behind (line.Name name ∷ lines) = name ∷ names_behind lines
+names_behind _ = []
+
+abbrev pub segment_with : List (List ℕ) → SegmentGiven → List (List ℕ) → SegmentFields
+segment_with dirs given names =
+    record {
+      names = given.name ∷ names;
+      file = given.file;
+      dir = number_in dirs given.dir;
+      kind = given.kind;
+      mode = given.mode;
+      r1 = given.r1;
+      r2 = given.r2;
+      r3 = given.r3;
+    }
+
+-- the segment of a line, with the lines behind it
+abbrev pub segment_of : List (List ℕ) → BootLine → List BootLine → List SegmentFields
+segment_of dirs (line.Segment given) behind = segment_with dirs given (names_behind behind) ∷ []
+segment_of dirs _ behind = []
+
+unfoldable pub segments_in : List (List ℕ) → List BootLine → List SegmentFields
+segments_in dirs [] = []
+segments_in dirs (next ∷ lines) = segment_of dirs next lines ++ segments_in dirs lines
+
+-- ---- the other lines
+
+abbrev pub library_of : List (List ℕ) → BootLine → List ℕ
+library_of dirs (line.Library dir) = number_in dirs dir ∷ []
+library_of dirs _ = []
+
+unfoldable pub libraries_in : List (List ℕ) → List BootLine → List ℕ
+libraries_in dirs [] = []
+libraries_in dirs (next ∷ lines) = library_of dirs next ++ libraries_in dirs lines
+
+-- The first line has the frames, the second the working directory, and the last the start.
+abbrev pub frames_of : Option BootLine → ℕ
+frames_of (Some (line.Frames n)) = n
+frames_of _ = 0
+
+abbrev pub work_of : Option BootLine → List ℕ
+work_of (Some (line.Work dir)) = dir
+work_of _ = []
+
+abbrev pub no_start : StartFields
+no_start = record { name = []; entry = []; ring = 0 }
+
+abbrev pub start_of : Option BootLine → StartFields
+start_of (Some (line.Start start)) = start
+start_of _ = no_start
+
+-- what lines of which none has a code say
+unfoldable pub catalog_in : List BootLine → CatalogFields
+catalog_in lines =
+    let dirs = directories_from [] lines in
+    record {
+      frames = frames_of (slice_get lines 0);
+      directories = dirs;
+      work = number_in dirs (work_of (slice_get lines 1));
+      libraries = libraries_in dirs lines;
+      segments = segments_in dirs lines;
+      start = start_of (last_of lines);
+    }
+
+-- ---- the text
+
+abbrev pub fault_at : ℕ → BootCode → CatalogFault
+fault_at n D1 = fault.D1 n
+fault_at n D2 = fault.D2 n
+fault_at n D3 = fault.D3 n
+fault_at n D4 = fault.D4 n
+fault_at n D5 = fault.D5 n
+fault_at n D6 = fault.D6 n
+
+abbrev pub catalog_by : Option (ℕ × BootCode) → CatalogFields → Result CatalogFields CatalogFault
+catalog_by None catalog = Ok catalog
+catalog_by (Some first) catalog = Err (fault_at first.0 first.1)
+
+unfoldable pub catalog_of : List ℕ → Result CatalogFields CatalogFault
+catalog_of text = catalog_by (first_code text) (catalog_in (all_lines text))
+
+-- What reading a boot text answers, where want of memory may come at any time.
+abbrev pub Told : CatalogFault → Result CatalogFields CatalogFault → Type 0
+Told fault.NoMemory definition = Unit {0}
+Told told definition = definition ≡ Err told
+
+abbrev pub ReadSays : Result CatalogFields CatalogFault → Result CatalogFields CatalogFault → Type 0
+ReadSays (Ok catalog) definition = definition ≡ Ok catalog
+ReadSays (Err told) definition = Told told definition
+
+-- ---- looking up, and rights
+
+abbrev pub has_name : List ℕ → SegmentFields → Bool
+has_name name segment = list_any (is_text name) segment.names
+
+-- the segment of a directory that has a name, if there is one
+unfoldable pub found : CatalogFields → ℕ → List ℕ → Option ℕ
+found catalog dir name = position (λ s. nat_eq s.dir dir && has_name name s) catalog.segments
+
+-- A segment may be read, executed and written, or not, as is given; all else stays.
+abbrev pub with_rights : SegmentFields → Bool → Bool → Bool → SegmentFields
+with_rights s readable executable writable =
+    record s { mode = record s.mode { readable = readable; executable = executable; writable = writable } }
+
+abbrev pub SetsRights : CatalogFields → CatalogFields → ℕ → Bool → Bool → Bool → Type 0
+SetsRights old new i readable executable writable =
+    IfSome (slice_get old.segments i)
+    (λ s. new ≡ record old { segments = slice_set old.segments i (with_rights s readable executable writable) })

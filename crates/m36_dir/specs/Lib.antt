@@ -1,0 +1,6 @@
+pub mod Fields
+pub mod StartFields
+pub mod BootLine
+pub mod BootOrder
+pub mod Catalog
+pub mod IsCatalog

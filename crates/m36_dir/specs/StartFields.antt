@@ -1,0 +1,7 @@
+-- Where a machine starts: the fields of `Start`.
+use Rattle.std.specs.Prelude.{ℕ, List}
+
+pub record StartFields : Type 0 where
+  pub name : List ℕ
+  pub entry : List ℕ
+  pub ring : ℕ

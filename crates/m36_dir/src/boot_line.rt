@@ -1,0 +1,54 @@
+//! The lines of a boot text, as they are read.
+
+use crate::directory::Directory;
+use crate::segment::{Mode, SegKind, Start};
+use m36_text::Name;
+use std::marker::Model;
+
+// What a segment line says. It is seen as its fields.
+#[derive(Drop)]
+pub(crate) struct SegmentLine {
+    pub(crate) dir: Directory,
+    pub(crate) name: Name,
+    pub(crate) file: Name,
+    pub(crate) kind: SegKind,
+    pub(crate) mode: Mode,
+    // Each below 8.
+    pub(crate) r1: u8,
+    pub(crate) r2: u8,
+    pub(crate) r3: u8,
+}
+
+impl Model for SegmentLine {
+    ghost use Rattle.std.specs.Prelude.{◌<◌};
+    ghost use Rattle.m36_dir.specs.Fields.{SegmentGiven};
+
+    ghost Value = { SegmentGiven };
+
+    ghost view = { λ s. record { dir = s.dir; name = s.name; file = s.file; kind = s.kind; mode = s.mode; r1 = s.r1; r2 = s.r2; r3 = s.r3 } };
+
+    ghost invariant = { λ s. (s.r1 < 8) × (s.r2 < 8) × (s.r3 < 8) };
+}
+
+// The ends of ring brackets.
+#[derive(Clone, Copy)]
+pub(crate) struct Brackets {
+    pub(crate) r1: u8,
+    pub(crate) r2: u8,
+    pub(crate) r3: u8,
+}
+
+// A line that is of its form.
+#[derive(Drop)]
+pub(crate) enum BootLine {
+    // How many pageable frames, 1 to 8192.
+    Frames(u32),
+    // The working directory.
+    Work(Directory),
+    // A directory that is searched.
+    Library(Directory),
+    Segment(SegmentLine),
+    // A further name of the segment above.
+    Name(Name),
+    Start(Start),
+}

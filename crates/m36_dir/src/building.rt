@@ -1,0 +1,234 @@
+//! What the lines of a boot text say, where none of them has a code.
+
+ghost use Rattle.std.specs.Prelude.{ℕ, ◌≡◌, ◌+◌, ◌≤◌, ◌<◌, [], ◌∷◌, ◌++◌, IfOk, IfSome, OnOk, length, drop, slice_get, option_map};
+ghost use Rattle.std.specs.List.{list_any, position};
+ghost use Rattle.m36_text.specs.Texts.{is_text};
+ghost use Rattle.m36_dir.specs.BootOrder.{last_of};
+ghost use Rattle.m36_dir.specs.Catalog.{with_directory, with_directory_of, directories_from, number_in, names_behind, segment_with, segment_of, segments_in, library_of, libraries_in, frames_of, work_of, no_start, start_of};
+
+use crate::boot_line::{BootLine, SegmentLine};
+use crate::directory::Directory;
+use crate::segment::{Segment, Start};
+use m36_text::{Name, Names};
+use m36_word::NoMemory;
+use std::alloc::Global;
+
+// ---- directories
+
+fn has(dirs: &[Directory], dir: &[u8]) -> bool
+    ensures { result ≡ list_any (is_text dir.now) dirs.now }
+{
+    dirs.iter().any(|other| other.bytes() == dir)
+}
+
+fn add_directory(dirs: &mut Vec<Directory>, line: &BootLine) -> Result<(), NoMemory>
+    ensures { OnOk result (dirs.new.items ≡ with_directory_of dirs.old.items line.now) }
+{
+    match line {
+        BootLine::Segment(given) => {
+            if has(dirs, given.dir.bytes()) {
+                return Ok(());
+            }
+            dirs.push(given.dir.copied())?;
+            Ok(())
+        }
+        _ => Ok(()),
+    }
+}
+
+/// The directories of the segment lines, each once, in the order in which they first come.
+pub(crate) fn directories_in(alloc: Global, lines: &[BootLine]) -> Result<Vec<Directory>, NoMemory>
+    ensures { IfOk result (λ dirs. dirs.items ≡ directories_from [] lines.now) }
+{
+    let mut dirs = Vec::new(alloc);
+    for line in lines {
+        add_directory(&mut dirs, line)?;
+    }
+    Ok(dirs)
+}
+
+fn place_of(dirs: &[Directory], dir: &[u8]) -> Option<usize>
+    ensures place { result ≡ position (is_text dir.now) dirs.now }
+    ensures within { IfSome result (λ place. place < length dirs.now) }
+{
+    dirs.iter().position(|other| other.bytes() == dir)
+}
+
+/// The number of a directory, from 0 on; 0 too where it is not among them.
+#[tactic(auto, unfolding(crate::specs::Catalog::number_in))]
+pub(crate) fn number_in(dirs: &[Directory], dir: &[u8]) -> u16
+    requires { length dirs.now ≤ 512 }
+    ensures { result ≡ number_in dirs.now dir.now }
+{
+    match place_of(dirs, dir) {
+        Some(place) => place as u16,
+        None => 0,
+    }
+}
+
+// ---- segments
+
+// Adds the names of the lines that stand first.
+fn add_names(names: &mut Names, lines: &[BootLine]) -> Result<(), NoMemory>
+    ensures { OnOk result (names.new ≡ names.old ++ names_behind lines.now) }
+{
+    for line in lines {
+        match line {
+            BootLine::Name(name) => names.push(name.copied())?,
+            _ => return Ok(()),
+        }
+    }
+    Ok(())
+}
+
+// A segment by its line and those behind it.
+fn segment_with(
+    alloc: Global,
+    dirs: &[Directory],
+    given: &SegmentLine,
+    behind: &[BootLine],
+) -> Result<Segment, NoMemory>
+    requires { length dirs.now ≤ 512 }
+    ensures { IfOk result (λ s. s ≡ segment_with dirs.now given.now (names_behind behind.now)) }
+{
+    let mut names = Names::new(alloc);
+    names.push(given.name.copied())?;
+    add_names(&mut names, behind)?;
+    Ok(Segment {
+        names,
+        file: given.file.copied(),
+        dir: number_in(dirs, given.dir.bytes()),
+        kind: given.kind,
+        mode: given.mode,
+        r1: given.r1,
+        r2: given.r2,
+        r3: given.r3,
+    })
+}
+
+fn add_segment(
+    alloc: Global,
+    segments: &mut Vec<Segment>,
+    dirs: &[Directory],
+    line: &BootLine,
+    behind: &[BootLine],
+) -> Result<(), NoMemory>
+    requires { length dirs.now ≤ 512 }
+    ensures { OnOk result (segments.new.items ≡ segments.old.items ++ segment_of dirs.now line.now behind.now) }
+{
+    match line {
+        BootLine::Segment(given) => {
+            segments.push(segment_with(alloc, dirs, given, behind)?)?;
+            Ok(())
+        }
+        _ => Ok(()),
+    }
+}
+
+#[tactic(auto, using(crate::proofs::LineLoops::lines_behind))]
+fn lines_behind(lines: &[BootLine], i: usize) -> &[BootLine]
+    requires { i < length lines.now }
+    ensures { result.now ≡ drop (i + 1) lines.now }
+{
+    &lines[i + 1..]
+}
+
+/// The segments, in the order of their lines.
+pub(crate) fn segments_in(
+    alloc: Global,
+    dirs: &[Directory],
+    lines: &[BootLine],
+) -> Result<Vec<Segment>, NoMemory>
+    requires { length dirs.now ≤ 512 }
+    ensures { IfOk result (λ segments. segments.items ≡ segments_in dirs.now lines.now) }
+{
+    let mut segments = Vec::new(alloc);
+    for (i, line) in lines.iter().enumerate() {
+        add_segment(alloc, &mut segments, dirs, line, lines_behind(lines, i))?;
+    }
+    Ok(segments)
+}
+
+// ---- the other lines
+
+fn add_library(
+    libraries: &mut Vec<u16>,
+    dirs: &[Directory],
+    line: &BootLine,
+) -> Result<(), NoMemory>
+    requires { length dirs.now ≤ 512 }
+    ensures { OnOk result (libraries.new.items ≡ libraries.old.items ++ library_of dirs.now line.now) }
+{
+    match line {
+        BootLine::Library(dir) => {
+            libraries.push(number_in(dirs, dir.bytes()))?;
+            Ok(())
+        }
+        _ => Ok(()),
+    }
+}
+
+/// The libraries, in the order of their lines.
+pub(crate) fn libraries_in(
+    alloc: Global,
+    dirs: &[Directory],
+    lines: &[BootLine],
+) -> Result<Vec<u16>, NoMemory>
+    requires { length dirs.now ≤ 512 }
+    ensures { IfOk result (λ libraries. libraries.items ≡ libraries_in dirs.now lines.now) }
+{
+    let mut libraries = Vec::new(alloc);
+    for line in lines {
+        add_library(&mut libraries, dirs, line)?;
+    }
+    Ok(libraries)
+}
+
+/// The number of pageable frames, by the first line.
+pub(crate) fn frames_of(line: Option<&BootLine>) -> u32
+    ensures { result ≡ frames_of (option_map (λ l. l.now) line.entry) }
+{
+    match line {
+        Some(BootLine::Frames(frames)) => *frames,
+        _ => 0,
+    }
+}
+
+/// The working directory, by the second line.
+pub(crate) fn work_of(lines: &[BootLine]) -> &[u8]
+    ensures { result.now ≡ work_of (slice_get lines.now 1) }
+{
+    match lines.get(1) {
+        Some(BootLine::Work(dir)) => dir.bytes(),
+        _ => &[],
+    }
+}
+
+fn empty_name() -> Name
+    ensures { result ≡ [] }
+{
+    match Name::new(&[]) {
+        Some(name) => name,
+        None => unreachable!(),
+    }
+}
+
+fn no_start() -> Start
+    ensures { result ≡ no_start }
+{
+    Start {
+        name: empty_name(),
+        entry: empty_name(),
+        ring: 0,
+    }
+}
+
+/// Where the machine starts, by the last line.
+pub(crate) fn start_of(lines: &[BootLine]) -> Start
+    ensures { result ≡ start_of (last_of lines.now) }
+{
+    match lines.last() {
+        Some(BootLine::Start(start)) => start.copied(),
+        _ => no_start(),
+    }
+}

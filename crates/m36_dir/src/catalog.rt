@@ -1,0 +1,174 @@
+//! Catalogs.
+
+ghost use Rattle.std.specs.Prelude.{ℕ, ◌≡◌, ◌<◌, ◌≤◌, ◌^◌, Bool, ◌&&◌, nat_eq, length, slice_get, Some, IfOk, IfSome, All};
+ghost use Rattle.std.specs.List.{list_any};
+ghost use Rattle.m36_text.specs.Texts.{is_text};
+ghost use Rattle.m36_dir.specs.Catalog.{catalog_in, catalog_of, ReadSays, has_name, found, SetsRights};
+ghost use Rattle.m36_dir.specs.IsCatalog.{IsCatalog, IsSegment};
+
+use crate::boot_line::BootLine;
+use crate::building::{
+    directories_in, frames_of, libraries_in, number_in, segments_in, start_of, work_of,
+};
+use crate::directory::Directory;
+use crate::fault::CatalogFault;
+use crate::reading::lines_of;
+use crate::segment::{Segment, Start};
+use m36_word::NoMemory;
+use std::alloc::Global;
+use std::marker::Model;
+
+/// A catalog. It is seen as its fields, with the directories by their names, in the order of their numbers.
+///
+/// It has 1 to 8,192 pageable frames, 1 to 512 segments and at most 16 libraries; the working directory, each library and
+/// the directory of each segment are numbers of directories that it has.
+#[derive(Debug, Drop)]
+pub struct Catalog {
+    directories: Vec<Directory>,
+    libraries: Vec<u16>,
+    segments: Vec<Segment>,
+    start: Start,
+    frames: u32,
+    work: u16,
+}
+
+impl Model for Catalog {
+    ghost use Rattle.m36_dir.specs.Catalog.{CatalogFields};
+    ghost use Rattle.m36_dir.specs.IsCatalog.{IsCatalog};
+
+    ghost Value = { CatalogFields };
+
+    ghost view = { λ c. record { frames = c.frames; directories = c.directories.items; work = c.work; libraries = c.libraries.items; segments = c.segments.items; start = c.start } };
+
+    ghost invariant = { λ c. IsCatalog (record { frames = c.frames; directories = c.directories.items; work = c.work; libraries = c.libraries.items; segments = c.segments.items; start = c.start }) };
+}
+
+// What lines of which none has a code say.
+#[tactic(auto, unfolding(crate::specs::Catalog::catalog_in))]
+fn catalog_in(alloc: Global, lines: &[BootLine]) -> Result<Catalog, NoMemory>
+    requires { IsCatalog (catalog_in lines.now) }
+    ensures { IfOk result (λ catalog. catalog ≡ catalog_in lines.now) }
+{
+    let directories = directories_in(alloc, lines)?;
+    let libraries = libraries_in(alloc, &directories, lines)?;
+    let segments = segments_in(alloc, &directories, lines)?;
+    let work = number_in(&directories, work_of(lines));
+    Ok(Catalog {
+        directories,
+        libraries,
+        segments,
+        start: start_of(lines),
+        frames: frames_of(lines.first()),
+        work,
+    })
+}
+
+fn has_name(name: &[u8], segment: &Segment) -> bool
+    ensures { result ≡ has_name name.now segment.now }
+{
+    segment
+        .names
+        .items()
+        .iter()
+        .any(|other| other.bytes() == name)
+}
+
+fn is_at(segment: &Segment, dir: u16, name: &[u8]) -> bool
+    ensures { result ≡ (nat_eq segment.now.dir dir && has_name name.now segment.now) }
+{
+    segment.dir == dir && has_name(name, segment)
+}
+
+impl Catalog {
+    /// The catalog that a boot text writes out. The error is the first line that has a code, counted from 1, with its
+    /// least code, or want of memory.
+    #[tactic(auto, using(crate::proofs::TextLoops::read_catalog))]
+    pub fn read(alloc: Global, text: &[u8]) -> Result<Catalog, CatalogFault>
+        requires { length text.now < 2 ^ 32 }
+        ensures { ReadSays result (catalog_of text.now) }
+    {
+        let lines = lines_of(alloc, text)?;
+        Ok(catalog_in(alloc, &lines)?)
+    }
+
+    /// How many segments there are.
+    pub fn count(&self) -> usize
+        ensures value { result ≡ length self.now.segments }
+        ensures some { 1 ≤ result }
+        ensures most { result ≤ 512 }
+    {
+        self.segments.len()
+    }
+
+    /// A segment, counted from 0.
+    pub fn segment(&self, i: usize) -> &Segment
+        requires { i < length self.now.segments }
+        ensures value { slice_get self.now.segments i ≡ Some result.now }
+        ensures kept { IsSegment (length self.now.directories) result.now }
+    {
+        &self.segments[i]
+    }
+
+    /// The segment of a directory that has a name; None exactly where none has it.
+    #[tactic(auto, unfolding(crate::specs::Catalog::found))]
+    pub fn find(&self, dir: u16, name: &[u8]) -> Option<usize>
+        ensures value { result ≡ found self.now dir name.now }
+        ensures inside { IfSome result (λ i. i < length self.now.segments) }
+    {
+        self.segments
+            .iter()
+            .position(|segment| is_at(segment, dir, name))
+    }
+
+    /// The name of a directory by its number.
+    pub fn directory(&self, d: u16) -> &[u8]
+        requires { d < length self.now.directories }
+        ensures { slice_get self.now.directories d ≡ Some result.now }
+    {
+        self.directories[d as usize].bytes()
+    }
+
+    /// The number of the working directory.
+    pub fn work(&self) -> u16
+        ensures value { result ≡ self.now.work }
+        ensures inside { result < length self.now.directories }
+    {
+        self.work
+    }
+
+    /// The numbers of the libraries, in the order in which they are searched.
+    pub fn libraries(&self) -> &[u16]
+        ensures value { result.now ≡ self.now.libraries }
+        ensures most { length result.now ≤ 16 }
+        ensures inside { All (λ d. d < length self.now.directories) result.now }
+    {
+        self.libraries.as_slice()
+    }
+
+    /// How many pageable frames there are.
+    pub fn frames(&self) -> u32
+        ensures value { result ≡ self.now.frames }
+        ensures some { 1 ≤ result }
+        ensures most { result ≤ 8192 }
+    {
+        self.frames
+    }
+
+    /// Where the machine starts.
+    pub fn start(&self) -> &Start
+        ensures { result.now ≡ self.now.start }
+    {
+        &self.start
+    }
+
+    /// Sets whether a segment may be read, executed and written. All else stays, its right to be privileged too.
+    pub fn set_rights(&mut self, i: usize, readable: bool, executable: bool, writable: bool)
+        requires { i < length self.old.segments }
+        ensures { SetsRights self.old self.new i readable executable writable }
+    {
+        let segment = &mut self.segments[i];
+        segment.mode.readable = readable;
+        segment.mode.executable = executable;
+        segment.mode.writable = writable;
+    }
+}

@@ -1,0 +1,51 @@
+//! Names of directories.
+
+ghost use Rattle.std.specs.Prelude.{◌≡◌, ◌≤◌, length};
+ghost use Rattle.std.specs.Option.{SomeIff};
+
+use arrayvec::ArrayVec;
+use std::marker::Model;
+
+// A text of at most 64 bytes, seen as a list of numbers. It takes no memory.
+#[derive(Debug, Drop)]
+pub(crate) struct Directory {
+    items: ArrayVec<u8, 64>,
+}
+
+impl Model for Directory {
+    ghost use Rattle.std.specs.Prelude.{ℕ, List};
+
+    ghost Value = { List ℕ };
+
+    ghost view = { λ d. d.items.items };
+}
+
+impl Directory {
+    // None exactly where there are more than 64 bytes.
+    pub(crate) fn new(text: &[u8]) -> Option<Directory>
+        ensures { SomeIff result (length text.now ≤ 64) text.now }
+    {
+        let mut items = ArrayVec::new();
+        match items.try_extend_from_slice(text) {
+            Ok(()) => Some(Directory { items }),
+            Err(_) => None,
+        }
+    }
+
+    pub(crate) fn bytes(&self) -> &[u8]
+        ensures value { result.now ≡ self.now }
+        ensures fits { length self.now ≤ 64 }
+    {
+        self.items.as_slice()
+    }
+
+    // The same again.
+    pub(crate) fn copied(&self) -> Directory
+        ensures { result ≡ self.now }
+    {
+        match Directory::new(self.bytes()) {
+            Some(directory) => directory,
+            None => unreachable!(),
+        }
+    }
+}

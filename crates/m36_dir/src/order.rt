@@ -1,0 +1,277 @@
+//! The order of the lines of a boot text, and the code of a line by those above it.
+
+ghost use Rattle.std.specs.Prelude.{ℕ, ◌≡◌, ◌+◌, ◌<◌, ◌≤◌, ◌^◌, [], Some, count_by};
+ghost use Rattle.std.specs.List.{list_any};
+ghost use Rattle.m36_dir.specs.BootLine.{line_given};
+ghost use Rattle.m36_dir.specs.BootOrder.{is_frames, is_start, is_library, is_segment, is_work_or_library, is_segment_or_name, may_follow, is_in_order_behind, last_of, is_entry, entry, directory_behind, directory_at_end, entries_of_line, entries_from, has_entry, stands_twice, is_in_directory, is_given_in_directory, has_directory, names_no_directory, is_no_gate, are_in_order, has_wrong_brackets, names_with, names_at_end, is_too_many, code_of, ends, lines_given, formed, all_lines};
+
+use crate::boot_code::BootCode;
+use crate::boot_line::{BootLine, SegmentLine};
+use crate::forms::read_line;
+use crate::segment::SegKind;
+use m36_text::first_line;
+
+// The most segments of a catalog.
+const MOST_SEGMENTS: usize = 512;
+
+// The most names that a segment has beside the first.
+const MOST_FURTHER_NAMES: usize = 7;
+
+// The most libraries.
+const MOST_LIBRARIES: usize = 16;
+
+fn is_frames(line: &BootLine) -> bool
+    ensures { result ≡ is_frames line.now }
+{
+    matches!(line, BootLine::Frames(_))
+}
+
+fn is_library(line: &BootLine) -> bool
+    ensures { result ≡ is_library line.now }
+{
+    matches!(line, BootLine::Library(_))
+}
+
+fn is_segment(line: &BootLine) -> bool
+    ensures { result ≡ is_segment line.now }
+{
+    matches!(line, BootLine::Segment(_))
+}
+
+fn is_work_or_library(line: &BootLine) -> bool
+    ensures { result ≡ is_work_or_library line.now }
+{
+    matches!(line, BootLine::Work(_) | BootLine::Library(_))
+}
+
+fn is_segment_or_name(line: &BootLine) -> bool
+    ensures { result ≡ is_segment_or_name line.now }
+{
+    matches!(line, BootLine::Segment(_) | BootLine::Name(_))
+}
+
+fn may_follow(above: &BootLine, line: &BootLine) -> bool
+    ensures { result ≡ may_follow above.now line.now }
+{
+    match line {
+        BootLine::Frames(_) => false,
+        BootLine::Work(_) => is_frames(above),
+        BootLine::Library(_) => is_work_or_library(above),
+        BootLine::Segment(_) => is_work_or_library(above) || is_segment_or_name(above),
+        BootLine::Name(_) => is_segment_or_name(above),
+        BootLine::Start(_) => is_work_or_library(above) || is_segment_or_name(above),
+    }
+}
+
+fn is_in_order(above: &[BootLine], line: &BootLine) -> bool
+    ensures { result ≡ is_in_order_behind (last_of above.now) line.now }
+{
+    match above.last() {
+        None => is_frames(line),
+        Some(last) => may_follow(last, line),
+    }
+}
+
+fn directory_behind<'a>(dir: &'a [u8], line: &'a BootLine) -> &'a [u8]
+    ensures { result.now ≡ directory_behind dir.now line.now }
+{
+    match line {
+        BootLine::Segment(given) => given.dir.bytes(),
+        _ => dir,
+    }
+}
+
+// The directory of the last segment line.
+fn last_directory(lines: &[BootLine]) -> &[u8]
+    ensures { result.now ≡ directory_at_end [] lines.now }
+{
+    let mut dir: &[u8] = &[];
+    for line in lines {
+        dir = directory_behind(dir, line);
+    }
+    dir
+}
+
+// Whether a line behind a segment line of a directory puts a name into a directory.
+fn puts(behind: &[u8], line: &BootLine, dir: &[u8], name: &[u8]) -> bool
+    ensures { result ≡ list_any (is_entry (entry dir.now name.now)) (entries_of_line behind.now line.now) }
+{
+    match line {
+        BootLine::Segment(given) => given.dir.bytes() == dir && given.name.bytes() == name,
+        BootLine::Name(further) => behind == dir && further.bytes() == name,
+        _ => false,
+    }
+}
+
+// Whether lines put a name into a directory.
+#[tactic(auto, unfolding(crate::specs::BootOrder::has_entry), using(crate::proofs::LineLoops::entry_found, crate::proofs::LineLoops::entry_more, crate::proofs::LineLoops::entry_all))]
+fn has_entry(lines: &[BootLine], dir: &[u8], name: &[u8]) -> bool
+    ensures { result ≡ has_entry lines.now dir.now name.now }
+{
+    let mut behind: &[u8] = &[];
+    for line in lines {
+        if puts(behind, line, dir, name) {
+            return true;
+        }
+        behind = directory_behind(behind, line);
+    }
+    false
+}
+
+fn stands_twice(above: &[BootLine], line: &BootLine) -> bool
+    ensures { result ≡ stands_twice above.now line.now }
+{
+    match line {
+        BootLine::Segment(given) => has_entry(above, given.dir.bytes(), given.name.bytes()),
+        BootLine::Name(name) => has_entry(above, last_directory(above), name.bytes()),
+        _ => false,
+    }
+}
+
+fn is_in_directory(dir: &[u8], line: &BootLine) -> bool
+    ensures { result ≡ is_in_directory dir.now line.now }
+{
+    match line {
+        BootLine::Segment(given) => given.dir.bytes() == dir,
+        _ => false,
+    }
+}
+
+// Whether a line is a segment line of a directory.
+fn is_line_in_directory(dir: &[u8], line: &[u8]) -> bool
+    ensures { result ≡ is_given_in_directory dir.now (line_given (Some line.now)) }
+{
+    match read_line(line) {
+        Some(line) => is_in_directory(dir, &line),
+        None => false,
+    }
+}
+
+// Whether a segment line of the text has a directory.
+#[tactic(auto, using(crate::proofs::TextLoops::text_found, crate::proofs::TextLoops::text_more, crate::proofs::TextLoops::text_all))]
+fn has_directory(text: &[u8], dir: &[u8]) -> bool
+    ensures { result ≡ has_directory (all_lines text.now) dir.now }
+{
+    let mut rest = text;
+    while let Some((line, behind)) = first_line(rest) {
+        if is_line_in_directory(dir, line) {
+            return true;
+        }
+        rest = behind;
+    }
+    false
+}
+
+fn names_no_directory(text: &[u8], line: &BootLine) -> bool
+    ensures { result ≡ names_no_directory (all_lines text.now) line.now }
+{
+    match line {
+        BootLine::Work(dir) => !has_directory(text, dir.bytes()),
+        BootLine::Library(dir) => !has_directory(text, dir.bytes()),
+        _ => false,
+    }
+}
+
+// Whether a segment is said to be a gate and cannot be one.
+fn is_no_gate(given: &SegmentLine) -> bool
+    ensures { result ≡ is_no_gate given.now.kind given.now }
+{
+    match given.kind {
+        SegKind::Gate => !given.mode.executable || given.r2 == given.r3,
+        _ => false,
+    }
+}
+
+fn are_in_order(given: &SegmentLine) -> bool
+    ensures { result ≡ are_in_order given.now }
+{
+    given.r1 <= given.r2 && given.r2 <= given.r3
+}
+
+fn has_wrong_brackets(line: &BootLine) -> bool
+    ensures { result ≡ has_wrong_brackets line.now }
+{
+    match line {
+        BootLine::Segment(given) => !are_in_order(given) || is_no_gate(given),
+        _ => false,
+    }
+}
+
+fn names_with(names: usize, line: &BootLine) -> usize
+    requires { names < 2 ^ 63 }
+    ensures value { result ≡ names_with names line.now }
+    ensures bound { result ≤ names + 1 }
+{
+    match line {
+        BootLine::Name(_) => names + 1,
+        _ => 0,
+    }
+}
+
+// The further names that stand last.
+#[tactic(auto, using(crate::proofs::LineLoops::names_more, crate::proofs::LineLoops::names_all))]
+fn names_at_end(lines: &[BootLine]) -> usize
+    ensures { result ≡ names_at_end 0 lines.now }
+{
+    let mut names = 0;
+    for line in lines {
+        names = names_with(names, line);
+    }
+    names
+}
+
+fn count_segments(lines: &[BootLine]) -> usize
+    ensures { result ≡ count_by is_segment lines.now }
+{
+    lines.iter().filter(|line| is_segment(line)).count()
+}
+
+fn count_libraries(lines: &[BootLine]) -> usize
+    ensures { result ≡ count_by is_library lines.now }
+{
+    lines.iter().filter(|line| is_library(line)).count()
+}
+
+fn is_too_many(above: &[BootLine], line: &BootLine) -> bool
+    ensures { result ≡ is_too_many above.now line.now }
+{
+    match line {
+        BootLine::Segment(_) => count_segments(above) >= MOST_SEGMENTS,
+        BootLine::Name(_) => names_at_end(above) >= MOST_FURTHER_NAMES,
+        BootLine::Library(_) => count_libraries(above) >= MOST_LIBRARIES,
+        _ => false,
+    }
+}
+
+/// The code of a line of a text, by the lines above it; None where it has none.
+#[tactic(auto, unfolding(crate::specs::BootOrder::code_of, m36_text::specs::Lines::first_met))]
+pub(crate) fn code_of(text: &[u8], above: &[BootLine], line: &BootLine) -> Option<BootCode>
+    ensures { result ≡ code_of (all_lines text.now) above.now line.now }
+{
+    if !is_in_order(above, line) {
+        return Some(BootCode::D1);
+    }
+    if stands_twice(above, line) {
+        return Some(BootCode::D2);
+    }
+    if names_no_directory(text, line) {
+        return Some(BootCode::D3);
+    }
+    if has_wrong_brackets(line) {
+        return Some(BootCode::D4);
+    }
+    if is_too_many(above, line) {
+        return Some(BootCode::D5);
+    }
+    None
+}
+
+/// Whether the last line is the start line.
+pub(crate) fn is_started(lines: &[BootLine]) -> bool
+    ensures { result ≡ ends (last_of lines.now) }
+{
+    match lines.last() {
+        Some(BootLine::Start(_)) => true,
+        _ => false,
+    }
+}

@@ -1,0 +1,75 @@
+//! The lines of a boot text in turn, up to the first that has a code.
+
+ghost use Rattle.std.specs.Prelude.{◌≡◌, ◌<◌, ◌^◌, [], ◌∷◌, ◌++◌, length, Some, None, IfOk, IfErr, OnOk};
+ghost use Rattle.m36_dir.specs.BootLine.{line_given};
+ghost use Rattle.m36_dir.specs.BootOrder.{last_of, code_at_end, code_of_rest, Judges, all_lines, first_code};
+ghost use Rattle.m36_dir.specs.Catalog.{catalog_in, catalog_of, Told};
+ghost use Rattle.m36_dir.specs.IsCatalog.{IsCatalog};
+
+use crate::boot_code::{BootCode, fault_at};
+use crate::boot_line::BootLine;
+use crate::fault::CatalogFault;
+use crate::forms::read_line;
+use crate::order::{code_of, is_started};
+use m36_text::first_line;
+use m36_word::NoMemory;
+use std::alloc::Global;
+
+// A line that is of its form and has no code; else the code.
+fn judged(text: &[u8], above: &[BootLine], line: &[u8]) -> Result<BootLine, BootCode>
+    ensures { Judges (all_lines text.now) above.now (line_given (Some line.now)) result }
+{
+    let Some(line) = read_line(line) else {
+        return Err(BootCode::D1);
+    };
+    match code_of(text, above, &line) {
+        None => Ok(line),
+        Some(code) => Err(code),
+    }
+}
+
+// The code behind the last whole line: of a line that lacks its line feed, or of the end.
+fn code_of_rest(above: &[BootLine], rest: &[u8]) -> Option<BootCode>
+    ensures { result ≡ code_of_rest above.now rest.now }
+{
+    if !rest.is_empty() {
+        return Some(BootCode::D1);
+    }
+    if is_started(above) {
+        None
+    } else {
+        Some(BootCode::D6)
+    }
+}
+
+fn add(lines: &mut Vec<BootLine>, line: BootLine) -> Result<(), NoMemory>
+    ensures { OnOk result (lines.new.items ≡ lines.old.items ++ line ∷ []) }
+{
+    lines.push(line)?;
+    Ok(())
+}
+
+/// All lines of a text of which none has a code; else the first code.
+pub(crate) fn lines_of(alloc: Global, text: &[u8]) -> Result<Vec<BootLine>, CatalogFault>
+    requires { length text.now < 2 ^ 32 }
+    ensures lines { IfOk result (λ lines. lines.items ≡ all_lines text.now) }
+    ensures none { IfOk result (λ lines. first_code text.now ≡ None) }
+    ensures kept { IfOk result (λ lines. IsCatalog (catalog_in lines.items)) }
+    ensures told { IfErr result (λ told. Told told (catalog_of text.now)) }
+{
+    let mut above = Vec::new(alloc);
+    let mut rest = text;
+    let mut number: u32 = 1;
+    while let Some((line, behind)) = first_line(rest) {
+        match judged(text, &above, line) {
+            Ok(line) => add(&mut above, line)?,
+            Err(code) => return Err(fault_at(number, code)),
+        }
+        rest = behind;
+        number += 1;
+    }
+    match code_of_rest(&above, rest) {
+        None => Ok(above),
+        Some(code) => Err(fault_at(number, code)),
+    }
+}

@@ -1,0 +1,77 @@
+-- How a booted image lies in core: the descriptor segment at word 0, the page table of each segment
+-- behind it, and then frames, each of which holds one page of one segment or none.
+use Rattle.std.specs.Prelude.{◌≡◌, ◌≢◌, ℕ, ◌+◌, ◌*◌, ◌/◌, ◌^◌, ◌<◌, ◌≤◌, ◌⊎◌, true, false, List}
+use Rattle.std.specs.Prelude.{length, slice_index, Ok, Err}
+use Rattle.m36_desc.specs.Fields.{SdwFields, DbrFields}
+use Rattle.m36_desc.specs.Access.{in_order}
+use Rattle.m36_model.specs.Place.{core_sdw}
+use Rattle.m36_model.specs.Core.{unmarked}
+use Rattle.m36_model.specs.declared.outcome.Refusal.{Refusal}
+
+-- the descriptor segment: unpaged, at core word 0
+abbrev pub descriptor_words : ℕ
+descriptor_words = 2048
+
+abbrev pub booted_dbr : DbrFields
+booted_dbr = record { addr = 0; bnd = 127; unpaged = true; stack = 1 }
+
+-- segments have page tables of 256 words, one behind another
+abbrev pub booted_segments : ℕ
+booted_segments = 576
+
+abbrev pub table_at : ℕ → ℕ
+table_at seg = descriptor_words + 256 * seg
+
+-- the frames of the descriptor segment and of the page tables; the pageable frames come behind them
+abbrev pub wired_frames : ℕ
+wired_frames = 146
+
+-- the page table word of a page in a frame, and that of a page in none: F off, directed fault 1
+abbrev pub resident_ptw : ℕ → ℕ
+resident_ptw frame = 16 * frame * 2 ^ 18 + 4
+
+abbrev pub absent_ptw : ℕ
+absent_ptw = 1
+
+-- a descriptor of a booted image
+pub record IsLaidSegment (seg : ℕ) (d : SdwFields) : Type 0 where
+  pub number : seg < booted_segments
+  pub paged : d.unpaged ≡ false
+  pub table : d.addr ≡ table_at seg
+  pub size : d.bound / 64 < 256
+  pub ordered : in_order d ≡ true
+
+-- a page that begins within the bound of a live segment
+pub record IsPage (core : List ℕ) (seg page : ℕ) : Type 0 where
+  pub sdw : SdwFields
+  pub live : core_sdw core booted_dbr seg ≡ Ok sdw
+  pub begins : page ≤ sdw.bound / 64
+
+-- the page table word of a page, but for its marks
+abbrev pub page_word : List ℕ → ℕ → ℕ → ℕ
+page_word core seg page = unmarked (slice_index core (table_at seg + page))
+
+-- the page is in a pageable frame
+pub record IsInFrame (core : List ℕ) (frames seg page frame : ℕ) : Type 0 where
+  pub word : page_word core seg page ≡ resident_ptw frame
+  pub low : wired_frames ≤ frame
+  pub high : frame < wired_frames + frames
+
+-- the core of a booted image with so many pageable frames, at any point of its run until ring 0
+-- loads another DBR
+pub record IsLaid (core : List ℕ) (frames : ℕ) : Type 0 where
+  pub size : length core ≡ 1024 * (wired_frames + frames)
+  pub most : wired_frames + frames ≤ 16384
+  pub segments :
+      (seg : ℕ) (d : SdwFields) → core_sdw core booted_dbr seg ≡ Ok d → IsLaidSegment seg d
+  -- a descriptor that is not live names another fault than a page that is in no frame
+  pub dead : (seg : ℕ) (why : Refusal) → core_sdw core booted_dbr seg ≡ Err why → why.number ≢ 17
+  pub pages :
+      (seg page : ℕ) → IsPage core seg page
+      → (page_word core seg page ≡ absent_ptw) ⊎
+      ((frame : ℕ) × IsInFrame core frames seg page frame)
+  -- a frame holds one page
+  pub apart :
+      (seg page seg' page' frame : ℕ) → IsPage core seg page → IsPage core seg' page'
+      → page_word core seg page ≡ resident_ptw frame
+      → page_word core seg' page' ≡ resident_ptw frame → (seg ≡ seg') × (page ≡ page')

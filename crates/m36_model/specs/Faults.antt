@@ -1,0 +1,42 @@
+-- The faults, by the manual's names: each number stands here alone. The store fault and the
+-- directed faults, which places give, are in `Place`. Multics Processor Manual AL39, "Faults and
+-- interrupts".
+use Rattle.std.specs.Prelude.{ℕ}
+
+-- MME
+abbrev pub master_mode_entry : ℕ
+master_mode_entry = 2
+
+-- tag 40 (octal); those of the other two are 46 and 47
+abbrev pub fault_tag_1 : ℕ
+fault_tag_1 = 3
+
+-- a word that stands for no packed pointer
+abbrev pub command : ℕ
+command = 5
+
+-- DRL
+abbrev pub derail : ℕ
+derail = 6
+
+-- too many indirect words (the number is this project's choice)
+abbrev pub lockup_fault : ℕ
+lockup_fault = 7
+
+abbrev pub illegal_procedure : ℕ
+illegal_procedure = 10
+
+abbrev pub overflow_fault : ℕ
+overflow_fault = 13
+
+abbrev pub divide_check : ℕ
+divide_check = 14
+
+abbrev pub access_violation : ℕ
+access_violation = 20
+
+abbrev pub fault_tag_2 : ℕ
+fault_tag_2 = 24
+
+abbrev pub fault_tag_3 : ℕ
+fault_tag_3 = 25

@@ -1,0 +1,101 @@
+-- The store Flat: the descriptors of a booted image and the content of its segments, with no page
+-- tables and no marks. A word lies at itself.
+use Rattle.std.specs.Prelude.{◌≡◌, ℕ, ◌+◌, ◌*◌, ◌<◌, Bool, true, false, ◌&&◌, ◌==◌, if◌then◌else◌}
+use Rattle.std.specs.Prelude.{List, [], ◌∷◌, slice_get, Result, Ok, Err}
+use Rattle.m36_desc.specs.Fields.{SdwFields, DbrFields}
+use Rattle.m36_desc.specs.Access.{in_order}
+use Rattle.m36_desc.specs.Violations.{out_of_segment_bounds}
+use Rattle.m36_model.specs.Act.{RequestKind, Part}
+use Rattle.m36_model.specs.Store.{Spot, Core_word, Segment_word, Change, SegTable, Tables, Store}
+use Rattle.m36_model.specs.Store.{written, violation}
+use Rattle.m36_model.specs.Place.{in_bounds, sdw_words}
+use Rattle.m36_model.specs.Audit.{is_stack_of}
+use Rattle.m36_model.specs.declared.outcome.Refusal.{Refusal}
+
+-- the words of the descriptor segment, and the content of each word of each segment
+pub record Flat : Type 0 where
+  pub descriptors : List ℕ
+  pub content : ℕ → ℕ → ℕ
+
+-- the descriptor of a segment, where the descriptor segment has one in bounds
+abbrev pub flat_sdw_by : Bool → List ℕ → ℕ → Result SdwFields Refusal
+flat_sdw_by true words seg = sdw_words (slice_get words (2 * seg)) (slice_get words (2 * seg + 1))
+flat_sdw_by false words seg = Err (violation out_of_segment_bounds)
+
+unfoldable pub flat_sdw : Flat → DbrFields → ℕ → Result SdwFields Refusal
+flat_sdw s dbr seg = flat_sdw_by (in_bounds dbr seg) s.descriptors seg
+
+-- each word within the bound has a place
+abbrev pub flat_spot : Flat → DbrFields → SdwFields → ℕ → ℕ → Result Spot Refusal
+flat_spot s dbr d seg w = Ok (Segment_word seg w)
+
+abbrev pub flat_word : Flat → Spot → ℕ
+flat_word s (Core_word a) = 0
+flat_word s (Segment_word seg w) = s.content seg w
+
+-- words written, one after another
+abbrev pub content_with : (ℕ → ℕ → ℕ) → ℕ → ℕ → Part → ℕ → ℕ → ℕ → ℕ
+content_with content seg w part v seg' w' =
+    if (seg == seg') && (w == w') then written part (content seg' w') v else content seg' w'
+
+abbrev pub flat_put_one : Flat → Spot → Part → ℕ → Flat
+flat_put_one s (Core_word a) part v = s
+flat_put_one s (Segment_word seg w) part v =
+    record s { content = content_with s.content seg w part v }
+
+unfoldable pub flat_put : Flat → List Change → Flat
+flat_put s [] = s
+flat_put s (p ∷ puts) = flat_put (flat_put_one s p.spot p.part p.value) puts
+
+-- the tables are the words of the descriptors in bounds
+abbrev pub flat_table_by : Bool → List ℕ → ℕ → SegTable
+flat_table_by true words seg =
+    record {
+      directory = [];
+      sdw =
+          (2 * seg, slice_get words (2 * seg)) ∷ (2 * seg + 1, slice_get words (2 * seg + 1)) ∷ [];
+      pages = [];
+    }
+flat_table_by false words seg = record { directory = []; sdw = []; pages = [] }
+
+unfoldable pub flat_tables : Flat → DbrFields → Tables
+flat_tables s dbr =
+    record { dbr = dbr; size = 0; of = λ seg. flat_table_by (in_bounds dbr seg) s.descriptors seg }
+
+-- there are no marks
+abbrev pub flat_marked : Flat → DbrFields → RequestKind → ℕ → ℕ → Flat
+flat_marked s dbr kind seg w = s
+
+abbrev pub flat_store : Store Flat
+flat_store =
+    record {
+      sdw = flat_sdw;
+      spot = flat_spot;
+      word = flat_word;
+      marked = flat_marked;
+      put = flat_put;
+      tables = flat_tables;
+    }
+
+-- The audit conditions that speak of descriptors alone: the first, the fifth and the sixth.
+pub record IsFlatAudited (s : Flat) (dbr : DbrFields) : Type 0 where
+  pub ordered : (seg : ℕ) (d : SdwFields) → flat_sdw s dbr seg ≡ Ok d → in_order d ≡ true
+  pub gates :
+      (seg : ℕ) (d : SdwFields) → flat_sdw s dbr seg ≡ Ok d → d.executable ≡ true → d.r2 < d.r3
+      → d.no_gate ≡ false
+  pub stacks :
+      (seg : ℕ) (d : SdwFields) → flat_sdw s dbr seg ≡ Ok d → d.executable ≡ true → d.r2 < d.r3
+      → is_stack_of d.r2 (flat_sdw s dbr (8 * dbr.stack + d.r2)) ≡ true
+
+-- the flat state has these descriptors
+abbrev pub HasDescriptors : Flat → DbrFields → Flat → Type 0
+HasDescriptors s dbr now = flat_tables now dbr ≡ flat_tables s dbr
+
+-- a word of the flat store
+abbrev pub IsFlatSpot : Spot → Type 0
+IsFlatSpot (Core_word a) = ⊥
+IsFlatSpot (Segment_word seg w) = Unit {0}
+
+-- marks change nothing in a flat store
+abbrev pub IsSameFlat : Flat → Flat → Type 0
+IsSameFlat old new = new ≡ old

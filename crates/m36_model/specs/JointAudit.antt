@@ -1,0 +1,113 @@
+-- The joint audit of several processes on one core: the six conditions of each, and two conditions
+-- between them.
+use Rattle.std.specs.Prelude.{◌≡◌, ◌≢◌, ℕ, ◌+◌, ◌<◌, ◌⊎◌, List, [], ◌∷◌, ◌++◌, map, length}
+use Rattle.std.specs.Prelude.{slice_get, Option, Some, None, Ok}
+use Rattle.m36_desc.specs.Fields.{DbrFields}
+use Rattle.m36_model.specs.Place.{wrapped, sdw_place}
+use Rattle.m36_model.specs.Audit.{Table, Sdws, Directory, Pages, IsOf, IsSegmentWord, IsAudited}
+use Rattle.m36_model.specs.Audit.{Finds, AreFindings}
+
+-- two segments of two processes are the same: their descriptors are equal words
+pub record AreSame (core : List ℕ) (dbr other : DbrFields) (seg other_seg : ℕ) : Type 0 where
+  pub at : ℕ
+  pub other_at : ℕ
+  pub found : sdw_place core dbr seg ≡ Ok at
+  pub other_found : sdw_place core other other_seg ≡ Ok other_at
+  pub even : slice_get core at ≡ slice_get core other_at
+  pub odd : slice_get core (wrapped (at + 1)) ≡ slice_get core (wrapped (other_at + 1))
+
+-- Two processes may share a word of these two tables: they are the page tables of one and the same
+-- segment. (Where its descriptors are equal, a word at one address is for one and the same page.)
+abbrev pub AreShared : List ℕ → DbrFields → DbrFields → Table → Table → Type 0
+AreShared core dbr other (Pages seg) (Pages other_seg) = AreSame core dbr other seg other_seg
+AreShared core dbr other (Pages seg) Sdws = ⊥
+AreShared core dbr other (Pages seg) Directory = ⊥
+AreShared core dbr other Sdws table = ⊥
+AreShared core dbr other Directory table = ⊥
+
+-- two processes of the list
+pub record AreTwo (dbrs : List DbrFields) (dbr other : DbrFields) : Type 0 where
+  pub first : ℕ
+  pub second : ℕ
+  pub at : slice_get dbrs first ≡ Some dbr
+  pub other_at : slice_get dbrs second ≡ Some other
+  pub differ : first ≢ second
+
+-- a table word of one process that is a segment word, or a table word that is not shared, of
+-- another
+abbrev pub IsTaken : List ℕ → DbrFields → DbrFields → Table → ℕ → Type 0
+IsTaken core dbr other table a =
+    ((seg : ℕ) × (w : ℕ) × IsSegmentWord core other seg w a) ⊎
+    ((other_table : Table) × IsOf core other other_table a ×
+    (AreShared core dbr other table other_table → ⊥))
+
+-- No table word of one process is a table word or a segment word of another, but for shared page
+-- tables. A core word breaks it.
+pub record IsJointTable (core : List ℕ) (dbrs : List DbrFields) (a : ℕ) : Type 0 where
+  pub inside : a < length core
+  pub dbr : DbrFields
+  pub other : DbrFields
+  pub two : AreTwo dbrs dbr other
+  pub table : Table
+  pub of : IsOf core dbr table a
+  pub taken : IsTaken core dbr other table a
+
+-- the two words of segments are one word of one and the same segment
+pub record AreSameWord (core : List ℕ) (dbr other : DbrFields)
+    (seg w other_seg other_w : ℕ) : Type 0 where
+  pub segment : AreSame core dbr other seg other_seg
+  pub word : w ≡ other_w
+
+-- No segment word of one process lies on one of another, but for the same word of one segment. A
+-- core word breaks it.
+pub record IsJointSegment (core : List ℕ) (dbrs : List DbrFields) (a : ℕ) : Type 0 where
+  pub dbr : DbrFields
+  pub other : DbrFields
+  pub two : AreTwo dbrs dbr other
+  pub seg : ℕ
+  pub w : ℕ
+  pub word : IsSegmentWord core dbr seg w a
+  pub other_seg : ℕ
+  pub other_w : ℕ
+  pub other_word : IsSegmentWord core other other_seg other_w a
+  pub differ : AreSameWord core dbr other seg w other_seg other_w → ⊥
+
+-- all conditions hold
+pub record IsJointlyAudited (core : List ℕ) (dbrs : List DbrFields) : Type 0 where
+  pub each : (i : ℕ) (dbr : DbrFields) → slice_get dbrs i ≡ Some dbr → IsAudited core dbr
+  pub tables : (a : ℕ) → IsJointTable core dbrs a → ⊥
+  pub segments : (a : ℕ) → IsJointSegment core dbrs a → ⊥
+
+-- a finding: its process, where it is of one, the number of its condition, and the place
+pub record JointFound : Type 0 where
+  pub process : Option ℕ
+  pub condition : ℕ
+  pub place : ℕ
+
+abbrev pub of_process : ℕ → List (ℕ × ℕ) → List JointFound
+of_process i findings =
+    map (λ f. record { process = Some i; condition = f.0; place = f.1 }) findings
+
+abbrev pub between : ℕ → Option ℕ → List JointFound
+between condition None = []
+between condition (Some p) = record { process = None; condition = condition; place = p } ∷ []
+
+-- the findings of the processes from number i on, in order
+abbrev pub AreFindingsFrom : ℕ → List ℕ → List DbrFields → List JointFound → Type 0
+AreFindingsFrom i core [] findings = findings ≡ []
+AreFindingsFrom i core (dbr ∷ dbrs) findings =
+    (own : List (ℕ × ℕ)) × AreFindings core dbr own ×
+    ((rest : List JointFound) × AreFindingsFrom (i + 1) core dbrs rest ×
+    (findings ≡ of_process i own ++ rest))
+
+-- the findings of a joint audit: those of each process in order, and one for each of the two
+-- conditions that fails
+pub record AreJointFindings (core : List ℕ) (dbrs : List DbrFields)
+    (findings : List JointFound) : Type 0 where
+  pub own : List JointFound
+  pub finds_own : AreFindingsFrom 0 core dbrs own
+  pub second : Option ℕ
+  pub finds_second : Finds (IsJointTable core dbrs) second
+  pub third : Option ℕ
+  pub finds_third : Finds (IsJointSegment core dbrs) third
+  pub listed : findings ≡ own ++ between 2 second ++ between 3 third

@@ -1,0 +1,73 @@
+-- Residence: pages of a booted image are in frames of core, or their words are kept elsewhere. What
+-- the image holds is the same either way.
+use Rattle.std.specs.Prelude.{◌≡◌, ℕ, ◌+◌, ◌*◌, ◌/◌, ◌%◌, ◌<◌, ◌≤◌, ◌==◌, if◌then◌else◌, List}
+use Rattle.std.specs.Prelude.{length, take, slice_index, Option, Some, None, Result, Ok, Err}
+use Rattle.m36_model.specs.Store.{Spot, place}
+use Rattle.m36_model.specs.Core.{core_store, core_word}
+use Rattle.m36_model.specs.Flat.{Flat}
+use Rattle.m36_model.specs.BootedCore.{descriptor_words, booted_dbr, wired_frames, resident_ptw}
+use Rattle.m36_model.specs.BootedCore.{absent_ptw, IsPage, page_word}
+use Rattle.m36_model.specs.declared.outcome.Refusal.{Refusal}
+
+-- core, and the words that are kept for pages in no frame
+pub record Paged : Type 0 where
+  pub core : List ℕ
+  pub kept : ℕ → ℕ → ℕ
+
+-- the refusal of a page that is in no frame: directed fault 1
+abbrev pub absence : Refusal
+absence = record { number = 17; acv = 0 }
+
+-- The content of a word: its frame's word where its page is resident, and else the word kept for
+-- it.
+abbrev pub word_at : Paged → ℕ → ℕ → Result Spot Refusal → ℕ
+word_at m seg w (Ok spot) = core_word m.core spot
+word_at m seg w (Err why) = if why.number == 17 then m.kept seg w else 0
+
+unfoldable pub paged_content : Paged → ℕ → ℕ → ℕ
+paged_content m seg w = word_at m seg w (place core_store m.core booted_dbr seg w)
+
+-- the flat memory for which a paged one stands
+unfoldable pub flat_of : Paged → Flat
+flat_of m = record { descriptors = take descriptor_words m.core; content = paged_content m }
+
+-- the page of a word is in no frame
+abbrev pub Lacks : List ℕ → ℕ → ℕ → Type 0
+Lacks core seg w = place core_store core booted_dbr seg w ≡ Err absence
+
+-- the page table word of a page by the frame that it is in, if any
+abbrev pub ptw_of_page : Option ℕ → ℕ
+ptw_of_page None = absent_ptw
+ptw_of_page (Some frame) = resident_ptw frame
+
+-- Which frame each page is in, as the page table words tell: a pageable one, and no frame holds two
+-- pages.
+pub record IsResidence (core : List ℕ) (frames : ℕ) (frame_of : ℕ → ℕ → Option ℕ) : Type 0 where
+  pub words :
+      (seg page : ℕ) → IsPage core seg page
+      → page_word core seg page ≡ ptw_of_page (frame_of seg page)
+  pub range :
+      (seg page frame : ℕ) → frame_of seg page ≡ Some frame
+      → (wired_frames ≤ frame) × (frame < wired_frames + frames)
+  pub one :
+      (seg page seg' page' frame : ℕ) → frame_of seg page ≡ Some frame
+      → frame_of seg' page' ≡ Some frame → (seg ≡ seg') × (page ≡ page')
+
+-- a word by the frame of its page, if any
+abbrev pub resident_word : Paged → Option ℕ → ℕ → ℕ → ℕ
+resident_word m (Some frame) seg w = slice_index m.core (frame * 1024 + w % 1024)
+resident_word m None seg w = m.kept seg w
+
+-- Pages have moved between frames and the words kept: descriptors are as they were, and so is each
+-- word of each page.
+pub record IsMoved (frames : ℕ) (old new : Paged) : Type 0 where
+  pub size : length new.core ≡ length old.core
+  pub descriptors : take descriptor_words new.core ≡ take descriptor_words old.core
+  pub before : ℕ → ℕ → Option ℕ
+  pub residence_before : IsResidence old.core frames before
+  pub after : ℕ → ℕ → Option ℕ
+  pub residence_after : IsResidence new.core frames after
+  pub words :
+      (seg w : ℕ) → IsPage old.core seg (w / 1024)
+      → resident_word new (after seg (w / 1024)) seg w ≡ resident_word old (before seg (w / 1024))
+      seg w

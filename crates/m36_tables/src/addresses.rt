@@ -1,0 +1,56 @@
+//! Addresses of table words, and how far tables and segments reach.
+
+ghost use Rattle.std.specs.Prelude.{ℕ, ◌≡◌, ◌<◌, ◌≤◌, ◌^◌, nat_lt};
+ghost use Rattle.m36_model.specs.Place.{wrapped, directory_at, page_at, in_bounds};
+ghost use Rattle.m36_model.specs.Store.{within};
+
+use m36_desc::{Dbr, Sdw};
+
+/// Segment numbers have 15 bits.
+const SEGMENTS: u16 = 1 << 15;
+
+/// Sums of addresses wrap.
+pub fn wrapped(a: u32) -> u32
+    ensures value { result ≡ wrapped a }
+    ensures bound { result < 2 ^ 24 }
+{
+    a % (1 << 24)
+}
+
+/// How many segments the descriptor segment has a descriptor for.
+pub fn segment_count(dbr: Dbr) -> u16
+    ensures bound { result ≤ 2 ^ 15 }
+    ensures value { (seg : ℕ) → in_bounds dbr seg ≡ nat_lt seg result }
+{
+    let descriptors = 8 * (dbr.bnd as u32 + 1);
+    if descriptors < SEGMENTS as u32 {
+        descriptors as u16
+    } else {
+        SEGMENTS
+    }
+}
+
+/// The address of the descriptor segment's page table word for a segment.
+pub fn directory_at(dbr: Dbr, seg: u16) -> u32
+    requires { seg < 2 ^ 15 }
+    ensures value { result ≡ directory_at dbr seg }
+    ensures bound { result < 2 ^ 24 }
+{
+    wrapped(dbr.addr + 2 * seg as u32 / 1024)
+}
+
+/// The address of a segment's page table word for a page.
+pub fn page_at(sdw: &Sdw, page: u32) -> u32
+    requires { page < 256 }
+    ensures value { result ≡ page_at sdw.now page }
+    ensures bound { result < 2 ^ 24 }
+{
+    wrapped(sdw.addr + page)
+}
+
+/// Whether a word is within the bound of its segment.
+pub fn within(sdw: &Sdw, word: u32) -> bool
+    ensures { result ≡ within sdw.now word }
+{
+    word / 16 <= sdw.bound as u32
+}

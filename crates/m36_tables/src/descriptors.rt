@@ -1,0 +1,76 @@
+//! How the descriptor of a segment is found.
+
+ghost use Rattle.std.specs.Prelude.{◌≡◌, ◌<◌, ◌^◌, IfOk, OnOk, length};
+ghost use Rattle.m36_model.specs.Place.{directory_at, in_bounds, sdw_place, live_by, core_sdw};
+ghost use Rattle.m36_tables.specs.Tables.{TableIn};
+ghost use Rattle.m36_word.specs.Bits.{is_on};
+
+use crate::addresses::{directory_at, wrapped};
+use crate::pages::{in_frame, page_table_word};
+use crate::refusals::{directed, store_fault, violation};
+use m36_core::Core;
+use m36_desc::{Dbr, Sdw};
+use m36_model::Refusal;
+use m36_word::Pair;
+
+/// Whether the descriptor segment reaches to a segment's descriptor.
+fn in_bounds(dbr: Dbr, seg: u16) -> bool
+    requires { seg < 2 ^ 15 }
+    ensures { result ≡ in_bounds dbr seg }
+{
+    2 * (seg as u32) < 16 * (dbr.bnd as u32 + 1)
+}
+
+/// The address of the even word of a segment's descriptor, which may be past the end of core. The odd word follows it
+/// modulo 2^24.
+pub fn descriptor_place(core: &Core, dbr: Dbr, seg: u16) -> Result<u32, Refusal>
+    requires { seg < 2 ^ 15 }
+    ensures value { result ≡ sdw_place core.now dbr seg }
+    ensures directory { OnOk result (TableIn (length core.now) dbr.unpaged (directory_at dbr seg)) }
+    ensures bound { IfOk result (λ a. a < 2 ^ 24) }
+{
+    if !in_bounds(dbr, seg) {
+        return Err(violation(15));
+    }
+    if dbr.unpaged {
+        return Ok(wrapped(dbr.addr + 2 * seg as u32));
+    }
+    in_frame(
+        page_table_word(core, directory_at(dbr, seg)),
+        2 * seg as u32 % 1024,
+    )
+}
+
+/// The descriptor in a pair, where the segment is there.
+fn live(pair: Pair) -> Result<Sdw, Refusal>
+    ensures { result ≡ live_by (is_on pair.even 33) pair.even pair.odd }
+{
+    let sdw = Sdw::of_words(pair);
+    if sdw.f {
+        Ok(sdw)
+    } else {
+        Err(directed(sdw.fc))
+    }
+}
+
+/// The descriptor of a live segment.
+#[inline(always)]
+#[tactic(auto, unfolding(m36_model::specs::Place::core_sdw))]
+pub fn descriptor(core: &Core, dbr: Dbr, seg: u16) -> Result<Sdw, Refusal>
+    requires { seg < 2 ^ 15 }
+    ensures value { result ≡ core_sdw core.now dbr seg }
+    ensures directory { OnOk result (TableIn (length core.now) dbr.unpaged (directory_at dbr seg)) }
+{
+    let even = descriptor_place(core, dbr, seg)?;
+    let odd = wrapped(even + 1);
+    if even >= core.len() {
+        return Err(store_fault());
+    }
+    if odd >= core.len() {
+        return Err(store_fault());
+    }
+    live(Pair {
+        even: core.peek(even),
+        odd: core.peek(odd),
+    })
+}

@@ -1,0 +1,51 @@
+//! Page table words, and where pages lie.
+
+ghost use Rattle.std.specs.Prelude.{◌≡◌, ◌<◌, ◌^◌, IfOk, OnOk, OnSome, IsSome, length};
+ghost use Rattle.m36_model.specs.Place.{ptw_at, in_frame, page_at};
+
+use crate::addresses::page_at;
+use crate::refusals::{directed, store_fault};
+use m36_core::Core;
+use m36_desc::{Ptw, Sdw};
+use m36_model::Refusal;
+
+/// The page table word at an address, where that lies in core.
+pub fn page_table_word(core: &Core, a: u32) -> Option<Ptw>
+    ensures value { result ≡ ptw_at core.now a }
+    ensures inside { OnSome result (a < length core.now) }
+{
+    if a < core.len() {
+        Some(Ptw::of_words(core.peek(a)))
+    } else {
+        None
+    }
+}
+
+/// The place of a word of a page, by its page table word.
+pub(crate) fn in_frame(ptw: Option<Ptw>, offset: u32) -> Result<u32, Refusal>
+    requires { offset < 1024 }
+    ensures value { result ≡ in_frame ptw offset }
+    ensures known { OnOk result (IsSome ptw) }
+    ensures bound { IfOk result (λ a. a < 2 ^ 24) }
+{
+    match ptw {
+        None => Err(store_fault()),
+        Some(p) => {
+            if p.f {
+                Ok(p.addr / 16 * 1024 + offset)
+            } else {
+                Err(directed(p.fc))
+            }
+        }
+    }
+}
+
+/// Where a page of a paged segment begins, which may be past the end of core.
+pub fn page_frame(core: &Core, sdw: &Sdw, page: u32) -> Result<u32, Refusal>
+    requires { page < 256 }
+    ensures value { result ≡ in_frame (ptw_at core.now (page_at sdw.now page)) 0 }
+    ensures table { OnOk result (page_at sdw.now page < length core.now) }
+    ensures bound { IfOk result (λ a. a < 2 ^ 24) }
+{
+    in_frame(page_table_word(core, page_at(sdw, page)), 0)
+}

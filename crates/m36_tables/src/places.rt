@@ -1,0 +1,92 @@
+//! Where the words of a segment lie, and what they hold.
+
+ghost use Rattle.std.specs.Prelude.{ℕ, ◌≡◌, ◌/◌, ◌<◌, ◌^◌, IfOk, OnOk, length};
+ghost use Rattle.m36_desc.specs.Access.{in_order};
+ghost use Rattle.m36_desc.specs.Fields.{DbrFields};
+ghost use Rattle.m36_model.specs.Core.{core_store};
+ghost use Rattle.m36_model.specs.Place.{ptw_at, page_at, word_place_by, core_spot};
+ghost use Rattle.m36_model.specs.Sight.{content_in};
+ghost use Rattle.m36_model.specs.Store.{place};
+ghost use Rattle.m36_tables.specs.Tables.{TableIn, spot_of};
+
+use crate::addresses::{page_at, within, wrapped};
+use crate::descriptors::descriptor;
+use crate::pages::{in_frame, page_table_word};
+use crate::refusals::{store_fault, violation};
+use m36_core::Core;
+use m36_desc::{Dbr, Sdw};
+use m36_model::Refusal;
+use m36_word::Word;
+
+/// Whether the ring brackets of a segment are in order.
+pub fn in_order(sdw: &Sdw) -> bool
+    ensures { result ≡ in_order sdw.now }
+{
+    sdw.r1 <= sdw.r2 && sdw.r2 <= sdw.r3
+}
+
+/// The place of a word within the bound, which may be past the end of core.
+pub fn word_place(core: &Core, sdw: &Sdw, word: u32) -> Result<u32, Refusal>
+    requires { word < 2 ^ 18 }
+    ensures value { result
+        ≡ word_place_by sdw.now.unpaged sdw.now word
+        (ptw_at core.now (page_at sdw.now (word / 1024))) }
+    ensures page { OnOk result (TableIn (length core.now) sdw.now.unpaged
+        (page_at sdw.now (word / 1024))) }
+    ensures bound { IfOk result (λ a. a < 2 ^ 24) }
+{
+    if sdw.unpaged {
+        return Ok(wrapped(sdw.addr + word));
+    }
+    in_frame(
+        page_table_word(core, page_at(sdw, word / 1024)),
+        word % 1024,
+    )
+}
+
+/// The place in core of a word within the bound.
+#[tactic(auto, unfolding(m36_model::specs::Place::core_spot))]
+pub fn word_in_core(core: &Core, sdw: &Sdw, word: u32) -> Result<u32, Refusal>
+    requires { word < 2 ^ 18 }
+    ensures value { (dbr : DbrFields) (seg : ℕ) → spot_of result
+        ≡ core_spot core.now dbr sdw.now seg word }
+    ensures inside { IfOk result (λ a. a < length core.now) }
+{
+    let place = word_place(core, sdw, word)?;
+    if place >= core.len() {
+        return Err(store_fault());
+    }
+    Ok(place)
+}
+
+/// The place in core of a word of a segment, whoever asks for it: the descriptor of the segment, that its brackets are
+/// in order, the bound, and the place. The first that is wanting is told.
+#[tactic(auto, unfolding(m36_model::specs::Store::place))]
+pub fn place(core: &Core, dbr: Dbr, seg: u16, word: u32) -> Result<u32, Refusal>
+    requires seg { seg < 2 ^ 15 }
+    requires word { word < 2 ^ 18 }
+    ensures value { spot_of result ≡ place core_store core.now dbr seg word }
+    ensures inside { IfOk result (λ a. a < length core.now) }
+{
+    let sdw = descriptor(core, dbr, seg)?;
+    if !in_order(&sdw) {
+        return Err(violation(0));
+    }
+    if !within(&sdw, word) {
+        return Err(violation(15));
+    }
+    word_in_core(core, &sdw, word)
+}
+
+/// The word of a segment, whoever asks for it, where it has a place in core. No mark is set.
+#[tactic(auto, unfolding(m36_model::specs::Sight::content_in))]
+pub fn content(core: &Core, dbr: Dbr, seg: u16, word: u32) -> Option<Word>
+    requires seg { seg < 2 ^ 15 }
+    requires word { word < 2 ^ 18 }
+    ensures { result ≡ content_in core_store core.now dbr seg word }
+{
+    match place(core, dbr, seg, word) {
+        Ok(a) => Some(core.peek(a)),
+        Err(_) => None,
+    }
+}

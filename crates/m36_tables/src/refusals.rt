@@ -1,0 +1,32 @@
+//! Why a word has no place.
+
+ghost use Rattle.std.specs.Prelude.{◌≡◌, ◌<◌, ◌^◌};
+ghost use Rattle.m36_model.specs.Place.{store_fault, directed};
+ghost use Rattle.m36_model.specs.Store.{violation};
+
+use m36_model::Refusal;
+
+/// A table word or a place at or past the end of core.
+pub fn store_fault() -> Refusal
+    ensures { result ≡ store_fault }
+{
+    Refusal { number: 1, acv: 0 }
+}
+
+/// The access violation of this number.
+pub fn violation(acv: u8) -> Refusal
+    ensures { result ≡ violation acv }
+{
+    Refusal { number: 20, acv }
+}
+
+/// The directed fault that a descriptor with F off names.
+pub fn directed(fc: u8) -> Refusal
+    requires { fc < 2 ^ 2 }
+    ensures { result ≡ directed fc }
+{
+    Refusal {
+        number: 16 + fc,
+        acv: 0,
+    }
+}
