@@ -6,8 +6,8 @@
 #![tactic(auto)]
 
 use m36_outside::{DirFolder, StdSink, Text};
-use m36_top::{Status, m36};
-use std::io::ErrorKind;
+use m36_top::{Status, m36, status_line};
+use std::io::{ErrorKind, Write};
 use std::process::ExitCode;
 use std::rt::Env;
 use std::{env, io};
@@ -36,20 +36,11 @@ fn answer(rt: &HostRuntime) -> Result<Status, Status> {
     Ok(m36(rt.alloc(), words.as_slice(), &mut folder, &mut out))
 }
 
-/// Prints how the call ended.
-fn report(rt: &(impl Eprint + Alloc), status: &Status) -> io::Result<()> {
-    match status {
-        Status::BadFile(bad) => {
-            let name = std::str::from_utf8(bad.name.bytes()).unwrap_or("?");
-            let code = bad.code.name();
-            let at = bad.at;
-            let column = bad.column;
-            eprintln!(rt; "m36: BadFile {name} {code} {at} {column}")
-        }
-        _ => {
-            let name = status.name();
-            eprintln!(rt; "m36: {name}")
-        }
+/// Prints how the call ended. Where no memory is found for the line, it is that of NoMemory.
+fn report(rt: &HostRuntime, status: &Status) -> io::Result<()> {
+    match status_line(rt.alloc(), status) {
+        Ok(line) => rt.stderr().write_all(line.bytes()),
+        Err(_) => rt.stderr().write_all(b"m36: NoMemory\n"),
     }
 }
 

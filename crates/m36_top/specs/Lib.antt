@@ -3,3 +3,4 @@ pub mod Dues
 pub mod Commands
 pub mod TopCall
 pub mod DueLaw
+pub mod StatusLine

@@ -28,6 +28,7 @@
 pub mod command;
 pub mod laws;
 mod names;
+pub mod status_report;
 #[cfg(test)]
 mod tests;
 pub mod top;
@@ -41,5 +42,6 @@ pub use m36_image::{Image, ImageFault, read_image};
 pub use m36_ran::{BareRun, ImageCommand};
 pub use m36_reading::{Bad, Code, Status};
 pub use m36_told::AlmFiles;
+pub use status_report::status_line;
 pub use top::m36;
 pub use words::command_of;

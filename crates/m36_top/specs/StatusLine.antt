@@ -1,0 +1,28 @@
+-- The line that tells how a call ended.
+use Rattle.std.specs.Prelude.{ℕ, List, [], ◌∷◌, ◌++◌, codes}
+use Rattle.m36_text.specs.Digits.{decimal_text}
+use Rattle.m36_reading.specs.Names.{status_name, code_name}
+use Rattle.m36_reading.specs.declared.status.Bad.{Bad}
+use Rattle.m36_reading.specs.declared.status.Status.{Status}
+use Rattle.m36_reading.specs.declared.status.Status.TheVariants.{Done, Usage, ReadFault, WriteFault, BadFile, AuditNo, MachineStop, Steps, NoMemory}
+
+-- the file, the code, the place and the column, each behind a blank
+abbrev pub bad_place : Bad → List ℕ
+bad_place bad =
+    ((((((codes " " ++ bad.name) ++ codes " ") ++ code_name bad.code) ++ codes " ") ++ decimal_text bad.at) ++ codes " ")
+    ++ decimal_text bad.column
+
+abbrev pub details : Status → List ℕ
+details (BadFile bad) = bad_place bad
+details Done = []
+details Usage = []
+details ReadFault = []
+details WriteFault = []
+details AuditNo = []
+details (MachineStop end) = []
+details Steps = []
+details NoMemory = []
+
+-- `m36: `, the name of the status, and behind BadFile its details
+abbrev pub status_line : Status → List ℕ
+status_line status = ((codes "m36: " ++ status_name status) ++ details status) ++ 10 ∷ []

@@ -1,0 +1,80 @@
+//! The line that tells how a call ended.
+
+ghost use Rattle.std.specs.Prelude.{◌≡◌, IfOk};
+ghost use Rattle.m36_top.specs.StatusLine.{bad_place, details, status_line};
+
+use m36_outside::Text;
+use m36_reading::{Bad, Status};
+use m36_text::decimal;
+use m36_word::NoMemory;
+use std::alloc::Global;
+
+// The file, the code, the place and the column.
+fn bad_place(alloc: Global, bad: &Bad) -> Result<Text, NoMemory>
+    ensures { IfOk result (λ text. text ≡ bad_place bad.now) }
+{
+    let mut text = Text::from_bytes(alloc, b" ")?;
+    text.append(bad.name.bytes())?;
+    text.append(b" ")?;
+    text.append(bad.code.name().as_bytes())?;
+    text.append(b" ")?;
+    text.append(decimal(bad.at as u64).as_str().as_bytes())?;
+    text.append(b" ")?;
+    text.append(decimal(bad.column as u64).as_str().as_bytes())?;
+    Ok(text)
+}
+
+// What is told behind the name of a status.
+fn details(alloc: Global, status: &Status) -> Result<Text, NoMemory>
+    ensures { IfOk result (λ text. text ≡ details status.now) }
+{
+    match status {
+        Status::BadFile(bad) => bad_place(alloc, bad),
+        Status::Done
+        | Status::Usage
+        | Status::ReadFault
+        | Status::WriteFault
+        | Status::AuditNo
+        | Status::MachineStop(_)
+        | Status::Steps
+        | Status::NoMemory => Ok(Text::new(alloc)),
+    }
+}
+
+/// The line of a status, with its line feed: `m36: ` and the name of the status; behind BadFile stand the name of the
+/// file, the code, the place and the column. The error is want of memory alone.
+pub fn status_line(alloc: Global, status: &Status) -> Result<Text, NoMemory>
+    ensures { IfOk result (λ line. line ≡ status_line status.now) }
+{
+    let details = details(alloc, status)?;
+    let mut line = Text::from_bytes(alloc, b"m36: ")?;
+    line.append(status.name().as_bytes())?;
+    line.append(details.bytes())?;
+    line.append(b"\n")?;
+    Ok(line)
+}
+
+#[cfg(test)]
+mod tests {
+    use super::*;
+    use m36_reading::Code;
+
+    #[test]
+    fn tells_the_place(rt: HostRuntime) -> Result<(), NoMemory> {
+        let alloc = rt.alloc();
+        let bad = Bad {
+            name: Text::from_bytes(alloc, b"main.alm")?,
+            code: Code::E3,
+            at: 12,
+            column: 7,
+        };
+        for (status, want) in [
+            (Status::Usage, b"m36: Usage\n".as_slice()),
+            (Status::BadFile(bad), b"m36: BadFile main.alm E3 12 7\n"),
+        ] {
+            let line = status_line(alloc, &status)?;
+            assert!(rt; line.bytes() == want);
+        }
+        Ok(())
+    }
+}
