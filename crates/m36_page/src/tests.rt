@@ -102,12 +102,13 @@ fn pages_in_turn(rt: HostRuntime) -> Result<(), Fail> {
             brought
         );
     }
+    assert_eq!(rt; core.len(), 3072);
     assert_eq!(rt; core.peek(1024).value(), 5000);
     assert_eq!(rt; core.peek(2048).value(), 6024);
     assert!(rt; pager.has_page(6, 1));
     pager.set(&mut core, 6, 1025, Word::low(7));
+    assert!(rt; pager.has_page(5, 1));
     pager.set(&mut core, 5, 1025, Word::low(8));
-    pager.evict(&mut core, 2);
     for (seg, word, number) in [
         (5, 0, Some(5000)),
         (5, 1024, Some(6024)),
@@ -122,5 +123,29 @@ fn pages_in_turn(rt: HostRuntime) -> Result<(), Fail> {
     ] {
         assert_eq!(rt; number_at(&pager, &core, seg, word), number);
     }
+    Ok(())
+}
+
+#[test]
+fn page_put_away(rt: HostRuntime) -> Result<(), Fail> {
+    let alloc = rt.alloc();
+    let tables = tables(alloc)?;
+    assert!(rt; are_placed(1, &tables));
+    let mut pager = Pager::new(alloc, 1, 2, &tables)?;
+    let mut core = Core::new(alloc, 3)?;
+    pager.lay(&mut core);
+    assert!(rt; pager.has_page(6, 1));
+    pager.set(&mut core, 6, 1025, Word::low(9));
+    assert!(rt; pager.has_page(6, 1));
+    let brought = pager.bring(&mut core, 6, 1, &Refs::new());
+    assert_eq!(rt; core.len(), 3072);
+    assert_eq!(rt; core.peek(1025).value(), 9);
+    assert!(rt; core.peek(17) != Word::low(1));
+    if let Ok(()) = brought {
+        pager.evict(&mut core, 1);
+    }
+    assert_eq!(rt; core.len(), 3072);
+    assert_eq!(rt; core.peek(17), Word::low(1));
+    assert_eq!(rt; number_at(&pager, &core, 6, 1025), Some(9));
     Ok(())
 }
