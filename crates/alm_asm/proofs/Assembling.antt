@@ -5,41 +5,28 @@ use Rattle.alm_parse.specs.SourceFields.{Source}
 use Rattle.alm_parse.specs.declared.line.Line36.{Line36}
 use Rattle.alm_parse.specs.declared.fault.AlmFault.{AlmFault}
 use Rattle.alm_parse.specs.Sources.{ParseSays}
-use Rattle.obj36.specs.declared.section.Section.TheVariants.{Text}
-use Rattle.obj36.specs.PartsFields.{PartsFields}
-use Rattle.obj36.specs.ObjectSegment.{is_well_formed}
-use Rattle.obj36.proofs.Formed.{is_formed}
-use Rattle.obj36.proofs.LengthLaws.{length-words_of}
-use Rattle.alm_asm.specs.Spots.{start, count_in, below, end_of}
+use Rattle.obj36_parts.specs.declared.section.Section.TheVariants.{Text}
+use Rattle.obj36_parts.specs.PartsFields.{PartsFields}
+use Rattle.obj36_parts.specs.ObjectSegment.{is_well_formed}
+use Rattle.obj36_parts.proofs.Formed.{is_formed}
+use Rattle.obj36_parts.proofs.LengthLaws.{length-words_of}
+use Rattle.alm_lines.specs.Spots.{start, count_in, below, end_of}
 use Rattle.alm_asm.specs.Words.{words_from}
-use Rattle.alm_asm.specs.Layout.{symbols_from}
+use Rattle.alm_lines.specs.Layout.{symbols_from}
 use Rattle.alm_asm.specs.Assembly.{tables_of, static_section, version_of, parts_with, parts_of, refusal_of, last_line, made, assembled_by, assembled}
 use Rattle.alm_asm.specs.Laws.{holds_words}
 use Rattle.alm_asm.specs.Assembles.{evened_count, Assembles}
-use Rattle.alm_asm.specs.declared.spot.Spot.{Spot}
+use Rattle.alm_lines.specs.declared.spot.Spot.{Spot}
 use Rattle.alm_asm.specs.declared.tables.Tables.{Tables}
-use Rattle.alm_asm.specs.declared.refusal.Refusal.{Refusal}
+use Rattle.alm_lines.specs.declared.refusal.Refusal.{Refusal}
 use Rattle.alm_asm.proofs.Unrefused.{no_layout_refusal, no_lines_refusal}
 use Rattle.alm_asm.proofs.PlaceLaws.{places_count, grows_to_end}
 use Rattle.alm_asm.proofs.Placed.{stands, evened_stands, evened_behind, evened_length, end_outer, unbound, bound_is}
 use Rattle.alm_asm.proofs.LinksApart.{links_apart}
 use Rattle.alm_asm.proofs.LinksStanding.{link_stands}
-use Rattle.alm_asm.proofs.SectionsStand.{section_stands}
+use Rattle.alm_asm.proofs.SectionsStand.{section_stands, end_follows}
+use Rattle.alm_asm.proofs.TooLong.{static_holds, fixed}
 use Rattle.alm_asm.proofs.SymbolsMean.{labels_mean, own_mean}
-
-static_holds : (newer : Bool) → holds_words (static_section newer) ≡ true
-static_holds true = refl
-static_holds false = refl
-
-end_follows : (text : List ℕ) (spot : Spot) (above lines : List Line36) → end_of text spot (above ++ lines) ≡ end_of text (end_of text spot above) lines
-unfolding end_of
-end_follows text spot [] lines = refl
-end_follows text spot (line ∷ above) lines = end_follows text (below text spot line) above lines
-
--- the text of an object is short
-fixed : (b : Bool) → 18 ≤ cond b 19 18
-fixed true = omega arith
-fixed false = omega arith
 
 short : (p : PartsFields) → is_well_formed p ≡ true → length p.text < 2 ^ 18
 short p formed =

@@ -4,13 +4,13 @@ use Rattle.alm_parse.specs.SourceFields.{Source}
 use Rattle.alm_parse.specs.declared.fault.AlmFault.{AlmFault}
 use Rattle.alm_parse.specs.declared.fault.AlmFault.TheVariants.{E1, E2, E3, E4, E5, E6, E7, E8, NoMemory}
 use Rattle.alm_parse.specs.Sources.{Refuses}
-use Rattle.obj36.specs.PartsFields.{PartsFields}
-use Rattle.obj36.specs.ObjectSegment.{is_well_formed}
-use Rattle.obj36.specs.Sizes.{HasShortLists}
-use Rattle.obj36.proofs.LengthLaws.{short_lists}
-use Rattle.alm_asm.specs.Refusals.{fault_of}
+use Rattle.obj36_parts.specs.PartsFields.{PartsFields}
+use Rattle.obj36_parts.specs.ObjectSegment.{is_well_formed}
+use Rattle.obj36_parts.specs.Sizes.{HasShortLists}
+use Rattle.obj36_parts.proofs.LengthLaws.{short_lists}
+use Rattle.alm_lines.specs.Refusals.{fault_of}
 use Rattle.alm_asm.specs.Assembly.{refusal_of, assembled_by, assembled}
-use Rattle.alm_asm.specs.declared.refusal.Refusal.{Refusal}
+use Rattle.alm_lines.specs.declared.refusal.Refusal.{Refusal}
 
 -- a fault is told where the definition gives it
 pub refuses : (f : AlmFault) (definition : Result PartsFields AlmFault) → definition ≡ Err f → Refuses f definition

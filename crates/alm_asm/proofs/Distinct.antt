@@ -1,33 +1,26 @@
 -- The names of definitions that are not refused are distinct.
 use Rattle.std.proofs.Common.{◌≡◌, ℕ, Bool, true, false, not, ◌||◌, List, [], ◌∷◌, ◌++◌, Option, Some, None, is_some, refl, ap, ◌∙◌, true≢false}
 use Rattle.std.specs.List.{list_any}
-use Rattle.std.proofs.lemmas.Bool.{and_parts, and_from, not-true}
+use Rattle.std.proofs.lemmas.Bool.{and_parts, and_from, not-true, or_parts, or_from}
 use Rattle.std.proofs.lemmas.List.{append-nil}
 use Rattle.std.proofs.lemmas.Cmp.{nat_list_eq_equiv}
 use Rattle.alm_parse.specs.declared.span.Span.{Span}
 use Rattle.alm_parse.specs.declared.args.Arg.{Arg}
 use Rattle.alm_parse.specs.declared.args.Arg.TheVariants as arg
 use Rattle.alm_parse.specs.declared.line.Line36.{Line36}
-use Rattle.obj36.specs.declared.definition.Named.{Named}
-use Rattle.obj36.specs.ObjectSegment.{definition_names, are_distinct}
-use Rattle.alm_asm.specs.Symbols.{same_name, sum_named}
-use Rattle.alm_asm.specs.Arguments.{name_at}
-use Rattle.alm_asm.specs.Spots.{below}
-use Rattle.alm_asm.specs.Refusals.{sooner}
+use Rattle.obj36_parts.specs.declared.definition.Named.{Named}
+use Rattle.obj36_parts.specs.ObjectSegment.{definition_names, are_distinct}
+use Rattle.alm_lines.specs.Symbols.{same_name, sum_named}
+use Rattle.alm_lines.specs.Arguments.{name_at}
+use Rattle.alm_lines.specs.Spots.{below}
+use Rattle.alm_lines.specs.Refusals.{sooner}
 use Rattle.alm_asm.specs.Definitions.{named, named_by, with_names, gives_entries, definitions_by, definitions_after, definitions_from, is_taken, taken_refusal, name_refusal, arg_refusal, names_refused, definitions_refused}
 use Rattle.alm_asm.specs.LineRefusals.{lines_refusal}
-use Rattle.alm_asm.specs.declared.sum.Sum.{Sum}
-use Rattle.alm_asm.specs.declared.spot.Spot.{Spot}
+use Rattle.alm_lines.specs.declared.sum.Sum.{Sum}
+use Rattle.alm_lines.specs.declared.spot.Spot.{Spot}
 use Rattle.alm_asm.specs.declared.tables.Tables.{Tables}
-use Rattle.alm_asm.specs.declared.refusal.Refusal.{Refusal}
+use Rattle.alm_lines.specs.declared.refusal.Refusal.{Refusal}
 use Rattle.alm_asm.proofs.Unrefused.{sooner_none, names_first, line_parts, head_line, other_lines}
-
-or_none : (a b : Bool) → (a || b) ≡ false → (a ≡ false) × (b ≡ false)
-or_none true b e = absurd (true≢false e)
-or_none false b e = (refl, e)
-
-or_both : (a b : Bool) → a ≡ false → b ≡ false → (a || b) ≡ false
-or_both a b ea eb = ap (λ x. x || b) ea ∙ eb
 
 same_turned : (a b : List ℕ) → same_name a b ≡ same_name b a
 same_turned a b = nat_list_eq_equiv.symm a b
@@ -36,10 +29,10 @@ same_turned a b = nat_list_eq_equiv.symm a b
 not_among : (name : List ℕ) (done : List Named) (d : Named) → list_any (same_name name) (definition_names done) ≡ false → same_name name d.name ≡ false
     → list_any (same_name name) (definition_names (done ++ d ∷ [])) ≡ false
 unfolding definition_names
-not_among name [] d e f = or_both (same_name name d.name) false f refl
+not_among name [] d e f = or_from (same_name name d.name) false f refl
 not_among name (x ∷ done) d e f =
-    let parts = or_none (same_name name x.name) (list_any (same_name name) (definition_names done)) e in
-    or_both (same_name name x.name) (list_any (same_name name) (definition_names (done ++ d ∷ []))) parts.0 (not_among name done d parts.1 f)
+    let parts = or_parts (same_name name x.name) (list_any (same_name name) (definition_names done)) e in
+    or_from (same_name name x.name) (list_any (same_name name) (definition_names (done ++ d ∷ []))) parts.0 (not_among name done d parts.1 f)
 
 distinct_pushed : (done : List Named) (d : Named) → are_distinct (definition_names done) ≡ true → list_any (λ x. same_name d.name x.name) done ≡ false
     → are_distinct (definition_names (done ++ d ∷ [])) ≡ true
@@ -47,7 +40,7 @@ unfolding definition_names are_distinct
 distinct_pushed [] d e f = refl
 distinct_pushed (x ∷ done) d e f =
     let parts = and_parts (not (list_any (same_name x.name) (definition_names done))) (are_distinct (definition_names done)) e in
-    let others = or_none (same_name d.name x.name) (list_any (λ y. same_name d.name y.name) done) f in
+    let others = or_parts (same_name d.name x.name) (list_any (λ y. same_name d.name y.name) done) f in
     let fresh = not_among x.name done d (not-true (list_any (same_name x.name) (definition_names done)) parts.0) (same_turned x.name d.name ∙ others.0) in
     and_from (not (list_any (same_name x.name) (definition_names (done ++ d ∷ [])))) (are_distinct (definition_names (done ++ d ∷ []))) (ap not fresh) (distinct_pushed done d parts.1 others.1)
 

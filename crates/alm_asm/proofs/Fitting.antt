@@ -8,21 +8,21 @@ use Rattle.alm_parse.specs.declared.expression.Atom.TheVariants as atom
 use Rattle.alm_parse.specs.declared.expression.Term.{Term}
 use Rattle.alm_parse.specs.declared.args.Arg.{Arg}
 use Rattle.alm_parse.specs.declared.line.Line36.{Line36}
-use Rattle.obj36.specs.declared.section.Section.{Section}
-use Rattle.obj36.specs.declared.section.Section.TheVariants.{Text, Linkage, Symbol, Static}
-use Rattle.alm_asm.specs.Sums.{no_sum, sum_plus, sum_turned, kind_of, is_even, is_one}
-use Rattle.alm_asm.specs.Symbols.{same_name, sum_named, with_symbol}
-use Rattle.alm_asm.specs.Arguments.{name_at, first_arg, second_arg, symbol_in, terms_in, section_in}
-use Rattle.alm_asm.specs.Spots.{start, here_in, here, place, grown_in, entered, size_of, moved_by, below, end_of}
-use Rattle.alm_asm.specs.Expressions.{symbol_sum, atom_sum, term_sum, added, sum_of}
-use Rattle.alm_asm.specs.Layout.{with_labels, value_refusal, value_by, value_of, own_symbol, own_sum, with_own, symbols_with, labelled, symbols_after, symbols_from}
-use Rattle.alm_asm.specs.declared.sum.Sum.{Sum}
-use Rattle.alm_asm.specs.declared.sum.Kind.{Kind}
-use Rattle.alm_asm.specs.declared.sum.Kind.TheVariants.{Absolute, Moved, Unsaid}
-use Rattle.alm_asm.specs.declared.spot.Spot.{Spot}
+use Rattle.obj36_parts.specs.declared.section.Section.{Section}
+use Rattle.obj36_parts.specs.declared.section.Section.TheVariants.{Text, Linkage, Symbol, Static}
+use Rattle.alm_lines.specs.Sums.{no_sum, sum_plus, sum_turned, kind_of, is_even, is_one}
+use Rattle.alm_lines.specs.Symbols.{same_name, sum_named, with_symbol}
+use Rattle.alm_lines.specs.Arguments.{name_at, first_arg, second_arg, symbol_in, terms_in, section_in}
+use Rattle.alm_lines.specs.Spots.{start, here_in, here, place, grown_in, entered, size_of, moved_by, below, end_of}
+use Rattle.alm_lines.specs.Expressions.{symbol_sum, atom_sum, term_sum, added, sum_of}
+use Rattle.alm_lines.specs.Layout.{with_labels, value_refusal, value_by, value_of, own_symbol, own_sum, with_own, symbols_with, labelled, symbols_after, symbols_from}
+use Rattle.alm_lines.specs.declared.sum.Sum.{Sum}
+use Rattle.alm_lines.specs.declared.sum.Kind.{Kind}
+use Rattle.alm_lines.specs.declared.sum.Kind.TheVariants.{Absolute, Moved, Unsaid}
+use Rattle.alm_lines.specs.declared.spot.Spot.{Spot}
 use Rattle.alm_parse.specs.declared.deed.Deed.{Deed}
 use Rattle.alm_parse.specs.declared.deed.Deed.TheVariants as deed
-use Rattle.alm_asm.specs.declared.refusal.Refusal.{Refusal}
+use Rattle.alm_lines.specs.declared.refusal.Refusal.{Refusal}
 
 abbrev pub Fits : Bool → Sum → Type 0
 Fits outer sum = outer ≡ false → sum.outer.up ≡ sum.outer.down

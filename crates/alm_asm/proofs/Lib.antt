@@ -1,4 +1,3 @@
-pub mod SymbolLaws
 pub mod AssemblyLaws
 pub mod PlaceLaws
 pub mod SymbolsStand

@@ -1,18 +1,19 @@
 -- No two links are the same.
 use Rattle.std.proofs.Common.{◌≡◌, ℕ, Bool, true, false, cond, not, ◌&&◌, ◌||◌, List, [], ◌∷◌, ◌++◌, Option, Some, None, refl, ap, ◌∙◌, true≢false}
 use Rattle.std.specs.List.{list_any}
-use Rattle.std.proofs.lemmas.Bool.{and_parts, and_from, not-true}
+use Rattle.std.proofs.lemmas.Bool.{and_parts, and_from, not-true, or_parts, or_from}
 use Rattle.std.proofs.lemmas.Cmp.{nat_eq_equiv, nat_list_eq_equiv}
 use Rattle.std.proofs.lemmas.List.Folds.{list_any-append}
 use Rattle.alm_parse.specs.declared.line.Line36.{Line36}
-use Rattle.obj36.specs.Fields.{LinkFields}
-use Rattle.obj36.specs.ObjectSegment.{place_number}
-use Rattle.alm_asm.specs.Arguments.{first_arg}
-use Rattle.alm_asm.specs.Spots.{below}
-use Rattle.alm_asm.specs.Links.{operand_args, link_in, same_link, with_link, links_after, links_from}
+use Rattle.obj36_parts.specs.Fields.{LinkFields}
+use Rattle.obj36_parts.specs.ObjectSegment.{place_number}
+use Rattle.alm_lines.specs.Arguments.{first_arg}
+use Rattle.alm_lines.specs.Spots.{below}
+use Rattle.alm_asm.specs.Links.{operand_args, link_in, with_link, links_after, links_from}
+use Rattle.obj36_parts.specs.Indexes.{same_link}
 use Rattle.alm_asm.specs.Assembles.{are_apart}
-use Rattle.alm_asm.specs.declared.sum.Sum.{Sum}
-use Rattle.alm_asm.specs.declared.spot.Spot.{Spot}
+use Rattle.alm_lines.specs.declared.sum.Sum.{Sum}
+use Rattle.alm_lines.specs.declared.spot.Spot.{Spot}
 
 link_turned : (a b : LinkFields) → same_link a b ≡ same_link b a
 unfolding same_link
@@ -25,22 +26,15 @@ link_turned a b =
     let modifier = nat_eq_equiv.symm a.modifier b.modifier in
     λ i. ((((kind i && section i) && name i) && entry i) && expr i) && modifier i
 
-or_none : (a b : Bool) → (a || b) ≡ false → (a ≡ false) × (b ≡ false)
-or_none true b e = absurd (true≢false e)
-or_none false b e = (refl, e)
-
-or_both : (a b : Bool) → a ≡ false → b ≡ false → (a || b) ≡ false
-or_both a b ea eb = ap (λ x. x || b) ea ∙ eb
-
 pushed : (links : List LinkFields) (l : LinkFields) → are_apart links ≡ true → list_any (same_link l) links ≡ false → are_apart (links ++ l ∷ []) ≡ true
 unfolding are_apart
 pushed [] l e f = refl
 pushed (x ∷ links) l e f =
     let parts = and_parts (not (list_any (same_link x) links)) (are_apart links) e in
-    let others = or_none (same_link l x) (list_any (same_link l) links) f in
-    let last : list_any (same_link x) (l ∷ []) ≡ false = or_both (same_link x l) false (link_turned x l ∙ others.0) refl in
+    let others = or_parts (same_link l x) (list_any (same_link l) links) f in
+    let last : list_any (same_link x) (l ∷ []) ≡ false = or_from (same_link x l) false (link_turned x l ∙ others.0) refl in
     let none : list_any (same_link x) (links ++ l ∷ []) ≡ false =
-    list_any-append (same_link x) links (l ∷ []) ∙ or_both (list_any (same_link x) links) (list_any (same_link x) (l ∷ [])) (not-true (list_any (same_link x) links) parts.0) last in
+    list_any-append (same_link x) links (l ∷ []) ∙ or_from (list_any (same_link x) links) (list_any (same_link x) (l ∷ [])) (not-true (list_any (same_link x) links) parts.0) last in
     and_from (not (list_any (same_link x) (links ++ l ∷ []))) (are_apart (links ++ l ∷ [])) (ap not none) (pushed links l parts.1 others.1)
 
 with_by : (links : List LinkFields) (l : LinkFields) (b : Bool) → list_any (same_link l) links ≡ b → are_apart links ≡ true → are_apart (cond b links (links ++ l ∷ [])) ≡ true

@@ -4,15 +4,16 @@ use Rattle.std.specs.List.{list_any}
 use Rattle.std.proofs.lemmas.Bool.{and_from, eq-eqb}
 use Rattle.std.proofs.lemmas.List.Folds.{list_any-append}
 use Rattle.alm_parse.specs.declared.line.Line36.{Line36}
-use Rattle.obj36.specs.Fields.{LinkFields}
-use Rattle.obj36.specs.ObjectSegment.{place_number}
-use Rattle.obj36.proofs.SizeLaws.{same_self}
-use Rattle.alm_asm.specs.Symbols.{same_name}
-use Rattle.alm_asm.specs.Arguments.{first_arg}
-use Rattle.alm_asm.specs.Spots.{start, below, end_of}
-use Rattle.alm_asm.specs.Links.{operand_args, link_in, same_link, with_link, links_after, links_from}
-use Rattle.alm_asm.specs.declared.sum.Sum.{Sum}
-use Rattle.alm_asm.specs.declared.spot.Spot.{Spot}
+use Rattle.obj36_parts.specs.Fields.{LinkFields}
+use Rattle.obj36_parts.specs.ObjectSegment.{place_number}
+use Rattle.obj36_parts.proofs.SizeLaws.{same_self}
+use Rattle.alm_lines.specs.Symbols.{same_name}
+use Rattle.alm_lines.specs.Arguments.{first_arg}
+use Rattle.alm_lines.specs.Spots.{start, below, end_of}
+use Rattle.alm_asm.specs.Links.{operand_args, link_in, with_link, links_after, links_from}
+use Rattle.obj36_parts.specs.Indexes.{same_link}
+use Rattle.alm_lines.specs.declared.sum.Sum.{Sum}
+use Rattle.alm_lines.specs.declared.spot.Spot.{Spot}
 
 link_self : (l : LinkFields) → same_link l l ≡ true
 unfolding same_link

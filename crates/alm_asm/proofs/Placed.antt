@@ -2,19 +2,19 @@
 use Rattle.std.proofs.Common.{◌≡◌, ℕ, ◌+◌, ◌%◌, ◌^◌, Bool, true, false, cond, ◌||◌, eqb, List, [], ◌∷◌, ◌++◌, length, refl, sym, ap, ◌∙◌, subst, true≢false, append_assoc, append-nil, arith}
 use Rattle.std.specs.Prelude.{replicate}
 use Rattle.std.specs.List.{list_any}
-use Rattle.std.proofs.lemmas.Bool.{eqb-true, eqb-false}
+use Rattle.std.proofs.lemmas.Bool.{eqb-true, eqb-false, or_parts}
 use Rattle.std.proofs.lemmas.List.{append-nil, length-append}
 use Rattle.alm_parse.specs.declared.args.Arg.{Arg}
 use Rattle.alm_parse.specs.declared.line.Line36.{Line36}
-use Rattle.obj36.specs.declared.section.Section.{Section}
-use Rattle.obj36.specs.declared.section.Section.TheVariants.{Text, Linkage, Symbol, Static}
-use Rattle.alm_asm.specs.Arguments.{first_arg, symbol_in, section_in}
-use Rattle.alm_asm.specs.Spots.{start, count_in, place, grown_in, entered, size_of, moved_by, below, end_of}
+use Rattle.obj36_parts.specs.declared.section.Section.{Section}
+use Rattle.obj36_parts.specs.declared.section.Section.TheVariants.{Text, Linkage, Symbol, Static}
+use Rattle.alm_lines.specs.Arguments.{first_arg, symbol_in, section_in}
+use Rattle.alm_lines.specs.Spots.{start, count_in, place, grown_in, entered, size_of, moved_by, below, end_of}
 use Rattle.alm_asm.specs.Words.{words_by, same_section, words_of_line, words_from}
 use Rattle.alm_asm.specs.Assembly.{bound_by, bound_from, evened}
 use Rattle.alm_asm.specs.Laws.{holds_words}
 use Rattle.alm_asm.specs.Assembles.{StandsBehind, evened_count, is_static, enters_static, is_use_static, is_bound, is_entrybound, evening_words}
-use Rattle.alm_asm.specs.declared.spot.Spot.{Spot}
+use Rattle.alm_lines.specs.declared.spot.Spot.{Spot}
 use Rattle.alm_asm.specs.declared.tables.Tables.{Tables}
 use Rattle.alm_parse.specs.declared.deed.Deed.{Deed}
 use Rattle.alm_parse.specs.declared.deed.Deed.TheVariants as deed
@@ -153,10 +153,6 @@ end_outer text spot (line ∷ lines) =
 
 -- ---- the entry bound
 
-or_none : (a b : Bool) → (a || b) ≡ false → (a ≡ false) × (b ≡ false)
-or_none true b e = absurd (true≢false e)
-or_none false b e = (refl, e)
-
 no_bound : (spot : Spot) (bound : ℕ) (d : Deed) → is_bound d ≡ false → bound_by spot bound d ≡ bound
 no_bound spot bound deed.Nothing e = refl
 no_bound spot bound (deed.Instruction code bit27) e = refl
@@ -187,7 +183,7 @@ pub unbound : (text : List ℕ) (bound : ℕ) (spot : Spot) (lines : List Line36
 unfolding bound_from is_entrybound
 unbound text bound spot [] e = refl
 unbound text bound spot (line ∷ lines) e =
-    let parts = or_none (is_entrybound line) (list_any is_entrybound lines) e in
+    let parts = or_parts (is_entrybound line) (list_any is_entrybound lines) e in
     unbound text (bound_by spot bound line.deed) (below text spot line) lines parts.1 ∙ no_bound spot bound line.deed parts.0
 
 bound_follows : (text : List ℕ) (bound : ℕ) (spot : Spot) (above lines : List Line36)

@@ -36,10 +36,10 @@ use Rattle.alm_parse.specs.Operations.{operation_of}
 use Rattle.alm_parse.specs.Lines.{missing, args_with, operand_for, args_by, args_of, label_refusal, line_of, line_with, line_by, line_from, line_unless, line_given}
 use Rattle.alm_parse.specs.Rows.{rows_of}
 use Rattle.alm_parse.specs.Sources.{names_end, continued, read_lines, with_text, parsed}
-use Rattle.obj36.specs.declared.section.Section.TheVariants.{Text, Linkage, Static}
-use Rattle.obj36.specs.Names.{is_name_character, is_name}
-use Rattle.obj36.proofs.SizeLaws.{same_is}
-use Rattle.alm_asm.specs.Arguments.{name_at}
+use Rattle.obj36_parts.specs.declared.section.Section.TheVariants.{Text, Linkage, Static}
+use Rattle.obj36_parts.specs.Names.{is_name_character, is_name}
+use Rattle.obj36_parts.proofs.SizeLaws.{same_is}
+use Rattle.alm_lines.specs.Arguments.{name_at}
 use Rattle.alm_asm.specs.Links.{own_section}
 use Rattle.alm_asm.specs.Laws.{segment_is_named, entry_is_named, arg_is_named, args_are_named, lines_are_named}
 

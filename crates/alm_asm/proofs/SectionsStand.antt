@@ -6,20 +6,20 @@ use Rattle.alm_parse.specs.Tokens.{slice_of, is_text}
 use Rattle.alm_parse.specs.declared.span.Span.{Span}
 use Rattle.alm_parse.specs.declared.args.Arg.{Arg}
 use Rattle.alm_parse.specs.declared.line.Line36.{Line36}
-use Rattle.obj36.specs.declared.section.Section.{Section}
-use Rattle.obj36.specs.declared.section.Section.TheVariants.{Text, Linkage, Symbol, Static}
-use Rattle.obj36.specs.declared.definition.Named.{Named}
-use Rattle.alm_asm.specs.Arguments.{first_arg, symbol_in, section_in}
-use Rattle.alm_asm.specs.Spots.{start, place, grown_in, entered, size_of, moved_by, below, end_of}
-use Rattle.alm_asm.specs.Refusals.{refusal_at}
+use Rattle.obj36_parts.specs.declared.section.Section.{Section}
+use Rattle.obj36_parts.specs.declared.section.Section.TheVariants.{Text, Linkage, Symbol, Static}
+use Rattle.obj36_parts.specs.declared.definition.Named.{Named}
+use Rattle.alm_lines.specs.Arguments.{first_arg, symbol_in, section_in}
+use Rattle.alm_lines.specs.Spots.{start, place, grown_in, entered, size_of, moved_by, below, end_of}
+use Rattle.alm_lines.specs.Refusals.{refusal_at}
 use Rattle.alm_asm.specs.Definitions.{definitions_after}
 use Rattle.alm_asm.specs.LineRefusals.{op_place, may_enter, refusal_of_deed, lines_refusal}
 use Rattle.alm_asm.specs.Assembly.{static_section}
-use Rattle.alm_asm.specs.declared.spot.Spot.{Spot}
+use Rattle.alm_lines.specs.declared.spot.Spot.{Spot}
 use Rattle.alm_asm.specs.declared.tables.Tables.{Tables}
 use Rattle.alm_parse.specs.declared.deed.Deed.{Deed}
 use Rattle.alm_parse.specs.declared.deed.Deed.TheVariants as deed
-use Rattle.alm_asm.specs.declared.refusal.Code.TheVariants.{E7}
+use Rattle.alm_lines.specs.declared.refusal.Code.TheVariants.{E7}
 use Rattle.alm_asm.proofs.Unrefused.{unless_none, line_parts, head_line, other_lines, lines_above}
 use Rattle.alm_asm.proofs.Fitting.{end_uses}
 
@@ -144,7 +144,7 @@ other_kind : (inner outer : Bool) → (inner && outer) ≡ false → inner ≡ t
 other_kind true outer e i = e
 other_kind false outer e i = absurd (true≢false (sym i))
 
-end_follows : (text : List ℕ) (spot : Spot) (above lines : List Line36) → end_of text spot (above ++ lines) ≡ end_of text (end_of text spot above) lines
+pub end_follows : (text : List ℕ) (spot : Spot) (above lines : List Line36) → end_of text spot (above ++ lines) ≡ end_of text (end_of text spot above) lines
 unfolding end_of
 end_follows text spot [] lines = refl
 end_follows text spot (line ∷ above) lines = end_follows text (below text spot line) above lines

@@ -5,25 +5,25 @@ use Rattle.std.proofs.lemmas.Bool.{and_from, le-leb, leb-true, eqb-false, eq-eqb
 use Rattle.std.proofs.lemmas.List.{length-append}
 use Rattle.alm_parse.specs.SourceFields.{Source}
 use Rattle.alm_parse.specs.declared.line.Line36.{Line36}
-use Rattle.obj36.specs.declared.section.Section.TheVariants.{Text}
-use Rattle.obj36.specs.declared.definition.Named.{Named}
-use Rattle.obj36.specs.Fields.{LinkFields, RelocFields}
-use Rattle.obj36.specs.PartsFields.{PartsFields}
-use Rattle.obj36.specs.ObjectSegment.{is_newer, inner_statics, outer_statics, words_of, definition_names, are_distinct, is_definition, is_link, is_relocation, are_rising, is_well_formed, place_number}
-use Rattle.obj36.proofs.Formed.{is_formed}
-use Rattle.obj36.proofs.LengthLaws.{length-words_of}
-use Rattle.alm_asm.specs.Spots.{start, count_in, below, end_of}
+use Rattle.obj36_parts.specs.declared.section.Section.TheVariants.{Text}
+use Rattle.obj36_parts.specs.declared.definition.Named.{Named}
+use Rattle.obj36_parts.specs.Fields.{LinkFields, RelocFields}
+use Rattle.obj36_parts.specs.PartsFields.{PartsFields}
+use Rattle.obj36_parts.specs.ObjectSegment.{is_newer, inner_statics, outer_statics, words_of, definition_names, are_distinct, is_definition, is_link, is_relocation, are_rising, is_well_formed, place_number}
+use Rattle.obj36_parts.proofs.Formed.{is_formed}
+use Rattle.obj36_parts.proofs.LengthLaws.{length-words_of}
+use Rattle.alm_lines.specs.Spots.{start, count_in, below, end_of}
 use Rattle.alm_asm.specs.Links.{links_from}
 use Rattle.alm_asm.specs.Words.{words_from}
 use Rattle.alm_asm.specs.Marks.{marks_from}
-use Rattle.alm_asm.specs.Layout.{symbols_from}
+use Rattle.alm_lines.specs.Layout.{symbols_from}
 use Rattle.alm_asm.specs.Definitions.{definitions_from}
 use Rattle.alm_asm.specs.LineRefusals.{lines_refusal}
 use Rattle.alm_asm.proofs.Unrefused.{no_lines_refusal}
 use Rattle.alm_asm.specs.Assembly.{tables_of, bound_by, bound_from, static_section, version_of, evened, parts_with, parts_of, refusal_of}
 use Rattle.alm_asm.specs.Laws.{holds_words, lines_are_named}
-use Rattle.alm_asm.specs.declared.sum.Sum.{Sum}
-use Rattle.alm_asm.specs.declared.spot.Spot.{Spot}
+use Rattle.alm_lines.specs.declared.sum.Sum.{Sum}
+use Rattle.alm_lines.specs.declared.spot.Spot.{Spot}
 use Rattle.alm_asm.specs.declared.tables.Tables.{Tables}
 use Rattle.alm_parse.specs.declared.deed.Deed.{Deed}
 use Rattle.alm_parse.specs.declared.deed.Deed.TheVariants as deed
@@ -131,11 +131,12 @@ static_room : (newer : Bool) (text statics : List ℕ) (definitions : List Named
 static_room true text statics definitions links marks bound = refl
 static_room false text statics definitions links marks bound = refl
 
-static_holds : (newer : Bool) → holds_words (static_section newer) ≡ true
+pub static_holds : (newer : Bool) → holds_words (static_section newer) ≡ true
 static_holds true = refl
 static_holds false = refl
 
-fixed : (newer : Bool) → 18 ≤ cond (eqb (version_of newer) 2) 19 18
+-- how many words an object has besides its sections' own
+pub fixed : (b : Bool) → 18 ≤ cond b 19 18
 fixed true = omega arith
 fixed false = omega arith
 
@@ -202,7 +203,7 @@ module _ (text : List ℕ) (tables : Tables) (lines : List Line36) (uses : (end_
   are_good size =
       let least = leb-true (length (words_of parts)) (2 ^ 18) size in
       let sum = length-words_of parts in
-      let head = fixed newer in
+      let head = fixed (eqb (version_of newer) 2) in
       let good = relocations_good (omega arith) (omega arith) in
       let in_text : count_in Text (end_of text start lines) ≡ length words = places_count text tables Text lines refl in
       let low = bound_good text tables 0 start lines (omega arith) in

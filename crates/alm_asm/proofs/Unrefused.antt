@@ -2,19 +2,19 @@
 use Rattle.std.proofs.Common.{◌≡◌, ℕ, Bool, true, false, List, [], ◌∷◌, ◌++◌, Option, Some, None, is_some, refl, ap, ◌∙◌, true≢false}
 use Rattle.alm_parse.specs.declared.args.Arg.{Arg}
 use Rattle.alm_parse.specs.declared.line.Line36.{Line36}
-use Rattle.obj36.specs.declared.definition.Named.{Named}
-use Rattle.alm_asm.specs.Refusals.{sooner}
+use Rattle.obj36_parts.specs.declared.definition.Named.{Named}
+use Rattle.alm_lines.specs.Refusals.{sooner}
 use Rattle.alm_asm.specs.Definitions.{named_by, gives_entries, definitions_after, arg_refusal, names_refused, definitions_refused}
 use Rattle.alm_asm.specs.LineRefusals.{unless, otherwise, refusal_of_deed, line_refusal, lines_refusal}
 use Rattle.alm_parse.specs.SourceFields.{Source}
-use Rattle.alm_asm.specs.Spots.{start, below}
-use Rattle.alm_asm.specs.Layout.{layout_refusal}
+use Rattle.alm_lines.specs.Spots.{start, below}
+use Rattle.alm_lines.specs.Layout.{layout_refusal}
 use Rattle.alm_asm.specs.Growth.{at_first, growth_refusal}
 use Rattle.alm_asm.specs.Assembly.{tables_of, refusal_of}
-use Rattle.alm_asm.specs.declared.sum.Sum.{Sum}
-use Rattle.alm_asm.specs.declared.spot.Spot.{Spot}
+use Rattle.alm_lines.specs.declared.sum.Sum.{Sum}
+use Rattle.alm_lines.specs.declared.spot.Spot.{Spot}
 use Rattle.alm_asm.specs.declared.tables.Tables.{Tables}
-use Rattle.alm_asm.specs.declared.refusal.Refusal.{Refusal}
+use Rattle.alm_lines.specs.declared.refusal.Refusal.{Refusal}
 
 pub sooner_none : (a b : Option Refusal) → sooner a b ≡ None → (a ≡ None) × (b ≡ None)
 sooner_none None b e = (refl, e)

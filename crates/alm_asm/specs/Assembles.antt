@@ -1,26 +1,28 @@
--- What an object is of lines, by what stands where. A line is told by the lines above it: it stands at the spot that these
--- end at, in the section that the last `use` line among them names, behind the words that they place there.
+-- What an object is of lines, by what stands where. A line is told by the lines above it: it stands
+-- at the spot that these end at, in the section that the last `use` line among them names, behind
+-- the words that they place there.
 use Rattle.std.specs.Prelude.{ℕ, ◌≡◌, ◌+◌, ◌%◌, Bool, true, false, not, ◌&&◌, ◌⊎◌, List, [], ◌∷◌, ◌++◌, length, replicate, Some}
 use Rattle.std.specs.List.{list_any}
 use Rattle.alm_parse.specs.SourceFields.{Source}
 use Rattle.alm_parse.specs.declared.span.Span.{Span}
 use Rattle.alm_parse.specs.declared.line.Line36.{Line36}
-use Rattle.obj36.specs.declared.section.Section.{Section}
-use Rattle.obj36.specs.declared.section.Section.TheVariants.{Text, Linkage, Symbol, Static}
-use Rattle.obj36.specs.Fields.{LinkFields}
-use Rattle.obj36.specs.PartsFields.{PartsFields}
-use Rattle.obj36.specs.ObjectSegment.{definition_names, are_distinct, are_rising}
-use Rattle.alm_asm.specs.Symbols.{sum_named}
-use Rattle.alm_asm.specs.Arguments.{name_at, first_arg, symbol_in, section_in}
-use Rattle.alm_asm.specs.Spots.{start, count_in, here, end_of}
-use Rattle.alm_asm.specs.Links.{operand_args, link_in, same_link, links_from}
+use Rattle.obj36_parts.specs.declared.section.Section.{Section}
+use Rattle.obj36_parts.specs.declared.section.Section.TheVariants.{Text, Linkage, Symbol, Static}
+use Rattle.obj36_parts.specs.Fields.{LinkFields}
+use Rattle.obj36_parts.specs.PartsFields.{PartsFields}
+use Rattle.obj36_parts.specs.ObjectSegment.{definition_names, are_distinct, are_rising}
+use Rattle.alm_lines.specs.Symbols.{sum_named}
+use Rattle.alm_lines.specs.Arguments.{name_at, first_arg, symbol_in, section_in}
+use Rattle.alm_lines.specs.Spots.{start, count_in, here, end_of}
+use Rattle.alm_asm.specs.Links.{operand_args, link_in, links_from}
+use Rattle.obj36_parts.specs.Indexes.{same_link}
 use Rattle.alm_asm.specs.Words.{words_by}
 use Rattle.alm_asm.specs.Marks.{marks_from}
-use Rattle.alm_asm.specs.Layout.{own_symbol, own_sum, labelled, symbols_from}
+use Rattle.alm_lines.specs.Layout.{own_symbol, own_sum, labelled, symbols_from}
 use Rattle.alm_asm.specs.Definitions.{definitions_from}
 use Rattle.alm_asm.specs.Assembly.{tables_of, static_section, version_of}
-use Rattle.alm_asm.specs.declared.sum.Sum.{Sum}
-use Rattle.alm_asm.specs.declared.spot.Spot.{Spot}
+use Rattle.alm_lines.specs.declared.sum.Sum.{Sum}
+use Rattle.alm_lines.specs.declared.spot.Spot.{Spot}
 use Rattle.alm_asm.specs.declared.tables.Tables.{Tables}
 use Rattle.alm_parse.specs.declared.deed.Deed.{Deed}
 use Rattle.alm_parse.specs.declared.deed.Deed.TheVariants as deed
@@ -47,7 +49,8 @@ meaning_of source = tables_of source.text source.lines
 
 -- the words that a line places: its instruction, numbers, characters, halves or zeros
 abbrev pub words_placed : Source → List Line36 → Line36 → List ℕ
-words_placed source above line = words_by source.text (meaning_of source) (spot_below source above) line.args line.deed
+words_placed source above line =
+    words_by source.text (meaning_of source) (spot_below source above) line.args line.deed
 
 -- whether a line is `use static`
 abbrev pub is_static : Section → Bool
@@ -70,7 +73,8 @@ enters_static deed.Even section = false
 enters_static deed.Bound section = false
 
 unfoldable pub is_use_static : List ℕ → Line36 → Bool
-is_use_static text line = enters_static line.deed (section_in text (symbol_in (first_arg line.args)))
+is_use_static text line =
+    enters_static line.deed (section_in text (symbol_in (first_arg line.args)))
 
 -- whether a line is `entrybound`
 abbrev pub is_bound : Deed → Bool
@@ -91,26 +95,32 @@ is_entrybound line = is_bound line.deed
 
 -- ---- the relation
 
--- The words of a line of the text stand in the text behind those that the lines above it place there.
+-- The words of a line of the text stand in the text behind those that the lines above it place
+-- there.
 abbrev pub PlacesText : Source → PartsFields → Type 0
 PlacesText source parts =
-    (above : List Line36) (line : Line36) (others : List Line36) → IsSplit source above line others → (spot_below source above).section ≡ Text
+    (above : List Line36) (line : Line36) (others : List Line36) → IsSplit source above line others
+    → (spot_below source above).section ≡ Text
     → StandsBehind (spot_below source above).text (words_placed source above line) parts.text
 
 -- Each line stands in the text or, in all of a source, in static words of one kind.
 abbrev pub SectionsStand : Source → Type 0
 SectionsStand source =
     (above : List Line36) (line : Line36) (others : List Line36) → IsSplit source above line others
-    → ((spot_below source above).section ≡ Text) ⊎ ((spot_below source above).section ≡ static_section (meaning_of source).uses_outer)
+    → ((spot_below source above).section ≡ Text) ⊎
+    ((spot_below source above).section ≡ static_section (meaning_of source).uses_outer)
 
 -- So do the words of a line of static words in the static words.
 abbrev pub PlacesStatics : Source → PartsFields → Type 0
 PlacesStatics source parts =
     (above : List Line36) (line : Line36) (others : List Line36) → IsSplit source above line others
     → (spot_below source above).section ≡ static_section (meaning_of source).uses_outer
-    → StandsBehind (count_in (static_section (meaning_of source).uses_outer) (spot_below source above)) (words_placed source above line) parts.statics
+    → StandsBehind
+    (count_in (static_section (meaning_of source).uses_outer) (spot_below source above))
+    (words_placed source above line) parts.statics
 
--- No other words stand there, but for one zero behind an odd count of static words in version 1: the evening word.
+-- No other words stand there, but for one zero behind an odd count of static words in version 1:
+-- the evening word.
 abbrev pub evened_count : Bool → ℕ → ℕ
 evened_count true n = n
 evened_count false n = n + n % 2
@@ -128,23 +138,31 @@ abbrev pub LabelsMean : Source → Type 0
 LabelsMean source =
     (above : List Line36) (line : Line36) (others : List Line36) → IsSplit source above line others
     → (before : List Span) (span : Span) (after : List Span) → line.labels ≡ before ++ span ∷ after
-    → sum_named (name_at source.text span) (meaning_of source).symbols ≡ Some (here (spot_below source above))
+    → sum_named (name_at source.text span) (meaning_of source).symbols
+    ≡ Some (here (spot_below source above))
 
--- The symbol of an `equ` comes to its number by the symbols above, and that of a `bss` to its place.
+-- The symbol of an `equ` comes to its number by the symbols above, and that of a `bss` to its
+-- place.
 abbrev pub above_line : Source → List Line36 → Line36 → List (List ℕ × Sum)
-above_line source above line = labelled source.text (symbols_from source.text [] start above) (spot_below source above) line
+above_line source above line =
+    labelled source.text (symbols_from source.text [] start above) (spot_below source above) line
 
 abbrev pub OwnMean : Source → Type 0
 OwnMean source =
     (above : List Line36) (line : Line36) (others : List Line36) → IsSplit source above line others
     → (span : Span) → own_symbol line.deed line.args ≡ Some span
-    → sum_named (name_at source.text span) (meaning_of source).symbols ≡ Some (own_sum source.text (above_line source above line) (spot_below source above) line line.deed)
+    → sum_named (name_at source.text span) (meaning_of source).symbols
+    ≡ Some
+    (own_sum source.text (above_line source above line) (spot_below source above) line line.deed)
 
 -- The link of each external operand stands among the links.
 abbrev pub LinksStand : Source → PartsFields → Type 0
 LinksStand source parts =
     (above : List Line36) (line : Line36) (others : List Line36) → IsSplit source above line others
-    → (link : LinkFields) → link_in source.text (meaning_of source).symbols (spot_below source above) (first_arg (operand_args line.deed line.args)) ≡ Some link
+    → (link : LinkFields)
+    → link_in source.text (meaning_of source).symbols (spot_below source above)
+    (first_arg (operand_args line.deed line.args))
+    ≡ Some link
     → list_any (same_link link) parts.links ≡ true
 
 -- No two links are the same; each stands in the order of its first use.
@@ -155,7 +173,8 @@ are_apart (link ∷ links) = not (list_any (same_link link) links) && are_apart 
 -- The entry bound is the place in the text at the last `entrybound` line, or 0.
 abbrev pub BoundIs : Source → PartsFields → Type 0
 BoundIs source parts =
-    (above : List Line36) (line : Line36) (others : List Line36) → IsSplit source above line others → is_entrybound line ≡ true
+    (above : List Line36) (line : Line36) (others : List Line36) → IsSplit source above line others
+    → is_entrybound line ≡ true
     → list_any (is_entrybound) others ≡ false → parts.entry_bound ≡ (spot_below source above).text
 
 -- The parts are the object of the lines.
@@ -164,16 +183,26 @@ pub record Assembles (source : Source) (parts : PartsFields) : Type 0 where
   pub text : PlacesText source parts
   pub statics : PlacesStatics source parts
   pub text_length : length parts.text ≡ (spot_below source source.lines).text
-  pub statics_length : length parts.statics ≡ evened_count (meaning_of source).uses_outer (static_count source)
-  pub evening : StandsBehind (static_count source) (evening_words (meaning_of source).uses_outer (static_count source)) parts.statics
+  pub statics_length :
+      length parts.statics ≡ evened_count (meaning_of source).uses_outer (static_count source)
+  pub evening :
+      StandsBehind (static_count source)
+      (evening_words (meaning_of source).uses_outer (static_count source)) parts.statics
   pub labels : LabelsMean source
   pub own : OwnMean source
   pub links : LinksStand source parts
-  pub links_in_order : parts.links ≡ links_from source.text (meaning_of source).symbols [] start source.lines
+  pub links_in_order :
+      parts.links ≡ links_from source.text (meaning_of source).symbols [] start source.lines
   pub links_apart : are_apart parts.links ≡ true
-  pub definitions : parts.definitions ≡ definitions_from source.text (meaning_of source).symbols [] source.lines
+  pub definitions :
+      parts.definitions ≡ definitions_from source.text (meaning_of source).symbols [] source.lines
   pub distinct : are_distinct (definition_names parts.definitions) ≡ true
-  pub relocations : parts.relocations ≡ marks_from source.text (meaning_of source).symbols (static_section (meaning_of source).uses_outer) (marks_from source.text (meaning_of source).symbols Text [] start source.lines) start source.lines
+  pub relocations :
+      parts.relocations
+      ≡ marks_from source.text (meaning_of source).symbols
+      (static_section (meaning_of source).uses_outer)
+      (marks_from source.text (meaning_of source).symbols Text [] start source.lines) start
+      source.lines
   pub rising : are_rising 0 3 parts.relocations ≡ true
   pub bound : BoundIs source parts
   pub unbound : list_any (is_entrybound) source.lines ≡ false → parts.entry_bound ≡ 0

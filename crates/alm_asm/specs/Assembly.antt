@@ -4,28 +4,29 @@ use Rattle.alm_parse.specs.SourceFields.{Source}
 use Rattle.alm_parse.specs.declared.line.Line36.{Line36}
 use Rattle.alm_parse.specs.declared.fault.AlmFault.{AlmFault}
 use Rattle.alm_parse.specs.declared.fault.AlmFault.TheVariants.{E8}
-use Rattle.obj36.specs.declared.section.Section.{Section}
-use Rattle.obj36.specs.declared.section.Section.TheVariants.{Text, Linkage, Static}
-use Rattle.obj36.specs.PartsFields.{PartsFields}
-use Rattle.obj36.specs.ObjectSegment.{is_well_formed}
-use Rattle.alm_asm.specs.Spots.{start, below, end_of}
-use Rattle.alm_asm.specs.Refusals.{fault_of, sooner}
-use Rattle.alm_asm.specs.Layout.{symbols_from, layout_refusal}
+use Rattle.obj36_parts.specs.declared.section.Section.{Section}
+use Rattle.obj36_parts.specs.declared.section.Section.TheVariants.{Text, Linkage, Static}
+use Rattle.obj36_parts.specs.PartsFields.{PartsFields}
+use Rattle.obj36_parts.specs.ObjectSegment.{is_well_formed}
+use Rattle.alm_lines.specs.Spots.{start, below, end_of}
+use Rattle.alm_lines.specs.Refusals.{fault_of, sooner}
+use Rattle.alm_lines.specs.Layout.{symbols_from, layout_refusal}
 use Rattle.alm_asm.specs.Links.{links_from}
 use Rattle.alm_asm.specs.Words.{words_from}
 use Rattle.alm_asm.specs.Marks.{marks_from}
 use Rattle.alm_asm.specs.Definitions.{definitions_from}
 use Rattle.alm_asm.specs.LineRefusals.{lines_refusal}
 use Rattle.alm_asm.specs.Growth.{at_first, growth_refusal}
-use Rattle.alm_asm.specs.declared.spot.Spot.{Spot}
+use Rattle.alm_lines.specs.declared.spot.Spot.{Spot}
 use Rattle.alm_asm.specs.declared.tables.Tables.{Tables}
 use Rattle.alm_parse.specs.declared.deed.Deed.{Deed}
 use Rattle.alm_parse.specs.declared.deed.Deed.TheVariants as deed
-use Rattle.alm_asm.specs.declared.refusal.Refusal.{Refusal}
+use Rattle.alm_lines.specs.declared.refusal.Refusal.{Refusal}
 
 -- ---- tables
 
--- Links stand behind the eight words at the head of the linkage section and the static words there, an even number.
+-- Links stand behind the eight words at the head of the linkage section and the static words there,
+-- an even number.
 abbrev pub first_link : Spot → ℕ
 first_link ending = if ending.uses_outer then 8 else 8 + ending.inner + ending.inner % 2
 
@@ -79,10 +80,12 @@ unfoldable pub parts_with : List ℕ → Tables → List Line36 → PartsFields
 parts_with text tables lines =
     record {
       text = words_from text tables Text [] start lines;
-      statics = evened tables.uses_outer (words_from text tables (static_section tables.uses_outer) [] start lines);
+      statics = evened tables.uses_outer
+          (words_from text tables (static_section tables.uses_outer) [] start lines);
       definitions = definitions_from text tables.symbols [] lines;
       links = tables.links;
-      relocations = marks_from text tables.symbols (static_section tables.uses_outer) (marks_from text tables.symbols Text [] start lines) start lines;
+      relocations = marks_from text tables.symbols (static_section tables.uses_outer)
+          (marks_from text tables.symbols Text [] start lines) start lines;
       entry_bound = bound_from text 0 start lines;
       version = version_of tables.uses_outer;
     }
@@ -95,26 +98,28 @@ parts_of source = parts_with source.text (tables_of source.text source.lines) so
 -- the first refusal in the order of the text, if there is one
 unfoldable pub refusal_of : Source → Option Refusal
 refusal_of source =
+    let tables = tables_of source.text source.lines in
     sooner
     (sooner
     (layout_refusal source.text None [] start source.lines)
-    (lines_refusal source.text (tables_of source.text source.lines) [] start source.lines))
-    (growth_refusal source.text (tables_of source.text source.lines).symbols at_first start source.lines)
+    (lines_refusal source.text tables [] start source.lines))
+    (growth_refusal source.text tables.symbols at_first start source.lines)
 
 -- the number of the last line, or 1
 unfoldable pub last_line : ℕ → List Line36 → ℕ
 last_line number [] = number
 last_line number (line ∷ lines) = last_line line.line lines
 
--- Where no line is refused, an object for which no list of words stands is refused at the last line: it has more than 2^18
--- words.
+-- Where no line is refused, an object for which no list of words stands is refused at the last
+-- line: it has more than 2^18 words.
 abbrev pub made : PartsFields → ℕ → Bool → Result PartsFields AlmFault
 made parts number true = Ok parts
 made parts number false = Err (E8 number 1)
 
 abbrev pub assembled_by : Source → Option Refusal → Result PartsFields AlmFault
 assembled_by source (Some refusal) = Err (fault_of refusal)
-assembled_by source None = made (parts_of source) (last_line 1 source.lines) (is_well_formed (parts_of source))
+assembled_by source None =
+    made (parts_of source) (last_line 1 source.lines) (is_well_formed (parts_of source))
 
 unfoldable pub assembled : Source → Result PartsFields AlmFault
 assembled source = assembled_by source (refusal_of source)

@@ -5,22 +5,22 @@ use Rattle.alm_parse.specs.declared.span.Span.{Span}
 use Rattle.alm_parse.specs.declared.args.Arg.{Arg}
 use Rattle.alm_parse.specs.declared.args.Arg.TheVariants as arg
 use Rattle.alm_parse.specs.declared.line.Line36.{Line36}
-use Rattle.obj36.specs.declared.section.Section.{Section}
-use Rattle.obj36.specs.declared.section.Section.TheVariants.{Text, Linkage, Symbol, Static}
-use Rattle.obj36.specs.declared.definition.Named.{Named}
-use Rattle.alm_asm.specs.Sums.{half_of, kind_of}
-use Rattle.alm_asm.specs.Symbols.{same_name, sum_named}
-use Rattle.alm_asm.specs.Arguments.{name_at}
-use Rattle.alm_asm.specs.Expressions.{symbol_sum}
-use Rattle.alm_asm.specs.Refusals.{sooner, refusal_at, has_room}
-use Rattle.alm_asm.specs.declared.sum.Sum.{Sum}
-use Rattle.alm_asm.specs.declared.sum.Kind.{Kind}
-use Rattle.alm_asm.specs.declared.sum.Kind.TheVariants.{Absolute, Moved, Unsaid}
+use Rattle.obj36_parts.specs.declared.section.Section.{Section}
+use Rattle.obj36_parts.specs.declared.section.Section.TheVariants.{Text, Linkage, Symbol, Static}
+use Rattle.obj36_parts.specs.declared.definition.Named.{Named}
+use Rattle.alm_lines.specs.Sums.{half_of, kind_of}
+use Rattle.alm_lines.specs.Symbols.{same_name, sum_named}
+use Rattle.alm_lines.specs.Arguments.{name_at}
+use Rattle.alm_lines.specs.Expressions.{symbol_sum}
+use Rattle.alm_lines.specs.Refusals.{sooner, refusal_at, has_room}
+use Rattle.alm_lines.specs.declared.sum.Sum.{Sum}
+use Rattle.alm_lines.specs.declared.sum.Kind.{Kind}
+use Rattle.alm_lines.specs.declared.sum.Kind.TheVariants.{Absolute, Moved, Unsaid}
 use Rattle.alm_parse.specs.declared.deed.Deed.{Deed}
 use Rattle.alm_parse.specs.declared.deed.Deed.TheVariants as deed
-use Rattle.alm_asm.specs.declared.refusal.Code.TheVariants.{E5, E6, E7}
-use Rattle.alm_asm.specs.declared.refusal.Refusal.{Refusal}
-use Rattle.alm_asm.specs.declared.refusal.Room.TheVariants.{Half}
+use Rattle.alm_lines.specs.declared.refusal.Code.TheVariants.{E5, E6, E7}
+use Rattle.alm_lines.specs.declared.refusal.Refusal.{Refusal}
+use Rattle.alm_lines.specs.declared.refusal.Room.TheVariants.{Half}
 
 -- ---- the definitions
 
@@ -32,9 +32,10 @@ section_of Unsaid = Text
 -- a name with the section and the value of its symbol
 unfoldable pub named : List ℕ → List (List ℕ × Sum) → Bool → Span → Named
 named text symbols is_entry span =
+    let sum = symbol_sum text symbols span in
     record {
       name = name_at text span;
-      def = record { section = section_of (kind_of (symbol_sum text symbols span)); value = half_of (symbol_sum text symbols span).value; is_entry = is_entry };
+      def = record { section = section_of (kind_of sum); value = half_of sum.value; is_entry = is_entry };
     }
 
 abbrev pub named_by : List ℕ → List (List ℕ × Sum) → Bool → Arg → List Named
@@ -63,17 +64,22 @@ gives_entries deed.Block = None
 gives_entries deed.Even = None
 gives_entries deed.Bound = None
 
-abbrev pub definitions_by : List ℕ → List (List ℕ × Sum) → List Named → List Arg → Option Bool → List Named
+abbrev pub definitions_by : List ℕ → List (List ℕ × Sum) → List Named → List Arg → Option Bool
+    → List Named
 definitions_by text symbols done arguments None = done
-definitions_by text symbols done arguments (Some is_entry) = with_names text symbols is_entry done arguments
+definitions_by text symbols done arguments (Some is_entry) =
+    with_names text symbols is_entry done arguments
 
 unfoldable pub definitions_after : List ℕ → List (List ℕ × Sum) → List Named → Line36 → List Named
-definitions_after text symbols done line = definitions_by text symbols done line.args (gives_entries line.deed)
+definitions_after text symbols done line =
+    definitions_by text symbols done line.args (gives_entries line.deed)
 
 -- the definitions of the lines, behind those so far
-unfoldable pub definitions_from : List ℕ → List (List ℕ × Sum) → List Named → List Line36 → List Named
+unfoldable pub definitions_from : List ℕ → List (List ℕ × Sum) → List Named → List Line36
+    → List Named
 definitions_from text symbols done [] = done
-definitions_from text symbols done (line ∷ lines) = definitions_from text symbols (definitions_after text symbols done line) lines
+definitions_from text symbols done (line ∷ lines) =
+    definitions_from text symbols (definitions_after text symbols done line) lines
 
 -- ---- what is refused of them
 
@@ -104,22 +110,30 @@ abbrev pub taken_refusal : Line36 → ℕ → Bool → Option Sum → Bool → O
 taken_refusal line at is_entry sum true = Some (refusal_at line at E5)
 taken_refusal line at is_entry sum false = sum_refusal line at is_entry sum
 
-unfoldable pub name_refusal : List ℕ → List (List ℕ × Sum) → Line36 → Bool → List Named → Span → Option Refusal
+unfoldable pub name_refusal : List ℕ → List (List ℕ × Sum) → Line36 → Bool → List Named → Span
+    → Option Refusal
 name_refusal text symbols line is_entry done span =
-    taken_refusal line span.from is_entry (sum_named (name_at text span) symbols) (is_taken done (name_at text span))
+    taken_refusal line span.from is_entry (sum_named (name_at text span) symbols)
+    (is_taken done (name_at text span))
 
-abbrev pub arg_refusal : List ℕ → List (List ℕ × Sum) → Line36 → Bool → List Named → Arg → Option Refusal
-arg_refusal text symbols line is_entry done (arg.Symbol span) = name_refusal text symbols line is_entry done span
+abbrev pub arg_refusal : List ℕ → List (List ℕ × Sum) → Line36 → Bool → List Named → Arg
+    → Option Refusal
+arg_refusal text symbols line is_entry done (arg.Symbol span) =
+    name_refusal text symbols line is_entry done span
 arg_refusal text symbols line is_entry done (arg.Number word) = None
 arg_refusal text symbols line is_entry done (arg.Chars words) = None
 arg_refusal text symbols line is_entry done (arg.Plain terms) = None
 arg_refusal text symbols line is_entry done (arg.Operand pr segment entry terms tag) = None
 
-unfoldable pub names_refused : List ℕ → List (List ℕ × Sum) → Line36 → Bool → List Named → Option Refusal → List Arg → Option Refusal
+unfoldable pub names_refused : List ℕ → List (List ℕ × Sum) → Line36 → Bool → List Named
+    → Option Refusal → List Arg → Option Refusal
 names_refused text symbols line is_entry done first [] = first
 names_refused text symbols line is_entry done first (arg ∷ arguments) =
-    names_refused text symbols line is_entry (done ++ named_by text symbols is_entry arg) (sooner first (arg_refusal text symbols line is_entry done arg)) arguments
+    names_refused text symbols line is_entry (done ++ named_by text symbols is_entry arg)
+    (sooner first (arg_refusal text symbols line is_entry done arg)) arguments
 
-abbrev pub definitions_refused : List ℕ → List (List ℕ × Sum) → Line36 → List Named → Option Refusal → List Arg → Option Bool → Option Refusal
+abbrev pub definitions_refused : List ℕ → List (List ℕ × Sum) → Line36 → List Named → Option Refusal
+    → List Arg → Option Bool → Option Refusal
 definitions_refused text symbols line done first arguments None = first
-definitions_refused text symbols line done first arguments (Some is_entry) = names_refused text symbols line is_entry done first arguments
+definitions_refused text symbols line done first arguments (Some is_entry) =
+    names_refused text symbols line is_entry done first arguments

@@ -1,5 +1,6 @@
--- How the definition, linkage and symbol sections grow with the lines. Names, expressions, links and relocations stand in them, of
--- which no line gives the words itself. The other sections have what the lines place there.
+-- How the definition, linkage and symbol sections grow with the lines. Names, expressions, links
+-- and relocations stand in them, of which no line gives the words itself. The other sections have
+-- what the lines place there.
 use Rattle.std.specs.Prelude.{ℕ, ◌+◌, ◌*◌, Bool, true, false, ◌||◌, is_some, if◌then◌else◌, List, [], ◌∷◌, ◌++◌, length, Option, Some, None}
 use Rattle.std.specs.List.{list_any}
 use Rattle.alm_parse.specs.declared.span.Span.{Span}
@@ -7,32 +8,34 @@ use Rattle.alm_parse.specs.declared.expression.Term.{Term}
 use Rattle.alm_parse.specs.declared.args.Arg.{Arg}
 use Rattle.alm_parse.specs.declared.args.Arg.TheVariants as arg
 use Rattle.alm_parse.specs.declared.line.Line36.{Line36}
-use Rattle.obj36.specs.Fields.{LinkFields}
-use Rattle.obj36.specs.Names.{name_length}
-use Rattle.obj36.specs.ObjectSegment.{link_names}
-use Rattle.alm_asm.specs.Sums.{no_sum, kind_of}
-use Rattle.alm_asm.specs.Symbols.{sum_named, with_symbol}
-use Rattle.alm_asm.specs.Arguments.{name_at, first_arg, second_arg, terms_in}
-use Rattle.alm_asm.specs.Spots.{below}
-use Rattle.alm_asm.specs.Refusals.{refusal_at, has_value, is_over_limit}
-use Rattle.alm_asm.specs.Links.{link_of, operand_args, same_link}
-use Rattle.alm_asm.specs.Expressions.{sum_of}
+use Rattle.obj36_parts.specs.Fields.{LinkFields}
+use Rattle.obj36_parts.specs.Names.{name_length}
+use Rattle.obj36_parts.specs.ObjectSegment.{link_names}
+use Rattle.alm_lines.specs.Sums.{no_sum, kind_of}
+use Rattle.alm_lines.specs.Symbols.{sum_named, with_symbol}
+use Rattle.alm_lines.specs.Arguments.{name_at, first_arg, second_arg, terms_in}
+use Rattle.alm_lines.specs.Spots.{below}
+use Rattle.alm_lines.specs.Refusals.{refusal_at, has_value, is_over_limit}
+use Rattle.alm_asm.specs.Links.{link_of, operand_args}
+use Rattle.obj36_parts.specs.Indexes.{same_link}
+use Rattle.alm_lines.specs.Expressions.{sum_of}
 use Rattle.alm_asm.specs.Marks.{operand_kind}
 use Rattle.alm_asm.specs.Definitions.{gives_entries, sum_refusal}
 use Rattle.alm_asm.specs.LineRefusals.{own_room}
-use Rattle.alm_asm.specs.declared.sum.Sum.{Sum}
-use Rattle.alm_asm.specs.declared.sum.Kind.{Kind}
-use Rattle.alm_asm.specs.declared.sum.Kind.TheVariants.{Absolute, Moved, Unsaid}
-use Rattle.alm_asm.specs.declared.refusal.Room.{Room}
-use Rattle.alm_asm.specs.declared.refusal.Room.TheVariants.{Half}
+use Rattle.alm_lines.specs.declared.sum.Sum.{Sum}
+use Rattle.alm_lines.specs.declared.sum.Kind.{Kind}
+use Rattle.alm_lines.specs.declared.sum.Kind.TheVariants.{Absolute, Moved, Unsaid}
+use Rattle.alm_lines.specs.declared.refusal.Room.{Room}
+use Rattle.alm_lines.specs.declared.refusal.Room.TheVariants.{Half}
 use Rattle.alm_parse.specs.declared.deed.Deed.{Deed}
 use Rattle.alm_parse.specs.declared.deed.Deed.TheVariants as deed
-use Rattle.alm_asm.specs.declared.spot.Spot.{Spot}
+use Rattle.alm_lines.specs.declared.spot.Spot.{Spot}
 use Rattle.alm_asm.specs.declared.growth.Growth.{Growth}
-use Rattle.alm_asm.specs.declared.refusal.Code.TheVariants.{E8}
-use Rattle.alm_asm.specs.declared.refusal.Refusal.{Refusal}
+use Rattle.alm_lines.specs.declared.refusal.Code.TheVariants.{E8}
+use Rattle.alm_lines.specs.declared.refusal.Refusal.{Refusal}
 
--- Of no lines the definition section has its two first words, and the symbol section the count of the relocations.
+-- Of no lines the definition section has its two first words, and the symbol section the count of
+-- the relocations.
 abbrev pub at_first : Growth
 at_first = record { names = []; defined = []; links = []; definition = 2; symbol = 1 }
 
@@ -42,7 +45,8 @@ at_first = record { names = []; defined = []; links = []; definition = 2; symbol
 unfoldable pub with_name : Growth → List ℕ → Growth
 with_name g name =
     if is_some (sum_named name g.names) then g
-    else record g { names = with_symbol g.names name no_sum; definition = g.definition + name_length name }
+    else record g
+    { names = with_symbol g.names name no_sum; definition = g.definition + name_length name }
 
 -- names one after another
 unfoldable pub with_names : Growth → List (List ℕ) → Growth
@@ -55,7 +59,8 @@ with_names g (name ∷ names) = with_names (with_name g name) names
 unfoldable pub with_definition : Growth → List ℕ → Growth
 with_definition g name =
     if is_some (sum_named name g.defined) then g
-    else with_name (record g { defined = with_symbol g.defined name no_sum; definition = g.definition + 2 }) name
+    else with_name
+    (record g { defined = with_symbol g.defined name no_sum; definition = g.definition + 2 }) name
 
 -- A name of `entry` or `segdef` that is refused gives none.
 abbrev pub with_unrefused : Option Refusal → Growth → List ℕ → Growth
@@ -64,7 +69,8 @@ with_unrefused None g name = with_definition g name
 
 abbrev pub with_arg : List ℕ → List (List ℕ × Sum) → Line36 → Bool → Growth → Arg → Growth
 with_arg text symbols line is_entry g (arg.Symbol span) =
-    with_unrefused (sum_refusal line span.from is_entry (sum_named (name_at text span) symbols)) g (name_at text span)
+    with_unrefused (sum_refusal line span.from is_entry (sum_named (name_at text span) symbols)) g
+    (name_at text span)
 with_arg text symbols line is_entry g (arg.Number word) = g
 with_arg text symbols line is_entry g (arg.Chars words) = g
 with_arg text symbols line is_entry g (arg.Plain terms) = g
@@ -77,21 +83,24 @@ with_args text symbols line is_entry g (arg ∷ arguments) =
 
 abbrev pub with_definitions : List ℕ → List (List ℕ × Sum) → Line36 → Growth → Option Bool → Growth
 with_definitions text symbols line g None = g
-with_definitions text symbols line g (Some is_entry) = with_args text symbols line is_entry g line.args
+with_definitions text symbols line g (Some is_entry) =
+    with_args text symbols line is_entry g line.args
 
 -- ---- links
 
--- A link has two words in the definition section, for its expression, with the names that it uses, and two in the linkage
--- section. It stands once.
+-- A link has two words in the definition section, for its expression, with the names that it uses,
+-- and two in the linkage section. It stands once.
 unfoldable pub with_new_link : Growth → LinkFields → Growth
 with_new_link g link =
-    with_names (record g { links = g.links ++ link ∷ []; definition = g.definition + 2 }) (link_names link)
+    with_names (record g { links = g.links ++ link ∷ []; definition = g.definition + 2 })
+    (link_names link)
 
 unfoldable pub with_link_once : Growth → LinkFields → Growth
 with_link_once g link = if list_any (same_link link) g.links then g else with_new_link g link
 
 -- An external operand whose expression gives no value is none.
-abbrev pub with_operand : List ℕ → List (List ℕ × Sum) → Spot → Growth → Option Span → Option Span → List Term → ℕ → Growth
+abbrev pub with_operand : List ℕ → List (List ℕ × Sum) → Spot → Growth → Option Span → Option Span
+    → List Term → ℕ → Growth
 with_operand text symbols spot g (Some segment) entry terms tag =
     if has_value text symbols spot terms Half false
     then with_link_once g (link_of text symbols spot segment entry terms tag)
@@ -115,7 +124,8 @@ mark_count valued Absolute = 0
 mark_count valued (Moved section) = if valued then 1 else 0
 mark_count valued Unsaid = 0
 
--- what an expression has to fit in, and whether it may be a place of a section: behind an external name it is a number
+-- what an expression has to fit in, and whether it may be a place of a section: behind an external
+-- name it is a number
 abbrev pub operand_room : Option ℕ → Option Span → Room
 operand_room pr (Some segment) = Half
 operand_room pr None = own_room pr
@@ -137,7 +147,8 @@ operand_count text symbols spot None = 0
 
 abbrev pub half_count : List ℕ → List (List ℕ × Sum) → Spot → List Term → ℕ
 half_count text symbols spot terms =
-    mark_count (has_value text symbols spot terms Half true) (kind_of (sum_of text symbols spot terms))
+    mark_count (has_value text symbols spot terms Half true)
+    (kind_of (sum_of text symbols spot terms))
 
 abbrev pub marks_count : List ℕ → List (List ℕ × Sum) → Spot → List Arg → Deed → ℕ
 marks_count text symbols spot arguments deed.Nothing = 0
@@ -149,7 +160,8 @@ marks_count text symbols spot arguments deed.Equ = 0
 marks_count text symbols spot arguments deed.Use = 0
 marks_count text symbols spot arguments deed.Words = 0
 marks_count text symbols spot arguments deed.Zero =
-    half_count text symbols spot (terms_in (first_arg arguments)) + half_count text symbols spot (terms_in (second_arg arguments))
+    half_count text symbols spot (terms_in (first_arg arguments))
+    + half_count text symbols spot (terms_in (second_arg arguments))
 marks_count text symbols spot arguments deed.Block = 0
 marks_count text symbols spot arguments deed.Even = 0
 marks_count text symbols spot arguments deed.Bound = 0
@@ -170,11 +182,15 @@ grown_by text symbols spot g line =
 -- The linkage section has its head, static words and links.
 unfoldable pub is_over : Spot → Growth → Bool
 is_over spot g =
-    is_over_limit g.definition || is_over_limit (8 + spot.inner + 2 * length g.links) || is_over_limit g.symbol
+    is_over_limit g.definition || is_over_limit (8 + spot.inner + 2 * length g.links)
+    || is_over_limit g.symbol
 
 -- the refusal of the first line with which one of these sections has more words
-unfoldable pub growth_refusal : List ℕ → List (List ℕ × Sum) → Growth → Spot → List Line36 → Option Refusal
+unfoldable pub growth_refusal : List ℕ → List (List ℕ × Sum) → Growth → Spot → List Line36
+    → Option Refusal
 growth_refusal text symbols g spot [] = None
 growth_refusal text symbols g spot (line ∷ lines) =
-    if is_over (below text spot line) (grown_by text symbols spot g line) then Some (refusal_at line line.start E8)
-    else growth_refusal text symbols (grown_by text symbols spot g line) (below text spot line) lines
+    if is_over (below text spot line) (grown_by text symbols spot g line) then Some
+    (refusal_at line line.start E8)
+    else growth_refusal text symbols (grown_by text symbols spot g line) (below text spot line)
+    lines

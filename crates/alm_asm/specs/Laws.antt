@@ -7,18 +7,18 @@ use Rattle.alm_parse.specs.declared.span.Span.{Span}
 use Rattle.alm_parse.specs.declared.args.Arg.{Arg}
 use Rattle.alm_parse.specs.declared.args.Arg.TheVariants as arg
 use Rattle.alm_parse.specs.declared.line.Line36.{Line36}
-use Rattle.obj36.specs.declared.section.Section.{Section}
-use Rattle.obj36.specs.declared.section.Section.TheVariants.{Text, Linkage, Symbol, Static}
-use Rattle.obj36.specs.Names.{is_name}
-use Rattle.obj36.specs.ObjectSegment.{words_of, is_well_formed}
-use Rattle.alm_asm.specs.Arguments.{name_at}
+use Rattle.obj36_parts.specs.declared.section.Section.{Section}
+use Rattle.obj36_parts.specs.declared.section.Section.TheVariants.{Text, Linkage, Symbol, Static}
+use Rattle.obj36_parts.specs.Names.{is_name}
+use Rattle.obj36_parts.specs.ObjectSegment.{words_of, is_well_formed}
+use Rattle.alm_lines.specs.Arguments.{name_at}
 use Rattle.alm_asm.specs.Links.{own_section}
 use Rattle.alm_asm.specs.Assembly.{parts_of, refusal_of}
-use Rattle.alm_asm.specs.Symbols.{sum_named}
-use Rattle.alm_asm.specs.Spots.{start, count_in, end_of}
+use Rattle.alm_lines.specs.Symbols.{sum_named}
+use Rattle.alm_lines.specs.Spots.{start, count_in, end_of}
 use Rattle.alm_asm.specs.Words.{words_from}
-use Rattle.alm_asm.specs.Layout.{symbols_from}
-use Rattle.alm_asm.specs.declared.sum.Sum.{Sum}
+use Rattle.alm_lines.specs.Layout.{symbols_from}
+use Rattle.alm_lines.specs.declared.sum.Sum.{Sum}
 use Rattle.alm_asm.specs.declared.tables.Tables.{Tables}
 
 -- the sections in which lines place words
@@ -31,26 +31,34 @@ holds_words Static = true
 -- A line's place in a section is the count of words that the lines above it place there.
 abbrev pub PlacesCount : Type 0
 PlacesCount =
-    (text : List ℕ) (tables : Tables) (section : Section) (above : List Line36) → holds_words section ≡ true
-    → count_in section (end_of text start above) ≡ length (words_from text tables section [] start above)
+    (text : List ℕ) (tables : Tables) (section : Section) (above : List Line36)
+    → holds_words section ≡ true
+    → count_in section (end_of text start above)
+    ≡ length (words_from text tables section [] start above)
 
 -- The words of lines follow those of the lines above them.
 abbrev pub WordsFollow : Type 0
 WordsFollow =
     (text : List ℕ) (tables : Tables) (section : Section) (above lines : List Line36)
-    → words_from text tables section [] start (above ++ lines) ≡ words_from text tables section (words_from text tables section [] start above) (end_of text start above) lines
+    → words_from text tables section [] start (above ++ lines)
+    ≡ words_from text tables section (words_from text tables section [] start above)
+    (end_of text start above) lines
 
--- A symbol that the lines above define stays what it is: the first line that defines it says what it comes to.
+-- A symbol that the lines above define stays what it is: the first line that defines it says what
+-- it comes to.
 abbrev pub SymbolsStay : Type 0
 SymbolsStay =
-    (text : List ℕ) (above lines : List Line36) (name : List ℕ) (sum : Sum) → sum_named name (symbols_from text [] start above) ≡ Some sum
+    (text : List ℕ) (above lines : List Line36) (name : List ℕ) (sum : Sum)
+    → sum_named name (symbols_from text [] start above) ≡ Some sum
     → sum_named name (symbols_from text [] start (above ++ lines)) ≡ Some sum
 
 -- ---- which objects are too long
 
--- Whether the names that lines use are names of an object. Those of a source that has been read are.
+-- Whether the names that lines use are names of an object. Those of a source that has been read
+-- are.
 abbrev pub segment_is_named : List ℕ → Option Span → Bool
-segment_is_named text (Some segment) = is_some (own_section (slice_of text segment)) || is_name (name_at text segment)
+segment_is_named text (Some segment) =
+    is_some (own_section (slice_of text segment)) || is_name (name_at text segment)
 segment_is_named text None = true
 
 abbrev pub entry_is_named : List ℕ → Option Span → Bool
@@ -62,7 +70,8 @@ arg_is_named text (arg.Symbol span) = is_name (name_at text span)
 arg_is_named text (arg.Number word) = true
 arg_is_named text (arg.Chars words) = true
 arg_is_named text (arg.Plain terms) = true
-arg_is_named text (arg.Operand pr segment entry terms tag) = segment_is_named text segment && entry_is_named text entry
+arg_is_named text (arg.Operand pr segment entry terms tag) =
+    segment_is_named text segment && entry_is_named text entry
 
 unfoldable pub args_are_named : List ℕ → List Arg → Bool
 args_are_named text [] = true
@@ -72,8 +81,8 @@ unfoldable pub lines_are_named : List ℕ → List Line36 → Bool
 lines_are_named text [] = true
 lines_are_named text (line ∷ lines) = args_are_named text line.args && lines_are_named text lines
 
--- Where no line of a source that has been read is refused, the parts that the lines mean are those of an object exactly where
--- this has at most 2^18 words.
+-- Where no line of a source that has been read is refused, the parts that the lines mean are those
+-- of an object exactly where this has at most 2^18 words.
 abbrev pub OnlyTooLong : Type 0
 OnlyTooLong =
     (text : List ℕ) (source : Source) → parsed text ≡ Ok source → refusal_of source ≡ None

@@ -6,24 +6,24 @@ use Rattle.alm_parse.specs.declared.expression.Term.{Term}
 use Rattle.alm_parse.specs.declared.args.Arg.{Arg}
 use Rattle.alm_parse.specs.declared.args.Arg.TheVariants as arg
 use Rattle.alm_parse.specs.declared.line.Line36.{Line36}
-use Rattle.obj36.specs.declared.section.Section.{Section}
-use Rattle.obj36.specs.declared.section.Section.TheVariants.{Text, Linkage, Symbol, Static}
-use Rattle.obj36.specs.declared.definition.Named.{Named}
-use Rattle.alm_asm.specs.Arguments.{first_arg, second_arg, symbol_in, terms_in, section_in}
-use Rattle.alm_asm.specs.Spots.{below}
-use Rattle.alm_asm.specs.Expressions.{expression_place}
-use Rattle.alm_asm.specs.Refusals.{sooner, refusal_at, expression_refusal, has_value}
+use Rattle.obj36_parts.specs.declared.section.Section.{Section}
+use Rattle.obj36_parts.specs.declared.section.Section.TheVariants.{Text, Linkage, Symbol, Static}
+use Rattle.obj36_parts.specs.declared.definition.Named.{Named}
+use Rattle.alm_lines.specs.Arguments.{first_arg, second_arg, symbol_in, terms_in, section_in}
+use Rattle.alm_lines.specs.Spots.{below}
+use Rattle.alm_lines.specs.Expressions.{expression_place}
+use Rattle.alm_lines.specs.Refusals.{sooner, refusal_at, expression_refusal, has_value}
 use Rattle.alm_asm.specs.Links.{own_section, link_of, link_place}
 use Rattle.alm_asm.specs.Definitions.{gives_entries, definitions_after, definitions_refused}
-use Rattle.alm_asm.specs.declared.spot.Spot.{Spot}
-use Rattle.alm_asm.specs.declared.sum.Sum.{Sum}
+use Rattle.alm_lines.specs.declared.spot.Spot.{Spot}
+use Rattle.alm_lines.specs.declared.sum.Sum.{Sum}
 use Rattle.alm_asm.specs.declared.tables.Tables.{Tables}
 use Rattle.alm_parse.specs.declared.deed.Deed.{Deed}
 use Rattle.alm_parse.specs.declared.deed.Deed.TheVariants as deed
-use Rattle.alm_asm.specs.declared.refusal.Code.TheVariants.{E7}
-use Rattle.alm_asm.specs.declared.refusal.Refusal.{Refusal}
-use Rattle.alm_asm.specs.declared.refusal.Room.{Room}
-use Rattle.alm_asm.specs.declared.refusal.Room.TheVariants.{Half, Offset}
+use Rattle.alm_lines.specs.declared.refusal.Code.TheVariants.{E7}
+use Rattle.alm_lines.specs.declared.refusal.Refusal.{Refusal}
+use Rattle.alm_lines.specs.declared.refusal.Room.{Room}
+use Rattle.alm_lines.specs.declared.refusal.Room.TheVariants.{Half, Offset}
 
 abbrev pub unless : Bool → Refusal → Option Refusal
 unless true refusal = None
@@ -54,44 +54,54 @@ may_name tables own = tables.uses_outer || not (needs_static own)
 -- and a link lies in the reach of `pr4|`.
 unfoldable pub is_in_reach : List ℕ → Tables → Spot → Span → Option Span → List Term → ℕ → Bool
 is_in_reach text tables spot segment entry terms tag =
-    nat_lt (link_place tables.links tables.first_link (link_of text tables.symbols spot segment entry terms tag)) 16384
+    nat_lt
+    (link_place tables.links tables.first_link
+    (link_of text tables.symbols spot segment entry terms tag)) 16384
 
 abbrev pub own_room : Option ℕ → Room
 own_room (Some pr) = Offset
 own_room None = Half
 
 -- what is refused of the expression behind an external name
-abbrev pub link_expression : List ℕ → List (List ℕ × Sum) → Spot → Line36 → Span → Option Span → List Term → Option Refusal
+abbrev pub link_expression : List ℕ → List (List ℕ × Sum) → Spot → Line36 → Span → Option Span
+    → List Term → Option Refusal
 link_expression text symbols spot line segment entry terms =
     expression_refusal text symbols spot line terms (external_place segment entry) Half false
 
 -- An operand whose expression gives no value is no link, and nothing is said of its place.
 unfoldable pub reaches : List ℕ → Tables → Spot → Span → Option Span → List Term → ℕ → Bool
 reaches text tables spot segment entry terms tag =
-    not (has_value text tables.symbols spot terms Half false) || is_in_reach text tables spot segment entry terms tag
+    not (has_value text tables.symbols spot terms Half false)
+    || is_in_reach text tables spot segment entry terms tag
 
-abbrev pub external_refusal : List ℕ → Tables → Spot → Line36 → Span → Option Span → List Term → ℕ → Option Refusal
+abbrev pub external_refusal : List ℕ → Tables → Spot → Line36 → Span → Option Span → List Term → ℕ
+    → Option Refusal
 external_refusal text tables spot line segment entry terms tag =
+    let at = refusal_at line segment.from E7 in
     sooner
     (sooner
     (link_expression text tables.symbols spot line segment entry terms)
-    (unless (reaches text tables spot segment entry terms tag) (refusal_at line segment.from E7)))
-    (unless (may_name tables (own_section (slice_of text segment))) (refusal_at line segment.from E7))
+    (unless (reaches text tables spot segment entry terms tag) at))
+    (unless (may_name tables (own_section (slice_of text segment))) at)
 
 abbrev pub own_operand : List ℕ → Tables → Spot → Line36 → Room → List Term → Option Refusal
 own_operand text tables spot line room terms =
     expression_refusal text tables.symbols spot line terms (expression_place terms) room true
 
-abbrev pub operand_by : List ℕ → Tables → Spot → Line36 → Option ℕ → Option Span → Option Span → List Term → ℕ → Option Refusal
-operand_by text tables spot line pr (Some segment) entry terms tag = external_refusal text tables spot line segment entry terms tag
-operand_by text tables spot line pr None entry terms tag = own_operand text tables spot line (own_room pr) terms
+abbrev pub operand_by : List ℕ → Tables → Spot → Line36 → Option ℕ → Option Span → Option Span
+    → List Term → ℕ → Option Refusal
+operand_by text tables spot line pr (Some segment) entry terms tag =
+    external_refusal text tables spot line segment entry terms tag
+operand_by text tables spot line pr None entry terms tag =
+    own_operand text tables spot line (own_room pr) terms
 
 abbrev pub operand_refusal : List ℕ → Tables → Spot → Line36 → Option Arg → Option Refusal
 operand_refusal text tables spot line (Some (arg.Symbol span)) = None
 operand_refusal text tables spot line (Some (arg.Number word)) = None
 operand_refusal text tables spot line (Some (arg.Chars words)) = None
 operand_refusal text tables spot line (Some (arg.Plain terms)) = None
-operand_refusal text tables spot line (Some (arg.Operand pr segment entry terms tag)) = operand_by text tables spot line pr segment entry terms tag
+operand_refusal text tables spot line (Some (arg.Operand pr segment entry terms tag)) =
+    operand_by text tables spot line pr segment entry terms tag
 operand_refusal text tables spot line None = None
 
 -- ---- operations
@@ -111,19 +121,23 @@ may_enter spot Static = not spot.uses_inner
 
 abbrev pub instruction_refusal : List ℕ → Tables → Spot → Line36 → Option Refusal
 instruction_refusal text tables spot line =
-    sooner (unless (is_text_section spot.section) (refusal_at line (op_place line.op) E7)) (operand_refusal text tables spot line (first_arg line.args))
+    sooner (unless (is_text_section spot.section) (refusal_at line (op_place line.op) E7))
+    (operand_refusal text tables spot line (first_arg line.args))
 
 abbrev pub use_refusal : List ℕ → Spot → Line36 → Option Refusal
 use_refusal text spot line =
-    unless (may_enter spot (section_in text (symbol_in (first_arg line.args)))) (refusal_at line (op_place line.op) E7)
+    unless (may_enter spot (section_in text (symbol_in (first_arg line.args))))
+    (refusal_at line (op_place line.op) E7)
 
 abbrev pub halves_refusal : List ℕ → Tables → Spot → Line36 → Option Refusal
 halves_refusal text tables spot line =
-    sooner (own_operand text tables spot line Half (terms_in (first_arg line.args))) (own_operand text tables spot line Half (terms_in (second_arg line.args)))
+    sooner (own_operand text tables spot line Half (terms_in (first_arg line.args)))
+    (own_operand text tables spot line Half (terms_in (second_arg line.args)))
 
 abbrev pub refusal_of_deed : List ℕ → Tables → Spot → Line36 → Deed → Option Refusal
 refusal_of_deed text tables spot line deed.Nothing = None
-refusal_of_deed text tables spot line (deed.Instruction code bit27) = instruction_refusal text tables spot line
+refusal_of_deed text tables spot line (deed.Instruction code bit27) =
+    instruction_refusal text tables spot line
 refusal_of_deed text tables spot line deed.Entry = None
 refusal_of_deed text tables spot line deed.Segdef = None
 refusal_of_deed text tables spot line deed.Equ = None
@@ -147,10 +161,12 @@ abbrev pub otherwise : Option Refusal → Option Refusal → Option Refusal
 otherwise (Some refusal) other = Some refusal
 otherwise None other = other
 
--- The refusal of the first line that is refused: what is refused of a line stands in it, before all lines below.
+-- The refusal of the first line that is refused: what is refused of a line stands in it, before all
+-- lines below.
 unfoldable pub lines_refusal : List ℕ → Tables → List Named → Spot → List Line36 → Option Refusal
 lines_refusal text tables done spot [] = None
 lines_refusal text tables done spot (line ∷ lines) =
     otherwise
     (line_refusal text tables done spot line)
-    (lines_refusal text tables (definitions_after text tables.symbols done line) (below text spot line) lines)
+    (lines_refusal text tables
+    (definitions_after text tables.symbols done line) (below text spot line) lines)

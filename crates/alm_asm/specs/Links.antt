@@ -1,5 +1,5 @@
 -- Links: the external operands of instructions, each once, in the order of their first use.
-use Rattle.std.specs.Prelude.{ℕ, ◌+◌, ◌*◌, ◌%◌, ◌^◌, Bool, ◌&&◌, nat_eq, List, [], ◌∷◌, ◌++◌, codes, Option, Some, None, unwrap_or, if◌then◌else◌}
+use Rattle.std.specs.Prelude.{ℕ, ◌+◌, ◌*◌, ◌%◌, ◌^◌, Bool, List, [], ◌∷◌, ◌++◌, codes, Option, Some, None, unwrap_or, if◌then◌else◌}
 use Rattle.std.specs.List.{list_any, position}
 use Rattle.alm_parse.specs.Tokens.{slice_of, is_text}
 use Rattle.alm_parse.specs.declared.span.Span.{Span}
@@ -7,17 +7,16 @@ use Rattle.alm_parse.specs.declared.expression.Term.{Term}
 use Rattle.alm_parse.specs.declared.args.Arg.{Arg}
 use Rattle.alm_parse.specs.declared.args.Arg.TheVariants as arg
 use Rattle.alm_parse.specs.declared.line.Line36.{Line36}
-use Rattle.obj36.specs.declared.section.Section.{Section}
-use Rattle.obj36.specs.declared.section.Section.TheVariants.{Text, Linkage, Static}
-use Rattle.obj36.specs.Fields.{LinkFields}
-use Rattle.obj36.specs.ObjectSegment.{place_number}
-use Rattle.alm_asm.specs.Sums.{half_of}
-use Rattle.alm_asm.specs.Symbols.{same_name}
-use Rattle.alm_asm.specs.Arguments.{name_at, first_arg}
-use Rattle.alm_asm.specs.Spots.{below}
-use Rattle.alm_asm.specs.Expressions.{sum_of}
-use Rattle.alm_asm.specs.declared.sum.Sum.{Sum}
-use Rattle.alm_asm.specs.declared.spot.Spot.{Spot}
+use Rattle.obj36_parts.specs.declared.section.Section.{Section}
+use Rattle.obj36_parts.specs.declared.section.Section.TheVariants.{Text, Linkage, Static}
+use Rattle.obj36_parts.specs.Fields.{LinkFields}
+use Rattle.obj36_parts.specs.Indexes.{same_link}
+use Rattle.alm_lines.specs.Sums.{half_of}
+use Rattle.alm_lines.specs.Arguments.{name_at, first_arg}
+use Rattle.alm_lines.specs.Spots.{below}
+use Rattle.alm_lines.specs.Expressions.{sum_of}
+use Rattle.alm_lines.specs.declared.sum.Sum.{Sum}
+use Rattle.alm_lines.specs.declared.spot.Spot.{Spot}
 use Rattle.alm_parse.specs.declared.deed.Deed.{Deed}
 use Rattle.alm_parse.specs.declared.deed.Deed.TheVariants as deed
 
@@ -50,7 +49,8 @@ abbrev pub entry_name : List ℕ → Option Span → List ℕ
 entry_name text (Some span) = name_at text span
 entry_name text None = []
 
-unfoldable pub link_of : List ℕ → List (List ℕ × Sum) → Spot → Span → Option Span → List Term → ℕ → LinkFields
+unfoldable pub link_of : List ℕ → List (List ℕ × Sum) → Spot → Span → Option Span → List Term → ℕ
+    → LinkFields
 link_of text symbols spot segment entry terms tag =
     record {
       kind = link_kind (own_section (slice_of text segment)) entry;
@@ -77,8 +77,10 @@ operand_args deed.Block arguments = []
 operand_args deed.Even arguments = []
 operand_args deed.Bound arguments = []
 
-abbrev pub link_by : List ℕ → List (List ℕ × Sum) → Spot → Option Span → Option Span → List Term → ℕ → Option LinkFields
-link_by text symbols spot (Some segment) entry terms tag = Some (link_of text symbols spot segment entry terms tag)
+abbrev pub link_by : List ℕ → List (List ℕ × Sum) → Spot → Option Span → Option Span → List Term → ℕ
+    → Option LinkFields
+link_by text symbols spot (Some segment) entry terms tag =
+    Some (link_of text symbols spot segment entry terms tag)
 link_by text symbols spot None entry terms tag = None
 
 abbrev pub link_in : List ℕ → List (List ℕ × Sum) → Spot → Option Arg → Option LinkFields
@@ -86,25 +88,23 @@ link_in text symbols spot (Some (arg.Symbol span)) = None
 link_in text symbols spot (Some (arg.Number word)) = None
 link_in text symbols spot (Some (arg.Chars words)) = None
 link_in text symbols spot (Some (arg.Plain terms)) = None
-link_in text symbols spot (Some (arg.Operand pr segment entry terms tag)) = link_by text symbols spot segment entry terms tag
+link_in text symbols spot (Some (arg.Operand pr segment entry terms tag)) =
+    link_by text symbols spot segment entry terms tag
 link_in text symbols spot None = None
-
--- whether two links are the same
-unfoldable pub same_link : LinkFields → LinkFields → Bool
-same_link a b =
-    nat_eq a.kind b.kind && nat_eq (place_number a.section) (place_number b.section) && same_name a.name b.name && same_name a.entry b.entry && nat_eq a.expr b.expr && nat_eq a.modifier b.modifier
 
 -- the links with one at the end, where it is not among them
 abbrev pub with_link : List LinkFields → Option LinkFields → List LinkFields
 with_link links None = links
 with_link links (Some link) = if list_any (same_link link) links then links else links ++ link ∷ []
 
-unfoldable pub links_after : List ℕ → List (List ℕ × Sum) → List LinkFields → Spot → Line36 → List LinkFields
+unfoldable pub links_after : List ℕ → List (List ℕ × Sum) → List LinkFields → Spot → Line36
+    → List LinkFields
 links_after text symbols links spot line =
     with_link links (link_in text symbols spot (first_arg (operand_args line.deed line.args)))
 
 -- the links of the lines, behind those so far
-unfoldable pub links_from : List ℕ → List (List ℕ × Sum) → List LinkFields → Spot → List Line36 → List LinkFields
+unfoldable pub links_from : List ℕ → List (List ℕ × Sum) → List LinkFields → Spot → List Line36
+    → List LinkFields
 links_from text symbols links spot [] = links
 links_from text symbols links spot (line ∷ lines) =
     links_from text symbols (links_after text symbols links spot line) (below text spot line) lines

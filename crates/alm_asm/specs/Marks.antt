@@ -1,29 +1,36 @@
--- Relocations: the parts of words whose expressions are places of a section, and the offsets of links.
+-- Relocations: the parts of words whose expressions are places of a section, and the offsets of
+-- links.
 use Rattle.std.specs.Prelude.{ℕ, ◌%◌, ◌^◌, List, [], ◌∷◌, ◌++◌, Option, Some, None, if◌then◌else◌}
 use Rattle.alm_parse.specs.declared.span.Span.{Span}
 use Rattle.alm_parse.specs.declared.args.Arg.{Arg}
 use Rattle.alm_parse.specs.declared.args.Arg.TheVariants as arg
 use Rattle.alm_parse.specs.declared.line.Line36.{Line36}
-use Rattle.obj36.specs.declared.section.Section.{Section}
-use Rattle.obj36.specs.declared.section.Section.TheVariants.{Linkage}
-use Rattle.obj36.specs.Fields.{RelocFields}
-use Rattle.alm_asm.specs.Sums.{kind_of}
-use Rattle.alm_asm.specs.Arguments.{first_arg, second_arg, terms_in}
-use Rattle.alm_asm.specs.Spots.{place, below}
-use Rattle.alm_asm.specs.Expressions.{sum_of}
+use Rattle.obj36_parts.specs.declared.section.Section.{Section}
+use Rattle.obj36_parts.specs.declared.section.Section.TheVariants.{Linkage}
+use Rattle.obj36_parts.specs.Fields.{RelocFields}
+use Rattle.alm_lines.specs.Sums.{kind_of}
+use Rattle.alm_lines.specs.Arguments.{first_arg, second_arg, terms_in}
+use Rattle.alm_lines.specs.Spots.{place, below}
+use Rattle.alm_lines.specs.Expressions.{sum_of}
 use Rattle.alm_asm.specs.Words.{same_section}
-use Rattle.alm_asm.specs.declared.sum.Sum.{Sum}
-use Rattle.alm_asm.specs.declared.sum.Kind.{Kind}
-use Rattle.alm_asm.specs.declared.sum.Kind.TheVariants.{Absolute, Moved, Unsaid}
-use Rattle.alm_asm.specs.declared.spot.Spot.{Spot}
+use Rattle.alm_lines.specs.declared.sum.Sum.{Sum}
+use Rattle.alm_lines.specs.declared.sum.Kind.{Kind}
+use Rattle.alm_lines.specs.declared.sum.Kind.TheVariants.{Absolute, Moved, Unsaid}
+use Rattle.alm_lines.specs.declared.spot.Spot.{Spot}
 use Rattle.alm_parse.specs.declared.deed.Deed.{Deed}
 use Rattle.alm_parse.specs.declared.deed.Deed.TheVariants as deed
 
--- the relocation of a part of the word at a spot: 0 its left half, 1 its right half, 2 its bits 3 to 17
+-- the relocation of a part of the word at a spot: 0 its left half, 1 its right half, 2 its bits 3
+-- to 17
 abbrev pub mark : Spot → ℕ → Kind → List RelocFields
 mark spot part Absolute = []
 mark spot part (Moved target) =
-    record { section = spot.section; offset = place spot % 2 ^ 18; part = part; target = target } ∷ []
+    record {
+      section = spot.section;
+      offset = place spot % 2 ^ 18;
+      part = part;
+      target = target;
+    } ∷ []
 mark spot part Unsaid = []
 
 -- the part that an operand stands in, and what it is
@@ -46,26 +53,34 @@ operand_mark text symbols spot (Some (arg.Operand pr segment entry terms tag)) =
 operand_mark text symbols spot None = []
 
 -- the relocations with those of a line's word
-abbrev pub marks_by : List ℕ → List (List ℕ × Sum) → Spot → List RelocFields → List Arg → Deed → List RelocFields
+abbrev pub marks_by : List ℕ → List (List ℕ × Sum) → Spot → List RelocFields → List Arg → Deed
+    → List RelocFields
 marks_by text symbols spot marks arguments deed.Nothing = marks
-marks_by text symbols spot marks arguments (deed.Instruction code bit27) = marks ++ operand_mark text symbols spot (first_arg arguments)
+marks_by text symbols spot marks arguments (deed.Instruction code bit27) =
+    marks ++ operand_mark text symbols spot (first_arg arguments)
 marks_by text symbols spot marks arguments deed.Entry = marks
 marks_by text symbols spot marks arguments deed.Segdef = marks
 marks_by text symbols spot marks arguments deed.Equ = marks
 marks_by text symbols spot marks arguments deed.Use = marks
 marks_by text symbols spot marks arguments deed.Words = marks
 marks_by text symbols spot marks arguments deed.Zero =
-    marks ++ mark spot 0 (kind_of (sum_of text symbols spot (terms_in (first_arg arguments)))) ++ mark spot 1 (kind_of (sum_of text symbols spot (terms_in (second_arg arguments))))
+    marks ++ mark spot 0 (kind_of (sum_of text symbols spot (terms_in (first_arg arguments))))
+    ++ mark spot 1 (kind_of (sum_of text symbols spot (terms_in (second_arg arguments))))
 marks_by text symbols spot marks arguments deed.Block = marks
 marks_by text symbols spot marks arguments deed.Even = marks
 marks_by text symbols spot marks arguments deed.Bound = marks
 
-unfoldable pub marks_after : List ℕ → List (List ℕ × Sum) → Section → List RelocFields → Spot → Line36 → List RelocFields
+unfoldable pub marks_after : List ℕ → List (List ℕ × Sum) → Section → List RelocFields → Spot
+    → Line36 → List RelocFields
 marks_after text symbols section marks spot line =
-    if same_section spot.section section then marks_by text symbols spot marks line.args line.deed else marks
+    if same_section spot.section section
+    then marks_by text symbols spot marks line.args line.deed
+    else marks
 
 -- the relocations of the lines in a section, behind those so far
-unfoldable pub marks_from : List ℕ → List (List ℕ × Sum) → Section → List RelocFields → Spot → List Line36 → List RelocFields
+unfoldable pub marks_from : List ℕ → List (List ℕ × Sum) → Section → List RelocFields → Spot
+    → List Line36 → List RelocFields
 marks_from text symbols section marks spot [] = marks
 marks_from text symbols section marks spot (line ∷ lines) =
-    marks_from text symbols section (marks_after text symbols section marks spot line) (below text spot line) lines
+    marks_from text symbols section (marks_after text symbols section marks spot line)
+    (below text spot line) lines

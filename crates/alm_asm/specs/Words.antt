@@ -7,14 +7,14 @@ use Rattle.alm_parse.specs.declared.args.Arg.TheVariants as arg
 use Rattle.alm_parse.specs.declared.line.Line36.{Line36}
 use Rattle.m36_inst.specs.Fields.{InstFields}
 use Rattle.m36_inst.specs.Instruction.{inst_word}
-use Rattle.obj36.specs.declared.section.Section.{Section}
-use Rattle.obj36.specs.ObjectSegment.{place_number}
-use Rattle.alm_asm.specs.Sums.{half_of, offset_of}
-use Rattle.alm_asm.specs.Arguments.{first_arg, second_arg, terms_in, number_in, words_of_args}
-use Rattle.alm_asm.specs.Spots.{place, below}
-use Rattle.alm_asm.specs.Expressions.{sum_of}
+use Rattle.obj36_parts.specs.declared.section.Section.{Section}
+use Rattle.obj36_parts.specs.ObjectSegment.{place_number}
+use Rattle.alm_lines.specs.Sums.{half_of, offset_of}
+use Rattle.alm_lines.specs.Arguments.{first_arg, second_arg, terms_in, number_in, words_of_args}
+use Rattle.alm_lines.specs.Spots.{place, below}
+use Rattle.alm_lines.specs.Expressions.{sum_of}
 use Rattle.alm_asm.specs.Links.{link_of, link_place}
-use Rattle.alm_asm.specs.declared.spot.Spot.{Spot}
+use Rattle.alm_lines.specs.declared.spot.Spot.{Spot}
 use Rattle.alm_asm.specs.declared.tables.Tables.{Tables}
 use Rattle.alm_parse.specs.declared.deed.Deed.{Deed}
 use Rattle.alm_parse.specs.declared.deed.Deed.TheVariants as deed
@@ -24,43 +24,65 @@ use Rattle.alm_parse.specs.declared.deed.Deed.TheVariants as deed
 -- an instruction with an address, and one with an offset behind a pointer register
 abbrev pub plain_inst : ℕ → Bool → ℕ → ℕ → InstFields
 plain_inst code bit27 y tag =
-    record { y = y; code = code % 2 ^ 9; bit27 = bit27; inhibit = false; by_pr = false; tag = tag % 2 ^ 6 }
+    record {
+      y = y;
+      code = code % 2 ^ 9;
+      bit27 = bit27;
+      inhibit = false;
+      by_pr = false;
+      tag = tag % 2 ^ 6;
+    }
 
 abbrev pub pointed_inst : ℕ → Bool → ℕ → ℕ → ℕ → InstFields
 pointed_inst code bit27 pr offset tag =
-    record { y = pr % 2 ^ 3 * 2 ^ 15 + offset; code = code % 2 ^ 9; bit27 = bit27; inhibit = false; by_pr = true; tag = tag % 2 ^ 6 }
+    record {
+      y = pr % 2 ^ 3 * 2 ^ 15 + offset;
+      code = code % 2 ^ 9;
+      bit27 = bit27;
+      inhibit = false;
+      by_pr = true;
+      tag = tag % 2 ^ 6;
+    }
 
 abbrev pub own_inst : ℕ → Bool → Option ℕ → ℕ → ℕ → ℕ → InstFields
 own_inst code bit27 (Some pr) y offset tag = pointed_inst code bit27 pr offset tag
 own_inst code bit27 None y offset tag = plain_inst code bit27 y tag
 
 -- An external operand is `pr4|link,*`: tag 20 in octal.
-abbrev pub inst_by : List ℕ → Tables → Spot → ℕ → Bool → Option ℕ → Option Span → Option Span → List Term → ℕ → InstFields
+abbrev pub inst_by : List ℕ → Tables → Spot → ℕ → Bool → Option ℕ → Option Span → Option Span
+    → List Term → ℕ → InstFields
 inst_by text tables spot code bit27 pr (Some segment) entry terms tag =
-    pointed_inst code bit27 4 (link_place tables.links tables.first_link (link_of text tables.symbols spot segment entry terms tag) % 2 ^ 15) 16
+    pointed_inst code bit27 4
+    (link_place tables.links tables.first_link
+    (link_of text tables.symbols spot segment entry terms tag) % 2 ^ 15) 16
 inst_by text tables spot code bit27 pr None entry terms tag =
-    own_inst code bit27 pr (half_of (sum_of text tables.symbols spot terms).value) (offset_of (sum_of text tables.symbols spot terms).value) tag
+    own_inst code bit27 pr (half_of (sum_of text tables.symbols spot terms).value)
+    (offset_of (sum_of text tables.symbols spot terms).value) tag
 
 abbrev pub inst_in : List ℕ → Tables → Spot → ℕ → Bool → Option Arg → InstFields
 inst_in text tables spot code bit27 (Some (arg.Symbol span)) = plain_inst code bit27 0 0
 inst_in text tables spot code bit27 (Some (arg.Number word)) = plain_inst code bit27 0 0
 inst_in text tables spot code bit27 (Some (arg.Chars words)) = plain_inst code bit27 0 0
 inst_in text tables spot code bit27 (Some (arg.Plain terms)) = plain_inst code bit27 0 0
-inst_in text tables spot code bit27 (Some (arg.Operand pr segment entry terms tag)) = inst_by text tables spot code bit27 pr segment entry terms tag
+inst_in text tables spot code bit27 (Some (arg.Operand pr segment entry terms tag)) =
+    inst_by text tables spot code bit27 pr segment entry terms tag
 inst_in text tables spot code bit27 None = plain_inst code bit27 0 0
 
 -- ---- the words of a line
 
 unfoldable pub instruction_word : List ℕ → Tables → Spot → ℕ → Bool → List Arg → ℕ
-instruction_word text tables spot code bit27 arguments = inst_word (inst_in text tables spot code bit27 (first_arg arguments))
+instruction_word text tables spot code bit27 arguments =
+    inst_word (inst_in text tables spot code bit27 (first_arg arguments))
 
 unfoldable pub halves_word : List ℕ → Tables → Spot → List Arg → ℕ
 halves_word text tables spot arguments =
-    half_of (sum_of text tables.symbols spot (terms_in (first_arg arguments))).value * 2 ^ 18 + half_of (sum_of text tables.symbols spot (terms_in (second_arg arguments))).value
+    half_of (sum_of text tables.symbols spot (terms_in (first_arg arguments))).value * 2 ^ 18
+    + half_of (sum_of text tables.symbols spot (terms_in (second_arg arguments))).value
 
 abbrev pub words_by : List ℕ → Tables → Spot → List Arg → Deed → List ℕ
 words_by text tables spot arguments deed.Nothing = []
-words_by text tables spot arguments (deed.Instruction code bit27) = instruction_word text tables spot code bit27 arguments ∷ []
+words_by text tables spot arguments (deed.Instruction code bit27) =
+    instruction_word text tables spot code bit27 arguments ∷ []
 words_by text tables spot arguments deed.Entry = []
 words_by text tables spot arguments deed.Segdef = []
 words_by text tables spot arguments deed.Equ = []
@@ -84,4 +106,5 @@ words_of_line text tables section spot line =
 unfoldable pub words_from : List ℕ → Tables → Section → List ℕ → Spot → List Line36 → List ℕ
 words_from text tables section words spot [] = words
 words_from text tables section words spot (line ∷ lines) =
-    words_from text tables section (words ++ words_of_line text tables section spot line) (below text spot line) lines
+    words_from text tables section (words ++ words_of_line text tables section spot line)
+    (below text spot line) lines

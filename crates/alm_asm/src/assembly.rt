@@ -1,12 +1,11 @@
 //! Objects of lines.
 
-ghost use Rattle.std.specs.Prelude.{ℕ, Bool, List, [], ◌∷◌, ◌≡◌, ◌+◌, ◌%◌, ◌^◌, ◌<◌, Option, None, IsTrue, OnOk, IfOk};
+ghost use Rattle.std.specs.Prelude.{ℕ, Bool, List, [], ◌∷◌, ◌≡◌, ◌+◌, ◌%◌, ◌^◌, ◌<◌, Option, None, OnOk, IfOk};
 ghost use Rattle.alm_parse.specs.Sources.{ParseSays};
-ghost use Rattle.alm_asm.specs.Spots.{start};
-ghost use Rattle.obj36.specs.declared.section.Section.TheVariants.{Text};
-ghost use Rattle.obj36.specs.ObjectSegment.{is_well_formed};
-ghost use Rattle.obj36.specs.Sizes.{HasShortLists};
-ghost use Rattle.alm_asm.specs.Layout.{layout_refusal};
+ghost use Rattle.alm_lines.specs.Spots.{start};
+ghost use Rattle.obj36_parts.specs.declared.section.Section.TheVariants.{Text};
+ghost use Rattle.obj36_parts.specs.ObjectSegment.{is_well_formed};
+ghost use Rattle.alm_lines.specs.Layout.{layout_refusal};
 ghost use Rattle.alm_asm.specs.Words.{words_from};
 ghost use Rattle.alm_asm.specs.Marks.{marks_from};
 ghost use Rattle.alm_asm.specs.Assembles.{Assembles};
@@ -14,15 +13,15 @@ ghost use Rattle.alm_asm.specs.Assembly.{made, first_link, tables_of, bound_by, 
 
 use crate::definitions::definitions_of;
 use crate::growth::growth_refusal;
-use crate::layout::layout_of;
 use crate::line_refusal::lines_refusal;
 use crate::links::links_of;
 use crate::marks::push_marks_in;
-use crate::refusal::{Refusal, fault_of, sooner};
-use crate::spot::{Spot, below, end_of};
-use crate::sum::plus;
 use crate::tables::Tables;
 use crate::words::words_in;
+use alm_lines::layout::layout_of;
+use alm_lines::refusal::{Refusal, fault_of, sooner};
+use alm_lines::spot::{Spot, below, end_of};
+use alm_lines::sum::plus;
 use alm_parse::{AlmFault, Deed, Line36, Lines36};
 use m36_word::{NoMemory, Word, Words};
 use obj36::{Object, Parts, Relocs, Section};
@@ -47,7 +46,8 @@ struct Found {
 #[tactic(auto, unfolding(crate::specs::Assembly::tables_of))]
 fn found_in(alloc: Global, text: &[u8], lines: &[Line36]) -> Result<Found, NoMemory>
     ensures tables { IfOk result (λ found. found.tables ≡ tables_of text.now lines.now) }
-    ensures refused { IfOk result (λ found. found.refused ≡ layout_refusal text.now None [] start lines.now) }
+    ensures refused { IfOk result (λ found.
+        found.refused ≡ layout_refusal text.now None [] start lines.now) }
 {
     let layout = layout_of(alloc, text, lines)?;
     let links = links_of(alloc, text, &layout.symbols, lines)?;
@@ -135,7 +135,10 @@ fn statics_of(
     tables: &Tables,
     lines: &[Line36],
 ) -> Result<Words, NoMemory>
-    ensures { IfOk result (λ words. words ≡ evened tables.now.uses_outer (words_from text.now tables.now (static_section tables.now.uses_outer) [] start lines.now)) }
+    ensures { IfOk result (λ words.
+        words
+        ≡ evened tables.now.uses_outer
+        (words_from text.now tables.now (static_section tables.now.uses_outer) [] start lines.now)) }
 {
     let section = static_section(tables.uses_outer);
     let mut words = words_in(alloc, text, tables, section, lines)?;
@@ -149,7 +152,10 @@ fn relocations_of(
     tables: &Tables,
     lines: &[Line36],
 ) -> Result<Relocs, NoMemory>
-    ensures { IfOk result (λ marks. marks ≡ marks_from text.now tables.now.symbols (static_section tables.now.uses_outer) (marks_from text.now tables.now.symbols Text [] start lines.now) start lines.now) }
+    ensures { IfOk result (λ marks.
+        marks
+        ≡ marks_from text.now tables.now.symbols (static_section tables.now.uses_outer)
+        (marks_from text.now tables.now.symbols Text [] start lines.now) start lines.now) }
 {
     let mut marks = Relocs::new(alloc);
     let section = static_section(tables.uses_outer);
@@ -205,24 +211,12 @@ fn last_line(lines: &[Line36]) -> u32
     number
 }
 
-// Whether each list has fewer than 2^32 members.
-fn has_short_lists(parts: &Parts) -> bool
-    ensures short { IsTrue result → HasShortLists parts.now }
-    ensures long { HasShortLists parts.now → IsTrue result }
-{
-    parts.text.slice().len() < 1 << 32
-        && parts.statics.slice().len() < 1 << 32
-        && parts.definitions.items().len() < 1 << 32
-        && parts.links.items().len() < 1 << 32
-        && parts.relocations.items().len() < 1 << 32
-}
-
 // Whether some list of words stands for parts.
 #[tactic(auto, using(crate::proofs::AssemblyLaws::long_is_none))]
 fn is_object(parts: &Parts) -> bool
     ensures { result ≡ is_well_formed parts.now }
 {
-    if !has_short_lists(parts) {
+    if !parts.has_short_lists() {
         return false;
     }
     parts.is_well_formed()

@@ -2,14 +2,14 @@
 
 ghost use Rattle.std.specs.Prelude.{ℕ, Bool, List, [], ◌∷◌, ◌++◌, ◌≡◌, Option, OnOk, IfOk};
 ghost use Rattle.std.specs.List.{list_any};
-ghost use Rattle.alm_asm.specs.Symbols.{same_name};
+ghost use Rattle.alm_lines.specs.Symbols.{same_name};
 ghost use Rattle.alm_asm.specs.Definitions.{section_of, named, named_by, with_names, gives_entries, definitions_by, definitions_after, definitions_from, is_taken, is_label_kind, is_label, sum_refusal, name_refusal, arg_refusal, names_refused, definitions_refused};
 
-use crate::arguments::name_at;
-use crate::expression::symbol_sum;
-use crate::refusal::{Code, Refusal, Room, has_room, refusal_at, sooner};
-use crate::sum::{Kind, Sum};
-use crate::symbols::Symbols;
+use alm_lines::arguments::name_at;
+use alm_lines::expression::symbol_sum;
+use alm_lines::refusal::{Code, Refusal, Room, has_room, refusal_at, sooner};
+use alm_lines::sum::{Kind, Sum};
+use alm_lines::symbols::Symbols;
 use alm_parse::{Arg, Deed, Line36, Span};
 use m36_text::Name;
 use m36_word::NoMemory;
@@ -73,19 +73,11 @@ pub fn gives_entries(deed: Deed) -> Option<bool>
     }
 }
 
-fn is_named(definition: &Named, name: &[u8]) -> bool
-    ensures { result ≡ same_name name.now definition.now.name }
-{
-    name == definition.name.bytes()
-}
-
 #[tactic(auto, unfolding(crate::specs::Definitions::is_taken))]
 fn is_taken(done: &Defs, name: &Name) -> bool
     ensures { result ≡ is_taken done.now name.now }
 {
-    done.items()
-        .iter()
-        .any(|definition| is_named(definition, name.bytes()))
+    done.has(name)
 }
 
 fn is_label_kind(is_entry: bool, kind: Kind) -> bool
@@ -165,8 +157,10 @@ fn push_names(
     refused: Option<Refusal>,
     done: &mut Defs,
 ) -> Result<Option<Refusal>, NoMemory>
-    ensures definitions { OnOk result (done.new ≡ with_names text.now symbols.now is_entry done.old line.now.args) }
-    ensures refused { IfOk result (λ r. r ≡ names_refused text.now symbols.now line.now is_entry done.old refused line.now.args) }
+    ensures definitions { OnOk result
+        (done.new ≡ with_names text.now symbols.now is_entry done.old line.now.args) }
+    ensures refused { IfOk result (λ r.
+        r ≡ names_refused text.now symbols.now line.now is_entry done.old refused line.now.args) }
 {
     let mut first = refused;
     let mut rest = line.args.items();
@@ -188,8 +182,12 @@ pub fn push_definitions(
     refused: Option<Refusal>,
     done: &mut Defs,
 ) -> Result<Option<Refusal>, NoMemory>
-    ensures definitions { OnOk result (done.new ≡ definitions_after text.now symbols.now done.old line.now) }
-    ensures refused { IfOk result (λ r. r ≡ definitions_refused text.now symbols.now line.now done.old refused line.now.args (gives_entries line.now.deed)) }
+    ensures definitions { OnOk result
+        (done.new ≡ definitions_after text.now symbols.now done.old line.now) }
+    ensures refused { IfOk result (λ r.
+        r
+        ≡ definitions_refused text.now symbols.now line.now done.old refused line.now.args
+        (gives_entries line.now.deed)) }
 {
     match gives_entries(line.deed) {
         None => Ok(refused),

@@ -2,23 +2,23 @@
 
 ghost use Rattle.std.specs.Prelude.{ℕ, Bool, List, [], ◌∷◌, ◌++◌, ◌≡◌, ◌≤◌, length, if◌then◌else◌, Option, OnOk, IfOk};
 ghost use Rattle.std.specs.List.{list_any};
-ghost use Rattle.alm_asm.specs.Arguments.{first_arg};
-ghost use Rattle.alm_asm.specs.Spots.{start};
+ghost use Rattle.alm_lines.specs.Arguments.{first_arg};
+ghost use Rattle.alm_lines.specs.Spots.{start};
 ghost use Rattle.alm_asm.specs.Links.{operand_args};
 ghost use Rattle.alm_asm.specs.Definitions.{gives_entries};
 ghost use Rattle.alm_asm.specs.Growth.{at_first, with_name, with_names, with_definition, with_unrefused, with_arg, with_args, with_definitions, with_new_link, with_link_once, with_operand, with_link, mark_count, operand_room, is_own, operand_count, half_count, marks_count, with_marks, grown_by, is_over, growth_refusal};
-ghost use Rattle.obj36.specs.ObjectSegment.{has_name, has_entry};
+ghost use Rattle.obj36_parts.specs.ObjectSegment.{has_name, has_entry};
 
-use crate::arguments::{first_terms, name_at, second_terms};
 use crate::definitions::{gives_entries, sum_refusal};
-use crate::expression::sum_of;
 use crate::line_refusal::own_room;
-use crate::links::{is_among, link_of, operand_args};
+use crate::links::{link_of, operand_args};
 use crate::marks::operand_kind;
-use crate::refusal::{Code, Refusal, Room, has_value, is_over_limit, refusal_at};
-use crate::spot::{Spot, below};
-use crate::sum::{Kind, absolute, plus};
-use crate::symbols::Symbols;
+use alm_lines::arguments::{first_terms, name_at, second_terms};
+use alm_lines::expression::sum_of;
+use alm_lines::refusal::{Code, Refusal, Room, has_value, is_over_limit, refusal_at};
+use alm_lines::spot::{Spot, below};
+use alm_lines::sum::{Kind, absolute, plus};
+use alm_lines::symbols::Symbols;
 use alm_parse::{Arg, Deed, Line36, Span, Term};
 use m36_text::Name;
 use m36_word::NoMemory;
@@ -49,7 +49,7 @@ impl Growth {
         }
     }
 
-    #[tactic(auto, unfolding(crate::specs::Growth::with_name, obj36::specs::Names::name_length))]
+    #[tactic(auto, unfolding(crate::specs::Growth::with_name, obj36_parts::specs::Names::name_length))]
     fn add_name(&mut self, name: Name) -> Result<(), NoMemory>
         ensures { OnOk result (self.new ≡ with_name self.old name) }
     {
@@ -83,7 +83,7 @@ impl Growth {
         self.add_name(name)
     }
 
-    #[tactic(auto, using(crate::proofs::GrowthLaws::names_then), unfolding(crate::specs::Growth::with_new_link, obj36::specs::ObjectSegment::link_names, obj36::specs::ObjectSegment::name_used, obj36::specs::ObjectSegment::entry_used))]
+    #[tactic(auto, using(crate::proofs::GrowthLaws::names_then), unfolding(crate::specs::Growth::with_new_link, obj36_parts::specs::ObjectSegment::link_names, obj36_parts::specs::ObjectSegment::name_used, obj36_parts::specs::ObjectSegment::entry_used))]
     fn add_new_link(&mut self, link: Link) -> Result<(), NoMemory>
         ensures { OnOk result (self.new ≡ with_new_link self.old link) }
     {
@@ -100,7 +100,7 @@ impl Growth {
     fn add_link(&mut self, link: Link) -> Result<(), NoMemory>
         ensures { OnOk result (self.new ≡ with_link_once self.old link) }
     {
-        if is_among(&self.links, &link) {
+        if self.links.has(&link) {
             return Ok(());
         }
         self.add_new_link(link)
@@ -137,7 +137,8 @@ fn take_arg(
     growth: &mut Growth,
     arg: &Arg,
 ) -> Result<(), NoMemory>
-    ensures { OnOk result (growth.new ≡ with_arg text.now symbols.now line.now is_entry growth.old arg.now) }
+    ensures { OnOk result
+        (growth.new ≡ with_arg text.now symbols.now line.now is_entry growth.old arg.now) }
 {
     match arg {
         Arg::Symbol(span) => {
@@ -159,7 +160,8 @@ fn take_args(
     is_entry: bool,
     growth: &mut Growth,
 ) -> Result<(), NoMemory>
-    ensures { OnOk result (growth.new ≡ with_args text.now symbols.now line.now is_entry growth.old line.now.args) }
+    ensures { OnOk result
+        (growth.new ≡ with_args text.now symbols.now line.now is_entry growth.old line.now.args) }
 {
     let mut rest = line.args.items();
     while let [arg, more @ ..] = rest {
@@ -175,7 +177,9 @@ fn take_definitions(
     line: &Line36,
     growth: &mut Growth,
 ) -> Result<(), NoMemory>
-    ensures { OnOk result (growth.new ≡ with_definitions text.now symbols.now line.now growth.old (gives_entries line.now.deed)) }
+    ensures { OnOk result
+        (growth.new
+        ≡ with_definitions text.now symbols.now line.now growth.old (gives_entries line.now.deed)) }
 {
     match gives_entries(line.deed) {
         None => Ok(()),
@@ -193,7 +197,9 @@ fn take_external(
     terms: &[Term],
     tag: u8,
 ) -> Result<(), NoMemory>
-    ensures { OnOk result (growth.new ≡ with_operand text.now symbols.now spot growth.old (Option.Some segment) entry terms.now tag) }
+    ensures { OnOk result
+        (growth.new
+        ≡ with_operand text.now symbols.now spot growth.old (Option.Some segment) entry terms.now tag) }
 {
     if !has_value(text, symbols, spot, terms, Room::Half, false)? {
         return Ok(());
@@ -209,7 +215,10 @@ fn take_link(
     line: &Line36,
     growth: &mut Growth,
 ) -> Result<(), NoMemory>
-    ensures { OnOk result (growth.new ≡ with_link text.now symbols.now spot growth.old (first_arg (operand_args line.now.deed line.now.args))) }
+    ensures { OnOk result
+        (growth.new
+        ≡ with_link text.now symbols.now spot growth.old
+        (first_arg (operand_args line.now.deed line.now.args))) }
 {
     match operand_args(line.deed, line.args.items()) {
         [
@@ -258,7 +267,8 @@ fn is_own(segment: Option<Span>) -> bool
 }
 
 fn operand_count(text: &[u8], symbols: &Symbols, spot: Spot, args: &[Arg]) -> Result<u64, NoMemory>
-    ensures value { IfOk result (λ n. n ≡ operand_count text.now symbols.now spot (first_arg args.now)) }
+    ensures value { IfOk result (λ n.
+        n ≡ operand_count text.now symbols.now spot (first_arg args.now)) }
     ensures bound { IfOk result (λ n. n ≤ 1) }
 {
     match args {
@@ -292,7 +302,8 @@ fn half_count(text: &[u8], symbols: &Symbols, spot: Spot, terms: &[Term]) -> Res
 }
 
 fn marks_count(text: &[u8], symbols: &Symbols, spot: Spot, line: &Line36) -> Result<u64, NoMemory>
-    ensures value { IfOk result (λ n. n ≡ marks_count text.now symbols.now spot line.now.args line.now.deed) }
+    ensures value { IfOk result (λ n.
+        n ≡ marks_count text.now symbols.now spot line.now.args line.now.deed) }
     ensures bound { IfOk result (λ n. n ≤ 2) }
 {
     let args = line.args.items();

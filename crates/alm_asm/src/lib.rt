@@ -12,23 +12,17 @@
 //! Source: the language is this project's own; its instructions are those of the Multics Processor Manual AL39.
 #![tactic(auto)]
 
-pub mod arguments;
 pub mod assembly;
 pub mod definitions;
-pub mod expression;
 pub mod growth;
 pub mod laws;
-pub mod layout;
 pub mod line_refusal;
 pub mod links;
 pub mod marks;
-pub mod refusal;
-pub mod spot;
-pub mod sum;
-pub mod symbols;
 pub mod tables;
 pub mod words;
 
+pub use alm_lines::{arguments, expression, layout, refusal, spot, sum, symbols};
 pub use assembly::assemble;
 pub use laws::assembly_laws;
 

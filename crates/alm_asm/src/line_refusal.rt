@@ -1,21 +1,21 @@
 //! What is refused of lines whose symbols are known.
 
 ghost use Rattle.std.specs.Prelude.{ℕ, Bool, List, [], ◌∷◌, ◌≡◌, ◌+◌, ◌<◌, Option, OnOk, IfOk};
-ghost use Rattle.alm_asm.specs.Arguments.{first_arg};
-ghost use Rattle.alm_asm.specs.Spots.{start};
+ghost use Rattle.alm_lines.specs.Arguments.{first_arg};
+ghost use Rattle.alm_lines.specs.Spots.{start};
 ghost use Rattle.alm_asm.specs.Definitions.{definitions_after};
 ghost use Rattle.alm_asm.specs.LineRefusals.{unless, op_place, external_place, needs_static, may_name, is_in_reach, own_room, link_expression, reaches, external_refusal, own_operand, operand_refusal, is_text_section, may_enter, instruction_refusal, use_refusal, halves_refusal, refusal_of_deed, line_refusal, lines_refusal};
 
-use crate::arguments::{first_symbol, first_terms, second_terms, section_in};
 use crate::definitions::push_definitions;
-use crate::expression::expression_place;
 use crate::links::{link_of, link_place, own_section};
-use crate::refusal::{
+use crate::tables::Tables;
+use alm_lines::arguments::{first_symbol, first_terms, second_terms, section_in};
+use alm_lines::expression::expression_place;
+use alm_lines::refusal::{
     Code, Refusal, Room, Wanted, expression_refusal, has_value, refusal_at, sooner,
 };
-use crate::spot::{Spot, below};
-use crate::symbols::Symbols;
-use crate::tables::Tables;
+use alm_lines::spot::{Spot, below};
+use alm_lines::symbols::Symbols;
 use alm_parse::{Arg, Deed, Line36, Span, Term};
 use m36_word::NoMemory;
 use obj36::{Defs, Section};
@@ -70,7 +70,8 @@ fn is_in_reach(
     terms: &[Term],
     tag: u8,
 ) -> Result<bool, NoMemory>
-    ensures { IfOk result (λ b. b ≡ is_in_reach text.now tables.now spot segment entry terms.now tag) }
+    ensures { IfOk result (λ b.
+        b ≡ is_in_reach text.now tables.now spot segment entry terms.now tag) }
 {
     let link = link_of(text, &tables.symbols, spot, segment, entry, terms, tag)?;
     let place = link_place(&tables.links, tables.first_link, &link)?;
@@ -96,7 +97,8 @@ fn link_expression_refusal(
     entry: Option<Span>,
     terms: &[Term],
 ) -> Result<Option<Refusal>, NoMemory>
-    ensures { IfOk result (λ r. r ≡ link_expression text.now symbols.now spot line.now segment entry terms.now) }
+    ensures { IfOk result (λ r.
+        r ≡ link_expression text.now symbols.now spot line.now segment entry terms.now) }
 {
     let wanted = Wanted {
         place: external_place(segment, entry),
@@ -134,7 +136,8 @@ fn external_refusal(
     terms: &[Term],
     tag: u8,
 ) -> Result<Option<Refusal>, NoMemory>
-    ensures { IfOk result (λ r. r ≡ external_refusal text.now tables.now spot line.now segment entry terms.now tag) }
+    ensures { IfOk result (λ r.
+        r ≡ external_refusal text.now tables.now spot line.now segment entry terms.now tag) }
 {
     let at = refusal_at(line, segment.from as u64, Code::E7);
     let expression = link_expression_refusal(
@@ -175,7 +178,8 @@ fn operand_refusal(
     spot: Spot,
     line: &Line36,
 ) -> Result<Option<Refusal>, NoMemory>
-    ensures { IfOk result (λ r. r ≡ operand_refusal text.now tables.now spot line.now (first_arg line.now.args)) }
+    ensures { IfOk result (λ r.
+        r ≡ operand_refusal text.now tables.now spot line.now (first_arg line.now.args)) }
 {
     match line.args.items() {
         [
@@ -284,8 +288,10 @@ fn take_line(
     line: &Line36,
     done: &mut Defs,
 ) -> Result<Option<Refusal>, NoMemory>
-    ensures definitions { OnOk result (done.new ≡ definitions_after text.now tables.now.symbols done.old line.now) }
-    ensures refused { IfOk result (λ r. r ≡ line_refusal text.now tables.now done.old spot line.now) }
+    ensures definitions { OnOk result
+        (done.new ≡ definitions_after text.now tables.now.symbols done.old line.now) }
+    ensures refused { IfOk result (λ r.
+        r ≡ line_refusal text.now tables.now done.old spot line.now) }
 {
     let names = push_definitions(text, &tables.symbols, line, None, done)?;
     let own = refusal_of_deed(text, tables, spot, line, line.deed)?;

@@ -2,19 +2,20 @@
 
 ghost use Rattle.std.specs.Prelude.{ℕ, List, [], ◌∷◌, ◌++◌, ◌≡◌, Option, OnOk, IfOk};
 ghost use Rattle.std.specs.List.{list_any, position};
-ghost use Rattle.alm_asm.specs.Arguments.{first_arg};
-ghost use Rattle.alm_asm.specs.Spots.{start};
-ghost use Rattle.obj36.specs.ObjectSegment.{place_number};
+ghost use Rattle.alm_lines.specs.Arguments.{first_arg};
+ghost use Rattle.alm_lines.specs.Spots.{start};
+ghost use Rattle.obj36_parts.specs.ObjectSegment.{place_number};
 ghost use Rattle.alm_parse.specs.Tokens.{slice_of};
-ghost use Rattle.alm_asm.specs.Arguments.{name_at};
+ghost use Rattle.alm_lines.specs.Arguments.{name_at};
 ghost use Rattle.alm_asm.specs.Words.{same_section};
-ghost use Rattle.alm_asm.specs.Links.{own_section, link_kind, link_section, link_name, entry_name, link_of, operand_args, link_by, link_in, same_link, with_link, links_after, links_from, link_place};
+ghost use Rattle.alm_asm.specs.Links.{own_section, link_kind, link_section, link_name, entry_name, link_of, operand_args, link_by, link_in, with_link, links_after, links_from, link_place};
+ghost use Rattle.obj36_parts.specs.Indexes.{same_link};
 
-use crate::arguments::name_at;
-use crate::expression::sum_of;
-use crate::spot::{Spot, below};
-use crate::sum::plus;
-use crate::symbols::Symbols;
+use alm_lines::arguments::name_at;
+use alm_lines::expression::sum_of;
+use alm_lines::spot::{Spot, below};
+use alm_lines::sum::plus;
+use alm_lines::symbols::Symbols;
 use alm_parse::span::bytes_of;
 use alm_parse::{Arg, Deed, Line36, Span, Term};
 use m36_text::Name;
@@ -94,7 +95,8 @@ pub fn link_of(
     terms: &[Term],
     tag: u8,
 ) -> Result<Link, NoMemory>
-    ensures { IfOk result (λ link. link ≡ link_of text.now symbols.now spot segment entry terms.now tag) }
+    ensures { IfOk result (λ link.
+        link ≡ link_of text.now symbols.now spot segment entry terms.now tag) }
 {
     let own = own_section(text, segment);
     let sum = sum_of(text, symbols, spot, terms)?;
@@ -171,32 +173,13 @@ pub fn same_section(a: Section, b: Section) -> bool
     section_number(a) == section_number(b)
 }
 
-#[tactic(auto, unfolding(crate::specs::Links::same_link))]
-fn same_link(a: &Link, b: &Link) -> bool
-    ensures { result ≡ same_link a.now b.now }
-{
-    a.kind == b.kind
-        && same_section(a.section, b.section)
-        && a.name == b.name
-        && a.entry == b.entry
-        && a.expr == b.expr
-        && a.modifier == b.modifier
-}
-
-/// Whether a link is among those so far.
-pub fn is_among(links: &Links, link: &Link) -> bool
-    ensures { result ≡ list_any (same_link link.now) links.now }
-{
-    links.items().iter().any(|other| same_link(link, other))
-}
-
 fn add_link(links: &mut Links, link: Option<Link>) -> Result<(), NoMemory>
     ensures { OnOk result (links.new ≡ with_link links.old link) }
 {
     match link {
         None => Ok(()),
         Some(link) => {
-            if is_among(links, &link) {
+            if links.has(&link) {
                 return Ok(());
             }
             links.push(link)
@@ -240,20 +223,11 @@ pub fn links_of(
     Ok(links)
 }
 
-fn index_of(links: &Links, link: &Link) -> Option<usize>
-    ensures { result ≡ position (same_link link.now) links.now }
-{
-    links
-        .items()
-        .iter()
-        .position(|other| same_link(link, other))
-}
-
 /// The offset of a link in the linkage section, whose links begin at a place.
 #[tactic(auto, unfolding(crate::specs::Links::link_place))]
 pub fn link_place(links: &Links, first: u64, link: &Link) -> Result<u64, NoMemory>
     ensures { IfOk result (λ at. at ≡ link_place links.now first link.now) }
 {
-    let index = index_of(links, link).unwrap_or(0) as u64;
+    let index = links.place(link).unwrap_or(0);
     plus(first, plus(index, index)?)
 }

@@ -1,17 +1,17 @@
 //! Relocations: the parts of words whose expressions are places of a section, and the offsets of links.
 
 ghost use Rattle.std.specs.Prelude.{ℕ, List, [], ◌∷◌, ◌++◌, ◌≡◌, ◌%◌, ◌^◌, Option, OnOk, IfOk};
-ghost use Rattle.alm_asm.specs.Arguments.{first_arg};
-ghost use Rattle.alm_asm.specs.Spots.{start};
+ghost use Rattle.alm_lines.specs.Arguments.{first_arg};
+ghost use Rattle.alm_lines.specs.Spots.{start};
 ghost use Rattle.alm_parse.specs.declared.deed.Deed.TheVariants as deed;
 ghost use Rattle.alm_asm.specs.Marks.{mark, operand_part, operand_kind, operand_mark, marks_by, marks_after, marks_from};
 
-use crate::arguments::{first_terms, second_terms};
-use crate::expression::sum_of;
 use crate::links::same_section;
-use crate::spot::{Spot, below};
-use crate::sum::{Kind, Sum};
-use crate::symbols::Symbols;
+use alm_lines::arguments::{first_terms, second_terms};
+use alm_lines::expression::sum_of;
+use alm_lines::spot::{Spot, below};
+use alm_lines::sum::{Kind, Sum};
+use alm_lines::symbols::Symbols;
 use alm_parse::{Arg, Deed, Line36, Span};
 use m36_word::NoMemory;
 use obj36::{Reloc, Relocs, Section};
@@ -59,7 +59,8 @@ fn push_operand(
     args: &[Arg],
     marks: &mut Relocs,
 ) -> Result<(), NoMemory>
-    ensures { OnOk result (marks.new ≡ marks.old ++ operand_mark text.now symbols.now spot (first_arg args.now)) }
+    ensures { OnOk result
+        (marks.new ≡ marks.old ++ operand_mark text.now symbols.now spot (first_arg args.now)) }
 {
     match args {
         [
@@ -87,7 +88,8 @@ fn push_halves(
     args: &[Arg],
     marks: &mut Relocs,
 ) -> Result<(), NoMemory>
-    ensures { OnOk result (marks.new ≡ marks_by text.now symbols.now spot marks.old args.now deed.Zero) }
+    ensures { OnOk result
+        (marks.new ≡ marks_by text.now symbols.now spot marks.old args.now deed.Zero) }
 {
     let left = sum_of(text, symbols, spot, first_terms(args))?;
     let right = sum_of(text, symbols, spot, second_terms(args))?;
@@ -129,7 +131,8 @@ fn take_line(
     line: &Line36,
     marks: &mut Relocs,
 ) -> Result<(), NoMemory>
-    ensures { OnOk result (marks.new ≡ marks_after text.now symbols.now section marks.old spot line.now) }
+    ensures { OnOk result
+        (marks.new ≡ marks_after text.now symbols.now section marks.old spot line.now) }
 {
     if !same_section(spot.section, section) {
         return Ok(());
@@ -148,7 +151,8 @@ pub fn push_marks_in(
     lines: &[Line36],
     marks: &mut Relocs,
 ) -> Result<(), NoMemory>
-    ensures { OnOk result (marks.new ≡ marks_from text.now symbols.now section marks.old start lines.now) }
+    ensures { OnOk result
+        (marks.new ≡ marks_from text.now symbols.now section marks.old start lines.now) }
 {
     let mut spot = Spot::start();
     let mut rest = lines;

@@ -1,6 +1,6 @@
 //! What both passes over the lines have found before words are made.
 
-use crate::symbols::Symbols;
+use alm_lines::symbols::Symbols;
 use obj36::Links;
 
 /// The symbols and links of a source, where the first link stands in the linkage section, and whether the static words

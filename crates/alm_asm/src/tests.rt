@@ -147,9 +147,18 @@ fn refusals(rt: HostRuntime) {
         (b" equ a,b\nb: nop 0\n", AlmFault::E6(1, 8)),
         (b" lda 1+b-c\n", AlmFault::E6(1, 8)),
         (b" lda pr0|big-20000\n equ big,b\n", AlmFault::E6(2, 10)),
-        (b" equ big,b\n equ a,big-200000\n lda pr0|a+20000\n", AlmFault::E6(1, 10)),
-        (b" lda a$b+big-200000\n equ big,200000+100000\n", AlmFault::E7(2, 10)),
-        (b" zero big-200000,0-200000\n equ big,b\n", AlmFault::E7(1, 18)),
+        (
+            b" equ big,b\n equ a,big-200000\n lda pr0|a+20000\n",
+            AlmFault::E6(1, 10),
+        ),
+        (
+            b" lda a$b+big-200000\n equ big,200000+100000\n",
+            AlmFault::E7(2, 10),
+        ),
+        (
+            b" zero big-200000,0-200000\n equ big,b\n",
+            AlmFault::E7(1, 18),
+        ),
         (b" entry x\n", AlmFault::E6(1, 8)),
         (b" zero 0,b\n", AlmFault::E6(1, 9)),
         (b" lda a$b-5+x\n", AlmFault::E6(1, 12)),

@@ -1,18 +1,18 @@
 //! The words that lines place.
 
 ghost use Rattle.std.specs.Prelude.{ℕ, Bool, List, [], ◌∷◌, ◌++◌, ◌≡◌, ◌+◌, ◌*◌, ◌%◌, ◌^◌, ◌<◌, replicate, Option, OnOk, IfOk};
-ghost use Rattle.alm_asm.specs.Arguments.{first_arg, second_arg, terms_in};
-ghost use Rattle.alm_asm.specs.Spots.{start};
-ghost use Rattle.alm_asm.specs.Sums.{half_of, offset_of};
+ghost use Rattle.alm_lines.specs.Arguments.{first_arg, second_arg, terms_in};
+ghost use Rattle.alm_lines.specs.Spots.{start};
+ghost use Rattle.alm_lines.specs.Sums.{half_of, offset_of};
 ghost use Rattle.alm_asm.specs.Links.{link_of, link_place};
 ghost use Rattle.alm_asm.specs.Words.{plain_inst, pointed_inst, own_inst, inst_by, inst_in, instruction_word, halves_word, words_by, words_of_line, words_from};
 
-use crate::arguments::{first_terms, push_all, second_number, second_terms, words_of_args};
-use crate::expression::sum_of;
 use crate::links::{link_of, link_place, same_section};
-use crate::spot::{Spot, below};
-use crate::sum::{Balance, Sum};
 use crate::tables::Tables;
+use alm_lines::arguments::{first_terms, push_all, second_number, second_terms, words_of_args};
+use alm_lines::expression::sum_of;
+use alm_lines::spot::{Spot, below};
+use alm_lines::sum::{Balance, Sum};
 use alm_parse::{Arg, Deed, Line36, Span, Term};
 use m36_inst::Inst;
 use m36_word::{NoMemory, Word, Words};
@@ -56,7 +56,8 @@ fn pointed_inst(operation: Operation, pr: u8, offset: u64, tag: u8) -> Inst
 }
 
 fn own_inst(operation: Operation, pr: Option<u8>, sum: Sum, tag: u8) -> Inst
-    ensures { result ≡ own_inst operation.code operation.bit27 pr (half_of sum.value) (offset_of sum.value) tag }
+    ensures { result
+        ≡ own_inst operation.code operation.bit27 pr (half_of sum.value) (offset_of sum.value) tag }
 {
     match pr {
         Some(pr) => pointed_inst(operation, pr, sum.value.offset(), tag),
@@ -74,7 +75,11 @@ fn external_inst(
     terms: &[Term],
     tag: u8,
 ) -> Result<Inst, NoMemory>
-    ensures { IfOk result (λ i. i ≡ pointed_inst operation.code operation.bit27 4 (link_place tables.now.links tables.now.first_link (link_of text.now tables.now.symbols spot segment entry terms.now tag) % 2 ^ 15) 16) }
+    ensures { IfOk result (λ i.
+        i
+        ≡ pointed_inst operation.code operation.bit27 4
+        (link_place tables.now.links tables.now.first_link
+        (link_of text.now tables.now.symbols spot segment entry terms.now tag) % 2 ^ 15) 16) }
 {
     let link = link_of(text, &tables.symbols, spot, segment, entry, terms, tag)?;
     let place = link_place(&tables.links, tables.first_link, &link)?;
@@ -88,7 +93,8 @@ fn inst_in(
     operation: Operation,
     args: &[Arg],
 ) -> Result<Inst, NoMemory>
-    ensures { IfOk result (λ i. i ≡ inst_in text.now tables.now spot operation.code operation.bit27 (first_arg args.now)) }
+    ensures { IfOk result (λ i.
+        i ≡ inst_in text.now tables.now spot operation.code operation.bit27 (first_arg args.now)) }
 {
     match args {
         [
@@ -128,7 +134,8 @@ fn instruction_word(
     operation: Operation,
     args: &[Arg],
 ) -> Result<Word, NoMemory>
-    ensures { IfOk result (λ w. w ≡ instruction_word text.now tables.now spot operation.code operation.bit27 args.now) }
+    ensures { IfOk result (λ w.
+        w ≡ instruction_word text.now tables.now spot operation.code operation.bit27 args.now) }
 {
     Ok(inst_in(text, tables, spot, operation, args)?.to_word())
 }
@@ -167,7 +174,8 @@ fn push_words(
     deed: Deed,
     words: &mut Words,
 ) -> Result<(), NoMemory>
-    ensures { OnOk result (words.new ≡ words.old ++ words_by text.now tables.now spot args.now deed) }
+    ensures { OnOk result
+        (words.new ≡ words.old ++ words_by text.now tables.now spot args.now deed) }
 {
     match deed {
         Deed::Instruction(code, bit27) => {
@@ -192,7 +200,8 @@ fn take_line(
     line: &Line36,
     words: &mut Words,
 ) -> Result<(), NoMemory>
-    ensures { OnOk result (words.new ≡ words.old ++ words_of_line text.now tables.now section spot line.now) }
+    ensures { OnOk result
+        (words.new ≡ words.old ++ words_of_line text.now tables.now section spot line.now) }
 {
     if !same_section(spot.section, section) {
         return Ok(());
@@ -210,7 +219,8 @@ pub fn words_in(
     section: Section,
     lines: &[Line36],
 ) -> Result<Words, NoMemory>
-    ensures { IfOk result (λ words. words ≡ words_from text.now tables.now section [] start lines.now) }
+    ensures { IfOk result (λ words.
+        words ≡ words_from text.now tables.now section [] start lines.now) }
 {
     let mut words = Words::new(alloc);
     let mut spot = Spot::start();

@@ -1,5 +1,6 @@
--- The operand of an instruction, up to its modifier: a pointer register, a bar and an expression; or a segment, a dollar
--- sign, perhaps an entry, and perhaps a sign and an expression; or an expression.
+-- The operand of an instruction, up to its modifier: a pointer register, a bar and an expression;
+-- or a segment, a dollar sign, perhaps an entry, and perhaps a sign and an expression; or an
+-- expression.
 use Rattle.std.specs.Prelude.{ℕ, ◌+◌, Bool, true, false, not, ◌&&◌, ◌||◌, ◌==◌, List, [], length, slice_index, codes, Option, Some, None, option_map, is_some, if◌then◌else◌}
 use Rattle.std.specs.List.{position}
 use Rattle.alm_parse.specs.declared.span.Span.{Span}
@@ -18,7 +19,8 @@ span_at from to = record { from = from; to = to }
 
 -- the first place in a span where a byte stands
 unfoldable pub place_of : List ℕ → Span → ℕ → Option ℕ
-place_of text span byte = option_map (λ i. span.from + i) (position (λ b. b == byte) (slice_of text span))
+place_of text span byte =
+    option_map (λ i. span.from + i) (position (λ b. b == byte) (slice_of text span))
 
 -- the place behind the bytes at the beginning of a span that may belong to a symbol
 abbrev pub end_by : Option ℕ → ℕ → ℕ → ℕ
@@ -27,14 +29,17 @@ end_by None from count = from + count
 
 unfoldable pub symbol_end : List ℕ → Span → ℕ
 symbol_end text span =
-    end_by (position (λ b. not (is_name_character b)) (slice_of text span)) span.from (length (slice_of text span))
+    end_by (position (λ b. not (is_name_character b)) (slice_of text span)) span.from
+    (length (slice_of text span))
 
 -- the parts
 abbrev pub external_by : Span → ℕ → ℕ → Body
-external_by whole dollar end = External (span_at whole.from dollar) (span_at (dollar + 1) end) (span_at end whole.to)
+external_by whole dollar end =
+    External (span_at whole.from dollar) (span_at (dollar + 1) end) (span_at end whole.to)
 
 abbrev pub external : List ℕ → Span → ℕ → Body
-external text whole dollar = external_by whole dollar (symbol_end text (span_at (dollar + 1) whole.to))
+external text whole dollar =
+    external_by whole dollar (symbol_end text (span_at (dollar + 1) whole.to))
 
 abbrev pub body_without_bar : List ℕ → Span → Option ℕ → Body
 body_without_bar text whole (Some dollar) = external text whole dollar
@@ -50,7 +55,8 @@ body_of text whole = body_by text whole (place_of text whole 124)
 -- the forms of the parts
 abbrev pub is_segment : List ℕ → Bool
 is_segment bytes =
-    is_symbol bytes || is_text (codes "*text") bytes || is_text (codes "*link") bytes || is_text (codes "*static") bytes
+    is_symbol bytes || is_text (codes "*text") bytes || is_text (codes "*link") bytes
+    || is_text (codes "*static") bytes
 
 abbrev pub is_entry : List ℕ → Bool
 is_entry bytes = (length bytes == 0) || is_symbol bytes
@@ -61,7 +67,8 @@ is_tail bytes = (length bytes == 0) || is_sign (slice_index bytes 0)
 abbrev pub is_body : List ℕ → Body → Bool
 is_body text (Through pr offset) = is_some (pr_number (slice_of text pr))
 is_body text (External segment entry tail) =
-    is_segment (slice_of text segment) && is_entry (slice_of text entry) && is_tail (slice_of text tail)
+    is_segment (slice_of text segment) && is_entry (slice_of text entry)
+    && is_tail (slice_of text tail)
 is_body text (Plain whole) = true
 
 -- The terms. Behind an external name a sign belongs to the first of them.
@@ -69,9 +76,11 @@ unfoldable pub tail_pieces : List ℕ → Span → List Piece
 tail_pieces text tail =
     if length (slice_of text tail) == 0
     then []
-    else expression_pieces text (piece_at (slice_index (slice_of text tail) 0 == 45) (tail.from + 1) tail.to)
+    else expression_pieces text
+    (piece_at (slice_index (slice_of text tail) 0 == 45) (tail.from + 1) tail.to)
 
 abbrev pub body_pieces : List ℕ → Body → List Piece
-body_pieces text (Through pr offset) = expression_pieces text (record { span = offset; minus = false })
+body_pieces text (Through pr offset) =
+    expression_pieces text (record { span = offset; minus = false })
 body_pieces text (External segment entry tail) = tail_pieces text tail
 body_pieces text (Plain whole) = expression_pieces text (record { span = whole; minus = false })

@@ -23,7 +23,8 @@ packed (a ∷ b ∷ c ∷ d ∷ rest) = four a b c d ∷ packed rest
 
 -- the word of the first four, or of those that there are
 unfoldable pub first_word : List ℕ → ℕ
-first_word bytes = four (slice_index bytes 0) (slice_index bytes 1) (slice_index bytes 2) (slice_index bytes 3)
+first_word bytes =
+    four (slice_index bytes 0) (slice_index bytes 1) (slice_index bytes 2) (slice_index bytes 3)
 
 -- behind the closing delimiter only blanks stand, and perhaps a comment
 abbrev pub ended_by : Option ℕ → Bool
@@ -35,7 +36,8 @@ is_ended bytes = ended_by (find (λ b. not (is_blank b)) bytes)
 
 -- the first byte that is no character
 unfoldable pub place_bad : List ℕ → Span → Option ℕ
-place_bad text span = option_map (λ i. span.from + i) (position (λ b. not (is_character b)) (slice_of text span))
+place_bad text span =
+    option_map (λ i. span.from + i) (position (λ b. not (is_character b)) (slice_of text span))
 
 abbrev pub characters_by : List ℕ → Span → Option ℕ → Result (List Arg) Refusal
 characters_by text span (Some place) = Err (record { place = place; code = E1 })
@@ -47,7 +49,8 @@ characters_ended text rest span false = Err (record { place = rest.from; code = 
 
 abbrev pub characters_closed : List ℕ → Span → Option ℕ → Result (List Arg) Refusal
 characters_closed text rest (Some close) =
-    characters_ended text rest (span_at (rest.from + 1) close) (is_ended (slice_of text (span_at (close + 1) rest.to)))
+    characters_ended text rest (span_at (rest.from + 1) close)
+    (is_ended (slice_of text (span_at (close + 1) rest.to)))
 characters_closed text rest None = Err (record { place = rest.from; code = E2 })
 
 -- The delimiter is the first byte of what is given.

@@ -32,7 +32,10 @@ deed_named name =
     then deed.Block
     else (if is_text (codes "even") name
     then deed.Even
-    else (if is_text (codes "entrybound") name then deed.Bound else instruction_of (code_named name)))))))))))
+    else
+    (if is_text (codes "entrybound") name
+    then deed.Bound
+    else instruction_of (code_named name)))))))))))
 
 abbrev pub deed_of : List ℕ → Option Span → Deed
 deed_of text (Some op) = deed_named (slice_of text op)

@@ -19,7 +19,8 @@ is_term bytes = is_here bytes || is_number bytes || is_symbol bytes
 abbrev pub is_term_at : List ℕ → Piece → Bool
 is_term_at text piece = is_term (slice_of text piece.span)
 
--- The terms as pieces: behind a minus that stands before the whole the first term has the other sign.
+-- The terms as pieces: behind a minus that stands before the whole the first term has the other
+-- sign.
 unfoldable pub signed_start : List ℕ → Piece → Piece
 signed_start text whole =
     if slice_index (slice_of text whole.span) 0 == 45
@@ -39,10 +40,13 @@ place_over text pieces = option_map (λ piece. piece.span.from) (find (is_over_a
 -- what a piece says as a term
 unfoldable pub atom_of : List ℕ → Atom
 atom_of bytes =
-    if is_here bytes then Here else (if is_number bytes then Number (value_of (small_read bytes)) else Symbol)
+    if is_here bytes
+    then Here
+    else (if is_number bytes then Number (value_of (small_read bytes)) else Symbol)
 
 abbrev pub term_of : List ℕ → Piece → Term
-term_of text piece = record { what = atom_of (slice_of text piece.span); span = piece.span; minus = piece.minus }
+term_of text piece =
+    record { what = atom_of (slice_of text piece.span); span = piece.span; minus = piece.minus }
 
 -- a number is within the limit
 abbrev pub IsSmall : Atom → Type 0

@@ -1,3 +1,7 @@
+-- Read first: Sources, whose `parsed` is the lines of a text or its first refusal, and Lines, which
+-- says what one line is by its head, its operation and its operand. The other modules are the
+-- tokens and the forms of operands, from bytes up; Deeds says what an operation does, and Spans
+-- what holds of each line that is read.
 pub mod Bytes
 pub mod Tokens
 pub mod Pieces

@@ -22,7 +22,8 @@ use Rattle.alm_parse.specs.Heads.{head_of, operand_in, delimited_in}
 use Rattle.alm_parse.specs.Operations.{operation_of}
 use Rattle.alm_parse.specs.Deeds.{deed_of}
 
--- A missing operand of an instruction is 0, and some operations have none; any other is told at the operation.
+-- A missing operand of an instruction is 0, and some operations have none; any other is told at the
+-- operation.
 abbrev pub missing : Operation → ℕ → Option Refusal
 missing Instruction at = None
 missing Bare at = None
@@ -75,7 +76,8 @@ abbrev pub is_no_symbol : List ℕ → Span → Bool
 is_no_symbol text span = not (is_symbol (slice_of text span))
 
 unfoldable pub label_refusal : List ℕ → List Span → Option Refusal
-label_refusal text marks = option_map (λ mark. told text mark.from E2) (find (is_no_symbol text) marks)
+label_refusal text marks =
+    option_map (λ mark. told text mark.from E2) (find (is_no_symbol text) marks)
 
 -- a line by its parts
 abbrev pub line_of : List ℕ → Row → Head → List Arg → Line36

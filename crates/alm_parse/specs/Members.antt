@@ -24,7 +24,8 @@ symbol_arg member = Symbol member.span
 
 unfoldable pub symbols_given : List ℕ → Span → Result (List Arg) Refusal
 symbols_given text operand =
-    unless (refused text operand.from (list_all (is_symbol_at text) (members text operand)) None) (map symbol_arg (members text operand))
+    unless (refused text operand.from (list_all (is_symbol_at text) (members text operand)) None)
+    (map symbol_arg (members text operand))
 
 abbrev pub is_written_at : Numeral → List ℕ → Piece → Bool
 is_written_at numeral text member = is_written numeral (slice_of text member.span)
@@ -34,14 +35,18 @@ abbrev pub is_out_at : Numeral → List ℕ → Piece → Bool
 is_out_at numeral text member = is_over (read_as numeral (slice_of text member.span))
 
 unfoldable pub place_out : Numeral → List ℕ → List Piece → Option ℕ
-place_out numeral text pieces = option_map (λ member. member.span.from) (find (is_out_at numeral text) pieces)
+place_out numeral text pieces =
+    option_map (λ member. member.span.from) (find (is_out_at numeral text) pieces)
 
 abbrev pub number_arg : Numeral → List ℕ → Piece → Arg
 number_arg numeral text member = Number (word_as numeral (slice_of text member.span))
 
 abbrev pub numbers_by : Numeral → List ℕ → ℕ → List Piece → Result (List Arg) Refusal
 numbers_by numeral text at pieces =
-    unless (refused text at (list_all (is_written_at numeral text) pieces) (place_out numeral text pieces)) (map (number_arg numeral text) pieces)
+    unless
+    (refused text at (list_all (is_written_at numeral text) pieces)
+    (place_out numeral text pieces))
+    (map (number_arg numeral text) pieces)
 
 unfoldable pub numbers_given : Numeral → List ℕ → Span → Result (List Arg) Refusal
 numbers_given numeral text operand = numbers_by numeral text operand.from (members text operand)

@@ -1,6 +1,7 @@
--- The names of registers and modifiers. Multics Processor Manual AL39, "Address modification": the tag of a register
--- then indirect modification is the register's and 20 (octal), that of an indirect then register modification the
--- register's and 60; 44, 51, 53, 54 and 56 are those of indirect then tally.
+-- The names of registers and modifiers. Multics Processor Manual AL39, "Address modification": the
+-- tag of a register then indirect modification is the register's and 20 (octal), that of an
+-- indirect then register modification the register's and 60; 44, 51, 53, 54 and 56 are those of
+-- indirect then tally.
 use Rattle.std.specs.Prelude.{ℕ, ◌+◌, ◌-◌, ◌&&◌, ◌==◌, List, [], ◌∷◌, length, take, slice_index, codes, Option, Some, None, option_map, if◌then◌else◌}
 use Rattle.alm_parse.specs.Bytes.{is_octal_digit}
 use Rattle.alm_parse.specs.Tokens.{is_text}
@@ -16,7 +17,8 @@ numbered name number = record { name = name; number = number }
 -- the number of the first row that has the name
 abbrev pub number_beside : List NumberedName → List ℕ → Option ℕ
 number_beside [] bytes = None
-number_beside (row ∷ rows) bytes = if is_text row.name bytes then Some row.number else number_beside rows bytes
+number_beside (row ∷ rows) bytes =
+    if is_text row.name bytes then Some row.number else number_beside rows bytes
 
 -- the first of two that is there
 abbrev pub or_else : Option ℕ → Option ℕ → Option ℕ
@@ -45,7 +47,8 @@ registers =
     ∷ []
 
 unfoldable pub register_of : List ℕ → Option ℕ
-register_of bytes = or_else (number_beside registers bytes) (option_map (λ n. 8 + n) (octal_digit (after_x bytes)))
+register_of bytes =
+    or_else (number_beside registers bytes) (option_map (λ n. 8 + n) (octal_digit (after_x bytes)))
 
 -- the pointer registers: pr0 to pr7, and their names
 abbrev pub pr_digit : List ℕ → Option ℕ
@@ -98,4 +101,5 @@ indirect_last bytes =
 -- the tag of a modifier
 unfoldable pub tag_of : List ℕ → Option ℕ
 tag_of bytes =
-    or_else (single_tag bytes) (or_else (register_of bytes) (or_else (indirect_first bytes) (indirect_last bytes)))
+    or_else (single_tag bytes)
+    (or_else (register_of bytes) (or_else (indirect_first bytes) (indirect_last bytes)))

@@ -29,16 +29,20 @@ abbrev pub entry_given : List ℕ → Span → Option Span
 entry_given text span = if length (slice_of text span) == 0 then None else Some span
 
 abbrev pub operand_of : List ℕ → Body → List Term → ℕ → Arg
-operand_of text (Through pr offset) expr tag = Operand (pr_number (slice_of text pr)) None None expr tag
-operand_of text (External segment entry tail) expr tag = Operand None (Some segment) (entry_given text entry) expr tag
+operand_of text (Through pr offset) expr tag =
+    Operand (pr_number (slice_of text pr)) None None expr tag
+operand_of text (External segment entry tail) expr tag =
+    Operand None (Some segment) (entry_given text entry) expr tag
 operand_of text (Plain whole) expr tag = Operand None None None expr tag
 
 abbrev pub is_operand : List ℕ → Body → List Piece → Option ℕ → Bool
-is_operand text body pieces tag = is_body text body && list_all (is_term_at text) pieces && is_some tag
+is_operand text body pieces tag =
+    is_body text body && list_all (is_term_at text) pieces && is_some tag
 
 abbrev pub operand_by : List ℕ → ℕ → Body → List Piece → Option ℕ → Result (List Arg) Refusal
 operand_by text at body pieces tag =
-    unless (refused text at (is_operand text body pieces tag) (place_over text pieces)) (operand_of text body (map (term_of text) pieces) (unwrap_or tag 0) ∷ [])
+    unless (refused text at (is_operand text body pieces tag) (place_over text pieces))
+    (operand_of text body (map (term_of text) pieces) (unwrap_or tag 0) ∷ [])
 
 abbrev pub operand_with : List ℕ → Span → Body → Option ℕ → Result (List Arg) Refusal
 operand_with text operand body comma =

@@ -16,7 +16,9 @@ use Rattle.alm_parse.specs.Refusals.{told, refused, unless}
 -- a symbol and an expression
 abbrev pub value_by : List ℕ → ℕ → Piece → List Piece → Result (List Arg) Refusal
 value_by text at name pieces =
-    unless (refused text at (is_symbol_at text name && list_all (is_term_at text) pieces) (place_over text pieces)) (Symbol name.span ∷ Plain (map (term_of text) pieces) ∷ [])
+    unless
+    (refused text at (is_symbol_at text name && list_all (is_term_at text) pieces)
+    (place_over text pieces)) (Symbol name.span ∷ Plain (map (term_of text) pieces) ∷ [])
 
 abbrev pub value_of_members : List ℕ → ℕ → List Piece → Result (List Arg) Refusal
 value_of_members text at (name ∷ value ∷ []) = value_by text at name (expression_pieces text value)
@@ -32,10 +34,14 @@ first_place None second = second
 
 abbrev pub halves_by : List ℕ → ℕ → List Piece → List Piece → Result (List Arg) Refusal
 halves_by text at left right =
-    unless (refused text at (list_all (is_term_at text) left && list_all (is_term_at text) right) (first_place (place_over text left) (place_over text right))) (Plain (map (term_of text) left) ∷ Plain (map (term_of text) right) ∷ [])
+    unless
+    (refused text at (list_all (is_term_at text) left && list_all (is_term_at text) right)
+    (first_place (place_over text left) (place_over text right)))
+    (Plain (map (term_of text) left) ∷ Plain (map (term_of text) right) ∷ [])
 
 abbrev pub halves_of_members : List ℕ → ℕ → List Piece → Result (List Arg) Refusal
-halves_of_members text at (left ∷ right ∷ []) = halves_by text at (expression_pieces text left) (expression_pieces text right)
+halves_of_members text at (left ∷ right ∷ []) =
+    halves_by text at (expression_pieces text left) (expression_pieces text right)
 halves_of_members text at _ = Err (told text at E2)
 
 unfoldable pub halves_given : List ℕ → Span → Result (List Arg) Refusal
@@ -44,7 +50,9 @@ halves_given text operand = halves_of_members text operand.from (members text op
 -- a symbol and a number
 abbrev pub block_by : List ℕ → ℕ → Piece → Piece → Result (List Arg) Refusal
 block_by text at name count =
-    unless (refused text at (is_symbol_at text name && is_written_at Small text count) (place_out Small text (count ∷ []))) (Symbol name.span ∷ number_arg Small text count ∷ [])
+    unless
+    (refused text at (is_symbol_at text name && is_written_at Small text count)
+    (place_out Small text (count ∷ []))) (Symbol name.span ∷ number_arg Small text count ∷ [])
 
 abbrev pub block_of_members : List ℕ → ℕ → List Piece → Result (List Arg) Refusal
 block_of_members text at (name ∷ count ∷ []) = block_by text at name count
@@ -55,8 +63,10 @@ block_given text operand = block_of_members text operand.from (members text oper
 
 -- the name of a section
 abbrev pub is_section : List ℕ → Bool
-is_section bytes = is_text (codes "text") bytes || is_text (codes "link") bytes || is_text (codes "static") bytes
+is_section bytes =
+    is_text (codes "text") bytes || is_text (codes "link") bytes || is_text (codes "static") bytes
 
 unfoldable pub section_given : List ℕ → Span → Result (List Arg) Refusal
 section_given text operand =
-    unless (refused text operand.from (is_section (slice_of text operand)) None) (Symbol operand ∷ [])
+    unless (refused text operand.from (is_section (slice_of text operand)) None)
+    (Symbol operand ∷ [])

@@ -13,8 +13,8 @@ parts Sign b = is_sign b
 abbrev pub piece_at : Bool → ℕ → ℕ → Piece
 piece_at minus from at = record { span = record { from = from; to = at }; minus = minus }
 
--- The pieces of a text whose next byte stands at place `at`, where the piece that it belongs to began at place `from`,
--- and `minus` says whether the byte before that piece is a minus.
+-- The pieces of a text whose next byte stands at place `at`, where the piece that it belongs to
+-- began at place `from`, and `minus` says whether the byte before that piece is a minus.
 unfoldable pub cut : Parter → Bool → ℕ → ℕ → List ℕ → List Piece
 cut parter minus from at [] = piece_at minus from at ∷ []
 cut parter minus from at (b ∷ rest) =
@@ -23,4 +23,5 @@ cut parter minus from at (b ∷ rest) =
     else cut parter minus from (at + 1) rest
 
 unfoldable pub pieces_of : Parter → List ℕ → Piece → List Piece
-pieces_of parter text whole = cut parter whole.minus whole.span.from whole.span.from (slice_of text whole.span)
+pieces_of parter text whole =
+    cut parter whole.minus whole.span.from whole.span.from (slice_of text whole.span)

@@ -7,10 +7,11 @@ use Rattle.alm_parse.specs.declared.refusal.Halt.{Halt}
 use Rattle.alm_parse.specs.declared.refusal.Halt.TheVariants.{Refused, NoMemory}
 use Rattle.alm_parse.specs.Bytes.{is_legal}
 
--- A label, an operation or an operand that is not of its form is told at the place where it begins. Where the byte there
--- is one that no source may have, that byte is told.
+-- A label, an operation or an operand that is not of its form is told at the place where it begins.
+-- Where the byte there is one that no source may have, that byte is told.
 unfoldable pub told : List ℕ → ℕ → Code → Refusal
-told text place code = record { place = place; code = if is_legal (slice_index text place) then code else E1 }
+told text place code =
+    record { place = place; code = if is_legal (slice_index text place) then code else E1 }
 
 -- An operand is refused where it is not of its form, or else for its first number out of range.
 abbrev pub refused : List ℕ → ℕ → Bool → Option ℕ → Option Refusal

@@ -29,14 +29,16 @@ names_end text (Some op) = is_text (codes "end") (slice_of text op)
 names_end text None = false
 
 -- A line is read, and what follows it is what `further` gives of the lines up to it.
-abbrev pub continued : List ℕ → Row → List Line36 → (List Line36 → Result (List Line36) AlmFault) → Result Line36 Refusal → Result (List Line36) AlmFault
+abbrev pub continued : List ℕ → Row → List Line36 → (List Line36 → Result (List Line36) AlmFault)
+    → Result Line36 Refusal → Result (List Line36) AlmFault
 continued text row before further (Ok line) =
     if names_end text line.op then Ok (before ++ line ∷ []) else further (before ++ line ∷ [])
 continued text row before further (Err refusal) = Err (fault_of row refusal)
 
 unfoldable pub read_lines : List ℕ → List Line36 → List Row → Result (List Line36) AlmFault
 read_lines text before [] = Ok before
-read_lines text before (row ∷ rows) = continued text row before (λ more. read_lines text more rows) (line_given text row)
+read_lines text before (row ∷ rows) =
+    continued text row before (λ more. read_lines text more rows) (line_given text row)
 
 abbrev pub with_text : List ℕ → Result (List Line36) AlmFault → Result Source AlmFault
 with_text text (Ok lines) = Ok (record { text = text; lines = lines })

@@ -16,7 +16,8 @@ pub record TermIn (count : ℕ) (term : Term) : Type 0 where
   pub number : IsSmall term.what
 
 -- There are eight pointer registers, and a tag has six bits.
-pub record OperandIn (count : ℕ) (register : Option ℕ) (seg name : Option Span) (parts : List Term) (modifier : ℕ) : Type 0 where
+pub record OperandIn (count : ℕ) (register : Option ℕ) (seg name : Option Span)
+    (parts : List Term) (modifier : ℕ) : Type 0 where
   pub pointer : IfSome register (λ n. n < 8)
   pub tag : modifier < 64
   pub segment : IfSome seg (IsSpan count)

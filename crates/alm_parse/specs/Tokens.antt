@@ -18,9 +18,11 @@ slice_of text span = take (span.to - span.from) (drop span.from text)
 -- a symbol has 1 to 32 characters
 unfoldable pub is_symbol : List ℕ → Bool
 is_symbol bytes =
-    nat_le 1 (length bytes) && nat_le (length bytes) 32 && begins_symbol (slice_index bytes 0) && list_all is_name_character bytes
+    nat_le 1 (length bytes) && nat_le (length bytes) 32 && begins_symbol (slice_index bytes 0)
+    && list_all is_name_character bytes
 
--- A text read as a number: whether it has digits alone, whether the number is over the limit, and the number.
+-- A text read as a number: whether it has digits alone, whether the number is over the limit, and
+-- the number.
 abbrev pub has_digits : Result ℕ NumberFault → Bool
 has_digits (Ok v) = true
 has_digits (Err T2) = true

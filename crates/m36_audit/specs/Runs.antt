@@ -26,7 +26,8 @@ frame_run (Some frame) count = Some (record { first = frame; end = frame + min 1
 -- a page of a paged segment
 abbrev pub page_run_by : Bool → List ℕ → SdwFields → ℕ → Option Run
 page_run_by false core d page = None
-page_run_by true core d page = frame_run (result_ok (in_frame (ptw_at core (page_at d page)) 0)) (words d - 1024 * page)
+page_run_by true core d page = frame_run (result_ok (in_frame (ptw_at core (page_at d page)) 0))
+    (words d - 1024 * page)
 
 abbrev pub page_run : List ℕ → SdwFields → ℕ → Option Run
 page_run core d page = page_run_by (nat_le page (d.bound / 64)) core d page
@@ -86,7 +87,8 @@ ends_before a (Some r) = nat_lt r.end a
 
 -- so many of the first n runs have begun before a word and not ended before it
 pub record AreOpen (runs : ℕ → Option Run) (n a open_runs : ℕ) : Type 0 where
-  pub sum : open_runs + count_below (λ i. ends_before a (runs i)) n ≡ count_below (λ i. begins_before a (runs i)) n
+  pub sum : open_runs + count_below (λ i. ends_before a (runs i)) n
+      ≡ count_below (λ i. begins_before a (runs i)) n
 
 -- no run ends before it begins
 pub record InOrder (runs : ℕ → Option Run) : Type 0 where

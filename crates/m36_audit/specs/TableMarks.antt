@@ -27,7 +27,8 @@ least_by true least a = least
 least_by false least a = lesser least a
 
 unfoldable pub least_marked : List ℕ → Option ℕ → ℕ → ℕ → Option ℕ
-least_marked tables least table a = least_by (slice_index tables a == 0 || slice_index tables a == table) least a
+least_marked tables least table a = least_by
+    (slice_index tables a == 0 || slice_index tables a == table) least a
 
 -- a core word is a word of two of the tables that were looked at
 pub record InTwo (Of : Table → ℕ → Type 0) (size a : ℕ) : Type 0 where
@@ -46,7 +47,8 @@ pub record HasMark (Of : Table → ℕ → Type 0) (a mark : ℕ) : Type 0 where
 
 -- Each core word has the number of a table that it is a word of, and 0 where it is of none; and the least word of two
 -- tables is known.
-pub record AreMarked (Of : Table → ℕ → Type 0) (size : ℕ) (tables : List ℕ) (least : Option ℕ) : Type 0 where
+pub record AreMarked (Of : Table → ℕ → Type 0) (size : ℕ) (tables : List ℕ) (least : Option ℕ) :
+    Type 0 where
   pub len : length tables ≡ size
   pub none : (a : ℕ) → a < size → slice_index tables a ≡ 0 → (t : Table) → Of t a → ⊥
   pub some : (a : ℕ) → slice_index tables a ≢ 0 → HasMark Of a (slice_index tables a)
@@ -56,5 +58,7 @@ pub record AreMarked (Of : Table → ℕ → Type 0) (size : ℕ) (tables : List
 -- for so many segments, and of so many pages, 256 of them for each segment.
 abbrev pub SoFar : List ℕ → DbrFields → ℕ → ℕ → ℕ → Table → ℕ → Type 0
 SoFar core dbr sdws directories pages Sdws a = (seg : ℕ) × (seg < sdws) × IsSdwWord core dbr seg a
-SoFar core dbr sdws directories pages Directory a = (seg : ℕ) × (seg < directories) × IsDirectoryWord dbr seg a
-SoFar core dbr sdws directories pages (Pages seg) a = (page : ℕ) × (256 * seg + page < pages) × IsPageWord core dbr seg page a
+SoFar core dbr sdws directories pages Directory a = (seg : ℕ) × (seg < directories)
+    × IsDirectoryWord dbr seg a
+SoFar core dbr sdws directories pages (Pages seg) a = (page : ℕ) × (256 * seg + page < pages)
+    × IsPageWord core dbr seg page a

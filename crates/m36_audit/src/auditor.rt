@@ -24,8 +24,10 @@ use std::alloc::Global;
 
 /// The findings by the marks and the counts, one condition after another.
 fn found(marks: &TableMarks, counts: &RunCounts, core: &Core, dbr: Dbr) -> Verdict
-    requires marked { AreMarked (IsOf core.now dbr) (length core.now) marks.now.tables.items marks.now.least }
-    requires counted { AreCounted (run core.now dbr) (2 ^ 23) (length core.now) counts.now.starts.items counts.now.stops.items }
+    requires marked { AreMarked (IsOf core.now dbr) (length core.now) marks.now.tables.items
+        marks.now.least }
+    requires counted { AreCounted (run core.now dbr) (2 ^ 23) (length core.now)
+        counts.now.starts.items counts.now.stops.items }
     ensures { AreFindings core.now dbr (pairs result.findings.items) }
 {
     let first = first_segment(Condition::Brackets, core, dbr);
@@ -64,7 +66,8 @@ fn judged(marks: &mut TableMarks, counts: &mut RunCounts, core: &Core, dbr: Dbr)
 pub fn audit(alloc: Global, core: &Core, dbr: Dbr) -> Result<Verdict, NoMemory>
     ensures findings { IfOk result (λ v. AreFindings core.now dbr (pairs v.findings.items)) }
     ensures audited { IfOk result (λ v. (v.findings.items ≡ []) ↔ IsAudited core.now dbr) }
-    ensures isolated { IfOk result (λ v. v.findings.items ≡ [] → Isolated core_store (core_tables core.now dbr)) }
+    ensures isolated { IfOk result (λ v. v.findings.items ≡ []
+        → Isolated core_store (core_tables core.now dbr)) }
 {
     let size = core.len();
     let mut marks = TableMarks::new(alloc, size)?;

@@ -65,8 +65,10 @@ fn count_whole(counts: &mut RunCounts, core: &Core, dbr: Dbr, seg: u16, sdw: &Sd
     requires live { core_sdw core.now dbr seg ≡ Ok sdw.now }
     requires order { in_order sdw.now ≡ true }
     requires whole { sdw.now.unpaged ≡ true }
-    requires before { AreCounted (run core.now dbr) (256 * seg) (length core.now) counts.old.starts.items counts.old.stops.items }
-    ensures { AreCounted (run core.now dbr) (256 * (seg + 1)) (length core.now) counts.new.starts.items counts.new.stops.items }
+    requires before { AreCounted (run core.now dbr) (256 * seg) (length core.now)
+        counts.old.starts.items counts.old.stops.items }
+    ensures { AreCounted (run core.now dbr) (256 * (seg + 1)) (length core.now)
+        counts.new.starts.items counts.new.stops.items }
 {
     counts.add(first_run(sdw));
     counts.add(second_run(sdw));
@@ -80,8 +82,10 @@ fn count_page(counts: &mut RunCounts, core: &Core, dbr: Dbr, seg: u16, sdw: &Sdw
     requires paged { sdw.now.unpaged ≡ false }
     requires page { page ≤ sdw.now.bound / 64 }
     requires few { page < 256 }
-    requires before { AreCounted (run core.now dbr) (256 * seg + page) (length core.now) counts.old.starts.items counts.old.stops.items }
-    ensures { AreCounted (run core.now dbr) (256 * seg + page + 1) (length core.now) counts.new.starts.items counts.new.stops.items }
+    requires before { AreCounted (run core.now dbr) (256 * seg + page) (length core.now)
+        counts.old.starts.items counts.old.stops.items }
+    ensures { AreCounted (run core.now dbr) (256 * seg + page + 1) (length core.now)
+        counts.new.starts.items counts.new.stops.items }
 {
     match page_run(core, sdw, page) {
         Some(run) => counts.add(run),
@@ -95,8 +99,10 @@ fn count_pages(counts: &mut RunCounts, core: &Core, dbr: Dbr, seg: u16, sdw: &Sd
     requires live { core_sdw core.now dbr seg ≡ Ok sdw.now }
     requires order { in_order sdw.now ≡ true }
     requires paged { sdw.now.unpaged ≡ false }
-    requires before { AreCounted (run core.now dbr) (256 * seg) (length core.now) counts.old.starts.items counts.old.stops.items }
-    ensures { AreCounted (run core.now dbr) (256 * (seg + 1)) (length core.now) counts.new.starts.items counts.new.stops.items }
+    requires before { AreCounted (run core.now dbr) (256 * seg) (length core.now)
+        counts.old.starts.items counts.old.stops.items }
+    ensures { AreCounted (run core.now dbr) (256 * (seg + 1)) (length core.now)
+        counts.new.starts.items counts.new.stops.items }
 {
     let pages = sdw.bound as u32 / 64 + 1;
     for page in 0..pages {
@@ -107,8 +113,10 @@ fn count_pages(counts: &mut RunCounts, core: &Core, dbr: Dbr, seg: u16, sdw: &Sd
 /// Counts the runs of a segment, if it is live and its brackets are in order.
 fn count_segment(counts: &mut RunCounts, core: &Core, dbr: Dbr, seg: u16)
     requires seg { seg < 2 ^ 15 }
-    requires before { AreCounted (run core.now dbr) (256 * seg) (length core.now) counts.old.starts.items counts.old.stops.items }
-    ensures { AreCounted (run core.now dbr) (256 * (seg + 1)) (length core.now) counts.new.starts.items counts.new.stops.items }
+    requires before { AreCounted (run core.now dbr) (256 * seg) (length core.now)
+        counts.old.starts.items counts.old.stops.items }
+    ensures { AreCounted (run core.now dbr) (256 * (seg + 1)) (length core.now)
+        counts.new.starts.items counts.new.stops.items }
 {
     match live(core, dbr, seg) {
         Some(sdw) => {
@@ -126,8 +134,10 @@ fn count_segment(counts: &mut RunCounts, core: &Core, dbr: Dbr, seg: u16)
 
 /// Counts the runs of all segments. None is counted before.
 pub(crate) fn count_segments(counts: &mut RunCounts, core: &Core, dbr: Dbr)
-    requires before { AreCounted (run core.now dbr) 0 (length core.now) counts.old.starts.items counts.old.stops.items }
-    ensures { AreCounted (run core.now dbr) (2 ^ 23) (length core.now) counts.new.starts.items counts.new.stops.items }
+    requires before { AreCounted (run core.now dbr) 0 (length core.now) counts.old.starts.items
+        counts.old.stops.items }
+    ensures { AreCounted (run core.now dbr) (2 ^ 23) (length core.now) counts.new.starts.items
+        counts.new.stops.items }
 {
     for seg in 0..segment_count(dbr) {
         count_segment(counts, core, dbr, seg);

@@ -15,8 +15,10 @@ use m36_tables::{descriptor_place, directory_at, page_at, segment_count, wrapped
 /// Marks the two words of a segment's descriptor.
 fn mark_descriptor(marks: &mut TableMarks, core: &Core, dbr: Dbr, seg: u16)
     requires seg { seg < 2 ^ 15 }
-    requires before { AreMarked (SoFar core.now dbr seg seg (256 * seg)) (length core.now) marks.old.tables.items marks.old.least }
-    ensures { AreMarked (SoFar core.now dbr (seg + 1) seg (256 * seg)) (length core.now) marks.new.tables.items marks.new.least }
+    requires before { AreMarked (SoFar core.now dbr seg seg (256 * seg)) (length core.now)
+        marks.old.tables.items marks.old.least }
+    ensures { AreMarked (SoFar core.now dbr (seg + 1) seg (256 * seg)) (length core.now)
+        marks.new.tables.items marks.new.least }
 {
     match descriptor_place(core, dbr, seg) {
         Ok(even) => {
@@ -31,8 +33,10 @@ fn mark_descriptor(marks: &mut TableMarks, core: &Core, dbr: Dbr, seg: u16)
 fn mark_directory(marks: &mut TableMarks, core: &Core, dbr: Dbr, seg: u16)
     requires seg { seg < 2 ^ 15 }
     requires bounds { in_bounds dbr seg ≡ true }
-    requires before { AreMarked (SoFar core.now dbr (seg + 1) seg (256 * seg)) (length core.now) marks.old.tables.items marks.old.least }
-    ensures { AreMarked (SoFar core.now dbr (seg + 1) (seg + 1) (256 * seg)) (length core.now) marks.new.tables.items marks.new.least }
+    requires before { AreMarked (SoFar core.now dbr (seg + 1) seg (256 * seg)) (length core.now)
+        marks.old.tables.items marks.old.least }
+    ensures { AreMarked (SoFar core.now dbr (seg + 1) (seg + 1) (256 * seg)) (length core.now)
+        marks.new.tables.items marks.new.least }
 {
     if !dbr.unpaged {
         marks.mark(DIRECTORY, directory_at(dbr, seg));
@@ -44,8 +48,10 @@ fn mark_page_table(marks: &mut TableMarks, core: &Core, dbr: Dbr, seg: u16, sdw:
     requires seg { seg < 2 ^ 15 }
     requires live { core_sdw core.now dbr seg ≡ Ok sdw.now }
     requires paged { sdw.now.unpaged ≡ false }
-    requires before { AreMarked (SoFar core.now dbr (seg + 1) (seg + 1) (256 * seg)) (length core.now) marks.old.tables.items marks.old.least }
-    ensures { AreMarked (SoFar core.now dbr (seg + 1) (seg + 1) (256 * (seg + 1))) (length core.now) marks.new.tables.items marks.new.least }
+    requires before { AreMarked (SoFar core.now dbr (seg + 1) (seg + 1) (256 * seg))
+        (length core.now) marks.old.tables.items marks.old.least }
+    ensures { AreMarked (SoFar core.now dbr (seg + 1) (seg + 1) (256 * (seg + 1))) (length core.now)
+        marks.new.tables.items marks.new.least }
 {
     let pages = sdw.bound as u32 / 64 + 1;
     for page in 0..pages {
@@ -56,8 +62,10 @@ fn mark_page_table(marks: &mut TableMarks, core: &Core, dbr: Dbr, seg: u16, sdw:
 /// Marks the words of a segment's page table, if it has one.
 fn mark_pages(marks: &mut TableMarks, core: &Core, dbr: Dbr, seg: u16)
     requires seg { seg < 2 ^ 15 }
-    requires before { AreMarked (SoFar core.now dbr (seg + 1) (seg + 1) (256 * seg)) (length core.now) marks.old.tables.items marks.old.least }
-    ensures { AreMarked (SoFar core.now dbr (seg + 1) (seg + 1) (256 * (seg + 1))) (length core.now) marks.new.tables.items marks.new.least }
+    requires before { AreMarked (SoFar core.now dbr (seg + 1) (seg + 1) (256 * seg))
+        (length core.now) marks.old.tables.items marks.old.least }
+    ensures { AreMarked (SoFar core.now dbr (seg + 1) (seg + 1) (256 * (seg + 1))) (length core.now)
+        marks.new.tables.items marks.new.least }
 {
     match live(core, dbr, seg) {
         Some(sdw) => {
@@ -71,8 +79,10 @@ fn mark_pages(marks: &mut TableMarks, core: &Core, dbr: Dbr, seg: u16)
 
 /// Marks every table word. No word has a mark before.
 pub(crate) fn mark_tables(marks: &mut TableMarks, core: &Core, dbr: Dbr)
-    requires before { AreMarked (SoFar core.now dbr 0 0 0) (length core.now) marks.old.tables.items marks.old.least }
-    ensures { AreMarked (IsOf core.now dbr) (length core.now) marks.new.tables.items marks.new.least }
+    requires before { AreMarked (SoFar core.now dbr 0 0 0) (length core.now) marks.old.tables.items
+        marks.old.least }
+    ensures { AreMarked (IsOf core.now dbr) (length core.now) marks.new.tables.items
+        marks.new.least }
 {
     for seg in 0..segment_count(dbr) {
         mark_descriptor(marks, core, dbr, seg);

@@ -30,7 +30,8 @@ fn mark_at(marks: &TableMarks, a: u32) -> u16
 
 /// How many runs cover a word, from how many were open before it.
 fn open_at(counts: &RunCounts, core: &Core, dbr: Dbr, a: u32, open_runs: u32) -> u32
-    requires counted { AreCounted (run core.now dbr) (2 ^ 23) (length core.now) counts.now.starts.items counts.now.stops.items }
+    requires counted { AreCounted (run core.now dbr) (2 ^ 23) (length core.now)
+        counts.now.starts.items counts.now.stops.items }
     requires before { AreOpen (run core.now dbr) (2 ^ 23) a open_runs }
     requires inside { a < length core.now }
     ensures value { result ≡ coverage core.now dbr a }
@@ -50,7 +51,8 @@ fn shared(open_runs: u32, mark: u16) -> bool
 
 /// Whether a word breaks the third condition.
 fn is_on_table(marks: &TableMarks, core: &Core, dbr: Dbr, a: u32, open_runs: u32) -> bool
-    requires marked { AreMarked (IsOf core.now dbr) (length core.now) marks.now.tables.items marks.now.least }
+    requires marked { AreMarked (IsOf core.now dbr) (length core.now) marks.now.tables.items
+        marks.now.least }
     requires inside { a < length core.now }
     requires covered { open_runs ≡ coverage core.now dbr a }
     ensures { Decides result (IsTableAndSegment core.now dbr a) }
@@ -69,8 +71,10 @@ fn is_on_segment(core: &Core, dbr: Dbr, a: u32, open_runs: u32) -> bool
 
 /// The first core word on which a segment word and a table word lie.
 pub(crate) fn on_table(marks: &TableMarks, counts: &RunCounts, core: &Core, dbr: Dbr) -> Option<u32>
-    requires marked { AreMarked (IsOf core.now dbr) (length core.now) marks.now.tables.items marks.now.least }
-    requires counted { AreCounted (run core.now dbr) (2 ^ 23) (length core.now) counts.now.starts.items counts.now.stops.items }
+    requires marked { AreMarked (IsOf core.now dbr) (length core.now) marks.now.tables.items
+        marks.now.least }
+    requires counted { AreCounted (run core.now dbr) (2 ^ 23) (length core.now)
+        counts.now.starts.items counts.now.stops.items }
     ensures { Finds (IsTableAndSegment core.now dbr) result }
 {
     let mut open_runs = 0;
@@ -85,7 +89,8 @@ pub(crate) fn on_table(marks: &TableMarks, counts: &RunCounts, core: &Core, dbr:
 
 /// The first core word on which two segment words lie.
 pub(crate) fn on_segment(counts: &RunCounts, core: &Core, dbr: Dbr) -> Option<u32>
-    requires counted { AreCounted (run core.now dbr) (2 ^ 23) (length core.now) counts.now.starts.items counts.now.stops.items }
+    requires counted { AreCounted (run core.now dbr) (2 ^ 23) (length core.now)
+        counts.now.starts.items counts.now.stops.items }
     ensures { Finds (IsInTwoSegments core.now dbr) result }
 {
     let mut open_runs = 0;

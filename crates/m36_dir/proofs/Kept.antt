@@ -1,23 +1,21 @@
 -- A catalog that is read is one.
-use Rattle.std.proofs.Common.{ℕ, ◌≡◌, ◌+◌, ◌-◌, ◌<◌, ◌≤◌, Bool, true, false, cond, List, [], ◌∷◌, ◌++◌, length, map, Option, Some, None, Ok, refl, sym, ap, subst, ◌∙◌, ⊎_elim, arith, length-append}
-use Rattle.std.specs.Prelude.{not, ◌||◌, ◌&&◌, nat_le, nat_lt, nat_eq, count_by, slice_get, All, unwrap_or, position}
+use Rattle.std.proofs.Common.{ℕ, ◌≡◌, ◌+◌, ◌<◌, ◌≤◌, Bool, true, false, cond, List, [], ◌∷◌, ◌++◌, length, Option, Some, None, Ok, refl, sym, ap, subst, ◌∙◌, ⊎_elim, arith, length-append}
+use Rattle.std.specs.Prelude.{not, ◌||◌, nat_le, nat_eq, count_by, slice_get, All, unwrap_or}
 use Rattle.std.specs.List.{list_any, position_or_len}
 use Rattle.std.proofs.lemmas.Bool.{lt-ltb, leb-true, eqb-true, eq-eqb, and_parts, and_from, or_cases, or_left, or_right, or_parts}
 use Rattle.std.proofs.lemmas.List.Folds.{list_any-append}
 use Rattle.std.proofs.lemmas.List.Elements.{All-nil, All-cons}
 use Rattle.m36_text.specs.Texts.{is_text}
 use Rattle.m36_text.specs.Lines.{lines_of}
-use Rattle.m36_dir.specs.declared.segment.SegKind.TheVariants.{Object, Gate, Plain}
 use Rattle.m36_dir.specs.declared.boot_code.BootCode.{BootCode}
 use Rattle.m36_dir.specs.declared.boot_line.BootLine.{BootLine}
 use Rattle.m36_dir.specs.declared.boot_line.BootLine.TheVariants as line
-use Rattle.m36_dir.specs.Fields.{SegmentFields, SegmentGiven}
-use Rattle.m36_dir.specs.BootLine.{line_given}
-use Rattle.m36_dir.specs.BootOrder.{is_segment, is_library, is_in_directory, has_directory, are_in_order, is_no_gate, has_wrong_brackets, names_no_directory, names_at_end, names_with, code_of, lines_given, formed, all_lines, first_code}
-use Rattle.m36_dir.specs.Catalog.{CatalogFields, with_directory, with_directory_of, directories_from, number_in, names_behind, segment_with, segment_of, segments_in, library_of, libraries_in, frames_of, work_of, catalog_in, catalog_by, catalog_of}
+use Rattle.m36_dir.specs.Fields.{SegmentGiven}
+use Rattle.m36_dir.specs.BootOrder.{is_segment, is_library, is_in_directory, has_directory, are_in_order, is_no_gate, code_of, lines_given, all_lines, first_code}
+use Rattle.m36_dir.specs.Catalog.{CatalogFields, with_directory, with_directory_of, directories_from, number_in, names_behind, segment_with, segments_in, libraries_in, frames_of, work_of, catalog_in, catalog_by, catalog_of}
 use Rattle.m36_dir.specs.IsCatalog.{IsSegment, IsCatalog, ReadsIntoCatalogs}
 use Rattle.m36_dir.proofs.CleanLines.{Clean, clean_from, passed, segments_counted, libraries_counted, names_snoc, names_few, count_cons, Begins, clean_begins}
-use Rattle.m36_dir.proofs.LineBounds.{IsLine, EachLine, each_line}
+use Rattle.m36_dir.proofs.LineBounds.{EachLine, each_line}
 
 -- ---- texts that are the same
 

@@ -1,5 +1,5 @@
 -- The numbers of lines that are of their form.
-use Rattle.std.proofs.Common.{ℕ, ◌≡◌, ◌-◌, ◌^◌, ◌<◌, ◌≤◌, Bool, true, false, cond, List, [], ◌∷◌, length, map, Option, Some, None, Result, Ok, Err, refl, sym, ap, subst, arith}
+use Rattle.std.proofs.Common.{ℕ, ◌≡◌, ◌<◌, ◌≤◌, Bool, true, false, cond, List, [], ◌∷◌, length, map, Option, Some, None, Result, Ok, Err, refl, ap, subst, arith}
 use Rattle.std.specs.Prelude.{nat_le, nat_eq, option_map, codes}
 use Rattle.std.specs.List.{position}
 use Rattle.std.specs.Result.{result_ok}
@@ -15,7 +15,7 @@ use Rattle.m36_dir.specs.declared.segment.Mode.{Mode}
 use Rattle.m36_dir.specs.declared.boot_line.Brackets.{Brackets}
 use Rattle.m36_dir.specs.declared.boot_line.BootLine.{BootLine}
 use Rattle.m36_dir.specs.declared.boot_line.BootLine.TheVariants as line
-use Rattle.m36_dir.specs.BootLine.{line_given, line_of_words, line_named, frames_line, work_line, library_line, name_line, start_line, start_parts, start_read, segment_line, segment_read, brackets_of, brackets_read, directory_of, name_of, kind_of, mode_of}
+use Rattle.m36_dir.specs.BootLine.{line_given, line_of_words, frames_line, work_line, library_line, name_line, start_line, start_parts, start_read, segment_line, segment_read, brackets_of, brackets_read, directory_of, name_of, kind_of, mode_of}
 use Rattle.m36_dir.specs.BootOrder.{formed}
 
 -- ---- numbers

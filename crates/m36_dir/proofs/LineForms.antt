@@ -1,8 +1,7 @@
 -- Lines of a boot text by their words.
-use Rattle.std.proofs.Common.{◌≡◌, ℕ, Bool, true, false, cond, List, [], ◌∷◌, Option, None, codes, refl}
+use Rattle.std.proofs.Common.{◌≡◌, ℕ, Bool, true, false, cond, List, [], Option, None, codes, refl}
 use Rattle.m36_text.specs.Texts.{is_text}
-use Rattle.m36_dir.specs.BootLine.{line_named, line_of_words}
-use Rattle.m36_dir.specs.declared.boot_line.BootLine.{BootLine}
+use Rattle.m36_dir.specs.BootLine.{line_named}
 
 pick_none : {A : Type 0} (a b c d e f : Bool) →
     cond a None (cond b None (cond c None (cond d None (cond e None (cond f None None))))) ≡ (let none : Option A = None in none)

@@ -8,7 +8,7 @@ use Rattle.std.proofs.lemmas.List.Folds.{list_any-append}
 use Rattle.m36_dir.specs.declared.boot_line.BootLine.{BootLine}
 use Rattle.m36_dir.specs.declared.boot_line.BootLine.TheVariants as line
 use Rattle.m36_dir.specs.Fields.{SegmentFields}
-use Rattle.m36_dir.specs.BootOrder.{directory_at_end, directory_behind, names_at_end, names_with, entries_from, entries_of_line, has_entry, is_entry, Entry}
+use Rattle.m36_dir.specs.BootOrder.{directory_at_end, directory_behind, names_at_end, names_with, entries_from, entries_of_line, is_entry, Entry}
 use Rattle.m36_dir.specs.Catalog.{directories_from, with_directory_of, names_behind, segments_in, segment_of, libraries_in, library_of}
 
 -- What goes on over a list with a state, by one step a time, gives the same from each step on.

@@ -10,7 +10,7 @@ use Rattle.m36_dir.specs.declared.boot_code.BootCode.{BootCode}
 use Rattle.m36_dir.specs.declared.boot_code.BootCode.TheVariants.{D1, D2, D3, D4, D5, D6}
 use Rattle.m36_dir.specs.declared.fault.CatalogFault.{CatalogFault}
 use Rattle.m36_dir.specs.BootLine.{line_given}
-use Rattle.m36_dir.specs.BootOrder.{lines_given, formed, all_lines, is_in_directory, is_given_in_directory, has_directory, codes_from, code_of, code_given, with_line, code_of_rest, code_at_end, last_of, first_code, Judges}
+use Rattle.m36_dir.specs.BootOrder.{lines_given, formed, all_lines, is_in_directory, is_given_in_directory, has_directory, codes_from, code_of, code_given, with_line, code_of_rest, first_code, Judges}
 use Rattle.m36_dir.specs.Catalog.{CatalogFields, catalog_by, catalog_in, catalog_of, fault_at, Told}
 use Rattle.m36_dir.proofs.LineForms.{no_words}
 

@@ -20,7 +20,6 @@ use Rattle.m36_dir.specs.declared.segment.Mode.{Mode}
 use Rattle.m36_dir.specs.declared.boot_line.BootLine.{BootLine}
 use Rattle.m36_dir.specs.declared.boot_line.BootLine.TheVariants as line
 use Rattle.m36_dir.specs.declared.boot_line.Brackets.{Brackets}
-use Rattle.m36_dir.specs.Fields.{SegmentGiven}
 
 -- ---- words
 

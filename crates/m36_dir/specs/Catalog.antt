@@ -1,5 +1,5 @@
 -- The catalog that a boot text writes out, or why it does not.
-use Rattle.std.specs.Prelude.{ℕ, ◌≡◌, ◌+◌, ◌≤◌, Bool, ◌&&◌, nat_eq, if◌then◌else◌, List, [], ◌∷◌, ◌++◌, position, slice_get, slice_set, Option, Some, None, unwrap_or, Result, Ok, Err, IfSome}
+use Rattle.std.specs.Prelude.{ℕ, ◌≡◌, Bool, ◌&&◌, nat_eq, if◌then◌else◌, List, [], ◌∷◌, ◌++◌, position, slice_get, slice_set, Option, Some, None, unwrap_or, Result, Ok, Err, IfSome}
 use Rattle.std.specs.List.{list_any}
 use Rattle.m36_text.specs.Texts.{is_text}
 use Rattle.m36_dir.specs.declared.fault.CatalogFault.{CatalogFault}

@@ -1,5 +1,5 @@
 -- Names and codes are one to one.
-use Rattle.std.proofs.Common.{◌≡◌, ℕ, ◌<◌, ◌↔◌, Bool, Option, Some, None, List, refl, subst, arith}
+use Rattle.std.proofs.Common.{◌≡◌, ℕ, ◌↔◌, Bool, Option, Some, None, List, refl, subst, arith}
 use Rattle.std.specs.Prelude.{option_map, IsSome}
 use Rattle.std.proofs.lemmas.Option.{some_pair_parts}
 use Rattle.m36_inst.specs.Table.{Entry}

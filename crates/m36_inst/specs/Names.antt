@@ -1,15 +1,17 @@
 -- The names in rising order: each has its operation code beside it, and a name is found by halves.
-use Rattle.std.specs.Prelude.{ℕ, ◌≡◌, ◌+◌, ◌*◌, ◌^◌, ◌<◌, ◌≢◌, Bool, false, List, Option, Some, length, map, slice_index_or}
+use Rattle.std.specs.Prelude.{ℕ, ◌≡◌, ◌+◌, ◌*◌, ◌^◌, ◌<◌, Bool, false, List, Some, length, map, slice_index_or}
 use Rattle.m36_inst.specs.Lookup.{name_at}
 use Rattle.m36_inst.specs.declared.names.Coded.{Coded}
 
--- A name as a number: its first five characters, and blanks where it has no more. Names are in the order of these numbers.
+-- A name as a number: its first five characters, and blanks where it has no more. Names are in the
+-- order of these numbers.
 abbrev pub letter : List ℕ → ℕ → ℕ
 letter name i = slice_index_or name i 0x20
 
 unfoldable pub key : List ℕ → ℕ
 key name =
-    letter name 0 * 2 ^ 32 + letter name 1 * 2 ^ 24 + letter name 2 * 2 ^ 16 + letter name 3 * 2 ^ 8 + letter name 4
+    letter name 0 * 2 ^ 32 + letter name 1 * 2 ^ 24 + letter name 2 * 2 ^ 16 + letter name 3 * 2 ^ 8
+    + letter name 4
 
 -- the name, the operation code and bit 27 in a row
 abbrev pub key_at : List Coded → ℕ → ℕ
@@ -35,4 +37,5 @@ IsRising rows = (i j : ℕ) → i < j → j < length rows → key_at rows i < ke
 
 pub record IsIndex (rows : List Coded) : Type 0 where
   pub rising : IsRising rows
-  pub complete : (code : ℕ) (bit27 : Bool) (name : List ℕ) → name_at code bit27 ≡ Some name → HasRow rows code bit27 (key name)
+  pub complete : (code : ℕ) (bit27 : Bool) (name : List ℕ) → name_at code bit27 ≡ Some name
+      → HasRow rows code bit27 (key name)

@@ -1,7 +1,7 @@
 -- The counts of an object's words are told from its sections.
 use Rattle.std.proofs.Common.{ℕ, ◌≡◌, List, length, ap, ◌∙◌, arith}
-use Rattle.obj36.specs.PartsFields.{PartsFields}
-use Rattle.obj36.specs.ObjectSegment.{definition_section, linkage_section, outer_statics, symbol_section, Stands}
+use Rattle.obj36_parts.specs.PartsFields.{PartsFields}
+use Rattle.obj36_parts.specs.ObjectSegment.{definition_section, linkage_section, outer_statics, symbol_section, Stands}
 use Rattle.m36_list.specs.Counts.{IsCount}
 use Rattle.m36_list.proofs.SectionPlaces.{sections_fit}
 

@@ -5,12 +5,12 @@ use Rattle.m36_inst.specs.Fields.{InstFields}
 use Rattle.alm_parse.specs.declared.span.Span.{Span}
 use Rattle.alm_parse.specs.declared.expression.Atom.TheVariants.{Number}
 use Rattle.alm_parse.specs.declared.expression.Term.{Term}
-use Rattle.alm_asm.specs.declared.sum.Sum.{Sum}
-use Rattle.alm_asm.specs.declared.sum.Kind.TheVariants.{Absolute}
-use Rattle.alm_asm.specs.declared.spot.Spot.{Spot}
-use Rattle.alm_asm.specs.Sums.{balance, nothing, half_of, offset_of, absolute, sum_plus, sum_turned, kind_of}
-use Rattle.alm_asm.specs.Expressions.{term_sum, added, sum_of, is_undefined, place_undefined}
-use Rattle.alm_asm.specs.Refusals.{has_room}
+use Rattle.alm_lines.specs.declared.sum.Sum.{Sum}
+use Rattle.alm_lines.specs.declared.sum.Kind.TheVariants.{Absolute}
+use Rattle.alm_lines.specs.declared.spot.Spot.{Spot}
+use Rattle.alm_lines.specs.Sums.{balance, nothing, half_of, offset_of, absolute, sum_plus, sum_turned, kind_of}
+use Rattle.alm_lines.specs.Expressions.{term_sum, added, sum_of, is_undefined, place_undefined}
+use Rattle.alm_lines.specs.Refusals.{has_room}
 use Rattle.alm_asm.specs.LineRefusals.{own_room}
 use Rattle.alm_asm.specs.Words.{own_inst}
 

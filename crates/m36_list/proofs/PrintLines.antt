@@ -2,8 +2,8 @@
 use Rattle.std.proofs.Common.{ℕ, ◌≡◌, ◌+◌, ◌*◌, ◌<◌, ◌≤◌, List, ◌++◌, length, drop, get_or, sym, ap, ◌∙◌, append_assoc, arith}
 use Rattle.std.proofs.lemmas.List.{at_drop_more, at_drop_all, append-nil}
 use Rattle.std.specs.List.{flat_map}
-use Rattle.obj36.specs.Fields.{LinkFields}
-use Rattle.obj36.specs.declared.definition.Named.{Named}
+use Rattle.obj36_parts.specs.Fields.{LinkFields}
+use Rattle.obj36_parts.specs.declared.definition.Named.{Named}
 use Rattle.m36_list.specs.Listing.{placed_line, placed_lines}
 use Rattle.m36_list.specs.Print.{definition_line, link_line, link_lines, word_line, word_lines}
 

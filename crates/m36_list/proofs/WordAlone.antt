@@ -6,20 +6,20 @@ use Rattle.alm_parse.specs.declared.args.Arg.TheVariants.{Number, Operand}
 use Rattle.alm_parse.specs.declared.line.Line36.{Line36}
 use Rattle.alm_parse.specs.SourceFields.{Source}
 use Rattle.m36_inst.specs.Instruction.{inst_word}
-use Rattle.obj36.specs.ObjectSegment.{definition_part, definition_section, linkage_part, linkage_section, symbol_part, symbol_section, map_part, map_words, words_of, definition_names, are_distinct, are_rising, is_well_formed, all_link_names, definition_words, expression_words, link_words, relocation_words}
-use Rattle.obj36.specs.Names.{with_names, all_name_words}
-use Rattle.alm_asm.specs.declared.spot.Spot.{Spot}
+use Rattle.obj36_parts.specs.ObjectSegment.{definition_part, definition_section, linkage_part, linkage_section, symbol_part, symbol_section, map_part, map_words, words_of, definition_names, are_distinct, are_rising, is_well_formed, all_link_names, definition_words, expression_words, link_words, relocation_words}
+use Rattle.obj36_parts.specs.Names.{with_names, all_name_words}
+use Rattle.alm_lines.specs.declared.spot.Spot.{Spot}
 use Rattle.alm_asm.specs.declared.tables.Tables.{Tables}
 use Rattle.alm_parse.specs.declared.deed.Deed.{Deed}
 use Rattle.alm_parse.specs.declared.deed.Deed.TheVariants as deed
-use Rattle.alm_asm.specs.declared.refusal.Refusal.{Refusal}
-use Rattle.alm_asm.specs.declared.sum.Sum.{Sum}
-use Rattle.alm_asm.specs.Sums.{half_of, offset_of}
-use Rattle.alm_asm.specs.Expressions.{expression_place}
-use Rattle.alm_asm.specs.Refusals.{sooner, has_room, is_said, expression_refusal}
-use Rattle.alm_asm.specs.Arguments.{words_of_args}
-use Rattle.alm_asm.specs.Spots.{start, below, end_of}
-use Rattle.alm_asm.specs.Layout.{labels_refused, refused_with, over, refused_after, layout_refusal}
+use Rattle.alm_lines.specs.declared.refusal.Refusal.{Refusal}
+use Rattle.alm_lines.specs.declared.sum.Sum.{Sum}
+use Rattle.alm_lines.specs.Sums.{half_of, offset_of}
+use Rattle.alm_lines.specs.Expressions.{expression_place}
+use Rattle.alm_lines.specs.Refusals.{sooner, has_room, is_said, expression_refusal}
+use Rattle.alm_lines.specs.Arguments.{words_of_args}
+use Rattle.alm_lines.specs.Spots.{start, below, end_of}
+use Rattle.alm_lines.specs.Layout.{labels_refused, refused_with, over, refused_after, layout_refusal}
 use Rattle.alm_asm.specs.Links.{links_after, links_from}
 use Rattle.alm_asm.specs.Words.{own_inst, instruction_word, words_by, words_of_line, words_from}
 use Rattle.alm_asm.specs.Marks.{marks_after, marks_from}

@@ -9,12 +9,14 @@ use Rattle.m36_list.specs.Modifiers.{modifier_text}
 -- a number of 15 bits as a signed one
 unfoldable pub signed_text : ℕ → List ℕ
 signed_text offset =
-    if nat_lt offset (2 ^ 14) then decimal_text offset else codes "-" ++ decimal_text (2 ^ 15 - offset)
+    if nat_lt offset (2 ^ 14) then decimal_text offset else codes "-"
+    ++ decimal_text (2 ^ 15 - offset)
 
 -- the address; or the pointer register and the signed offset from it
 abbrev pub address_text : InstFields → List ℕ
 address_text i =
-    if i.by_pr then codes "pr" ++ character (pr_number i) ∷ [] ++ codes "|" ++ signed_text (i.y % 2 ^ 15)
+    if i.by_pr then codes "pr" ++ character (pr_number i) ∷ [] ++ codes "|"
+    ++ signed_text (i.y % 2 ^ 15)
     else decimal_text i.y
 
 -- a word that is no instruction with a text of its own
@@ -30,7 +32,9 @@ by_parts w i None modifier = octal_constant w
 -- an instruction whose inhibit bit is on has no text of its own
 abbrev pub by_fields : ℕ → InstFields → List ℕ
 by_fields w i =
-    if i.inhibit then octal_constant w else by_parts w i (name_at i.code i.bit27) (modifier_text i.tag)
+    if i.inhibit
+    then octal_constant w
+    else by_parts w i (name_at i.code i.bit27) (modifier_text i.tag)
 
 unfoldable pub disassembly : ℕ → List ℕ
 disassembly w = by_fields w (inst_of w)

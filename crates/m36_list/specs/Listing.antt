@@ -1,24 +1,28 @@
--- The listing of a source: a line for each word that the source places, and then the print of the object.
+-- The listing of a source: a line for each word that the source places, and then the print of the
+-- object.
 use Rattle.std.specs.Prelude.{ℕ, ◌+◌, Bool, true, false, List, [], ◌∷◌, ◌++◌, length, take, drop, codes, if◌then◌else◌}
 use Rattle.m36_text.specs.Digits.{octal_text, decimal_text}
 use Rattle.alm_parse.specs.declared.line.Line36.{Line36}
 use Rattle.alm_parse.specs.SourceFields.{Source}
-use Rattle.obj36.specs.declared.section.Section.{Section}
-use Rattle.obj36.specs.declared.section.Section.TheVariants.{Text, Linkage, Symbol, Static}
-use Rattle.obj36.specs.PartsFields.{PartsFields}
-use Rattle.obj36.specs.ObjectSegment.{inner_statics, outer_statics}
-use Rattle.alm_asm.specs.declared.spot.Spot.{Spot}
-use Rattle.alm_asm.specs.Spots.{start, place, size_of, below}
+use Rattle.obj36_parts.specs.declared.section.Section.{Section}
+use Rattle.obj36_parts.specs.declared.section.Section.TheVariants.{Text, Linkage, Symbol, Static}
+use Rattle.obj36_parts.specs.PartsFields.{PartsFields}
+use Rattle.obj36_parts.specs.ObjectSegment.{inner_statics, outer_statics}
+use Rattle.alm_lines.specs.declared.spot.Spot.{Spot}
+use Rattle.alm_lines.specs.Spots.{start, place, size_of, below}
 use Rattle.m36_list.specs.Print.{line, print_of}
 
--- A placed word: the name of its section, its place there, the word, and the line of the source, in decimal.
+-- A placed word: the name of its section, its place there, the word, and the line of the source, in
+-- decimal.
 unfoldable pub placed_line : List ℕ → ℕ → ℕ → ℕ → List ℕ
-placed_line name number at w = line (name ∷ octal_text 6 at ∷ octal_text 12 w ∷ decimal_text number ∷ [])
+placed_line name number at w =
+    line (name ∷ octal_text 6 at ∷ octal_text 12 w ∷ decimal_text number ∷ [])
 
 -- the words that one line of the source places, from a place on
 unfoldable pub placed_lines : List ℕ → ℕ → ℕ → List ℕ → List ℕ
 placed_lines name number at [] = []
-placed_lines name number at (w ∷ ws) = placed_line name number at w ++ placed_lines name number (at + 1) ws
+placed_lines name number at (w ∷ ws) =
+    placed_line name number at w ++ placed_lines name number (at + 1) ws
 
 -- whether a line that is in one section places its words in another
 abbrev pub is_in : Section → Section → Bool
@@ -33,17 +37,20 @@ is_in Static section = false
 
 -- how many words of a section a line places
 unfoldable pub size_in : Section → List ℕ → Spot → Line36 → ℕ
-size_in section text spot row = if is_in spot.section section then size_of row.deed row.args (place spot) else 0
+size_in section text spot row =
+    if is_in spot.section section then size_of row.deed row.args (place spot) else 0
 
 -- the words of a section from a place on, each with the line that places it
 unfoldable pub section_words : List ℕ → Section → List ℕ → ℕ → List ℕ → Spot → List Line36 → List ℕ
 section_words name section text at words spot [] = []
 section_words name section text at words spot (row ∷ lines) =
     let here = take (size_in section text spot row) words in
-    placed_lines name row.line at here ++ section_words name section text (at + length here) (drop (size_in section text spot row) words) (below text spot row) lines
+    let left = drop (size_in section text spot row) words in
+    placed_lines name row.line at here
+    ++ section_words name section text (at + length here) left (below text spot row) lines
 
--- Text, static words of the linkage section, which stand behind the eight words of its header, and those of a section of
--- their own; then the print.
+-- Text, static words of the linkage section, which stand behind the eight words of its header, and
+-- those of a section of their own; then the print.
 unfoldable pub listing_of : List ℕ → Source → PartsFields → List ℕ
 listing_of name source p =
     section_words (codes "text") Text source.text 0 p.text start source.lines

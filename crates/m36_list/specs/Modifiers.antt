@@ -1,5 +1,6 @@
--- How an instruction's tag is written: its modifier, behind the comma that parts it from the address. Multics Processor
--- Manual AL39, "Address modification": tags 00 to 17 are R, 20 to 37 RI, 40 to 57 IT and 60 to 77 IR (octal).
+-- How an instruction's tag is written: its modifier, behind the comma that parts it from the
+-- address. Multics Processor Manual AL39, "Address modification": tags 00 to 17 are R, 20 to 37 RI,
+-- 40 to 57 IT and 60 to 77 IR (octal).
 use Rattle.std.specs.Prelude.{ℕ, ◌+◌, ◌==◌, Bool, List, [], ◌∷◌, ◌++◌, Option, option_map, codes}
 use Rattle.std.specs.List.{find}
 
@@ -10,7 +11,8 @@ pub record Modifier : Type 0 where
 abbrev pub written : ℕ → List ℕ → List Modifier
 written tag text = record { tag = tag; text = text } ∷ []
 
--- the fifteen registers, of the tags that follow a first one, with what is written before and behind them
+-- the fifteen registers, of the tags that follow a first one, with what is written before and
+-- behind them
 abbrev pub of_registers : ℕ → List ℕ → List ℕ → List Modifier
 of_registers first before behind =
     written (first + 1) (before ++ codes "au" ++ behind)
@@ -29,7 +31,8 @@ of_registers first before behind =
     ++ written (first + 14) (before ++ codes "x6" ++ behind)
     ++ written (first + 15) (before ++ codes "x7" ++ behind)
 
--- R with no register is not written, RI with none is the asterisk alone, and IR with none names it; of IT five are written
+-- R with no register is not written, RI with none is the asterisk alone, and IR with none names it;
+-- of IT five are written
 abbrev pub modifiers : List Modifier
 modifiers =
     written 0o00 []

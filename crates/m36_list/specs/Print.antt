@@ -1,13 +1,14 @@
--- The print of an object: lines of fields, which one space parts. Numbers are octal, of six digits where nothing else is said.
+-- The print of an object: lines of fields, which one space parts. Numbers are octal, of six digits
+-- where nothing else is said.
 use Rattle.std.specs.Prelude.{ℕ, ◌+◌, List, [], ◌∷◌, ◌++◌, length, codes, if◌then◌else◌}
 use Rattle.std.specs.List.{join_with_byte, flat_map}
 use Rattle.m36_text.specs.Digits.{octal_text, decimal_text}
-use Rattle.obj36.specs.Fields.{LinkFields}
-use Rattle.obj36.specs.PartsFields.{PartsFields}
-use Rattle.obj36.specs.ObjectSegment.{is_newer, has_name, has_entry, inner_statics, outer_statics, definition_section, linkage_section, symbol_section, words_of}
-use Rattle.obj36.specs.declared.section.Section.{Section}
-use Rattle.obj36.specs.declared.section.Section.TheVariants.{Text, Linkage, Symbol, Static}
-use Rattle.obj36.specs.declared.definition.Named.{Named}
+use Rattle.obj36_parts.specs.Fields.{LinkFields}
+use Rattle.obj36_parts.specs.PartsFields.{PartsFields}
+use Rattle.obj36_parts.specs.ObjectSegment.{is_newer, has_name, has_entry, inner_statics, outer_statics, definition_section, linkage_section, symbol_section, words_of}
+use Rattle.obj36_parts.specs.declared.section.Section.{Section}
+use Rattle.obj36_parts.specs.declared.section.Section.TheVariants.{Text, Linkage, Symbol, Static}
+use Rattle.obj36_parts.specs.declared.definition.Named.{Named}
 use Rattle.m36_list.specs.Disassembly.{disassembly}
 
 -- a line of fields
@@ -34,7 +35,8 @@ symbol_at p = statics_at p + length (outer_statics p)
 
 -- version 2 has a section of its own for static words
 abbrev pub static_line : PartsFields → List ℕ
-static_line p = if is_newer p then section_line (codes "static") (statics_at p) (length p.statics) else []
+static_line p =
+    if is_newer p then section_line (codes "static") (statics_at p) (length p.statics) else []
 
 abbrev pub value_line : List ℕ → ℕ → List ℕ
 value_line name v = line (name ∷ octal_text 6 v ∷ [])
@@ -56,12 +58,15 @@ class_text Symbol = codes "symbol"
 class_text Static = codes "static"
 
 abbrev pub definition_fields : Named → List (List ℕ)
-definition_fields d = codes "def" ∷ d.name ∷ class_text d.def.section ∷ octal_text 6 d.def.value ∷ []
+definition_fields d =
+    codes "def" ∷ d.name ∷ class_text d.def.section ∷ octal_text 6 d.def.value ∷ []
 
 unfoldable pub definition_line : Named → List ℕ
-definition_line d = line (if d.def.is_entry then definition_fields d ++ codes "entry" ∷ [] else definition_fields d)
+definition_line d =
+    line (if d.def.is_entry then definition_fields d ++ codes "entry" ∷ [] else definition_fields d)
 
--- a link's reference, as the assembler writes it: the segment, or the section of the own object, and the entry
+-- a link's reference, as the assembler writes it: the segment, or the section of the own object,
+-- and the entry
 abbrev pub own_section : Section → List ℕ
 own_section Text = codes "*text"
 own_section Linkage = codes "*link"
@@ -70,11 +75,16 @@ own_section Static = codes "*static"
 
 unfoldable pub reference_text : LinkFields → List ℕ
 reference_text l =
-    (if has_name l.kind then l.name else own_section l.section) ++ codes "$" ++ (if has_entry l.kind then l.entry else [])
+    (if has_name l.kind then l.name else own_section l.section) ++ codes "$"
+    ++ (if has_entry l.kind then l.entry else [])
 
--- a link at an offset of the linkage section: its reference, its expression, and its modifier in two digits
+-- a link at an offset of the linkage section: its reference, its expression, and its modifier in
+-- two digits
 unfoldable pub link_line : ℕ → LinkFields → List ℕ
-link_line at l = line (codes "link" ∷ octal_text 6 at ∷ reference_text l ∷ octal_text 6 l.expr ∷ octal_text 2 l.modifier ∷ [])
+link_line at l =
+    line
+    (codes "link" ∷ octal_text 6 at ∷ reference_text l ∷ octal_text 6 l.expr
+    ∷ octal_text 2 l.modifier ∷ [])
 
 -- the first link stands behind eight words of the header and the static words there
 abbrev pub first_link : PartsFields → ℕ
@@ -95,4 +105,5 @@ word_lines at (w ∷ ws) = word_line at w ++ word_lines (at + 1) ws
 
 unfoldable pub print_of : List ℕ → PartsFields → List ℕ
 print_of name p =
-    object_line name p ++ section_lines p ++ flat_map definition_line p.definitions ++ link_lines (first_link p) p.links ++ word_lines 0 p.text
+    object_line name p ++ section_lines p ++ flat_map definition_line p.definitions
+    ++ link_lines (first_link p) p.links ++ word_lines 0 p.text

@@ -1,7 +1,7 @@
 //! Links of an object, a line for each.
 
 ghost use Rattle.std.specs.Prelude.{[], ◌∷◌, ◌+◌, ◌*◌, ◌++◌, ◌≡◌, ◌^◌, ◌<◌, ◌≤◌, length, OnOk, if◌then◌else◌};
-ghost use Rattle.obj36.specs.ObjectSegment.{has_name, has_entry};
+ghost use Rattle.obj36_parts.specs.ObjectSegment.{has_name, has_entry};
 ghost use Rattle.m36_list.specs.Print.{own_section, reference_text, link_line, link_lines};
 
 use crate::fields::{put_field, put_last, put_number};
@@ -24,7 +24,8 @@ fn own_section(section: Section) -> &'static str
 
 // What a link's reference begins with: a segment, or a section of the object itself.
 fn subject(link: &Link) -> &[u8]
-    ensures { result.now ≡ (if has_name link.now.kind then link.now.name else own_section link.now.section) }
+    ensures { result.now
+        ≡ (if has_name link.now.kind then link.now.name else own_section link.now.section) }
 {
     if link.kind == 3 || link.kind == 4 {
         link.name.bytes()

@@ -1,9 +1,9 @@
 //! The listing of a source.
 
 ghost use Rattle.std.specs.Prelude.{ℕ, ◌+◌, ◌++◌, ◌≡◌, ◌^◌, ◌≤◌, length, take, drop, codes, IfOk, OnOk};
-ghost use Rattle.obj36.specs.ObjectSegment.{inner_statics};
+ghost use Rattle.obj36_parts.specs.ObjectSegment.{inner_statics};
 ghost use Rattle.m36_list.specs.Counts.{IsCount};
-ghost use Rattle.alm_asm.specs.Spots.{start};
+ghost use Rattle.alm_lines.specs.Spots.{start};
 ghost use Rattle.m36_list.specs.Listing.{is_in, size_in, section_words, listing_of};
 
 use crate::counts::{Counts, counted};
@@ -80,7 +80,10 @@ fn put_section_words(
     words: &[Word],
 ) -> Result<(), NoMemory>
     requires { first + length words.now ≤ 2 ^ 18 }
-    ensures { OnOk result (out.new ≡ out.old ++ section_words name.now section source.now.text first words.now start source.now.lines) }
+    ensures { OnOk result
+        (out.new
+        ≡ out.old
+        ++ section_words name.now section source.now.text first words.now start source.now.lines) }
 {
     let text = source.text();
     let mut spot = Spot::start();

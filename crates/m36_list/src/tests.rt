@@ -1,7 +1,7 @@
 //! Texts worked out by hand.
 
 ghost use Rattle.std.specs.Prelude.{◌<◌, ◌^◌, length};
-ghost use Rattle.obj36.specs.Sizes.{HasShortLists};
+ghost use Rattle.obj36_parts.specs.Sizes.{HasShortLists};
 
 use crate::{disassemble, disassembly_laws, listing, print};
 use alm_parse::{Lines36, parse};

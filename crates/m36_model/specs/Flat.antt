@@ -53,7 +53,7 @@ flat_table_by true words seg =
     record {
       directory = [];
       sdw =
-        (2 * seg, slice_get words (2 * seg)) ∷ (2 * seg + 1, slice_get words (2 * seg + 1)) ∷ [];
+          (2 * seg, slice_get words (2 * seg)) ∷ (2 * seg + 1, slice_get words (2 * seg + 1)) ∷ [];
       pages = [];
     }
 flat_table_by false words seg = record { directory = []; sdw = []; pages = [] }

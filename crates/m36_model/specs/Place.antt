@@ -8,9 +8,8 @@ use Rattle.m36_word.specs.Bits.{is_on}
 use Rattle.m36_word.specs.Field.{field}
 use Rattle.m36_desc.specs.Fields.{SdwFields, PtwFields, DbrFields}
 use Rattle.m36_desc.specs.Descriptors.{sdw_of, ptw_of}
-use Rattle.m36_model.specs.Act.{RequestKind, Fetch, Indirect, Odd, Read, Write, Transfer, Call}
+use Rattle.m36_model.specs.Act.{RequestKind}
 use Rattle.m36_desc.specs.Violations.{out_of_segment_bounds}
-use Rattle.m36_model.specs.Act.{Locate}
 use Rattle.m36_model.specs.Store.{Spot, Core_word, violation, claims_words}
 use Rattle.m36_model.specs.declared.outcome.Refusal.{Refusal}
 

@@ -1,7 +1,7 @@
 -- A put took a first part of its piece.
-use Rattle.std.proofs.Common.{◌≡◌, ℕ, List, [], ◌∷◌, ◌++◌, Option, Some, None, take, drop, refl, sym, ap}
-use Rattle.std.proofs.lemmas.List.{take-append-drop}
-use Rattle.m36_outside.specs.Passing.{TakesPart}
+use Rattle.std.proofs.Common.{◌≡◌, ℕ, List, [], ◌∷◌, ◌++◌, Option, Some, None, take, drop, refl, sym, ap, ◌∙◌}
+use Rattle.std.proofs.lemmas.List.{append-nil, append_assoc, take-append-drop}
+use Rattle.m36_outside.specs.Passing.{TakesPart, joined}
 use Rattle.m36_outside.specs.Written.{Grew, GrewWithin}
 use Rattle.m36_outside.proofs.Grown.{grew_by_nothing}
 
@@ -29,23 +29,56 @@ takes_front written written' old new whole count grown took = record {
 taken_is : (before after bytes : List ℕ) → Grew (Some before) (Some after) bytes → before ≡ [] → after ≡ bytes
 taken_is before after bytes grown none = let same : Some after ≡ Some bytes = rw none at grown in cc
 
--- what a writer took of it
+-- one more piece behind the others
+joined_more : (pieces : List (List ℕ)) (piece : List ℕ) → joined (pieces ++ piece ∷ []) ≡ joined pieces ++ piece
+joined_more [] piece = append-nil piece
+joined_more (first ∷ pieces) piece =
+    ap (λ l. first ++ l) (joined_more pieces piece) ∙ sym (append_assoc first (joined pieces) piece)
+
+joined_by : (old new : List (List ℕ)) (piece : List ℕ) → new ≡ old ++ piece ∷ [] → joined new ≡ joined old ++ piece
+joined_by old new piece took = ap joined took ∙ joined_more old piece
+
+-- a first part of it, as a writer took it
 pub takes_written :
     (old new : List (List ℕ)) (whole before after : List ℕ)
     → GrewWithin (Some before) (Some after) whole → before ≡ [] → new ≡ old ++ after ∷ []
-    → TakesPart None None old new whole
-takes_written old new whole before after within none took = record {
-  part = within.part;
-  rest = within.rest;
-  is = within.whole;
-  took = rw (taken_is before after within.part within.grew none) at took;
-  grew = refl;
-}
+    → TakesPart (Some (joined old)) (Some (joined new)) old new whole
+takes_written old new whole before after within none took =
+    let same : after ≡ within.part = taken_is before after within.part within.grew none in
+    let part : new ≡ old ++ within.part ∷ [] = took ∙ ap (λ p. old ++ p ∷ []) same in record {
+      part = within.part;
+      rest = within.rest;
+      is = within.whole;
+      took = part;
+      grew = ap (λ w. Some w) (joined_by old new within.part part);
+    }
 
 -- all of it, as a writer took it
 pub takes_whole :
     (old new : List (List ℕ)) (whole before after : List ℕ)
     → Grew (Some before) (Some after) whole → before ≡ [] → new ≡ old ++ after ∷ [] → new ≡ old ++ whole ∷ []
-takes_whole old new whole before after grown none took = rw (taken_is before after whole grown none) at took
+takes_whole old new whole before after grown none took =
+    took ∙ ap (λ p. old ++ p ∷ []) (taken_is before after whole grown none)
 
-pub ruleset takes = (takes_nothing, takes_front, takes_written, takes_whole)
+-- what is written by it
+pub writes_whole :
+    (old new : List (List ℕ)) (whole : List ℕ)
+    → new ≡ old ++ whole ∷ [] → Grew (Some (joined old)) (Some (joined new)) whole
+writes_whole old new whole took = ap (λ w. Some w) (joined_by old new whole took)
+
+pub writes_part :
+    (old new : List (List ℕ)) (whole before after : List ℕ)
+    → GrewWithin (Some before) (Some after) whole → before ≡ [] → new ≡ old ++ after ∷ []
+    → GrewWithin (Some (joined old)) (Some (joined new)) whole
+writes_part old new whole before after within none took =
+    let cut = takes_written old new whole before after within none took in
+    record { part = cut.part; rest = cut.rest; whole = cut.is; grew = cut.grew }
+
+pub writes_all :
+    (old new : List (List ℕ)) (whole before after : List ℕ)
+    → Grew (Some before) (Some after) whole → before ≡ [] → new ≡ old ++ after ∷ []
+    → Grew (Some (joined old)) (Some (joined new)) whole
+writes_all old new whole before after grown none took =
+    writes_whole old new whole (takes_whole old new whole before after grown none took)
+
+pub ruleset takes = (takes_nothing, takes_front, takes_written, takes_whole, writes_whole, writes_part, writes_all)

@@ -10,6 +10,11 @@ use Rattle.m36_outside.specs.declared.sink.Put.TheVariants as put
 abbrev pub HasMore : {E : Type 0} → List E → List E → Type 0
 HasMore old new = length old < length new
 
+-- pieces, one behind the other
+abbrev pub joined : List (List ℕ) → List ℕ
+joined [] = []
+joined (piece ∷ pieces) = piece ++ joined pieces
+
 -- A sink took a first part of a piece, by which what is written grew.
 pub record TakesPart (written written' : Option (List ℕ)) (old new : List (List ℕ)) (whole : List ℕ) : Type 0 where
   pub part : List ℕ

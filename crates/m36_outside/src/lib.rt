@@ -26,7 +26,7 @@
 //!
 //! What is of the system goes through `noted.rt`, which notes what each call of std answered, and is proved over every
 //! reader and writer. By it the adapters prove that a put which is done wrote all and flushed it, and that a failure has
-//! an error behind it. What a real file or terminal holds is not told: what std says of the system is taken as it is.
+//! an error behind it. What a real file holds, or a terminal has left, is not told: what std says of the system is taken as it is.
 //!
 //! A caller composes these contracts by the laws in `proofs/`: `Grown` for what several puts wrote, `LinesTaken` for the
 //! pieces that they put, `Completes` for puts in a loop, `Risen` for counts, and `FilesKept` for files. `caller.rt` is a

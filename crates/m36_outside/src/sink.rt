@@ -15,9 +15,9 @@ pub enum Put {
 
 /// A place for the output, to which pieces are added at its end.
 ///
-/// A sink may tell what is written, as one in memory does, or not, as a real output. Whether it tells it never changes.
-/// Every sink tells the pieces that it took, in order, one a put: the whole piece, or a first part where the put failed.
-/// Its count of faults never falls, is below 2^64, and stays where it is once it has reached 2^64 - 1.
+/// A sink may tell what is written, as each of this crate does: all that was written to it since it was made. Whether it
+/// tells it never changes. Every sink tells the pieces that it took, in order, one a put: the whole piece, or a first part
+/// where the put failed. Its count of faults never falls, is below 2^64, and stays where it is once it has reached 2^64 - 1.
 pub trait Sink {
     /// All that is written, where it is told.
     ghost written: { Self → Option (List ℕ) };

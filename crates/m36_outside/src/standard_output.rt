@@ -1,7 +1,7 @@
 //! The standard output.
 
-ghost use Rattle.std.specs.Prelude.{[], ◌≡◌, ◌≤◌, ◌<◌, ◌^◌, None};
-ghost use Rattle.m36_outside.specs.Passing.{PutTakes};
+ghost use Rattle.std.specs.Prelude.{[], ◌≡◌, ◌≤◌, ◌<◌, ◌^◌, Some};
+ghost use Rattle.m36_outside.specs.Passing.{PutTakes, joined};
 ghost use Rattle.m36_outside.specs.Put.{PutSays, PutHasCause};
 ghost use Rattle.m36_outside.specs.System.{PutHasError};
 
@@ -15,8 +15,8 @@ use std::io;
 use std::io::ErrorKind;
 use std::marker::Model;
 
-/// The standard output. It does not tell what is written there. Contracts see its count of faults, the pieces that it
-/// took, and the errors that the system answered. Each put is flushed before it answers.
+/// The standard output. It tells the pieces that it took, and by them what is written there since it was made. Contracts
+/// see them, its count of faults, and the errors that the system answered. Each put is flushed before it answers.
 #[derive(Drop)]
 pub struct StdSink<R> {
     faults: u64,
@@ -51,7 +51,7 @@ impl<R: Print + Drop> StdSink<R> {
 }
 
 impl<R: Print + Drop> Sink for StdSink<R> {
-    ghost written = { λ _. None };
+    ghost written = { λ s. Some (joined s.taken) };
 
     ghost taken = { λ s. s.taken };
 
@@ -59,8 +59,9 @@ impl<R: Print + Drop> Sink for StdSink<R> {
 
     #[tactic(auto, using(crate::proofs::Takes::takes))]
     fn put(&mut self, piece: &[u8]) -> Put
-        ensures says { PutSays result None None piece.now }
-        ensures took { PutTakes result None None self.old.taken self.new.taken piece.now }
+        ensures says { PutSays result (Some (joined self.old.taken)) (Some (joined self.new.taken)) piece.now }
+        ensures took { PutTakes result
+            (Some (joined self.old.taken)) (Some (joined self.new.taken)) self.old.taken self.new.taken piece.now }
         ensures cause { PutHasCause result self.old.faults self.new.faults }
         ensures count { self.old.faults ≤ self.new.faults }
         ensures count_bound { self.new.faults < 2 ^ 64 }

@@ -1,13 +1,14 @@
 //! A place for output that never fails.
 
-ghost use Rattle.std.specs.Prelude.{[], ◌∷◌, ◌++◌, ◌≡◌, None};
+ghost use Rattle.std.specs.Prelude.{[], ◌∷◌, ◌++◌, ◌≡◌, Some};
+ghost use Rattle.m36_outside.specs.Passing.{joined};
 ghost use Rattle.m36_outside.specs.Put.{PutSays, PutHasCause};
 
 use crate::passed::Passed;
 use crate::sink::{Put, Sink};
 use crate::text::Text;
 
-/// Takes every piece and keeps none. It does not tell what is written, and never counts a fault.
+/// Takes every piece and keeps none. It tells what it took, and never counts a fault.
 #[derive(Drop)]
 pub struct SureSink {
     taken: Passed<Text>,
@@ -25,14 +26,16 @@ impl SureSink {
 }
 
 impl Sink for SureSink {
-    ghost written = { λ _. None };
+    ghost written = { λ s. Some (joined s.taken.entries) };
 
     ghost taken = { λ s. s.taken.entries };
 
     ghost faults = { λ _. 0 };
 
+    #[tactic(auto, using(crate::proofs::Takes::takes))]
     fn put(&mut self, piece: &[u8]) -> Put
-        ensures says { PutSays result None None piece.now }
+        ensures says { PutSays result
+            (Some (joined self.old.taken.entries)) (Some (joined self.new.taken.entries)) piece.now }
         ensures took { self.new.taken.entries ≡ self.old.taken.entries ++ piece.now ∷ [] }
         ensures cause { PutHasCause result 0 0 }
         ensures sure { result ≡ Put.Done }

@@ -28,8 +28,11 @@ pub fn in_order(sdw: &Sdw) -> bool
 /// The place of a word within the bound, which may be past the end of core.
 pub fn word_place(core: &Core, sdw: &Sdw, word: u32) -> Result<u32, Refusal>
     requires { word < 2 ^ 18 }
-    ensures value { result ≡ word_place_by sdw.now.unpaged sdw.now word (ptw_at core.now (page_at sdw.now (word / 1024))) }
-    ensures page { OnOk result (TableIn (length core.now) sdw.now.unpaged (page_at sdw.now (word / 1024))) }
+    ensures value { result
+        ≡ word_place_by sdw.now.unpaged sdw.now word
+        (ptw_at core.now (page_at sdw.now (word / 1024))) }
+    ensures page { OnOk result (TableIn (length core.now) sdw.now.unpaged
+        (page_at sdw.now (word / 1024))) }
     ensures bound { IfOk result (λ a. a < 2 ^ 24) }
 {
     if sdw.unpaged {
@@ -45,7 +48,8 @@ pub fn word_place(core: &Core, sdw: &Sdw, word: u32) -> Result<u32, Refusal>
 #[tactic(auto, unfolding(m36_model::specs::Place::core_spot))]
 pub fn word_in_core(core: &Core, sdw: &Sdw, word: u32) -> Result<u32, Refusal>
     requires { word < 2 ^ 18 }
-    ensures value { (dbr : DbrFields) (seg : ℕ) → spot_of result ≡ core_spot core.now dbr sdw.now seg word }
+    ensures value { (dbr : DbrFields) (seg : ℕ) → spot_of result
+        ≡ core_spot core.now dbr sdw.now seg word }
     ensures inside { IfOk result (λ a. a < length core.now) }
 {
     let place = word_place(core, sdw, word)?;

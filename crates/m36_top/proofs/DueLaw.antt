@@ -1,24 +1,38 @@
--- What is due, by the conditions of the audit.
-use Rattle.std.proofs.Common.{◌≡◌, ℕ, List, [], ◌∷◌, ap, ◌∙◌}
-use Rattle.m36_model.specs.Store.{State}
-use Rattle.m36_model.specs.Audit.{AreFindings, IsAudited}
-use Rattle.m36_isol.proofs.Findings.{findings_law}
-use Rattle.m36_top.specs.declared.command.ImageCommand.{ImageCommand}
+-- One answer is due.
+use Rattle.std.proofs.Common.{◌≡◌, ℕ, List, Option, Some, None, Result, Ok, Err, refl, sym, ◌∙◌}
+use Rattle.m36_outside.specs.Files.{Files}
+use Rattle.m36_reading.specs.declared.status.Status.TheVariants.{Usage}
+use Rattle.m36_reading.specs.Reading.{Early, outcome_in}
+use Rattle.m36_reading.specs.Answers.{Answer, unwritten, status_of, IsDueBy}
+use Rattle.m36_told.specs.Told.{told_answer}
+use Rattle.m36_ran.proofs.DueLaws.{state_due_law}
+use Rattle.m36_top.specs.declared.command.Command.{Command}
 use Rattle.m36_top.specs.Words.{command_of}
-use Rattle.m36_top.specs.Answers.{Answer, state_answer, IsStateDue}
-use Rattle.m36_top.specs.Due.{IsByFindings, DueLaw}
-use Rattle.m36_top.proofs.FileAnswers.{command_one}
+use Rattle.m36_top.specs.Dues.{Due, Told, Image, IsDueOf}
+use Rattle.m36_top.specs.Commands.{reads}
+use Rattle.m36_top.specs.DueLaw.{IsCommandDue, DueLaw}
 
-by_some :
-    (command : ImageCommand) (state : State (List ℕ)) (due : Answer) (findings : List (ℕ × ℕ))
-    → AreFindings state.store state.regs.dbr findings → due ≡ state_answer command state findings
-    → ¬ IsAudited state.store state.regs.dbr → IsByFindings command state due
-by_some command state due [] found answer fails = absurd (fails (findings_law.sound state.store state.regs.dbr found))
-by_some command state due (f ∷ findings) found answer fails = record { first = f; others = findings; answer = answer }
+by_one : (given : Early Due) (due same : Answer) → IsDueBy IsDueOf given due → IsDueBy IsDueOf given same → due ≡ same
+by_one (Ok (Told told)) due same is is_same = is ∙ sym is_same
+by_one (Ok (Image image)) due same is is_same = state_due_law.one image.command image.state due same is is_same
+by_one (Err r) due same is is_same = is ∙ sym is_same
+
+by_some : (given : Early Due) → ¬ ((due : Answer) → ¬ IsDueBy IsDueOf given due)
+by_some (Ok (Told told)) none = none (told_answer told) refl
+by_some (Ok (Image image)) none = state_due_law.some image.command image.state none
+by_some (Err r) none = none (unwritten (status_of r)) refl
+
+command_one : (command : Option Command) (files : Files) (due same : Answer) → IsCommandDue command files due → IsCommandDue command files same → due ≡ same
+command_one None files due same is is_same = is ∙ sym is_same
+command_one (Some command) files due same is is_same = by_one (outcome_in files (reads command)) due same is is_same
+
+command_some : (command : Option Command) (files : Files) → ¬ ((due : Answer) → ¬ IsCommandDue command files due)
+command_some None files none = none (unwritten Usage) refl
+command_some (Some command) files none = by_some (outcome_in files (reads command)) none
 
 pub due_law : DueLaw
 due_law = record {
-  one = λ words files due same is is_same. command_one (command_of words) files due same is is_same;
-  passed = λ command state due is audited. is.answer ∙ ap (state_answer command state) (findings_law.complete state.store state.regs.dbr is.findings audited is.found);
-  failed = λ command state due is fails. by_some command state due is.findings is.found is.answer fails;
+  one = λ words files. command_one (command_of words) files;
+  some = λ words files. command_some (command_of words) files;
+  on_images = state_due_law;
 }

@@ -7,10 +7,10 @@
 --
 -- The first word is the command. Operands and options follow it in any order, and an option stands at most once. Behind
 -- `--`, which may stand once, each word is an operand. `--steps N` may be written `--steps=N`; the value of `--steps` is
--- the next word, whatever it is. FILE and NAME are 1 to 32 characters of `A-Z a-z 0-9 _ .`, of which the first is no point, and the NAME of `alm` has at most 27: its source is
--- NAME.alm. N is
--- one to eight decimal digits, at most 10,000,000; without it a run takes at most 100,000 steps. No other list of words
--- is a command.
+-- the next word, whatever it is. No other list of words is a command.
+--
+--     FILE, NAME   1 to 32 of `A-Z a-z 0-9 _ .`, not beginning with `.`; of `alm` at most 27, since its source is NAME.alm
+--     N            1 to 8 decimal digits, at most 10,000,000; without `--steps` 100,000
 use Rattle.std.specs.Prelude.{ℕ, Bool, true, false, not, ◌&&◌, nat_le, List, [], ◌∷◌, ◌++◌, length, take, drop, codes, Option, Some, None, unwrap_or, if◌then◌else◌}
 use Rattle.std.specs.Option.{is_none, option_map, option_and_then}
 use Rattle.m36_text.specs.Texts.{is_text, is_file_name}
@@ -20,7 +20,7 @@ use Rattle.m36_top.specs.declared.words.Expects.{Expects}
 use Rattle.m36_top.specs.declared.words.Expects.TheVariants as expects
 use Rattle.m36_top.specs.declared.command.Command.{Command}
 use Rattle.m36_top.specs.declared.command.Command.TheVariants.{OfImage, Print, Alm}
-use Rattle.m36_top.specs.declared.command.ImageCommand.TheVariants.{Bare, Audit}
+use Rattle.m36_ran.specs.declared.command.ImageCommand.TheVariants.{Bare, Audit}
 
 -- operands: the files of all commands
 abbrev pub operand_of : List ℕ → Option (List ℕ)

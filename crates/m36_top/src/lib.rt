@@ -11,32 +11,23 @@
 //!
 //! - Each trace line that is written is the line of the written step of the state that the step before left, from the
 //!   image of the file on.
-//! - Where `audit yes` is written, the tables of the image isolate each ring from 1: whatever stands in it and above,
-//!   until a fault, a stop or a gate call, no word outside its write brackets changes, and none outside its read brackets
-//!   affects a step.
+//! - Where `audit yes` is written, all six conditions of the audit hold of the image, and its tables isolate each ring from
+//!   1: whatever stands in it and above, until a fault, a stop or a gate call, no word outside its write brackets changes,
+//!   and none outside its read brackets affects a step.
 //! - What is written is a first part of the stated output, and the whole of it where the call answers Done, AuditNo,
 //!   MachineStop or Steps. Each answer comes exactly where it is due, in the order words, file, image, audit, run; a fault
 //!   has its cause outside; and want of memory alone may stand in the place of an answer, with nothing written.
 //!
-//! `specs/Words.antt` has the set of commands, `m36_image` the grammar of images, `specs/AuditText.antt` and
-//! `specs/Output.antt` the output, `specs/Answers.antt` what is due and `specs/TopCall.antt` what the call says of it.
+//! A command is a reading: it asks the folder for files, one after another, and comes to what is due. `specs/Words.antt`
+//! has the set of commands, `specs/Commands.antt` what each reads, `specs/Dues.antt` the kinds of what is due, and
+//! `specs/TopCall.antt` what the call says.
 //!
 //! Files, texts and statuses are this simulator's own; the machine is that of the Multics Processor Manual AL39.
 #![tactic(auto)]
 
-#[cfg(test)]
-mod alm_tests;
-pub mod assembling;
 pub mod command;
-mod findings;
 pub mod laws;
-mod line_output;
 mod names;
-#[cfg(test)]
-mod print_tests;
-pub mod printing;
-mod running;
-pub mod status;
 #[cfg(test)]
 mod tests;
 pub mod top;
@@ -44,11 +35,11 @@ pub mod top;
 mod word_tests;
 pub mod words;
 
-pub use assembling::assemble_bytes;
-pub use command::{AlmFiles, BareRun, Command, ImageCommand};
+pub use command::Command;
 pub use laws::law_due;
-pub use m36_image::{Image, ImageFault, Refusal, read_image};
-pub use printing::print_bytes;
-pub use status::{Bad, Code, Status};
+pub use m36_image::{Image, ImageFault, read_image};
+pub use m36_ran::{BareRun, ImageCommand};
+pub use m36_reading::{Bad, Code, Status};
+pub use m36_told::AlmFiles;
 pub use top::m36;
 pub use words::command_of;

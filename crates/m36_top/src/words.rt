@@ -3,10 +3,12 @@
 ghost use Rattle.std.specs.Prelude.{ℕ, ◌≡◌, ◌≤◌, ◌++◌, true, length, drop, codes, Some, IfSome};
 ghost use Rattle.m36_top.specs.Words.{steps_of, with_operand, with_steps, with_unaudited, expecting, is_steps_with_value, with_any, with_word, ended_by, with_words, nothing, bare, has_no_option, audit, print, alm_of, alm, commands, command_in, command_of};
 
-use crate::command::{AlmFiles, BareRun, Command, ImageCommand};
+use crate::command::Command;
 use crate::names::{operand_of, source_of};
 use m36_outside::Text;
+use m36_ran::{BareRun, ImageCommand};
 use m36_text::{Name, short_decimal_in};
+use m36_told::AlmFiles;
 
 /// The most digits of a number of steps.
 const MOST_DIGITS: usize = 8;

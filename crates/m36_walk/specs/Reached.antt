@@ -34,16 +34,22 @@ abbrev pub reached_places : SdwFields → Result (List Spot) Fault → Result Re
 reached_places d (Ok spots) = Ok (record { sdw = d; spots = spots })
 reached_places d (Err f) = Err f
 
-abbrev pub reached_rights : SdwFields → Result Unit Fault → Result (List Spot) Fault → Result Reached Fault
+abbrev pub reached_rights : SdwFields → Result Unit Fault → Result (List Spot) Fault
+    → Result Reached Fault
 reached_rights d (Ok u) places = reached_places d places
 reached_rights d (Err f) places = Err f
 
-abbrev pub reached_sdw : (SdwFields → Result Unit Acv) → (SdwFields → Result (List Spot) (ℕ × Refusal)) → AtFields → Result SdwFields Fault → Result Reached Fault
-reached_sdw rights places at (Ok d) = reached_rights d (told_acv at (rights d)) (told_places at (places d))
+abbrev pub reached_sdw : (SdwFields → Result Unit Acv)
+    → (SdwFields → Result (List Spot) (ℕ × Refusal)) → AtFields → Result SdwFields Fault
+    → Result Reached Fault
+reached_sdw rights places at (Ok d) = reached_rights d (told_acv at (rights d))
+    (told_places at (places d))
 reached_sdw rights places at (Err f) = Err f
 
 -- by the descriptor of the segment, the rights that it gives, and the places of the words
-unfoldable pub reached : (SdwFields → Result Unit Acv) → (SdwFields → Result (List Spot) (ℕ × Refusal)) → Result SdwFields Refusal → AtFields → Result Reached Fault
+unfoldable pub reached : (SdwFields → Result Unit Acv)
+    → (SdwFields → Result (List Spot) (ℕ × Refusal)) → Result SdwFields Refusal → AtFields
+    → Result Reached Fault
 reached rights places sdw at = reached_sdw rights places at (told at sdw)
 
 -- as the code finds it: a run of so many words
@@ -53,5 +59,6 @@ found_run count (Err f) = Err f
 
 -- an answered reference has set its marks, and a refused one has changed nothing
 abbrev pub Marked : DbrFields → AtFields → Bool → List ℕ → List ℕ → Result Found Fault → Type 0
-Marked dbr at write old new (Ok f) = new ≡ with_marks old (directory_marks dbr at.seg ++ page_marks write at.word (Ok f.sdw))
+Marked dbr at write old new (Ok f) = new
+    ≡ with_marks old (directory_marks dbr at.seg ++ page_marks write at.word (Ok f.sdw))
 Marked dbr at write old new (Err f) = new ≡ old

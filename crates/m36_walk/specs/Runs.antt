@@ -21,7 +21,8 @@ words_from core a (suc n) = slice_index core a ∷ words_from core (wrapped (a +
 unfoldable pub examined : ℕ → ℕ → ℕ → ℕ → Result (List Spot) (ℕ × Refusal)
 examined size word a zero = Ok []
 examined size word a (suc n) =
-    placed_one true word (inside_core_by (nat_lt a size) a) (examined size (word + 1) (wrapped (a + 1)) n)
+    placed_one true word (inside_core_by (nat_lt a size) a)
+    (examined size (word + 1) (wrapped (a + 1)) n)
 
 -- each word of the run lies in core
 unfoldable pub LiesIn : ℕ → ℕ → ℕ → Type 0

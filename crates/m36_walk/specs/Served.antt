@@ -44,7 +44,8 @@ unfoldable pub sdw_in : Memory → ℕ → SdwFields
 sdw_in m seg = sdw_by (core_sdw m.core m.dbr seg)
 
 -- A reference that is answered leaves its store, its claims and its reference, and one that is refused nothing.
-abbrev pub served_by : Request → List ℕ → List Spot → List Reference → Result Reached Fault → Served (List ℕ)
+abbrev pub served_by : Request → List ℕ → List Spot → List Reference → Result Reached Fault
+    → Served (List ℕ)
 served_by q new claims refs (Err f) = record { reply = Err f; mid = standing new claims refs }
 served_by q new claims refs (Ok r) =
     record {
@@ -52,7 +53,10 @@ served_by q new claims refs (Ok r) =
         sdw = r.sdw;
         first = length claims;
         place = located q.kind r.spots;
-        words = if reads q.kind then map (core_word (core_put new (changes claims q.pending))) r.spots else [];
+        words =
+            if reads q.kind
+            then map (core_word (core_put new (changes claims q.pending))) r.spots
+            else [];
       });
       mid = record {
         store = new;
@@ -72,7 +76,8 @@ at_target d (Ok a) = Ok (record { sdw = d; spots = [] })
 at_target d (Err f) = Err f
 
 -- a reference whose words are told
-abbrev pub with_words : Request → SdwFields → List ℕ → List Spot → List Reference → Result (List ℕ) Fault → Served (List ℕ)
+abbrev pub with_words : Request → SdwFields → List ℕ → List Spot → List Reference
+    → Result (List ℕ) Fault → Served (List ℕ)
 with_words q d new claims refs (Err f) = record { reply = Err f; mid = standing new claims refs }
 with_words q d new claims refs (Ok words) =
     record {
@@ -82,9 +87,11 @@ with_words q d new claims refs (Ok words) =
 
 -- Whatever the registers hold beside what Known says of them, and whatever the step has claimed and referred to before:
 -- the request is served so.
-abbrev pub Serves : (RegsFields → Type 0) → Memory → Request → (List Spot → List Reference → Served (List ℕ)) → Type 0
+abbrev pub Serves : (RegsFields → Type 0) → Memory → Request
+    → (List Spot → List Reference → Served (List ℕ)) → Type 0
 Serves Known m q s =
-    (g : RegsFields) → g.dbr ≡ m.dbr → Known g → (claims : List Spot) (refs : List Reference) → serve core_store g (standing m.core claims refs) q ≡ s claims refs
+    (g : RegsFields) → g.dbr ≡ m.dbr → Known g → (claims : List Spot) (refs : List Reference)
+    → serve core_store g (standing m.core claims refs) q ≡ s claims refs
 
 -- the words of a run from a place on, with these changes made
 abbrev pub run_words : List ℕ → List Change → ℕ → Result ℕ Fault → Result (List ℕ) Fault
@@ -92,27 +99,42 @@ run_words new changed count (Ok a) = Ok (words_from (core_put new changed) a cou
 run_words new changed count (Err e) = Err e
 
 -- a request of a kind that reads, by the place that was found
-abbrev pub ServesRun : (RegsFields → Type 0) → RequestKind → Memory → List ℕ → AtFields → ℕ → Result ℕ Fault → Type 0
+abbrev pub ServesRun : (RegsFields → Type 0) → RequestKind → Memory → List ℕ → AtFields → ℕ
+    → Result ℕ Fault → Type 0
 ServesRun Known kind m new at count place =
-    (g : RegsFields) → g.dbr ≡ m.dbr → Known g → (claims : List Spot) (refs : List Reference) (puts : List Put) (changed : List Change) → changes claims puts ≡ changed
-    → serve core_store g (standing m.core claims refs) (request kind at count puts) ≡ with_words (request kind at count puts) (sdw_in m at.seg) new claims refs (run_words new changed count place)
+    (g : RegsFields) → g.dbr ≡ m.dbr → Known g
+    → (claims : List Spot) (refs : List Reference) (puts : List Put) (changed : List Change)
+    → changes claims puts ≡ changed
+    → serve core_store g (standing m.core claims refs) (request kind at count puts)
+    ≡ with_words (request kind at count puts) (sdw_in m at.seg) new claims refs
+    (run_words new changed count place)
 
 -- a Write, by the place that was found
 abbrev pub ServesClaim : Memory → List ℕ → AtFields → ℕ → Result ℕ Fault → Type 0
 ServesClaim m new at count place =
-    (g : RegsFields) → g.dbr ≡ m.dbr → (claims : List Spot) (refs : List Reference) (puts : List Put)
-    → serve core_store g (standing m.core claims refs) (request Write at count puts) ≡ served_by (request Write at count puts) new claims refs (at_place (sdw_in m at.seg) count place)
+    (g : RegsFields) → g.dbr ≡ m.dbr
+    → (claims : List Spot) (refs : List Reference) (puts : List Put)
+    → serve core_store g (standing m.core claims refs) (request Write at count puts)
+    ≡ served_by (request Write at count puts) new claims refs
+    (at_place (sdw_in m at.seg) count place)
 
 -- a request of this kind for one word, which is told
-abbrev pub ServesWord : (RegsFields → Type 0) → RequestKind → Memory → List ℕ → AtFields → Result ℕ Fault → Type 0
+abbrev pub ServesWord : (RegsFields → Type 0) → RequestKind → Memory → List ℕ → AtFields
+    → Result ℕ Fault → Type 0
 ServesWord Known kind m new at word =
-    Serves Known m (request kind at 1 []) (λ claims refs. with_words (request kind at 1 []) (sdw_in m at.seg) new claims refs (ok_map (λ w. w ∷ []) word))
+    Serves Known m (request kind at 1 [])
+    (λ claims refs. with_words (request kind at 1 []) (sdw_in m at.seg) new claims refs
+    (ok_map (λ w. w ∷ []) word))
 
 -- a Read of so many words, which sees the pending word as written; of that the claims and puts of the step tell the same
-abbrev pub Reads : Memory → List ℕ → ℕ → AtFields → ℕ → Option Pending → Result (List ℕ) Fault → Type 0
+abbrev pub Reads : Memory → List ℕ → ℕ → AtFields → ℕ → Option Pending → Result (List ℕ) Fault
+    → Type 0
 Reads m new psr at count pending words =
-    (g : RegsFields) → g.dbr ≡ m.dbr → g.ppr.psr ≡ psr → (claims : List Spot) (refs : List Reference) (puts : List Put) → changes claims puts ≡ pending_changes pending
-    → serve core_store g (standing m.core claims refs) (request Read at count puts) ≡ with_words (request Read at count puts) (sdw_in m at.seg) new claims refs words
+    (g : RegsFields) → g.dbr ≡ m.dbr → g.ppr.psr ≡ psr
+    → (claims : List Spot) (refs : List Reference) (puts : List Put)
+    → changes claims puts ≡ pending_changes pending
+    → serve core_store g (standing m.core claims refs) (request Read at count puts)
+    ≡ with_words (request Read at count puts) (sdw_in m at.seg) new claims refs words
 
 -- as many words as one reference has: a word, a pair, or a block
 abbrev pub IsCount : ℕ → Type 0
@@ -128,16 +150,22 @@ replied s = ok_map (λ a. tt) s.reply
 
 -- a Write of words on its own: it is served, and the words stand where it has claimed their places; where it is refused
 -- nothing has changed
-pub record IsWritten (s : Served (List ℕ)) (new words : List ℕ) (result : Result Unit Fault) : Type 0 where
+pub record IsWritten (s : Served (List ℕ)) (new words : List ℕ)
+    (result : Result Unit Fault) : Type 0 where
   pub told : result ≡ replied s
   pub core : new ≡ written_by s words
 
 abbrev pub Writes : Memory → List ℕ → AtFields → ℕ → List ℕ → Result Unit Fault → Type 0
 Writes m new at count words result =
-    (g : RegsFields) → g.dbr ≡ m.dbr → IsWritten (serve core_store g (standing m.core [] []) (request Write at count [])) new words result
+    (g : RegsFields) → g.dbr ≡ m.dbr
+    → IsWritten (serve core_store g (standing m.core [] []) (request Write at count []))
+    new words result
 
 -- a request that examines a target, or asks for a place: it changes nothing
-abbrev pub ServesAsked : (RegsFields → Type 0) → RequestKind → Memory → AtFields → Result Reached Fault → Type 0
+abbrev pub ServesAsked : (RegsFields → Type 0) → RequestKind → Memory → AtFields
+    → Result Reached Fault → Type 0
 ServesAsked Known kind m at r =
-    (g : RegsFields) → g.dbr ≡ m.dbr → Known g → (claims : List Spot) (refs : List Reference) (puts : List Put)
-    → serve core_store g (standing m.core claims refs) (request kind at 1 puts) ≡ served_by (request kind at 1 puts) m.core claims refs r
+    (g : RegsFields) → g.dbr ≡ m.dbr → Known g
+    → (claims : List Spot) (refs : List Reference) (puts : List Put)
+    → serve core_store g (standing m.core claims refs) (request kind at 1 puts)
+    ≡ served_by (request kind at 1 puts) m.core claims refs r

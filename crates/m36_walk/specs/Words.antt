@@ -19,7 +19,8 @@ seen core pending = core_put core (pending_changes pending)
 -- words for the places of a run, one after another
 abbrev pub run_changes : ℕ → List ℕ → List Change
 run_changes a [] = []
-run_changes a (w ∷ words) = record { spot = Core_word a; part = Whole; value = w } ∷ run_changes (wrapped (a + 1)) words
+run_changes a (w ∷ words) = record { spot = Core_word a; part = Whole; value = w }
+    ∷ run_changes (wrapped (a + 1)) words
 
 -- the words of pairs in order
 abbrev pub pair_words : Pair → List ℕ

@@ -20,8 +20,10 @@ impl Walk {
     /// The place of a word in core, whoever asks for it: it examines no rights and sets no marks.
     #[tactic(auto, unfolding(crate::specs::Runs::LiesIn))]
     pub fn place(&mut self, at: At) -> Result<u32, Fault>
-        ensures value { ok_map Core_word result ≡ told at (place core_store self.old.core self.old.dbr at.seg at.word) }
-        ensures serves { ServesAsked (λ g. Unit {0}) Locate self.old at (at_place (sdw_in self.old at.seg) 1 result) }
+        ensures value { ok_map Core_word result
+            ≡ told at (place core_store self.old.core self.old.dbr at.seg at.word) }
+        ensures serves { ServesAsked (λ g. Unit {0}) Locate self.old at
+            (at_place (sdw_in self.old at.seg) 1 result) }
         ensures inside { IfOk result (λ a. a < length self.old.core) }
         ensures same { self.new ≡ self.old }
     {
@@ -39,7 +41,8 @@ impl Walk {
 
     /// Examines the target of a transfer in the ring of `at` from ring `prr`. It touches no page of the target.
     pub fn transfer(&mut self, at: At, prr: u8) -> Result<(), Fault>
-        ensures serves { ServesAsked (λ g. g.ppr.prr ≡ prr) Transfer self.old at (at_target (sdw_in self.old at.seg) result) }
+        ensures serves { ServesAsked (λ g. g.ppr.prr ≡ prr) Transfer self.old at
+            (at_target (sdw_in self.old at.seg) result) }
         ensures same { self.new ≡ self.old }
     {
         find_transfer(&self.core, self.dbr, at, prr)
@@ -47,7 +50,8 @@ impl Walk {
 
     /// Examines the target of CALL6 in the ring of `at`, called from `p`. The answer is the ring in which the call goes on.
     pub fn call(&mut self, at: At, p: Ppr) -> Result<u8, Fault>
-        ensures serves { ServesAsked (λ g. (g.ppr.psr ≡ p.psr) × (g.ppr.prr ≡ p.prr)) Call self.old at (at_target (sdw_in self.old at.seg) result) }
+        ensures serves { ServesAsked (λ g. (g.ppr.psr ≡ p.psr) × (g.ppr.prr ≡ p.prr)) Call self.old
+            at (at_target (sdw_in self.old at.seg) result) }
         ensures ring { IfOk result (λ ring. ring ≡ ring_called (sdw_in self.old at.seg) at.ring) }
         ensures bound { IfOk result (λ ring. ring < 2 ^ 3) }
         ensures same { self.new ≡ self.old }
@@ -58,7 +62,9 @@ impl Walk {
     /// The first ring bracket of a segment. A fault is told at word 0 of the segment in ring 0.
     pub fn first_ring(&mut self, seg: u16) -> Result<u8, Fault>
         requires { seg < 2 ^ 15 }
-        ensures value { result ≡ told (record { seg = seg; word = 0; ring = 0 }) (first_ring core_store self.old.core self.old.dbr seg) }
+        ensures value { result
+            ≡ told (record { seg = seg; word = 0; ring = 0 })
+            (first_ring core_store self.old.core self.old.dbr seg) }
         ensures bound { IfOk result (λ ring. ring < 2 ^ 3) }
         ensures same { self.new ≡ self.old }
     {

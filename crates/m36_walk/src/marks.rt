@@ -74,7 +74,8 @@ pub(crate) fn set_marks(core: &mut Core, dbr: Dbr, sdw: &Sdw, seg: u16, word: u3
     requires word { word < 2 ^ 18 }
     requires directory { TableIn (length core.old) dbr.unpaged (directory_at dbr seg) }
     requires page { TableIn (length core.old) sdw.now.unpaged (page_at sdw.now (word / 1024)) }
-    ensures marked { core.new ≡ with_marks core.old (directory_marks dbr seg ++ page_marks write word (Ok sdw.now)) }
+    ensures marked { core.new
+        ≡ with_marks core.old (directory_marks dbr seg ++ page_marks write word (Ok sdw.now)) }
     ensures len { length core.new ≡ length core.old }
 {
     mark_directory(core, dbr, seg);

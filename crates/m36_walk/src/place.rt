@@ -18,8 +18,10 @@ use m36_tables::{store_fault, violation, within, word_place, wrapped};
 fn words_inside(size: u32, place: u32, count: u32) -> u32
     requires { place < 2 ^ 24 }
     ensures bound { result ≤ count }
-    ensures whole { result ≡ count → (word : ℕ) → examined size word place count ≡ Ok (run_from place count) }
-    ensures refused { result < count → (word : ℕ) → examined size word place count ≡ Err (word + result, store_fault) }
+    ensures whole { result ≡ count → (word : ℕ) → examined size word place count
+        ≡ Ok (run_from place count) }
+    ensures refused { result < count → (word : ℕ) → examined size word place count
+        ≡ Err (word + result, store_fault) }
     ensures inside { result ≡ count → LiesIn size place count }
 {
     let mut left = count;
@@ -41,8 +43,10 @@ fn run_inside(size: u32, place: u32, count: u32) -> u32
     requires place { place < 2 ^ 24 }
     requires count { count ≤ 16 }
     ensures bound { result ≤ count }
-    ensures whole { result ≡ count → (word : ℕ) → examined size word place count ≡ Ok (run_from place count) }
-    ensures refused { result < count → (word : ℕ) → examined size word place count ≡ Err (word + result, store_fault) }
+    ensures whole { result ≡ count → (word : ℕ) → examined size word place count
+        ≡ Ok (run_from place count) }
+    ensures refused { result < count → (word : ℕ) → examined size word place count
+        ≡ Err (word + result, store_fault) }
     ensures inside { result ≡ count → LiesIn size place count }
 {
     if place + count <= size {
@@ -77,11 +81,13 @@ pub(crate) fn places(core: &Core, sdw: &Sdw, word: u32, count: u32) -> Result<u3
     requires word { word < 2 ^ 18 }
     requires some { 1 ≤ count }
     requires block { word % 16 + count ≤ 16 }
-    ensures value { (dbr : DbrFields) (seg : ℕ) → spots_of core_store core.now dbr sdw.now seg word count ≡ run_by word count result }
+    ensures value { (dbr : DbrFields) (seg : ℕ)
+        → spots_of core_store core.now dbr sdw.now seg word count ≡ run_by word count result }
     ensures inside { IfOk result (λ a. LiesIn (length core.now) a count) }
     ensures bound { IfOk result (λ a. a < 2 ^ 24) }
     ensures further { IfErr result (λ r. r.further < count) }
-    ensures page { OnOk result (TableIn (length core.now) sdw.now.unpaged (page_at sdw.now (word / 1024))) }
+    ensures page { OnOk result (TableIn (length core.now) sdw.now.unpaged
+        (page_at sdw.now (word / 1024))) }
 {
     if !within(sdw, word) {
         return Err(Refused {

@@ -37,8 +37,10 @@ impl Walk {
     /// Fetches the instruction at a word, in the ring of `at`. The bit tells whether it may be privileged.
     #[tactic(auto, unfolding(crate::specs::Runs::LiesIn))]
     pub fn fetch(&mut self, at: At) -> Result<(Word, bool), Fault>
-        ensures serves { ServesWord (λ g. g.ppr.prr ≡ at.ring) Fetch self.old self.new.core at (ok_map (λ r. r.0) result) }
-        ensures privileged { IfOk result (λ r. r.1 ≡ ((sdw_in self.old at.seg).privileged && (at.ring == 0))) }
+        ensures serves { ServesWord (λ g. g.ppr.prr ≡ at.ring) Fetch self.old self.new.core at
+            (ok_map (λ r. r.0) result) }
+        ensures privileged { IfOk result (λ r. r.1
+            ≡ ((sdw_in self.old at.seg).privileged && (at.ring == 0))) }
         ensures dbr { self.new.dbr ≡ self.old.dbr }
         ensures len { length self.new.core ≡ length self.old.core }
     {
@@ -51,7 +53,8 @@ impl Walk {
     /// bracket of its segment.
     #[tactic(auto, unfolding(crate::specs::Runs::LiesIn))]
     pub fn indirect(&mut self, at: At, psr: u16) -> Result<(Word, u8), Fault>
-        ensures serves { ServesWord (λ g. g.ppr.psr ≡ psr) Indirect self.old self.new.core at (ok_map (λ r. r.0) result) }
+        ensures serves { ServesWord (λ g. g.ppr.psr ≡ psr) Indirect self.old self.new.core at
+            (ok_map (λ r. r.0) result) }
         ensures ring { IfOk result (λ r. r.1 ≡ (sdw_in self.old at.seg).r1) }
         ensures bound { IfOk result (λ r. r.1 < 2 ^ 3) }
         ensures dbr { self.new.dbr ≡ self.old.dbr }
@@ -75,7 +78,8 @@ impl Walk {
     /// Reads an operand word in the ring of `at`, for an instruction of segment `psr`. A pending word is seen as written.
     #[tactic(auto, unfolding(crate::specs::Runs::LiesIn))]
     pub fn operand(&mut self, at: At, psr: u16, pending: &Option<Pending>) -> Result<Word, Fault>
-        ensures serves { Reads self.old self.new.core psr at 1 pending.now (ok_map (λ w. w ∷ []) result) }
+        ensures serves { Reads self.old self.new.core psr at 1 pending.now
+            (ok_map (λ w. w ∷ []) result) }
         ensures dbr { self.new.dbr ≡ self.old.dbr }
         ensures len { length self.new.core ≡ length self.old.core }
     {
@@ -90,7 +94,8 @@ impl Walk {
         psr: u16,
         pending: &Option<Pending>,
     ) -> Result<(Pair, u8), Fault>
-        ensures serves { Reads self.old self.new.core psr (aligned_at 2 at) 2 pending.now (ok_map (λ r. pair_words r.0) result) }
+        ensures serves { Reads self.old self.new.core psr (aligned_at 2 at) 2 pending.now
+            (ok_map (λ r. pair_words r.0) result) }
         ensures ring { IfOk result (λ r. r.1 ≡ (sdw_in self.old at.seg).r1) }
         ensures bound { IfOk result (λ r. r.1 < 2 ^ 3) }
         ensures dbr { self.new.dbr ≡ self.old.dbr }
@@ -107,7 +112,8 @@ impl Walk {
         psr: u16,
         pending: &Option<Pending>,
     ) -> Result<([Pair; 8], u8), Fault>
-        ensures serves { Reads self.old self.new.core psr (aligned_at 16 at) 16 pending.now (ok_map (λ r. block_words r.0) result) }
+        ensures serves { Reads self.old self.new.core psr (aligned_at 16 at) 16 pending.now
+            (ok_map (λ r. block_words r.0) result) }
         ensures ring { IfOk result (λ r. r.1 ≡ (sdw_in self.old at.seg).r1) }
         ensures bound { IfOk result (λ r. r.1 < 2 ^ 3) }
         ensures dbr { self.new.dbr ≡ self.old.dbr }
@@ -128,7 +134,8 @@ impl Walk {
 
     /// Reads the pair that holds a word. The low bit of the word number is not looked at.
     pub fn read_pair(&mut self, at: At, psr: u16) -> Result<Pair, Fault>
-        ensures serves { Reads self.old self.new.core psr (aligned_at 2 at) 2 None (ok_map pair_words result) }
+        ensures serves { Reads self.old self.new.core psr (aligned_at 2 at) 2 None
+            (ok_map pair_words result) }
         ensures dbr { self.new.dbr ≡ self.old.dbr }
         ensures len { length self.new.core ≡ length self.old.core }
     {
@@ -140,7 +147,8 @@ impl Walk {
 
     /// Reads the block that holds a word. The low four bits of the word number are not looked at.
     pub fn read_block(&mut self, at: At, psr: u16) -> Result<[Pair; 8], Fault>
-        ensures serves { Reads self.old self.new.core psr (aligned_at 16 at) 16 None (ok_map block_words result) }
+        ensures serves { Reads self.old self.new.core psr (aligned_at 16 at) 16 None
+            (ok_map block_words result) }
         ensures dbr { self.new.dbr ≡ self.old.dbr }
         ensures len { length self.new.core ≡ length self.old.core }
     {

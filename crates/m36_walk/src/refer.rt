@@ -43,10 +43,14 @@ pub(crate) fn refer_read(
 ) -> Result<Reach, Fault>
     requires some { 1 ≤ count }
     requires block { at.word % 16 + count ≤ 16 }
-    ensures read { ServesRun (λ g. g.ppr.psr ≡ psr) Read (record { core = core.old; dbr = dbr }) core.new at count (ok_map (λ r. r.place) result) }
-    ensures indirect { ServesRun (λ g. g.ppr.psr ≡ psr) Indirect (record { core = core.old; dbr = dbr }) core.new at count (ok_map (λ r. r.place) result) }
-    ensures odd { ServesRun (λ g. g.ppr.psr ≡ psr) Odd (record { core = core.old; dbr = dbr }) core.new at count (ok_map (λ r. r.place) result) }
-    ensures ring { IfOk result (λ r. r.ring ≡ (sdw_in (record { core = core.old; dbr = dbr }) at.seg).r1) }
+    ensures read { ServesRun (λ g. g.ppr.psr ≡ psr) Read (record { core = core.old; dbr = dbr })
+        core.new at count (ok_map (λ r. r.place) result) }
+    ensures indirect { ServesRun (λ g. g.ppr.psr ≡ psr) Indirect
+        (record { core = core.old; dbr = dbr }) core.new at count (ok_map (λ r. r.place) result) }
+    ensures odd { ServesRun (λ g. g.ppr.psr ≡ psr) Odd (record { core = core.old; dbr = dbr })
+        core.new at count (ok_map (λ r. r.place) result) }
+    ensures ring { IfOk result (λ r. r.ring
+        ≡ (sdw_in (record { core = core.old; dbr = dbr }) at.seg).r1) }
     ensures ring_bound { IfOk result (λ r. r.ring < 2 ^ 3) }
     ensures inside { IfOk result (λ r. LiesIn (length core.new) r.place count) }
     ensures bound { IfOk result (λ r. r.place < 2 ^ 24) }
@@ -62,7 +66,8 @@ pub(crate) fn refer_read(
 pub(crate) fn refer_write(core: &mut Core, dbr: Dbr, at: At, count: u32) -> Result<Run, Fault>
     requires some { 1 ≤ count }
     requires block { at.word % 16 + count ≤ 16 }
-    ensures write { ServesClaim (record { core = core.old; dbr = dbr }) core.new at count (ok_map (λ r. r.place) result) }
+    ensures write { ServesClaim (record { core = core.old; dbr = dbr }) core.new at count
+        (ok_map (λ r. r.place) result) }
     ensures count { IfOk result (λ r. r.count ≡ count) }
     ensures inside { IfOk result (λ r. LiesIn (length core.new) r.place count) }
     ensures bound { IfOk result (λ r. r.place < 2 ^ 24) }
@@ -79,8 +84,10 @@ pub(crate) fn refer_write(core: &mut Core, dbr: Dbr, at: At, count: u32) -> Resu
 
 /// Fetches an instruction in the ring of `at`.
 pub(crate) fn refer_fetch(core: &mut Core, dbr: Dbr, at: At) -> Result<Reach, Fault>
-    ensures fetch { ServesRun (λ g. g.ppr.prr ≡ at.ring) Fetch (record { core = core.old; dbr = dbr }) core.new at 1 (ok_map (λ r. r.place) result) }
-    ensures privileged { IfOk result (λ r. r.privileged ≡ (sdw_in (record { core = core.old; dbr = dbr }) at.seg).privileged) }
+    ensures fetch { ServesRun (λ g. g.ppr.prr ≡ at.ring) Fetch
+        (record { core = core.old; dbr = dbr }) core.new at 1 (ok_map (λ r. r.place) result) }
+    ensures privileged { IfOk result (λ r. r.privileged
+        ≡ (sdw_in (record { core = core.old; dbr = dbr }) at.seg).privileged) }
     ensures inside { IfOk result (λ r. LiesIn (length core.new) r.place 1) }
     ensures bound { IfOk result (λ r. r.place < 2 ^ 24) }
     ensures len { length core.new ≡ length core.old }

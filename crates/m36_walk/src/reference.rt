@@ -32,7 +32,8 @@ pub(crate) struct Found {
 pub(crate) fn described(core: &Core, dbr: Dbr, at: At) -> Result<Sdw, Fault>
     ensures value { result ≡ told at (core_sdw core.now dbr at.seg) }
     ensures sdw { IfOk result (λ d. sdw_in (record { core = core.now; dbr = dbr }) at.seg ≡ d) }
-    ensures directory { OnOk result (TableIn (length core.now) dbr.unpaged (directory_at dbr at.seg)) }
+    ensures directory { OnOk result (TableIn (length core.now) dbr.unpaged
+        (directory_at dbr at.seg)) }
 {
     match descriptor(core, dbr, at.seg) {
         Ok(sdw) => Ok(sdw),
@@ -61,7 +62,9 @@ pub(crate) fn find_read(
 ) -> Result<Found, Fault>
     requires some { 1 ≤ count }
     requires block { at.word % 16 + count ≤ 16 }
-    ensures examined { reached (λ d. allowed tt (first_of (read_rows d at.ring (at.seg == psr)))) (λ d. spots_of core_store core.old dbr d at.seg at.word count) (core_sdw core.old dbr at.seg) at ≡ found_run count result }
+    ensures examined { reached (λ d. allowed tt (first_of (read_rows d at.ring (at.seg == psr))))
+        (λ d. spots_of core_store core.old dbr d at.seg at.word count)
+        (core_sdw core.old dbr at.seg) at ≡ found_run count result }
     ensures marked { Marked dbr at false core.old core.new result }
     ensures inside { IfOk result (λ f. LiesIn (length core.new) f.place count) }
     ensures bound { IfOk result (λ f. f.place < 2 ^ 24) }
@@ -83,7 +86,9 @@ pub(crate) fn find_read(
 pub(crate) fn find_write(core: &mut Core, dbr: Dbr, at: At, count: u32) -> Result<Found, Fault>
     requires some { 1 ≤ count }
     requires block { at.word % 16 + count ≤ 16 }
-    ensures examined { reached (λ d. allowed tt (first_of (write_rows d at.ring))) (λ d. spots_of core_store core.old dbr d at.seg at.word count) (core_sdw core.old dbr at.seg) at ≡ found_run count result }
+    ensures examined { reached (λ d. allowed tt (first_of (write_rows d at.ring)))
+        (λ d. spots_of core_store core.old dbr d at.seg at.word count)
+        (core_sdw core.old dbr at.seg) at ≡ found_run count result }
     ensures marked { Marked dbr at true core.old core.new result }
     ensures inside { IfOk result (λ f. LiesIn (length core.new) f.place count) }
     ensures bound { IfOk result (λ f. f.place < 2 ^ 24) }
@@ -103,7 +108,9 @@ pub(crate) fn find_write(core: &mut Core, dbr: Dbr, at: At, count: u32) -> Resul
 /// The fetch of an instruction, in the ring of `at`.
 #[tactic(auto, unfolding(crate::specs::Reached::reached))]
 pub(crate) fn find_fetch(core: &mut Core, dbr: Dbr, at: At) -> Result<Found, Fault>
-    ensures examined { reached (λ d. allowed tt (first_of (fetch_rows d at.ring))) (λ d. spots_of core_store core.old dbr d at.seg at.word 1) (core_sdw core.old dbr at.seg) at ≡ found_run 1 result }
+    ensures examined { reached (λ d. allowed tt (first_of (fetch_rows d at.ring)))
+        (λ d. spots_of core_store core.old dbr d at.seg at.word 1) (core_sdw core.old dbr at.seg) at
+        ≡ found_run 1 result }
     ensures marked { Marked dbr at false core.old core.new result }
     ensures inside { IfOk result (λ f. LiesIn (length core.new) f.place 1) }
     ensures bound { IfOk result (λ f. f.place < 2 ^ 24) }

@@ -26,7 +26,9 @@ pub(crate) struct Refused {
 /// The fault of a refused word of a block, told at it.
 pub(crate) fn fault_further(refused: Refused, at: At) -> Fault
     requires { at.word % 16 + refused.further < 16 }
-    ensures { result ≡ fault_by refused.why (record { seg = at.seg; word = at.word + refused.further; ring = at.ring }) }
+    ensures { result
+        ≡ fault_by refused.why (record
+        { seg = at.seg; word = at.word + refused.further; ring = at.ring }) }
 {
     fault(
         refused.why,

@@ -20,7 +20,8 @@ use m36_tables::{descriptor, in_order, violation, within};
 
 /// The word of a target is within the bound.
 fn bounded(sdw: &Sdw, at: At) -> Result<(), Fault>
-    ensures { ok_map (λ u. []) result ≡ told_places at (bound_only (within sdw.now at.word) at.word) }
+    ensures { ok_map (λ u. []) result
+        ≡ told_places at (bound_only (within sdw.now at.word) at.word) }
 {
     if within(sdw, at.word) {
         Ok(())
@@ -32,7 +33,9 @@ fn bounded(sdw: &Sdw, at: At) -> Result<(), Fault>
 /// The target of a transfer in the ring of `at` from ring `prr`.
 #[tactic(auto, unfolding(crate::specs::Reached::reached))]
 pub(crate) fn find_transfer(core: &Core, dbr: Dbr, at: At, prr: u8) -> Result<(), Fault>
-    ensures { reached (λ d. allowed tt (first_of (transfer_rows d at.ring prr))) (λ d. bound_only (within d at.word) at.word) (core_sdw core.now dbr at.seg) at ≡ at_target (sdw_in (record { core = core.now; dbr = dbr }) at.seg) result }
+    ensures { reached (λ d. allowed tt (first_of (transfer_rows d at.ring prr)))
+        (λ d. bound_only (within d at.word) at.word) (core_sdw core.now dbr at.seg) at
+        ≡ at_target (sdw_in (record { core = core.now; dbr = dbr }) at.seg) result }
 {
     let sdw = described(core, dbr, at)?;
     permitted(may_transfer(&sdw, at.ring, prr), at)?;
@@ -52,8 +55,12 @@ fn ring_permitted(answer: Result<u8, Acv>, at: At) -> Result<u8, Fault>
 /// The target of CALL6 in the ring of `at` from `ppr`, and the ring in which the call goes on.
 #[tactic(auto, unfolding(crate::specs::Reached::reached))]
 pub(crate) fn find_call(core: &Core, dbr: Dbr, at: At, ppr: Ppr) -> Result<u8, Fault>
-    ensures target { reached (λ d. allowed tt (first_of (call_rows d at.ring ppr.prr (at.seg == ppr.psr) at.word))) (λ d. bound_only (within d at.word) at.word) (core_sdw core.now dbr at.seg) at ≡ at_target (sdw_in (record { core = core.now; dbr = dbr }) at.seg) result }
-    ensures ring { IfOk result (λ ring. ring ≡ ring_called (sdw_in (record { core = core.now; dbr = dbr }) at.seg) at.ring) }
+    ensures target { reached (λ d. allowed tt (first_of
+        (call_rows d at.ring ppr.prr (at.seg == ppr.psr) at.word)))
+        (λ d. bound_only (within d at.word) at.word) (core_sdw core.now dbr at.seg) at
+        ≡ at_target (sdw_in (record { core = core.now; dbr = dbr }) at.seg) result }
+    ensures ring { IfOk result (λ ring. ring
+        ≡ ring_called (sdw_in (record { core = core.now; dbr = dbr }) at.seg) at.ring) }
     ensures bound { IfOk result (λ ring. ring < 2 ^ 3) }
 {
     let sdw = described(core, dbr, at)?;
@@ -79,7 +86,9 @@ fn ordered(sdw: &Sdw) -> Result<(), Refusal>
 /// The place of a word, whoever asks for it.
 #[tactic(auto, unfolding(crate::specs::Reached::reached))]
 pub(crate) fn find_place(core: &Core, dbr: Dbr, at: At) -> Result<u32, Fault>
-    ensures asked { reached (λ d. allowed tt (first_of ((not (in_order d), 0) ∷ []))) (λ d. spots_of core_store core.now dbr d at.seg at.word 1) (core_sdw core.now dbr at.seg) at ≡ at_place (sdw_in (record { core = core.now; dbr = dbr }) at.seg) 1 result }
+    ensures asked { reached (λ d. allowed tt (first_of ((not (in_order d), 0) ∷ [])))
+        (λ d. spots_of core_store core.now dbr d at.seg at.word 1) (core_sdw core.now dbr at.seg) at
+        ≡ at_place (sdw_in (record { core = core.now; dbr = dbr }) at.seg) 1 result }
     ensures inside { IfOk result (λ a. LiesIn (length core.now) a 1) }
 {
     let sdw = described(core, dbr, at)?;

@@ -34,7 +34,8 @@ impl Walk {
     /// the words stand.
     pub fn claim(&mut self, at: At, count: u8) -> Result<Run, Fault>
         requires { IsCount count }
-        ensures serves { ServesClaim self.old self.new.core (aligned_at count at) count (ok_map (λ r. r.place) result) }
+        ensures serves { ServesClaim self.old self.new.core (aligned_at count at) count
+            (ok_map (λ r. r.place) result) }
         ensures count { IfOk result (λ r. r.count ≡ count) }
         ensures inside { IfOk result (λ r. LiesIn (length self.new.core) r.place count) }
         ensures bound { IfOk result (λ r. r.place < 2 ^ 24) }
@@ -72,7 +73,8 @@ impl Walk {
     pub fn store_pair(&mut self, place: u32, pair: Pair)
         requires place { place < 2 ^ 24 }
         requires inside { LiesIn (length self.old.core) place 2 }
-        ensures core { self.new.core ≡ core_put self.old.core (run_changes place (pair_words pair)) }
+        ensures core { self.new.core
+            ≡ core_put self.old.core (run_changes place (pair_words pair)) }
         ensures dbr { self.new.dbr ≡ self.old.dbr }
         ensures len { length self.new.core ≡ length self.old.core }
     {
@@ -83,7 +85,8 @@ impl Walk {
     pub fn store_block(&mut self, place: u32, block: &[Pair; 8])
         requires place { place < 2 ^ 24 }
         requires inside { LiesIn (length self.old.core) place 16 }
-        ensures core { self.new.core ≡ core_put self.old.core (run_changes place (block_words block.now)) }
+        ensures core { self.new.core
+            ≡ core_put self.old.core (run_changes place (block_words block.now)) }
         ensures words { length (block_words block.now) ≡ 16 }
         ensures dbr { self.new.dbr ≡ self.old.dbr }
         ensures len { length self.new.core ≡ length self.old.core }
@@ -124,7 +127,8 @@ impl Walk {
 
     /// Writes the block that holds a word. The low four bits of the word number are not looked at.
     pub fn write_block(&mut self, at: At, b: [Pair; 8]) -> Result<(), Fault>
-        ensures writes { Writes self.old self.new.core (aligned_at 16 at) 16 (block_words b) result }
+        ensures writes { Writes self.old self.new.core (aligned_at 16 at) 16 (block_words b)
+            result }
         ensures dbr { self.new.dbr ≡ self.old.dbr }
         ensures len { length self.new.core ≡ length self.old.core }
     {

@@ -1,11 +1,11 @@
 -- Steps of the loops that look for faults.
-use Rattle.std.proofs.Common.{ℕ, zero, suc, ◌≡◌, ◌+◌, ◌-◌, ◌^◌, ◌<◌, ◌≤◌, ◌≢◌, Bool, true, false, cond, eqb, leb, ltb, ◌&&◌, List, [], ◌∷◌, length, Option, Some, None, refl, sym, ap, ◌∙◌, subst, arith}
+use Rattle.std.proofs.Common.{ℕ, suc, ◌≡◌, ◌+◌, ◌-◌, ◌<◌, ◌≤◌, ◌≢◌, Bool, true, false, cond, eqb, leb, ltb, ◌&&◌, List, Option, Some, None, refl, sym, ap, ◌∙◌, arith}
 use Rattle.std.specs.Prelude.{min, slice_index, not}
-use Rattle.std.proofs.lemmas.Bool.{cond-true, cond-false, lt-leb, le-leb, eq-eqb, ne_eqb}
+use Rattle.std.proofs.lemmas.Bool.{cond-true, cond-false, lt-leb, eq-eqb, ne_eqb}
 use Rattle.obj36.specs.declared.map.Extents.{Extents}
 use Rattle.obj36.specs.MapFaults.{covering, first_shared}
 use Rattle.obj36.specs.Reading.{unit_at}
-use Rattle.obj36.specs.Names.{is_name_character}
+use Rattle.obj36_parts.specs.Names.{is_name_character}
 use Rattle.obj36.specs.TableFaults.{earlier, where_bad, next_definition, is_member, chain_fault, class_at, class_faults, name_place, same_units, same_name, repeats_of, repeats, are_characters, are_zeros, name_fault, defined_names_fault, expression_fault, linked_names_fault}
 use Rattle.obj36.specs.LinkFaults.{is_type, type_faults, is_link_at, link_faults}
 

@@ -1,8 +1,3 @@
-pub mod NameTables
-pub mod SectionLoops
-pub mod SizeLaws
-pub mod Formed
-pub mod LengthLaws
 pub mod ReadingLoops
 pub mod MapReading
 pub mod NameReading
@@ -11,3 +6,6 @@ pub mod TableReading
 pub mod TablesStand
 pub mod FaultLoops
 pub mod ReaderLaws
+pub mod SpelledNames
+pub mod RepeatLoops
+pub mod ObjectLaws

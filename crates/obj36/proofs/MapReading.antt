@@ -1,12 +1,11 @@
 -- What the map of a list tells, and where it cuts the list.
-use Rattle.std.proofs.Common.{ℕ, zero, suc, ◌≡◌, ◌+◌, ◌-◌, ◌*◌, ◌^◌, ◌<◌, ◌≤◌, Bool, true, false, cond, eqb, List, [], ◌∷◌, ◌++◌, length, get_or, take, drop, refl, sym, ap, ◌∙◌, subst, append_assoc, arith}
-use Rattle.std.specs.Prelude.{slice_index, min}
+use Rattle.std.proofs.Common.{ℕ, suc, ◌≡◌, ◌+◌, ◌-◌, ◌^◌, ◌<◌, ◌≤◌, Bool, true, false, cond, eqb, List, [], ◌++◌, length, get_or, take, drop, refl, sym, ap, ◌∙◌, append_assoc, arith}
+use Rattle.std.specs.Prelude.{slice_index}
 use Rattle.std.proofs.lemmas.Bool.{cond-true, cond-false, eq-eqb, ne_eqb}
 use Rattle.std.proofs.lemmas.List.{length-append, get_or-append_right, take_at, drop_at}
-use Rattle.obj36.specs.Fields.{LinkFields}
-use Rattle.obj36.specs.declared.definition.Named.{Named}
-use Rattle.obj36.specs.Halves.{left, right, joined}
-use Rattle.obj36.specs.ObjectSegment.{map_part, definition_part, linkage_part, link_words, place_if_any}
+use Rattle.obj36_parts.specs.Fields.{LinkFields}
+use Rattle.obj36_parts.specs.Halves.{left, right, joined}
+use Rattle.obj36_parts.specs.ObjectSegment.{map_part, linkage_part, link_words}
 use Rattle.obj36.specs.Reading.{map_place, version_in, told_length, told_count, from_definition, from_linkage, from_statics, from_symbol, told_first, statics_in, bound_in}
 use Rattle.obj36.proofs.TableReading.{left_joined, right_joined}
 

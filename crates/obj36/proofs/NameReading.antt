@@ -1,13 +1,13 @@
 -- A name that is spelled is read.
-use Rattle.std.proofs.Common.{ℕ, zero, suc, ◌≡◌, ◌⊎◌, ◌+◌, ◌-◌, ◌*◌, ◌/◌, ◌%◌, ◌^◌, ◌<◌, ◌≤◌, Bool, true, false, cond, ◌&&◌, ◌||◌, eqb, leb, List, [], ◌∷◌, ◌++◌, length, get_or, refl, sym, ap, ◌∙◌, subst, append_assoc, arith, inl, inr}
-use Rattle.std.specs.Prelude.{slice_index, min}
+use Rattle.std.proofs.Common.{ℕ, zero, suc, ◌≡◌, ◌+◌, ◌-◌, ◌*◌, ◌/◌, ◌%◌, ◌^◌, ◌<◌, ◌≤◌, Bool, true, false, ◌&&◌, ◌||◌, leb, List, [], ◌∷◌, ◌++◌, length, get_or, refl, sym, ap, ◌∙◌, subst, append_assoc, arith}
+use Rattle.std.specs.Prelude.{min}
 use Rattle.std.specs.List.{list_any, list_all}
 use Rattle.std.proofs.lemmas.Bool.{and_parts, leb-true, cond-true, cond-false}
 use Rattle.std.proofs.lemmas.Bool.Decides.{nat_tests}
 use Rattle.std.proofs.lemmas.List.{length-append, get_or-append_right}
-use Rattle.obj36.specs.Names.{same, is_name, is_name_character, place_of, name_length, unit_of, name_word, name_words_from, name_words, all_name_words}
+use Rattle.obj36_parts.specs.Names.{same, is_name, is_name_character, place_of, name_length, unit_of, name_word, name_words_from, name_words, all_name_words}
 use Rattle.obj36.specs.Reading.{part_of, unit_at, characters, name_at}
-use Rattle.obj36.proofs.SizeLaws.{same_is, length-name_words}
+use Rattle.obj36_parts.proofs.SizeLaws.{same_is, length-name_words}
 
 -- ---- what a name is
 

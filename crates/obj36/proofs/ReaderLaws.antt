@@ -1,20 +1,15 @@
 -- What reading a list says.
-use Rattle.std.proofs.Common.{ℕ, zero, suc, ◌≡◌, ◌+◌, ◌-◌, ◌*◌, ◌^◌, ◌<◌, ◌≤◌, Bool, true, false, cond, eqb, List, [], ◌∷◌, ◌++◌, length, take, drop, Option, Some, None, Result, Ok, Err, refl, sym, ap, ◌∙◌, subst, arith}
-use Rattle.std.specs.Prelude.{min, slice_index}
+use Rattle.std.proofs.Common.{ℕ, zero, suc, ◌≡◌, ◌+◌, ◌-◌, ◌*◌, ◌^◌, ◌<◌, ◌≤◌, Bool, true, false, cond, eqb, List, length, take, drop, None, Err, refl, sym, ap, ◌∙◌, arith}
 use Rattle.std.proofs.lemmas.List.{length-take, length-drop}
-use Rattle.obj36.specs.Fields.{LinkFields, RelocFields}
-use Rattle.obj36.specs.PartsFields.{PartsFields}
-use Rattle.obj36.specs.declared.definition.Named.{Named}
+use Rattle.obj36_parts.specs.PartsFields.{PartsFields}
 use Rattle.obj36.specs.declared.fault.ObjectFault.{ObjectFault}
 use Rattle.obj36.specs.declared.fault.ObjectFault.TheVariants.{O1, O2, O3, O4, O5, O6, O7, O8, NoMemory}
-use Rattle.obj36.specs.Halves.{right}
-use Rattle.obj36.specs.Names.{same}
-use Rattle.obj36.specs.ObjectSegment.{words_of, is_well_formed, Stands}
-use Rattle.obj36.specs.Sizes.{HasShortLists}
+use Rattle.obj36_parts.specs.Names.{same}
+use Rattle.obj36_parts.specs.ObjectSegment.{words_of, is_well_formed, Stands}
+use Rattle.obj36_parts.specs.Sizes.{HasShortLists}
 use Rattle.obj36.specs.Reading.{version_in, told_length, told_count, told_first, from_definition, from_linkage, from_statics, from_symbol, statics_in, definitions_in, links_in, relocations_in, parts_of}
-use Rattle.obj36.specs.MapFaults.{map_fault}
-use Rattle.obj36.specs.Faults.{first_fault, IsRefused, ReadSays, IsReadAs, IsFound}
-use Rattle.obj36.proofs.SizeLaws.{same_is, same_self}
+use Rattle.obj36.specs.Faults.{first_fault, ReadSays, IsFound}
+use Rattle.obj36_parts.proofs.SizeLaws.{same_is, same_self}
 use Rattle.obj36.proofs.ReadingBack.{stands_back, values_apart}
 
 -- ---- the parts that are read have short lists

@@ -1,23 +1,23 @@
 -- What was spelled is read again, so no two values share a list.
-use Rattle.std.proofs.Common.{ℕ, zero, suc, ◌≡◌, ◌+◌, ◌-◌, ◌*◌, ◌^◌, ◌<◌, ◌≤◌, Bool, true, false, cond, ◌||◌, eqb, List, [], ◌∷◌, ◌++◌, length, take, refl, sym, ap, ◌∙◌, subst, append_assoc, arith}
+use Rattle.std.proofs.Common.{ℕ, ◌≡◌, ◌+◌, ◌-◌, ◌*◌, ◌^◌, ◌<◌, ◌≤◌, Bool, true, false, cond, ◌||◌, eqb, List, [], ◌∷◌, ◌++◌, length, refl, sym, ap, ◌∙◌, append_assoc, arith}
 use Rattle.std.specs.Prelude.{slice_index}
-use Rattle.std.specs.List.{list_any, list_all, AllByRecursion}
+use Rattle.std.specs.List.{list_any, list_all}
 use Rattle.std.proofs.lemmas.Bool.{eqb-true}
 use Rattle.std.proofs.lemmas.List.{length-append}
 use Rattle.std.proofs.lemmas.List.Folds.{list_any-append}
-use Rattle.obj36.specs.Fields.{LinkFields, RelocFields}
-use Rattle.obj36.specs.PartsFields.{PartsFields}
-use Rattle.obj36.specs.declared.definition.Named.{Named}
-use Rattle.obj36.specs.Halves.{joined}
-use Rattle.obj36.specs.Names.{same, with_names, place_of, all_name_words}
-use Rattle.obj36.specs.ObjectSegment.{is_newer, inner_statics, outer_statics, place_if_any, definition_names, all_link_names, definition_words, expression_words, definition_part, definition_section, link_words, linkage_part, linkage_section, relocation_words, symbol_part, symbol_section, map_part, map_words, words_of, is_definition, is_link, is_relocation, is_well_formed, Stands, ValuesApart}
-use Rattle.obj36.specs.Sizes.{names_length}
-use Rattle.obj36.specs.Reading.{version_in, told_length, told_count, from_definition, from_linkage, from_statics, from_symbol, told_first, statics_in, bound_in, definitions_in, links_in, relocations_in, parts_of}
-use Rattle.obj36.proofs.Formed.{IsFormed, is_formed}
-use Rattle.obj36.proofs.SizeLaws.{any_among}
-use Rattle.obj36.proofs.LengthLaws.{IsSmall, small_sections, length-definition_words, length-expression_words, length-definition_part, length-link_words, length-linkage_part, length-symbol_part, length-words_of, length-map_part, length-sections}
+use Rattle.obj36_parts.specs.Fields.{LinkFields, RelocFields}
+use Rattle.obj36_parts.specs.PartsFields.{PartsFields}
+use Rattle.obj36_parts.specs.declared.definition.Named.{Named}
+use Rattle.obj36_parts.specs.Halves.{joined}
+use Rattle.obj36_parts.specs.Names.{same, with_names, place_of, all_name_words}
+use Rattle.obj36_parts.specs.ObjectSegment.{is_newer, inner_statics, outer_statics, place_if_any, definition_names, all_link_names, definition_words, expression_words, definition_part, definition_section, link_words, linkage_part, linkage_section, symbol_part, symbol_section, map_words, words_of, is_definition, is_link, is_relocation, is_well_formed, Stands, ValuesApart}
+use Rattle.obj36_parts.specs.Sizes.{names_length}
+use Rattle.obj36.specs.Reading.{version_in, told_count, from_definition, from_linkage, from_symbol, told_first, statics_in, definitions_in, links_in, relocations_in, parts_of}
+use Rattle.obj36_parts.proofs.Formed.{IsFormed, is_formed}
+use Rattle.obj36_parts.proofs.SizeLaws.{any_among}
+use Rattle.obj36_parts.proofs.LengthLaws.{small_sections, length-definition_words, length-expression_words, length-definition_part, length-linkage_part, length-symbol_part, length-words_of, length-map_part, length-sections}
 use Rattle.obj36.proofs.NameReading.{IsGood, IsRead, names_read}
-use Rattle.obj36.proofs.TableReading.{DefinitionStands, LinkStands, definitions_back, links_back, relocations_back}
+use Rattle.obj36.proofs.TableReading.{definitions_back, links_back, relocations_back}
 use Rattle.obj36.proofs.TablesStand.{AreRead, definitions_stand, links_stand, relocations_stand}
 use Rattle.obj36.proofs.MapReading.{IsMapped, mapped, IsCut, cut, first_is, statics_are, count_is}
 

@@ -1,16 +1,15 @@
 -- A table that is spelled is read.
-use Rattle.std.proofs.Common.{ℕ, zero, suc, ◌≡◌, ◌⊎◌, ◌+◌, ◌-◌, ◌*◌, ◌/◌, ◌%◌, ◌^◌, ◌<◌, ◌≤◌, Bool, true, false, cond, ◌&&◌, ◌||◌, eqb, leb, ltb, List, [], ◌∷◌, ◌++◌, length, get_or, refl, sym, ap, ◌∙◌, subst, append_assoc, arith, inl, inr}
+use Rattle.std.proofs.Common.{ℕ, ◌≡◌, ◌+◌, ◌-◌, ◌*◌, ◌/◌, ◌%◌, ◌^◌, ◌<◌, ◌≤◌, Bool, true, false, cond, leb, List, [], ◌∷◌, ◌++◌, length, get_or, refl, sym, ap, ◌∙◌, append_assoc, arith}
 use Rattle.std.specs.Prelude.{slice_index}
-use Rattle.std.specs.List.{list_any, list_all, AllByRecursion}
-use Rattle.std.proofs.lemmas.Bool.{and_parts, leb-true, ltb-true, eqb-true, cond-true, cond-false}
+use Rattle.std.specs.List.{AllByRecursion}
 use Rattle.std.proofs.lemmas.List.{length-append, get_or-append_right}
-use Rattle.obj36.specs.declared.section.Section.{Section}
-use Rattle.obj36.specs.declared.section.Section.TheVariants.{Text, Linkage, Symbol, Static}
-use Rattle.obj36.specs.declared.definition.Named.{Named}
-use Rattle.obj36.specs.Fields.{DefFields, LinkFields, RelocFields}
-use Rattle.obj36.specs.Halves.{left, right, joined}
-use Rattle.obj36.specs.Names.{place_of}
-use Rattle.obj36.specs.ObjectSegment.{class_number, place_number, has_name, has_entry, place_if_any, class_of, definition_words, subject_of, entry_place, expression_words, link_words, relocation_word, relocation_words}
+use Rattle.obj36_parts.specs.declared.section.Section.{Section}
+use Rattle.obj36_parts.specs.declared.section.Section.TheVariants.{Text, Linkage, Symbol, Static}
+use Rattle.obj36_parts.specs.declared.definition.Named.{Named}
+use Rattle.obj36_parts.specs.Fields.{LinkFields, RelocFields}
+use Rattle.obj36_parts.specs.Halves.{left, right, joined}
+use Rattle.obj36_parts.specs.Names.{place_of}
+use Rattle.obj36_parts.specs.ObjectSegment.{class_number, place_number, has_name, has_entry, place_if_any, class_of, definition_words, subject_of, entry_place, expression_words, link_words, relocation_word, relocation_words}
 use Rattle.obj36.specs.Reading.{name_at, class_with, section_with, definition_at, definitions_in, link_at, links_in, relocation_in, relocations_in}
 
 -- ---- halves

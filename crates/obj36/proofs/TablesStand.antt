@@ -1,18 +1,18 @@
 -- Of well-formed parts each definition, link and relocation is one that is read again.
-use Rattle.std.proofs.Common.{ℕ, zero, suc, ◌≡◌, ◌⊎◌, ◌+◌, ◌*◌, ◌^◌, ◌<◌, ◌≤◌, Bool, true, false, cond, ◌&&◌, ◌||◌, eqb, leb, ltb, List, [], ◌∷◌, ◌++◌, length, refl, sym, ap, ◌∙◌, subst, arith, inl, inr}
+use Rattle.std.proofs.Common.{ℕ, ◌≡◌, ◌^◌, ◌<◌, ◌≤◌, Bool, true, false, cond, ◌&&◌, ◌||◌, eqb, leb, ltb, List, [], ◌∷◌, length, refl, sym, ◌∙◌, arith}
 use Rattle.std.specs.List.{list_any, list_all, AllByRecursion}
 use Rattle.std.proofs.lemmas.Bool.{and_parts, leb-true, ltb-true, eqb-true}
 use Rattle.std.proofs.lemmas.Bool.Decides.{nat_tests}
 use Rattle.std.proofs.lemmas.List.{nil_from_length}
 use Rattle.std.proofs.lemmas.List.Folds.{list_any-append}
-use Rattle.obj36.specs.declared.section.Section.{Section}
-use Rattle.obj36.specs.declared.section.Section.TheVariants.{Text, Linkage, Symbol, Static}
-use Rattle.obj36.specs.declared.definition.Named.{Named}
-use Rattle.obj36.specs.Fields.{DefFields, LinkFields, RelocFields}
-use Rattle.obj36.specs.Names.{same, is_name, place_of}
-use Rattle.obj36.specs.ObjectSegment.{class_number, place_number, has_name, has_entry, has_section, last_class, last_place, subject_of, entry_place, link_names, name_used, entry_used, definition_names, all_link_names, is_definition, is_link, is_place, is_relocation, relocation_word}
+use Rattle.obj36_parts.specs.declared.section.Section.{Section}
+use Rattle.obj36_parts.specs.declared.section.Section.TheVariants.{Text, Linkage, Symbol, Static}
+use Rattle.obj36_parts.specs.declared.definition.Named.{Named}
+use Rattle.obj36_parts.specs.Fields.{LinkFields, RelocFields}
+use Rattle.obj36_parts.specs.Names.{same, is_name, place_of}
+use Rattle.obj36_parts.specs.ObjectSegment.{class_number, place_number, has_name, has_entry, has_section, last_class, last_place, subject_of, entry_place, link_names, name_used, entry_used, definition_names, all_link_names, is_definition, is_link, is_place, is_relocation, relocation_word}
 use Rattle.obj36.specs.Reading.{name_at, section_with, relocation_in}
-use Rattle.obj36.proofs.SizeLaws.{same_self}
+use Rattle.obj36_parts.proofs.SizeLaws.{same_self}
 use Rattle.obj36.proofs.NameReading.{IsGood, good_name, IsRead}
 use Rattle.obj36.proofs.TableReading.{DefinitionStands, LinkStands, section_back, small_section, relocation_back}
 

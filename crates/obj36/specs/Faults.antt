@@ -1,7 +1,7 @@
 -- The first fault of a list of words, in the order of the codes.
-use Rattle.std.specs.Prelude.{ℕ, ◌≡◌, ◌+◌, Bool, true, false, nat_lt, if◌then◌else◌, List, length, Option, Some, None, Result, Ok, Err}
-use Rattle.obj36.specs.PartsFields.{PartsFields}
-use Rattle.obj36.specs.ObjectSegment.{Stands}
+use Rattle.std.specs.Prelude.{ℕ, ◌≡◌, nat_lt, if◌then◌else◌, List, length, Option, Some, None, Result, Ok, Err}
+use Rattle.obj36_parts.specs.PartsFields.{PartsFields}
+use Rattle.obj36_parts.specs.ObjectSegment.{Stands}
 use Rattle.obj36.specs.Reading.{version_in}
 use Rattle.obj36.specs.MapFaults.{map_fault, section_fault, shared_fault, extents_of, extent_words}
 use Rattle.obj36.specs.TableFaults.{table_fault, names_fault}

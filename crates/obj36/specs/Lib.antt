@@ -1,9 +1,9 @@
-pub mod Fields
-pub mod PartsFields
-pub mod Halves
-pub mod Names
-pub mod ObjectSegment
-pub mod Sizes
+pub use Rattle.obj36_parts.specs.Fields
+pub use Rattle.obj36_parts.specs.PartsFields
+pub use Rattle.obj36_parts.specs.Halves
+pub use Rattle.obj36_parts.specs.Names
+pub use Rattle.obj36_parts.specs.ObjectSegment
+pub use Rattle.obj36_parts.specs.Sizes
 pub mod Lengths
 pub mod Reading
 pub mod MapFaults
@@ -11,3 +11,6 @@ pub mod Near
 pub mod TableFaults
 pub mod LinkFaults
 pub mod Faults
+pub mod ObjectOf
+pub mod Spelled
+pub mod Repeated

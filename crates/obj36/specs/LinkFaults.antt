@@ -1,7 +1,7 @@
 -- Faults of links and of the linkage section.
-use Rattle.std.specs.Prelude.{ℕ, zero, suc, ◌+◌, ◌-◌, ◌*◌, ◌%◌, ◌^◌, Bool, true, false, ◌&&◌, ◌||◌, not, nat_eq, nat_lt, nat_le, if◌then◌else◌, List, [], ◌∷◌, length, slice_index, Option, Some, None}
-use Rattle.obj36.specs.Halves.{left, right, joined}
-use Rattle.obj36.specs.ObjectSegment.{has_name, has_section, last_place}
+use Rattle.std.specs.Prelude.{ℕ, zero, suc, ◌+◌, ◌-◌, ◌*◌, ◌%◌, ◌^◌, Bool, ◌&&◌, ◌||◌, not, nat_eq, nat_lt, nat_le, if◌then◌else◌, List, length, slice_index, Option, Some, None}
+use Rattle.obj36_parts.specs.Halves.{left, right, joined}
+use Rattle.obj36_parts.specs.ObjectSegment.{has_name, has_section, last_place}
 use Rattle.obj36.specs.TableFaults.{earlier, where_bad, expression_count, first_expression}
 
 -- ---- types and sections of expressions, whose places count from the definition section's word 0

@@ -1,7 +1,7 @@
 -- Faults of the map of a list of words, and of the sections that it tells.
-use Rattle.std.specs.Prelude.{ℕ, zero, suc, ◌+◌, ◌-◌, ◌*◌, ◌^◌, Bool, true, false, ◌&&◌, ◌||◌, not, nat_eq, nat_lt, nat_le, if◌then◌else◌, List, [], ◌∷◌, length, take, drop, slice_index, Option, Some, None}
+use Rattle.std.specs.Prelude.{ℕ, zero, suc, ◌+◌, ◌-◌, Bool, ◌&&◌, ◌||◌, not, nat_eq, nat_lt, nat_le, if◌then◌else◌, List, [], ◌∷◌, length, take, drop, slice_index, Option, Some, None}
 use Rattle.m36_word.specs.Bits.{of_bit}
-use Rattle.obj36.specs.Halves.{left, right}
+use Rattle.obj36_parts.specs.Halves.{left, right}
 use Rattle.obj36.specs.Reading.{map_place, version_in}
 use Rattle.obj36.specs.declared.map.Extent.{Extent}
 use Rattle.obj36.specs.declared.map.Extents.{Extents}

@@ -1,13 +1,13 @@
 -- The parts that a list of words would spell: read by counts alone, the sections one behind another and each table in
 -- order. What this does not look at, as offsets, is judged by spelling the parts again.
-use Rattle.std.specs.Prelude.{ℕ, zero, suc, ◌+◌, ◌-◌, ◌*◌, ◌/◌, ◌%◌, ◌^◌, Bool, nat_eq, nat_le, if◌then◌else◌, min, List, [], ◌∷◌, length, take, drop, slice_index}
-use Rattle.obj36.specs.Fields.{DefFields, LinkFields, RelocFields}
-use Rattle.obj36.specs.PartsFields.{PartsFields}
-use Rattle.obj36.specs.Halves.{left, right}
-use Rattle.obj36.specs.ObjectSegment.{has_name, has_entry}
-use Rattle.obj36.specs.declared.section.Section.{Section}
-use Rattle.obj36.specs.declared.section.Section.TheVariants.{Text, Linkage, Symbol, Static}
-use Rattle.obj36.specs.declared.definition.Named.{Named}
+use Rattle.std.specs.Prelude.{ℕ, zero, suc, ◌+◌, ◌-◌, ◌*◌, ◌/◌, ◌%◌, ◌^◌, nat_eq, nat_le, if◌then◌else◌, min, List, [], ◌∷◌, length, take, drop, slice_index}
+use Rattle.obj36_parts.specs.Fields.{LinkFields, RelocFields}
+use Rattle.obj36_parts.specs.PartsFields.{PartsFields}
+use Rattle.obj36_parts.specs.Halves.{left, right}
+use Rattle.obj36_parts.specs.ObjectSegment.{has_name, has_entry}
+use Rattle.obj36_parts.specs.declared.section.Section.{Section}
+use Rattle.obj36_parts.specs.declared.section.Section.TheVariants.{Text, Linkage, Symbol, Static}
+use Rattle.obj36_parts.specs.declared.definition.Named.{Named}
 
 -- ---- names
 

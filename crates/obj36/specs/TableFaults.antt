@@ -1,8 +1,8 @@
 -- Faults of the tables of a definition section. Places count from the section's word 0.
-use Rattle.std.specs.Prelude.{ℕ, zero, suc, ◌+◌, ◌-◌, ◌*◌, ◌/◌, ◌%◌, ◌^◌, Bool, true, false, ◌&&◌, ◌||◌, not, nat_eq, nat_lt, nat_le, if◌then◌else◌, min, List, [], ◌∷◌, length, slice_index, Option, Some, None}
-use Rattle.obj36.specs.Halves.{left, right}
-use Rattle.obj36.specs.Names.{is_name_character}
-use Rattle.obj36.specs.ObjectSegment.{has_name, has_entry, last_class}
+use Rattle.std.specs.Prelude.{ℕ, zero, suc, ◌+◌, ◌-◌, ◌*◌, ◌/◌, ◌%◌, Bool, true, false, ◌&&◌, ◌||◌, not, nat_eq, nat_lt, nat_le, if◌then◌else◌, min, List, length, slice_index, Option, Some, None}
+use Rattle.obj36_parts.specs.Halves.{left, right}
+use Rattle.obj36_parts.specs.Names.{is_name_character}
+use Rattle.obj36_parts.specs.ObjectSegment.{has_name, has_entry, last_class}
 use Rattle.obj36.specs.Reading.{unit_at}
 
 -- the lesser of two places, where there are any

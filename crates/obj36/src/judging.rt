@@ -1,7 +1,7 @@
 //! The first fault of a list of words.
 
-ghost use Rattle.std.specs.Prelude.{ℕ, List, ◌≡◌, ◌+◌, ◌^◌, ◌<◌, length, Option, Some, None, IfSome};
-ghost use Rattle.obj36.specs.Faults.{told_definition, told_linkage, definition_fault, spelling_fault, linking_fault, fault_behind_map, first_fault};
+ghost use Rattle.std.specs.Prelude.{ℕ, List, ◌≡◌, ◌+◌, ◌^◌, ◌<◌, length, Option, Some, None, IfSome, IfOk};
+ghost use Rattle.obj36.specs.Faults.{told_definition, told_linkage, definition_fault, spelling_fault, linking_fault, from_links, from_names, fault_behind_map, first_fault};
 
 use crate::fault::ObjectFault;
 use crate::linking::{fault_of_links, place_behind};
@@ -9,7 +9,8 @@ use crate::map::{extents_told, fault_of_map, fault_of_sections, fault_of_sharing
 use crate::reading::version;
 use crate::spelling::fault_of_names;
 use crate::tables::fault_of_tables;
-use m36_word::Word;
+use m36_word::{NoMemory, Word};
+use std::alloc::Global;
 
 #[tactic(auto, unfolding(crate::specs::Faults::told_definition))]
 fn definition_told(words: &[Word]) -> &[Word]
@@ -26,15 +27,13 @@ fn linkage_told(words: &[Word]) -> &[Word]
 }
 
 #[tactic(auto, unfolding(crate::specs::Faults::definition_fault))]
-fn fault_of_definitions(words: &[Word]) -> Option<u64>
-    ensures value { result ≡ definition_fault words.now }
-    ensures bound { IfSome result (λ p. p < 2 ^ 21) }
+fn fault_of_definitions(alloc: Global, words: &[Word]) -> Result<Option<u64>, NoMemory>
+    ensures value { IfOk result (λ place. place ≡ definition_fault words.now) }
+    ensures bound { IfOk result (λ place. IfSome place (λ p. p < 2 ^ 21)) }
 {
     let from = extents_told(words).definition.from;
-    place_behind(
-        from,
-        fault_of_tables(version(words), definition_told(words)),
-    )
+    let place = fault_of_tables(alloc, version(words), definition_told(words))?;
+    Ok(place_behind(from, place))
 }
 
 #[tactic(auto, unfolding(crate::specs::Faults::spelling_fault))]
@@ -61,19 +60,10 @@ fn fault_of_linking(words: &[Word]) -> Option<u64>
     )
 }
 
-#[tactic(auto, unfolding(crate::specs::Faults::fault_behind_map))]
-fn fault_behind(words: &[Word]) -> ObjectFault
-    ensures { result ≡ fault_behind_map words.now }
+// The fault of names and links behind tables that are as they must be.
+fn fault_behind_tables(words: &[Word]) -> ObjectFault
+    ensures { result ≡ from_names (spelling_fault words.now) (from_links (linking_fault words.now)) }
 {
-    if let Some(place) = fault_of_sections(words) {
-        return ObjectFault::O3(place as u32);
-    }
-    if let Some(place) = fault_of_sharing(words) {
-        return ObjectFault::O4(place as u32);
-    }
-    if let Some(place) = fault_of_definitions(words) {
-        return ObjectFault::O5(place as u32);
-    }
     if let Some(place) = fault_of_spelling(words) {
         return ObjectFault::O6(place as u32);
     }
@@ -83,17 +73,33 @@ fn fault_behind(words: &[Word]) -> ObjectFault
     ObjectFault::O8(0)
 }
 
+#[tactic(auto, unfolding(crate::specs::Faults::fault_behind_map))]
+fn fault_behind(alloc: Global, words: &[Word]) -> Result<ObjectFault, NoMemory>
+    ensures { IfOk result (λ fault. fault ≡ fault_behind_map words.now) }
+{
+    if let Some(place) = fault_of_sections(words) {
+        return Ok(ObjectFault::O3(place as u32));
+    }
+    if let Some(place) = fault_of_sharing(words) {
+        return Ok(ObjectFault::O4(place as u32));
+    }
+    match fault_of_definitions(alloc, words)? {
+        Some(place) => Ok(ObjectFault::O5(place as u32)),
+        None => Ok(fault_behind_tables(words)),
+    }
+}
+
 // The first fault, in the order of the codes; O8 where none of the others is there.
 #[tactic(auto, unfolding(crate::specs::Faults::first_fault))]
-pub(crate) fn fault_of(words: &[Word]) -> ObjectFault
+pub(crate) fn fault_of(alloc: Global, words: &[Word]) -> Result<ObjectFault, NoMemory>
     requires { length words.now < 2 ^ 32 }
-    ensures { result ≡ first_fault words.now }
+    ensures { IfOk result (λ fault. fault ≡ first_fault words.now) }
 {
     if words.len() < 7 {
-        return ObjectFault::O1(words.len() as u32);
+        return Ok(ObjectFault::O1(words.len() as u32));
     }
     if let Some(place) = fault_of_map(words) {
-        return ObjectFault::O2(place as u32);
+        return Ok(ObjectFault::O2(place as u32));
     }
-    fault_behind(words)
+    fault_behind(alloc, words)
 }

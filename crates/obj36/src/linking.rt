@@ -1,18 +1,18 @@
 //! The links of an object, as they stand in a list of words.
 
 ghost use Rattle.std.specs.Prelude.{ℕ, List, Bool, ◌≡◌, ◌+◌, ◌-◌, ◌*◌, ◌%◌, ◌^◌, ◌<◌, ◌≤◌, ◌&&◌, ◌||◌, not, nat_eq, nat_lt, nat_le, length, Option, Some, None, IfSome, slice_index, if◌then◌else◌};
-ghost use Rattle.obj36.specs.Halves.{left, right, joined};
-ghost use Rattle.obj36.specs.ObjectSegment.{has_section};
+ghost use Rattle.obj36_parts.specs.Halves.{left, right, joined};
+ghost use Rattle.obj36_parts.specs.ObjectSegment.{has_section};
 ghost use Rattle.obj36.specs.TableFaults.{earlier, where_bad, expression_count, first_expression};
 ghost use Rattle.obj36.specs.LinkFaults.{is_type, type_faults, link_count, link_start, is_head, is_link_at, link_faults, linkage_fault, behind, links_fault};
 
-use crate::checks::greatest_place;
-use crate::halves::{left_of, right_of, word_of};
 use crate::reading::word_at;
-use crate::sections::LINK_TAG;
 use crate::spelling::names_segment;
 use crate::tables::{count_of_expressions, earlier_of, expression_first, place_if};
 use m36_word::Word;
+use obj36_parts::checks::greatest_place;
+use obj36_parts::halves::{left_of, right_of, word_of};
+use obj36_parts::sections::LINK_TAG;
 
 // ---- types of expressions
 

@@ -5,9 +5,9 @@ ghost use Rattle.obj36.specs.Reading.{map_place, version_in};
 ghost use Rattle.obj36.specs.MapFaults.{extent_at, is_told, is_bound, bound_index, symbol_index, nowhere, fixed_fault, map_fault, is_outside, section_fault, extents_of, covers, covering, first_shared, shared_fault, extent_words};
 ghost use Rattle.obj36.specs.Near.{AreNear};
 
-use crate::halves::{left_of, right_of};
 use crate::reading::{behind, front, place_of_map, version, word_at};
 use m36_word::Word;
+use obj36_parts::halves::{left_of, right_of};
 
 /// Where a section is.
 #[derive(Clone, Copy, Debug)]

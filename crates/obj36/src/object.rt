@@ -1,24 +1,25 @@
 //! Objects.
 
 ghost use Rattle.std.specs.Prelude.{ℕ, List, [], ◌∷◌, ◌++◌, ◌≡◌, ◌+◌, ◌*◌, ◌<◌, ◌≤◌, ◌^◌, Bool, true, length, nat_eq, if◌then◌else◌, IfOk, OnOk};
-ghost use Rattle.obj36.specs.ObjectSegment.{is_newer, inner_statics, outer_statics, definition_section, linkage_section, symbol_section, section_words, map_part, words_of, is_well_formed, definition_named, Stands, IsObject};
-ghost use Rattle.obj36.specs.Halves.{joined};
-ghost use Rattle.obj36.specs.Sizes.{HasShortLists};
+ghost use Rattle.obj36_parts.specs.ObjectSegment.{is_newer, inner_statics, outer_statics, definition_section, linkage_section, symbol_section, section_words, map_part, words_of, is_well_formed, definition_named, Stands, IsObject};
+ghost use Rattle.obj36_parts.specs.Halves.{joined};
+ghost use Rattle.obj36_parts.specs.Sizes.{HasShortLists};
 ghost use Rattle.obj36.specs.Lengths.{AreSmall};
-ghost use Rattle.obj36.specs.PartsFields.{PartsFields};
+ghost use Rattle.obj36_parts.specs.PartsFields.{PartsFields};
 ghost use Rattle.obj36.specs.Faults.{ReadSays, IsReadAs, IsFound};
+ghost use Rattle.obj36.specs.ObjectOf.{value_of, IsObjectOf};
 ghost use Rattle.std.specs.Cmp.Lexicographic.{pointwise};
 
-use crate::definition::{Def, Named};
 use crate::fault::ObjectFault;
-use crate::halves::word_of;
 use crate::judging::fault_of;
-use crate::link::Link;
-use crate::parts::Parts;
 use crate::reading::parts_in;
-use crate::section::Section;
-use crate::sections::{definition_words_of, linkage_words_of, push_all, symbol_words_of};
 use m36_word::{NoMemory, Word, Words};
+use obj36_parts::definition::{Def, Named};
+use obj36_parts::halves::word_of;
+use obj36_parts::link::Link;
+use obj36_parts::parts::Parts;
+use obj36_parts::section::Section;
+use obj36_parts::sections::{definition_words_of, linkage_words_of, push_all, symbol_words_of};
 use std::alloc::Global;
 use std::marker::Model;
 
@@ -40,8 +41,8 @@ pub struct Object {
 }
 
 impl Model for Object {
-    ghost use Rattle.obj36.specs.PartsFields.{PartsFields};
-    ghost use Rattle.obj36.specs.ObjectSegment.{IsObject};
+    ghost use Rattle.obj36_parts.specs.PartsFields.{PartsFields};
+    ghost use Rattle.obj36_parts.specs.ObjectSegment.{IsObject};
 
     ghost Value = { PartsFields };
 
@@ -64,7 +65,7 @@ fn outer(version: u8, statics: &[Word]) -> &[Word]
     if version == 2 { statics } else { &[] }
 }
 
-#[tactic(auto, unfolding(crate::specs::ObjectSegment::definition_section, crate::specs::ObjectSegment::linkage_section, crate::specs::ObjectSegment::symbol_section))]
+#[tactic(auto, unfolding(obj36_parts::specs::ObjectSegment::definition_section, obj36_parts::specs::ObjectSegment::linkage_section, obj36_parts::specs::ObjectSegment::symbol_section))]
 fn sections_of(alloc: Global, parts: &Parts) -> Result<Sections, NoMemory>
     requires { HasShortLists parts.now }
     ensures definition { IfOk result (λ s. s.definition ≡ definition_section parts.now) }
@@ -86,7 +87,7 @@ fn sections_of(alloc: Global, parts: &Parts) -> Result<Sections, NoMemory>
 }
 
 // The first definition of a name.
-#[tactic(auto, unfolding(crate::specs::ObjectSegment::definition_named))]
+#[tactic(auto, unfolding(obj36_parts::specs::ObjectSegment::definition_named))]
 fn found(definitions: &[Named], name: &[u8]) -> Option<Def>
     ensures { result ≡ definition_named name.now definitions.now }
 {
@@ -120,7 +121,7 @@ fn push_static_entry(out: &mut Words, newer: bool, offset: u64, length: u64) -> 
 }
 
 // The map and the last word.
-#[tactic(auto, unfolding(crate::specs::ObjectSegment::map_part))]
+#[tactic(auto, unfolding(obj36_parts::specs::ObjectSegment::map_part))]
 fn push_map(out: &mut Words, newer: bool, lengths: Lengths, bound: u64) -> Result<(), NoMemory>
     requires { AreSmall lengths }
     ensures { OnOk result (out.new ≡ out.old ++ map_part newer lengths.text lengths.definition lengths.linkage lengths.statics lengths.symbol bound) }
@@ -161,7 +162,7 @@ fn lengths_of(parts: &Parts, definition: &[Word], linkage: &[Word], symbol: &[Wo
 }
 
 // The words of an object, from its parts and the sections that are made of them.
-#[tactic(auto, unfolding(crate::specs::ObjectSegment::words_of, crate::specs::ObjectSegment::map_words))]
+#[tactic(auto, unfolding(obj36_parts::specs::ObjectSegment::words_of, obj36_parts::specs::ObjectSegment::map_words))]
 fn joined_sections(
     alloc: Global,
     parts: &Parts,
@@ -194,7 +195,8 @@ fn are_same_words(words: &[Word], others: &[Word]) -> bool
 // The object that a list of words is, or none where it stands for no value.
 fn object_in(alloc: Global, w: &[Word]) -> Result<Option<Object>, NoMemory>
     requires { length w.now < 2 ^ 32 }
-    ensures { IfOk result (λ found. IsFound w.now found) }
+    ensures value { IfOk result (λ found. found ≡ value_of w.now) }
+    ensures found { IfOk result (λ found. IsFound w.now found) }
 {
     let parts = parts_in(alloc, w)?;
     if !parts.is_well_formed() {
@@ -217,10 +219,11 @@ impl Object {
         requires { length w.now < 2 ^ 32 }
         ensures says { ReadSays w.now result }
         ensures accepts { (p : PartsFields) → Stands p w.now → IsReadAs p result }
+        ensures object { IsObjectOf w.now result }
     {
         match object_in(alloc, w)? {
             Some(object) => Ok(object),
-            None => Err(fault_of(w)),
+            None => Err(fault_of(alloc, w)?),
         }
     }
 

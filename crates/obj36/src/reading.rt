@@ -1,21 +1,21 @@
 //! The parts that a list of words would spell.
 
 ghost use Rattle.std.specs.Prelude.{ℕ, List, [], ◌∷◌, ◌++◌, ◌≡◌, ◌+◌, ◌-◌, ◌*◌, ◌/◌, ◌%◌, ◌^◌, ◌<◌, ◌≤◌, min, length, take, drop, slice_index, if◌then◌else◌, IfOk, OnOk};
-ghost use Rattle.obj36.specs.Halves.{left, right};
-ghost use Rattle.obj36.specs.declared.section.Section.TheVariants.{Text};
-ghost use Rattle.obj36.specs.ObjectSegment.{has_name, has_entry};
+ghost use Rattle.obj36_parts.specs.Halves.{left, right};
+ghost use Rattle.obj36_parts.specs.declared.section.Section.TheVariants.{Text};
+ghost use Rattle.obj36_parts.specs.ObjectSegment.{has_name, has_entry};
 ghost use Rattle.obj36.specs.Reading.{part_of, unit_at, characters, name_at, class_with, section_with, definition_at, definitions_in, link_at, links_in, relocation_in, relocations_in, map_place, version_in, told_length, told_count, from_definition, from_linkage, from_statics, from_symbol, told_first, statics_in, bound_in, parts_of};
 
-use crate::definition::{Def, Defs, Named};
-use crate::halves::{left_of, right_of};
-use crate::link::{Link, Links};
-use crate::names::{has_its_entry, has_its_name};
-use crate::parts::Parts;
-use crate::relocation::{Reloc, Relocs};
-use crate::section::Section;
-use crate::sections::push_all;
 use m36_text::Name;
 use m36_word::{NoMemory, Word, Words};
+use obj36_parts::definition::{Def, Defs, Named};
+use obj36_parts::halves::{left_of, right_of};
+use obj36_parts::link::{Link, Links};
+use obj36_parts::names::{has_its_entry, has_its_name};
+use obj36_parts::parts::Parts;
+use obj36_parts::relocation::{Reloc, Relocs};
+use obj36_parts::section::Section;
+use obj36_parts::sections::push_all;
 use std::alloc::Global;
 
 // The word at a place, and 0 past the end.

@@ -1,18 +1,18 @@
 //! The names of a definition section, as they stand in a list of words.
 
 ghost use Rattle.std.specs.Prelude.{ℕ, List, Bool, ◌≡◌, ◌+◌, ◌-◌, ◌*◌, ◌%◌, ◌^◌, ◌<◌, ◌≤◌, ◌&&◌, not, nat_eq, nat_le, length, Option, Some, None, IfSome, slice_index, if◌then◌else◌};
-ghost use Rattle.obj36.specs.Halves.{left, right};
-ghost use Rattle.obj36.specs.ObjectSegment.{has_name, has_entry};
+ghost use Rattle.obj36_parts.specs.Halves.{left, right};
+ghost use Rattle.obj36_parts.specs.ObjectSegment.{has_name, has_entry};
 ghost use Rattle.obj36.specs.TableFaults.{earlier, where_bad, definition_count, first_definition, expression_count, first_expression, are_characters, are_zeros, is_name_at, name_fault, defined_names_fault, expression_fault, linked_names_fault, names_fault};
 
-use crate::checks::is_name_byte;
-use crate::halves::{left_of, right_of};
 use crate::reading::{unit, word_at};
 use crate::tables::{
     count_of_definitions, count_of_expressions, definition_behind, definition_first, earlier_of,
     expression_first, is_within, place_if, place_of_name,
 };
 use m36_word::Word;
+use obj36_parts::checks::is_name_byte;
+use obj36_parts::halves::{left_of, right_of};
 
 // Whether an expression of this type has a name.
 pub(crate) fn names_segment(kind: u64) -> bool

@@ -1,12 +1,14 @@
 //! The tables of a definition section, as they stand in a list of words.
 
-ghost use Rattle.std.specs.Prelude.{ℕ, List, Bool, ◌≡◌, ◌+◌, ◌-◌, ◌*◌, ◌/◌, ◌^◌, ◌<◌, ◌≤◌, ◌&&◌, ◌||◌, not, nat_eq, nat_lt, nat_le, min, length, Option, Some, None, IfSome};
-ghost use Rattle.obj36.specs.TableFaults.{earlier, where_bad, definition_count, first_definition, next_definition, is_member, chain_fault, count_fault, expression_count, first_expression, leaves_section, class_at, class_faults, name_place, lies_within, same_units, same_name, repeats_of, repeats, is_at_head, members_fault, table_fault};
+ghost use Rattle.std.specs.Prelude.{ℕ, List, Bool, ◌≡◌, ◌+◌, ◌-◌, ◌*◌, ◌/◌, ◌^◌, ◌<◌, ◌≤◌, ◌&&◌, ◌||◌, not, nat_eq, nat_lt, nat_le, min, length, Option, Some, None, IfSome, IfOk};
+ghost use Rattle.obj36.specs.TableFaults.{earlier, where_bad, definition_count, first_definition, next_definition, is_member, chain_fault, count_fault, expression_count, first_expression, leaves_section, class_at, class_faults, name_place, lies_within, is_at_head, members_fault, table_fault};
 
-use crate::checks::greatest_class;
-use crate::halves::{left_of, right_of};
 use crate::reading::{unit, word_at};
-use m36_word::Word;
+use crate::repeats::fault_of_repeats;
+use m36_word::{NoMemory, Word};
+use obj36_parts::checks::greatest_class;
+use obj36_parts::halves::{left_of, right_of};
+use std::alloc::Global;
 
 // The lesser of two places, where there are any.
 pub(crate) fn earlier_of(first: Option<u64>, second: Option<u64>) -> Option<u64>
@@ -180,74 +182,17 @@ pub(crate) fn is_within(d: &[Word], at: u64) -> bool
     at < length && at + unit(d, at, 0) / 4 + 1 <= length
 }
 
-fn are_same(d: &[Word], at: u64, other: u64, count: u64) -> bool
-    requires at { at < 2 ^ 20 }
-    requires other { other < 2 ^ 20 }
-    requires count { count < 2 ^ 20 }
-    ensures { result ≡ same_units d.now at other 0 count }
-{
-    for i in 0..count {
-        if unit(d, at, i) != unit(d, other, i) {
-            return false;
-        }
-    }
-    true
-}
-
-#[tactic(auto, unfolding(crate::specs::TableFaults::same_name))]
-fn is_same_name(d: &[Word], at: u64, other: u64) -> bool
-    requires at { at < 2 ^ 20 }
-    requires other { other < 2 ^ 20 }
-    ensures { result ≡ same_name d.now at other }
-{
-    is_within(d, at) && is_within(d, other) && are_same(d, at, other, unit(d, at, 0) + 1)
-}
-
-// The least place of a name, or of the same name, among so many definitions from one on.
-fn repeats_behind(d: &[Word], name: u64, count: u64, from: u64) -> Option<u64>
-    requires name { name < 2 ^ 18 }
-    requires count { count < 2 ^ 18 }
-    requires from { from < 2 ^ 18 }
-    ensures value { result ≡ repeats_of d.now name count from }
-    ensures bound { IfSome result (λ p. p < 2 ^ 20) }
-{
-    let mut found = None;
-    let mut at = from;
-    for _ in 0..count {
-        let other = place_of_name(d, at);
-        let here = place_if(is_same_name(d, name, other), name.min(other));
-        found = earlier_of(found, here);
-        at = definition_behind(d, at);
-    }
-    found
-}
-
-fn fault_of_repeats(d: &[Word]) -> Option<u64>
-    ensures value { result ≡ repeats d.now (definition_count d.now) (first_definition d.now) }
-    ensures bound { IfSome result (λ p. p < 2 ^ 20) }
-{
-    let count = count_of_definitions(d);
-    let mut found = None;
-    let mut at = definition_first(d);
-    for i in 0..count {
-        let next = definition_behind(d, at);
-        let here = repeats_behind(d, place_of_name(d, at), count - i - 1, next);
-        found = earlier_of(found, here);
-        at = next;
-    }
-    found
-}
-
 // ---- all of them
 
 #[tactic(auto, unfolding(crate::specs::TableFaults::members_fault))]
-fn fault_of_members(version: u8, d: &[Word]) -> Option<u64>
-    ensures value { result ≡ members_fault version d.now }
-    ensures bound { IfSome result (λ p. p < 2 ^ 20) }
+fn fault_of_members(alloc: Global, version: u8, d: &[Word]) -> Result<Option<u64>, NoMemory>
+    ensures value { IfOk result (λ place. place ≡ members_fault version d.now) }
+    ensures bound { IfOk result (λ place. IfSome place (λ p. p < 2 ^ 20)) }
 {
     let table = place_if(expressions_leave(d), 1);
     let classes = fault_of_classes(d, greatest_class(version));
-    earlier_of(table, earlier_of(classes, fault_of_repeats(d)))
+    let repeated = fault_of_repeats(alloc, d)?;
+    Ok(earlier_of(table, earlier_of(classes, repeated)))
 }
 
 fn is_head(place: Option<u64>) -> bool
@@ -261,13 +206,18 @@ fn is_head(place: Option<u64>) -> bool
 
 // The least word that holds a count, an offset, a class or a name that is not as it must be.
 #[tactic(auto, unfolding(crate::specs::TableFaults::table_fault))]
-pub(crate) fn fault_of_tables(version: u8, d: &[Word]) -> Option<u64>
-    ensures value { result ≡ table_fault version d.now }
-    ensures bound { IfSome result (λ p. p < 2 ^ 20) }
+pub(crate) fn fault_of_tables(
+    alloc: Global,
+    version: u8,
+    d: &[Word],
+) -> Result<Option<u64>, NoMemory>
+    ensures value { IfOk result (λ place. place ≡ table_fault version d.now) }
+    ensures bound { IfOk result (λ place. IfSome place (λ p. p < 2 ^ 20)) }
 {
     let count = fault_of_count(d);
     if is_head(count) {
-        return Some(0);
+        return Ok(Some(0));
     }
-    earlier_of(count, fault_of_members(version, d))
+    let members = fault_of_members(alloc, version, d)?;
+    Ok(earlier_of(count, members))
 }

@@ -1,5 +1,5 @@
 use Rattle.std.proofs.Common.{◌≡◌, length}
-use Rattle.alm_asm.specs.Spots.{start}
+use Rattle.alm_lines.specs.Spots.{start}
 use Rattle.alm_asm.specs.Growth.{at_first, growth_refusal}
 use Rattle.alm_asm.proofs.growth.growth_refusal.Given as goal
 

@@ -1,5 +1,5 @@
 use Rattle.std.proofs.Common.{◌≡◌, [], length}
-use Rattle.alm_asm.specs.Spots.{start}
+use Rattle.alm_lines.specs.Spots.{start}
 use Rattle.alm_asm.specs.LineRefusals.{lines_refusal}
 use Rattle.alm_asm.proofs.line_refusal.lines_refusal.Given as goal
 

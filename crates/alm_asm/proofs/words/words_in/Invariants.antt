@@ -1,5 +1,5 @@
 use Rattle.std.proofs.Common.{◌≡◌, [], length}
-use Rattle.alm_asm.specs.Spots.{start}
+use Rattle.alm_lines.specs.Spots.{start}
 use Rattle.alm_asm.specs.Words.{words_from}
 use Rattle.alm_asm.proofs.words.words_in.Given as goal
 

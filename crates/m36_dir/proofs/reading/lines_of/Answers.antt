@@ -1,4 +1,4 @@
-use Rattle.std.proofs.Common.{◌<◌, ◌+◌, ◌++◌, length, sym, ap, ◌∙◌, arith}
+use Rattle.std.proofs.Common.{◌<◌, ◌++◌, length, sym, ap, ◌∙◌, arith}
 use Rattle.m36_text.specs.Lines.{lines_of}
 use Rattle.m36_dir.specs.BootOrder.{all_lines}
 use Rattle.m36_dir.proofs.TextLoops.{read_begin, read_code, read_rest, read_none, read_all, read_more, read_lines, read_count, few_begin, few_more, few_kept}

@@ -1,5 +1,5 @@
 use Rattle.std.proofs.Common.{◌≡◌, ◌≤◌, ◌+◌, ◌^◌, ◌++◌, length, drop}
-use Rattle.alm_asm.specs.Spots.{start}
+use Rattle.alm_lines.specs.Spots.{start}
 use Rattle.m36_list.specs.Listing.{section_words}
 use Rattle.m36_list.proofs.listed.put_section_words.Given as goal
 

@@ -1,5 +1,5 @@
 use Rattle.std.proofs.Common.{◌≡◌, length}
-use Rattle.obj36.specs.ObjectSegment.{definition_named}
+use Rattle.obj36_parts.specs.ObjectSegment.{definition_named}
 use Rattle.obj36.proofs.object.found.Given as goal
 
 -- the first of the rest is the first of all

@@ -1,7 +1,7 @@
 use Rattle.std.proofs.Common.{ℕ, ◌≡◌, List, [], cond, eqb, ap, ◌∙◌, length, arith}
-use Rattle.obj36.specs.PartsFields.{PartsFields}
-use Rattle.obj36.specs.ObjectSegment.{definition_section, linkage_section, outer_statics, symbol_section}
-use Rattle.obj36.proofs.LengthLaws.{small_sections}
+use Rattle.obj36_parts.specs.PartsFields.{PartsFields}
+use Rattle.obj36_parts.specs.ObjectSegment.{definition_section, linkage_section, outer_statics, symbol_section}
+use Rattle.obj36_parts.proofs.LengthLaws.{small_sections}
 use Rattle.obj36.proofs.object.lengths_of.Goals as goal
 
 pub returns-clause-small : goal.returns-clause-small

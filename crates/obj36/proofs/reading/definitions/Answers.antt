@@ -1,5 +1,5 @@
-use Rattle.std.proofs.Common.{◌++◌, ◌∷◌, [], ap, ◌∙◌, List, arith}
-use Rattle.obj36.specs.declared.definition.Named.{Named}
+use Rattle.std.proofs.Common.{◌++◌, ◌∷◌, [], ap, ◌∙◌, arith}
+use Rattle.obj36_parts.specs.declared.definition.Named.{Named}
 use Rattle.obj36.specs.Reading.{definitions_in}
 use Rattle.obj36.proofs.ReadingLoops.{definition_read, definitions_read}
 use Rattle.obj36.proofs.reading.definitions.Goals as goal

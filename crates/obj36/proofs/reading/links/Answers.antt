@@ -1,5 +1,5 @@
-use Rattle.std.proofs.Common.{◌++◌, ◌∷◌, [], ap, ◌∙◌, List, arith}
-use Rattle.obj36.specs.Fields.{LinkFields}
+use Rattle.std.proofs.Common.{◌++◌, ◌∷◌, [], ap, ◌∙◌, arith}
+use Rattle.obj36_parts.specs.Fields.{LinkFields}
 use Rattle.obj36.specs.Reading.{links_in}
 use Rattle.obj36.proofs.ReadingLoops.{link_read, links_read}
 use Rattle.obj36.proofs.reading.links.Goals as goal

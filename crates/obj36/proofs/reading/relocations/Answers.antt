@@ -1,5 +1,5 @@
-use Rattle.std.proofs.Common.{◌++◌, ◌∷◌, [], ap, ◌∙◌, List, arith}
-use Rattle.obj36.specs.Fields.{RelocFields}
+use Rattle.std.proofs.Common.{◌++◌, ◌∷◌, [], ap, ◌∙◌, arith}
+use Rattle.obj36_parts.specs.Fields.{RelocFields}
 use Rattle.obj36.specs.Reading.{relocations_in}
 use Rattle.obj36.proofs.ReadingLoops.{relocation_read, relocations_read}
 use Rattle.obj36.proofs.reading.relocations.Goals as goal

@@ -1,4 +1,4 @@
-use Rattle.std.proofs.Common.{◌≡◌, ◌+◌, ◌-◌, ◌*◌, ◌++◌}
+use Rattle.std.proofs.Common.{◌≡◌, ◌+◌, ◌-◌, ◌++◌}
 use Rattle.obj36.specs.Reading.{relocations_in}
 use Rattle.obj36.proofs.reading.relocations.Given as goal
 

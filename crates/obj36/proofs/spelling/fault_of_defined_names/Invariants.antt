@@ -1,4 +1,4 @@
-use Rattle.std.proofs.Common.{◌≡◌, ◌+◌, ◌-◌, ◌*◌, ◌^◌, ◌<◌}
+use Rattle.std.proofs.Common.{◌≡◌, ◌-◌, ◌^◌, ◌<◌}
 use Rattle.std.specs.Prelude.{IfSome}
 use Rattle.obj36.specs.TableFaults.{earlier, defined_names_fault, definition_count, first_definition}
 use Rattle.obj36.proofs.spelling.fault_of_defined_names.Given as goal

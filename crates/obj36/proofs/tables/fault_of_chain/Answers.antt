@@ -1,5 +1,5 @@
-use Rattle.std.proofs.Common.{true, ◌≡◌, ◌∙◌, sym, arith}
-use Rattle.obj36.specs.TableFaults.{chain_fault, first_definition, is_member}
+use Rattle.std.proofs.Common.{true, ◌∙◌}
+use Rattle.obj36.specs.TableFaults.{chain_fault, first_definition}
 use Rattle.obj36.proofs.FaultLoops.{chain_goes_on, chain_breaks, chain_ends}
 use Rattle.obj36.proofs.tables.fault_of_chain.Goals as goal
 

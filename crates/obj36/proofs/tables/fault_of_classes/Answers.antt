@@ -1,4 +1,4 @@
-use Rattle.std.proofs.Common.{◌-◌, ◌+◌, ap, ◌∙◌}
+use Rattle.std.proofs.Common.{◌-◌, ◌+◌}
 use Rattle.obj36.specs.TableFaults.{class_faults, definition_count, first_definition}
 use Rattle.obj36.proofs.FaultLoops.{found_more, found_all, class_step, class_end}
 use Rattle.obj36.proofs.tables.fault_of_classes.Goals as goal

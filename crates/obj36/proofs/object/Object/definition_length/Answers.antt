@@ -1,6 +1,6 @@
 use Rattle.std.proofs.Common.{◌≡◌, ap, ◌∙◌, length, arith}
-use Rattle.obj36.specs.ObjectSegment.{definition_section}
-use Rattle.obj36.proofs.LengthLaws.{small_sections}
+use Rattle.obj36_parts.specs.ObjectSegment.{definition_section}
+use Rattle.obj36_parts.proofs.LengthLaws.{small_sections}
 use Rattle.obj36.proofs.object.Object.definition_length.Goals as goal
 
 pub overflow_cast-result : goal.overflow_cast-result

@@ -1,4 +1,4 @@
-use Rattle.obj36.proofs.LengthLaws.{short_lists}
+use Rattle.obj36_parts.proofs.LengthLaws.{short_lists}
 use Rattle.obj36.proofs.object.Object.new.Goals as goal
 
 pub sections_of-requires : goal.sections_of-requires

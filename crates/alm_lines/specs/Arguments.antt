@@ -1,0 +1,70 @@
+-- The arguments of operations.
+use Rattle.std.specs.Prelude.{ℕ, Bool, List, [], ◌∷◌, ◌++◌, codes, take, Option, Some, None, if◌then◌else◌}
+use Rattle.alm_parse.specs.Tokens.{slice_of, is_text}
+use Rattle.alm_parse.specs.declared.span.Span.{Span}
+use Rattle.alm_parse.specs.declared.expression.Term.{Term}
+use Rattle.alm_parse.specs.declared.args.Arg.{Arg}
+use Rattle.alm_parse.specs.declared.args.Arg.TheVariants.{Symbol, Number, Chars, Plain, Operand}
+use Rattle.obj36_parts.specs.declared.section.Section.{Section}
+use Rattle.obj36_parts.specs.declared.section.Section.TheVariants.{Text, Linkage, Static}
+
+-- a name of at most 32 bytes
+abbrev pub name_at : List ℕ → Span → List ℕ
+name_at text span = take 32 (slice_of text span)
+
+-- ---- arguments
+
+abbrev pub first_arg : List Arg → Option Arg
+first_arg [] = None
+first_arg (arg ∷ more) = Some arg
+
+abbrev pub second_arg : List Arg → Option Arg
+second_arg [] = None
+second_arg (arg ∷ more) = first_arg more
+
+abbrev pub symbol_in : Option Arg → Option Span
+symbol_in (Some (Symbol span)) = Some span
+symbol_in (Some (Number word)) = None
+symbol_in (Some (Chars words)) = None
+symbol_in (Some (Plain terms)) = None
+symbol_in (Some (Operand pr seg entry terms tag)) = None
+symbol_in None = None
+
+abbrev pub terms_in : Option Arg → List Term
+terms_in (Some (Symbol span)) = []
+terms_in (Some (Number word)) = []
+terms_in (Some (Chars words)) = []
+terms_in (Some (Plain terms)) = terms
+terms_in (Some (Operand pr seg entry terms tag)) = terms
+terms_in None = []
+
+abbrev pub number_in : Option Arg → ℕ
+number_in (Some (Symbol span)) = 0
+number_in (Some (Number word)) = word
+number_in (Some (Chars words)) = 0
+number_in (Some (Plain terms)) = 0
+number_in (Some (Operand pr seg entry terms tag)) = 0
+number_in None = 0
+
+-- the words of `dec`, `oct` and `aci`, behind those so far
+abbrev pub words_of_arg : Arg → List ℕ
+words_of_arg (Symbol span) = []
+words_of_arg (Number word) = word ∷ []
+words_of_arg (Chars words) = words
+words_of_arg (Plain terms) = []
+words_of_arg (Operand pr seg entry terms tag) = []
+
+unfoldable pub words_of_args : List ℕ → List Arg → List ℕ
+words_of_args words [] = words
+words_of_args words (arg ∷ more) = words_of_args (words ++ words_of_arg arg) more
+
+-- the section of a `use` line
+abbrev pub section_named : List ℕ → Section
+section_named name =
+    if is_text (codes "link") name
+    then Linkage
+    else (if is_text (codes "static") name then Static else Text)
+
+abbrev pub section_in : List ℕ → Option Span → Section
+section_in text (Some span) = section_named (slice_of text span)
+section_in text None = Text

@@ -1,0 +1,58 @@
+-- What expressions come to.
+use Rattle.std.specs.Prelude.{ℕ, ◌-◌, Bool, true, false, not, List, [], ◌∷◌, Option, option_map, is_some, unwrap_or, if◌then◌else◌}
+use Rattle.std.specs.List.{find}
+use Rattle.alm_parse.specs.declared.expression.Atom.{Atom}
+use Rattle.alm_parse.specs.declared.expression.Atom.TheVariants.{Number, Symbol, Here}
+use Rattle.alm_parse.specs.declared.expression.Term.{Term}
+use Rattle.alm_parse.specs.declared.span.Span.{Span}
+use Rattle.alm_lines.specs.Arguments.{name_at}
+use Rattle.alm_lines.specs.Sums.{absolute, no_sum, sum_plus, sum_turned}
+use Rattle.alm_lines.specs.Symbols.{sum_named}
+use Rattle.alm_lines.specs.Spots.{here}
+use Rattle.alm_lines.specs.declared.sum.Sum.{Sum}
+use Rattle.alm_lines.specs.declared.spot.Spot.{Spot}
+
+-- what a symbol comes to; nothing where it is not defined
+unfoldable pub symbol_sum : List ℕ → List (List ℕ × Sum) → Span → Sum
+symbol_sum text symbols span = unwrap_or (sum_named (name_at text span) symbols) no_sum
+
+abbrev pub atom_sum : List ℕ → List (List ℕ × Sum) → Spot → Span → Atom → Sum
+atom_sum text symbols spot span (Number n) = absolute n
+atom_sum text symbols spot span Symbol = symbol_sum text symbols span
+atom_sum text symbols spot span Here = here spot
+
+unfoldable pub term_sum : List ℕ → List (List ℕ × Sum) → Spot → Term → Sum
+term_sum text symbols spot term =
+    let sum = atom_sum text symbols spot term.span term.what in
+    if term.minus then sum_turned sum else sum
+
+-- the terms, added to a sum
+unfoldable pub added : List ℕ → List (List ℕ × Sum) → Spot → Sum → List Term → Sum
+added text symbols spot sum [] = sum
+added text symbols spot sum (term ∷ terms) =
+    added text symbols spot (sum_plus sum (term_sum text symbols spot term)) terms
+
+abbrev pub sum_of : List ℕ → List (List ℕ × Sum) → Spot → List Term → Sum
+sum_of text symbols spot terms = added text symbols spot no_sum terms
+
+-- the place of the first symbol that is not defined
+unfoldable pub is_defined : List ℕ → List (List ℕ × Sum) → Span → Bool
+is_defined text symbols span = is_some (sum_named (name_at text span) symbols)
+
+abbrev pub is_symbol_atom : Atom → Bool
+is_symbol_atom (Number n) = false
+is_symbol_atom Symbol = true
+is_symbol_atom Here = false
+
+unfoldable pub is_undefined : List ℕ → List (List ℕ × Sum) → Term → Bool
+is_undefined text symbols term =
+    if is_symbol_atom term.what then not (is_defined text symbols term.span) else false
+
+unfoldable pub place_undefined : List ℕ → List (List ℕ × Sum) → List Term → Option ℕ
+place_undefined text symbols terms =
+    option_map (λ term. term.span.from) (find (is_undefined text symbols) terms)
+
+-- where an expression begins: a minus may stand before its first term
+abbrev pub expression_place : List Term → ℕ
+expression_place [] = 0
+expression_place (term ∷ terms) = if term.minus then term.span.from - 1 else term.span.from

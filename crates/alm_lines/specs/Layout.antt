@@ -1,0 +1,164 @@
+-- The symbols that lines define, and what is refused of their definitions and of the lengths of
+-- sections.
+use Rattle.std.specs.Prelude.{ℕ, false, is_some, List, [], ◌∷◌, Option, Some, None, if◌then◌else◌}
+use Rattle.alm_parse.specs.declared.span.Span.{Span}
+use Rattle.alm_parse.specs.declared.args.Arg.{Arg}
+use Rattle.alm_parse.specs.declared.line.Line36.{Line36}
+use Rattle.alm_lines.specs.Sums.{nothing, unknown_sum, settled}
+use Rattle.alm_lines.specs.Symbols.{sum_named, with_symbol}
+use Rattle.alm_lines.specs.Arguments.{name_at, first_arg, second_arg, symbol_in, terms_in}
+use Rattle.alm_lines.specs.Spots.{count, here, below}
+use Rattle.alm_lines.specs.Expressions.{sum_of, expression_place}
+use Rattle.alm_lines.specs.Refusals.{sooner, refusal_at, expression_refusal, is_over_limit}
+use Rattle.alm_lines.specs.declared.sum.Sum.{Sum}
+use Rattle.alm_lines.specs.declared.spot.Spot.{Spot}
+use Rattle.alm_parse.specs.declared.deed.Deed.{Deed}
+use Rattle.alm_parse.specs.declared.deed.Deed.TheVariants as deed
+use Rattle.alm_lines.specs.declared.refusal.Code.TheVariants.{E5, E8}
+use Rattle.alm_lines.specs.declared.refusal.Refusal.{Refusal}
+use Rattle.alm_lines.specs.declared.refusal.Room.TheVariants.{Half}
+
+-- ---- labels
+
+-- a symbol that is defined a second time
+unfoldable pub again : List ℕ → Line36 → List (List ℕ × Sum) → Span → Option Refusal
+again text line symbols span =
+    if is_some (sum_named (name_at text span) symbols)
+    then Some (refusal_at line span.from E5)
+    else None
+
+-- the symbols with the labels of a line, each of which comes to this
+unfoldable pub with_labels : List ℕ → Sum → List (List ℕ × Sum) → List Span → List (List ℕ × Sum)
+with_labels text sum symbols [] = symbols
+with_labels text sum symbols (span ∷ spans) =
+    with_labels text sum (with_symbol symbols (name_at text span) sum) spans
+
+unfoldable pub labels_refused : List ℕ → Line36 → Sum → List (List ℕ × Sum) → Option Refusal
+    → List Span → Option Refusal
+labels_refused text line sum symbols first [] = first
+labels_refused text line sum symbols first (span ∷ spans) =
+    labels_refused text line sum (with_symbol symbols (name_at text span) sum)
+    (sooner first (again text line symbols span)) spans
+
+-- ---- `equ` and `bss`
+
+-- the symbol that an operation defines
+abbrev pub own_symbol : Deed → List Arg → Option Span
+own_symbol deed.Nothing arguments = None
+own_symbol (deed.Instruction code bit27) arguments = None
+own_symbol deed.Entry arguments = None
+own_symbol deed.Segdef arguments = None
+own_symbol deed.Equ arguments = symbol_in (first_arg arguments)
+own_symbol deed.Use arguments = None
+own_symbol deed.Words arguments = None
+own_symbol deed.Zero arguments = None
+own_symbol deed.Block arguments = symbol_in (first_arg arguments)
+own_symbol deed.Even arguments = None
+own_symbol deed.Bound arguments = None
+
+-- an `equ` is refused unless it comes to a number by the symbols above
+abbrev pub value_refusal : List ℕ → List (List ℕ × Sum) → Spot → Line36 → Option Refusal
+value_refusal text symbols spot line =
+    expression_refusal text symbols spot line (terms_in (second_arg line.args))
+    (expression_place (terms_in (second_arg line.args))) Half false
+
+abbrev pub own_refusal : List ℕ → List (List ℕ × Sum) → Spot → Line36 → Deed → Option Refusal
+own_refusal text symbols spot line deed.Nothing = None
+own_refusal text symbols spot line (deed.Instruction code bit27) = None
+own_refusal text symbols spot line deed.Entry = None
+own_refusal text symbols spot line deed.Segdef = None
+own_refusal text symbols spot line deed.Equ = value_refusal text symbols spot line
+own_refusal text symbols spot line deed.Use = None
+own_refusal text symbols spot line deed.Words = None
+own_refusal text symbols spot line deed.Zero = None
+own_refusal text symbols spot line deed.Block = None
+own_refusal text symbols spot line deed.Even = None
+own_refusal text symbols spot line deed.Bound = None
+
+-- what the symbol comes to: the number of an `equ`, of which nothing is known where that is
+-- refused, and else the place
+abbrev pub value_by : Option Refusal → Sum → Sum
+value_by None sum =
+    record {
+      value = settled sum.value;
+      text = nothing;
+      inner = nothing;
+      outer = nothing;
+      unknown = sum.unknown;
+    }
+value_by (Some refusal) sum = unknown_sum
+
+unfoldable pub value_of : List ℕ → List (List ℕ × Sum) → Spot → Line36 → Sum
+value_of text symbols spot line =
+    value_by (value_refusal text symbols spot line)
+    (sum_of text symbols spot (terms_in (second_arg line.args)))
+
+abbrev pub own_sum : List ℕ → List (List ℕ × Sum) → Spot → Line36 → Deed → Sum
+own_sum text symbols spot line deed.Nothing = here spot
+own_sum text symbols spot line (deed.Instruction code bit27) = here spot
+own_sum text symbols spot line deed.Entry = here spot
+own_sum text symbols spot line deed.Segdef = here spot
+own_sum text symbols spot line deed.Equ = value_of text symbols spot line
+own_sum text symbols spot line deed.Use = here spot
+own_sum text symbols spot line deed.Words = here spot
+own_sum text symbols spot line deed.Zero = here spot
+own_sum text symbols spot line deed.Block = here spot
+own_sum text symbols spot line deed.Even = here spot
+own_sum text symbols spot line deed.Bound = here spot
+
+abbrev pub with_own : List ℕ → List (List ℕ × Sum) → Option Span → Sum → List (List ℕ × Sum)
+with_own text symbols None sum = symbols
+with_own text symbols (Some span) sum = with_symbol symbols (name_at text span) sum
+
+abbrev pub own_again : List ℕ → Line36 → List (List ℕ × Sum) → Option Span → Option Refusal
+own_again text line symbols None = None
+own_again text line symbols (Some span) = again text line symbols span
+
+-- the symbols with that of an operation, and what is refused of it
+unfoldable pub symbols_with : List ℕ → List (List ℕ × Sum) → Spot → Line36 → Deed
+    → List (List ℕ × Sum)
+symbols_with text symbols spot line deed =
+    with_own text symbols (own_symbol deed line.args) (own_sum text symbols spot line deed)
+
+unfoldable pub refused_with : List ℕ → List (List ℕ × Sum) → Spot → Line36 → Deed → Option Refusal
+refused_with text symbols spot line deed =
+    sooner (own_again text line symbols (own_symbol deed line.args))
+    (own_refusal text symbols spot line deed)
+
+-- ---- a line
+
+-- A section has no more words of lines than a section may have.
+unfoldable pub over : Line36 → Spot → Option Refusal
+over line spot = if is_over_limit (count spot) then Some (refusal_at line line.start E8) else None
+
+abbrev pub labelled : List ℕ → List (List ℕ × Sum) → Spot → Line36 → List (List ℕ × Sum)
+labelled text symbols spot line = with_labels text (here spot) symbols line.labels
+
+unfoldable pub symbols_after : List ℕ → List (List ℕ × Sum) → Spot → Line36 → List (List ℕ × Sum)
+symbols_after text symbols spot line =
+    symbols_with text (labelled text symbols spot line) spot line line.deed
+
+unfoldable pub refused_after : List ℕ → Option Refusal → List (List ℕ × Sum) → Spot → Line36
+    → Option Refusal
+refused_after text first symbols spot line =
+    sooner
+    (sooner (labels_refused text line (here spot) symbols first line.labels)
+    (refused_with text (labelled text symbols spot line) spot line line.deed))
+    (over line (below text spot line))
+
+-- ---- the lines
+
+-- the symbols of the lines, behind those so far
+unfoldable pub symbols_from : List ℕ → List (List ℕ × Sum) → Spot → List Line36
+    → List (List ℕ × Sum)
+symbols_from text symbols spot [] = symbols
+symbols_from text symbols spot (line ∷ lines) =
+    symbols_from text (symbols_after text symbols spot line) (below text spot line) lines
+
+-- the first refusal of a symbol's definition or of a section's length
+unfoldable pub layout_refusal : List ℕ → Option Refusal → List (List ℕ × Sum) → Spot → List Line36
+    → Option Refusal
+layout_refusal text first symbols spot [] = first
+layout_refusal text first symbols spot (line ∷ lines) =
+    layout_refusal text (refused_after text first symbols spot line)
+    (symbols_after text symbols spot line) (below text spot line) lines

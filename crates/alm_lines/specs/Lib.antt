@@ -1,0 +1,9 @@
+-- In the order in which they are built: numbers and sums, symbols, arguments, where a line is, what
+-- expressions come to, what is refused of them; and Layout, the symbols that lines define.
+pub mod Sums
+pub mod Symbols
+pub mod Arguments
+pub mod Spots
+pub mod Expressions
+pub mod Refusals
+pub mod Layout

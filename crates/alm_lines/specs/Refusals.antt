@@ -1,0 +1,96 @@
+-- Refusals: which comes first in the text, and what refuses an expression.
+use Rattle.std.specs.Prelude.{ℕ, ◌+◌, ◌-◌, ◌%◌, ◌^◌, Bool, true, false, not, ◌&&◌, ◌||◌, nat_eq, nat_lt, is_some, List, Option, Some, None, if◌then◌else◌}
+use Rattle.alm_parse.specs.declared.expression.Term.{Term}
+use Rattle.alm_parse.specs.declared.line.Line36.{Line36}
+use Rattle.alm_parse.specs.declared.fault.AlmFault.{AlmFault}
+use Rattle.alm_parse.specs.declared.fault.AlmFault.TheVariants as fault
+use Rattle.alm_lines.specs.Sums.{is_within, kind_of}
+use Rattle.alm_lines.specs.Expressions.{sum_of, place_undefined}
+use Rattle.alm_lines.specs.declared.sum.Balance.{Balance}
+use Rattle.alm_lines.specs.declared.sum.Sum.{Sum}
+use Rattle.alm_lines.specs.declared.sum.Kind.{Kind}
+use Rattle.alm_lines.specs.declared.sum.Kind.TheVariants.{Absolute, Moved, Unsaid}
+use Rattle.alm_lines.specs.declared.spot.Spot.{Spot}
+use Rattle.alm_lines.specs.declared.refusal.Code.{Code}
+use Rattle.alm_lines.specs.declared.refusal.Code.TheVariants.{E5, E6, E7, E8}
+use Rattle.alm_lines.specs.declared.refusal.Refusal.{Refusal}
+use Rattle.alm_lines.specs.declared.refusal.Room.{Room}
+use Rattle.alm_lines.specs.declared.refusal.Room.TheVariants.{Half, Offset}
+
+abbrev pub code_number : Code → ℕ
+code_number E5 = 5
+code_number E6 = 6
+code_number E7 = 7
+code_number E8 = 8
+
+-- whether a refusal comes before another: earlier in the text, or at the same place with a lesser
+-- code
+unfoldable pub precedes : Refusal → Refusal → Bool
+precedes a b =
+    nat_lt a.place b.place
+    || (nat_eq a.place b.place && nat_lt (code_number a.code) (code_number b.code))
+
+-- the first of two refusals, if there are any
+abbrev pub sooner : Option Refusal → Option Refusal → Option Refusal
+sooner None b = b
+sooner (Some a) None = Some a
+sooner (Some a) (Some b) = Some (if precedes b a then b else a)
+
+abbrev pub refusal_at : Line36 → ℕ → Code → Refusal
+refusal_at line at code = record { place = at; start = line.start; line = line.line; code = code }
+
+-- a refusal by its line and its column, which counts bytes from 1
+abbrev pub column_of : Refusal → ℕ
+column_of refusal = (refusal.place - refusal.start + 1) % 2 ^ 32
+
+abbrev pub fault_by : Code → ℕ → ℕ → AlmFault
+fault_by E5 line column = fault.E5 line column
+fault_by E6 line column = fault.E6 line column
+fault_by E7 line column = fault.E7 line column
+fault_by E8 line column = fault.E8 line column
+
+unfoldable pub fault_of : Refusal → AlmFault
+fault_of refusal = fault_by refusal.code refusal.line (column_of refusal)
+
+-- ---- expressions
+
+-- A half holds -131072 to 262143, the offset behind a pointer register -16384 to 16383.
+abbrev pub has_room : Room → Balance → Bool
+has_room Half value = is_within 131072 262143 value
+has_room Offset value = is_within 16384 16383 value
+
+-- whether an object can say this, where a place of a section may or may not stand
+abbrev pub may_stand : Bool → Kind → Bool
+may_stand may_move Absolute = true
+may_stand may_move (Moved section) = may_move
+may_stand may_move Unsaid = false
+
+unfoldable pub is_said : Room → Bool → Sum → Bool
+is_said room may_move sum = has_room room sum.value && may_stand may_move (kind_of sum)
+
+abbrev pub refusal_by : Line36 → Option ℕ → ℕ → Bool → Option Refusal
+refusal_by line (Some at) place said = Some (refusal_at line at E6)
+refusal_by line None place true = None
+refusal_by line None place false = Some (refusal_at line place E7)
+
+-- An expression that begins at a place is refused for its first symbol that is not defined, or else
+-- for what it comes to, unless it stands on an `equ` that is refused.
+unfoldable pub expression_refusal : List ℕ → List (List ℕ × Sum) → Spot → Line36 → List Term → ℕ
+    → Room → Bool → Option Refusal
+expression_refusal text symbols spot line terms place room may_move =
+    let sum = sum_of text symbols spot terms in
+    refusal_by line (place_undefined text symbols terms) place
+    (sum.unknown || is_said room may_move sum)
+
+-- Whether nothing of an expression is refused, nor an `equ` that it stands on.
+unfoldable pub has_value : List ℕ → List (List ℕ × Sum) → Spot → List Term → Room → Bool → Bool
+has_value text symbols spot terms room may_move =
+    let sum = sum_of text symbols spot terms in
+    not (is_some (place_undefined text symbols terms)) && not sum.unknown
+    && is_said room may_move sum
+
+-- ---- lengths
+
+-- A section of an object has at most 2^18 - 4096 words.
+abbrev pub is_over_limit : ℕ → Bool
+is_over_limit words = nat_lt 258048 words

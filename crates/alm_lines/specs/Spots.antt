@@ -1,0 +1,129 @@
+-- Where a line is: the section that it belongs to, and how many words the lines above it place in
+-- each section.
+use Rattle.std.specs.Prelude.{ℕ, ◌+◌, ◌%◌, true, false, List, [], ◌∷◌, length}
+use Rattle.obj36_parts.specs.declared.section.Section.{Section}
+use Rattle.obj36_parts.specs.declared.section.Section.TheVariants.{Text, Linkage, Symbol, Static}
+use Rattle.alm_parse.specs.declared.args.Arg.{Arg}
+use Rattle.alm_parse.specs.declared.line.Line36.{Line36}
+use Rattle.alm_lines.specs.Sums.{balance, nothing, no_sum}
+use Rattle.alm_lines.specs.Arguments.{first_arg, second_arg, symbol_in, number_in, words_of_args, section_in}
+use Rattle.alm_lines.specs.declared.sum.Sum.{Sum}
+use Rattle.alm_parse.specs.declared.deed.Deed.{Deed}
+use Rattle.alm_parse.specs.declared.deed.Deed.TheVariants as deed
+use Rattle.alm_lines.specs.declared.spot.Spot.{Spot}
+
+abbrev pub start : Spot
+start =
+    record {
+      text = 0;
+      inner = 0;
+      outer = 0;
+      section = Text;
+      uses_inner = false;
+      uses_outer = false;
+    }
+
+-- how many words the lines above place in a section
+abbrev pub count_in : Section → Spot → ℕ
+count_in Text spot = spot.text
+count_in Linkage spot = spot.inner
+count_in Symbol spot = 0
+count_in Static spot = spot.outer
+
+abbrev pub count : Spot → ℕ
+count spot = count_in spot.section spot
+
+-- the place in the section: static words of the linkage section begin at 8
+abbrev pub place_in : Section → Spot → ℕ
+place_in Text spot = spot.text
+place_in Linkage spot = spot.inner + 8
+place_in Symbol spot = 0
+place_in Static spot = spot.outer
+
+abbrev pub place : Spot → ℕ
+place spot = place_in spot.section spot
+
+-- what a label there comes to
+abbrev pub here_in : Section → Spot → Sum
+here_in Text spot =
+    record {
+      value = balance spot.text 0;
+      text = balance 1 0;
+      inner = nothing;
+      outer = nothing;
+      unknown = false;
+    }
+here_in Linkage spot =
+    record {
+      value = balance (spot.inner + 8) 0;
+      text = nothing;
+      inner = balance 1 0;
+      outer = nothing;
+      unknown = false;
+    }
+here_in Symbol spot = no_sum
+here_in Static spot =
+    record {
+      value = balance spot.outer 0;
+      text = nothing;
+      inner = nothing;
+      outer = balance 1 0;
+      unknown = false;
+    }
+
+abbrev pub here : Spot → Sum
+here spot = here_in spot.section spot
+
+-- with so many more words
+abbrev pub grown_in : Section → Spot → ℕ → Spot
+grown_in Text spot n = record spot { text = spot.text + n }
+grown_in Linkage spot n = record spot { inner = spot.inner + n }
+grown_in Symbol spot n = spot
+grown_in Static spot n = record spot { outer = spot.outer + n }
+
+abbrev pub grown : Spot → ℕ → Spot
+grown spot n = grown_in spot.section spot n
+
+-- in another section
+abbrev pub entered : Spot → Section → Spot
+entered spot Text = record spot { section = Text }
+entered spot Linkage = record spot { section = Linkage; uses_inner = true }
+entered spot Symbol = spot
+entered spot Static = record spot { section = Static; uses_outer = true }
+
+-- how many words a line places
+abbrev pub size_of : Deed → List Arg → ℕ → ℕ
+size_of deed.Nothing arguments at = 0
+size_of (deed.Instruction code bit27) arguments at = 1
+size_of deed.Entry arguments at = 0
+size_of deed.Segdef arguments at = 0
+size_of deed.Equ arguments at = 0
+size_of deed.Use arguments at = 0
+size_of deed.Words arguments at = length (words_of_args [] arguments)
+size_of deed.Zero arguments at = 1
+size_of deed.Block arguments at = number_in (second_arg arguments)
+size_of deed.Even arguments at = at % 2
+size_of deed.Bound arguments at = 0
+
+-- where the line below is
+abbrev pub moved_by : List ℕ → Deed → List Arg → Spot → Spot
+moved_by text deed.Use arguments spot =
+    entered spot (section_in text (symbol_in (first_arg arguments)))
+moved_by text deed.Nothing arguments spot = spot
+moved_by text (deed.Instruction code bit27) arguments spot = grown spot 1
+moved_by text deed.Entry arguments spot = spot
+moved_by text deed.Segdef arguments spot = spot
+moved_by text deed.Equ arguments spot = spot
+moved_by text deed.Words arguments spot = grown spot (size_of deed.Words arguments (place spot))
+moved_by text deed.Zero arguments spot = grown spot 1
+moved_by text deed.Block arguments spot = grown spot (size_of deed.Block arguments (place spot))
+moved_by text deed.Even arguments spot = grown spot (size_of deed.Even arguments (place spot))
+moved_by text deed.Bound arguments spot = spot
+
+unfoldable pub below : List ℕ → Spot → Line36 → Spot
+below text spot line = moved_by text line.deed line.args spot
+
+-- where the end is
+unfoldable pub end_of : List ℕ → Spot → List Line36 → Spot
+end_of text spot [] = spot
+end_of text spot (line ∷ lines) = end_of text (below text spot line) lines

@@ -1,0 +1,92 @@
+-- What expressions come to: numbers, and how often the places of each section are counted in them.
+use Rattle.std.specs.Prelude.{ℕ, ◌+◌, ◌-◌, ◌%◌, ◌^◌, Bool, true, false, ◌&&◌, ◌||◌, nat_eq, nat_lt, nat_le, if◌then◌else◌}
+use Rattle.obj36_parts.specs.declared.section.Section.TheVariants.{Text, Linkage, Static}
+use Rattle.alm_lines.specs.declared.sum.Balance.{Balance}
+use Rattle.alm_lines.specs.declared.sum.Sum.{Sum}
+use Rattle.alm_lines.specs.declared.sum.Kind.{Kind}
+use Rattle.alm_lines.specs.declared.sum.Kind.TheVariants.{Absolute, Moved, Unsaid}
+
+-- ---- whole numbers, as what is added and what is taken away
+
+abbrev pub balance : ℕ → ℕ → Balance
+balance up down = record { up = up; down = down }
+
+abbrev pub nothing : Balance
+nothing = record { up = 0; down = 0 }
+
+abbrev pub balance_plus : Balance → Balance → Balance
+balance_plus a b = record { up = a.up + b.up; down = a.down + b.down }
+
+abbrev pub turned : Balance → Balance
+turned b = record { up = b.down; down = b.up }
+
+abbrev pub is_even : Balance → Bool
+is_even b = nat_eq b.up b.down
+
+abbrev pub is_one : Balance → Bool
+is_one b = nat_lt b.down b.up && nat_eq (b.up - b.down) 1
+
+-- whether the number is from -low to high
+abbrev pub is_within : ℕ → ℕ → Balance → Bool
+is_within low high b = nat_le (b.down - b.up) low && nat_le (b.up - b.down) high
+
+-- the number modulo 2^18 and modulo 2^15
+unfoldable pub half_of : Balance → ℕ
+half_of b = (b.up % 2 ^ 18 + (2 ^ 18 - b.down % 2 ^ 18)) % 2 ^ 18
+
+unfoldable pub offset_of : Balance → ℕ
+offset_of b = (b.up % 2 ^ 15 + (2 ^ 15 - b.down % 2 ^ 15)) % 2 ^ 15
+
+-- the same number, of which nothing is added that is taken away again
+abbrev pub settled : Balance → Balance
+settled b = record { up = b.up - b.down; down = b.down - b.up }
+
+-- ---- sums
+
+abbrev pub absolute : ℕ → Sum
+absolute n =
+    record {
+      value = balance n 0;
+      text = nothing;
+      inner = nothing;
+      outer = nothing;
+      unknown = false;
+    }
+
+abbrev pub no_sum : Sum
+no_sum = absolute 0
+
+-- what the symbol of an `equ` that is refused comes to: nothing is known of what stands on it
+abbrev pub unknown_sum : Sum
+unknown_sum = record no_sum { unknown = true }
+
+unfoldable pub sum_plus : Sum → Sum → Sum
+sum_plus a b =
+    record {
+      value = balance_plus a.value b.value;
+      text = balance_plus a.text b.text;
+      inner = balance_plus a.inner b.inner;
+      outer = balance_plus a.outer b.outer;
+      unknown = a.unknown || b.unknown;
+    }
+
+unfoldable pub sum_turned : Sum → Sum
+sum_turned a =
+    record {
+      value = turned a.value;
+      text = turned a.text;
+      inner = turned a.inner;
+      outer = turned a.outer;
+      unknown = a.unknown;
+    }
+
+-- A sum is a number, or a place of a section, or what no object can say.
+unfoldable pub kind_of : Sum → Kind
+kind_of s =
+    if is_even s.text && is_even s.inner && is_even s.outer
+    then Absolute
+    else (if is_one s.text && is_even s.inner && is_even s.outer
+    then Moved Text
+    else (if is_even s.text && is_one s.inner && is_even s.outer
+    then Moved Linkage
+    else (if is_even s.text && is_even s.inner && is_one s.outer then Moved Static else Unsaid)))

@@ -1,0 +1,130 @@
+//! The arguments of operations.
+
+ghost use Rattle.std.specs.Prelude.{ℕ, List, [], ◌∷◌, ◌++◌, ◌≡◌, ◌≤◌, take, length, Option, OnOk, IfOk};
+ghost use Rattle.alm_lines.specs.Arguments.{name_at, first_arg, second_arg, symbol_in, terms_in, number_in, words_of_arg, words_of_args, section_named, section_in};
+
+use alm_parse::span::bytes_of;
+use alm_parse::{Arg, Span, Term};
+use m36_text::Name;
+use m36_word::{NoMemory, Word, Words};
+use obj36_parts::Section;
+use std::alloc::Global;
+
+// The first bytes, at most so many.
+fn front(bytes: &[u8], count: usize) -> &[u8]
+    ensures value { result.now ≡ take count bytes.now }
+    ensures fits { length result.now ≤ count }
+{
+    if count <= bytes.len() {
+        &bytes[..count]
+    } else {
+        bytes
+    }
+}
+
+/// The name that a span names, cut to 32 bytes.
+pub fn name_at(text: &[u8], span: Span) -> Name
+    ensures { result ≡ name_at text.now span }
+{
+    match Name::new(front(bytes_of(text, span), 32)) {
+        Some(name) => name,
+        None => unreachable!(),
+    }
+}
+
+/// The symbol that is the first argument.
+pub fn first_symbol(args: &[Arg]) -> Option<Span>
+    ensures { result ≡ symbol_in (first_arg args.now) }
+{
+    match args {
+        [Arg::Symbol(span), ..] => Some(*span),
+        _ => None,
+    }
+}
+
+/// The terms of the first argument.
+pub fn first_terms(args: &[Arg]) -> &[Term]
+    ensures { result.now ≡ terms_in (first_arg args.now) }
+{
+    match args {
+        [Arg::Plain(expr), ..] => expr.items(),
+        [Arg::Operand { expr, .. }, ..] => expr.items(),
+        _ => &[],
+    }
+}
+
+/// The terms of the second argument.
+pub fn second_terms(args: &[Arg]) -> &[Term]
+    ensures { result.now ≡ terms_in (second_arg args.now) }
+{
+    match args {
+        [_, rest @ ..] => first_terms(rest),
+        [] => &[],
+    }
+}
+
+/// The number that is the second argument.
+pub fn second_number(args: &[Arg]) -> u64
+    ensures { result ≡ number_in (second_arg args.now) }
+{
+    match args {
+        [_, Arg::Number(word), ..] => word.value(),
+        _ => 0,
+    }
+}
+
+/// Adds words at the end.
+pub fn push_all(words: &mut Words, more: &[Word]) -> Result<(), NoMemory>
+    ensures { OnOk result (words.new ≡ words.old ++ more.now) }
+{
+    for word in more {
+        words.push(*word)?;
+    }
+    Ok(())
+}
+
+fn push_arg(words: &mut Words, arg: &Arg) -> Result<(), NoMemory>
+    ensures { OnOk result (words.new ≡ words.old ++ words_of_arg arg.now) }
+{
+    match arg {
+        Arg::Number(word) => words.push(*word),
+        Arg::Chars(chars) => push_all(words, chars.slice()),
+        _ => Ok(()),
+    }
+}
+
+/// The words of `dec`, `oct` and `aci`.
+#[tactic(auto, unfolding(crate::specs::Arguments::words_of_args))]
+pub fn words_of_args(alloc: Global, args: &[Arg]) -> Result<Words, NoMemory>
+    ensures { IfOk result (λ words. words ≡ words_of_args [] args.now) }
+{
+    let mut words = Words::new(alloc);
+    let mut rest = args;
+    while let [arg, more @ ..] = rest {
+        push_arg(&mut words, arg)?;
+        rest = more;
+    }
+    Ok(words)
+}
+
+fn section_named(bytes: &[u8]) -> Section
+    ensures { result ≡ section_named bytes.now }
+{
+    if bytes == b"link".as_slice() {
+        return Section::Linkage;
+    }
+    if bytes == b"static".as_slice() {
+        return Section::Static;
+    }
+    Section::Text
+}
+
+/// The section of a `use` line.
+pub fn section_in(text: &[u8], name: Option<Span>) -> Section
+    ensures { result ≡ section_in text.now name }
+{
+    match name {
+        Some(name) => section_named(bytes_of(text, name)),
+        None => Section::Text,
+    }
+}

@@ -1,0 +1,110 @@
+//! What expressions come to.
+
+ghost use Rattle.std.specs.Prelude.{ℕ, List, [], ◌∷◌, ◌≡◌, ◌-◌, Option, IfOk};
+ghost use Rattle.alm_lines.specs.Sums.{no_sum};
+ghost use Rattle.alm_lines.specs.Expressions.{symbol_sum, atom_sum, term_sum, added, sum_of, is_defined, is_symbol_atom, is_undefined, place_undefined, expression_place};
+
+use crate::arguments::name_at;
+use crate::spot::Spot;
+use crate::sum::{Sum, absolute};
+use crate::symbols::Symbols;
+use alm_parse::{Atom, Span, Term};
+use m36_word::NoMemory;
+
+/// What a symbol comes to; 0 where it is not defined.
+#[tactic(auto, unfolding(crate::specs::Expressions::symbol_sum))]
+pub fn symbol_sum(text: &[u8], symbols: &Symbols, span: Span) -> Sum
+    ensures { result ≡ symbol_sum text.now symbols.now span }
+{
+    match symbols.find(&name_at(text, span)) {
+        Some(sum) => sum,
+        None => absolute(0),
+    }
+}
+
+fn atom_sum(
+    text: &[u8],
+    symbols: &Symbols,
+    spot: Spot,
+    span: Span,
+    atom: Atom,
+) -> Result<Sum, NoMemory>
+    ensures { IfOk result (λ sum. sum ≡ atom_sum text.now symbols.now spot span atom) }
+{
+    match atom {
+        Atom::Number(n) => Ok(absolute(n as u64)),
+        Atom::Symbol => Ok(symbol_sum(text, symbols, span)),
+        Atom::Here => spot.here(),
+    }
+}
+
+#[tactic(auto, unfolding(crate::specs::Expressions::term_sum))]
+fn term_sum(text: &[u8], symbols: &Symbols, spot: Spot, term: Term) -> Result<Sum, NoMemory>
+    ensures { IfOk result (λ sum. sum ≡ term_sum text.now symbols.now spot term) }
+{
+    let sum = atom_sum(text, symbols, spot, term.span, term.what)?;
+    if term.minus {
+        Ok(sum.turned())
+    } else {
+        Ok(sum)
+    }
+}
+
+/// What an expression comes to; a symbol that is not defined counts as 0.
+#[tactic(auto, unfolding(crate::specs::Expressions::added))]
+pub fn sum_of(text: &[u8], symbols: &Symbols, spot: Spot, terms: &[Term]) -> Result<Sum, NoMemory>
+    ensures { IfOk result (λ sum. sum ≡ sum_of text.now symbols.now spot terms.now) }
+{
+    let mut sum = absolute(0);
+    let mut rest = terms;
+    while let [term, more @ ..] = rest {
+        sum = sum.plus(term_sum(text, symbols, spot, *term)?)?;
+        rest = more;
+    }
+    Ok(sum)
+}
+
+/// A symbol is defined.
+#[tactic(auto, unfolding(crate::specs::Expressions::is_defined))]
+pub fn is_defined(text: &[u8], symbols: &Symbols, span: Span) -> bool
+    ensures { result ≡ is_defined text.now symbols.now span }
+{
+    symbols.find(&name_at(text, span)).is_some()
+}
+
+#[tactic(auto, unfolding(crate::specs::Expressions::is_undefined))]
+fn is_undefined(text: &[u8], symbols: &Symbols, term: &Term) -> bool
+    ensures { result ≡ is_undefined text.now symbols.now term.now }
+{
+    match term.what {
+        Atom::Symbol => !is_defined(text, symbols, term.span),
+        Atom::Number(_) | Atom::Here => false,
+    }
+}
+
+/// The place of the first symbol that is not defined.
+#[tactic(auto, unfolding(crate::specs::Expressions::place_undefined))]
+pub fn place_undefined(text: &[u8], symbols: &Symbols, terms: &[Term]) -> Option<u32>
+    ensures { result ≡ place_undefined text.now symbols.now terms.now }
+{
+    match terms.iter().find(|term| is_undefined(text, symbols, *term)) {
+        Some(term) => Some(term.span.from),
+        None => None,
+    }
+}
+
+/// Where an expression begins: a minus may stand before its first term.
+pub fn expression_place(terms: &[Term]) -> u32
+    ensures { result ≡ expression_place terms.now }
+{
+    match terms {
+        [term, ..] => {
+            if term.minus {
+                term.span.from.saturating_sub(1)
+            } else {
+                term.span.from
+            }
+        }
+        [] => 0,
+    }
+}

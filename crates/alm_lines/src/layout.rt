@@ -1,0 +1,277 @@
+//! The symbols that lines define, and what is refused of their definitions and of the lengths of sections.
+
+ghost use Rattle.std.specs.Prelude.{ℕ, List, [], ◌∷◌, ◌≡◌, Option, None, OnOk, IfOk};
+ghost use Rattle.alm_lines.specs.Symbols.{with_symbol};
+ghost use Rattle.alm_lines.specs.Arguments.{name_at};
+ghost use Rattle.alm_lines.specs.Spots.{start, below, end_of};
+ghost use Rattle.alm_lines.specs.Refusals.{sooner};
+ghost use Rattle.alm_lines.specs.Layout.{again, with_labels, labels_refused, own_symbol, own_refusal, value_refusal, value_by, value_of, own_sum, with_own, own_again, symbols_with, refused_with, over, symbols_after, refused_after, symbols_from, layout_refusal};
+
+use crate::arguments::{first_symbol, name_at, second_terms};
+use crate::expression::{expression_place, is_defined, sum_of};
+use crate::refusal::{
+    Code, Refusal, Room, Wanted, expression_refusal, is_over_limit, refusal_at, sooner,
+};
+use crate::spot::{Spot, below};
+use crate::sum::{NOTHING, Sum, unknown};
+use crate::symbols::Symbols;
+use alm_parse::{Arg, Deed, Line36, Span};
+use m36_word::NoMemory;
+use std::alloc::Global;
+
+#[tactic(auto, unfolding(crate::specs::Layout::again, crate::specs::Expressions::is_defined))]
+fn again(text: &[u8], line: &Line36, symbols: &Symbols, span: Span) -> Option<Refusal>
+    ensures { result ≡ again text.now line.now symbols.now span }
+{
+    if is_defined(text, symbols, span) {
+        Some(refusal_at(line, span.from as u64, Code::E5))
+    } else {
+        None
+    }
+}
+
+fn define(text: &[u8], symbols: &mut Symbols, span: Span, sum: Sum) -> Result<(), NoMemory>
+    ensures { OnOk result (symbols.new ≡ with_symbol symbols.old (name_at text.now span) sum) }
+{
+    symbols.define(name_at(text, span), sum)
+}
+
+#[tactic(auto, unfolding(crate::specs::Layout::with_labels, crate::specs::Layout::labels_refused))]
+fn define_labels(
+    text: &[u8],
+    line: &Line36,
+    symbols: &mut Symbols,
+    sum: Sum,
+    refused: Option<Refusal>,
+) -> Result<Option<Refusal>, NoMemory>
+    ensures symbols { OnOk result
+        (symbols.new ≡ with_labels text.now sum symbols.old line.now.labels) }
+    ensures refused { IfOk result (λ r.
+        r ≡ labels_refused text.now line.now sum symbols.old refused line.now.labels) }
+{
+    let mut first = refused;
+    let mut rest = line.labels.items();
+    while let [span, more @ ..] = rest {
+        first = sooner(first, again(text, line, symbols, *span));
+        define(text, symbols, *span, sum)?;
+        rest = more;
+    }
+    Ok(first)
+}
+
+fn own_symbol(deed: Deed, args: &[Arg]) -> Option<Span>
+    ensures { result ≡ own_symbol deed args.now }
+{
+    match deed {
+        Deed::Equ | Deed::Block => first_symbol(args),
+        Deed::Nothing
+        | Deed::Instruction(_, _)
+        | Deed::Entry
+        | Deed::Segdef
+        | Deed::Use
+        | Deed::Words
+        | Deed::Zero
+        | Deed::Even
+        | Deed::Bound => None,
+    }
+}
+
+fn value_refusal(
+    text: &[u8],
+    symbols: &Symbols,
+    spot: Spot,
+    line: &Line36,
+) -> Result<Option<Refusal>, NoMemory>
+    ensures { IfOk result (λ r. r ≡ value_refusal text.now symbols.now spot line.now) }
+{
+    let terms = second_terms(line.args.items());
+    let wanted = Wanted {
+        place: expression_place(terms) as u64,
+        room: Room::Half,
+        may_move: false,
+    };
+    expression_refusal(text, symbols, spot, line, terms, wanted)
+}
+
+fn value_by(refusal: Option<Refusal>, sum: Sum) -> Sum
+    ensures { result ≡ value_by refusal sum }
+{
+    match refusal {
+        None => Sum {
+            value: sum.value.settled(),
+            text: NOTHING,
+            inner: NOTHING,
+            outer: NOTHING,
+            unknown: sum.unknown,
+        },
+        Some(_) => unknown(),
+    }
+}
+
+#[tactic(auto, unfolding(crate::specs::Layout::value_of))]
+fn value_of(text: &[u8], symbols: &Symbols, spot: Spot, line: &Line36) -> Result<Sum, NoMemory>
+    ensures { IfOk result (λ sum. sum ≡ value_of text.now symbols.now spot line.now) }
+{
+    let refusal = value_refusal(text, symbols, spot, line)?;
+    let sum = sum_of(text, symbols, spot, second_terms(line.args.items()))?;
+    Ok(value_by(refusal, sum))
+}
+
+fn own_refusal(
+    text: &[u8],
+    symbols: &Symbols,
+    spot: Spot,
+    line: &Line36,
+    deed: Deed,
+) -> Result<Option<Refusal>, NoMemory>
+    ensures { IfOk result (λ r. r ≡ own_refusal text.now symbols.now spot line.now deed) }
+{
+    match deed {
+        Deed::Equ => value_refusal(text, symbols, spot, line),
+        Deed::Nothing
+        | Deed::Instruction(_, _)
+        | Deed::Entry
+        | Deed::Segdef
+        | Deed::Use
+        | Deed::Words
+        | Deed::Zero
+        | Deed::Block
+        | Deed::Even
+        | Deed::Bound => Ok(None),
+    }
+}
+
+fn own_sum(
+    text: &[u8],
+    symbols: &Symbols,
+    spot: Spot,
+    line: &Line36,
+    deed: Deed,
+) -> Result<Sum, NoMemory>
+    ensures { IfOk result (λ sum. sum ≡ own_sum text.now symbols.now spot line.now deed) }
+{
+    match deed {
+        Deed::Equ => value_of(text, symbols, spot, line),
+        Deed::Nothing
+        | Deed::Instruction(_, _)
+        | Deed::Entry
+        | Deed::Segdef
+        | Deed::Use
+        | Deed::Words
+        | Deed::Zero
+        | Deed::Block
+        | Deed::Even
+        | Deed::Bound => spot.here(),
+    }
+}
+
+fn own_again(text: &[u8], line: &Line36, symbols: &Symbols, own: Option<Span>) -> Option<Refusal>
+    ensures { result ≡ own_again text.now line.now symbols.now own }
+{
+    match own {
+        Some(span) => again(text, line, symbols, span),
+        None => None,
+    }
+}
+
+fn define_own(
+    text: &[u8],
+    symbols: &mut Symbols,
+    own: Option<Span>,
+    sum: Sum,
+) -> Result<(), NoMemory>
+    ensures { OnOk result (symbols.new ≡ with_own text.now symbols.old own sum) }
+{
+    match own {
+        Some(span) => define(text, symbols, span, sum),
+        None => Ok(()),
+    }
+}
+
+#[tactic(auto, unfolding(crate::specs::Layout::refused_with))]
+fn refused_with(
+    text: &[u8],
+    symbols: &Symbols,
+    spot: Spot,
+    line: &Line36,
+    deed: Deed,
+) -> Result<Option<Refusal>, NoMemory>
+    ensures { IfOk result (λ r. r ≡ refused_with text.now symbols.now spot line.now deed) }
+{
+    let own = own_symbol(deed, line.args.items());
+    let refused = own_refusal(text, symbols, spot, line, deed)?;
+    Ok(sooner(own_again(text, line, symbols, own), refused))
+}
+
+#[tactic(auto, unfolding(crate::specs::Layout::symbols_with))]
+fn define_with(
+    text: &[u8],
+    symbols: &mut Symbols,
+    spot: Spot,
+    line: &Line36,
+    deed: Deed,
+) -> Result<(), NoMemory>
+    ensures { OnOk result (symbols.new ≡ symbols_with text.now symbols.old spot line.now deed) }
+{
+    let sum = own_sum(text, symbols, spot, line, deed)?;
+    define_own(text, symbols, own_symbol(deed, line.args.items()), sum)
+}
+
+#[tactic(auto, unfolding(crate::specs::Layout::over))]
+fn over(line: &Line36, spot: Spot) -> Option<Refusal>
+    ensures { result ≡ over line.now spot }
+{
+    if is_over_limit(spot.count()) {
+        Some(refusal_at(line, line.start as u64, Code::E8))
+    } else {
+        None
+    }
+}
+
+#[tactic(auto, unfolding(crate::specs::Layout::symbols_after, crate::specs::Layout::refused_after))]
+fn take_line(
+    alloc: Global,
+    text: &[u8],
+    symbols: &mut Symbols,
+    spot: Spot,
+    line: &Line36,
+    refused: Option<Refusal>,
+) -> Result<Option<Refusal>, NoMemory>
+    ensures symbols { OnOk result (symbols.new ≡ symbols_after text.now symbols.old spot line.now) }
+    ensures refused { IfOk result (λ r.
+        r ≡ refused_after text.now refused symbols.old spot line.now) }
+{
+    let deed = line.deed;
+    let after = below(alloc, text, spot, line)?;
+    let labels = define_labels(text, line, symbols, spot.here()?, refused)?;
+    let own = refused_with(text, symbols, spot, line, deed)?;
+    define_with(text, symbols, spot, line, deed)?;
+    Ok(sooner(sooner(labels, own), over(line, after)))
+}
+
+/// The symbols of lines, and the first refusal of a symbol's definition or of a section's length.
+#[derive(Debug, Drop)]
+pub struct Layout {
+    pub symbols: Symbols,
+    pub refused: Option<Refusal>,
+}
+
+/// Lays out lines: their symbols, and what is refused of them.
+#[tactic(auto, unfolding(crate::specs::Layout::symbols_from, crate::specs::Layout::layout_refusal))]
+pub fn layout_of(alloc: Global, text: &[u8], lines: &[Line36]) -> Result<Layout, NoMemory>
+    ensures symbols { IfOk result (λ layout.
+        layout.symbols ≡ symbols_from text.now [] start lines.now) }
+    ensures refused { IfOk result (λ layout.
+        layout.refused ≡ layout_refusal text.now None [] start lines.now) }
+{
+    let mut symbols = Symbols::new(alloc);
+    let mut refused = None;
+    let mut spot = Spot::start();
+    let mut rest = lines;
+    while let [line, more @ ..] = rest {
+        refused = take_line(alloc, text, &mut symbols, spot, line, refused)?;
+        spot = below(alloc, text, spot, line)?;
+        rest = more;
+    }
+    Ok(Layout { symbols, refused })
+}

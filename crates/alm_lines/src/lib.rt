@@ -1,0 +1,20 @@
+//! What lines of assembly language come to: their symbols, and what expressions of them come to.
+//!
+//! Each line stands in the section that the last `use` line above it names, behind the words that the lines above place
+//! there. A label is its place there, and the symbol of an `equ` the number of its expression. An expression is a number,
+//! a place of a section, or neither; it is refused where a symbol of it is not defined, or where it does not fit.
+//!
+//! What is promised: `layout_of` gives exactly the symbols that lines define, and the first refusal of their definitions
+//! and of the lengths of sections; the other calls give what `specs/` has under their names. An error is want of memory,
+//! or a sum that passes 64 bits, which no source in memory comes to.
+//!
+//! Source: the language is this project's own profile of the assembler of Multics.
+#![tactic(auto)]
+
+pub mod arguments;
+pub mod expression;
+pub mod layout;
+pub mod refusal;
+pub mod spot;
+pub mod sum;
+pub mod symbols;

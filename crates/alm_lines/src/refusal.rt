@@ -1,0 +1,215 @@
+//! Refusals: which comes first in the text, and what refuses an expression.
+
+ghost use Rattle.std.specs.Prelude.{ℕ, Bool, ◌≡◌, ◌-◌, ◌+◌, ◌%◌, ◌^◌, Option, IfOk};
+ghost use Rattle.alm_lines.specs.Refusals.{code_number, precedes, sooner, refusal_at, column_of, fault_by, fault_of, has_room, may_stand, is_said, refusal_by, expression_refusal, has_value, is_over_limit};
+
+use crate::expression::{place_undefined, sum_of};
+use crate::spot::Spot;
+use crate::sum::{Balance, Kind, Sum};
+use crate::symbols::Symbols;
+use alm_parse::{AlmFault, Line36, Term};
+use m36_word::NoMemory;
+
+/// Why lines are not an object's.
+#[derive(Clone, Copy, Debug, PartialEq, Eq)]
+pub enum Code {
+    /// A symbol, or a name of a definition, that is defined a second time.
+    E5,
+    /// A symbol that is not defined.
+    E6,
+    /// A value that does not fit its field, or that cannot be said in an object.
+    E7,
+    /// A section, or an object, that grows too long.
+    E8,
+}
+
+/// A code at a place of the text, in a line of a number that begins at a place.
+#[derive(Clone, Copy, Debug, PartialEq, Eq)]
+pub struct Refusal {
+    pub place: u64,
+    pub start: u32,
+    pub line: u32,
+    pub code: Code,
+}
+
+/// What an expression has to fit in.
+#[derive(Clone, Copy, Debug, PartialEq, Eq)]
+pub enum Room {
+    /// A half of a word.
+    Half,
+    /// The signed offset behind a pointer register.
+    Offset,
+}
+
+fn code_number(code: Code) -> u8
+    ensures { result ≡ code_number code }
+{
+    match code {
+        Code::E5 => 5,
+        Code::E6 => 6,
+        Code::E7 => 7,
+        Code::E8 => 8,
+    }
+}
+
+#[tactic(auto, unfolding(crate::specs::Refusals::precedes))]
+fn precedes(a: Refusal, b: Refusal) -> bool
+    ensures { result ≡ precedes a b }
+{
+    a.place < b.place || (a.place == b.place && code_number(a.code) < code_number(b.code))
+}
+
+/// The first of two refusals, if there are any.
+pub fn sooner(a: Option<Refusal>, b: Option<Refusal>) -> Option<Refusal>
+    ensures { result ≡ sooner a b }
+{
+    match (a, b) {
+        (None, b) => b,
+        (Some(a), None) => Some(a),
+        (Some(a), Some(b)) => { if precedes(b, a) { Some(b) } else { Some(a) } }
+    }
+}
+
+/// The refusal of what stands at a place of a line.
+pub fn refusal_at(line: &Line36, place: u64, code: Code) -> Refusal
+    ensures { result ≡ refusal_at line.now place code }
+{
+    Refusal {
+        place,
+        start: line.start,
+        line: line.line,
+        code,
+    }
+}
+
+fn column_of(refusal: Refusal) -> u32
+    ensures { result ≡ column_of refusal }
+{
+    let column = refusal.place.saturating_sub(refusal.start as u64) % (1 << 32);
+    ((column + 1) % (1 << 32)) as u32
+}
+
+fn fault_by(code: Code, line: u32, column: u32) -> AlmFault
+    ensures { result ≡ fault_by code line column }
+{
+    match code {
+        Code::E5 => AlmFault::E5(line, column),
+        Code::E6 => AlmFault::E6(line, column),
+        Code::E7 => AlmFault::E7(line, column),
+        Code::E8 => AlmFault::E8(line, column),
+    }
+}
+
+/// A refusal by its line and its column.
+#[tactic(auto, unfolding(crate::specs::Refusals::fault_of))]
+pub fn fault_of(refusal: Refusal) -> AlmFault
+    ensures { result ≡ fault_of refusal }
+{
+    fault_by(refusal.code, refusal.line, column_of(refusal))
+}
+
+/// Whether a number fits.
+pub fn has_room(room: Room, value: Balance) -> bool
+    ensures { result ≡ has_room room value }
+{
+    match room {
+        Room::Half => value.is_within(131072, 262143),
+        Room::Offset => value.is_within(16384, 16383),
+    }
+}
+
+fn may_stand(may_move: bool, kind: Kind) -> bool
+    ensures { result ≡ may_stand may_move kind }
+{
+    match kind {
+        Kind::Absolute => true,
+        Kind::Moved(_) => may_move,
+        Kind::Unsaid => false,
+    }
+}
+
+/// Whether an object can say this, where a place of a section may or may not stand.
+#[tactic(auto, unfolding(crate::specs::Refusals::is_said))]
+pub fn is_said(room: Room, may_move: bool, sum: Sum) -> bool
+    ensures { result ≡ is_said room may_move sum }
+{
+    has_room(room, sum.value) && may_stand(may_move, sum.kind())
+}
+
+fn refusal_by(line: &Line36, undefined: Option<u32>, place: u64, said: bool) -> Option<Refusal>
+    ensures { result ≡ refusal_by line.now undefined place said }
+{
+    match undefined {
+        Some(at) => Some(refusal_at(line, at as u64, Code::E6)),
+        None => {
+            if said {
+                None
+            } else {
+                Some(refusal_at(line, place, Code::E7))
+            }
+        }
+    }
+}
+
+/// An expression and what it has to be.
+#[derive(Clone, Copy)]
+pub struct Wanted {
+    /// Where the expression begins.
+    pub place: u64,
+    pub room: Room,
+    /// It may be a place of a section.
+    pub may_move: bool,
+}
+
+/// What refuses an expression: its first symbol that is not defined, or else what it comes to, unless it stands on an
+/// `equ` that is refused.
+#[tactic(auto, unfolding(crate::specs::Refusals::expression_refusal))]
+pub fn expression_refusal(
+    text: &[u8],
+    symbols: &Symbols,
+    spot: Spot,
+    line: &Line36,
+    terms: &[Term],
+    wanted: Wanted,
+) -> Result<Option<Refusal>, NoMemory>
+    ensures { IfOk result (λ r.
+        r
+        ≡ expression_refusal text.now symbols.now spot line.now terms.now wanted.place wanted.room
+        wanted.may_move) }
+{
+    let sum = sum_of(text, symbols, spot, terms)?;
+    let said = sum.unknown || is_said(wanted.room, wanted.may_move, sum);
+    Ok(refusal_by(
+        line,
+        place_undefined(text, symbols, terms),
+        wanted.place,
+        said,
+    ))
+}
+
+/// Nothing of an expression is refused, nor an `equ` that it stands on.
+#[tactic(auto, unfolding(crate::specs::Refusals::has_value))]
+pub fn has_value(
+    text: &[u8],
+    symbols: &Symbols,
+    spot: Spot,
+    terms: &[Term],
+    room: Room,
+    may_move: bool,
+) -> Result<bool, NoMemory>
+    ensures { IfOk result (λ b. b ≡ has_value text.now symbols.now spot terms.now room may_move) }
+{
+    let sum = sum_of(text, symbols, spot, terms)?;
+    Ok(
+        place_undefined(text, symbols, terms).is_none()
+            && !sum.unknown
+            && is_said(room, may_move, sum),
+    )
+}
+
+/// A section of an object has more than 2^18 - 4096 words.
+pub fn is_over_limit(words: u64) -> bool
+    ensures { result ≡ is_over_limit words }
+{
+    words > 258048
+}

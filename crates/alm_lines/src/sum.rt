@@ -1,0 +1,201 @@
+//! What expressions come to: numbers, and how often each section counts in them.
+
+ghost use Rattle.std.specs.Prelude.{ℕ, ◌≡◌, ◌+◌, ◌-◌, ◌%◌, ◌≤◌, ◌<◌, ◌^◌, IfOk};
+ghost use Rattle.alm_lines.specs.Sums.{balance_plus, turned, is_even, is_one, is_within, half_of, offset_of, settled, absolute, unknown_sum, sum_plus, sum_turned, kind_of};
+
+use m36_word::NoMemory;
+use obj36_parts::Section;
+
+/// A whole number as what is added and what is taken away.
+#[derive(Clone, Copy, Debug, PartialEq, Eq)]
+pub struct Balance {
+    pub up: u64,
+    pub down: u64,
+}
+
+/// What an expression comes to: its number, and how often the places of each section are counted in it. `inner` are the
+/// static words of the linkage section, `outer` those of a section of their own.
+#[derive(Clone, Copy, Debug, PartialEq, Eq)]
+pub struct Sum {
+    pub value: Balance,
+    pub text: Balance,
+    pub inner: Balance,
+    pub outer: Balance,
+    /// It stands on the symbol of an `equ` that is refused, so that nothing is known of it.
+    pub unknown: bool,
+}
+
+/// What a sum is: a number, a place of a section, or what no object can say.
+#[derive(Clone, Copy, Debug, PartialEq, Eq)]
+pub enum Kind {
+    Absolute,
+    Moved(Section),
+    Unsaid,
+}
+
+/// The number 0.
+pub const NOTHING: Balance = Balance { up: 0, down: 0 };
+
+// A sum that no number of a machine holds is told as want of memory: no source in memory comes to it.
+pub fn plus(a: u64, b: u64) -> Result<u64, NoMemory>
+    ensures { IfOk result (λ c. c ≡ a + b) }
+{
+    match a.checked_add(b) {
+        Some(c) => Ok(c),
+        None => Err(NoMemory),
+    }
+}
+
+impl Balance {
+    /// The sum of two numbers.
+    pub fn plus(self, other: Balance) -> Result<Balance, NoMemory>
+        ensures { IfOk result (λ b. b ≡ balance_plus self other) }
+    {
+        let up = plus(self.up, other.up)?;
+        let down = plus(self.down, other.down)?;
+        Ok(Balance { up, down })
+    }
+
+    /// The number with the other sign.
+    pub fn turned(self) -> Balance
+        ensures { result ≡ turned self }
+    {
+        Balance {
+            up: self.down,
+            down: self.up,
+        }
+    }
+
+    /// The number is 0.
+    pub fn is_even(self) -> bool
+        ensures { result ≡ is_even self }
+    {
+        self.up == self.down
+    }
+
+    /// The number is 1.
+    pub fn is_one(self) -> bool
+        ensures { result ≡ is_one self }
+    {
+        self.down < self.up && self.up - self.down == 1
+    }
+
+    /// The number is from -low to high.
+    pub fn is_within(self, low: u64, high: u64) -> bool
+        ensures { result ≡ is_within low high self }
+    {
+        self.down.saturating_sub(self.up) <= low && self.up.saturating_sub(self.down) <= high
+    }
+
+    /// The number modulo 2^18.
+    #[tactic(auto, unfolding(crate::specs::Sums::half_of))]
+    pub fn half(self) -> u64
+        ensures value { result ≡ half_of self }
+        ensures bound { result < 2 ^ 18 }
+    {
+        (self.up % (1 << 18) + ((1 << 18) - self.down % (1 << 18))) % (1 << 18)
+    }
+
+    /// The number modulo 2^15.
+    #[tactic(auto, unfolding(crate::specs::Sums::offset_of))]
+    pub fn offset(self) -> u64
+        ensures value { result ≡ offset_of self }
+        ensures bound { result < 2 ^ 15 }
+    {
+        (self.up % (1 << 15) + ((1 << 15) - self.down % (1 << 15))) % (1 << 15)
+    }
+
+    /// The same number, of which nothing is added that is taken away again.
+    pub fn settled(self) -> Balance
+        ensures { result ≡ settled self }
+    {
+        Balance {
+            up: self.up.saturating_sub(self.down),
+            down: self.down.saturating_sub(self.up),
+        }
+    }
+}
+
+/// A number as a sum.
+pub fn absolute(n: u64) -> Sum
+    ensures { result ≡ absolute n }
+{
+    Sum {
+        value: Balance { up: n, down: 0 },
+        text: NOTHING,
+        inner: NOTHING,
+        outer: NOTHING,
+        unknown: false,
+    }
+}
+
+/// What the symbol of an `equ` that is refused comes to.
+pub fn unknown() -> Sum
+    ensures { result ≡ unknown_sum }
+{
+    Sum {
+        unknown: true,
+        ..absolute(0)
+    }
+}
+
+impl Sum {
+    /// The sum of two sums.
+    #[tactic(auto, unfolding(crate::specs::Sums::sum_plus))]
+    pub fn plus(self, other: Sum) -> Result<Sum, NoMemory>
+        ensures { IfOk result (λ s. s ≡ sum_plus self other) }
+    {
+        let value = self.value.plus(other.value)?;
+        let text = self.text.plus(other.text)?;
+        let inner = self.inner.plus(other.inner)?;
+        let outer = self.outer.plus(other.outer)?;
+        Ok(Sum {
+            value,
+            text,
+            inner,
+            outer,
+            unknown: self.unknown || other.unknown,
+        })
+    }
+
+    /// The sum with the other sign.
+    #[tactic(auto, unfolding(crate::specs::Sums::sum_turned))]
+    pub fn turned(self) -> Sum
+        ensures { result ≡ sum_turned self }
+    {
+        Sum {
+            value: self.value.turned(),
+            text: self.text.turned(),
+            inner: self.inner.turned(),
+            outer: self.outer.turned(),
+            unknown: self.unknown,
+        }
+    }
+
+    /// What the sum is.
+    #[tactic(auto, unfolding(crate::specs::Sums::kind_of))]
+    pub fn kind(self) -> Kind
+        ensures { result ≡ kind_of self }
+    {
+        let Sum {
+            value: _,
+            text,
+            inner,
+            outer,
+            unknown: _,
+        } = self;
+        if text.is_even() && inner.is_even() && outer.is_even() {
+            return Kind::Absolute;
+        }
+        if text.is_one() && inner.is_even() && outer.is_even() {
+            return Kind::Moved(Section::Text);
+        }
+        if text.is_even() && inner.is_one() && outer.is_even() {
+            return Kind::Moved(Section::Linkage);
+        }
+        if text.is_even() && inner.is_even() && outer.is_one() {
+            return Kind::Moved(Section::Static);
+        }
+        Kind::Unsaid
+    }
+}

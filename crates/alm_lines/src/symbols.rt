@@ -1,0 +1,64 @@
+//! The symbols of a source in the order of their definitions.
+
+ghost use Rattle.std.specs.Prelude.{ℕ, List, [], ◌∷◌, ◌≡◌, Option, OnOk, OnErr};
+ghost use Rattle.alm_lines.specs.Symbols.{sum_named, with_symbol};
+
+use crate::sum::Sum;
+use indexmap::IndexMap;
+use m36_text::Name;
+use m36_word::NoMemory;
+use std::alloc::Global;
+use std::marker::Model;
+
+/// Symbols with what they come to.
+#[derive(Debug, Drop)]
+pub struct Symbols {
+    sums: IndexMap<Name, Sum>,
+}
+
+impl Model for Symbols {
+    ghost use Rattle.std.specs.Prelude.{ℕ, List};
+    ghost use Rattle.alm_lines.specs.declared.sum.Sum.{Sum};
+
+    ghost Value = { List (List ℕ × Sum) };
+
+    ghost view = { λ s. s.sums.entries };
+}
+
+impl Symbols {
+    /// No symbols.
+    pub fn new(alloc: Global) -> Symbols
+        ensures { result ≡ [] }
+    {
+        Symbols {
+            sums: IndexMap::new(alloc),
+        }
+    }
+
+    /// What a symbol comes to, if it is defined.
+    pub fn find(&self, name: &Name) -> Option<Sum>
+        ensures { result ≡ sum_named name.now self.now }
+    {
+        found(&self.sums, name)
+    }
+
+    /// Defines a symbol, unless it is defined. Where no memory is found, nothing changes.
+    #[tactic(auto, using(crate::proofs::SymbolLaws::defined))]
+    pub fn define(&mut self, name: Name, sum: Sum) -> Result<(), NoMemory>
+        ensures ok { OnOk result (self.new ≡ with_symbol self.old name sum) }
+        ensures err { OnErr result (self.new ≡ self.old) }
+    {
+        if found(&self.sums, &name).is_some() {
+            return Ok(());
+        }
+        self.sums.insert(name, sum)?;
+        Ok(())
+    }
+}
+
+#[tactic(auto, unfolding(crate::specs::Symbols::sum_named))]
+fn found(sums: &IndexMap<Name, Sum>, name: &Name) -> Option<Sum>
+    ensures { result ≡ sum_named name.now sums.now.entries }
+{
+    sums.get(name).copied()
+}

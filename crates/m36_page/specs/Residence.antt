@@ -1,0 +1,120 @@
+-- Which frame each page is in, and what the words of the pages are: those of the frame where a page is in one, and else those
+-- that are kept. A page table word tells the frame.
+use Rattle.std.specs.Prelude.{ℕ, ◌≡◌, ◌+◌, ◌*◌, ◌/◌, ◌%◌, ◌^◌, ◌<◌, ◌≤◌, ◌⊎◌, Bool, true, false, nat_eq, nat_lt, if◌then◌else◌, List, length, position, slice_get, slice_index, slice_index_or, All, Option, Some, None, option_and_then}
+use Rattle.m36_desc.specs.Descriptors.{ptw_of, ptw_word}
+use Rattle.m36_desc.specs.Fields.{PtwFields}
+use Rattle.m36_model.specs.Core.{unmarked}
+use Rattle.m36_page.specs.Fields.{TableFields, PagerFields}
+
+-- ---- pages of tables
+
+abbrev pub is_of : ℕ → TableFields → Bool
+is_of seg t = nat_eq t.seg seg
+
+unfoldable pub table_of : List TableFields → ℕ → Option TableFields
+table_of tables seg = option_and_then (slice_get tables) (position (is_of seg) tables)
+
+abbrev pub has_page_in : Option TableFields → ℕ → Bool
+has_page_in None page = false
+has_page_in (Some t) page = nat_lt page t.pages
+
+-- the core word that holds the page table word of a page
+abbrev pub spot_in : Option TableFields → ℕ → ℕ
+spot_in None page = 0
+spot_in (Some t) page = t.at + page
+
+abbrev pub kept_in : Option TableFields → ℕ → ℕ
+kept_in None w = 0
+kept_in (Some t) w = slice_index t.words w
+
+unfoldable pub has_page : PagerFields → ℕ → ℕ → Bool
+has_page p seg page = has_page_in (table_of p.tables seg) page
+
+unfoldable pub spot_of : PagerFields → ℕ → ℕ → ℕ
+spot_of p seg page = spot_in (table_of p.tables seg) page
+
+-- the word kept for a word of a segment
+unfoldable pub kept_word : PagerFields → ℕ → ℕ → ℕ
+kept_word p seg w = kept_in (table_of p.tables seg) w
+
+-- ---- page table words
+
+-- of a page in no frame: F off, directed fault 1
+abbrev pub absent_ptw : ℕ
+absent_ptw = 1
+
+-- of a page in a frame: F on, and its place in units of 64 words
+abbrev pub resident_ptw : ℕ → ℕ
+resident_ptw frame = 16 * frame * 2 ^ 18 + 4
+
+-- the frame that a page table word names
+abbrev pub frame_by : PtwFields → Option ℕ
+frame_by ptw = if ptw.f then Some (ptw.addr / 16) else None
+
+unfoldable pub frame_in : ℕ → Option ℕ
+frame_in w = frame_by (ptw_of w)
+
+-- the frame of core that a page is in, if any
+unfoldable pub frame_of : PagerFields → List ℕ → ℕ → ℕ → Option ℕ
+frame_of p core seg page = frame_in (slice_index core (spot_of p seg page))
+
+-- ---- content
+
+-- a word by the frame of its page
+abbrev pub word_in : Option ℕ → List ℕ → ℕ → ℕ → ℕ
+word_in (Some frame) core w kept = slice_index core (1024 * frame + w % 1024)
+word_in None core w kept = kept
+
+unfoldable pub page_word : PagerFields → List ℕ → ℕ → ℕ → ℕ
+page_word p core seg w = word_in (frame_of p core seg (w / 1024)) core w (kept_word p seg w)
+
+-- the content of a word of a segment; None where the segment has no table or the word is past its pages
+abbrev pub content_by : Bool → ℕ → Option ℕ
+content_by true v = Some v
+content_by false v = None
+
+unfoldable pub content_of : PagerFields → List ℕ → ℕ → ℕ → Option ℕ
+content_of p core seg w = content_by (has_page p seg (w / 1024)) (page_word p core seg w)
+
+-- ---- what a pager and its core keep
+
+-- a frame that holds a page
+abbrev pub Holds : PagerFields → ℕ → ℕ → ℕ → Type 0
+Holds p k seg page = slice_index_or p.holders k None ≡ Some (seg, page)
+
+-- Tables have the words of all their pages, end below the pageable frames and share no core word; a frame that holds a page
+-- holds one of a table.
+pub record IsPager (p : PagerFields) : Type 0 where
+  pub words : All (λ t. length t.words ≡ 1024 * t.pages) p.tables
+  pub below : (seg page : ℕ) → has_page p seg page ≡ true → spot_of p seg page < 1024 * p.first
+  pub apart : (seg page seg' page' : ℕ) → has_page p seg page ≡ true → has_page p seg' page' ≡ true
+      → spot_of p seg page ≡ spot_of p seg' page' → (seg ≡ seg') × (page ≡ page')
+  pub held : (k seg page : ℕ) → Holds p k seg page → has_page p seg page ≡ true
+
+-- a page table word, but for its marks, says that the page is in no frame, or names the one that holds it
+abbrev pub TellsPage : PagerFields → ℕ → ℕ → ℕ → Type 0
+TellsPage p seg page w =
+    (unmarked w ≡ absent_ptw) ⊎ ((k : ℕ) × Holds p k seg page × (unmarked w ≡ resident_ptw (p.first + k)))
+
+-- Each page table word of the tables reads as the pager left it.
+pub record Reads (p : PagerFields) (core : List ℕ) : Type 0 where
+  pub pages : (seg page : ℕ) → has_page p seg page ≡ true → TellsPage p seg page (slice_index core (spot_of p seg page))
+  pub frames : (k seg page : ℕ) → Holds p k seg page
+      → unmarked (slice_index core (spot_of p seg page)) ≡ resident_ptw (p.first + k)
+
+-- the core has the pageable frames
+abbrev pub HasFrames : PagerFields → List ℕ → Type 0
+HasFrames p core = 1024 * (p.first + length p.holders) ≤ length core
+
+-- a pager and its core, as each call finds and leaves them
+pub record IsSettled (p : PagerFields) (core : List ℕ) : Type 0 where
+  pub pager : IsPager p
+  pub reads : Reads p core
+  pub frames : HasFrames p core
+  pub most : length core ≤ 2 ^ 24
+
+-- What a pager has beside: for each frame that holds a page the core word that holds its page table word.
+pub record IsInside (p : PagerFields) (places : List ℕ) : Type 0 where
+  pub pager : IsPager p
+  pub count : length places ≡ length p.holders
+  pub spots : (k seg page : ℕ) → Holds p k seg page → slice_index places k ≡ spot_of p seg page

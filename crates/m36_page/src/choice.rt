@@ -1,0 +1,191 @@
+//! Which page gives way.
+
+ghost use Rattle.std.specs.Prelude.{ℕ, ◌≡◌, ◌+◌, ◌≤◌, ◌<◌, true, false, length, slice_index_or, slice_index, slice_get, Some, None, IsSome, IfSome, IfNone};
+ghost use Rattle.m36_desc.specs.Descriptors.{ptw_of};
+ghost use Rattle.m36_page.specs.Changes.{is_to, is_pinned};
+ghost use Rattle.m36_page.specs.Choice.{IsFree, ArePinned, IsHeldSpot, IsMarked, AreInCore};
+
+use m36_core::Core;
+use m36_desc::Ptw;
+use m36_model::Reference;
+use m36_word::Word;
+
+// Words in a page.
+const PAGE: u32 = 1024;
+
+fn is_to(held: (u16, u16), reference: &Reference) -> bool
+    ensures { result ≡ is_to held reference.now }
+{
+    let at = reference.at;
+    at.seg == held.0 && at.word / PAGE == held.1 as u32
+}
+
+fn is_page_pinned(references: &[Reference], held: (u16, u16)) -> bool
+    ensures { result ≡ is_pinned references.now (Some held) }
+{
+    references.iter().any(|reference| is_to(held, reference))
+}
+
+/// Whether a frame holds a page of the references.
+pub(crate) fn is_pinned(references: &[Reference], holder: Option<(u16, u16)>) -> bool
+    ensures { result ≡ is_pinned references.now holder }
+{
+    match holder {
+        None => false,
+        Some(held) => is_page_pinned(references, held),
+    }
+}
+
+/// The first frame of some, from one up to another, that holds no page of the references.
+pub(crate) fn free_between(
+    holders: &[Option<(u16, u16)>],
+    references: &[Reference],
+    from: usize,
+    to: usize,
+) -> Option<usize>
+    requires { to ≤ length holders.now }
+    ensures found { IfSome result (IsFree references.now holders.now) }
+    ensures none { IfNone result (ArePinned references.now holders.now from to) }
+{
+    for k in from..to {
+        if !is_pinned(references, holders[k]) {
+            return Some(k);
+        }
+    }
+    None
+}
+
+/// A frame that holds no page of the references, the first from one on; None exactly where each frame holds one.
+pub(crate) fn free_from(
+    holders: &[Option<(u16, u16)>],
+    references: &[Reference],
+    from: usize,
+) -> Option<usize>
+    requires { from ≤ length holders.now }
+    ensures found { IfSome result (IsFree references.now holders.now) }
+    ensures none { IfNone result (ArePinned references.now holders.now 0 (length holders.now)) }
+{
+    match free_between(holders, references, from, holders.len()) {
+        Some(k) => Some(k),
+        None => free_between(holders, references, 0, from),
+    }
+}
+
+// The used mark of a page table word counts so much.
+const USED: u64 = 512;
+
+// The hand looks at no more frames than these before it takes one that was used.
+const MOST_PASSED: usize = 64;
+
+fn is_used(core: &Core, spot: u32) -> bool
+    requires { spot < length core.now }
+    ensures { result ≡ (ptw_of (slice_index core.now spot)).used }
+{
+    let ptw = Ptw::of_words(core.peek(spot));
+    ptw.used
+}
+
+// Puts the used mark of a page table word off, and answers whether it was on.
+#[tactic(auto, using(crate::proofs::Frames::unused, crate::proofs::Frames::marked_none))]
+fn put_off(core: &mut Core, spot: u32) -> bool
+    requires { spot < length core.old }
+    ensures { IsMarked core.old core.new (λ a. a ≡ spot) }
+{
+    if !is_used(core, spot) {
+        return false;
+    }
+    let word = core.peek(spot);
+    core.poke(spot, Word::low(word.value() - USED));
+    true
+}
+
+// Whether the hand passes over a frame: its page must stay, or was used. The mark of a page that was used is put off.
+fn is_passed(
+    core: &mut Core,
+    references: &[Reference],
+    holder: Option<(u16, u16)>,
+    spot: u32,
+) -> bool
+    requires { IsSome holder → spot < length core.old }
+    ensures free { result ≡ false → is_pinned references.now holder ≡ false }
+    ensures marks { IsMarked core.old core.new (λ a. IsSome holder × (a ≡ spot)) }
+{
+    if is_pinned(references, holder) {
+        return true;
+    }
+    match holder {
+        None => false,
+        Some(_) => put_off(core, spot),
+    }
+}
+
+// The first frame of some, from one up to another, that the hand does not pass over.
+fn unused_between(
+    core: &mut Core,
+    references: &[Reference],
+    holders: &[Option<(u16, u16)>],
+    spots: &[u32],
+    from: usize,
+    to: usize,
+) -> Option<usize>
+    requires to { to ≤ length holders.now }
+    requires count { length spots.now ≡ length holders.now }
+    requires inside { AreInCore holders.now spots.now core.old }
+    ensures found { IfSome result (IsFree references.now holders.now) }
+    ensures marks { IsMarked core.old core.new (IsHeldSpot holders.now spots.now) }
+{
+    for k in from..to {
+        if !is_passed(core, references, holders[k], spots[k]) {
+            return Some(k);
+        }
+    }
+    None
+}
+
+// The same from the hand on, round the frames: it looks at 64 of them at most.
+fn unused_from(
+    core: &mut Core,
+    references: &[Reference],
+    holders: &[Option<(u16, u16)>],
+    spots: &[u32],
+    hand: usize,
+) -> Option<usize>
+    requires hand { hand ≤ length holders.now }
+    requires count { length spots.now ≡ length holders.now }
+    requires inside { AreInCore holders.now spots.now core.old }
+    ensures found { IfSome result (IsFree references.now holders.now) }
+    ensures marks { IsMarked core.old core.new (IsHeldSpot holders.now spots.now) }
+{
+    let ahead = MOST_PASSED.min(holders.len() - hand);
+    if let Some(k) = unused_between(core, references, holders, spots, hand, hand + ahead) {
+        return Some(k);
+    }
+    let behind = (MOST_PASSED - ahead).min(hand);
+    unused_between(core, references, holders, spots, 0, behind)
+}
+
+/// A frame to be taken: one that holds no page of the references, by the hand, which passes over pages that were used and
+/// puts their marks off. None exactly where each frame holds a page of the references.
+pub(crate) fn choose(
+    core: &mut Core,
+    references: &[Reference],
+    holders: &[Option<(u16, u16)>],
+    spots: &[u32],
+    hand: usize,
+) -> Option<usize>
+    requires hand { hand ≤ length holders.now }
+    requires count { length spots.now ≡ length holders.now }
+    requires inside { AreInCore holders.now spots.now core.old }
+    ensures found { IfSome result (IsFree references.now holders.now) }
+    ensures none { IfNone result (ArePinned references.now holders.now 0 (length holders.now)) }
+    ensures same { IfNone result (core.new ≡ core.old) }
+    ensures marks { IsMarked core.old core.new (IsHeldSpot holders.now spots.now) }
+{
+    let Some(free) = free_from(holders, references, hand) else {
+        return None;
+    };
+    match unused_from(core, references, holders, spots, hand) {
+        Some(k) => Some(k),
+        None => Some(free),
+    }
+}

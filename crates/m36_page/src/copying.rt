@@ -1,0 +1,34 @@
+//! One page copied between core and the words that are kept.
+
+ghost use Rattle.std.specs.Prelude.{◌≡◌, ◌+◌, ◌*◌, ◌≤◌, length};
+ghost use Rattle.m36_page.specs.Copied.{IsCopied};
+
+use m36_core::Core;
+use m36_word::Word;
+
+// Words in a page.
+const PAGE: u32 = 1024;
+
+/// Copies the words of a frame into words from a place on.
+pub(crate) fn copy_out(core: &Core, frame: u32, words: &mut [Word], from: usize)
+    requires frame { 1024 * frame + 1024 ≤ length core.now }
+    requires room { from + 1024 ≤ length words.old }
+    ensures { IsCopied core.now (1024 * frame) words.old from words.new }
+{
+    let _ = core.len();
+    for i in 0..PAGE {
+        words[from + i as usize] = core.peek(PAGE * frame + i);
+    }
+}
+
+/// Copies words from a place on into a frame.
+pub(crate) fn copy_in(core: &mut Core, frame: u32, words: &[Word], from: usize)
+    requires frame { 1024 * frame + 1024 ≤ length core.old }
+    requires room { from + 1024 ≤ length words.now }
+    ensures { IsCopied words.now from core.old (1024 * frame) core.new }
+{
+    let _ = core.len();
+    for i in 0..PAGE {
+        core.poke(PAGE * frame + i, words[from + i as usize]);
+    }
+}

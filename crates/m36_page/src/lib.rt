@@ -1,0 +1,21 @@
+//! Demand paging: the pages of segments are in the pageable frames of core, or their words are kept here.
+//!
+//! What is promised: the content of every word of every segment is the same wherever its page is. Bringing a page in or
+//! putting one away changes no content and no core word but page table words and those of pageable frames; a page that
+//! must stay is never taken; and after `Pager::new` no memory is taken. The page that gives way is chosen by a hand that
+//! goes round the frames and passes over, once, a page whose used mark is on, which it puts off.
+//!
+//! Source: Multics Processor Manual AL39, "Paging"; the choice is after Corbato, "A Paging Experiment with the Multics
+//! System" (1968).
+#![tactic(auto)]
+
+mod choice;
+mod copying;
+pub mod pager;
+mod residence;
+mod table;
+#[cfg(test)]
+mod tests;
+
+pub use pager::{Pager, Pinned};
+pub use table::{PageTable, are_placed};

@@ -1,0 +1,302 @@
+//! Pagers.
+
+ghost use Rattle.std.specs.Prelude.{ℕ, ◌≡◌, ◌≢◌, ◌+◌, ◌-◌, ◌^◌, ◌*◌, ◌/◌, ◌<◌, ◌≤◌, ◌⊎◌, Bool, true, false, ◌&&◌, nat_eq, if◌then◌else◌, length, slice_index_or, replicate, All, IfOk, Some, None, IsSome, IfSome, IfNone, OnOk, OnErr};
+ghost use Rattle.m36_model.specs.Core.{unmarked};
+ghost use Rattle.m36_page.specs.Residence.{has_page, spot_of, kept_word, frame_of, content_of, Holds, IsPager, Reads, HasFrames, IsSettled};
+ghost use Rattle.m36_page.specs.Changes.{IsBrought, IsKept, IsSet, IsSpot, AllPinned, AllEmpty, AreAbsent};
+ghost use Rattle.m36_page.specs.Choice.{IsFree, IsMarked, AreInCore};
+ghost use Rattle.m36_page.specs.Given.{are_placed, pager_given};
+ghost use Rattle.m36_page.specs.Moved.{IsAway, IsTaken, IsEmptied, IsKeptWord};
+
+use crate::choice::choose;
+use crate::residence::{frame_at, put_absent, put_resident};
+use crate::table::{
+    PageTable, Table, copy_page_in, copy_page_out, place_of, put_absent_tables, put_word,
+    table_place, tables_given, word_of,
+};
+use m36_core::Core;
+use m36_model::{Reference, Refs};
+use m36_word::{NoMemory, Word};
+use std::alloc::Global;
+use std::marker::Model;
+
+// Words in a page.
+const PAGE: u32 = 1024;
+
+/// The error of a page for which there is no frame: every frame holds a page that must stay.
+#[derive(Clone, Copy, Debug, PartialEq, Eq)]
+pub struct Pinned;
+
+/// The pages of segments: which pageable frame holds which page, and the words of the pages that are in none. It is seen as
+/// the number of the first pageable frame, the page that each of them holds, and the tables with the words that are kept.
+///
+/// Each call that takes a core wants the pageable frames in it, and each page table word of the tables as the last call left
+/// it, but for its marks; before the first call every page is in no frame.
+#[derive(Debug, Drop)]
+pub struct Pager {
+    holders: Vec<Option<(u16, u16)>>,
+    // Of each frame that holds a page the place of its page table word.
+    spots: Vec<u32>,
+    tables: Vec<Table>,
+    first: u32,
+    // The frame at which the hand stands, from 0 on.
+    hand: usize,
+}
+
+impl Model for Pager {
+    ghost use Rattle.std.specs.Prelude.{◌≤◌, length};
+    ghost use Rattle.m36_page.specs.Fields.{PagerFields};
+    ghost use Rattle.m36_page.specs.Residence.{IsInside};
+
+    ghost Value = { PagerFields };
+
+    ghost view = { λ p. record { first = p.first; holders = p.holders.items; tables = p.tables.items } };
+
+    ghost invariant = { λ p. (IsInside (record { first = p.first; holders = p.holders.items; tables = p.tables.items }) p.spots.items) × (p.hand ≤ length p.holders.items) };
+}
+
+// So many frames, none of which holds a page.
+fn empty_frames(alloc: Global, frames: usize) -> Result<Vec<Option<(u16, u16)>>, NoMemory>
+    ensures { IfOk result (λ holders. holders.items ≡ replicate frames None) }
+{
+    let mut holders = Vec::with_capacity(alloc, frames)?;
+    holders.resize(frames, None)?;
+    Ok(holders)
+}
+
+fn no_spots(alloc: Global, frames: usize) -> Result<Vec<u32>, NoMemory>
+    ensures { IfOk result (λ spots. spots.items ≡ replicate frames 0) }
+{
+    let mut spots = Vec::with_capacity(alloc, frames)?;
+    spots.resize(frames, 0)?;
+    Ok(spots)
+}
+
+// The place behind one, and behind the last the first.
+fn next_of(place: usize, count: usize) -> usize
+    requires { place < count }
+    ensures { result ≤ count }
+{
+    if place + 1 < count { place + 1 } else { 0 }
+}
+
+impl Pager {
+    /// A pager over so many frames of core from one on, of which none holds a page yet. Pages are at places of core words that
+    /// no two share, all below the first of these frames. The error is want of memory; later calls take none.
+    pub fn new(
+        alloc: Global,
+        first: u32,
+        frames: u32,
+        tables: &[PageTable],
+    ) -> Result<Pager, NoMemory>
+        requires { are_placed first tables.now ≡ true }
+        ensures given { IfOk result (λ p. p ≡ pager_given first frames tables.now) }
+        ensures empty { IfOk result AllEmpty }
+        ensures room { IfOk result (λ p. All (λ t. t.at + t.pages ≤ 1024 * first) p.tables) }
+    {
+        Ok(Pager {
+            holders: empty_frames(alloc, frames as usize)?,
+            spots: no_spots(alloc, frames as usize)?,
+            tables: tables_given(alloc, tables)?,
+            first,
+            hand: 0,
+        })
+    }
+
+    /// Writes the page table word of every page: that of a page in no frame. It is for a pager of which no frame holds a page
+    /// yet, and no other core word changes.
+    pub fn lay(&self, core: &mut Core)
+        requires frames { HasFrames self.now core.old }
+        requires empty { AllEmpty self.now }
+        requires room { All (λ t. t.at + t.pages ≤ 1024 * self.now.first) self.now.tables }
+        ensures reads { Reads self.now core.new }
+        ensures others { AreAbsent self.now.tables (length self.now.tables) core.old core.new }
+    {
+        put_absent_tables(core, &self.tables);
+    }
+
+    // The place of the page table word of a page.
+    fn spot(&self, seg: u16, page: u32) -> u32
+        requires frames { 1024 * self.now.first < 2 ^ 32 }
+        requires page { has_page self.now seg page ≡ true }
+        ensures value { result ≡ spot_of self.now seg page }
+        ensures below { result < 1024 * self.now.first }
+        ensures pager { IsPager self.now }
+    {
+        let table = &self.tables[table_place(&self.tables, seg)];
+        table.at + page
+    }
+
+    // Puts the page of a frame away.
+    fn put_page_away(&mut self, core: &mut Core, k: usize, seg: u16, page: u16)
+        requires settled { IsSettled self.old core.old }
+        requires held { Holds self.old k seg page }
+        ensures { IsAway self.old core.old self.new core.new k seg page }
+    {
+        let frame = self.first + k as u32;
+        let spot = self.spots[k];
+        let i = table_place(&self.tables, seg);
+        copy_page_out(&mut self.tables[i], page, core, frame);
+        put_absent(core, spot);
+        self.holders[k] = None;
+    }
+
+    // Empties a frame.
+    fn empty(&mut self, core: &mut Core, k: usize)
+        requires settled { IsSettled self.old core.old }
+        requires inside { k < length self.old.holders }
+        ensures { IsEmptied self.old core.old self.new core.new k }
+    {
+        match self.holders[k] {
+            Some((seg, page)) => self.put_page_away(core, k, seg, page),
+            None => {}
+        }
+    }
+
+    // Takes a page that is in no frame into one that is empty.
+    fn take_in(&mut self, core: &mut Core, k: usize, seg: u16, page: u16)
+        requires settled { IsSettled self.old core.old }
+        requires inside { k < length self.old.holders }
+        requires empty { slice_index_or self.old.holders k None ≡ None }
+        requires page { has_page self.old seg page ≡ true }
+        requires out { frame_of self.old core.old seg page ≡ None }
+        ensures { IsTaken self.old core.old self.new core.new k seg page }
+    {
+        let frame = self.first + k as u32;
+        let i = table_place(&self.tables, seg);
+        let table = &self.tables[i];
+        let spot = table.at + page as u32;
+        copy_page_in(table, page, core, frame);
+        put_resident(core, spot, frame);
+        self.holders[k] = Some((seg, page));
+        self.spots[k] = spot;
+        self.hand = next_of(k, self.holders.len());
+    }
+
+    // The frame that is taken next.
+    fn choose(&self, core: &mut Core, references: &[Reference]) -> Option<usize>
+        requires { IsSettled self.now core.old }
+        ensures found { IfSome result (IsFree references.now self.now.holders) }
+        ensures none { IfNone result (AllPinned self.now references.now) }
+        ensures same { IfNone result (core.new ≡ core.old) }
+        ensures marks { IsMarked core.old core.new (IsSpot self.now) }
+    {
+        choose(core, references, &self.holders, &self.spots, self.hand)
+    }
+
+    /// Brings a page into a frame; one that is in a frame is left as it is. The error says that every frame holds a page of
+    /// the references, and then nothing has changed.
+    pub fn bring(
+        &mut self,
+        core: &mut Core,
+        seg: u16,
+        page: u16,
+        pinned: &Refs,
+    ) -> Result<(), Pinned>
+        requires frames { HasFrames self.old core.old }
+        requires reads { Reads self.old core.old }
+        requires page { has_page self.old seg page ≡ true }
+        ensures ok { OnOk result (IsBrought self.old core.old self.new core.new seg page pinned.now.items) }
+        ensures err { OnErr result ((self.new ≡ self.old) × (core.new ≡ core.old) × AllPinned self.old pinned.now.items) }
+        ensures free { OnOk result (IsSome (frame_of self.old core.old seg page) ⊎ (AllPinned self.old pinned.now.items → ⊥)) }
+        ensures reads { Reads self.new core.new }
+        ensures frames { HasFrames self.new core.new }
+    {
+        let _ = core.len();
+        let spot = self.spot(seg, page as u32);
+        if frame_at(core, spot).is_some() {
+            return Ok(());
+        }
+        let Some(k) = self.choose(core, pinned.as_slice()) else {
+            return Err(Pinned);
+        };
+        self.empty(core, k);
+        self.take_in(core, k, seg, page);
+        Ok(())
+    }
+
+    /// Puts the page of a pageable frame away, if it holds one.
+    pub fn evict(&mut self, core: &mut Core, frame: u32)
+        requires frames { HasFrames self.old core.old }
+        requires reads { Reads self.old core.old }
+        requires first { self.old.first ≤ frame }
+        requires last { frame < self.old.first + length self.old.holders }
+        ensures kept { IsKept self.old core.old self.new core.new }
+        ensures empty { slice_index_or self.new.holders (frame - self.old.first) None ≡ None }
+        ensures reads { Reads self.new core.new }
+        ensures frames { HasFrames self.new core.new }
+    {
+        let _ = core.len();
+        let k = (frame - self.first) as usize;
+        self.empty(core, k);
+    }
+
+    // Whether a segment has a page.
+    fn has(&self, seg: u16, page: u32) -> bool
+        ensures { result ≡ has_page self.now seg page }
+    {
+        match place_of(&self.tables, seg) {
+            Some(i) => {
+                let table = &self.tables[i];
+                page < table.pages as u32
+            }
+            None => false,
+        }
+    }
+
+    /// Whether a segment has a page.
+    pub fn has_page(&self, seg: u16, page: u16) -> bool
+        ensures { result ≡ has_page self.now seg page }
+    {
+        self.has(seg, page as u32)
+    }
+
+    // The word that is kept for a word of a segment.
+    fn kept(&self, seg: u16, word: u32) -> Word
+        requires { has_page self.now seg (word / 1024) ≡ true }
+        ensures { result ≡ kept_word self.now seg word }
+    {
+        word_of(&self.tables[table_place(&self.tables, seg)], word)
+    }
+
+    /// The word of a segment; None exactly where the segment has no table, or the word is past its pages.
+    pub fn content(&self, core: &Core, seg: u16, word: u32) -> Option<Word>
+        requires frames { HasFrames self.now core.now }
+        requires reads { Reads self.now core.now }
+        ensures { result ≡ content_of self.now core.now seg word }
+    {
+        let _ = core.len();
+        if !self.has(seg, word / PAGE) {
+            return None;
+        }
+        match frame_at(core, self.spot(seg, word / PAGE)) {
+            Some(frame) => Some(core.peek(PAGE * frame + word % PAGE)),
+            None => Some(self.kept(seg, word)),
+        }
+    }
+
+    // Keeps another word for a word of a segment.
+    fn keep(&mut self, seg: u16, word: u32, value: Word)
+        requires { has_page self.old seg (word / 1024) ≡ true }
+        ensures { IsKeptWord self.old self.new seg word value }
+    {
+        let i = table_place(&self.tables, seg);
+        put_word(&mut self.tables[i], word, value);
+    }
+
+    /// Sets a word of a segment, wherever its page is.
+    pub fn set(&mut self, core: &mut Core, seg: u16, word: u32, w: Word)
+        requires frames { HasFrames self.old core.old }
+        requires reads { Reads self.old core.old }
+        requires page { has_page self.old seg (word / 1024) ≡ true }
+        ensures set { IsSet self.old core.old self.new core.new seg word w }
+        ensures reads { Reads self.new core.new }
+        ensures frames { HasFrames self.new core.new }
+    {
+        let _ = core.len();
+        match frame_at(core, self.spot(seg, word / PAGE)) {
+            Some(frame) => core.poke(PAGE * frame + word % PAGE, w),
+            None => self.keep(seg, word, w),
+        }
+    }
+}

@@ -1,0 +1,203 @@
+//! Page tables.
+
+ghost use Rattle.std.specs.Prelude.{◌≡◌, ◌+◌, ◌*◌, ◌≤◌, ◌<◌, length, position, slice_index, slice_set, drop, ◌&&◌, map, replicate, ◌++◌, ◌-◌, Some, All, IsSome, IfSome, IfOk};
+ghost use Rattle.m36_page.specs.Changes.{AreAbsent};
+ghost use Rattle.m36_page.specs.Copied.{IsCopied};
+ghost use Rattle.m36_page.specs.Given.{table_given, fits_below, is_apart, are_placed};
+ghost use Rattle.std.specs.List.{list_all};
+ghost use Rattle.m36_page.specs.Residence.{is_of, table_of};
+
+use crate::copying::{copy_in, copy_out};
+use crate::residence::put_all_absent;
+use m36_core::Core;
+use m36_word::{NoMemory, Word, Words};
+use std::alloc::Global;
+use std::marker::Model;
+
+/// The page table of a segment, and the words of its pages.
+#[derive(Debug, Drop)]
+pub struct PageTable {
+    /// The words of the segment, at most 1,024 times `pages`; those that are lacking are zero.
+    pub words: Words,
+    /// The place in core of the page table word of page 0; 24 bits.
+    pub at: u32,
+    /// The number of the segment; 15 bits.
+    pub seg: u16,
+    /// How many pages there are.
+    pub pages: u16,
+}
+
+fn fits_below(first: u32, table: &PageTable) -> bool
+    ensures { result ≡ fits_below first table.now }
+{
+    let end = table.at as u64 + table.pages as u64;
+    end <= PAGE as u64 * first as u64 && table.words.slice().len() <= PAGE * table.pages as usize
+}
+
+fn is_apart(a: &PageTable, b: &PageTable) -> bool
+    ensures { result ≡ is_apart a.now b.now }
+{
+    a.at as u64 + a.pages as u64 <= b.at as u64 || b.at as u64 + b.pages as u64 <= a.at as u64
+}
+
+fn is_apart_of_all(table: &PageTable, others: &[PageTable]) -> bool
+    ensures { result ≡ list_all (is_apart table.now) others.now }
+{
+    others.iter().all(|other| is_apart(table, other))
+}
+
+fn is_placed(first: u32, table: &PageTable, others: &[PageTable]) -> bool
+    ensures { result ≡ (fits_below first table.now && list_all (is_apart table.now) others.now) }
+{
+    fits_below(first, table) && is_apart_of_all(table, others)
+}
+
+#[tactic(auto, using(crate::proofs::Placed::rest_of))]
+fn tables_behind(tables: &[PageTable], i: usize) -> &[PageTable]
+    requires { i < length tables.now }
+    ensures { result.now ≡ drop (i + 1) tables.now }
+{
+    &tables[i + 1..]
+}
+
+/// Whether each table ends below frame `first` and has no more words than its pages, and no two share a core word.
+pub fn are_placed(first: u32, tables: &[PageTable]) -> bool
+    ensures { result ≡ are_placed first tables.now }
+{
+    for (i, table) in tables.iter().enumerate() {
+        if !is_placed(first, table, tables_behind(tables, i)) {
+            return false;
+        }
+    }
+    true
+}
+
+// A page table with the words that are kept, of every page of it.
+#[derive(Debug, Drop)]
+pub(crate) struct Table {
+    pub(crate) words: Vec<Word>,
+    pub(crate) at: u32,
+    pub(crate) seg: u16,
+    pub(crate) pages: u16,
+}
+
+impl Model for Table {
+    ghost use Rattle.m36_page.specs.Fields.{TableFields};
+
+    ghost Value = { TableFields };
+
+    ghost view = { λ t. record { seg = t.seg; at = t.at; pages = t.pages; words = t.words.items } };
+}
+
+fn is_of(seg: u16, table: &Table) -> bool
+    ensures { result ≡ is_of seg table.now }
+{
+    table.seg == seg
+}
+
+/// The place of the table of a segment; None where it has none.
+pub(crate) fn place_of(tables: &[Table], seg: u16) -> Option<usize>
+    ensures place { result ≡ position (is_of seg) tables.now }
+    ensures within { IfSome result (λ i. i < length tables.now) }
+{
+    tables.iter().position(|table| is_of(seg, table))
+}
+
+/// The place of the table of a segment that has one.
+#[tactic(auto, using(crate::proofs::Tables::placed))]
+pub(crate) fn table_place(tables: &[Table], seg: u16) -> usize
+    requires { IsSome (table_of tables.now seg) }
+    ensures place { position (is_of seg) tables.now ≡ Some result }
+    ensures within { result < length tables.now }
+{
+    match place_of(tables, seg) {
+        Some(i) => i,
+        None => unreachable!(),
+    }
+}
+
+// Words in a page.
+const PAGE: usize = 1024;
+
+/// Copies the words of a frame into those that are kept of a page.
+pub(crate) fn copy_page_out(table: &mut Table, page: u16, core: &Core, frame: u32)
+    requires frame { 1024 * frame + 1024 ≤ length core.now }
+    requires room { 1024 * page + 1024 ≤ length table.old.words }
+    ensures words { IsCopied core.now (1024 * frame) table.old.words (1024 * page) table.new.words }
+    ensures others { table.new ≡ record table.old { words = table.new.words } }
+{
+    copy_out(core, frame, &mut table.words, PAGE * page as usize);
+}
+
+/// Copies the words that are kept of a page into a frame.
+pub(crate) fn copy_page_in(table: &Table, page: u16, core: &mut Core, frame: u32)
+    requires frame { 1024 * frame + 1024 ≤ length core.old }
+    requires room { 1024 * page + 1024 ≤ length table.now.words }
+    ensures { IsCopied table.now.words (1024 * page) core.old (1024 * frame) core.new }
+{
+    copy_in(core, frame, &table.words, PAGE * page as usize);
+}
+
+/// A table as it is given, with every word of its pages.
+pub(crate) fn table_given(alloc: Global, given: &PageTable) -> Result<Table, NoMemory>
+    requires { length given.now.words ≤ 1024 * given.now.pages }
+    ensures { IfOk result (λ t. t ≡ table_given given.now) }
+{
+    let words = given.words.slice();
+    Ok(Table {
+        words: filled(alloc, words, PAGE * given.pages as usize)?,
+        at: given.at,
+        seg: given.seg,
+        pages: given.pages,
+    })
+}
+
+// Words with zeros behind them, so many in all.
+fn filled(alloc: Global, words: &[Word], count: usize) -> Result<Vec<Word>, NoMemory>
+    requires { length words.now ≤ count }
+    ensures { IfOk result (λ v. v.items ≡ words.now ++ replicate (count - length words.now) 0) }
+{
+    let mut all = Vec::with_capacity(alloc, count)?;
+    all.extend_from_slice(words)?;
+    all.resize(count, Word::ZERO)?;
+    Ok(all)
+}
+
+/// Tables as they are given.
+pub(crate) fn tables_given(alloc: Global, given: &[PageTable]) -> Result<Vec<Table>, NoMemory>
+    requires { All (λ t. length t.words ≤ 1024 * t.pages) given.now }
+    ensures { IfOk result (λ tables. tables.items ≡ map table_given given.now) }
+{
+    let mut tables = Vec::with_capacity(alloc, given.len())?;
+    for one in given {
+        tables.push(table_given(alloc, one)?)?;
+    }
+    Ok(tables)
+}
+
+/// The word that is kept for a word.
+pub(crate) fn word_of(table: &Table, word: u32) -> Word
+    requires { word < length table.now.words }
+    ensures { result ≡ slice_index table.now.words word }
+{
+    table.words[word as usize]
+}
+
+/// Keeps another word for a word.
+pub(crate) fn put_word(table: &mut Table, word: u32, value: Word)
+    requires { word < length table.old.words }
+    ensures { table.new ≡ record table.old { words = slice_set table.old.words word value } }
+{
+    table.words[word as usize] = value;
+}
+
+/// Writes the page table words of tables, all as of pages in no frame.
+pub(crate) fn put_absent_tables(core: &mut Core, tables: &[Table])
+    requires room { All (λ t. t.at + t.pages ≤ length core.old) tables.now }
+    ensures { AreAbsent tables.now (length tables.now) core.old core.new }
+{
+    for table in tables {
+        let _ = core.len();
+        put_all_absent(core, table.at, table.pages);
+    }
+}

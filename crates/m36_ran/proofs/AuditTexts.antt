@@ -1,0 +1,100 @@
+-- Texts of audits, put line by line.
+use Rattle.std.proofs.Common.{◌≡◌, ℕ, ◌+◌, ◌/◌, ◌%◌, ◌<◌, ◌≤◌, List, [], ◌∷◌, ◌++◌, length, drop, get_or, Option, refl, subst, ◌∙◌, arith}
+use Rattle.std.proofs.lemmas.List.{at_drop_more, at_drop_all}
+use Rattle.m36_text.specs.Digits.{octal_text, digits}
+use Rattle.m36_outside.specs.Written.{Grew, GrewWithin}
+use Rattle.m36_outside.proofs.Completes.{Completes, completes_all, completes_rest, completes_cut, completes_none}
+use Rattle.m36_audit.specs.Findings.{pairs}
+use Rattle.m36_audit.specs.declared.verdict.Finding.{Finding}
+use Rattle.m36_ran.specs.Output.{as_line}
+use Rattle.m36_ran.specs.AuditText.{finding_line, finding_lines, yes_line, audit_text}
+
+-- digits are those of the number without what stands before them
+pub segment_digits : (v : ℕ) → octal_text 5 (v % 32768) ≡ octal_text 5 v
+unfolding octal_text digits
+segment_digits v =
+    let a : v % 32768 / 4096 % 8 ≡ v / 4096 % 8 = omega arith in
+    let b : v % 32768 / 512 % 8 ≡ v / 512 % 8 = omega arith in
+    let c : v % 32768 / 64 % 8 ≡ v / 64 % 8 = omega arith in
+    let d : v % 32768 / 8 % 8 ≡ v / 8 % 8 = omega arith in
+    let e : v % 32768 / 1 % 8 ≡ v / 1 % 8 = omega arith in
+    rw (a, b, c, d, e)
+
+pub word_digits : (v : ℕ) → octal_text 8 (v % 16777216) ≡ octal_text 8 v
+unfolding octal_text digits
+word_digits v =
+    let a : v % 16777216 / 2097152 % 8 ≡ v / 2097152 % 8 = omega arith in
+    let b : v % 16777216 / 262144 % 8 ≡ v / 262144 % 8 = omega arith in
+    let c : v % 16777216 / 32768 % 8 ≡ v / 32768 % 8 = omega arith in
+    let d : v % 16777216 / 4096 % 8 ≡ v / 4096 % 8 = omega arith in
+    let e : v % 16777216 / 512 % 8 ≡ v / 512 % 8 = omega arith in
+    let f : v % 16777216 / 64 % 8 ≡ v / 64 % 8 = omega arith in
+    let g : v % 16777216 / 8 % 8 ≡ v / 8 % 8 = omega arith in
+    let h : v % 16777216 / 1 % 8 ≡ v / 1 % 8 = omega arith in
+    rw (a, b, c, d, e, f, g, h)
+
+pub ruleset digits_alone = (segment_digits, word_digits)
+
+abbrev pub lines_of_findings : List Finding → List ℕ
+lines_of_findings findings = finding_lines (pairs findings)
+
+line_first :
+    (f : Finding) (findings : List Finding)
+    → lines_of_findings (f ∷ findings) ≡ as_line (finding_line (f.condition, f.place)) ++ lines_of_findings findings
+unfolding finding_lines
+line_first f findings = refl
+
+line_none : lines_of_findings [] ≡ []
+unfolding finding_lines
+line_none = refl
+
+line_at :
+    (findings : List Finding) (i : ℕ) (d : Finding)
+    → i < length findings
+    → lines_of_findings (drop i findings) ≡ as_line (finding_line ((get_or findings i d).condition, (get_or findings i d).place)) ++ lines_of_findings (drop (i + 1) findings)
+line_at findings i d inside =
+    at_drop_more lines_of_findings findings i d inside ∙ line_first (get_or findings i d) (drop (i + 1) findings)
+
+-- at the beginning all lines are left
+pub findings_start : (findings : List Finding) (start : Option (List ℕ)) → Completes start start (lines_of_findings findings) (lines_of_findings findings)
+findings_start findings start = completes_all start (lines_of_findings findings)
+
+-- the line of a finding was put
+pub finding_put :
+    (findings : List Finding) (i : ℕ) (d : Finding) (now next start : Option (List ℕ)) (all : List ℕ)
+    → i < length findings
+    → Completes now start (lines_of_findings (drop i findings)) all
+    → Grew now next (as_line (finding_line ((get_or findings i d).condition, (get_or findings i d).place)))
+    → Completes next start (lines_of_findings (drop (i + 1) findings)) all
+finding_put findings i d now next start all inside so_far grew =
+    completes_rest now next start (lines_of_findings (drop i findings)) (as_line (finding_line ((get_or findings i d).condition, (get_or findings i d).place))) (lines_of_findings (drop (i + 1) findings)) all so_far (line_at findings i d inside) grew
+
+-- it was not put whole
+pub finding_cut :
+    (findings : List Finding) (i : ℕ) (d : Finding) (now new start : Option (List ℕ)) (all : List ℕ)
+    → i < length findings
+    → Completes now start (lines_of_findings (drop i findings)) all
+    → GrewWithin now new (as_line (finding_line ((get_or findings i d).condition, (get_or findings i d).place)))
+    → GrewWithin start new all
+finding_cut findings i d now new start all inside so_far cut =
+    completes_cut now new start (lines_of_findings (drop i findings)) (as_line (finding_line ((get_or findings i d).condition, (get_or findings i d).place))) (lines_of_findings (drop (i + 1) findings)) all so_far (line_at findings i d inside) cut
+
+-- all lines were put
+pub findings_end :
+    (findings : List Finding) (i : ℕ) (now start : Option (List ℕ)) (all : List ℕ)
+    → length findings ≤ i → Completes now start (lines_of_findings (drop i findings)) all → Grew start now all
+findings_end findings i now start all past so_far =
+    completes_none now start all (subst (λ t. Completes now start t all) (at_drop_all lines_of_findings findings i past ∙ line_none) so_far)
+
+pub ruleset findings_in_turn = (findings_start, finding_put, finding_cut, findings_end)
+
+-- the text by whether there are findings
+pub text_of_none : (findings : List Finding) → length findings ≡ 0 → audit_text (pairs findings) ≡ yes_line
+text_of_none [] none = refl
+text_of_none (f ∷ findings) none = absurd (omega (arith, none))
+
+pub text_of_some : (findings : List Finding) → 0 < length findings → audit_text (pairs findings) ≡ lines_of_findings findings
+text_of_some [] some = absurd (omega arith)
+text_of_some (f ∷ findings) some = refl
+
+pub ruleset audit_texts = (text_of_none, text_of_some)

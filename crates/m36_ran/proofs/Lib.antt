@@ -1,0 +1,6 @@
+pub mod RunLaws
+pub mod AuditTexts
+pub mod AuditAnswers
+pub mod StateLaws
+pub mod YesAnswers
+pub mod DueLaws

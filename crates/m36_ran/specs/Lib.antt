@@ -1,0 +1,10 @@
+pub mod Machine
+pub mod Run
+pub mod Output
+pub mod RunSays
+pub mod AuditText
+pub mod Putting
+pub mod Ran
+pub mod DueLaw
+pub use Rattle.m36_trace.specs.EndLine
+pub use Rattle.m36_trace.specs.TraceLine

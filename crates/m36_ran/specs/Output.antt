@@ -1,0 +1,39 @@
+-- The output of a run: its trace lines and its end line.
+use Rattle.std.specs.Prelude.{ℕ, ◌+◌, List, [], ◌∷◌, ◌++◌, length}
+use Rattle.m36_model.specs.Store.{State}
+use Rattle.m36_model.specs.declared.outcome.Outcome.{Outcome}
+use Rattle.m36_model.specs.declared.outcome.Outcome.TheVariants.{Next, Faulted, Stopped}
+use Rattle.m36_model.specs.declared.outcome.Stop.TheVariants.{Dis, Operation, Tag}
+use Rattle.m36_model.specs.declared.endings.End.TheVariants as end
+use Rattle.m36_model.specs.declared.record.StepRecord.{StepRecord}
+use Rattle.m36_trace.specs.EndLine.{end_line_of}
+use Rattle.m36_trace.specs.TraceLine.{line_of}
+use Rattle.m36_reading.specs.declared.status.Status.{Status}
+use Rattle.m36_reading.specs.declared.status.Status.TheVariants.{Done, MachineStop, Steps}
+use Rattle.m36_ran.specs.Run.{run, last_outcome}
+
+-- a text as a line
+abbrev pub as_line : List ℕ → List ℕ
+as_line text = text ++ 10 ∷ []
+
+-- a trace line for each record, with the number of its step, of which the first is step n
+unfoldable pub trace_text : ℕ → List StepRecord → List ℕ
+trace_text n [] = []
+trace_text n (step ∷ steps) = as_line (line_of n step) ++ trace_text (n + 1) steps
+
+-- what is written from there on where so many steps were taken before these
+abbrev pub output_from : ℕ → List StepRecord → List ℕ
+output_from taken steps =
+    trace_text (taken + 1) steps ++ as_line (end_line_of (last_outcome steps) (taken + length steps))
+
+-- what a run of at most so many steps writes
+unfoldable pub run_text : ℕ → State (List ℕ) → List ℕ
+run_text steps state = output_from 0 (run steps state)
+
+-- the status by which a run ends: DIS is its one end without a fault or another stop
+abbrev pub status_after : Outcome → Status
+status_after Next = Steps
+status_after (Faulted fault) = MachineStop (end.Fault fault)
+status_after (Stopped Dis) = Done
+status_after (Stopped Operation) = MachineStop (end.Stop Operation)
+status_after (Stopped Tag) = MachineStop (end.Stop Tag)

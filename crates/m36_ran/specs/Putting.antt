@@ -1,0 +1,45 @@
+-- What is said of a sink where the answer that is due writes no file.
+use Rattle.std.specs.Prelude.{ℕ, ◌≡◌, List, []}
+use Rattle.m36_outside.specs.Counts.{Rose}
+use Rattle.m36_outside.specs.Written.{Grew, GrewWithin}
+use Rattle.m36_reading.specs.declared.status.Status.{Status}
+use Rattle.m36_reading.specs.Answers.{Answer}
+use Rattle.m36_reading.specs.Outside.{SinkState}
+use Rattle.m36_reading.specs.Ends.{End, Answered, Cut, Unread, Starved, Unasked}
+
+pub record IsPut (due : Answer) (result : Status) (old new : SinkState) : Type 0 where
+  pub sets : due.sets ≡ []
+  pub status : due.status ≡ result
+  pub text : Grew old.written new.written due.text
+  pub faults : new.faults ≡ old.faults
+
+pub record IsPartPut (due : Answer) (old new : SinkState) : Type 0 where
+  pub sets : due.sets ≡ []
+  pub text : GrewWithin old.written new.written due.text
+  pub cause : Rose old.faults new.faults
+
+pub record IsNotPut (old new : SinkState) : Type 0 where
+  pub written : new.written ≡ old.written
+  pub faults : new.faults ≡ old.faults
+
+-- by this answer
+abbrev pub PutsBy : End → Status → Answer → SinkState → SinkState → Type 0
+PutsBy Answered result due old new = IsPut due result old new
+PutsBy Cut result due old new = IsPartPut due old new
+PutsBy Starved result due old new = IsNotPut old new
+PutsBy Unread result due old new = ⊥
+PutsBy Unasked result due old new = ⊥
+
+-- by some answer that is due
+pub record PutsDue (IsDue : Answer → Type 0) (end : End) (result : Status) (old new : SinkState)
+    : Type 0 where
+  pub due : Answer
+  pub is_due : IsDue due
+  pub puts : PutsBy end result due old new
+
+abbrev pub PutsSome : (Answer → Type 0) → End → Status → SinkState → SinkState → Type 0
+PutsSome IsDue Answered result old new = PutsDue IsDue Answered result old new
+PutsSome IsDue Cut result old new = PutsDue IsDue Cut result old new
+PutsSome IsDue Starved result old new = IsNotPut old new
+PutsSome IsDue Unread result old new = ⊥
+PutsSome IsDue Unasked result old new = ⊥

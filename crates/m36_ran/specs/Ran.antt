@@ -1,0 +1,102 @@
+-- What is due to a command on a bare image: the text of what its audit finds, and, where it is run, the output of the run.
+use Rattle.std.specs.Prelude.{◌≡◌, ℕ, Bool, true, false, ◌||◌, List, [], ◌∷◌, ◌++◌, Result, Ok, Err}
+use Rattle.m36_desc.specs.Fields.{DbrFields}
+use Rattle.m36_model.specs.Store.{State}
+use Rattle.m36_model.specs.Core.{core_store, core_tables}
+use Rattle.m36_model.specs.Audit.{AreFindings, IsAudited}
+use Rattle.m36_model.specs.Isolation.{Isolated}
+use Rattle.m36_image.specs.ImageState.{state_given}
+use Rattle.m36_image.specs.declared.refusal.ImageCode.{ImageCode}
+use Rattle.m36_image.specs.declared.refusal.ImageCode.TheVariants as image
+use Rattle.m36_image.specs.declared.refusal.Refusal as refusal
+use Rattle.m36_reading.specs.declared.status.Code.{Code}
+use Rattle.m36_reading.specs.declared.status.Code.TheVariants as code
+use Rattle.m36_reading.specs.declared.status.Status.{Status}
+use Rattle.m36_reading.specs.declared.status.Status.TheVariants.{Done, AuditNo}
+use Rattle.m36_reading.specs.Reading.{Reading, decided, Early, then_with}
+use Rattle.m36_reading.specs.Readers.{refused, file_bytes}
+use Rattle.m36_reading.specs.Answers.{Answer}
+use Rattle.m36_reading.specs.Outside.{Outside, IsIdle}
+use Rattle.m36_reading.specs.Doing.{Kind}
+use Rattle.m36_ran.specs.declared.command.ImageCommand.{ImageCommand}
+use Rattle.m36_ran.specs.declared.command.ImageCommand.TheVariants.{Bare, Audit}
+use Rattle.m36_ran.specs.Run.{run, last_outcome}
+use Rattle.m36_ran.specs.Output.{run_text, status_after}
+use Rattle.m36_ran.specs.AuditText.{audit_text}
+
+-- ---- reading
+
+abbrev pub image_file : ImageCommand → List ℕ
+image_file (Bare bare) = bare.file
+image_file (Audit file) = file
+
+-- I1 to I3
+abbrev pub code_of : ImageCode → Code
+code_of image.I1 = code.I1
+code_of image.I2 = code.I2
+code_of image.I3 = code.I3
+
+abbrev pub state_by : List ℕ → Result (State (List ℕ)) refusal.Refusal → Early (State (List ℕ))
+state_by name (Ok state) = Ok state
+state_by name (Err refusal) = Err (refused name (code_of refusal.code) refusal.line)
+
+-- the state that a file writes out
+unfoldable pub state_reads : List ℕ → Reading (Early (State (List ℕ)))
+state_reads name = then_with (file_bytes name) (λ bytes. decided (state_by name (state_given bytes)))
+
+-- ---- answers
+
+-- a run of at most so many steps
+unfoldable pub run_answer : ℕ → State (List ℕ) → Answer
+run_answer steps state =
+    record { sets = []; text = run_text steps state; status = status_after (last_outcome (run steps state)) }
+
+-- an audit, by what it finds
+abbrev pub passes : List (ℕ × ℕ) → Bool
+passes [] = true
+passes (f ∷ findings) = false
+
+abbrev pub audit_status : Bool → Status
+audit_status true = Done
+audit_status false = AuditNo
+
+unfoldable pub audit_answer : List (ℕ × ℕ) → Answer
+audit_answer findings = record { sets = []; text = audit_text findings; status = audit_status (passes findings) }
+
+-- The audit text, and the run behind it where it is to be made: where the audit passes, or `--unaudited` is given.
+abbrev pub behind : List ℕ → Answer → Answer
+behind text answer = record { sets = answer.sets; text = text ++ answer.text; status = answer.status }
+
+abbrev pub bare_by : Bool → ℕ → State (List ℕ) → List (ℕ × ℕ) → Answer
+bare_by true steps state findings = behind (audit_text findings) (run_answer steps state)
+bare_by false steps state findings = audit_answer findings
+
+-- by what the audit of the state finds
+abbrev pub state_answer : ImageCommand → State (List ℕ) → List (ℕ × ℕ) → Answer
+state_answer (Bare bare) state findings = bare_by (passes findings || bare.unaudited) bare.steps state findings
+state_answer (Audit file) state findings = audit_answer findings
+
+-- ---- what is due
+
+-- the tables of a core isolate each ring from 1
+pub record IsIsolated (core : List ℕ) (dbr : DbrFields) : Type 0 where
+  pub isolates : Isolated core_store (core_tables core dbr)
+
+-- An answer is due to a command on a state: the one by the findings of the audit, of which there is one list. Where
+-- there are none, the tables of the state isolate each ring.
+pub record IsStateDue (command : ImageCommand) (state : State (List ℕ)) (due : Answer) : Type 0 where
+  pub findings : List (ℕ × ℕ)
+  pub found : AreFindings state.store state.regs.dbr findings
+  pub isolated : findings ≡ [] → IsIsolated state.store state.regs.dbr
+  pub answer : due ≡ state_answer command state findings
+
+-- Memory is wanted before anything is written.
+abbrev pub state_kind : ImageCommand → Kind (State (List ℕ))
+state_kind command = record { IsDue = IsStateDue command; Wants = λ state. IsIdle }
+
+-- ---- what `audit yes` promises
+
+-- All six conditions of the audit hold, and the tables isolate each ring.
+pub record PassesAudit (state : State (List ℕ)) : Type 0 where
+  pub conditions : IsAudited state.store state.regs.dbr
+  pub isolates : Isolated core_store (core_tables state.store state.regs.dbr)

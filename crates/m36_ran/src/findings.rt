@@ -1,0 +1,93 @@
+//! The text of an audit.
+
+ghost use Rattle.std.specs.Prelude.{ℕ, ◌≡◌, ◌≤◌, ◌<◌, ◌||◌, ◌==◌, length, if◌then◌else◌};
+ghost use Rattle.m36_text.specs.Digits.{octal_text};
+ghost use Rattle.m36_outside.specs.Put.{PutSays, PutHasCause};
+ghost use Rattle.m36_audit.specs.Findings.{pairs};
+ghost use Rattle.m36_ran.specs.Output.{as_line};
+ghost use Rattle.m36_ran.specs.AuditText.{place_digits, finding_line, finding_lines, yes_line, audit_text};
+
+use crate::running::put_line;
+use arrayvec::ArrayString;
+use m36_audit::Finding;
+use m36_outside::{Put, Sink};
+use m36_text::{decimal, octal};
+
+/// The conditions that a segment breaks: the first, the fifth and the sixth.
+fn is_of_segment(condition: u8) -> bool
+    ensures { result ≡ (condition == 1 || (condition == 5 || condition == 6)) }
+{
+    condition == 1 || condition == 5 || condition == 6
+}
+
+/// A segment in five digits, or a core word in eight.
+#[tactic(auto, using(crate::proofs::AuditTexts::digits_alone))]
+fn place_text(condition: u8, place: u32) -> ArrayString<22>
+    ensures text { result.bytes ≡ octal_text (place_digits condition) place }
+    ensures len { length result.bytes ≤ 8 }
+{
+    if is_of_segment(condition) {
+        octal(place as u64 % 0o100000, 5)
+    } else {
+        octal(place as u64 % 0o100000000, 8)
+    }
+}
+
+/// The line of a finding, without its line feed.
+#[tactic(auto, unfolding(crate::specs::AuditText::finding_line))]
+fn finding_line(finding: &Finding) -> ArrayString<160>
+    ensures text { result.bytes ≡ finding_line (finding.now.condition, finding.now.place) }
+    ensures len { length result.bytes ≤ 39 }
+{
+    let mut line = ArrayString::new();
+    line.push_str("audit no A");
+    line.push_str(decimal(finding.condition as u64).as_str());
+    line.push_str(" ");
+    line.push_str(place_text(finding.condition, finding.place).as_str());
+    line
+}
+
+// Puts the line of a finding.
+fn put_finding<S: Sink>(finding: &Finding, out: &mut S) -> Put
+    ensures says { PutSays result (S.written out.old) (S.written out.new) (as_line (finding_line (finding.now.condition, finding.now.place))) }
+    ensures cause { PutHasCause result (S.faults out.old) (S.faults out.new) }
+{
+    put_line(out, finding_line(finding))
+}
+
+/// Puts a line for each finding.
+#[tactic(auto, using(crate::proofs::AuditTexts::findings_in_turn))]
+fn put_findings<S: Sink>(findings: &[Finding], out: &mut S) -> Put
+    ensures says { PutSays result (S.written out.old) (S.written out.new) (finding_lines (pairs findings.now)) }
+    ensures cause { PutHasCause result (S.faults out.old) (S.faults out.new) }
+{
+    for finding in findings {
+        match put_finding(finding, out) {
+            Put::Done => {}
+            Put::Failed => return Put::Failed,
+        }
+    }
+    Put::Done
+}
+
+// Puts the line `audit yes`.
+fn put_yes<S: Sink>(out: &mut S) -> Put
+    ensures says { PutSays result (S.written out.old) (S.written out.new) yes_line }
+    ensures cause { PutHasCause result (S.faults out.old) (S.faults out.new) }
+{
+    let mut line = ArrayString::new();
+    line.push_str("audit yes");
+    put_line(out, line)
+}
+
+/// Puts the text of an audit, line by line.
+#[tactic(auto, using(crate::proofs::AuditTexts::audit_texts))]
+pub fn put_audit<S: Sink>(findings: &[Finding], out: &mut S) -> Put
+    ensures says { PutSays result (S.written out.old) (S.written out.new) (audit_text (pairs findings.now)) }
+    ensures cause { PutHasCause result (S.faults out.old) (S.faults out.new) }
+{
+    if findings.is_empty() {
+        return put_yes(out);
+    }
+    put_findings(findings, out)
+}

@@ -1,0 +1,4 @@
+pub mod Comings
+pub mod ReadLaws
+pub mod FileLaws
+pub mod EndLaws

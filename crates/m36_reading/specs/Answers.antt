@@ -1,0 +1,34 @@
+-- What is due to a command: the files that it writes, the text that it puts, and its status.
+use Rattle.std.specs.Prelude.{ℕ, ◌≡◌, List, [], ◌∷◌, Option, Some, Result, Ok, Err}
+use Rattle.m36_outside.specs.Files.{Files, with_told_file}
+use Rattle.m36_reading.specs.declared.status.Status.{Status}
+use Rattle.m36_reading.specs.declared.status.Status.TheVariants as status
+use Rattle.m36_reading.specs.declared.refusal.Refusal.{Refusal}
+use Rattle.m36_reading.specs.declared.refusal.Refusal.TheVariants.{BadFile, ReadFault, NoMemory}
+use Rattle.m36_reading.specs.declared.setting.Set.{Set}
+use Rattle.m36_reading.specs.Reading.{Early}
+
+-- the files that are written, in order, all that is put then, and the status
+pub record Answer : Type 0 where
+  pub sets : List Set
+  pub text : List ℕ
+  pub status : Status
+
+-- a status with which nothing is written
+abbrev pub unwritten : Status → Answer
+unwritten status = record { sets = []; text = []; status = status }
+
+abbrev pub status_of : Refusal → Status
+status_of (BadFile bad) = status.BadFile bad
+status_of ReadFault = status.ReadFault
+status_of NoMemory = status.NoMemory
+
+-- An answer is due by what a reading comes to: that of its kind, or the refusal alone.
+abbrev pub IsDueBy : {D : Type 0} → (D → Answer → Type 0) → Early D → Answer → Type 0
+IsDueBy IsDue (Ok d) due = IsDue d due
+IsDueBy IsDue (Err refusal) due = due ≡ unwritten (status_of refusal)
+
+-- the files, where they are told, with these written one after another
+abbrev pub with_sets : List Set → Option Files → Option Files
+with_sets [] files = files
+with_sets (set ∷ sets) files = with_sets sets (with_told_file set.name (Some set.content) files)

@@ -1,0 +1,26 @@
+-- The statuses, sorted into the ends of which contracts speak.
+use Rattle.m36_reading.specs.declared.status.Status.{Status}
+use Rattle.m36_reading.specs.declared.status.Status.TheVariants.{Done, Usage, ReadFault, WriteFault, BadFile, AuditNo, MachineStop, Steps, NoMemory}
+
+pub data End : Type 0 where
+  -- what is due is answered, and written whole
+  Answered : End
+  -- a file could not be written, or the output not whole
+  Cut : End
+  -- a file could not be read
+  Unread : End
+  -- memory was wanted
+  Starved : End
+  -- the words are no command
+  Unasked : End
+
+abbrev pub end_of : Status → End
+end_of Done = Answered
+end_of AuditNo = Answered
+end_of (MachineStop end) = Answered
+end_of Steps = Answered
+end_of (BadFile bad) = Answered
+end_of WriteFault = Cut
+end_of ReadFault = Unread
+end_of NoMemory = Starved
+end_of Usage = Unasked

@@ -1,0 +1,41 @@
+-- What stands outside, as far as it is told, with the counts of faults.
+use Rattle.std.specs.Prelude.{ℕ, ◌≡◌, List, Option}
+use Rattle.m36_outside.specs.Files.{Files}
+
+pub record FolderState : Type 0 where
+  pub files : Option Files
+  pub read_faults : ℕ
+  pub write_faults : ℕ
+
+pub record SinkState : Type 0 where
+  pub written : Option (List ℕ)
+  pub faults : ℕ
+
+pub record Outside : Type 0 where
+  pub folder : FolderState
+  pub sink : SinkState
+
+-- each by what a folder and a sink tell of themselves
+abbrev pub folder_of : {F : Type 0} → (F → Option Files) → (F → ℕ) → (F → ℕ) → F → FolderState
+folder_of files read_faults write_faults folder =
+    record { files = files folder; read_faults = read_faults folder; write_faults = write_faults folder }
+
+abbrev pub sink_of : {S : Type 0} → (S → Option (List ℕ)) → (S → ℕ) → S → SinkState
+sink_of written faults sink = record { written = written sink; faults = faults sink }
+
+-- nothing but the count of reads that failed may differ
+pub record IsIdle (old new : Outside) : Type 0 where
+  pub files : new.folder.files ≡ old.folder.files
+  pub write_faults : new.folder.write_faults ≡ old.folder.write_faults
+  pub written : new.sink.written ≡ old.sink.written
+  pub put_faults : new.sink.faults ≡ old.sink.faults
+
+-- no read failed
+abbrev pub NoneUnread : Outside → Outside → Type 0
+NoneUnread old new = new.folder.read_faults ≡ old.folder.read_faults
+
+abbrev pub outside_of :
+    {F S : Type 0} → (F → Option Files) → (F → ℕ) → (F → ℕ) → (S → Option (List ℕ)) → (S → ℕ)
+    → F → S → Outside
+outside_of files read_faults write_faults written put_faults folder sink =
+    record { folder = folder_of files read_faults write_faults folder; sink = sink_of written put_faults sink }

@@ -1,0 +1,68 @@
+-- The readers of one file, each with all its refusals: its bytes (F1, F2), its words (T3, T4, F3), its object (O1 to O8).
+use Rattle.std.specs.Prelude.{ℕ, nat_lt, if◌then◌else◌, List, length, Result, Ok, Err}
+use Rattle.m36_text.specs.Packing.{unpacked}
+use Rattle.m36_text.specs.declared.packing.PackFault.{PackFault}
+use Rattle.m36_text.specs.declared.packing.PackFault.TheVariants as pack
+use Rattle.obj36_parts.specs.PartsFields.{PartsFields}
+use Rattle.obj36.specs.declared.fault.ObjectFault.{ObjectFault}
+use Rattle.obj36.specs.declared.fault.ObjectFault.TheVariants as fault
+use Rattle.m36_reading.specs.declared.status.Bad.{Bad}
+use Rattle.m36_reading.specs.declared.status.Code.{Code}
+use Rattle.m36_reading.specs.declared.status.Code.TheVariants as code
+use Rattle.m36_reading.specs.declared.refusal.Refusal.{Refusal}
+use Rattle.m36_reading.specs.declared.refusal.Refusal.TheVariants.{BadFile, ReadFault, NoMemory}
+use Rattle.m36_reading.specs.Reading.{Found, Content, Absent, TooLarge, Reading, decided, asks, Early, then_with}
+use Rattle.obj36.specs.ObjectOf.{object_of}
+
+-- a refused file by its name, a code, a place and a column
+abbrev pub refused_at : List ℕ → Code → ℕ → ℕ → Refusal
+refused_at name code at column = BadFile (record { name = name; code = code; at = at; column = column })
+
+abbrev pub refused : List ℕ → Code → ℕ → Refusal
+refused name code at = refused_at name code at 0
+
+-- ---- bytes
+
+abbrev pub bytes_by : List ℕ → Found → Reading (Early (List ℕ))
+bytes_by name (Content bytes) = decided (Ok bytes)
+bytes_by name Absent = decided (Err (refused name code.F1 0))
+bytes_by name TooLarge = decided (Err (refused name code.F2 0))
+
+unfoldable pub file_bytes : List ℕ → Reading (Early (List ℕ))
+file_bytes name = asks name (bytes_by name)
+
+-- ---- words
+
+-- F3: more than 2^18 words
+abbrev pub sized : List ℕ → List ℕ → Early (List ℕ)
+sized name words = if nat_lt 262144 (length words) then Err (refused name code.F3 0) else Ok words
+
+abbrev pub words_by : List ℕ → Result (List ℕ) PackFault → Early (List ℕ)
+words_by name (Ok words) = sized name words
+words_by name (Err (pack.T3 count)) = Err (refused name code.T3 count)
+words_by name (Err (pack.T4 place)) = Err (refused name code.T4 place)
+words_by name (Err pack.NoMemory) = Err NoMemory
+
+unfoldable pub file_words : List ℕ → Reading (Early (List ℕ))
+file_words name = then_with (file_bytes name) (λ bytes. decided (words_by name (unpacked bytes)))
+
+-- ---- objects
+
+-- a list of words that is no object, by its first fault
+abbrev pub object_refused : List ℕ → ObjectFault → Refusal
+object_refused name (fault.O1 at) = refused name code.O1 at
+object_refused name (fault.O2 at) = refused name code.O2 at
+object_refused name (fault.O3 at) = refused name code.O3 at
+object_refused name (fault.O4 at) = refused name code.O4 at
+object_refused name (fault.O5 at) = refused name code.O5 at
+object_refused name (fault.O6 at) = refused name code.O6 at
+object_refused name (fault.O7 at) = refused name code.O7 at
+object_refused name (fault.O8 at) = refused name code.O8 at
+object_refused name fault.NoMemory = NoMemory
+
+abbrev pub object_by : List ℕ → Result PartsFields ObjectFault → Early PartsFields
+object_by name (Ok parts) = Ok parts
+object_by name (Err fault) = Err (object_refused name fault)
+
+unfoldable pub file_object : List ℕ → Reading (Early PartsFields)
+file_object name = then_with (file_words name) (λ words. decided (object_by name (object_of words)))

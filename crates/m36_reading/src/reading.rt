@@ -1,0 +1,143 @@
+//! The readers of one file, each with all its refusals.
+
+ghost use Rattle.std.specs.Prelude.{◌≡◌, ◌≤◌, ◌<◌, ◌^◌, length, IfOk};
+ghost use Rattle.m36_outside.specs.ReadAnswer.{file_limit};
+ghost use Rattle.m36_text.specs.Packing.{unpacked};
+ghost use Rattle.m36_reading.specs.Asking.{Gives, Refuses};
+ghost use Rattle.obj36.specs.ObjectOf.{object_of};
+ghost use Rattle.m36_reading.specs.Readers.{refused, sized, refused_at, words_by, object_refused, object_by, file_bytes, file_words, file_object};
+ghost use Rattle.m36_reading.specs.Outside.{folder_of};
+ghost use Rattle.m36_reading.specs.Doing.{Reads};
+
+use crate::refusal::Refusal;
+use crate::status::{Bad, Code};
+use m36_outside::{Folder, ReadAnswer, Text};
+use m36_text::{PackFault, unpack};
+use m36_word::{Word, Words};
+use obj36::{Object, ObjectFault};
+use std::alloc::Global;
+
+/// The most words of an object.
+const MOST_WORDS: usize = 262144;
+
+/// Refuses a file, at a place and a column of it, unless no memory is found for its name.
+pub fn refuse_at(alloc: Global, name: &[u8], code: Code, at: u32, column: u32) -> Refusal
+    ensures { Refuses result (refused_at name.now code at column) }
+{
+    match Text::from_bytes(alloc, name) {
+        Ok(name) => Refusal::BadFile(Bad {
+            name,
+            code,
+            at,
+            column,
+        }),
+        Err(_) => Refusal::NoMemory,
+    }
+}
+
+/// Refuses a file that has no columns.
+pub fn refuse(alloc: Global, name: &[u8], code: Code, at: u32) -> Refusal
+    ensures { Refuses result (refused name.now code at) }
+{
+    refuse_at(alloc, name, code, at, 0)
+}
+
+/// Reads the bytes of a file: F1 where it is absent, and F2 where it has more than 16 MiB.
+#[tactic(auto, using(crate::proofs::ReadLaws::bytes))]
+pub fn read_bytes<F: Folder>(alloc: Global, name: &[u8], folder: &mut F) -> Result<Text, Refusal>
+    ensures reads { Reads (file_bytes name.now) result
+        (folder_of F.files F.read_faults F.write_faults folder.old)
+        (folder_of F.files F.read_faults F.write_faults folder.new)
+        (F.asked folder.old) (F.asked folder.new) }
+    ensures limit { IfOk result (λ text. length text ≤ file_limit) }
+{
+    match folder.read(alloc, name) {
+        ReadAnswer::Read(text) => Ok(text),
+        ReadAnswer::Absent => Err(refuse(alloc, name, Code::F1, 0)),
+        ReadAnswer::TooLarge => Err(refuse(alloc, name, Code::F2, 0)),
+        ReadAnswer::Failed => Err(Refusal::ReadFault),
+        ReadAnswer::NoMemory => Err(Refusal::NoMemory),
+    }
+}
+
+// F3: more words than an object has.
+#[tactic(auto, using(crate::proofs::FileLaws::sizes))]
+fn sized(alloc: Global, name: &[u8], words: Words) -> Result<Words, Refusal>
+    ensures gives { Gives result (sized name.now words) }
+    ensures few { IfOk result (λ words. length words ≤ 262144) }
+{
+    if words.slice().len() > MOST_WORDS {
+        return Err(refuse(alloc, name, Code::F3, 0));
+    }
+    Ok(words)
+}
+
+/// The words into which the bytes of a file, of at most 16 MiB, unpack: T3 or T4 where they are no packed words, and F3
+/// where there are more than 2^18.
+#[tactic(auto, using(crate::proofs::FileLaws::unpacking))]
+pub fn words_in(alloc: Global, name: &[u8], bytes: &[u8]) -> Result<Words, Refusal>
+    requires { length bytes.now ≤ file_limit }
+    ensures gives { Gives result (words_by name.now (unpacked bytes.now)) }
+    ensures few { IfOk result (λ words. length words ≤ 262144) }
+{
+    match unpack(alloc, bytes) {
+        Ok(words) => sized(alloc, name, words),
+        Err(PackFault::T3(count)) => Err(refuse(alloc, name, Code::T3, count as u32)),
+        Err(PackFault::T4(place)) => Err(refuse(alloc, name, Code::T4, place as u32)),
+        Err(PackFault::NoMemory) => Err(Refusal::NoMemory),
+    }
+}
+
+/// Reads the words of a file.
+#[tactic(auto, using(crate::proofs::ReadLaws::reads_early), unfolding(crate::specs::Readers::file_words))]
+pub fn read_words<F: Folder>(alloc: Global, name: &[u8], folder: &mut F) -> Result<Words, Refusal>
+    ensures reads { Reads (file_words name.now) result
+        (folder_of F.files F.read_faults F.write_faults folder.old)
+        (folder_of F.files F.read_faults F.write_faults folder.new)
+        (F.asked folder.old) (F.asked folder.new) }
+    ensures few { IfOk result (λ words. length words ≤ 262144) }
+{
+    let text = read_bytes(alloc, name, folder)?;
+    words_in(alloc, name, text.bytes())
+}
+
+// O1 to O8: words that are no object.
+fn refuse_object(alloc: Global, name: &[u8], fault: ObjectFault) -> Refusal
+    ensures { Refuses result (object_refused name.now fault) }
+{
+    match fault {
+        ObjectFault::O1(at) => refuse(alloc, name, Code::O1, at),
+        ObjectFault::O2(at) => refuse(alloc, name, Code::O2, at),
+        ObjectFault::O3(at) => refuse(alloc, name, Code::O3, at),
+        ObjectFault::O4(at) => refuse(alloc, name, Code::O4, at),
+        ObjectFault::O5(at) => refuse(alloc, name, Code::O5, at),
+        ObjectFault::O6(at) => refuse(alloc, name, Code::O6, at),
+        ObjectFault::O7(at) => refuse(alloc, name, Code::O7, at),
+        ObjectFault::O8(at) => refuse(alloc, name, Code::O8, at),
+        ObjectFault::NoMemory => Refusal::NoMemory,
+    }
+}
+
+/// The object that the words of a file are, of fewer than 2^32: O1 to O8 where they are none.
+#[tactic(auto, using(crate::proofs::FileLaws::objects))]
+pub fn object_in(alloc: Global, name: &[u8], words: &[Word]) -> Result<Object, Refusal>
+    requires { length words.now < 2 ^ 32 }
+    ensures { Gives result (object_by name.now (object_of words.now)) }
+{
+    match Object::read(alloc, words) {
+        Ok(object) => Ok(object),
+        Err(fault) => Err(refuse_object(alloc, name, fault)),
+    }
+}
+
+/// Reads the object of a file.
+#[tactic(auto, using(crate::proofs::ReadLaws::reads_early), unfolding(crate::specs::Readers::file_object))]
+pub fn read_object<F: Folder>(alloc: Global, name: &[u8], folder: &mut F) -> Result<Object, Refusal>
+    ensures { Reads (file_object name.now) result
+        (folder_of F.files F.read_faults F.write_faults folder.old)
+        (folder_of F.files F.read_faults F.write_faults folder.new)
+        (F.asked folder.old) (F.asked folder.new) }
+{
+    let words = read_words(alloc, name, folder)?;
+    object_in(alloc, name, words.slice())
+}

@@ -1,0 +1,12 @@
+//! Files that a command writes.
+
+use m36_outside::Text;
+use m36_text::Name;
+
+/// A file that a command writes.
+#[derive(Drop)]
+pub struct Set {
+    pub name: Name,
+    /// All that it has then.
+    pub content: Text,
+}

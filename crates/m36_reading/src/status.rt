@@ -1,0 +1,171 @@
+//! How the top call ended.
+
+ghost use Rattle.std.specs.Prelude.{◌≡◌};
+
+use m36_model::End;
+use m36_outside::Text;
+
+/// Why a file was refused.
+#[derive(Clone, Copy, PartialEq, Eq, Debug)]
+pub enum Code {
+    /// The file is absent.
+    F1,
+    /// The file is too large.
+    F2,
+    /// The file unpacks into more than 2^18 words.
+    F3,
+    /// The count of the bytes is that of no packed words.
+    T3,
+    /// The last four bits, behind the last word, are not zero.
+    T4,
+    /// A line of a bare image that is not of its form, or is missing.
+    I1,
+    /// A number of frames out of range.
+    I2,
+    /// Core words at a place that is not above every earlier one, or outside core.
+    I3,
+    /// There are fewer than seven words; the count.
+    O1,
+    /// The map is not where the last word tells it to be, or a word of it is not as it must be.
+    O2,
+    /// A section ends past the map or is too short; its map word.
+    O3,
+    /// Two sections share a word; the first such word.
+    O4,
+    /// A definition, or the table of definitions or expressions, is not as it must be.
+    O5,
+    /// A name is not as it must be.
+    O6,
+    /// A link or the linkage section is not as it must be.
+    O7,
+    /// Anything else is not the one spelling of an object.
+    O8,
+    /// A byte that no source may have there.
+    E1,
+    /// A label or an operand that is not of its form.
+    E2,
+    /// An operation that there is not.
+    E3,
+    /// A number out of its range.
+    E4,
+    /// A symbol, or a name of a definition, that is defined a second time.
+    E5,
+    /// A symbol that is not defined.
+    E6,
+    /// A value that does not fit its field, or an expression that cannot be said in an object.
+    E7,
+    /// A section, or an object, that grows too long.
+    E8,
+}
+
+/// A refused file.
+#[derive(Drop)]
+pub struct Bad {
+    /// The file's name.
+    pub name: Text,
+    pub code: Code,
+    /// The place that the code speaks of: for an image its line, counted from 1; for T3 the count of the bytes, and for
+    /// T4 the place of the last one; for an object the place of a word, counted from 0, and for O1 the count of the words;
+    /// for a source the line, counted from 1; for a file as a whole 0.
+    pub at: u32,
+    /// The column of a source, in bytes counted from 1; 0 for every other file.
+    pub column: u32,
+}
+
+/// How the top call ended.
+#[derive(Drop)]
+pub enum Status {
+    /// The output is written whole. The machine executed DIS, or the audit alone was asked for and passes, or a print
+    /// or an assembly was asked for.
+    Done,
+    /// The words are no command. Nothing was read or written.
+    Usage,
+    /// The file could not be read.
+    ReadFault,
+    /// The output could not be written, of which a first part is; or the object could not, and nothing of the output is.
+    WriteFault,
+    /// The file is refused.
+    BadFile(Bad),
+    /// The audit fails, and the machine was not to be run all the same. What it finds is written whole.
+    AuditNo,
+    /// The machine ended with a fault, or stopped otherwise than by DIS.
+    MachineStop(End),
+    /// All steps that are allowed were taken, and none ended the run.
+    Steps,
+    /// No memory was found. Nothing was written.
+    NoMemory,
+}
+
+impl Code {
+    ghost use Rattle.m36_reading.specs.Names.{code_name};
+
+    /// The name of the code, as it is printed.
+    pub fn name(self) -> &'static str
+        ensures { result.now ≡ code_name self }
+    {
+        match self {
+            Code::F1 => "F1",
+            Code::F2 => "F2",
+            Code::F3 => "F3",
+            Code::T3 => "T3",
+            Code::T4 => "T4",
+            Code::I1 => "I1",
+            Code::I2 => "I2",
+            Code::I3 => "I3",
+            Code::O1 => "O1",
+            Code::O2 => "O2",
+            Code::O3 => "O3",
+            Code::O4 => "O4",
+            Code::O5 => "O5",
+            Code::O6 => "O6",
+            Code::O7 => "O7",
+            Code::O8 => "O8",
+            Code::E1 => "E1",
+            Code::E2 => "E2",
+            Code::E3 => "E3",
+            Code::E4 => "E4",
+            Code::E5 => "E5",
+            Code::E6 => "E6",
+            Code::E7 => "E7",
+            Code::E8 => "E8",
+        }
+    }
+}
+
+impl Status {
+    ghost use Rattle.m36_reading.specs.Names.{status_name, status_number};
+
+    /// The name of the status, as it is printed.
+    pub fn name(&self) -> &'static str
+        ensures { result.now ≡ status_name self.now }
+    {
+        match self {
+            Status::Done => "Done",
+            Status::Usage => "Usage",
+            Status::ReadFault => "ReadFault",
+            Status::WriteFault => "WriteFault",
+            Status::BadFile(_) => "BadFile",
+            Status::AuditNo => "AuditNo",
+            Status::MachineStop(_) => "MachineStop",
+            Status::Steps => "Steps",
+            Status::NoMemory => "NoMemory",
+        }
+    }
+
+    /// The number of the status, with which the program ends.
+    pub fn number(&self) -> u8
+        ensures { result ≡ status_number self.now }
+    {
+        match self {
+            Status::Done => 0,
+            Status::Usage => 1,
+            Status::ReadFault => 2,
+            Status::WriteFault => 3,
+            Status::BadFile(_) => 4,
+            Status::AuditNo => 5,
+            Status::MachineStop(_) => 6,
+            Status::Steps => 7,
+            Status::NoMemory => 8,
+        }
+    }
+}

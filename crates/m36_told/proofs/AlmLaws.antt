@@ -1,0 +1,98 @@
+-- What `alm` tells, from its parts.
+use Rattle.std.proofs.Common.{◌≡◌, ℕ, List, [], ◌∷◌, Result, Ok, Err, refl, sym, ap, subst, ◌∙◌}
+use Rattle.m36_text.specs.Packing.{packed}
+use Rattle.alm_parse.specs.SourceFields.{Source}
+use Rattle.alm_parse.specs.Sources.{parsed, Refuses}
+use Rattle.alm_parse.specs.declared.fault.AlmFault.{AlmFault}
+use Rattle.alm_parse.specs.declared.fault.AlmFault.TheVariants as alm
+use Rattle.alm_asm.specs.Assembly.{assembled}
+use Rattle.obj36_parts.specs.PartsFields.{PartsFields}
+use Rattle.obj36_parts.specs.ObjectSegment.{Stands}
+use Rattle.m36_list.specs.Listing.{listing_of}
+use Rattle.m36_reading.specs.declared.refusal.Refusal.{Refusal}
+use Rattle.m36_reading.specs.Asking as asking
+use Rattle.m36_reading.proofs.ReadLaws.{gives_by, memory_given}
+use Rattle.m36_told.specs.declared.assembling.AlmFiles.{AlmFiles}
+use Rattle.m36_told.specs.Told.{ToldFields}
+use Rattle.m36_told.specs.Assemblies.{Assembly, with_parts, assembly_by, assembly_of, object_bytes}
+use Rattle.m36_told.specs.Telling.{source_refused, assembly_told, told_by, IsMade, MadeSays}
+
+-- lines that are assembled
+pub made_parts :
+    (name : List ℕ) (source : Source) (given : Result PartsFields AlmFault) (parts : PartsFields) (words object listing : List ℕ) (told : ToldFields)
+    → given ≡ Ok parts → Stands parts words → object ≡ packed words → listing ≡ listing_of name source parts
+    → told ≡ record { sets = record { name = name; content = object } ∷ []; text = listing }
+    → IsMade name told (with_parts source given)
+unfolding object_bytes
+made_parts name source given parts words object listing told is stands packs lists tells =
+    let bytes : object ≡ object_bytes parts = packs ∙ ap packed stands.spelled in
+    record {
+      assembly = record { source = source; parts = parts };
+      is = ap (with_parts source) is;
+      told_is = tells ∙ (λ i. record { sets = record { name = name; content = bytes i } ∷ []; text = lists i });
+    }
+
+-- and lines that are refused
+pub made_refused :
+    (source : Source) (given : Result PartsFields AlmFault) (f : AlmFault) → Refuses f given → Refuses f (with_parts source given)
+made_refused source given (alm.E1 line column) is = ap (with_parts source) is
+made_refused source given (alm.E2 line column) is = ap (with_parts source) is
+made_refused source given (alm.E3 line column) is = ap (with_parts source) is
+made_refused source given (alm.E4 line column) is = ap (with_parts source) is
+made_refused source given (alm.E5 line column) is = ap (with_parts source) is
+made_refused source given (alm.E6 line column) is = ap (with_parts source) is
+made_refused source given (alm.E7 line column) is = ap (with_parts source) is
+made_refused source given (alm.E8 line column) is = ap (with_parts source) is
+made_refused source given alm.NoMemory is = tt
+
+pub ruleset made = (made_parts, made_refused)
+
+-- a text that is read as a source
+pub made_read :
+    (name bytes : List ℕ) (source : Source) (result : Result ToldFields AlmFault)
+    → parsed bytes ≡ Ok source → MadeSays name result (with_parts source (assembled source)) → MadeSays name result (assembly_of bytes)
+unfolding assembly_of
+made_read name bytes source result is says = subst (λ g. MadeSays name result (assembly_by g)) (sym is) says
+
+-- and one that is refused
+pub read_refused :
+    (bytes : List ℕ) (f : AlmFault) → Refuses f (parsed bytes) → Refuses f (assembly_of bytes)
+unfolding assembly_of
+read_refused bytes (alm.E1 line column) is = ap assembly_by is
+read_refused bytes (alm.E2 line column) is = ap assembly_by is
+read_refused bytes (alm.E3 line column) is = ap assembly_by is
+read_refused bytes (alm.E4 line column) is = ap assembly_by is
+read_refused bytes (alm.E5 line column) is = ap assembly_by is
+read_refused bytes (alm.E6 line column) is = ap assembly_by is
+read_refused bytes (alm.E7 line column) is = ap assembly_by is
+read_refused bytes (alm.E8 line column) is = ap assembly_by is
+read_refused bytes alm.NoMemory is = tt
+
+pub ruleset parsing = (made_read, read_refused)
+
+-- the object and the listing are made
+pub told_given :
+    (files : AlmFiles) (given : Result Assembly AlmFault) (told : ToldFields) → IsMade files.object told given → asking.Gives (Ok told) (told_by files given)
+told_given files given told is = ap (told_by files) is.is ∙ ap (λ (t : ToldFields). Ok t) (sym is.told_is)
+
+-- or the source is refused
+refused_by :
+    (files : AlmFiles) (given : Result Assembly AlmFault) (f : AlmFault) (r : Refusal)
+    → given ≡ Err f → asking.Refuses r (source_refused files.source f) → asking.Gives (Err r) (told_by files given)
+refused_by files given f r is refuses =
+    gives_by ToldFields r (source_refused files.source f) (told_by files given) (ap (told_by files) is) refuses
+
+pub told_refused :
+    (files : AlmFiles) (given : Result Assembly AlmFault) (f : AlmFault) (r : Refusal)
+    → Refuses f given → asking.Refuses r (source_refused files.source f) → asking.Gives (Err r) (told_by files given)
+told_refused files given (alm.E1 line column) r is refuses = refused_by files given (alm.E1 line column) r is refuses
+told_refused files given (alm.E2 line column) r is refuses = refused_by files given (alm.E2 line column) r is refuses
+told_refused files given (alm.E3 line column) r is refuses = refused_by files given (alm.E3 line column) r is refuses
+told_refused files given (alm.E4 line column) r is refuses = refused_by files given (alm.E4 line column) r is refuses
+told_refused files given (alm.E5 line column) r is refuses = refused_by files given (alm.E5 line column) r is refuses
+told_refused files given (alm.E6 line column) r is refuses = refused_by files given (alm.E6 line column) r is refuses
+told_refused files given (alm.E7 line column) r is refuses = refused_by files given (alm.E7 line column) r is refuses
+told_refused files given (alm.E8 line column) r is refuses = refused_by files given (alm.E8 line column) r is refuses
+told_refused files given alm.NoMemory r is refuses = memory_given ToldFields r (told_by files given) refuses
+
+pub ruleset answering = (told_given, told_refused)

@@ -1,0 +1,4 @@
+pub mod TextLines
+pub mod SetLaws
+pub mod ToldLaws
+pub mod AlmLaws

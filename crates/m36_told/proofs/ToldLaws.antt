@@ -1,0 +1,90 @@
+-- What is told is written and put.
+use Rattle.std.proofs.Common.{◌≡◌, ℕ, List, Option, Some, Ok, refl, inl, inr}
+use Rattle.m36_outside.specs.Counts.{Rose}
+use Rattle.m36_outside.specs.Written.{Grew, GrewWithin}
+use Rattle.m36_reading.specs.declared.status.Status.TheVariants.{Done, WriteFault, NoMemory}
+use Rattle.m36_reading.specs.Outside.{FolderState, SinkState}
+use Rattle.m36_reading.specs.Doing.{Performs}
+use Rattle.m36_told.specs.Told.{ToldFields, told_answer, told_kind}
+use Rattle.m36_told.specs.Setting.{AllSet, SetFailed, SetWanting}
+
+pub told_done :
+    (told : ToldFields) (f f' : FolderState) (s s' : SinkState)
+    → AllSet told.sets f f' → f'.read_faults ≡ f.read_faults → Grew s.written s'.written told.text → s'.faults ≡ s.faults
+    → Performs told_kind (Ok told) Done (record { folder = f; sink = s }) (record { folder = f'; sink = s' })
+told_done told f f' s s' set unread grew stands = record {
+  given = Ok told;
+  came = refl;
+  due = told_answer told;
+  is_due = refl;
+  made = record {
+    status = refl;
+    files = set.files;
+    text = grew;
+    read_faults = unread;
+    write_faults = set.write_faults;
+    put_faults = stands;
+  };
+}
+
+pub told_cut :
+    (told : ToldFields) (f f' : FolderState) (s s' : SinkState)
+    → AllSet told.sets f f' → f'.read_faults ≡ f.read_faults → GrewWithin s.written s'.written told.text → Rose s.faults s'.faults
+    → Performs told_kind (Ok told) WriteFault (record { folder = f; sink = s }) (record { folder = f'; sink = s' })
+told_cut told f f' s s' set unread grew rose = record {
+  given = told;
+  came = refl;
+  due = told_answer told;
+  is_due = refl;
+  cut = inr (record {
+    files = set.files;
+    text = grew;
+    cause = rose;
+    read_faults = unread;
+    write_faults = set.write_faults;
+  });
+}
+
+pub told_unset :
+    (told : ToldFields) (f f' : FolderState) (s : SinkState)
+    → SetFailed told.sets f f' → f'.read_faults ≡ f.read_faults
+    → Performs told_kind (Ok told) WriteFault (record { folder = f; sink = s }) (record { folder = f'; sink = s })
+told_unset told f f' s failed unread = record {
+  given = told;
+  came = refl;
+  due = told_answer told;
+  is_due = refl;
+  cut = inl (record {
+    before = failed.before;
+    failed = failed.failed;
+    others = failed.others;
+    sets = failed.are;
+    files = failed.files;
+    written = refl;
+    cause = failed.cause;
+    read_faults = unread;
+    put_faults = refl;
+  });
+}
+
+pub told_starved :
+    (told : ToldFields) (f f' : FolderState) (s : SinkState)
+    → SetWanting told.sets f f' → f'.read_faults ≡ f.read_faults
+    → Performs told_kind (Ok told) NoMemory (record { folder = f; sink = s }) (record { folder = f'; sink = s })
+told_starved told f f' s wanting unread = inr (record {
+  given = told;
+  came = refl;
+  wants = record {
+    before = wanting.before;
+    next = wanting.next;
+    others = wanting.others;
+    sets = wanting.are;
+    files = wanting.files;
+    written = refl;
+    write_faults = wanting.write_faults;
+    put_faults = refl;
+  };
+  read_faults = unread;
+})
+
+pub ruleset telling = (told_done, told_cut, told_unset, told_starved)

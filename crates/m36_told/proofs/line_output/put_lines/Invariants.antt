@@ -1,0 +1,15 @@
+use Rattle.std.proofs.Common.{◌≡◌, length}
+use Rattle.m36_outside.proofs.Completes.{Completes}
+use Rattle.m36_told.proofs.line_output.put_lines.Given as goal
+
+abbrev pub decreases-lines : goal.decreases-lines
+decreases-lines g l = length l.rest
+
+abbrev pub invariant-lines : goal.invariant-lines
+invariant-lines g l =
+    let written = g.S.Sink.written in
+    let faults = g.S.Sink.faults in
+    record {
+      text : Completes (written l.out) (written l.fn.out) l.rest l.text;
+      faults : faults l.out ≡ faults l.fn.out;
+    }

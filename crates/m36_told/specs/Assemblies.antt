@@ -1,0 +1,30 @@
+-- What `alm` makes of a source.
+use Rattle.std.specs.Prelude.{ℕ, ◌≡◌, List, Result, Ok, Err}
+use Rattle.m36_text.specs.Packing.{packed}
+use Rattle.alm_parse.specs.SourceFields.{Source}
+use Rattle.alm_parse.specs.Sources.{parsed}
+use Rattle.alm_parse.specs.declared.fault.AlmFault.{AlmFault}
+use Rattle.alm_asm.specs.Assembly.{assembled}
+use Rattle.obj36_parts.specs.PartsFields.{PartsFields}
+use Rattle.obj36_parts.specs.ObjectSegment.{words_of}
+
+-- a source in its lines, and the parts of the object that it means
+pub record Assembly : Type 0 where
+  pub source : Source
+  pub parts : PartsFields
+
+abbrev pub with_parts : Source → Result PartsFields AlmFault → Result Assembly AlmFault
+with_parts source (Ok parts) = Ok (record { source = source; parts = parts })
+with_parts source (Err fault) = Err fault
+
+-- The text is read as a source first, and the source assembled then: the first refusal counts.
+abbrev pub assembly_by : Result Source AlmFault → Result Assembly AlmFault
+assembly_by (Ok source) = with_parts source (assembled source)
+assembly_by (Err fault) = Err fault
+
+unfoldable pub assembly_of : List ℕ → Result Assembly AlmFault
+assembly_of bytes = assembly_by (parsed bytes)
+
+-- the bytes of an object: its words, packed
+unfoldable pub object_bytes : PartsFields → List ℕ
+object_bytes parts = packed (words_of parts)

@@ -1,0 +1,4 @@
+pub mod Assemblies
+pub mod Told
+pub mod Telling
+pub mod Setting

@@ -1,0 +1,66 @@
+-- What the commands `print NAME` and `alm NAME` tell, by what they read.
+use Rattle.std.specs.Prelude.{ℕ, ◌≡◌, List, [], ◌∷◌, Result, Ok, Err}
+use Rattle.alm_parse.specs.Sources.{Refuses}
+use Rattle.alm_parse.specs.declared.fault.AlmFault.{AlmFault}
+use Rattle.alm_parse.specs.declared.fault.AlmFault.TheVariants as alm
+use Rattle.obj36_parts.specs.PartsFields.{PartsFields}
+use Rattle.m36_list.specs.Print.{print_of}
+use Rattle.m36_list.specs.Listing.{listing_of}
+use Rattle.m36_reading.specs.declared.status.Code.TheVariants as code
+use Rattle.m36_reading.specs.declared.refusal.Refusal.{Refusal}
+use Rattle.m36_reading.specs.declared.refusal.Refusal.TheVariants.{NoMemory}
+use Rattle.m36_reading.specs.Reading.{Reading, decided, Early, then_with}
+use Rattle.m36_reading.specs.Readers.{refused_at, file_bytes, file_object}
+use Rattle.m36_told.specs.declared.assembling.AlmFiles.{AlmFiles}
+use Rattle.m36_told.specs.Told.{ToldFields}
+use Rattle.m36_told.specs.Assemblies.{Assembly, assembly_of, object_bytes}
+
+-- ---- `print NAME`
+
+abbrev pub printed : List ℕ → PartsFields → ToldFields
+printed name parts = record { sets = []; text = print_of name parts }
+
+unfoldable pub print_reads : List ℕ → Reading (Early ToldFields)
+print_reads name = then_with (file_object name) (λ parts. decided (Ok (printed name parts)))
+
+-- ---- `alm NAME`
+
+-- a source that is refused, at a line and a column
+abbrev pub source_refused : List ℕ → AlmFault → Refusal
+source_refused name (alm.E1 line column) = refused_at name code.E1 line column
+source_refused name (alm.E2 line column) = refused_at name code.E2 line column
+source_refused name (alm.E3 line column) = refused_at name code.E3 line column
+source_refused name (alm.E4 line column) = refused_at name code.E4 line column
+source_refused name (alm.E5 line column) = refused_at name code.E5 line column
+source_refused name (alm.E6 line column) = refused_at name code.E6 line column
+source_refused name (alm.E7 line column) = refused_at name code.E7 line column
+source_refused name (alm.E8 line column) = refused_at name code.E8 line column
+source_refused name alm.NoMemory = NoMemory
+
+-- the object is written, and then the listing is put
+abbrev pub assembly_told : List ℕ → Assembly → ToldFields
+assembly_told name a =
+    record {
+      sets = record { name = name; content = object_bytes a.parts } ∷ [];
+      text = listing_of name a.source a.parts;
+    }
+
+abbrev pub told_by : AlmFiles → Result Assembly AlmFault → Early ToldFields
+told_by files (Ok a) = Ok (assembly_told files.object a)
+told_by files (Err fault) = Err (source_refused files.source fault)
+
+unfoldable pub alm_reads : AlmFiles → Reading (Early ToldFields)
+alm_reads files =
+    then_with (file_bytes files.source) (λ bytes. decided (told_by files (assembly_of bytes)))
+
+-- ---- what the parts of `alm` say
+
+-- the object and the listing of what a source means
+pub record IsMade (name : List ℕ) (told : ToldFields) (given : Result Assembly AlmFault) : Type 0 where
+  pub assembly : Assembly
+  pub is : given ≡ Ok assembly
+  pub told_is : told ≡ assembly_told name assembly
+
+abbrev pub MadeSays : List ℕ → Result ToldFields AlmFault → Result Assembly AlmFault → Type 0
+MadeSays name (Ok told) given = IsMade name told given
+MadeSays name (Err fault) given = Refuses fault given

@@ -1,0 +1,89 @@
+-- A command is performed by what performs its kind.
+use Rattle.std.proofs.Common.{◌≡◌, ℕ, List, Option, Some, None, refl, sym, subst, ◌∙◌}
+use Rattle.std.specs.Prelude.{◌↔◌}
+use Rattle.m36_model.specs.Store.{State}
+use Rattle.m36_reading.specs.declared.status.Status.{Status}
+use Rattle.m36_reading.specs.declared.status.Status.TheVariants.{Usage}
+use Rattle.m36_reading.specs.Reading.{Reading, Early}
+use Rattle.m36_reading.specs.Asking.{Asked, Comes}
+use Rattle.m36_reading.specs.Outside.{Outside}
+use Rattle.m36_reading.specs.Ends.{end_of}
+use Rattle.m36_reading.specs.Doing.{EndsBy, Does}
+use Rattle.m36_reading.proofs.EndLaws.{IsKindOf, does_mapped}
+use Rattle.m36_told.specs.declared.assembling.AlmFiles.{AlmFiles}
+use Rattle.m36_told.specs.Told.{ToldFields, told_kind}
+use Rattle.m36_told.specs.Telling.{print_reads, alm_reads}
+use Rattle.m36_ran.specs.declared.command.ImageCommand.{ImageCommand}
+use Rattle.m36_ran.specs.Ran.{image_file, state_reads, state_kind}
+use Rattle.m36_top.specs.declared.command.Command.{Command}
+use Rattle.m36_top.specs.declared.command.Command.TheVariants.{OfImage, Print, Alm}
+use Rattle.m36_top.specs.Dues.{Due, Told, Image, due_kind}
+use Rattle.m36_top.specs.Commands.{reads}
+use Rattle.m36_top.specs.TopCall.{TopSays, IsUnasked}
+
+-- ---- the kinds
+
+told_is : IsKindOf told_kind due_kind Told
+told_is = record { due = λ told due is. is; wants = λ told old new wants. wants }
+
+image_is : (command : ImageCommand) → IsKindOf (state_kind command) due_kind (λ state. Image (record { command = command; state = state }))
+image_is command = record { due = λ state due is. is; wants = λ state old new wants. wants }
+
+pub performs_image :
+    (command : ImageCommand) (result : Status) (old new : Outside) (before after : List Asked)
+    → Does (state_kind command) (state_reads (image_file command)) result old new before after
+    → Does due_kind (reads (OfImage command)) result old new before after
+unfolding reads
+performs_image command result old new before after does =
+    does_mapped (state_kind command) due_kind (λ state. Image (record { command = command; state = state })) (state_reads (image_file command)) result old new before after (image_is command) does
+
+pub performs_print :
+    (name lent : List ℕ) (result : Status) (old new : Outside) (before after : List Asked)
+    → lent ≡ name → Does told_kind (print_reads lent) result old new before after
+    → Does due_kind (reads (Print name)) result old new before after
+unfolding reads
+performs_print name lent result old new before after is does =
+    does_mapped told_kind due_kind Told (print_reads name) result old new before after told_is (subst (λ n. Does told_kind (print_reads n) result old new before after) is does)
+
+pub performs_alm :
+    (files : AlmFiles) (result : Status) (old new : Outside) (before after : List Asked)
+    → Does told_kind (alm_reads files) result old new before after
+    → Does due_kind (reads (Alm files)) result old new before after
+unfolding reads
+performs_alm files result old new before after does =
+    does_mapped told_kind due_kind Told (alm_reads files) result old new before after told_is does
+
+pub ruleset performing = (performs_image, performs_print, performs_alm)
+
+-- ---- whether the words are a command
+
+never_usage :
+    (p : Reading (Early Due)) (result : Status) (old new : Outside) (before after : List Asked)
+    → Does due_kind p result old new before after → result ≡ Usage → ⊥
+never_usage p result old new before after does is = subst (λ r. EndsBy due_kind (Comes p does.asked) (end_of r) r old new) is does.ends
+
+pub some_usage :
+    (asked : Option Command) (command : Command) (result : Status) (old new : Outside) (before after : List Asked)
+    → Some command ≡ asked → Does due_kind (reads command) result old new before after → (result ≡ Usage) ↔ (asked ≡ None)
+some_usage asked command result old new before after is does =
+    (λ e. absurd (never_usage (reads command) result old new before after does e), λ none. let e : Some command ≡ None = is ∙ none in absurd (cc))
+
+pub some_says :
+    (asked : Option Command) (command : Command) (result : Status) (old new : Outside) (before after : List Asked)
+    → Some command ≡ asked → Does due_kind (reads command) result old new before after
+    → TopSays asked result old new before after
+some_says asked command result old new before after is does =
+    subst (λ a. TopSays a result old new before after) is does
+
+pub none_says :
+    (asked : Option Command) (old : Outside) (before : List Asked)
+    → None ≡ asked → TopSays asked Usage old old before before
+none_says asked old before is =
+    let idle : IsUnasked Usage old old = record {
+      usage = refl;
+      idle = record { files = refl; write_faults = refl; written = refl; put_faults = refl };
+      read_faults = refl;
+    } in
+    subst (λ a. TopSays a Usage old old before before) is (idle, refl)
+
+pub ruleset asking = (some_usage, some_says, none_says)

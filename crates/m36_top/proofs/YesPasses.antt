@@ -1,0 +1,130 @@
+-- Where `audit yes` is written, the image passes its audit.
+use Rattle.std.proofs.Common.{◌≡◌, ℕ, ◌+◌, ◌⊎◌, List, [], ◌∷◌, ◌++◌, length, Option, Some, None, Result, Ok, Err, refl, sym, ap, subst, ◌∙◌, arith, append_assoc, length-append, inl, inr}
+use Rattle.std.specs.Prelude.{IfSome}
+use Rattle.m36_outside.specs.Files.{Files}
+use Rattle.m36_outside.specs.Written.{appended, Grew, GrewWithin}
+use Rattle.m36_outside.specs.declared.folder.ReadAnswer.{ReadAnswer}
+use Rattle.m36_outside.specs.declared.folder.ReadAnswer.TheVariants as read
+use Rattle.m36_reading.specs.declared.status.Status.{Status}
+use Rattle.m36_reading.specs.Reading.{Found, Content, Absent, TooLarge, Reading, decided, asks, Early, outcome_in}
+use Rattle.m36_reading.specs.Asking.{Asked, Coming, Came, GoesOn, Comes, ComesIn}
+use Rattle.m36_reading.specs.Answers.{Answer, IsDueBy}
+use Rattle.m36_reading.specs.Outside.{Outside}
+use Rattle.m36_reading.specs.Ends.{End, Answered, Cut, Unread, Starved, Unasked, end_of}
+use Rattle.m36_reading.specs.Doing.{IsUnset, IsUnput, EndsBy, Does}
+use Rattle.m36_ran.specs.AuditText.{yes_line}
+use Rattle.m36_ran.specs.Ran.{PassesAudit}
+use Rattle.m36_ran.proofs.YesAnswers.{yes_passes}
+use Rattle.m36_top.specs.declared.command.Command.{Command}
+use Rattle.m36_top.specs.Dues.{Due, Told, Image, IsDueOf, WantsOf, due_kind, audited}
+use Rattle.m36_top.specs.Commands.{reads}
+use Rattle.m36_top.specs.TopCall.{SaysYes, YesPasses, AnswersPass}
+
+-- a text begins with the line `audit yes`
+abbrev Begins : List ℕ → Type 0
+Begins text = (rest : List ℕ) × (text ≡ yes_line ++ rest)
+
+cancel : (xs ys zs : List ℕ) → xs ++ ys ≡ xs ++ zs → ys ≡ zs
+cancel [] ys zs e = e
+cancel (x ∷ xs) ys zs e = cancel xs ys zs (cc)
+
+some_same : (xs ys : List ℕ) → Some xs ≡ Some ys → xs ≡ ys
+some_same xs ys e = cc
+
+-- nothing written is no line
+pub yes_nothing : (old new : Option (List ℕ)) → new ≡ old → SaysYes old new → ⊥
+yes_nothing old new same told_yes =
+    let e : told_yes.before ≡ told_yes.before ++ (yes_line ++ told_yes.rest) = some_same _ _ (sym told_yes.was ∙ sym same ∙ told_yes.is) in
+    let l : length (yes_line ++ told_yes.rest) ≡ 10 + length told_yes.rest = length-append yes_line told_yes.rest in
+    absurd (omega (arith, ap length e, length-append told_yes.before (yes_line ++ told_yes.rest), l))
+
+-- what was written begins with it
+yes_grew : (old new : Option (List ℕ)) (text : List ℕ) → Grew old new text → SaysYes old new → Begins text
+yes_grew old new text grew told_yes =
+    let e : Some (told_yes.before ++ text) ≡ Some (told_yes.before ++ (yes_line ++ told_yes.rest)) = sym (ap (appended text) told_yes.was) ∙ sym grew ∙ told_yes.is in
+    (told_yes.rest, cancel told_yes.before text (yes_line ++ told_yes.rest) (some_same _ _ e))
+
+yes_grew_within : (old new : Option (List ℕ)) (text : List ℕ) → GrewWithin old new text → SaysYes old new → Begins text
+yes_grew_within old new text cut told_yes =
+    let b = yes_grew old new cut.part cut.grew told_yes in
+    (b.0 ++ cut.rest, cut.whole ∙ ap (λ t. t ++ cut.rest) b.1 ∙ append_assoc yes_line b.0 cut.rest)
+
+-- an answer is due that begins so
+due_passes : (d : Due) (due : Answer) → IsDueOf d due → Begins due.text → IfSome (audited d) PassesAudit
+due_passes (Told told) due is begins = tt
+due_passes (Image image) due is begins = yes_passes image.command image.state due begins.0 is begins.1
+
+nothing_begins : (rest : List ℕ) → [] ≡ yes_line ++ rest → ⊥
+nothing_begins rest e = cc
+
+idle_passes : (given : Early Due) (old new : Outside) → new.sink.written ≡ old.sink.written → YesPasses given old new
+idle_passes (Ok d) old new same = λ told_yes. absurd (yes_nothing old.sink.written new.sink.written same told_yes)
+idle_passes (Err r) old new same = yes_nothing old.sink.written new.sink.written same
+
+made_passes :
+    (given : Early Due) (due : Answer) (old new : Outside)
+    → IsDueBy IsDueOf given due → Grew old.sink.written new.sink.written due.text → YesPasses given old new
+made_passes (Ok d) due old new is grew = λ told_yes. due_passes d due is (yes_grew old.sink.written new.sink.written due.text grew told_yes)
+made_passes (Err r) due old new is grew = λ told_yes.
+    let b = yes_grew old.sink.written new.sink.written due.text grew told_yes in
+    nothing_begins b.0 (sym (ap (λ (d : Answer). d.text) is) ∙ b.1)
+
+cut_passes :
+    (d : Due) (due : Answer) (old new : Outside)
+    → IsDueOf d due → IsUnset due old new ⊎ IsUnput due old new → YesPasses (Ok d) old new
+cut_passes d due old new is (inl unset) = idle_passes (Ok d) old new unset.written
+cut_passes d due old new is (inr unput) = λ told_yes. due_passes d due is (yes_grew_within old.sink.written new.sink.written due.text unput.text told_yes)
+
+wants_passes : (d : Due) (given : Early Due) (old new : Outside) → WantsOf d old new → YesPasses given old new
+wants_passes (Told told) given old new w = idle_passes given old new w.written
+wants_passes (Image image) given old new w = idle_passes given old new w.written
+
+-- by what a reading came to
+pub ends_pass_by :
+    (Is : Coming (Early Due) → Type 0) (given : Early Due) (end : End) (result : Status) (old new : Outside)
+    → ((other : Early Due) → Is (Came other) → given ≡ other)
+    → EndsBy due_kind Is end result old new → YesPasses given old new
+ends_pass_by Is given Answered result old new same e =
+    subst (λ o. YesPasses o old new) (sym (same e.given e.came)) (made_passes e.given e.due old new e.is_due e.made.text)
+ends_pass_by Is given Cut result old new same e =
+    subst (λ o. YesPasses o old new) (sym (same (Ok e.given) e.came)) (cut_passes e.given e.due old new e.is_due e.cut)
+ends_pass_by Is given Unread result old new same e = idle_passes given old new e.idle.written
+ends_pass_by Is given Starved result old new same (inl e) = idle_passes given old new e.idle.written
+ends_pass_by Is given Starved result old new same (inr e) = wants_passes e.given given old new e.wants
+ends_pass_by Is given Unasked result old new same e = absurd e
+
+pub ends_pass :
+    (command : Command) (files : Files) (end : End) (result : Status) (old new : Outside)
+    → EndsBy due_kind (ComesIn files (reads command)) end result old new → YesPasses (outcome_in files (reads command)) old new
+ends_pass command files end result old new e =
+    ends_pass_by (ComesIn files (reads command)) (outcome_in files (reads command)) end result old new (λ other came. came) e
+
+-- a reading comes to one end by the same answers
+goes_one :
+    {A : Type 0} (answer : ReadAnswer) (go : Found → Reading A) (asked : List Asked) (a b : A)
+    → ((found : Found) → Comes (go found) asked (Came a) → Comes (go found) asked (Came b) → a ≡ b)
+    → GoesOn answer (λ found. Comes (go found) asked (Came a)) asked (Came a)
+    → GoesOn answer (λ found. Comes (go found) asked (Came b)) asked (Came b) → a ≡ b
+goes_one (read.Read bytes) go asked a b on x y = on (Content bytes) x y
+goes_one read.Absent go asked a b on x y = on Absent x y
+goes_one read.TooLarge go asked a b on x y = on TooLarge x y
+goes_one read.Failed go asked a b on x y = absurd x.1
+goes_one read.NoMemory go asked a b on x y = absurd x.1
+
+comes_one : {A : Type 0} (p : Reading A) (asked : List Asked) (a b : A) → Comes p asked (Came a) → Comes p asked (Came b) → a ≡ b
+comes_one (decided c) [] a b x y = sym x ∙ y
+comes_one (decided c) (ask ∷ asked) a b x y = absurd x
+comes_one (asks name go) [] a b x y = absurd x
+comes_one (asks name go) (ask ∷ asked) a b x y =
+    goes_one ask.1 go asked a b (λ found x y. comes_one (go found) asked a b x y) x.1 y.1
+
+pub does_pass :
+    (command : Command) (result : Status) (old new : Outside) (before after : List Asked)
+    → Does due_kind (reads command) result old new before after → AnswersPass command old new before after
+does_pass command result old new before after does = record {
+  asked = does.asked;
+  passed = does.passed;
+  passes = λ given came.
+      ends_pass_by (Comes (reads command) does.asked) given (end_of result) result old new
+      (λ other came'. comes_one (reads command) does.asked given other came came') does.ends;
+}

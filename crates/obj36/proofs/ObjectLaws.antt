@@ -1,0 +1,51 @@
+-- What is read is the object of the list.
+use Rattle.std.proofs.Common.{ℕ, ◌≡◌, Bool, true, false, ◌&&◌, List, Option, Some, None, Ok, Err, sym, ap, ◌∙◌}
+use Rattle.std.proofs.lemmas.Bool.{cond-true, cond-false, and_from, and_left, and_right}
+use Rattle.obj36_parts.specs.Names.{same}
+use Rattle.obj36_parts.specs.PartsFields.{PartsFields}
+use Rattle.obj36_parts.specs.ObjectSegment.{words_of, is_well_formed, Stands}
+use Rattle.obj36.specs.Reading.{parts_of}
+use Rattle.obj36.specs.Faults.{first_fault}
+use Rattle.obj36.specs.ObjectOf.{value_of, or_fault, object_of, IsObjectOf}
+use Rattle.obj36.specs.declared.fault.ObjectFault.{ObjectFault}
+use Rattle.obj36.specs.declared.fault.ObjectFault.TheVariants.{O1, O2, O3, O4, O5, O6, O7, O8, NoMemory}
+
+pub no_value_of : (words : List ℕ) (parts : PartsFields) (b : Bool) → parts ≡ parts_of words → b ≡ is_well_formed parts → b ≡ false → None ≡ value_of words
+unfolding value_of
+no_value_of words parts b e f bad =
+    sym (cond-false (is_well_formed (parts_of words) && same (words_of (parts_of words)) words) (Some (parts_of words)) None
+    (and_left (is_well_formed (parts_of words)) (same (words_of (parts_of words)) words) (ap is_well_formed (sym e) ∙ sym f ∙ bad)))
+
+pub other_value : (words written : List ℕ) (parts : PartsFields) (b : Bool) → parts ≡ parts_of words → Stands parts written → b ≡ same written words → b ≡ false → None ≡ value_of words
+unfolding value_of
+other_value words written parts b e t f other =
+    sym (cond-false (is_well_formed (parts_of words) && same (words_of (parts_of words)) words) (Some (parts_of words)) None
+    (and_right (is_well_formed (parts_of words)) (same (words_of (parts_of words)) words)
+    (ap (λ (p : PartsFields). same (words_of p) words) (sym e) ∙ ap (λ (ws : List ℕ). same ws words) (sym t.spelled) ∙ sym f ∙ other)))
+
+pub own_value : (words written : List ℕ) (parts : PartsFields) (b : Bool) → parts ≡ parts_of words → Stands parts written → b ≡ same written words → b ≡ true → Some parts ≡ value_of words
+unfolding value_of
+own_value words written parts b e t f alike =
+    ap Some e
+    ∙ sym (cond-true (is_well_formed (parts_of words) && same (words_of (parts_of words)) words) (Some (parts_of words)) None
+    (and_from (is_well_formed (parts_of words)) (same (words_of (parts_of words)) words) (ap is_well_formed (sym e) ∙ t.formed)
+    (ap (λ (p : PartsFields). same (words_of p) words) (sym e) ∙ ap (λ (ws : List ℕ). same ws words) (sym t.spelled) ∙ sym f ∙ alike)))
+
+pub object_there : (words : List ℕ) (parts : PartsFields) → Some parts ≡ value_of words → IsObjectOf words (Ok parts)
+unfolding object_of
+object_there words parts e = ap (λ (v : Option PartsFields). or_fault v (first_fault words)) (sym e)
+
+fault_is : (words : List ℕ) (f : ObjectFault) → f ≡ first_fault words → None ≡ value_of words → object_of words ≡ Err f
+unfolding object_of
+fault_is words f e none = ap (λ (v : Option PartsFields). or_fault v (first_fault words)) (sym none) ∙ ap Err (sym e)
+
+pub object_refused : (words : List ℕ) (f : ObjectFault) → f ≡ first_fault words → None ≡ value_of words → IsObjectOf words (Err f)
+object_refused words (O1 place) e none = fault_is words (O1 place) e none
+object_refused words (O2 place) e none = fault_is words (O2 place) e none
+object_refused words (O3 place) e none = fault_is words (O3 place) e none
+object_refused words (O4 place) e none = fault_is words (O4 place) e none
+object_refused words (O5 place) e none = fault_is words (O5 place) e none
+object_refused words (O6 place) e none = fault_is words (O6 place) e none
+object_refused words (O7 place) e none = fault_is words (O7 place) e none
+object_refused words (O8 place) e none = fault_is words (O8 place) e none
+object_refused words NoMemory e none = tt

@@ -1,0 +1,35 @@
+-- The object for which a list of words stands, or its first fault.
+use Rattle.std.specs.Prelude.{ℕ, ◌≡◌, ◌&&◌, nat_eq, if◌then◌else◌, List, Option, Some, None, Result, Ok, Err}
+use Rattle.std.specs.Cmp.Lexicographic.{pointwise}
+use Rattle.obj36_parts.specs.PartsFields.{PartsFields}
+use Rattle.obj36_parts.specs.ObjectSegment.{words_of, is_well_formed}
+use Rattle.obj36.specs.Reading.{parts_of}
+use Rattle.obj36.specs.Faults.{first_fault}
+use Rattle.obj36.specs.declared.fault.ObjectFault.{ObjectFault}
+use Rattle.obj36.specs.declared.fault.ObjectFault.TheVariants.{O1, O2, O3, O4, O5, O6, O7, O8, NoMemory}
+
+-- the value for which a list stands, if there is one: the parts that it would spell, where they spell it
+unfoldable pub value_of : List ℕ → Option PartsFields
+value_of words =
+    let parts = parts_of words in
+    if is_well_formed parts && pointwise nat_eq (words_of parts) words then Some parts else None
+
+abbrev pub or_fault : Option PartsFields → ObjectFault → Result PartsFields ObjectFault
+or_fault (Some parts) fault = Ok parts
+or_fault None fault = Err fault
+
+unfoldable pub object_of : List ℕ → Result PartsFields ObjectFault
+object_of words = or_fault (value_of words) (first_fault words)
+
+-- What was read is the object of the list; want of memory may come at any time.
+abbrev pub IsObjectOf : List ℕ → Result PartsFields ObjectFault → Type 0
+IsObjectOf words (Ok p) = object_of words ≡ Ok p
+IsObjectOf words (Err (O1 place)) = object_of words ≡ Err (O1 place)
+IsObjectOf words (Err (O2 place)) = object_of words ≡ Err (O2 place)
+IsObjectOf words (Err (O3 place)) = object_of words ≡ Err (O3 place)
+IsObjectOf words (Err (O4 place)) = object_of words ≡ Err (O4 place)
+IsObjectOf words (Err (O5 place)) = object_of words ≡ Err (O5 place)
+IsObjectOf words (Err (O6 place)) = object_of words ≡ Err (O6 place)
+IsObjectOf words (Err (O7 place)) = object_of words ≡ Err (O7 place)
+IsObjectOf words (Err (O8 place)) = object_of words ≡ Err (O8 place)
+IsObjectOf words (Err NoMemory) = Unit {0}

@@ -1,0 +1,5 @@
+use Rattle.obj36_parts.proofs.NamePlaces.{nothing_laid}
+use Rattle.obj36_parts.proofs.names.NameTable.new.Goals as goal
+
+pub invariant_of-result : goal.invariant_of-result
+invariant_of-result c = nothing_laid c.new.result.entries c.args.base c.new.ensures.empty c.requires

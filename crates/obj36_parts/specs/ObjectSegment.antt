@@ -1,0 +1,258 @@
+-- Object segments: the one list of words that stands for an object's parts. Version 1 has its static words in the
+-- linkage section, version 2 in a section of their own.
+use Rattle.std.specs.Prelude.{ℕ, zero, suc, ◌≡◌, ◌+◌, ◌-◌, ◌*◌, ◌%◌, ◌^◌, Bool, true, false, ◌&&◌, ◌||◌, not, nat_eq, nat_lt, nat_le, if◌then◌else◌, List, [], ◌∷◌, ◌++◌, length, Option, Some, None}
+use Rattle.std.specs.List.{list_any, list_all}
+use Rattle.obj36_parts.specs.Fields.{DefFields, LinkFields, RelocFields}
+use Rattle.obj36_parts.specs.PartsFields.{PartsFields}
+use Rattle.obj36_parts.specs.Halves.{joined}
+use Rattle.obj36_parts.specs.Names.{same, is_name, with_names, place_of, all_name_words}
+use Rattle.obj36_parts.specs.declared.section.Section.{Section}
+use Rattle.obj36_parts.specs.declared.section.Section.TheVariants.{Text, Linkage, Symbol, Static}
+use Rattle.obj36_parts.specs.declared.definition.Named.{Named}
+
+-- ---- numbers of sections
+
+-- the class of a definition in a section
+abbrev pub class_number : Section → ℕ
+class_number Text = 0
+class_number Linkage = 1
+class_number Symbol = 2
+class_number Static = 3
+
+-- the number of a section in links and relocations, where the symbol section never stands
+abbrev pub place_number : Section → ℕ
+place_number Text = 0
+place_number Linkage = 1
+place_number Static = 2
+place_number Symbol = 3
+
+-- ---- what is written where
+
+-- whether the parts have a static section of their own
+abbrev pub is_newer : PartsFields → Bool
+is_newer p = nat_eq p.version 2
+
+-- the static words of the linkage section, and those of the static section
+abbrev pub inner_statics : PartsFields → List ℕ
+inner_statics p = if is_newer p then [] else p.statics
+
+abbrev pub outer_statics : PartsFields → List ℕ
+outer_statics p = if is_newer p then p.statics else []
+
+-- which link types have a name, an entry, or a section
+abbrev pub has_name : ℕ → Bool
+has_name kind = nat_eq kind 3 || nat_eq kind 4
+
+abbrev pub has_entry : ℕ → Bool
+has_entry kind = nat_eq kind 4 || nat_eq kind 5
+
+abbrev pub has_section : ℕ → Bool
+has_section kind = nat_eq kind 1 || nat_eq kind 5
+
+-- a place, or 0 where nothing stands there
+unfoldable pub place_if_any : ℕ → ℕ → ℕ
+place_if_any zero at = 0
+place_if_any (suc count) at = at
+
+-- ---- the definition section
+
+-- the names that a link uses, in order
+unfoldable pub name_used : LinkFields → List (List ℕ)
+name_used l = if has_name l.kind then l.name ∷ [] else []
+
+unfoldable pub entry_used : LinkFields → List (List ℕ)
+entry_used l = if has_entry l.kind then l.entry ∷ [] else []
+
+unfoldable pub link_names : LinkFields → List (List ℕ)
+link_names l = name_used l ++ entry_used l
+
+unfoldable pub definition_names : List Named → List (List ℕ)
+definition_names [] = []
+definition_names (d ∷ ds) = d.name ∷ definition_names ds
+
+unfoldable pub all_link_names : List LinkFields → List (List ℕ)
+all_link_names [] = []
+all_link_names (l ∷ ls) = link_names l ++ all_link_names ls
+
+unfoldable pub class_of : DefFields → ℕ
+class_of d = class_number d.section + (if d.is_entry then 8 else 0)
+
+-- definitions from a place on: the place of the next and the class, the value and the place of the name
+unfoldable pub definition_words : List (List ℕ) → ℕ → List Named → ℕ → List ℕ
+definition_words names base [] at = []
+definition_words names base (d ∷ ds) at =
+    joined (place_if_any (length ds) (at + 2)) (class_of d.def) ∷ joined d.def.value (place_of d.name names base) ∷ definition_words names base ds (at + 2)
+
+-- an expression: the type and its section or the place of its name, the place of its entry and its number
+unfoldable pub subject_of : List (List ℕ) → ℕ → LinkFields → ℕ
+subject_of names base l = if has_name l.kind then place_of l.name names base else place_number l.section
+
+unfoldable pub entry_place : List (List ℕ) → ℕ → LinkFields → ℕ
+entry_place names base l = if has_entry l.kind then place_of l.entry names base else 0
+
+unfoldable pub expression_words : List (List ℕ) → ℕ → List LinkFields → List ℕ
+expression_words names base [] = []
+expression_words names base (l ∷ ls) = joined l.kind (subject_of names base l) ∷ joined (entry_place names base l) l.expr ∷ expression_words names base ls
+
+-- the section of these definitions and links: its names stand once each, in order of first use
+unfoldable pub definition_part : List Named → List LinkFields → List ℕ
+definition_part ds ls =
+    let names = with_names [] (definition_names ds ++ all_link_names ls) in
+    let expressions = 2 + 2 * length ds in
+    let base = expressions + 2 * length ls in
+    joined (place_if_any (length ds) 2) (length ds)
+    ∷ joined (place_if_any (length ls) expressions) (length ls)
+    ∷ definition_words names base ds 2
+    ++ expression_words names base ls
+    ++ all_name_words names
+
+unfoldable pub definition_section : PartsFields → List ℕ
+definition_section p = definition_part p.definitions p.links
+
+-- ---- the linkage section
+
+-- a link: 2^18 less its offset with tag 46, the place of its expression with its modifier
+unfoldable pub link_words : List LinkFields → ℕ → ℕ → List ℕ
+link_words [] at expression = []
+link_words (l ∷ ls) at expression = joined (2 ^ 18 - at) 38 ∷ joined expression l.modifier ∷ link_words ls (at + 2) (expression + 2)
+
+-- eight header words, static words, and the links, whose expressions stand from a place on
+unfoldable pub linkage_part : List ℕ → List LinkFields → ℕ → List ℕ
+linkage_part statics ls expressions =
+    0 ∷ joined (8 + length statics) (length ls) ∷ 0 ∷ 0 ∷ 0 ∷ 0 ∷ 0 ∷ 0 ∷ statics
+    ++ link_words ls (8 + length statics) expressions
+
+unfoldable pub linkage_section : PartsFields → List ℕ
+linkage_section p = linkage_part (inner_statics p) p.links (2 + 2 * length p.definitions)
+
+-- ---- the symbol section
+
+unfoldable pub relocation_word : RelocFields → ℕ
+relocation_word r = joined r.offset (place_number r.section * 2 ^ 15 + r.part * 2 ^ 12 + place_number r.target * 2 ^ 9)
+
+unfoldable pub relocation_words : List RelocFields → List ℕ
+relocation_words [] = []
+relocation_words (r ∷ rs) = relocation_word r ∷ relocation_words rs
+
+-- the count of the relocations, and each
+unfoldable pub symbol_part : List RelocFields → List ℕ
+symbol_part rs = joined 0 (length rs) ∷ relocation_words rs
+
+unfoldable pub symbol_section : PartsFields → List ℕ
+symbol_section p = symbol_part p.relocations
+
+-- ---- the map and the last word
+
+-- The map of sections of these lengths that follow one another: the version, the offset and length of each section, and
+-- the entry bound; behind it the last word, with the offset of the map.
+unfoldable pub map_part : Bool → ℕ → ℕ → ℕ → ℕ → ℕ → ℕ → List ℕ
+map_part newer text definition linkage statics symbol bound =
+    joined 0 (if newer then 2 else 1)
+    ∷ joined 0 text
+    ∷ joined text definition
+    ∷ joined (text + definition) linkage
+    ∷ (if newer then joined (text + definition + linkage) statics ∷ [] else [])
+    ++ joined (text + definition + linkage + statics) symbol
+    ∷ joined bound 0
+    ∷ joined (text + definition + linkage + statics + symbol) 0
+    ∷ []
+
+unfoldable pub map_words : PartsFields → List ℕ
+map_words p =
+    map_part (is_newer p) (length p.text) (length (definition_section p)) (length (linkage_section p)) (length (outer_statics p)) (length (symbol_section p)) p.entry_bound
+
+-- the one list of words of an object's parts
+unfoldable pub words_of : PartsFields → List ℕ
+words_of p = p.text ++ definition_section p ++ linkage_section p ++ outer_statics p ++ symbol_section p ++ map_words p
+
+-- the words of a section
+abbrev pub section_words : PartsFields → Section → List ℕ
+section_words p Text = p.text
+section_words p Linkage = linkage_section p
+section_words p Symbol = symbol_section p
+section_words p Static = outer_statics p
+
+-- ---- for which parts a list stands
+
+-- whether each name stands once
+unfoldable pub are_distinct : List (List ℕ) → Bool
+are_distinct [] = true
+are_distinct (name ∷ names) = not (list_any (same name) names) && are_distinct names
+
+-- the greatest class, and the greatest number of a section in links and relocations
+abbrev pub last_class : ℕ → ℕ
+last_class version = if nat_eq version 2 then 3 else 2
+
+abbrev pub last_place : ℕ → ℕ
+last_place version = if nat_eq version 2 then 2 else 1
+
+unfoldable pub is_definition : ℕ → Named → Bool
+is_definition version d = is_name d.name && nat_lt d.def.value (2 ^ 18) && nat_le (class_number d.def.section) (last_class version)
+
+-- The fields that a link's type does not use are the section text or an empty name.
+unfoldable pub is_link : ℕ → LinkFields → Bool
+is_link version l =
+    (has_name l.kind || has_section l.kind)
+    && nat_le (place_number l.section) (if has_section l.kind then last_place version else 0)
+    && (if has_name l.kind then is_name l.name else nat_eq (length l.name) 0)
+    && (if has_entry l.kind then is_name l.entry else nat_eq (length l.entry) 0)
+    && nat_lt l.expr (2 ^ 18)
+    && nat_lt l.modifier (2 ^ 6)
+
+-- whether a relocation's place is a word of the text or a static word, where there are so many of each
+unfoldable pub is_place : ℕ → ℕ → ℕ → Section → ℕ → Bool
+is_place text inner outer Text offset = nat_lt offset text
+is_place text inner outer Linkage offset = nat_le 8 offset && nat_lt offset (8 + inner)
+is_place text inner outer Static offset = nat_lt offset outer
+is_place text inner outer Symbol offset = false
+
+unfoldable pub is_relocation : ℕ → ℕ → ℕ → ℕ → RelocFields → Bool
+is_relocation text inner outer version r =
+    is_place text inner outer r.section r.offset && nat_lt r.offset (2 ^ 18) && nat_le r.part 2 && nat_le (place_number r.target) (last_place version)
+
+-- the number by which relocations are in order
+unfoldable pub order_of : RelocFields → ℕ
+order_of r = (place_number r.section * 2 ^ 18 + r.offset) * 4 + r.part
+
+-- Whether relocations are in rising order, each at least at a number, where parts 0 and 2 of one word never both stand:
+-- behind part 0 of a word the number of its part 2 is barred, until the next part 0 bars another.
+unfoldable pub are_rising : ℕ → ℕ → List RelocFields → Bool
+are_rising least barred [] = true
+are_rising least barred (r ∷ rs) =
+    nat_le least (order_of r) && not (nat_eq (order_of r) barred) && are_rising (order_of r + 1) (if nat_eq r.part 0 then order_of r + 2 else barred) rs
+
+-- whether some list stands for the parts; no part has a number that bars nothing, 3
+unfoldable pub is_well_formed : PartsFields → Bool
+is_well_formed p =
+    (nat_eq p.version 1 || nat_eq p.version 2)
+    && nat_le (length (words_of p)) (2 ^ 18)
+    && nat_le p.entry_bound (length p.text)
+    && (is_newer p || nat_eq (length p.statics % 2) 0)
+    && list_all (is_definition p.version) p.definitions
+    && are_distinct (definition_names p.definitions)
+    && list_all (is_link p.version) p.links
+    && list_all (is_relocation (length p.text) (length (inner_statics p)) (length (outer_statics p)) p.version) p.relocations
+    && are_rising 0 3 p.relocations
+
+-- The list stands for the parts.
+pub record Stands (p : PartsFields) (words : List ℕ) : Type 0 where
+  pub formed : is_well_formed p ≡ true
+  pub spelled : words ≡ words_of p
+
+-- ---- what is found in the parts
+
+-- the first definition of a name
+unfoldable pub definition_named : List ℕ → List Named → Option DefFields
+definition_named name [] = None
+definition_named name (d ∷ ds) = if same d.name name then Some d.def else definition_named name ds
+
+-- An object keeps parts for which a list stands, with the sections that are made of them.
+pub record IsObject (p : PartsFields) (d k s : List ℕ) : Type 0 where
+  pub formed : is_well_formed p ≡ true
+  pub definition : d ≡ definition_section p
+  pub linkage : k ≡ linkage_section p
+  pub symbol : s ≡ symbol_section p
+
+-- No two values share a list. That each has one list at most is plain: it is `words_of` the value.
+abbrev pub ValuesApart : Type 0
+ValuesApart = (p q : PartsFields) (words : List ℕ) → Stands p words → Stands q words → p ≡ q

@@ -1,0 +1,32 @@
+-- How many words an object takes.
+use Rattle.std.specs.Prelude.{ℕ, ◌+◌, ◌^◌, ◌<◌, List, [], ◌∷◌, length, if◌then◌else◌}
+use Rattle.std.specs.List.{list_any}
+use Rattle.obj36_parts.specs.PartsFields.{PartsFields}
+use Rattle.obj36_parts.specs.declared.definition.Named.{Named}
+use Rattle.obj36_parts.specs.Names.{same, with_names, name_length, all_name_words}
+
+-- the words of each name once
+unfoldable pub names_length : List (List ℕ) → ℕ
+names_length uses = length (all_name_words (with_names [] uses))
+
+-- the words of names, each as often as it stands
+unfoldable pub all_length : List (List ℕ) → ℕ
+all_length [] = 0
+all_length (name ∷ names) = name_length name + all_length names
+
+-- the words of a name that no definition has
+unfoldable pub other_length : List Named → List ℕ → ℕ
+other_length ds name = if list_any (λ d. same name d.name) ds then 0 else name_length name
+
+-- and of names, each as often as it stands
+unfoldable pub others_length : List Named → List (List ℕ) → ℕ
+others_length ds [] = 0
+others_length ds (name ∷ names) = other_length ds name + others_length ds names
+
+-- Each list has fewer than 2^32 members.
+pub record HasShortLists (p : PartsFields) : Type 0 where
+  pub text : length p.text < 2 ^ 32
+  pub statics : length p.statics < 2 ^ 32
+  pub definitions : length p.definitions < 2 ^ 32
+  pub links : length p.links < 2 ^ 32
+  pub relocations : length p.relocations < 2 ^ 32

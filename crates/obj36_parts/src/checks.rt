@@ -1,0 +1,203 @@
+//! Whether parts are those of an object.
+
+ghost use Rattle.std.specs.Prelude.{ℕ, Bool, List, true, ◌∷◌, ◌++◌, ◌≡◌, ◌+◌, ◌*◌, ◌^◌, ◌<◌, ◌≤◌, ◌&&◌, ◌||◌, not, nat_eq, nat_lt, nat_le, length, if◌then◌else◌};
+ghost use Rattle.std.specs.List.{list_all};
+ghost use Rattle.obj36_parts.specs.Names.{is_name, is_name_character};
+ghost use Rattle.obj36_parts.specs.ObjectSegment.{has_section, last_class, last_place, is_definition, is_link, is_place, is_relocation, order_of, are_rising, place_number};
+
+use crate::definition::Named;
+use crate::link::Link;
+use crate::names::{has_its_entry, has_its_name};
+use crate::relocation::Reloc;
+use crate::section::Section;
+use crate::sections::{class, number};
+use m36_text::Name;
+
+/// Whether a byte may stand in a name.
+pub fn is_name_byte(byte: u64) -> bool
+    ensures { result ≡ is_name_character byte }
+{
+    (65 <= byte && byte <= 90)
+        || (97 <= byte && byte <= 122)
+        || (48 <= byte && byte <= 57)
+        || byte == 95
+        || byte == 46
+}
+
+fn are_name_bytes(text: &[u8]) -> bool
+    ensures { result ≡ list_all is_name_character text.now }
+{
+    text.iter().all(|byte| is_name_byte(*byte as u64))
+}
+
+#[tactic(auto, unfolding(m36_text::specs::Texts::is_name))]
+fn is_good_name(name: &Name) -> bool
+    ensures { result ≡ is_name name.now }
+{
+    let text = name.bytes();
+    1 <= text.len() && text.len() <= 32 && are_name_bytes(text)
+}
+
+/// The greatest class of a definition.
+pub fn greatest_class(version: u8) -> u64
+    ensures { result ≡ last_class version }
+{
+    if version == 2 { 3 } else { 2 }
+}
+
+/// The greatest number of a section in links and relocations.
+pub fn greatest_place(version: u8) -> u64
+    ensures { result ≡ last_place version }
+{
+    if version == 2 { 2 } else { 1 }
+}
+
+#[tactic(auto, unfolding(crate::specs::ObjectSegment::is_definition))]
+fn is_good_definition(version: u8, definition: &Named) -> bool
+    ensures { result ≡ is_definition version definition.now }
+{
+    let def = definition.def;
+    is_good_name(&definition.name)
+        && def.value < 1 << 18
+        && class(def.section) <= greatest_class(version)
+}
+
+pub(crate) fn are_good_definitions(version: u8, definitions: &[Named]) -> bool
+    ensures { result ≡ list_all (is_definition version) definitions.now }
+{
+    definitions
+        .iter()
+        .all(|definition| is_good_definition(version, definition))
+}
+
+// Whether a link of this type has a section.
+pub(crate) fn has_its_section(kind: u8) -> bool
+    ensures { result ≡ has_section kind }
+{
+    kind == 1 || kind == 5
+}
+
+fn is_good_text(used: bool, name: &Name) -> bool
+    ensures { result ≡ (if used then is_name name.now else nat_eq (length name.now) 0) }
+{
+    if used {
+        is_good_name(name)
+    } else {
+        name.bytes().is_empty()
+    }
+}
+
+fn is_good_section(used: bool, version: u8, section: Section) -> bool
+    ensures { result ≡ nat_le (place_number section) (if used then last_place version else 0) }
+{
+    if used {
+        number(section) <= greatest_place(version)
+    } else {
+        number(section) == 0
+    }
+}
+
+#[tactic(auto, unfolding(crate::specs::ObjectSegment::is_link))]
+fn is_good_link(version: u8, link: &Link) -> bool
+    ensures { result ≡ is_link version link.now }
+{
+    let kind = link.kind;
+    (has_its_name(kind) || has_its_section(kind))
+        && is_good_section(has_its_section(kind), version, link.section)
+        && is_good_text(has_its_name(kind), &link.name)
+        && is_good_text(has_its_entry(kind), &link.entry)
+        && link.expr < 1 << 18
+        && link.modifier < 1 << 6
+}
+
+pub(crate) fn are_good_links(version: u8, links: &[Link]) -> bool
+    ensures { result ≡ list_all (is_link version) links.now }
+{
+    links.iter().all(|link| is_good_link(version, link))
+}
+
+/// How many words relocations may name, and in which version.
+#[derive(Clone, Copy)]
+pub(crate) struct Room {
+    /// Words of the text.
+    pub text: usize,
+    /// Static words in the linkage section.
+    pub inner: usize,
+    /// Static words in the static section.
+    pub outer: usize,
+    /// The version of the object.
+    pub version: u8,
+}
+
+#[tactic(auto, unfolding(crate::specs::ObjectSegment::is_place))]
+fn is_good_place(room: Room, section: Section, offset: u32) -> bool
+    ensures { result ≡ is_place room.text room.inner room.outer section offset }
+{
+    let offset = offset as usize;
+    match section {
+        Section::Text => offset < room.text,
+        Section::Linkage => 8 <= offset && offset - 8 < room.inner,
+        Section::Static => offset < room.outer,
+        Section::Symbol => false,
+    }
+}
+
+#[tactic(auto, unfolding(crate::specs::ObjectSegment::is_relocation))]
+fn is_good_relocation(room: Room, relocation: &Reloc) -> bool
+    ensures { result ≡ is_relocation room.text room.inner room.outer room.version relocation.now }
+{
+    is_good_place(room, relocation.section, relocation.offset)
+        && relocation.offset < 1 << 18
+        && relocation.part <= 2
+        && number(relocation.target) <= greatest_place(room.version)
+}
+
+pub(crate) fn are_good_relocations(room: Room, relocations: &[Reloc]) -> bool
+    ensures { result ≡ list_all (is_relocation room.text room.inner room.outer room.version) relocations.now }
+{
+    relocations
+        .iter()
+        .all(|relocation| is_good_relocation(room, relocation))
+}
+
+#[tactic(auto, unfolding(crate::specs::ObjectSegment::order_of))]
+fn order(relocation: &Reloc) -> u64
+    ensures value { result ≡ order_of relocation.now }
+    ensures bound { result < 2 ^ 40 }
+{
+    (number(relocation.section) * (1 << 18) + relocation.offset as u64) * 4 + relocation.part as u64
+}
+
+fn may_follow(least: u64, barred: u64, place: u64) -> bool
+    ensures { result ≡ (nat_le least place && not (nat_eq place barred)) }
+{
+    least <= place && place != barred
+}
+
+// What is barred behind a relocation: behind part 0 part 2 of its word.
+fn barred_behind(part: u8, place: u64, barred: u64) -> u64
+    requires { place < 2 ^ 40 }
+    ensures { result ≡ (if nat_eq part 0 then place + 2 else barred) }
+{
+    if part == 0 { place + 2 } else { barred }
+}
+
+// Whether relocations are in rising order, without parts 0 and 2 of one word.
+#[tactic(auto, unfolding(crate::specs::ObjectSegment::are_rising))]
+pub(crate) fn are_in_order(relocations: &[Reloc]) -> bool
+    ensures { result ≡ are_rising 0 3 relocations.now }
+{
+    let mut least = 0;
+    let mut barred = 3;
+    let mut rest = relocations;
+    while let [first, others @ ..] = rest {
+        let place = order(first);
+        if !may_follow(least, barred, place) {
+            return false;
+        }
+        least = place + 1;
+        barred = barred_behind(first.part, place, barred);
+        rest = others;
+    }
+    true
+}

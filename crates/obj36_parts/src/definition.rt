@@ -1,0 +1,131 @@
+//! Definitions: the names by which others find places of an object.
+
+ghost use Rattle.std.specs.Prelude.{ℕ, List, [], ◌∷◌, ◌++◌, ◌≡◌, ◌<◌, OnOk, OnErr};
+ghost use Rattle.std.specs.List.{list_any};
+ghost use Rattle.std.specs.Vec.{vec_len, vec_capacity};
+ghost use Rattle.obj36_parts.specs.Names.{same, with_names};
+ghost use Rattle.obj36_parts.specs.ObjectSegment.{definition_names, are_distinct};
+
+use crate::section::Section;
+use indexmap::IndexSet;
+use m36_text::Name;
+use m36_word::NoMemory;
+use std::alloc::Global;
+use std::marker::Model;
+
+/// Where a definition lies.
+#[derive(Clone, Copy, Debug, PartialEq, Eq)]
+pub struct Def {
+    /// Its offset in the section; 18 bits.
+    pub value: u32,
+    /// The section, which is its class. Only version 2 has the class static.
+    pub section: Section,
+    /// It is an entry.
+    pub is_entry: bool,
+}
+
+impl Model for Def {
+    ghost use Rattle.std.specs.Prelude.{◌<◌, ◌^◌};
+    ghost use Rattle.obj36_parts.specs.Fields.{DefFields};
+
+    ghost Value = { DefFields };
+
+    ghost view = { λ d. record { section = d.section; value = d.value; is_entry = d.is_entry } };
+
+    ghost invariant = { λ d. d.value < 2 ^ 18 };
+
+    ghost inverse = { λ d. record { value = d.value; section = d.section; is_entry = d.is_entry } };
+}
+
+/// A definition with its name.
+#[derive(Debug, Drop)]
+pub struct Named {
+    /// 1 to 32 letters, digits, `_` and full stops; unique in its object.
+    pub name: Name,
+    /// Where it lies.
+    pub def: Def,
+}
+
+/// A list of definitions that grows at its end, with the names that it has.
+#[derive(Debug, Drop)]
+pub struct Defs {
+    items: Vec<Named>,
+    names: IndexSet<Name>,
+}
+
+impl Model for Defs {
+    ghost use Rattle.std.specs.Prelude.{List, [], ◌≡◌};
+    ghost use Rattle.obj36_parts.specs.declared.definition.Named.{Named};
+    ghost use Rattle.obj36_parts.specs.Names.{with_names};
+    ghost use Rattle.obj36_parts.specs.ObjectSegment.{definition_names};
+
+    ghost Value = { List Named };
+
+    ghost view = { λ d. d.items.items };
+
+    ghost invariant = { λ d. d.names.keys ≡ with_names [] (definition_names d.items.items) };
+}
+
+impl Defs {
+    /// An empty list.
+    #[tactic(auto, unfolding(crate::specs::Names::with_names, crate::specs::ObjectSegment::definition_names))]
+    pub fn new(alloc: Global) -> Defs
+        ensures { result ≡ [] }
+    {
+        Defs {
+            items: Vec::new(alloc),
+            names: IndexSet::new(alloc),
+        }
+    }
+
+    /// Adds a definition at the end. Where no memory is found, nothing changes.
+    pub fn push(&mut self, x: Named) -> Result<(), NoMemory>
+        ensures ok { OnOk result (self.new ≡ self.old ++ x ∷ []) }
+        ensures err { OnErr result (self.new ≡ self.old) }
+    {
+        self.items.reserve(1)?;
+        self.names.insert(x.name.copied())?;
+        put(&mut self.items, x);
+        Ok(())
+    }
+
+    /// The definitions in order.
+    pub fn items(&self) -> &[Named]
+        ensures { result.now ≡ self.now }
+    {
+        self.items.as_slice()
+    }
+
+    /// Whether a definition has this name.
+    pub fn has(&self, name: &Name) -> bool
+        ensures { result ≡ list_any (λ d. same name.now d.name) self.now }
+    {
+        self.names.contains(name)
+    }
+
+    /// The names, each once, in the order in which they come first.
+    pub fn names(&self) -> &[Name]
+        ensures { result.now ≡ with_names [] (definition_names self.now) }
+    {
+        self.names.as_slice()
+    }
+
+    /// Whether no two definitions have one name.
+    #[tactic(auto, using(crate::proofs::IndexLaws::distinct_by_count))]
+    pub fn have_own_names(&self) -> bool
+        ensures { result ≡ are_distinct (definition_names self.now) }
+    {
+        self.names.len() == self.items.len()
+    }
+}
+
+// Adds an item where there is room for it.
+pub(crate) fn put<T: Drop>(items: &mut Vec<T>, x: T)
+    requires { vec_len items.old < vec_capacity items.old }
+    ensures { items.new.items ≡ items.old.items ++ x ∷ [] }
+{
+    match items.push(x) {
+        Ok(()) => {}
+        Err(_) => unreachable!(),
+    }
+}

@@ -1,0 +1,196 @@
+//! Links: the places outside that an object refers to.
+
+ghost use Rattle.std.specs.Prelude.{ℕ, List, [], ◌∷◌, ◌++◌, ◌≡◌, ◌+◌, ◌<◌, ◌≤◌, position, OnOk, OnErr};
+ghost use Rattle.std.specs.List.{list_any};
+ghost use Rattle.indexmap.specs.IndexSet.{spare};
+ghost use Rattle.obj36_parts.specs.Names.{with_name, with_names};
+ghost use Rattle.obj36_parts.specs.ObjectSegment.{name_used, entry_used, link_names, all_link_names};
+ghost use Rattle.obj36_parts.specs.Indexes.{same_link, with_place};
+
+use crate::definition::put;
+use crate::names::{has_its_entry, has_its_name};
+use crate::section::Section;
+use indexmap::{IndexMap, IndexSet};
+use m36_text::Name;
+use m36_word::NoMemory;
+use std::alloc::Global;
+use std::marker::Model;
+
+/// A link. A field that its type does not use is the section text or an empty name.
+#[derive(Debug, PartialEq, Eq, Hash, Drop)]
+pub struct Link {
+    /// The segment that is referred to, of the types 3 and 4.
+    pub name: Name,
+    /// The definition there, of the types 4 and 5.
+    pub entry: Name,
+    /// What is added to the place that is found; 18 bits.
+    pub expr: u32,
+    /// The type: 1 the own object, 3 a segment, 4 a definition of a segment, 5 a definition of the own object.
+    pub kind: u8,
+    /// The section of the own object, of the types 1 and 5.
+    pub section: Section,
+    /// The tag of the snapped pair; 6 bits.
+    pub modifier: u8,
+}
+
+impl Model for Link {
+    ghost use Rattle.std.specs.Prelude.{◌<◌, ◌^◌};
+    ghost use Rattle.obj36_parts.specs.Fields.{LinkFields};
+
+    ghost Value = { LinkFields };
+
+    ghost view = { λ l. record { kind = l.kind; section = l.section; name = l.name; entry = l.entry; expr = l.expr; modifier = l.modifier } };
+
+    ghost invariant = { λ l. (l.expr < 2 ^ 18) × (l.modifier < 2 ^ 6) };
+
+    ghost inverse = { λ l. record { name = l.name; entry = l.entry; expr = l.expr; kind = l.kind; section = l.section; modifier = l.modifier } };
+}
+
+impl Link {
+    /// The same link again.
+    pub fn copied(&self) -> Link
+        ensures { result ≡ self.now }
+    {
+        Link {
+            name: self.name.copied(),
+            entry: self.entry.copied(),
+            expr: self.expr,
+            kind: self.kind,
+            section: self.section,
+            modifier: self.modifier,
+        }
+    }
+}
+
+/// A list of links that grows at its end, with the first place of each and the names that they use.
+#[derive(Debug, Drop)]
+pub struct Links {
+    items: Vec<Link>,
+    places: IndexMap<Link, u64>,
+    names: IndexSet<Name>,
+}
+
+impl Model for Links {
+    ghost use Rattle.std.specs.Prelude.{List};
+    ghost use Rattle.obj36_parts.specs.Fields.{LinkFields};
+    ghost use Rattle.obj36_parts.specs.Indexes.{AreIndexed};
+
+    ghost Value = { List LinkFields };
+
+    ghost view = { λ l. l.items.items };
+
+    ghost invariant = { λ l. AreIndexed l.items.items l.places.entries l.names.keys };
+}
+
+impl Links {
+    /// An empty list.
+    #[tactic(auto, using(crate::proofs::IndexLaws::none_indexed))]
+    pub fn new(alloc: Global) -> Links
+        ensures { result ≡ [] }
+    {
+        Links {
+            items: Vec::new(alloc),
+            places: IndexMap::new(alloc),
+            names: IndexSet::new(alloc),
+        }
+    }
+
+    /// Adds a link at the end. Where no memory is found, nothing changes.
+    #[tactic(auto, using(crate::proofs::IndexLaws::indexed_more))]
+    pub fn push(&mut self, x: Link) -> Result<(), NoMemory>
+        ensures ok { OnOk result (self.new ≡ self.old ++ x ∷ []) }
+        ensures err { OnErr result (self.new ≡ self.old) }
+    {
+        self.items.reserve(1)?;
+        self.names.reserve(2)?;
+        note_place(&mut self.places, &x, self.items.len() as u64)?;
+        note_names(&mut self.names, &x);
+        put(&mut self.items, x);
+        Ok(())
+    }
+
+    /// The links in order.
+    pub fn items(&self) -> &[Link]
+        ensures { result.now ≡ self.now }
+    {
+        self.items.as_slice()
+    }
+
+    /// How many links stand before the first that is the same as this, if there is one.
+    pub fn place(&self, link: &Link) -> Option<u64>
+        ensures { result ≡ position (same_link link.now) self.now }
+    {
+        self.places.get(link).copied()
+    }
+
+    /// Whether this link is there.
+    #[tactic(auto, using(crate::proofs::IndexLaws::placed_has))]
+    pub fn has(&self, link: &Link) -> bool
+        ensures { result ≡ list_any (same_link link.now) self.now }
+    {
+        self.place(link).is_some()
+    }
+
+    /// The names that the links use, each once, in the order in which they come first.
+    pub fn names(&self) -> &[Name]
+        ensures { result.now ≡ with_names [] (all_link_names self.now) }
+    {
+        self.names.as_slice()
+    }
+}
+
+// Keeps the place of a link that has none yet.
+fn note_place(places: &mut IndexMap<Link, u64>, link: &Link, place: u64) -> Result<(), NoMemory>
+    ensures ok { OnOk result (places.new.entries ≡ with_place places.old.entries link.now place) }
+    ensures err { OnErr result (places.new.entries ≡ places.old.entries) }
+{
+    if places.contains_key(link) {
+        return Ok(());
+    }
+    places.insert(link.copied(), place)?;
+    Ok(())
+}
+
+// Keeps a name where there is room for it.
+#[tactic(auto, unfolding(crate::specs::Names::with_name))]
+fn note_name(names: &mut IndexSet<Name>, name: &Name)
+    requires { 0 < spare names.old }
+    ensures keys { names.new.keys ≡ with_name names.old.keys name.now }
+    ensures room { spare names.old ≤ spare names.new + 1 }
+{
+    match names.insert(name.copied()) {
+        Ok(_) => {}
+        Err(_) => unreachable!(),
+    }
+}
+
+#[tactic(auto, unfolding(crate::specs::ObjectSegment::name_used, crate::specs::Names::with_names))]
+fn note_subject(names: &mut IndexSet<Name>, link: &Link)
+    requires { 0 < spare names.old }
+    ensures keys { names.new.keys ≡ with_names names.old.keys (name_used link.now) }
+    ensures room { spare names.old ≤ spare names.new + 1 }
+{
+    if has_its_name(link.kind) {
+        note_name(names, &link.name);
+    }
+}
+
+#[tactic(auto, unfolding(crate::specs::ObjectSegment::entry_used, crate::specs::Names::with_names))]
+fn note_entry(names: &mut IndexSet<Name>, link: &Link)
+    requires { 0 < spare names.old }
+    ensures { names.new.keys ≡ with_names names.old.keys (entry_used link.now) }
+{
+    if has_its_entry(link.kind) {
+        note_name(names, &link.entry);
+    }
+}
+
+// Keeps the names that a link uses, where there is room for two.
+#[tactic(auto, unfolding(crate::specs::ObjectSegment::link_names), using(crate::proofs::NameTables::added_then))]
+fn note_names(names: &mut IndexSet<Name>, link: &Link)
+    requires { 2 ≤ spare names.old }
+    ensures { names.new.keys ≡ with_names names.old.keys (link_names link.now) }
+{
+    note_subject(names, link);
+    note_entry(names, link);
+}

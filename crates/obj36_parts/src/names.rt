@@ -1,0 +1,205 @@
+//! The names of a definition section: each stands there once.
+
+ghost use Rattle.std.specs.Prelude.{ℕ, List, [], ◌++◌, ◌≡◌, ◌+◌, ◌-◌, ◌*◌, ◌^◌, ◌<◌, ◌≤◌, length, OnOk, IfOk};
+ghost use Rattle.obj36_parts.specs.Names.{with_name, with_names, place_of, name_length, unit_of, name_word, name_words, all_name_words};
+ghost use Rattle.obj36_parts.specs.ObjectSegment.{definition_names, link_names, all_link_names, has_name, has_entry};
+
+use crate::definition::Named;
+use crate::link::Link;
+use indexmap::IndexMap;
+use m36_text::Name;
+use m36_word::{NoMemory, Word, Words};
+use std::alloc::Global;
+use std::marker::Model;
+
+/// Whether a link of this type has a name.
+pub fn has_its_name(kind: u8) -> bool
+    ensures { result ≡ has_name kind }
+{
+    kind == 3 || kind == 4
+}
+
+/// Whether a link of this type has an entry.
+pub fn has_its_entry(kind: u8) -> bool
+    ensures { result ≡ has_entry kind }
+{
+    kind == 4 || kind == 5
+}
+
+// How many words a name takes.
+#[tactic(auto, unfolding(crate::specs::Names::name_length))]
+pub(crate) fn length_of(name: &Name) -> u64
+    ensures value { result ≡ name_length name.now }
+    ensures bound { result ≤ 9 }
+{
+    name.bytes().len() as u64 / 4 + 1
+}
+
+/// Names that stand one after another from a place on, each once.
+#[derive(Debug, Drop)]
+pub struct NameTable {
+    places: IndexMap<Name, u64>,
+    base: u64,
+    next: u64,
+}
+
+impl Model for NameTable {
+    ghost use Rattle.obj36_parts.specs.NameTables.{NameTableFields, IsLaid, names_in};
+
+    ghost Value = { NameTableFields };
+
+    ghost view = { λ t. record { names = names_in t.places.entries; base = t.base } };
+
+    ghost invariant = { λ t. IsLaid t.places.entries t.base t.next };
+}
+
+impl NameTable {
+    // No names, from a place on.
+    fn new(alloc: Global, base: u64) -> NameTable
+        requires { base ≤ 2 ^ 40 }
+        ensures { result ≡ record { names = []; base = base } }
+    {
+        NameTable {
+            places: IndexMap::new(alloc),
+            base,
+            next: base,
+        }
+    }
+
+    // Adds a name, unless it is there.
+    #[tactic(auto, using(crate::proofs::NamePlaces::named_there, crate::proofs::NamePlaces::few_named))]
+    fn add(&mut self, name: &Name) -> Result<(), NoMemory>
+        requires { length self.old.names < 2 ^ 40 }
+        ensures names { OnOk result (self.new.names ≡ with_name self.old.names name.now) }
+        ensures few { OnOk result (length self.new.names ≤ length self.old.names + 1) }
+        ensures base { self.new.base ≡ self.old.base }
+    {
+        if self.places.contains_key(name) {
+            return Ok(());
+        }
+        self.places.insert(name.copied(), self.next)?;
+        self.next += length_of(name);
+        Ok(())
+    }
+
+    // The place of a name; of one that is not there the place behind all.
+    pub(crate) fn place(&self, name: &Name) -> u64
+        ensures { result ≡ place_of name.now self.now.names self.now.base }
+    {
+        self.places.get(name).copied().unwrap_or(self.next)
+    }
+
+    // The names in order.
+    pub(crate) fn names(&self) -> &[Name]
+        ensures { result.now ≡ self.now.names }
+    {
+        self.places.keys().as_slice()
+    }
+}
+
+fn add_definitions(table: &mut NameTable, definitions: &[Named]) -> Result<(), NoMemory>
+    requires { length table.old.names + length definitions.now < 2 ^ 40 }
+    ensures names { OnOk result (table.new.names ≡ with_names table.old.names (definition_names definitions.now)) }
+    ensures few { OnOk result (length table.new.names ≤ length table.old.names + length definitions.now) }
+    ensures base { table.new.base ≡ table.old.base }
+{
+    for definition in definitions {
+        table.add(&definition.name)?;
+    }
+    Ok(())
+}
+
+#[tactic(auto, unfolding(crate::specs::Names::with_names, crate::specs::ObjectSegment::link_names, crate::specs::ObjectSegment::name_used, crate::specs::ObjectSegment::entry_used))]
+fn add_link(table: &mut NameTable, link: &Link) -> Result<(), NoMemory>
+    requires { length table.old.names + 2 < 2 ^ 40 }
+    ensures names { OnOk result (table.new.names ≡ with_names table.old.names (link_names link.now)) }
+    ensures few { OnOk result (length table.new.names ≤ length table.old.names + 2) }
+    ensures base { table.new.base ≡ table.old.base }
+{
+    if has_its_name(link.kind) {
+        table.add(&link.name)?;
+    }
+    if has_its_entry(link.kind) {
+        table.add(&link.entry)?;
+    }
+    Ok(())
+}
+
+fn add_links(table: &mut NameTable, links: &[Link]) -> Result<(), NoMemory>
+    requires { length table.old.names + 2 * length links.now < 2 ^ 40 - 2 }
+    ensures names { OnOk result (table.new.names ≡ with_names table.old.names (all_link_names links.now)) }
+    ensures base { table.new.base ≡ table.old.base }
+{
+    for link in links {
+        add_link(table, link)?;
+    }
+    Ok(())
+}
+
+// Each name once, in order of first use, from a place on.
+#[tactic(auto, using(crate::proofs::NameTables::added_then))]
+pub(crate) fn names_used(
+    alloc: Global,
+    definitions: &[Named],
+    links: &[Link],
+    base: u64,
+) -> Result<NameTable, NoMemory>
+    requires definitions { length definitions.now < 2 ^ 32 }
+    requires links { length links.now < 2 ^ 32 }
+    requires base { base ≤ 2 ^ 40 }
+    ensures names { IfOk result (λ table. table.names ≡ with_names [] (definition_names definitions.now ++ all_link_names links.now)) }
+    ensures base { IfOk result (λ table. table.base ≡ base) }
+{
+    let mut table = NameTable::new(alloc, base);
+    add_definitions(&mut table, definitions)?;
+    add_links(&mut table, links)?;
+    Ok(table)
+}
+
+#[tactic(auto, unfolding(crate::specs::Names::unit_of))]
+fn unit(name: &[u8], i: usize) -> u64
+    requires { length name.now ≤ 32 }
+    ensures value { result ≡ unit_of name.now i }
+    ensures bound { result < 2 ^ 9 }
+{
+    if i == 0 {
+        return name.len() as u64;
+    }
+    if i <= name.len() {
+        name[i - 1] as u64
+    } else {
+        0
+    }
+}
+
+#[tactic(auto, unfolding(crate::specs::Names::name_word))]
+fn word(name: &[u8], j: usize) -> Word
+    requires fits { length name.now ≤ 32 }
+    requires small { j < 9 }
+    ensures { result ≡ name_word name.now j }
+{
+    let front = (unit(name, 4 * j) << 27) + (unit(name, 4 * j + 1) << 18);
+    let back = (unit(name, 4 * j + 2) << 9) + unit(name, 4 * j + 3);
+    Word::low(front + back)
+}
+
+#[tactic(auto, using(crate::proofs::NameTables::first_word))]
+fn push_name(out: &mut Words, name: &Name) -> Result<(), NoMemory>
+    ensures { OnOk result (out.new ≡ out.old ++ name_words name.now) }
+{
+    let bytes = name.bytes();
+    let count = bytes.len() / 4 + 1;
+    for j in 0..count {
+        out.push(word(bytes, j))?;
+    }
+    Ok(())
+}
+
+pub(crate) fn push_names(out: &mut Words, names: &[Name]) -> Result<(), NoMemory>
+    ensures { OnOk result (out.new ≡ out.old ++ all_name_words names.now) }
+{
+    for name in names {
+        push_name(out, name)?;
+    }
+    Ok(())
+}

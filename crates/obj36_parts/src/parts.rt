@@ -1,0 +1,127 @@
+//! The parts of an object.
+
+ghost use Rattle.std.specs.Prelude.{ℕ, ◌≡◌, ◌+◌, ◌*◌, ◌<◌, ◌^◌, length, [], nat_eq, if◌then◌else◌, IsTrue};
+ghost use Rattle.obj36_parts.specs.ObjectSegment.{words_of, is_well_formed};
+ghost use Rattle.obj36_parts.specs.Sizes.{HasShortLists};
+
+use crate::checks::{
+    Room, are_good_definitions, are_good_links, are_good_relocations, are_in_order,
+};
+use crate::definition::Defs;
+use crate::link::Links;
+use crate::relocation::Relocs;
+use crate::size::length_of_names;
+use m36_word::{Word, Words};
+use std::marker::Model;
+
+/// What an object is made of.
+#[derive(Debug, Drop)]
+pub struct Parts {
+    /// Instructions and constants.
+    pub text: Words,
+    /// Static words; in version 1 an even number of them.
+    pub statics: Words,
+    /// Definitions, in order.
+    pub definitions: Defs,
+    /// Links, in order.
+    pub links: Links,
+    /// Relocations, in rising order of section, offset and part.
+    pub relocations: Relocs,
+    /// How many words of the text a gate may be entered at; at most the text's length; 18 bits.
+    pub entry_bound: u32,
+    /// 1, or 2 with the static words in a section of their own.
+    pub version: u8,
+}
+
+impl Model for Parts {
+    ghost use Rattle.std.specs.Prelude.{◌<◌, ◌^◌};
+    ghost use Rattle.obj36_parts.specs.PartsFields.{PartsFields};
+
+    ghost Value = { PartsFields };
+
+    ghost view = { λ p. record { text = p.text; statics = p.statics; definitions = p.definitions; links = p.links; relocations = p.relocations; entry_bound = p.entry_bound; version = p.version } };
+
+    ghost invariant = { λ p. p.entry_bound < 2 ^ 18 };
+}
+
+// The words that each object has: the heads of three sections, the map and the last word.
+fn fixed_length(version: u8) -> u64
+    ensures value { result ≡ (if nat_eq version 2 then 19 else 18) }
+    ensures bound { result < 20 }
+{
+    if version == 2 { 19 } else { 18 }
+}
+
+impl Parts {
+    /// Whether each list has fewer than 2^32 members, as those of each object have.
+    pub fn has_short_lists(&self) -> bool
+        ensures short { IsTrue result → HasShortLists self.now }
+        ensures long { HasShortLists self.now → IsTrue result }
+    {
+        self.text.slice().len() < 1 << 32
+            && self.statics.slice().len() < 1 << 32
+            && self.definitions.items().len() < 1 << 32
+            && self.links.items().len() < 1 << 32
+            && self.relocations.items().len() < 1 << 32
+    }
+
+    /// How many words the sections, the map and the last word take for these parts, whether or not a list stands for
+    /// them. Each list has fewer than 2^32 members.
+    pub fn size(&self) -> u64
+        requires { HasShortLists self.now }
+        ensures { result ≡ length (words_of self.now) }
+    {
+        let definitions = self.definitions.items();
+        let links = self.links.items();
+        let text = self.text.slice().len() as u64;
+        let statics = self.statics.slice().len() as u64;
+        let relocations = self.relocations.items().len() as u64;
+        let tables = 2 * definitions.len() as u64 + 4 * links.len() as u64;
+        let names = length_of_names(&self.definitions, &self.links);
+        fixed_length(self.version) + text + statics + relocations + tables + names
+    }
+
+    /// Whether some list of words stands for these parts. Each list has fewer than 2^32 members.
+    #[tactic(auto, unfolding(crate::specs::ObjectSegment::is_well_formed))]
+    pub fn is_well_formed(&self) -> bool
+        requires { HasShortLists self.now }
+        ensures { result ≡ is_well_formed self.now }
+    {
+        let size = self.size();
+        let version = self.version;
+        let text = self.text.slice().len();
+        let statics = self.statics.slice();
+        let definitions = self.definitions.items();
+        let links = self.links.items();
+        let relocations = self.relocations.items();
+        let room = Room {
+            text,
+            inner: inner_count(version, statics),
+            outer: outer_count(version, statics),
+            version,
+        };
+        (version == 1 || version == 2)
+            && size <= 1 << 18
+            && self.entry_bound as usize <= text
+            && (version == 2 || statics.len() % 2 == 0)
+            && are_good_definitions(version, definitions)
+            && self.definitions.have_own_names()
+            && are_good_links(version, links)
+            && are_good_relocations(room, relocations)
+            && are_in_order(relocations)
+    }
+}
+
+// How many static words stand in the linkage section.
+fn inner_count(version: u8, statics: &[Word]) -> usize
+    ensures { result ≡ length (if nat_eq version 2 then [] else statics.now) }
+{
+    if version == 2 { 0 } else { statics.len() }
+}
+
+// How many static words stand in the static section.
+fn outer_count(version: u8, statics: &[Word]) -> usize
+    ensures { result ≡ length (if nat_eq version 2 then statics.now else []) }
+{
+    if version == 2 { statics.len() } else { 0 }
+}

@@ -1,0 +1,260 @@
+//! The sections of an object, made from its parts.
+
+ghost use Rattle.std.specs.Prelude.{ℕ, List, [], ◌∷◌, ◌++◌, ◌≡◌, ◌+◌, ◌-◌, ◌*◌, ◌^◌, ◌<◌, ◌≤◌, length, drop, OnOk, IfOk};
+ghost use Rattle.obj36_parts.specs.Halves.{joined};
+ghost use Rattle.obj36_parts.specs.Names.{with_names, place_of, all_name_words};
+ghost use Rattle.obj36_parts.specs.ObjectSegment.{class_number, place_number, place_if_any, class_of, definition_names, all_link_names, definition_words, subject_of, entry_place, expression_words, definition_part, link_words, linkage_part, relocation_word, relocation_words, symbol_part};
+
+use crate::definition::{Def, Named};
+use crate::halves::word_of;
+use crate::link::Link;
+use crate::names::{NameTable, has_its_entry, has_its_name, names_used, push_names};
+use crate::relocation::Reloc;
+use crate::section::Section;
+use m36_word::{NoMemory, Word, Words};
+use std::alloc::Global;
+
+/// The tag of a link that is not snapped: fault 24.
+pub const LINK_TAG: u64 = 0o46;
+
+/// The class of a definition in a section.
+pub fn class(section: Section) -> u64
+    ensures value { result ≡ class_number section }
+    ensures bound { result ≤ 3 }
+{
+    match section {
+        Section::Text => 0,
+        Section::Linkage => 1,
+        Section::Symbol => 2,
+        Section::Static => 3,
+    }
+}
+
+/// The number of a section in links and relocations.
+pub fn number(section: Section) -> u64
+    ensures value { result ≡ place_number section }
+    ensures bound { result ≤ 3 }
+{
+    match section {
+        Section::Text => 0,
+        Section::Linkage => 1,
+        Section::Static => 2,
+        Section::Symbol => 3,
+    }
+}
+
+#[tactic(auto, unfolding(crate::specs::ObjectSegment::place_if_any))]
+fn place_unless_empty(count: usize, at: u64) -> u64
+    ensures { result ≡ place_if_any count at }
+{
+    if count == 0 { 0 } else { at }
+}
+
+#[tactic(auto, unfolding(crate::specs::ObjectSegment::class_of))]
+fn class_with_entry(def: &Def) -> u64
+    ensures { result ≡ class_of def.now }
+{
+    class(def.section) + if def.is_entry { 8 } else { 0 }
+}
+
+pub fn push_all(out: &mut Words, words: &[Word]) -> Result<(), NoMemory>
+    ensures { OnOk result (out.new ≡ out.old ++ words.now) }
+{
+    for word in words {
+        out.push(*word)?;
+    }
+    Ok(())
+}
+
+fn push_pair(out: &mut Words, first: Word, second: Word) -> Result<(), NoMemory>
+    ensures { OnOk result (out.new ≡ out.old ++ first ∷ second ∷ []) }
+{
+    out.push(first)?;
+    out.push(second)?;
+    Ok(())
+}
+
+// ---- the definition section
+
+fn push_definition(
+    out: &mut Words,
+    table: &NameTable,
+    definition: &Named,
+    next: u64,
+) -> Result<(), NoMemory>
+    ensures { OnOk result (out.new ≡ out.old ++ joined next (class_of definition.now.def) ∷ joined definition.now.def.value (place_of definition.now.name table.now.names table.now.base) ∷ []) }
+{
+    let def = definition.def;
+    let place = table.place(&definition.name);
+    push_pair(
+        out,
+        word_of(next, class_with_entry(&def)),
+        word_of(def.value as u64, place),
+    )
+}
+
+fn push_definitions(
+    out: &mut Words,
+    table: &NameTable,
+    definitions: &[Named],
+) -> Result<(), NoMemory>
+    requires { length definitions.now < 2 ^ 32 }
+    ensures { OnOk result (out.new ≡ out.old ++ definition_words table.now.names table.now.base definitions.now 2) }
+{
+    let mut at = 2;
+    for (i, definition) in definitions.iter().enumerate() {
+        let next = place_unless_empty(definitions.len() - i - 1, at + 2);
+        push_definition(out, table, definition, next)?;
+        at += 2;
+    }
+    Ok(())
+}
+
+#[tactic(auto, unfolding(crate::specs::ObjectSegment::subject_of))]
+fn subject(table: &NameTable, link: &Link) -> u64
+    ensures { result ≡ subject_of table.now.names table.now.base link.now }
+{
+    if has_its_name(link.kind) {
+        table.place(&link.name)
+    } else {
+        number(link.section)
+    }
+}
+
+#[tactic(auto, unfolding(crate::specs::ObjectSegment::entry_place))]
+fn entry(table: &NameTable, link: &Link) -> u64
+    ensures { result ≡ entry_place table.now.names table.now.base link.now }
+{
+    if has_its_entry(link.kind) {
+        table.place(&link.entry)
+    } else {
+        0
+    }
+}
+
+fn push_expression(out: &mut Words, table: &NameTable, link: &Link) -> Result<(), NoMemory>
+    ensures { OnOk result (out.new ≡ out.old ++ joined link.now.kind (subject_of table.now.names table.now.base link.now) ∷ joined (entry_place table.now.names table.now.base link.now) link.now.expr ∷ []) }
+{
+    let first = word_of(link.kind as u64, subject(table, link));
+    let second = word_of(entry(table, link), link.expr as u64);
+    push_pair(out, first, second)
+}
+
+fn push_expressions(out: &mut Words, table: &NameTable, links: &[Link]) -> Result<(), NoMemory>
+    ensures { OnOk result (out.new ≡ out.old ++ expression_words table.now.names table.now.base links.now) }
+{
+    for link in links {
+        push_expression(out, table, link)?;
+    }
+    Ok(())
+}
+
+/// The definition section of these definitions and links.
+#[tactic(auto, unfolding(crate::specs::ObjectSegment::definition_part))]
+pub fn definition_words_of(
+    alloc: Global,
+    definitions: &[Named],
+    links: &[Link],
+) -> Result<Words, NoMemory>
+    requires definitions { length definitions.now < 2 ^ 32 }
+    requires links { length links.now < 2 ^ 32 }
+    ensures { IfOk result (λ words. words ≡ definition_part definitions.now links.now) }
+{
+    let expressions = 2 + 2 * definitions.len() as u64;
+    let base = expressions + 2 * links.len() as u64;
+    let table = names_used(alloc, definitions, links, base)?;
+    let mut out = Words::new(alloc);
+    push_pair(
+        &mut out,
+        word_of(
+            place_unless_empty(definitions.len(), 2),
+            definitions.len() as u64,
+        ),
+        word_of(
+            place_unless_empty(links.len(), expressions),
+            links.len() as u64,
+        ),
+    )?;
+    push_definitions(&mut out, &table, definitions)?;
+    push_expressions(&mut out, &table, links)?;
+    push_names(&mut out, table.names())?;
+    Ok(out)
+}
+
+// ---- the linkage section
+
+fn push_links(out: &mut Words, links: &[Link], first: u64, expressions: u64) -> Result<(), NoMemory>
+    requires first { first ≤ 2 ^ 40 }
+    requires expressions { expressions ≤ 2 ^ 40 }
+    requires short { length links.now < 2 ^ 32 }
+    ensures { OnOk result (out.new ≡ out.old ++ link_words links.now first expressions) }
+{
+    let mut at = first;
+    let mut expression = expressions;
+    for link in links {
+        let offset = (1u64 << 18).saturating_sub(at);
+        push_pair(
+            out,
+            word_of(offset, LINK_TAG),
+            word_of(expression, link.modifier as u64),
+        )?;
+        at += 2;
+        expression += 2;
+    }
+    Ok(())
+}
+
+fn push_linkage_header(out: &mut Words, first: u64, count: u64) -> Result<(), NoMemory>
+    ensures { OnOk result (out.new ≡ out.old ++ 0 ∷ joined first count ∷ 0 ∷ 0 ∷ 0 ∷ 0 ∷ 0 ∷ 0 ∷ []) }
+{
+    push_pair(out, Word::ZERO, word_of(first, count))?;
+    push_pair(out, Word::ZERO, Word::ZERO)?;
+    push_pair(out, Word::ZERO, Word::ZERO)?;
+    push_pair(out, Word::ZERO, Word::ZERO)
+}
+
+/// The linkage section of these static words and links, whose expressions stand from a place on.
+#[tactic(auto, unfolding(crate::specs::ObjectSegment::linkage_part))]
+pub fn linkage_words_of(
+    alloc: Global,
+    statics: &[Word],
+    links: &[Link],
+    expressions: u64,
+) -> Result<Words, NoMemory>
+    requires statics { length statics.now < 2 ^ 32 }
+    requires links { length links.now < 2 ^ 32 }
+    requires expressions { expressions ≤ 2 ^ 40 }
+    ensures { IfOk result (λ words. words ≡ linkage_part statics.now links.now expressions) }
+{
+    let mut out = Words::new(alloc);
+    let first = 8 + statics.len() as u64;
+    push_linkage_header(&mut out, first, links.len() as u64)?;
+    push_all(&mut out, statics)?;
+    push_links(&mut out, links, first, expressions)?;
+    Ok(out)
+}
+
+// ---- the symbol section
+
+#[tactic(auto, unfolding(crate::specs::ObjectSegment::relocation_word))]
+fn word_of_relocation(relocation: &Reloc) -> Word
+    ensures { result ≡ relocation_word relocation.now }
+{
+    let place = number(relocation.section) << 15;
+    let part = (relocation.part as u64) << 12;
+    let target = number(relocation.target) << 9;
+    word_of(relocation.offset as u64, place + part + target)
+}
+
+/// The symbol section of these relocations.
+#[tactic(auto, unfolding(crate::specs::ObjectSegment::symbol_part))]
+pub fn symbol_words_of(alloc: Global, relocations: &[Reloc]) -> Result<Words, NoMemory>
+    ensures { IfOk result (λ words. words ≡ symbol_part relocations.now) }
+{
+    let mut out = Words::new(alloc);
+    out.push(word_of(0, relocations.len() as u64))?;
+    for relocation in relocations {
+        out.push(word_of_relocation(relocation))?;
+    }
+    Ok(out)
+}
