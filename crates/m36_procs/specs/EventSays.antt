@@ -7,7 +7,8 @@ use Rattle.m36_model.specs.Step.{record_of}
 use Rattle.m36_model.specs.declared.record.StepRecord.{StepRecord}
 
 -- the event was a step of process i, which had the registers g
-pub record IsEvent (i : ℕ) (old new : Processes (List ℕ)) (told : StepRecord) (g : RegsFields) : Type 0 where
+pub record IsEvent (i : ℕ) (old new : Processes (List ℕ)) (told : StepRecord) (g : RegsFields)
+    : Type 0 where
   pub told_is : told ≡ record_of core_store (process_of old g)
   pub state : new ≡ stepped core_store old i g
 

@@ -1,4 +1,5 @@
--- What is known of processes with their schedule: there are one to eight, and each number is one of them.
+-- What is known of processes with their schedule: there are one to eight, and each number is one of
+-- them.
 use Rattle.std.specs.Prelude.{ℕ, ◌≡◌, ◌<◌, ◌≤◌, true, List, length}
 use Rattle.m36_model.specs.Schedule.{Processes}
 use Rattle.m36_procs.specs.ProcsFile.{are_named}

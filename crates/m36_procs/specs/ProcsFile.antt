@@ -1,21 +1,26 @@
--- The text of processes: it writes out one core, the processes on it, and the schedule by which they run.
+-- The text of processes: it writes out one core, the processes on it, and the schedule by which they
+-- run.
 --
 --     core N              N decimal, 1 to 16384 frames of 1,024 words
---     process E O S R I   a process: the two words of its descriptor segment base register, of 12 octal
---                         digits, and where it starts: segment, ring and word number, of 5, 1 and 6
---     at A W ..           a core address of 8 octal digits, and one to eight words of 12, there and behind
---     turns C P ..        one to sixteen process numbers of one digit, taken in order, C times; C decimal,
---                         1 to 1000000
+--     process E O S R I   a process: the two words of its descriptor segment base register, of 12
+--                         octal digits, and where it starts: segment, ring and word number, of 5, 1
+--                         and 6
+--     at A W ..           a core address of 8 octal digits, and one to eight words of 12, there and
+--                         behind
+--     turns C P ..        one to sixteen process numbers of one digit, taken in order, C times; C
+--                         decimal, 1 to 1000000
 --
--- Each line ends with a line feed, and the words of a line are parted by single spaces. The lines stand in
--- this order: `core` once, one to eight `process`, any number of `at`, and at least one `turns`. Processes
--- are numbered from 0. All `turns` lines together make at most 10000000 events.
+-- Each line ends with a line feed, and the words of a line are parted by single spaces. The lines
+-- stand in this order: `core` once, one to eight `process`, any number of `at`, and at least one
+-- `turns`. Processes are numbered from 0. All `turns` lines together make at most 10000000 events.
 --
--- P1 is a line not of its form, out of order or missing, a missing line feed, an N out of range, an `at`
--- whose first address is not above every earlier address or whose last address is outside core, or a
--- `turns` line with which there are too many events. P2 is a number of no process. The first line with a
--- fault counts, and in it P1 before P2. A missing line has the number that it would have.
-use Rattle.std.specs.Prelude.{ℕ, zero, suc, ◌+◌, ◌*◌, ◌&&◌, Bool, true, false, nat_le, nat_lt, List, [], ◌∷◌, ◌++◌, length, drop, replicate, codes, Option, Some, None, Result, Ok, Err, if◌then◌else◌}
+-- P1 is a line not of its form, out of order or missing, a missing line feed, an N out of range, an
+-- `at` whose first address is not above every earlier address or whose last address is outside core,
+-- or a `turns` line with which there are too many events. P2 is a number of no process. The first
+-- line with a fault counts, and in it P1 before P2. A missing line has the number that it would have.
+use Rattle.std.specs.Prelude.{ℕ, zero, suc, ◌+◌, ◌*◌, ◌&&◌, Bool, true, false, nat_le, nat_lt, List}
+use Rattle.std.specs.Prelude.{[], ◌∷◌, ◌++◌, length, drop, replicate, codes, Option, Some, None}
+use Rattle.std.specs.Prelude.{Result, Ok, Err, if◌then◌else◌}
 use Rattle.std.specs.List.{list_all, flat_map}
 use Rattle.m36_text.specs.Texts.{is_text}
 use Rattle.m36_text.specs.Lines.{lines_of, line_at, words_of, first_told}
@@ -92,8 +97,8 @@ abbrev pub line_of : Option (List ℕ) → Line
 line_of (Some line) = line_in (words_of line)
 line_of None = OtherLine
 
--- What stands before a line: which lines may follow, the words of core, the count of processes, the least
--- address that an `at` line may have, and the count of events.
+-- What stands before a line: which lines may follow, the words of core, the count of processes, the
+-- least address that an `at` line may have, and the count of events.
 pub record Stands : Type 0 where
   pub stage : Stage
   pub size : ℕ
@@ -216,8 +221,8 @@ abbrev pub procs_by : Option (ℕ × Code) → ProcsFields → Result ProcsField
 procs_by None procs = Ok procs
 procs_by (Some told) procs = Err told
 
--- the processes and the schedule that a text writes out, or its first line that has a code, with the
--- least code of that line
+-- the processes and the schedule that a text writes out, or its first line that has a code, with
+-- the least code of that line
 unfoldable pub procs_given : List ℕ → Result ProcsFields (ℕ × Code)
 procs_given text =
     procs_by

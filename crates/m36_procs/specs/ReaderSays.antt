@@ -1,8 +1,11 @@
--- A text of processes as it is read, line after line. That this comes to what the text says, is proved.
+-- A text of processes as it is read, line after line. That this comes to what the text says is
+-- proved.
 use Rattle.std.specs.Prelude.{ℕ, ◌≡◌, ◌<◌, ◌≤◌, ⊤, true, List, ◌++◌, length, None, Result, Ok, Err}
 use Rattle.m36_image.specs.BareImage.{at_words}
 use Rattle.m36_image.specs.ImageState.{written_all}
-use Rattle.m36_procs.specs.ProcsFile.{Line, line_by, Stands, judged, may_end, are_named, process_of, placed_of, turns_of}
+use Rattle.m36_procs.specs.ProcsFields.{ProcsFields}
+use Rattle.m36_procs.specs.ProcsFile.{Line, line_by, Stands, judged, may_end, are_named, process_of}
+use Rattle.m36_procs.specs.ProcsFile.{placed_of, turns_of}
 use Rattle.m36_procs.specs.declared.fault.LineFault.{LineFault}
 use Rattle.m36_procs.specs.declared.fault.LineFault.TheVariants.{Refused, NoMemory}
 use Rattle.m36_procs.specs.declared.reader.Reader.{Reader}
@@ -20,6 +23,14 @@ stands_of r =
       processes = length r.regs.items;
       next = r.next;
       events = length r.schedule.items;
+    }
+
+-- what was read, as processes with their schedule
+abbrev pub procs_read : Reader → ProcsFields
+procs_read r =
+    record {
+      state = record { regs = r.regs.items; store = r.core };
+      schedule = r.schedule.items;
     }
 
 -- what is known of what was read, whatever the lines

@@ -1,10 +1,12 @@
 -- What the parts of reading a text of processes answer.
-use Rattle.std.specs.Prelude.{ℕ, ◌≡◌, ◌*◌, ◌<◌, ⊤, List, [], ◌∷◌, ◌++◌, drop, length, replicate, Option, Some, None, Result, Ok, Err}
+use Rattle.std.specs.Prelude.{ℕ, ◌≡◌, ◌*◌, ◌<◌, ⊤, List, [], ◌∷◌, ◌++◌, drop, length, replicate}
+use Rattle.std.specs.Prelude.{Option, Some, None, Result, Ok, Err}
 use Rattle.std.specs.Borrow.{Bor}
 use Rattle.m36_text.specs.Lines.{lines_of, line_at, first_told}
 use Rattle.m36_image.specs.BareImage.{core_line}
 use Rattle.m36_image.specs.ImageState.{written_all}
-use Rattle.m36_procs.specs.ProcsFile.{codes_from, core_code, at_start, processes_in, placed_in, turns_in}
+use Rattle.m36_procs.specs.ProcsFile.{codes_from, core_code, at_start, processes_in, placed_in}
+use Rattle.m36_procs.specs.ProcsFile.{turns_in}
 use Rattle.m36_procs.specs.ReaderSays.{Fits, stands_of}
 use Rattle.m36_procs.specs.declared.fault.Code.{Code}
 use Rattle.m36_procs.specs.declared.fault.Code.TheVariants as code
@@ -12,7 +14,8 @@ use Rattle.m36_procs.specs.declared.fault.ProcsFault.{ProcsFault}
 use Rattle.m36_procs.specs.declared.fault.ProcsFault.TheVariants.{P1, P2, NoMemory}
 use Rattle.m36_procs.specs.declared.reader.Reader.{Reader}
 
--- the fault told of a list of codes, of which the first is that of line n; want of memory may come at any time
+-- the fault told of a list of codes, of which the first is that of line n; want of memory may come at
+-- any time
 abbrev pub FaultSays : ProcsFault → ℕ → List (Option Code) → Type 0
 FaultSays (P1 line) n codes = first_told n codes ≡ Some (line, code.P1)
 FaultSays (P2 line) n codes = first_told n codes ≡ Some (line, code.P2)
@@ -41,6 +44,7 @@ pub record TookLines (old new : Reader) (lines : List (Option (List ℕ))) : Typ
   pub fits : Fits new
   pub some : 0 < length new.regs.items
 
-abbrev pub LinesSay : Result (Unit {0}) ProcsFault → Reader → Reader → List (Option (List ℕ)) → Type 0
+abbrev pub LinesSay :
+    Result (Unit {0}) ProcsFault → Reader → Reader → List (Option (List ℕ)) → Type 0
 LinesSay (Ok done) old new lines = TookLines old new lines
 LinesSay (Err fault) old new lines = FaultSays fault 2 (codes_from (stands_of old) lines)

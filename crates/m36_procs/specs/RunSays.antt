@@ -7,7 +7,9 @@ use Rattle.m36_procs.specs.ScheduleText.{schedule_text, last_state}
 use Rattle.m36_procs.specs.declared.fault.WriteFault.{WriteFault}
 
 -- all events were made, and their text is written
-pub record IsRun (schedule : List ℕ) (old new : Processes (List ℕ)) (before now : Option (List ℕ)) : Type 0 where
+pub record IsRun
+    (schedule : List ℕ) (old new : Processes (List ℕ)) (before now : Option (List ℕ))
+    : Type 0 where
   pub state : new ≡ last_state schedule old
   pub grew : Grew before now (schedule_text schedule old)
 

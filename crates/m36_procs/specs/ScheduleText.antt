@@ -1,5 +1,6 @@
 -- What a run of a schedule writes: a line for each event, and the last line.
-use Rattle.std.specs.Prelude.{ℕ, ◌+◌, List, [], ◌∷◌, ◌++◌, length, slice_get, codes, Option, Some, None}
+use Rattle.std.specs.Prelude.{ℕ, ◌+◌, List, [], ◌∷◌, ◌++◌, length, slice_get, codes, Option, Some}
+use Rattle.std.specs.Prelude.{None}
 use Rattle.m36_text.specs.Digits.{decimal_text}
 use Rattle.m36_model.specs.Core.{core_store}
 use Rattle.m36_model.specs.Registers.{RegsFields}

@@ -41,7 +41,8 @@ fn bring(machine: &mut Machine, regs: &mut Vec<Regs>, inside: &mut usize, i: usi
     ensures here { inside.new ≡ i }
     ensures len { length regs.new.items ≡ length regs.old.items }
     ensures store { machine.new.store ≡ machine.old.store }
-    ensures all { slice_set regs.new.items i machine.new.regs ≡ slice_set regs.old.items inside.old machine.old.regs }
+    ensures all { slice_set regs.new.items i machine.new.regs
+        ≡ slice_set regs.old.items inside.old machine.old.regs }
 {
     if *inside == i {
         return;

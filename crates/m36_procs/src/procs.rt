@@ -4,7 +4,7 @@ ghost use Rattle.std.specs.Prelude.{ℕ, ◌≡◌, ◌<◌, ◌≤◌, ◌^◌,
 ghost use Rattle.m36_procs.specs.EventSays.{EventSays};
 ghost use Rattle.m36_procs.specs.ProcsFile.{procs_given};
 ghost use Rattle.m36_procs.specs.ProcsSays.{ProcsSays};
-ghost use Rattle.m36_procs.specs.ReaderSays.{Fits};
+ghost use Rattle.m36_procs.specs.ReaderSays.{Fits, procs_read};
 ghost use Rattle.m36_procs.specs.RunSays.{RunSays, RunHasCause};
 
 use crate::fault::{ProcsFault, WriteFault};
@@ -41,7 +41,7 @@ impl Model for Procs {
 fn finished(alloc: Global, reader: Reader) -> Result<Procs, NoMemory>
     requires fits { Fits reader }
     requires some { 0 < length reader.regs.items }
-    ensures { IfOk result (λ p. p ≡ record { state = record { regs = reader.regs.items; store = reader.core }; schedule = reader.schedule.items }) }
+    ensures { IfOk result (λ p. p ≡ procs_read reader) }
 {
     let Reader {
         core,
@@ -109,7 +109,8 @@ impl Procs {
     /// Makes the events of the whole schedule, and writes a line for each and the last line. The error comes only where a
     /// line could not be written; then a first part of the text is written.
     pub fn run<S: Sink>(&mut self, out: &mut S) -> Result<(), WriteFault>
-        ensures says { RunSays result self.old.schedule self.old.state self.new.state (S.written out.old) (S.written out.new) }
+        ensures says { RunSays result self.old.schedule
+            self.old.state self.new.state (S.written out.old) (S.written out.new) }
         ensures cause { RunHasCause result (S.faults out.old) (S.faults out.new) }
         ensures schedule { self.new.schedule ≡ self.old.schedule }
     {

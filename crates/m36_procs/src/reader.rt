@@ -116,7 +116,8 @@ fn push_numbers(schedule: &mut Vec<u8>, order: &[u8], times: u32) -> Result<(), 
 
 // Puts turns behind a schedule.
 fn push_turns(schedule: &mut Vec<u8>, turns: &Turns) -> Result<(), NoMemory>
-    ensures { OnOk result (schedule.new.items ≡ schedule.old.items ++ repeated turns.now.times turns.now.order) }
+    ensures { OnOk result
+        (schedule.new.items ≡ schedule.old.items ++ repeated turns.now.times turns.now.order) }
 {
     push_numbers(schedule, turns.order.as_slice(), turns.times)
 }

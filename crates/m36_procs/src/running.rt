@@ -41,7 +41,8 @@ fn end_line(events: u64) -> ArrayString<40>
 
 // Puts the line of an event, in one piece.
 fn put_event<S: Sink>(process: u8, n: u64, told: &StepRecord, out: &mut S) -> Put
-    ensures says { PutSays result (S.written out.old) (S.written out.new) (event_line n process told.now) }
+    ensures says { PutSays result
+        (S.written out.old) (S.written out.new) (event_line n process told.now) }
     ensures cause { PutHasCause result (S.faults out.old) (S.faults out.new) }
 {
     out.put(event_line(process, n, told).as_str().as_bytes())
@@ -63,7 +64,8 @@ pub(crate) fn run_schedule<S: Sink>(
     out: &mut S,
 ) -> Result<(), WriteFault>
     requires named { are_named (length processes.old.regs) schedule.now ≡ true }
-    ensures says { RunSays result schedule.now processes.old processes.new (S.written out.old) (S.written out.new) }
+    ensures says { RunSays result schedule.now
+        processes.old processes.new (S.written out.old) (S.written out.new) }
     ensures cause { RunHasCause result (S.faults out.old) (S.faults out.new) }
     ensures count { length processes.new.regs ≡ length processes.old.regs }
 {
