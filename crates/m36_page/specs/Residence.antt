@@ -39,13 +39,8 @@ kept_word p seg w = kept_in (table_of p.tables seg) w
 
 -- ---- page table words
 
--- of a page in no frame: F off, directed fault 1
-abbrev pub absent_ptw : ℕ
-absent_ptw = 1
-
--- of a page in a frame: F on, and its place in units of 64 words
-abbrev pub resident_ptw : ℕ → ℕ
-resident_ptw frame = 16 * frame * 2 ^ 18 + 4
+-- of a page in no frame, and of a page in a frame
+pub use Rattle.m36_model.specs.BootedCore.{absent_ptw, resident_ptw}
 
 -- the frame that a page table word names
 abbrev pub frame_by : PtwFields → Option ℕ
