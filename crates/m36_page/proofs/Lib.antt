@@ -6,3 +6,4 @@ pub mod Parts
 pub mod SetWords
 pub mod Placed
 pub mod Lay
+pub mod Room

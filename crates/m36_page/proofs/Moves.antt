@@ -157,10 +157,10 @@ away_out p core new now k seg page away =
     frame_absent (get_or now (spot_of new seg page) 0) (ap unmarked word ∙ absent_unmarked)
 
 -- of a page that a frame holds, no other frame does
-one_frame : (p : PagerFields) (core : List ℕ) (k j seg page : ℕ) → IsSettled p core → Holds p k seg page → Holds p j seg page → k ≡ j
-one_frame p core k j seg page s h i =
-    let a = s.reads.frames k seg page h in
-    let b = s.reads.frames j seg page i in
+pub one_frame : (p : PagerFields) (core : List ℕ) (k j seg page : ℕ) → Reads p core → Holds p k seg page → Holds p j seg page → k ≡ j
+one_frame p core k j seg page reads h i =
+    let a = reads.frames k seg page h in
+    let b = reads.frames j seg page i in
     omega (arith, a, b)
 
 same_some : (a b : ℕ × ℕ) → Some a ≡ Some b → a ≡ b
@@ -203,7 +203,7 @@ away_reads p core new now k seg page settled away = record {
             let P : ℕ → Type 0 = λ x. Holds p j x q in
             let Q : ℕ → Type 0 = λ y. Holds p j seg y in
             let moved : Holds p j seg page = subst Q same.1 (subst P same.0 from.0) in
-            absurd (from.1 (one_frame p core j k seg page settled moved away.held))
+            absurd (from.1 (one_frame p core j k seg page settled.reads moved away.held))
         | inr other ↦
             ap unmarked (away_word p core new now k seg page s q settled away has other) ∙ settled.reads.frames j s q from.0
             ∙ ap (λ f. resident_ptw (f + j)) (sym away.shape.first)

@@ -5,6 +5,7 @@ use Rattle.m36_desc.specs.Descriptors.{ptw_of, ptw_word}
 use Rattle.m36_desc.specs.Fields.{PtwFields}
 use Rattle.m36_model.specs.Core.{unmarked}
 use Rattle.m36_page.specs.Fields.{TableFields, PagerFields}
+pub use Rattle.m36_model.specs.BootedCore.{absent_ptw, resident_ptw}
 
 -- ---- pages of tables
 
@@ -38,9 +39,6 @@ unfoldable pub kept_word : PagerFields → ℕ → ℕ → ℕ
 kept_word p seg w = kept_in (table_of p.tables seg) w
 
 -- ---- page table words
-
--- of a page in no frame, and of a page in a frame
-pub use Rattle.m36_model.specs.BootedCore.{absent_ptw, resident_ptw}
 
 -- the frame that a page table word names
 abbrev pub frame_by : PtwFields → Option ℕ

@@ -185,7 +185,7 @@ impl Pager {
     }
 
     /// Brings a page into a frame; one that is in a frame is left as it is. The error says that every frame holds a page of
-    /// the references, and then nothing has changed.
+    /// the references, and then nothing has changed; with more frames than references it never comes.
     pub fn bring(
         &mut self,
         core: &mut Core,
@@ -198,6 +198,7 @@ impl Pager {
         requires page { has_page self.old seg page ≡ true }
         ensures ok { OnOk result (IsBrought self.old core.old self.new core.new seg page pinned.now.items) }
         ensures err { OnErr result ((self.new ≡ self.old) × (core.new ≡ core.old) × AllPinned self.old pinned.now.items) }
+        ensures room { OnErr result (length self.old.holders ≤ length pinned.now.items) }
         ensures free { OnOk result (IsSome (frame_of self.old core.old seg page) ⊎ (AllPinned self.old pinned.now.items → ⊥)) }
         ensures reads { Reads self.new core.new }
         ensures frames { HasFrames self.new core.new }

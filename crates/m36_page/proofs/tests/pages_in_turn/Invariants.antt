@@ -3,4 +3,4 @@ use Rattle.m36_page.proofs.tests.pages_in_turn.Given as goal
 
 -- core as each call wants it
 abbrev pub invariant-loop-seg : goal.invariant-loop-seg
-invariant-loop-seg l = record { frames : HasFrames l.pager l.core; reads : Reads l.pager l.core }
+invariant-loop-seg g l = record { frames : HasFrames l.pager l.core; reads : Reads l.pager l.core }

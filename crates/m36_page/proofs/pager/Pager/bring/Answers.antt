@@ -1,8 +1,9 @@
-use Rattle.std.proofs.Common.{List, inl, inr, sym, ap, subst, ◌∙◌, arith}
+use Rattle.std.proofs.Common.{List, length, inl, inr, sym, ap, subst, ◌∙◌, arith}
 use Rattle.m36_model.specs.declared.place.Reference.{Reference}
 use Rattle.m36_page.specs.Residence.{IsSettled}
 use Rattle.m36_page.specs.Changes.{IsBrought, AllPinned}
 use Rattle.m36_page.proofs.Moves.{marks_frame, taken_settled}
+use Rattle.m36_page.proofs.Room.{few_frames}
 use Rattle.m36_page.proofs.Parts.{settled_by, marks_of, resident_from, out_from, brought_same, brought, not_pinned}
 use Rattle.m36_page.proofs.pager.Pager.bring.Goals as goal
 
@@ -26,6 +27,11 @@ take_in-requires-clause-out c =
     (marks_of c.args.self.now c.args.core.now c.choose.new.core c.choose.ensures.marks) c.requires.page
     ∙ out_from c.args.self.now c.args.core.now c.args.seg c.args.page c.spot-spot.result c.frame_at.result c.is_some.result
     c.spot-spot.ensures.value c.frame_at.ensures c.is_some.ensures c.if-is_some.false)
+
+pub returns-in_default-clause-room : goal.returns-in_default-clause-room
+returns-in_default-clause-room c =
+    let few = few_frames c.args.self.now c.args.core.now c.as_slice.result.now c.requires.reads c.in_default.ensures.none in
+    omega (arith, few, ap length c.as_slice.ensures.value)
 
 pub returns-clause-ok : goal.returns-clause-ok
 returns-clause-ok c =
