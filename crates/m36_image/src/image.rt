@@ -30,8 +30,8 @@ impl Model for Image {
     ghost view = { λ i. record { regs = i.regs; store = i.core } };
 }
 
-// All registers zero, but for the descriptor segment base register and the first instruction.
-fn registers(dbr: Pair, start: Ppr) -> Regs
+/// All registers zero, but for the descriptor segment base register and the first instruction.
+pub fn registers(dbr: Pair, start: Ppr) -> Regs
     ensures { result ≡ regs_of dbr start }
 {
     let none = Ptr {

@@ -2,7 +2,7 @@
 //!
 //! [`read_image`] reads one: it answers exactly the state that the text writes out, or else the first line with a fault
 //! and the least code of that line, or want of memory. The forms of single lines, [`core_line`], [`at_line`] and
-//! [`put_line_into_core`], serve other files that have them.
+//! [`put_line_into_core`], and the [`registers`] of a start serve other files that have them.
 //!
 //! `specs/BareImage.antt` has the grammar, and `specs/ImageState.antt` the state that an image writes out.
 //!
@@ -20,6 +20,6 @@ mod tests;
 
 pub use core_words::put_line_into_core;
 pub use forms::core_line;
-pub use image::{Image, read_image};
+pub use image::{Image, read_image, registers};
 pub use placed::{Placed, at_line};
 pub use refusal::{ImageCode, ImageFault, Refusal};

@@ -1,0 +1,158 @@
+-- A run of a schedule, event by event: what is left of its text, and what it leaves.
+use Rattle.std.proofs.Common.{◌≡◌, ℕ, zero, suc, ◌+◌, ◌<◌, Bool, true, false, ◌&&◌, List, [], ◌∷◌, ◌++◌, length, Option, Some, refl, sym, ap, subst, ◌∙◌, arith, append_assoc}
+use Rattle.std.specs.Prelude.{slice_get, nat_lt}
+use Rattle.std.proofs.lemmas.Bool.{ltb-true}
+use Rattle.m36_outside.specs.Written.{Grew, GrewWithin}
+use Rattle.m36_outside.proofs.Completes.{Completes, completes_all, completes_rest, completes_whole, completes_cut, completes_cut_last}
+use Rattle.m36_model.specs.Core.{core_store}
+use Rattle.m36_model.specs.Registers.{RegsFields}
+use Rattle.m36_model.specs.Schedule.{Processes, Event, process_of, stepped, event, events, events_by}
+use Rattle.m36_model.specs.Step.{record_of}
+use Rattle.m36_model.specs.declared.record.StepRecord.{StepRecord}
+use Rattle.m36_procs.specs.EventSays.{EventSays, IsEvent}
+use Rattle.m36_procs.specs.ProcsFile.{are_named}
+use Rattle.m36_procs.specs.RunSays.{IsRun}
+use Rattle.m36_procs.specs.ScheduleText.{event_line, event_lines, end_line, text_from, schedule_text, last_by, last_state}
+
+-- the events of a schedule that begins with a process
+events_first :
+    (i : ℕ) (schedule : List ℕ) (s : Processes (List ℕ)) (g : RegsFields)
+    → slice_get s.regs i ≡ Some g
+    → events core_store (i ∷ schedule) s ≡ event core_store s i g ∷ events core_store schedule (stepped core_store s i g)
+unfolding events
+events_first i schedule s g there = ap (λ o. events_by core_store s i o (events core_store schedule)) there
+
+last_first :
+    (i : ℕ) (schedule : List ℕ) (s : Processes (List ℕ)) (g : RegsFields)
+    → slice_get s.regs i ≡ Some g → last_state (i ∷ schedule) s ≡ last_state schedule (stepped core_store s i g)
+unfolding last_state
+last_first i schedule s g there = ap (λ o. last_by s i o (last_state schedule)) there
+
+lines_first :
+    (n : ℕ) (e : Event (List ℕ)) (more : List (Event (List ℕ)))
+    → event_lines n (e ∷ more) ≡ event_line n e.process e.told ++ event_lines (n + 1) more
+unfolding event_lines
+lines_first n e more = refl
+
+text_first :
+    (total n i : ℕ) (schedule : List ℕ) (s : Processes (List ℕ)) (g : RegsFields)
+    → slice_get s.regs i ≡ Some g
+    → text_from total n (i ∷ schedule) s
+    ≡ event_line n i (record_of core_store (process_of s g)) ++ text_from total (n + 1) schedule (stepped core_store s i g)
+text_first total n i schedule s g there =
+    ap (λ e. event_lines n e ++ end_line total) (events_first i schedule s g there) ∙ ap (λ t. t ++ end_line total) (lines_first n (event core_store s i g) (events core_store schedule (stepped core_store s i g))) ∙ append_assoc (event_line n i (record_of core_store (process_of s g))) _ (end_line total)
+
+text_last : (total n : ℕ) (s : Processes (List ℕ)) → text_from total n [] s ≡ end_line total
+unfolding events event_lines
+text_last total n s = refl
+
+last_last : (s : Processes (List ℕ)) → last_state [] s ≡ s
+unfolding last_state
+last_last s = refl
+
+-- A run that began in state `first` with the schedule `all` has made n events, has the schedule `left`, stands in a
+-- state, and has written what is written now.
+pub record Runs (all : List ℕ) (first : Processes (List ℕ)) (start now : Option (List ℕ)) (n : ℕ) (left : List ℕ) (s : Processes (List ℕ)) : Type 0 where
+  pub text : Completes now start (text_from (length all) (n + 1) left s) (schedule_text all first)
+  pub last : last_state left s ≡ last_state all first
+  pub count : n + length left ≡ length all
+  pub named : are_named (length s.regs) left ≡ true
+  pub regs : length s.regs ≡ length first.regs
+
+pub runs_start :
+    (all : List ℕ) (first : Processes (List ℕ)) (start : Option (List ℕ))
+    → are_named (length first.regs) all ≡ true → Runs all first start start 0 all first
+unfolding schedule_text
+runs_start all first start named = record {
+  text = completes_all start (text_from (length all) 1 all first);
+  last = refl;
+  count = omega arith;
+  named = named;
+  regs = refl;
+}
+
+both_left : (a b : Bool) → a && b ≡ true → a ≡ true
+both_left true b e = refl
+both_left false b e = e
+
+both_right : (a b : Bool) → a && b ≡ true → b ≡ true
+both_right true b e = e
+both_right false b e = cc
+
+-- the next number is that of a process
+pub next_named : (count i : ℕ) (left more : List ℕ) → are_named count left ≡ true → left ≡ i ∷ more → i < count
+next_named count i left more named begins =
+    ltb-true i count (both_left (nat_lt i count) (are_named count more) (ap (are_named count) (sym begins) ∙ named))
+
+get_of : {A : Type 0} (xs : List A) (i : ℕ) → i < length xs → (x : A) × (slice_get xs i ≡ Some x)
+get_of [] i within = absurd (omega arith)
+get_of (x ∷ xs) zero within = (x, refl)
+get_of (x ∷ xs) (suc i) within = get_of xs i (omega arith)
+
+-- an event was made, and its line is written
+pub runs_more :
+    (all : List ℕ) (first : Processes (List ℕ)) (start now next : Option (List ℕ)) (n i : ℕ) (left more : List ℕ) (s new : Processes (List ℕ)) (told : StepRecord)
+    → Runs all first start now n left s
+    → left ≡ i ∷ more
+    → EventSays i s new told
+    → length new.regs ≡ length s.regs
+    → Grew now next (event_line (n + 1) i told)
+    → Runs all first start next (n + 1) more new
+runs_more all first start now next n i left more s new told so_far begins says count grew =
+    let own = get_of s.regs i (next_named (length s.regs) i left more so_far.named begins) in
+    let is : IsEvent i s new told own.0 = says own.0 own.1 in
+    let line : event_line (n + 1) i told ≡ event_line (n + 1) i (record_of core_store (process_of s own.0)) = ap (event_line (n + 1) i) is.told_is in
+    let here : text_from (length all) (n + 1) left s ≡ event_line (n + 1) i told ++ text_from (length all) (n + 1 + 1) more new = ap (λ l. text_from (length all) (n + 1) l s) begins ∙ text_first (length all) (n + 1) i more s own.0 own.1 ∙ ap (λ l. l ++ text_from (length all) (n + 1 + 1) more (stepped core_store s i own.0)) (sym line) ∙ ap (λ p. event_line (n + 1) i told ++ text_from (length all) (n + 1 + 1) more p) (sym is.state) in
+    record {
+      text = completes_rest now next start (text_from (length all) (n + 1) left s) (event_line (n + 1) i told) (text_from (length all) (n + 1 + 1) more new) (schedule_text all first) so_far.text here grew;
+      last = ap (last_state more) is.state ∙ sym (last_first i more s own.0 own.1) ∙ ap (λ l. last_state l s) (sym begins) ∙ so_far.last;
+      count = omega (arith, so_far.count, ap length begins);
+      named = ap (λ k. are_named k more) count ∙ both_right (nat_lt i (length s.regs)) (are_named (length s.regs) more) (ap (are_named (length s.regs)) (sym begins) ∙ so_far.named);
+      regs = count ∙ so_far.regs;
+    }
+
+-- the line of an event was not written whole
+pub runs_cut :
+    (all : List ℕ) (first : Processes (List ℕ)) (start now next : Option (List ℕ)) (n i : ℕ) (left more : List ℕ) (s new : Processes (List ℕ)) (told : StepRecord)
+    → Runs all first start now n left s
+    → left ≡ i ∷ more
+    → EventSays i s new told
+    → GrewWithin now next (event_line (n + 1) i told)
+    → GrewWithin start next (schedule_text all first)
+runs_cut all first start now next n i left more s new told so_far begins says cut =
+    let own = get_of s.regs i (next_named (length s.regs) i left more so_far.named begins) in
+    let is : IsEvent i s new told own.0 = says own.0 own.1 in
+    let line : event_line (n + 1) i told ≡ event_line (n + 1) i (record_of core_store (process_of s own.0)) = ap (event_line (n + 1) i) is.told_is in
+    let here : text_from (length all) (n + 1) left s ≡ event_line (n + 1) i told ++ text_from (length all) (n + 1 + 1) more (stepped core_store s i own.0) = ap (λ l. text_from (length all) (n + 1) l s) begins ∙ text_first (length all) (n + 1) i more s own.0 own.1 ∙ ap (λ l. l ++ text_from (length all) (n + 1 + 1) more (stepped core_store s i own.0)) (sym line) in
+    completes_cut now next start (text_from (length all) (n + 1) left s) (event_line (n + 1) i told) (text_from (length all) (n + 1 + 1) more (stepped core_store s i own.0)) (schedule_text all first) so_far.text here cut
+
+none_left : {A : Type 0} (xs : List A) → length xs ≡ 0 → xs ≡ []
+none_left [] e = refl
+none_left (x ∷ xs) e = absurd (omega (arith, e))
+
+ended_text :
+    (all : List ℕ) (first : Processes (List ℕ)) (start now : Option (List ℕ)) (n : ℕ) (left : List ℕ) (s : Processes (List ℕ))
+    → Runs all first start now n left s → left ≡ [] → Completes now start (end_line n) (schedule_text all first)
+ended_text all first start now n left s so_far none =
+    let total : length all ≡ n = omega (arith, so_far.count, ap length none) in
+    let text : text_from (length all) (n + 1) left s ≡ end_line n = ap (λ l. text_from (length all) (n + 1) l s) none ∙ text_last (length all) (n + 1) s ∙ ap end_line total in
+    subst (λ t. Completes now start t (schedule_text all first)) text so_far.text
+
+-- all events were made, and the last line was put
+pub runs_done :
+    (all : List ℕ) (first : Processes (List ℕ)) (start now next : Option (List ℕ)) (n : ℕ) (left : List ℕ) (s : Processes (List ℕ))
+    → Runs all first start now n left s → length left ≡ 0 → Grew now next (end_line n) → IsRun all first s start next
+runs_done all first start now next n left s so_far empty grew =
+    let none : left ≡ [] = none_left left empty in
+    record {
+      state = sym (last_last s) ∙ ap (λ l. last_state l s) (sym none) ∙ so_far.last;
+      grew = completes_whole now next start (end_line n) (schedule_text all first) (ended_text all first start now n left s so_far none) grew;
+    }
+
+pub runs_cut_last :
+    (all : List ℕ) (first : Processes (List ℕ)) (start now next : Option (List ℕ)) (n : ℕ) (left : List ℕ) (s : Processes (List ℕ))
+    → Runs all first start now n left s → length left ≡ 0 → GrewWithin now next (end_line n) → GrewWithin start next (schedule_text all first)
+runs_cut_last all first start now next n left s so_far empty cut =
+    completes_cut_last now next start (end_line n) (schedule_text all first) (ended_text all first start now n left s so_far (none_left left empty)) cut
+
+pub ruleset running = (runs_start, next_named, runs_more, runs_cut, runs_done, runs_cut_last)

@@ -1,0 +1,147 @@
+-- What is known of what was read stays known when a line is taken.
+use Rattle.std.proofs.Common.{◌≡◌, ℕ, zero, suc, ◌+◌, ◌<◌, ◌≤◌, Bool, true, false, cond, ◌&&◌, List, [], ◌∷◌, ◌++◌, length, Some, Result, Ok, Err, refl, sym, ap, ◌∙◌, arith}
+use Rattle.std.specs.Prelude.{nat_le, nat_lt}
+use Rattle.std.proofs.lemmas.Bool.{leb-true, ltb-true, lt-ltb}
+use Rattle.std.proofs.lemmas.List.{append-nil}
+use Rattle.std.proofs.lemmas.List.Folds.{list_all-append}
+use Rattle.m36_model.specs.Registers.{RegsFields}
+use Rattle.m36_image.specs.PlacedWords.{PlacedWords}
+use Rattle.m36_image.specs.declared.refusal.ImageCode.{ImageCode}
+use Rattle.m36_image.specs.InTurn.{at_end}
+use Rattle.m36_procs.specs.ProcsFields.{TurnsFields}
+use Rattle.m36_procs.specs.ProcsFile.{Line, Stands, may_name, may_place, may_end, placed_from, events_with, are_named, judged, repeated}
+use Rattle.m36_procs.specs.ProcsFile.Line.{ProcessLine, TurnsLine, AtLine, OtherLine}
+use Rattle.m36_procs.specs.ReaderSays.{stands_of, Fits, TookLine}
+use Rattle.m36_procs.specs.declared.fault.Code.{Code}
+use Rattle.m36_procs.specs.declared.fault.Code.TheVariants.{P1, P2}
+use Rattle.m36_procs.specs.declared.reader.Reader.{Reader}
+use Rattle.m36_procs.specs.declared.reader.Stage.TheVariants.{Placing, Turning}
+
+-- what was chosen, where it is no error
+was_tested : {A E : Type 0} (b : Bool) (r : Result A E) (e : E) (y : A) → cond b r (Err e) ≡ Ok y → b ≡ true
+was_tested true r e y h = refl
+was_tested false r e y h = cc
+
+was_chosen : {A E : Type 0} (b : Bool) (r : Result A E) (e : E) (y : A) → cond b r (Err e) ≡ Ok y → r ≡ Ok y
+was_chosen true r e y h = h
+was_chosen false r e y h = cc
+
+abbrev fine : Stands → Result Stands Code
+fine s = Ok s
+
+abbrev refused : Code → Result Stands Code
+refused code = Err code
+
+ok_same : (x y : Stands) → fine x ≡ fine y → x ≡ y
+ok_same x y h = cc
+
+left_holds : (a b : Bool) → a && b ≡ true → a ≡ true
+left_holds true b e = refl
+left_holds false b e = e
+
+right_holds : (a b : Bool) → a && b ≡ true → b ≡ true
+right_holds true b e = e
+right_holds false b e = cc
+
+both_hold : (a b : Bool) → a ≡ true → b ≡ true → a && b ≡ true
+both_hold true b e f = f
+both_hold false b e f = e
+
+was_placed :
+    (s y : Stands) (r : Result ℕ ImageCode)
+    → placed_from s r ≡ Ok y → (end : ℕ) × (record s { stage = Placing; next = end } ≡ y)
+was_placed s y (Ok end) h = (end, ok_same (record s { stage = Placing; next = end }) y h)
+was_placed s y (Err code) h = cc
+
+-- a number of one of some processes is one of more
+lt_more : (n count : ℕ) → nat_lt n count ≡ true → nat_lt n (count + 1) ≡ true
+lt_more n count e = let below = ltb-true n count e in lt-ltb n (count + 1) (omega arith)
+
+named_more : (numbers : List ℕ) (count : ℕ) → are_named count numbers ≡ true → are_named (count + 1) numbers ≡ true
+named_more [] count e = refl
+named_more (n ∷ numbers) count e =
+    both_hold (nat_lt n (count + 1)) (are_named (count + 1) numbers) (lt_more n count (left_holds (nat_lt n count) (are_named count numbers) e)) (named_more numbers count (right_holds (nat_lt n count) (are_named count numbers) e))
+
+named_both : (count : ℕ) (front back : List ℕ) → are_named count front ≡ true → are_named count back ≡ true → are_named count (front ++ back) ≡ true
+named_both count front back e f =
+    list_all-append (λ n. nat_lt n count) front back ∙ both_hold (are_named count front) (are_named count back) e f
+
+named_repeated : (times count : ℕ) (order : List ℕ) → are_named count order ≡ true → are_named count (repeated times order) ≡ true
+named_repeated zero count order e = refl
+named_repeated (suc times) count order e = named_both count order (repeated times order) e (named_repeated times count order e)
+
+-- the schedule stays, and the count of processes too
+named_still :
+    (old new : Reader) (count : ℕ)
+    → new.schedule.items ≡ old.schedule.items ++ [] → length new.regs.items ≡ count
+    → are_named count old.schedule.items ≡ true → are_named (length new.regs.items) new.schedule.items ≡ true
+named_still old new count same counted e =
+    ap (are_named (length new.regs.items)) (same ∙ append-nil old.schedule.items) ∙ ap (λ n. are_named n old.schedule.items) counted ∙ e
+
+kept_process : (old new : Reader) (g : RegsFields) → Fits old → TookLine old new (ProcessLine g) → Fits new
+unfolding judged
+kept_process old new g fits took =
+    let s : Stands = stands_of old in
+    let next : Stands = record s { processes = s.processes + 1 } in
+    let test : may_name s.stage && nat_lt s.processes 8 ≡ true = was_tested (may_name s.stage && nat_lt s.processes 8) (Ok next) P1 (stands_of new) took.stands in
+    let is : next ≡ stands_of new = ok_same next (stands_of new) (was_chosen (may_name s.stage && nat_lt s.processes 8) (Ok next) P1 (stands_of new) took.stands) in
+    let counted : length new.regs.items ≡ length old.regs.items + 1 = sym (ap (λ (t : Stands). t.processes) is) in
+    let events : length new.schedule.items ≡ length old.schedule.items = sym (ap (λ (t : Stands). t.events) is) in
+    let below : length old.regs.items < 8 = ltb-true (length old.regs.items) 8 (right_holds (may_name s.stage) (nat_lt s.processes 8) test) in
+    record {
+      few = omega (arith, counted, below);
+      short = omega (arith, events, fits.short);
+      some = λ e. omega (arith, counted);
+      named = named_still old new (length old.regs.items + 1) took.schedule counted (named_more old.schedule.items (length old.regs.items) fits.named);
+    }
+
+kept_words : (old new : Reader) (p : PlacedWords) → Fits old → TookLine old new (AtLine p) → Fits new
+unfolding judged
+kept_words old new p fits took =
+    let s : Stands = stands_of old in
+    let placed = was_placed s (stands_of new) (at_end s.size s.next (Some p)) (was_chosen (may_place s.stage && nat_lt 0 s.processes) (placed_from s (at_end s.size s.next (Some p))) P1 (stands_of new) took.stands) in
+    let counted : length new.regs.items ≡ length old.regs.items = sym (ap (λ (t : Stands). t.processes) placed.1) in
+    let events : length new.schedule.items ≡ length old.schedule.items = sym (ap (λ (t : Stands). t.events) placed.1) in
+    let stage : false ≡ may_end new.stage = ap (λ (t : Stands). may_end t.stage) placed.1 in
+    record {
+      few = omega (arith, counted, fits.few);
+      short = omega (arith, events, fits.short);
+      some = λ e. no_end (stage ∙ e);
+      named = named_still old new (length old.regs.items) took.schedule counted fits.named;
+    }
+  where
+    no_end : {P : Type 0} → false ≡ true → P
+    no_end e = cc
+
+kept_turns : (old new : Reader) (t : TurnsFields) → Fits old → TookLine old new (TurnsLine t) → Fits new
+unfolding judged
+kept_turns old new t fits took =
+    let s : Stands = stands_of old in
+    let next : Stands = record s { stage = Turning; events = events_with s t } in
+    let test : nat_lt 0 s.processes && nat_le (events_with s t) 10000000 ≡ true = was_tested (nat_lt 0 s.processes && nat_le (events_with s t) 10000000) (cond (are_named s.processes t.order) (Ok next) (Err P2)) P1 (stands_of new) took.stands in
+    let inner = was_chosen (nat_lt 0 s.processes && nat_le (events_with s t) 10000000) (cond (are_named s.processes t.order) (Ok next) (Err P2)) P1 (stands_of new) took.stands in
+    let named : are_named (length old.regs.items) t.order ≡ true = was_tested (are_named s.processes t.order) (Ok next) P2 (stands_of new) inner in
+    let is : next ≡ stands_of new = ok_same next (stands_of new) (was_chosen (are_named s.processes t.order) (Ok next) P2 (stands_of new) inner) in
+    let counted : length new.regs.items ≡ length old.regs.items = sym (ap (λ (u : Stands). u.processes) is) in
+    let events : length new.schedule.items ≡ events_with s t = sym (ap (λ (u : Stands). u.events) is) in
+    let most : events_with s t ≤ 10000000 = leb-true (events_with s t) 10000000 (right_holds (nat_lt 0 s.processes) (nat_le (events_with s t) 10000000) test) in
+    let some : 0 < length old.regs.items = ltb-true 0 (length old.regs.items) (left_holds (nat_lt 0 s.processes) (nat_le (events_with s t) 10000000) test) in
+    record {
+      few = omega (arith, counted, fits.few);
+      short = rw events most;
+      some = λ e. omega (arith, counted, some);
+      named = ap (are_named (length new.regs.items)) took.schedule ∙ ap (λ n. are_named n (old.schedule.items ++ repeated t.times t.order)) counted ∙ named_both (length old.regs.items) old.schedule.items (repeated t.times t.order) fits.named (named_repeated t.times (length old.regs.items) t.order named);
+    }
+
+kept_other : (old new : Reader) → TookLine old new OtherLine → Fits new
+unfolding judged
+kept_other old new took = no_line took.stands
+  where
+    no_line : {P : Type 0} → refused P1 ≡ fine (stands_of new) → P
+    no_line e = cc
+
+pub fits_kept : (line : Line) (old new : Reader) → Fits old → TookLine old new line → Fits new
+fits_kept (ProcessLine g) old new fits took = kept_process old new g fits took
+fits_kept (AtLine p) old new fits took = kept_words old new p fits took
+fits_kept (TurnsLine t) old new fits took = kept_turns old new t fits took
+fits_kept OtherLine old new fits took = kept_other old new took

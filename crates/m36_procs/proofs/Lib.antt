@@ -1,0 +1,9 @@
+pub mod Accepting
+pub mod Beginning
+pub mod Exchanging
+pub mod Fitting
+pub mod LinesRead
+pub mod Repeating
+pub mod EventsRun
+pub mod Taking
+pub mod TurnsLaws

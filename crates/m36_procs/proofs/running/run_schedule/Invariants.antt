@@ -1,0 +1,15 @@
+use Rattle.std.proofs.Common.{◌≡◌, length}
+use Rattle.m36_procs.proofs.EventsRun.{Runs}
+use Rattle.m36_procs.proofs.running.run_schedule.Given as goal
+
+abbrev pub decreases-events : goal.decreases-events
+decreases-events g l = length l.rest
+
+abbrev pub invariant-events : goal.invariant-events
+invariant-events g l =
+    let written = g.S.Sink.written in
+    let faults = g.S.Sink.faults in
+    record {
+      runs : Runs l.schedule l.fn.processes (written l.fn.out) (written l.out) l.n l.rest l.processes;
+      faults : faults l.out ≡ faults l.fn.out;
+    }

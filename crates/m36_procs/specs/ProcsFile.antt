@@ -1,0 +1,230 @@
+-- The text of processes: it writes out one core, the processes on it, and the schedule by which they
+-- run.
+--
+--     core N              N decimal, 1 to 16384 frames of 1,024 words
+--     process E O S R I   a process: the two words of its descriptor segment base register, of 12
+--                         octal digits, and where it starts: segment, ring and word number, of 5, 1
+--                         and 6
+--     at A W ..           a core address of 8 octal digits, and one to eight words of 12, there and
+--                         behind
+--     turns C P ..        one to sixteen process numbers of one digit, taken in order, C times; C
+--                         decimal, 1 to 1000000
+--
+-- Each line ends with a line feed, and the words of a line are parted by single spaces. The lines
+-- stand in this order: `core` once, one to eight `process`, any number of `at`, and at least one
+-- `turns`. Processes are numbered from 0. All `turns` lines together make at most 10000000 events.
+--
+-- P1 is a line not of its form, out of order or missing, a missing line feed, an N out of range, an
+-- `at` whose first address is not above every earlier address or whose last address is outside core,
+-- or a `turns` line with which there are too many events. P2 is a number of no process. The first
+-- line with a fault counts, and in it P1 before P2. A missing line has the number that it would have.
+use Rattle.std.specs.Prelude.{ℕ, zero, suc, ◌+◌, ◌*◌, ◌&&◌, Bool, true, false, nat_le, nat_lt, List}
+use Rattle.std.specs.Prelude.{[], ◌∷◌, ◌++◌, length, drop, replicate, codes, Option, Some, None}
+use Rattle.std.specs.Prelude.{Result, Ok, Err, if◌then◌else◌}
+use Rattle.std.specs.List.{list_all, flat_map}
+use Rattle.m36_text.specs.Texts.{is_text}
+use Rattle.m36_text.specs.Lines.{lines_of, line_at, words_of, first_told}
+use Rattle.m36_text.specs.Numbers.{octal_in, decimal_in, short_decimal_in}
+use Rattle.m36_word.specs.declared.pair.Pair.{Pair}
+use Rattle.m36_model.specs.Fields.{PprFields}
+use Rattle.m36_model.specs.Registers.{RegsFields}
+use Rattle.m36_image.specs.PlacedWords.{PlacedWords}
+use Rattle.m36_image.specs.declared.refusal.ImageCode.{ImageCode}
+use Rattle.m36_image.specs.BareImage.{dbr_read, start_read, at_words, core_line, frames_of}
+use Rattle.m36_image.specs.ImageState.{regs_of, written_all}
+use Rattle.m36_image.specs.InTurn.{at_end}
+use Rattle.m36_procs.specs.ProcsFields.{ProcsFields, TurnsFields}
+use Rattle.m36_procs.specs.declared.fault.Code.{Code}
+use Rattle.m36_procs.specs.declared.fault.Code.TheVariants.{P1, P2}
+use Rattle.m36_procs.specs.declared.reader.Stage.{Stage}
+use Rattle.m36_procs.specs.declared.reader.Stage.TheVariants.{Naming, Placing, Turning}
+
+-- A `process` line: all registers are zero but for the two that it gives.
+abbrev pub process_read : Option Pair → Option PprFields → Option RegsFields
+process_read (Some dbr) (Some start) = Some (regs_of dbr start)
+process_read _ _ = None
+
+abbrev pub process_words : List (List ℕ) → Option RegsFields
+process_words (name ∷ even ∷ odd ∷ seg ∷ ring ∷ word ∷ []) =
+    if is_text (codes "process") name
+    then process_read
+    (dbr_read (octal_in 12 even) (octal_in 12 odd))
+    (start_read (octal_in 5 seg) (octal_in 1 ring) (octal_in 6 word))
+    else None
+process_words _ = None
+
+-- A `turns` line.
+abbrev pub with_number : Option ℕ → Option (List ℕ) → Option (List ℕ)
+with_number (Some number) (Some numbers) = Some (number ∷ numbers)
+with_number _ _ = None
+
+abbrev pub numbers_in : List (List ℕ) → Option (List ℕ)
+numbers_in [] = Some []
+numbers_in (text ∷ texts) = with_number (short_decimal_in 1 0 9 text) (numbers_in texts)
+
+abbrev pub one_to_sixteen : List (List ℕ) → Option (List ℕ)
+one_to_sixteen [] = None
+one_to_sixteen (text ∷ texts) = if nat_le (length texts) 15 then numbers_in (text ∷ texts) else None
+
+abbrev pub turns_read : Option ℕ → Option (List ℕ) → Option TurnsFields
+turns_read (Some times) (Some order) = Some (record { times = times; order = order })
+turns_read _ _ = None
+
+abbrev pub turns_words : List (List ℕ) → Option TurnsFields
+turns_words (name ∷ times ∷ texts) =
+    if is_text (codes "turns") name
+    then turns_read (decimal_in 1 1000000 times) (one_to_sixteen texts) else None
+turns_words _ = None
+
+-- A line behind the first, by its form.
+pub data Line : Type 0 where
+  ProcessLine : RegsFields → Line
+  TurnsLine : TurnsFields → Line
+  AtLine : PlacedWords → Line
+  OtherLine : Line
+
+abbrev pub line_by : Option RegsFields → Option TurnsFields → Option PlacedWords → Line
+line_by (Some regs) turns placed = ProcessLine regs
+line_by None (Some turns) placed = TurnsLine turns
+line_by None None (Some placed) = AtLine placed
+line_by None None None = OtherLine
+
+abbrev pub line_in : List (List ℕ) → Line
+line_in words = line_by (process_words words) (turns_words words) (at_words words)
+
+-- one that lacks its line feed is of no form
+abbrev pub line_of : Option (List ℕ) → Line
+line_of (Some line) = line_in (words_of line)
+line_of None = OtherLine
+
+-- What stands before a line: which lines may follow, the words of core, the count of processes, the
+-- least address that an `at` line may have, and the count of events.
+pub record Stands : Type 0 where
+  pub stage : Stage
+  pub size : ℕ
+  pub processes : ℕ
+  pub next : ℕ
+  pub events : ℕ
+
+-- behind `core`, or a `process` line
+abbrev pub may_name : Stage → Bool
+may_name Naming = true
+may_name Placing = false
+may_name Turning = false
+
+-- the same, or behind an `at` line
+abbrev pub may_place : Stage → Bool
+may_place Naming = true
+may_place Placing = true
+may_place Turning = false
+
+-- behind a `turns` line
+abbrev pub may_end : Stage → Bool
+may_end Naming = false
+may_end Placing = false
+may_end Turning = true
+
+-- What stands behind a line, or the least code that it has.
+abbrev pub placed_from : Stands → Result ℕ ImageCode → Result Stands Code
+placed_from s (Ok end) = Ok (record s { stage = Placing; next = end })
+placed_from s (Err code) = Err P1
+
+abbrev pub events_with : Stands → TurnsFields → ℕ
+events_with s t = s.events + t.times * length t.order
+
+abbrev pub are_named : ℕ → List ℕ → Bool
+are_named count numbers = list_all (λ number. nat_lt number count) numbers
+
+unfoldable pub judged : Stands → Line → Result Stands Code
+judged s (ProcessLine regs) =
+    if may_name s.stage && nat_lt s.processes 8
+    then Ok (record s { processes = s.processes + 1 }) else Err P1
+judged s (AtLine placed) =
+    if may_place s.stage && nat_lt 0 s.processes
+    then placed_from s (at_end s.size s.next (Some placed)) else Err P1
+judged s (TurnsLine t) =
+    if nat_lt 0 s.processes && nat_le (events_with s t) 10000000
+    then if are_named s.processes t.order
+    then Ok (record s { stage = Turning; events = events_with s t }) else Err P2
+    else Err P1
+judged s OtherLine = Err P1
+
+-- The code of each line from there on, and of what is missing at their end.
+abbrev pub code_of : Result Stands Code → Option Code
+code_of (Ok s) = None
+code_of (Err code) = Some code
+
+abbrev pub behind : Stands → Result Stands Code → Stands
+behind s (Ok later) = later
+behind s (Err code) = s
+
+abbrev pub end_code : Stage → Option Code
+end_code stage = if may_end stage then None else Some P1
+
+unfoldable pub codes_from : Stands → List (Option (List ℕ)) → List (Option Code)
+codes_from s [] = end_code s.stage ∷ []
+codes_from s (line ∷ lines) =
+    code_of (judged s (line_of line)) ∷ codes_from (behind s (judged s (line_of line))) lines
+
+-- The first line, and what stands behind it.
+abbrev pub core_code : Result ℕ ImageCode → Option Code
+core_code (Ok frames) = None
+core_code (Err code) = Some P1
+
+abbrev pub at_start : ℕ → Stands
+at_start size = record { stage = Naming; size = size; processes = 0; next = 0; events = 0 }
+
+abbrev pub line_codes : List (Option (List ℕ)) → List (Option Code)
+line_codes lines =
+    core_code (core_line (line_at lines 1))
+    ∷ codes_from (at_start (1024 * frames_of lines)) (drop 1 lines)
+
+-- What the lines say, where none has a code.
+abbrev pub repeated : ℕ → List ℕ → List ℕ
+repeated zero numbers = []
+repeated (suc times) numbers = numbers ++ repeated times numbers
+
+abbrev pub process_of : Line → List RegsFields
+process_of (ProcessLine regs) = regs ∷ []
+process_of _ = []
+
+abbrev pub placed_of : Line → List PlacedWords
+placed_of (AtLine placed) = placed ∷ []
+placed_of _ = []
+
+abbrev pub turns_of : Line → List ℕ
+turns_of (TurnsLine t) = repeated t.times t.order
+turns_of _ = []
+
+abbrev pub processes_in : List (Option (List ℕ)) → List RegsFields
+processes_in lines = flat_map (λ line. process_of (line_of line)) lines
+
+abbrev pub placed_in : List (Option (List ℕ)) → List PlacedWords
+placed_in lines = flat_map (λ line. placed_of (line_of line)) lines
+
+abbrev pub turns_in : List (Option (List ℕ)) → List ℕ
+turns_in lines = flat_map (λ line. turns_of (line_of line)) lines
+
+-- every core word that no line writes is zero
+abbrev pub procs_in : ℕ → List (Option (List ℕ)) → ProcsFields
+procs_in size lines =
+    record {
+      state =
+          record {
+            regs = processes_in lines;
+            store = written_all (replicate size 0) (placed_in lines);
+          };
+      schedule = turns_in lines;
+    }
+
+abbrev pub procs_by : Option (ℕ × Code) → ProcsFields → Result ProcsFields (ℕ × Code)
+procs_by None procs = Ok procs
+procs_by (Some told) procs = Err told
+
+-- the processes and the schedule that a text writes out, or its first line that has a code, with
+-- the least code of that line
+unfoldable pub procs_given : List ℕ → Result ProcsFields (ℕ × Code)
+procs_given text =
+    procs_by
+    (first_told 1 (line_codes (lines_of text)))
+    (procs_in (1024 * frames_of (lines_of text)) (drop 1 (lines_of text)))

@@ -1,0 +1,53 @@
+-- A text of processes as it is read, line after line. That this comes to what the text says is
+-- proved.
+use Rattle.std.specs.Prelude.{ℕ, ◌≡◌, ◌<◌, ◌≤◌, ⊤, true, List, ◌++◌, length, None, Result, Ok, Err}
+use Rattle.m36_image.specs.BareImage.{at_words}
+use Rattle.m36_image.specs.ImageState.{written_all}
+use Rattle.m36_procs.specs.ProcsFields.{ProcsFields}
+use Rattle.m36_procs.specs.ProcsFile.{Line, line_by, Stands, judged, may_end, are_named, process_of}
+use Rattle.m36_procs.specs.ProcsFile.{placed_of, turns_of}
+use Rattle.m36_procs.specs.declared.fault.LineFault.{LineFault}
+use Rattle.m36_procs.specs.declared.fault.LineFault.TheVariants.{Refused, NoMemory}
+use Rattle.m36_procs.specs.declared.reader.Reader.{Reader}
+
+-- a line that is neither a `process` nor a `turns` line
+abbrev pub rest_in : List (List ℕ) → Line
+rest_in words = line_by None None (at_words words)
+
+-- what stands behind the lines that were read
+abbrev pub stands_of : Reader → Stands
+stands_of r =
+    record {
+      stage = r.stage;
+      size = length r.core;
+      processes = length r.regs.items;
+      next = r.next;
+      events = length r.schedule.items;
+    }
+
+-- what was read, as processes with their schedule
+abbrev pub procs_read : Reader → ProcsFields
+procs_read r =
+    record {
+      state = record { regs = r.regs.items; store = r.core };
+      schedule = r.schedule.items;
+    }
+
+-- what is known of what was read, whatever the lines
+pub record Fits (r : Reader) : Type 0 where
+  pub few : length r.regs.items ≤ 8
+  pub short : length r.schedule.items ≤ 10000000
+  pub some : may_end r.stage ≡ true → 0 < length r.regs.items
+  pub named : are_named (length r.regs.items) r.schedule.items ≡ true
+
+-- A line was taken.
+pub record TookLine (old new : Reader) (line : Line) : Type 0 where
+  pub stands : judged (stands_of old) line ≡ Ok (stands_of new)
+  pub regs : new.regs.items ≡ old.regs.items ++ process_of line
+  pub core : new.core ≡ written_all old.core (placed_of line)
+  pub schedule : new.schedule.items ≡ old.schedule.items ++ turns_of line
+
+abbrev pub TakeSays : Result (Unit {0}) LineFault → Reader → Reader → Line → Type 0
+TakeSays (Ok done) old new line = TookLine old new line
+TakeSays (Err (Refused code)) old new line = judged (stands_of old) line ≡ Err code
+TakeSays (Err NoMemory) old new line = ⊤

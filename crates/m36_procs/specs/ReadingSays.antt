@@ -1,0 +1,50 @@
+-- What the parts of reading a text of processes answer.
+use Rattle.std.specs.Prelude.{ℕ, ◌≡◌, ◌*◌, ◌<◌, ⊤, List, [], ◌∷◌, ◌++◌, drop, length, replicate}
+use Rattle.std.specs.Prelude.{Option, Some, None, Result, Ok, Err}
+use Rattle.std.specs.Borrow.{Bor}
+use Rattle.m36_text.specs.Lines.{lines_of, line_at, first_told}
+use Rattle.m36_image.specs.BareImage.{core_line}
+use Rattle.m36_image.specs.ImageState.{written_all}
+use Rattle.m36_procs.specs.ProcsFile.{codes_from, core_code, at_start, processes_in, placed_in}
+use Rattle.m36_procs.specs.ProcsFile.{turns_in}
+use Rattle.m36_procs.specs.ReaderSays.{Fits, stands_of}
+use Rattle.m36_procs.specs.declared.fault.Code.{Code}
+use Rattle.m36_procs.specs.declared.fault.Code.TheVariants as code
+use Rattle.m36_procs.specs.declared.fault.ProcsFault.{ProcsFault}
+use Rattle.m36_procs.specs.declared.fault.ProcsFault.TheVariants.{P1, P2, NoMemory}
+use Rattle.m36_procs.specs.declared.reader.Reader.{Reader}
+
+-- the fault told of a list of codes, of which the first is that of line n; want of memory may come at
+-- any time
+abbrev pub FaultSays : ProcsFault → ℕ → List (Option Code) → Type 0
+FaultSays (P1 line) n codes = first_told n codes ≡ Some (line, code.P1)
+FaultSays (P2 line) n codes = first_told n codes ≡ Some (line, code.P2)
+FaultSays NoMemory n codes = ⊤
+
+-- what the first line says, and the text behind it
+pub record Begun (r : Reader) (rest : List ℕ) (lines : List (Option (List ℕ))) : Type 0 where
+  pub frames : ℕ
+  pub line : core_line (line_at lines 1) ≡ Ok frames
+  pub stands : stands_of r ≡ at_start (1024 * frames)
+  pub core : r.core ≡ replicate (1024 * frames) 0
+  pub regs : r.regs.items ≡ []
+  pub schedule : r.schedule.items ≡ []
+  pub others : drop 1 lines ≡ lines_of rest
+
+abbrev pub BeginSays : Result (Reader × Bor (List ℕ)) ProcsFault → List (Option (List ℕ)) → Type 0
+BeginSays (Ok begun) lines = Begun begun.0 begun.1.now lines
+BeginSays (Err fault) lines = FaultSays fault 1 (core_code (core_line (line_at lines 1)) ∷ [])
+
+-- All lines behind the first were taken.
+pub record TookLines (old new : Reader) (lines : List (Option (List ℕ))) : Type 0 where
+  pub fine : first_told 2 (codes_from (stands_of old) lines) ≡ None
+  pub regs : new.regs.items ≡ old.regs.items ++ processes_in lines
+  pub core : new.core ≡ written_all old.core (placed_in lines)
+  pub schedule : new.schedule.items ≡ old.schedule.items ++ turns_in lines
+  pub fits : Fits new
+  pub some : 0 < length new.regs.items
+
+abbrev pub LinesSay :
+    Result (Unit {0}) ProcsFault → Reader → Reader → List (Option (List ℕ)) → Type 0
+LinesSay (Ok done) old new lines = TookLines old new lines
+LinesSay (Err fault) old new lines = FaultSays fault 2 (codes_from (stands_of old) lines)

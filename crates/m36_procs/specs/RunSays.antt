@@ -1,0 +1,25 @@
+-- What a run of a schedule answers.
+use Rattle.std.specs.Prelude.{ℕ, ◌≡◌, List, Option, Result, Ok, Err}
+use Rattle.m36_outside.specs.Counts.{Rose}
+use Rattle.m36_outside.specs.Written.{Grew, GrewWithin}
+use Rattle.m36_model.specs.Schedule.{Processes}
+use Rattle.m36_procs.specs.ScheduleText.{schedule_text, last_state}
+use Rattle.m36_procs.specs.declared.fault.WriteFault.{WriteFault}
+
+-- all events were made, and their text is written
+pub record IsRun
+    (schedule : List ℕ) (old new : Processes (List ℕ)) (before now : Option (List ℕ))
+    : Type 0 where
+  pub state : new ≡ last_state schedule old
+  pub grew : Grew before now (schedule_text schedule old)
+
+-- or else a first part of it
+abbrev pub RunSays :
+    Result (Unit {0}) WriteFault → List ℕ → Processes (List ℕ) → Processes (List ℕ)
+    → Option (List ℕ) → Option (List ℕ) → Type 0
+RunSays (Ok done) schedule old new before now = IsRun schedule old new before now
+RunSays (Err cut) schedule old new before now = GrewWithin before now (schedule_text schedule old)
+
+abbrev pub RunHasCause : Result (Unit {0}) WriteFault → ℕ → ℕ → Type 0
+RunHasCause (Ok done) old new = new ≡ old
+RunHasCause (Err cut) old new = Rose old new

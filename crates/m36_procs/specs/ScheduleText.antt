@@ -1,0 +1,39 @@
+-- What a run of a schedule writes: a line for each event, and the last line.
+use Rattle.std.specs.Prelude.{ℕ, ◌+◌, List, [], ◌∷◌, ◌++◌, length, slice_get, codes, Option, Some}
+use Rattle.std.specs.Prelude.{None}
+use Rattle.m36_text.specs.Digits.{decimal_text}
+use Rattle.m36_model.specs.Core.{core_store}
+use Rattle.m36_model.specs.Registers.{RegsFields}
+use Rattle.m36_model.specs.Schedule.{Processes, Event, events, stepped}
+use Rattle.m36_model.specs.declared.record.StepRecord.{StepRecord}
+use Rattle.m36_trace.specs.TraceLine.{line_of}
+
+-- the line of event n: the process, and the trace line of its step
+unfoldable pub event_line : ℕ → ℕ → StepRecord → List ℕ
+event_line n process told = ((decimal_text process ++ codes " ") ++ line_of n told) ++ 10 ∷ []
+
+-- the lines of events, of which the first has number n
+unfoldable pub event_lines : ℕ → List (Event (List ℕ)) → List ℕ
+event_lines n [] = []
+event_lines n (e ∷ more) = event_line n e.process e.told ++ event_lines (n + 1) more
+
+unfoldable pub end_line : ℕ → List ℕ
+end_line events = (codes "end schedule " ++ decimal_text events) ++ 10 ∷ []
+
+-- what is written from event n on, where there are so many events
+abbrev pub text_from : ℕ → ℕ → List ℕ → Processes (List ℕ) → List ℕ
+text_from total n schedule s = event_lines n (events core_store schedule s) ++ end_line total
+
+unfoldable pub schedule_text : List ℕ → Processes (List ℕ) → List ℕ
+schedule_text schedule s = text_from (length schedule) 1 schedule s
+
+-- the state that a schedule leaves
+abbrev pub last_by :
+    Processes (List ℕ) → ℕ → Option RegsFields → (Processes (List ℕ) → Processes (List ℕ))
+    → Processes (List ℕ)
+last_by s i None rest = rest s
+last_by s i (Some g) rest = rest (stepped core_store s i g)
+
+unfoldable pub last_state : List ℕ → Processes (List ℕ) → Processes (List ℕ)
+last_state [] s = s
+last_state (i ∷ schedule) s = last_by s i (slice_get s.regs i) (last_state schedule)

@@ -1,0 +1,28 @@
+//! Several processes on one core, under a written schedule.
+//!
+//! A process is a set of registers of its own, with its own descriptor segment base register; core is one for all. An
+//! event is one step of one process, and a schedule says which process makes each event. A process that has stopped or
+//! faulted is stepped again when its turn comes.
+//!
+//! The contract: [`Procs::read`] gives exactly the processes and the schedule that a text writes out, or the first line
+//! of it that has a code, with the least code of that line, or want of memory; all memory is taken there.
+//! [`Procs::event`] makes one event, and [`Procs::run`] those of the whole schedule with a line for each and a last line;
+//! what it writes is exactly the text of these events, or a first part of it where the sink fails.
+//!
+//! `specs/ProcsFile.antt` has the grammar of the text, and `specs/ScheduleText.antt` what a run writes. What events are is
+//! `m36_model:Schedule`. The processor is that of the Multics Processor Manual AL39; the text and the lines are this
+//! simulator's own.
+#![tactic(auto)]
+
+pub mod fault;
+mod line_forms;
+mod process_set;
+pub mod procs;
+mod reader;
+mod reading;
+mod running;
+#[cfg(test)]
+mod tests;
+
+pub use fault::{ProcsFault, WriteFault};
+pub use procs::Procs;

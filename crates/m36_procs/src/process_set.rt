@@ -1,0 +1,121 @@
+//! The processes on one core.
+
+ghost use Rattle.std.specs.Prelude.{ℕ, ◌≡◌, ◌<◌, ◌^◌, length, slice_get, slice_index_or, slice_set, IfOk, Some};
+ghost use Rattle.m36_procs.specs.EventSays.{EventSays};
+
+use m36_core::Core;
+use m36_model::{Regs, StepRecord};
+use m36_step::Machine;
+use m36_walk::Walk;
+use m36_word::NoMemory;
+use std::alloc::Global;
+use std::marker::Model;
+
+/// Several processes on one core, seen as the registers of each and the words of core. The machine has the registers of
+/// one of them, and keeps them until another has its turn.
+#[derive(Drop)]
+pub(crate) struct ProcessSet {
+    machine: Machine,
+    /// The registers of each process, but for those of the one that the machine has: what stands there is no one's.
+    regs: Vec<Regs>,
+    /// The process whose registers the machine has.
+    inside: usize,
+}
+
+impl Model for ProcessSet {
+    ghost use Rattle.std.specs.Prelude.{ℕ, List, ◌<◌, length, slice_set};
+    ghost use Rattle.m36_model.specs.Schedule.{Processes};
+
+    ghost Value = { Processes (List ℕ) };
+
+    ghost view = { λ p. record { regs = slice_set p.regs.items p.inside p.machine.regs; store = p.machine.store } };
+
+    ghost invariant = { λ p. p.inside < length p.regs.items };
+}
+
+/// Puts the registers of process i into the machine, and those that it had back to their process.
+#[tactic(auto, using(crate::proofs::Exchanging::exchanging))]
+fn bring(machine: &mut Machine, regs: &mut Vec<Regs>, inside: &mut usize, i: usize)
+    requires inside { inside.old < length regs.old.items }
+    requires there { i < length regs.old.items }
+    ensures here { inside.new ≡ i }
+    ensures len { length regs.new.items ≡ length regs.old.items }
+    ensures store { machine.new.store ≡ machine.old.store }
+    ensures all { slice_set regs.new.items i machine.new.regs
+        ≡ slice_set regs.old.items inside.old machine.old.regs }
+{
+    if *inside == i {
+        return;
+    }
+    let mut own = regs[i];
+    machine.swap(&mut own);
+    regs[*inside] = own;
+    *inside = i;
+}
+
+impl ProcessSet {
+    /// The processes with these registers, one at least, on this core.
+    #[tactic(auto, using(crate::proofs::Exchanging::exchanging))]
+    pub(crate) fn new(alloc: Global, core: Core, regs: Vec<Regs>) -> Result<ProcessSet, NoMemory>
+        requires { 0 < length regs.items }
+        ensures { IfOk result (λ p. p ≡ record { regs = regs.items; store = core }) }
+    {
+        let first = regs[0];
+        match Walk::new(alloc, core, first.dbr) {
+            Ok(walk) => Ok(ProcessSet {
+                machine: Machine::new(walk, first),
+                regs,
+                inside: 0,
+            }),
+            Err(_) => Err(NoMemory),
+        }
+    }
+
+    /// How many there are.
+    pub(crate) fn count(&self) -> usize
+        ensures { result ≡ length self.now.regs }
+    {
+        self.regs.len()
+    }
+
+    /// Core as it stands.
+    pub(crate) fn core(&self) -> &Core
+        ensures { result.now ≡ self.now.store }
+    {
+        self.machine.walk().core()
+    }
+
+    /// The registers of process i.
+    #[tactic(auto, using(crate::proofs::Exchanging::exchanging))]
+    pub(crate) fn regs(&self, i: usize) -> &Regs
+        requires { i < length self.now.regs }
+        ensures { slice_get self.now.regs i ≡ Some result.now }
+    {
+        if i == self.inside {
+            self.machine.regs()
+        } else {
+            &self.regs[i]
+        }
+    }
+
+    /// A record for `step_into` to fill, which tells of no step yet.
+    pub(crate) fn untold(&self) -> StepRecord {
+        self.machine.untold()
+    }
+
+    /// One step of process i, told in a record that an earlier one may have filled.
+    #[tactic(auto, using(crate::proofs::Exchanging::exchanging))]
+    pub(crate) fn step_into(&mut self, i: usize, told: &mut StepRecord)
+        requires { i < length self.old.regs }
+        ensures says { EventSays i self.old self.new told.new }
+        ensures count { length self.new.regs ≡ length self.old.regs }
+    {
+        let ProcessSet {
+            machine,
+            regs,
+            inside,
+        } = self;
+        bring(machine, regs, inside, i);
+        machine.step_into(told);
+    }
+}

@@ -1,0 +1,123 @@
+//! Processes with their schedule.
+
+ghost use Rattle.std.specs.Prelude.{ℕ, ◌≡◌, ◌<◌, ◌≤◌, ◌^◌, length, slice_get, IfOk, Some};
+ghost use Rattle.m36_procs.specs.EventSays.{EventSays};
+ghost use Rattle.m36_procs.specs.ProcsFile.{procs_given};
+ghost use Rattle.m36_procs.specs.ProcsSays.{ProcsSays};
+ghost use Rattle.m36_procs.specs.ReaderSays.{Fits, procs_read};
+ghost use Rattle.m36_procs.specs.RunSays.{RunSays, RunHasCause};
+
+use crate::fault::{ProcsFault, WriteFault};
+use crate::process_set::ProcessSet;
+use crate::reader::Reader;
+use crate::reading::{begin, read_lines};
+use crate::running::run_schedule;
+use m36_core::Core;
+use m36_model::{Regs, StepRecord};
+use m36_outside::Sink;
+use m36_word::NoMemory;
+use std::alloc::Global;
+use std::marker::Model;
+
+/// One to eight processes on one core, and the schedule by which they run: at most 10,000,000 process numbers.
+#[derive(Drop)]
+pub struct Procs {
+    processes: ProcessSet,
+    schedule: Vec<u8>,
+}
+
+impl Model for Procs {
+    ghost use Rattle.m36_procs.specs.ProcsFields.{ProcsFields};
+    ghost use Rattle.m36_procs.specs.IsProcs.{IsProcs};
+
+    ghost Value = { ProcsFields };
+
+    ghost view = { λ p. record { state = p.processes; schedule = p.schedule.items } };
+
+    ghost invariant = { λ p. IsProcs p.processes p.schedule.items };
+}
+
+// What was read, as processes with their schedule.
+fn finished(alloc: Global, reader: Reader) -> Result<Procs, NoMemory>
+    requires fits { Fits reader }
+    requires some { 0 < length reader.regs.items }
+    ensures { IfOk result (λ p. p ≡ procs_read reader) }
+{
+    let Reader {
+        core,
+        regs,
+        schedule,
+        ..
+    } = reader;
+    let processes = ProcessSet::new(alloc, core, regs)?;
+    Ok(Procs {
+        processes,
+        schedule,
+    })
+}
+
+impl Procs {
+    /// Reads processes with their schedule. A text is refused exactly where a line has a code, with the first such line
+    /// and its least code; the only other answer is want of memory, and all memory is taken here.
+    #[tactic(auto, using(crate::proofs::Accepting::accepting))]
+    pub fn read(alloc: Global, text: &[u8]) -> Result<Procs, ProcsFault>
+        requires { length text.now ≤ 2 ^ 31 }
+        ensures { ProcsSays result (procs_given text.now) }
+    {
+        let (mut reader, rest) = begin(alloc, text)?;
+        read_lines(&mut reader, rest)?;
+        Ok(finished(alloc, reader)?)
+    }
+
+    /// How many processes there are: 1 to 8.
+    pub fn count(&self) -> usize
+        ensures value { result ≡ length self.now.state.regs }
+        ensures some { 1 ≤ result }
+        ensures most { result ≤ 8 }
+    {
+        self.processes.count()
+    }
+
+    /// Core as it stands.
+    pub fn core(&self) -> &Core
+        ensures { result.now ≡ self.now.state.store }
+    {
+        self.processes.core()
+    }
+
+    /// The registers of process i as they stand.
+    pub fn regs(&self, i: usize) -> &Regs
+        requires { i < length self.now.state.regs }
+        ensures { slice_get self.now.state.regs i ≡ Some result.now }
+    {
+        self.processes.regs(i)
+    }
+
+    /// One step of process i, also of one that has stopped or faulted. The registers of the others stay.
+    pub fn event(&mut self, i: usize) -> StepRecord
+        requires { i < length self.old.state.regs }
+        ensures says { EventSays i self.old.state self.new.state result }
+        ensures count { length self.new.state.regs ≡ length self.old.state.regs }
+        ensures schedule { self.new.schedule ≡ self.old.schedule }
+    {
+        let processes = &mut self.processes;
+        let mut told = processes.untold();
+        processes.step_into(i, &mut told);
+        told
+    }
+
+    /// Makes the events of the whole schedule, and writes a line for each and the last line. The error comes only where a
+    /// line could not be written; then a first part of the text is written.
+    pub fn run<S: Sink>(&mut self, out: &mut S) -> Result<(), WriteFault>
+        ensures says { RunSays result self.old.schedule
+            self.old.state self.new.state (S.written out.old) (S.written out.new) }
+        ensures cause { RunHasCause result (S.faults out.old) (S.faults out.new) }
+        ensures schedule { self.new.schedule ≡ self.old.schedule }
+    {
+        let Procs {
+            processes,
+            schedule,
+        } = self;
+        run_schedule(processes, schedule.as_slice(), out)
+    }
+}

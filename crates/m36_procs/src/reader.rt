@@ -1,0 +1,187 @@
+//! What a text of processes has said so far, and what its next line adds.
+
+ghost use Rattle.std.specs.Prelude.{ℕ, ◌≡◌, ◌+◌, ◌*◌, ◌<◌, ◌≤◌, ◌^◌, [], ◌∷◌, ◌++◌, length, OnOk, OnErr};
+ghost use Rattle.m36_text.specs.Lines.{words_of};
+ghost use Rattle.m36_procs.specs.ProcsFile.{are_named, line_in, may_name, may_place, may_end, repeated};
+ghost use Rattle.m36_procs.specs.ProcsFile.Line.{ProcessLine, TurnsLine};
+ghost use Rattle.m36_procs.specs.ReaderSays.{Fits, TakeSays, rest_in};
+
+use crate::fault::{Code, LineFault};
+use crate::line_forms::{Turns, process_line, turns_line};
+use m36_core::Core;
+use m36_image::put_line_into_core;
+use m36_model::Regs;
+use m36_word::NoMemory;
+
+/// The most processes.
+const MOST_PROCESSES: usize = 8;
+
+/// The most events of a schedule.
+const MOST_EVENTS: u64 = 10_000_000;
+
+/// Which lines may follow.
+#[derive(Clone, Copy, PartialEq, Eq, Debug)]
+pub(crate) enum Stage {
+    /// A further process, or words and turns once there is one.
+    Naming,
+    /// Words and turns.
+    Placing,
+    /// Turns.
+    Turning,
+}
+
+/// What the lines so far have said.
+#[derive(Drop)]
+pub(crate) struct Reader {
+    pub(crate) core: Core,
+    /// The registers of each process.
+    pub(crate) regs: Vec<Regs>,
+    /// The process of each event.
+    pub(crate) schedule: Vec<u8>,
+    /// The least address that an `at` line may have.
+    pub(crate) next: u32,
+    pub(crate) stage: Stage,
+}
+
+fn may_name(stage: Stage) -> bool
+    ensures { result ≡ may_name stage }
+{
+    match stage {
+        Stage::Naming => true,
+        Stage::Placing | Stage::Turning => false,
+    }
+}
+
+fn may_place(stage: Stage) -> bool
+    ensures { result ≡ may_place stage }
+{
+    match stage {
+        Stage::Naming | Stage::Placing => true,
+        Stage::Turning => false,
+    }
+}
+
+/// Whether a text may end there.
+pub(crate) fn may_end(stage: Stage) -> bool
+    ensures { result ≡ may_end stage }
+{
+    match stage {
+        Stage::Naming | Stage::Placing => false,
+        Stage::Turning => true,
+    }
+}
+
+// Whether each is the number of one of so many processes.
+fn are_named(count: usize, numbers: &[u8]) -> bool
+    ensures { result ≡ are_named count numbers.now }
+{
+    numbers.iter().all(|number| (*number as usize) < count)
+}
+
+// Whether turns are those of some of so many processes.
+fn have_processes(count: usize, turns: &Turns) -> bool
+    ensures { result ≡ are_named count turns.now.order }
+{
+    are_named(count, turns.order.as_slice())
+}
+
+// How many events there are with turns behind so many.
+#[tactic(auto, using(crate::proofs::Taking::few_events))]
+fn events_with(events: usize, turns: &Turns) -> u64
+    requires { events ≤ 10000000 }
+    ensures { result ≡ events + turns.now.times * length turns.now.order }
+{
+    events as u64 + turns.times as u64 * turns.order.len() as u64
+}
+
+fn push_process(all: &mut Vec<Regs>, regs: Regs) -> Result<(), NoMemory>
+    ensures { OnOk result (all.new.items ≡ all.old.items ++ regs ∷ []) }
+{
+    all.push(regs)?;
+    Ok(())
+}
+
+// Puts numbers behind a schedule, so many times.
+#[tactic(auto, using(crate::proofs::Repeating::repeating))]
+fn push_numbers(schedule: &mut Vec<u8>, order: &[u8], times: u32) -> Result<(), NoMemory>
+    ensures { OnOk result (schedule.new.items ≡ schedule.old.items ++ repeated times order.now) }
+{
+    let mut left = times;
+    'times: while left > 0 {
+        schedule.extend_from_slice(order)?;
+        left -= 1;
+    }
+    Ok(())
+}
+
+// Puts turns behind a schedule.
+fn push_turns(schedule: &mut Vec<u8>, turns: &Turns) -> Result<(), NoMemory>
+    ensures { OnOk result
+        (schedule.new.items ≡ schedule.old.items ++ repeated turns.now.times turns.now.order) }
+{
+    push_numbers(schedule, turns.order.as_slice(), turns.times)
+}
+
+// Takes a line `process`.
+#[tactic(auto, unfolding(crate::specs::ProcsFile::judged), using(crate::proofs::Taking::taking))]
+fn take_process(reader: &mut Reader, regs: Regs) -> Result<(), LineFault>
+    ensures { TakeSays result reader.old reader.new (ProcessLine regs) }
+{
+    if !may_name(reader.stage) || reader.regs.len() >= MOST_PROCESSES {
+        return Err(LineFault::Refused(Code::P1));
+    }
+    push_process(&mut reader.regs, regs)?;
+    Ok(())
+}
+
+// Takes a line `turns`.
+#[tactic(auto, unfolding(crate::specs::ProcsFile::judged), using(crate::proofs::Taking::taking))]
+fn take_turns(reader: &mut Reader, turns: &Turns) -> Result<(), LineFault>
+    requires { Fits reader.old }
+    ensures { TakeSays result reader.old reader.new (TurnsLine turns.now) }
+{
+    if reader.regs.is_empty() || events_with(reader.schedule.len(), turns) > MOST_EVENTS {
+        return Err(LineFault::Refused(Code::P1));
+    }
+    if have_processes(reader.regs.len(), turns) {
+        push_turns(&mut reader.schedule, turns)?;
+        reader.stage = Stage::Turning;
+        Ok(())
+    } else {
+        Err(LineFault::Refused(Code::P2))
+    }
+}
+
+// Takes a line that is neither, an `at` line or one of no form.
+#[tactic(auto, unfolding(crate::specs::ProcsFile::judged), using(crate::proofs::Taking::taking))]
+fn take_words(reader: &mut Reader, line: &[u8]) -> Result<(), LineFault>
+    ensures { TakeSays result reader.old reader.new (rest_in (words_of line.now)) }
+{
+    if !may_place(reader.stage) || reader.regs.is_empty() {
+        return Err(LineFault::Refused(Code::P1));
+    }
+    match put_line_into_core(&mut reader.core, reader.next, line) {
+        Ok(end) => {
+            reader.next = end;
+            reader.stage = Stage::Placing;
+            Ok(())
+        }
+        Err(_) => Err(LineFault::Refused(Code::P1)),
+    }
+}
+
+impl Reader {
+    /// Takes a line, or answers the least code that it has.
+    pub(crate) fn take(&mut self, line: &[u8]) -> Result<(), LineFault>
+        requires { Fits self.old }
+        ensures { TakeSays result self.old self.new (line_in (words_of line.now)) }
+    {
+        if let Some(regs) = process_line(line) {
+            return take_process(self, regs);
+        }
+        if let Some(turns) = turns_line(line) {
+            return take_turns(self, &turns);
+        }
+        take_words(self, line)
+    }
+}

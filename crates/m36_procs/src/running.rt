@@ -1,0 +1,88 @@
+//! A run of a schedule, written line by line.
+
+ghost use Rattle.std.specs.Prelude.{ℕ, ◌≡◌, ◌<◌, ◌≤◌, ◌^◌, true, length};
+ghost use Rattle.m36_outside.specs.Put.{PutSays, PutHasCause};
+ghost use Rattle.m36_procs.specs.ProcsFile.{are_named};
+ghost use Rattle.m36_procs.specs.ScheduleText.{event_line, end_line};
+ghost use Rattle.m36_procs.specs.RunSays.{RunSays, RunHasCause};
+
+use crate::fault::WriteFault;
+use crate::process_set::ProcessSet;
+use arrayvec::ArrayString;
+use m36_model::StepRecord;
+use m36_outside::{Put, Sink};
+use m36_text::decimal;
+use m36_trace::line;
+
+// The line of an event, with its line feed.
+#[tactic(auto, unfolding(crate::specs::ScheduleText::event_line))]
+fn event_line(process: u8, n: u64, told: &StepRecord) -> ArrayString<176>
+    ensures { result.bytes ≡ event_line n process told.now }
+{
+    let mut text = ArrayString::new();
+    text.push_str(decimal(process as u64).as_str());
+    text.push_str(" ");
+    text.push_str(line(n, told).as_str());
+    text.push_str("\n");
+    text
+}
+
+// The last line, with its line feed.
+#[tactic(auto, unfolding(crate::specs::ScheduleText::end_line))]
+fn end_line(events: u64) -> ArrayString<40>
+    ensures { result.bytes ≡ end_line events }
+{
+    let mut text = ArrayString::new();
+    text.push_str("end schedule ");
+    text.push_str(decimal(events).as_str());
+    text.push_str("\n");
+    text
+}
+
+// Puts the line of an event, in one piece.
+fn put_event<S: Sink>(process: u8, n: u64, told: &StepRecord, out: &mut S) -> Put
+    ensures says { PutSays result
+        (S.written out.old) (S.written out.new) (event_line n process told.now) }
+    ensures cause { PutHasCause result (S.faults out.old) (S.faults out.new) }
+{
+    out.put(event_line(process, n, told).as_str().as_bytes())
+}
+
+// Puts the last line, in one piece.
+fn put_end<S: Sink>(events: u64, out: &mut S) -> Put
+    ensures says { PutSays result (S.written out.old) (S.written out.new) (end_line events) }
+    ensures cause { PutHasCause result (S.faults out.old) (S.faults out.new) }
+{
+    out.put(end_line(events).as_str().as_bytes())
+}
+
+/// Makes the events of a schedule, and writes a line for each and the last line.
+#[tactic(auto, using(crate::proofs::EventsRun::running))]
+pub(crate) fn run_schedule<S: Sink>(
+    processes: &mut ProcessSet,
+    schedule: &[u8],
+    out: &mut S,
+) -> Result<(), WriteFault>
+    requires named { are_named (length processes.old.regs) schedule.now ≡ true }
+    ensures says { RunSays result schedule.now
+        processes.old processes.new (S.written out.old) (S.written out.new) }
+    ensures cause { RunHasCause result (S.faults out.old) (S.faults out.new) }
+    ensures count { length processes.new.regs ≡ length processes.old.regs }
+{
+    let mut told = processes.untold();
+    let mut n: u64 = 0;
+    let mut rest = schedule;
+    'events: while let Some((process, more)) = rest.split_first() {
+        processes.step_into(*process as usize, &mut told);
+        match put_event(*process, n + 1, &told, out) {
+            Put::Done => {}
+            Put::Failed => return Err(WriteFault),
+        }
+        n += 1;
+        rest = more;
+    }
+    match put_end(n, out) {
+        Put::Done => Ok(()),
+        Put::Failed => Err(WriteFault),
+    }
+}
