@@ -1,3 +1,4 @@
+pub mod PageWords
 pub mod Frames
 pub mod Moves
 pub mod Tables

@@ -5,8 +5,8 @@ ghost use Rattle.m36_desc.specs.Descriptors.{ptw_of};
 ghost use Rattle.m36_page.specs.Changes.{is_to, is_pinned};
 ghost use Rattle.m36_page.specs.Choice.{IsFree, ArePinned, IsHeldSpot, IsMarked, AreInCore};
 
+use crate::residence::ptw_in_core;
 use m36_core::Core;
-use m36_desc::Ptw;
 use m36_model::Reference;
 use m36_word::Word;
 
@@ -81,7 +81,7 @@ fn is_used(core: &Core, spot: u32) -> bool
     requires { spot < length core.now }
     ensures { result ≡ (ptw_of (slice_index core.now spot)).used }
 {
-    let ptw = Ptw::of_words(core.peek(spot));
+    let ptw = ptw_in_core(core, spot);
     ptw.used
 }
 

@@ -8,9 +8,22 @@ ghost use Rattle.m36_page.specs.Residence.{frame_in, absent_ptw, resident_ptw};
 
 use m36_core::Core;
 use m36_desc::Ptw;
+use m36_tables::page_table_word;
 
 // A frame is 16 units of 64 words.
 const UNITS: u32 = 16;
+
+/// The page table word at a place in core.
+#[tactic(auto, using(crate::proofs::PageWords::word_there, crate::proofs::PageWords::word_is))]
+pub(crate) fn ptw_in_core(core: &Core, spot: u32) -> Ptw
+    requires { spot < length core.now }
+    ensures { result ≡ ptw_of (slice_index core.now spot) }
+{
+    match page_table_word(core, spot) {
+        Some(ptw) => ptw,
+        None => unreachable!(),
+    }
+}
 
 /// The frame that a page table word names.
 #[tactic(auto, unfolding(crate::specs::Residence::frame_in))]
@@ -18,7 +31,7 @@ pub(crate) fn frame_at(core: &Core, spot: u32) -> Option<u32>
     requires { spot < length core.now }
     ensures { result ≡ frame_in (slice_index core.now spot) }
 {
-    let ptw = Ptw::of_words(core.peek(spot));
+    let ptw = ptw_in_core(core, spot);
     if ptw.f { Some(ptw.addr / UNITS) } else { None }
 }
 

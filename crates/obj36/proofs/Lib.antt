@@ -1,11 +1,10 @@
-pub mod ReadingLoops
 pub mod MapReading
+pub mod MapStands
 pub mod NameReading
 pub mod ReadingBack
 pub mod TableReading
 pub mod TablesStand
-pub mod FaultLoops
 pub mod ReaderLaws
-pub mod SpelledNames
-pub mod RepeatLoops
 pub mod ObjectLaws
+pub mod FoundNames
+pub mod ReferenceText

@@ -6,10 +6,10 @@ use Rattle.std.proofs.lemmas.List.{length-append, get_or-append_right, take_at, 
 use Rattle.obj36_parts.specs.Fields.{LinkFields}
 use Rattle.obj36_parts.specs.Halves.{left, right, joined}
 use Rattle.obj36_parts.specs.ObjectSegment.{map_part, linkage_part, link_words}
-use Rattle.obj36.specs.Reading.{map_place, version_in, told_length, told_count, from_definition, from_linkage, from_statics, from_symbol, told_first, statics_in, bound_in}
+use Rattle.obj36_read.specs.Reading.{map_place, version_in, told_length, told_count, from_definition, from_linkage, from_statics, from_symbol, told_first, statics_in, bound_in}
 use Rattle.obj36.proofs.TableReading.{left_joined, right_joined}
 
-in_map : (front m : List ℕ) (i j : ℕ) → j ≡ length front + i → slice_index (front ++ m) j ≡ slice_index m i
+pub in_map : (front m : List ℕ) (i j : ℕ) → j ≡ length front + i → slice_index (front ++ m) j ≡ slice_index m i
 in_map front m i j e = get_or-append_right front m (length front) j 0 refl (omega arith) ∙ ap (λ n. get_or m n 0) (let z : j - length front ≡ i = omega arith in z)
 
 pub record IsMapped (words : List ℕ) (newer : Bool) (t d k s b : ℕ) : Type 0 where
@@ -20,7 +20,7 @@ pub record IsMapped (words : List ℕ) (newer : Bool) (t d k s b : ℕ) : Type 0
   pub statics : newer ≡ true → told_length words 4 ≡ s
   pub bound : bound_in words ≡ b
 
-placed : (front m : List ℕ) (last : ℕ) → length m ≡ suc last → slice_index m last ≡ joined (length front) 0 → length front < 2 ^ 18 → map_place (front ++ m) ≡ length front
+pub placed : (front m : List ℕ) (last : ℕ) → length m ≡ suc last → slice_index m last ≡ joined (length front) 0 → length front < 2 ^ 18 → map_place (front ++ m) ≡ length front
 unfolding map_place
 placed front m last e f lt =
     ap left (in_map front m last (length (front ++ m) - 1) (omega (arith, length-append front m)) ∙ f) ∙ left_joined (length front) 0 lt

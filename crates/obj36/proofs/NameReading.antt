@@ -6,7 +6,7 @@ use Rattle.std.proofs.lemmas.Bool.{and_parts, leb-true, cond-true, cond-false}
 use Rattle.std.proofs.lemmas.Bool.Decides.{nat_tests}
 use Rattle.std.proofs.lemmas.List.{length-append, get_or-append_right}
 use Rattle.obj36_parts.specs.Names.{same, is_name, is_name_character, place_of, name_length, unit_of, name_word, name_words_from, name_words, all_name_words}
-use Rattle.obj36.specs.Reading.{part_of, unit_at, characters, name_at}
+use Rattle.obj36_read.specs.Reading.{part_of, unit_at, characters, name_at}
 use Rattle.obj36_parts.proofs.SizeLaws.{same_is, length-name_words}
 
 -- ---- what a name is

@@ -1,11 +1,13 @@
 -- What is read is the object of the list.
-use Rattle.std.proofs.Common.{ℕ, ◌≡◌, Bool, true, false, ◌&&◌, List, Option, Some, None, Ok, Err, sym, ap, ◌∙◌}
-use Rattle.std.proofs.lemmas.Bool.{cond-true, cond-false, and_from, and_left, and_right}
+use Rattle.std.proofs.Common.{ℕ, ◌≡◌, Bool, true, false, cond, ◌&&◌, List, Option, Some, None, Ok, Err, refl, sym, ap, ◌∙◌}
+use Rattle.std.proofs.lemmas.Bool.{cond-true, cond-false, and_parts, and_from, and_left, and_right}
 use Rattle.obj36_parts.specs.Names.{same}
 use Rattle.obj36_parts.specs.PartsFields.{PartsFields}
 use Rattle.obj36_parts.specs.ObjectSegment.{words_of, is_well_formed, Stands}
-use Rattle.obj36.specs.Reading.{parts_of}
-use Rattle.obj36.specs.Faults.{first_fault}
+use Rattle.obj36_read.specs.Reading.{parts_of}
+use Rattle.obj36_parts.proofs.SizeLaws.{same_is}
+use Rattle.obj36.specs.Faults.{outline_fault, first_fault}
+use Rattle.obj36.proofs.ReaderLaws.{outline_stands}
 use Rattle.obj36.specs.ObjectOf.{value_of, or_fault, object_of, IsObjectOf}
 use Rattle.obj36.specs.declared.fault.ObjectFault.{ObjectFault}
 use Rattle.obj36.specs.declared.fault.ObjectFault.TheVariants.{O1, O2, O3, O4, O5, O6, O7, O8, NoMemory}
@@ -22,6 +24,16 @@ other_value words written parts b e t f other =
     sym (cond-false (is_well_formed (parts_of words) && same (words_of (parts_of words)) words) (Some (parts_of words)) None
     (and_right (is_well_formed (parts_of words)) (same (words_of (parts_of words)) words)
     (ap (λ (p : PartsFields). same (words_of p) words) (sym e) ∙ ap (λ (ws : List ℕ). same ws words) (sym t.spelled) ∙ sym f ∙ other)))
+
+pub outline_value : (words : List ℕ) (f : ObjectFault) → Some f ≡ outline_fault words → None ≡ value_of words
+unfolding value_of
+outline_value words f e = by (is_well_formed (parts_of words) && same (words_of (parts_of words)) words) refl
+  where
+    by : (b : Bool) → (is_well_formed (parts_of words) && same (words_of (parts_of words)) words) ≡ b → None ≡ cond b (Some (parts_of words)) None
+    by false g = refl
+    by true g =
+        let both = and_parts (is_well_formed (parts_of words)) (same (words_of (parts_of words)) words) g in
+        absurd (outline_stands words f e (parts_of words) (record { formed = both.0; spelled = sym (same_is (words_of (parts_of words)) words both.1) }))
 
 pub own_value : (words written : List ℕ) (parts : PartsFields) (b : Bool) → parts ≡ parts_of words → Stands parts written → b ≡ same written words → b ≡ true → Some parts ≡ value_of words
 unfolding value_of

@@ -1,5 +1,5 @@
 -- What reading a list says.
-use Rattle.std.proofs.Common.{ℕ, zero, suc, ◌≡◌, ◌+◌, ◌-◌, ◌*◌, ◌^◌, ◌<◌, ◌≤◌, Bool, true, false, cond, eqb, List, length, take, drop, None, Err, refl, sym, ap, ◌∙◌, arith}
+use Rattle.std.proofs.Common.{ℕ, zero, suc, ◌≡◌, ◌+◌, ◌-◌, ◌*◌, ◌^◌, ◌<◌, ◌≤◌, Bool, true, false, cond, eqb, List, length, take, drop, Option, Some, None, Err, refl, sym, ap, ◌∙◌, arith}
 use Rattle.std.proofs.lemmas.List.{length-take, length-drop}
 use Rattle.obj36_parts.specs.PartsFields.{PartsFields}
 use Rattle.obj36.specs.declared.fault.ObjectFault.{ObjectFault}
@@ -7,10 +7,11 @@ use Rattle.obj36.specs.declared.fault.ObjectFault.TheVariants.{O1, O2, O3, O4, O
 use Rattle.obj36_parts.specs.Names.{same}
 use Rattle.obj36_parts.specs.ObjectSegment.{words_of, is_well_formed, Stands}
 use Rattle.obj36_parts.specs.Sizes.{HasShortLists}
-use Rattle.obj36.specs.Reading.{version_in, told_length, told_count, told_first, from_definition, from_linkage, from_statics, from_symbol, statics_in, definitions_in, links_in, relocations_in, parts_of}
-use Rattle.obj36.specs.Faults.{first_fault, ReadSays, IsFound}
+use Rattle.obj36_read.specs.Reading.{version_in, told_length, told_count, told_first, from_definition, from_linkage, from_statics, from_symbol, statics_in, definitions_in, links_in, relocations_in, parts_of}
+use Rattle.obj36.specs.Faults.{from_outline, outline_fault, fault_behind_map, first_fault, ReadSays, IsReadAs, IsFound}
+use Rattle.obj36_parts.proofs.Formed.{is_formed}
 use Rattle.obj36_parts.proofs.SizeLaws.{same_is, same_self}
-use Rattle.obj36.proofs.ReadingBack.{stands_back, values_apart}
+use Rattle.obj36.proofs.ReadingBack.{outline_back, stands_back, values_apart}
 
 -- ---- the parts that are read have short lists
 
@@ -87,6 +88,22 @@ other_words words written parts b e t f other p s =
 pub same_words : (words written : List ℕ) (parts : PartsFields) (b : Bool) → Stands parts written → b ≡ same written words → b ≡ true → Stands parts words
 same_words words written parts b t f alike = record { formed = t.formed; spelled = sym (same_is written words (sym f ∙ alike)) ∙ t.spelled }
 
+-- ---- what is told before anything is read
+
+pub outline_stands : (words : List ℕ) (f : ObjectFault) → Some f ≡ outline_fault words → (p : PartsFields) → Stands p words → ⊥
+outline_stands words f e p s =
+    let none : outline_fault words ≡ None = ap outline_fault s.spelled ∙ outline_back p (is_formed p s.formed) in
+    let wrong : Some f ≡ None = e ∙ none in
+    absurd cc
+
+pub outline_first : (words : List ℕ) (f : ObjectFault) → Some f ≡ outline_fault words → f ≡ first_fault words
+unfolding first_fault
+outline_first words f e = ap (λ (o : Option ObjectFault). from_outline o (fault_behind_map words)) e
+
+pub behind_first : (words : List ℕ) (f : ObjectFault) → None ≡ outline_fault words → f ≡ fault_behind_map words → f ≡ first_fault words
+unfolding first_fault
+behind_first words f none e = e ∙ ap (λ (o : Option ObjectFault). from_outline o (fault_behind_map words)) none
+
 -- ---- what is said
 
 pub refused : (words : List ℕ) (f : ObjectFault) → f ≡ first_fault words → IsFound words None → ReadSays words (Err f)
@@ -102,3 +119,6 @@ refused words NoMemory e none = tt
 
 pub read_as : (words : List ℕ) (q p : PartsFields) → Stands q words → Stands p words → q ≡ p
 read_as words q p s t = values_apart q p words s t
+
+pub never_read : (words : List ℕ) (f : ObjectFault) → Some f ≡ outline_fault words → (p : PartsFields) → Stands p words → IsReadAs p (Err f)
+never_read words f e p s = absurd (outline_stands words f e p s)

@@ -1,5 +1,5 @@
 -- What was spelled is read again, so no two values share a list.
-use Rattle.std.proofs.Common.{ℕ, ◌≡◌, ◌+◌, ◌-◌, ◌*◌, ◌^◌, ◌<◌, ◌≤◌, Bool, true, false, cond, ◌||◌, eqb, List, [], ◌∷◌, ◌++◌, length, refl, sym, ap, ◌∙◌, append_assoc, arith}
+use Rattle.std.proofs.Common.{ℕ, ◌≡◌, ◌+◌, ◌-◌, ◌*◌, ◌^◌, ◌<◌, ◌≤◌, Bool, true, false, cond, ◌||◌, eqb, List, [], ◌∷◌, ◌++◌, length, None, refl, sym, ap, ◌∙◌, append_assoc, arith}
 use Rattle.std.specs.Prelude.{slice_index}
 use Rattle.std.specs.List.{list_any, list_all}
 use Rattle.std.proofs.lemmas.Bool.{eqb-true}
@@ -12,13 +12,15 @@ use Rattle.obj36_parts.specs.Halves.{joined}
 use Rattle.obj36_parts.specs.Names.{same, with_names, place_of, all_name_words}
 use Rattle.obj36_parts.specs.ObjectSegment.{is_newer, inner_statics, outer_statics, place_if_any, definition_names, all_link_names, definition_words, expression_words, definition_part, definition_section, link_words, linkage_part, linkage_section, symbol_part, symbol_section, map_words, words_of, is_definition, is_link, is_relocation, is_well_formed, Stands, ValuesApart}
 use Rattle.obj36_parts.specs.Sizes.{names_length}
-use Rattle.obj36.specs.Reading.{version_in, told_count, from_definition, from_linkage, from_symbol, told_first, statics_in, definitions_in, links_in, relocations_in, parts_of}
+use Rattle.obj36_read.specs.Reading.{version_in, told_count, from_definition, from_linkage, from_symbol, told_first, statics_in, definitions_in, links_in, relocations_in, parts_of}
 use Rattle.obj36_parts.proofs.Formed.{IsFormed, is_formed}
 use Rattle.obj36_parts.proofs.SizeLaws.{any_among}
 use Rattle.obj36_parts.proofs.LengthLaws.{small_sections, length-definition_words, length-expression_words, length-definition_part, length-linkage_part, length-symbol_part, length-words_of, length-map_part, length-sections}
 use Rattle.obj36.proofs.NameReading.{IsGood, IsRead, names_read}
 use Rattle.obj36.proofs.TableReading.{definitions_back, links_back, relocations_back}
 use Rattle.obj36.proofs.TablesStand.{AreRead, definitions_stand, links_stand, relocations_stand}
+use Rattle.obj36.specs.Faults.{outline_fault}
+use Rattle.obj36.proofs.MapStands.{outline_right}
 use Rattle.obj36.proofs.MapReading.{IsMapped, mapped, IsCut, cut, first_is, statics_are, count_is}
 
 -- ---- the definition section and what follows it
@@ -169,6 +171,13 @@ is_mapped p f =
     let small : length (front_of p) < 2 ^ 18 = omega (arith, f.fits, length-sections p, front_length p, map_length p) in
     let bound : p.entry_bound < 2 ^ 18 = omega (arith, f.bound, front_length p) in
     mapped (is_newer p) (front_of p) (length p.text) (length (definition_section p)) (length (linkage_section p)) (length (outer_statics p)) (length (symbol_section p)) p.entry_bound (front_length p) small bound
+
+-- the map is as it must be
+pub outline_back : (p : PartsFields) → IsFormed p → outline_fault (words_of p) ≡ None
+unfolding words_of map_words front_of
+outline_back p f =
+    let small : length (front_of p) < 2 ^ 18 = omega (arith, f.fits, length-sections p, front_length p, map_length p) in
+    outline_right (is_newer p) (front_of p) (length p.text) (length (definition_section p)) (length (linkage_section p)) (length (outer_statics p)) (length (symbol_section p)) p.entry_bound (front_length p) small f.bound
 
 is_cut : (p : PartsFields) → IsFormed p → IsCut (words_of p) p.text (definition_section p) (linkage_section p) (outer_statics p) (symbol_section p) (map_words p)
 is_cut p f = cut (is_newer p) (words_of p) p.text (definition_section p) (linkage_section p) p.statics (outer_statics p) (symbol_section p) (map_words p) p.entry_bound (grouped p) refl (is_mapped p f)

@@ -1,11 +1,12 @@
 -- The first fault of a list of words, in the order of the codes.
 use Rattle.std.specs.Prelude.{ℕ, ◌≡◌, nat_lt, if◌then◌else◌, List, length, Option, Some, None, Result, Ok, Err}
+use Rattle.std.specs.Option.{option_map}
 use Rattle.obj36_parts.specs.PartsFields.{PartsFields}
 use Rattle.obj36_parts.specs.ObjectSegment.{Stands}
-use Rattle.obj36.specs.Reading.{version_in}
-use Rattle.obj36.specs.MapFaults.{map_fault, section_fault, shared_fault, extents_of, extent_words}
-use Rattle.obj36.specs.TableFaults.{table_fault, names_fault}
-use Rattle.obj36.specs.LinkFaults.{behind, links_fault}
+use Rattle.obj36_read.specs.Reading.{version_in}
+use Rattle.obj36_read.specs.MapFaults.{map_fault, section_fault, shared_fault, extents_of, extent_words}
+use Rattle.obj36_read.specs.TableFaults.{table_fault, names_fault}
+use Rattle.obj36_read.specs.LinkFaults.{behind, links_fault}
 use Rattle.obj36.specs.declared.fault.ObjectFault.{ObjectFault}
 use Rattle.obj36.specs.declared.fault.ObjectFault.TheVariants.{O1, O2, O3, O4, O5, O6, O7, O8, NoMemory}
 
@@ -47,17 +48,21 @@ abbrev pub from_sections : Option ℕ → ObjectFault → ObjectFault
 from_sections (Some p) later = O3 p
 from_sections None later = later
 
-abbrev pub from_map : Option ℕ → ObjectFault → ObjectFault
-from_map (Some p) later = O2 p
-from_map None later = later
+abbrev pub from_outline : Option ObjectFault → ObjectFault → ObjectFault
+from_outline (Some fault) later = fault
+from_outline None later = later
 
 unfoldable pub fault_behind_map : List ℕ → ObjectFault
 fault_behind_map words =
     from_sections (section_fault words) (from_sharing (shared_fault words)
     (from_tables (definition_fault words) (from_names (spelling_fault words) (from_links (linking_fault words)))))
 
+-- what is told before anything is read: too few words, or a map that is not as it must be
+unfoldable pub outline_fault : List ℕ → Option ObjectFault
+outline_fault words = if nat_lt (length words) 7 then Some (O1 (length words)) else option_map O2 (map_fault words)
+
 unfoldable pub first_fault : List ℕ → ObjectFault
-first_fault words = if nat_lt (length words) 7 then O1 (length words) else from_map (map_fault words) (fault_behind_map words)
+first_fault words = from_outline (outline_fault words) (fault_behind_map words)
 
 -- The list stands for no value, and this is its first fault.
 pub record IsRefused (words : List ℕ) (fault : ObjectFault) : Type 0 where

@@ -3,7 +3,7 @@ use Rattle.std.specs.Prelude.{ℕ, ◌≡◌, ◌&&◌, nat_eq, if◌then◌else
 use Rattle.std.specs.Cmp.Lexicographic.{pointwise}
 use Rattle.obj36_parts.specs.PartsFields.{PartsFields}
 use Rattle.obj36_parts.specs.ObjectSegment.{words_of, is_well_formed}
-use Rattle.obj36.specs.Reading.{parts_of}
+use Rattle.obj36_read.specs.Reading.{parts_of}
 use Rattle.obj36.specs.Faults.{first_fault}
 use Rattle.obj36.specs.declared.fault.ObjectFault.{ObjectFault}
 use Rattle.obj36.specs.declared.fault.ObjectFault.TheVariants.{O1, O2, O3, O4, O5, O6, O7, O8, NoMemory}

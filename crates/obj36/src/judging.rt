@@ -1,15 +1,17 @@
 //! The first fault of a list of words.
 
 ghost use Rattle.std.specs.Prelude.{ℕ, List, ◌≡◌, ◌+◌, ◌^◌, ◌<◌, length, Option, Some, None, IfSome, IfOk};
-ghost use Rattle.obj36.specs.Faults.{told_definition, told_linkage, definition_fault, spelling_fault, linking_fault, from_links, from_names, fault_behind_map, first_fault};
+ghost use Rattle.obj36.specs.Faults.{told_definition, told_linkage, definition_fault, spelling_fault, linking_fault, from_links, from_names, fault_behind_map, outline_fault};
 
 use crate::fault::ObjectFault;
-use crate::linking::{fault_of_links, place_behind};
-use crate::map::{extents_told, fault_of_map, fault_of_sections, fault_of_sharing, words_within};
-use crate::reading::version;
-use crate::spelling::fault_of_names;
-use crate::tables::fault_of_tables;
 use m36_word::{NoMemory, Word};
+use obj36_read::linking::{fault_of_links, place_behind};
+use obj36_read::map::{
+    extents_told, fault_of_map, fault_of_sections, fault_of_sharing, words_within,
+};
+use obj36_read::reading::version;
+use obj36_read::spelling::fault_of_names;
+use obj36_read::tables::fault_of_tables;
 use std::alloc::Global;
 
 #[tactic(auto, unfolding(crate::specs::Faults::told_definition))]
@@ -73,8 +75,9 @@ fn fault_behind_tables(words: &[Word]) -> ObjectFault
     ObjectFault::O8(0)
 }
 
+// The first fault behind a map that is as it must be; O8 where none of the other codes stands.
 #[tactic(auto, unfolding(crate::specs::Faults::fault_behind_map))]
-fn fault_behind(alloc: Global, words: &[Word]) -> Result<ObjectFault, NoMemory>
+pub(crate) fn fault_behind(alloc: Global, words: &[Word]) -> Result<ObjectFault, NoMemory>
     ensures { IfOk result (λ fault. fault ≡ fault_behind_map words.now) }
 {
     if let Some(place) = fault_of_sections(words) {
@@ -89,17 +92,17 @@ fn fault_behind(alloc: Global, words: &[Word]) -> Result<ObjectFault, NoMemory>
     }
 }
 
-// The first fault, in the order of the codes; O8 where none of the others is there.
-#[tactic(auto, unfolding(crate::specs::Faults::first_fault))]
-pub(crate) fn fault_of(alloc: Global, words: &[Word]) -> Result<ObjectFault, NoMemory>
+// The fault that is told before anything is read: too few words, or a map that is not as it must be.
+#[tactic(auto, unfolding(crate::specs::Faults::outline_fault))]
+pub(crate) fn fault_of_outline(words: &[Word]) -> Option<ObjectFault>
     requires { length words.now < 2 ^ 32 }
-    ensures { IfOk result (λ fault. fault ≡ first_fault words.now) }
+    ensures { result ≡ outline_fault words.now }
 {
     if words.len() < 7 {
-        return Ok(ObjectFault::O1(words.len() as u32));
+        return Some(ObjectFault::O1(words.len() as u32));
     }
-    if let Some(place) = fault_of_map(words) {
-        return Ok(ObjectFault::O2(place as u32));
+    match fault_of_map(words) {
+        Some(place) => Some(ObjectFault::O2(place as u32)),
+        None => None,
     }
-    fault_behind(alloc, words)
 }

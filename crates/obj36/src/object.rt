@@ -1,25 +1,26 @@
 //! Objects.
 
-ghost use Rattle.std.specs.Prelude.{ℕ, List, [], ◌∷◌, ◌++◌, ◌≡◌, ◌+◌, ◌*◌, ◌<◌, ◌≤◌, ◌^◌, Bool, true, length, nat_eq, if◌then◌else◌, IfOk, OnOk};
+ghost use Rattle.std.specs.Prelude.{ℕ, List, [], ◌∷◌, ◌++◌, ◌≡◌, ◌+◌, ◌*◌, ◌<◌, ◌≤◌, ◌^◌, Bool, true, length, nat_eq, if◌then◌else◌, None, IfOk, OnOk};
 ghost use Rattle.obj36_parts.specs.ObjectSegment.{is_newer, inner_statics, outer_statics, definition_section, linkage_section, symbol_section, section_words, map_part, words_of, is_well_formed, definition_named, Stands, IsObject};
 ghost use Rattle.obj36_parts.specs.Halves.{joined};
 ghost use Rattle.obj36_parts.specs.Sizes.{HasShortLists};
 ghost use Rattle.obj36.specs.Lengths.{AreSmall};
 ghost use Rattle.obj36_parts.specs.PartsFields.{PartsFields};
-ghost use Rattle.obj36.specs.Faults.{ReadSays, IsReadAs, IsFound};
+ghost use Rattle.obj36.specs.Faults.{outline_fault, ReadSays, IsReadAs, IsFound};
 ghost use Rattle.obj36.specs.ObjectOf.{value_of, IsObjectOf};
 ghost use Rattle.std.specs.Cmp.Lexicographic.{pointwise};
 
 use crate::fault::ObjectFault;
-use crate::judging::fault_of;
-use crate::reading::parts_in;
+use crate::judging::{fault_behind, fault_of_outline};
+use m36_text::Name;
 use m36_word::{NoMemory, Word, Words};
-use obj36_parts::definition::{Def, Named};
+use obj36_parts::definition::Def;
 use obj36_parts::halves::word_of;
 use obj36_parts::link::Link;
 use obj36_parts::parts::Parts;
 use obj36_parts::section::Section;
 use obj36_parts::sections::{definition_words_of, linkage_words_of, push_all, symbol_words_of};
+use obj36_read::reading::parts_in;
 use std::alloc::Global;
 use std::marker::Model;
 
@@ -51,20 +52,6 @@ impl Model for Object {
     ghost invariant = { λ o. IsObject o.parts o.definition o.linkage o.symbol };
 }
 
-// The static words of the linkage section.
-fn inner(version: u8, statics: &[Word]) -> &[Word]
-    ensures { result.now ≡ (if nat_eq version 2 then [] else statics.now) }
-{
-    if version == 2 { &[] } else { statics }
-}
-
-// The static words of the static section.
-fn outer(version: u8, statics: &[Word]) -> &[Word]
-    ensures { result.now ≡ (if nat_eq version 2 then statics.now else []) }
-{
-    if version == 2 { statics } else { &[] }
-}
-
 #[tactic(auto, unfolding(obj36_parts::specs::ObjectSegment::definition_section, obj36_parts::specs::ObjectSegment::linkage_section, obj36_parts::specs::ObjectSegment::symbol_section))]
 fn sections_of(alloc: Global, parts: &Parts) -> Result<Sections, NoMemory>
     requires { HasShortLists parts.now }
@@ -74,7 +61,7 @@ fn sections_of(alloc: Global, parts: &Parts) -> Result<Sections, NoMemory>
 {
     let definitions = parts.definitions.items();
     let links = parts.links.items();
-    let statics = inner(parts.version, parts.statics.slice());
+    let statics = parts.inner_statics();
     let expressions = 2 + 2 * definitions.len() as u64;
     let definition = definition_words_of(alloc, definitions, links)?;
     let linkage = linkage_words_of(alloc, statics, links, expressions)?;
@@ -84,21 +71,6 @@ fn sections_of(alloc: Global, parts: &Parts) -> Result<Sections, NoMemory>
         linkage,
         symbol,
     })
-}
-
-// The first definition of a name.
-#[tactic(auto, unfolding(obj36_parts::specs::ObjectSegment::definition_named))]
-fn found(definitions: &[Named], name: &[u8]) -> Option<Def>
-    ensures { result ≡ definition_named name.now definitions.now }
-{
-    let mut rest = definitions;
-    while let [first, others @ ..] = rest {
-        if first.name.bytes() == name {
-            return Some(first.def);
-        }
-        rest = others;
-    }
-    None
 }
 
 // The lengths of sections that follow one another.
@@ -151,12 +123,11 @@ fn lengths_of(parts: &Parts, definition: &[Word], linkage: &[Word], symbol: &[Wo
     ensures symbol { result.symbol ≡ length symbol.now }
     ensures small { AreSmall result }
 {
-    let statics = outer(parts.version, parts.statics.slice());
     Lengths {
         text: parts.text.slice().len() as u64,
         definition: definition.len() as u64,
         linkage: linkage.len() as u64,
-        statics: statics.len() as u64,
+        statics: parts.outer_statics().len() as u64,
         symbol: symbol.len() as u64,
     }
 }
@@ -174,14 +145,18 @@ fn joined_sections(
     ensures { IfOk result (λ words. Stands parts.now words) }
 {
     let lengths = lengths_of(parts, definition, linkage, symbol);
-    let version = parts.version;
     let mut out = Words::new(alloc);
     push_all(&mut out, parts.text.slice())?;
     push_all(&mut out, definition)?;
     push_all(&mut out, linkage)?;
-    push_all(&mut out, outer(version, parts.statics.slice()))?;
+    push_all(&mut out, parts.outer_statics())?;
     push_all(&mut out, symbol)?;
-    push_map(&mut out, version == 2, lengths, parts.entry_bound as u64)?;
+    push_map(
+        &mut out,
+        parts.version == 2,
+        lengths,
+        parts.entry_bound as u64,
+    )?;
     Ok(out)
 }
 
@@ -211,6 +186,20 @@ fn object_in(alloc: Global, w: &[Word]) -> Result<Option<Object>, NoMemory>
     }
 }
 
+// The object that a list of words with a map is.
+fn read_behind(alloc: Global, w: &[Word]) -> Result<Object, ObjectFault>
+    requires few { length w.now < 2 ^ 32 }
+    requires outline { outline_fault w.now ≡ None }
+    ensures says { ReadSays w.now result }
+    ensures accepts { (p : PartsFields) → Stands p w.now → IsReadAs p result }
+    ensures object { IsObjectOf w.now result }
+{
+    match object_in(alloc, w)? {
+        Some(object) => Ok(object),
+        None => Err(fault_behind(alloc, w)?),
+    }
+}
+
 impl Object {
     /// The object that a list of words is, of fewer than 2^32 words. Exactly the lists that stand for a value are read,
     /// as that value; of every other list the error is its first fault in the order of the codes, with its place. Want
@@ -221,9 +210,9 @@ impl Object {
         ensures accepts { (p : PartsFields) → Stands p w.now → IsReadAs p result }
         ensures object { IsObjectOf w.now result }
     {
-        match object_in(alloc, w)? {
-            Some(object) => Ok(object),
-            None => Err(fault_of(alloc, w)?),
+        match fault_of_outline(w) {
+            Some(fault) => Err(fault),
+            None => read_behind(alloc, w),
         }
     }
 
@@ -266,7 +255,7 @@ impl Object {
             Section::Text => self.parts.text.slice(),
             Section::Linkage => self.linkage.slice(),
             Section::Symbol => self.symbol.slice(),
-            Section::Static => outer(self.parts.version, self.parts.statics.slice()),
+            Section::Static => self.parts.outer_statics(),
         }
     }
 
@@ -281,7 +270,10 @@ impl Object {
     pub fn find(&self, entry: &[u8]) -> Option<Def>
         ensures { result ≡ definition_named entry.now self.now.definitions }
     {
-        found(self.parts.definitions.items(), entry)
+        match Name::new(entry) {
+            Some(name) => self.parts.definitions.find(&name),
+            None => None,
+        }
     }
 
     /// The links in order.

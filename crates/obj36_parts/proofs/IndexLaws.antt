@@ -13,7 +13,7 @@ use Rattle.obj36_parts.specs.Fields.{LinkFields}
 use Rattle.obj36_parts.specs.declared.definition.Named.{Named}
 use Rattle.obj36_parts.specs.declared.section.Section.{Section}
 use Rattle.obj36_parts.specs.declared.section.Section.TheVariants.{Text, Linkage, Symbol, Static}
-use Rattle.obj36_parts.specs.Names.{same, with_name, with_names}
+use Rattle.obj36_parts.specs.Names.{same, with_name, with_names, names_in}
 use Rattle.obj36_parts.specs.ObjectSegment.{place_number, definition_names, link_names, all_link_names, are_distinct}
 use Rattle.obj36_parts.specs.Indexes.{same_link, with_place, AreIndexed}
 use Rattle.obj36_parts.proofs.NameTables.{with_names-append, few_with, few_definitions}
@@ -21,20 +21,20 @@ use Rattle.obj36_parts.proofs.SizeLaws.{same_is, same_self, any_among, any_defin
 
 -- ---- names of definitions
 
-pub named_more : (keys new : List (List ℕ)) (ds held all : List Named) (d : Named) (name : List ℕ) → keys ≡ with_names [] (definition_names ds)
-    → new ≡ cond (list_any (same name) keys) keys (keys ++ name ∷ []) → name ≡ d.name → held ≡ ds → all ≡ held ++ d ∷ []
-    → new ≡ with_names [] (definition_names all)
-unfolding with_name with_names definition_names
-named_more keys new ds held all d name e f n h g =
-    f ∙ ap (λ (x : List ℕ). with_name keys x) n ∙ ap (λ (ns : List (List ℕ)). with_name ns d.name) e
-    ∙ sym (with_names-append [] (definition_names ds) (d.name ∷ []))
-    ∙ ap (λ (ns : List (List ℕ)). with_names [] ns) (sym (definition_names-append ds (d ∷ [])))
-    ∙ ap (λ (xs : List Named). with_names [] (definition_names xs)) (sym (g ∙ ap (λ (xs : List Named). xs ++ d ∷ []) h))
+-- the names of entries with one more
+pub names_in_last : {A : Type 0} (entries : List (List ℕ × A)) (name : List ℕ) (x : A) → names_in (entries ++ (name, x) ∷ []) ≡ names_in entries ++ name ∷ []
+names_in_last [] name x = refl
+names_in_last (e ∷ entries) name x = ap (λ (ns : List (List ℕ)). e.0 ∷ ns) (names_in_last entries name x)
 
-pub named_has : (keys : List (List ℕ)) (ds : List Named) (name : List ℕ) → keys ≡ with_names [] (definition_names ds)
-    → list_any (same name) keys ≡ list_any (λ d. same name d.name) ds
-named_has keys ds name e =
-    ap (λ (ns : List (List ℕ)). list_any (same name) ns) e ∙ any_among name [] (definition_names ds) ∙ sym (any_definition name ds)
+-- a name is found exactly where it is among them
+pub looked : {A : Type 0} (name : List ℕ) (entries : List (List ℕ × A)) → is_some (lookup (same name) entries) ≡ list_any (same name) (names_in entries)
+looked name [] = refl
+looked {A} name (e ∷ entries) = by (same name e.0) (looked name entries)
+  where
+    by : (b : Bool) → is_some (lookup (same name) entries) ≡ list_any (same name) (names_in entries)
+        → is_some (cond b (Some e.1) (lookup (same name) entries)) ≡ (b || list_any (same name) (names_in entries))
+    by true later = refl
+    by false later = later
 
 -- ---- names that are all different are as many as they are alone
 
@@ -151,33 +151,33 @@ link_self l =
 
 -- ---- the first places
 
-or_else : Option ℕ → Option ℕ → Option ℕ
+unfoldable pub or_else : {A : Type 0} → Option A → Option A → Option A
 or_else (Some i) o = Some i
 or_else None o = o
 
-or_nothing : (o : Option ℕ) → or_else o None ≡ o
+pub or_nothing : {A : Type 0} (o : Option A) → or_else o None ≡ o
 unfolding or_else
 or_nothing (Some i) = refl
 or_nothing None = refl
 
-or_something : (o p : Option ℕ) → is_some o ≡ true → or_else o p ≡ o
+pub or_something : {A : Type 0} (o p : Option A) → is_some o ≡ true → or_else o p ≡ o
 unfolding or_else
 or_something (Some i) p e = refl
 or_something None p e = absurd (true≢false (sym e))
 
-first_or_else : (b : Bool) (i : ℕ) (o p : Option ℕ) → cond b (Some i) (or_else o p) ≡ or_else (cond b (Some i) o) p
+pub first_or_else : {A : Type 0} (b : Bool) (i : A) (o p : Option A) → cond b (Some i) (or_else o p) ≡ or_else (cond b (Some i) o) p
 unfolding or_else
 first_or_else true i o p = refl
 first_or_else false i o p = refl
 
-module _ (test : LinkFields → Bool) where
-  lookup_last : (places : List (LinkFields × ℕ)) (link : LinkFields) (place : ℕ)
-      → lookup test (places ++ (link, place) ∷ []) ≡ or_else (lookup test places) (cond (test link) (Some place) None)
-  unfolding or_else
-  lookup_last [] link place = refl
-  lookup_last (p ∷ places) link place =
-      ap (λ o. cond (test p.0) (Some p.1) o) (lookup_last places link place) ∙ first_or_else (test p.0) p.1 (lookup test places) (cond (test link) (Some place) None)
+pub lookup_last : {K A : Type 0} (test : K → Bool) (entries : List (K × A)) (key : K) (x : A)
+    → lookup test (entries ++ (key, x) ∷ []) ≡ or_else (lookup test entries) (cond (test key) (Some x) None)
+unfolding or_else
+lookup_last test [] key x = refl
+lookup_last {K} {A} test (p ∷ entries) key x =
+    ap (λ (o : Option A). cond (test p.0) (Some p.1) o) (lookup_last test entries key x) ∙ first_or_else (test p.0) p.1 (lookup test entries) (cond (test key) (Some x) None)
 
+module _ (test : LinkFields → Bool) where
   position_from_last : (i : ℕ) (links : List LinkFields) (link : LinkFields)
       → position_from test i (links ++ link ∷ []) ≡ or_else (position_from test i links) (cond (test link) (Some (i + length links)) None)
   unfolding or_else
@@ -225,17 +225,17 @@ places_more links places link other false are some =
 
 -- ---- what is put into a map
 
-no_tail : (b : Bool) (n : ℕ) (r : Option ℕ) → is_some (cond b (Some n) r) ≡ false → (b ≡ false) × (is_some r ≡ false)
+no_tail : {A : Type 0} (b : Bool) (n : A) (r : Option A) → is_some (cond b (Some n) r) ≡ false → (b ≡ false) × (is_some r ≡ false)
 no_tail true n r e = absurd (true≢false e)
 no_tail false n r e = (refl, e)
 
 -- a key that is not there goes to the end
-pub goes_last : {K : Type 0} (eq : K → K → Bool) (entries : List (K × ℕ)) (key : K) (place : ℕ) → is_some (lookup (eq key) entries) ≡ false
+pub goes_last : {K A : Type 0} (eq : K → K → Bool) (entries : List (K × A)) (key : K) (place : A) → is_some (lookup (eq key) entries) ≡ false
     → insert_entry eq entries key place ≡ entries ++ (key, place) ∷ []
 goes_last eq [] key place none = refl
-goes_last {K} eq (e ∷ entries) key place none =
+goes_last {K} {A} eq (e ∷ entries) key place none =
     let parts = no_tail (eq key e.0) e.1 (lookup (eq key) entries) none in
-    ap (λ b. cond b ((e.0, place) ∷ entries) (e ∷ insert_entry eq entries key place)) parts.0 ∙ ap (λ (l : List (K × ℕ)). e ∷ l) (goes_last eq entries key place parts.1)
+    ap (λ b. cond b ((e.0, place) ∷ entries) (e ∷ insert_entry eq entries key place)) parts.0 ∙ ap (λ (l : List (K × A)). e ∷ l) (goes_last eq entries key place parts.1)
 
 module _ (eq : LinkFields → LinkFields → Bool) (same_eq : (a b : LinkFields) → eq a b ≡ same_link a b) where
   looked_same : (places : List (LinkFields × ℕ)) (link : LinkFields) → lookup (eq link) places ≡ lookup (same_link link) places

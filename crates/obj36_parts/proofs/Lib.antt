@@ -4,5 +4,6 @@ pub mod SizeLaws
 pub mod Formed
 pub mod LengthLaws
 pub mod IndexLaws
+pub mod FirstLaws
 pub mod NamePlaces
 pub mod LinkEq

@@ -5,9 +5,9 @@ use Rattle.std.specs.List.{list_any}
 use Rattle.std.specs.Map.{lookup}
 use Rattle.std.proofs.lemmas.List.{length-append}
 use Rattle.indexmap.specs.IndexMap.{insert_entry}
-use Rattle.obj36_parts.specs.Names.{same, with_name, place_of, name_length, name_words, all_name_words}
-use Rattle.obj36_parts.specs.NameTables.{names_in, laid, IsLaid}
-use Rattle.obj36_parts.proofs.IndexLaws.{goes_last}
+use Rattle.obj36_parts.specs.Names.{same, with_name, names_in, place_of, name_length, name_words, all_name_words}
+use Rattle.obj36_parts.specs.NameTables.{laid, IsLaid}
+use Rattle.obj36_parts.proofs.IndexLaws.{goes_last, names_in_last, looked}
 use Rattle.obj36_parts.proofs.NameTables.{one_more}
 use Rattle.obj36_parts.proofs.SizeLaws.{length-name_words, all_words_last}
 
@@ -22,19 +22,6 @@ nothing_laid entries base e near =
 length-names_in : (entries : List (List ℕ × ℕ)) → length (names_in entries) ≡ length entries
 length-names_in [] = refl
 length-names_in (e ∷ entries) = ap suc (length-names_in entries)
-
-names_in_last : (entries : List (List ℕ × ℕ)) (name : List ℕ) (place : ℕ) → names_in (entries ++ (name, place) ∷ []) ≡ names_in entries ++ name ∷ []
-names_in_last [] name place = refl
-names_in_last (e ∷ entries) name place = ap (λ (ns : List (List ℕ)). e.0 ∷ ns) (names_in_last entries name place)
-
-looked : (name : List ℕ) (entries : List (List ℕ × ℕ)) → is_some (lookup (same name) entries) ≡ list_any (same name) (names_in entries)
-looked name [] = refl
-looked name (e ∷ entries) = by (same name e.0) (looked name entries)
-  where
-    by : (b : Bool) → is_some (lookup (same name) entries) ≡ list_any (same name) (names_in entries)
-        → is_some (cond b (Some e.1) (lookup (same name) entries)) ≡ (b || list_any (same name) (names_in entries))
-    by true later = refl
-    by false later = later
 
 laid_last : (names : List (List ℕ)) (name : List ℕ) (at : ℕ) → laid (names ++ name ∷ []) at ≡ laid names at ++ (name, at + length (all_name_words names)) ∷ []
 unfolding laid all_name_words

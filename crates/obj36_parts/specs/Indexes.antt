@@ -1,9 +1,20 @@
 -- What the tables of definitions and links keep beside their lists, so that a name or a link is found at once.
 use Rattle.std.specs.Prelude.{ℕ, ◌≡◌, Bool, ◌&&◌, nat_eq, List, [], ◌∷◌, ◌++◌, position, is_some, if◌then◌else◌}
 use Rattle.std.specs.Map.{lookup}
-use Rattle.obj36_parts.specs.Fields.{LinkFields}
-use Rattle.obj36_parts.specs.Names.{same, with_names}
-use Rattle.obj36_parts.specs.ObjectSegment.{place_number, all_link_names}
+use Rattle.obj36_parts.specs.Fields.{DefFields, LinkFields}
+use Rattle.obj36_parts.specs.declared.definition.Named.{Named}
+use Rattle.obj36_parts.specs.Names.{same, with_names, names_in}
+use Rattle.obj36_parts.specs.ObjectSegment.{place_number, definition_names, all_link_names, definition_named}
+
+-- where the first definition of each name lies, with one more, unless its name has one
+unfoldable pub with_first : List (List ℕ × DefFields) → Named → List (List ℕ × DefFields)
+with_first firsts d =
+    if is_some (lookup (same d.name) firsts) then firsts else firsts ++ (d.name, d.def) ∷ []
+
+-- These are the names of the definitions, each once, and where the first definition of each lies.
+pub record AreFirsts (definitions : List Named) (firsts : List (List ℕ × DefFields)) : Type 0 where
+  pub names_are : names_in firsts ≡ with_names [] (definition_names definitions)
+  pub firsts_are : (name : List ℕ) → lookup (same name) firsts ≡ definition_named name definitions
 
 -- whether two links are the same
 unfoldable pub same_link : LinkFields → LinkFields → Bool

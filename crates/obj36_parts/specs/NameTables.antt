@@ -1,14 +1,11 @@
 -- The table from which the places of names are found.
-use Rattle.std.specs.Prelude.{ℕ, ◌≡◌, ◌+◌, ◌*◌, ◌^◌, ◌≤◌, List, [], ◌∷◌, length, map}
-use Rattle.obj36_parts.specs.Names.{name_length, all_name_words}
+use Rattle.std.specs.Prelude.{ℕ, ◌≡◌, ◌+◌, ◌*◌, ◌^◌, ◌≤◌, List, [], ◌∷◌, length}
+use Rattle.obj36_parts.specs.Names.{names_in, name_length, all_name_words}
 
 -- What contracts see of a table: its names in order, and the place of the first.
 pub record NameTableFields : Type 0 where
   pub names : List (List ℕ)
   pub base : ℕ
-
-abbrev pub names_in : List (List ℕ × ℕ) → List (List ℕ)
-names_in entries = map (λ e. e.0) entries
 
 -- names with their places, one behind another from a place on
 unfoldable pub laid : List (List ℕ) → ℕ → List (List ℕ × ℕ)

@@ -1,5 +1,5 @@
 -- Names in a definition section: each stands there once, in order of first use.
-use Rattle.std.specs.Prelude.{ℕ, zero, suc, ◌+◌, ◌*◌, ◌/◌, ◌^◌, if◌then◌else◌, List, [], ◌∷◌, ◌++◌, length, slice_index}
+use Rattle.std.specs.Prelude.{ℕ, zero, suc, ◌+◌, ◌*◌, ◌/◌, ◌^◌, if◌then◌else◌, List, [], ◌∷◌, ◌++◌, length, map, slice_index}
 use Rattle.std.specs.List.{list_any}
 pub use Rattle.m36_text.specs.Texts.{are_same as same, is_name_character}
 unfoldable pub use Rattle.m36_text.specs.Texts.{is_name}
@@ -14,6 +14,10 @@ with_name names name = if list_any (same name) names then names else names ++ na
 unfoldable pub with_names : List (List ℕ) → List (List ℕ) → List (List ℕ)
 with_names names [] = names
 with_names names (name ∷ more) = with_names (with_name names name) more
+
+-- the names of entries
+abbrev pub names_in : {A : Type 0} → List (List ℕ × A) → List (List ℕ)
+names_in entries = map (λ e. e.0) entries
 
 -- how many words a name takes: nine bits for its length and nine for each character
 unfoldable pub name_length : List ℕ → ℕ

@@ -2,7 +2,7 @@
 
 ghost use Rattle.std.specs.Prelude.{ℕ, Bool, List, true, ◌∷◌, ◌++◌, ◌≡◌, ◌+◌, ◌*◌, ◌^◌, ◌<◌, ◌≤◌, ◌&&◌, ◌||◌, not, nat_eq, nat_lt, nat_le, length, if◌then◌else◌};
 ghost use Rattle.std.specs.List.{list_all};
-ghost use Rattle.obj36_parts.specs.Names.{is_name, is_name_character};
+ghost use Rattle.obj36_parts.specs.Names.{is_name};
 ghost use Rattle.obj36_parts.specs.ObjectSegment.{has_section, last_class, last_place, is_definition, is_link, is_place, is_relocation, order_of, are_rising, place_number};
 
 use crate::definition::Named;
@@ -12,31 +12,7 @@ use crate::relocation::Reloc;
 use crate::section::Section;
 use crate::sections::{class, number};
 use m36_text::Name;
-
-/// Whether a byte may stand in a name.
-pub fn is_name_byte(byte: u64) -> bool
-    ensures { result ≡ is_name_character byte }
-{
-    (65 <= byte && byte <= 90)
-        || (97 <= byte && byte <= 122)
-        || (48 <= byte && byte <= 57)
-        || byte == 95
-        || byte == 46
-}
-
-fn are_name_bytes(text: &[u8]) -> bool
-    ensures { result ≡ list_all is_name_character text.now }
-{
-    text.iter().all(|byte| is_name_byte(*byte as u64))
-}
-
-#[tactic(auto, unfolding(m36_text::specs::Texts::is_name))]
-fn is_good_name(name: &Name) -> bool
-    ensures { result ≡ is_name name.now }
-{
-    let text = name.bytes();
-    1 <= text.len() && text.len() <= 32 && are_name_bytes(text)
-}
+use m36_text::texts::is_name;
 
 /// The greatest class of a definition.
 pub fn greatest_class(version: u8) -> u64
@@ -57,7 +33,7 @@ fn is_good_definition(version: u8, definition: &Named) -> bool
     ensures { result ≡ is_definition version definition.now }
 {
     let def = definition.def;
-    is_good_name(&definition.name)
+    is_name(definition.name.bytes())
         && def.value < 1 << 18
         && class(def.section) <= greatest_class(version)
 }
@@ -70,8 +46,8 @@ pub(crate) fn are_good_definitions(version: u8, definitions: &[Named]) -> bool
         .all(|definition| is_good_definition(version, definition))
 }
 
-// Whether a link of this type has a section.
-pub(crate) fn has_its_section(kind: u8) -> bool
+/// Whether a link of this type has a section.
+pub fn has_its_section(kind: u64) -> bool
     ensures { result ≡ has_section kind }
 {
     kind == 1 || kind == 5
@@ -81,7 +57,7 @@ fn is_good_text(used: bool, name: &Name) -> bool
     ensures { result ≡ (if used then is_name name.now else nat_eq (length name.now) 0) }
 {
     if used {
-        is_good_name(name)
+        is_name(name.bytes())
     } else {
         name.bytes().is_empty()
     }
@@ -101,7 +77,7 @@ fn is_good_section(used: bool, version: u8, section: Section) -> bool
 fn is_good_link(version: u8, link: &Link) -> bool
     ensures { result ≡ is_link version link.now }
 {
-    let kind = link.kind;
+    let kind = link.kind as u64;
     (has_its_name(kind) || has_its_section(kind))
         && is_good_section(has_its_section(kind), version, link.section)
         && is_good_text(has_its_name(kind), &link.name)

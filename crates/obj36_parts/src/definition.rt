@@ -4,10 +4,11 @@ ghost use Rattle.std.specs.Prelude.{ℕ, List, [], ◌∷◌, ◌++◌, ◌≡�
 ghost use Rattle.std.specs.List.{list_any};
 ghost use Rattle.std.specs.Vec.{vec_len, vec_capacity};
 ghost use Rattle.obj36_parts.specs.Names.{same, with_names};
-ghost use Rattle.obj36_parts.specs.ObjectSegment.{definition_names, are_distinct};
+ghost use Rattle.obj36_parts.specs.ObjectSegment.{definition_names, are_distinct, definition_named};
+ghost use Rattle.obj36_parts.specs.Indexes.{with_first};
 
 use crate::section::Section;
-use indexmap::IndexSet;
+use indexmap::IndexMap;
 use m36_text::Name;
 use m36_word::NoMemory;
 use std::alloc::Global;
@@ -46,35 +47,34 @@ pub struct Named {
     pub def: Def,
 }
 
-/// A list of definitions that grows at its end, with the names that it has.
+/// A list of definitions that grows at its end, with where the first definition of each name lies.
 #[derive(Debug, Drop)]
 pub struct Defs {
     items: Vec<Named>,
-    names: IndexSet<Name>,
+    firsts: IndexMap<Name, Def>,
 }
 
 impl Model for Defs {
-    ghost use Rattle.std.specs.Prelude.{List, [], ◌≡◌};
+    ghost use Rattle.std.specs.Prelude.{List};
     ghost use Rattle.obj36_parts.specs.declared.definition.Named.{Named};
-    ghost use Rattle.obj36_parts.specs.Names.{with_names};
-    ghost use Rattle.obj36_parts.specs.ObjectSegment.{definition_names};
+    ghost use Rattle.obj36_parts.specs.Indexes.{AreFirsts};
 
     ghost Value = { List Named };
 
     ghost view = { λ d. d.items.items };
 
-    ghost invariant = { λ d. d.names.keys ≡ with_names [] (definition_names d.items.items) };
+    ghost invariant = { λ d. AreFirsts d.items.items d.firsts.entries };
 }
 
 impl Defs {
     /// An empty list.
-    #[tactic(auto, unfolding(crate::specs::Names::with_names, crate::specs::ObjectSegment::definition_names))]
+    #[tactic(auto, using(crate::proofs::FirstLaws::none_first))]
     pub fn new(alloc: Global) -> Defs
         ensures { result ≡ [] }
     {
         Defs {
             items: Vec::new(alloc),
-            names: IndexSet::new(alloc),
+            firsts: IndexMap::new(alloc),
         }
     }
 
@@ -84,7 +84,7 @@ impl Defs {
         ensures err { OnErr result (self.new ≡ self.old) }
     {
         self.items.reserve(1)?;
-        self.names.insert(x.name.copied())?;
+        note_first(&mut self.firsts, &x)?;
         put(&mut self.items, x);
         Ok(())
     }
@@ -100,23 +100,41 @@ impl Defs {
     pub fn has(&self, name: &Name) -> bool
         ensures { result ≡ list_any (λ d. same name.now d.name) self.now }
     {
-        self.names.contains(name)
+        self.firsts.contains_key(name)
+    }
+
+    /// Where the first definition of this name lies, if there is one.
+    pub fn find(&self, name: &Name) -> Option<Def>
+        ensures { result ≡ definition_named name.now self.now }
+    {
+        self.firsts.get(name).copied()
     }
 
     /// The names, each once, in the order in which they come first.
     pub fn names(&self) -> &[Name]
         ensures { result.now ≡ with_names [] (definition_names self.now) }
     {
-        self.names.as_slice()
+        self.firsts.keys().as_slice()
     }
 
     /// Whether no two definitions have one name.
-    #[tactic(auto, using(crate::proofs::IndexLaws::distinct_by_count))]
     pub fn have_own_names(&self) -> bool
         ensures { result ≡ are_distinct (definition_names self.now) }
     {
-        self.names.len() == self.items.len()
+        self.firsts.len() == self.items.len()
     }
+}
+
+// Keeps where a definition lies whose name has none yet.
+fn note_first(firsts: &mut IndexMap<Name, Def>, definition: &Named) -> Result<(), NoMemory>
+    ensures ok { OnOk result (firsts.new.entries ≡ with_first firsts.old.entries definition.now) }
+    ensures err { OnErr result (firsts.new.entries ≡ firsts.old.entries) }
+{
+    if firsts.contains_key(&definition.name) {
+        return Ok(());
+    }
+    firsts.insert(definition.name.copied(), definition.def)?;
+    Ok(())
 }
 
 // Adds an item where there is room for it.

@@ -170,7 +170,7 @@ fn note_subject(names: &mut IndexSet<Name>, link: &Link)
     ensures keys { names.new.keys ≡ with_names names.old.keys (name_used link.now) }
     ensures room { spare names.old ≤ spare names.new + 1 }
 {
-    if has_its_name(link.kind) {
+    if has_its_name(link.kind as u64) {
         note_name(names, &link.name);
     }
 }
@@ -180,7 +180,7 @@ fn note_entry(names: &mut IndexSet<Name>, link: &Link)
     requires { 0 < spare names.old }
     ensures { names.new.keys ≡ with_names names.old.keys (entry_used link.now) }
 {
-    if has_its_entry(link.kind) {
+    if has_its_entry(link.kind as u64) {
         note_name(names, &link.entry);
     }
 }

@@ -13,14 +13,14 @@ use std::alloc::Global;
 use std::marker::Model;
 
 /// Whether a link of this type has a name.
-pub fn has_its_name(kind: u8) -> bool
+pub fn has_its_name(kind: u64) -> bool
     ensures { result ≡ has_name kind }
 {
     kind == 3 || kind == 4
 }
 
 /// Whether a link of this type has an entry.
-pub fn has_its_entry(kind: u8) -> bool
+pub fn has_its_entry(kind: u64) -> bool
     ensures { result ≡ has_entry kind }
 {
     kind == 4 || kind == 5
@@ -36,7 +36,7 @@ pub(crate) fn length_of(name: &Name) -> u64
 }
 
 /// Names that stand one after another from a place on, each once.
-#[derive(Debug, Drop)]
+#[derive(Drop)]
 pub struct NameTable {
     places: IndexMap<Name, u64>,
     base: u64,
@@ -44,7 +44,8 @@ pub struct NameTable {
 }
 
 impl Model for NameTable {
-    ghost use Rattle.obj36_parts.specs.NameTables.{NameTableFields, IsLaid, names_in};
+    ghost use Rattle.obj36_parts.specs.Names.{names_in};
+    ghost use Rattle.obj36_parts.specs.NameTables.{NameTableFields, IsLaid};
 
     ghost Value = { NameTableFields };
 
@@ -116,10 +117,10 @@ fn add_link(table: &mut NameTable, link: &Link) -> Result<(), NoMemory>
     ensures few { OnOk result (length table.new.names ≤ length table.old.names + 2) }
     ensures base { table.new.base ≡ table.old.base }
 {
-    if has_its_name(link.kind) {
+    if has_its_name(link.kind as u64) {
         table.add(&link.name)?;
     }
-    if has_its_entry(link.kind) {
+    if has_its_entry(link.kind as u64) {
         table.add(&link.entry)?;
     }
     Ok(())

@@ -1,7 +1,7 @@
 //! The parts of an object.
 
 ghost use Rattle.std.specs.Prelude.{ℕ, ◌≡◌, ◌+◌, ◌*◌, ◌<◌, ◌^◌, length, [], nat_eq, if◌then◌else◌, IsTrue};
-ghost use Rattle.obj36_parts.specs.ObjectSegment.{words_of, is_well_formed};
+ghost use Rattle.obj36_parts.specs.ObjectSegment.{inner_statics, outer_statics, words_of, is_well_formed};
 ghost use Rattle.obj36_parts.specs.Sizes.{HasShortLists};
 
 use crate::checks::{
@@ -53,6 +53,28 @@ fn fixed_length(version: u8) -> u64
 }
 
 impl Parts {
+    /// The static words that stand in the linkage section.
+    pub fn inner_statics(&self) -> &[Word]
+        ensures { result.now ≡ inner_statics self.now }
+    {
+        if self.version == 2 {
+            &[]
+        } else {
+            self.statics.slice()
+        }
+    }
+
+    /// The static words that have a section of their own.
+    pub fn outer_statics(&self) -> &[Word]
+        ensures { result.now ≡ outer_statics self.now }
+    {
+        if self.version == 2 {
+            self.statics.slice()
+        } else {
+            &[]
+        }
+    }
+
     /// Whether each list has fewer than 2^32 members, as those of each object have.
     pub fn has_short_lists(&self) -> bool
         ensures short { IsTrue result → HasShortLists self.now }
@@ -96,8 +118,8 @@ impl Parts {
         let relocations = self.relocations.items();
         let room = Room {
             text,
-            inner: inner_count(version, statics),
-            outer: outer_count(version, statics),
+            inner: self.inner_statics().len(),
+            outer: self.outer_statics().len(),
             version,
         };
         (version == 1 || version == 2)
@@ -110,18 +132,4 @@ impl Parts {
             && are_good_relocations(room, relocations)
             && are_in_order(relocations)
     }
-}
-
-// How many static words stand in the linkage section.
-fn inner_count(version: u8, statics: &[Word]) -> usize
-    ensures { result ≡ length (if nat_eq version 2 then [] else statics.now) }
-{
-    if version == 2 { 0 } else { statics.len() }
-}
-
-// How many static words stand in the static section.
-fn outer_count(version: u8, statics: &[Word]) -> usize
-    ensures { result ≡ length (if nat_eq version 2 then statics.now else []) }
-{
-    if version == 2 { statics.len() } else { 0 }
 }

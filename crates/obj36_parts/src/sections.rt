@@ -114,7 +114,7 @@ fn push_definitions(
 fn subject(table: &NameTable, link: &Link) -> u64
     ensures { result ≡ subject_of table.now.names table.now.base link.now }
 {
-    if has_its_name(link.kind) {
+    if has_its_name(link.kind as u64) {
         table.place(&link.name)
     } else {
         number(link.section)
@@ -125,7 +125,7 @@ fn subject(table: &NameTable, link: &Link) -> u64
 fn entry(table: &NameTable, link: &Link) -> u64
     ensures { result ≡ entry_place table.now.names table.now.base link.now }
 {
-    if has_its_entry(link.kind) {
+    if has_its_entry(link.kind as u64) {
         table.place(&link.entry)
     } else {
         0

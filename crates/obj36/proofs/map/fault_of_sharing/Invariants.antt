@@ -1,7 +1,0 @@
-use Rattle.std.proofs.Common.{◌≡◌, ◌-◌}
-use Rattle.obj36.specs.MapFaults.{first_shared, shared_fault}
-use Rattle.obj36.proofs.map.fault_of_sharing.Given as goal
-
--- the first shared word of the rest is the first of all
-abbrev pub invariant-loop-at : goal.invariant-loop-at
-invariant-loop-at l = first_shared l.e l.at (l.at-end - l.at) ≡ shared_fault l.words

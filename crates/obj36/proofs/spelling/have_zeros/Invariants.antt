@@ -1,7 +1,0 @@
-use Rattle.std.proofs.Common.{◌≡◌, ◌+◌, ◌-◌}
-use Rattle.obj36.specs.TableFaults.{are_zeros}
-use Rattle.obj36.proofs.spelling.have_zeros.Given as goal
-
--- the rest decides it
-abbrev pub invariant-loop-i : goal.invariant-loop-i
-invariant-loop-i l = are_zeros l.d l.at (l.from + l.i) (l.count - l.i) ≡ are_zeros l.d l.at l.from l.count

@@ -1,0 +1,58 @@
+//! The text of a reference.
+
+ghost use Rattle.std.specs.Prelude.{[], ◌++◌, ◌≡◌, OnOk, if◌then◌else◌};
+ghost use Rattle.obj36_parts.specs.ObjectSegment.{has_name, has_entry};
+ghost use Rattle.obj36.specs.References.{own_section, reference_text};
+
+use m36_outside::Text;
+use m36_word::NoMemory;
+use obj36_parts::link::Link;
+use obj36_parts::names::{has_its_entry, has_its_name};
+use obj36_parts::section::Section;
+
+// A section of the object itself, as the assembler writes it.
+fn own_section(section: Section) -> &'static str
+    ensures { result.now ≡ own_section section }
+{
+    match section {
+        Section::Text => "*text",
+        Section::Linkage => "*link",
+        Section::Symbol => "*symbol",
+        Section::Static => "*static",
+    }
+}
+
+// What a link's reference begins with: a segment, or a section of the object itself.
+fn subject(link: &Link) -> &[u8]
+    ensures { result.now
+        ≡ (if has_name link.now.kind then link.now.name else own_section link.now.section) }
+{
+    if has_its_name(link.kind as u64) {
+        link.name.bytes()
+    } else {
+        own_section(link.section).as_bytes()
+    }
+}
+
+// The entry of a link's reference, or nothing.
+fn entry(link: &Link) -> &[u8]
+    ensures { result.now ≡ (if has_entry link.now.kind then link.now.entry else []) }
+{
+    if has_its_entry(link.kind as u64) {
+        link.entry.bytes()
+    } else {
+        &[]
+    }
+}
+
+/// Adds the reference of a link at the end of a text: `segment$entry`, `segment$`, `*section$` or `*section$entry`. The
+/// error is want of memory alone.
+#[tactic(auto, unfolding(crate::specs::References::reference_text), using(crate::proofs::ReferenceText::joined))]
+pub fn append_reference(text: &mut Text, link: &Link) -> Result<(), NoMemory>
+    ensures { OnOk result (text.new ≡ text.old ++ reference_text link.now) }
+{
+    text.append(subject(link))?;
+    text.append(b"$")?;
+    text.append(entry(link))?;
+    Ok(())
+}

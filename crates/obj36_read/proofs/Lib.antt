@@ -1,0 +1,4 @@
+pub mod ReadingLoops
+pub mod FaultLoops
+pub mod SpelledNames
+pub mod RepeatLoops

@@ -1,0 +1,12 @@
+use Rattle.std.proofs.Common.{◌≡◌, ◌-◌, ◌^◌, ◌<◌}
+use Rattle.std.specs.Prelude.{IfSome}
+use Rattle.obj36_read.specs.TableFaults.{earlier, defined_names_fault, definition_count, first_definition}
+use Rattle.obj36_read.proofs.spelling.fault_of_defined_names.Given as goal
+
+-- what is found, and the rest
+abbrev pub invariant-loop : goal.invariant-loop
+invariant-loop l = record {
+  rest : earlier l.found (defined_names_fault l.d (l.end - l.counter) l.at) ≡ defined_names_fault l.d (definition_count l.d) (first_definition l.d);
+  near : l.at < 2 ^ 18;
+  bound : IfSome l.found (λ p. p < 2 ^ 20);
+}

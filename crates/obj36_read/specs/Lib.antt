@@ -1,0 +1,12 @@
+pub use Rattle.obj36_parts.specs.Fields
+pub use Rattle.obj36_parts.specs.PartsFields
+pub use Rattle.obj36_parts.specs.Halves
+pub use Rattle.obj36_parts.specs.Names
+pub use Rattle.obj36_parts.specs.ObjectSegment
+pub mod Reading
+pub mod MapFaults
+pub mod Near
+pub mod TableFaults
+pub mod LinkFaults
+pub mod Spelled
+pub mod Repeated

@@ -1,0 +1,15 @@
+-- Places and lengths that halves of words tell.
+use Rattle.std.specs.Prelude.{◌<◌, ◌^◌}
+use Rattle.obj36_read.specs.declared.map.Extent.{Extent}
+use Rattle.obj36_read.specs.declared.map.Extents.{Extents}
+
+pub record IsNear (e : Extent) : Type 0 where
+  pub from : e.from < 2 ^ 18
+  pub count : e.count < 2 ^ 18
+
+pub record AreNear (e : Extents) : Type 0 where
+  pub text : IsNear e.text
+  pub definition : IsNear e.definition
+  pub linkage : IsNear e.linkage
+  pub statics : IsNear e.statics
+  pub symbol : IsNear e.symbol

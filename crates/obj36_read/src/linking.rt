@@ -1,0 +1,154 @@
+//! The links of an object, as they stand in a list of words.
+
+ghost use Rattle.std.specs.Prelude.{ℕ, List, Bool, ◌≡◌, ◌+◌, ◌-◌, ◌*◌, ◌%◌, ◌^◌, ◌<◌, ◌≤◌, ◌&&◌, ◌||◌, not, nat_eq, nat_lt, nat_le, length, Option, Some, None, IfSome, slice_index, if◌then◌else◌};
+ghost use Rattle.obj36_parts.specs.Halves.{left, right, joined};
+ghost use Rattle.obj36_parts.specs.ObjectSegment.{has_section};
+ghost use Rattle.obj36_read.specs.TableFaults.{earlier, where_bad, expression_count, first_expression};
+ghost use Rattle.obj36_read.specs.LinkFaults.{is_type, type_faults, link_count, link_start, is_head, is_link_at, link_faults, linkage_fault, behind, links_fault};
+
+use crate::reading::word_at;
+use crate::tables::{count_of_expressions, earlier_of, expression_first, place_if};
+use m36_word::Word;
+use obj36_parts::checks::{greatest_place, has_its_section};
+use obj36_parts::halves::{left_of, right_of, word_of};
+use obj36_parts::names::has_its_name;
+use obj36_parts::sections::LINK_TAG;
+
+// ---- types of expressions
+
+#[tactic(auto, unfolding(crate::specs::LinkFaults::is_type))]
+fn is_good_type(version: u8, word: Word) -> bool
+    ensures { result ≡ is_type version word }
+{
+    let kind = left_of(word);
+    has_its_name(kind) || (has_its_section(kind) && right_of(word) <= greatest_place(version))
+}
+
+fn fault_of_types(version: u8, d: &[Word]) -> Option<u64>
+    ensures value { result ≡ type_faults version d.now (expression_count d.now) (first_expression d.now) }
+    ensures bound { IfSome result (λ p. p < 2 ^ 20) }
+{
+    let mut found = None;
+    let mut at = expression_first(d);
+    for _ in 0..count_of_expressions(d) {
+        let here = place_if(!is_good_type(version, word_at(d, at)), at);
+        found = earlier_of(found, here);
+        at += 2;
+    }
+    found
+}
+
+// ---- links
+
+#[tactic(auto, unfolding(crate::specs::LinkFaults::link_count))]
+fn count_of_links(k: &[Word]) -> u64
+    ensures value { result ≡ link_count k.now }
+    ensures bound { result < 2 ^ 18 }
+{
+    right_of(word_at(k, 1))
+}
+
+#[tactic(auto, unfolding(crate::specs::LinkFaults::link_start))]
+fn start_of_links(k: &[Word]) -> u64
+    ensures value { result ≡ link_start k.now }
+    ensures bound { result < 2 ^ 18 }
+{
+    left_of(word_at(k, 1))
+}
+
+#[tactic(auto, unfolding(crate::specs::LinkFaults::is_head))]
+fn is_good_head(version: u8, d: &[Word], k: &[Word]) -> bool
+    ensures { result ≡ is_head version d.now k.now }
+{
+    let count = count_of_links(k);
+    let start = start_of_links(k);
+    count == count_of_expressions(d)
+        && 8 <= start
+        && start % 2 == 0
+        && start + 2 * count == k.len() as u64
+        && (version != 2 || start == 8)
+}
+
+#[tactic(auto, unfolding(crate::specs::LinkFaults::is_link_at))]
+fn is_good_link(k: &[Word], at: u64, expression: u64) -> bool
+    requires { at < 2 ^ 20 }
+    ensures { result ≡ is_link_at k.now at expression }
+{
+    let even = word_at(k, at);
+    let odd = word_at(k, at + 1);
+    let offset = (1u64 << 18).saturating_sub(at);
+    even.value() == word_of(offset, LINK_TAG).value()
+        && left_of(odd) == expression
+        && right_of(odd) < 1 << 6
+}
+
+fn fault_of_each(k: &[Word], start: u64, expressions: u64, count: u64) -> Option<u64>
+    requires start { start < 2 ^ 18 }
+    requires expressions { expressions < 2 ^ 18 }
+    requires count { count < 2 ^ 18 }
+    ensures value { result ≡ link_faults k.now start expressions count }
+    ensures bound { IfSome result (λ p. p < 2 ^ 20) }
+{
+    let mut at = start;
+    let mut expression = expressions;
+    for _ in 0..count {
+        if !is_good_link(k, at, expression) {
+            return Some(at);
+        }
+        at += 2;
+        expression += 2;
+    }
+    None
+}
+
+#[tactic(auto, unfolding(crate::specs::LinkFaults::linkage_fault))]
+fn fault_of_linkage(version: u8, d: &[Word], k: &[Word]) -> Option<u64>
+    ensures value { result ≡ linkage_fault version d.now k.now }
+    ensures bound { IfSome result (λ p. p < 2 ^ 20) }
+{
+    if is_good_head(version, d, k) {
+        fault_of_each(k, start_of_links(k), expression_first(d), count_of_links(k))
+    } else {
+        Some(1)
+    }
+}
+
+/// The place in the list of one in a section that begins at a word.
+pub fn place_behind(from: u64, place: Option<u64>) -> Option<u64>
+    requires from { from < 2 ^ 18 }
+    requires place { IfSome place (λ p. p < 2 ^ 20) }
+    ensures value { result ≡ behind from place }
+    ensures bound { IfSome result (λ p. p < 2 ^ 21) }
+{
+    match place {
+        None => None,
+        Some(p) => Some(from + p),
+    }
+}
+
+fn first_place(first: Option<u64>, second: Option<u64>) -> Option<u64>
+    requires first { IfSome first (λ p. p < 2 ^ 21) }
+    requires second { IfSome second (λ p. p < 2 ^ 21) }
+    ensures value { result ≡ earlier first second }
+    ensures bound { IfSome result (λ p. p < 2 ^ 21) }
+{
+    match (first, second) {
+        (None, _) => second,
+        (Some(_), None) => first,
+        (Some(p), Some(q)) => Some(p.min(q)),
+    }
+}
+
+/// The least word of a type, a link or the head of the links that is not as it must be, in a list where the definition
+/// section and the linkage section begin at these words.
+#[tactic(auto, unfolding(crate::specs::LinkFaults::links_fault))]
+pub fn fault_of_links(version: u8, d_from: u64, d: &[Word], k_from: u64, k: &[Word]) -> Option<u64>
+    requires d { d_from < 2 ^ 18 }
+    requires k { k_from < 2 ^ 18 }
+    ensures value { result ≡ links_fault version d_from d.now k_from k.now }
+    ensures bound { IfSome result (λ p. p < 2 ^ 21) }
+{
+    let types = place_behind(d_from, fault_of_types(version, d));
+    let links = place_behind(k_from, fault_of_linkage(version, d, k));
+    first_place(types, links)
+}

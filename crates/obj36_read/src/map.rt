@@ -1,0 +1,225 @@
+//! The map of a list of words: where its sections are.
+
+ghost use Rattle.std.specs.Prelude.{ℕ, List, Bool, ◌≡◌, ◌+◌, ◌-◌, ◌*◌, ◌^◌, ◌<◌, ◌≤◌, ◌&&◌, ◌||◌, not, nat_eq, nat_lt, nat_le, length, Option, Some, None, IfSome, if◌then◌else◌};
+ghost use Rattle.obj36_read.specs.Reading.{map_place, version_in};
+ghost use Rattle.obj36_read.specs.MapFaults.{extent_at, is_told, is_bound, bound_index, symbol_index, nowhere, fixed_fault, map_fault, is_outside, section_fault, extents_of, covers, covering, first_shared, shared_fault, extent_words};
+ghost use Rattle.obj36_read.specs.Near.{AreNear};
+
+use crate::reading::{behind, front, place_of_map, version, word_at};
+use m36_word::Word;
+use obj36_parts::halves::{left_of, right_of};
+
+/// Where a section is, as its map word tells.
+#[derive(Clone, Copy)]
+pub struct Extent {
+    /// Its first word.
+    pub from: u64,
+    /// How many words it has.
+    pub count: u64,
+}
+
+/// The sections that a map tells.
+#[derive(Clone, Copy)]
+pub struct Extents {
+    pub text: Extent,
+    pub definition: Extent,
+    pub linkage: Extent,
+    /// In version 1 an empty one at word 0.
+    pub statics: Extent,
+    pub symbol: Extent,
+}
+
+#[tactic(auto, unfolding(crate::specs::MapFaults::extent_at))]
+fn extent_told(words: &[Word], i: u64) -> Extent
+    requires { i < 8 }
+    ensures value { result ≡ extent_at words.now i }
+    ensures from { result.from < 2 ^ 18 }
+    ensures count { result.count < 2 ^ 18 }
+{
+    let word = word_at(words, place_of_map(words) + i);
+    Extent {
+        from: left_of(word),
+        count: right_of(word),
+    }
+}
+
+// ---- the map
+
+#[tactic(auto, unfolding(crate::specs::MapFaults::is_told))]
+fn is_map_told(words: &[Word]) -> bool
+    ensures { result ≡ is_told words.now }
+{
+    let map = place_of_map(words);
+    let count = words.len() as u64;
+    map + 7 == count || map + 8 == count
+}
+
+#[tactic(auto, unfolding(crate::specs::MapFaults::is_bound))]
+fn is_good_bound(words: &[Word], bound: Word) -> bool
+    ensures { result ≡ is_bound words.now bound }
+{
+    right_of(bound) == 0 && left_of(bound) <= right_of(word_at(words, place_of_map(words) + 1))
+}
+
+fn index_of_bound(version: u8) -> u64
+    ensures value { result ≡ bound_index version }
+    ensures bound { result < 8 }
+{
+    if version == 2 { 6 } else { 5 }
+}
+
+#[tactic(auto, unfolding(crate::specs::MapFaults::fixed_fault))]
+fn fault_of_fixed(words: &[Word], version: u8) -> Option<u64>
+    requires some { 1 ≤ length words.now }
+    requires few { length words.now < 2 ^ 32 }
+    ensures value { result ≡ fixed_fault words.now version }
+    ensures bound { IfSome result (λ p. p < 2 ^ 32) }
+{
+    let map = place_of_map(words);
+    let last = words.len() as u64 - 1;
+    if word_at(words, map).value() != version as u64 {
+        return Some(map);
+    }
+    let bound = map + index_of_bound(version);
+    if !is_good_bound(words, word_at(words, bound)) {
+        return Some(bound);
+    }
+    if right_of(word_at(words, last)) != 0 {
+        return Some(last);
+    }
+    None
+}
+
+/// The first word of the map, or the last word, that is not as it must be. There is a word at least, and fewer than
+/// 2^32.
+#[tactic(auto, unfolding(crate::specs::MapFaults::map_fault))]
+pub fn fault_of_map(words: &[Word]) -> Option<u64>
+    requires some { 1 ≤ length words.now }
+    requires few { length words.now < 2 ^ 32 }
+    ensures value { result ≡ map_fault words.now }
+    ensures bound { IfSome result (λ p. p < 2 ^ 32) }
+{
+    if is_map_told(words) {
+        fault_of_fixed(words, version(words))
+    } else {
+        Some(words.len() as u64 - 1)
+    }
+}
+
+// ---- sections
+
+fn index_of_symbol(version: u8) -> u64
+    ensures value { result ≡ symbol_index version }
+    ensures bound { result < 8 }
+{
+    if version == 2 { 5 } else { 4 }
+}
+
+fn extent_of_statics(words: &[Word], version: u8) -> Extent
+    ensures value { result ≡ (if nat_eq version 2 then extent_at words.now 4 else nowhere) }
+    ensures from { result.from < 2 ^ 18 }
+    ensures count { result.count < 2 ^ 18 }
+{
+    if version == 2 {
+        extent_told(words, 4)
+    } else {
+        Extent { from: 0, count: 0 }
+    }
+}
+
+/// Where the map tells the sections to be.
+#[tactic(auto, unfolding(crate::specs::MapFaults::extents_of))]
+pub fn extents_told(words: &[Word]) -> Extents
+    ensures value { result ≡ extents_of words.now }
+    ensures small { AreNear result }
+{
+    let version = version(words);
+    Extents {
+        text: extent_told(words, 1),
+        definition: extent_told(words, 2),
+        linkage: extent_told(words, 3),
+        statics: extent_of_statics(words, version),
+        symbol: extent_told(words, index_of_symbol(version)),
+    }
+}
+
+#[tactic(auto, unfolding(crate::specs::MapFaults::is_outside))]
+fn leaves(map: u64, e: Extent, least: u64) -> bool
+    requires from { e.from < 2 ^ 18 }
+    requires count { e.count < 2 ^ 18 }
+    ensures { result ≡ is_outside map e least }
+{
+    map < e.from + e.count || e.count < least
+}
+
+/// The map word of the first section that ends past the map or is too short.
+#[tactic(auto, unfolding(crate::specs::MapFaults::section_fault))]
+pub fn fault_of_sections(words: &[Word]) -> Option<u64>
+    ensures value { result ≡ section_fault words.now }
+    ensures bound { IfSome result (λ p. p < 2 ^ 32) }
+{
+    let map = place_of_map(words);
+    let e = extents_told(words);
+    if leaves(map, e.text, 0) {
+        return Some(map + 1);
+    }
+    if leaves(map, e.definition, 2) {
+        return Some(map + 2);
+    }
+    if leaves(map, e.linkage, 8) {
+        return Some(map + 3);
+    }
+    if leaves(map, e.statics, 0) {
+        return Some(map + 4);
+    }
+    if leaves(map, e.symbol, 1) {
+        return Some(map + index_of_symbol(version(words)));
+    }
+    None
+}
+
+// ---- shared words
+
+#[tactic(auto, unfolding(crate::specs::MapFaults::covers))]
+fn has_word(e: Extent, at: u64) -> bool
+    requires from { e.from < 2 ^ 18 }
+    requires count { e.count < 2 ^ 18 }
+    ensures { result ≡ covers e at }
+{
+    e.from <= at && at < e.from + e.count
+}
+
+#[tactic(auto, unfolding(crate::specs::MapFaults::covering))]
+fn sections_with(e: &Extents, at: u64) -> u64
+    requires { AreNear e.now }
+    ensures { result ≡ covering e.now at }
+{
+    has_word(e.text, at) as u64
+        + has_word(e.definition, at) as u64
+        + has_word(e.linkage, at) as u64
+        + has_word(e.statics, at) as u64
+        + has_word(e.symbol, at) as u64
+}
+
+/// The first word that two sections have.
+#[tactic(auto, unfolding(crate::specs::MapFaults::shared_fault, crate::specs::MapFaults::first_shared))]
+pub fn fault_of_sharing(words: &[Word]) -> Option<u64>
+    ensures value { result ≡ shared_fault words.now }
+    ensures bound { IfSome result (λ p. p < 2 ^ 32) }
+{
+    let e = extents_told(words);
+    for at in 0..place_of_map(words) {
+        if 2 <= sections_with(&e, at) {
+            return Some(at);
+        }
+    }
+    None
+}
+
+/// The words of a section; those that there are, where it ends past the list.
+#[tactic(auto, unfolding(crate::specs::MapFaults::extent_words))]
+pub fn words_within(words: &[Word], e: Extent) -> &[Word]
+    ensures { result.now ≡ extent_words words.now e }
+{
+    front(behind(words, e.from), e.count)
+}

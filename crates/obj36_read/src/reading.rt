@@ -1,0 +1,400 @@
+//! The parts that a list of words would spell.
+
+ghost use Rattle.std.specs.Prelude.{ℕ, List, [], ◌∷◌, ◌++◌, ◌≡◌, ◌+◌, ◌-◌, ◌*◌, ◌/◌, ◌%◌, ◌^◌, ◌<◌, ◌≤◌, min, length, take, drop, slice_index, if◌then◌else◌, IfOk, OnOk};
+ghost use Rattle.obj36_parts.specs.Halves.{left, right};
+ghost use Rattle.obj36_parts.specs.declared.section.Section.TheVariants.{Text};
+ghost use Rattle.obj36_parts.specs.ObjectSegment.{has_name, has_entry};
+ghost use Rattle.obj36_read.specs.Reading.{part_of, unit_at, characters, name_at, class_with, section_with, definition_at, definitions_in, link_at, links_in, relocation_in, relocations_in, map_place, version_in, told_length, told_count, from_definition, from_linkage, from_statics, from_symbol, told_first, statics_in, bound_in, parts_of};
+
+use m36_text::Name;
+use m36_word::{NoMemory, Word, Words};
+use obj36_parts::definition::{Def, Defs, Named};
+use obj36_parts::halves::{left_of, right_of};
+use obj36_parts::link::{Link, Links};
+use obj36_parts::names::{has_its_entry, has_its_name};
+use obj36_parts::parts::Parts;
+use obj36_parts::relocation::{Reloc, Relocs};
+use obj36_parts::section::Section;
+use obj36_parts::sections::push_all;
+use std::alloc::Global;
+
+// The word at a place, and 0 past the end.
+pub(crate) fn word_at(words: &[Word], at: u64) -> Word
+    ensures { result ≡ slice_index words.now at }
+{
+    if at < words.len() as u64 {
+        words[at as usize]
+    } else {
+        Word::ZERO
+    }
+}
+
+/// What is left behind so many words.
+pub fn behind(words: &[Word], count: u64) -> &[Word]
+    ensures { result.now ≡ drop count words.now }
+{
+    if count <= words.len() as u64 {
+        &words[count as usize..]
+    } else {
+        &[]
+    }
+}
+
+/// The first words, at most so many.
+pub fn front(words: &[Word], count: u64) -> &[Word]
+    ensures { result.now ≡ take count words.now }
+{
+    if count <= words.len() as u64 {
+        &words[..count as usize]
+    } else {
+        words
+    }
+}
+
+// ---- names
+
+#[tactic(auto, unfolding(crate::specs::Reading::part_of))]
+fn part(word: Word, i: u64) -> u64
+    requires { i < 4 }
+    ensures value { result ≡ part_of word i }
+    ensures bound { result < 2 ^ 9 }
+{
+    let value = word.value();
+    match i {
+        0 => value / (1 << 27),
+        1 => value / (1 << 18) % (1 << 9),
+        2 => value / (1 << 9) % (1 << 9),
+        _ => value % (1 << 9),
+    }
+}
+
+// Part i of nine bits from a word on.
+#[tactic(auto, unfolding(crate::specs::Reading::unit_at))]
+pub(crate) fn unit(words: &[Word], at: u64, i: u64) -> u64
+    requires at { at < 2 ^ 32 }
+    requires i { i < 2 ^ 32 }
+    ensures value { result ≡ unit_at words.now at i }
+    ensures bound { result < 2 ^ 9 }
+{
+    part(word_at(words, at + i / 4), i % 4)
+}
+
+fn put_characters(words: &[Word], at: u64, count: usize, bytes: &mut [u8; 32])
+    requires at { at < 2 ^ 32 }
+    requires count { count ≤ 32 }
+    ensures { take count bytes.new ≡ characters words.now at 1 count }
+{
+    for i in 0..count {
+        bytes[i] = (unit(words, at, i as u64 + 1) % (1 << 8)) as u8;
+    }
+}
+
+// The name at a place.
+#[tactic(auto, unfolding(crate::specs::Reading::name_at))]
+fn name(words: &[Word], at: u64) -> Name
+    requires { at < 2 ^ 32 }
+    ensures { result ≡ name_at words.now at }
+{
+    let count = unit(words, at, 0).min(32) as usize;
+    let mut bytes = [0; 32];
+    put_characters(words, at, count, &mut bytes);
+    match Name::new(&bytes[..count]) {
+        Some(name) => name,
+        None => unreachable!(),
+    }
+}
+
+// ---- sections by their numbers
+
+#[tactic(auto, unfolding(crate::specs::Reading::class_with))]
+fn section_of_class(class: u64) -> Section
+    ensures { result ≡ class_with class }
+{
+    match class {
+        0 => Section::Text,
+        1 => Section::Linkage,
+        2 => Section::Symbol,
+        _ => Section::Static,
+    }
+}
+
+#[tactic(auto, unfolding(crate::specs::Reading::section_with))]
+fn section_of(number: u64) -> Section
+    ensures { result ≡ section_with number }
+{
+    match number {
+        0 => Section::Text,
+        1 => Section::Linkage,
+        2 => Section::Static,
+        _ => Section::Symbol,
+    }
+}
+
+// ---- definitions
+
+#[tactic(auto, unfolding(crate::specs::Reading::definition_at))]
+fn definition(words: &[Word], at: u64) -> Named
+    requires { at < 2 ^ 33 }
+    ensures { result ≡ definition_at words.now at }
+{
+    let first = right_of(word_at(words, at));
+    let second = word_at(words, at + 1);
+    Named {
+        name: name(words, right_of(second)),
+        def: Def {
+            value: left_of(second) as u32,
+            section: section_of_class(first % 8),
+            is_entry: 8 <= first,
+        },
+    }
+}
+
+fn definitions(alloc: Global, words: &[Word], count: u64) -> Result<Defs, NoMemory>
+    requires { count < 2 ^ 32 }
+    ensures { IfOk result (λ ds. ds ≡ definitions_in words.now 2 count) }
+{
+    let mut found = Defs::new(alloc);
+    let mut at = 2;
+    for _ in 0..count {
+        found.push(definition(words, at))?;
+        at += 2;
+    }
+    Ok(found)
+}
+
+// ---- links
+
+fn name_if(used: bool, words: &[Word], at: u64) -> Name
+    requires { at < 2 ^ 32 }
+    ensures { result ≡ (if used then name_at words.now at else []) }
+{
+    if used {
+        name(words, at)
+    } else {
+        Name::default()
+    }
+}
+
+fn section_unless(named: bool, number: u64) -> Section
+    ensures { result ≡ (if named then Text else section_with number) }
+{
+    if named {
+        Section::Text
+    } else {
+        section_of(number)
+    }
+}
+
+#[tactic(auto, unfolding(crate::specs::Reading::link_at))]
+fn link(words: &[Word], at: u64, linkage: &[Word], place: u64) -> Link
+    requires at { at < 2 ^ 40 }
+    requires place { place < 2 ^ 40 }
+    ensures { result ≡ link_at words.now at linkage.now place }
+{
+    let first = word_at(words, at);
+    let second = word_at(words, at + 1);
+    let odd = word_at(linkage, place + 1);
+    let kind = (left_of(first) % (1 << 8)) as u8;
+    Link {
+        name: name_if(has_its_name(kind as u64), words, right_of(first)),
+        entry: name_if(has_its_entry(kind as u64), words, left_of(second)),
+        expr: right_of(second) as u32,
+        kind,
+        section: section_unless(has_its_name(kind as u64), right_of(first)),
+        modifier: (right_of(odd) % (1 << 6)) as u8,
+    }
+}
+
+fn links(
+    alloc: Global,
+    words: &[Word],
+    expressions: u64,
+    linkage: &[Word],
+    first: u64,
+    count: u64,
+) -> Result<Links, NoMemory>
+    requires expressions { expressions < 2 ^ 38 }
+    requires first { first < 2 ^ 38 }
+    requires count { count < 2 ^ 32 }
+    ensures { IfOk result (λ ls. ls ≡ links_in words.now expressions linkage.now first count) }
+{
+    let mut found = Links::new(alloc);
+    let mut at = expressions;
+    let mut place = first;
+    for _ in 0..count {
+        found.push(link(words, at, linkage, place))?;
+        at += 2;
+        place += 2;
+    }
+    Ok(found)
+}
+
+// ---- relocations
+
+#[tactic(auto, unfolding(crate::specs::Reading::relocation_in))]
+fn relocation(word: Word) -> Reloc
+    ensures { result ≡ relocation_in word }
+{
+    let fields = right_of(word);
+    Reloc {
+        offset: left_of(word) as u32,
+        section: section_of(fields / (1 << 15)),
+        part: (fields / (1 << 12) % 8) as u8,
+        target: section_of(fields / (1 << 9) % 8),
+    }
+}
+
+fn relocations(alloc: Global, words: &[Word], count: u64) -> Result<Relocs, NoMemory>
+    requires { count < 2 ^ 32 }
+    ensures { IfOk result (λ rs. rs ≡ relocations_in words.now 1 count) }
+{
+    let mut found = Relocs::new(alloc);
+    let mut at = 1;
+    for _ in 0..count {
+        found.push(relocation(word_at(words, at)))?;
+        at += 1;
+    }
+    Ok(found)
+}
+
+// ---- the whole
+
+// Where the map would be.
+#[tactic(auto, unfolding(crate::specs::Reading::map_place))]
+pub(crate) fn place_of_map(words: &[Word]) -> u64
+    ensures value { result ≡ map_place words.now }
+    ensures bound { result < 2 ^ 18 }
+{
+    left_of(word_at(words, (words.len() as u64).saturating_sub(1)))
+}
+
+/// The version, by how far the map is from the end.
+#[tactic(auto, unfolding(crate::specs::Reading::version_in))]
+pub fn version(words: &[Word]) -> u8
+    ensures { result ≡ version_in words.now }
+{
+    if place_of_map(words) + 8 == words.len() as u64 {
+        2
+    } else {
+        1
+    }
+}
+
+#[tactic(auto, unfolding(crate::specs::Reading::told_length))]
+fn length_told(words: &[Word], i: u64) -> u64
+    requires { i < 8 }
+    ensures value { result ≡ told_length words.now i }
+    ensures bound { result < 2 ^ 18 }
+{
+    right_of(word_at(words, place_of_map(words) + i))
+}
+
+#[tactic(auto, unfolding(crate::specs::Reading::told_count))]
+fn count_told(words: &[Word], part: &[Word], i: u64) -> u64
+    ensures value { result ≡ told_count words.now part.now i }
+    ensures bound { result < 2 ^ 18 }
+{
+    right_of(word_at(part, i)).min(words.len() as u64)
+}
+
+#[tactic(auto, unfolding(crate::specs::Reading::from_definition))]
+fn definition_on(words: &[Word]) -> &[Word]
+    ensures { result.now ≡ from_definition words.now }
+{
+    behind(words, length_told(words, 1))
+}
+
+#[tactic(auto, unfolding(crate::specs::Reading::from_linkage))]
+fn linkage_on(words: &[Word]) -> &[Word]
+    ensures { result.now ≡ from_linkage words.now }
+{
+    behind(definition_on(words), length_told(words, 2))
+}
+
+#[tactic(auto, unfolding(crate::specs::Reading::from_statics))]
+fn statics_on(words: &[Word]) -> &[Word]
+    ensures { result.now ≡ from_statics words.now }
+{
+    behind(linkage_on(words), length_told(words, 3))
+}
+
+#[tactic(auto, unfolding(crate::specs::Reading::from_symbol))]
+fn symbol_on(words: &[Word]) -> &[Word]
+    ensures { result.now ≡ from_symbol words.now }
+{
+    if version(words) == 2 {
+        behind(statics_on(words), length_told(words, 4))
+    } else {
+        statics_on(words)
+    }
+}
+
+#[tactic(auto, unfolding(crate::specs::Reading::told_first))]
+fn first_told(words: &[Word]) -> u64
+    ensures value { result ≡ told_first words.now }
+    ensures bound { result < 2 ^ 18 }
+{
+    left_of(word_at(linkage_on(words), 1))
+}
+
+#[tactic(auto, unfolding(crate::specs::Reading::statics_in))]
+fn statics(words: &[Word]) -> &[Word]
+    ensures { result.now ≡ statics_in words.now }
+{
+    if version(words) == 2 {
+        front(statics_on(words), length_told(words, 4))
+    } else {
+        let inner = behind(linkage_on(words), 8);
+        front(inner, first_told(words).saturating_sub(8))
+    }
+}
+
+#[tactic(auto, unfolding(crate::specs::Reading::bound_in))]
+fn bound(words: &[Word]) -> u64
+    ensures value { result ≡ bound_in words.now }
+    ensures bound { result < 2 ^ 18 }
+{
+    let i = if version(words) == 2 { 6 } else { 5 };
+    left_of(word_at(words, place_of_map(words) + i))
+}
+
+fn copied(alloc: Global, words: &[Word]) -> Result<Words, NoMemory>
+    ensures { IfOk result (λ copy. copy ≡ words.now) }
+{
+    let mut copy = Words::new(alloc);
+    push_all(&mut copy, words)?;
+    Ok(copy)
+}
+
+/// The parts that a list of fewer than 2^32 words would spell. The error is want of memory alone.
+#[tactic(auto, unfolding(crate::specs::Reading::parts_of))]
+pub fn parts_in(alloc: Global, words: &[Word]) -> Result<Parts, NoMemory>
+    requires { length words.now < 2 ^ 32 }
+    ensures { IfOk result (λ p. p ≡ parts_of words.now) }
+{
+    let from = definition_on(words);
+    let count = count_told(words, from, 0);
+    let expressions = 2 + 2 * count;
+    let symbol = symbol_on(words);
+    let text = copied(alloc, front(words, length_told(words, 1)))?;
+    let inner = copied(alloc, statics(words))?;
+    let named = definitions(alloc, from, count)?;
+    let linked = links(
+        alloc,
+        from,
+        expressions,
+        linkage_on(words),
+        first_told(words),
+        count_told(words, from, 1),
+    )?;
+    let moved = relocations(alloc, symbol, count_told(words, symbol, 0))?;
+    Ok(Parts {
+        text,
+        statics: inner,
+        definitions: named,
+        links: linked,
+        relocations: moved,
+        entry_bound: bound(words) as u32,
+        version: version(words),
+    })
+}

@@ -1,0 +1,120 @@
+//! Names that two definitions have, as they stand in a list of words.
+
+ghost use Rattle.std.specs.Prelude.{ℕ, List, ◌≡◌, ◌+◌, ◌/◌, ◌%◌, ◌^◌, ◌<◌, true, min, length, take, drop, slice_index, Option, Some, None, IfSome, IfOk, OnOk};
+ghost use Rattle.std.specs.Option.{option_map};
+ghost use Rattle.obj36_read.specs.Reading.{unit_at};
+ghost use Rattle.obj36_read.specs.TableFaults.{earlier, where_bad, definition_count, first_definition, lies_within, same_name, repeats};
+ghost use Rattle.obj36_read.specs.Spelled.{whole_words, kept_parts, last_parts};
+ghost use Rattle.obj36_read.specs.Repeated.{least_with};
+
+use crate::reading::{behind, front, unit, word_at};
+use crate::tables::{
+    count_of_definitions, definition_behind, definition_first, earlier_of, is_within, place_of_name,
+};
+use indexmap::IndexMap;
+use m36_word::{NoMemory, Word};
+use std::alloc::Global;
+
+/// How a name is spelled. Two names that lie in the section are the same exactly where they are spelled so.
+#[derive(Clone, Copy, PartialEq, Eq, Hash)]
+struct Spelling<'a> {
+    /// Its words but the last.
+    whole: &'a [Word],
+    /// Its length.
+    length: u64,
+    /// The parts that it has of its last word.
+    last: u64,
+}
+
+// So many parts of nine bits of a word and one more, as a number.
+#[tactic(auto, unfolding(crate::specs::Spelled::kept_parts))]
+fn parts_kept(word: Word, count: u64) -> u64
+    requires { count < 4 }
+    ensures { result ≡ kept_parts word count }
+{
+    let value = word.value();
+    match count {
+        0 => value / (1 << 27),
+        1 => value / (1 << 18),
+        2 => value / (1 << 9),
+        _ => value,
+    }
+}
+
+#[tactic(auto, unfolding(crate::specs::Spelled::whole_words))]
+fn words_before_last(d: &[Word], at: u64) -> &[Word]
+    requires at { at < 2 ^ 18 }
+    ensures { result.now ≡ whole_words d.now at }
+{
+    front(behind(d, at), unit(d, at, 0) / 4)
+}
+
+#[tactic(auto, unfolding(crate::specs::Spelled::last_parts))]
+fn parts_of_last(d: &[Word], at: u64) -> u64
+    requires at { at < 2 ^ 18 }
+    ensures { result ≡ last_parts d.now at }
+{
+    let length = unit(d, at, 0);
+    parts_kept(word_at(d, at + length / 4), length % 4)
+}
+
+fn spelled_at(d: &[Word], at: u64) -> Spelling<'_>
+    requires at { at < 2 ^ 18 }
+    ensures whole { result.whole.now ≡ whole_words d.now at }
+    ensures length { result.length ≡ unit_at d.now at 0 }
+    ensures last { result.last ≡ last_parts d.now at }
+{
+    Spelling {
+        whole: words_before_last(d, at),
+        length: unit(d, at, 0),
+        last: parts_of_last(d, at),
+    }
+}
+
+// The lesser of a place and another, where there is another.
+fn lesser(place: u64, other: Option<u64>) -> Option<u64>
+    requires { place < 2 ^ 18 }
+    ensures value { result ≡ option_map (min place) other }
+    ensures bound { IfSome result (λ p. p < 2 ^ 20) }
+{
+    match other {
+        None => None,
+        Some(p) => Some(place.min(p)),
+    }
+}
+
+// Keeps the place of a name, and tells the least of it and of the same names so far, where there are any.
+fn note<'a>(
+    d: &'a [Word],
+    places: &mut IndexMap<Spelling<'a>, u64>,
+    place: u64,
+) -> Result<Option<u64>, NoMemory>
+    requires { place < 2 ^ 18 }
+    ensures value { IfOk result (λ here. here ≡ least_with d.now places.old.entries place) }
+    ensures bound { IfOk result (λ here. IfSome here (λ p. p < 2 ^ 20)) }
+    ensures more { OnOk result ((at : ℕ) → least_with d.now places.new.entries at ≡ earlier (least_with d.now places.old.entries at) (where_bad (same_name d.now place at) (min place at))) }
+{
+    if !is_within(d, place) {
+        return Ok(None);
+    }
+    let spelled = spelled_at(d, place);
+    let here = lesser(place, places.get(&spelled).copied());
+    places.insert(spelled, here.unwrap_or(place))?;
+    Ok(here)
+}
+
+// The least place of a name that two definitions have.
+pub(crate) fn fault_of_repeats(alloc: Global, d: &[Word]) -> Result<Option<u64>, NoMemory>
+    ensures value { IfOk result (λ place. place ≡ repeats d.now (definition_count d.now) (first_definition d.now)) }
+    ensures bound { IfOk result (λ place. IfSome place (λ p. p < 2 ^ 20)) }
+{
+    let mut places = IndexMap::new(alloc);
+    let mut found = None;
+    let mut at = definition_first(d);
+    for _ in 0..count_of_definitions(d) {
+        let here = note(d, &mut places, place_of_name(d, at))?;
+        found = earlier_of(found, here);
+        at = definition_behind(d, at);
+    }
+    Ok(found)
+}

@@ -1,0 +1,142 @@
+//! The names of a definition section, as they stand in a list of words.
+
+ghost use Rattle.std.specs.Prelude.{ℕ, List, Bool, ◌≡◌, ◌+◌, ◌-◌, ◌*◌, ◌%◌, ◌^◌, ◌<◌, ◌≤◌, ◌&&◌, not, nat_eq, nat_le, length, Option, Some, None, IfSome, slice_index, if◌then◌else◌};
+ghost use Rattle.obj36_parts.specs.Halves.{left, right};
+ghost use Rattle.obj36_parts.specs.Names.{is_name_character};
+ghost use Rattle.obj36_parts.specs.ObjectSegment.{has_name, has_entry};
+ghost use Rattle.obj36_read.specs.TableFaults.{earlier, where_bad, definition_count, first_definition, expression_count, first_expression, are_characters, are_zeros, is_name_at, name_fault, defined_names_fault, expression_fault, linked_names_fault, names_fault};
+
+use crate::reading::{unit, word_at};
+use crate::tables::{
+    count_of_definitions, count_of_expressions, definition_behind, definition_first, earlier_of,
+    expression_first, is_within, place_if, place_of_name,
+};
+use m36_text::is_name_character;
+use m36_word::Word;
+use obj36_parts::halves::{left_of, right_of};
+use obj36_parts::names::{has_its_entry, has_its_name};
+
+// Whether a part of nine bits is a character that may stand in a name.
+fn is_name_unit(unit: u64) -> bool
+    ensures { result ≡ is_name_character unit }
+{
+    unit < 1 << 8 && is_name_character(unit as u8)
+}
+
+fn have_name_bytes(d: &[Word], at: u64, from: u64, count: u64) -> bool
+    requires at { at < 2 ^ 20 }
+    requires from { from < 2 ^ 20 }
+    requires count { count < 2 ^ 20 }
+    ensures { result ≡ are_characters d.now at from count }
+{
+    for i in 0..count {
+        if !is_name_unit(unit(d, at, from + i)) {
+            return false;
+        }
+    }
+    true
+}
+
+fn have_zeros(d: &[Word], at: u64, from: u64, count: u64) -> bool
+    requires at { at < 2 ^ 20 }
+    requires from { from < 2 ^ 20 }
+    requires count { count < 2 ^ 20 }
+    ensures { result ≡ are_zeros d.now at from count }
+{
+    for i in 0..count {
+        if unit(d, at, from + i) != 0 {
+            return false;
+        }
+    }
+    true
+}
+
+#[tactic(auto, unfolding(crate::specs::TableFaults::is_name_at))]
+fn has_good_name(d: &[Word], at: u64) -> bool
+    requires { at < 2 ^ 20 }
+    ensures { result ≡ is_name_at d.now at }
+{
+    let length = unit(d, at, 0);
+    is_within(d, at)
+        && 1 <= length
+        && length <= 32
+        && have_name_bytes(d, at, 1, length)
+        && have_zeros(d, at, length + 1, 3 - length % 4)
+}
+
+#[tactic(auto, unfolding(crate::specs::TableFaults::name_fault))]
+fn fault_of_name(d: &[Word], holder: u64, at: u64) -> Option<u64>
+    requires holder { holder < 2 ^ 20 }
+    requires at { at < 2 ^ 20 }
+    ensures value { result ≡ name_fault d.now holder at }
+    ensures bound { IfSome result (λ p. p < 2 ^ 20) }
+{
+    if d.len() as u64 <= at {
+        return Some(holder);
+    }
+    place_if(!has_good_name(d, at), at)
+}
+
+fn fault_of_defined_names(d: &[Word]) -> Option<u64>
+    ensures value { result ≡ defined_names_fault d.now (definition_count d.now) (first_definition d.now) }
+    ensures bound { IfSome result (λ p. p < 2 ^ 20) }
+{
+    let mut found = None;
+    let mut at = definition_first(d);
+    for _ in 0..count_of_definitions(d) {
+        let here = fault_of_name(d, at + 1, place_of_name(d, at));
+        found = earlier_of(found, here);
+        at = definition_behind(d, at);
+    }
+    found
+}
+
+fn fault_of_name_if(named: bool, d: &[Word], holder: u64, at: u64) -> Option<u64>
+    requires holder { holder < 2 ^ 20 }
+    requires at { at < 2 ^ 20 }
+    ensures value { result ≡ (if named then name_fault d.now holder at else None) }
+    ensures bound { IfSome result (λ p. p < 2 ^ 20) }
+{
+    if named {
+        fault_of_name(d, holder, at)
+    } else {
+        None
+    }
+}
+
+#[tactic(auto, unfolding(crate::specs::TableFaults::expression_fault))]
+fn fault_of_expression(d: &[Word], at: u64) -> Option<u64>
+    requires { at < 2 ^ 20 - 1 }
+    ensures value { result ≡ expression_fault d.now at }
+    ensures bound { IfSome result (λ p. p < 2 ^ 20) }
+{
+    let first = word_at(d, at);
+    let second = word_at(d, at + 1);
+    let kind = left_of(first);
+    let name = fault_of_name_if(has_its_name(kind), d, at, right_of(first));
+    let entry = fault_of_name_if(has_its_entry(kind), d, at + 1, left_of(second));
+    earlier_of(name, entry)
+}
+
+fn fault_of_linked_names(d: &[Word]) -> Option<u64>
+    ensures value { result ≡ linked_names_fault d.now (expression_count d.now) (first_expression d.now) }
+    ensures bound { IfSome result (λ p. p < 2 ^ 20) }
+{
+    let mut found = None;
+    let mut at = expression_first(d);
+    for _ in 0..count_of_expressions(d) {
+        let here = fault_of_expression(d, at);
+        found = earlier_of(found, here);
+        at += 2;
+    }
+    found
+}
+
+/// The least word of a name that is not as it must be, counted from word 0 of the definition section.
+#[tactic(auto, unfolding(crate::specs::TableFaults::names_fault))]
+pub fn fault_of_names(d: &[Word]) -> Option<u64>
+    ensures value { result ≡ names_fault d.now }
+    ensures bound { IfSome result (λ p. p < 2 ^ 20) }
+{
+    earlier_of(fault_of_defined_names(d), fault_of_linked_names(d))
+}

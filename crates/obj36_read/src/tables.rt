@@ -1,0 +1,220 @@
+//! The tables of a definition section, as they stand in a list of words.
+
+ghost use Rattle.std.specs.Prelude.{ℕ, List, Bool, ◌≡◌, ◌+◌, ◌-◌, ◌*◌, ◌/◌, ◌^◌, ◌<◌, ◌≤◌, ◌&&◌, ◌||◌, not, nat_eq, nat_lt, nat_le, min, length, Option, Some, None, IfSome, IfOk};
+ghost use Rattle.obj36_read.specs.TableFaults.{earlier, where_bad, definition_count, first_definition, next_definition, is_member, chain_fault, count_fault, expression_count, first_expression, leaves_section, class_at, class_faults, name_place, lies_within, is_at_head, members_fault, table_fault};
+
+use crate::reading::{unit, word_at};
+use crate::repeats::fault_of_repeats;
+use m36_word::{NoMemory, Word};
+use obj36_parts::checks::greatest_class;
+use obj36_parts::halves::{left_of, right_of};
+use std::alloc::Global;
+
+// The lesser of two places, where there are any.
+pub(crate) fn earlier_of(first: Option<u64>, second: Option<u64>) -> Option<u64>
+    requires first { IfSome first (λ p. p < 2 ^ 20) }
+    requires second { IfSome second (λ p. p < 2 ^ 20) }
+    ensures value { result ≡ earlier first second }
+    ensures bound { IfSome result (λ p. p < 2 ^ 20) }
+{
+    match (first, second) {
+        (None, _) => second,
+        (Some(_), None) => first,
+        (Some(p), Some(q)) => Some(p.min(q)),
+    }
+}
+
+pub(crate) fn place_if(bad: bool, at: u64) -> Option<u64>
+    requires { at < 2 ^ 20 }
+    ensures value { result ≡ where_bad bad at }
+    ensures bound { IfSome result (λ p. p < 2 ^ 20) }
+{
+    if bad { Some(at) } else { None }
+}
+
+// ---- the chain of definitions
+
+#[tactic(auto, unfolding(crate::specs::TableFaults::definition_count))]
+pub(crate) fn count_of_definitions(d: &[Word]) -> u64
+    ensures value { result ≡ definition_count d.now }
+    ensures bound { result < 2 ^ 18 }
+{
+    right_of(word_at(d, 0))
+}
+
+#[tactic(auto, unfolding(crate::specs::TableFaults::first_definition))]
+pub(crate) fn definition_first(d: &[Word]) -> u64
+    ensures value { result ≡ first_definition d.now }
+    ensures bound { result < 2 ^ 18 }
+{
+    left_of(word_at(d, 0))
+}
+
+#[tactic(auto, unfolding(crate::specs::TableFaults::next_definition))]
+pub(crate) fn definition_behind(d: &[Word], at: u64) -> u64
+    ensures value { result ≡ next_definition d.now at }
+    ensures bound { result < 2 ^ 18 }
+{
+    left_of(word_at(d, at))
+}
+
+#[tactic(auto, unfolding(crate::specs::TableFaults::is_member))]
+fn is_inside(d: &[Word], at: u64) -> bool
+    requires { at < 2 ^ 18 }
+    ensures { result ≡ is_member d.now at }
+{
+    at != 0 && at + 2 <= d.len() as u64
+}
+
+#[tactic(auto, unfolding(crate::specs::TableFaults::chain_fault))]
+fn end_of_chain(d: &[Word], holder: u64, at: u64) -> Option<u64>
+    requires holder { holder < 2 ^ 18 }
+    requires at { at < 2 ^ 18 }
+    ensures value { result ≡ chain_fault d.now 0 holder at }
+    ensures bound { IfSome result (λ p. p < 2 ^ 20) }
+{
+    if at == 0 {
+        None
+    } else if is_inside(d, at) {
+        Some(0)
+    } else {
+        Some(holder)
+    }
+}
+
+fn fault_of_chain(d: &[Word], count: u64) -> Option<u64>
+    requires { count < 2 ^ 18 }
+    ensures value { result ≡ chain_fault d.now count 0 (first_definition d.now) }
+    ensures bound { IfSome result (λ p. p < 2 ^ 20) }
+{
+    let mut holder = 0;
+    let mut at = definition_first(d);
+    for _ in 0..count {
+        if !is_inside(d, at) {
+            return Some(0);
+        }
+        holder = at;
+        at = definition_behind(d, at);
+    }
+    end_of_chain(d, holder, at)
+}
+
+#[tactic(auto, unfolding(crate::specs::TableFaults::count_fault))]
+fn fault_of_count(d: &[Word]) -> Option<u64>
+    ensures value { result ≡ count_fault d.now }
+    ensures bound { IfSome result (λ p. p < 2 ^ 20) }
+{
+    let count = count_of_definitions(d);
+    if (d.len() as u64) < 2 + 2 * count {
+        return Some(0);
+    }
+    fault_of_chain(d, count)
+}
+
+// ---- the table of expressions
+
+#[tactic(auto, unfolding(crate::specs::TableFaults::expression_count))]
+pub(crate) fn count_of_expressions(d: &[Word]) -> u64
+    ensures value { result ≡ expression_count d.now }
+    ensures bound { result < 2 ^ 18 }
+{
+    right_of(word_at(d, 1))
+}
+
+#[tactic(auto, unfolding(crate::specs::TableFaults::first_expression))]
+pub(crate) fn expression_first(d: &[Word]) -> u64
+    ensures value { result ≡ first_expression d.now }
+    ensures bound { result < 2 ^ 18 }
+{
+    left_of(word_at(d, 1))
+}
+
+#[tactic(auto, unfolding(crate::specs::TableFaults::leaves_section))]
+fn expressions_leave(d: &[Word]) -> bool
+    ensures { result ≡ leaves_section d.now }
+{
+    let first = expression_first(d);
+    let length = d.len() as u64;
+    length <= first || length < first + 2 * count_of_expressions(d)
+}
+
+// ---- classes
+
+#[tactic(auto, unfolding(crate::specs::TableFaults::class_at))]
+fn class_of_definition(d: &[Word], at: u64) -> u64
+    ensures { result ≡ class_at d.now at }
+{
+    let class = right_of(word_at(d, at));
+    if class < 8 { class } else { class - 8 }
+}
+
+fn fault_of_classes(d: &[Word], last: u64) -> Option<u64>
+    ensures value { result ≡ class_faults last d.now (definition_count d.now) (first_definition d.now) }
+    ensures bound { IfSome result (λ p. p < 2 ^ 20) }
+{
+    let mut found = None;
+    let mut at = definition_first(d);
+    for _ in 0..count_of_definitions(d) {
+        let here = place_if(last < class_of_definition(d, at), at);
+        found = earlier_of(found, here);
+        at = definition_behind(d, at);
+    }
+    found
+}
+
+// ---- names that stand twice
+
+#[tactic(auto, unfolding(crate::specs::TableFaults::name_place))]
+pub(crate) fn place_of_name(d: &[Word], at: u64) -> u64
+    requires { at < 2 ^ 20 }
+    ensures value { result ≡ name_place d.now at }
+    ensures bound { result < 2 ^ 18 }
+{
+    right_of(word_at(d, at + 1))
+}
+
+#[tactic(auto, unfolding(crate::specs::TableFaults::lies_within))]
+pub(crate) fn is_within(d: &[Word], at: u64) -> bool
+    requires { at < 2 ^ 20 }
+    ensures { result ≡ lies_within d.now at }
+{
+    let length = d.len() as u64;
+    at < length && at + unit(d, at, 0) / 4 + 1 <= length
+}
+
+// ---- all of them
+
+#[tactic(auto, unfolding(crate::specs::TableFaults::members_fault))]
+fn fault_of_members(alloc: Global, version: u8, d: &[Word]) -> Result<Option<u64>, NoMemory>
+    ensures value { IfOk result (λ place. place ≡ members_fault version d.now) }
+    ensures bound { IfOk result (λ place. IfSome place (λ p. p < 2 ^ 20)) }
+{
+    let table = place_if(expressions_leave(d), 1);
+    let classes = fault_of_classes(d, greatest_class(version));
+    let repeated = fault_of_repeats(alloc, d)?;
+    Ok(earlier_of(table, earlier_of(classes, repeated)))
+}
+
+fn is_head(place: Option<u64>) -> bool
+    ensures { result ≡ is_at_head place }
+{
+    match place {
+        None => false,
+        Some(p) => p == 0,
+    }
+}
+
+/// The least word that holds a count, an offset, a class or a name that stands twice, where it is not as it must be,
+/// counted from word 0 of the definition section. The error is want of memory alone.
+#[tactic(auto, unfolding(crate::specs::TableFaults::table_fault))]
+pub fn fault_of_tables(alloc: Global, version: u8, d: &[Word]) -> Result<Option<u64>, NoMemory>
+    ensures value { IfOk result (λ place. place ≡ table_fault version d.now) }
+    ensures bound { IfOk result (λ place. IfSome place (λ p. p < 2 ^ 20)) }
+{
+    let count = fault_of_count(d);
+    if is_head(count) {
+        return Ok(Some(0));
+    }
+    let members = fault_of_members(alloc, version, d)?;
+    Ok(earlier_of(count, members))
+}
