@@ -3,3 +3,7 @@ pub mod Lending
 pub mod Operated
 pub mod References
 pub mod Reached
+pub mod LinkNoteFields
+pub mod Answers
+pub mod MachineFields
+pub mod MachineTurn

@@ -22,10 +22,14 @@ mod operate;
 mod operated;
 mod reach;
 mod references;
+pub mod stepper;
 mod targets;
+pub mod turns;
 mod writes;
 
 pub use machine::Machine;
+pub use stepper::{Replay, Stepper};
+pub use turns::{BackAnswer, ConsoleNote, LinkNote, Turn};
 
 #[cfg(test)]
 mod tests;

@@ -1,6 +1,6 @@
 //! The machine.
 
-ghost use Rattle.std.specs.Prelude.{◌≡◌, [], ◌+◌, ◌%◌, ◌^◌, None};
+ghost use Rattle.std.specs.Prelude.{◌≡◌, [], ◌+◌, ◌%◌, ◌^◌, None, IfOk};
 ghost use Rattle.std.specs.Borrow.{sem};
 ghost use Rattle.m36_model.specs.Audit.{IsAudited};
 ghost use Rattle.m36_model.specs.Core.{core_store};
@@ -8,36 +8,45 @@ ghost use Rattle.m36_model.specs.Laws.{ExecutesLdbr};
 ghost use Rattle.m36_model.specs.Results.{moved_on};
 ghost use Rattle.m36_model.specs.Step.{record_of, state_after};
 ghost use Rattle.m36_model.specs.declared.outcome.Outcome.TheVariants.{Next};
+ghost use Rattle.m36_step.specs.MachineTurn.{ended_by};
 
 use crate::execute::execute;
+use crate::stepper::{Replay, Stepper};
+use crate::turns::{BackAnswer, Turn};
 use m36_core::Core;
 use m36_isol::law_kept;
-use m36_model::{Outcome, Refs, Regs, StepRecord};
+use m36_model::{End, Outcome, Refs, Regs, StepRecord};
 use m36_walk::Walk;
+use m36_word::{NoMemory, Word};
+use std::alloc::Global;
 use std::marker::Model;
 
-/// Core memory and the registers of a processor. The walk finds segments by the descriptor segment base register of the
-/// registers.
+/// Core memory and the registers of a processor, and how its run of turns has ended, if it has. The walk finds segments by
+/// the descriptor segment base register of the registers. Steps do not look at how the run has ended: turns do.
 #[derive(Drop)]
 pub struct Machine {
     walk: Walk,
     regs: Regs,
+    ended: Option<End>,
 }
 
 impl Model for Machine {
-    ghost use Rattle.std.specs.Prelude.{ℕ, List, ◌≡◌};
-    ghost use Rattle.m36_model.specs.Store.{State};
+    ghost use Rattle.std.specs.Prelude.{◌≡◌};
+    ghost use Rattle.m36_step.specs.MachineFields.{MachineFields};
 
-    ghost Value = { State (List ℕ) };
+    ghost Value = { MachineFields };
 
-    ghost view = { λ m. record { regs = m.regs; store = m.walk.core } };
+    ghost view = { λ m. record {
+      state = record { regs = m.regs; store = m.walk.core };
+      ended = m.ended;
+    } };
 
     ghost invariant = { λ m. m.walk.dbr ≡ m.regs.dbr };
 }
 
 /// One step of a walk and registers with the same descriptor segment base register, told in a record that an earlier step
 /// may have filled.
-fn turn(walk: &mut Walk, regs: &mut Regs, told: &mut StepRecord)
+fn take_step(walk: &mut Walk, regs: &mut Regs, told: &mut StepRecord)
     requires dbr { walk.old.dbr ≡ regs.old.dbr }
     ensures told { told.new
         ≡ record_of core_store (record { regs = regs.old; store = walk.old.core }) }
@@ -82,19 +91,25 @@ impl Machine {
     /// A machine with this core and these registers. Both have the same descriptor segment base register.
     pub fn new(walk: Walk, regs: Regs) -> Machine
         requires { walk.dbr ≡ regs.dbr }
-        ensures { result ≡ record { regs = regs; store = walk.core } }
+        ensures state { result.state ≡ record { regs = regs; store = walk.core } }
+        ensures ended { result.ended ≡ None }
     {
-        Machine { walk, regs }
+        Machine {
+            walk,
+            regs,
+            ended: None,
+        }
     }
 
     /// One step. The record is that of the written step, and the machine is left in the state after it. Where the audit
     /// conditions hold before a step that executes no LDBR, they hold after it.
     pub fn step(&mut self) -> StepRecord
-        ensures told { result ≡ record_of core_store self.old }
-        ensures state { self.new ≡ state_after core_store self.old }
-        ensures kept { IsAudited self.old.store self.old.regs.dbr
-            → (ExecutesLdbr (record_of core_store self.old) → ⊥)
-            → IsAudited self.new.store self.new.regs.dbr }
+        ensures told { result ≡ record_of core_store self.old.state }
+        ensures state { self.new.state ≡ state_after core_store self.old.state }
+        ensures ended { self.new.ended ≡ self.old.ended }
+        ensures kept { IsAudited self.old.state.store self.old.state.regs.dbr
+            → (ExecutesLdbr (record_of core_store self.old.state) → ⊥)
+            → IsAudited self.new.state.store self.new.state.regs.dbr }
     {
         let mut told = self.untold();
         self.step_into(&mut told);
@@ -105,15 +120,16 @@ impl Machine {
     /// record, and the list of references in it is neither made nor copied in a step.
     #[inline]
     pub fn step_into(&mut self, told: &mut StepRecord)
-        ensures told { told.new ≡ record_of core_store self.old }
-        ensures state { self.new ≡ state_after core_store self.old }
-        ensures kept { IsAudited self.old.store self.old.regs.dbr
-            → (ExecutesLdbr (record_of core_store self.old) → ⊥)
-            → IsAudited self.new.store self.new.regs.dbr }
+        ensures told { told.new ≡ record_of core_store self.old.state }
+        ensures state { self.new.state ≡ state_after core_store self.old.state }
+        ensures ended { self.new.ended ≡ self.old.ended }
+        ensures kept { IsAudited self.old.state.store self.old.state.regs.dbr
+            → (ExecutesLdbr (record_of core_store self.old.state) → ⊥)
+            → IsAudited self.new.state.store self.new.state.regs.dbr }
     {
         law_kept();
-        let Machine { walk, regs } = self;
-        turn(walk, regs, told)
+        let Machine { walk, regs, .. } = self;
+        take_step(walk, regs, told)
     }
 
     /// A record for `step_into` to fill: it has the registers as they stand, and tells of no step.
@@ -121,11 +137,11 @@ impl Machine {
         ensures { result
             ≡ record {
               refs = record { items = [] };
-              after = self.now.regs;
+              after = self.now.state.regs;
               word = None;
               at = None;
               outcome = Next;
-              ppr = self.now.regs.ppr;
+              ppr = self.now.state.regs.ppr;
             } }
     {
         untold(&self.regs)
@@ -135,7 +151,9 @@ impl Machine {
     /// modulo 2^18.
     #[tactic(auto, unfolding(m36_model::specs::Results::moved_on))]
     pub fn skip(&mut self)
-        ensures { self.new ≡ record { regs = moved_on self.old.regs; store = self.old.store } }
+        ensures state { self.new.state
+            ≡ record { regs = moved_on self.old.state.regs; store = self.old.state.store } }
+        ensures ended { self.new.ended ≡ self.old.ended }
     {
         let ic = self.regs.ppr.ic;
         self.regs.ppr.ic = (ic + 1) % (1 << 18);
@@ -144,8 +162,9 @@ impl Machine {
     /// Exchanges the registers with others, as where another process is to run on the same core. From here on segments are
     /// found by the descriptor segment base register of those that were taken in.
     pub fn swap(&mut self, regs: &mut Regs)
-        ensures machine { self.new ≡ record { regs = regs.old; store = self.old.store } }
-        ensures regs { regs.new ≡ self.old.regs }
+        ensures state { self.new.state ≡ record { regs = regs.old; store = self.old.state.store } }
+        ensures ended { self.new.ended ≡ self.old.ended }
+        ensures regs { regs.new ≡ self.old.state.regs }
     {
         let before = self.regs;
         let taken = *regs;
@@ -156,14 +175,15 @@ impl Machine {
 
     /// The registers as they stand.
     pub fn regs(&self) -> &Regs
-        ensures { result.now ≡ self.now.regs }
+        ensures { result.now ≡ self.now.state.regs }
     {
         &self.regs
     }
 
     /// Core and the descriptor segment base register as they stand.
     pub fn walk(&self) -> &Walk
-        ensures { result.now ≡ record { core = self.now.store; dbr = self.now.regs.dbr } }
+        ensures { result.now
+            ≡ record { core = self.now.state.store; dbr = self.now.state.regs.dbr } }
     {
         &self.walk
     }
@@ -171,8 +191,82 @@ impl Machine {
     /// Core, to be written. Nothing that was read from it before is used again.
     pub fn core_mut(&mut self) -> &mut Core
         ensures* lends { sem 𝓛 (LendsCore self.entry result) }
-        ensures value { result.now ≡ self.old.store }
+        ensures value { result.now ≡ self.old.state.store }
     {
         self.walk.core_mut()
     }
+}
+
+/// How a step ends the run of turns.
+fn ended_by(outcome: Outcome) -> Option<End>
+    ensures { result ≡ ended_by outcome }
+{
+    match outcome {
+        Outcome::Next => None,
+        Outcome::Faulted(fault) => Some(End::Fault(fault)),
+        Outcome::Stopped(stop) => Some(End::Stop(stop)),
+    }
+}
+
+impl Stepper for Machine {
+    ghost use Rattle.m36_model.specs.Core.{core_store};
+    ghost use Rattle.m36_model.specs.Sight.{content};
+    ghost use Rattle.m36_step.specs.MachineTurn.{MachineTurns, MachineWent, machine_stays, machine_apart};
+
+    ghost next = { λ before turn later. MachineTurns before turn later };
+
+    ghost went = { λ before n answer later. MachineWent before n answer later };
+
+    ghost regs = { λ m. m.state.regs };
+
+    ghost content = { λ m seg word. content core_store m.state seg word };
+
+    /// A step, until one has ended the run: from then on each turn tells how, and changes nothing.
+    #[tactic(auto, unfolding(crate::specs::MachineTurn::machine_turn, crate::specs::MachineTurn::machine_after))]
+    fn turn(&mut self) -> Turn {
+        let ended = self.ended;
+        if let Some(end) = ended {
+            return Turn::Ended(end);
+        }
+        let told = self.step();
+        self.ended = ended_by(told.outcome);
+        Turn::Stepped(told)
+    }
+
+    /// A machine does not go back.
+    fn back(&mut self, _n: u32) -> BackAnswer {
+        BackAnswer::Unable
+    }
+
+    fn regs(&self) -> &Regs {
+        &self.regs
+    }
+
+    fn content(&self, seg: u16, word: u32) -> Option<Word> {
+        self.walk.content(seg, word)
+    }
+
+    ghost stays = { machine_stays };
+
+    ghost apart = { machine_apart };
+}
+
+impl Replay for Machine {
+    ghost use Rattle.m36_step.specs.MachineTurn.{machine_turn, machine_after, machine_kept};
+
+    ghost answer = { machine_turn };
+
+    ghost after = { machine_after };
+
+    fn copy(&self, alloc: Global) -> Result<Machine, NoMemory> {
+        Ok(Machine {
+            walk: self.walk.copy(alloc)?,
+            regs: self.regs,
+            ended: self.ended,
+        })
+    }
+
+    ghost turns = { λ before turn later h. h };
+
+    ghost kept = { machine_kept };
 }

@@ -2,7 +2,7 @@ use Rattle.std.proofs.Common.{ℕ, List, ap, sym}
 use Rattle.m36_model.specs.Registers.{RegsFields}
 use Rattle.m36_model.specs.Store.{State}
 use Rattle.m36_step.proofs.Ends.{step_told, step_left}
-use Rattle.m36_step.proofs.machine.turn.Goals as goal
+use Rattle.m36_step.proofs.machine.take_step.Goals as goal
 
 pub returns-clause-told : goal.returns-clause-told
 returns-clause-told c =

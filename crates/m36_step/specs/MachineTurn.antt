@@ -1,0 +1,79 @@
+-- The turns of a machine: steps, until one has ended the run.
+use Rattle.std.specs.Prelude.{◌≡◌, ℕ, ◌⊎◌, List, Option, Some, None}
+use Rattle.std.proofs.Common.{inr, refl, subst}
+use Rattle.m36_model.specs.Core.{core_store}
+use Rattle.m36_model.specs.Step.{record_of, state_after}
+use Rattle.m36_model.specs.Store.{State}
+use Rattle.m36_model.specs.declared.endings.End.{End}
+use Rattle.m36_model.specs.declared.endings.End.TheVariants as end
+use Rattle.m36_model.specs.declared.outcome.Outcome.{Outcome}
+use Rattle.m36_model.specs.declared.outcome.Outcome.TheVariants.{Next, Faulted, Stopped}
+use Rattle.m36_step.specs.Answers.{IsDone, IsService, IsStepOrEnd}
+use Rattle.m36_step.specs.MachineFields.{MachineFields}
+use Rattle.m36_step.specs.declared.turns.Turn.{Turn}
+use Rattle.m36_step.specs.declared.turns.Turn.TheVariants.{Stepped, Ended}
+use Rattle.m36_step.specs.declared.turns.BackAnswer.{BackAnswer}
+use Rattle.m36_step.specs.declared.turns.BackAnswer.TheVariants as back
+
+-- how a step ends the run
+abbrev pub ended_by : Outcome → Option End
+ended_by Next = None
+ended_by (Faulted fault) = Some (end.Fault fault)
+ended_by (Stopped stop) = Some (end.Stop stop)
+
+abbrev pub turn_by : Option End → State (List ℕ) → Turn
+turn_by None s = Stepped (record_of core_store s)
+turn_by (Some e) s = Ended e
+
+abbrev pub after_by : Option End → State (List ℕ) → MachineFields
+after_by None s =
+    record {
+      state = state_after core_store s;
+      ended = ended_by (record_of core_store s).outcome;
+    }
+after_by (Some e) s = record { state = s; ended = Some e }
+
+-- A turn is a step, until one has ended the run: from then on each turn tells how.
+unfoldable pub machine_turn : MachineFields → Turn
+machine_turn m = turn_by m.ended m.state
+
+unfoldable pub machine_after : MachineFields → MachineFields
+machine_after m = after_by m.ended m.state
+
+abbrev pub MachineTurns : MachineFields → Turn → MachineFields → Type 0
+MachineTurns before turn later = (turn ≡ machine_turn before) × (later ≡ machine_after before)
+
+-- A machine does not go back.
+abbrev pub MachineWent : MachineFields → ℕ → BackAnswer → MachineFields → Type 0
+MachineWent before n answer later = (answer ≡ back.Unable) × (later ≡ before)
+
+pub machine_stays :
+    (before : MachineFields) (n : ℕ) (answer : BackAnswer) (after : MachineFields)
+    → MachineWent before n answer after → IsDone answer ⊎ (after ≡ before)
+machine_stays before n answer after went = inr went.1
+
+no_service : (ended : Option End) (s : State (List ℕ)) → IsService (turn_by ended s) → ⊥
+no_service None s h = h
+no_service (Some e) s h = h
+
+turn_no_service : (m : MachineFields) → IsService (machine_turn m) → ⊥
+unfolding machine_turn
+turn_no_service m h = no_service m.ended m.state h
+
+pub machine_apart :
+    (first second third : MachineFields) (one two : Turn)
+    → MachineTurns first one second → MachineTurns second two third
+    → IsService one → IsService two → ⊥
+machine_apart first second third one two h k service other =
+    turn_no_service first (subst IsService h.0 service)
+
+kept_by :
+    (ended : Option End) (s : State (List ℕ))
+    → IsStepOrEnd (after_by ended s ≡ record { state = s; ended = ended }) (turn_by ended s)
+kept_by None s = tt
+kept_by (Some e) s = refl
+
+pub machine_kept :
+    (m : MachineFields) → IsStepOrEnd (machine_after m ≡ m) (machine_turn m)
+unfolding machine_turn machine_after
+machine_kept m = kept_by m.ended m.state
