@@ -7,7 +7,7 @@ pub steps-preserved : goal.steps-preserved
 steps-preserved g c =
     let written = g.S.Sink.written in
     record {
-      running = running_next c.args.steps c.args.machine.now (written c.args.out.now) (written c.steps.out) (written c.take_turn.new.out) c.steps.taken c.steps.left c.steps.machine c.take_turn.new.machine c.steps.invariant.running c.steps-test.true c.in-Next.ensures.says.outcome_is c.in-Next.ensures.says.state c.in-Next.ensures.says.grew;
+      running = running_next c.args.steps c.args.machine.now.state (written c.args.out.now) (written c.steps.out) (written c.take_turn.new.out) c.steps.taken c.steps.left c.steps.machine.state c.take_turn.new.machine.state c.steps.invariant.running c.steps-test.true c.in-Next.ensures.says.outcome_is c.in-Next.ensures.says.state c.in-Next.ensures.says.grew;
       count = omega (arith, c.steps.invariant.count);
       faults = c.in-Next.ensures.cause ∙ c.steps.invariant.faults;
     }

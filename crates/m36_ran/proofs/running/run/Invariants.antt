@@ -10,7 +10,7 @@ invariant-steps g l =
     let written = g.S.Sink.written in
     let faults = g.S.Sink.faults in
     record {
-      running : Running l.steps l.fn.machine (written l.fn.out) (written l.out) l.taken l.left l.machine;
+      running : Running l.steps l.fn.machine.state (written l.fn.out) (written l.out) l.taken l.left l.machine.state;
       count : l.taken + l.left ≡ l.steps;
       faults : faults l.out ≡ faults l.fn.out;
     }
