@@ -34,3 +34,5 @@ pub mod Booted
 pub mod PagedStep
 pub mod Moved
 pub mod LaidAudit
+pub mod Plan
+pub mod Pages
