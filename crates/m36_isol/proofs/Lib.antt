@@ -36,3 +36,7 @@ pub mod Moved
 pub mod LaidAudit
 pub mod Plan
 pub mod Pages
+pub mod Retry
+pub mod Tries
+pub mod Attempts
+pub mod PageLaw

@@ -168,7 +168,7 @@ count_after Transfer q refs j k h = omega arith
 count_after Call q refs j k h = omega arith
 count_after Locate q refs j k h = omega arith
 
-cost_least : (b : Bool) (j k : ℕ) → cost b j ≤ k → j ≤ k
+pub cost_least : (b : Bool) (j k : ℕ) → cost b j ≤ k → j ≤ k
 cost_least true j k h = omega arith
 cost_least false j k h = h
 

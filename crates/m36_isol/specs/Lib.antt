@@ -3,3 +3,4 @@ pub mod Gates
 pub mod MarkBits
 pub mod Findings
 pub mod References
+pub mod PageServices
