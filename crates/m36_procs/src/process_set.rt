@@ -28,7 +28,7 @@ impl Model for ProcessSet {
 
     ghost Value = { Processes (List ℕ) };
 
-    ghost view = { λ p. record { regs = slice_set p.regs.items p.inside p.machine.regs; store = p.machine.store } };
+    ghost view = { λ p. record { regs = slice_set p.regs.items p.inside p.machine.state.regs; store = p.machine.state.store } };
 
     ghost invariant = { λ p. p.inside < length p.regs.items };
 }
@@ -40,9 +40,9 @@ fn bring(machine: &mut Machine, regs: &mut Vec<Regs>, inside: &mut usize, i: usi
     requires there { i < length regs.old.items }
     ensures here { inside.new ≡ i }
     ensures len { length regs.new.items ≡ length regs.old.items }
-    ensures store { machine.new.store ≡ machine.old.store }
-    ensures all { slice_set regs.new.items i machine.new.regs
-        ≡ slice_set regs.old.items inside.old machine.old.regs }
+    ensures store { machine.new.state.store ≡ machine.old.state.store }
+    ensures all { slice_set regs.new.items i machine.new.state.regs
+        ≡ slice_set regs.old.items inside.old machine.old.state.regs }
 {
     if *inside == i {
         return;

@@ -40,7 +40,7 @@ pub fn status_after(last: Outcome) -> Status
 
 // The machine of an image. Core is handed on, and not copied.
 fn machine_of(alloc: Global, image: Image) -> Result<Machine, NoMemory>
-    ensures { IfOk result (λ machine. machine ≡ image) }
+    ensures { IfOk result (λ machine. machine.state ≡ image) }
 {
     let Image { core, regs } = image;
     match Walk::new(alloc, core, regs.dbr) {

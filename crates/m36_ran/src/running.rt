@@ -47,8 +47,8 @@ pub fn put_line<S: Sink>(out: &mut S, mut line: ArrayString<160>) -> Put
 
 /// Takes step n of a run, and writes its line. The step is told in a record that an earlier one may have filled.
 pub fn take_turn<S: Sink>(machine: &mut Machine, n: u64, told: &mut StepRecord, out: &mut S) -> Turn
-    ensures says { TurnSays result n machine.old machine.new (S.written out.old) (S.written out.new) }
-    ensures through { TurnTakes result n machine.old (S.taken out.old) (S.taken out.new) }
+    ensures says { TurnSays result n machine.old.state machine.new.state (S.written out.old) (S.written out.new) }
+    ensures through { TurnTakes result n machine.old.state (S.taken out.old) (S.taken out.new) }
     ensures cause { TurnHasCause result (S.faults out.old) (S.faults out.new) }
 {
     machine.step_into(told);
@@ -77,8 +77,8 @@ pub fn put_end<S: Sink>(out: &mut S, outcome: &Outcome, steps: u64) -> Ended
 /// Runs a machine for at most so many steps, and writes a trace line for each and the end line.
 #[tactic(auto, using(crate::proofs::RunLaws::running, crate::proofs::RunPieces::running))]
 pub fn run<S: Sink>(machine: &mut Machine, steps: u32, out: &mut S) -> Ended
-    ensures says { RunSays result steps machine.old (S.written out.old) (S.written out.new) }
-    ensures through { RunTakes result steps machine.old (S.taken out.old) (S.taken out.new) }
+    ensures says { RunSays result steps machine.old.state (S.written out.old) (S.written out.new) }
+    ensures through { RunTakes result steps machine.old.state (S.taken out.old) (S.taken out.new) }
     ensures cause { EndedHasCause result (S.faults out.old) (S.faults out.new) }
 {
     let mut told = machine.untold();

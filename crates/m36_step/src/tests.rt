@@ -8,9 +8,11 @@ mod reading;
 mod table;
 
 use crate::machine::Machine;
+use crate::stepper::{Replay, Stepper};
+use crate::turns::{BackAnswer, Turn};
 use m36_core::Core;
 use m36_desc::{Dbr, Ptr};
-use m36_model::{At, Fault, Final, Ind, Kind, Outcome, Ppr, Reference, Regs, StepRecord, Stop};
+use m36_model::{At, End, Fault, Final, Ind, Kind, Outcome, Ppr, Reference, Regs, StepRecord, Stop};
 use m36_walk::Walk;
 use m36_word::{NoMemory, Word};
 use std::alloc::Global;
@@ -180,6 +182,42 @@ fn loads_and_stops(rt: HostRuntime) -> Result<(), NoMemory> {
     put(machine.core_mut(), &[(0o42, 0o000005755000)]);
     assert!(rt; gives(&mut machine, violates(6, at(1, 5, 0)), 1));
     assert!(rt; stands(&machine, 1, 0, 2));
+    Ok(())
+}
+
+/// Whether a turn was a step with this outcome.
+fn is_step(turn: Turn, expected: Outcome) -> bool {
+    match turn {
+        Turn::Stepped(told) => told.outcome == expected,
+        _ => false,
+    }
+}
+
+/// Whether a turn told this end.
+fn is_end(turn: Turn, expected: End) -> bool {
+    match turn {
+        Turn::Ended(end) => end == expected,
+        _ => false,
+    }
+}
+
+#[test]
+fn turns_until_it_stops(rt: HostRuntime) -> Result<(), NoMemory> {
+    let words = [
+        (0o2, 0o000000400004),
+        (0o3, 0o000006700000),
+        (0o40, 0o000002235000),
+        (0o41, 0o000000616000),
+        (0o42, 5),
+    ];
+    let mut machine = machine(rt.alloc(), &regs(0, 0), &words)?;
+    let second = machine.copy(rt.alloc())?;
+    assert!(rt; is_step(machine.turn(), Outcome::Next));
+    assert!(rt; is_step(machine.turn(), Outcome::Stopped(Stop::Dis)));
+    assert!(rt; is_end(machine.turn(), End::Stop(Stop::Dis)));
+    assert!(rt; accumulator(&machine) == 5 && accumulator(&second) == 0);
+    assert!(rt; machine.content(1, 2) == Some(Word::low(5)) && machine.content(2, 0).is_none());
+    assert!(rt; machine.back(1) == BackAnswer::Unable);
     Ok(())
 }
 

@@ -14,8 +14,8 @@ invariant-steps g l =
     let pieces = g.S.Sink.taken in
     let faults = g.S.Sink.faults in
     record {
-      running : Running l.steps l.fn.machine (written l.fn.out) (written l.out) l.taken l.left l.machine;
-      pieces : CompletesLines (pieces l.out) (pieces l.fn.out) (pieces_from l.taken (run l.left l.machine)) (run_pieces l.steps l.fn.machine);
+      running : Running l.steps l.fn.machine.state (written l.fn.out) (written l.out) l.taken l.left l.machine.state;
+      pieces : CompletesLines (pieces l.out) (pieces l.fn.out) (pieces_from l.taken (run l.left l.machine.state)) (run_pieces l.steps l.fn.machine.state);
       count : l.taken + l.left ≡ l.steps;
       faults : faults l.out ≡ faults l.fn.out;
     }
