@@ -40,7 +40,7 @@ fn names_are_found(rt: HostRuntime) -> Result<(), NoMemory> {
         assert_eq!(rt; definitions.have_own_names(), are_own);
     }
     assert!(rt; definitions.has(&name(&rt, "cnt")));
-    assert!(rt; !definitions.has(&name(&rt, "b")));
+    assert!(rt; definitions.find(&name(&rt, "b")).is_none());
     assert_eq!(rt; definitions.names().len(), 2);
     Ok(())
 }
