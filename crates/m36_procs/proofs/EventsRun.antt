@@ -15,7 +15,7 @@ use Rattle.m36_procs.specs.RunSays.{IsRun}
 use Rattle.m36_procs.specs.ScheduleText.{event_line, event_lines, end_line, text_from, schedule_text, last_by, last_state}
 
 -- the events of a schedule that begins with a process
-events_first :
+pub events_first :
     (i : ℕ) (schedule : List ℕ) (s : Processes (List ℕ)) (g : RegsFields)
     → slice_get s.regs i ≡ Some g
     → events core_store (i ∷ schedule) s ≡ event core_store s i g ∷ events core_store schedule (stepped core_store s i g)
@@ -84,7 +84,7 @@ pub next_named : (count i : ℕ) (left more : List ℕ) → are_named count left
 next_named count i left more named begins =
     ltb-true i count (both_left (nat_lt i count) (are_named count more) (ap (are_named count) (sym begins) ∙ named))
 
-get_of : {A : Type 0} (xs : List A) (i : ℕ) → i < length xs → (x : A) × (slice_get xs i ≡ Some x)
+pub get_of : {A : Type 0} (xs : List A) (i : ℕ) → i < length xs → (x : A) × (slice_get xs i ≡ Some x)
 get_of [] i within = absurd (omega arith)
 get_of (x ∷ xs) zero within = (x, refl)
 get_of (x ∷ xs) (suc i) within = get_of xs i (omega arith)
@@ -126,7 +126,7 @@ runs_cut all first start now next n i left more s new told so_far begins says cu
     let here : text_from (length all) (n + 1) left s ≡ event_line (n + 1) i told ++ text_from (length all) (n + 1 + 1) more (stepped core_store s i own.0) = ap (λ l. text_from (length all) (n + 1) l s) begins ∙ text_first (length all) (n + 1) i more s own.0 own.1 ∙ ap (λ l. l ++ text_from (length all) (n + 1 + 1) more (stepped core_store s i own.0)) (sym line) in
     completes_cut now next start (text_from (length all) (n + 1) left s) (event_line (n + 1) i told) (text_from (length all) (n + 1 + 1) more (stepped core_store s i own.0)) (schedule_text all first) so_far.text here cut
 
-none_left : {A : Type 0} (xs : List A) → length xs ≡ 0 → xs ≡ []
+pub none_left : {A : Type 0} (xs : List A) → length xs ≡ 0 → xs ≡ []
 none_left [] e = refl
 none_left (x ∷ xs) e = absurd (omega (arith, e))
 

@@ -5,5 +5,6 @@ pub mod Fitting
 pub mod LinesRead
 pub mod Repeating
 pub mod EventsRun
+pub mod EventPieces
 pub mod Taking
 pub mod TurnsLaws

@@ -1,9 +1,10 @@
 -- What a run of a schedule answers.
-use Rattle.std.specs.Prelude.{ℕ, ◌≡◌, List, Option, Result, Ok, Err}
+use Rattle.std.specs.Prelude.{ℕ, ◌≡◌, List, ◌++◌, Option, Result, Ok, Err}
 use Rattle.m36_outside.specs.Counts.{Rose}
+use Rattle.m36_outside.specs.Passing.{TakesSome}
 use Rattle.m36_outside.specs.Written.{Grew, GrewWithin}
 use Rattle.m36_model.specs.Schedule.{Processes}
-use Rattle.m36_procs.specs.ScheduleText.{schedule_text, last_state}
+use Rattle.m36_procs.specs.ScheduleText.{schedule_text, schedule_pieces, last_state}
 use Rattle.m36_procs.specs.declared.fault.WriteFault.{WriteFault}
 
 -- all events were made, and their text is written
@@ -19,6 +20,12 @@ abbrev pub RunSays :
     → Option (List ℕ) → Option (List ℕ) → Type 0
 RunSays (Ok done) schedule old new before now = IsRun schedule old new before now
 RunSays (Err cut) schedule old new before now = GrewWithin before now (schedule_text schedule old)
+
+-- which pieces the sink took by it: a line in each
+abbrev pub RunTakes :
+    Result (Unit {0}) WriteFault → List ℕ → Processes (List ℕ) → List (List ℕ) → List (List ℕ) → Type 0
+RunTakes (Ok done) schedule old before now = now ≡ before ++ schedule_pieces schedule old
+RunTakes (Err cut) schedule old before now = TakesSome before now (schedule_pieces schedule old)
 
 abbrev pub RunHasCause : Result (Unit {0}) WriteFault → ℕ → ℕ → Type 0
 RunHasCause (Ok done) old new = new ≡ old

@@ -17,6 +17,11 @@ unfoldable pub event_lines : ℕ → List (Event (List ℕ)) → List ℕ
 event_lines n [] = []
 event_lines n (e ∷ more) = event_line n e.process e.told ++ event_lines (n + 1) more
 
+-- the same in pieces, each line one
+unfoldable pub event_pieces : ℕ → List (Event (List ℕ)) → List (List ℕ)
+event_pieces n [] = []
+event_pieces n (e ∷ more) = event_line n e.process e.told ∷ event_pieces (n + 1) more
+
 unfoldable pub end_line : ℕ → List ℕ
 end_line events = (codes "end schedule " ++ decimal_text events) ++ 10 ∷ []
 
@@ -24,8 +29,14 @@ end_line events = (codes "end schedule " ++ decimal_text events) ++ 10 ∷ []
 abbrev pub text_from : ℕ → ℕ → List ℕ → Processes (List ℕ) → List ℕ
 text_from total n schedule s = event_lines n (events core_store schedule s) ++ end_line total
 
+abbrev pub pieces_from : ℕ → ℕ → List ℕ → Processes (List ℕ) → List (List ℕ)
+pieces_from total n schedule s = event_pieces n (events core_store schedule s) ++ end_line total ∷ []
+
 unfoldable pub schedule_text : List ℕ → Processes (List ℕ) → List ℕ
 schedule_text schedule s = text_from (length schedule) 1 schedule s
+
+unfoldable pub schedule_pieces : List ℕ → Processes (List ℕ) → List (List ℕ)
+schedule_pieces schedule s = pieces_from (length schedule) 1 schedule s
 
 -- the state that a schedule leaves
 abbrev pub last_by :

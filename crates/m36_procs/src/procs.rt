@@ -5,7 +5,7 @@ ghost use Rattle.m36_procs.specs.EventSays.{EventSays};
 ghost use Rattle.m36_procs.specs.ProcsFile.{procs_given};
 ghost use Rattle.m36_procs.specs.ProcsSays.{ProcsSays};
 ghost use Rattle.m36_procs.specs.ReaderSays.{Fits, procs_read};
-ghost use Rattle.m36_procs.specs.RunSays.{RunSays, RunHasCause};
+ghost use Rattle.m36_procs.specs.RunSays.{RunSays, RunTakes, RunHasCause};
 
 use crate::fault::{ProcsFault, WriteFault};
 use crate::process_set::ProcessSet;
@@ -107,10 +107,12 @@ impl Procs {
     }
 
     /// Makes the events of the whole schedule, and writes a line for each and the last line. The error comes only where a
-    /// line could not be written; then a first part of the text is written.
+    /// line could not be written; then a first part of the text is written. Each line is put in one piece.
     pub fn run<S: Sink>(&mut self, out: &mut S) -> Result<(), WriteFault>
         ensures says { RunSays result self.old.schedule
             self.old.state self.new.state (S.written out.old) (S.written out.new) }
+        ensures through { RunTakes result self.old.schedule
+            self.old.state (S.taken out.old) (S.taken out.new) }
         ensures cause { RunHasCause result (S.faults out.old) (S.faults out.new) }
         ensures schedule { self.new.schedule ≡ self.old.schedule }
     {

@@ -1,10 +1,11 @@
 //! A run of a schedule, written line by line.
 
-ghost use Rattle.std.specs.Prelude.{ℕ, ◌≡◌, ◌<◌, ◌≤◌, ◌^◌, true, length};
+ghost use Rattle.std.specs.Prelude.{ℕ, ◌≡◌, ◌<◌, ◌≤◌, ◌^◌, true, [], ◌∷◌, length};
+ghost use Rattle.m36_outside.specs.Passing.{TakesLines};
 ghost use Rattle.m36_outside.specs.Put.{PutSays, PutHasCause};
 ghost use Rattle.m36_procs.specs.ProcsFile.{are_named};
 ghost use Rattle.m36_procs.specs.ScheduleText.{event_line, end_line};
-ghost use Rattle.m36_procs.specs.RunSays.{RunSays, RunHasCause};
+ghost use Rattle.m36_procs.specs.RunSays.{RunSays, RunTakes, RunHasCause};
 
 use crate::fault::WriteFault;
 use crate::process_set::ProcessSet;
@@ -40,24 +41,29 @@ fn end_line(events: u64) -> ArrayString<40>
 }
 
 // Puts the line of an event, in one piece.
+#[tactic(auto, using(crate::proofs::EventPieces::one_line))]
 fn put_event<S: Sink>(process: u8, n: u64, told: &StepRecord, out: &mut S) -> Put
     ensures says { PutSays result
         (S.written out.old) (S.written out.new) (event_line n process told.now) }
+    ensures through { TakesLines result
+        (S.taken out.old) (S.taken out.new) (event_line n process told.now ∷ []) }
     ensures cause { PutHasCause result (S.faults out.old) (S.faults out.new) }
 {
     out.put(event_line(process, n, told).as_str().as_bytes())
 }
 
 // Puts the last line, in one piece.
+#[tactic(auto, using(crate::proofs::EventPieces::one_line))]
 fn put_end<S: Sink>(events: u64, out: &mut S) -> Put
     ensures says { PutSays result (S.written out.old) (S.written out.new) (end_line events) }
+    ensures through { TakesLines result (S.taken out.old) (S.taken out.new) (end_line events ∷ []) }
     ensures cause { PutHasCause result (S.faults out.old) (S.faults out.new) }
 {
     out.put(end_line(events).as_str().as_bytes())
 }
 
 /// Makes the events of a schedule, and writes a line for each and the last line.
-#[tactic(auto, using(crate::proofs::EventsRun::running))]
+#[tactic(auto, using(crate::proofs::EventsRun::running, crate::proofs::EventPieces::running))]
 pub(crate) fn run_schedule<S: Sink>(
     processes: &mut ProcessSet,
     schedule: &[u8],
@@ -66,6 +72,7 @@ pub(crate) fn run_schedule<S: Sink>(
     requires named { are_named (length processes.old.regs) schedule.now ≡ true }
     ensures says { RunSays result schedule.now
         processes.old processes.new (S.written out.old) (S.written out.new) }
+    ensures through { RunTakes result schedule.now processes.old (S.taken out.old) (S.taken out.new) }
     ensures cause { RunHasCause result (S.faults out.old) (S.faults out.new) }
     ensures count { length processes.new.regs ≡ length processes.old.regs }
 {

@@ -1,7 +1,9 @@
 -- Answers by what an audit has found: the audit text, and the run behind it.
-use Rattle.std.proofs.Common.{◌≡◌, ℕ, ◌<◌, Bool, true, false, List, [], ◌∷◌, length, refl, ap, subst, ◌∙◌, arith}
+use Rattle.std.proofs.Common.{◌≡◌, ℕ, ◌<◌, Bool, true, false, List, [], ◌∷◌, ◌++◌, length, refl, ap, subst, ◌∙◌, arith}
 use Rattle.m36_outside.specs.Counts.{Rose}
 use Rattle.m36_outside.specs.Written.{Grew, GrewWithin}
+use Rattle.m36_outside.specs.Passing.{TakesSome}
+use Rattle.m36_outside.proofs.LinesTaken.{takes_lines_on, takes_lines_more, takes_lines_longer}
 use Rattle.m36_outside.proofs.Grown.{grew_on, grew_more, grew_longer}
 use Rattle.m36_model.specs.Store.{State}
 use Rattle.m36_model.specs.declared.outcome.Outcome.{Outcome}
@@ -14,9 +16,9 @@ use Rattle.m36_reading.specs.Answers.{Answer}
 use Rattle.m36_reading.specs.Outside.{SinkState}
 use Rattle.m36_reading.specs.Ends.{Answered, end_of}
 use Rattle.m36_ran.specs.Run.{run, last_outcome}
-use Rattle.m36_ran.specs.Output.{status_after, run_text}
-use Rattle.m36_ran.specs.RunSays.{RunSays}
-use Rattle.m36_ran.specs.AuditText.{audit_text}
+use Rattle.m36_ran.specs.Output.{status_after, run_text, run_pieces}
+use Rattle.m36_ran.specs.RunSays.{RunSays, RunTakes}
+use Rattle.m36_ran.specs.AuditText.{audit_text, audit_pieces}
 use Rattle.m36_ran.specs.Putting.{IsPut, PutsBy}
 use Rattle.m36_ran.specs.Ran.{behind, run_answer, passes, audit_answer}
 use Rattle.m36_ran.specs.declared.running.Ended.TheVariants.{Whole, Cut}
@@ -30,67 +32,70 @@ put_whole (Stopped Operation) due old new is = is
 put_whole (Stopped Tag) due old new is = is
 
 pub run_whole :
-    (text : List ℕ) (steps : ℕ) (state : State (List ℕ)) (last : Outcome) (old now new : SinkState)
-    → Grew old.written now.written text → now.faults ≡ old.faults
-    → RunSays (Whole last) steps state now.written new.written → new.faults ≡ now.faults
-    → PutsBy (end_of (status_after last)) (status_after last) (behind text (run_answer steps state)) old new
+    (findings : List (ℕ × ℕ)) (steps : ℕ) (state : State (List ℕ)) (last : Outcome) (old now new : SinkState)
+    → Grew old.written now.written (audit_text findings) → now.taken ≡ old.taken ++ audit_pieces findings → now.faults ≡ old.faults
+    → RunSays (Whole last) steps state now.written new.written → RunTakes (Whole last) steps state now.taken new.taken → new.faults ≡ now.faults
+    → PutsBy (end_of (status_after last)) (status_after last) (behind findings (run_answer steps state)) old new
 unfolding run_answer
-run_whole text steps state last old now new before stood says stands =
-    put_whole last (behind text (run_answer steps state)) old new (record {
+run_whole findings steps state last old now new before took stood says takes stands =
+    put_whole last (behind findings (run_answer steps state)) old new (record {
       sets = refl;
       status = ap status_after says.0;
-      text = grew_on old.written now.written new.written text (run_text steps state) before says.1;
+      text = grew_on old.written now.written new.written (audit_text findings) (run_text steps state) before says.1;
+      pieces = takes_lines_on old.taken now.taken new.taken (audit_pieces findings) (run_pieces steps state) took takes;
       faults = stands ∙ stood;
     })
 
 -- a run of which a part was written
 pub run_cut :
-    (text : List ℕ) (steps : ℕ) (state : State (List ℕ)) (old now new : SinkState)
-    → Grew old.written now.written text → now.faults ≡ old.faults
-    → GrewWithin now.written new.written (run_text steps state) → Rose now.faults new.faults
-    → PutsBy (end_of WriteFault) WriteFault (behind text (run_answer steps state)) old new
+    (findings : List (ℕ × ℕ)) (steps : ℕ) (state : State (List ℕ)) (old now new : SinkState)
+    → Grew old.written now.written (audit_text findings) → now.taken ≡ old.taken ++ audit_pieces findings → now.faults ≡ old.faults
+    → GrewWithin now.written new.written (run_text steps state) → TakesSome now.taken new.taken (run_pieces steps state) → Rose now.faults new.faults
+    → PutsBy (end_of WriteFault) WriteFault (behind findings (run_answer steps state)) old new
 unfolding run_answer
-run_cut text steps state old now new before stood says rose = record {
+run_cut findings steps state old now new before took stood says takes rose = record {
   sets = refl;
-  text = grew_more old.written now.written new.written text (run_text steps state) before says;
+  text = grew_more old.written now.written new.written (audit_text findings) (run_text steps state) before says;
+  pieces = takes_lines_more old.taken now.taken new.taken (audit_pieces findings) (run_pieces steps state) took takes;
   cause = let P : ℕ → Type 0 = λ n. Rose n new.faults in subst P stood rose;
 }
 
 -- the text before the run was cut off
 pub text_cut :
-    (text : List ℕ) (steps : ℕ) (state : State (List ℕ)) (old new : SinkState)
-    → GrewWithin old.written new.written text → Rose old.faults new.faults
-    → PutsBy (end_of WriteFault) WriteFault (behind text (run_answer steps state)) old new
+    (findings : List (ℕ × ℕ)) (steps : ℕ) (state : State (List ℕ)) (old new : SinkState)
+    → GrewWithin old.written new.written (audit_text findings) → TakesSome old.taken new.taken (audit_pieces findings) → Rose old.faults new.faults
+    → PutsBy (end_of WriteFault) WriteFault (behind findings (run_answer steps state)) old new
 unfolding run_answer
-text_cut text steps state old new cut rose = record {
+text_cut findings steps state old new cut takes rose = record {
   sets = refl;
-  text = grew_longer old.written new.written text (run_text steps state) cut;
+  text = grew_longer old.written new.written (audit_text findings) (run_text steps state) cut;
+  pieces = takes_lines_longer old.taken new.taken (audit_pieces findings) (run_pieces steps state) takes;
   cause = rose;
 }
 
 -- an audit alone
 pub audit_cut :
     (findings : List (ℕ × ℕ)) (old new : SinkState)
-    → GrewWithin old.written new.written (audit_text findings) → Rose old.faults new.faults
+    → GrewWithin old.written new.written (audit_text findings) → TakesSome old.taken new.taken (audit_pieces findings) → Rose old.faults new.faults
     → PutsBy (end_of WriteFault) WriteFault (audit_answer findings) old new
 unfolding audit_answer
-audit_cut findings old new cut rose = record { sets = refl; text = cut; cause = rose }
+audit_cut findings old new cut takes rose = record { sets = refl; text = cut; pieces = takes; cause = rose }
 
 pub audit_done :
     (findings : List Finding) (old new : SinkState)
-    → length findings ≡ 0 → Grew old.written new.written (audit_text (pairs findings)) → new.faults ≡ old.faults
+    → length findings ≡ 0 → Grew old.written new.written (audit_text (pairs findings)) → new.taken ≡ old.taken ++ audit_pieces (pairs findings) → new.faults ≡ old.faults
     → PutsBy (end_of Done) Done (audit_answer (pairs findings)) old new
 unfolding audit_answer
-audit_done [] old new none grew stands = record { sets = refl; status = refl; text = grew; faults = stands }
-audit_done (f ∷ findings) old new none grew stands = absurd (omega (arith, none))
+audit_done [] old new none grew took stands = record { sets = refl; status = refl; text = grew; pieces = took; faults = stands }
+audit_done (f ∷ findings) old new none grew took stands = absurd (omega (arith, none))
 
 pub audit_failed :
     (findings : List Finding) (old new : SinkState)
-    → 0 < length findings → Grew old.written new.written (audit_text (pairs findings)) → new.faults ≡ old.faults
+    → 0 < length findings → Grew old.written new.written (audit_text (pairs findings)) → new.taken ≡ old.taken ++ audit_pieces (pairs findings) → new.faults ≡ old.faults
     → PutsBy (end_of AuditNo) AuditNo (audit_answer (pairs findings)) old new
 unfolding audit_answer
-audit_failed [] old new some grew stands = absurd (omega arith)
-audit_failed (f ∷ findings) old new some grew stands = record { sets = refl; status = refl; text = grew; faults = stands }
+audit_failed [] old new some grew took stands = absurd (omega arith)
+audit_failed (f ∷ findings) old new some grew took stands = record { sets = refl; status = refl; text = grew; pieces = took; faults = stands }
 
 pub ruleset answers = (run_whole, run_cut, text_cut, audit_cut, audit_done, audit_failed)
 

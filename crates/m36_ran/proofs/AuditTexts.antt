@@ -3,11 +3,13 @@ use Rattle.std.proofs.Common.{◌≡◌, ℕ, ◌+◌, ◌/◌, ◌%◌, ◌<◌
 use Rattle.std.proofs.lemmas.List.{at_drop_more, at_drop_all}
 use Rattle.m36_text.specs.Digits.{octal_text, digits}
 use Rattle.m36_outside.specs.Written.{Grew, GrewWithin}
+use Rattle.m36_outside.specs.Passing.{TakesSome}
+use Rattle.m36_outside.proofs.LinesTaken.{CompletesLines, completes_lines_all, completes_lines_rest, completes_lines_cut, completes_no_lines}
 use Rattle.m36_outside.proofs.Completes.{Completes, completes_all, completes_rest, completes_cut, completes_none}
 use Rattle.m36_audit.specs.Findings.{pairs}
 use Rattle.m36_audit.specs.declared.verdict.Finding.{Finding}
 use Rattle.m36_ran.specs.Output.{as_line}
-use Rattle.m36_ran.specs.AuditText.{finding_line, finding_lines, yes_line, audit_text}
+use Rattle.m36_ran.specs.AuditText.{finding_line, finding_lines, finding_pieces, yes_line, audit_text, audit_pieces}
 
 -- digits are those of the number without what stands before them
 pub segment_digits : (v : ℕ) → octal_text 5 (v % 32768) ≡ octal_text 5 v
@@ -86,7 +88,57 @@ pub findings_end :
 findings_end findings i now start all past so_far =
     completes_none now start all (subst (λ t. Completes now start t all) (at_drop_all lines_of_findings findings i past ∙ line_none) so_far)
 
-pub ruleset findings_in_turn = (findings_start, finding_put, finding_cut, findings_end)
+-- ---- the same in pieces
+
+abbrev pub pieces_of_findings : List Finding → List (List ℕ)
+pieces_of_findings findings = finding_pieces (pairs findings)
+
+piece_first :
+    (f : Finding) (findings : List Finding)
+    → pieces_of_findings (f ∷ findings) ≡ as_line (finding_line (f.condition, f.place)) ∷ pieces_of_findings findings
+unfolding finding_pieces
+piece_first f findings = refl
+
+piece_none : pieces_of_findings [] ≡ []
+unfolding finding_pieces
+piece_none = refl
+
+piece_at :
+    (findings : List Finding) (i : ℕ) (d : Finding)
+    → i < length findings
+    → pieces_of_findings (drop i findings) ≡ as_line (finding_line ((get_or findings i d).condition, (get_or findings i d).place)) ∷ pieces_of_findings (drop (i + 1) findings)
+piece_at findings i d inside =
+    at_drop_more pieces_of_findings findings i d inside ∙ piece_first (get_or findings i d) (drop (i + 1) findings)
+
+pub pieces_start :
+    (findings : List Finding) (start : List (List ℕ)) → CompletesLines start start (pieces_of_findings findings) (pieces_of_findings findings)
+pieces_start findings start = completes_lines_all start (pieces_of_findings findings)
+
+pub piece_put :
+    (findings : List Finding) (i : ℕ) (d : Finding) (now next start all : List (List ℕ))
+    → i < length findings
+    → CompletesLines now start (pieces_of_findings (drop i findings)) all
+    → next ≡ now ++ as_line (finding_line ((get_or findings i d).condition, (get_or findings i d).place)) ∷ []
+    → CompletesLines next start (pieces_of_findings (drop (i + 1) findings)) all
+piece_put findings i d now next start all inside so_far took =
+    completes_lines_rest now next start (pieces_of_findings (drop i findings)) (as_line (finding_line ((get_or findings i d).condition, (get_or findings i d).place)) ∷ []) (pieces_of_findings (drop (i + 1) findings)) all so_far (piece_at findings i d inside) took
+
+pub piece_cut :
+    (findings : List Finding) (i : ℕ) (d : Finding) (now new start all : List (List ℕ))
+    → i < length findings
+    → CompletesLines now start (pieces_of_findings (drop i findings)) all
+    → TakesSome now new (as_line (finding_line ((get_or findings i d).condition, (get_or findings i d).place)) ∷ [])
+    → TakesSome start new all
+piece_cut findings i d now new start all inside so_far cut =
+    completes_lines_cut now new start (pieces_of_findings (drop i findings)) (as_line (finding_line ((get_or findings i d).condition, (get_or findings i d).place)) ∷ []) (pieces_of_findings (drop (i + 1) findings)) all so_far (piece_at findings i d inside) cut
+
+pub pieces_end :
+    (findings : List Finding) (i : ℕ) (now start all : List (List ℕ))
+    → length findings ≤ i → CompletesLines now start (pieces_of_findings (drop i findings)) all → now ≡ start ++ all
+pieces_end findings i now start all past so_far =
+    completes_no_lines now start all (subst (λ t. CompletesLines now start t all) (at_drop_all pieces_of_findings findings i past ∙ piece_none) so_far)
+
+pub ruleset findings_in_turn = (findings_start, finding_put, finding_cut, findings_end, pieces_start, piece_put, piece_cut, pieces_end)
 
 -- the text by whether there are findings
 pub text_of_none : (findings : List Finding) → length findings ≡ 0 → audit_text (pairs findings) ≡ yes_line
@@ -97,4 +149,12 @@ pub text_of_some : (findings : List Finding) → 0 < length findings → audit_t
 text_of_some [] some = absurd (omega arith)
 text_of_some (f ∷ findings) some = refl
 
-pub ruleset audit_texts = (text_of_none, text_of_some)
+pub pieces_of_none : (findings : List Finding) → length findings ≡ 0 → audit_pieces (pairs findings) ≡ yes_line ∷ []
+pieces_of_none [] none = refl
+pieces_of_none (f ∷ findings) none = absurd (omega (arith, none))
+
+pub pieces_of_some : (findings : List Finding) → 0 < length findings → audit_pieces (pairs findings) ≡ pieces_of_findings findings
+pieces_of_some [] some = absurd (omega arith)
+pieces_of_some (f ∷ findings) some = refl
+
+pub ruleset audit_texts = (text_of_none, text_of_some, pieces_of_none, pieces_of_some)

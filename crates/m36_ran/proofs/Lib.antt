@@ -1,4 +1,6 @@
 pub mod RunLaws
+pub mod RunPieces
+pub mod PiecesJoined
 pub mod AuditTexts
 pub mod AuditAnswers
 pub mod StateLaws

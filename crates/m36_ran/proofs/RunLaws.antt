@@ -30,7 +30,7 @@ unfolding run visits
 run_more left s =
     ap (λ steps. told s ∷ steps) (told_only_if (is_next (told s).outcome) (visits core_store left (after s)))
 
-run_begins :
+pub run_begins :
     (left : ℕ) (s : State (List ℕ))
     → 0 < left → run left s ≡ told s ∷ only_if (is_next (told s).outcome) (run (left - 1) (after s))
 run_begins zero s some = absurd (omega arith)
@@ -38,28 +38,28 @@ run_begins (suc left) s some =
     let rest : left ≡ suc left - 1 = omega arith in
     run_more left s ∙ ap (λ n. told s ∷ only_if (is_next (told s).outcome) (run n (after s))) rest
 
-run_none : (s : State (List ℕ)) → run 0 s ≡ []
+pub run_none : (s : State (List ℕ)) → run 0 s ≡ []
 unfolding run visits
 run_none s = refl
 
 -- after Next the rest of the run follows
-run_next :
+pub run_next :
     (left : ℕ) (s : State (List ℕ))
     → 0 < left → (told s).outcome ≡ Next → run left s ≡ told s ∷ run (left - 1) (after s)
 run_next left s some next =
     run_begins left s some ∙ ap (λ o. told s ∷ only_if (is_next o) (run (left - 1) (after s))) next
 
 -- after any other outcome nothing does
-run_last :
+pub run_last :
     (left : ℕ) (s : State (List ℕ)) → 0 < left → is_next (told s).outcome ≡ false → run left s ≡ told s ∷ []
 run_last left s some last = run_begins left s some ∙ ap (λ b. told s ∷ only_if b (run (left - 1) (after s))) last
 
 -- what the first of some steps puts before the output of the others
-last_after_next : (step : StepRecord) (steps : List StepRecord) → step.outcome ≡ Next → last_outcome (step ∷ steps) ≡ last_outcome steps
+pub last_after_next : (step : StepRecord) (steps : List StepRecord) → step.outcome ≡ Next → last_outcome (step ∷ steps) ≡ last_outcome steps
 last_after_next step [] next = next
 last_after_next step (other ∷ steps) next = refl
 
-counted : (taken n : ℕ) → taken + suc n ≡ taken + 1 + n
+pub counted : (taken n : ℕ) → taken + suc n ≡ taken + 1 + n
 counted taken n = omega arith
 
 output_begins :

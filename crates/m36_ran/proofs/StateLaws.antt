@@ -69,6 +69,7 @@ ends_put command state Answered result f s s' p = record {
     status = p.puts.status;
     files = sym (ap (λ (sets : List Set). with_sets sets f.files) p.puts.sets);
     text = p.puts.text;
+    pieces = p.puts.pieces;
     read_faults = refl;
     write_faults = refl;
     put_faults = p.puts.faults;
@@ -82,6 +83,7 @@ ends_put command state Cut result f s s' p = record {
   cut = inr (record {
     files = sym (ap (λ (sets : List Set). with_sets sets f.files) p.puts.sets);
     text = p.puts.text;
+    pieces = p.puts.pieces;
     cause = p.puts.cause;
     read_faults = refl;
     write_faults = refl;
@@ -90,7 +92,7 @@ ends_put command state Cut result f s s' p = record {
 ends_put command state Starved result f s s' p = inr (record {
   given = state;
   came = refl;
-  wants = record { files = refl; write_faults = refl; written = p.written; put_faults = p.faults };
+  wants = record { files = refl; write_faults = refl; written = p.written; taken = p.taken; put_faults = p.faults };
   read_faults = refl;
 })
 ends_put command state Unread result f s s' p = absurd p

@@ -24,7 +24,7 @@ answer_begins :
     → (more : List ℕ) × ((state_answer command state findings).text ≡ audit_text findings ++ more)
 unfolding audit_answer
 answer_begins (Bare bare) state findings = bare_begins _ bare.steps state findings
-answer_begins (Audit file) state findings = ([], sym (append-nil (audit_text findings)))
+answer_begins Audit state findings = ([], sym (append-nil (audit_text findings)))
 
 -- and that with a finding does not begin with `audit yes`
 found_no :

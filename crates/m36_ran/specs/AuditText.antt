@@ -16,9 +16,18 @@ unfoldable pub finding_lines : List (ℕ × ℕ) → List ℕ
 finding_lines [] = []
 finding_lines (f ∷ findings) = as_line (finding_line f) ++ finding_lines findings
 
+-- the same in pieces, each line one
+unfoldable pub finding_pieces : List (ℕ × ℕ) → List (List ℕ)
+finding_pieces [] = []
+finding_pieces (f ∷ findings) = as_line (finding_line f) ∷ finding_pieces findings
+
 abbrev pub yes_line : List ℕ
 yes_line = as_line (codes "audit yes")
 
 abbrev pub audit_text : List (ℕ × ℕ) → List ℕ
 audit_text [] = yes_line
 audit_text (f ∷ findings) = finding_lines (f ∷ findings)
+
+abbrev pub audit_pieces : List (ℕ × ℕ) → List (List ℕ)
+audit_pieces [] = yes_line ∷ []
+audit_pieces (f ∷ findings) = finding_pieces (f ∷ findings)

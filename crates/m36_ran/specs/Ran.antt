@@ -1,4 +1,5 @@
--- What is due to a command on a bare image: the text of what its audit finds, and, where it is run, the output of the run.
+-- What is due to a command on a bare image: the text of what its audit finds, and, where it is run, the output of the run,
+-- both line by line.
 use Rattle.std.specs.Prelude.{◌≡◌, ℕ, Bool, true, false, ◌||◌, List, [], ◌∷◌, ◌++◌, Result, Ok, Err}
 use Rattle.m36_desc.specs.Fields.{DbrFields}
 use Rattle.m36_model.specs.Store.{State}
@@ -21,14 +22,10 @@ use Rattle.m36_reading.specs.Doing.{Kind}
 use Rattle.m36_ran.specs.declared.command.ImageCommand.{ImageCommand}
 use Rattle.m36_ran.specs.declared.command.ImageCommand.TheVariants.{Bare, Audit}
 use Rattle.m36_ran.specs.Run.{run, last_outcome}
-use Rattle.m36_ran.specs.Output.{run_text, status_after}
-use Rattle.m36_ran.specs.AuditText.{audit_text}
+use Rattle.m36_ran.specs.Output.{run_text, run_pieces, status_after}
+use Rattle.m36_ran.specs.AuditText.{audit_text, audit_pieces}
 
 -- ---- reading
-
-abbrev pub image_file : ImageCommand → List ℕ
-image_file (Bare bare) = bare.file
-image_file (Audit file) = file
 
 -- I1 to I3
 abbrev pub code_of : ImageCode → Code
@@ -48,8 +45,12 @@ state_reads name = then_with (file_bytes name) (λ bytes. decided (state_by name
 
 -- a run of at most so many steps
 unfoldable pub run_answer : ℕ → State (List ℕ) → Answer
-run_answer steps state =
-    record { sets = []; text = run_text steps state; status = status_after (last_outcome (run steps state)) }
+run_answer steps state = record {
+  sets = [];
+  text = run_text steps state;
+  pieces = run_pieces steps state;
+  status = status_after (last_outcome (run steps state));
+}
 
 -- an audit, by what it finds
 abbrev pub passes : List (ℕ × ℕ) → Bool
@@ -61,20 +62,30 @@ audit_status true = Done
 audit_status false = AuditNo
 
 unfoldable pub audit_answer : List (ℕ × ℕ) → Answer
-audit_answer findings = record { sets = []; text = audit_text findings; status = audit_status (passes findings) }
+audit_answer findings = record {
+  sets = [];
+  text = audit_text findings;
+  pieces = audit_pieces findings;
+  status = audit_status (passes findings);
+}
 
 -- The audit text, and the run behind it where it is to be made: where the audit passes, or `--unaudited` is given.
-abbrev pub behind : List ℕ → Answer → Answer
-behind text answer = record { sets = answer.sets; text = text ++ answer.text; status = answer.status }
+abbrev pub behind : List (ℕ × ℕ) → Answer → Answer
+behind findings answer = record {
+  sets = answer.sets;
+  text = audit_text findings ++ answer.text;
+  pieces = audit_pieces findings ++ answer.pieces;
+  status = answer.status;
+}
 
 abbrev pub bare_by : Bool → ℕ → State (List ℕ) → List (ℕ × ℕ) → Answer
-bare_by true steps state findings = behind (audit_text findings) (run_answer steps state)
+bare_by true steps state findings = behind findings (run_answer steps state)
 bare_by false steps state findings = audit_answer findings
 
 -- by what the audit of the state finds
 abbrev pub state_answer : ImageCommand → State (List ℕ) → List (ℕ × ℕ) → Answer
 state_answer (Bare bare) state findings = bare_by (passes findings || bare.unaudited) bare.steps state findings
-state_answer (Audit file) state findings = audit_answer findings
+state_answer Audit state findings = audit_answer findings
 
 -- ---- what is due
 

@@ -7,9 +7,8 @@ ghost use Rattle.m36_reading.specs.Ends.{end_of};
 ghost use Rattle.m36_reading.specs.Outside.{sink_of, outside_of};
 ghost use Rattle.m36_reading.specs.Doing.{Does};
 ghost use Rattle.m36_ran.specs.Output.{status_after};
-ghost use Rattle.m36_ran.specs.AuditText.{audit_text};
 ghost use Rattle.m36_ran.specs.Putting.{PutsBy, PutsSome};
-ghost use Rattle.m36_ran.specs.Ran.{image_file, state_reads, behind, run_answer, passes, audit_answer, bare_by, state_answer, IsIsolated, IsStateDue, state_kind};
+ghost use Rattle.m36_ran.specs.Ran.{state_reads, behind, run_answer, passes, audit_answer, bare_by, state_answer, IsIsolated, IsStateDue, state_kind};
 
 use crate::command::{BareRun, ImageCommand};
 use crate::findings::put_audit;
@@ -61,8 +60,8 @@ pub fn run_audited<S: Sink>(
     out: &mut S,
 ) -> Status
     ensures { PutsBy (end_of result) result
-        (behind (audit_text (pairs findings.now)) (run_answer steps image))
-        (sink_of S.written S.faults out.old) (sink_of S.written S.faults out.new) }
+        (behind (pairs findings.now) (run_answer steps image))
+        (sink_of S.written S.taken S.faults out.old) (sink_of S.written S.taken S.faults out.new) }
 {
     let mut machine = match machine_of(alloc, image) {
         Ok(machine) => machine,
@@ -81,7 +80,7 @@ pub fn run_audited<S: Sink>(
 #[tactic(auto, using(crate::proofs::AuditAnswers::answers))]
 pub fn answer_audit<S: Sink>(findings: &[Finding], out: &mut S) -> Status
     ensures { PutsBy (end_of result) result (audit_answer (pairs findings.now))
-        (sink_of S.written S.faults out.old) (sink_of S.written S.faults out.new) }
+        (sink_of S.written S.taken S.faults out.old) (sink_of S.written S.taken S.faults out.new) }
 {
     match put_audit(findings, out) {
         Put::Failed => Status::WriteFault,
@@ -97,8 +96,8 @@ pub fn answer_audit<S: Sink>(findings: &[Finding], out: &mut S) -> Status
 
 // Whether the machine is run.
 #[tactic(auto, using(crate::proofs::AuditAnswers::passing))]
-fn is_run(findings: &[Finding], bare: &BareRun) -> bool
-    ensures { result ≡ (passes (pairs findings.now) || bare.now.unaudited) }
+fn is_run(findings: &[Finding], bare: BareRun) -> bool
+    ensures { result ≡ (passes (pairs findings.now) || bare.unaudited) }
 {
     findings.is_empty() || bare.unaudited
 }
@@ -106,14 +105,14 @@ fn is_run(findings: &[Finding], bare: &BareRun) -> bool
 // The command `bare FILE` on an image, by what its audit has found.
 fn answer_bare<S: Sink>(
     alloc: Global,
-    bare: &BareRun,
+    bare: BareRun,
     findings: &[Finding],
     image: Image,
     out: &mut S,
 ) -> Status
     ensures { PutsBy (end_of result) result
-        (bare_by (passes (pairs findings.now) || bare.now.unaudited) bare.now.steps image (pairs findings.now))
-        (sink_of S.written S.faults out.old) (sink_of S.written S.faults out.new) }
+        (bare_by (passes (pairs findings.now) || bare.unaudited) bare.steps image (pairs findings.now))
+        (sink_of S.written S.taken S.faults out.old) (sink_of S.written S.taken S.faults out.new) }
 {
     if is_run(findings, bare) {
         run_audited(alloc, findings, image, bare.steps, out)
@@ -125,17 +124,17 @@ fn answer_bare<S: Sink>(
 /// Does what a command says with an image, by what its audit has found.
 pub fn answer_found<S: Sink>(
     alloc: Global,
-    command: &ImageCommand,
+    command: ImageCommand,
     findings: &[Finding],
     image: Image,
     out: &mut S,
 ) -> Status
-    ensures { PutsBy (end_of result) result (state_answer command.now image (pairs findings.now))
-        (sink_of S.written S.faults out.old) (sink_of S.written S.faults out.new) }
+    ensures { PutsBy (end_of result) result (state_answer command image (pairs findings.now))
+        (sink_of S.written S.taken S.faults out.old) (sink_of S.written S.taken S.faults out.new) }
 {
     match command {
         ImageCommand::Bare(bare) => answer_bare(alloc, bare, findings, image, out),
-        ImageCommand::Audit(_) => answer_audit(findings, out),
+        ImageCommand::Audit => answer_audit(findings, out),
     }
 }
 
@@ -161,12 +160,12 @@ fn findings_in(alloc: Global, image: &Image) -> Result<Verdict, NoMemory>
 #[tactic(auto, using(crate::proofs::StateLaws::dues))]
 pub fn with_image<S: Sink>(
     alloc: Global,
-    command: &ImageCommand,
+    command: ImageCommand,
     image: Image,
     out: &mut S,
 ) -> Status
-    ensures { PutsSome (IsStateDue command.now image) (end_of result) result
-        (sink_of S.written S.faults out.old) (sink_of S.written S.faults out.new) }
+    ensures { PutsSome (IsStateDue command image) (end_of result) result
+        (sink_of S.written S.taken S.faults out.old) (sink_of S.written S.taken S.faults out.new) }
 {
     match findings_in(alloc, &image) {
         Ok(verdict) => answer_found(alloc, command, verdict.findings.as_slice(), image, out),
@@ -174,20 +173,21 @@ pub fn with_image<S: Sink>(
     }
 }
 
-/// Does what a command on a bare image says.
+/// Reads a bare image, and does what a command says with it.
 #[tactic(auto, using(m36_reading::proofs::EndLaws::doing, crate::proofs::StateLaws::performs_put))]
 pub fn image_file<F: Folder, S: Sink>(
     alloc: Global,
-    command: &ImageCommand,
+    name: &[u8],
+    command: ImageCommand,
     folder: &mut F,
     out: &mut S,
 ) -> Status
-    ensures { Does (state_kind command.now) (state_reads (image_file command.now)) result
-        (outside_of F.files F.read_faults F.write_faults S.written S.faults folder.old out.old)
-        (outside_of F.files F.read_faults F.write_faults S.written S.faults folder.new out.new)
+    ensures { Does (state_kind command) (state_reads name.now) result
+        (outside_of F.files F.read_faults F.write_faults S.written S.taken S.faults folder.old out.old)
+        (outside_of F.files F.read_faults F.write_faults S.written S.taken S.faults folder.new out.new)
         (F.asked folder.old) (F.asked folder.new) }
 {
-    match read_state(alloc, command.file(), folder) {
+    match read_state(alloc, name, folder) {
         Ok(image) => with_image(alloc, command, image, out),
         Err(refusal) => refusal.status(),
     }

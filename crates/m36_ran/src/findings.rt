@@ -1,11 +1,12 @@
 //! The text of an audit.
 
-ghost use Rattle.std.specs.Prelude.{ℕ, ◌≡◌, ◌≤◌, ◌<◌, ◌||◌, ◌==◌, length, if◌then◌else◌};
+ghost use Rattle.std.specs.Prelude.{ℕ, ◌≡◌, ◌≤◌, ◌<◌, ◌||◌, ◌==◌, [], ◌∷◌, length, if◌then◌else◌};
 ghost use Rattle.m36_text.specs.Digits.{octal_text};
+ghost use Rattle.m36_outside.specs.Passing.{TakesLines};
 ghost use Rattle.m36_outside.specs.Put.{PutSays, PutHasCause};
 ghost use Rattle.m36_audit.specs.Findings.{pairs};
 ghost use Rattle.m36_ran.specs.Output.{as_line};
-ghost use Rattle.m36_ran.specs.AuditText.{place_digits, finding_line, finding_lines, yes_line, audit_text};
+ghost use Rattle.m36_ran.specs.AuditText.{place_digits, finding_line, finding_lines, finding_pieces, yes_line, audit_text, audit_pieces};
 
 use crate::running::put_line;
 use arrayvec::ArrayString;
@@ -50,6 +51,7 @@ fn finding_line(finding: &Finding) -> ArrayString<160>
 // Puts the line of a finding.
 fn put_finding<S: Sink>(finding: &Finding, out: &mut S) -> Put
     ensures says { PutSays result (S.written out.old) (S.written out.new) (as_line (finding_line (finding.now.condition, finding.now.place))) }
+    ensures through { TakesLines result (S.taken out.old) (S.taken out.new) (as_line (finding_line (finding.now.condition, finding.now.place)) ∷ []) }
     ensures cause { PutHasCause result (S.faults out.old) (S.faults out.new) }
 {
     put_line(out, finding_line(finding))
@@ -59,6 +61,7 @@ fn put_finding<S: Sink>(finding: &Finding, out: &mut S) -> Put
 #[tactic(auto, using(crate::proofs::AuditTexts::findings_in_turn))]
 fn put_findings<S: Sink>(findings: &[Finding], out: &mut S) -> Put
     ensures says { PutSays result (S.written out.old) (S.written out.new) (finding_lines (pairs findings.now)) }
+    ensures through { TakesLines result (S.taken out.old) (S.taken out.new) (finding_pieces (pairs findings.now)) }
     ensures cause { PutHasCause result (S.faults out.old) (S.faults out.new) }
 {
     for finding in findings {
@@ -73,6 +76,7 @@ fn put_findings<S: Sink>(findings: &[Finding], out: &mut S) -> Put
 // Puts the line `audit yes`.
 fn put_yes<S: Sink>(out: &mut S) -> Put
     ensures says { PutSays result (S.written out.old) (S.written out.new) yes_line }
+    ensures through { TakesLines result (S.taken out.old) (S.taken out.new) (yes_line ∷ []) }
     ensures cause { PutHasCause result (S.faults out.old) (S.faults out.new) }
 {
     let mut line = ArrayString::new();
@@ -84,6 +88,7 @@ fn put_yes<S: Sink>(out: &mut S) -> Put
 #[tactic(auto, using(crate::proofs::AuditTexts::audit_texts))]
 pub fn put_audit<S: Sink>(findings: &[Finding], out: &mut S) -> Put
     ensures says { PutSays result (S.written out.old) (S.written out.new) (audit_text (pairs findings.now)) }
+    ensures through { TakesLines result (S.taken out.old) (S.taken out.new) (audit_pieces (pairs findings.now)) }
     ensures cause { PutHasCause result (S.faults out.old) (S.faults out.new) }
 {
     if findings.is_empty() {

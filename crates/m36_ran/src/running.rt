@@ -1,10 +1,11 @@
 //! A run of the machine, written line by line.
 
-ghost use Rattle.std.specs.Prelude.{ℕ, ◌≡◌, ◌≤◌, ◌<◌, ◌+◌, ◌^◌, length};
+ghost use Rattle.std.specs.Prelude.{ℕ, ◌≡◌, ◌≤◌, ◌<◌, ◌+◌, ◌^◌, [], ◌∷◌, length};
+ghost use Rattle.m36_outside.specs.Passing.{TakesLines};
 ghost use Rattle.m36_outside.specs.Put.{PutSays, PutHasCause};
 ghost use Rattle.m36_trace.specs.EndLine.{end_line_of};
 ghost use Rattle.m36_ran.specs.Output.{as_line};
-ghost use Rattle.m36_ran.specs.RunSays.{TurnSays, TurnHasCause, EndSays, RunSays, EndedHasCause};
+ghost use Rattle.m36_ran.specs.RunSays.{TurnSays, TurnTakes, TurnHasCause, EndSays, EndTakes, RunSays, RunTakes, EndedHasCause};
 
 use arrayvec::ArrayString;
 use m36_model::{Outcome, StepRecord};
@@ -33,9 +34,11 @@ pub enum Ended {
 }
 
 /// Puts a line with its line feed, in one piece.
+#[tactic(auto, using(crate::proofs::RunPieces::one_line))]
 pub fn put_line<S: Sink>(out: &mut S, mut line: ArrayString<160>) -> Put
     requires { length line.bytes < 160 }
     ensures says { PutSays result (S.written out.old) (S.written out.new) (as_line line.bytes) }
+    ensures through { TakesLines result (S.taken out.old) (S.taken out.new) (as_line line.bytes ∷ []) }
     ensures cause { PutHasCause result (S.faults out.old) (S.faults out.new) }
 {
     line.push_str("\n");
@@ -45,6 +48,7 @@ pub fn put_line<S: Sink>(out: &mut S, mut line: ArrayString<160>) -> Put
 /// Takes step n of a run, and writes its line. The step is told in a record that an earlier one may have filled.
 pub fn take_turn<S: Sink>(machine: &mut Machine, n: u64, told: &mut StepRecord, out: &mut S) -> Turn
     ensures says { TurnSays result n machine.old machine.new (S.written out.old) (S.written out.new) }
+    ensures through { TurnTakes result n machine.old (S.taken out.old) (S.taken out.new) }
     ensures cause { TurnHasCause result (S.faults out.old) (S.faults out.new) }
 {
     machine.step_into(told);
@@ -61,6 +65,7 @@ pub fn take_turn<S: Sink>(machine: &mut Machine, n: u64, told: &mut StepRecord, 
 /// Writes the end line of a run of so many steps.
 pub fn put_end<S: Sink>(out: &mut S, outcome: &Outcome, steps: u64) -> Ended
     ensures says { EndSays result outcome.now (as_line (end_line_of outcome.now steps)) (S.written out.old) (S.written out.new) }
+    ensures through { EndTakes result (as_line (end_line_of outcome.now steps)) (S.taken out.old) (S.taken out.new) }
     ensures cause { EndedHasCause result (S.faults out.old) (S.faults out.new) }
 {
     match put_line(out, end_line(*outcome, steps)) {
@@ -70,9 +75,10 @@ pub fn put_end<S: Sink>(out: &mut S, outcome: &Outcome, steps: u64) -> Ended
 }
 
 /// Runs a machine for at most so many steps, and writes a trace line for each and the end line.
-#[tactic(auto, using(crate::proofs::RunLaws::running))]
+#[tactic(auto, using(crate::proofs::RunLaws::running, crate::proofs::RunPieces::running))]
 pub fn run<S: Sink>(machine: &mut Machine, steps: u32, out: &mut S) -> Ended
     ensures says { RunSays result steps machine.old (S.written out.old) (S.written out.new) }
+    ensures through { RunTakes result steps machine.old (S.taken out.old) (S.taken out.new) }
     ensures cause { EndedHasCause result (S.faults out.old) (S.faults out.new) }
 {
     let mut told = machine.untold();

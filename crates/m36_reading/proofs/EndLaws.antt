@@ -1,5 +1,6 @@
 -- Ends of a command: from its reading, and by more that is known of it.
 use Rattle.std.proofs.Common.{◌≡◌, ℕ, ◌⊎◌, List, [], ◌∷◌, ◌++◌, Option, Some, None, Result, Ok, Err, refl, sym, ap, subst, ◌∙◌, inl, inr}
+use Rattle.std.proofs.lemmas.List.{append-nil}
 use Rattle.m36_outside.specs.Counts.{Rose}
 use Rattle.m36_outside.specs.Files.{Files}
 use Rattle.m36_outside.specs.declared.folder.ReadAnswer.{ReadAnswer}
@@ -60,7 +61,7 @@ does_told kind p d result old now sink new before after last reads performs same
 
 -- the reading has ended early
 idle_after : {D : Type 0} (p : Reading (Early D)) (r : Refusal) (old now : FolderState) (sink : SinkState) (before after : List Asked) → Reads p (Err r) old now before after → IsIdle (record { folder = old; sink = sink }) (record { folder = now; sink = sink })
-idle_after p r old now sink before after reads = record { files = reads.files; write_faults = reads.write_faults; written = refl; put_faults = refl }
+idle_after p r old now sink before after reads = record { files = reads.files; write_faults = reads.write_faults; written = refl; taken = refl; put_faults = refl }
 
 pub does_stop :
     {D : Type 0} (kind : Kind D) (p : Reading (Early D)) (r : Refusal) (old now : FolderState) (sink : SinkState) (before after : List Asked)
@@ -79,6 +80,7 @@ does_stop kind p (BadFile bad) old now sink before after reads = record {
       status = refl;
       files = reads.files;
       text = grew_by_nothing sink.written;
+      pieces = sym (append-nil sink.taken);
       read_faults = reads.cause;
       write_faults = reads.write_faults;
       put_faults = refl;

@@ -1,4 +1,4 @@
--- What is due to a command: the files that it writes, the text that it puts, and its status.
+-- What is due to a command: the files that it writes, the text that it puts, in which pieces, and its status.
 use Rattle.std.specs.Prelude.{ℕ, ◌≡◌, List, [], ◌∷◌, Option, Some, Result, Ok, Err}
 use Rattle.m36_outside.specs.Files.{Files, with_told_file}
 use Rattle.m36_reading.specs.declared.status.Status.{Status}
@@ -8,15 +8,16 @@ use Rattle.m36_reading.specs.declared.refusal.Refusal.TheVariants.{BadFile, Read
 use Rattle.m36_reading.specs.declared.setting.Set.{Set}
 use Rattle.m36_reading.specs.Reading.{Early}
 
--- the files that are written, in order, all that is put then, and the status
+-- the files that are written, in order, all that is put then, the pieces in which it is put, and the status
 pub record Answer : Type 0 where
   pub sets : List Set
   pub text : List ℕ
+  pub pieces : List (List ℕ)
   pub status : Status
 
 -- a status with which nothing is written
 abbrev pub unwritten : Status → Answer
-unwritten status = record { sets = []; text = []; status = status }
+unwritten status = record { sets = []; text = []; pieces = []; status = status }
 
 abbrev pub status_of : Refusal → Status
 status_of (BadFile bad) = status.BadFile bad

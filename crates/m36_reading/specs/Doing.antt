@@ -1,6 +1,7 @@
 -- What a command does, by its reading and by the kind of what is due to it.
 use Rattle.std.specs.Prelude.{ℕ, ◌≡◌, ◌⊎◌, List, ◌∷◌, ◌++◌, Result, Ok, Err}
 use Rattle.m36_outside.specs.Counts.{Rose}
+use Rattle.m36_outside.specs.Passing.{TakesSome}
 use Rattle.m36_outside.specs.Written.{Grew, GrewWithin}
 use Rattle.m36_outside.specs.WriteAnswer.{DiffersAtMost}
 use Rattle.m36_reading.specs.declared.status.Status.{Status}
@@ -42,11 +43,12 @@ pub record Reads
 
 -- ---- writing
 
--- The status is the one that is due, its files are written, and its text is put whole.
+-- The status is the one that is due, its files are written, and its text is put whole, in its pieces.
 pub record IsMade (due : Answer) (result : Status) (old new : Outside) : Type 0 where
   pub status : due.status ≡ result
   pub files : new.folder.files ≡ with_sets due.sets old.folder.files
   pub text : Grew old.sink.written new.sink.written due.text
+  pub pieces : new.sink.taken ≡ old.sink.taken ++ due.pieces
   pub read_faults : NoneUnread old new
   pub write_faults : new.folder.write_faults ≡ old.folder.write_faults
   pub put_faults : new.sink.faults ≡ old.sink.faults
@@ -59,14 +61,16 @@ pub record IsUnset (due : Answer) (old new : Outside) : Type 0 where
   pub sets : due.sets ≡ before ++ (failed ∷ others)
   pub files : DiffersAtMost (with_sets before old.folder.files) new.folder.files failed.name
   pub written : new.sink.written ≡ old.sink.written
+  pub taken : new.sink.taken ≡ old.sink.taken
   pub cause : Rose old.folder.write_faults new.folder.write_faults
   pub read_faults : NoneUnread old new
   pub put_faults : new.sink.faults ≡ old.sink.faults
 
--- All files are written, and a first part of the text is put.
+-- All files are written, and a first part of the text is put: pieces of it, and then a first part of the next.
 pub record IsUnput (due : Answer) (old new : Outside) : Type 0 where
   pub files : new.folder.files ≡ with_sets due.sets old.folder.files
   pub text : GrewWithin old.sink.written new.sink.written due.text
+  pub pieces : TakesSome old.sink.taken new.sink.taken due.pieces
   pub cause : Rose old.sink.faults new.sink.faults
   pub read_faults : NoneUnread old new
   pub write_faults : new.folder.write_faults ≡ old.folder.write_faults

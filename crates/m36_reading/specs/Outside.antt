@@ -9,6 +9,7 @@ pub record FolderState : Type 0 where
 
 pub record SinkState : Type 0 where
   pub written : Option (List ℕ)
+  pub taken : List (List ℕ)
   pub faults : ℕ
 
 pub record Outside : Type 0 where
@@ -20,14 +21,17 @@ abbrev pub folder_of : {F : Type 0} → (F → Option Files) → (F → ℕ) →
 folder_of files read_faults write_faults folder =
     record { files = files folder; read_faults = read_faults folder; write_faults = write_faults folder }
 
-abbrev pub sink_of : {S : Type 0} → (S → Option (List ℕ)) → (S → ℕ) → S → SinkState
-sink_of written faults sink = record { written = written sink; faults = faults sink }
+abbrev pub sink_of :
+    {S : Type 0} → (S → Option (List ℕ)) → (S → List (List ℕ)) → (S → ℕ) → S → SinkState
+sink_of written taken faults sink =
+    record { written = written sink; taken = taken sink; faults = faults sink }
 
 -- nothing but the count of reads that failed may differ
 pub record IsIdle (old new : Outside) : Type 0 where
   pub files : new.folder.files ≡ old.folder.files
   pub write_faults : new.folder.write_faults ≡ old.folder.write_faults
   pub written : new.sink.written ≡ old.sink.written
+  pub taken : new.sink.taken ≡ old.sink.taken
   pub put_faults : new.sink.faults ≡ old.sink.faults
 
 -- no read failed
@@ -35,7 +39,9 @@ abbrev pub NoneUnread : Outside → Outside → Type 0
 NoneUnread old new = new.folder.read_faults ≡ old.folder.read_faults
 
 abbrev pub outside_of :
-    {F S : Type 0} → (F → Option Files) → (F → ℕ) → (F → ℕ) → (S → Option (List ℕ)) → (S → ℕ)
-    → F → S → Outside
-outside_of files read_faults write_faults written put_faults folder sink =
-    record { folder = folder_of files read_faults write_faults folder; sink = sink_of written put_faults sink }
+    {F S : Type 0} → (F → Option Files) → (F → ℕ) → (F → ℕ)
+    → (S → Option (List ℕ)) → (S → List (List ℕ)) → (S → ℕ) → F → S → Outside
+outside_of files read_faults write_faults written taken put_faults folder sink = record {
+  folder = folder_of files read_faults write_faults folder;
+  sink = sink_of written taken put_faults sink;
+}

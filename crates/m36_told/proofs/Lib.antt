@@ -1,4 +1,5 @@
 pub mod TextLines
+pub mod LineLaws
 pub mod SetLaws
 pub mod ToldLaws
 pub mod AlmLaws

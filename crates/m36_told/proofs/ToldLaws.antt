@@ -1,18 +1,21 @@
 -- What is told is written and put.
-use Rattle.std.proofs.Common.{◌≡◌, ℕ, List, Option, Some, Ok, refl, inl, inr}
+use Rattle.std.proofs.Common.{◌≡◌, ℕ, List, ◌++◌, Option, Some, Ok, refl, inl, inr}
 use Rattle.m36_outside.specs.Counts.{Rose}
+use Rattle.m36_outside.specs.Passing.{TakesSome}
 use Rattle.m36_outside.specs.Written.{Grew, GrewWithin}
 use Rattle.m36_reading.specs.declared.status.Status.TheVariants.{Done, WriteFault, NoMemory}
 use Rattle.m36_reading.specs.Outside.{FolderState, SinkState}
 use Rattle.m36_reading.specs.Doing.{Performs}
+use Rattle.m36_told.specs.LinesIn.{lines_in}
 use Rattle.m36_told.specs.Told.{ToldFields, told_answer, told_kind}
 use Rattle.m36_told.specs.Setting.{AllSet, SetFailed, SetWanting}
 
 pub told_done :
     (told : ToldFields) (f f' : FolderState) (s s' : SinkState)
-    → AllSet told.sets f f' → f'.read_faults ≡ f.read_faults → Grew s.written s'.written told.text → s'.faults ≡ s.faults
+    → AllSet told.sets f f' → f'.read_faults ≡ f.read_faults → Grew s.written s'.written told.text
+    → s'.taken ≡ s.taken ++ lines_in told.text → s'.faults ≡ s.faults
     → Performs told_kind (Ok told) Done (record { folder = f; sink = s }) (record { folder = f'; sink = s' })
-told_done told f f' s s' set unread grew stands = record {
+told_done told f f' s s' set unread grew took stands = record {
   given = Ok told;
   came = refl;
   due = told_answer told;
@@ -21,6 +24,7 @@ told_done told f f' s s' set unread grew stands = record {
     status = refl;
     files = set.files;
     text = grew;
+    pieces = took;
     read_faults = unread;
     write_faults = set.write_faults;
     put_faults = stands;
@@ -29,9 +33,10 @@ told_done told f f' s s' set unread grew stands = record {
 
 pub told_cut :
     (told : ToldFields) (f f' : FolderState) (s s' : SinkState)
-    → AllSet told.sets f f' → f'.read_faults ≡ f.read_faults → GrewWithin s.written s'.written told.text → Rose s.faults s'.faults
+    → AllSet told.sets f f' → f'.read_faults ≡ f.read_faults → GrewWithin s.written s'.written told.text
+    → TakesSome s.taken s'.taken (lines_in told.text) → Rose s.faults s'.faults
     → Performs told_kind (Ok told) WriteFault (record { folder = f; sink = s }) (record { folder = f'; sink = s' })
-told_cut told f f' s s' set unread grew rose = record {
+told_cut told f f' s s' set unread grew took rose = record {
   given = told;
   came = refl;
   due = told_answer told;
@@ -39,6 +44,7 @@ told_cut told f f' s s' set unread grew rose = record {
   cut = inr (record {
     files = set.files;
     text = grew;
+    pieces = took;
     cause = rose;
     read_faults = unread;
     write_faults = set.write_faults;
@@ -61,6 +67,7 @@ told_unset told f f' s failed unread = record {
     sets = failed.are;
     files = failed.files;
     written = refl;
+    taken = refl;
     cause = failed.cause;
     read_faults = unread;
     put_faults = refl;
@@ -81,6 +88,7 @@ told_starved told f f' s wanting unread = inr (record {
     sets = wanting.are;
     files = wanting.files;
     written = refl;
+    taken = refl;
     write_faults = wanting.write_faults;
     put_faults = refl;
   };

@@ -1,4 +1,5 @@
 pub mod Assemblies
+pub mod LinesIn
 pub mod Told
 pub mod Telling
 pub mod Setting

@@ -2,8 +2,8 @@
 //!
 //! `print NAME` puts the print of an object. `alm NAME` assembles a source, writes the object and puts the listing. Each is
 //! a reading (`specs/Telling.antt`) that comes to files and a text, and [`tell`] does what it comes to: the files are
-//! written first, in order, and then the text is put line by line. Behind a file that could not be written nothing is
-//! written or put.
+//! written first, in order, and then the text is put line by line, each line with its line feed in one piece. Behind a file
+//! that could not be written nothing is written or put.
 //!
 //! Formats are those of `m36_list` and `obj36`; the machine's words are those of the Multics Processor Manual AL39.
 #![tactic(auto)]

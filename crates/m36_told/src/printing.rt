@@ -43,8 +43,8 @@ pub fn print_file<F: Folder, S: Sink>(
     out: &mut S,
 ) -> Status
     ensures { Does told_kind (print_reads name.now) result
-        (outside_of F.files F.read_faults F.write_faults S.written S.faults folder.old out.old)
-        (outside_of F.files F.read_faults F.write_faults S.written S.faults folder.new out.new)
+        (outside_of F.files F.read_faults F.write_faults S.written S.taken S.faults folder.old out.old)
+        (outside_of F.files F.read_faults F.write_faults S.written S.taken S.faults folder.new out.new)
         (F.asked folder.old) (F.asked folder.new) }
 {
     match read_print(alloc, name, folder) {

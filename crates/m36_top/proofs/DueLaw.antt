@@ -1,11 +1,14 @@
 -- One answer is due.
-use Rattle.std.proofs.Common.{◌≡◌, ℕ, List, Option, Some, None, Result, Ok, Err, refl, sym, ◌∙◌}
+use Rattle.std.proofs.Common.{◌≡◌, ℕ, List, Option, Some, None, Result, Ok, Err, refl, sym, subst, ◌∙◌}
 use Rattle.m36_outside.specs.Files.{Files}
+use Rattle.m36_outside.specs.Passing.{joined}
 use Rattle.m36_reading.specs.declared.status.Status.TheVariants.{Usage}
 use Rattle.m36_reading.specs.Reading.{Early, outcome_in}
 use Rattle.m36_reading.specs.Answers.{Answer, unwritten, status_of, IsDueBy}
 use Rattle.m36_told.specs.Told.{told_answer}
+use Rattle.m36_told.proofs.LineLaws.{lines_joined}
 use Rattle.m36_ran.proofs.DueLaws.{state_due_law}
+use Rattle.m36_ran.proofs.PiecesJoined.{state_joined}
 use Rattle.m36_top.specs.declared.command.Command.{Command}
 use Rattle.m36_top.specs.Words.{command_of}
 use Rattle.m36_top.specs.Dues.{Due, Told, Image, IsDueOf}
@@ -30,9 +33,25 @@ command_some : (command : Option Command) (files : Files) → ¬ ((due : Answer)
 command_some None files none = none (unwritten Usage) refl
 command_some (Some command) files none = by_some (outcome_in files (reads command)) none
 
+-- ---- pieces
+
+abbrev AreJoined : Answer → Type 0
+AreJoined due = joined due.pieces ≡ due.text
+
+by_joined : (given : Early Due) (due : Answer) → IsDueBy IsDueOf given due → AreJoined due
+by_joined (Ok (Told told)) due is = subst AreJoined (sym is) (lines_joined told.text)
+by_joined (Ok (Image image)) due is =
+    subst AreJoined (sym is.answer) (state_joined image.command image.state is.findings)
+by_joined (Err r) due is = subst AreJoined (sym is) refl
+
+command_joined : (command : Option Command) (files : Files) (due : Answer) → IsCommandDue command files due → AreJoined due
+command_joined None files due is = subst AreJoined (sym is) refl
+command_joined (Some command) files due is = by_joined (outcome_in files (reads command)) due is
+
 pub due_law : DueLaw
 due_law = record {
   one = λ words files. command_one (command_of words) files;
   some = λ words files. command_some (command_of words) files;
+  pieces = λ words files. command_joined (command_of words) files;
   on_images = state_due_law;
 }

@@ -16,12 +16,13 @@ use Rattle.m36_reading.specs.Ends.{End, Answered, Cut, Unread, Starved, Unasked,
 use Rattle.m36_reading.specs.Doing.{IsMade, IsUnset, IsUnput, EndsBy, Does}
 use Rattle.m36_told.specs.Told.{ToldFields, told_answer}
 use Rattle.m36_told.specs.Telling.{printed, print_reads}
+use Rattle.m36_ran.specs.declared.command.BareRun.{BareRun}
 use Rattle.m36_ran.specs.declared.command.ImageCommand.{ImageCommand}
-use Rattle.m36_ran.specs.declared.command.ImageCommand.TheVariants.{Bare, Audit}
-use Rattle.m36_ran.specs.Ran.{image_file, state_reads, run_answer, audit_answer, bare_by, state_answer}
+use Rattle.m36_ran.specs.declared.command.ImageCommand.TheVariants as image
+use Rattle.m36_ran.specs.Ran.{state_reads, run_answer, audit_answer, bare_by, state_answer}
 use Rattle.m36_top.specs.declared.command.Command.{Command}
-use Rattle.m36_top.specs.declared.command.Command.TheVariants.{OfImage, Print, Alm}
-use Rattle.m36_top.specs.Dues.{Due, Told, Image, IsDueOf, WantsOf, due_kind}
+use Rattle.m36_top.specs.declared.command.Command.TheVariants.{Bare, Audit, Print, Alm}
+use Rattle.m36_top.specs.Dues.{Due, Told, Image, on_image, IsDueOf, WantsOf, due_kind}
 use Rattle.m36_top.specs.Commands.{reads, writes_files}
 use Rattle.m36_top.specs.TopCall.{WriteRose, WritesStand, WriteCauseBy, KeepsBy}
 
@@ -80,14 +81,22 @@ bare_sets false steps state findings = refl
 
 state_sets : (command : ImageCommand) (state : State (List ℕ)) (findings : List (ℕ × ℕ)) → (state_answer command state findings).sets ≡ []
 unfolding audit_answer
-state_sets (Bare bare) state findings = bare_sets _ bare.steps state findings
-state_sets (Audit file) state findings = refl
+state_sets (image.Bare bare) state findings = bare_sets _ bare.steps state findings
+state_sets image.Audit state findings = refl
 
-image_none : (command : ImageCommand) → Always NoSets (reads (OfImage command))
-unfolding reads mapped
-image_none command =
-    always_then NoSets (state_reads (image_file command)) (λ state. decided (Ok (Image (record { command = command; state = state }))))
+image_none : (command : ImageCommand) (file : List ℕ) → Always NoSets (mapped (on_image command) (state_reads file))
+unfolding mapped
+image_none command file =
+    always_then NoSets (state_reads file) (λ state. decided (Ok (on_image command state)))
     (λ state due is. ap (λ (d : Answer). d.sets) is.answer ∙ state_sets command state is.findings) (λ r. tt)
+
+bare_none : (file : List ℕ) (run : BareRun) → Always NoSets (reads (Bare file run))
+unfolding reads
+bare_none file run = image_none (image.Bare run) file
+
+audit_none : (file : List ℕ) → Always NoSets (reads (Audit file))
+unfolding reads
+audit_none file = image_none image.Audit file
 
 print_none : (name : List ℕ) → Always NoSets (reads (Print name))
 unfolding reads print_reads
@@ -97,7 +106,8 @@ print_none name =
     (always_then TellsNone (file_object name) (λ parts. decided (Ok (printed name parts))) (λ parts. refl) (λ r. tt))
 
 reads_none : (command : Command) → writes_files command ≡ false → Always NoSets (reads command)
-reads_none (OfImage command) none = image_none command
+reads_none (Bare file run) none = bare_none file run
+reads_none (Audit file) none = audit_none file
 reads_none (Print name) none = print_none name
 reads_none (Alm files) none = absurd (cc)
 

@@ -4,7 +4,7 @@ use Rattle.std.specs.Prelude.{◌↔◌}
 use Rattle.m36_model.specs.Store.{State}
 use Rattle.m36_reading.specs.declared.status.Status.{Status}
 use Rattle.m36_reading.specs.declared.status.Status.TheVariants.{Usage}
-use Rattle.m36_reading.specs.Reading.{Reading, Early}
+use Rattle.m36_reading.specs.Reading.{Reading, Early, mapped}
 use Rattle.m36_reading.specs.Asking.{Asked, Comes}
 use Rattle.m36_reading.specs.Outside.{Outside}
 use Rattle.m36_reading.specs.Ends.{end_of}
@@ -13,29 +13,47 @@ use Rattle.m36_reading.proofs.EndLaws.{IsKindOf, does_mapped}
 use Rattle.m36_told.specs.declared.assembling.AlmFiles.{AlmFiles}
 use Rattle.m36_told.specs.Told.{ToldFields, told_kind}
 use Rattle.m36_told.specs.Telling.{print_reads, alm_reads}
+use Rattle.m36_ran.specs.declared.command.BareRun.{BareRun}
 use Rattle.m36_ran.specs.declared.command.ImageCommand.{ImageCommand}
-use Rattle.m36_ran.specs.Ran.{image_file, state_reads, state_kind}
+use Rattle.m36_ran.specs.declared.command.ImageCommand.TheVariants as image
+use Rattle.m36_ran.specs.Ran.{state_reads, state_kind}
 use Rattle.m36_top.specs.declared.command.Command.{Command}
-use Rattle.m36_top.specs.declared.command.Command.TheVariants.{OfImage, Print, Alm}
-use Rattle.m36_top.specs.Dues.{Due, Told, Image, due_kind}
+use Rattle.m36_top.specs.declared.command.Command.TheVariants.{Bare, Audit, Print, Alm}
+use Rattle.m36_top.specs.Dues.{Due, Told, on_image, due_kind}
 use Rattle.m36_top.specs.Commands.{reads}
-use Rattle.m36_top.specs.TopCall.{TopSays, IsUnasked}
+use Rattle.m36_top.specs.TopCall.{Through, IsUnasked}
 
 -- ---- the kinds
 
 told_is : IsKindOf told_kind due_kind Told
 told_is = record { due = λ told due is. is; wants = λ told old new wants. wants }
 
-image_is : (command : ImageCommand) → IsKindOf (state_kind command) due_kind (λ state. Image (record { command = command; state = state }))
+image_is : (command : ImageCommand) → IsKindOf (state_kind command) due_kind (on_image command)
 image_is command = record { due = λ state due is. is; wants = λ state old new wants. wants }
 
-pub performs_image :
-    (command : ImageCommand) (result : Status) (old new : Outside) (before after : List Asked)
-    → Does (state_kind command) (state_reads (image_file command)) result old new before after
-    → Does due_kind (reads (OfImage command)) result old new before after
+on_file :
+    (command : ImageCommand) (name lent : List ℕ) (result : Status) (old new : Outside) (before after : List Asked)
+    → lent ≡ name → Does (state_kind command) (state_reads lent) result old new before after
+    → Does due_kind (mapped (on_image command) (state_reads name)) result old new before after
+on_file command name lent result old new before after is does =
+    does_mapped (state_kind command) due_kind (on_image command) (state_reads name) result old new before after (image_is command)
+    (subst (λ n. Does (state_kind command) (state_reads n) result old new before after) is does)
+
+pub performs_bare :
+    (name lent : List ℕ) (run : BareRun) (result : Status) (old new : Outside) (before after : List Asked)
+    → lent ≡ name → Does (state_kind (image.Bare run)) (state_reads lent) result old new before after
+    → Does due_kind (reads (Bare name run)) result old new before after
 unfolding reads
-performs_image command result old new before after does =
-    does_mapped (state_kind command) due_kind (λ state. Image (record { command = command; state = state })) (state_reads (image_file command)) result old new before after (image_is command) does
+performs_bare name lent run result old new before after is does =
+    on_file (image.Bare run) name lent result old new before after is does
+
+pub performs_audit :
+    (name lent : List ℕ) (result : Status) (old new : Outside) (before after : List Asked)
+    → lent ≡ name → Does (state_kind image.Audit) (state_reads lent) result old new before after
+    → Does due_kind (reads (Audit name)) result old new before after
+unfolding reads
+performs_audit name lent result old new before after is does =
+    on_file image.Audit name lent result old new before after is does
 
 pub performs_print :
     (name lent : List ℕ) (result : Status) (old new : Outside) (before after : List Asked)
@@ -53,7 +71,7 @@ unfolding reads
 performs_alm files result old new before after does =
     does_mapped told_kind due_kind Told (alm_reads files) result old new before after told_is does
 
-pub ruleset performing = (performs_image, performs_print, performs_alm)
+pub ruleset performing = (performs_bare, performs_audit, performs_print, performs_alm)
 
 -- ---- whether the words are a command
 
@@ -68,22 +86,22 @@ pub some_usage :
 some_usage asked command result old new before after is does =
     (λ e. absurd (never_usage (reads command) result old new before after does e), λ none. let e : Some command ≡ None = is ∙ none in absurd (cc))
 
-pub some_says :
+pub some_through :
     (asked : Option Command) (command : Command) (result : Status) (old new : Outside) (before after : List Asked)
     → Some command ≡ asked → Does due_kind (reads command) result old new before after
-    → TopSays asked result old new before after
-some_says asked command result old new before after is does =
-    subst (λ a. TopSays a result old new before after) is does
+    → Through asked result old new before after
+some_through asked command result old new before after is does =
+    subst (λ a. Through a result old new before after) is does
 
-pub none_says :
+pub none_through :
     (asked : Option Command) (old : Outside) (before : List Asked)
-    → None ≡ asked → TopSays asked Usage old old before before
-none_says asked old before is =
+    → None ≡ asked → Through asked Usage old old before before
+none_through asked old before is =
     let idle : IsUnasked Usage old old = record {
       usage = refl;
-      idle = record { files = refl; write_faults = refl; written = refl; put_faults = refl };
+      idle = record { files = refl; write_faults = refl; written = refl; taken = refl; put_faults = refl };
       read_faults = refl;
     } in
-    subst (λ a. TopSays a Usage old old before before) is (idle, refl)
+    subst (λ a. Through a Usage old old before before) is (idle, refl)
 
-pub ruleset asking = (some_usage, some_says, none_says)
+pub ruleset asking = (some_usage, some_through, none_through)

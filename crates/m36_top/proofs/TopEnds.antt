@@ -14,7 +14,7 @@ use Rattle.m36_reading.proofs.EndLaws.{ends_in}
 use Rattle.m36_top.specs.declared.command.Command.{Command}
 use Rattle.m36_top.specs.Dues.{Due, due_kind}
 use Rattle.m36_top.specs.Commands.{reads, writes_files}
-use Rattle.m36_top.specs.TopCall.{IsUnasked, TopSays, TopOutput, ReadCause, WriteRose, WriteCauseBy, WriteCause, may_write, Completes, KeepsFiles, TopPasses, TopAnswersPass}
+use Rattle.m36_top.specs.TopCall.{IsUnasked, Through, TopOutput, ReadCause, WriteRose, WriteCauseBy, WriteCause, may_write, Completes, KeepsFiles, TopPasses, TopAnswersPass}
 use Rattle.m36_top.proofs.NoSets.{does_cause, does_keep}
 use Rattle.m36_top.proofs.YesPasses.{yes_nothing, ends_pass, does_pass}
 
@@ -22,14 +22,14 @@ use Rattle.m36_top.proofs.YesPasses.{yes_nothing, ends_pass, does_pass}
 
 output_by :
     (command : Option Command) (files : Option Files) (result : Status) (old new : Outside) (before after : List Asked)
-    → old.folder.files ≡ files → TopSays command result old new before after → IfSome files (λ f. TopOutput command f result old new)
+    → old.folder.files ≡ files → Through command result old new before after → IfSome files (λ f. TopOutput command f result old new)
 output_by command None result old new before after is says = tt
 output_by None (Some files) result old new before after is says = says.0
 output_by (Some command) (Some files) result old new before after is says = ends_in due_kind files (reads command) result old new before after is says
 
 pub top_output :
     (command : Option Command) (result : Status) (old new : Outside) (before after : List Asked)
-    → TopSays command result old new before after → IfSome old.folder.files (λ f. TopOutput command f result old new)
+    → Through command result old new before after → IfSome old.folder.files (λ f. TopOutput command f result old new)
 top_output command result old new before after says = output_by command old.folder.files result old new before after refl says
 
 -- ---- causes
@@ -45,17 +45,17 @@ read_by Is Starved result old new (inr e) = e.read_faults
 read_by Is Unasked result old new e = absurd e
 
 pub top_read :
-    (command : Option Command) (result : Status) (old new : Outside) (before after : List Asked) → TopSays command result old new before after → ReadCause (end_of result) old new
+    (command : Option Command) (result : Status) (old new : Outside) (before after : List Asked) → Through command result old new before after → ReadCause (end_of result) old new
 top_read None result old new before after says = subst (λ r. ReadCause (end_of r) old new) (sym says.0.usage) says.0.read_faults
 top_read (Some command) result old new before after says = read_by (Comes (reads command) says.asked) (end_of result) result old new says.ends
 
 pub top_write :
-    (command : Option Command) (result : Status) (old new : Outside) (before after : List Asked) → TopSays command result old new before after → WriteCause command result old new
+    (command : Option Command) (result : Status) (old new : Outside) (before after : List Asked) → Through command result old new before after → WriteCause command result old new
 top_write None result old new before after says = subst (λ r. WriteCause None r old new) (sym says.0.usage) (says.0.idle.put_faults, says.0.idle.write_faults)
 top_write (Some command) result old new before after says = does_cause command result old new before after says
 
 pub top_keeps :
-    (command : Option Command) (result : Status) (old new : Outside) (before after : List Asked) → TopSays command result old new before after → KeepsFiles command old new
+    (command : Option Command) (result : Status) (old new : Outside) (before after : List Asked) → Through command result old new before after → KeepsFiles command old new
 top_keeps None result old new before after says = says.0.idle.files
 top_keeps (Some command) result old new before after says = does_keep command result old new before after says
 
@@ -85,7 +85,7 @@ met writes Is Unasked result old new is e read write no_read no_write = absurd e
 
 completes_by :
     (command : Option Command) (files : Option Files) (result : Status) (old new : Outside) (before after : List Asked)
-    → old.folder.files ≡ files → TopSays command result old new before after → IfSome files (λ f. Completes command f result old new)
+    → old.folder.files ≡ files → Through command result old new before after → IfSome files (λ f. Completes command f result old new)
 completes_by command None result old new before after is says = tt
 completes_by None (Some files) result old new before after is says = says.0.usage
 completes_by (Some command) (Some files) result old new before after is says =
@@ -93,14 +93,14 @@ completes_by (Some command) (Some files) result old new before after is says =
 
 pub top_complete :
     (command : Option Command) (result : Status) (old new : Outside) (before after : List Asked)
-    → TopSays command result old new before after → IfSome old.folder.files (λ f. Completes command f result old new)
+    → Through command result old new before after → IfSome old.folder.files (λ f. Completes command f result old new)
 top_complete command result old new before after says = completes_by command old.folder.files result old new before after refl says
 
 -- ---- what `audit yes` promises
 
 passes_by :
     (command : Option Command) (files : Option Files) (result : Status) (old new : Outside) (before after : List Asked)
-    → old.folder.files ≡ files → TopSays command result old new before after → IfSome files (λ f. TopPasses command f old new)
+    → old.folder.files ≡ files → Through command result old new before after → IfSome files (λ f. TopPasses command f old new)
 passes_by command None result old new before after is says = tt
 passes_by None (Some files) result old new before after is says = yes_nothing old.sink.written new.sink.written says.0.idle.written
 passes_by (Some command) (Some files) result old new before after is says =
@@ -108,12 +108,12 @@ passes_by (Some command) (Some files) result old new before after is says =
 
 pub top_passes :
     (command : Option Command) (result : Status) (old new : Outside) (before after : List Asked)
-    → TopSays command result old new before after → IfSome old.folder.files (λ f. TopPasses command f old new)
+    → Through command result old new before after → IfSome old.folder.files (λ f. TopPasses command f old new)
 top_passes command result old new before after says = passes_by command old.folder.files result old new before after refl says
 
 pub top_answers_pass :
     (command : Option Command) (result : Status) (old new : Outside) (before after : List Asked)
-    → TopSays command result old new before after → TopAnswersPass command old new before after
+    → Through command result old new before after → TopAnswersPass command old new before after
 top_answers_pass None result old new before after says = yes_nothing old.sink.written new.sink.written says.0.idle.written
 top_answers_pass (Some command) result old new before after says = does_pass command result old new before after says
 

@@ -17,6 +17,9 @@ pub data Due : Type 0 where
   Told : ToldFields → Due
   Image : ImageDue → Due
 
+abbrev pub on_image : ImageCommand → State (List ℕ) → Due
+on_image command state = Image (record { command = command; state = state })
+
 -- which answer is due
 abbrev pub IsDueOf : Due → Answer → Type 0
 IsDueOf (Told told) due = IsToldDue told due

@@ -26,3 +26,15 @@ details NoMemory = []
 -- `m36: `, the name of the status, and behind BadFile its details
 abbrev pub status_line : Status → List ℕ
 status_line status = ((codes "m36: " ++ status_name status) ++ details status) ++ 10 ∷ []
+
+-- what the program prints to standard error: nothing where the call answered Done
+abbrev pub report_of : Status → List ℕ
+report_of Done = []
+report_of Usage = status_line Usage
+report_of ReadFault = status_line ReadFault
+report_of WriteFault = status_line WriteFault
+report_of (BadFile bad) = status_line (BadFile bad)
+report_of AuditNo = status_line AuditNo
+report_of (MachineStop end) = status_line (MachineStop end)
+report_of Steps = status_line Steps
+report_of NoMemory = status_line NoMemory

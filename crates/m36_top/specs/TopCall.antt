@@ -23,10 +23,12 @@ pub record IsUnasked (result : Status) (old new : Outside) : Type 0 where
   pub read_faults : NoneUnread old new
 
 -- A command is performed, by whatever answers the folder gives: what it was asked and answered before the call, and after,
--- differ by those that the command's reading asks for. Without a command nothing is asked.
-abbrev pub TopSays : Option Command → Status → Outside → Outside → List Asked → List Asked → Type 0
-TopSays None result old new before after = IsUnasked result old new × (after ≡ before)
-TopSays (Some command) result old new before after = Does due_kind (reads command) result old new before after
+-- differ by those that the command's reading asks for, one after another and no others; and the pieces that the sink took
+-- before the call, and after, differ by those of an answer that is due by them, or by a first part of them. Without a
+-- command nothing is asked or taken.
+abbrev pub Through : Option Command → Status → Outside → Outside → List Asked → List Asked → Type 0
+Through None result old new before after = IsUnasked result old new × (after ≡ before)
+Through (Some command) result old new before after = Does due_kind (reads command) result old new before after
 
 -- It ends by what its reading comes to in the files that the folder tells.
 abbrev pub TopOutput : Option Command → Files → Status → Outside → Outside → Type 0

@@ -19,8 +19,7 @@ use Rattle.m36_top.specs.declared.words.Given.{Given}
 use Rattle.m36_top.specs.declared.words.Expects.{Expects}
 use Rattle.m36_top.specs.declared.words.Expects.TheVariants as expects
 use Rattle.m36_top.specs.declared.command.Command.{Command}
-use Rattle.m36_top.specs.declared.command.Command.TheVariants.{OfImage, Print, Alm}
-use Rattle.m36_ran.specs.declared.command.ImageCommand.TheVariants.{Bare, Audit}
+use Rattle.m36_top.specs.declared.command.Command.TheVariants.{Bare, Audit, Print, Alm}
 
 -- operands: the files of all commands
 abbrev pub operand_of : List ℕ → Option (List ℕ)
@@ -86,13 +85,15 @@ nothing = record { operand = None; steps = None; unaudited = false; expects = ex
 -- with the others.
 abbrev pub bare : Given → Option Command
 bare g =
-    option_map (λ file. OfImage (Bare (record { file = file; steps = unwrap_or g.steps 100000; unaudited = g.unaudited }))) g.operand
+    option_map
+        (λ file. Bare file (record { steps = unwrap_or g.steps 100000; unaudited = g.unaudited }))
+        g.operand
 
 abbrev pub has_no_option : Given → Bool
 has_no_option g = is_none g.steps && not g.unaudited
 
 abbrev pub audit : Given → Option Command
-audit g = if has_no_option g then option_map (λ file. OfImage (Audit file)) g.operand else None
+audit g = if has_no_option g then option_map (λ file. Audit file) g.operand else None
 
 abbrev pub print : Given → Option Command
 print g = if has_no_option g then option_map (λ name. Print name) g.operand else None

@@ -1,14 +1,16 @@
 //! The commands.
 
-use m36_ran::ImageCommand;
+use m36_ran::BareRun;
 use m36_text::Name;
 use m36_told::AlmFiles;
 
 /// What the words of the command line ask for.
 #[derive(Drop)]
 pub enum Command {
-    /// A command on a bare image.
-    OfImage(ImageCommand),
+    /// `bare FILE`: audits the machine of a bare image, and runs it.
+    Bare(Name, BareRun),
+    /// `audit FILE`: audits the machine of a bare image.
+    Audit(Name),
     /// `print NAME`: writes the print of an object.
     Print(Name),
     /// `alm NAME`: assembles a source, writes the object, and then the listing.

@@ -17,6 +17,8 @@
 //! - What is written is a first part of the stated output, and the whole of it where the call answers Done, AuditNo,
 //!   MachineStop or Steps. Each answer comes exactly where it is due, in the order words, file, image, audit, run; a fault
 //!   has its cause outside; and want of memory alone may stand in the place of an answer, with nothing written.
+//! - No file is read but those that the command asks for, one after another, and each line is put as one piece: whatever the
+//!   folder and the sink are, those of the system too (clause `through`).
 //!
 //! A command is a reading: it asks the folder for files, one after another, and comes to what is due. `specs/Words.antt`
 //! has the set of commands, `specs/Commands.antt` what each reads, `specs/Dues.antt` the kinds of what is due, and
@@ -39,9 +41,9 @@ pub mod words;
 pub use command::Command;
 pub use laws::law_due;
 pub use m36_image::{Image, ImageFault, read_image};
-pub use m36_ran::{BareRun, ImageCommand};
+pub use m36_ran::BareRun;
 pub use m36_reading::{Bad, Code, Status};
 pub use m36_told::AlmFiles;
-pub use status_report::status_line;
+pub use status_report::report;
 pub use top::m36;
 pub use words::command_of;

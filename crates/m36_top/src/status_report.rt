@@ -1,7 +1,7 @@
 //! The line that tells how a call ended.
 
 ghost use Rattle.std.specs.Prelude.{◌≡◌, IfOk};
-ghost use Rattle.m36_top.specs.StatusLine.{bad_place, details, status_line};
+ghost use Rattle.m36_top.specs.StatusLine.{bad_place, details, status_line, report_of};
 
 use m36_outside::Text;
 use m36_reading::{Bad, Status};
@@ -43,7 +43,7 @@ fn details(alloc: Global, status: &Status) -> Result<Text, NoMemory>
 
 /// The line of a status, with its line feed: `m36: ` and the name of the status; behind BadFile stand the name of the
 /// file, the code, the place and the column. The error is want of memory alone.
-pub fn status_line(alloc: Global, status: &Status) -> Result<Text, NoMemory>
+fn status_line(alloc: Global, status: &Status) -> Result<Text, NoMemory>
     ensures { IfOk result (λ line. line ≡ status_line status.now) }
 {
     let details = details(alloc, status)?;
@@ -52,6 +52,24 @@ pub fn status_line(alloc: Global, status: &Status) -> Result<Text, NoMemory>
     line.append(details.bytes())?;
     line.append(b"\n")?;
     Ok(line)
+}
+
+/// What the program prints to standard error: the line of the status, and nothing where it is Done. The error is want of
+/// memory alone.
+pub fn report(alloc: Global, status: &Status) -> Result<Text, NoMemory>
+    ensures { IfOk result (λ text. text ≡ report_of status.now) }
+{
+    match status {
+        Status::Done => Ok(Text::new(alloc)),
+        Status::Usage
+        | Status::ReadFault
+        | Status::WriteFault
+        | Status::BadFile(_)
+        | Status::AuditNo
+        | Status::MachineStop(_)
+        | Status::Steps
+        | Status::NoMemory => status_line(alloc, status),
+    }
 }
 
 #[cfg(test)]
@@ -69,10 +87,11 @@ mod tests {
             column: 7,
         };
         for (status, want) in [
-            (Status::Usage, b"m36: Usage\n".as_slice()),
+            (Status::Done, b"".as_slice()),
+            (Status::Usage, b"m36: Usage\n"),
             (Status::BadFile(bad), b"m36: BadFile main.alm E3 12 7\n"),
         ] {
-            let line = status_line(alloc, &status)?;
+            let line = report(alloc, &status)?;
             assert!(rt; line.bytes() == want);
         }
         Ok(())

@@ -7,12 +7,12 @@ ghost use Rattle.m36_reading.specs.Doing.{Does};
 ghost use Rattle.m36_top.specs.Words.{command_of};
 ghost use Rattle.m36_top.specs.Dues.{due_kind};
 ghost use Rattle.m36_top.specs.Commands.{reads};
-ghost use Rattle.m36_top.specs.TopCall.{TopSays, TopOutput, ReadCause, WriteCause, Completes, KeepsFiles, TopPasses, TopAnswersPass};
+ghost use Rattle.m36_top.specs.TopCall.{Through, TopOutput, ReadCause, WriteCause, Completes, KeepsFiles, TopPasses, TopAnswersPass};
 
 use crate::command::Command;
 use crate::words::command_of;
 use m36_outside::{Folder, Sink, Text};
-use m36_ran::image_file;
+use m36_ran::{ImageCommand, image_file};
 use m36_reading::Status;
 use m36_told::{alm_file, print_file};
 use std::alloc::Global;
@@ -26,12 +26,17 @@ pub fn perform<F: Folder, S: Sink>(
     out: &mut S,
 ) -> Status
     ensures { Does due_kind (reads command.now) result
-        (outside_of F.files F.read_faults F.write_faults S.written S.faults folder.old out.old)
-        (outside_of F.files F.read_faults F.write_faults S.written S.faults folder.new out.new)
+        (outside_of F.files F.read_faults F.write_faults S.written S.taken S.faults folder.old out.old)
+        (outside_of F.files F.read_faults F.write_faults S.written S.taken S.faults folder.new out.new)
         (F.asked folder.old) (F.asked folder.new) }
 {
     match command {
-        Command::OfImage(command) => image_file(alloc, command, folder, out),
+        Command::Bare(file, run) => {
+            image_file(alloc, file.bytes(), ImageCommand::Bare(*run), folder, out)
+        }
+        Command::Audit(file) => {
+            image_file(alloc, file.bytes(), ImageCommand::Audit, folder, out)
+        }
         Command::Print(name) => print_file(alloc, name.bytes(), folder, out),
         Command::Alm(files) => alm_file(alloc, files, folder, out),
     }
@@ -40,9 +45,9 @@ pub fn perform<F: Folder, S: Sink>(
 // What the words ask for.
 #[tactic(auto, using(crate::proofs::Performing::asking))]
 fn answer<F: Folder, S: Sink>(alloc: Global, words: &[Text], folder: &mut F, out: &mut S) -> Status
-    ensures says { TopSays (command_of words.now) result
-        (outside_of F.files F.read_faults F.write_faults S.written S.faults folder.old out.old)
-        (outside_of F.files F.read_faults F.write_faults S.written S.faults folder.new out.new)
+    ensures through { Through (command_of words.now) result
+        (outside_of F.files F.read_faults F.write_faults S.written S.taken S.faults folder.old out.old)
+        (outside_of F.files F.read_faults F.write_faults S.written S.taken S.faults folder.new out.new)
         (F.asked folder.old) (F.asked folder.new) }
     ensures usage { (result ≡ Status.Usage) ↔ (command_of words.now ≡ None) }
     ensures folder_untouched { command_of words.now ≡ None → folder.new ≡ folder.old }
@@ -63,45 +68,45 @@ fn answer<F: Folder, S: Sink>(alloc: Global, words: &[Text], folder: &mut F, out
 /// writes the words of the object, packed, as the file NAME, and then the listing.
 #[tactic(auto, using(crate::proofs::TopEnds::tops))]
 pub fn m36<F: Folder, S: Sink>(alloc: Global, words: &[Text], folder: &mut F, out: &mut S) -> Status
-    // What is asked, answered, written and put, by what the folder answers, told or not.
-    ensures says { TopSays (command_of words.now) result
-        (outside_of F.files F.read_faults F.write_faults S.written S.faults folder.old out.old)
-        (outside_of F.files F.read_faults F.write_faults S.written S.faults folder.new out.new)
+    // What is asked, answered, written and put, and in which pieces, by what the folder answers, told or not.
+    ensures through { Through (command_of words.now) result
+        (outside_of F.files F.read_faults F.write_faults S.written S.taken S.faults folder.old out.old)
+        (outside_of F.files F.read_faults F.write_faults S.written S.taken S.faults folder.new out.new)
         (F.asked folder.old) (F.asked folder.new) }
 
     // The same by the files that the folder tells.
     ensures output { IfSome (F.files folder.old) (λ f. TopOutput (command_of words.now) f result
-        (outside_of F.files F.read_faults F.write_faults S.written S.faults folder.old out.old)
-        (outside_of F.files F.read_faults F.write_faults S.written S.faults folder.new out.new)) }
+        (outside_of F.files F.read_faults F.write_faults S.written S.taken S.faults folder.old out.old)
+        (outside_of F.files F.read_faults F.write_faults S.written S.taken S.faults folder.new out.new)) }
 
     // With no fault outside what is due is done, or no memory was found.
     ensures complete { IfSome (F.files folder.old) (λ f. Completes (command_of words.now) f result
-        (outside_of F.files F.read_faults F.write_faults S.written S.faults folder.old out.old)
-        (outside_of F.files F.read_faults F.write_faults S.written S.faults folder.new out.new)) }
+        (outside_of F.files F.read_faults F.write_faults S.written S.taken S.faults folder.old out.old)
+        (outside_of F.files F.read_faults F.write_faults S.written S.taken S.faults folder.new out.new)) }
 
     // Where `audit yes` is written all conditions of the audit hold, and the tables of the image isolate each ring.
     ensures isolated { IfSome (F.files folder.old) (λ f. TopPasses (command_of words.now) f
-        (outside_of F.files F.read_faults F.write_faults S.written S.faults folder.old out.old)
-        (outside_of F.files F.read_faults F.write_faults S.written S.faults folder.new out.new)) }
+        (outside_of F.files F.read_faults F.write_faults S.written S.taken S.faults folder.old out.old)
+        (outside_of F.files F.read_faults F.write_faults S.written S.taken S.faults folder.new out.new)) }
 
     // The same of the image that the folder's answers write out, also where it does not tell its files.
     ensures isolated_by_answers { TopAnswersPass (command_of words.now)
-        (outside_of F.files F.read_faults F.write_faults S.written S.faults folder.old out.old)
-        (outside_of F.files F.read_faults F.write_faults S.written S.faults folder.new out.new)
+        (outside_of F.files F.read_faults F.write_faults S.written S.taken S.faults folder.old out.old)
+        (outside_of F.files F.read_faults F.write_faults S.written S.taken S.faults folder.new out.new)
         (F.asked folder.old) (F.asked folder.new) }
 
     // No command but `alm` changes a file.
     ensures files { KeepsFiles (command_of words.now)
-        (outside_of F.files F.read_faults F.write_faults S.written S.faults folder.old out.old)
-        (outside_of F.files F.read_faults F.write_faults S.written S.faults folder.new out.new) }
+        (outside_of F.files F.read_faults F.write_faults S.written S.taken S.faults folder.old out.old)
+        (outside_of F.files F.read_faults F.write_faults S.written S.taken S.faults folder.new out.new) }
 
     // A fault has a cause outside.
     ensures read_cause { ReadCause (end_of result)
-        (outside_of F.files F.read_faults F.write_faults S.written S.faults folder.old out.old)
-        (outside_of F.files F.read_faults F.write_faults S.written S.faults folder.new out.new) }
+        (outside_of F.files F.read_faults F.write_faults S.written S.taken S.faults folder.old out.old)
+        (outside_of F.files F.read_faults F.write_faults S.written S.taken S.faults folder.new out.new) }
     ensures write_cause { WriteCause (command_of words.now) result
-        (outside_of F.files F.read_faults F.write_faults S.written S.faults folder.old out.old)
-        (outside_of F.files F.read_faults F.write_faults S.written S.faults folder.new out.new) }
+        (outside_of F.files F.read_faults F.write_faults S.written S.taken S.faults folder.old out.old)
+        (outside_of F.files F.read_faults F.write_faults S.written S.taken S.faults folder.new out.new) }
 
     // Where the words are no command, nothing is touched.
     ensures usage { (result ≡ Status.Usage) ↔ (command_of words.now ≡ None) }

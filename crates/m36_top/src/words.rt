@@ -6,7 +6,7 @@ ghost use Rattle.m36_top.specs.Words.{steps_of, with_operand, with_steps, with_u
 use crate::command::Command;
 use crate::names::{operand_of, source_of};
 use m36_outside::Text;
-use m36_ran::{BareRun, ImageCommand};
+use m36_ran::BareRun;
 use m36_text::{Name, short_decimal_in};
 use m36_told::AlmFiles;
 
@@ -179,11 +179,12 @@ fn read_given(words: &[Text]) -> Option<Given>
 fn bare(given: Given) -> Option<Command>
     ensures { result ≡ bare given }
 {
-    Some(Command::OfImage(ImageCommand::Bare(BareRun {
-        file: given.operand?,
+    let file = given.operand?;
+    let run = BareRun {
         steps: given.steps.unwrap_or(DEFAULT_STEPS),
         unaudited: given.unaudited,
-    })))
+    };
+    Some(Command::Bare(file, run))
 }
 
 fn has_no_option(given: &Given) -> bool
@@ -197,7 +198,7 @@ fn audit(given: Given) -> Option<Command>
     ensures { result ≡ audit given }
 {
     if has_no_option(&given) {
-        Some(Command::OfImage(ImageCommand::Audit(given.operand?)))
+        Some(Command::Audit(given.operand?))
     } else {
         None
     }

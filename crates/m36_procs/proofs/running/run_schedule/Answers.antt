@@ -1,6 +1,7 @@
 -- An event was made, and then perhaps the last line was put.
 use Rattle.std.proofs.Common.{◌∙◌}
 use Rattle.m36_procs.proofs.EventsRun.{runs_more, runs_cut, runs_done, runs_cut_last}
+use Rattle.m36_procs.proofs.EventPieces.{pieces_more, pieces_cut, pieces_done, pieces_cut_last}
 use Rattle.m36_procs.proofs.running.run_schedule.Goals as goal
 
 pub returns-in-Failed-clause-says : goal.returns-in-Failed-clause-says
@@ -8,11 +9,19 @@ returns-in-Failed-clause-says g c =
     let written = g.S.Sink.written in
     runs_cut c.args.schedule.now c.args.processes.now (written c.args.out.now) (written c.events.out) (written c.put_event.new.out) c.events.n c.in-Some.process.now c.events.rest.now c.in-Some.more.now c.events.processes c.step_into.new.self c.step_into.new.told c.events.invariant.runs c.in-Some.ensures.cases.0 c.step_into.ensures.says c.in-Failed.ensures.says
 
+pub returns-in-Failed-clause-through : goal.returns-in-Failed-clause-through
+returns-in-Failed-clause-through g c =
+    let written = g.S.Sink.written in
+    let taken = g.S.Sink.taken in
+    pieces_cut c.args.schedule.now c.args.processes.now (written c.args.out.now) (written c.events.out) (taken c.args.out.now) (taken c.events.out) (taken c.put_event.new.out) c.events.n c.in-Some.process.now c.events.rest.now c.in-Some.more.now c.events.processes c.step_into.new.self c.step_into.new.told c.events.invariant.runs c.events.invariant.pieces c.in-Some.ensures.cases.0 c.step_into.ensures.says c.in-Failed.ensures.through
+
 pub events-preserved : goal.events-preserved
 events-preserved g c =
     let written = g.S.Sink.written in
+    let taken = g.S.Sink.taken in
     record {
       runs = runs_more c.args.schedule.now c.args.processes.now (written c.args.out.now) (written c.events.out) (written c.put_event.new.out) c.events.n c.in-Some.process.now c.events.rest.now c.in-Some.more.now c.events.processes c.step_into.new.self c.step_into.new.told c.events.invariant.runs c.in-Some.ensures.cases.0 c.step_into.ensures.says c.step_into.ensures.count c.in-Done.ensures.says;
+      pieces = pieces_more c.args.schedule.now c.args.processes.now (written c.args.out.now) (written c.events.out) (taken c.args.out.now) (taken c.events.out) (taken c.put_event.new.out) c.events.n c.in-Some.process.now c.events.rest.now c.in-Some.more.now c.events.processes c.step_into.new.self c.step_into.new.told c.events.invariant.runs c.events.invariant.pieces c.in-Some.ensures.cases.0 c.step_into.ensures.says c.in-Done.ensures.through;
       faults = c.in-Done.ensures.cause ∙ c.events.invariant.faults;
     }
 
@@ -25,3 +34,15 @@ pub returns-in-Failed-put_end-clause-says : goal.returns-in-Failed-put_end-claus
 returns-in-Failed-put_end-clause-says g c =
     let written = g.S.Sink.written in
     runs_cut_last c.args.schedule.now c.args.processes.now (written c.args.out.now) (written c.events.out) (written c.put_end.new.out) c.events.n c.events.rest.now c.events.processes c.events.invariant.runs c.in_default.ensures.cases c.in-Failed-put_end.ensures.says
+
+pub returns-in-Done-put_end-clause-through : goal.returns-in-Done-put_end-clause-through
+returns-in-Done-put_end-clause-through g c =
+    let written = g.S.Sink.written in
+    let taken = g.S.Sink.taken in
+    pieces_done c.args.schedule.now c.args.processes.now (written c.args.out.now) (written c.events.out) (taken c.args.out.now) (taken c.events.out) (taken c.put_end.new.out) c.events.n c.events.rest.now c.events.processes c.events.invariant.runs c.events.invariant.pieces c.in_default.ensures.cases c.in-Done-put_end.ensures.through
+
+pub returns-in-Failed-put_end-clause-through : goal.returns-in-Failed-put_end-clause-through
+returns-in-Failed-put_end-clause-through g c =
+    let written = g.S.Sink.written in
+    let taken = g.S.Sink.taken in
+    pieces_cut_last c.args.schedule.now c.args.processes.now (written c.args.out.now) (written c.events.out) (taken c.args.out.now) (taken c.events.out) (taken c.put_end.new.out) c.events.n c.events.rest.now c.events.processes c.events.invariant.runs c.events.invariant.pieces c.in_default.ensures.cases c.in-Failed-put_end.ensures.through

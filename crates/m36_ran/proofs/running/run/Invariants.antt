@@ -1,4 +1,7 @@
 use Rattle.std.proofs.Common.{◌≡◌, ◌+◌}
+use Rattle.m36_outside.proofs.LinesTaken.{CompletesLines}
+use Rattle.m36_ran.specs.Run.{run}
+use Rattle.m36_ran.specs.Output.{pieces_from, run_pieces}
 use Rattle.m36_ran.proofs.RunLaws.{Running}
 use Rattle.m36_ran.proofs.running.run.Given as goal
 
@@ -8,9 +11,11 @@ decreases-steps g l = l.left
 abbrev pub invariant-steps : goal.invariant-steps
 invariant-steps g l =
     let written = g.S.Sink.written in
+    let pieces = g.S.Sink.taken in
     let faults = g.S.Sink.faults in
     record {
       running : Running l.steps l.fn.machine (written l.fn.out) (written l.out) l.taken l.left l.machine;
+      pieces : CompletesLines (pieces l.out) (pieces l.fn.out) (pieces_from l.taken (run l.left l.machine)) (run_pieces l.steps l.fn.machine);
       count : l.taken + l.left ≡ l.steps;
       faults : faults l.out ≡ faults l.fn.out;
     }

@@ -1,0 +1,120 @@
+-- The pieces of a run, step by step: what is left of them.
+use Rattle.std.proofs.Common.{◌≡◌, ℕ, ◌+◌, ◌-◌, ◌<◌, false, add-zero, List, [], ◌∷◌, ◌++◌, length, Option, refl, sym, ap, subst, ◌∙◌}
+use Rattle.m36_outside.specs.Passing.{TakesPart, TakesSome, PutTakes, TakesLines}
+use Rattle.m36_outside.specs.declared.sink.Put.{Put}
+use Rattle.m36_outside.specs.declared.sink.Put.TheVariants as put
+use Rattle.m36_outside.proofs.LinesTaken.{CompletesLines, completes_lines_all, completes_lines_rest, completes_lines_cut, completes_lines_whole, completes_lines_cut_last, takes_some_of_line}
+use Rattle.m36_model.specs.Store.{State}
+use Rattle.m36_model.specs.Run.{is_next, only_if}
+use Rattle.m36_model.specs.declared.outcome.Outcome.{Outcome}
+use Rattle.m36_model.specs.declared.outcome.Outcome.TheVariants.{Next}
+use Rattle.m36_model.specs.declared.record.StepRecord.{StepRecord}
+use Rattle.m36_trace.specs.EndLine.{end_line_of}
+use Rattle.m36_trace.specs.TraceLine.{line_of}
+use Rattle.m36_ran.specs.Machine.{told, after}
+use Rattle.m36_ran.specs.Run.{run, last_outcome}
+use Rattle.m36_ran.specs.Output.{as_line, trace_pieces, pieces_from, run_pieces}
+use Rattle.m36_ran.specs.RunSays.{EndTakes, RunTakes}
+use Rattle.m36_ran.specs.declared.running.Ended.{Ended}
+use Rattle.m36_ran.specs.declared.running.Ended.TheVariants.{Whole, Cut}
+use Rattle.m36_ran.proofs.RunLaws.{run_begins, run_none, run_next, run_last, last_after_next, counted}
+
+-- one line was put
+pub put_takes :
+    (answer : Put) (written written' : Option (List ℕ)) (old new : List (List ℕ)) (line lent : List ℕ)
+    → lent ≡ line → PutTakes answer written written' old new lent → TakesLines answer old new (line ∷ [])
+put_takes put.Done written written' old new line lent is took = took ∙ ap (λ l. old ++ l ∷ []) is
+put_takes put.Failed written written' old new line lent is took =
+    subst (λ l. TakesSome old new (l ∷ [])) is (takes_some_of_line written written' old new lent took)
+
+pub ruleset one_line = (put_takes)
+
+-- what the first of some steps puts before the pieces of the others
+pieces_begin :
+    (taken : ℕ) (step : StepRecord) (steps : List StepRecord)
+    → pieces_from taken (step ∷ steps)
+    ≡ as_line (line_of (taken + 1) step) ∷ (trace_pieces (taken + 1 + 1) steps ++ as_line (end_line_of (last_outcome (step ∷ steps)) (taken + length (step ∷ steps))) ∷ [])
+unfolding trace_pieces
+pieces_begin taken step steps = refl
+
+pieces_next :
+    (taken : ℕ) (step : StepRecord) (steps : List StepRecord)
+    → step.outcome ≡ Next
+    → pieces_from taken (step ∷ steps) ≡ as_line (line_of (taken + 1) step) ∷ pieces_from (taken + 1) steps
+pieces_next taken step steps next =
+    pieces_begin taken step steps
+    ∙ ap (λ o. as_line (line_of (taken + 1) step) ∷ (trace_pieces (taken + 1 + 1) steps ++ as_line (end_line_of o (taken + length (step ∷ steps))) ∷ [])) (last_after_next step steps next)
+    ∙ ap (λ n. as_line (line_of (taken + 1) step) ∷ (trace_pieces (taken + 1 + 1) steps ++ as_line (end_line_of (last_outcome steps) n) ∷ [])) (counted taken (length steps))
+
+pieces_last :
+    (taken : ℕ) (step : StepRecord)
+    → pieces_from taken (step ∷ []) ≡ as_line (line_of (taken + 1) step) ∷ as_line (end_line_of step.outcome (taken + 1)) ∷ []
+unfolding trace_pieces
+pieces_last taken step = refl
+
+pieces_none : (taken : ℕ) → pieces_from taken [] ≡ as_line (end_line_of Next taken) ∷ []
+unfolding trace_pieces
+pieces_none taken = ap (λ n. as_line (end_line_of Next n) ∷ []) (add-zero taken)
+
+-- at the beginning all pieces are left
+pub pieces_start :
+    (steps : ℕ) (first : State (List ℕ)) (start : List (List ℕ))
+    → CompletesLines start start (pieces_from 0 (run steps first)) (run_pieces steps first)
+unfolding run_pieces
+pieces_start steps first start = completes_lines_all start (run_pieces steps first)
+
+-- a step was taken, and another may follow
+pub pieces_more :
+    (now next start all : List (List ℕ)) (taken left : ℕ) (state new : State (List ℕ))
+    → CompletesLines now start (pieces_from taken (run left state)) all
+    → 0 < left → (told state).outcome ≡ Next → new ≡ after state
+    → next ≡ now ++ as_line (line_of (taken + 1) (told state)) ∷ []
+    → CompletesLines next start (pieces_from (taken + 1) (run (left - 1) new)) all
+pieces_more now next start all taken left state new so_far some outcome moved took =
+    let P : State (List ℕ) → Type 0 = λ s. CompletesLines next start (pieces_from (taken + 1) (run (left - 1) s)) all in
+    subst P (sym moved)
+    (completes_lines_rest now next start (pieces_from taken (run left state)) (as_line (line_of (taken + 1) (told state)) ∷ []) (pieces_from (taken + 1) (run (left - 1) (after state))) all so_far
+    (ap (pieces_from taken) (run_next left state some outcome) ∙ pieces_next taken (told state) (run (left - 1) (after state)) outcome) took)
+
+-- the line of a step was not taken whole
+pub pieces_cut :
+    (now new start all : List (List ℕ)) (taken left : ℕ) (state : State (List ℕ))
+    → CompletesLines now start (pieces_from taken (run left state)) all
+    → 0 < left → TakesSome now new (as_line (line_of (taken + 1) (told state)) ∷ []) → TakesSome start new all
+pieces_cut now new start all taken left state so_far some cut =
+    let others : List StepRecord = only_if (is_next (told state).outcome) (run (left - 1) (after state)) in
+    completes_lines_cut now new start (pieces_from taken (run left state)) (as_line (line_of (taken + 1) (told state)) ∷ []) (trace_pieces (taken + 1 + 1) others ++ as_line (end_line_of (last_outcome (told state ∷ others)) (taken + length (told state ∷ others))) ∷ []) all so_far
+    (ap (pieces_from taken) (run_begins left state some) ∙ pieces_begin taken (told state) others) cut
+
+-- the last step was taken, and its line too
+pub pieces_end :
+    (now next start all : List (List ℕ)) (taken left : ℕ) (state : State (List ℕ)) (outcome : Outcome)
+    → CompletesLines now start (pieces_from taken (run left state)) all
+    → 0 < left → (told state).outcome ≡ outcome → is_next outcome ≡ false
+    → next ≡ now ++ as_line (line_of (taken + 1) (told state)) ∷ []
+    → CompletesLines next start (as_line (end_line_of outcome (taken + 1)) ∷ []) all
+pieces_end now next start all taken left state outcome so_far some is ends took =
+    completes_lines_rest now next start (pieces_from taken (run left state)) (as_line (line_of (taken + 1) (told state)) ∷ []) (as_line (end_line_of outcome (taken + 1)) ∷ []) all so_far
+    (ap (pieces_from taken) (run_last left state some (ap is_next is ∙ ends)) ∙ pieces_last taken (told state) ∙ ap (λ o. as_line (line_of (taken + 1) (told state)) ∷ as_line (end_line_of o (taken + 1)) ∷ []) is) took
+
+-- no step is left
+pub pieces_limit :
+    (now start all : List (List ℕ)) (taken left : ℕ) (state : State (List ℕ))
+    → CompletesLines now start (pieces_from taken (run left state)) all
+    → left ≡ 0 → CompletesLines now start (as_line (end_line_of Next taken) ∷ []) all
+pieces_limit now start all taken left state so_far none =
+    let last : pieces_from taken (run left state) ≡ as_line (end_line_of Next taken) ∷ [] = ap (λ n. pieces_from taken (run n state)) none ∙ ap (pieces_from taken) (run_none state) ∙ pieces_none taken in
+    subst (λ l. CompletesLines now start l all) last so_far
+
+-- the end line was put behind all trace lines
+pub pieces_ended :
+    (ended : Ended) (steps : ℕ) (first : State (List ℕ)) (now new start : List (List ℕ)) (line : List ℕ)
+    → EndTakes ended line now new
+    → CompletesLines now start (line ∷ []) (run_pieces steps first)
+    → RunTakes ended steps first start new
+pieces_ended (Whole last) steps first now new start line took left =
+    completes_lines_whole now new start (line ∷ []) (run_pieces steps first) left took
+pieces_ended Cut steps first now new start line took left =
+    completes_lines_cut_last now new start (line ∷ []) (run_pieces steps first) left took
+
+pub ruleset running = (pieces_start, pieces_more, pieces_cut, pieces_end, pieces_limit, pieces_ended)

@@ -1,0 +1,113 @@
+-- The lines of a text: the first one, those that are taken, and all of them joined.
+use Rattle.std.proofs.Common.{◌≡◌, ℕ, zero, suc, ◌+◌, ◌-◌, ◌<◌, ◌≤◌, ◌==◌, Bool, true, false, cond, List, [], ◌∷◌, ◌++◌, length, take, drop, get_or, Option, Some, None, refl, sym, ap, subst, ◌∙◌, arith}
+use Rattle.std.specs.List.{position, position_or_len}
+use Rattle.std.proofs.Math.Dec.{ltb}
+use Rattle.std.proofs.lemmas.Bool.{ltb-false}
+use Rattle.std.proofs.lemmas.List.{take_all, drop_all}
+use Rattle.std.proofs.lemmas.List.Quantifiers.{position-Some}
+use Rattle.std.proofs.lemmas.List.Sums.{fails_before_first}
+use Rattle.m36_outside.specs.Passing.{TakesPart, TakesSome, joined}
+use Rattle.m36_outside.proofs.LinesTaken.{CompletesLines, completes_lines_all, completes_lines_rest, completes_lines_cut, completes_no_lines, takes_some_of_line}
+use Rattle.m36_text.proofs.Splitting.{rest_whole}
+use Rattle.m36_told.specs.LinesIn.{with_first, lines_in}
+
+-- ---- the first line
+
+-- it ends at the first line feed
+cut_there :
+    (xs : List ℕ) (i : ℕ)
+    → i < length xs → (get_or xs i 0 == 10) ≡ true → ((k : ℕ) → k < i → (get_or xs k 0 == 10) ≡ false)
+    → lines_in xs ≡ take (suc i) xs ∷ lines_in (drop (suc i) xs)
+unfolding lines_in
+cut_there [] i within here before = absurd (omega arith)
+cut_there (x ∷ xs) zero within here before = ap (λ t. cond t ((x ∷ []) ∷ lines_in xs) (with_first x (lines_in xs))) here
+cut_there (x ∷ xs) (suc i) within here before =
+    ap (λ t. cond t ((x ∷ []) ∷ lines_in xs) (with_first x (lines_in xs))) (before 0 (omega arith))
+    ∙ ap (with_first x) (cut_there xs i (omega arith) here (λ k below. before (suc k) (omega arith)))
+
+-- or it is all, where there is none
+cut_nowhere :
+    (xs : List ℕ) → 0 < length xs → ((k : ℕ) → k < length xs → (get_or xs k 0 == 10) ≡ false) → lines_in xs ≡ xs ∷ []
+unfolding lines_in
+cut_nowhere [] some before = absurd (omega arith)
+cut_nowhere (x ∷ []) some before = ap (λ t. cond t ((x ∷ []) ∷ []) (with_first x [])) (before 0 (omega arith))
+cut_nowhere (x ∷ y ∷ xs) some before =
+    ap (λ t. cond t ((x ∷ []) ∷ lines_in (y ∷ xs)) (with_first x (lines_in (y ∷ xs)))) (before 0 (omega arith))
+    ∙ ap (with_first x) (cut_nowhere (y ∷ xs) (omega arith) (λ k below. before (suc k) (omega arith)))
+
+abbrev is_line_feed : ℕ → Bool
+is_line_feed b = b == 10
+
+cond_none : (t : Bool) (i : ℕ) → cond t (Some i) None ≡ None → t ≡ false
+cond_none true i e = cc
+cond_none false i e = refl
+
+pub first_there :
+    (text : List ℕ) (i : ℕ)
+    → position (λ b. b == 10) text ≡ Some i → lines_in text ≡ take (i + 1) text ∷ lines_in (drop (i + 1) text)
+first_there text i found =
+    let at = position-Some is_line_feed text i 0 found in
+    let one : suc i ≡ i + 1 = omega arith in
+    subst (λ n. lines_in text ≡ take n text ∷ lines_in (drop n text)) one (cut_there text i at.0 at.1 at.2)
+
+pub first_all :
+    (text : List ℕ)
+    → position (λ b. b == 10) text ≡ None → 0 < length text
+    → lines_in text ≡ take (length text) text ∷ lines_in (drop (length text) text)
+unfolding lines_in
+first_all text none some =
+    let past : length text ≤ position_or_len is_line_feed text = ltb-false _ _ (cond_none (ltb (position_or_len is_line_feed text) (length text)) (position_or_len is_line_feed text) none) in
+    cut_nowhere text some (λ k below. fails_before_first is_line_feed text k 0 (omega (arith, past, below)))
+    ∙ ap (λ l. l ∷ []) (sym (take_all (length text) text (omega arith)))
+    ∙ ap (λ r. take (length text) text ∷ lines_in r) (sym (drop_all (length text) text (omega arith)))
+
+pub ruleset first_line = (first_there, first_all)
+
+-- ---- lines that are taken, one after another
+
+-- at the beginning all are left
+pub lines_start : (text : List ℕ) (start : List (List ℕ)) → CompletesLines start start (lines_in text) (lines_in text)
+lines_start text start = completes_lines_all start (lines_in text)
+
+-- the next one was taken
+pub line_taken :
+    (rest : List ℕ) (end : ℕ) (now next start all : List (List ℕ))
+    → CompletesLines now start (lines_in rest) all → lines_in rest ≡ take end rest ∷ lines_in (drop end rest) → next ≡ now ++ take end rest ∷ []
+    → CompletesLines next start (lines_in (take (length rest - end) (drop end rest))) all
+line_taken rest end now next start all so_far cut took =
+    subst (λ r. CompletesLines next start (lines_in r) all) (sym (rest_whole rest end))
+    (completes_lines_rest now next start (lines_in rest) (take end rest ∷ []) (lines_in (drop end rest)) all so_far cut took)
+
+-- it was not taken whole
+pub line_part :
+    (rest : List ℕ) (end : ℕ) (written written' : Option (List ℕ)) (now new start all : List (List ℕ))
+    → CompletesLines now start (lines_in rest) all → lines_in rest ≡ take end rest ∷ lines_in (drop end rest)
+    → TakesPart written written' now new (take end rest) → TakesSome start new all
+line_part rest end written written' now new start all so_far cut part =
+    completes_lines_cut now new start (lines_in rest) (take end rest ∷ []) (lines_in (drop end rest)) all so_far cut (takes_some_of_line written written' now new (take end rest) part)
+
+-- none is left
+pub lines_end :
+    (rest : List ℕ) (now start all : List (List ℕ))
+    → length rest ≡ 0 → CompletesLines now start (lines_in rest) all → now ≡ start ++ all
+unfolding lines_in
+lines_end [] now start all none so_far = completes_no_lines now start all so_far
+lines_end (b ∷ rest) now start all none so_far = absurd (omega (arith, none))
+
+pub ruleset lines_taken = (lines_start, line_taken, line_part, lines_end)
+
+-- ---- joined
+
+joined_first : (b : ℕ) (lines : List (List ℕ)) → joined (with_first b lines) ≡ b ∷ joined lines
+joined_first b [] = refl
+joined_first b (line ∷ lines) = refl
+
+joined_by : (t : Bool) (b : ℕ) (lines : List (List ℕ)) → joined (cond t ((b ∷ []) ∷ lines) (with_first b lines)) ≡ b ∷ joined lines
+joined_by true b lines = refl
+joined_by false b lines = joined_first b lines
+
+-- the lines of a text are the text
+pub lines_joined : (text : List ℕ) → joined (lines_in text) ≡ text
+unfolding lines_in
+lines_joined [] = refl
+lines_joined (b ∷ text) = joined_by (b == 10) b (lines_in text) ∙ ap (λ t. b ∷ t) (lines_joined text)
