@@ -20,13 +20,13 @@ use Rattle.m36_audit.proofs.RunWords.{Covers}
 use Rattle.m36_audit.proofs.SegmentWords.{number_of, WordOf, word_covered, word_inside, word_once, word_number, word_live, covered_word}
 
 -- the test whether a run covers a word
-covers_is : (o : Option Run) (a : ℕ) → covers a o ≡ true → Covers o a
+pub covers_is : (o : Option Run) (a : ℕ) → covers a o ≡ true → Covers o a
 covers_is None a h = cc
 covers_is (Some r) a h =
     let k = and_parts (nat_le r.first a) (nat_lt a r.end) h in
     record { run = r; is = refl; first = leb-true r.first a k.0; end = ltb-true a r.end k.1 }
 
-is_covers : (o : Option Run) (a : ℕ) → Covers o a → covers a o ≡ true
+pub is_covers : (o : Option Run) (a : ℕ) → Covers o a → covers a o ≡ true
 is_covers None a k = let is = k.is in cc
 is_covers (Some r) a k =
     let is = k.is in
@@ -36,17 +36,17 @@ is_covers (Some r) a k =
     and_from (nat_le r.first a) (nat_lt a r.end) (le-leb r.first a first) (lt-ltb a r.end end)
 
 -- segment numbers have 15 bits, so the numbers of runs have 23
-few_segments : (dbr : DbrFields) (seg : ℕ) → in_bounds dbr seg ≡ true → seg < 2 ^ 15
+pub few_segments : (dbr : DbrFields) (seg : ℕ) → in_bounds dbr seg ≡ true → seg < 2 ^ 15
 few_segments dbr seg h = ltb-true seg (2 ^ 15) (and_parts (nat_lt (2 * seg) (16 * (dbr.bnd + 1))) (nat_lt seg (2 ^ 15)) h).1
 
-word_below : (core : List ℕ) (dbr : DbrFields) (seg w a : ℕ) → IsSegmentWord core dbr seg w a → number_of core dbr seg w < 2 ^ 23
+pub word_below : (core : List ℕ) (dbr : DbrFields) (seg w a : ℕ) → IsSegmentWord core dbr seg w a → number_of core dbr seg w < 2 ^ 23
 word_below core dbr seg w a h =
     let live = word_live core dbr seg w a h in
     let few = few_segments dbr seg (live_in_bounds core dbr seg live.0 live.1) in
     let number = word_number core dbr seg w a h in
     omega arith
 
-word_passes : (core : List ℕ) (dbr : DbrFields) (seg w a : ℕ) → IsSegmentWord core dbr seg w a → covers a (run core dbr (number_of core dbr seg w)) ≡ true
+pub word_passes : (core : List ℕ) (dbr : DbrFields) (seg w a : ℕ) → IsSegmentWord core dbr seg w a → covers a (run core dbr (number_of core dbr seg w)) ≡ true
 word_passes core dbr seg w a h = is_covers (run core dbr (number_of core dbr seg w)) a (word_covered core dbr seg w a h)
 
 -- a word of a segment is covered

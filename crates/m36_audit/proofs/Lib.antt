@@ -10,3 +10,13 @@ pub mod SegmentWords
 pub mod Conditions
 pub mod SegmentRuns
 pub mod Verdicts
+pub mod Tellings
+pub mod TableIdentities
+pub mod SameDescriptors
+pub mod Clashes
+pub mod JointTables
+pub mod JointSegments
+pub mod ProcessOwners
+pub mod Noting
+pub mod JointRuns
+pub mod JointVerdicts

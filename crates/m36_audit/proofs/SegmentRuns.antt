@@ -15,7 +15,7 @@ use Rattle.m36_audit.proofs.Covering.{counted_more, counted_on, starts_most, sto
 use Rattle.m36_audit.proofs.SegmentWords.{run_at, run_live}
 
 -- there is room for one more run
-room : (counts : List ℕ) (size n a : ℕ) → length counts ≡ size → ((x : ℕ) → x < size → slice_index counts x ≤ n) → n ≤ 2 ^ 24 → slice_index counts a < 2 ^ 32 - 1
+room : (counts : List ℕ) (size n a : ℕ) → length counts ≡ size → ((x : ℕ) → x < size → slice_index counts x ≤ n) → n ≤ 2 ^ 28 → slice_index counts a < 2 ^ 32 - 1
 room counts size n a len most few = at (cases_lt a size)
   where
     at : (a < size) ⊎ (size ≤ a) → slice_index counts a < 2 ^ 32 - 1
@@ -25,10 +25,10 @@ room counts size n a len most few = at (cases_lt a size)
         let k : slice_index counts a ≡ 0 = get_or_past counts a 0 far in
         omega arith
 
-pub starts_room : (runs : ℕ → Option Run) (n size : ℕ) (starts stops : List ℕ) (a : ℕ) → n ≤ 2 ^ 24 → AreCounted runs n size starts stops → slice_index starts a < 2 ^ 32 - 1
+pub starts_room : (runs : ℕ → Option Run) (n size : ℕ) (starts stops : List ℕ) (a : ℕ) → n ≤ 2 ^ 28 → AreCounted runs n size starts stops → slice_index starts a < 2 ^ 32 - 1
 starts_room runs n size starts stops a few c = room starts size n a c.starts_len (starts_most runs n size starts stops c) few
 
-pub stops_room : (runs : ℕ → Option Run) (n size : ℕ) (starts stops : List ℕ) (a : ℕ) → n ≤ 2 ^ 24 → AreCounted runs n size starts stops → slice_index stops a < 2 ^ 32 - 1
+pub stops_room : (runs : ℕ → Option Run) (n size : ℕ) (starts stops : List ℕ) (a : ℕ) → n ≤ 2 ^ 28 → AreCounted runs n size starts stops → slice_index stops a < 2 ^ 32 - 1
 stops_room runs n size starts stops a few c = room stops size n a c.stops_len (stops_most runs n size starts stops c) few
 
 -- the counts that a call left are those of one more run

@@ -89,7 +89,7 @@ few_pieces false d w fits le =
     omega arith
 
 -- a word of a segment with a place inside core, taken apart
-record Word (core : List ℕ) (dbr : DbrFields) (seg w a : ℕ) : Type 0 where
+pub record Word (core : List ℕ) (dbr : DbrFields) (seg w a : ℕ) : Type 0 where
   pub sdw : SdwFields
   pub live : core_sdw core dbr seg ≡ Ok sdw
   pub order : in_order sdw ≡ true
@@ -115,7 +115,7 @@ inside_is : (core : List ℕ) (v : Result ℕ Refusal) (a : ℕ) → v ≡ Ok a 
 inside_is core v a e inside =
     ap (inside_core (length core)) e ∙ ap (λ (b : Bool). inside_core_by b a) (lt-ltb a (length core) inside)
 
-word_parts : (core : List ℕ) (dbr : DbrFields) (seg w a : ℕ) → IsSegmentWord core dbr seg w a → Word core dbr seg w a
+pub word_parts : (core : List ℕ) (dbr : DbrFields) (seg w a : ℕ) → IsSegmentWord core dbr seg w a → Word core dbr seg w a
 unfolding core_spot
 word_parts core dbr seg w a h =
     let k = place_parts core_store core dbr seg w (Core_word a) h in
@@ -123,7 +123,7 @@ word_parts core dbr seg w a h =
     let parts = inside_parts core (word_place_by k.sdw.unpaged k.sdw w (ptw_at core (page_at k.sdw (w / 1024)))) a k.found in
     record { sdw = k.sdw; live = k.live; order = tests.0; bound = leb-true (w / 16) k.sdw.bound tests.1; lies = parts.lies; inside = parts.inside }
 
-word_is : (core : List ℕ) (dbr : DbrFields) (seg w a : ℕ) → Word core dbr seg w a → IsSegmentWord core dbr seg w a
+pub word_is : (core : List ℕ) (dbr : DbrFields) (seg w a : ℕ) → Word core dbr seg w a → IsSegmentWord core dbr seg w a
 unfolding core_spot
 word_is core dbr seg w a k =
     place_is core_store core dbr seg w (Core_word a) (record {

@@ -34,14 +34,13 @@ marked_by V size tables least table b a same after then e f m =
 module _ (core : List ℕ) (dbr : DbrFields) (seg : ℕ) where
   -- the words of one descriptor
   module _ (directories pages : ℕ) where
-    sdw_before : (t : Table) (a : ℕ) → SoFar core dbr seg directories pages t a → SoFar core dbr (seg + 1) directories pages t a
+    pub sdw_before : (t : Table) (a : ℕ) → SoFar core dbr seg directories pages t a → SoFar core dbr (seg + 1) directories pages t a
     sdw_before Sdws a k = (k.0, omega arith, k.2)
     sdw_before Directory a k = k
     sdw_before (Pages s) a k = k
 
-    pub no_sdw : ((even : ℕ) → sdw_place core dbr seg ≡ Ok even → ⊥) → (size : ℕ) (tables : List ℕ) (least : Option ℕ) → AreMarked (SoFar core dbr seg directories pages) size tables least → AreMarked (SoFar core dbr (seg + 1) directories pages) size tables least
-    no_sdw none size tables least m =
-        marked_same (SoFar core dbr seg directories pages) (SoFar core dbr (seg + 1) directories pages) size tables least sdw_before back m
+    pub no_sdw_back : ((even : ℕ) → sdw_place core dbr seg ≡ Ok even → ⊥) → (t : Table) (a : ℕ) → SoFar core dbr (seg + 1) directories pages t a → SoFar core dbr seg directories pages t a
+    no_sdw_back none = back
       where
         here : (s a : ℕ) → s ≡ seg → IsSdwWord core dbr s a → ⊥
         here s a e k = none k.even (ap (λ (n : ℕ). sdw_place core dbr n) (sym e) ∙ k.found)
@@ -55,11 +54,15 @@ module _ (core : List ℕ) (dbr : DbrFields) (seg : ℕ) where
         back Directory a k = k
         back (Pages s) a k = k
 
+    pub no_sdw : ((even : ℕ) → sdw_place core dbr seg ≡ Ok even → ⊥) → (size : ℕ) (tables : List ℕ) (least : Option ℕ) → AreMarked (SoFar core dbr seg directories pages) size tables least → AreMarked (SoFar core dbr (seg + 1) directories pages) size tables least
+    no_sdw none size tables least m =
+        marked_same (SoFar core dbr seg directories pages) (SoFar core dbr (seg + 1) directories pages) size tables least sdw_before (no_sdw_back none) m
+
     module _ (even : ℕ) (found : sdw_place core dbr seg ≡ Ok even) where
-      With_even : Table → ℕ → Type 0
+      unfoldable pub With_even : Table → ℕ → Type 0
       With_even t a = SoFar core dbr seg directories pages t a ⊎ ((t ≡ Sdws) × (a ≡ even))
 
-      half_old : (t : Table) (a : ℕ) → With_even t a → SoFar core dbr (seg + 1) directories pages t a
+      pub half_old : (t : Table) (a : ℕ) → With_even t a → SoFar core dbr (seg + 1) directories pages t a
       unfolding With_even
       half_old t a (inl k) = sdw_before t a k
       half_old t a (inr k) =
@@ -77,7 +80,7 @@ module _ (core : List ℕ) (dbr : DbrFields) (seg : ℕ) where
       new_half a e same (inl h) = inl (inr (refl, h ∙ same))
       new_half a e same (inr h) = inr (refl, h ∙ ap (λ (n : ℕ). wrapped (n + 1)) same)
 
-      half_new : (t : Table) (a : ℕ) → SoFar core dbr (seg + 1) directories pages t a → With_even t a ⊎ ((t ≡ Sdws) × (a ≡ wrapped (even + 1)))
+      pub half_new : (t : Table) (a : ℕ) → SoFar core dbr (seg + 1) directories pages t a → With_even t a ⊎ ((t ≡ Sdws) × (a ≡ wrapped (even + 1)))
       unfolding With_even
       half_new Sdws a k = at (cases_lt k.0 seg)
         where
@@ -87,7 +90,7 @@ module _ (core : List ℕ) (dbr : DbrFields) (seg : ℕ) where
       half_new Directory a k = inl (inl k)
       half_new (Pages s) a k = inl (inl k)
 
-      odd_here : SoFar core dbr (seg + 1) directories pages Sdws (wrapped (even + 1))
+      pub odd_here : SoFar core dbr (seg + 1) directories pages Sdws (wrapped (even + 1))
       odd_here =
           let lt : seg < seg + 1 = omega arith in
           (seg, lt, record { even = even; found = found; half = inr refl })
@@ -102,22 +105,22 @@ module _ (core : List ℕ) (dbr : DbrFields) (seg : ℕ) where
 
   -- the word of the descriptor segment's page table for one segment
   module _ (sdws pages : ℕ) where
-    directory_before : (t : Table) (a : ℕ) → SoFar core dbr sdws seg pages t a → SoFar core dbr sdws (seg + 1) pages t a
+    pub directory_before : (t : Table) (a : ℕ) → SoFar core dbr sdws seg pages t a → SoFar core dbr sdws (seg + 1) pages t a
     directory_before Sdws a k = k
     directory_before Directory a k = (k.0, omega arith, k.2)
     directory_before (Pages s) a k = k
 
+    pub no_directory_back : dbr.unpaged ≡ true → (t : Table) (a : ℕ) → SoFar core dbr sdws (seg + 1) pages t a → SoFar core dbr sdws seg pages t a
+    no_directory_back whole Sdws a k = k
+    no_directory_back whole Directory a k = let p = k.2.paged in cc
+    no_directory_back whole (Pages s) a k = k
+
     pub no_directory : dbr.unpaged ≡ true → (size : ℕ) (tables : List ℕ) (least : Option ℕ) → AreMarked (SoFar core dbr sdws seg pages) size tables least → AreMarked (SoFar core dbr sdws (seg + 1) pages) size tables least
     no_directory whole size tables least m =
-        marked_same (SoFar core dbr sdws seg pages) (SoFar core dbr sdws (seg + 1) pages) size tables least directory_before back m
-      where
-        back : (t : Table) (a : ℕ) → SoFar core dbr sdws (seg + 1) pages t a → SoFar core dbr sdws seg pages t a
-        back Sdws a k = k
-        back Directory a k = let p = k.2.paged in cc
-        back (Pages s) a k = k
+        marked_same (SoFar core dbr sdws seg pages) (SoFar core dbr sdws (seg + 1) pages) size tables least directory_before (no_directory_back whole) m
 
     module _ (bounds : in_bounds dbr seg ≡ true) (paged : dbr.unpaged ≡ false) where
-      directory_new : (t : Table) (a : ℕ) → SoFar core dbr sdws (seg + 1) pages t a → SoFar core dbr sdws seg pages t a ⊎ ((t ≡ Directory) × (a ≡ directory_at dbr seg))
+      pub directory_new : (t : Table) (a : ℕ) → SoFar core dbr sdws (seg + 1) pages t a → SoFar core dbr sdws seg pages t a ⊎ ((t ≡ Directory) × (a ≡ directory_at dbr seg))
       directory_new Sdws a k = inl k
       directory_new Directory a k = at (cases_lt k.0 seg)
         where
@@ -128,7 +131,7 @@ module _ (core : List ℕ) (dbr : DbrFields) (seg : ℕ) where
               inr (refl, k.2.found ∙ ap (λ (n : ℕ). directory_at dbr n) same)
       directory_new (Pages s) a k = inl k
 
-      directory_here : SoFar core dbr sdws (seg + 1) pages Directory (directory_at dbr seg)
+      pub directory_here : SoFar core dbr sdws (seg + 1) pages Directory (directory_at dbr seg)
       directory_here =
           let lt : seg < seg + 1 = omega arith in
           (seg, lt, record { bounds = bounds; paged = paged; found = refl })
@@ -146,15 +149,13 @@ module _ (core : List ℕ) (dbr : DbrFields) (seg : ℕ) where
         let begins = k.begins in
         omega arith
 
-    pages_past : (p q : ℕ) → p ≤ q → (t : Table) (a : ℕ) → SoFar core dbr sdws directories p t a → SoFar core dbr sdws directories q t a
+    pub pages_past : (p q : ℕ) → p ≤ q → (t : Table) (a : ℕ) → SoFar core dbr sdws directories p t a → SoFar core dbr sdws directories q t a
     pages_past p q le Sdws a k = k
     pages_past p q le Directory a k = k
     pages_past p q le (Pages s) a k = (k.0, omega arith, k.2)
 
-    -- where a segment has no page from a page on
-    pub no_pages : (page : ℕ) → page ≤ 256 → ((n a : ℕ) → page ≤ n → IsPageWord core dbr seg n a → ⊥) → (size : ℕ) (tables : List ℕ) (least : Option ℕ) → AreMarked (SoFar core dbr sdws directories (256 * seg + page)) size tables least → AreMarked (SoFar core dbr sdws directories (256 * (seg + 1))) size tables least
-    no_pages page few none size tables least m =
-        marked_same (SoFar core dbr sdws directories (256 * seg + page)) (SoFar core dbr sdws directories (256 * (seg + 1))) size tables least (pages_past (256 * seg + page) (256 * (seg + 1)) (omega arith)) back m
+    pub no_pages_back : (page : ℕ) → page ≤ 256 → ((n a : ℕ) → page ≤ n → IsPageWord core dbr seg n a → ⊥) → (t : Table) (a : ℕ) → SoFar core dbr sdws directories (256 * (seg + 1)) t a → SoFar core dbr sdws directories (256 * seg + page) t a
+    no_pages_back page few none = back
       where
         here : (s n a : ℕ) → s ≡ seg → page ≤ n → IsPageWord core dbr s n a → ⊥
         here s n a e le k = none n a le (subst (λ (x : ℕ). IsPageWord core dbr x n a) e k)
@@ -173,6 +174,11 @@ module _ (core : List ℕ) (dbr : DbrFields) (seg : ℕ) where
                 let far : page ≤ k.0 = omega arith in
                 absurd (here s k.0 a same far k.2)
 
+    -- where a segment has no page from a page on
+    pub no_pages : (page : ℕ) → page ≤ 256 → ((n a : ℕ) → page ≤ n → IsPageWord core dbr seg n a → ⊥) → (size : ℕ) (tables : List ℕ) (least : Option ℕ) → AreMarked (SoFar core dbr sdws directories (256 * seg + page)) size tables least → AreMarked (SoFar core dbr sdws directories (256 * (seg + 1))) size tables least
+    no_pages page few none size tables least m =
+        marked_same (SoFar core dbr sdws directories (256 * seg + page)) (SoFar core dbr sdws directories (256 * (seg + 1))) size tables least (pages_past (256 * seg + page) (256 * (seg + 1)) (omega arith)) (no_pages_back page few none) m
+
     -- where a segment has no page at all
     no_page_table : ((n a : ℕ) → IsPageWord core dbr seg n a → ⊥) → (size : ℕ) (tables : List ℕ) (least : Option ℕ) → AreMarked (SoFar core dbr sdws directories (256 * seg)) size tables least → AreMarked (SoFar core dbr sdws directories (256 * (seg + 1))) size tables least
     no_page_table none size tables least m =
@@ -182,28 +188,28 @@ module _ (core : List ℕ) (dbr : DbrFields) (seg : ℕ) where
     pub not_live : ((d : SdwFields) → core_sdw core dbr seg ≡ Ok d → ⊥) → (size : ℕ) (tables : List ℕ) (least : Option ℕ) → AreMarked (SoFar core dbr sdws directories (256 * seg)) size tables least → AreMarked (SoFar core dbr sdws directories (256 * (seg + 1))) size tables least
     not_live dead size tables least m = no_page_table (λ n a k. dead k.sdw k.live) size tables least m
 
+    pub whole_has_none : (d : SdwFields) → core_sdw core dbr seg ≡ Ok d → d.unpaged ≡ true → (n a : ℕ) → IsPageWord core dbr seg n a → ⊥
+    whole_has_none d live whole n a k =
+        let there = k.live in
+        let paged = k.paged in
+        let same : k.sdw ≡ d = cc in
+        let says : k.sdw.unpaged ≡ true = ap (λ (x : SdwFields). x.unpaged) same ∙ whole in
+        cc
+
     pub not_paged : (d : SdwFields) → core_sdw core dbr seg ≡ Ok d → d.unpaged ≡ true → (size : ℕ) (tables : List ℕ) (least : Option ℕ) → AreMarked (SoFar core dbr sdws directories (256 * seg)) size tables least → AreMarked (SoFar core dbr sdws directories (256 * (seg + 1))) size tables least
-    not_paged d live whole size tables least m = no_page_table none size tables least m
-      where
-        none : (n a : ℕ) → IsPageWord core dbr seg n a → ⊥
-        none n a k =
-            let there = k.live in
-            let paged = k.paged in
-            let same : k.sdw ≡ d = cc in
-            let says : k.sdw.unpaged ≡ true = ap (λ (x : SdwFields). x.unpaged) same ∙ whole in
-            cc
+    not_paged d live whole size tables least m = no_page_table (whole_has_none d live whole) size tables least m
+
+    pub none_past : (d : SdwFields) → core_sdw core dbr seg ≡ Ok d → (page : ℕ) → d.bound / 64 < page → (n a : ℕ) → page ≤ n → IsPageWord core dbr seg n a → ⊥
+    none_past d live page past n a le k =
+        let there = k.live in
+        let begins = k.begins in
+        let same : k.sdw ≡ d = cc in
+        let bounds : k.sdw.bound ≡ d.bound = ap (λ (x : SdwFields). x.bound) same in
+        omega arith
 
     -- the pages that begin within the bound are all
     pub pages_done : (d : SdwFields) → core_sdw core dbr seg ≡ Ok d → (page : ℕ) → page ≤ 256 → d.bound / 64 < page → (size : ℕ) (tables : List ℕ) (least : Option ℕ) → AreMarked (SoFar core dbr sdws directories (256 * seg + page)) size tables least → AreMarked (SoFar core dbr sdws directories (256 * (seg + 1))) size tables least
-    pages_done d live page few past size tables least m = no_pages page few none size tables least m
-      where
-        none : (n a : ℕ) → page ≤ n → IsPageWord core dbr seg n a → ⊥
-        none n a le k =
-            let there = k.live in
-            let begins = k.begins in
-            let same : k.sdw ≡ d = cc in
-            let bounds : k.sdw.bound ≡ d.bound = ap (λ (x : SdwFields). x.bound) same in
-            omega arith
+    pages_done d live page few past size tables least m = no_pages page few (none_past d live page past) size tables least m
 
     module _ (page : ℕ) (d : SdwFields) (live : core_sdw core dbr seg ≡ Ok d) (paged : d.unpaged ≡ false) (begins : page ≤ d.bound / 64) where
       page_small : page < 256
@@ -215,7 +221,7 @@ module _ (core : List ℕ) (dbr : DbrFields) (seg : ℕ) where
           let same : k.sdw ≡ d = cc in
           k.found ∙ ap (λ (x : SdwFields). page_at x n) same ∙ ap (page_at d) f
 
-      page_new : (t : Table) (a : ℕ) → SoFar core dbr sdws directories (256 * seg + page + 1) t a → SoFar core dbr sdws directories (256 * seg + page) t a ⊎ ((t ≡ Pages seg) × (a ≡ page_at d page))
+      pub page_new : (t : Table) (a : ℕ) → SoFar core dbr sdws directories (256 * seg + page + 1) t a → SoFar core dbr sdws directories (256 * seg + page) t a ⊎ ((t ≡ Pages seg) × (a ≡ page_at d page))
       page_new Sdws a k = inl k
       page_new Directory a k = inl k
       page_new (Pages s) a k = at (cases_lt (256 * s + k.0) (256 * seg + page))
@@ -230,7 +236,7 @@ module _ (core : List ℕ) (dbr : DbrFields) (seg : ℕ) where
               let same_page : k.0 ≡ page = omega arith in
               inr (ap (λ (n : ℕ). Pages n) same, found_there s k.0 a same same_page k.2)
 
-      page_here : SoFar core dbr sdws directories (256 * seg + page + 1) (Pages seg) (page_at d page)
+      pub page_here : SoFar core dbr sdws directories (256 * seg + page + 1) (Pages seg) (page_at d page)
       page_here =
           let lt : 256 * seg + page < 256 * seg + page + 1 = omega arith in
           (page, lt, record { sdw = d; live = live; paged = paged; begins = begins; found = refl })
@@ -246,12 +252,12 @@ module _ (core : List ℕ) (dbr : DbrFields) (n m : ℕ) (bounds : (q : ℕ) →
       let lt : q < n = ltb-true q n (sym (bounds q) ∙ h) in
       omega arith
 
-  sofar_is : (t : Table) (a : ℕ) → SoFar core dbr m m (256 * m) t a → IsOf core dbr t a
+  pub sofar_is : (t : Table) (a : ℕ) → SoFar core dbr m m (256 * m) t a → IsOf core dbr t a
   sofar_is Sdws a k = (k.0, k.2)
   sofar_is Directory a k = (k.0, k.2)
   sofar_is (Pages s) a k = (k.0, k.2)
 
-  is_sofar : (t : Table) (a : ℕ) → IsOf core dbr t a → SoFar core dbr m m (256 * m) t a
+  pub is_sofar : (t : Table) (a : ℕ) → IsOf core dbr t a → SoFar core dbr m m (256 * m) t a
   is_sofar Sdws a k = (k.0, below k.0 (sdw_place_in_bounds core dbr k.0 k.1.even k.1.found), k.1)
   is_sofar Directory a k = (k.0, below k.0 k.1.bounds, k.1)
   is_sofar (Pages s) a k =
@@ -262,12 +268,12 @@ module _ (core : List ℕ) (dbr : DbrFields) (n m : ℕ) (bounds : (q : ℕ) →
   pub all_marked : (size : ℕ) (tables : List ℕ) (least : Option ℕ) → AreMarked (SoFar core dbr m m (256 * m)) size tables least → AreMarked (IsOf core dbr) size tables least
   all_marked size tables least k = marked_same (SoFar core dbr m m (256 * m)) (IsOf core dbr) size tables least sofar_is is_sofar k
 
-nothing_so_far : (core : List ℕ) (dbr : DbrFields) (t : Table) (a : ℕ) → SoFar core dbr 0 0 0 t a → ⊥
+pub nothing_so_far : (core : List ℕ) (dbr : DbrFields) (t : Table) (a : ℕ) → SoFar core dbr 0 0 0 t a → ⊥
 nothing_so_far core dbr Sdws a k = let lt = k.1 in omega arith
 nothing_so_far core dbr Directory a k = let lt = k.1 in omega arith
 nothing_so_far core dbr (Pages s) a k = let lt = k.1 in omega arith
 
-zeros : (size a : ℕ) → (a < size) ⊎ (size ≤ a) → slice_index (replicate size 0) a ≡ 0
+pub zeros : (size a : ℕ) → (a < size) ⊎ (size ≤ a) → slice_index (replicate size 0) a ≡ 0
 zeros size a (inl lt) = get_or-replicate size a 0 0 lt
 zeros size a (inr le) =
     let past : length (replicate size 0) ≤ a = rw (length-replicate {A = ℕ} size 0) le in

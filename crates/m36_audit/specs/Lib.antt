@@ -3,3 +3,7 @@ pub mod TableMarks
 pub mod Runs
 pub mod Findings
 pub mod Breaks
+pub mod Told
+pub mod Classes
+pub mod Shares
+pub mod Joints

@@ -23,7 +23,7 @@ use m36_word::NoMemory;
 use std::alloc::Global;
 
 /// The findings by the marks and the counts, one condition after another.
-fn found(marks: &TableMarks, counts: &RunCounts, core: &Core, dbr: Dbr) -> Verdict
+pub(crate) fn found(marks: &TableMarks, counts: &RunCounts, core: &Core, dbr: Dbr) -> Verdict
     requires marked { AreMarked (IsOf core.now dbr) (length core.now) marks.now.tables.items
         marks.now.least }
     requires counted { AreCounted (run core.now dbr) (2 ^ 23) (length core.now)

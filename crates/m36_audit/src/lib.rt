@@ -29,17 +29,29 @@
 pub mod auditor;
 mod brackets;
 mod breaking;
+mod classes;
 mod gates;
+mod identities;
+pub mod joint_auditor;
+mod joint_runs;
+pub mod joint_verdict;
+mod joint_words;
 mod live;
+mod owners;
 mod run;
 mod segment_runs;
 mod table_words;
 mod tables;
+mod told;
 pub mod verdict;
 mod words;
 
 pub use auditor::audit;
+pub use joint_auditor::joint;
+pub use joint_verdict::{Joint, JointFinding};
 pub use verdict::{Finding, Verdict};
 
+#[cfg(test)]
+mod joint_tests;
 #[cfg(test)]
 mod tests;

@@ -1,6 +1,6 @@
 //! Runs of core words, and for each core word how many runs begin and end there.
 
-ghost use Rattle.std.specs.Prelude.{ℕ, ◌≡◌, ◌-◌, ◌<◌, ◌^◌, IfOk, replicate, slice_index};
+ghost use Rattle.std.specs.Prelude.{ℕ, ◌≡◌, ◌-◌, ◌<◌, ◌^◌, IfOk, replicate, length, slice_index};
 ghost use Rattle.m36_audit.specs.Runs.{counted};
 
 use m36_word::NoMemory;
@@ -21,7 +21,7 @@ pub(crate) struct RunCounts {
 }
 
 /// So many zeros.
-fn zeros(alloc: Global, size: u32) -> Result<Vec<u32>, NoMemory>
+pub(crate) fn zeros(alloc: Global, size: u32) -> Result<Vec<u32>, NoMemory>
     ensures { IfOk result (λ v. v.items ≡ replicate size 0) }
 {
     let count = size as usize;
@@ -50,6 +50,15 @@ impl RunCounts {
         let starts = zeros(alloc, size)?;
         let stops = zeros(alloc, size)?;
         Ok(RunCounts { starts, stops })
+    }
+
+    /// Forgets all runs.
+    pub(crate) fn clear(&mut self)
+        ensures starts { self.new.starts.items ≡ replicate (length self.old.starts.items) 0 }
+        ensures stops { self.new.stops.items ≡ replicate (length self.old.stops.items) 0 }
+    {
+        self.starts.fill(0);
+        self.stops.fill(0);
     }
 
     /// Counts one more run.

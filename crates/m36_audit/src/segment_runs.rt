@@ -25,7 +25,7 @@ fn words(sdw: &Sdw) -> u32
 }
 
 /// The words of a page that are within the bound, where the page is in core.
-fn page_run(core: &Core, sdw: &Sdw, page: u32) -> Option<Run>
+pub(crate) fn page_run(core: &Core, sdw: &Sdw, page: u32) -> Option<Run>
     requires { page ≤ sdw.now.bound / 64 }
     ensures { result ≡ page_run core.now sdw.now page }
 {
@@ -40,7 +40,7 @@ fn page_run(core: &Core, sdw: &Sdw, page: u32) -> Option<Run>
 }
 
 /// The words of an unpaged segment up to the last address.
-fn first_run(sdw: &Sdw) -> Run
+pub(crate) fn first_run(sdw: &Sdw) -> Run
     ensures { Some result ≡ whole_run sdw.now 0 }
 {
     Run {
@@ -50,7 +50,7 @@ fn first_run(sdw: &Sdw) -> Run
 }
 
 /// The words of an unpaged segment past the last address, which go on at address 0.
-fn second_run(sdw: &Sdw) -> Run
+pub(crate) fn second_run(sdw: &Sdw) -> Run
     ensures { Some result ≡ whole_run sdw.now 1 }
 {
     Run {

@@ -1,6 +1,6 @@
 //! Which table each core word belongs to: the second condition.
 
-ghost use Rattle.std.specs.Prelude.{ℕ, ◌≡◌, IfOk, replicate};
+ghost use Rattle.std.specs.Prelude.{ℕ, ◌≡◌, IfOk, None, length, replicate};
 ghost use Rattle.m36_audit.specs.TableMarks.{tables_marked, least_marked, lesser};
 
 use m36_word::NoMemory;
@@ -44,6 +44,15 @@ impl TableMarks {
             tables,
             least: None,
         })
+    }
+
+    /// Takes all marks away.
+    pub(crate) fn clear(&mut self)
+        ensures tables { self.new.tables.items ≡ replicate (length self.old.tables.items) 0 }
+        ensures least { self.new.least ≡ None }
+    {
+        self.tables.fill(0);
+        self.least = None;
     }
 
     /// Marks a core word as one of a table. A word past the end of core is none.

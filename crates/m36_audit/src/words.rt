@@ -13,7 +13,7 @@ use m36_core::Core;
 use m36_desc::Dbr;
 
 /// The count at a word.
-fn count_at(counts: &Vec<u32>, a: u32) -> u32
+pub(crate) fn count_at(counts: &Vec<u32>, a: u32) -> u32
     requires { a < vec_len counts.now }
     ensures { result ≡ slice_index counts.now.items a }
 {
@@ -21,7 +21,7 @@ fn count_at(counts: &Vec<u32>, a: u32) -> u32
 }
 
 /// The mark at a word.
-fn mark_at(marks: &TableMarks, a: u32) -> u16
+pub(crate) fn mark_at(marks: &TableMarks, a: u32) -> u16
     requires { a < vec_len marks.now.tables }
     ensures { result ≡ slice_index marks.now.tables.items a }
 {
@@ -29,7 +29,7 @@ fn mark_at(marks: &TableMarks, a: u32) -> u16
 }
 
 /// How many runs cover a word, from how many were open before it.
-fn open_at(counts: &RunCounts, core: &Core, dbr: Dbr, a: u32, open_runs: u32) -> u32
+pub(crate) fn open_at(counts: &RunCounts, core: &Core, dbr: Dbr, a: u32, open_runs: u32) -> u32
     requires counted { AreCounted (run core.now dbr) (2 ^ 23) (length core.now)
         counts.now.starts.items counts.now.stops.items }
     requires before { AreOpen (run core.now dbr) (2 ^ 23) a open_runs }

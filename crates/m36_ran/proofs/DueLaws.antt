@@ -19,10 +19,10 @@ none_below Breaks none zero p below breaks = absurd (omega arith)
 none_below Breaks none (suc n) p below breaks =
     none (Some p) (breaks, λ q other. elim (cases_lt q p) [ inl less ↦ absurd (none_below Breaks none n q (omega arith) other) | inr most ↦ most ])
 
-some_find : (Breaks : ℕ → Type 0) → ¬ ((x : Option ℕ) → ¬ Finds Breaks x)
+pub some_find : (Breaks : ℕ → Type 0) → ¬ ((x : Option ℕ) → ¬ Finds Breaks x)
 some_find Breaks none = none None (λ p breaks. none_below Breaks none (suc p) p (omega arith) breaks)
 
-some_findings : (core : List ℕ) (dbr : DbrFields) → ¬ ((findings : List (ℕ × ℕ)) → ¬ AreFindings core dbr findings)
+pub some_findings : (core : List ℕ) (dbr : DbrFields) → ¬ ((findings : List (ℕ × ℕ)) → ¬ AreFindings core dbr findings)
 some_findings core dbr none =
     some_find (IsOutOfOrder core dbr) (λ first finds_first.
     some_find (IsInTwoTables core dbr) (λ second finds_second.

@@ -14,7 +14,7 @@ use Rattle.m36_ran.specs.Output.{as_line, trace_text, trace_pieces, output_from,
 use Rattle.m36_ran.specs.AuditText.{finding_line, finding_lines, finding_pieces, yes_line, audit_text, audit_pieces}
 use Rattle.m36_ran.specs.Ran.{run_answer, audit_answer, bare_by, state_answer}
 
-joined_on : (first second : List (List ℕ)) → joined (first ++ second) ≡ joined first ++ joined second
+pub joined_on : (first second : List (List ℕ)) → joined (first ++ second) ≡ joined first ++ joined second
 joined_on [] second = refl
 joined_on (piece ∷ first) second =
     ap (λ t. piece ++ t) (joined_on first second) ∙ sym (append_assoc piece (joined first) (joined second))

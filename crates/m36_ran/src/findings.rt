@@ -23,7 +23,7 @@ fn is_of_segment(condition: u8) -> bool
 
 /// A segment in five digits, or a core word in eight.
 #[tactic(auto, using(crate::proofs::AuditTexts::digits_alone))]
-fn place_text(condition: u8, place: u32) -> ArrayString<22>
+pub fn place_text(condition: u8, place: u32) -> ArrayString<22>
     ensures text { result.bytes ≡ octal_text (place_digits condition) place }
     ensures len { length result.bytes ≤ 8 }
 {
@@ -73,8 +73,8 @@ fn put_findings<S: Sink>(findings: &[Finding], out: &mut S) -> Put
     Put::Done
 }
 
-// Puts the line `audit yes`.
-fn put_yes<S: Sink>(out: &mut S) -> Put
+/// Puts the line `audit yes`.
+pub fn put_yes<S: Sink>(out: &mut S) -> Put
     ensures says { PutSays result (S.written out.old) (S.written out.new) yes_line }
     ensures through { TakesLines result (S.taken out.old) (S.taken out.new) (yes_line ∷ []) }
     ensures cause { PutHasCause result (S.faults out.old) (S.faults out.new) }

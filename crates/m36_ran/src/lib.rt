@@ -13,7 +13,7 @@
 
 pub mod answering;
 pub mod command;
-mod findings;
+pub mod findings;
 pub mod reading;
 pub mod running;
 

@@ -24,6 +24,11 @@ pub enum Code {
     I2,
     /// Core words at a place that is not above every earlier one, or outside core.
     I3,
+    /// A text of processes: a line not of its form, out of order or missing, an N or an address against its rule, or too many
+    /// events.
+    P1,
+    /// A number of no process.
+    P2,
     /// There are fewer than seven words; the count.
     O1,
     /// The map is not where the last word tells it to be, or a word of it is not as it must be.
@@ -112,6 +117,8 @@ impl Code {
             Code::I1 => "I1",
             Code::I2 => "I2",
             Code::I3 => "I3",
+            Code::P1 => "P1",
+            Code::P2 => "P2",
             Code::O1 => "O1",
             Code::O2 => "O2",
             Code::O3 => "O3",

@@ -20,9 +20,11 @@ use Rattle.m36_ran.specs.declared.command.BareRun.{BareRun}
 use Rattle.m36_ran.specs.declared.command.ImageCommand.{ImageCommand}
 use Rattle.m36_ran.specs.declared.command.ImageCommand.TheVariants as image
 use Rattle.m36_ran.specs.Ran.{state_reads, run_answer, audit_answer, bare_by, state_answer}
+use Rattle.m36_scheduled.specs.Scheduled.{procs_reads}
+use Rattle.m36_scheduled.proofs.YesAnswers.{procs_sets}
 use Rattle.m36_top.specs.declared.command.Command.{Command}
-use Rattle.m36_top.specs.declared.command.Command.TheVariants.{Bare, Audit, Print, Alm}
-use Rattle.m36_top.specs.Dues.{Due, Told, Image, on_image, IsDueOf, WantsOf, due_kind}
+use Rattle.m36_top.specs.declared.command.Command.TheVariants.{Bare, Audit, Procs, Print, Alm}
+use Rattle.m36_top.specs.Dues.{Due, Told, Image, Schedule, on_image, on_procs, IsDueOf, WantsOf, due_kind}
 use Rattle.m36_top.specs.Commands.{reads, writes_files}
 use Rattle.m36_top.specs.TopCall.{WriteRose, WritesStand, WriteCauseBy, KeepsBy}
 
@@ -98,6 +100,12 @@ audit_none : (file : List ℕ) → Always NoSets (reads (Audit file))
 unfolding reads
 audit_none file = image_none image.Audit file
 
+procs_none : (file : List ℕ) (unaudited : Bool) → Always NoSets (reads (Procs file unaudited))
+unfolding reads mapped
+procs_none file unaudited =
+    always_then NoSets (procs_reads file) (λ p. decided (Ok (on_procs unaudited p)))
+    (λ p due is. procs_sets unaudited p due is) (λ r. tt)
+
 print_none : (name : List ℕ) → Always NoSets (reads (Print name))
 unfolding reads print_reads
 print_none name =
@@ -108,6 +116,7 @@ print_none name =
 reads_none : (command : Command) → writes_files command ≡ false → Always NoSets (reads command)
 reads_none (Bare file run) none = bare_none file run
 reads_none (Audit file) none = audit_none file
+reads_none (Procs file unaudited) none = procs_none file unaudited
 reads_none (Print name) none = print_none name
 reads_none (Alm files) none = absurd (cc)
 
@@ -134,6 +143,7 @@ cut_rose false due old new none (inr is) = is.cause
 wants_stand : (d : Due) (old new : Outside) → WantsOf d old new → WritesStand old new
 wants_stand (Told told) old new w = (w.put_faults, w.write_faults)
 wants_stand (Image image) old new w = (w.put_faults, w.write_faults)
+wants_stand (Schedule s) old new w = (w.put_faults, w.write_faults)
 
 cause_by :
     (command : Command) (asked : List Asked) (end : End) (result : Status) (old new : Outside)
@@ -169,6 +179,7 @@ cut_keeps due old new none (inr is) = is.files ∙ ap (λ (s : List Set). with_s
 wants_keeps : (d : Due) (old new : Outside) → NoSets (Ok d) → WantsOf d old new → Keeps old new
 wants_keeps (Told told) old new none w = absurd (empty_parts w.before w.next w.others (sym (none (told_answer told) refl) ∙ w.sets))
 wants_keeps (Image image) old new none w = w.files
+wants_keeps (Schedule s) old new none w = w.files
 
 keeps_by :
     (command : Command) (asked : List Asked) (end : End) (result : Status) (old new : Outside) → writes_files command ≡ false

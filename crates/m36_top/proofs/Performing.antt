@@ -1,5 +1,5 @@
 -- A command is performed by what performs its kind.
-use Rattle.std.proofs.Common.{◌≡◌, ℕ, List, Option, Some, None, refl, sym, subst, ◌∙◌}
+use Rattle.std.proofs.Common.{◌≡◌, ℕ, Bool, List, Option, Some, None, refl, sym, subst, ◌∙◌}
 use Rattle.std.specs.Prelude.{◌↔◌}
 use Rattle.m36_model.specs.Store.{State}
 use Rattle.m36_reading.specs.declared.status.Status.{Status}
@@ -17,9 +17,10 @@ use Rattle.m36_ran.specs.declared.command.BareRun.{BareRun}
 use Rattle.m36_ran.specs.declared.command.ImageCommand.{ImageCommand}
 use Rattle.m36_ran.specs.declared.command.ImageCommand.TheVariants as image
 use Rattle.m36_ran.specs.Ran.{state_reads, state_kind}
+use Rattle.m36_scheduled.specs.Scheduled.{procs_reads, procs_kind}
 use Rattle.m36_top.specs.declared.command.Command.{Command}
-use Rattle.m36_top.specs.declared.command.Command.TheVariants.{Bare, Audit, Print, Alm}
-use Rattle.m36_top.specs.Dues.{Due, Told, on_image, due_kind}
+use Rattle.m36_top.specs.declared.command.Command.TheVariants.{Bare, Audit, Procs, Print, Alm}
+use Rattle.m36_top.specs.Dues.{Due, Told, on_image, on_procs, due_kind}
 use Rattle.m36_top.specs.Commands.{reads}
 use Rattle.m36_top.specs.TopCall.{Through, IsUnasked}
 
@@ -55,6 +56,17 @@ unfolding reads
 performs_audit name lent result old new before after is does =
     on_file image.Audit name lent result old new before after is does
 
+procs_is : (unaudited : Bool) → IsKindOf (procs_kind unaudited) due_kind (on_procs unaudited)
+procs_is unaudited = record { due = λ p due is. is; wants = λ p old new wants. wants }
+
+pub performs_procs :
+    (name lent : List ℕ) (unaudited : Bool) (result : Status) (old new : Outside) (before after : List Asked)
+    → lent ≡ name → Does (procs_kind unaudited) (procs_reads lent) result old new before after
+    → Does due_kind (reads (Procs name unaudited)) result old new before after
+unfolding reads
+performs_procs name lent unaudited result old new before after is does =
+    does_mapped (procs_kind unaudited) due_kind (on_procs unaudited) (procs_reads name) result old new before after (procs_is unaudited) (subst (λ n. Does (procs_kind unaudited) (procs_reads n) result old new before after) is does)
+
 pub performs_print :
     (name lent : List ℕ) (result : Status) (old new : Outside) (before after : List Asked)
     → lent ≡ name → Does told_kind (print_reads lent) result old new before after
@@ -71,7 +83,7 @@ unfolding reads
 performs_alm files result old new before after does =
     does_mapped told_kind due_kind Told (alm_reads files) result old new before after told_is does
 
-pub ruleset performing = (performs_bare, performs_audit, performs_print, performs_alm)
+pub ruleset performing = (performs_bare, performs_audit, performs_procs, performs_print, performs_alm)
 
 -- ---- whether the words are a command
 

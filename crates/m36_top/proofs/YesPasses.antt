@@ -13,10 +13,10 @@ use Rattle.m36_reading.specs.Outside.{Outside}
 use Rattle.m36_reading.specs.Ends.{End, Answered, Cut, Unread, Starved, Unasked, end_of}
 use Rattle.m36_reading.specs.Doing.{IsUnset, IsUnput, EndsBy, Does}
 use Rattle.m36_ran.specs.AuditText.{yes_line}
-use Rattle.m36_ran.specs.Ran.{PassesAudit}
 use Rattle.m36_ran.proofs.YesAnswers.{yes_passes}
+use Rattle.m36_scheduled.proofs.YesAnswers.{yes_passes as procs_pass}
 use Rattle.m36_top.specs.declared.command.Command.{Command}
-use Rattle.m36_top.specs.Dues.{Due, Told, Image, IsDueOf, WantsOf, due_kind, audited}
+use Rattle.m36_top.specs.Dues.{Due, Told, Image, Schedule, IsDueOf, WantsOf, due_kind, Promises}
 use Rattle.m36_top.specs.Commands.{reads}
 use Rattle.m36_top.specs.TopCall.{SaysYes, YesPasses, AnswersPass}
 
@@ -50,9 +50,10 @@ yes_grew_within old new text cut told_yes =
     (b.0 ++ cut.rest, cut.whole ∙ ap (λ t. t ++ cut.rest) b.1 ∙ append_assoc yes_line b.0 cut.rest)
 
 -- an answer is due that begins so
-due_passes : (d : Due) (due : Answer) → IsDueOf d due → Begins due.text → IfSome (audited d) PassesAudit
+due_passes : (d : Due) (due : Answer) → IsDueOf d due → Begins due.text → Promises d
 due_passes (Told told) due is begins = tt
 due_passes (Image image) due is begins = yes_passes image.command image.state due begins.0 is begins.1
+due_passes (Schedule s) due is begins = procs_pass s.unaudited s.procs due begins.0 is begins.1
 
 nothing_begins : (rest : List ℕ) → [] ≡ yes_line ++ rest → ⊥
 nothing_begins rest e = cc
@@ -78,6 +79,7 @@ cut_passes d due old new is (inr unput) = λ told_yes. due_passes d due is (yes_
 wants_passes : (d : Due) (given : Early Due) (old new : Outside) → WantsOf d old new → YesPasses given old new
 wants_passes (Told told) given old new w = idle_passes given old new w.written
 wants_passes (Image image) given old new w = idle_passes given old new w.written
+wants_passes (Schedule s) given old new w = idle_passes given old new w.written
 
 -- by what a reading came to
 pub ends_pass_by :

@@ -6,6 +6,7 @@ use Rattle.m36_reading.specs.declared.status.Status.TheVariants.{Usage}
 use Rattle.m36_reading.specs.Reading.{outcome_in}
 use Rattle.m36_reading.specs.Answers.{Answer, unwritten, IsDueBy}
 use Rattle.m36_ran.specs.DueLaw.{StateDueLaw}
+use Rattle.m36_scheduled.specs.DueLaw.{ProcsDueLaw}
 use Rattle.m36_top.specs.declared.command.Command.{Command}
 use Rattle.m36_top.specs.Words.{command_of}
 use Rattle.m36_top.specs.Dues.{IsDueOf}
@@ -16,7 +17,7 @@ IsCommandDue None files due = due ≡ unwritten Usage
 IsCommandDue (Some command) files due = IsDueBy IsDueOf (outcome_in files (reads command)) due
 
 -- One answer at most is due to words and files, and it can't be that none is. Its pieces, one behind the other, are its
--- text. To a command on an image it is the one that the findings of the audit give.
+-- text. To a command on an image, or on processes, it is the one that the findings of the audit give.
 pub record DueLaw : Type 0 where
   pub one :
       (words : List (List ℕ)) (files : Files) (due same : Answer)
@@ -28,3 +29,4 @@ pub record DueLaw : Type 0 where
       (words : List (List ℕ)) (files : Files) (due : Answer)
       → IsCommandDue (command_of words) files due → joined due.pieces ≡ due.text
   pub on_images : StateDueLaw
+  pub on_processes : ProcsDueLaw

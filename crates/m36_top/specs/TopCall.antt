@@ -11,9 +11,8 @@ use Rattle.m36_reading.specs.Outside.{Outside, IsIdle, NoneUnread}
 use Rattle.m36_reading.specs.Ends.{End, Answered, Cut, Unread, Starved, Unasked, end_of}
 use Rattle.m36_reading.specs.Doing.{IsAnswered, EndsBy, Does}
 use Rattle.m36_ran.specs.AuditText.{yes_line}
-use Rattle.m36_ran.specs.Ran.{PassesAudit}
 use Rattle.m36_top.specs.declared.command.Command.{Command}
-use Rattle.m36_top.specs.Dues.{Due, due_kind, audited}
+use Rattle.m36_top.specs.Dues.{Due, due_kind, Promises}
 use Rattle.m36_top.specs.Commands.{reads, writes_files}
 
 -- no command
@@ -99,9 +98,9 @@ pub record SaysYes (old new : Option (List ℕ)) : Type 0 where
   pub was : old ≡ Some before
   pub is : new ≡ Some (before ++ (yes_line ++ rest))
 
--- Then the image that the command audits passes. Nothing is owed for a command that audits none.
+-- Then the image or the processes that the command audits pass. Nothing is owed for a command that audits none.
 abbrev pub YesPasses : Early Due → Outside → Outside → Type 0
-YesPasses (Ok due) old new = SaysYes old.sink.written new.sink.written → IfSome (audited due) PassesAudit
+YesPasses (Ok due) old new = SaysYes old.sink.written new.sink.written → Promises due
 YesPasses (Err refusal) old new = ¬ SaysYes old.sink.written new.sink.written
 
 abbrev pub TopPasses : Option Command → Files → Outside → Outside → Type 0

@@ -2,6 +2,7 @@
 --
 --     bare FILE [--steps N] [--unaudited]
 --     audit FILE
+--     procs FILE [--unaudited]
 --     print NAME
 --     alm NAME
 --
@@ -19,7 +20,7 @@ use Rattle.m36_top.specs.declared.words.Given.{Given}
 use Rattle.m36_top.specs.declared.words.Expects.{Expects}
 use Rattle.m36_top.specs.declared.words.Expects.TheVariants as expects
 use Rattle.m36_top.specs.declared.command.Command.{Command}
-use Rattle.m36_top.specs.declared.command.Command.TheVariants.{Bare, Audit, Print, Alm}
+use Rattle.m36_top.specs.declared.command.Command.TheVariants.{Bare, Audit, Procs, Print, Alm}
 
 -- operands: the files of all commands
 abbrev pub operand_of : List ℕ → Option (List ℕ)
@@ -81,8 +82,8 @@ with_words g (word ∷ words) = option_and_then (λ h. with_words h words) (with
 abbrev pub nothing : Given
 nothing = record { operand = None; steps = None; unaudited = false; expects = expects.Any }
 
--- The commands by their words, each with what it makes of its operands and options. All options go with `bare`, and none
--- with the others.
+-- The commands by their words, each with what it makes of its operands and options. All options go with `bare`, `--unaudited`
+-- with `procs`, and none with the others.
 abbrev pub bare : Given → Option Command
 bare g =
     option_map
@@ -94,6 +95,9 @@ has_no_option g = is_none g.steps && not g.unaudited
 
 abbrev pub audit : Given → Option Command
 audit g = if has_no_option g then option_map (λ file. Audit file) g.operand else None
+
+abbrev pub procs : Given → Option Command
+procs g = if is_none g.steps then option_map (λ file. Procs file g.unaudited) g.operand else None
 
 abbrev pub print : Given → Option Command
 print g = if has_no_option g then option_map (λ name. Print name) g.operand else None
@@ -109,7 +113,7 @@ abbrev pub Entry : Type 0
 Entry = List ℕ × (Given → Option Command)
 
 abbrev pub commands : List Entry
-commands = (codes "bare", bare) ∷ (codes "audit", audit) ∷ (codes "print", print) ∷ (codes "alm", alm) ∷ []
+commands = (codes "bare", bare) ∷ (codes "audit", audit) ∷ (codes "procs", procs) ∷ (codes "print", print) ∷ (codes "alm", alm) ∷ []
 
 -- the command of a word
 abbrev pub command_in : List Entry → List ℕ → Given → Option Command

@@ -11,6 +11,8 @@ pub enum Command {
     Bare(Name, BareRun),
     /// `audit FILE`: audits the machine of a bare image.
     Audit(Name),
+    /// `procs FILE`: audits several processes on one core, and runs them by their schedule, perhaps though the audit fails.
+    Procs(Name, bool),
     /// `print NAME`: writes the print of an object.
     Print(Name),
     /// `alm NAME`: assembles a source, writes the object, and then the listing.

@@ -81,6 +81,46 @@ at 00000002 000000405444 000005300000 000000400054 000003300000
 
 const SEGMENTS_OUTPUT: &[u8] = b"audit no A1 00001\naudit no A5 00002\naudit no A6 00002\n";
 
+/// Two processes that take a lock: one has it.
+const LOCK: &[u8] = b"core 1
+process 000000000000 000000200000 00001 4 000000
+process 000000200000 000000200000 00001 4 000000
+at 00000002 000000404444 000006300000 000000604444 000005300000
+at 00000022 000000404444 000006300000 000000604444 000005300000
+at 00000040 000004761000 000004235000 100000354100 000002710000 000002000000
+turns 3 0 1
+";
+
+const LOCK_OUTPUT: &[u8] = b"audit yes
+0 1 4 00001|000000 000004761000 4:00001|000004 000000000000 000000000000 ...... next
+1 2 4 00001|000000 000004761000 4:00001|000004 000000000000 000000000000 ...... next
+0 3 4 00001|000001 000004235000 4:00001|000004 000002000000 000000000000 ...... next
+1 4 4 00001|000001 000004235000 4:00001|000004 000002000000 000000000000 ...... next
+0 5 4 00001|000002 100000354100 4:00002|000000 000002000000 000000000000 z..... next
+1 6 4 00001|000002 100000354100 4:00002|000000 000002000000 000000000000 ...... next
+end schedule 6
+";
+
+/// The same with other brackets of the second process's segment 2.
+const LOOSE: &[u8] = b"core 1
+process 000000000000 000000200000 00001 4 000000
+process 000000200000 000000200000 00001 4 000000
+at 00000002 000000404444 000006300000 000000604444 000005300000
+at 00000022 000000404444 000006300000 000000604554 000005300000
+at 00000040 000004761000 000004235000 100000354100 000002710000 000002000000
+turns 3 0 1
+";
+
+/// A process that there is not.
+const NO_PROCESS: &[u8] = b"core 1
+process 000000000000 000000200000 00001 4 000000
+process 000000200000 000000200000 00001 4 000000
+at 00000002 000000404444 000006300000 000000604444 000005300000
+at 00000022 000000404444 000006300000 000000604444 000005300000
+at 00000040 000004761000 000004235000 100000354100 000002710000 000002000000
+turns 3 0 2
+";
+
 /// The object of an empty source: 18 words, of which two fill nine bytes.
 const EMPTY: [u8; 81] = [
     0, 0, 0, 0, 0, 0, 0, 0, 0, // two words of the definition section
@@ -110,6 +150,8 @@ const BARE: List = &[b"bare", b"f"];
 const UNAUDITED: List = &[b"bare", b"f", b"--unaudited"];
 
 const AUDIT: List = &[b"audit", b"f"];
+
+const PROCS: List = &[b"procs", b"f"];
 
 const PRINT: List = &[b"print", b"e"];
 
@@ -157,6 +199,8 @@ fn writes_outputs(rt: HostRuntime) -> Result<(), NoMemory> {
         (AUDIT, (b"f", SHARED_TABLE), 5, b"audit no A2 00000010\n"),
         (AUDIT, (b"f", SHARED_PAGE), 5, b"audit no A4 00004000\n"),
         (AUDIT, (b"f", SEGMENTS), 5, SEGMENTS_OUTPUT),
+        (PROCS, (b"f", LOCK), 0, LOCK_OUTPUT),
+        (PROCS, (b"f", LOOSE), 5, b"audit no J3 00000060\n"),
         (PRINT, (b"e", EMPTY.as_slice()), 0, EMPTY_PRINT),
         (ALM, (b"e.alm", b""), 0, EMPTY_PRINT),
     ] {
@@ -193,6 +237,8 @@ fn refuses_files(rt: HostRuntime) -> Result<(), NoMemory> {
         (BARE, (b"e", LEAST), b"f", (Code::F1, 0, 0)),
         (AUDIT, (b"f", b"core 0\n"), b"f", (Code::I2, 1, 0)),
         (BARE, (b"f", b"core 1\n"), b"f", (Code::I1, 2, 0)),
+        (PROCS, (b"f", NO_PROCESS), b"f", (Code::P2, 7, 0)),
+        (PROCS, (b"f", b"core 1\n"), b"f", (Code::P1, 2, 0)),
         (PRINT, (b"e", b""), b"e", (Code::O1, 0, 0)),
         (PRINT, (b"e", b"\0\0\0\0\x10"), b"e", (Code::O1, 1, 0)),
         (PRINT, (b"e", b"\0\0\0\0\x11"), b"e", (Code::T4, 4, 0)),

@@ -14,6 +14,7 @@ use crate::words::command_of;
 use m36_outside::{Folder, Sink, Text};
 use m36_ran::{ImageCommand, image_file};
 use m36_reading::Status;
+use m36_scheduled::procs_file;
 use m36_told::{alm_file, print_file};
 use std::alloc::Global;
 
@@ -36,6 +37,9 @@ pub fn perform<F: Folder, S: Sink>(
         }
         Command::Audit(file) => {
             image_file(alloc, file.bytes(), ImageCommand::Audit, folder, out)
+        }
+        Command::Procs(file, unaudited) => {
+            procs_file(alloc, file.bytes(), *unaudited, folder, out)
         }
         Command::Print(name) => print_file(alloc, name.bytes(), folder, out),
         Command::Alm(files) => alm_file(alloc, files, folder, out),
@@ -63,7 +67,9 @@ fn answer<F: Folder, S: Sink>(alloc: Global, words: &[Text], folder: &mut F, out
 ///
 /// `words` leaves out the name of the program. `audit FILE` reads the file as a bare image, audits it, and writes the
 /// audit text. `bare FILE` does so too; where the audit passes, or `--unaudited` is given, it then runs the image for at
-/// most the steps that `--steps` gives, 100,000 by default, and writes a trace line for each and the end line. `print NAME`
+/// most the steps that `--steps` gives, 100,000 by default, and writes a trace line for each and the end line. `procs FILE`
+/// reads the file as a text of processes, audits them together, and writes the audit text; where the audit passes, or
+/// `--unaudited` is given, it then makes the events of the schedule, and writes a line for each and the last line. `print NAME`
 /// unpacks the words of the file, reads them as an object, and writes its print. `alm NAME` assembles the source NAME.alm,
 /// writes the words of the object, packed, as the file NAME, and then the listing.
 #[tactic(auto, using(crate::proofs::TopEnds::tops))]
@@ -84,7 +90,8 @@ pub fn m36<F: Folder, S: Sink>(alloc: Global, words: &[Text], folder: &mut F, ou
         (outside_of F.files F.read_faults F.write_faults S.written S.taken S.faults folder.old out.old)
         (outside_of F.files F.read_faults F.write_faults S.written S.taken S.faults folder.new out.new)) }
 
-    // Where `audit yes` is written all conditions of the audit hold, and the tables of the image isolate each ring.
+    // Where `audit yes` is written all conditions of the audit hold, and the tables of the image isolate each ring; of
+    // processes all conditions of the joint audit hold, and every schedule of them is isolated.
     ensures isolated { IfSome (F.files folder.old) (λ f. TopPasses (command_of words.now) f
         (outside_of F.files F.read_faults F.write_faults S.written S.taken S.faults folder.old out.old)
         (outside_of F.files F.read_faults F.write_faults S.written S.taken S.faults folder.new out.new)) }

@@ -34,6 +34,8 @@ fn knows_its_words(rt: HostRuntime) -> Result<(), NoMemory> {
         (&[b"audit", b"f"], 0, 10),
         (&[b"audit", b"--", b"f"], 0, 10),
         (&[b"audit", b"none"], 4, 0),
+        (&[b"procs", b"f", b"--unaudited"], 4, 0),
+        (&[b"procs", b"f", b"--steps", b"1"], 1, 0),
         (&[b"print", b"f"], 4, 0),
         (&[b"print", b"--", b"none"], 4, 0),
         (&[b"", b"", b""], 1, 0),

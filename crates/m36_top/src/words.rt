@@ -1,7 +1,7 @@
 //! The words of the command line.
 
 ghost use Rattle.std.specs.Prelude.{ℕ, ◌≡◌, ◌≤◌, ◌++◌, true, length, drop, codes, Some, IfSome};
-ghost use Rattle.m36_top.specs.Words.{steps_of, with_operand, with_steps, with_unaudited, expecting, is_steps_with_value, with_any, with_word, ended_by, with_words, nothing, bare, has_no_option, audit, print, alm_of, alm, commands, command_in, command_of};
+ghost use Rattle.m36_top.specs.Words.{steps_of, with_operand, with_steps, with_unaudited, expecting, is_steps_with_value, with_any, with_word, ended_by, with_words, nothing, bare, has_no_option, audit, procs, print, alm_of, alm, commands, command_in, command_of};
 
 use crate::command::Command;
 use crate::names::{operand_of, source_of};
@@ -204,6 +204,18 @@ fn audit(given: Given) -> Option<Command>
     }
 }
 
+// `procs FILE`
+fn procs(given: Given) -> Option<Command>
+    ensures { result ≡ procs given }
+{
+    if given.steps.is_none() {
+        let unaudited = given.unaudited;
+        Some(Command::Procs(given.operand?, unaudited))
+    } else {
+        None
+    }
+}
+
 // `print NAME`
 fn print(given: Given) -> Option<Command>
     ensures { result ≡ print given }
@@ -245,6 +257,9 @@ fn command_in(word: &[u8], given: Given) -> Option<Command>
     }
     if word == b"audit".as_slice() {
         return audit(given);
+    }
+    if word == b"procs".as_slice() {
+        return procs(given);
     }
     if word == b"print".as_slice() {
         return print(given);

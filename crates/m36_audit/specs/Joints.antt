@@ -1,0 +1,28 @@
+-- The findings of a joint audit, as the definitions list them.
+use Rattle.std.specs.Prelude.{ℕ, List, ◌++◌, map, drop, length}
+use Rattle.m36_desc.specs.Fields.{DbrFields}
+use Rattle.m36_model.specs.JointAudit.{JointFound, AreFindingsFrom}
+use Rattle.m36_audit.specs.Told.{AreTold}
+use Rattle.m36_audit.specs.Shares.{Below, TableOwned, SegmentOwned, Identified}
+use Rattle.m36_audit.specs.declared.joint_verdict.JointFinding.{JointFinding}
+
+abbrev pub found_of : JointFinding → JointFound
+found_of f = record { process = f.process; condition = f.condition; place = f.place }
+
+abbrev pub all_found : List JointFinding → List JointFound
+all_found findings = map found_of findings
+
+-- What is told of the core words is told of the first n processes: which have a table word there, which have a word of a
+-- segment, and which tables these are.
+pub record AreShares (core : List ℕ) (dbrs : List DbrFields) (firsts : List ℕ) (n : ℕ)
+    (tables segments identities : List ℕ) : Type 0 where
+  pub of_tables : AreTold (Below (TableOwned core dbrs) n) (length core) tables
+  pub of_segments : AreTold (Below (SegmentOwned core dbrs) n) (length core) segments
+  pub of_identities : AreTold (Below (Identified core dbrs firsts) n) (length core) identities
+
+-- The findings of the first n processes: with those of the rest behind them they are those of all.
+pub record AreFoundSo (core : List ℕ) (dbrs : List DbrFields) (n : ℕ)
+    (findings : List JointFinding) : Type 0 where
+  pub whole :
+      (rest : List JointFound) → AreFindingsFrom n core (drop n dbrs) rest
+      → AreFindingsFrom 0 core dbrs (all_found findings ++ rest)

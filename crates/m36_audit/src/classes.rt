@@ -1,0 +1,95 @@
+//! Equal descriptors of several processes: which descriptor is the first with its words.
+
+ghost use Rattle.std.specs.Prelude.{ℕ, ◌≡◌, ◌+◌, ◌*◌, ◌<◌, ◌≤◌, ◌^◌, Some, IfOk, OnOk, MatchOption, length, slice_get, slice_set, slice_index, nat_eq};
+ghost use Rattle.std.specs.HashMap.{get};
+ghost use Rattle.m36_audit.specs.Classes.{IsKey, KeyAt, AreClasses, AreNoted, AreNotedSo};
+
+use crate::run::zeros;
+use m36_core::Core;
+use m36_desc::Dbr;
+use m36_tables::{descriptor_place, segment_count, wrapped};
+use m36_word::NoMemory;
+use std::alloc::Global;
+use std::collections::HashMap;
+
+/// Segments of a process, by their numbers.
+const SEGMENTS: u32 = 1 << 15;
+
+/// The two words of a segment's descriptor as one number, where both stand in core.
+fn key(core: &Core, dbr: Dbr, seg: u16) -> Option<u128>
+    requires { seg < 2 ^ 15 }
+    ensures value { MatchOption result ((k : ℕ) → IsKey core.now dbr seg k → ⊥)
+        (λ k. IsKey core.now dbr seg k) }
+    ensures small { (k : ℕ) (h : IsKey core.now dbr seg k) → h.odd < 2 ^ 36 }
+{
+    match descriptor_place(core, dbr, seg) {
+        Ok(at) => {
+            let next = wrapped(at + 1);
+            if at < core.len() && next < core.len() {
+                let even = core.peek(at).value();
+                let odd = core.peek(next).value();
+                Some(even as u128 * (1 << 36) + odd as u128)
+            } else {
+                None
+            }
+        }
+        Err(_) => None,
+    }
+}
+
+/// Notes the number of one descriptor, where its words stand in core.
+fn note(
+    places: &mut HashMap<u128, u32>,
+    firsts: &mut Vec<u32>,
+    key: Option<u128>,
+    number: u32,
+) -> Result<(), NoMemory>
+    requires { number < length firsts.old.items }
+    ensures { OnOk result (AreNoted (get nat_eq places.old) (get nat_eq places.new) firsts.old.items firsts.new.items key number) }
+{
+    let Some(key) = key else {
+        return Ok(());
+    };
+    match places.get(&key) {
+        Some(first) => firsts[number as usize] = *first,
+        None => {
+            places.insert(key, number)?;
+            firsts[number as usize] = number;
+        }
+    }
+    Ok(())
+}
+
+/// Notes the descriptors of process k.
+fn note_process(
+    places: &mut HashMap<u128, u32>,
+    firsts: &mut Vec<u32>,
+    core: &Core,
+    dbrs: &[Dbr],
+    k: usize,
+) -> Result<(), NoMemory>
+    requires process { k < length dbrs.now }
+    requires few { length dbrs.now ≤ 8 }
+    requires before { AreNotedSo core.now dbrs.now (2 ^ 15 * k) (get nat_eq places.old) firsts.old.items }
+    ensures { OnOk result (AreNotedSo core.now dbrs.now (2 ^ 15 * (k + 1)) (get nat_eq places.new) firsts.new.items) }
+{
+    let dbr = dbrs[k];
+    let first = k as u32 * SEGMENTS;
+    for seg in 0..segment_count(dbr) {
+        note(places, firsts, key(core, dbr, seg), first + seg as u32)?;
+    }
+    Ok(())
+}
+
+/// For each descriptor of each process the number of the first one with its words. The error is want of memory alone.
+pub(crate) fn classes(alloc: Global, core: &Core, dbrs: &[Dbr]) -> Result<Vec<u32>, NoMemory>
+    requires { length dbrs.now ≤ 8 }
+    ensures { IfOk result (λ firsts. AreClasses core.now dbrs.now (2 ^ 15 * length dbrs.now) firsts.items) }
+{
+    let mut firsts = zeros(alloc, dbrs.len() as u32 * SEGMENTS)?;
+    let mut places = HashMap::new(alloc);
+    for k in 0..dbrs.len() {
+        note_process(&mut places, &mut firsts, core, dbrs, k)?;
+    }
+    Ok(firsts)
+}

@@ -1,0 +1,98 @@
+//! Which tables of which segments each core word belongs to, over several processes.
+
+ghost use Rattle.std.specs.Prelude.{ℕ, ◌≡◌, ◌+◌, ◌*◌, ◌/◌, ◌<◌, ◌≤◌, ◌^◌, IfOk, OnSome, length, slice_index};
+ghost use Rattle.m36_desc.specs.Fields.{SdwFields};
+ghost use Rattle.m36_model.specs.Place.{directory_at, sdw_place, core_sdw};
+ghost use Rattle.m36_audit.specs.Shares.{descriptor_told, directory_told, pages_told, page_table_told, live_told, segment_told, segments_told, IsSegmentCount};
+
+use crate::told::Told;
+use m36_core::Core;
+use m36_desc::{Dbr, Sdw};
+use m36_model::Refusal;
+use m36_tables::{descriptor, descriptor_place, directory_at, page_at, segment_count, wrapped};
+
+/// Tells the two words of a descriptor, by where it lies.
+fn tell_descriptor(told: &mut Told, place: Result<u32, Refusal>, number: u32)
+    requires { IfOk place (λ a. a < 2 ^ 24) }
+    ensures { told.new.values.items ≡ descriptor_told number place told.old.values.items }
+{
+    match place {
+        Ok(even) => {
+            told.tell(even, number);
+            told.tell(wrapped(even + 1), number);
+        }
+        Err(_) => {}
+    }
+}
+
+/// Tells the word of the descriptor segment's page table by which a descriptor is found.
+fn tell_directory(told: &mut Told, dbr: Dbr, seg: u16, number: u32)
+    requires { seg < 2 ^ 15 }
+    ensures { told.new.values.items
+        ≡ directory_told number dbr.unpaged (directory_at dbr seg) told.old.values.items }
+{
+    if !dbr.unpaged {
+        told.tell(directory_at(dbr, seg), number);
+    }
+}
+
+/// Tells so many words of a segment's page table.
+#[tactic(auto, unfolding(crate::specs::Shares::pages_told))]
+fn tell_pages(told: &mut Told, sdw: &Sdw, pages: u32, number: u32)
+    requires { pages ≤ 256 }
+    ensures { told.new.values.items ≡ pages_told number sdw.now pages told.old.values.items }
+{
+    for page in 0..pages {
+        told.tell(page_at(sdw, page), number);
+    }
+}
+
+/// Tells the words of a segment's page table, if it has one.
+fn tell_page_table(told: &mut Told, sdw: &Sdw, number: u32)
+    ensures { told.new.values.items
+        ≡ page_table_told number sdw.now sdw.now.unpaged told.old.values.items }
+{
+    if !sdw.unpaged {
+        tell_pages(told, sdw, sdw.bound as u32 / 64 + 1, number);
+    }
+}
+
+/// Tells the words of the page table of a segment that may not be live.
+fn tell_live(told: &mut Told, found: Result<Sdw, Refusal>, number: u32)
+    ensures { told.new.values.items ≡ live_told number found told.old.values.items }
+{
+    match found {
+        Ok(sdw) => tell_page_table(told, &sdw, number),
+        Err(_) => {}
+    }
+}
+
+/// Tells the table words of one segment of process k, by the numbers of the first descriptors with equal words.
+#[tactic(auto, unfolding(crate::specs::Shares::segment_told))]
+fn tell_segment(told: &mut Told, core: &Core, dbr: Dbr, firsts: &Vec<u32>, k: u32, seg: u16)
+    requires seg { seg < 2 ^ 15 }
+    requires process { k < 8 }
+    requires there { 2 ^ 15 * k + seg < length firsts.now.items }
+    requires below { slice_index firsts.now.items (2 ^ 15 * k + seg) < 2 ^ 18 }
+    ensures { told.new.values.items
+        ≡ segment_told core.now dbr firsts.now.items k seg told.old.values.items }
+{
+    tell_descriptor(told, descriptor_place(core, dbr, seg), 2 * k + 1);
+    tell_directory(told, dbr, seg, 2 * k + 2);
+    let first = firsts[((1 << 15) * k + seg as u32) as usize];
+    tell_live(told, descriptor(core, dbr, seg), 17 + first);
+}
+
+/// Tells the table words of process k.
+#[tactic(auto, unfolding(crate::specs::Shares::segments_told))]
+pub(crate) fn tell_tables(told: &mut Told, core: &Core, dbr: Dbr, firsts: &Vec<u32>, k: u32)
+    requires process { k < 8 }
+    requires there { 2 ^ 15 * (k + 1) ≤ length firsts.now.items }
+    requires below { (i : ℕ) → slice_index firsts.now.items i < 2 ^ 18 }
+    ensures { (n : ℕ) × IsSegmentCount dbr n × (told.new.values.items
+        ≡ segments_told core.now dbr firsts.now.items k n told.old.values.items) }
+{
+    for seg in 0..segment_count(dbr) {
+        tell_segment(told, core, dbr, firsts, k, seg);
+    }
+}

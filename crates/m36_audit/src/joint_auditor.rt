@@ -1,0 +1,201 @@
+//! The joint audit of several processes on one core.
+
+ghost use Rattle.std.specs.Prelude.{ℕ, [], ◌≡◌, ◌+◌, ◌*◌, ◌<◌, ◌≤◌, ◌^◌, ◌↔◌, IfOk, None, Some, map, length, replicate, slice_get};
+ghost use Rattle.arrayvec.specs.ArrayVec.{array_vec_len};
+ghost use Rattle.m36_desc.specs.Fields.{DbrFields};
+ghost use Rattle.m36_model.specs.Audit.{AreFindings};
+ghost use Rattle.m36_model.specs.Core.{core_store, core_tables};
+ghost use Rattle.m36_model.specs.JointAudit.{AreFindingsFrom, AreJointFindings, IsJointlyAudited};
+ghost use Rattle.m36_model.specs.JointIsolation.{JointlyIsolated};
+ghost use Rattle.m36_audit.specs.Findings.{pairs};
+ghost use Rattle.m36_audit.specs.Classes.{AreClasses};
+ghost use Rattle.m36_audit.specs.Joints.{all_found, AreShares};
+
+use crate::auditor::found;
+use crate::classes::classes;
+use crate::identities::tell_tables;
+use crate::joint_runs::count_processes;
+use crate::joint_verdict::{Joint, JointFinding, note_between, note_process};
+use crate::joint_words::{on_joint_segment, on_joint_table};
+use crate::owners::tell_owners;
+use crate::run::RunCounts;
+use crate::segment_runs::count_segments;
+use crate::table_words::mark_tables;
+use crate::tables::TableMarks;
+use crate::told::Told;
+use crate::verdict::Verdict;
+use arrayvec::ArrayVec;
+use m36_core::Core;
+use m36_desc::Dbr;
+use m36_isol::{law_joint_findings, law_schedule};
+use m36_word::NoMemory;
+use std::alloc::Global;
+
+/// What is known of each core word over several processes.
+#[derive(Drop)]
+struct Shares {
+    /// The process that has a table word there.
+    tables: Told,
+    /// The process that has a word of a segment there.
+    segments: Told,
+    /// The table.
+    identities: Told,
+}
+
+impl Shares {
+    /// Nothing is known.
+    fn new(alloc: Global, size: u32) -> Result<Shares, NoMemory>
+        ensures tables { IfOk result (λ s. s.tables.values.items ≡ replicate size 0) }
+        ensures segments { IfOk result (λ s. s.segments.values.items ≡ replicate size 0) }
+        ensures identities { IfOk result (λ s. s.identities.values.items ≡ replicate size 0) }
+    {
+        let tables = Told::new(alloc, size)?;
+        let segments = Told::new(alloc, size)?;
+        let identities = Told::new(alloc, size)?;
+        Ok(Shares {
+            tables,
+            segments,
+            identities,
+        })
+    }
+}
+
+/// The findings of process k, which the core words are told of.
+fn judged(
+    marks: &mut TableMarks,
+    counts: &mut RunCounts,
+    shares: &mut Shares,
+    core: &Core,
+    dbrs: &[Dbr],
+    firsts: &Vec<u32>,
+    k: usize,
+) -> Verdict
+    requires few { length dbrs.now ≤ 8 }
+    requires process { k < length dbrs.now }
+    requires marks_len { length marks.old.tables.items ≡ length core.now }
+    requires starts_len { length counts.old.starts.items ≡ length core.now }
+    requires stops_len { length counts.old.stops.items ≡ length core.now }
+    requires classes { AreClasses core.now dbrs.now (2 ^ 15 * length dbrs.now) firsts.now.items }
+    requires before { AreShares core.now dbrs.now firsts.now.items k
+        shares.old.tables.values.items shares.old.segments.values.items
+        shares.old.identities.values.items }
+    ensures marks_len { length marks.new.tables.items ≡ length core.now }
+    ensures starts_len { length counts.new.starts.items ≡ length core.now }
+    ensures stops_len { length counts.new.stops.items ≡ length core.now }
+    ensures findings { (dbr : DbrFields) → slice_get dbrs.now k ≡ Some dbr
+        → AreFindings core.now dbr (pairs result.findings.items) }
+    ensures after { AreShares core.now dbrs.now firsts.now.items (k + 1)
+        shares.new.tables.values.items shares.new.segments.values.items
+        shares.new.identities.values.items }
+{
+    let dbr = dbrs[k];
+    marks.clear();
+    counts.clear();
+    mark_tables(marks, core, dbr);
+    count_segments(counts, core, dbr);
+    let number = k as u32;
+    tell_owners(
+        &mut shares.tables,
+        &mut shares.segments,
+        marks,
+        counts,
+        core,
+        dbr,
+        number,
+    );
+    tell_tables(&mut shares.identities, core, dbr, firsts, number);
+    found(marks, counts, core, dbr)
+}
+
+/// The findings of all processes, one after another.
+fn judged_all(
+    marks: &mut TableMarks,
+    counts: &mut RunCounts,
+    shares: &mut Shares,
+    core: &Core,
+    dbrs: &[Dbr],
+    firsts: &Vec<u32>,
+) -> ArrayVec<JointFinding, 50>
+    requires few { length dbrs.now ≤ 8 }
+    requires marks_len { length marks.old.tables.items ≡ length core.now }
+    requires starts_len { length counts.old.starts.items ≡ length core.now }
+    requires stops_len { length counts.old.stops.items ≡ length core.now }
+    requires classes { AreClasses core.now dbrs.now (2 ^ 15 * length dbrs.now) firsts.now.items }
+    requires before { AreShares core.now dbrs.now firsts.now.items 0
+        shares.old.tables.values.items shares.old.segments.values.items
+        shares.old.identities.values.items }
+    ensures starts_len { length counts.new.starts.items ≡ length core.now }
+    ensures stops_len { length counts.new.stops.items ≡ length core.now }
+    ensures findings { AreFindingsFrom 0 core.now dbrs.now (all_found result.items) }
+    ensures room { array_vec_len result ≤ 48 }
+    ensures after { AreShares core.now dbrs.now firsts.now.items (length dbrs.now)
+        shares.new.tables.values.items shares.new.segments.values.items
+        shares.new.identities.values.items }
+{
+    let mut findings = ArrayVec::new();
+    for k in 0..dbrs.len() {
+        let own = judged(marks, counts, shares, core, dbrs, firsts, k);
+        note_process(&mut findings, k as u8, &own);
+    }
+    findings
+}
+
+/// The findings, where there is a place for each mark, count and number, of which none is told yet.
+fn jointly_judged(
+    marks: &mut TableMarks,
+    counts: &mut RunCounts,
+    shares: &mut Shares,
+    core: &Core,
+    dbrs: &[Dbr],
+    firsts: &Vec<u32>,
+) -> Joint
+    requires few { length dbrs.now ≤ 8 }
+    requires marks_len { length marks.old.tables.items ≡ length core.now }
+    requires starts_len { length counts.old.starts.items ≡ length core.now }
+    requires stops_len { length counts.old.stops.items ≡ length core.now }
+    requires classes { AreClasses core.now dbrs.now (2 ^ 15 * length dbrs.now) firsts.now.items }
+    requires before { AreShares core.now dbrs.now firsts.now.items 0
+        shares.old.tables.values.items shares.old.segments.values.items
+        shares.old.identities.values.items }
+    ensures { AreJointFindings core.now dbrs.now (all_found result.findings.items) }
+{
+    let mut findings = judged_all(marks, counts, shares, core, dbrs, firsts);
+    let second = on_joint_table(
+        &shares.tables,
+        &shares.segments,
+        &shares.identities,
+        core,
+        dbrs,
+        firsts,
+    );
+    counts.clear();
+    count_processes(counts, core, dbrs, firsts);
+    let third = on_joint_segment(&shares.segments, counts, core, dbrs, firsts);
+    note_between(&mut findings, 2, second);
+    note_between(&mut findings, 3, third);
+    Joint { findings }
+}
+
+/// Decides the joint audit of processes on one core, by their descriptor segment base registers: the six conditions of each,
+/// and that no table word of one lies on a table word or a segment word of another, but for the page tables of segments
+/// with equal descriptors, nor a segment word of one on one of another, but for the same word of such segments. The
+/// findings are those of each process in order, and then for each condition between processes that fails the least core
+/// word that breaks it. Where there is none, every schedule of the processes is isolated in each ring from 1 to 7. The
+/// error is want of memory alone, and that is taken before anything is looked at.
+pub fn joint(alloc: Global, core: &Core, dbrs: &[Dbr]) -> Result<Joint, NoMemory>
+    requires some { 1 ≤ length dbrs.now }
+    requires few { length dbrs.now ≤ 8 }
+    ensures findings { IfOk result (λ j. AreJointFindings core.now dbrs.now (all_found j.findings.items)) }
+    ensures audited { IfOk result (λ j. (j.findings.items ≡ []) ↔ IsJointlyAudited core.now dbrs.now) }
+    ensures isolated { IfOk result (λ j. j.findings.items ≡ []
+        → JointlyIsolated core_store (map (core_tables core.now) dbrs.now)) }
+{
+    let size = core.len();
+    let mut marks = TableMarks::new(alloc, size)?;
+    let mut counts = RunCounts::new(alloc, size)?;
+    let mut shares = Shares::new(alloc, size)?;
+    let firsts = classes(alloc, core, dbrs)?;
+    law_joint_findings();
+    law_schedule();
+    Ok(jointly_judged(&mut marks, &mut counts, &mut shares, core, dbrs, &firsts))
+}

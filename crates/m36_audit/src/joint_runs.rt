@@ -1,0 +1,147 @@
+//! Counts of the runs of segment words over several processes: of segments with equal descriptors those of one alone.
+
+ghost use Rattle.std.specs.Prelude.{ℕ, ◌≡◌, ◌+◌, ◌*◌, ◌/◌, ◌<◌, ◌≤◌, ◌^◌, Ok, Some, true, length, slice_get, slice_index};
+ghost use Rattle.m36_desc.specs.Access.{in_order};
+ghost use Rattle.m36_model.specs.Place.{core_sdw};
+ghost use Rattle.m36_audit.specs.Runs.{run_by, AreCounted};
+ghost use Rattle.m36_audit.specs.Shares.{joint_run, piece_count, starts_with, stops_with, HasRoom};
+
+use crate::live::live;
+use crate::run::{Run, RunCounts};
+use crate::segment_runs::{first_run, page_run, second_run};
+use m36_core::Core;
+use m36_desc::{Dbr, Sdw};
+use m36_tables::{in_order, segment_count};
+
+/// How many runs a segment may have.
+fn pieces(sdw: &Sdw) -> u32
+    ensures most { result ≤ 256 }
+    ensures value { result ≡ piece_count sdw.now }
+{
+    if sdw.unpaged {
+        2
+    } else {
+        sdw.bound as u32 / 64 + 1
+    }
+}
+
+/// One run of a segment.
+fn piece_run(core: &Core, sdw: &Sdw, piece: u32) -> Option<Run>
+    requires { piece < piece_count sdw.now }
+    ensures { result ≡ run_by sdw.now.unpaged core.now sdw.now piece }
+{
+    if !sdw.unpaged {
+        return page_run(core, sdw, piece);
+    }
+    if piece == 0 {
+        Some(first_run(sdw))
+    } else {
+        Some(second_run(sdw))
+    }
+}
+
+/// Counts one run of a segment, if there is one.
+fn count_piece(counts: &mut RunCounts, core: &Core, sdw: &Sdw, piece: u32)
+    requires piece { piece < piece_count sdw.now }
+    requires room { HasRoom counts.old.starts.items }
+    requires room_at_end { HasRoom counts.old.stops.items }
+    ensures starts { counts.new.starts.items
+        ≡ starts_with (run_by sdw.now.unpaged core.now sdw.now piece) counts.old.starts.items }
+    ensures stops { counts.new.stops.items
+        ≡ stops_with (run_by sdw.now.unpaged core.now sdw.now piece) counts.old.stops.items }
+{
+    match piece_run(core, sdw, piece) {
+        Some(run) => counts.add(run),
+        None => {}
+    }
+}
+
+/// Counts the runs of the segment with this number, which is live and whose brackets are in order.
+fn count_pieces(
+    counts: &mut RunCounts,
+    core: &Core,
+    dbrs: &[Dbr],
+    firsts: &Vec<u32>,
+    number: u32,
+    sdw: &Sdw,
+)
+    requires few { length dbrs.now ≤ 8 }
+    requires small { number < 2 ^ 18 }
+    requires runs { (piece : ℕ) → piece < 256
+        → joint_run core.now dbrs.now firsts.now.items (256 * number + piece)
+        ≡ run_by sdw.now.unpaged core.now sdw.now piece }
+    requires before { AreCounted (joint_run core.now dbrs.now firsts.now.items) (256 * number)
+        (length core.now) counts.old.starts.items counts.old.stops.items }
+    ensures { AreCounted (joint_run core.now dbrs.now firsts.now.items) (256 * (number + 1))
+        (length core.now) counts.new.starts.items counts.new.stops.items }
+{
+    for piece in 0..pieces(sdw) {
+        count_piece(counts, core, sdw, piece);
+    }
+}
+
+/// Counts the runs of a segment, if its descriptor is the first with its words, and it is live with its brackets in order.
+fn count_first(
+    counts: &mut RunCounts,
+    core: &Core,
+    dbrs: &[Dbr],
+    firsts: &Vec<u32>,
+    k: usize,
+    seg: u16,
+)
+    requires few { length dbrs.now ≤ 8 }
+    requires process { k < length dbrs.now }
+    requires seg { seg < 2 ^ 15 }
+    requires there { length firsts.now.items ≡ 2 ^ 15 * length dbrs.now }
+    requires before { AreCounted (joint_run core.now dbrs.now firsts.now.items)
+        (256 * (2 ^ 15 * k + seg)) (length core.now) counts.old.starts.items
+        counts.old.stops.items }
+    ensures { AreCounted (joint_run core.now dbrs.now firsts.now.items)
+        (256 * (2 ^ 15 * k + seg + 1)) (length core.now) counts.new.starts.items
+        counts.new.stops.items }
+{
+    let number = (1 << 15) * k as u32 + seg as u32;
+    if firsts[number as usize] != number {
+        return;
+    }
+    match live(core, dbrs[k], seg) {
+        Some(sdw) => {
+            if in_order(&sdw) {
+                count_pieces(counts, core, dbrs, firsts, number, &sdw);
+            }
+        }
+        None => {}
+    }
+}
+
+/// Counts the runs of the segments of process k.
+fn count_process(counts: &mut RunCounts, core: &Core, dbrs: &[Dbr], firsts: &Vec<u32>, k: usize)
+    requires few { length dbrs.now ≤ 8 }
+    requires process { k < length dbrs.now }
+    requires there { length firsts.now.items ≡ 2 ^ 15 * length dbrs.now }
+    requires before { AreCounted (joint_run core.now dbrs.now firsts.now.items)
+        (256 * (2 ^ 15 * k)) (length core.now) counts.old.starts.items
+        counts.old.stops.items }
+    ensures { AreCounted (joint_run core.now dbrs.now firsts.now.items)
+        (256 * (2 ^ 15 * (k + 1))) (length core.now) counts.new.starts.items
+        counts.new.stops.items }
+{
+    for seg in 0..segment_count(dbrs[k]) {
+        count_first(counts, core, dbrs, firsts, k, seg);
+    }
+}
+
+/// Counts the runs of all processes. None is counted before.
+pub(crate) fn count_processes(counts: &mut RunCounts, core: &Core, dbrs: &[Dbr], firsts: &Vec<u32>)
+    requires few { length dbrs.now ≤ 8 }
+    requires there { length firsts.now.items ≡ 2 ^ 15 * length dbrs.now }
+    requires before { AreCounted (joint_run core.now dbrs.now firsts.now.items) 0 (length core.now)
+        counts.old.starts.items counts.old.stops.items }
+    ensures { AreCounted (joint_run core.now dbrs.now firsts.now.items)
+        (2 ^ 23 * length dbrs.now) (length core.now) counts.new.starts.items
+        counts.new.stops.items }
+{
+    for k in 0..dbrs.len() {
+        count_process(counts, core, dbrs, firsts, k);
+    }
+}

@@ -1,0 +1,89 @@
+//! What a joint audit finds.
+
+ghost use Rattle.std.specs.Prelude.{ℕ, [], ◌≡◌, ◌++◌, ◌+◌, ◌*◌, ◌<◌, ◌≤◌, Some, None};
+ghost use Rattle.std.specs.Bool.{Decides};
+ghost use Rattle.arrayvec.specs.ArrayVec.{array_vec_len};
+ghost use Rattle.m36_model.specs.JointAudit.{between, of_process};
+ghost use Rattle.m36_audit.specs.Findings.{pairs};
+ghost use Rattle.m36_audit.specs.Joints.{all_found};
+
+use crate::verdict::Verdict;
+use arrayvec::ArrayVec;
+
+/// A condition that fails, and the least place that breaks it.
+#[derive(Clone, Copy, PartialEq, Eq, Debug)]
+pub struct JointFinding {
+    /// Of the first, fifth and sixth condition of a process a segment number of 15 bits; of the others an address of a core
+    /// word.
+    pub place: u32,
+    /// The number of the process, from 0, or none for the two conditions between processes.
+    pub process: Option<u8>,
+    /// 1 to 6 of one process; 2 and 3 between processes.
+    pub condition: u8,
+}
+
+impl Default for JointFinding {
+    /// What fills the places of a list that hold no finding yet.
+    fn default() -> JointFinding
+        ensures { result ≡ record { place = 0; process = None; condition = 0 } }
+    {
+        JointFinding {
+            place: 0,
+            process: None,
+            condition: 0,
+        }
+    }
+}
+
+/// The findings of a joint audit: those of each process in order, and one for each condition between processes that fails.
+#[derive(Debug, Drop)]
+pub struct Joint {
+    pub findings: ArrayVec<JointFinding, 50>,
+}
+
+impl Joint {
+    /// Whether nothing was found.
+    pub fn yes(&self) -> bool
+        ensures { Decides result (self.now.findings.items ≡ []) }
+    {
+        self.findings.is_empty()
+    }
+}
+
+/// Notes what was found of one process.
+pub(crate) fn note_process(findings: &mut ArrayVec<JointFinding, 50>, process: u8, own: &Verdict)
+    requires room { array_vec_len findings.old ≤ 42 }
+    ensures listed { all_found findings.new.items
+        ≡ all_found findings.old.items ++ of_process process (pairs own.now.findings.items) }
+    ensures len { array_vec_len findings.new ≤ array_vec_len findings.old + 6 }
+{
+    let list = own.findings.as_slice();
+    for f in list {
+        findings.push(JointFinding {
+            place: f.place,
+            process: Some(process),
+            condition: f.condition,
+        });
+    }
+}
+
+/// Notes what was found of a condition between processes.
+pub(crate) fn note_between(
+    findings: &mut ArrayVec<JointFinding, 50>,
+    condition: u8,
+    found: Option<u32>,
+)
+    requires room { array_vec_len findings.old < 50 }
+    ensures listed { all_found findings.new.items
+        ≡ all_found findings.old.items ++ between condition found }
+    ensures len { array_vec_len findings.new ≤ array_vec_len findings.old + 1 }
+{
+    match found {
+        Some(place) => findings.push(JointFinding {
+            place,
+            process: None,
+            condition,
+        }),
+        None => {}
+    }
+}

@@ -1,0 +1,114 @@
+//! The two conditions between processes: no table word of one lies on a table word or a segment word of another, but for
+//! shared page tables, and no two segment words of two on one core word, but for the same word of shared segments. One
+//! pass over core each.
+
+ghost use Rattle.std.specs.Prelude.{ℕ, ◌≡◌, ◌*◌, ◌<◌, ◌≤◌, ◌^◌, ◌+◌, ◌==◌, ◌&&◌, ◌||◌, not, nat_lt, length, slice_index};
+ghost use Rattle.std.specs.Bool.{Decides};
+ghost use Rattle.m36_model.specs.Audit.{Finds};
+ghost use Rattle.m36_model.specs.JointAudit.{IsJointTable, IsJointSegment};
+ghost use Rattle.m36_audit.specs.Runs.{AreCounted, AreOpen, count_below, covers};
+ghost use Rattle.m36_audit.specs.Classes.{AreClasses};
+ghost use Rattle.m36_audit.specs.Told.{AreTold, several};
+ghost use Rattle.m36_audit.specs.Shares.{joint_run, Below, Identified, TableOwned, SegmentOwned, is_between, joint_coverage};
+
+use crate::run::RunCounts;
+use crate::told::{SEVERAL, Told};
+use crate::words::count_at;
+use m36_core::Core;
+use m36_desc::Dbr;
+
+/// Whether different processes have a table word and a segment word at a core word, or table words that are not shared, by
+/// what was told of it.
+fn is_between(tables: u32, segments: u32, identities: u32) -> bool
+    ensures { result ≡ is_between tables segments identities }
+{
+    let parted = tables != segments || tables == SEVERAL;
+    tables == SEVERAL && identities == SEVERAL || tables != 0 && segments != 0 && parted
+}
+
+/// The first core word at which a table word of one process lies on a table word or a segment word of another.
+pub(crate) fn on_joint_table(
+    tables: &Told,
+    segments: &Told,
+    identities: &Told,
+    core: &Core,
+    dbrs: &[Dbr],
+    firsts: &Vec<u32>,
+) -> Option<u32>
+    requires classes { AreClasses core.now dbrs.now (2 ^ 15 * length dbrs.now) firsts.now.items }
+    requires tables { AreTold (Below (TableOwned core.now dbrs.now) (length dbrs.now))
+        (length core.now) tables.now.values.items }
+    requires segments { AreTold (Below (SegmentOwned core.now dbrs.now) (length dbrs.now))
+        (length core.now) segments.now.values.items }
+    requires identities { AreTold (Below (Identified core.now dbrs.now firsts.now.items)
+        (length dbrs.now)) (length core.now) identities.now.values.items }
+    requires few { length dbrs.now ≤ 8 }
+    ensures { Finds (IsJointTable core.now dbrs.now) result }
+{
+    for a in 0..core.len() {
+        if is_between(tables.at(a), segments.at(a), identities.at(a)) {
+            return Some(a);
+        }
+    }
+    None
+}
+
+/// How many of the runs of first segments cover a word, from how many were open before it.
+fn open_joint(
+    counts: &RunCounts,
+    core: &Core,
+    dbrs: &[Dbr],
+    firsts: &Vec<u32>,
+    a: u32,
+    open_runs: u32,
+) -> u32
+    requires few { length dbrs.now ≤ 8 }
+    requires counted { AreCounted (joint_run core.now dbrs.now firsts.now.items)
+        (2 ^ 23 * length dbrs.now) (length core.now) counts.now.starts.items
+        counts.now.stops.items }
+    requires before { AreOpen (joint_run core.now dbrs.now firsts.now.items)
+        (2 ^ 23 * length dbrs.now) a open_runs }
+    requires inside { a < length core.now }
+    ensures value { result ≡ joint_coverage core.now dbrs.now firsts.now.items a }
+    ensures after { AreOpen (joint_run core.now dbrs.now firsts.now.items)
+        (2 ^ 23 * length dbrs.now) (a + 1) result }
+{
+    let begin = count_at(&counts.starts, a);
+    let end = count_at(&counts.stops, a);
+    open_runs + begin - end
+}
+
+/// Whether two processes have different segment words at a core word, by what was told of it and how many of the runs of
+/// first segments cover it.
+fn is_parted(segments: u32, open_runs: u32) -> bool
+    ensures { result ≡ ((segments == several) && nat_lt 1 open_runs) }
+{
+    segments == SEVERAL && open_runs > 1
+}
+
+/// The first core word at which a segment word of one process lies on one of another.
+pub(crate) fn on_joint_segment(
+    segments: &Told,
+    counts: &RunCounts,
+    core: &Core,
+    dbrs: &[Dbr],
+    firsts: &Vec<u32>,
+) -> Option<u32>
+    requires few { length dbrs.now ≤ 8 }
+    requires classes { AreClasses core.now dbrs.now (2 ^ 15 * length dbrs.now) firsts.now.items }
+    requires segments { AreTold (Below (SegmentOwned core.now dbrs.now) (length dbrs.now))
+        (length core.now) segments.now.values.items }
+    requires counted { AreCounted (joint_run core.now dbrs.now firsts.now.items)
+        (2 ^ 23 * length dbrs.now) (length core.now) counts.now.starts.items
+        counts.now.stops.items }
+    ensures { Finds (IsJointSegment core.now dbrs.now) result }
+{
+    let mut open_runs = 0;
+    for a in 0..core.len() {
+        open_runs = open_joint(counts, core, dbrs, firsts, a, open_runs);
+        if is_parted(segments.at(a), open_runs) {
+            return Some(a);
+        }
+    }
+    None
+}

@@ -1,0 +1,53 @@
+//! Which processes have table words and words of segments at each core word.
+
+ghost use Rattle.std.specs.Prelude.{ℕ, ◌≡◌, ◌+◌, ◌<◌, ◌≤◌, ◌^◌, ◌==◌, not, nat_lt, length, slice_index, slice_set};
+ghost use Rattle.m36_model.specs.Audit.{IsOf};
+ghost use Rattle.m36_audit.specs.TableMarks.{AreMarked};
+ghost use Rattle.m36_audit.specs.Runs.{run, coverage, AreCounted};
+ghost use Rattle.m36_audit.specs.Told.{joined_at};
+ghost use Rattle.m36_audit.specs.Shares.{owned_at, AreOwned};
+
+use crate::run::RunCounts;
+use crate::tables::TableMarks;
+use crate::told::Told;
+use crate::words::{mark_at, open_at};
+use m36_core::Core;
+use m36_desc::Dbr;
+
+/// Tells a core word of a process that has something there.
+fn tell_owner(told: &mut Told, a: u32, has: bool, number: u32)
+    ensures { told.new.values.items ≡ owned_at has told.old.values.items a number }
+{
+    if has {
+        told.tell(a, number);
+    }
+}
+
+/// Tells each core word of process k, where it has a table word there, and where it has a word of a segment.
+pub(crate) fn tell_owners(
+    tables: &mut Told,
+    segments: &mut Told,
+    marks: &TableMarks,
+    counts: &RunCounts,
+    core: &Core,
+    dbr: Dbr,
+    k: u32,
+)
+    requires process { k < 8 }
+    requires marked { length marks.now.tables.items ≡ length core.now }
+    requires counted { AreCounted (run core.now dbr) (2 ^ 23) (length core.now)
+        counts.now.starts.items counts.now.stops.items }
+    requires tables_len { length tables.old.values.items ≡ length core.now }
+    requires segments_len { length segments.old.values.items ≡ length core.now }
+    ensures tables { AreOwned (λ q. not (slice_index marks.now.tables.items q == 0)) (k + 1)
+        (length core.now) tables.old.values.items tables.new.values.items }
+    ensures segments { AreOwned (λ q. nat_lt 0 (coverage core.now dbr q)) (k + 1)
+        (length core.now) segments.old.values.items segments.new.values.items }
+{
+    let mut open_runs = 0;
+    for a in 0..core.len() {
+        open_runs = open_at(counts, core, dbr, a, open_runs);
+        tell_owner(tables, a, mark_at(marks, a) != 0, k + 1);
+        tell_owner(segments, a, open_runs > 0, k + 1);
+    }
+}

@@ -1,0 +1,3 @@
+pub mod JointText
+pub mod Scheduled
+pub mod DueLaw
