@@ -1,6 +1,6 @@
 //! One step of the machine.
 //!
-//! A `Machine` is seen as its registers and its list of core words. [`Machine::step`] answers the record of the written
+//! The state of a `Machine` is its registers and its list of core words. [`Machine::step`] answers the record of the written
 //! step and leaves the written state: the step is defined in `m36_model` as a program over a store, and core by the
 //! tables of the descriptor segment is that store.
 //!
@@ -8,6 +8,11 @@
 //! address, references the operand by its kind, and computes the effect; nothing is written before. Then the words
 //! are written, that of the tally first, and the registers take their new values. A refusal anywhere before leaves
 //! registers and words as they were but for the marks of the references that were completed. A step takes no memory.
+//!
+//! Whatever answers turns is a [`Stepper`]: a [`Turn`] is a step, a service that the step before it calls for, or says how the
+//! run has ended. The traits' relations are the contracts of their methods. A `Machine` is one, and a [`Replay`], whose turns
+//! are a function of its state: steps, until one has ended the run, and from then on that end. It is seen as its state and
+//! how its run of turns has ended; a step by itself looks at the state alone.
 //!
 //! Source: Multics Processor Manual AL39, "Instruction execution", "Processor modes", "Machine instructions" and
 //! "Address appending"; the order of the parts is this project's choice.

@@ -12,7 +12,9 @@ use crate::stepper::{Replay, Stepper};
 use crate::turns::{BackAnswer, Turn};
 use m36_core::Core;
 use m36_desc::{Dbr, Ptr};
-use m36_model::{At, End, Fault, Final, Ind, Kind, Outcome, Ppr, Reference, Regs, StepRecord, Stop};
+use m36_model::{
+    At, End, Fault, Final, Ind, Kind, Outcome, Ppr, Reference, Regs, StepRecord, Stop,
+};
 use m36_walk::Walk;
 use m36_word::{NoMemory, Word};
 use std::alloc::Global;
