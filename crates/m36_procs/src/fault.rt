@@ -7,9 +7,9 @@ ghost use Rattle.m36_procs.specs.ProcsSays.{fault_at, line_fault_at};
 
 use m36_word::NoMemory;
 
-/// What is wrong with a line.
+/// The code of a line that is refused.
 #[derive(Clone, Copy, PartialEq, Eq, Debug)]
-pub(crate) enum Code {
+pub enum Code {
     /// The line is not of its form, out of order or missing, has no line feed, has a number or an address against its
     /// rule, or makes too many events.
     P1,

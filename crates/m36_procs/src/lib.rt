@@ -24,5 +24,5 @@ mod running;
 #[cfg(test)]
 mod tests;
 
-pub use fault::{ProcsFault, WriteFault};
+pub use fault::{Code, ProcsFault, WriteFault};
 pub use procs::Procs;

@@ -40,8 +40,8 @@ put_some : (IsDue : Answer → Type 0) (end : End) (due : Answer) (result : Stat
 put_some IsDue Answered due result old new is puts = record { due = due; is_due = is; puts = puts }
 put_some IsDue Cut due result old new is puts = record { due = due; is_due = is; puts = puts }
 put_some IsDue Starved due result old new is puts = puts
-put_some IsDue Unread due result old new is puts = absurd putsuts
-put_some IsDue Unasked due result old new is puts = absurd putsuts
+put_some IsDue Unread due result old new is puts = absurd puts
+put_some IsDue Unasked due result old new is puts = absurd puts
 
 -- the one by what the audit has found
 pub procs_put :

@@ -13,6 +13,7 @@ use crate::findings::put_joint;
 use crate::reading::read_procs;
 use m36_audit::{Joint, JointFinding, joint};
 use m36_desc::Dbr;
+use m36_model::Regs;
 use m36_outside::{Folder, Put, Sink};
 use m36_procs::Procs;
 use m36_reading::Status;
@@ -71,6 +72,13 @@ fn answer_found<S: Sink>(
     }
 }
 
+// The descriptor segment base register among registers.
+fn dbr_of(regs: &Regs) -> Dbr
+    ensures { result ≡ regs.now.dbr }
+{
+    regs.dbr
+}
+
 /// The descriptor segment base register of each process.
 fn dbrs_of(alloc: Global, procs: &Procs) -> Result<Vec<Dbr>, NoMemory>
     ensures value { IfOk result (λ dbrs. dbrs.items ≡ dbrs_of procs.now.state) }
@@ -80,8 +88,7 @@ fn dbrs_of(alloc: Global, procs: &Procs) -> Result<Vec<Dbr>, NoMemory>
     let count = procs.count();
     let mut dbrs = Vec::with_capacity(alloc, count)?;
     for i in 0..count {
-        let regs = procs.regs(i);
-        dbrs.push(regs.dbr)?;
+        dbrs.push(dbr_of(procs.regs(i)))?;
     }
     Ok(dbrs)
 }
@@ -94,7 +101,8 @@ fn audited(alloc: Global, procs: &Procs) -> Result<Joint, NoMemory>
         → AreIsolated procs.now.state) }
 {
     let dbrs = dbrs_of(alloc, procs)?;
-    joint(alloc, procs.core(), dbrs.as_slice())
+    let verdict = joint(alloc, procs.core(), dbrs.as_slice())?;
+    Ok(verdict)
 }
 
 /// Audits processes, and does what the command says with them.

@@ -4,7 +4,8 @@
 //! `bare FILE` and `audit FILE` read a bare image, a text that writes out the core of a machine, its descriptor segment
 //! base register and where it starts. Both audit it and write what the audit finds. `bare` then runs the machine, unless
 //! the audit has failed and `--unaudited` is not given, for at most 100,000 steps or as many as `--steps` gives. A trace
-//! line is written for each step, and an end line. `print NAME` unpacks an object and writes its print.
+//! line is written for each step, and an end line. `procs FILE` reads a text of several processes on one core and their
+//! schedule, audits them together, and makes the events of the schedule in the same way. `print NAME` unpacks an object and writes its print.
 //! `alm NAME` assembles the source NAME.alm, writes the object as the file NAME, and then the listing.
 //!
 //! What [`m36`] promises, whatever its arguments:
@@ -13,7 +14,8 @@
 //!   image of the file on.
 //! - Where `audit yes` is written, all six conditions of the audit hold of the image, and its tables isolate each ring from
 //!   1: whatever stands in it and above, until a fault, a stop or a gate call, no word outside its write brackets changes,
-//!   and none outside its read brackets affects a step.
+//!   and none outside its read brackets affects a step. Of processes all conditions of the joint audit hold, and the same is
+//!   so over every schedule of them.
 //! - What is written is a first part of the stated output, and the whole of it where the call answers Done, AuditNo,
 //!   MachineStop or Steps. Each answer comes exactly where it is due, in the order words, file, image, audit, run; a fault
 //!   has its cause outside; and want of memory alone may stand in the place of an answer, with nothing written.
