@@ -2,10 +2,10 @@
 use Rattle.std.proofs.Common.{◌≡◌, ℕ, ◌+◌, ◌≤◌, Bool, true, false, cond, ◌&&◌, List, [], ◌∷◌, ◌++◌, Option, Some, None, is_some, unwrap_or, refl, sym, ap, ◌∙◌, subst, true≢false, arith}
 use Rattle.std.specs.Map.{lookup}
 use Rattle.std.proofs.lemmas.Bool.{and_left, and_right, le-ltb}
-use Rattle.alm_parse.specs.declared.span.Span.{Span}
-use Rattle.alm_parse.specs.declared.expression.Atom.{Atom}
-use Rattle.alm_parse.specs.declared.expression.Atom.TheVariants as atom
-use Rattle.alm_parse.specs.declared.expression.Term.{Term}
+use Rattle.alm_tokens.specs.declared.span.Span.{Span}
+use Rattle.alm_tokens.specs.declared.expression.Atom.{Atom}
+use Rattle.alm_tokens.specs.declared.expression.Atom.TheVariants as atom
+use Rattle.alm_tokens.specs.declared.expression.Term.{Term}
 use Rattle.alm_parse.specs.declared.args.Arg.{Arg}
 use Rattle.alm_parse.specs.declared.line.Line36.{Line36}
 use Rattle.obj36_parts.specs.declared.section.Section.{Section}

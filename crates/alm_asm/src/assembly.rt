@@ -37,7 +37,7 @@ fn first_link(ending: Spot) -> Result<u64, NoMemory>
 }
 
 /// The tables of lines, and the first refusal of a symbol's definition or of a section's length.
-#[derive(Debug, Drop)]
+#[derive(Drop)]
 struct Found {
     tables: Tables,
     refused: Option<Refusal>,

@@ -27,7 +27,7 @@ use std::alloc::Global;
 
 /// What the lines so far give to these sections: the names that stand, those that are defined, each once and with a number that says
 /// nothing, and the links; and how many words the definition and the symbol section have.
-#[derive(Debug, Drop)]
+#[derive(Drop)]
 pub struct Growth {
     pub names: Symbols,
     pub defined: Symbols,

@@ -4,8 +4,7 @@ ghost use Rattle.std.specs.Prelude.{ℕ, List, [], ◌∷◌, ◌++◌, ◌≡�
 ghost use Rattle.std.specs.List.{list_any, position};
 ghost use Rattle.alm_lines.specs.Arguments.{first_arg};
 ghost use Rattle.alm_lines.specs.Spots.{start};
-ghost use Rattle.obj36_parts.specs.ObjectSegment.{place_number};
-ghost use Rattle.alm_parse.specs.Tokens.{slice_of};
+ghost use Rattle.alm_tokens.specs.Tokens.{slice_of};
 ghost use Rattle.alm_lines.specs.Arguments.{name_at};
 ghost use Rattle.alm_asm.specs.Words.{same_section};
 ghost use Rattle.alm_asm.specs.Links.{own_section, link_kind, link_section, link_name, entry_name, link_of, operand_args, link_by, link_in, with_link, links_after, links_from, link_place};
@@ -21,6 +20,7 @@ use alm_parse::{Arg, Deed, Line36, Span, Term};
 use m36_text::Name;
 use m36_word::NoMemory;
 use obj36::{Link, Links, Section};
+use obj36_parts::sections::number;
 use std::alloc::Global;
 
 #[tactic(auto, unfolding(crate::specs::Links::own_section))]
@@ -155,22 +155,11 @@ fn link_in(
     }
 }
 
-fn section_number(section: Section) -> u8
-    ensures { result ≡ place_number section }
-{
-    match section {
-        Section::Text => 0,
-        Section::Linkage => 1,
-        Section::Static => 2,
-        Section::Symbol => 3,
-    }
-}
-
 /// Two sections are the same.
 pub fn same_section(a: Section, b: Section) -> bool
     ensures { result ≡ same_section a b }
 {
-    section_number(a) == section_number(b)
+    number(a) == number(b)
 }
 
 fn add_link(links: &mut Links, link: Option<Link>) -> Result<(), NoMemory>

@@ -5,7 +5,7 @@ use obj36::Links;
 
 /// The symbols and links of a source, where the first link stands in the linkage section, and whether the static words
 /// have a section of their own.
-#[derive(Debug, Drop)]
+#[derive(Drop)]
 pub struct Tables {
     pub symbols: Symbols,
     pub links: Links,

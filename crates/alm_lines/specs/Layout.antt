@@ -1,7 +1,7 @@
 -- The symbols that lines define, and what is refused of their definitions and of the lengths of
 -- sections.
 use Rattle.std.specs.Prelude.{ℕ, false, is_some, List, [], ◌∷◌, Option, Some, None, if◌then◌else◌}
-use Rattle.alm_parse.specs.declared.span.Span.{Span}
+use Rattle.alm_tokens.specs.declared.span.Span.{Span}
 use Rattle.alm_parse.specs.declared.args.Arg.{Arg}
 use Rattle.alm_parse.specs.declared.line.Line36.{Line36}
 use Rattle.alm_lines.specs.Sums.{nothing, unknown_sum, settled}

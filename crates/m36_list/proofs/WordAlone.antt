@@ -1,6 +1,6 @@
 -- Lines that place one word: an instruction whose address is one number, and one octal constant.
 use Rattle.std.proofs.Common.{ℕ, ◌≡◌, Bool, true, List, [], ◌∷◌, Option, Some, None, Ok, refl, ap}
-use Rattle.alm_parse.specs.declared.span.Span.{Span}
+use Rattle.alm_tokens.specs.declared.span.Span.{Span}
 use Rattle.alm_parse.specs.declared.args.Arg.{Arg}
 use Rattle.alm_parse.specs.declared.args.Arg.TheVariants.{Number, Operand}
 use Rattle.alm_parse.specs.declared.line.Line36.{Line36}

@@ -2,11 +2,11 @@
 use Rattle.std.proofs.Common.{ℕ, zero, suc, ◌≡◌, ◌≢◌, ◌+◌, ◌-◌, ◌<◌, ◌≤◌, Bool, true, not, leb, ltb, List, [], ◌∷◌, length, map, get_or, None, Some, Ok, refl, ap, ◌∙◌, arith}
 use Rattle.std.specs.List.{position_or_len}
 use Rattle.std.specs.Int.Digits.{AllBelowBase, number_from_digits, digits_of}
-use Rattle.std.proofs.lemmas.Bool.{cond-false, cond-true, le-ltb, le-leb, lt-ltb, and_from, not_from_true}
+use Rattle.std.proofs.lemmas.Bool.{cond-false, cond-true, le-ltb, le-leb, and_from, not_from_true}
 use Rattle.std.proofs.lemmas.Int.Digits.{number_digits_of, all_below_base_digits_of, first_digits_of}
 use Rattle.std.proofs.lemmas.List.Sums.{position_or_len_is}
-use Rattle.m36_text.specs.Digits.{digits, character, octal_text, decimal_text}
-use Rattle.m36_text.specs.Reading.{is_digit, first_other, number_of, number_read, ReadsOctal, ReadsDecimal, HasNoLeadingZero}
+use Rattle.m36_text.specs.Digits.{digits, character, is_digit, digit_of, octal_text, decimal_text}
+use Rattle.m36_text.specs.Reading.{first_other, number_of, number_read, ReadsOctal, ReadsDecimal, HasNoLeadingZero}
 use Rattle.m36_text.proofs.DigitLaws.{length_digits, digits_below}
 use Rattle.m36_text.proofs.DigitNumbers.{number_of_digits}
 
@@ -22,10 +22,10 @@ character_is_digit : (base : ℕ) (ds : List ℕ) (k : ℕ) → AllBelowBase bas
 character_is_digit base [] k below within = absurd (omega arith)
 character_is_digit base (d ∷ ds) zero below within =
     let first = below.0 in
-    and_from (leb 48 (48 + d)) (ltb (48 + d) (48 + base)) (le-leb 48 (48 + d) (omega arith)) (lt-ltb (48 + d) (48 + base) (omega arith))
+    and_from (leb 48 (48 + d)) (leb (48 + d) (47 + base)) (le-leb 48 (48 + d) (omega arith)) (le-leb (48 + d) (47 + base) (omega (arith, first)))
 character_is_digit base (d ∷ ds) (suc k) below within = character_is_digit base ds k below.1 (omega arith)
 
-digits_back : (ds : List ℕ) → map (λ byte. byte - 48) (map character ds) ≡ ds
+digits_back : (ds : List ℕ) → map digit_of (map character ds) ≡ ds
 digits_back [] = refl
 digits_back (d ∷ ds) =
     let first : 48 + d - 48 ≡ d = omega arith in

@@ -1,12 +1,13 @@
 -- Digits read one by one.
 use Rattle.std.proofs.Common.{ℕ, ◌≡◌, ◌+◌, ◌-◌, ◌*◌, ◌^◌, ◌<◌, ◌≤◌, min, Bool, true, not, List, [], length, map, take, get_or, None, Some, leb, ltb, refl, sym, ◌∙◌, inl, inr, arith}
 use Rattle.std.specs.List.{position_or_len}
-use Rattle.std.proofs.lemmas.Bool.{cases_lt, and_parts, leb-true, ltb-true, lt-ltb, not-false, cond-true}
+use Rattle.std.proofs.lemmas.Bool.{cases_lt, and_parts, leb-true, lt-ltb, not-false, cond-true}
 use Rattle.std.proofs.lemmas.Int.Digits.{number_more}
 use Rattle.std.proofs.lemmas.List.{length-map, take-map, get_or-map}
 use Rattle.std.proofs.lemmas.List.Sums.{fails_before_first}
 use Rattle.std.proofs.Math.Nat.{min-eq_left, le-mul_of_pos_right, one-le-pow, pow-le-pow_right}
-use Rattle.m36_text.specs.Reading.{first_other, is_digit, number_of}
+use Rattle.m36_text.specs.Digits.{is_digit}
+use Rattle.m36_text.specs.Reading.{first_other, number_of}
 
 some≢none : {n : ℕ} → Some n ≡ None → ⊥
 some≢none e = cc
@@ -31,8 +32,9 @@ number_step base text i within =
 
 is_within : (base byte : ℕ) → is_digit base byte ≡ true → (48 ≤ byte) × (byte < 48 + base)
 is_within base byte e =
-    let both = and_parts (leb 48 byte) (ltb byte (48 + base)) e in
-    (leb-true 48 byte both.0, ltb-true byte (48 + base) both.1)
+    let both = and_parts (leb 48 byte) (leb byte (47 + base)) e in
+    let high : byte ≤ 47 + base = leb-true byte (47 + base) both.1 in
+    (leb-true 48 byte both.0, omega (arith, high))
 
 -- where no byte is other than a digit, each is one
 pub all_digits : (base : ℕ) (text : List ℕ) (k : ℕ) → first_other base text ≡ None → k < length text

@@ -1,5 +1,5 @@
 -- Numbers written in digits.
-use Rattle.std.specs.Prelude.{ℕ, zero, suc, ◌+◌, ◌/◌, ◌%◌, ◌^◌, List, [], ◌∷◌, map}
+use Rattle.std.specs.Prelude.{ℕ, zero, suc, ◌+◌, ◌-◌, ◌/◌, ◌%◌, ◌^◌, Bool, ◌&&◌, nat_le, List, [], ◌∷◌, map}
 use Rattle.std.specs.Int.Digits.{digits_of}
 
 -- so many digits of a number in a base, the most significant first
@@ -10,6 +10,14 @@ digits base (suc places) v = v / base ^ places % base ∷ digits base places v
 -- the digits 0 to 9 are the characters 60 to 71 (octal)
 abbrev pub character : ℕ → ℕ
 character digit = 48 + digit
+
+-- whether a character is a digit of a base up to ten: one of so many, from that of 0 on
+abbrev pub is_digit : ℕ → ℕ → Bool
+is_digit base c = nat_le 48 c && nat_le c (47 + base)
+
+-- the digit that a character is
+abbrev pub digit_of : ℕ → ℕ
+digit_of c = c - 48
 
 -- a number in octal, with so many places
 unfoldable pub octal_text : ℕ → ℕ → List ℕ

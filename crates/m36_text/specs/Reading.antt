@@ -1,14 +1,10 @@
 -- Texts of digits read as numbers.
-use Rattle.std.specs.Prelude.{ℕ, ◌+◌, ◌-◌, ◌^◌, ◌<◌, ◌≤◌, ◌≡◌, ◌≢◌, Bool, ◌&&◌, not, nat_lt, nat_le, if◌then◌else◌, List, [], ◌∷◌, map, length, slice_index, Option, Some, None, Result, Ok, Err}
+use Rattle.std.specs.Prelude.{ℕ, ◌+◌, ◌-◌, ◌^◌, ◌<◌, ◌≤◌, ◌≡◌, ◌≢◌, not, nat_le, if◌then◌else◌, List, [], ◌∷◌, map, length, slice_index, Option, Some, None, Result, Ok, Err}
 use Rattle.std.specs.List.{position}
 use Rattle.std.specs.Int.Digits.{number_from_digits}
-use Rattle.m36_text.specs.Digits.{octal_text, decimal_text}
+use Rattle.m36_text.specs.Digits.{is_digit, digit_of, octal_text, decimal_text}
 use Rattle.m36_text.specs.declared.reading.NumberFault.{NumberFault}
 use Rattle.m36_text.specs.declared.reading.NumberFault.TheVariants.{T1, T2}
-
--- a byte is a digit of a base up to ten
-abbrev pub is_digit : ℕ → ℕ → Bool
-is_digit base byte = nat_le 48 byte && nat_lt byte (48 + base)
 
 -- the place of the first byte that is no digit
 unfoldable pub first_other : ℕ → List ℕ → Option ℕ
@@ -16,7 +12,7 @@ first_other base text = position (λ byte. not (is_digit base byte)) text
 
 -- the number that digits write
 unfoldable pub number_of : ℕ → List ℕ → ℕ
-number_of base text = number_from_digits base (map (λ byte. byte - 48) text)
+number_of base text = number_from_digits base (map digit_of text)
 
 -- a text as a number of at most max: T1 with the place of the first byte that is no digit, and with 0 where there is
 -- no byte; T2 where all are digits and the number is over max

@@ -2,6 +2,7 @@
 use Rattle.std.specs.Prelude.{ℕ, Bool, not, ◌&&◌, ◌||◌, ◌==◌, nat_le, nat_eq, List, length, slice_index}
 use Rattle.std.specs.List.{list_all}
 use Rattle.std.specs.Cmp.Lexicographic.{pointwise}
+use Rattle.m36_text.specs.Digits.{is_digit}
 
 -- whether two texts are the same
 abbrev pub are_same : List ℕ → List ℕ → Bool
@@ -14,12 +15,9 @@ is_text name text = are_same text name
 abbrev pub is_letter : ℕ → Bool
 is_letter c = (nat_le 65 c && nat_le c 90) || (nat_le 97 c && nat_le c 122)
 
-abbrev pub is_decimal_digit : ℕ → Bool
-is_decimal_digit c = nat_le 48 c && nat_le c 57
-
 -- A-Z a-z 0-9 _ .
 abbrev pub is_name_character : ℕ → Bool
-is_name_character c = is_letter c || is_decimal_digit c || (c == 95) || (c == 46)
+is_name_character c = is_letter c || is_digit 10 c || (c == 95) || (c == 46)
 
 -- so many such characters, one at least
 abbrev pub is_run_of : (ℕ → Bool) → ℕ → List ℕ → Bool

@@ -5,6 +5,8 @@
 //! lines of a text, the words of a line, and the texts that are names are exactly those of the definitions.
 //! Only `pack`, `unpack` and `Names` take memory.
 //!
+//! A digit is told once, in `specs/Digits.antt`, for every base up to ten.
+//!
 //! `specs/Lines.antt`, `specs/Numbers.antt` and `specs/Texts.antt` say what a line, a word, a number of a form and a name
 //! are, for every kind of file.
 //!
@@ -27,5 +29,5 @@ pub use naming::{Name, Names};
 pub use numbers::{decimal_in, has_no_leading_zero, octal_in, plain_decimal_in, short_decimal_in};
 pub use numerals::{decimal, octal};
 pub use packing::{PackFault, pack, packing_laws, unpack};
-pub use reading::{NumberFault, numeral_laws, read_decimal, read_octal};
-pub use texts::{is_file_name, is_name, is_name_character, is_text};
+pub use reading::{NumberFault, is_digit, numeral_laws, read_decimal, read_octal};
+pub use texts::{is_file_name, is_letter, is_name, is_name_character, is_text};

@@ -1,6 +1,7 @@
 //! Texts read as numbers.
 
 ghost use Rattle.std.specs.Prelude.{ℕ, ◌≡◌, ◌+◌, ◌-◌, ◌^◌, ◌<◌, ◌≤◌, length, min, None, IfOk, IfErr, IfSome};
+ghost use Rattle.m36_text.specs.Digits.{is_digit};
 ghost use Rattle.m36_text.specs.Reading.{first_other, number_of, number_read, IsWithin, ReadsOctal, ReadsDecimal, HasPlaces, HasNoLeadingZero};
 
 /// Why a text is not read as a number.
@@ -10,6 +11,14 @@ pub enum NumberFault {
     T1(usize),
     /// All bytes are digits, and the number is over the limit.
     T2,
+}
+
+/// Whether a byte is a digit of a base up to ten.
+pub fn is_digit(base: u8, byte: u8) -> bool
+    requires { base ≤ 10 }
+    ensures { result ≡ is_digit base byte }
+{
+    b'0' <= byte && byte < b'0' + base
 }
 
 /// The number that octal digits write, at most `max`.
@@ -58,8 +67,7 @@ fn place_of_other(base: u8, t: &[u8]) -> Option<usize>
     ensures value { result ≡ first_other base t.now }
     ensures within { IfSome result (λ place. place < length t.now) }
 {
-    t.iter()
-        .position(|byte| !(48 <= *byte && *byte < 48 + base))
+    t.iter().position(|byte| !is_digit(base, *byte))
 }
 
 // The number that digits write, or `cap` where it is that or more.

@@ -2,7 +2,9 @@
 
 ghost use Rattle.std.specs.Prelude.{ℕ, ◌≡◌, ◌≤◌, true, length};
 ghost use Rattle.std.specs.List.{list_all};
-ghost use Rattle.m36_text.specs.Texts.{is_text, is_name_character, is_name, is_file_name};
+ghost use Rattle.m36_text.specs.Texts.{is_text, is_letter, is_name_character, is_name, is_file_name};
+
+use crate::reading::is_digit;
 
 /// The most characters of a name.
 const LONGEST_NAME: usize = 32;
@@ -14,11 +16,18 @@ pub fn is_text(name: &[u8], text: &[u8]) -> bool
     text == name
 }
 
+/// The letters, small and capital.
+pub fn is_letter(byte: u8) -> bool
+    ensures { result ≡ is_letter byte }
+{
+    matches!(byte, b'A'..=b'Z' | b'a'..=b'z')
+}
+
 /// The characters of a name: letters, digits, `_` and `.`.
 pub fn is_name_character(byte: u8) -> bool
     ensures { result ≡ is_name_character byte }
 {
-    matches!(byte, b'A'..=b'Z' | b'a'..=b'z' | b'0'..=b'9' | b'_' | b'.')
+    is_letter(byte) || is_digit(10, byte) || matches!(byte, b'_' | b'.')
 }
 
 fn has_name_characters(text: &[u8]) -> bool

@@ -8,4 +8,4 @@ loop-line-preserved c = record {
 }
 
 pub returns : goal.returns
-returns c = all_listed c.loop-line.out _ c.args.name.now c.args.section c.text-text.result.now _ c.loop-line.left.now _ c.loop-line.at _ c.loop-line.spot c.lines-line-items.result.now _ c.loop-line.line-index c.loop-line-test.false c.text-text.ensures c.lines-line-items.ensures c.loop-line.invariant.rest
+returns c = all_listed c.loop-line.out _ c.args.name.now c.args.section c.text-text.result.now _ c.loop-line.left.now _ c.loop-line.at _ c.loop-line.spot c.lines-line-items.result.now _ c.loop-line.line-index c.loop-line-test.false c.text-text.ensures c.lines-line-items.ensures.value c.loop-line.invariant.rest
