@@ -6,7 +6,7 @@ use Rattle.m36_scheduled.proofs.answering.dbrs_of.Goals as goal
 pub loop-i-preserved : goal.loop-i-preserved
 loop-i-preserved c =
     bases_more c.args.procs.now.state.regs c.loop-i.i c.regs.result.now c.loop-i.dbrs.items c.push.new.self.items c.regs.ensures
-    (c.in_ok-push.ensures ∙ ap (λ (d : DbrFields). c.loop-i.dbrs.items ++ d ∷ []) c.dbr_of.ensures) c.loop-i.invariant
+    (c.in_ok-push.ensures.items ∙ ap (λ (d : DbrFields). c.loop-i.dbrs.items ++ d ∷ []) c.dbr_of.ensures) c.loop-i.invariant
 
 pub returns-clause-value : goal.returns-clause-value
 returns-clause-value c =
