@@ -87,8 +87,8 @@ nothing = record { operand = None; steps = None; unaudited = false; expects = ex
 abbrev pub bare : Given → Option Command
 bare g =
     option_map
-        (λ file. Bare file (record { steps = unwrap_or g.steps 100000; unaudited = g.unaudited }))
-        g.operand
+    (λ file. Bare file (record { steps = unwrap_or g.steps 100000; unaudited = g.unaudited }))
+    g.operand
 
 abbrev pub has_no_option : Given → Bool
 has_no_option g = is_none g.steps && not g.unaudited
