@@ -7,7 +7,7 @@ use Rattle.obj36_parts.specs.Names.{same}
 use Rattle.obj36_parts.specs.ObjectSegment.{words_of, is_well_formed, inner_statics, outer_statics, linkage_section}
 use Rattle.obj36_parts.proofs.Formed.{is_formed}
 use Rattle.obj36_parts.proofs.LengthLaws.{length-linkage_part, length-sections}
-use Rattle.obj36.specs.Reading.{parts_of}
+use Rattle.obj36_read.specs.Reading.{parts_of}
 use Rattle.obj36.specs.Faults.{first_fault}
 use Rattle.obj36.specs.ObjectOf.{or_fault, object_of, value_of}
 use Rattle.obj36.specs.declared.fault.ObjectFault.{ObjectFault}
