@@ -17,10 +17,24 @@
 //! fault, a stop or a gate call no word changes that ring r may not write, and nothing is told that ring r may not read.
 //! `yes` tells whether there is none. The only other answer is want of memory, before anything is looked at.
 //!
-//! What it costs: memory for a mark and two counts for each core word, and work that grows with the words of core, of the
+//! `joint` decides the same of several processes on one core, one to eight, by the descriptor segment base register of each,
+//! and two conditions between them: no table word of one is a table word or a word of a segment of another, but for the page
+//! table of a segment that both have, and no word of a segment of one lies on one of another, but for the same word of such
+//! a segment. Two segments are one where their descriptors are equal words. Its findings are those of each process in order,
+//! and then the least core word that breaks each condition between processes. Where there is none, every schedule of the
+//! processes is isolated in each ring from 1.
+//!
+//! What `audit` costs: memory for a mark and two counts for each core word, and work that grows with the words of core, of the
 //! descriptors and of the page tables, and not with the words of the segments. Each table word is marked with the table it
 //! belongs to. Segment words are never looked at one by one: a page or an unpaged segment is a run of core words, for each
 //! core word it is counted how many runs begin and end there, and one pass over core keeps how many are open.
+//!
+//! What `joint` costs: three numbers more for each core word, and one for each descriptor. The marks and the counts are used
+//! again for each process. Of each core word it is told, each as none, one or several, which processes have a table word
+//! there, which have a word of a segment, and which tables these are; each descriptor has the number of the first one with
+//! its words, so the page tables of equal descriptors are one table. Runs are counted once more, over all processes, of the
+//! first segments alone. So the work grows with the words of core, of the descriptors and of the page tables, and not with
+//! pairs of them. All memory is taken before anything is looked at.
 //!
 //! Source: Multics Processor Manual AL39, "Addressing -- segmentation and paging", "Access control"; Schroeder and Saltzer,
 //! "A hardware architecture for implementing protection rings" (1972). The six conditions are this project's choice.
