@@ -15,7 +15,7 @@ use m36_arith::{
 use m36_word::{Pair, Word};
 
 /// What an operation gives.
-#[derive(Clone, Copy, PartialEq, Eq, Debug)]
+#[derive(Clone, Copy)]
 pub struct Computed {
     pub value: u128,
     pub zero: bool,

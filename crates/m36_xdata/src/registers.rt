@@ -8,7 +8,7 @@ use m36_model::{Ind, Regs};
 use m36_word::{Pair, Word};
 
 /// A register: the accumulator, the quotient register, both as one number of 72 bits, or an index register.
-#[derive(Clone, Copy, PartialEq, Eq, Debug)]
+#[derive(Clone, Copy)]
 pub enum Register {
     A,
     Q,
