@@ -4,7 +4,7 @@ use Rattle.std.specs.List.{list_all}
 use Rattle.std.proofs.lemmas.Bool.{and_parts, and_from, lt-ltb, le-leb, eqb-true, ne_eqb}
 use Rattle.std.proofs.lemmas.List.{append-nil}
 use Rattle.std.proofs.lemmas.List.Folds.{list_all-append}
-use Rattle.alm_parse.specs.declared.span.Span.{Span}
+use Rattle.alm_tokens.specs.declared.span.Span.{Span}
 use Rattle.alm_parse.specs.declared.args.Arg.{Arg}
 use Rattle.alm_parse.specs.declared.args.Arg.TheVariants as arg
 use Rattle.alm_parse.specs.declared.line.Line36.{Line36}
@@ -23,7 +23,7 @@ use Rattle.alm_asm.specs.Laws.{holds_words}
 use Rattle.alm_lines.specs.declared.sum.Sum.{Sum}
 use Rattle.alm_lines.specs.declared.sum.Kind.{Kind}
 use Rattle.alm_lines.specs.declared.sum.Kind.TheVariants.{Absolute, Moved, Unsaid}
-use Rattle.alm_lines.specs.declared.spot.Spot.{Spot}
+use Rattle.alm_lines.specs.SpotFields.{Spot}
 use Rattle.alm_asm.specs.declared.tables.Tables.{Tables}
 use Rattle.alm_parse.specs.declared.deed.Deed.{Deed}
 use Rattle.alm_parse.specs.declared.deed.Deed.TheVariants as deed

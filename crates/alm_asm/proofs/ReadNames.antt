@@ -5,36 +5,37 @@ use Rattle.std.specs.List.{list_all}
 use Rattle.std.proofs.lemmas.Bool.{and_parts, and_from, leb-true}
 use Rattle.std.proofs.lemmas.List.{take_all}
 use Rattle.alm_parse.specs.SourceFields.{Source}
-use Rattle.alm_parse.specs.declared.span.Span.{Span}
-use Rattle.alm_parse.specs.declared.pieces.Piece.{Piece}
-use Rattle.alm_parse.specs.declared.expression.Term.{Term}
+use Rattle.alm_tokens.specs.declared.span.Span.{Span}
+use Rattle.alm_tokens.specs.declared.pieces.Piece.{Piece}
+use Rattle.alm_tokens.specs.declared.expression.Term.{Term}
 use Rattle.alm_parse.specs.declared.args.Arg.{Arg}
 use Rattle.alm_parse.specs.declared.args.Arg.TheVariants as arg
 use Rattle.alm_parse.specs.declared.line.Line36.{Line36}
-use Rattle.alm_parse.specs.declared.rows.Row.{Row}
-use Rattle.alm_parse.specs.declared.head.Head.{Head}
+use Rattle.alm_tokens.specs.declared.rows.Row.{Row}
+use Rattle.alm_tokens.specs.declared.head.Head.{Head}
 use Rattle.alm_parse.specs.declared.body.Body.{Body}
 use Rattle.alm_parse.specs.declared.body.Body.TheVariants as body
-use Rattle.alm_parse.specs.declared.numerals.Numeral.{Numeral}
-use Rattle.alm_parse.specs.declared.numerals.Numeral.TheVariants as numeral
+use Rattle.alm_tokens.specs.declared.numerals.Numeral.{Numeral}
+use Rattle.alm_tokens.specs.declared.numerals.Numeral.TheVariants as numeral
 use Rattle.alm_parse.specs.declared.operation.Operation.{Operation}
 use Rattle.alm_parse.specs.declared.operation.Operation.TheVariants as operation
 use Rattle.alm_parse.specs.declared.refusal.Refusal.{Refusal}
 use Rattle.alm_parse.specs.declared.refusal.Code.TheVariants.{E1}
 use Rattle.alm_parse.specs.declared.fault.AlmFault.{AlmFault}
-use Rattle.alm_parse.specs.Bytes.{begins_symbol, is_character}
-use Rattle.alm_parse.specs.Tokens.{slice_of, is_text, is_symbol}
+use Rattle.alm_tokens.specs.Bytes.{begins_symbol, is_character}
+use Rattle.alm_tokens.specs.Tokens.{slice_of, is_text, is_symbol, span_at}
 use Rattle.alm_parse.specs.Refusals.{refused, unless}
-use Rattle.alm_parse.specs.Expressions.{is_term_at, expression_pieces, place_over, term_of}
-use Rattle.alm_parse.specs.Bodies.{span_at, place_of, body_of, is_segment, is_entry, is_tail, is_body, body_pieces}
+use Rattle.alm_tokens.specs.Expressions.{is_term_at, expression_pieces, place_over, term_of}
+use Rattle.alm_parse.specs.Bodies.{place_of, body_of, is_segment, is_entry, is_tail, is_body, body_pieces}
 use Rattle.alm_parse.specs.Operands.{body_span, tag_given, entry_given, operand_of, is_operand, operand_given}
-use Rattle.alm_parse.specs.Members.{members, is_symbol_at, symbol_arg, symbols_given, is_written_at, place_out, number_arg, numbers_given}
+use Rattle.alm_parse.specs.Members.{symbol_arg, symbols_given, number_arg, numbers_given}
+use Rattle.alm_tokens.specs.Lists.{members, is_symbol_at, is_written_at, place_out}
 use Rattle.alm_parse.specs.Pairs.{value_of_members, value_given, first_place, halves_of_members, halves_given, block_of_members, block_given, is_section, section_given}
 use Rattle.alm_parse.specs.Characters.{place_bad, packed, is_ended, characters_by, characters_ended, characters_closed, characters_given}
-use Rattle.alm_parse.specs.Heads.{head_of}
+use Rattle.alm_tokens.specs.Heads.{head_of}
 use Rattle.alm_parse.specs.Operations.{operation_of}
 use Rattle.alm_parse.specs.Lines.{missing, args_with, operand_for, args_by, args_of, label_refusal, line_of, line_with, line_by, line_from, line_unless, line_given}
-use Rattle.alm_parse.specs.Rows.{rows_of}
+use Rattle.alm_tokens.specs.Rows.{rows_of}
 use Rattle.alm_parse.specs.Sources.{names_end, continued, read_lines, with_text, parsed}
 use Rattle.obj36_parts.specs.declared.section.Section.TheVariants.{Text, Linkage, Static}
 use Rattle.obj36_parts.specs.Names.{is_name_character, is_name}
@@ -46,18 +47,14 @@ use Rattle.alm_asm.specs.Laws.{segment_is_named, entry_is_named, arg_is_named, a
 -- ---- symbols are names
 
 symbol_is_name : (bytes : List ℕ) → is_symbol bytes ≡ true → is_name bytes ≡ true
-unfolding is_symbol is_name
-symbol_is_name bytes e =
-    let all = and_parts ((leb 1 (length bytes) && leb (length bytes) 32) && begins_symbol (slice_index bytes 0)) (list_all is_name_character bytes) e in
-    let few = and_parts (leb 1 (length bytes) && leb (length bytes) 32) (begins_symbol (slice_index bytes 0)) all.0 in
-    and_from (leb 1 (length bytes) && leb (length bytes) 32) (list_all is_name_character bytes) few.0 all.1
+unfolding is_symbol
+symbol_is_name bytes e = (and_parts (is_name bytes) (begins_symbol (slice_index bytes 0)) e).0
 
 symbol_length : (bytes : List ℕ) → is_symbol bytes ≡ true → length bytes ≤ 32
-unfolding is_symbol
+unfolding is_name
 symbol_length bytes e =
-    let all = and_parts ((leb 1 (length bytes) && leb (length bytes) 32) && begins_symbol (slice_index bytes 0)) (list_all is_name_character bytes) e in
-    let few = and_parts (leb 1 (length bytes) && leb (length bytes) 32) (begins_symbol (slice_index bytes 0)) all.0 in
-    leb-true (length bytes) 32 (and_parts (leb 1 (length bytes)) (leb (length bytes) 32) few.0).1
+    let all = and_parts (leb 1 (length bytes) && leb (length bytes) 32) (list_all is_name_character bytes) (symbol_is_name bytes e) in
+    leb-true (length bytes) 32 (and_parts (leb 1 (length bytes)) (leb (length bytes) 32) all.0).1
 
 symbol_named : (text : List ℕ) (span : Span) → is_symbol (slice_of text span) ≡ true → is_name (name_at text span) ≡ true
 symbol_named text span e =

@@ -2,8 +2,8 @@
 use Rattle.std.proofs.Common.{◌≡◌, ℕ, Bool, true, false, cond, not, ◌&&◌, List, [], ◌∷◌, ◌++◌, Option, Some, None, ◌⊎◌, inl, inr, refl, sym, ap, ◌∙◌, true≢false}
 use Rattle.std.specs.Prelude.{codes}
 use Rattle.std.proofs.lemmas.Bool.{not-true}
-use Rattle.alm_parse.specs.Tokens.{slice_of, is_text}
-use Rattle.alm_parse.specs.declared.span.Span.{Span}
+use Rattle.alm_tokens.specs.Tokens.{slice_of, is_text}
+use Rattle.alm_tokens.specs.declared.span.Span.{Span}
 use Rattle.alm_parse.specs.declared.args.Arg.{Arg}
 use Rattle.alm_parse.specs.declared.line.Line36.{Line36}
 use Rattle.obj36_parts.specs.declared.section.Section.{Section}
@@ -15,7 +15,7 @@ use Rattle.alm_lines.specs.Refusals.{refusal_at}
 use Rattle.alm_asm.specs.Definitions.{definitions_after}
 use Rattle.alm_asm.specs.LineRefusals.{op_place, may_enter, refusal_of_deed, lines_refusal}
 use Rattle.alm_asm.specs.Assembly.{static_section}
-use Rattle.alm_lines.specs.declared.spot.Spot.{Spot}
+use Rattle.alm_lines.specs.SpotFields.{Spot}
 use Rattle.alm_asm.specs.declared.tables.Tables.{Tables}
 use Rattle.alm_parse.specs.declared.deed.Deed.{Deed}
 use Rattle.alm_parse.specs.declared.deed.Deed.TheVariants as deed

@@ -1,14 +1,14 @@
 -- A symbol stays what its first definition says.
 use Rattle.std.proofs.Common.{◌≡◌, ℕ, Bool, true, false, cond, List, [], ◌∷◌, ◌++◌, Option, Some, None, is_some, sym, ap, true≢false}
 use Rattle.std.specs.Map.{lookup}
-use Rattle.alm_parse.specs.declared.span.Span.{Span}
+use Rattle.alm_tokens.specs.declared.span.Span.{Span}
 use Rattle.alm_parse.specs.declared.line.Line36.{Line36}
 use Rattle.alm_lines.specs.Symbols.{same_name, sum_named, with_symbol}
 use Rattle.alm_lines.specs.Arguments.{name_at}
 use Rattle.alm_lines.specs.Spots.{start, here, below}
 use Rattle.alm_lines.specs.Layout.{with_labels, own_symbol, own_sum, with_own, symbols_with, labelled, symbols_after, symbols_from}
 use Rattle.alm_lines.specs.declared.sum.Sum.{Sum}
-use Rattle.alm_lines.specs.declared.spot.Spot.{Spot}
+use Rattle.alm_lines.specs.SpotFields.{Spot}
 
 stays_by : (b : Bool) (first sum : Sum) (rest more : Option Sum) → (rest ≡ Some sum → more ≡ Some sum) → cond b (Some first) rest ≡ Some sum → cond b (Some first) more ≡ Some sum
 stays_by true first sum rest more stays e = e

@@ -1,7 +1,7 @@
 -- Definitions: the names of `entry` and `segdef` lines in order, and what is refused of them.
 use Rattle.std.specs.Prelude.{ℕ, Bool, true, false, not, ◌&&◌, List, [], ◌∷◌, ◌++◌, Option, Some, None}
 use Rattle.std.specs.List.{list_any}
-use Rattle.alm_parse.specs.declared.span.Span.{Span}
+use Rattle.alm_tokens.specs.declared.span.Span.{Span}
 use Rattle.alm_parse.specs.declared.args.Arg.{Arg}
 use Rattle.alm_parse.specs.declared.args.Arg.TheVariants as arg
 use Rattle.alm_parse.specs.declared.line.Line36.{Line36}

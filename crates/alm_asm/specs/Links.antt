@@ -1,9 +1,9 @@
 -- Links: the external operands of instructions, each once, in the order of their first use.
 use Rattle.std.specs.Prelude.{ℕ, ◌+◌, ◌*◌, ◌%◌, ◌^◌, Bool, List, [], ◌∷◌, ◌++◌, codes, Option, Some, None, unwrap_or, if◌then◌else◌}
 use Rattle.std.specs.List.{list_any, position}
-use Rattle.alm_parse.specs.Tokens.{slice_of, is_text}
-use Rattle.alm_parse.specs.declared.span.Span.{Span}
-use Rattle.alm_parse.specs.declared.expression.Term.{Term}
+use Rattle.alm_tokens.specs.Tokens.{slice_of, is_text}
+use Rattle.alm_tokens.specs.declared.span.Span.{Span}
+use Rattle.alm_tokens.specs.declared.expression.Term.{Term}
 use Rattle.alm_parse.specs.declared.args.Arg.{Arg}
 use Rattle.alm_parse.specs.declared.args.Arg.TheVariants as arg
 use Rattle.alm_parse.specs.declared.line.Line36.{Line36}
@@ -16,7 +16,7 @@ use Rattle.alm_lines.specs.Arguments.{name_at, first_arg}
 use Rattle.alm_lines.specs.Spots.{below}
 use Rattle.alm_lines.specs.Expressions.{sum_of}
 use Rattle.alm_lines.specs.declared.sum.Sum.{Sum}
-use Rattle.alm_lines.specs.declared.spot.Spot.{Spot}
+use Rattle.alm_lines.specs.SpotFields.{Spot}
 use Rattle.alm_parse.specs.declared.deed.Deed.{Deed}
 use Rattle.alm_parse.specs.declared.deed.Deed.TheVariants as deed
 

@@ -195,35 +195,6 @@ pub fn push_definitions(
     }
 }
 
-// Adds the definitions of a list of names.
-#[tactic(auto, unfolding(crate::specs::Definitions::with_names))]
-fn push_all_named(
-    text: &[u8],
-    symbols: &Symbols,
-    is_entry: bool,
-    args: &[Arg],
-    done: &mut Defs,
-) -> Result<(), NoMemory>
-    ensures { OnOk result (done.new ≡ with_names text.now symbols.now is_entry done.old args.now) }
-{
-    let mut rest = args;
-    while let [arg, more @ ..] = rest {
-        push_named(text, symbols, is_entry, arg, done)?;
-        rest = more;
-    }
-    Ok(())
-}
-
-#[tactic(auto, unfolding(crate::specs::Definitions::definitions_after))]
-fn take_line(text: &[u8], symbols: &Symbols, line: &Line36, done: &mut Defs) -> Result<(), NoMemory>
-    ensures { OnOk result (done.new ≡ definitions_after text.now symbols.now done.old line.now) }
-{
-    match gives_entries(line.deed) {
-        None => Ok(()),
-        Some(is_entry) => push_all_named(text, symbols, is_entry, line.args.items(), done),
-    }
-}
-
 /// The definitions of lines.
 #[tactic(auto, unfolding(crate::specs::Definitions::definitions_from))]
 pub fn definitions_of(
@@ -237,7 +208,7 @@ pub fn definitions_of(
     let mut done = Defs::new(alloc);
     let mut rest = lines;
     while let [line, more @ ..] = rest {
-        take_line(text, symbols, line, &mut done)?;
+        push_definitions(text, symbols, line, None, &mut done)?;
         rest = more;
     }
     Ok(done)

@@ -1,60 +1,9 @@
--- A number out of its range, and a label, have a byte in the text.
-use Rattle.std.proofs.Common.{◌≡◌, ℕ, suc, ◌-◌, ◌<◌, ◌≤◌, Bool, true, false, cond, List, [], ◌∷◌, length, take, drop, Option, Some, refl, arith, length-drop, subst}
+-- A label that is no symbol has a byte in the text.
+use Rattle.std.proofs.Common.{◌≡◌, ℕ, suc, ◌<◌, ◌≤◌, Bool, true, false, cond, List, [], ◌∷◌, length, Option, Some, refl, arith, subst}
 use Rattle.std.specs.List.{find, All}
-use Rattle.std.proofs.lemmas.List.{length-take}
-use Rattle.m36_text.specs.Reading.{number_read}
-use Rattle.alm_parse.specs.declared.span.Span.{Span}
-use Rattle.alm_parse.specs.declared.pieces.Piece.{Piece}
-use Rattle.alm_parse.specs.declared.numerals.Numeral.{Numeral}
-use Rattle.alm_parse.specs.declared.numerals.Numeral.TheVariants.{Decimal, Octal, Small}
-use Rattle.alm_parse.specs.Tokens.{slice_of, small_read, is_over}
-use Rattle.alm_parse.specs.Expressions.{is_over_at}
-use Rattle.alm_parse.specs.Numerals.{read_as}
-use Rattle.alm_parse.specs.Members.{is_out_at}
-use Rattle.alm_parse.specs.Heads.{IsMark}
+use Rattle.alm_tokens.specs.declared.span.Span.{Span}
+use Rattle.alm_tokens.specs.Heads.{IsMark}
 use Rattle.alm_parse.specs.Lines.{is_no_symbol}
-
--- what is found passes
-found_by : {X : Type 0} (p : X → Bool) (b : Bool) (x y : X) (rest : Option X) → p x ≡ b → (rest ≡ Some y → p y ≡ true) → cond b (Some x) rest ≡ Some y → p y ≡ true
-found_by p true x y rest e later f = let same : x ≡ y = cc in subst (λ z. p z ≡ true) same e
-found_by p false x y rest e later f = later f
-
-pub found_passes : {X : Type 0} (p : X → Bool) (xs : List X) (y : X) → find p xs ≡ Some y → p y ≡ true
-found_passes p [] y e = absurd (cc)
-found_passes p (x ∷ xs) y e = found_by p (p x) x y (find p xs) refl (λ f. found_passes p xs y f) e
-
--- what names a byte begins before the text's end
-slice_inside : (text : List ℕ) (span : Span) → 0 < length (slice_of text span) → span.from < length text
-unfolding slice_of
-slice_inside text span some =
-    let count : length (take (span.to - span.from) (drop span.from text)) ≤ length text - span.from = simp (length-take, length-drop) (omega arith) in
-    omega (arith, some, count)
-
-false_true : false ≡ true → ⊥
-false_true e = cc
-
--- a text without a byte is no number
-small_some : (bytes : List ℕ) → is_over (small_read bytes) ≡ true → 0 < length bytes
-unfolding number_read
-small_some [] e = absurd (false_true e)
-small_some (b ∷ bytes) e = omega arith
-
-out_some : (numeral : Numeral) (bytes : List ℕ) → is_over (read_as numeral bytes) ≡ true → 0 < length bytes
-unfolding number_read
-out_some Decimal [] e = absurd (false_true e)
-out_some Octal [] e = absurd (false_true e)
-out_some Small [] e = absurd (false_true e)
-out_some numeral (b ∷ bytes) e = omega arith
-
-pub over_inside : (text : List ℕ) (pieces : List Piece) (piece : Piece) → find (is_over_at text) pieces ≡ Some piece → piece.span.from < length text
-over_inside text pieces piece e =
-    slice_inside text piece.span (small_some (slice_of text piece.span) (found_passes (is_over_at text) pieces piece e))
-
-pub out_inside :
-    (numeral : Numeral) (text : List ℕ) (pieces : List Piece) (piece : Piece)
-    → find (is_out_at numeral text) pieces ≡ Some piece → piece.span.from < length text
-out_inside numeral text pieces piece e =
-    slice_inside text piece.span (out_some numeral (slice_of text piece.span) (found_passes (is_out_at numeral text) pieces piece e))
 
 -- the first of some labels that is no symbol
 marks_by : (p : Span → Bool) (b : Bool) (x y : Span) (rest : Option Span) (P : Span → Type 0) → P x → (rest ≡ Some y → P y) → cond b (Some x) rest ≡ Some y → P y

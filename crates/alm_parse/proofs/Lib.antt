@@ -1,10 +1,5 @@
-pub mod Cuts
-pub mod HeadLaws
 pub mod Inside
 pub mod Packed
-pub mod RowLaws
-pub mod Slices
 pub mod SourceLaws
 pub mod SpanLines
 pub mod SpanParts
-pub mod Widths

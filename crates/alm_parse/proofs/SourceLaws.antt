@@ -1,15 +1,16 @@
 -- A source, line by line.
 use Rattle.std.proofs.Common.{◌≡◌, ℕ, ◌+◌, ◌<◌, ◌≤◌, true, false, cond, List, [], ◌∷◌, ◌++◌, length, drop, get_or, Result, Ok, Err, refl, sym, ap, ◌∙◌, drop-cons, add-one, subst}
+use Rattle.std.proofs.lemmas.List.{length-append}
 use Rattle.std.proofs.Math.ListN.{drop_of_length-le}
 use Rattle.alm_parse.specs.declared.refusal.Code.{Code}
 use Rattle.alm_parse.specs.declared.refusal.Code.TheVariants as code
 use Rattle.alm_parse.specs.declared.refusal.Refusal.{Refusal}
-use Rattle.alm_parse.specs.declared.rows.Row.{Row}
+use Rattle.alm_tokens.specs.declared.rows.Row.{Row}
 use Rattle.alm_parse.specs.declared.line.Line36.{Line36}
 use Rattle.alm_parse.specs.declared.fault.AlmFault.{AlmFault}
 use Rattle.alm_parse.specs.declared.fault.AlmFault.TheVariants.{E1, E2, E3, E4, E5, E6, E7, E8, NoMemory}
 use Rattle.alm_parse.specs.Lines.{line_given}
-use Rattle.alm_parse.specs.Rows.{rows_of}
+use Rattle.alm_tokens.specs.Rows.{rows_of}
 use Rattle.alm_parse.specs.Sources.{fault_by, fault_of, names_end, continued, read_lines, with_text, parsed, Refuses}
 
 read_row :
@@ -31,6 +32,10 @@ refuses_told row refusal definition e = refuses_by refusal.code row.number _ def
 
 abbrev pub ok_lines : List Line36 → Result (List Line36) AlmFault
 ok_lines lines = Ok lines
+
+-- a list with one line more at its end
+pub line_more : (lines new : List Line36) (line : Line36) → new ≡ lines ++ line ∷ [] → length new ≡ length lines + 1
+line_more lines new line e = ap length e ∙ length-append lines (line ∷ [])
 
 -- a line is refused
 pub told_here :

@@ -2,40 +2,41 @@
 use Rattle.std.proofs.Common.{◌≡◌, ℕ, ◌+◌, ◌<◌, ◌≤◌, Bool, true, false, cond, List, [], ◌∷◌, ◌++◌, length, map, Option, Some, None, Result, Ok, Err, refl, arith, subst, unwrap_or}
 use Rattle.std.specs.Prelude.{All, IfSome, IfOk, ⊤, slice_index}
 use Rattle.std.proofs.lemmas.List.Elements.{All-append, All-cons, All-nil}
-use Rattle.alm_parse.specs.declared.span.Span.{Span}
-use Rattle.alm_parse.specs.declared.pieces.Piece.{Piece}
-use Rattle.alm_parse.specs.declared.expression.Term.{Term}
+use Rattle.alm_tokens.specs.declared.span.Span.{Span}
+use Rattle.alm_tokens.specs.declared.pieces.Piece.{Piece}
+use Rattle.alm_tokens.specs.declared.expression.Term.{Term}
 use Rattle.alm_parse.specs.declared.body.Body.{Body}
 use Rattle.alm_parse.specs.declared.body.Body.TheVariants.{Through, External, Plain}
 use Rattle.alm_parse.specs.declared.args.Arg.{Arg}
 use Rattle.alm_parse.specs.declared.args.Arg.TheVariants as arg
-use Rattle.alm_parse.specs.declared.numerals.Numeral.{Numeral}
-use Rattle.alm_parse.specs.declared.numerals.Numeral.TheVariants as numeral
+use Rattle.alm_tokens.specs.declared.numerals.Numeral.{Numeral}
+use Rattle.alm_tokens.specs.declared.numerals.Numeral.TheVariants as numeral
 use Rattle.alm_parse.specs.declared.operation.Operation.{Operation}
 use Rattle.alm_parse.specs.declared.operation.Operation.TheVariants.{Instruction, Names, Value, Section, Decimal, Octal, Characters, Halves, Block, Bare, End}
 use Rattle.alm_parse.specs.declared.refusal.Refusal.{Refusal}
-use Rattle.alm_parse.specs.declared.head.Head.{Head}
-use Rattle.alm_parse.specs.declared.rows.Row.{Row}
+use Rattle.alm_tokens.specs.declared.head.Head.{Head}
+use Rattle.alm_tokens.specs.declared.rows.Row.{Row}
 use Rattle.alm_parse.specs.declared.line.Line36.{Line36}
 use Rattle.alm_parse.specs.declared.fault.AlmFault.{AlmFault}
-use Rattle.alm_parse.specs.declared.pieces.Parter.TheVariants.{Comma}
+use Rattle.alm_tokens.specs.declared.pieces.Parter.TheVariants.{Comma}
 use Rattle.alm_parse.specs.SourceFields.{Source}
-use Rattle.alm_parse.specs.Bytes.{is_character}
-use Rattle.alm_parse.specs.Tokens.{slice_of}
+use Rattle.alm_tokens.specs.Bytes.{is_character}
+use Rattle.alm_tokens.specs.Tokens.{slice_of, span_at}
 use Rattle.alm_parse.specs.Refusals.{unless}
-use Rattle.alm_parse.specs.Expressions.{expression_pieces, term_of}
-use Rattle.alm_parse.specs.Bodies.{span_at, place_of, body_of, body_pieces}
+use Rattle.alm_tokens.specs.Expressions.{expression_pieces, term_of}
+use Rattle.alm_parse.specs.Bodies.{place_of, body_of, body_pieces}
 use Rattle.alm_parse.specs.Operands.{body_span, tag_given, operand_of, operand_given}
-use Rattle.alm_parse.specs.Members.{members, symbol_arg, number_arg, symbols_given, numbers_given}
+use Rattle.alm_parse.specs.Members.{symbol_arg, number_arg, symbols_given, numbers_given}
+use Rattle.alm_tokens.specs.Lists.{members}
 use Rattle.alm_parse.specs.Pairs.{value_of_members, value_given, halves_of_members, halves_given, block_of_members, block_given, section_given}
 use Rattle.alm_parse.specs.Characters.{packed, is_ended, place_bad, characters_by, characters_ended, characters_closed, characters_given}
-use Rattle.alm_parse.specs.Heads.{head_of, delimited_in}
+use Rattle.alm_tokens.specs.Heads.{head_of, delimited_in}
 use Rattle.alm_parse.specs.Operations.{operation_of}
 use Rattle.alm_parse.specs.Lines.{missing, args_with, operand_for, args_by, args_of, label_refusal, line_of, line_with, line_by, line_from, line_unless, line_given}
-use Rattle.alm_parse.specs.Rows.{rows_of}
+use Rattle.alm_tokens.specs.Rows.{rows_of}
 use Rattle.alm_parse.specs.Sources.{names_end, continued, read_lines, with_text, parsed, ParseSays}
 use Rattle.alm_parse.specs.Spans.{IsSpan, TermIn, ArgIn, LineIn}
-use Rattle.alm_parse.proofs.Widths.{pr_below, tag_below}
+use Rattle.alm_tokens.proofs.Widths.{pr_below, tag_below}
 use Rattle.alm_parse.proofs.SpanParts.{all_head, all_rest, all_map, PieceIn, pieces_in, expression_in, terms_in, BodyIn, body_in, body_pieces_in, HeadIn, head_in, operand_span_in, RowIn, rows_in}
 
 -- what is read where nothing is refused

@@ -5,26 +5,26 @@ use Rattle.std.specs.List.{position, position_or_len}
 use Rattle.std.proofs.lemmas.List.{length-take}
 use Rattle.std.proofs.lemmas.List.Elements.{All-append, All-cons, All-nil}
 use Rattle.std.proofs.lemmas.Bool.{cases_lt, lt-ltb, le-ltb}
-use Rattle.alm_parse.specs.declared.span.Span.{Span}
-use Rattle.alm_parse.specs.declared.pieces.Parter.{Parter}
-use Rattle.alm_parse.specs.declared.pieces.Piece.{Piece}
+use Rattle.alm_tokens.specs.declared.span.Span.{Span}
+use Rattle.alm_tokens.specs.declared.pieces.Parter.{Parter}
+use Rattle.alm_tokens.specs.declared.pieces.Piece.{Piece}
 use Rattle.alm_parse.specs.declared.body.Body.{Body}
 use Rattle.alm_parse.specs.declared.body.Body.TheVariants.{Through, External, Plain}
-use Rattle.alm_parse.specs.declared.head.Head.{Head}
-use Rattle.alm_parse.specs.declared.head.Turn.{Turn}
-use Rattle.alm_parse.specs.declared.head.Turn.TheVariants.{Label, Skip, Stop, Go}
-use Rattle.alm_parse.specs.declared.rows.Row.{Row}
+use Rattle.alm_tokens.specs.declared.head.Head.{Head}
+use Rattle.alm_tokens.specs.declared.head.Turn.{Turn}
+use Rattle.alm_tokens.specs.declared.head.Turn.TheVariants.{Label, Skip, Stop, Go}
+use Rattle.alm_tokens.specs.declared.rows.Row.{Row}
 use Rattle.m36_text.specs.Texts.{is_name_character}
-use Rattle.alm_parse.specs.Bytes.{is_blank}
-use Rattle.alm_parse.specs.Tokens.{slice_of}
-use Rattle.alm_parse.specs.Pieces.{parts, piece_at, cut, pieces_of}
-use Rattle.alm_parse.specs.declared.pieces.Parter.TheVariants.{Sign}
-use Rattle.alm_parse.specs.Expressions.{signed_start, expression_pieces, term_of}
-use Rattle.alm_parse.specs.Bodies.{span_at, place_of, end_by, symbol_end, external, body_without_bar, body_by, body_of, tail_pieces, body_pieces}
-use Rattle.alm_parse.specs.Heads.{turn_of, token, head_at, head_by, head_from, head_of, operand_start, end_from, operand_end, operand_by, operand_in}
-use Rattle.alm_parse.specs.Rows.{row_at, rows_from, rows_of}
+use Rattle.alm_tokens.specs.Bytes.{is_blank}
+use Rattle.alm_tokens.specs.Tokens.{slice_of, span_at}
+use Rattle.alm_tokens.specs.Pieces.{parts, piece_at, cut, pieces_of}
+use Rattle.alm_tokens.specs.declared.pieces.Parter.TheVariants.{Sign}
+use Rattle.alm_tokens.specs.Expressions.{signed_start, expression_pieces, term_of}
+use Rattle.alm_parse.specs.Bodies.{place_of, end_by, symbol_end, external, body_without_bar, body_by, body_of, tail_pieces, body_pieces}
+use Rattle.alm_tokens.specs.Heads.{turn_of, token, head_at, head_by, head_from, head_of, operand_start, end_from, operand_end, operand_by, operand_in}
+use Rattle.alm_tokens.specs.Rows.{row_at, rows_from, rows_of}
 use Rattle.alm_parse.specs.Spans.{IsSpan, TermIn}
-use Rattle.alm_parse.proofs.Widths.{atom_small}
+use Rattle.alm_tokens.proofs.Widths.{atom_small}
 
 -- lists of which each member has a property
 pub all_head : {X : Type 0} (P : X → Type 0) (x : X) (xs : List X) → All P (x ∷ xs) → P x

@@ -3,19 +3,16 @@
 -- expression.
 use Rattle.std.specs.Prelude.{ℕ, ◌+◌, Bool, true, false, not, ◌&&◌, ◌||◌, ◌==◌, List, [], length, slice_index, codes, Option, Some, None, option_map, is_some, if◌then◌else◌}
 use Rattle.std.specs.List.{position}
-use Rattle.alm_parse.specs.declared.span.Span.{Span}
-use Rattle.alm_parse.specs.declared.pieces.Piece.{Piece}
+use Rattle.alm_tokens.specs.declared.span.Span.{Span}
+use Rattle.alm_tokens.specs.declared.pieces.Piece.{Piece}
 use Rattle.alm_parse.specs.declared.body.Body.{Body}
 use Rattle.alm_parse.specs.declared.body.Body.TheVariants.{Through, External, Plain}
 use Rattle.m36_text.specs.Texts.{is_name_character}
-use Rattle.alm_parse.specs.Bytes.{is_sign}
-use Rattle.alm_parse.specs.Tokens.{slice_of, is_text, is_symbol}
-use Rattle.alm_parse.specs.Pieces.{piece_at}
-use Rattle.alm_parse.specs.Expressions.{expression_pieces}
-use Rattle.alm_parse.specs.Modifiers.{pr_number}
-
-abbrev pub span_at : ℕ → ℕ → Span
-span_at from to = record { from = from; to = to }
+use Rattle.alm_tokens.specs.Bytes.{is_sign}
+use Rattle.alm_tokens.specs.Tokens.{span_at, slice_of, is_text, is_symbol}
+use Rattle.alm_tokens.specs.Pieces.{piece_at}
+use Rattle.alm_tokens.specs.Expressions.{expression_pieces}
+use Rattle.alm_tokens.specs.Modifiers.{pr_number}
 
 -- the first place in a span where a byte stands
 unfoldable pub place_of : List ℕ → Span → ℕ → Option ℕ

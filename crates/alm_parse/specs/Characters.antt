@@ -1,14 +1,14 @@
 -- Texts that are placed: characters between two delimiters, four in a word.
 use Rattle.std.specs.Prelude.{ℕ, ◌+◌, ◌*◌, ◌^◌, Bool, true, false, not, ◌==◌, List, [], ◌∷◌, slice_index, Option, Some, None, option_map, Result, Ok, Err, if◌then◌else◌}
 use Rattle.std.specs.List.{find, position}
-use Rattle.alm_parse.specs.declared.span.Span.{Span}
+use Rattle.alm_tokens.specs.declared.span.Span.{Span}
 use Rattle.alm_parse.specs.declared.args.Arg.{Arg}
 use Rattle.alm_parse.specs.declared.args.Arg.TheVariants.{Chars}
 use Rattle.alm_parse.specs.declared.refusal.Code.TheVariants.{E1, E2}
 use Rattle.alm_parse.specs.declared.refusal.Refusal.{Refusal}
-use Rattle.alm_parse.specs.Bytes.{is_blank, is_character}
-use Rattle.alm_parse.specs.Tokens.{slice_of}
-use Rattle.alm_parse.specs.Bodies.{span_at, place_of}
+use Rattle.alm_tokens.specs.Bytes.{is_blank, is_character}
+use Rattle.alm_tokens.specs.Tokens.{slice_of, span_at}
+use Rattle.alm_parse.specs.Bodies.{place_of}
 
 -- A character has nine bits, and zeros follow the last.
 abbrev pub four : ℕ → ℕ → ℕ → ℕ → ℕ

@@ -1,8 +1,8 @@
 -- What operations do.
 use Rattle.std.specs.Prelude.{ℕ, Bool, List, codes, Option, Some, None, if◌then◌else◌}
 use Rattle.m36_inst.specs.Lookup.{code_named}
-use Rattle.alm_parse.specs.Tokens.{slice_of, is_text}
-use Rattle.alm_parse.specs.declared.span.Span.{Span}
+use Rattle.alm_tokens.specs.Tokens.{slice_of, is_text}
+use Rattle.alm_tokens.specs.declared.span.Span.{Span}
 use Rattle.alm_parse.specs.declared.deed.Deed.{Deed}
 use Rattle.alm_parse.specs.declared.deed.Deed.TheVariants as deed
 

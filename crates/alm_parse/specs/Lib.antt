@@ -2,21 +2,13 @@
 -- says what one line is by its head, its operation and its operand. The other modules are the
 -- tokens and the forms of operands, from bytes up; Deeds says what an operation does, and Spans
 -- what holds of each line that is read.
-pub mod Bytes
-pub mod Tokens
-pub mod Pieces
-pub mod Expressions
-pub mod Modifiers
 pub mod Refusals
 pub mod Bodies
 pub mod Operands
-pub mod Numerals
 pub mod Members
 pub mod Pairs
 pub mod Characters
-pub mod Heads
 pub mod Operations
-pub mod Rows
 pub mod Deeds
 pub mod Lines
 pub mod Spans

@@ -1,24 +1,23 @@
 -- The lines of a source.
 use Rattle.std.specs.Prelude.{ℕ, Bool, not, List, [], Option, Some, None, option_map, Result, Ok, Err}
 use Rattle.std.specs.List.{find}
-use Rattle.alm_parse.specs.declared.span.Span.{Span}
+use Rattle.alm_tokens.specs.declared.span.Span.{Span}
 use Rattle.alm_parse.specs.declared.args.Arg.{Arg}
-use Rattle.alm_parse.specs.declared.numerals.Numeral.TheVariants as numeral
+use Rattle.alm_tokens.specs.declared.numerals.Numeral.TheVariants as numeral
 use Rattle.alm_parse.specs.declared.operation.Operation.{Operation}
 use Rattle.alm_parse.specs.declared.operation.Operation.TheVariants.{Instruction, Names, Value, Section, Decimal, Octal, Characters, Halves, Block, Bare, End}
 use Rattle.alm_parse.specs.declared.refusal.Code.TheVariants.{E2, E3}
 use Rattle.alm_parse.specs.declared.refusal.Refusal.{Refusal}
-use Rattle.alm_parse.specs.declared.head.Head.{Head}
-use Rattle.alm_parse.specs.declared.rows.Row.{Row}
+use Rattle.alm_tokens.specs.declared.head.Head.{Head}
+use Rattle.alm_tokens.specs.declared.rows.Row.{Row}
 use Rattle.alm_parse.specs.declared.line.Line36.{Line36}
-use Rattle.alm_parse.specs.Tokens.{slice_of, is_symbol}
+use Rattle.alm_tokens.specs.Tokens.{slice_of, is_symbol, span_at}
 use Rattle.alm_parse.specs.Refusals.{told, unless}
-use Rattle.alm_parse.specs.Bodies.{span_at}
 use Rattle.alm_parse.specs.Operands.{operand_given}
 use Rattle.alm_parse.specs.Members.{symbols_given, numbers_given}
 use Rattle.alm_parse.specs.Pairs.{value_given, halves_given, block_given, section_given}
 use Rattle.alm_parse.specs.Characters.{characters_given}
-use Rattle.alm_parse.specs.Heads.{head_of, operand_in, delimited_in}
+use Rattle.alm_tokens.specs.Heads.{head_of, operand_in, delimited_in}
 use Rattle.alm_parse.specs.Operations.{operation_of}
 use Rattle.alm_parse.specs.Deeds.{deed_of}
 

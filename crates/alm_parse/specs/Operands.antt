@@ -1,18 +1,18 @@
 -- The operand of an instruction: its body, and perhaps a comma and a modifier.
 use Rattle.std.specs.Prelude.{ℕ, ◌+◌, Bool, ◌&&◌, ◌==◌, List, [], ◌∷◌, length, map, Option, Some, None, Result, is_some, unwrap_or, if◌then◌else◌}
 use Rattle.std.specs.List.{list_all}
-use Rattle.alm_parse.specs.declared.span.Span.{Span}
-use Rattle.alm_parse.specs.declared.pieces.Piece.{Piece}
-use Rattle.alm_parse.specs.declared.expression.Term.{Term}
+use Rattle.alm_tokens.specs.declared.span.Span.{Span}
+use Rattle.alm_tokens.specs.declared.pieces.Piece.{Piece}
+use Rattle.alm_tokens.specs.declared.expression.Term.{Term}
 use Rattle.alm_parse.specs.declared.body.Body.{Body}
 use Rattle.alm_parse.specs.declared.body.Body.TheVariants.{Through, External, Plain}
 use Rattle.alm_parse.specs.declared.args.Arg.{Arg}
 use Rattle.alm_parse.specs.declared.args.Arg.TheVariants.{Operand}
 use Rattle.alm_parse.specs.declared.refusal.Refusal.{Refusal}
-use Rattle.alm_parse.specs.Tokens.{slice_of}
-use Rattle.alm_parse.specs.Expressions.{is_term_at, place_over, term_of}
-use Rattle.alm_parse.specs.Modifiers.{pr_number, tag_of}
-use Rattle.alm_parse.specs.Bodies.{span_at, place_of, body_of, is_body, body_pieces}
+use Rattle.alm_tokens.specs.Tokens.{slice_of, span_at}
+use Rattle.alm_tokens.specs.Expressions.{is_term_at, place_over, term_of}
+use Rattle.alm_tokens.specs.Modifiers.{pr_number, tag_of}
+use Rattle.alm_parse.specs.Bodies.{place_of, body_of, is_body, body_pieces}
 use Rattle.alm_parse.specs.Refusals.{refused, unless}
 
 -- what stands before the comma, and the tag of what stands behind it

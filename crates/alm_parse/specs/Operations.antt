@@ -3,7 +3,7 @@ use Rattle.std.specs.Prelude.{ℕ, ◌||◌, List, codes, Option, Some, None, if
 use Rattle.m36_inst.specs.Lookup.{code_named}
 use Rattle.alm_parse.specs.declared.operation.Operation.{Operation}
 use Rattle.alm_parse.specs.declared.operation.Operation.TheVariants.{Instruction, Names, Value, Section, Decimal, Octal, Characters, Halves, Block, Bare, End}
-use Rattle.alm_parse.specs.Tokens.{is_text}
+use Rattle.alm_tokens.specs.Tokens.{is_text}
 
 unfoldable pub directive : List ℕ → Option Operation
 directive name =

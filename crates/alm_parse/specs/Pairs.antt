@@ -1,16 +1,17 @@
 -- Operands of two parts between a comma, and names of sections.
 use Rattle.std.specs.Prelude.{ℕ, Bool, ◌&&◌, ◌||◌, List, [], ◌∷◌, map, codes, Option, Some, None, Result, Err}
 use Rattle.std.specs.List.{list_all}
-use Rattle.alm_parse.specs.declared.span.Span.{Span}
-use Rattle.alm_parse.specs.declared.pieces.Piece.{Piece}
+use Rattle.alm_tokens.specs.declared.span.Span.{Span}
+use Rattle.alm_tokens.specs.declared.pieces.Piece.{Piece}
 use Rattle.alm_parse.specs.declared.args.Arg.{Arg}
 use Rattle.alm_parse.specs.declared.args.Arg.TheVariants.{Symbol, Plain}
-use Rattle.alm_parse.specs.declared.numerals.Numeral.TheVariants.{Small}
+use Rattle.alm_tokens.specs.declared.numerals.Numeral.TheVariants.{Small}
 use Rattle.alm_parse.specs.declared.refusal.Code.TheVariants.{E2}
 use Rattle.alm_parse.specs.declared.refusal.Refusal.{Refusal}
-use Rattle.alm_parse.specs.Tokens.{slice_of, is_text}
-use Rattle.alm_parse.specs.Expressions.{is_term_at, expression_pieces, place_over, term_of}
-use Rattle.alm_parse.specs.Members.{members, is_symbol_at, is_written_at, place_out, number_arg}
+use Rattle.alm_tokens.specs.Tokens.{slice_of, is_text}
+use Rattle.alm_tokens.specs.Expressions.{is_term_at, expression_pieces, place_over, term_of}
+use Rattle.alm_parse.specs.Members.{number_arg}
+use Rattle.alm_tokens.specs.Lists.{members, is_symbol_at, is_written_at, place_out}
 use Rattle.alm_parse.specs.Refusals.{told, refused, unless}
 
 -- a symbol and an expression

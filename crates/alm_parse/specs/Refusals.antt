@@ -5,7 +5,7 @@ use Rattle.alm_parse.specs.declared.refusal.Code.TheVariants.{E1, E2, E4}
 use Rattle.alm_parse.specs.declared.refusal.Refusal.{Refusal}
 use Rattle.alm_parse.specs.declared.refusal.Halt.{Halt}
 use Rattle.alm_parse.specs.declared.refusal.Halt.TheVariants.{Refused, NoMemory}
-use Rattle.alm_parse.specs.Bytes.{is_legal}
+use Rattle.alm_tokens.specs.Bytes.{is_legal}
 
 -- A label, an operation or an operand that is not of its form is told at the place where it begins.
 -- Where the byte there is one that no source may have, that byte is told.

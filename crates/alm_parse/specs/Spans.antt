@@ -1,11 +1,11 @@
 -- The spans of a line lie in the text, of so many bytes, and its numbers have their widths.
 use Rattle.std.specs.Prelude.{ℕ, ◌<◌, ◌≤◌, ⊤, List, Option, All, IfSome}
-use Rattle.alm_parse.specs.declared.span.Span.{Span}
-use Rattle.alm_parse.specs.declared.expression.Term.{Term}
+use Rattle.alm_tokens.specs.declared.span.Span.{Span}
+use Rattle.alm_tokens.specs.declared.expression.Term.{Term}
 use Rattle.alm_parse.specs.declared.args.Arg.{Arg}
 use Rattle.alm_parse.specs.declared.args.Arg.TheVariants.{Symbol, Number, Chars, Plain, Operand}
 use Rattle.alm_parse.specs.declared.line.Line36.{Line36}
-use Rattle.alm_parse.specs.Expressions.{IsSmall}
+use Rattle.alm_tokens.specs.Expressions.{IsSmall}
 
 pub record IsSpan (count : ℕ) (span : Span) : Type 0 where
   pub ordered : span.from ≤ span.to

@@ -2,8 +2,8 @@
 
 ghost use Rattle.std.specs.Prelude.{ℕ, List, [], ◌∷◌, ◌++◌, ◌≡◌, OnOk, OnErr, IfOk};
 
-use crate::expression::Expr;
-use crate::span::Span;
+use alm_tokens::expression::Expr;
+use alm_tokens::span::Span;
 use m36_word::{NoMemory, Word, Words};
 use std::alloc::Global;
 use std::marker::Model;

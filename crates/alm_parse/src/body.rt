@@ -1,22 +1,22 @@
 //! The operand of an instruction, up to its modifier.
 
-ghost use Rattle.std.specs.Prelude.{ℕ, ◌≡◌, ◌^◌, ◌<◌, ◌≤◌, ◌+◌, ◌==◌, not, length, IfOk, IfSome};
+ghost use Rattle.std.specs.Prelude.{ℕ, ◌≡◌, ◌^◌, ◌<◌, ◌≤◌, ◌+◌, not, length, IfOk, IfSome};
 ghost use Rattle.std.specs.List.{position};
 ghost use Rattle.m36_text.specs.Texts.{is_name_character};
 ghost use Rattle.alm_parse.specs.Bodies.{place_of, symbol_end, external, body_of, is_segment, is_entry, is_tail, is_body, tail_pieces, body_pieces};
 
-use crate::bytes::is_sign;
-use crate::expression::{expression_pieces, first_byte};
-use crate::modifiers::pr_number;
-use crate::pieces::{Piece, Pieces};
-use crate::span::{Span, bytes_of};
-use crate::tokens::is_symbol;
-use m36_text::is_name_character;
+use alm_tokens::bytes::is_sign;
+use alm_tokens::expression::expression_pieces;
+use alm_tokens::modifiers::pr_number;
+use alm_tokens::pieces::{Piece, Pieces};
+use alm_tokens::span::{Span, bytes_of, first_byte};
+use alm_tokens::tokens::is_symbol;
+use m36_text::{is_name_character, lines};
 use m36_word::NoMemory;
 use std::alloc::Global;
 
 /// What the bytes before the modifier are parted into.
-#[derive(Clone, Copy, Debug, PartialEq, Eq)]
+#[derive(Clone, Copy)]
 pub enum Body {
     /// A pointer register, and the expression behind the bar.
     Through(Span, Span),
@@ -24,13 +24,6 @@ pub enum Body {
     External(Span, Span, Span),
     /// An expression.
     Plain(Span),
-}
-
-fn first_place(bytes: &[u8], byte: u8) -> Option<usize>
-    ensures value { result ≡ position (λ b. b == byte) bytes.now }
-    ensures within { IfSome result (λ i. i < length bytes.now) }
-{
-    bytes.iter().position(|b| *b == byte)
 }
 
 fn first_other(bytes: &[u8]) -> Option<usize>
@@ -47,7 +40,7 @@ pub fn place_of(text: &[u8], span: Span, byte: u8) -> Option<u32>
     ensures value { result ≡ place_of text.now span byte }
     ensures within { IfSome result (λ i. i < length text.now) }
 {
-    let place = first_place(bytes_of(text, span), byte)?;
+    let place = lines::place_of(bytes_of(text, span), byte)?;
     Some(span.from + place as u32)
 }
 
@@ -153,7 +146,8 @@ pub fn is_body(text: &[u8], body: Body) -> bool
 #[tactic(auto, unfolding(crate::specs::Bodies::tail_pieces))]
 fn tail_pieces(alloc: Global, text: &[u8], tail: Span) -> Result<Pieces, NoMemory>
     requires { length text.now < 2 ^ 32 }
-    ensures { IfOk result (λ p. p ≡ tail_pieces text.now tail) }
+    ensures value { IfOk result (λ p. p ≡ tail_pieces text.now tail) }
+    ensures count { IfOk result (λ p. length p ≤ 2 ^ 32) }
 {
     let bytes = bytes_of(text, tail);
     if bytes.is_empty() {
@@ -172,7 +166,8 @@ fn tail_pieces(alloc: Global, text: &[u8], tail: Span) -> Result<Pieces, NoMemor
 /// The terms of an operand, as pieces.
 pub fn body_pieces(alloc: Global, text: &[u8], body: Body) -> Result<Pieces, NoMemory>
     requires { length text.now < 2 ^ 32 }
-    ensures { IfOk result (λ p. p ≡ body_pieces text.now body) }
+    ensures value { IfOk result (λ p. p ≡ body_pieces text.now body) }
+    ensures count { IfOk result (λ p. length p ≤ 2 ^ 32) }
 {
     match body {
         Body::Through(_, span) | Body::Plain(span) => {

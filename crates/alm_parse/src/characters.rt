@@ -3,15 +3,15 @@
 ghost use Rattle.std.specs.Prelude.{ℕ, ◌∷◌, ◌≡◌, ◌^◌, ◌<◌, ◌+◌, ◌==◌, not, slice_index, drop, length, Option, IfSome, IfOk, IfErr};
 ghost use Rattle.std.specs.List.{find, position};
 ghost use Rattle.std.specs.Option.{option_copied};
-ghost use Rattle.alm_parse.specs.Bytes.{is_blank, is_character};
+ghost use Rattle.alm_tokens.specs.Bytes.{is_blank, is_character};
 ghost use Rattle.alm_parse.specs.Characters.{four, first_word, packed, is_ended, place_bad, characters_given};
 ghost use Rattle.alm_parse.specs.Refusals.{Reads, HaltsInside};
 
 use crate::args::{Arg, Args, one};
 use crate::body::place_of;
-use crate::bytes::{is_blank, is_character};
 use crate::refusal::{Code, Halt, Refusal, byte_at};
-use crate::span::{Span, bytes_of};
+use alm_tokens::bytes::{is_blank, is_character};
+use alm_tokens::span::{Span, bytes_of};
 use m36_word::{NoMemory, Word, Words};
 use std::alloc::Global;
 

@@ -4,7 +4,7 @@ ghost use Rattle.std.specs.Prelude.{◌≡◌, Option};
 ghost use Rattle.m36_inst.specs.Lookup.{code_named};
 ghost use Rattle.alm_parse.specs.Deeds.{instruction_of, deed_named, deed_of};
 
-use crate::span::{Span, bytes_of};
+use alm_tokens::span::{Span, bytes_of};
 use m36_inst::by_name;
 
 /// What an operation does.

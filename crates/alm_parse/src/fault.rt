@@ -5,7 +5,7 @@ ghost use Rattle.alm_parse.specs.Sources.{fault_by, fault_of};
 ghost use Rattle.alm_parse.specs.declared.fault.AlmFault.TheVariants as fault;
 
 use crate::refusal::{Code, Refusal};
-use crate::rows::Row;
+use alm_tokens::rows::Row;
 use m36_word::NoMemory;
 use thiserror::Error;
 

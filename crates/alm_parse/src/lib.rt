@@ -9,9 +9,9 @@
 //! expression; and then perhaps a comma and a modifier. Nothing is read behind the operation `end`.
 //!
 //! What [`parse`] promises, for every text of fewer than 2^32 bytes: it gives exactly the lines that the text is, by the
-//! definition in `specs/Sources.antt`, which goes down from lines to tokens in one word for each rule; or, where the text
-//! is not of the language, exactly its first refusal in the order of the text, and the least code where two are at one
-//! place. Want of memory alone may stand in the place of an answer. Each span of a line that is given lies in the text, and
+//! definition in `specs/Sources.antt`, which goes down from lines to the tokens of `alm_tokens` in one word for each rule;
+//! or, where the text is not of the language, exactly its first refusal in the order of the text, and the least code where
+//! two are at one place. Want of memory alone may stand in the place of an answer. Each span of a line that is given lies in the text, and
 //! each number has its width.
 //!
 //! | Code | Exactly where |
@@ -30,34 +30,24 @@
 
 pub mod args;
 mod body;
-mod bytes;
 mod characters;
 pub mod deed;
-pub mod expression;
 pub mod fault;
-mod head;
 pub mod line;
 mod line_reading;
 mod members;
-mod modifiers;
-mod numerals;
 mod operand;
 pub mod operation;
 mod pairs;
-mod pieces;
 mod refusal;
-mod rows;
 pub mod source;
-pub mod span;
 #[cfg(test)]
 mod tests;
-mod tokens;
 
+pub use alm_tokens::{Atom, Expr, Span, Spans, Term, bytes_of, expression, span};
 pub use args::{Arg, Args};
 pub use deed::Deed;
-pub use expression::{Atom, Expr, Term};
 pub use fault::AlmFault;
 pub use line::Line36;
 pub use operation::{Operation, operation_of};
 pub use source::{Lines36, parse};
-pub use span::{Span, Spans, bytes_of};

@@ -2,7 +2,7 @@
 
 use crate::args::Args;
 use crate::deed::Deed;
-use crate::span::{Span, Spans};
+use alm_tokens::span::{Span, Spans};
 
 /// A line of a source: its number, counted from 1, the place where it begins, its labels in order, and its operation
 /// with what this does and is about. An operation without an operand has no arguments.

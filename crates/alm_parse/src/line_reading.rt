@@ -2,24 +2,24 @@
 
 ghost use Rattle.std.specs.Prelude.{ℕ, ◌≡◌, ◌^◌, ◌<◌, Option, Result, IfSome, IfOk, IfErr, length};
 ghost use Rattle.std.specs.List.{All};
-ghost use Rattle.alm_parse.specs.Heads.{IsMark};
+ghost use Rattle.alm_tokens.specs.Heads.{IsMark};
 ghost use Rattle.alm_parse.specs.Lines.{missing, args_with, operand_for, args_of, is_no_symbol, label_refusal, line_of, line_given};
 ghost use Rattle.alm_parse.specs.Refusals.{Reads, IsInside, HaltsInside};
 
 use crate::args::Args;
 use crate::characters::characters_args;
 use crate::deed::deed_of;
-use crate::head::{Head, delimited_in, head_of, operand_in};
 use crate::line::Line36;
 use crate::members::{numbers_args, symbols_args};
-use crate::numerals::Numeral;
 use crate::operand::operand_args;
 use crate::operation::{Operation, operation_of};
 use crate::pairs::{block_args, halves_args, section_args, value_args};
 use crate::refusal::{Code, Halt, Refusal, told};
-use crate::rows::Row;
-use crate::span::{Span, bytes_of};
-use crate::tokens::is_symbol;
+use alm_tokens::head::{Head, delimited_in, head_of, operand_in};
+use alm_tokens::numerals::Numeral;
+use alm_tokens::rows::Row;
+use alm_tokens::span::{Span, bytes_of};
+use alm_tokens::tokens::is_symbol;
 use std::alloc::Global;
 
 // Whether an operation may stand without an operand.

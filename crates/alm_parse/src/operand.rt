@@ -1,16 +1,16 @@
 //! The operand of an instruction.
 
 ghost use Rattle.std.specs.Prelude.{ℕ, ◌≡◌, ◌^◌, ◌<◌, Option, IfSome, IfOk, IfErr, length, map};
-ghost use Rattle.alm_parse.specs.Expressions.{term_of};
+ghost use Rattle.alm_tokens.specs.Expressions.{term_of};
 ghost use Rattle.alm_parse.specs.Operands.{body_span, tag_given, entry_given, operand_of, operand_given};
 ghost use Rattle.alm_parse.specs.Refusals.{Reads, HaltsInside};
 
 use crate::args::{Arg, Args, one};
 use crate::body::{Body, body_of, body_pieces, is_body, place_of};
-use crate::expression::{Expr, are_terms, expr_of, place_over};
-use crate::modifiers::{pr_number, tag_of};
 use crate::refusal::{Halt, refused};
-use crate::span::{Span, bytes_of};
+use alm_tokens::expression::{Expr, are_terms, expr_of, place_over};
+use alm_tokens::modifiers::{pr_number, tag_of};
+use alm_tokens::span::{Span, bytes_of};
 use std::alloc::Global;
 
 fn body_span(operand: Span, comma: Option<u32>) -> Span

@@ -5,11 +5,12 @@ ghost use Rattle.alm_parse.specs.Pairs.{first_place, value_given, halves_given, 
 ghost use Rattle.alm_parse.specs.Refusals.{Reads, HaltsInside};
 
 use crate::args::{Arg, Args, one, two};
-use crate::expression::{are_terms, expr_of, expression_pieces, place_over};
-use crate::members::{is_symbol_at, is_written_at, members, number_arg, place_out};
-use crate::numerals::Numeral;
+use crate::members::number_arg;
 use crate::refusal::{Code, Halt, refused, told};
-use crate::span::{Span, bytes_of};
+use alm_tokens::expression::{are_terms, expr_of, expression_pieces, place_over};
+use alm_tokens::lists::{is_symbol_at, is_written_at, members, place_out};
+use alm_tokens::numerals::Numeral;
+use alm_tokens::span::{Span, bytes_of};
 use std::alloc::Global;
 
 /// A symbol and an expression.

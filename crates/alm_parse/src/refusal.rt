@@ -4,11 +4,11 @@ ghost use Rattle.std.specs.Prelude.{ℕ, ◌≡◌, ◌^◌, ◌<◌, length, sl
 ghost use Rattle.alm_parse.specs.Refusals.{told, refused, IsInside};
 ghost use Rattle.alm_parse.specs.declared.refusal.Halt.TheVariants as halt;
 
-use crate::bytes::is_legal;
+use alm_tokens::bytes::is_legal;
 use m36_word::NoMemory;
 
 /// What is wrong with a source that is not of the language.
-#[derive(Clone, Copy, Debug, PartialEq, Eq)]
+#[derive(Clone, Copy)]
 pub enum Code {
     /// A byte that no source may have there.
     E1,
@@ -21,14 +21,14 @@ pub enum Code {
 }
 
 /// A code, and the place in the text, counted from 0, of what it speaks of.
-#[derive(Clone, Copy, Debug, PartialEq, Eq)]
+#[derive(Clone, Copy)]
 pub struct Refusal {
     pub place: u32,
     pub code: Code,
 }
 
 /// Why a part of a source is not read.
-#[derive(Clone, Copy, Debug, PartialEq, Eq)]
+#[derive(Clone, Copy)]
 pub enum Halt {
     Refused(Refusal),
     NoMemory,

@@ -1,6 +1,6 @@
 //! A whole source.
 
-ghost use Rattle.std.specs.Prelude.{ℕ, List, [], ◌∷◌, ◌++◌, ◌≡◌, ◌^◌, ◌<◌, length, OnOk, OnErr, IfOk, All};
+ghost use Rattle.std.specs.Prelude.{ℕ, List, [], ◌∷◌, ◌++◌, ◌≡◌, ◌^◌, ◌<◌, ◌≤◌, length, OnOk, OnErr, IfOk, All};
 ghost use Rattle.alm_parse.specs.Spans.{LineIn};
 ghost use Rattle.alm_parse.specs.Sources.{names_end, read_lines, parsed, ParseSays};
 
@@ -8,8 +8,8 @@ use crate::fault::{AlmFault, fault_of};
 use crate::line::Line36;
 use crate::line_reading::read_line;
 use crate::refusal::Halt;
-use crate::rows::{Row, rows_of};
-use crate::span::{Span, bytes_of};
+use alm_tokens::rows::{Row, rows_of};
+use alm_tokens::span::{Span, bytes_of};
 use m36_outside::Text;
 use m36_word::NoMemory;
 use std::alloc::Global;
@@ -54,7 +54,7 @@ impl Lines {
     }
 }
 
-/// A source in its lines, with a copy of its text, of which the spans of the lines speak.
+/// A source in its lines, fewer than 2^32, with a copy of its text, of which the spans of the lines speak.
 #[derive(Debug, Drop)]
 pub struct Lines36 {
     text: Text,
@@ -62,11 +62,14 @@ pub struct Lines36 {
 }
 
 impl Model for Lines36 {
+    ghost use Rattle.std.specs.Prelude.{length, ◌<◌, ◌^◌};
     ghost use Rattle.alm_parse.specs.SourceFields.{Source};
 
     ghost Value = { Source };
 
     ghost view = { λ s. record { text = s.text; lines = s.lines } };
+
+    ghost invariant = { λ s. length s.lines < 2 ^ 32 };
 }
 
 impl Lines36 {
@@ -79,7 +82,8 @@ impl Lines36 {
 
     /// The lines in order, up to the one whose operation is `end`, or else all. Empty lines are among them.
     pub fn lines(&self) -> &[Line36]
-        ensures { result.now ≡ self.now.lines }
+        ensures value { result.now ≡ self.now.lines }
+        ensures count { length self.now.lines < 2 ^ 32 }
     {
         self.lines.items()
     }
@@ -97,7 +101,8 @@ fn names_end(text: &[u8], op: Option<Span>) -> bool
 #[tactic(auto, using(crate::proofs::SourceLaws::read_all))]
 fn read_lines(alloc: Global, text: &[u8], rows: &[Row]) -> Result<Lines, AlmFault>
     requires { length text.now < 2 ^ 32 }
-    ensures { ParseSays result (read_lines text.now [] rows.now) }
+    ensures says { ParseSays result (read_lines text.now [] rows.now) }
+    ensures count { IfOk result (λ lines. length lines ≤ length rows.now) }
 {
     let mut lines = Lines::new(alloc);
     for row in rows {

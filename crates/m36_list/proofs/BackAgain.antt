@@ -14,17 +14,17 @@ use Rattle.m36_inst.proofs.Instructions.{word_back}
 use Rattle.m36_inst.proofs.OneToOne.{named_code}
 use Rattle.alm_parse.specs.declared.args.Arg.TheVariants.{Number}
 use Rattle.alm_parse.specs.declared.line.Line36.{Line36}
-use Rattle.alm_parse.specs.declared.numerals.Numeral.TheVariants as numeral
+use Rattle.alm_tokens.specs.declared.numerals.Numeral.TheVariants as numeral
 use Rattle.alm_parse.specs.declared.operation.Operation.TheVariants.{Instruction, Octal}
-use Rattle.alm_parse.specs.declared.pieces.Parter.TheVariants.{Comma}
-use Rattle.alm_parse.specs.Tokens.{slice_of}
-use Rattle.alm_parse.specs.Pieces.{parts, pieces_of}
-use Rattle.alm_parse.specs.Bodies.{span_at}
-use Rattle.alm_parse.specs.Members.{members, numbers_given, place_out}
+use Rattle.alm_tokens.specs.declared.pieces.Parter.TheVariants.{Comma}
+use Rattle.alm_tokens.specs.Tokens.{slice_of, span_at}
+use Rattle.alm_tokens.specs.Pieces.{parts, pieces_of}
+use Rattle.alm_parse.specs.Members.{numbers_given}
+use Rattle.alm_tokens.specs.Lists.{members, place_out}
 use Rattle.alm_parse.specs.Operations.{operation_of, directive}
-use Rattle.alm_parse.specs.Rows.{row_at}
+use Rattle.alm_tokens.specs.Rows.{row_at}
 use Rattle.alm_parse.specs.Lines.{line_given}
-use Rattle.alm_lines.specs.declared.spot.Spot.{Spot}
+use Rattle.alm_lines.specs.SpotFields.{Spot}
 use Rattle.alm_asm.specs.declared.tables.Tables.{Tables}
 use Rattle.alm_parse.specs.declared.deed.Deed.TheVariants as deed
 use Rattle.alm_parse.specs.Deeds.{deed_named}

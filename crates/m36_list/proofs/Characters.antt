@@ -12,7 +12,7 @@ use Rattle.m36_inst.specs.Fields.{InstFields}
 use Rattle.m36_inst.specs.Table.{Entry, table}
 use Rattle.m36_inst.specs.Lookup.{entry_at, has_code, name_at}
 use Rattle.m36_inst.proofs.Found.{found_sound}
-use Rattle.alm_parse.specs.Bytes.{is_blank}
+use Rattle.alm_tokens.specs.Bytes.{is_blank}
 use Rattle.alm_parse.specs.Operations.{directive}
 use Rattle.m36_list.specs.Disassembly.{signed_text, address_text}
 use Rattle.m36_list.proofs.Parted.{none_in_both}

@@ -3,18 +3,17 @@ use Rattle.std.proofs.Common.{ℕ, suc, ◌≡◌, ◌+◌, ◌<◌, ◌==◌, f
 use Rattle.std.specs.Prelude.{codes}
 use Rattle.std.specs.List.{list_any, position}
 use Rattle.std.proofs.lemmas.Bool.{or_parts, ne_eqb}
-use Rattle.alm_parse.specs.declared.span.Span.{Span}
-use Rattle.alm_parse.specs.declared.head.Head.{Head}
-use Rattle.alm_parse.specs.Bytes.{is_blank}
-use Rattle.alm_parse.specs.Tokens.{slice_of}
-use Rattle.alm_parse.specs.Bodies.{span_at}
+use Rattle.alm_tokens.specs.declared.span.Span.{Span}
+use Rattle.alm_tokens.specs.declared.head.Head.{Head}
+use Rattle.alm_tokens.specs.Bytes.{is_blank}
+use Rattle.alm_tokens.specs.Tokens.{slice_of, span_at}
 use Rattle.alm_parse.specs.declared.operation.Operation.{Operation}
 use Rattle.alm_parse.specs.declared.args.Arg.{Arg}
 use Rattle.alm_parse.specs.Operations.{operation_of}
 use Rattle.alm_parse.specs.Deeds.{deed_named}
 use Rattle.alm_parse.specs.Lines.{line_given, label_refusal, args_of, args_with, operand_for}
-use Rattle.alm_parse.specs.Rows.{row_at}
-use Rattle.alm_parse.specs.Heads.{head_from, head_of, operand_start, end_from, operand_in}
+use Rattle.alm_tokens.specs.Rows.{row_at}
+use Rattle.alm_tokens.specs.Heads.{head_from, head_of, operand_start, end_from, operand_in}
 use Rattle.m36_list.proofs.Characters.{is_ending, is_parting}
 use Rattle.m36_list.proofs.Spans.{slice_at, position_behind}
 use Rattle.m36_list.proofs.WordAlone.{line_of}

@@ -4,7 +4,7 @@ use Rattle.std.specs.Prelude.{codes, if◌then◌else◌}
 use Rattle.m36_inst.specs.Lookup.{name_at, code_named}
 use Rattle.m36_inst.proofs.OneToOne.{named_code}
 use Rattle.alm_parse.specs.declared.operation.Operation.TheVariants.{Names, Value, Section, Decimal, Octal, Characters, Halves, Block, Bare, End}
-use Rattle.alm_parse.specs.Tokens.{is_text}
+use Rattle.alm_tokens.specs.Tokens.{is_text}
 use Rattle.alm_parse.specs.Operations.{directive}
 use Rattle.alm_parse.specs.declared.deed.Deed.TheVariants as deed
 use Rattle.alm_parse.specs.Deeds.{instruction_of, deed_named}

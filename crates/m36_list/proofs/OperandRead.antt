@@ -5,13 +5,13 @@ use Rattle.std.proofs.lemmas.Bool.{ltb-true, ltb-false, ne_eqb, eqb-true}
 use Rattle.std.proofs.lemmas.List.{append-nil}
 use Rattle.m36_text.specs.Digits.{decimal_text}
 use Rattle.m36_inst.specs.Fields.{InstFields}
-use Rattle.alm_parse.specs.declared.span.Span.{Span}
+use Rattle.alm_tokens.specs.declared.span.Span.{Span}
 use Rattle.alm_parse.specs.declared.args.Arg.TheVariants.{Operand}
-use Rattle.alm_parse.specs.Tokens.{slice_of}
-use Rattle.alm_parse.specs.Modifiers.{pr_number, tag_of}
-use Rattle.alm_parse.specs.Pieces.{piece_at}
-use Rattle.alm_parse.specs.Expressions.{expression_pieces}
-use Rattle.alm_parse.specs.Bodies.{span_at, place_of, body_of, body_pieces}
+use Rattle.alm_tokens.specs.Tokens.{slice_of, span_at}
+use Rattle.alm_tokens.specs.Modifiers.{pr_number, tag_of}
+use Rattle.alm_tokens.specs.Pieces.{piece_at}
+use Rattle.alm_tokens.specs.Expressions.{expression_pieces}
+use Rattle.alm_parse.specs.Bodies.{place_of, body_of, body_pieces}
 use Rattle.alm_parse.specs.Operands.{operand_given, operand_by}
 use Rattle.m36_list.specs.Disassembly.{signed_text, address_text}
 use Rattle.m36_list.proofs.Characters.{decimal_passes_none, PassesNone, pointer_text, pointer_passes_none, address_passes_none}

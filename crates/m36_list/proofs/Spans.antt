@@ -4,8 +4,8 @@ use Rattle.std.specs.List.{list_any, position, position_or_len}
 use Rattle.std.proofs.lemmas.Bool.{lt-ltb, le-ltb}
 use Rattle.std.proofs.lemmas.List.{append-nil}
 use Rattle.std.proofs.Math.Seq.{take-append_seam, drop-append_seam}
-use Rattle.alm_parse.specs.Tokens.{slice_of}
-use Rattle.alm_parse.specs.Bodies.{span_at, place_of}
+use Rattle.alm_tokens.specs.Tokens.{slice_of, span_at}
+use Rattle.alm_parse.specs.Bodies.{place_of}
 use Rattle.m36_list.proofs.Parted.{first_behind}
 
 pub slice_at : (source before piece after : List ℕ) (from to : ℕ) → source ≡ before ++ (piece ++ after) → from ≡ length before → to ≡ from + length piece

@@ -4,7 +4,7 @@ use Rattle.std.specs.Prelude.{option_map, if◌then◌else◌}
 use Rattle.std.specs.List.{list_all, list_any, find}
 use Rattle.std.proofs.lemmas.Bool.{eqb-true, and_parts, not-true}
 use Rattle.m36_inst.proofs.Found.{found_passes, found_sound}
-use Rattle.alm_parse.specs.Modifiers.{register_of, single_tag, tag_of}
+use Rattle.alm_tokens.specs.Modifiers.{register_of, single_tag, tag_of}
 use Rattle.m36_list.specs.Modifiers.{Modifier, modifiers, has_tag, modifier_text}
 use Rattle.m36_list.proofs.Characters.{is_ending, is_line_feed}
 

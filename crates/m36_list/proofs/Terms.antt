@@ -7,15 +7,14 @@ use Rattle.std.proofs.lemmas.Bool.{or_right, or_parts, ne_eqb}
 use Rattle.std.proofs.lemmas.Slice.Eq.{bytes_eq-Decides}
 use Rattle.m36_text.specs.Digits.{decimal_text}
 use Rattle.m36_text.proofs.NumeralLaws.{reads_decimal, has_no_leading_zero}
-use Rattle.alm_parse.specs.declared.span.Span.{Span}
-use Rattle.alm_parse.specs.declared.pieces.Parter.{Parter}
-use Rattle.alm_parse.specs.declared.pieces.Parter.TheVariants.{Sign}
-use Rattle.alm_parse.specs.declared.pieces.Piece.{Piece}
-use Rattle.alm_parse.specs.declared.expression.Atom.TheVariants.{Number}
-use Rattle.alm_parse.specs.Tokens.{slice_of, is_text, is_number, small_read, has_no_leading_zero as starts_well}
-use Rattle.alm_parse.specs.Pieces.{parts, piece_at, cut, pieces_of}
-use Rattle.alm_parse.specs.Bodies.{span_at}
-use Rattle.alm_parse.specs.Expressions.{is_here, is_term, is_term_at, signed_start, expression_pieces, place_over, atom_of, term_of}
+use Rattle.alm_tokens.specs.declared.span.Span.{Span}
+use Rattle.alm_tokens.specs.declared.pieces.Parter.{Parter}
+use Rattle.alm_tokens.specs.declared.pieces.Parter.TheVariants.{Sign}
+use Rattle.alm_tokens.specs.declared.pieces.Piece.{Piece}
+use Rattle.alm_tokens.specs.declared.expression.Atom.TheVariants.{Number}
+use Rattle.alm_tokens.specs.Tokens.{slice_of, is_text, is_number, small_read, has_no_leading_zero as starts_well, span_at}
+use Rattle.alm_tokens.specs.Pieces.{parts, piece_at, cut, pieces_of}
+use Rattle.alm_tokens.specs.Expressions.{is_here, is_term, is_term_at, signed_start, expression_pieces, place_over, atom_of, term_of}
 use Rattle.m36_list.proofs.Characters.{decimal_passes_none}
 
 -- a text that has no byte of another is another one

@@ -7,8 +7,8 @@ use Rattle.m36_inst.specs.Fields.{InstFields}
 use Rattle.m36_inst.specs.Instruction.{inst_of}
 use Rattle.m36_inst.specs.Lookup.{name_at}
 use Rattle.alm_parse.specs.declared.line.Line36.{Line36}
-use Rattle.alm_parse.specs.declared.rows.Row.{Row}
-use Rattle.alm_parse.specs.Rows.{row_at, rows_from, rows_of}
+use Rattle.alm_tokens.specs.declared.rows.Row.{Row}
+use Rattle.alm_tokens.specs.Rows.{row_at, rows_from, rows_of}
 use Rattle.alm_parse.specs.Lines.{line_given}
 use Rattle.alm_parse.specs.Sources.{names_end, read_lines, with_text, parsed}
 use Rattle.m36_list.specs.Modifiers.{modifier_text}

@@ -1,15 +1,16 @@
 -- The listing of a source: a line for each word that the source places, and then the print of the
 -- object.
-use Rattle.std.specs.Prelude.{ℕ, ◌+◌, Bool, true, false, List, [], ◌∷◌, ◌++◌, length, take, drop, codes, if◌then◌else◌}
+use Rattle.std.specs.Prelude.{ℕ, ◌+◌, List, [], ◌∷◌, ◌++◌, length, take, drop, codes, if◌then◌else◌}
 use Rattle.m36_text.specs.Digits.{octal_text, decimal_text}
 use Rattle.alm_parse.specs.declared.line.Line36.{Line36}
 use Rattle.alm_parse.specs.SourceFields.{Source}
 use Rattle.obj36_parts.specs.declared.section.Section.{Section}
-use Rattle.obj36_parts.specs.declared.section.Section.TheVariants.{Text, Linkage, Symbol, Static}
+use Rattle.obj36_parts.specs.declared.section.Section.TheVariants.{Text, Linkage, Static}
 use Rattle.obj36_parts.specs.PartsFields.{PartsFields}
 use Rattle.obj36_parts.specs.ObjectSegment.{inner_statics, outer_statics}
-use Rattle.alm_lines.specs.declared.spot.Spot.{Spot}
+use Rattle.alm_lines.specs.SpotFields.{Spot}
 use Rattle.alm_lines.specs.Spots.{start, place, size_of, below}
+use Rattle.alm_asm.specs.Words.{same_section}
 use Rattle.m36_list.specs.Print.{line, print_of}
 
 -- A placed word: the name of its section, its place there, the word, and the line of the source, in
@@ -24,21 +25,10 @@ placed_lines name number at [] = []
 placed_lines name number at (w ∷ ws) =
     placed_line name number at w ++ placed_lines name number (at + 1) ws
 
--- whether a line that is in one section places its words in another
-abbrev pub is_in : Section → Section → Bool
-is_in Text Text = true
-is_in Text section = false
-is_in Linkage Linkage = true
-is_in Linkage section = false
-is_in Symbol Symbol = true
-is_in Symbol section = false
-is_in Static Static = true
-is_in Static section = false
-
 -- how many words of a section a line places
 unfoldable pub size_in : Section → List ℕ → Spot → Line36 → ℕ
 size_in section text spot row =
-    if is_in spot.section section then size_of row.deed row.args (place spot) else 0
+    if same_section spot.section section then size_of row.deed row.args (place spot) else 0
 
 -- the words of a section from a place on, each with the line that places it
 unfoldable pub section_words : List ℕ → Section → List ℕ → ℕ → List ℕ → Spot → List Line36 → List ℕ

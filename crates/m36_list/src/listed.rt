@@ -4,30 +4,18 @@ ghost use Rattle.std.specs.Prelude.{ℕ, ◌+◌, ◌++◌, ◌≡◌, ◌^◌, 
 ghost use Rattle.obj36_parts.specs.ObjectSegment.{inner_statics};
 ghost use Rattle.m36_list.specs.Counts.{IsCount};
 ghost use Rattle.alm_lines.specs.Spots.{start};
-ghost use Rattle.m36_list.specs.Listing.{is_in, size_in, section_words, listing_of};
+ghost use Rattle.m36_list.specs.Listing.{size_in, section_words, listing_of};
 
 use crate::counts::{Counts, counted};
 use crate::placed::put_all_placed;
 use crate::printing::put_print;
+use alm_asm::links::same_section;
 use alm_asm::spot::{Spot, below, size_of};
 use alm_parse::{Line36, Lines36};
 use m36_outside::Text;
 use m36_word::{NoMemory, Word};
 use obj36::{Object, Section};
 use std::alloc::Global;
-
-// Whether a line that is in one section places its words in another.
-fn is_in(a: Section, b: Section) -> bool
-    ensures { result ≡ is_in a b }
-{
-    match (a, b) {
-        (Section::Text, Section::Text) => true,
-        (Section::Linkage, Section::Linkage) => true,
-        (Section::Symbol, Section::Symbol) => true,
-        (Section::Static, Section::Static) => true,
-        _ => false,
-    }
-}
 
 // How many words of a section a line places.
 #[tactic(auto, unfolding(crate::specs::Listing::size_in))]
@@ -40,11 +28,10 @@ fn size_in(
 ) -> Result<u64, NoMemory>
     ensures { IfOk result (λ size. size ≡ size_in section text.now spot line.now) }
 {
-    if !is_in(spot.section, section) {
+    if !same_section(spot.section, section) {
         return Ok(0);
     }
-    let at = spot.place()?;
-    size_of(alloc, line.deed, line.args.items(), at)
+    size_of(alloc, line.deed, line.args.items(), spot.place())
 }
 
 // The first words, as many as there are.
@@ -70,6 +57,7 @@ fn behind(words: &[Word], count: u64) -> &[Word]
 }
 
 /// Puts a line for each word of a section that the lines of a source place, where the first stands at a place.
+#[tactic(auto, using(alm_lines::proofs::Rooms::rooms))]
 fn put_section_words(
     alloc: Global,
     out: &mut Text,

@@ -1,9 +1,0 @@
-use Rattle.std.proofs.Common.{◌≡◌, ◌+◌, drop}
-use Rattle.alm_parse.specs.Heads.{end_from, operand_end}
-use Rattle.alm_parse.proofs.head.operand_end.Given as goal
-
-abbrev pub invariant-loop-byte : goal.invariant-loop-byte
-invariant-loop-byte l = record {
-  place : l.at ≡ l.fn.rest.from + l.byte-index;
-  whole : end_from l.end l.at (drop l.byte-index l.byte-items) ≡ operand_end l.text l.fn.rest;
-}

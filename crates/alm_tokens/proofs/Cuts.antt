@@ -1,0 +1,36 @@
+-- Pieces of a text, byte by byte.
+use Rattle.std.proofs.Common.{◌≡◌, ℕ, ◌+◌, ◌<◌, ◌≤◌, ◌==◌, Bool, true, false, List, [], ◌∷◌, length, drop, get_or, refl, drop-cons, add-one, ◌++◌, ap, ◌∙◌}
+use Rattle.std.proofs.lemmas.List.{length-append}
+use Rattle.std.proofs.Math.ListN.{drop_of_length-le}
+use Rattle.alm_tokens.specs.declared.pieces.Parter.{Parter}
+use Rattle.alm_tokens.specs.declared.pieces.Piece.{Piece}
+use Rattle.alm_tokens.specs.Pieces.{parts, piece_at, cut}
+
+-- at a byte that parts, a piece ends
+pub cut_ends :
+    (parter : Parter) (minus : Bool) (from at : ℕ) (bytes : List ℕ) (i : ℕ) → i < length bytes
+    → parts parter (get_or bytes i 0) ≡ true
+    → cut parter minus from at (drop i bytes) ≡ piece_at minus from at ∷ cut parter (get_or bytes i 0 == 45) (at + 1) (at + 1) (drop (i + 1) bytes)
+unfolding cut
+cut_ends parter minus from at bytes i within e = rw (add-one i, drop-cons bytes i 0) (rw e refl)
+
+-- at any other it goes on
+pub cut_goes_on :
+    (parter : Parter) (minus : Bool) (from at : ℕ) (bytes : List ℕ) (i : ℕ) → i < length bytes
+    → parts parter (get_or bytes i 0) ≡ false
+    → cut parter minus from at (drop i bytes) ≡ cut parter minus from (at + 1) (drop (i + 1) bytes)
+unfolding cut
+cut_goes_on parter minus from at bytes i within e = rw (add-one i, drop-cons bytes i 0) (rw e refl)
+
+-- the last piece ends with the text
+pub cut_last :
+    (parter : Parter) (minus : Bool) (from at : ℕ) (bytes : List ℕ) (i : ℕ) → length bytes ≤ i
+    → cut parter minus from at (drop i bytes) ≡ piece_at minus from at ∷ []
+unfolding cut
+cut_last parter minus from at bytes i past = rw (drop_of_length-le bytes past) refl
+
+-- a list with one more at its end
+pub one_more : (list new : List Piece) (x : Piece) → new ≡ list ++ x ∷ [] → length new ≡ length list + 1
+one_more list new x e = ap length e ∙ length-append list (x ∷ [])
+
+pub ruleset cuts = (cut_ends, cut_goes_on, cut_last)

@@ -1,0 +1,6 @@
+pub mod Cuts
+pub mod Found
+pub mod HeadLaws
+pub mod RowLaws
+pub mod Slices
+pub mod Widths

@@ -1,0 +1,116 @@
+-- The numbers of a line have their widths.
+use Rattle.std.proofs.Common.{◌≡◌, ℕ, ◌+◌, ◌-◌, ◌<◌, ◌≤◌, ◌&&◌, ◌==◌, Bool, true, false, cond, List, [], ◌∷◌, length, take, Option, Some, None, Ok, Err, refl, arith, leb}
+use Rattle.std.specs.Prelude.{IfSome, option_map, slice_index, nat_lt}
+use Rattle.std.proofs.lemmas.Bool.{and_parts, leb-true, ltb-true}
+use Rattle.std.specs.List.{list_all}
+use Rattle.m36_text.specs.Reading.{number_read, judged, first_other, number_of}
+use Rattle.m36_text.specs.declared.reading.NumberFault.TheVariants.{T2}
+use Rattle.alm_tokens.specs.declared.expression.Atom.TheVariants.{Number, Symbol, Here}
+use Rattle.m36_text.specs.Digits.{is_digit}
+use Rattle.alm_tokens.specs.Tokens.{is_text, is_number, small_read, value_of}
+use Rattle.alm_tokens.specs.Expressions.{is_here, atom_of, IsSmall}
+use Rattle.alm_tokens.specs.Modifiers.{NumberedName, or_else, octal_digit, after_x, register_of, pr_digit, pr_name, pr_number, single_tag, indirect_first, indirect_last, tag_of, registers, pointer_registers, single_tags, number_beside}
+
+abbrev pub Below : ℕ → Option ℕ → Type 0
+Below bound o = IfSome o (λ n. n < bound)
+
+chosen_below : (bound : ℕ) (b : Bool) (n : ℕ) (o : Option ℕ) → n < bound → Below bound o → Below bound (cond b (Some n) o)
+chosen_below bound true n o h k = h
+chosen_below bound false n o h k = k
+
+or_below : (bound : ℕ) (a b : Option ℕ) → Below bound a → Below bound b → Below bound (or_else a b)
+or_below bound (Some n) b h k = h
+or_below bound None b h k = k
+
+plus_below : (bound more : ℕ) (o : Option ℕ) → Below bound o → Below (more + bound) (option_map (λ n. more + n) o)
+plus_below bound more (Some n) h = omega (arith, h)
+plus_below bound more None h = tt
+
+cond_below : (bound : ℕ) (b : Bool) (o : Option ℕ) → Below bound o → Below bound (cond b o None)
+cond_below bound true o h = h
+cond_below bound false o h = tt
+
+digit_by : (d : ℕ) (b : Bool) → is_digit 8 d ≡ b → Below 8 (cond b (Some (d - 48)) None)
+digit_by d true e =
+    let parts = and_parts (leb 48 d) (leb d 55) e in
+    let high : d ≤ 55 = leb-true d 55 parts.1 in
+    omega (arith, high)
+digit_by d false e = tt
+
+digit_below : (bytes : List ℕ) → Below 8 (octal_digit bytes)
+digit_below [] = tt
+digit_below (d ∷ []) = digit_by d (is_digit 8 d) refl
+digit_below (d ∷ b ∷ rest) = tt
+
+-- a table whose numbers are all below a bound
+beside_below :
+    (bound : ℕ) (rows : List NumberedName) (bytes : List ℕ) → list_all (λ row. nat_lt row.number bound) rows ≡ true
+    → Below bound (number_beside rows bytes)
+beside_below bound [] bytes e = tt
+beside_below bound (row ∷ rows) bytes e =
+    let parts = and_parts (nat_lt row.number bound) (list_all (λ row. nat_lt row.number bound) rows) e in
+    chosen_below bound (is_text row.name bytes) row.number (number_beside rows bytes) (ltb-true row.number bound parts.0) (beside_below bound rows bytes parts.1)
+
+wider : (low high : ℕ) (o : Option ℕ) → low ≤ high → Below low o → Below high o
+wider low high (Some n) order h = omega (arith, order, h)
+wider low high None order h = tt
+
+register_below : (bytes : List ℕ) → Below 16 (register_of bytes)
+unfolding register_of
+register_below bytes =
+    or_below 16 (number_beside registers bytes) (option_map (λ n. 8 + n) (octal_digit (after_x bytes))) (wider 8 16 (number_beside registers bytes) (omega arith) (beside_below 8 registers bytes refl)) (plus_below 8 8 (octal_digit (after_x bytes)) (digit_below (after_x bytes)))
+
+pr_digit_below : (bytes : List ℕ) → Below 8 (pr_digit bytes)
+pr_digit_below [] = tt
+pr_digit_below (p ∷ []) = tt
+pr_digit_below (p ∷ r ∷ rest) = cond_below 8 ((p == 112) && (r == 114)) (octal_digit rest) (digit_below rest)
+
+pr_name_below : (bytes : List ℕ) → Below 8 (pr_name bytes)
+unfolding pr_name
+pr_name_below bytes = beside_below 8 pointer_registers bytes refl
+
+pub pr_below : (bytes : List ℕ) → Below 8 (pr_number bytes)
+unfolding pr_number
+pr_below bytes = or_below 8 (pr_digit bytes) (pr_name bytes) (pr_digit_below bytes) (pr_name_below bytes)
+
+single_below : (bytes : List ℕ) → Below 64 (single_tag bytes)
+unfolding single_tag
+single_below bytes = beside_below 64 single_tags bytes refl
+
+first_below : (bytes : List ℕ) → Below 64 (indirect_first bytes)
+first_below [] = tt
+first_below (b ∷ rest) =
+    cond_below 64 (b == 42) (option_map (λ n. 48 + n) (register_of rest)) (plus_below 16 48 (register_of rest) (register_below rest))
+
+last_below : (bytes : List ℕ) → Below 64 (indirect_last bytes)
+last_below bytes =
+    let register = register_of (take (length bytes - 1) bytes) in
+    cond_below 64 (slice_index bytes (length bytes - 1) == 42) (option_map (λ n. 16 + n) register) (wider 32 64 (option_map (λ n. 16 + n) register) (omega arith) (plus_below 16 16 register (register_below (take (length bytes - 1) bytes))))
+
+pub tag_below : (bytes : List ℕ) → Below 64 (tag_of bytes)
+unfolding tag_of
+tag_below bytes =
+    or_below 64 (single_tag bytes) (or_else (register_of bytes) (or_else (indirect_first bytes) (indirect_last bytes))) (single_below bytes) (or_below 64 (register_of bytes) (or_else (indirect_first bytes) (indirect_last bytes)) (wider 16 64 (register_of bytes) (omega arith) (register_below bytes)) (or_below 64 (indirect_first bytes) (indirect_last bytes) (first_below bytes) (last_below bytes)))
+
+-- numbers of expressions
+over_by : (b : Bool) (v max : ℕ) → leb v max ≡ b → value_of (cond b (Ok v) (Err T2)) ≤ max
+over_by true v max e = leb-true v max e
+over_by false v max e = omega arith
+
+judged_by : (o : Option ℕ) (v max : ℕ) → value_of (judged o v max) ≤ max
+judged_by (Some place) v max = omega arith
+judged_by None v max = over_by (leb v max) v max refl
+
+small_below : (bytes : List ℕ) → value_of (small_read bytes) ≤ 262143
+unfolding number_read
+small_below [] = omega arith
+small_below (b ∷ bytes) = judged_by (first_other 10 (b ∷ bytes)) (number_of 10 (b ∷ bytes)) 262143
+
+atom_by : (b c : Bool) (n : ℕ) → n ≤ 262143 → IsSmall (cond b Here (cond c (Number n) Symbol))
+atom_by true c n h = tt
+atom_by false true n h = h
+atom_by false false n h = tt
+
+pub atom_small : (bytes : List ℕ) → IsSmall (atom_of bytes)
+unfolding atom_of
+atom_small bytes = atom_by (is_here bytes) (is_number bytes) (value_of (small_read bytes)) (small_below bytes)

@@ -1,0 +1,20 @@
+use Rattle.std.proofs.Common.{◌≡◌, ◌≤◌, ◌+◌, length, arith}
+use Rattle.std.proofs.lemmas.Grind.{common_steps}
+use Rattle.alm_tokens.proofs.Cuts.{cuts, one_more}
+use Rattle.alm_tokens.proofs.pieces.pieces_of.Goals as goal
+use Rattle.alm_tokens.proofs.pieces.pieces_of.Goals.{then-parts+in_ok-push, else-parts}
+
+pub loop-byte-preserved : goal.loop-byte-preserved
+loop-byte-preserved c = record {
+  place = omega arith;
+  count =
+      elim c.if-parts.branch [
+        | then-parts+in_ok-push w ↦ grind (arith, common_steps, one_more)
+        | else-parts w ↦ grind (arith, common_steps)
+      ];
+  whole =
+      elim c.if-parts.branch [
+        | then-parts+in_ok-push w ↦ grind (arith, common_steps, cuts)
+        | else-parts w ↦ grind (arith, common_steps, cuts)
+      ];
+}

@@ -1,0 +1,55 @@
+-- Expressions: terms joined by + and -. A minus may stand before the first term.
+use Rattle.std.specs.Prelude.{ℕ, ◌+◌, ◌≤◌, ⊤, Bool, not, ◌||◌, ◌==◌, List, slice_index, codes, Option, option_map, if◌then◌else◌}
+use Rattle.std.specs.List.{find}
+use Rattle.alm_tokens.specs.declared.pieces.Parter.TheVariants.{Sign}
+use Rattle.alm_tokens.specs.declared.pieces.Piece.{Piece}
+use Rattle.alm_tokens.specs.declared.expression.Atom.{Atom}
+use Rattle.alm_tokens.specs.declared.expression.Atom.TheVariants.{Number, Symbol, Here}
+use Rattle.alm_tokens.specs.declared.expression.Term.{Term}
+use Rattle.alm_tokens.specs.Tokens.{slice_of, is_text, is_symbol, is_number, is_over, value_of, small_read}
+use Rattle.alm_tokens.specs.Pieces.{pieces_of, piece_at}
+
+-- A term is a number, a symbol, or *, the current place.
+abbrev pub is_here : List ℕ → Bool
+is_here bytes = is_text (codes "*") bytes
+
+unfoldable pub is_term : List ℕ → Bool
+is_term bytes = is_here bytes || is_number bytes || is_symbol bytes
+
+abbrev pub is_term_at : List ℕ → Piece → Bool
+is_term_at text piece = is_term (slice_of text piece.span)
+
+-- The terms as pieces: behind a minus that stands before the whole the first term has the other
+-- sign.
+unfoldable pub signed_start : List ℕ → Piece → Piece
+signed_start text whole =
+    if slice_index (slice_of text whole.span) 0 == 45
+    then piece_at (not whole.minus) (whole.span.from + 1) whole.span.to
+    else whole
+
+unfoldable pub expression_pieces : List ℕ → Piece → List Piece
+expression_pieces text whole = pieces_of Sign text (signed_start text whole)
+
+-- the place of the first number over the limit
+abbrev pub is_over_at : List ℕ → Piece → Bool
+is_over_at text piece = is_over (small_read (slice_of text piece.span))
+
+unfoldable pub place_over : List ℕ → List Piece → Option ℕ
+place_over text pieces = option_map (λ piece. piece.span.from) (find (is_over_at text) pieces)
+
+-- what a piece says as a term
+unfoldable pub atom_of : List ℕ → Atom
+atom_of bytes =
+    if is_here bytes
+    then Here
+    else (if is_number bytes then Number (value_of (small_read bytes)) else Symbol)
+
+abbrev pub term_of : List ℕ → Piece → Term
+term_of text piece =
+    record { what = atom_of (slice_of text piece.span); span = piece.span; minus = piece.minus }
+
+-- a number is within the limit
+abbrev pub IsSmall : Atom → Type 0
+IsSmall (Number n) = n ≤ 262143
+IsSmall Symbol = ⊤
+IsSmall Here = ⊤

@@ -1,0 +1,86 @@
+-- The labels and the operation of a line, and where its operand stands. Blanks and tabs part
+-- tokens, a colon ends a label, and a quotation mark begins a comment.
+use Rattle.std.specs.Prelude.{ℕ, ◌+◌, ◌<◌, ◌≤◌, Bool, not, ◌==◌, List, [], ◌∷◌, ◌++◌, slice_index, Option, Some, None, option_map, if◌then◌else◌}
+use Rattle.std.specs.List.{position}
+use Rattle.alm_tokens.specs.declared.span.Span.{Span}
+use Rattle.alm_tokens.specs.declared.head.Turn.{Turn}
+use Rattle.alm_tokens.specs.declared.head.Turn.TheVariants.{Label, Skip, Stop, Go}
+use Rattle.alm_tokens.specs.declared.head.Head.{Head}
+use Rattle.alm_tokens.specs.Bytes.{is_blank}
+use Rattle.alm_tokens.specs.Tokens.{slice_of, span_at}
+
+-- What a byte does to the tokens before the operand: `fresh` says that no byte of the token stands
+-- before it.
+abbrev pub turn_of : ℕ → Bool → Turn
+turn_of b fresh =
+    if b == 58
+    then Label
+    else (if is_blank b then (if fresh then Skip else Stop) else (if b == 34 then Stop else Go))
+
+abbrev pub token : ℕ → ℕ → Option Span
+token from to = if from == to then None else Some (span_at from to)
+
+abbrev pub head_at : List Span → ℕ → ℕ → Head
+head_at marks from at = record { labels = marks; op = token from at }
+
+-- what the line is behind a label, behind a blank, and behind a byte of the token
+abbrev pub head_by : Turn → Head → Head → Head → Head → Head
+head_by Label label skip stop go = label
+head_by Skip label skip stop go = skip
+head_by Stop label skip stop go = stop
+head_by Go label skip stop go = go
+
+-- The labels so far, the place where the token begins, and the place of the next byte.
+unfoldable pub head_from : List Span → ℕ → ℕ → List ℕ → Head
+head_from marks from at [] = head_at marks from at
+head_from marks from at (b ∷ rest) =
+    head_by (turn_of b (from == at))
+    (head_from (marks ++ span_at from at ∷ []) (at + 1) (at + 1) rest)
+    (head_from marks (at + 1) (at + 1) rest) (head_at marks from at)
+    (head_from marks from (at + 1) rest)
+
+unfoldable pub head_of : List ℕ → Span → Head
+head_of text line = head_from [] line.from line.from (slice_of text line)
+
+-- An operand begins with the first byte that is no blank,
+unfoldable pub operand_start : List ℕ → Span → Option ℕ
+operand_start text rest =
+    option_map (λ i. rest.from + i) (position (λ b. not (is_blank b)) (slice_of text rest))
+
+-- and ends behind the last byte that is no blank, before a comment.
+unfoldable pub end_from : ℕ → ℕ → List ℕ → ℕ
+end_from end at [] = end
+end_from end at (b ∷ rest) =
+    if b == 34 then end else end_from (if is_blank b then end else at + 1) (at + 1) rest
+
+abbrev pub operand_end : List ℕ → Span → ℕ
+operand_end text rest = end_from rest.from rest.from (slice_of text rest)
+
+abbrev pub operand_by : List ℕ → Span → Option ℕ → Option Span
+operand_by text rest None = None
+operand_by text rest (Some from) = token from (operand_end text (span_at from rest.to))
+
+unfoldable pub operand_in : List ℕ → Span → Option Span
+operand_in text rest = operand_by text rest (operand_start text rest)
+
+-- Where characters are delimited, a quotation mark begins a comment only right behind the
+-- operation.
+abbrev pub delimited_by : Span → Option ℕ → Option Span
+delimited_by rest None = None
+delimited_by rest (Some from) = Some (span_at from rest.to)
+
+unfoldable pub delimited_in : List ℕ → Span → Option Span
+delimited_in text rest =
+    if slice_index (slice_of text rest) 0 == 34
+    then None
+    else delimited_by rest (operand_start text rest)
+
+-- A label ends before a byte that there is, in a text of so many bytes, and the operation has a
+-- byte.
+pub record IsMark (count : ℕ) (span : Span) : Type 0 where
+  pub ordered : span.from ≤ span.to
+  pub inside : span.to < count
+
+pub record IsToken (count : ℕ) (span : Span) : Type 0 where
+  pub some : span.from < span.to
+  pub inside : span.to ≤ count

@@ -1,0 +1,105 @@
+-- The names of registers and modifiers. Multics Processor Manual AL39, "Address modification": the
+-- tag of a register then indirect modification is the register's and 20 (octal), that of an
+-- indirect then register modification the register's and 60; 44, 51, 53, 54 and 56 are those of
+-- indirect then tally.
+use Rattle.std.specs.Prelude.{ℕ, ◌+◌, ◌-◌, ◌&&◌, ◌==◌, List, [], ◌∷◌, length, take, slice_index, codes, Option, Some, None, option_map, if◌then◌else◌}
+use Rattle.m36_text.specs.Digits.{is_digit, digit_of}
+use Rattle.alm_tokens.specs.Tokens.{is_text}
+
+-- a name and its number
+pub record NumberedName : Type 0 where
+  pub name : List ℕ
+  pub number : ℕ
+
+abbrev pub numbered : List ℕ → ℕ → NumberedName
+numbered name number = record { name = name; number = number }
+
+-- the number of the first row that has the name
+abbrev pub number_beside : List NumberedName → List ℕ → Option ℕ
+number_beside [] bytes = None
+number_beside (row ∷ rows) bytes =
+    if is_text row.name bytes then Some row.number else number_beside rows bytes
+
+-- the first of two that is there
+abbrev pub or_else : Option ℕ → Option ℕ → Option ℕ
+or_else (Some n) other = Some n
+or_else None other = other
+
+abbrev pub octal_digit : List ℕ → Option ℕ
+octal_digit (d ∷ []) = if is_digit 8 d then Some (digit_of d) else None
+octal_digit _ = None
+
+-- x0 to x7, and the digits alone, are the index registers
+abbrev pub after_x : List ℕ → List ℕ
+after_x [] = []
+after_x (b ∷ rest) = if b == 120 then rest else b ∷ rest
+
+abbrev pub registers : List NumberedName
+registers =
+    numbered (codes "n") 0
+    ∷ numbered (codes "au") 1
+    ∷ numbered (codes "qu") 2
+    ∷ numbered (codes "du") 3
+    ∷ numbered (codes "ic") 4
+    ∷ numbered (codes "al") 5
+    ∷ numbered (codes "ql") 6
+    ∷ numbered (codes "dl") 7
+    ∷ []
+
+unfoldable pub register_of : List ℕ → Option ℕ
+register_of bytes =
+    or_else (number_beside registers bytes) (option_map (λ n. 8 + n) (octal_digit (after_x bytes)))
+
+-- the pointer registers: pr0 to pr7, and their names
+abbrev pub pr_digit : List ℕ → Option ℕ
+pr_digit (p ∷ r ∷ rest) = if (p == 112) && (r == 114) then octal_digit rest else None
+pr_digit _ = None
+
+abbrev pub pointer_registers : List NumberedName
+pointer_registers =
+    numbered (codes "ap") 0
+    ∷ numbered (codes "ab") 1
+    ∷ numbered (codes "bp") 2
+    ∷ numbered (codes "bb") 3
+    ∷ numbered (codes "lp") 4
+    ∷ numbered (codes "lb") 5
+    ∷ numbered (codes "sp") 6
+    ∷ numbered (codes "sb") 7
+    ∷ []
+
+unfoldable pub pr_name : List ℕ → Option ℕ
+pr_name bytes = number_beside pointer_registers bytes
+
+unfoldable pub pr_number : List ℕ → Option ℕ
+pr_number bytes = or_else (pr_digit bytes) (pr_name bytes)
+
+-- * and the tally modifiers
+abbrev pub single_tags : List NumberedName
+single_tags =
+    numbered (codes "*") 0x10
+    ∷ numbered (codes "sd") 0x24
+    ∷ numbered (codes "i") 0x29
+    ∷ numbered (codes "ad") 0x2b
+    ∷ numbered (codes "di") 0x2c
+    ∷ numbered (codes "id") 0x2e
+    ∷ []
+
+unfoldable pub single_tag : List ℕ → Option ℕ
+single_tag bytes = number_beside single_tags bytes
+
+-- * before a register, and * behind one
+abbrev pub indirect_first : List ℕ → Option ℕ
+indirect_first [] = None
+indirect_first (b ∷ rest) = if b == 42 then option_map (λ n. 0x30 + n) (register_of rest) else None
+
+abbrev pub indirect_last : List ℕ → Option ℕ
+indirect_last bytes =
+    if slice_index bytes (length bytes - 1) == 42
+    then option_map (λ n. 0x10 + n) (register_of (take (length bytes - 1) bytes))
+    else None
+
+-- the tag of a modifier
+unfoldable pub tag_of : List ℕ → Option ℕ
+tag_of bytes =
+    or_else (single_tag bytes)
+    (or_else (register_of bytes) (or_else (indirect_first bytes) (indirect_last bytes)))

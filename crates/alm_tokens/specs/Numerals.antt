@@ -1,0 +1,42 @@
+-- The numbers of words.
+use Rattle.std.specs.Prelude.{ℕ, ◌-◌, ◌%◌, ◌^◌, Bool, true, false, ◌&&◌, ◌==◌, List, [], ◌∷◌, slice_index, Result, if◌then◌else◌}
+use Rattle.m36_text.specs.Reading.{number_read}
+use Rattle.m36_text.specs.declared.reading.NumberFault.{NumberFault}
+use Rattle.alm_tokens.specs.declared.numerals.Numeral.{Numeral}
+use Rattle.alm_tokens.specs.declared.numerals.Numeral.TheVariants.{Decimal, Octal, Small}
+use Rattle.alm_tokens.specs.Bytes.{is_sign}
+use Rattle.alm_tokens.specs.Tokens.{has_digits, has_no_leading_zero, value_of, small_read}
+
+abbrev pub is_negative : List ℕ → Bool
+is_negative bytes = slice_index bytes 0 == 45
+
+abbrev pub unsigned : List ℕ → List ℕ
+unsigned [] = []
+unsigned (b ∷ rest) = if is_sign b then rest else b ∷ rest
+
+-- A number of a decimal word is from -2^35 to 2^36 - 1; of an octal word it is below 2^36.
+abbrev pub read_as : Numeral → List ℕ → Result ℕ NumberFault
+read_as Decimal bytes =
+    if is_negative bytes
+    then number_read 10 (unsigned bytes) 34359738368
+    else number_read 10 (unsigned bytes) 68719476735
+read_as Octal bytes = number_read 8 bytes 68719476735
+read_as Small bytes = small_read bytes
+
+-- an octal number may have leading zeros
+abbrev pub has_its_zeros : Numeral → List ℕ → Bool
+has_its_zeros Decimal bytes = has_no_leading_zero (unsigned bytes)
+has_its_zeros Octal bytes = true
+has_its_zeros Small bytes = has_no_leading_zero bytes
+
+abbrev pub is_written : Numeral → List ℕ → Bool
+is_written numeral bytes = has_digits (read_as numeral bytes) && has_its_zeros numeral bytes
+
+-- the word of a number, a negative one as its complement
+abbrev pub signed_word : Bool → ℕ → ℕ
+signed_word negative magnitude = (if negative then 2 ^ 36 - magnitude else magnitude) % 2 ^ 36
+
+abbrev pub word_as : Numeral → List ℕ → ℕ
+word_as Decimal bytes = signed_word (is_negative bytes) (value_of (read_as Decimal bytes))
+word_as Octal bytes = signed_word false (value_of (read_as Octal bytes))
+word_as Small bytes = signed_word false (value_of (read_as Small bytes))

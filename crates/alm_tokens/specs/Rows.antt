@@ -1,0 +1,20 @@
+-- A text in lines. A line ends with a line feed, which the last may lack; behind the last line feed
+-- there is no line unless something stands there.
+use Rattle.std.specs.Prelude.{ℕ, ◌+◌, ◌==◌, List, [], ◌∷◌, if◌then◌else◌}
+use Rattle.alm_tokens.specs.declared.rows.Row.{Row}
+use Rattle.alm_tokens.specs.Tokens.{span_at}
+
+abbrev pub row_at : ℕ → ℕ → ℕ → Row
+row_at number from at = record { span = span_at from at; number = number }
+
+-- the lines of a text whose next byte stands at place `at`, in the line of this number, which began
+-- at place `from`
+unfoldable pub rows_from : ℕ → ℕ → ℕ → List ℕ → List Row
+rows_from number from at [] = if from == at then [] else row_at number from at ∷ []
+rows_from number from at (b ∷ rest) =
+    if b == 10
+    then row_at number from at ∷ rows_from (number + 1) (at + 1) (at + 1) rest
+    else rows_from number from (at + 1) rest
+
+unfoldable pub rows_of : List ℕ → List Row
+rows_of text = rows_from 1 0 0 text

@@ -1,0 +1,44 @@
+-- Tokens: the bytes that a span names, symbols and numbers.
+use Rattle.std.specs.Prelude.{ℕ, ◌-◌, Bool, true, false, ◌&&◌, List, take, drop, slice_index, Result, Ok, Err}
+use Rattle.std.specs.Result.{result_unwrap_or}
+use Rattle.m36_text.specs.Reading.{number_read}
+use Rattle.m36_text.specs.declared.reading.NumberFault.{NumberFault}
+use Rattle.m36_text.specs.declared.reading.NumberFault.TheVariants.{T1, T2}
+pub use Rattle.m36_text.specs.Texts.{is_text}
+use Rattle.m36_text.specs.Texts.{is_name}
+pub use Rattle.m36_text.specs.Numbers.{has_no_leading_zero}
+use Rattle.alm_tokens.specs.declared.span.Span.{Span}
+use Rattle.alm_tokens.specs.Bytes.{begins_symbol}
+
+abbrev pub span_at : ℕ → ℕ → Span
+span_at from to = record { from = from; to = to }
+
+-- the bytes of a text that a span names
+unfoldable pub slice_of : List ℕ → Span → List ℕ
+slice_of text span = take (span.to - span.from) (drop span.from text)
+
+-- a symbol is a name that begins with a letter or _
+unfoldable pub is_symbol : List ℕ → Bool
+is_symbol bytes = is_name bytes && begins_symbol (slice_index bytes 0)
+
+-- A text read as a number: whether it has digits alone, whether the number is over the limit, and
+-- the number.
+abbrev pub has_digits : Result ℕ NumberFault → Bool
+has_digits (Ok v) = true
+has_digits (Err T2) = true
+has_digits (Err (T1 place)) = false
+
+abbrev pub is_over : Result ℕ NumberFault → Bool
+is_over (Ok v) = false
+is_over (Err T2) = true
+is_over (Err (T1 place)) = false
+
+abbrev pub value_of : Result ℕ NumberFault → ℕ
+value_of read = result_unwrap_or read 0
+
+-- numbers of expressions, and of words of zeros, are at most 262143
+abbrev pub small_read : List ℕ → Result ℕ NumberFault
+small_read bytes = number_read 10 bytes 262143
+
+unfoldable pub is_number : List ℕ → Bool
+is_number bytes = has_digits (small_read bytes) && has_no_leading_zero bytes

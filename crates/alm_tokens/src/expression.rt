@@ -1,0 +1,195 @@
+//! Expressions: terms joined by signs.
+
+ghost use Rattle.std.specs.Prelude.{ℕ, List, [], ◌∷◌, ◌++◌, ◌≡◌, ◌^◌, ◌<◌, ◌≤◌, length, map, OnOk, OnErr, IfOk, IfSome};
+ghost use Rattle.std.specs.List.{list_all, find};
+ghost use Rattle.std.specs.Option.{option_copied};
+ghost use Rattle.alm_tokens.specs.Expressions.{is_here, is_term, is_term_at, signed_start, expression_pieces, is_over_at, place_over, atom_of, term_of, IsSmall};
+
+use crate::pieces::{Parter, Piece, Pieces, pieces_of};
+use crate::span::{Span, bytes_of, first_byte};
+use crate::tokens::{is_number, is_over, is_symbol, read_small};
+use m36_word::NoMemory;
+use std::alloc::Global;
+use std::marker::Model;
+
+/// What a term is: a number up to 262143, a symbol, which is the slice that the term's span names, or `*`, the current
+/// place.
+#[derive(Clone, Copy, Debug, PartialEq, Eq)]
+pub enum Atom {
+    Number(u32),
+    Symbol,
+    Here,
+}
+
+/// A term of an expression, and whether it is taken away. The span is that of the number, symbol or `*`, without its
+/// sign.
+#[derive(Clone, Copy, Debug, PartialEq, Eq)]
+pub struct Term {
+    pub what: Atom,
+    pub span: Span,
+    pub minus: bool,
+}
+
+/// An expression: a list of at most 2^32 terms that grows at its end. An empty one is 0.
+#[derive(Debug, Drop)]
+pub struct Expr {
+    items: Vec<Term>,
+}
+
+impl Model for Expr {
+    ghost use Rattle.std.specs.Prelude.{List, length, ◌≤◌, ◌^◌};
+    ghost use Rattle.alm_tokens.specs.declared.expression.Term.{Term};
+
+    ghost Value = { List Term };
+
+    ghost view = { λ e. e.items.items };
+
+    ghost invariant = { λ e. length e.items.items ≤ 2 ^ 32 };
+}
+
+impl Expr {
+    /// An empty list.
+    pub fn new(alloc: Global) -> Expr
+        ensures { result ≡ [] }
+    {
+        Expr {
+            items: Vec::new(alloc),
+        }
+    }
+
+    /// Adds a term at the end. Where no memory is found, nothing changes.
+    pub fn push(&mut self, x: Term) -> Result<(), NoMemory>
+        requires { length self.old < 2 ^ 32 }
+        ensures ok { OnOk result (self.new ≡ self.old ++ x ∷ []) }
+        ensures err { OnErr result (self.new ≡ self.old) }
+    {
+        self.items.push(x)?;
+        Ok(())
+    }
+
+    /// The terms in order.
+    pub fn items(&self) -> &[Term]
+        ensures value { result.now ≡ self.now }
+        ensures fits { length self.now ≤ 2 ^ 32 }
+    {
+        self.items.as_slice()
+    }
+}
+
+fn is_here(bytes: &[u8]) -> bool
+    ensures { result ≡ is_here bytes.now }
+{
+    bytes == b"*".as_slice()
+}
+
+#[tactic(auto, unfolding(crate::specs::Expressions::is_term))]
+fn is_term(bytes: &[u8]) -> bool
+    ensures { result ≡ is_term bytes.now }
+{
+    is_here(bytes) || is_number(bytes) || is_symbol(bytes)
+}
+
+fn is_term_at(text: &[u8], piece: &Piece) -> bool
+    ensures { result ≡ is_term_at text.now piece.now }
+{
+    is_term(bytes_of(text, piece.span))
+}
+
+/// Whether each piece is a term.
+pub fn are_terms(text: &[u8], pieces: &[Piece]) -> bool
+    ensures { result ≡ list_all (is_term_at text.now) pieces.now }
+{
+    pieces.iter().all(|piece| is_term_at(text, piece))
+}
+
+// An expression may begin with a minus.
+#[tactic(auto, unfolding(crate::specs::Expressions::signed_start))]
+fn signed_start(text: &[u8], whole: Piece) -> Piece
+    requires { length text.now < 2 ^ 32 }
+    ensures { result ≡ signed_start text.now whole }
+{
+    let span = whole.span;
+    if first_byte(bytes_of(text, span)) != b'-' {
+        return whole;
+    }
+    Piece {
+        span: Span {
+            from: span.from + 1,
+            to: span.to,
+        },
+        minus: !whole.minus,
+    }
+}
+
+/// The terms of an expression as pieces, where a minus may stand before the whole.
+#[tactic(auto, unfolding(crate::specs::Expressions::expression_pieces))]
+pub fn expression_pieces(alloc: Global, text: &[u8], whole: Piece) -> Result<Pieces, NoMemory>
+    requires { length text.now < 2 ^ 32 }
+    ensures value { IfOk result (λ p. p ≡ expression_pieces text.now whole) }
+    ensures count { IfOk result (λ p. length p ≤ 2 ^ 32) }
+{
+    pieces_of(alloc, Parter::Sign, text, signed_start(text, whole))
+}
+
+fn is_over_at(text: &[u8], piece: &Piece) -> bool
+    ensures { result ≡ is_over_at text.now piece.now }
+{
+    is_over(read_small(bytes_of(text, piece.span)))
+}
+
+fn first_over<'a>(text: &[u8], pieces: &'a [Piece]) -> Option<&'a Piece>
+    ensures { option_copied result ≡ find (is_over_at text.now) pieces.now }
+{
+    pieces.iter().find(|piece| is_over_at(text, *piece))
+}
+
+/// The place of the first number over 262143 among pieces.
+#[tactic(auto, unfolding(crate::specs::Expressions::place_over))]
+pub fn place_over(text: &[u8], pieces: &[Piece]) -> Option<u32>
+    ensures value { result ≡ place_over text.now pieces.now }
+    ensures within { IfSome result (λ place. place < length text.now) }
+{
+    match first_over(text, pieces) {
+        Some(piece) => Some(piece.span.from),
+        None => None,
+    }
+}
+
+#[tactic(auto, unfolding(crate::specs::Expressions::atom_of))]
+fn atom_of(bytes: &[u8]) -> Atom
+    ensures value { result ≡ atom_of bytes.now }
+    ensures bound { IsSmall result }
+{
+    if is_here(bytes) {
+        return Atom::Here;
+    }
+    if !is_number(bytes) {
+        return Atom::Symbol;
+    }
+    match read_small(bytes) {
+        Ok(value) => Atom::Number(value as u32),
+        Err(_) => Atom::Number(0),
+    }
+}
+
+fn term_of(text: &[u8], piece: &Piece) -> Term
+    ensures { result ≡ term_of text.now piece.now }
+{
+    Term {
+        what: atom_of(bytes_of(text, piece.span)),
+        span: piece.span,
+        minus: piece.minus,
+    }
+}
+
+/// The expression whose terms are these pieces, at most 2^32.
+pub fn expr_of(alloc: Global, text: &[u8], pieces: &[Piece]) -> Result<Expr, NoMemory>
+    requires { length pieces.now ≤ 2 ^ 32 }
+    ensures { IfOk result (λ e. e ≡ map (term_of text.now) pieces.now) }
+{
+    let mut expr = Expr::new(alloc);
+    for piece in pieces {
+        expr.push(term_of(text, piece))?;
+    }
+    Ok(expr)
+}

@@ -1,0 +1,153 @@
+//! The labels and the operation of a line, and where its operand stands.
+
+ghost use Rattle.std.specs.Prelude.{ℕ, ◌≡◌, ◌^◌, ◌<◌, ◌≤◌, ◌==◌, not, Bool, Option, Some, None, option_map, IfSome, IfOk, length};
+ghost use Rattle.std.specs.List.{All, position};
+ghost use Rattle.alm_tokens.specs.Bytes.{is_blank};
+ghost use Rattle.alm_tokens.specs.Heads.{IsMark, IsToken, turn_of, token, head_of, operand_start, operand_end, operand_in, delimited_in};
+
+use crate::bytes::is_blank;
+use crate::span::{Span, Spans, bytes_of, first_byte};
+use m36_word::NoMemory;
+use std::alloc::Global;
+
+/// What a byte of a line does to the tokens before the operand.
+#[derive(Clone, Copy)]
+pub enum Turn {
+    /// The token that ends before it is a label.
+    Label,
+    /// It parts tokens.
+    Skip,
+    /// It ends the last of them.
+    Stop,
+    /// It belongs to the token.
+    Go,
+}
+
+/// The labels of a line, and its operation.
+#[derive(Drop)]
+pub struct Head {
+    pub labels: Spans,
+    pub op: Option<Span>,
+}
+
+// `fresh` says that no byte of the token stands before this one.
+fn turn_of(byte: u8, fresh: bool) -> Turn
+    ensures { result ≡ turn_of byte fresh }
+{
+    if byte == b':' {
+        return Turn::Label;
+    }
+    if is_blank(byte) {
+        return if fresh { Turn::Skip } else { Turn::Stop };
+    }
+    if byte == b'"' {
+        return Turn::Stop;
+    }
+    Turn::Go
+}
+
+fn token(from: u32, to: u32) -> Option<Span>
+    ensures value { result ≡ token from to }
+    ensures begun { from ≤ to → IfSome result (IsToken to) }
+{
+    if from == to {
+        None
+    } else {
+        Some(Span { from, to })
+    }
+}
+
+/// The labels and the operation of a line.
+#[tactic(auto, using(crate::proofs::HeadLaws::heads), unfolding(crate::specs::Heads::head_of))]
+pub fn head_of(alloc: Global, text: &[u8], line: Span) -> Result<Head, NoMemory>
+    requires { length text.now < 2 ^ 32 }
+    ensures value { IfOk result (λ head. head ≡ head_of text.now line) }
+    ensures marks { IfOk result (λ head. All (IsMark (length text.now)) head.labels) }
+    ensures op { IfOk result (λ head. IfSome head.op (IsToken (length text.now))) }
+{
+    let mut labels = Spans::new(alloc);
+    let mut from = line.from;
+    let mut at = line.from;
+    for byte in bytes_of(text, line) {
+        match turn_of(*byte, from == at) {
+            Turn::Label => {
+                labels.push(Span { from, to: at })?;
+                from = at + 1;
+            }
+            Turn::Skip => from = at + 1,
+            Turn::Stop => {
+                let op = token(from, at);
+                return Ok(Head { labels, op });
+            }
+            Turn::Go => {}
+        }
+        at += 1;
+    }
+    let op = token(from, at);
+    Ok(Head { labels, op })
+}
+
+fn first_no_blank(bytes: &[u8]) -> Option<usize>
+    ensures value { result ≡ position (λ b. not (is_blank b)) bytes.now }
+    ensures within { IfSome result (λ i. i < length bytes.now) }
+{
+    bytes.iter().position(|b| !is_blank(*b))
+}
+
+/// The place of the first byte that is no blank.
+#[tactic(auto, unfolding(crate::specs::Heads::operand_start))]
+fn operand_start(text: &[u8], rest: Span) -> Option<u32>
+    requires { length text.now < 2 ^ 32 }
+    ensures value { result ≡ operand_start text.now rest }
+    ensures within { IfSome result (λ i. i < length text.now) }
+{
+    let place = first_no_blank(bytes_of(text, rest))?;
+    Some(rest.from + place as u32)
+}
+
+/// The place behind the last byte that is no blank, before a comment.
+#[tactic(auto, using(crate::proofs::HeadLaws::ends))]
+fn operand_end(text: &[u8], rest: Span) -> u32
+    requires { length text.now < 2 ^ 32 }
+    ensures { result ≡ operand_end text.now rest }
+{
+    let mut end = rest.from;
+    let mut at = rest.from;
+    for byte in bytes_of(text, rest) {
+        if *byte == b'"' {
+            return end;
+        }
+        at += 1;
+        if !is_blank(*byte) {
+            end = at;
+        }
+    }
+    end
+}
+
+/// The operand in the rest of a line, up to its comment; none where no byte stands there.
+#[tactic(auto, unfolding(crate::specs::Heads::operand_in))]
+pub fn operand_in(text: &[u8], rest: Span) -> Option<Span>
+    requires { length text.now < 2 ^ 32 }
+    ensures value { result ≡ operand_in text.now rest }
+    ensures within { IfSome result (λ span. span.from < length text.now) }
+{
+    let from = operand_start(text, rest)?;
+    let to = operand_end(text, Span { from, to: rest.to });
+    token(from, to)
+}
+
+/// The characters with their delimiters in the rest of a line; none where no byte stands there, or where the rest
+/// begins with a comment.
+#[tactic(auto, unfolding(crate::specs::Heads::delimited_in))]
+pub fn delimited_in(text: &[u8], rest: Span) -> Option<Span>
+    requires { length text.now < 2 ^ 32 }
+    ensures value { result ≡ delimited_in text.now rest }
+    ensures within { IfSome result (λ span. span.from < length text.now) }
+{
+    if first_byte(bytes_of(text, rest)) == b'"' {
+        return None;
+    }
+    let from = operand_start(text, rest)?;
+    Some(Span { from, to: rest.to })
+}

@@ -1,0 +1,186 @@
+//! The names of registers and modifiers.
+
+ghost use Rattle.std.specs.Prelude.{ℕ, ◌≡◌, ◌<◌, IfSome};
+ghost use Rattle.alm_tokens.specs.Modifiers.{octal_digit, after_x, register_of, pr_digit, pr_name, pr_number, single_tag, indirect_first, indirect_last, tag_of};
+
+use m36_text::is_digit;
+
+/// The value of a text that is one octal digit.
+fn octal_digit(bytes: &[u8]) -> Option<u8>
+    ensures value { result ≡ octal_digit bytes.now }
+    ensures below { IfSome result (λ n. n < 8) }
+{
+    match bytes {
+        [digit] if is_digit(8, *digit) => Some(*digit - b'0'),
+        _ => None,
+    }
+}
+
+fn after_x(bytes: &[u8]) -> &[u8]
+    ensures { result.now ≡ after_x bytes.now }
+{
+    match bytes {
+        [b'x', rest @ ..] => rest,
+        _ => bytes,
+    }
+}
+
+/// The tag of a register that modifies an address: `n` is none, and a digit alone is an index register.
+#[tactic(auto, unfolding(crate::specs::Modifiers::register_of))]
+pub fn register_of(bytes: &[u8]) -> Option<u8>
+    ensures value { result ≡ register_of bytes.now }
+    ensures below { IfSome result (λ n. n < 16) }
+{
+    if bytes == b"n".as_slice() {
+        return Some(0);
+    }
+    if bytes == b"au".as_slice() {
+        return Some(1);
+    }
+    if bytes == b"qu".as_slice() {
+        return Some(2);
+    }
+    if bytes == b"du".as_slice() {
+        return Some(3);
+    }
+    if bytes == b"ic".as_slice() {
+        return Some(4);
+    }
+    if bytes == b"al".as_slice() {
+        return Some(5);
+    }
+    if bytes == b"ql".as_slice() {
+        return Some(6);
+    }
+    if bytes == b"dl".as_slice() {
+        return Some(7);
+    }
+    let index = octal_digit(after_x(bytes))?;
+    Some(8 + index)
+}
+
+fn pr_digit(bytes: &[u8]) -> Option<u8>
+    ensures value { result ≡ pr_digit bytes.now }
+    ensures below { IfSome result (λ n. n < 8) }
+{
+    match bytes {
+        [b'p', b'r', rest @ ..] => octal_digit(rest),
+        _ => None,
+    }
+}
+
+#[tactic(auto, unfolding(crate::specs::Modifiers::pr_name))]
+fn pr_name(bytes: &[u8]) -> Option<u8>
+    ensures value { result ≡ pr_name bytes.now }
+    ensures below { IfSome result (λ n. n < 8) }
+{
+    if bytes == b"ap".as_slice() {
+        return Some(0);
+    }
+    if bytes == b"ab".as_slice() {
+        return Some(1);
+    }
+    if bytes == b"bp".as_slice() {
+        return Some(2);
+    }
+    if bytes == b"bb".as_slice() {
+        return Some(3);
+    }
+    if bytes == b"lp".as_slice() {
+        return Some(4);
+    }
+    if bytes == b"lb".as_slice() {
+        return Some(5);
+    }
+    if bytes == b"sp".as_slice() {
+        return Some(6);
+    }
+    if bytes == b"sb".as_slice() {
+        return Some(7);
+    }
+    None
+}
+
+/// The number of a pointer register: `pr0` to `pr7`, or one of the eight names.
+#[tactic(auto, unfolding(crate::specs::Modifiers::pr_number))]
+pub fn pr_number(bytes: &[u8]) -> Option<u8>
+    ensures value { result ≡ pr_number bytes.now }
+    ensures below { IfSome result (λ n. n < 8) }
+{
+    match pr_digit(bytes) {
+        Some(number) => Some(number),
+        None => pr_name(bytes),
+    }
+}
+
+#[tactic(auto, unfolding(crate::specs::Modifiers::single_tag))]
+fn single_tag(bytes: &[u8]) -> Option<u8>
+    ensures value { result ≡ single_tag bytes.now }
+    ensures below { IfSome result (λ n. n < 64) }
+{
+    if bytes == b"*".as_slice() {
+        return Some(0o20);
+    }
+    if bytes == b"sd".as_slice() {
+        return Some(0o44);
+    }
+    if bytes == b"i".as_slice() {
+        return Some(0o51);
+    }
+    if bytes == b"ad".as_slice() {
+        return Some(0o53);
+    }
+    if bytes == b"di".as_slice() {
+        return Some(0o54);
+    }
+    if bytes == b"id".as_slice() {
+        return Some(0o56);
+    }
+    None
+}
+
+fn indirect_first(bytes: &[u8]) -> Option<u8>
+    ensures value { result ≡ indirect_first bytes.now }
+    ensures below { IfSome result (λ n. n < 64) }
+{
+    match bytes {
+        [b'*', rest @ ..] => {
+            let register = register_of(rest)?;
+            Some(0o60 + register)
+        }
+        _ => None,
+    }
+}
+
+fn indirect_last(bytes: &[u8]) -> Option<u8>
+    ensures value { result ≡ indirect_last bytes.now }
+    ensures below { IfSome result (λ n. n < 64) }
+{
+    if bytes.is_empty() {
+        return None;
+    }
+    let last = bytes.len() - 1;
+    if bytes[last] != b'*' {
+        return None;
+    }
+    let register = register_of(&bytes[..last])?;
+    Some(0o20 + register)
+}
+
+/// The tag that a modifier stands for.
+#[tactic(auto, unfolding(crate::specs::Modifiers::tag_of))]
+pub fn tag_of(bytes: &[u8]) -> Option<u8>
+    ensures value { result ≡ tag_of bytes.now }
+    ensures below { IfSome result (λ n. n < 64) }
+{
+    if let Some(tag) = single_tag(bytes) {
+        return Some(tag);
+    }
+    if let Some(tag) = register_of(bytes) {
+        return Some(tag);
+    }
+    if let Some(tag) = indirect_first(bytes) {
+        return Some(tag);
+    }
+    indirect_last(bytes)
+}

@@ -1,0 +1,109 @@
+//! The numbers of words.
+
+ghost use Rattle.std.specs.Prelude.{ℕ, ◌≡◌, ◌≤◌, ◌^◌, ◌<◌, IfOk, length, slice_index};
+ghost use Rattle.alm_tokens.specs.Numerals.{is_negative, unsigned, read_as, is_written, signed_word, word_as};
+ghost use Rattle.alm_tokens.specs.Tokens.{is_over, value_of};
+
+use crate::bytes::is_sign;
+use crate::span::first_byte;
+use crate::tokens::{has_digits, is_over, read_small};
+use m36_text::{NumberFault, has_no_leading_zero, read_decimal, read_octal};
+use m36_word::Word;
+
+/// How a number is written.
+#[derive(Clone, Copy)]
+pub enum Numeral {
+    /// In decimal, perhaps with a sign; from -2^35 to 2^36 - 1.
+    Decimal,
+    /// In octal; below 2^36.
+    Octal,
+    /// In decimal, up to 262143.
+    Small,
+}
+
+fn is_negative(bytes: &[u8]) -> bool
+    ensures { result ≡ is_negative bytes.now }
+{
+    first_byte(bytes) == b'-'
+}
+
+fn unsigned(bytes: &[u8]) -> &[u8]
+    ensures { result.now ≡ unsigned bytes.now }
+{
+    match bytes {
+        [first, rest @ ..] if is_sign(*first) => rest,
+        _ => bytes,
+    }
+}
+
+/// A number without its sign, as it is read.
+pub fn read_as(numeral: Numeral, bytes: &[u8]) -> Result<u64, NumberFault>
+    ensures value { result ≡ read_as numeral bytes.now }
+    ensures bound { IfOk result (λ v. v ≤ 68719476735) }
+{
+    match numeral {
+        Numeral::Decimal => {
+            if is_negative(bytes) {
+                read_decimal(unsigned(bytes), 0o400000000000)
+            } else {
+                read_decimal(unsigned(bytes), 0o777777777777)
+            }
+        }
+        Numeral::Octal => read_octal(bytes, 0o777777777777),
+        Numeral::Small => read_small(bytes),
+    }
+}
+
+/// Whether a text is a number that is written so, within its range or not.
+pub fn is_written(numeral: Numeral, bytes: &[u8]) -> bool
+    ensures { result ≡ is_written numeral bytes.now }
+{
+    if !has_digits(read_as(numeral, bytes)) {
+        return false;
+    }
+    match numeral {
+        Numeral::Octal => true,
+        Numeral::Decimal => has_no_leading_zero(unsigned(bytes)),
+        Numeral::Small => has_no_leading_zero(bytes),
+    }
+}
+
+/// Whether a text is a number out of its range.
+pub fn is_out(numeral: Numeral, bytes: &[u8]) -> bool
+    ensures { result ≡ is_over (read_as numeral bytes.now) }
+{
+    is_over(read_as(numeral, bytes))
+}
+
+fn signed_word(negative: bool, magnitude: u64) -> Word
+    requires { magnitude ≤ 68719476735 }
+    ensures { result ≡ signed_word negative magnitude }
+{
+    if negative {
+        Word::low((1 << 36) - magnitude)
+    } else {
+        Word::low(magnitude)
+    }
+}
+
+fn value_of(read: Result<u64, NumberFault>) -> u64
+    requires { IfOk read (λ v. v ≤ 68719476735) }
+    ensures value { result ≡ value_of read }
+    ensures bound { result ≤ 68719476735 }
+{
+    match read {
+        Ok(value) => value,
+        Err(_) => 0,
+    }
+}
+
+/// The word of a number.
+pub fn word_as(numeral: Numeral, bytes: &[u8]) -> Word
+    ensures { result ≡ word_as numeral bytes.now }
+{
+    let magnitude = value_of(read_as(numeral, bytes));
+    match numeral {
+        Numeral::Decimal => signed_word(is_negative(bytes), magnitude),
+        Numeral::Octal | Numeral::Small => signed_word(false, magnitude),
+    }
+}

@@ -1,0 +1,110 @@
+//! Texts in pieces: the members of a list between commas, and the terms of an expression between signs.
+
+ghost use Rattle.std.specs.Prelude.{ℕ, List, [], ◌∷◌, ◌++◌, ◌≡◌, ◌^◌, ◌<◌, ◌≤◌, length, OnOk, OnErr, IfOk};
+ghost use Rattle.alm_tokens.specs.Pieces.{parts, pieces_of};
+
+use crate::bytes::is_sign;
+use crate::span::{Span, bytes_of};
+use m36_word::NoMemory;
+use std::alloc::Global;
+use std::marker::Model;
+
+/// What parts the pieces of a text.
+#[derive(Clone, Copy)]
+pub enum Parter {
+    Comma,
+    Sign,
+}
+
+/// A piece of a text, and whether the byte before it is a minus.
+#[derive(Clone, Copy)]
+pub struct Piece {
+    pub span: Span,
+    pub minus: bool,
+}
+
+/// A list of pieces that grows at its end.
+#[derive(Drop)]
+pub struct Pieces {
+    items: Vec<Piece>,
+}
+
+impl Model for Pieces {
+    ghost use Rattle.std.specs.Prelude.{List};
+    ghost use Rattle.alm_tokens.specs.declared.pieces.Piece.{Piece};
+
+    ghost Value = { List Piece };
+
+    ghost view = { λ s. s.items.items };
+}
+
+impl Pieces {
+    /// An empty list.
+    pub fn new(alloc: Global) -> Pieces
+        ensures { result ≡ [] }
+    {
+        Pieces {
+            items: Vec::new(alloc),
+        }
+    }
+
+    /// Adds a piece at the end. Where no memory is found, nothing changes.
+    pub fn push(&mut self, x: Piece) -> Result<(), NoMemory>
+        ensures ok { OnOk result (self.new ≡ self.old ++ x ∷ []) }
+        ensures err { OnErr result (self.new ≡ self.old) }
+    {
+        self.items.push(x)?;
+        Ok(())
+    }
+
+    /// The pieces in order.
+    pub fn items(&self) -> &[Piece]
+        ensures { result.now ≡ self.now }
+    {
+        self.items.as_slice()
+    }
+}
+
+fn parts(parter: Parter, byte: u8) -> bool
+    ensures { result ≡ parts parter byte }
+{
+    match parter {
+        Parter::Comma => byte == b',',
+        Parter::Sign => is_sign(byte),
+    }
+}
+
+/// The pieces of what a piece names. They are parted by commas, or by signs; the first of them has the minus of the
+/// whole. There is one at least.
+#[tactic(auto, using(crate::proofs::Cuts::cuts), unfolding(crate::specs::Pieces::pieces_of))]
+pub fn pieces_of(
+    alloc: Global,
+    parter: Parter,
+    text: &[u8],
+    whole: Piece,
+) -> Result<Pieces, NoMemory>
+    requires { length text.now < 2 ^ 32 }
+    ensures value { IfOk result (λ p. p ≡ pieces_of parter text.now whole) }
+    ensures count { IfOk result (λ p. length p ≤ 2 ^ 32) }
+{
+    let mut pieces = Pieces::new(alloc);
+    let mut minus = whole.minus;
+    let mut from = whole.span.from;
+    let mut at = from;
+    for byte in bytes_of(text, whole.span) {
+        if parts(parter, *byte) {
+            pieces.push(Piece {
+                span: Span { from, to: at },
+                minus,
+            })?;
+            minus = *byte == b'-';
+            from = at + 1;
+        }
+        at += 1;
+    }
+    pieces.push(Piece {
+        span: Span { from, to: at },
+        minus,
+    })?;
+    Ok(pieces)
+}

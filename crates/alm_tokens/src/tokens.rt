@@ -1,0 +1,56 @@
+//! Symbols and numbers.
+
+ghost use Rattle.std.specs.Prelude.{ℕ, ◌≡◌, ◌≤◌, IfOk};
+ghost use Rattle.m36_text.specs.Reading.{number_read};
+ghost use Rattle.alm_tokens.specs.Tokens.{is_symbol, has_digits, is_over, small_read, is_number};
+
+use crate::bytes::begins_symbol;
+use crate::span::first_byte;
+use m36_text::{NumberFault, has_no_leading_zero, is_name, read_decimal};
+
+/// The greatest number of an expression.
+const MOST: u64 = 262_143;
+
+/// Whether a text is a symbol: at most 32 letters, digits, `_` and `.`, of which the first is a letter or `_`.
+#[tactic(auto, unfolding(crate::specs::Tokens::is_symbol))]
+pub fn is_symbol(bytes: &[u8]) -> bool
+    ensures { result ≡ is_symbol bytes.now }
+{
+    is_name(bytes) && begins_symbol(first_byte(bytes))
+}
+
+/// Whether a text that was read as a number has digits alone.
+pub fn has_digits(read: Result<u64, NumberFault>) -> bool
+    ensures { result ≡ has_digits read }
+{
+    match read {
+        Ok(_) | Err(NumberFault::T2) => true,
+        Err(NumberFault::T1(_)) => false,
+    }
+}
+
+/// Whether a text that was read as a number is one over the limit.
+pub fn is_over(read: Result<u64, NumberFault>) -> bool
+    ensures { result ≡ is_over read }
+{
+    match read {
+        Err(NumberFault::T2) => true,
+        Ok(_) | Err(NumberFault::T1(_)) => false,
+    }
+}
+
+/// A decimal number of an expression.
+pub fn read_small(bytes: &[u8]) -> Result<u64, NumberFault>
+    ensures value { result ≡ small_read bytes.now }
+    ensures bound { IfOk result (λ v. v ≤ 262143) }
+{
+    read_decimal(bytes, MOST)
+}
+
+/// Whether a text is a decimal number, within the limit or not.
+#[tactic(auto, unfolding(crate::specs::Tokens::is_number))]
+pub fn is_number(bytes: &[u8]) -> bool
+    ensures { result ≡ is_number bytes.now }
+{
+    has_digits(read_small(bytes)) && has_no_leading_zero(bytes)
+}
