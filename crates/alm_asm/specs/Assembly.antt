@@ -17,7 +17,7 @@ use Rattle.alm_asm.specs.Marks.{marks_from}
 use Rattle.alm_asm.specs.Definitions.{definitions_from}
 use Rattle.alm_asm.specs.LineRefusals.{lines_refusal}
 use Rattle.alm_asm.specs.Growth.{at_first, growth_refusal}
-use Rattle.alm_lines.specs.declared.spot.Spot.{Spot}
+use Rattle.alm_lines.specs.SpotFields.{Spot}
 use Rattle.alm_asm.specs.declared.tables.Tables.{Tables}
 use Rattle.alm_parse.specs.declared.deed.Deed.{Deed}
 use Rattle.alm_parse.specs.declared.deed.Deed.TheVariants as deed

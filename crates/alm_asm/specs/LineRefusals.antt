@@ -15,7 +15,7 @@ use Rattle.alm_lines.specs.Expressions.{expression_place}
 use Rattle.alm_lines.specs.Refusals.{sooner, refusal_at, expression_refusal, has_value}
 use Rattle.alm_asm.specs.Links.{own_section, link_of, link_place}
 use Rattle.alm_asm.specs.Definitions.{gives_entries, definitions_after, definitions_refused}
-use Rattle.alm_lines.specs.declared.spot.Spot.{Spot}
+use Rattle.alm_lines.specs.SpotFields.{Spot}
 use Rattle.alm_lines.specs.declared.sum.Sum.{Sum}
 use Rattle.alm_asm.specs.declared.tables.Tables.{Tables}
 use Rattle.alm_parse.specs.declared.deed.Deed.{Deed}

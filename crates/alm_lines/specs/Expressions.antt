@@ -10,7 +10,7 @@ use Rattle.alm_lines.specs.Sums.{absolute, no_sum, sum_plus, sum_turned}
 use Rattle.alm_lines.specs.Symbols.{sum_named}
 use Rattle.alm_lines.specs.Spots.{here}
 use Rattle.alm_lines.specs.declared.sum.Sum.{Sum}
-use Rattle.alm_lines.specs.declared.spot.Spot.{Spot}
+use Rattle.alm_lines.specs.SpotFields.{Spot}
 
 -- what a symbol comes to; nothing where it is not defined
 unfoldable pub symbol_sum : List ℕ → List (List ℕ × Sum) → Span → Sum

@@ -10,7 +10,7 @@ use Rattle.alm_lines.specs.declared.sum.Balance.{Balance}
 use Rattle.alm_lines.specs.declared.sum.Sum.{Sum}
 use Rattle.alm_lines.specs.declared.sum.Kind.{Kind}
 use Rattle.alm_lines.specs.declared.sum.Kind.TheVariants.{Absolute, Moved, Unsaid}
-use Rattle.alm_lines.specs.declared.spot.Spot.{Spot}
+use Rattle.alm_lines.specs.SpotFields.{Spot}
 use Rattle.alm_lines.specs.declared.refusal.Code.{Code}
 use Rattle.alm_lines.specs.declared.refusal.Code.TheVariants.{E5, E6, E7, E8}
 use Rattle.alm_lines.specs.declared.refusal.Refusal.{Refusal}

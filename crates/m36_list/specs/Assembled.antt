@@ -8,7 +8,7 @@ use Rattle.alm_parse.specs.Lines.{line_given}
 use Rattle.alm_parse.specs.SourceFields.{Source}
 use Rattle.alm_parse.specs.Sources.{parsed}
 use Rattle.obj36_parts.specs.PartsFields.{PartsFields}
-use Rattle.alm_lines.specs.declared.spot.Spot.{Spot}
+use Rattle.alm_lines.specs.SpotFields.{Spot}
 use Rattle.alm_asm.specs.declared.tables.Tables.{Tables}
 use Rattle.alm_asm.specs.Words.{words_by}
 use Rattle.alm_asm.specs.Assembly.{assembled}

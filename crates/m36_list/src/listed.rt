@@ -32,11 +32,11 @@ fn size_in(
     if !same_section(spot.section, section) {
         return Ok(0);
     }
-    let at = spot.place()?;
-    size_of(alloc, line.deed, line.args.items(), at)
+    size_of(alloc, line.deed, line.args.items(), spot.place())
 }
 
 /// Puts a line for each word of a section that the lines of a source place, where the first stands at a place.
+#[tactic(auto, using(alm_lines::proofs::Rooms::rooms))]
 fn put_section_words(
     alloc: Global,
     out: &mut Text,
