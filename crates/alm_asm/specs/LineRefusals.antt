@@ -1,5 +1,6 @@
 -- What is refused of lines whose symbols are known.
-use Rattle.std.specs.Prelude.{ℕ, ◌+◌, Bool, true, false, not, ◌||◌, nat_lt, List, [], ◌∷◌, Option, Some, None}
+use Rattle.std.specs.Prelude.{ℕ, ◌+◌, Bool, true, false, not, ◌||◌, nat_lt, List, [], ◌∷◌, Option}
+use Rattle.std.specs.Prelude.{Some, None}
 use Rattle.alm_tokens.specs.Tokens.{slice_of}
 use Rattle.alm_tokens.specs.declared.span.Span.{Span}
 use Rattle.alm_tokens.specs.declared.expression.Term.{Term}

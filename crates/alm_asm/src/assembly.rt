@@ -1,6 +1,7 @@
 //! Objects of lines.
 
-ghost use Rattle.std.specs.Prelude.{ℕ, Bool, List, [], ◌∷◌, ◌≡◌, ◌+◌, ◌%◌, ◌^◌, ◌<◌, length, Option, None, OnOk, IfOk};
+ghost use Rattle.std.specs.Prelude.{ℕ, Bool, List, [], ◌∷◌, ◌≡◌, ◌+◌, ◌%◌, ◌^◌, ◌<◌, length};
+ghost use Rattle.std.specs.Prelude.{Option, None, OnOk, IfOk};
 ghost use Rattle.alm_parse.specs.Sources.{ParseSays};
 ghost use Rattle.alm_lines.specs.Spots.{start, HasRoom};
 ghost use Rattle.obj36_parts.specs.declared.section.Section.TheVariants.{Text};
@@ -9,7 +10,9 @@ ghost use Rattle.alm_lines.specs.Layout.{layout_refusal};
 ghost use Rattle.alm_asm.specs.Words.{words_from};
 ghost use Rattle.alm_asm.specs.Marks.{marks_from};
 ghost use Rattle.alm_asm.specs.Assembles.{Assembles};
-ghost use Rattle.alm_asm.specs.Assembly.{made, first_link, tables_of, bound_by, bound_from, static_section, version_of, evened, parts_with, last_line, assembled};
+ghost use Rattle.alm_asm.specs.Assembly.{made, first_link, tables_of, bound_by, bound_from};
+ghost use Rattle.alm_asm.specs.Assembly.{static_section, version_of, evened, parts_with, last_line};
+ghost use Rattle.alm_asm.specs.Assembly.{assembled};
 
 use crate::definitions::definitions_of;
 use crate::growth::growth_refusal;
@@ -142,7 +145,8 @@ fn statics_of(
     ensures { IfOk result (λ words.
         words
         ≡ evened tables.now.uses_outer
-        (words_from text.now tables.now (static_section tables.now.uses_outer) [] start lines.now)) }
+        (words_from text.now tables.now (static_section tables.now.uses_outer) [] start
+        lines.now)) }
 {
     let section = static_section(tables.uses_outer);
     let mut words = words_in(alloc, text, tables, section, lines)?;

@@ -1,10 +1,16 @@
 //! What is refused of lines whose symbols are known.
 
-ghost use Rattle.std.specs.Prelude.{ℕ, Bool, List, [], ◌∷◌, ◌≡◌, ◌+◌, ◌^◌, ◌<◌, ◌≤◌, length, Option, OnOk, IfOk};
+ghost use Rattle.std.specs.Prelude.{ℕ, Bool, List, [], ◌∷◌, ◌≡◌, ◌+◌, ◌^◌, ◌<◌, ◌≤◌, length};
+ghost use Rattle.std.specs.Prelude.{Option, OnOk, IfOk};
 ghost use Rattle.alm_lines.specs.Arguments.{first_arg};
 ghost use Rattle.alm_lines.specs.Spots.{start};
 ghost use Rattle.alm_asm.specs.Definitions.{definitions_after};
-ghost use Rattle.alm_asm.specs.LineRefusals.{unless, op_place, external_place, needs_static, may_name, is_in_reach, own_room, link_expression, reaches, external_refusal, own_operand, operand_refusal, is_text_section, may_enter, instruction_refusal, use_refusal, halves_refusal, refusal_of_deed, line_refusal, lines_refusal};
+ghost use Rattle.alm_asm.specs.LineRefusals.{unless, op_place, external_place, needs_static};
+ghost use Rattle.alm_asm.specs.LineRefusals.{may_name, is_in_reach, own_room, link_expression};
+ghost use Rattle.alm_asm.specs.LineRefusals.{reaches, external_refusal, own_operand};
+ghost use Rattle.alm_asm.specs.LineRefusals.{operand_refusal, is_text_section, may_enter};
+ghost use Rattle.alm_asm.specs.LineRefusals.{instruction_refusal, use_refusal, halves_refusal};
+ghost use Rattle.alm_asm.specs.LineRefusals.{refusal_of_deed, line_refusal, lines_refusal};
 
 use crate::definitions::push_definitions;
 use crate::links::{link_of, link_place, own_section};

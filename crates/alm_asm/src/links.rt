@@ -1,13 +1,16 @@
 //! Links: the external operands of instructions, each once, in the order of their first use.
 
-ghost use Rattle.std.specs.Prelude.{ℕ, List, [], ◌∷◌, ◌++◌, ◌≡◌, ◌^◌, ◌<◌, ◌≤◌, length, Option, OnOk, IfOk};
+ghost use Rattle.std.specs.Prelude.{ℕ, List, [], ◌∷◌, ◌++◌, ◌≡◌, ◌^◌, ◌<◌, ◌≤◌, length, Option};
+ghost use Rattle.std.specs.Prelude.{OnOk, IfOk};
 ghost use Rattle.std.specs.List.{list_any, position};
 ghost use Rattle.alm_lines.specs.Arguments.{first_arg};
 ghost use Rattle.alm_lines.specs.Spots.{start};
 ghost use Rattle.alm_tokens.specs.Tokens.{slice_of};
 ghost use Rattle.alm_lines.specs.Arguments.{name_at};
 ghost use Rattle.alm_asm.specs.Words.{same_section};
-ghost use Rattle.alm_asm.specs.Links.{own_section, link_kind, link_section, link_name, entry_name, link_of, operand_args, link_by, link_in, with_link, links_after, links_from, link_place};
+ghost use Rattle.alm_asm.specs.Links.{own_section, link_kind, link_section, link_name, entry_name};
+ghost use Rattle.alm_asm.specs.Links.{link_of, operand_args, link_by, link_in, with_link};
+ghost use Rattle.alm_asm.specs.Links.{links_after, links_from, link_place};
 ghost use Rattle.obj36_parts.specs.Indexes.{same_link};
 
 use alm_lines::arguments::name_at;

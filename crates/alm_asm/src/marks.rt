@@ -1,10 +1,12 @@
 //! Relocations: the parts of words whose expressions are places of a section, and the offsets of links.
 
-ghost use Rattle.std.specs.Prelude.{ℕ, List, [], ◌∷◌, ◌++◌, ◌≡◌, ◌%◌, ◌^◌, ◌<◌, length, Option, OnOk, IfOk};
+ghost use Rattle.std.specs.Prelude.{ℕ, List, [], ◌∷◌, ◌++◌, ◌≡◌, ◌%◌, ◌^◌, ◌<◌, length, Option};
+ghost use Rattle.std.specs.Prelude.{OnOk, IfOk};
 ghost use Rattle.alm_lines.specs.Arguments.{first_arg};
 ghost use Rattle.alm_lines.specs.Spots.{start};
 ghost use Rattle.alm_parse.specs.declared.deed.Deed.TheVariants as deed;
-ghost use Rattle.alm_asm.specs.Marks.{mark, operand_part, operand_kind, operand_mark, marks_by, marks_after, marks_from};
+ghost use Rattle.alm_asm.specs.Marks.{mark, operand_part, operand_kind, operand_mark, marks_by};
+ghost use Rattle.alm_asm.specs.Marks.{marks_after, marks_from};
 
 use crate::links::same_section;
 use alm_lines::arguments::{first_terms, second_terms};

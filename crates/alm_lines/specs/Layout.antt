@@ -1,6 +1,7 @@
 -- The symbols that lines define, and what is refused of their definitions and of the lengths of
 -- sections.
-use Rattle.std.specs.Prelude.{ℕ, Bool, true, false, is_some, List, [], ◌∷◌, Option, Some, None, if◌then◌else◌}
+use Rattle.std.specs.Prelude.{ℕ, Bool, true, false, is_some, List, [], ◌∷◌, Option, Some, None}
+use Rattle.std.specs.Prelude.{if◌then◌else◌}
 use Rattle.alm_tokens.specs.declared.span.Span.{Span}
 use Rattle.alm_parse.specs.declared.args.Arg.{Arg}
 use Rattle.alm_parse.specs.declared.line.Line36.{Line36}
@@ -9,7 +10,8 @@ use Rattle.alm_lines.specs.Symbols.{sum_named, with_symbol}
 use Rattle.alm_lines.specs.Arguments.{name_at, first_arg, second_arg, symbol_in, terms_in}
 use Rattle.alm_lines.specs.Spots.{count, here, below}
 use Rattle.alm_lines.specs.Expressions.{sum_of, expression_place}
-use Rattle.alm_lines.specs.Refusals.{sooner, refusal_at, expression_refusal, has_value, is_over_limit}
+use Rattle.alm_lines.specs.Refusals.{sooner, refusal_at, expression_refusal, has_value}
+use Rattle.alm_lines.specs.Refusals.{is_over_limit}
 use Rattle.alm_lines.specs.declared.sum.Sum.{Sum}
 use Rattle.alm_lines.specs.SpotFields.{Spot}
 use Rattle.alm_parse.specs.declared.deed.Deed.{Deed}

@@ -6,7 +6,8 @@ use Rattle.obj36_parts.specs.declared.section.Section.TheVariants.{Text, Linkage
 use Rattle.alm_parse.specs.declared.args.Arg.{Arg}
 use Rattle.alm_parse.specs.declared.line.Line36.{Line36}
 use Rattle.alm_lines.specs.Sums.{balance, nothing, no_sum}
-use Rattle.alm_lines.specs.Arguments.{first_arg, second_arg, symbol_in, number_in, words_of_args, section_in}
+use Rattle.alm_lines.specs.Arguments.{first_arg, second_arg, symbol_in, number_in, words_of_args}
+use Rattle.alm_lines.specs.Arguments.{section_in}
 use Rattle.alm_lines.specs.declared.sum.Sum.{Sum}
 use Rattle.alm_parse.specs.declared.deed.Deed.{Deed}
 use Rattle.alm_parse.specs.declared.deed.Deed.TheVariants as deed

@@ -2,7 +2,9 @@
 
 ghost use Rattle.std.specs.Prelude.{ℕ, List, [], ◌∷◌, ◌≡◌, ◌-◌, ◌^◌, ◌≤◌, length, Option};
 ghost use Rattle.alm_lines.specs.Sums.{no_sum, IsTerm};
-ghost use Rattle.alm_lines.specs.Expressions.{symbol_sum, atom_sum, term_sum, added, sum_of, is_defined, is_symbol_atom, is_undefined, place_undefined, expression_place};
+ghost use Rattle.alm_lines.specs.Expressions.{symbol_sum, atom_sum, term_sum, added, sum_of};
+ghost use Rattle.alm_lines.specs.Expressions.{is_defined, is_symbol_atom, is_undefined};
+ghost use Rattle.alm_lines.specs.Expressions.{place_undefined, expression_place};
 
 use crate::arguments::name_at;
 use crate::spot::Spot;

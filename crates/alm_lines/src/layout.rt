@@ -1,13 +1,18 @@
 //! The symbols that lines define, and what is refused of their definitions and of the lengths of sections.
 
-ghost use Rattle.std.specs.Prelude.{ℕ, true, List, [], ◌∷◌, ◌≡◌, ◌^◌, ◌<◌, length, Option, None, OnOk, IfOk};
+ghost use Rattle.std.specs.Prelude.{ℕ, true, List, [], ◌∷◌, ◌≡◌, ◌^◌, ◌<◌, length, Option, None};
+ghost use Rattle.std.specs.Prelude.{OnOk, IfOk};
 ghost use Rattle.alm_lines.specs.Sums.{IsTerm};
 ghost use Rattle.alm_lines.specs.Symbols.{with_symbol};
 ghost use Rattle.alm_lines.specs.Arguments.{name_at};
 ghost use Rattle.alm_lines.specs.Spots.{start, below, end_of, HasRoom};
 ghost use Rattle.alm_lines.specs.Refusals.{sooner, has_room};
 ghost use Rattle.alm_lines.specs.declared.refusal.Room.TheVariants.{Half};
-ghost use Rattle.alm_lines.specs.Layout.{again, with_labels, labels_refused, own_symbol, own_refusal, value_refusal, number_of, value_by, value_of, own_sum, with_own, own_again, symbols_with, refused_with, over, symbols_after, refused_after, symbols_from, layout_refusal};
+ghost use Rattle.alm_lines.specs.Layout.{again, with_labels, labels_refused, own_symbol};
+ghost use Rattle.alm_lines.specs.Layout.{own_refusal, value_refusal, number_of, value_by, value_of};
+ghost use Rattle.alm_lines.specs.Layout.{own_sum, with_own, own_again, symbols_with, refused_with};
+ghost use Rattle.alm_lines.specs.Layout.{over, symbols_after, refused_after, symbols_from};
+ghost use Rattle.alm_lines.specs.Layout.{layout_refusal};
 
 use crate::arguments::{first_symbol, name_at, second_terms};
 use crate::expression::{expression_place, is_defined, sum_of};

@@ -1,7 +1,10 @@
 //! Refusals: which comes first in the text, and what refuses an expression.
 
 ghost use Rattle.std.specs.Prelude.{ℕ, Bool, ◌≡◌, ◌-◌, ◌+◌, ◌%◌, ◌^◌, ◌≤◌, List, length, Option};
-ghost use Rattle.alm_lines.specs.Refusals.{code_number, precedes, sooner, refusal_at, column_of, fault_by, fault_of, has_room, may_stand, is_said, refusal_by, expression_refusal, has_value, is_over_limit};
+ghost use Rattle.alm_lines.specs.Refusals.{code_number, precedes, sooner, refusal_at, column_of};
+ghost use Rattle.alm_lines.specs.Refusals.{fault_by, fault_of, has_room, may_stand, is_said};
+ghost use Rattle.alm_lines.specs.Refusals.{refusal_by, expression_refusal, has_value};
+ghost use Rattle.alm_lines.specs.Refusals.{is_over_limit};
 
 use crate::expression::{place_undefined, sum_of};
 use crate::spot::Spot;

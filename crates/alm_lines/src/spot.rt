@@ -2,7 +2,9 @@
 
 ghost use Rattle.std.specs.Prelude.{ℕ, List, [], ◌∷◌, ◌++◌, ◌≡◌, ◌^◌, ◌<◌, length, IfOk};
 ghost use Rattle.alm_lines.specs.Sums.{balance, IsTerm};
-ghost use Rattle.alm_lines.specs.Spots.{start, count, count_in, place, place_in, here, here_in, grown, grown_in, entered, size_of, moved_by, below, end_of, HasRoom, IsNear};
+ghost use Rattle.alm_lines.specs.Spots.{start, count, count_in, place, place_in, here, here_in};
+ghost use Rattle.alm_lines.specs.Spots.{grown, grown_in, entered, size_of, moved_by, below, end_of};
+ghost use Rattle.alm_lines.specs.Spots.{HasRoom, IsNear};
 
 use crate::arguments::{first_symbol, second_number, section_in, words_of_args};
 use crate::sum::{Balance, NOTHING, Sum, absolute};
@@ -32,11 +34,26 @@ impl Model for Spot {
 
     ghost Value = { Spot };
 
-    ghost view = { λ s. record { text = s.text; inner = s.inner; outer = s.outer; section = s.section; uses_inner = s.uses_inner; uses_outer = s.uses_outer } };
+    ghost view = { λ s. record {
+      text = s.text;
+      inner = s.inner;
+      outer = s.outer;
+      section = s.section;
+      uses_inner = s.uses_inner;
+      uses_outer = s.uses_outer;
+    } };
 
-    ghost invariant = { λ s. (s.text < 2 ^ 96 - 8) × (s.inner < 2 ^ 96 - 8) × (s.outer < 2 ^ 96 - 8) };
+    ghost invariant = { λ s.
+        (s.text < 2 ^ 96 - 8) × (s.inner < 2 ^ 96 - 8) × (s.outer < 2 ^ 96 - 8) };
 
-    ghost inverse = { λ s. record { text = s.text; inner = s.inner; outer = s.outer; section = s.section; uses_inner = s.uses_inner; uses_outer = s.uses_outer } };
+    ghost inverse = { λ s. record {
+      text = s.text;
+      inner = s.inner;
+      outer = s.outer;
+      section = s.section;
+      uses_inner = s.uses_inner;
+      uses_outer = s.uses_outer;
+    } };
 }
 
 /// A number that is added once.

@@ -1,7 +1,9 @@
 //! What expressions come to: numbers, and how often each section counts in them.
 
 ghost use Rattle.std.specs.Prelude.{ℕ, ◌≡◌, ◌+◌, ◌-◌, ◌%◌, ◌≤◌, ◌<◌, ◌^◌};
-ghost use Rattle.alm_lines.specs.Sums.{balance_plus, turned, is_even, is_one, is_within, half_of, offset_of, settled, absolute, unknown_sum, sum_plus, sum_turned, kind_of, IsAtMost, IsTerm};
+ghost use Rattle.alm_lines.specs.Sums.{balance_plus, turned, is_even, is_one, is_within, half_of};
+ghost use Rattle.alm_lines.specs.Sums.{offset_of, settled, absolute, unknown_sum, sum_plus};
+ghost use Rattle.alm_lines.specs.Sums.{sum_turned, kind_of, IsAtMost, IsTerm};
 
 use obj36_parts::Section;
 

@@ -5,7 +5,9 @@ use Rattle.std.specs.List.{join_with_byte, flat_map}
 use Rattle.m36_text.specs.Digits.{octal_text, decimal_text}
 use Rattle.obj36_parts.specs.Fields.{LinkFields}
 use Rattle.obj36_parts.specs.PartsFields.{PartsFields}
-use Rattle.obj36_parts.specs.ObjectSegment.{is_newer, inner_statics, outer_statics, definition_section, linkage_section, symbol_section, words_of}
+use Rattle.obj36_parts.specs.ObjectSegment.{is_newer, inner_statics, outer_statics}
+use Rattle.obj36_parts.specs.ObjectSegment.{definition_section, linkage_section, symbol_section}
+use Rattle.obj36_parts.specs.ObjectSegment.{words_of}
 use Rattle.obj36_parts.specs.declared.section.Section.{Section}
 use Rattle.obj36_parts.specs.declared.section.Section.TheVariants.{Text, Linkage, Symbol, Static}
 use Rattle.obj36_parts.specs.declared.definition.Named.{Named}
