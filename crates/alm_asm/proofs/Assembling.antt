@@ -16,7 +16,7 @@ use Rattle.alm_lines.specs.Layout.{symbols_from}
 use Rattle.alm_asm.specs.Assembly.{tables_of, static_section, version_of, parts_with, parts_of, refusal_of, last_line, made, assembled_by, assembled}
 use Rattle.alm_asm.specs.Laws.{holds_words}
 use Rattle.alm_asm.specs.Assembles.{evened_count, Assembles}
-use Rattle.alm_lines.specs.declared.spot.Spot.{Spot}
+use Rattle.alm_lines.specs.SpotFields.{Spot}
 use Rattle.alm_asm.specs.declared.tables.Tables.{Tables}
 use Rattle.alm_lines.specs.declared.refusal.Refusal.{Refusal}
 use Rattle.alm_asm.proofs.Unrefused.{no_layout_refusal, no_lines_refusal}

@@ -13,7 +13,7 @@ use Rattle.alm_asm.specs.Links.{operand_args, link_in, with_link, links_after, l
 use Rattle.obj36_parts.specs.Indexes.{same_link}
 use Rattle.alm_asm.specs.Assembles.{are_apart}
 use Rattle.alm_lines.specs.declared.sum.Sum.{Sum}
-use Rattle.alm_lines.specs.declared.spot.Spot.{Spot}
+use Rattle.alm_lines.specs.SpotFields.{Spot}
 
 link_turned : (a b : LinkFields) → same_link a b ≡ same_link b a
 unfolding same_link
