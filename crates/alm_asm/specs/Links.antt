@@ -1,5 +1,5 @@
 -- Links: the external operands of instructions, each once, in the order of their first use.
-use Rattle.std.specs.Prelude.{ℕ, ◌+◌, ◌*◌, ◌%◌, ◌^◌, Bool, List, [], ◌∷◌, ◌++◌, codes, Option, Some}
+use Rattle.std.specs.Prelude.{ℕ, ◌+◌, ◌*◌, ◌%◌, ◌^◌, List, [], ◌∷◌, ◌++◌, codes, Option, Some}
 use Rattle.std.specs.Prelude.{None, unwrap_or, if◌then◌else◌}
 use Rattle.std.specs.List.{list_any, position}
 use Rattle.alm_tokens.specs.Tokens.{slice_of, is_text}

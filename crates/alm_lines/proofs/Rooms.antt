@@ -1,5 +1,5 @@
 -- There is room for the words of all lines.
-use Rattle.std.proofs.Common.{◌≡◌, ℕ, ◌+◌, ◌-◌, ◌*◌, ◌^◌, ◌<◌, ◌≤◌, arith}
+use Rattle.std.proofs.Common.{◌≡◌, ℕ, ◌+◌, ◌^◌, ◌<◌, arith}
 use Rattle.alm_lines.specs.Spots.{start, HasRoom, IsNear}
 use Rattle.alm_lines.specs.SpotFields.{Spot}
 

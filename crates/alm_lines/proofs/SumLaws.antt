@@ -1,9 +1,8 @@
 -- How large sums are.
-use Rattle.std.proofs.Common.{◌≡◌, ℕ, ◌+◌, ◌-◌, ◌*◌, ◌^◌, ◌<◌, ◌≤◌, ◌&&◌, not, Bool, true, false, List, is_some, leb, arith}
+use Rattle.std.proofs.Common.{◌≡◌, ℕ, ◌+◌, ◌-◌, ◌*◌, ◌^◌, ◌<◌, ◌≤◌, ◌&&◌, not, true, false, List, is_some, leb, arith}
 use Rattle.std.proofs.lemmas.Bool.{and_parts, leb-true}
-use Rattle.alm_parse.specs.declared.line.Line36.{Line36}
 use Rattle.alm_tokens.specs.declared.expression.Term.{Term}
-use Rattle.alm_lines.specs.Sums.{absolute, no_sum, sum_plus, kind_of, IsAtMost, IsTerm}
+use Rattle.alm_lines.specs.Sums.{no_sum, sum_plus, kind_of, IsAtMost, IsTerm}
 use Rattle.alm_lines.specs.Expressions.{sum_of, place_undefined}
 use Rattle.alm_lines.specs.Layout.{number_of}
 use Rattle.alm_lines.specs.Refusals.{has_room, may_stand, is_said, has_value}
