@@ -240,6 +240,13 @@ impl Object {
         joined_sections(alloc, &self.parts, definition, linkage, symbol)
     }
 
+    /// Some list of words stands for the parts of an object.
+    pub fn formed(&self)
+        ensures { is_well_formed self.now ≡ true }
+    {
+        let _ = &self.parts;
+    }
+
     /// The object's parts.
     pub fn parts(&self) -> &Parts
         ensures { result.now ≡ self.now }
