@@ -7,6 +7,7 @@ use Rattle.m36_bindfile.specs.declared.fault.BindFault.{BindFault}
 use Rattle.m36_bindfile.specs.declared.line.BindLine.{BindLine}
 use Rattle.m36_bindfile.specs.BindFile.{bind_lines, asks_newer, Refuses, BindSays}
 use Rattle.m36_bind.specs.Fields.{ShapeFields}
+use Rattle.m36_bind.specs.Given.{GivenFields}
 use Rattle.m36_bind.specs.declared.exports.Export.{Export}
 use Rattle.m36_bind.specs.Components.{PlacedFields, and_then, picked_of}
 use Rattle.m36_bind.specs.Kept.{exports_from, kept_from}
@@ -53,33 +54,38 @@ components_stop frame all lines exports told is refused =
 pub ruleset of_components = (components_go, components_stop)
 
 pub lines_go :
-    (names : List (List ℕ)) (objects : List PartsFields) (lines : List BindLine) (all : List PlacedFields) (frame : ShapeFields) (result : Result PartsFields BindFault)
-    → picked_of names objects lines ≡ Ok all → frame ≡ frame_of (asks_newer lines) all → BindSays result (bound_of_components frame all lines)
-    → BindSays result (bound_of_lines names objects lines)
-lines_go names objects lines all frame result picks is says =
+    (given : GivenFields) (lines : List BindLine) (all : List PlacedFields) (frame : ShapeFields) (result : Result PartsFields BindFault)
+    → picked_of given lines ≡ Ok all → frame ≡ frame_of (asks_newer lines) all → BindSays result (bound_of_components frame all lines)
+    → BindSays result (bound_of_lines given lines)
+lines_go given lines all frame result picks is says =
     let P : ShapeFields → Type 0 = λ f. BindSays result (bound_of_components f all lines) in
-    goes_on result (picked_of names objects lines) all (λ a. bound_of_components (frame_of (asks_newer lines) a) a lines) picks (subst P is says)
+    goes_on result (picked_of given lines) all (λ a. bound_of_components (frame_of (asks_newer lines) a) a lines) picks (subst P is says)
 
 pub lines_stop :
-    (names : List (List ℕ)) (objects : List PartsFields) (lines : List BindLine) (told : BindFault)
-    → Refuses told (picked_of names objects lines) → Refuses told (bound_of_lines names objects lines)
-lines_stop names objects lines told refused =
-    refused_on told (picked_of names objects lines) (λ a. bound_of_components (frame_of (asks_newer lines) a) a lines) refused
+    (given : GivenFields) (lines : List BindLine) (told : BindFault)
+    → Refuses told (picked_of given lines) → Refuses told (bound_of_lines given lines)
+lines_stop given lines told refused =
+    refused_on told (picked_of given lines) (λ a. bound_of_components (frame_of (asks_newer lines) a) a lines) refused
 
 pub ruleset of_lines = (lines_go, lines_stop)
 
 pub text_goes :
-    (text : List ℕ) (names : List (List ℕ)) (objects : List PartsFields) (lines lent : List BindLine) (result : Result PartsFields BindFault)
-    → bind_lines text ≡ Ok lines → lent ≡ lines → BindSays result (bound_of_lines names objects lent) → BindSays result (bound_of text names objects)
+    (text : List ℕ) (names : List (List ℕ)) (objects : List PartsFields) (given : GivenFields) (lines lent : List BindLine) (result : Result PartsFields BindFault)
+    → bind_lines text ≡ Ok lines → lent ≡ lines → given ≡ record { names = names; objects = objects } → BindSays result (bound_of_lines given lent)
+    → BindSays result (bound_of text names objects)
 unfolding bound_of
-text_goes text names objects lines lent result reads is says =
-    let P : List BindLine → Type 0 = λ ls. BindSays result (bound_of_lines names objects ls) in
-    goes_on result (bind_lines text) lines (λ ls. bound_of_lines names objects ls) reads (subst P is says)
+text_goes text names objects given lines lent result reads is are says =
+    let all : GivenFields = record { names = names; objects = objects } in
+    let P : List BindLine → Type 0 = λ ls. BindSays result (bound_of_lines given ls) in
+    let Q : GivenFields → Type 0 = λ g. BindSays result (bound_of_lines g lines) in
+    goes_on result (bind_lines text) lines (λ ls. bound_of_lines all ls) reads (subst Q are (subst P is says))
 
 pub text_stops :
     (text : List ℕ) (names : List (List ℕ)) (objects : List PartsFields) (told : BindFault)
     → Refuses told (bind_lines text) → Refuses told (bound_of text names objects)
 unfolding bound_of
-text_stops text names objects told refused = refused_on told (bind_lines text) (λ ls. bound_of_lines names objects ls) refused
+text_stops text names objects told refused =
+    let all : GivenFields = record { names = names; objects = objects } in
+    refused_on told (bind_lines text) (λ ls. bound_of_lines all ls) refused
 
 pub ruleset of_text = (text_goes, text_stops)

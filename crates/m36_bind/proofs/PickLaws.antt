@@ -9,6 +9,7 @@ use Rattle.m36_bindfile.specs.declared.fault.BindFault.TheVariants as fault
 use Rattle.m36_bindfile.specs.declared.line.BindLine.{BindLine}
 use Rattle.m36_bindfile.specs.BindFile.{Refuses}
 use Rattle.m36_bind.specs.Fields.{BasesFields}
+use Rattle.m36_bind.specs.Given.{GivenFields}
 use Rattle.m36_bind.specs.Layout.{bases_behind}
 use Rattle.m36_bind.specs.Exports.{own_from}
 use Rattle.m36_bind.specs.declared.exports.Export.{Export}
@@ -52,36 +53,36 @@ pick_found new result all n name found given is picks =
 -- ---- lines in turn
 
 first_picked :
-    (names : List (List ℕ)) (objects : List PartsFields) (all : AllFields) (n : ℕ) (line : BindLine) (others rest : List BindLine) → rest ≡ line ∷ others
-    → picked_from names objects all n rest ≡ and_then (picked_line names objects all n line) (λ more. picked_from names objects more (n + 1) others)
+    (given : GivenFields) (all : AllFields) (n : ℕ) (line : BindLine) (others rest : List BindLine) → rest ≡ line ∷ others
+    → picked_from given all n rest ≡ and_then (picked_line given all n line) (λ more. picked_from given more (n + 1) others)
 unfolding picked_from
-first_picked names objects all n line others rest is = ap (picked_from names objects all n) is
+first_picked given all n line others rest is = ap (picked_from given all n) is
 
 pub pick_goes :
-    (names : List (List ℕ)) (objects : List PartsFields) (all more : AllFields) (n : ℕ) (line : BindLine) (others rest : List BindLine) (whole : Result AllFields BindFault)
-    → rest ≡ line ∷ others → picked_line names objects all n line ≡ Ok more → picked_from names objects all n rest ≡ whole
-    → picked_from names objects more (n + 1) others ≡ whole
-pick_goes names objects all more n line others rest whole is picked so_far =
-    sym (ap (λ (d : Result AllFields BindFault). and_then d (λ m. picked_from names objects m (n + 1) others)) picked)
-    ∙ sym (first_picked names objects all n line others rest is) ∙ so_far
+    (given : GivenFields) (all more : AllFields) (n : ℕ) (line : BindLine) (others rest : List BindLine) (whole : Result AllFields BindFault)
+    → rest ≡ line ∷ others → picked_line given all n line ≡ Ok more → picked_from given all n rest ≡ whole
+    → picked_from given more (n + 1) others ≡ whole
+pick_goes given all more n line others rest whole is picked so_far =
+    sym (ap (λ (d : Result AllFields BindFault). and_then d (λ m. picked_from given m (n + 1) others)) picked)
+    ∙ sym (first_picked given all n line others rest is) ∙ so_far
 
 pub pick_stops :
-    (names : List (List ℕ)) (objects : List PartsFields) (all : AllFields) (n : ℕ) (line : BindLine) (others rest lines : List BindLine) (told : BindFault)
-    → rest ≡ line ∷ others → Refuses told (picked_line names objects all n line)
-    → picked_from names objects all n rest ≡ picked_from names objects no_components 1 lines → Refuses told (picked_of names objects lines)
+    (given : GivenFields) (all : AllFields) (n : ℕ) (line : BindLine) (others rest lines : List BindLine) (told : BindFault)
+    → rest ≡ line ∷ others → Refuses told (picked_line given all n line)
+    → picked_from given all n rest ≡ picked_from given no_components 1 lines → Refuses told (picked_of given lines)
 unfolding picked_of
-pick_stops names objects all n line others rest lines told is refused so_far =
-    refused_on told (picked_from names objects no_components 1 lines) (λ a. Ok (placed_in a))
-    (refused_whole told (picked_line names objects all n line) (λ more. picked_from names objects more (n + 1) others)
-    (picked_from names objects no_components 1 lines) refused (sym (first_picked names objects all n line others rest is) ∙ so_far))
+pick_stops given all n line others rest lines told is refused so_far =
+    refused_on told (picked_from given no_components 1 lines) (λ a. Ok (placed_in a))
+    (refused_whole told (picked_line given all n line) (λ more. picked_from given more (n + 1) others)
+    (picked_from given no_components 1 lines) refused (sym (first_picked given all n line others rest is) ∙ so_far))
 
 pub pick_ends :
-    (names : List (List ℕ)) (objects : List PartsFields) (all : AllFields) (n : ℕ) (rest lines : List BindLine)
-    → rest ≡ [] → picked_from names objects all n rest ≡ picked_from names objects no_components 1 lines
-    → picked_of names objects lines ≡ Ok all.placed
+    (given : GivenFields) (all : AllFields) (n : ℕ) (rest lines : List BindLine)
+    → rest ≡ [] → picked_from given all n rest ≡ picked_from given no_components 1 lines
+    → picked_of given lines ≡ Ok all.placed
 unfolding picked_of picked_from
-pick_ends names objects all n rest lines none so_far =
-    let done : picked_from names objects no_components 1 lines ≡ Ok all = sym so_far ∙ ap (picked_from names objects all n) none in
+pick_ends given all n rest lines none so_far =
+    let done : picked_from given no_components 1 lines ≡ Ok all = sym so_far ∙ ap (picked_from given all n) none in
     ap (λ (d : Result AllFields BindFault). and_then d (λ a. Ok (placed_in a))) done
 
 -- what is left of lines

@@ -14,6 +14,7 @@ use Rattle.m36_bindfile.specs.declared.fault.BindFault.TheVariants as fault
 use Rattle.m36_bindfile.specs.declared.line.BindLine.{BindLine}
 use Rattle.m36_bindfile.specs.BindFile.{bind_lines, asks_newer}
 use Rattle.m36_bind.specs.Fields.{ShapeFields}
+use Rattle.m36_bind.specs.Given.{GivenFields}
 use Rattle.m36_bind.specs.Layout.{spot_moved}
 use Rattle.m36_bind.specs.Words.{stands_in, words_in, words_moved, all_fit, evened_words}
 use Rattle.m36_bind.specs.Components.{PlacedFields, moving, picked_of, and_then}
@@ -114,10 +115,11 @@ abbrev pub bound_of_components : ShapeFields → List PlacedFields → List Bind
 bound_of_components frame all lines =
     and_then (kept_from (exports_from frame [] all) [] 1 lines) (λ kept. made_of frame all kept)
 
-abbrev pub bound_of_lines : List (List ℕ) → List PartsFields → List BindLine → Result PartsFields BindFault
-bound_of_lines names objects lines =
-    and_then (picked_of names objects lines) (λ all. bound_of_components (frame_of (asks_newer lines) all) all lines)
+abbrev pub bound_of_lines : GivenFields → List BindLine → Result PartsFields BindFault
+bound_of_lines given lines =
+    and_then (picked_of given lines) (λ all. bound_of_components (frame_of (asks_newer lines) all) all lines)
 
 -- the bound object of the components of a bind file, among objects that are given by name; else the first refusal
 unfoldable pub bound_of : List ℕ → List (List ℕ) → List PartsFields → Result PartsFields BindFault
-bound_of text names objects = and_then (bind_lines text) (λ lines. bound_of_lines names objects lines)
+bound_of text names objects =
+    and_then (bind_lines text) (λ lines. bound_of_lines (record { names = names; objects = objects }) lines)

@@ -12,6 +12,7 @@ use Rattle.m36_bindfile.specs.declared.line.BindLine.{BindLine}
 use Rattle.m36_bindfile.specs.declared.line.BindLine.TheVariants as line
 use Rattle.m36_bindfile.specs.BindFile.{Refuses}
 use Rattle.m36_bind.specs.Fields.{ShapeFields, BasesFields}
+use Rattle.m36_bind.specs.Given.{GivenFields, object_named}
 use Rattle.m36_bind.specs.Layout.{shape_of, first_bases, bases_behind}
 use Rattle.m36_bind.specs.Exports.{own_from}
 use Rattle.m36_bind.specs.declared.exports.Export.{Export}
@@ -55,15 +56,6 @@ placed_at all (Some i) = slice_get all i
 unfoldable pub component_named : List ℕ → List PlacedFields → Option PlacedFields
 component_named name all = placed_at all (position (same name) (names_of all))
 
--- ---- the object of a name among those that are given; the first counts
-
-abbrev pub object_at : List PartsFields → Option ℕ → Option PartsFields
-object_at objects None = None
-object_at objects (Some i) = slice_get objects i
-
-unfoldable pub object_named : List (List ℕ) → List PartsFields → List ℕ → Option PartsFields
-object_named names objects name = object_at objects (position (same name) names)
-
 -- ---- the lines in turn
 
 abbrev pub and_then : {A B : Type 0} → Result A BindFault → (A → Result B BindFault) → Result B BindFault
@@ -76,16 +68,16 @@ picked_one all n name (Some p) =
     if list_any (same name) (names_of all.placed) then Err (fault.B3 n) else Ok (with_component all (component name p all.next (own_from [] p.definitions)))
 
 -- the components with that of line n
-abbrev pub picked_line : List (List ℕ) → List PartsFields → AllFields → ℕ → BindLine → Result AllFields BindFault
-picked_line names objects all n line.Version = Ok all
-picked_line names objects all n (line.Object name) = picked_one all n name (object_named names objects name)
-picked_line names objects all n (line.Retain name) = Ok all
+abbrev pub picked_line : GivenFields → AllFields → ℕ → BindLine → Result AllFields BindFault
+picked_line given all n line.Version = Ok all
+picked_line given all n (line.Object name) = picked_one all n name (object_named given name)
+picked_line given all n (line.Retain name) = Ok all
 
 -- those of lines from line n on
-unfoldable pub picked_from : List (List ℕ) → List PartsFields → AllFields → ℕ → List BindLine → Result AllFields BindFault
-picked_from names objects all n [] = Ok all
-picked_from names objects all n (next ∷ lines) =
-    and_then (picked_line names objects all n next) (λ more. picked_from names objects more (n + 1) lines)
+unfoldable pub picked_from : GivenFields → AllFields → ℕ → List BindLine → Result AllFields BindFault
+picked_from given all n [] = Ok all
+picked_from given all n (next ∷ lines) =
+    and_then (picked_line given all n next) (λ more. picked_from given more (n + 1) lines)
 
 -- A call that changes something answered as the definition says, where want of memory may come at any time.
 abbrev pub Changes : {A B : Type 0} → A → Result B BindFault → Result A BindFault → Type 0
@@ -96,8 +88,8 @@ abbrev pub placed_in : AllFields → List PlacedFields
 placed_in all = all.placed
 
 -- all components that lines name
-unfoldable pub picked_of : List (List ℕ) → List PartsFields → List BindLine → Result (List PlacedFields) BindFault
-picked_of names objects lines = and_then (picked_from names objects no_components 1 lines) (λ all. Ok (placed_in all))
+unfoldable pub picked_of : GivenFields → List BindLine → Result (List PlacedFields) BindFault
+picked_of given lines = and_then (picked_from given no_components 1 lines) (λ all. Ok (placed_in all))
 
 -- A call that adds a component answered where the next begins.
 abbrev pub Picks : List PlacedFields → Result BasesFields BindFault → Result AllFields BindFault → Type 0

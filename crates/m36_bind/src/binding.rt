@@ -1,12 +1,14 @@
 //! What is bound, or why not.
 
-ghost use Rattle.std.specs.Prelude.{◌≡◌, ◌^◌, ◌<◌, length};
+ghost use Rattle.std.specs.Prelude.{◌≡◌, ◌^◌, ◌<◌, length, IfOk};
 ghost use Rattle.m36_bindfile.specs.BindFile.{asks_newer, is_version, BindSays};
 ghost use Rattle.std.specs.List.{list_any};
 ghost use Rattle.m36_bind.specs.Bound.{bound_parts, made, made_of, bound_of_components, bound_of_lines, bound_of};
+ghost use Rattle.m36_bind.specs.Meaning.{AreObjects, BoundMeaning};
 
 use crate::bound::{bound_parts, frame_of};
 use crate::fitting::{components_fit, is_object, sections_fit};
+use crate::given::Given;
 use crate::kept::{exports, kept};
 use crate::layout::Shape;
 use crate::placed::{Components, picked};
@@ -76,22 +78,27 @@ fn bound_of_components(
 }
 
 #[tactic(auto, using(crate::proofs::BindingLaws::of_lines))]
-fn bound_of_lines(
-    alloc: Global,
-    lines: &[BindLine],
-    names: &[Name],
-    objects: &[Object],
-) -> Result<Object, BindFault>
+fn bound_of_lines(alloc: Global, lines: &[BindLine], given: &Given<'_>) -> Result<Object, BindFault>
     requires { length lines.now < 2 ^ 32 }
-    ensures { BindSays result (bound_of_lines names.now objects.now lines.now) }
+    ensures { BindSays result (bound_of_lines given.now lines.now) }
 {
-    let all = picked(alloc, names, objects, lines)?;
+    let all = picked(alloc, given, lines)?;
     let frame = frame_of(asks_newer(lines), all.items());
     bound_of_components(alloc, &frame, &all, lines)
 }
 
+// Each of these is an object.
+fn are_objects(objects: &[Object])
+    ensures { AreObjects objects.now }
+{
+    for object in objects {
+        object.formed();
+    }
+}
+
 /// The bound object of the components that a bind file names, or the first refusal. Object number i has name number i; of two
-/// of one name the first counts. The text has fewer than 2^32 bytes.
+/// of one name the first counts. The text has fewer than 2^32 bytes. `says` is the object that is computed; `means` says what
+/// stands where in it, and what each part of a word, link and definition of it names.
 #[tactic(auto, using(crate::proofs::BindingLaws::of_text))]
 pub fn bind(
     alloc: Global,
@@ -101,7 +108,10 @@ pub fn bind(
 ) -> Result<Object, BindFault>
     requires { length bindfile.now < 2 ^ 32 }
     ensures says { BindSays result (bound_of bindfile.now names.now objects.now) }
+    ensures means { IfOk result (λ object. BoundMeaning bindfile.now names.now objects.now object) }
 {
+    are_objects(objects);
     let lines = read_lines(alloc, bindfile)?;
-    bound_of_lines(alloc, lines.items(), names, objects)
+    let given = Given::new(alloc, names, objects)?;
+    bound_of_lines(alloc, lines.items(), &given)
 }

@@ -16,6 +16,7 @@ mod binding;
 mod bound;
 mod exports;
 mod fitting;
+mod given;
 mod kept;
 mod layout;
 mod links;

@@ -1,6 +1,6 @@
 //! The components of a bind file, each with where its words begin.
 
-ghost use Rattle.std.specs.Prelude.{ℕ, ◌≡◌, ◌+◌, ◌*◌, ◌^◌, ◌<◌, ◌≤◌, false, [], ◌∷◌, ◌++◌, length, position, Some, IfOk, OnOk, option_map};
+ghost use Rattle.std.specs.Prelude.{ℕ, ◌≡◌, ◌+◌, ◌*◌, ◌^◌, ◌<◌, ◌≤◌, false, [], ◌∷◌, ◌++◌, length, Some, IfOk, OnOk, option_map};
 ghost use Rattle.std.specs.List.{list_any};
 ghost use Rattle.std.specs.Vec.{vec_len, vec_capacity};
 ghost use Rattle.obj36_parts.specs.Names.{same};
@@ -8,9 +8,10 @@ ghost use Rattle.obj36_parts.specs.ObjectSegment.{is_newer};
 ghost use Rattle.m36_bind.specs.Exports.{own_from};
 ghost use Rattle.m36_bindfile.specs.BindFile.{BindSays};
 ghost use Rattle.m36_bind.specs.Layout.{shape_of, first_bases, bases_behind};
-ghost use Rattle.m36_bind.specs.Components.{component, moving, names_of, component_named, object_named, picked_one, picked_line, picked_of, Picks, AreNear, AreFew};
+ghost use Rattle.m36_bind.specs.Components.{component, moving, names_of, component_named, picked_one, picked_line, picked_of, Picks, AreNear, AreFew};
 
 use crate::exports::{Exports, own_entries};
+use crate::given::Given;
 use crate::layout::{Bases, Moving, Shape, evened};
 use indexmap::IndexSet;
 use m36_bindfile::{BindFault, BindLine};
@@ -213,22 +214,6 @@ impl<'a> Components<'a> {
     }
 }
 
-// The place of a name.
-fn place_of(names: &[Name], name: &Name) -> Option<usize>
-    ensures { result ≡ position (same name.now) names.now }
-{
-    names.iter().position(|other| name == other)
-}
-
-// The object of a name among those that are given.
-#[tactic(auto, unfolding(crate::specs::Components::object_named))]
-fn object_named<'a>(names: &[Name], objects: &'a [Object], name: &Name) -> Option<&'a Object>
-    ensures { option_map (λ o. o.now) result ≡ object_named names.now objects.now name.now }
-{
-    let i = place_of(names, name)?;
-    objects.get(i)
-}
-
 // Adds an object that was found, with its name. The answer is where the next component begins.
 #[tactic(auto, using(crate::proofs::PickLaws::picking))]
 fn pick<'a>(
@@ -257,8 +242,7 @@ fn pick<'a>(
 #[tactic(auto, using(crate::proofs::PickLaws::pick_found))]
 fn pick_line<'a>(
     alloc: Global,
-    names: &[Name],
-    objects: &'a [Object],
+    given: &Given<'a>,
     all: &mut Components<'a>,
     next: Bases,
     n: u64,
@@ -266,11 +250,11 @@ fn pick_line<'a>(
 ) -> Result<Bases, BindFault>
     requires small { n < 2 ^ 32 }
     requires near { AreNear next n }
-    ensures answer { Picks all.new result (picked_line names.now objects.now (record { placed = all.old; next = next }) n line.now) }
+    ensures answer { Picks all.new result (picked_line given.now (record { placed = all.old; next = next }) n line.now) }
     ensures near { IfOk result (λ next. AreNear next (n + 1)) }
 {
     match line {
-        BindLine::Object(name) => match object_named(names, objects, name) {
+        BindLine::Object(name) => match given.find(name) {
             Some(object) => pick(alloc, all, next, n, name, object),
             None => Err(BindFault::B2(n as u32)),
         },
@@ -292,18 +276,17 @@ fn first_bases() -> Bases
 // The components that lines name, or the first of B2 and B3.
 pub(crate) fn picked<'a>(
     alloc: Global,
-    names: &[Name],
-    objects: &'a [Object],
+    given: &Given<'a>,
     lines: &'a [BindLine],
 ) -> Result<Components<'a>, BindFault>
     requires { length lines.now < 2 ^ 32 }
-    ensures { BindSays result (picked_of names.now objects.now lines.now) }
+    ensures { BindSays result (picked_of given.now lines.now) }
 {
     let mut all = Components::new(alloc);
     let mut next = first_bases();
     let mut n: u64 = 1;
     for line in lines {
-        match pick_line(alloc, names, objects, &mut all, next, n, line) {
+        match pick_line(alloc, given, &mut all, next, n, line) {
             Ok(behind) => next = behind,
             Err(fault) => return Err(fault),
         }

@@ -7,7 +7,7 @@ abbrev pub invariant-loop-line : goal.invariant-loop-line
 invariant-loop-line l =
     let so_far : AllFields = record { placed = l.all; next = l.next } in
     record {
-      told : picked_from l.names l.objects so_far l.n (drop l.line-index l.lines) ≡ picked_from l.names l.objects no_components 1 l.lines;
+      told : picked_from l.given so_far l.n (drop l.line-index l.lines) ≡ picked_from l.given no_components 1 l.lines;
       near : AreNear l.next l.n;
       count : l.n ≡ l.line-index + 1;
     }
