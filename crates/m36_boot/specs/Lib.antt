@@ -1,0 +1,5 @@
+pub mod PointFields
+pub mod Segments
+pub mod Start
+pub mod Refusals
+pub mod Image
