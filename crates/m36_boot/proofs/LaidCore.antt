@@ -1,26 +1,28 @@
 -- Core, word by word.
 use Rattle.std.proofs.Common.{ℕ, zero, suc, ◌≡◌, ◌≢◌, ◌+◌, ◌-◌, ◌*◌, ◌/◌, ◌%◌, ◌^◌, ◌<◌, ◌≤◌, ◌⊎◌, Bool, true, false, cond, List, [], ◌∷◌, ◌++◌, length, get_or, set, map, replicate, Option, Some, None, refl, sym, ap, subst, inl, inr, ◌∙◌, arith}
-use Rattle.std.specs.Prelude.{slice_get, nat_lt, option_map}
+use Rattle.std.specs.Prelude.{slice_get, nat_lt, option_map, IfSome}
 use Rattle.std.proofs.lemmas.Bool.{lt-ltb, le-ltb, ltb-true, ltb-false, cases_lt, cases_eq}
 use Rattle.std.proofs.lemmas.List.{length-replicate, get_or-replicate, get_or_past, get_or-set_same, get_or-set_other, length-set}
 use Rattle.std.proofs.lemmas.Option.{slice_get-map, slice_get_within}
 use Rattle.m36_desc.specs.Fields.{SdwFields}
+use Rattle.m36_desc.specs.Access.{in_order}
+use Rattle.m36_desc.specs.Descriptors.{sdw_of, sdw_even, sdw_odd}
 use Rattle.m36_model.specs.BootedCore.{table_at, wired_frames, descriptor_words, absent_ptw}
 use Rattle.m36_dir.specs.Catalog.{CatalogFields}
 use Rattle.m36_page.specs.declared.table.PageTable.{PageTable}
 use Rattle.m36_page.specs.Fields.{TableFields}
 use Rattle.m36_page.specs.Changes.{IsTableWord, AreAbsent}
 use Rattle.m36_page.specs.Given.{table_given}
-use Rattle.m36_boot.specs.PointFields.{PointFields}
+use Rattle.m36_link.specs.Fields.{LayFields}
 use Rattle.m36_boot.specs.Segments.{booted_sdw}
-use Rattle.m36_boot.specs.Image.{descriptor_word, pages_of, page_table_word, booted_word, booted_tables, AreDescribed}
+use Rattle.m36_boot.specs.Image.{descriptor_word, pages_of, page_table_word, booted_word, booted_tables, IsWhole, AreDescribed}
 use Rattle.m36_boot.proofs.Sizes.{AreFiles, live}
 use Rattle.m36_boot.proofs.ImageTables.{page_table, has_table, IsOf, table_is}
 
 -- ---- descriptors
 
 pub described_none : (catalog : CatalogFields) (files : List (List ℕ)) (core : List ℕ) → AreDescribed catalog files 0 core core
-described_none catalog files core = record { size = refl; written = λ a lt. absurd (omega arith); others = λ a le. refl }
+described_none catalog files core = record { size = refl; written = λ a lt. absurd (omega arith); others = λ a le. refl; whole = λ k d lt has. absurd (omega (arith, lt)) }
 
 -- the words after a pair was written
 pair_even : (core : List ℕ) (s e o : ℕ) → 2 * s + 1 < length core → get_or (set (set core (2 * s) e) (2 * s + 1) o) (2 * s) 0 ≡ e
@@ -38,22 +40,30 @@ pair_other core s e o a first second =
     get_or-set_other (set core (2 * s) e) (2 * s + 1) a o 0 second ∙ get_or-set_other core (2 * s) a e 0 first
 
 -- a word of the pair of a segment
-even_of : (catalog : CatalogFields) (files : List (List ℕ)) (s : ℕ) → descriptor_word ((2 * s) % 2) (booted_sdw catalog files ((2 * s) / 2)) ≡ descriptor_word 0 (booted_sdw catalog files s)
+pub even_of : (catalog : CatalogFields) (files : List (List ℕ)) (s : ℕ) → descriptor_word ((2 * s) % 2) (booted_sdw catalog files ((2 * s) / 2)) ≡ descriptor_word 0 (booted_sdw catalog files s)
 even_of catalog files s =
     let half : (2 * s) % 2 ≡ 0 = omega arith in
     let seg : (2 * s) / 2 ≡ s = omega arith in
     ap (λ h. descriptor_word h (booted_sdw catalog files ((2 * s) / 2))) half ∙ ap (λ k. descriptor_word 0 (booted_sdw catalog files k)) seg
 
-odd_of : (catalog : CatalogFields) (files : List (List ℕ)) (s : ℕ) → descriptor_word ((2 * s + 1) % 2) (booted_sdw catalog files ((2 * s + 1) / 2)) ≡ descriptor_word 1 (booted_sdw catalog files s)
+pub odd_of : (catalog : CatalogFields) (files : List (List ℕ)) (s : ℕ) → descriptor_word ((2 * s + 1) % 2) (booted_sdw catalog files ((2 * s + 1) / 2)) ≡ descriptor_word 1 (booted_sdw catalog files s)
 odd_of catalog files s =
     let half : (2 * s + 1) % 2 ≡ 1 = omega arith in
     let seg : (2 * s + 1) / 2 ≡ s = omega arith in
     ap (λ h. descriptor_word h (booted_sdw catalog files ((2 * s + 1) / 2))) half ∙ ap (λ k. descriptor_word 1 (booted_sdw catalog files k)) seg
 
+whole_by : (o : Option SdwFields) (d : SdwFields) → o ≡ Some d → IfSome o (λ x. in_order x ≡ true) → IfSome o (λ x. sdw_of (sdw_even x) (sdw_odd x) ≡ x)
+    → IsWhole d
+whole_by None d e ordered back = absurd (cc)
+whole_by (Some c) d e ordered back =
+    let P : SdwFields → Type 0 = λ x. IsWhole x in
+    subst P (let same : c ≡ d = cc in same) (record { back = back; ordered = ordered })
+
 pub described_more : (catalog : CatalogFields) (files : List (List ℕ)) (s e o : ℕ) (old mid new : List ℕ) (d : Option SdwFields) → 2 * s + 1 < length mid
     → AreDescribed catalog files s old mid → d ≡ booted_sdw catalog files s → e ≡ descriptor_word 0 d → o ≡ descriptor_word 1 d
+    → IfSome d (λ x. in_order x ≡ true) → IfSome d (λ x. sdw_of (sdw_even x) (sdw_odd x) ≡ x)
     → new ≡ set (set mid (2 * s) e) (2 * s + 1) o → AreDescribed catalog files (s + 1) old new
-described_more catalog files s e o old mid new d inside so_far is even odd put =
+described_more catalog files s e o old mid new d inside so_far is even odd ordered back put =
     let P : List ℕ → Type 0 = λ x. AreDescribed catalog files (s + 1) old x in
     let W : ℕ → Type 0 = λ a. get_or (set (set mid (2 * s) e) (2 * s + 1) o) a 0 ≡ descriptor_word (a % 2) (booted_sdw catalog files (a / 2)) in
     subst P (sym put) (record {
@@ -71,6 +81,11 @@ described_more catalog files s e o old mid new d inside so_far is even odd put =
                 ]
           ];
       others = λ a le. pair_other mid s e o a (omega (arith, le)) (omega (arith, le)) ∙ so_far.others a (omega (arith, le));
+      whole = λ k x lt has.
+          elim (cases_eq k s) [
+            | inl last ↦ whole_by d x (is ∙ ap (λ m. booted_sdw catalog files m) (sym last) ∙ has) ordered back
+            | inr before ↦ so_far.whole k x (omega (arith, lt, before)) has
+          ];
     })
 
 pub described_done : (catalog : CatalogFields) (files : List (List ℕ)) (s count : ℕ) (old new : List ℕ) → count ≤ s → s ≤ count
@@ -100,11 +115,11 @@ given_from : (o : Option PageTable) (t : TableFields) → option_map table_given
 given_from None t e = absurd (cc)
 given_from (Some u) t e = (u, refl, cc)
 
-word_of : (catalog : CatalogFields) (files : List (List ℕ)) (p : PointFields) (a : ℕ) → IsTableWord (map table_given (booted_tables catalog files p)) a
+word_of : (catalog : CatalogFields) (files : List (List ℕ)) (lay : Option LayFields) (a : ℕ) → IsTableWord (map table_given (booted_tables catalog files lay)) a
     → IsWordOf catalog files a
-word_of catalog files p a w =
-    let u = given_from (slice_get (booted_tables catalog files p) w.0) w.1 (sym (slice_get-map table_given (booted_tables catalog files p) w.0) ∙ w.2) in
-    let is = table_is catalog files p w.0 u.0 u.1 in
+word_of catalog files lay a w =
+    let u = given_from (slice_get (booted_tables catalog files lay) w.0) w.1 (sym (slice_get-map table_given (booted_tables catalog files lay) w.0) ∙ w.2) in
+    let is = table_is catalog files lay w.0 u.0 u.1 in
     let at : w.1.at ≡ table_at is.seg = sym (ap (λ (t : TableFields). t.at) u.2) ∙ ap (λ (t : PageTable). t.at) is.is in
     let pages : w.1.pages ≡ pages_of is.sdw = sym (ap (λ (t : TableFields). t.pages) u.2) ∙ ap (λ (t : PageTable). t.pages) is.is in
     let low = w.3 in
@@ -112,39 +127,39 @@ word_of catalog files p a w =
     record { seg = is.seg; sdw = is.sdw; has = is.has; low = omega (arith, at, low); high = omega (arith, at, pages, high) }
 
 -- What core is made of: zeros, the descriptors, and absent pages.
-pub record IsMade (catalog : CatalogFields) (files : List (List ℕ)) (p : PointFields) (n : ℕ) (core : List ℕ) : Type 0 where
+pub record IsMade (catalog : CatalogFields) (files : List (List ℕ)) (lay : Option LayFields) (n : ℕ) (core : List ℕ) : Type 0 where
   pub mid : List ℕ
   pub described : AreDescribed catalog files (64 + length catalog.segments) (replicate n 0) mid
-  pub absent : AreAbsent (map table_given (booted_tables catalog files p)) (length (map table_given (booted_tables catalog files p))) mid core
+  pub absent : AreAbsent (map table_given (booted_tables catalog files lay)) (length (map table_given (booted_tables catalog files lay))) mid core
 
-pub absent_at : (catalog : CatalogFields) (files : List (List ℕ)) (p : PointFields) (n k q : ℕ) (core : List ℕ) (d : SdwFields) → AreFiles catalog files
-    → IsMade catalog files p n core → booted_sdw catalog files k ≡ Some d → q < pages_of d → get_or core (table_at k + q) 0 ≡ absent_ptw
-absent_at catalog files p n k q core d are made e lt =
-    let has = has_table catalog files p k d are e in
-    let t = page_table catalog files p k d in
-    let at : slice_get (map table_given (booted_tables catalog files p)) has.0 ≡ Some (table_given t) =
-    slice_get-map table_given (booted_tables catalog files p) has.0 ∙ ap (λ o. option_map table_given o) has.1 in
-    made.absent.absent has.0 (table_given t) q (slice_get_within (map table_given (booted_tables catalog files p)) has.0 (table_given t) at) at lt
+pub absent_at : (catalog : CatalogFields) (files : List (List ℕ)) (lay : Option LayFields) (n k q : ℕ) (core : List ℕ) (d : SdwFields) → AreFiles catalog files
+    → IsMade catalog files lay n core → booted_sdw catalog files k ≡ Some d → q < pages_of d → get_or core (table_at k + q) 0 ≡ absent_ptw
+absent_at catalog files lay n k q core d are made e lt =
+    let has = has_table catalog files lay k d are e in
+    let t = page_table catalog files lay k d in
+    let at : slice_get (map table_given (booted_tables catalog files lay)) has.0 ≡ Some (table_given t) =
+    slice_get-map table_given (booted_tables catalog files lay) has.0 ∙ ap (λ o. option_map table_given o) has.1 in
+    made.absent.absent has.0 (table_given t) q (slice_get_within (map table_given (booted_tables catalog files lay)) has.0 (table_given t) at) at lt
 
 -- a word of no table, behind the descriptors
-zero_at : (catalog : CatalogFields) (files : List (List ℕ)) (p : PointFields) (n a : ℕ) (core : List ℕ) → IsMade catalog files p n core
+zero_at : (catalog : CatalogFields) (files : List (List ℕ)) (lay : Option LayFields) (n a : ℕ) (core : List ℕ) → IsMade catalog files lay n core
     → 2 * (64 + length catalog.segments) ≤ a → (IsWordOf catalog files a → ⊥) → get_or core a 0 ≡ 0
-zero_at catalog files p n a core made past out =
-    made.absent.others a (λ w. out (word_of catalog files p a w)) ∙ made.described.others a past ∙ zeros_at n a 0
+zero_at catalog files lay n a core made past out =
+    made.absent.others a (λ w. out (word_of catalog files lay a w)) ∙ made.described.others a past ∙ zeros_at n a 0
 
 dead_by : (catalog : CatalogFields) (files : List (List ℕ)) (o : Option SdwFields) (half seg : ℕ) → AreFiles catalog files → booted_sdw catalog files seg ≡ o
     → 64 + length catalog.segments ≤ seg → descriptor_word half o ≡ 0
 dead_by catalog files None half seg are e past = refl
 dead_by catalog files (Some d) half seg are e past = let last = (live catalog files seg d are e).last in absurd (omega (arith, last, past))
 
-descriptor_here : (catalog : CatalogFields) (files : List (List ℕ)) (p : PointFields) (n a : ℕ) (core : List ℕ) → AreFiles catalog files
-    → IsMade catalog files p n core → a < 2048 → get_or core a 0 ≡ descriptor_word (a % 2) (booted_sdw catalog files (a / 2))
-descriptor_here catalog files p n a core are made low =
+pub descriptor_here : (catalog : CatalogFields) (files : List (List ℕ)) (lay : Option LayFields) (n a : ℕ) (core : List ℕ) → AreFiles catalog files
+    → IsMade catalog files lay n core → a < 2048 → get_or core a 0 ≡ descriptor_word (a % 2) (booted_sdw catalog files (a / 2))
+descriptor_here catalog files lay n a core are made low =
     let out : IsWordOf catalog files a → ⊥ = λ w. let from = w.low in absurd (omega (arith, from, low)) in
     elim (cases_lt a (2 * (64 + length catalog.segments))) [
-      | inl written ↦ made.absent.others a (λ w. out (word_of catalog files p a w)) ∙ made.described.written a written
+      | inl written ↦ made.absent.others a (λ w. out (word_of catalog files lay a w)) ∙ made.described.written a written
       | inr past ↦
-          zero_at catalog files p n a core made past out
+          zero_at catalog files lay n a core made past out
           ∙ sym (dead_by catalog files (booted_sdw catalog files (a / 2)) (a % 2) (a / 2) are refl (omega (arith, past)))
     ]
 
@@ -154,23 +169,23 @@ some_same d e o f g = cc
 some_none : (d : SdwFields) (o : Option SdwFields) → o ≡ None → o ≡ Some d → ⊥
 some_none d o f g = absurd (cc)
 
-page_by : (catalog : CatalogFields) (files : List (List ℕ)) (p : PointFields) (n k q : ℕ) (core : List ℕ) (o : Option SdwFields) → AreFiles catalog files
-    → IsMade catalog files p n core → length catalog.segments ≤ 512 → q < 256 → booted_sdw catalog files k ≡ o
+page_by : (catalog : CatalogFields) (files : List (List ℕ)) (lay : Option LayFields) (n k q : ℕ) (core : List ℕ) (o : Option SdwFields) → AreFiles catalog files
+    → IsMade catalog files lay n core → length catalog.segments ≤ 512 → q < 256 → booted_sdw catalog files k ≡ o
     → get_or core (table_at k + q) 0 ≡ page_table_word q o
-page_by catalog files p n k q core None are made few lt e =
-    zero_at catalog files p n (table_at k + q) core made (omega (arith, few)) (λ w.
+page_by catalog files lay n k q core None are made few lt e =
+    zero_at catalog files lay n (table_at k + q) core made (omega (arith, few)) (λ w.
     let bound = (live catalog files w.seg w.sdw are w.has).bound in
     let low = w.low in
     let high = w.high in
     let same : w.seg ≡ k = omega (arith, bound, low, high, lt) in
     some_none w.sdw (booted_sdw catalog files k) e (ap (λ m. booted_sdw catalog files m) (sym same) ∙ w.has))
-page_by catalog files p n k q core (Some d) are made few lt e =
+page_by catalog files lay n k q core (Some d) are made few lt e =
     elim (cases_lt q (pages_of d)) [
       | inl inside ↦
-          absent_at catalog files p n k q core d are made e inside
+          absent_at catalog files lay n k q core d are made e inside
           ∙ ap (λ b. cond b absent_ptw 0) (sym (lt-ltb q (pages_of d) inside))
       | inr past ↦
-          zero_at catalog files p n (table_at k + q) core made (omega (arith, few)) (λ w.
+          zero_at catalog files lay n (table_at k + q) core made (omega (arith, few)) (λ w.
           let bound = (live catalog files w.seg w.sdw are w.has).bound in
           let low = w.low in
           let high = w.high in
@@ -181,18 +196,18 @@ page_by catalog files p n k q core (Some d) are made few lt e =
           ∙ ap (λ b. cond b absent_ptw 0) (sym (le-ltb q (pages_of d) past))
     ]
 
-page_here : (catalog : CatalogFields) (files : List (List ℕ)) (p : PointFields) (n a : ℕ) (core : List ℕ) → AreFiles catalog files
-    → IsMade catalog files p n core → length catalog.segments ≤ 512 → 2048 ≤ a
+page_here : (catalog : CatalogFields) (files : List (List ℕ)) (lay : Option LayFields) (n a : ℕ) (core : List ℕ) → AreFiles catalog files
+    → IsMade catalog files lay n core → length catalog.segments ≤ 512 → 2048 ≤ a
     → get_or core a 0 ≡ page_table_word ((a - 2048) % 256) (booted_sdw catalog files ((a - 2048) / 256))
-page_here catalog files p n a core are made few low =
+page_here catalog files lay n a core are made few low =
     let there : table_at ((a - 2048) / 256) + (a - 2048) % 256 ≡ a = omega (arith, low) in
     ap (λ m. get_or core m 0) (sym there)
-    ∙ page_by catalog files p n ((a - 2048) / 256) ((a - 2048) % 256) core (booted_sdw catalog files ((a - 2048) / 256)) are made few (omega arith) refl
+    ∙ page_by catalog files lay n ((a - 2048) / 256) ((a - 2048) % 256) core (booted_sdw catalog files ((a - 2048) / 256)) are made few (omega arith) refl
 
-frame_here : (catalog : CatalogFields) (files : List (List ℕ)) (p : PointFields) (n a : ℕ) (core : List ℕ) → AreFiles catalog files
-    → IsMade catalog files p n core → length catalog.segments ≤ 512 → 149504 ≤ a → get_or core a 0 ≡ 0
-frame_here catalog files p n a core are made few low =
-    zero_at catalog files p n a core made (omega (arith, few, low)) (λ w.
+frame_here : (catalog : CatalogFields) (files : List (List ℕ)) (lay : Option LayFields) (n a : ℕ) (core : List ℕ) → AreFiles catalog files
+    → IsMade catalog files lay n core → length catalog.segments ≤ 512 → 149504 ≤ a → get_or core a 0 ≡ 0
+frame_here catalog files lay n a core are made few low =
+    zero_at catalog files lay n a core made (omega (arith, few, low)) (λ w.
     let l = live catalog files w.seg w.sdw are w.has in
     let bound = l.bound in
     let last = l.last in
@@ -205,14 +220,14 @@ chosen true c x y z v first second third = first refl
 chosen false true x y z v first second third = second refl refl
 chosen false false x y z v first second third = third refl refl
 
-pub word_here : (catalog : CatalogFields) (files : List (List ℕ)) (p : PointFields) (n a : ℕ) (core : List ℕ) → AreFiles catalog files
-    → IsMade catalog files p n core → length catalog.segments ≤ 512 → get_or core a 0 ≡ booted_word catalog files a
+pub word_here : (catalog : CatalogFields) (files : List (List ℕ)) (lay : Option LayFields) (n a : ℕ) (core : List ℕ) → AreFiles catalog files
+    → IsMade catalog files lay n core → length catalog.segments ≤ 512 → get_or core a 0 ≡ booted_word catalog files a
 unfolding booted_word
-word_here catalog files p n a core are made few =
+word_here catalog files lay n a core are made few =
     chosen (nat_lt a descriptor_words) (nat_lt a (1024 * wired_frames)) _ _ 0 (get_or core a 0)
-    (λ b. descriptor_here catalog files p n a core are made (ltb-true a descriptor_words b))
-    (λ b c. page_here catalog files p n a core are made few (ltb-false a descriptor_words b))
-    (λ b c. frame_here catalog files p n a core are made few (ltb-false a (1024 * wired_frames) c))
+    (λ b. descriptor_here catalog files lay n a core are made (ltb-true a descriptor_words b))
+    (λ b c. page_here catalog files lay n a core are made few (ltb-false a descriptor_words b))
+    (λ b c. frame_here catalog files lay n a core are made few (ltb-false a (1024 * wired_frames) c))
 
-pub size_of : (catalog : CatalogFields) (files : List (List ℕ)) (p : PointFields) (n : ℕ) (core : List ℕ) → IsMade catalog files p n core → length core ≡ n
-size_of catalog files p n core made = let nought : ℕ = 0 in made.absent.size ∙ made.described.size ∙ length-replicate n nought
+pub size_of : (catalog : CatalogFields) (files : List (List ℕ)) (lay : Option LayFields) (n : ℕ) (core : List ℕ) → IsMade catalog files lay n core → length core ≡ n
+size_of catalog files lay n core made = let nought : ℕ = 0 in made.absent.size ∙ made.described.size ∙ length-replicate n nought

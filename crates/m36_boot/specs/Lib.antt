@@ -1,4 +1,3 @@
-pub mod PointFields
 pub mod Segments
 pub mod Start
 pub mod Refusals

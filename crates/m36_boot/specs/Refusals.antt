@@ -1,6 +1,6 @@
 -- Whether a catalog and its files are booted, or the first code that says why not: U1, then U4 and
 -- U2 of the gates in the order of the catalog, and then U3 and U4 of the start.
-use Rattle.std.specs.Prelude.{ℕ, zero, suc, ◌≡◌, ◌+◌, ◌^◌, ◌<◌, ◌&&◌, nat_lt, nat_le, if◌then◌else◌, List}
+use Rattle.std.specs.Prelude.{ℕ, zero, suc, ◌≡◌, ◌+◌, ◌^◌, ◌<◌, Bool, true, false, not, ◌&&◌, nat_lt, nat_le, if◌then◌else◌, List}
 use Rattle.std.specs.Prelude.{length, slice_get, slice_index, Option, Some, None, Result, Ok, Err}
 use Rattle.m36_dir.specs.Fields.{SegmentFields}
 use Rattle.m36_dir.specs.Catalog.{CatalogFields}
@@ -8,9 +8,12 @@ use Rattle.obj36_parts.specs.PartsFields.{PartsFields}
 use Rattle.obj36.specs.ObjectOf.{value_of}
 use Rattle.m36_boot.specs.declared.fault.BootFault.{BootFault}
 use Rattle.m36_boot.specs.declared.fault.BootFault.TheVariants as fault
-use Rattle.m36_boot.specs.PointFields.{PointFields}
+use Rattle.m36_link.specs.Fields.{SnapFields}
+use Rattle.m36_link.specs.Known.{segment_of, object_in}
+use Rattle.m36_link.specs.Landing.{is_plain}
+use Rattle.m36_link.specs.Snap.{RefusedFields}
 use Rattle.m36_boot.specs.Segments.{file_at, is_gate, entry_bound_of, limit_of}
-use Rattle.m36_boot.specs.Start.{Answer, start_point}
+use Rattle.m36_boot.specs.Start.{start_answer, start_segment, may_start}
 
 -- an instruction that is tried again finds a frame that it does not refer to
 abbrev pub least_frames : ℕ
@@ -46,6 +49,31 @@ first_gate_fault catalog files i (suc n) =
     or_later (gate_fault_of (64 + i) (slice_get catalog.segments i) (file_at files i))
     (first_gate_fault catalog files (i + 1) n)
 
+-- ---- the start: where it is not found, where it is no object, and what else forbids it
+
+abbrev pub Answer : Type 0
+Answer = Result SnapFields BootFault
+
+-- an object or a gate, whose file is an object
+abbrev pub is_object : Option SegmentFields → Option PartsFields → Bool
+is_object (Some s) (Some o) = not (is_plain s.kind)
+is_object _ _ = false
+
+abbrev pub answer_if : Bool → Result SnapFields RefusedFields → Answer
+answer_if true (Ok s) = Ok s
+answer_if true (Err why) = Err fault.U3
+answer_if false answer = Err fault.U3
+
+abbrev pub start_in : CatalogFields → List (List ℕ) → Option ℕ → Answer
+start_in catalog files None = Err fault.U3
+start_in catalog files (Some seg) =
+    if is_object (segment_of catalog seg) (object_in files seg) then
+    answer_if (may_start catalog.start.ring (segment_of catalog seg)) (start_answer catalog files)
+    else Err (fault.U4 seg)
+
+unfoldable pub start_of : CatalogFields → List (List ℕ) → Answer
+start_of catalog files = start_in catalog files (start_segment catalog)
+
 -- ---- all
 
 abbrev pub unless : Option BootFault → Answer → Answer
@@ -56,7 +84,7 @@ unfoldable pub boot_answer : CatalogFields → List (List ℕ) → Answer
 boot_answer catalog files =
     if nat_lt catalog.frames least_frames then Err fault.U1
     else unless (first_gate_fault catalog files 0 (length catalog.segments))
-    (start_point catalog files)
+    (start_of catalog files)
 
 -- ---- what is answered, where want of memory may come at any time
 
@@ -64,8 +92,8 @@ abbrev pub Told : BootFault → Answer → Type 0
 Told fault.NoMemory answer = Unit {0}
 Told told answer = answer ≡ Err told
 
-abbrev pub StartSays : Result PointFields BootFault → Answer → Type 0
-StartSays (Ok p) answer = answer ≡ Ok p
+abbrev pub StartSays : Result SnapFields BootFault → Answer → Type 0
+StartSays (Ok s) answer = answer ≡ Ok s
 StartSays (Err told) answer = Told told answer
 
 abbrev pub ToldOfGates : BootFault → Option BootFault → Type 0

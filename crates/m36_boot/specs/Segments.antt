@@ -12,14 +12,12 @@ use Rattle.m36_dir.specs.Fields.{SegmentFields}
 use Rattle.m36_dir.specs.Catalog.{CatalogFields}
 use Rattle.obj36_parts.specs.PartsFields.{PartsFields}
 use Rattle.obj36.specs.ObjectOf.{value_of}
-use Rattle.m36_boot.specs.PointFields.{PointFields}
+use Rattle.m36_link.specs.Fields.{LayFields}
+use Rattle.m36_link.specs.Known.{linkage_segment, lot_words, lot_word}
 
 -- Stacks are segments 8 to 15, linkage segments 16 to 23, and those of the catalog 64 and on.
 abbrev pub stack_segment : ℕ → ℕ
 stack_segment ring = 8 + ring
-
-abbrev pub linkage_segment : ℕ → ℕ
-linkage_segment ring = 16 + ring
 
 abbrev pub stack_pages : ℕ
 stack_pages = 16
@@ -121,22 +119,21 @@ unfoldable pub stack_words : ℕ → List ℕ
 stack_words ring =
     replicate 22 0 ++ (linkage_segment ring * 2 ^ 18 + ring * 2 ^ 15 + its_tag) ∷ 0 ∷ []
 
--- Linkage sections are laid behind the LOT, which has a word for each segment.
-abbrev pub lot_words : ℕ
-lot_words = 1024
+-- the LOT in which one section is laid
+abbrev pub lot_of : LayFields → List ℕ
+lot_of l = replicate l.seg 0 ++ lot_word l ∷ replicate (lot_words - 1 - l.seg) 0
 
--- the LOT in which one section is laid: a packed pointer to it
-abbrev pub lot_of : ℕ → ℕ → List ℕ
-lot_of ring seg =
-    replicate seg 0 ++ (linkage_segment ring * 2 ^ 18 + lot_words) ∷ replicate (lot_words - 1 - seg) 0
+-- The words of the linkage segment of a ring: in that of the start the section of its segment is
+-- laid, behind the LOT.
+abbrev pub linkage_by : ℕ → Option LayFields → List ℕ
+linkage_by ring None = []
+linkage_by ring (Some l) = if nat_eq ring l.ring then lot_of l ++ l.words else []
 
--- the words of the linkage segment of a ring: in that of the start the section of its segment is laid
-unfoldable pub linkage_words : ℕ → PointFields → ℕ → List ℕ
-linkage_words start p ring =
-    if nat_eq ring start then lot_of ring p.target ++ p.section else []
+unfoldable pub linkage_words : Option LayFields → ℕ → List ℕ
+linkage_words lay ring = linkage_by ring lay
 
-unfoldable pub booted_words : CatalogFields → List (List ℕ) → PointFields → ℕ → List ℕ
-booted_words catalog files p seg =
+unfoldable pub booted_words : List (List ℕ) → Option LayFields → ℕ → List ℕ
+booted_words files lay seg =
     if nat_lt seg 16 then stack_words (seg - 8)
-    else if nat_lt seg 24 then linkage_words catalog.start.ring p (seg - 16)
+    else if nat_lt seg 24 then linkage_words lay (seg - 16)
     else file_at files (seg - 64)

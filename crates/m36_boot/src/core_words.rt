@@ -1,7 +1,7 @@
 //! The descriptor segment of the image.
 
-ghost use Rattle.std.specs.Prelude.{ℕ, ◌≡◌, ◌+◌, ◌*◌, ◌≤◌, ◌<◌, ◌^◌, length, All, replicate, slice_set};
-ghost use Rattle.m36_boot.specs.Segments.{booted_sdw};
+ghost use Rattle.std.specs.Prelude.{ℕ, ◌≡◌, ◌+◌, ◌*◌, ◌≤◌, ◌<◌, ◌^◌, length, All, IfSome, slice_set};
+ghost use Rattle.m36_desc.specs.Descriptors.{sdw_of, sdw_even, sdw_odd};
 ghost use Rattle.m36_boot.specs.Refusals.{AreLimits};
 ghost use Rattle.m36_boot.specs.Image.{descriptor_word, AreDescribed};
 
@@ -10,12 +10,14 @@ use crate::segments::descriptor;
 use m36_core::Core;
 use m36_desc::Sdw;
 use m36_dir::Catalog;
-use m36_word::{Pair, Word, Words};
+use m36_link::File;
+use m36_word::{Pair, Word};
 
 // The pair of words of a descriptor; zeros for that of no segment.
 fn pair_of(sdw: Option<Sdw>) -> Pair
     ensures even { result.even ≡ descriptor_word 0 sdw }
     ensures odd { result.odd ≡ descriptor_word 1 sdw }
+    ensures back { IfSome sdw (λ d. sdw_of (sdw_even d) (sdw_odd d) ≡ d) }
 {
     match sdw {
         Some(sdw) => sdw.to_words(),
@@ -37,7 +39,7 @@ fn put_pair(core: &mut Core, seg: u16, pair: Pair)
 }
 
 /// Writes the descriptors of all segments into core that is zero.
-pub(crate) fn put_descriptors(core: &mut Core, catalog: &Catalog, files: &[Words], limits: &[u16])
+pub(crate) fn put_descriptors(core: &mut Core, catalog: &Catalog, files: &[File], limits: &[u16])
     requires files { length files.now ≡ length catalog.now.segments }
     requires short { All (λ w. length w ≤ 2 ^ 18) files.now }
     requires limits { AreLimits catalog.now files.now (length catalog.now.segments) limits.now }

@@ -6,7 +6,8 @@ ghost use Rattle.m36_boot.specs.Refusals.{GateSays, LimitSays, AreLimits, ToldOf
 use crate::fault::BootFault;
 use crate::objects::{file, object_of};
 use m36_dir::{Catalog, SegKind, Segment};
-use m36_word::{NoMemory, Word, Words};
+use m36_link::File;
+use m36_word::NoMemory;
 use std::alloc::Global;
 
 // The greatest number that the call limiter of a descriptor holds.
@@ -25,11 +26,10 @@ fn is_limit(bound: u32) -> bool
 
 // The call limiter of a gate: the entry bound of its object.
 #[tactic(auto, using(crate::proofs::LimitLoops::gates))]
-fn gate_limit(alloc: Global, seg: u16, words: &[Word]) -> Result<u16, BootFault>
-    requires { length words.now ≤ 2 ^ 18 }
-    ensures { GateSays seg words.now result }
+fn gate_limit(seg: u16, file: &File) -> Result<u16, BootFault>
+    ensures { GateSays seg file.now result }
 {
-    let Some(object) = object_of(alloc, words)? else {
+    let Some(object) = object_of(file) else {
         return Err(BootFault::U4(seg));
     };
     let bound = object.entry_bound();
@@ -41,12 +41,11 @@ fn gate_limit(alloc: Global, seg: u16, words: &[Word]) -> Result<u16, BootFault>
 
 // The call limiter of a segment.
 #[tactic(auto, unfolding(crate::specs::Refusals::gate_fault, crate::specs::Segments::limit_of))]
-fn limit(alloc: Global, seg: u16, segment: &Segment, words: &[Word]) -> Result<u16, BootFault>
-    requires { length words.now ≤ 2 ^ 18 }
-    ensures { LimitSays seg segment.now words.now result }
+fn limit(seg: u16, segment: &Segment, file: &File) -> Result<u16, BootFault>
+    ensures { LimitSays seg segment.now file.now result }
 {
     match segment.kind {
-        SegKind::Gate => gate_limit(alloc, seg, words),
+        SegKind::Gate => gate_limit(seg, file),
         _ => Ok(0),
     }
 }
@@ -62,7 +61,7 @@ fn add(limits: &mut Vec<u16>, limit: u16) -> Result<(), NoMemory>
 pub(crate) fn limits_of(
     alloc: Global,
     catalog: &Catalog,
-    files: &[Words],
+    files: &[File],
 ) -> Result<Vec<u16>, BootFault>
     requires files { length files.now ≡ length catalog.now.segments }
     requires short { All (λ w. length w ≤ 2 ^ 18) files.now }
@@ -73,9 +72,8 @@ pub(crate) fn limits_of(
     let count = catalog.count();
     let mut limits = Vec::new(alloc);
     for i in 0..count {
-        let words = file(files, i).slice();
         let seg = FIRST_SEGMENT + i as u16;
-        match limit(alloc, seg, catalog.segment(i), words) {
+        match limit(seg, catalog.segment(i), file(files, i)) {
             Ok(limit) => add(&mut limits, limit)?,
             Err(fault) => return Err(fault),
         }

@@ -1,15 +1,16 @@
 //! The descriptors and the words of segments.
 
-ghost use Rattle.std.specs.Prelude.{ℕ, ◌≡◌, ◌+◌, ◌*◌, ◌/◌, ◌<◌, ◌≤◌, ◌^◌, ◌++◌, ◌⊎◌, length, replicate, All, OnOk, IfOk, IfSome};
+ghost use Rattle.std.specs.Prelude.{ℕ, ◌≡◌, ◌+◌, ◌*◌, ◌/◌, ◌<◌, ◌≤◌, ◌^◌, ◌++◌, ◌⊎◌, length, replicate, All, OnOk, IfOk, IfSome, true};
+ghost use Rattle.m36_desc.specs.Access.{in_order};
 ghost use Rattle.m36_model.specs.BootedCore.{table_at};
 ghost use Rattle.m36_boot.specs.Segments.{paged_segment, ring_segment, limited_segment, booted_sdw, stack_words, lot_of, linkage_words, booted_words};
 ghost use Rattle.m36_boot.specs.Refusals.{AreLimits};
 
 use crate::limits::FIRST_SEGMENT;
 use crate::objects::file;
-use crate::start::Point;
 use m36_desc::Sdw;
 use m36_dir::{Catalog, SegKind, Segment};
+use m36_link::{File, Lay};
 use m36_word::{NoMemory, Word, Words};
 use obj36_parts::sections::push_all;
 use std::alloc::Global;
@@ -23,8 +24,8 @@ pub(crate) const FIRST_LINKAGE: u16 = 16;
 // Behind the linkage segments.
 const BEHIND_RINGS: u16 = 24;
 
-/// Words in the LOT.
-pub(crate) const LOT_WORDS: u32 = 1024;
+// Words in the LOT.
+const LOT_WORDS: usize = 1024;
 
 // The place of the page table of a segment.
 pub(crate) fn table_at(seg: u16) -> u32
@@ -62,12 +63,14 @@ fn paged_segment(seg: u16, last: u16) -> Sdw
 }
 
 // A stack or a linkage segment.
+#[tactic(auto, using(crate::proofs::Orders::in_order_by))]
 fn ring_segment(seg: u16, ring: u8, pages: u16) -> Sdw
     requires seg { seg < 576 }
     requires ring { ring < 8 }
     requires some { 1 ≤ pages }
     requires most { pages ≤ 256 }
-    ensures { result ≡ ring_segment seg ring pages }
+    ensures value { result ≡ ring_segment seg ring pages }
+    ensures ordered { in_order result ≡ true }
 {
     let mut sdw = paged_segment(seg, 64 * pages - 1);
     sdw.r1 = ring;
@@ -79,11 +82,15 @@ fn ring_segment(seg: u16, ring: u8, pages: u16) -> Sdw
 }
 
 // A segment of the catalog.
+#[tactic(auto, using(crate::proofs::Orders::in_order_by))]
 fn limited_segment(seg: u16, segment: &Segment, words: &[Word], limit: u16) -> Sdw
     requires seg { seg < 576 }
     requires words { length words.now ≤ 2 ^ 18 }
     requires limit { limit < 2 ^ 14 }
-    ensures { result ≡ limited_segment seg segment.now words.now limit }
+    requires read_bracket { segment.now.r1 ≤ segment.now.r2 }
+    requires call_bracket { segment.now.r2 ≤ segment.now.r3 }
+    ensures value { result ≡ limited_segment seg segment.now words.now limit }
+    ensures ordered { in_order result ≡ true }
 {
     let mut sdw = paged_segment(seg, (words.len().saturating_sub(1) / 16) as u16);
     sdw.r1 = segment.r1;
@@ -100,17 +107,13 @@ fn limited_segment(seg: u16, segment: &Segment, words: &[Word], limit: u16) -> S
 
 /// The descriptor of a segment; None where the image has no such segment.
 #[tactic(auto, unfolding(crate::specs::Segments::booted_sdw))]
-pub(crate) fn descriptor(
-    catalog: &Catalog,
-    files: &[Words],
-    limits: &[u16],
-    seg: u16,
-) -> Option<Sdw>
+pub(crate) fn descriptor(catalog: &Catalog, files: &[File], limits: &[u16], seg: u16) -> Option<Sdw>
     requires files { length files.now ≡ length catalog.now.segments }
     requires short { All (λ w. length w ≤ 2 ^ 18) files.now }
     requires limits { AreLimits catalog.now files.now (length catalog.now.segments) limits.now }
     requires seg { seg < 64 + length catalog.now.segments }
-    ensures { result ≡ booted_sdw catalog.now files.now seg }
+    ensures value { result ≡ booted_sdw catalog.now files.now seg }
+    ensures ordered { IfSome result (λ d. in_order d ≡ true) }
 {
     let _ = catalog.count();
     if seg < FIRST_STACK {
@@ -123,7 +126,7 @@ pub(crate) fn descriptor(
         None
     } else {
         let i = (seg - FIRST_SEGMENT) as usize;
-        let words = file(files, i).slice();
+        let words = file(files, i).words();
         Some(limited_segment(seg, catalog.segment(i), words, limits[i]))
     }
 }
@@ -166,30 +169,29 @@ fn stack_words(alloc: Global, ring: u8) -> Result<Words, NoMemory>
 }
 
 // The LOT of a ring in which one section is laid.
-fn lot_of(alloc: Global, ring: u8, seg: u16) -> Result<Words, NoMemory>
-    requires ring { ring < 8 }
-    requires seg { seg < 576 }
-    ensures { IfOk result (λ words. words ≡ lot_of ring seg) }
+fn lot_of(alloc: Global, lay: &Lay) -> Result<Words, NoMemory>
+    ensures { IfOk result (λ words. words ≡ lot_of lay.now) }
 {
     let mut words = Words::new(alloc);
-    push_zeros(&mut words, seg as usize)?;
-    words.push(joined(FIRST_LINKAGE as u32 + ring as u32, LOT_WORDS))?;
-    push_zeros(&mut words, LOT_WORDS as usize - 1 - seg as usize)?;
+    push_zeros(&mut words, lay.seg as usize)?;
+    words.push(lay.lot_word())?;
+    push_zeros(&mut words, (LOT_WORDS - 1).saturating_sub(lay.seg as usize))?;
     Ok(words)
 }
 
 // The words of a linkage segment.
 #[tactic(auto, unfolding(crate::specs::Segments::linkage_words))]
-fn linkage_words(alloc: Global, start: u8, point: &Point, ring: u8) -> Result<Words, NoMemory>
-    requires start { start < 8 }
-    ensures { IfOk result (λ words. words ≡ linkage_words start point.now ring) }
+fn linkage_words(alloc: Global, lay: &Option<Lay>, ring: u8) -> Result<Words, NoMemory>
+    ensures { IfOk result (λ words. words ≡ linkage_words lay.now ring) }
 {
-    if ring != start {
-        return Ok(Words::new(alloc));
+    match lay {
+        Some(lay) if ring == lay.ring => {
+            let mut words = lot_of(alloc, lay)?;
+            push_all(&mut words, lay.words.slice())?;
+            Ok(words)
+        }
+        _ => Ok(Words::new(alloc)),
     }
-    let mut words = lot_of(alloc, ring, point.target)?;
-    push_all(&mut words, point.section.slice())?;
-    Ok(words)
 }
 
 fn copied(alloc: Global, words: &[Word]) -> Result<Words, NoMemory>
@@ -200,28 +202,25 @@ fn copied(alloc: Global, words: &[Word]) -> Result<Words, NoMemory>
     Ok(copy)
 }
 
-/// The words of a segment of the image.
+/// The words of a segment of the image, in which a section is laid.
 #[tactic(auto, unfolding(crate::specs::Segments::booted_words))]
 pub(crate) fn words_of(
     alloc: Global,
-    catalog: &Catalog,
-    files: &[Words],
-    point: &Point,
+    files: &[File],
+    lay: &Option<Lay>,
     seg: u16,
 ) -> Result<Words, NoMemory>
-    requires files { length files.now ≡ length catalog.now.segments }
     requires short { All (λ w. length w ≤ 2 ^ 18) files.now }
-    requires seg { seg < 64 + length catalog.now.segments }
+    requires seg { seg < 64 + length files.now }
     requires rings { 8 ≤ seg }
     requires given { (seg < 24) ⊎ (64 ≤ seg) }
-    ensures { IfOk result (λ words. words ≡ booted_words catalog.now files.now point.now seg) }
+    ensures { IfOk result (λ words. words ≡ booted_words files.now lay.now seg) }
 {
     if seg < FIRST_LINKAGE {
         stack_words(alloc, (seg - FIRST_STACK) as u8)
     } else if seg < BEHIND_RINGS {
-        let start = catalog.start();
-        linkage_words(alloc, start.ring, point, (seg - FIRST_LINKAGE) as u8)
+        linkage_words(alloc, lay, (seg - FIRST_LINKAGE) as u8)
     } else {
-        copied(alloc, file(files, (seg - FIRST_SEGMENT) as usize).slice())
+        copied(alloc, file(files, (seg - FIRST_SEGMENT) as usize).words())
     }
 }

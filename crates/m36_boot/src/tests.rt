@@ -4,6 +4,7 @@ ghost use Rattle.m36_page.specs.Residence.{HasFrames, Reads};
 
 use crate::{BootFault, Image, are_short, lay};
 use m36_dir::Catalog;
+use m36_link::File;
 use m36_outside::Text;
 use m36_word::{NoMemory, Word, Words};
 use std::alloc::Global;
@@ -104,18 +105,13 @@ fn laid(alloc: Global, lines: &[&str], second: &[u64]) -> Result<Image, BootFaul
     let Ok(catalog) = Catalog::read(alloc, bytes) else {
         return Err(BootFault::NoMemory);
     };
-    let mut files = Vec::new(alloc);
-    add(&mut files, words_of(alloc, &CALLER)?)?;
-    add(&mut files, words_of(alloc, second)?)?;
-    if files.len() != catalog.count() || !are_short(&files) {
+    let words = [words_of(alloc, &CALLER)?, words_of(alloc, second)?];
+    if catalog.count() != 2 || !are_short(&words) {
         return Err(BootFault::NoMemory);
     }
+    let [first, second] = words;
+    let files = [File::read(alloc, first)?, File::read(alloc, second)?];
     lay(alloc, &catalog, &files)
-}
-
-fn add(files: &mut Vec<Words>, words: Words) -> Result<(), NoMemory> {
-    files.push(words)?;
-    Ok(())
 }
 
 // Why a boot text with these lines is not booted.
@@ -288,6 +284,6 @@ fn words_of_an_image(rt: HostRuntime) -> Result<(), Fail> {
     assert_eq!(rt; (regs.pr[4].seg, regs.pr[4].word), (20, 1024));
     assert_eq!(rt; (regs.pr[6].seg, regs.pr[6].word), (12, 64));
     assert_eq!(rt; (regs.pr[0].seg, regs.pr[0].ring), (0, 4));
-    assert_eq!(rt; (image.start, image.section), (64, 14));
+    assert_eq!(rt; image.snap.target, 64);
     Ok(())
 }

@@ -125,6 +125,18 @@ const Q: [u64; 23] = [
     0o000020000000,
 ];
 
+/// The map of the long file: its symbol section is at word 261,115, and the map at 261,116.
+const MAP: [u64; 8] = [
+    0o000000000002,
+    0o000000000002,
+    0o000002000005,
+    0o000007000010,
+    0o000017775754,
+    0o775773000001,
+    0o000000000000,
+    0o775774000000,
+];
+
 /// Words that are no object.
 const TWO: [u64; 2] = [1, 2];
 
@@ -142,51 +154,66 @@ const PAIRS: [(u32, u64, u64); 7] = [
     (0o2022, 0o000101400043, 0o000001000000),
 ];
 
-/// The line of q, whether its file is no object, the place and its ring, and the code.
-const REFUSED: [(&[u8], bool, u32, u8, LinkCode); 11] = [
-    (OWN, false, 0o2011, 4, LinkCode::L1),
-    (OWN, false, 0o2026, 4, LinkCode::L1),
-    (OWN, false, 0o2010, 5, LinkCode::L1),
+/// What the file of q is.
+#[derive(Clone, Copy)]
+enum Kind {
+    /// As above.
+    Small,
+    /// No object.
+    Plain,
+    /// Version 2, with so many static words that its section and that of m do not both find room.
+    Long,
+}
+
+/// How many static words the long file has: with 8 words of its linkage section 261,108 are laid, behind word 1,052.
+const STATICS: usize = 261_100;
+
+/// The line of q, what its file is, the place and its ring, and the code.
+const REFUSED: [(&[u8], Kind, u32, u8, LinkCode); 12] = [
+    (OWN, Kind::Small, 0o2011, 4, LinkCode::L1),
+    (OWN, Kind::Small, 0o2026, 4, LinkCode::L1),
+    (OWN, Kind::Small, 0o2010, 5, LinkCode::L1),
     (
         b"segment b q q object re 4 4 4\n",
-        false,
+        Kind::Small,
         0o2022,
         4,
         LinkCode::L2,
     ),
-    (OWN, false, 0o2024, 4, LinkCode::L3),
+    (OWN, Kind::Small, 0o2024, 4, LinkCode::L3),
     (
         b"segment a q q data re 4 4 4\n",
-        false,
+        Kind::Small,
         0o2022,
         4,
         LinkCode::L3,
     ),
     (
         b"segment a q q object re 0 0 3\n",
-        false,
+        Kind::Small,
         0o2022,
         4,
         LinkCode::L4,
     ),
     (
         b"segment a q q data rw 3 3 5\n",
-        false,
+        Kind::Small,
         0o2022,
         4,
         LinkCode::L4,
     ),
-    (OWN, true, 0o2022, 4, LinkCode::L5(1)),
+    (OWN, Kind::Plain, 0o2022, 4, LinkCode::L5(1)),
+    (OWN, Kind::Long, 0o2022, 4, LinkCode::L6(1052, 261_108)),
     (
         b"segment a q q object r 0 3 5\n",
-        true,
+        Kind::Plain,
         0o2022,
         4,
         LinkCode::L4,
     ),
     (
         b"segment a q q object re 0 3 5\n",
-        true,
+        Kind::Plain,
         0o2024,
         4,
         LinkCode::L5(1),
@@ -198,35 +225,73 @@ fn words_of_m() -> &'static [u64] {
     &M
 }
 
-fn words_of_q(is_none: bool) -> &'static [u64] {
-    if is_none { &TWO } else { &Q }
+fn words_of_q() -> &'static [u64] {
+    &Q
+}
+
+fn map_of_long() -> &'static [u64] {
+    &MAP
+}
+
+fn no_object() -> &'static [u64] {
+    &TWO
 }
 
 fn pairs() -> &'static [(u32, u64, u64)] {
     &PAIRS
 }
 
-fn refused() -> &'static [(&'static [u8], bool, u32, u8, LinkCode)] {
+fn refused() -> &'static [(&'static [u8], Kind, u32, u8, LinkCode)] {
     &REFUSED
 }
 
-fn file(alloc: Global, table: &[u64]) -> Result<File, NoMemory> {
-    let mut words = Words::new(alloc);
+fn push_all(words: &mut Words, table: &[u64]) -> Result<(), NoMemory> {
     for word in table {
         words.push(Word::low(*word))?;
     }
-    if words.slice().len() > 100 {
+    Ok(())
+}
+
+fn read(alloc: Global, words: Words) -> Result<File, NoMemory> {
+    if words.slice().len() > 300_000 {
         return Err(NoMemory);
     }
     File::read(alloc, words)
 }
 
+fn file(alloc: Global, table: &[u64]) -> Result<File, NoMemory> {
+    let mut words = Words::new(alloc);
+    push_all(&mut words, table)?;
+    read(alloc, words)
+}
+
+// The text, the definitions and the linkage section of q, zeros, and the map of version 2.
+fn long_file(alloc: Global) -> Result<File, NoMemory> {
+    let mut words = Words::new(alloc);
+    for word in words_of_q().iter().take(15) {
+        words.push(Word::low(*word))?;
+    }
+    for _ in 0..STATICS + 1 {
+        words.push(Word::ZERO)?;
+    }
+    push_all(&mut words, map_of_long())?;
+    read(alloc, words)
+}
+
+fn file_of_q(alloc: Global, kind: Kind) -> Result<File, NoMemory> {
+    match kind {
+        Kind::Small => file(alloc, words_of_q()),
+        Kind::Plain => file(alloc, no_object()),
+        Kind::Long => long_file(alloc),
+    }
+}
+
 // The files of m, q and d.
-fn files(alloc: Global, is_none: bool) -> Result<Vec<File>, Fail> {
+fn files(alloc: Global, kind: Kind) -> Result<Vec<File>, Fail> {
     let mut files = Vec::new(alloc);
     files.push(file(alloc, words_of_m())?)?;
-    files.push(file(alloc, words_of_q(is_none))?)?;
-    files.push(file(alloc, words_of_q(true))?)?;
+    files.push(file_of_q(alloc, kind)?)?;
+    files.push(file(alloc, no_object())?)?;
     Ok(files)
 }
 
@@ -283,23 +348,16 @@ fn pair_of(snap: &Snap) -> (u64, u64) {
     (pair.even.value(), pair.odd.value())
 }
 
-fn lot_word_of(snap: &Snap) -> Option<u64> {
-    match &snap.lay {
-        Some(lay) => Some(lay.lot_word().value()),
-        None => None,
-    }
-}
-
 // The code with which a link is refused, once m is started.
 fn code_of(
     alloc: Global,
     line: &[u8],
-    is_none: bool,
+    kind: Kind,
     word: u32,
     ring: u8,
 ) -> Result<Option<LinkCode>, Fail> {
     let catalog = catalog(alloc, line)?;
-    let files = files(alloc, is_none)?;
+    let files = files(alloc, kind)?;
     let known = started(alloc, &catalog, &files)?;
     let at = At {
         word: word % 0o10000,
@@ -316,7 +374,7 @@ fn code_of(
 fn links_lead_to_their_words(rt: HostRuntime) -> Result<(), Fail> {
     let alloc = rt.alloc();
     let catalog = catalog(alloc, OWN)?;
-    let files = files(alloc, false)?;
+    let files = files(alloc, Kind::Small)?;
     let mut known = started(alloc, &catalog, &files)?;
     for (word, even, odd) in pairs() {
         let snap = served(alloc, &mut known, &catalog, &files, *word)?;
@@ -339,21 +397,9 @@ fn links_lead_to_their_words(rt: HostRuntime) -> Result<(), Fail> {
 }
 
 #[test]
-fn a_gate_has_its_section_in_its_own_ring(rt: HostRuntime) -> Result<(), Fail> {
-    let alloc = rt.alloc();
-    let catalog = catalog(alloc, b"segment a q q gate rep 0 0 5\n")?;
-    let files = files(alloc, false)?;
-    let mut known = started(alloc, &catalog, &files)?;
-    let snap = served(alloc, &mut known, &catalog, &files, 0o2022)?;
-    assert!(rt; lot_word_of(&snap) == Some(0o000020002000));
-    assert!(rt; known.search(&catalog, 4, b"q", catalog.work()) == Some(0o101));
-    Ok(())
-}
-
-#[test]
 fn links_are_refused_by_their_first_code(rt: HostRuntime) -> Result<(), Fail> {
-    for (line, is_none, word, ring, expected) in refused() {
-        let code = code_of(rt.alloc(), line, *is_none, *word, *ring)?;
+    for (line, kind, word, ring, expected) in refused() {
+        let code = code_of(rt.alloc(), line, *kind, *word, *ring)?;
         assert!(rt; code == Some(*expected));
     }
     Ok(())
