@@ -1,6 +1,7 @@
 -- What is laid of a booted image: each word of core, the pages, and the content of each segment.
-use Rattle.std.specs.Prelude.{ℕ, zero, suc, ◌≡◌, ◌+◌, ◌-◌, ◌*◌, ◌/◌, ◌%◌, ◌<◌, ◌≤◌, nat_eq, nat_lt, nat_le}
-use Rattle.std.specs.Prelude.{if◌then◌else◌, Bool, true, List, [], ◌∷◌, ◌++◌, length, slice_index, Option, Some, None, unwrap_or}
+use Rattle.std.specs.Prelude.{ℕ, zero, suc, ◌≡◌, ◌+◌, ◌-◌, ◌*◌, ◌/◌, ◌%◌, ◌<◌, ◌≤◌, nat_eq, nat_lt}
+use Rattle.std.specs.Prelude.{if◌then◌else◌, Bool, true, List, [], ◌∷◌, ◌++◌, length, slice_index}
+use Rattle.std.specs.Prelude.{Option, Some, None, unwrap_or}
 use Rattle.std.specs.Prelude.{Result, Ok, Err}
 use Rattle.m36_desc.specs.Fields.{SdwFields}
 use Rattle.m36_desc.specs.Access.{in_order}
@@ -53,7 +54,9 @@ pub record IsWhole (d : SdwFields) : Type 0 where
   pub ordered : in_order d ≡ true
 
 -- The descriptors of so many segment numbers are written, and each other word is as it was.
-pub record AreDescribed (catalog : CatalogFields) (files : List (List ℕ)) (count : ℕ) (old new : List ℕ) : Type 0 where
+pub record AreDescribed
+    (catalog : CatalogFields) (files : List (List ℕ)) (count : ℕ) (old new : List ℕ)
+    : Type 0 where
   pub size : length new ≡ length old
   pub written :
       (a : ℕ) → a < 2 * count
@@ -71,7 +74,8 @@ table_of_segment seg (Some d) words =
     record { words = words; at = table_at seg; seg = seg; pages = pages_of d } ∷ []
 
 -- those of so many segment numbers from one on
-unfoldable pub tables_from : CatalogFields → List (List ℕ) → Option LayFields → ℕ → ℕ → List PageTable
+unfoldable pub tables_from :
+    CatalogFields → List (List ℕ) → Option LayFields → ℕ → ℕ → List PageTable
 tables_from catalog files lay seg zero = []
 tables_from catalog files lay seg (suc n) =
     table_of_segment seg (booted_sdw catalog files seg) (booted_words files lay seg)
@@ -116,7 +120,9 @@ paged_of image = record { core = image.core; kept = kept_word image.pager }
 
 -- The core and the registers of a booted image that starts by an answer, where every page is put
 -- away.
-pub record IsImage (catalog : CatalogFields) (files : List (List ℕ)) (s : SnapFields) (image : Image) : Type 0 where
+pub record IsImage
+    (catalog : CatalogFields) (files : List (List ℕ)) (s : SnapFields) (image : Image)
+    : Type 0 where
   pub size : length image.core ≡ 1024 * (wired_frames + catalog.frames)
   pub core : (a : ℕ) → slice_index image.core a ≡ booted_word catalog files a
   pub pager :

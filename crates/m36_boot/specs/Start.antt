@@ -19,8 +19,8 @@ use Rattle.m36_boot.specs.Segments.{stack_segment}
 
 -- ---- the start is linked to
 
--- The start is a link of its ring to a name and an entry. It is searched from the working directory,
--- where nothing is known yet.
+-- The start is a link of its ring to a name and an entry. It is searched from the working
+-- directory, where nothing is known yet.
 abbrev pub start_link : StartFields → LinkFields
 start_link s =
     record {
@@ -34,7 +34,8 @@ start_link s =
 
 unfoldable pub start_answer : CatalogFields → List (List ℕ) → Result SnapFields RefusedFields
 start_answer catalog files =
-    outer_snap nothing_known catalog files catalog.start.ring (start_link catalog.start) catalog.work
+    outer_snap nothing_known catalog files catalog.start.ring (start_link catalog.start)
+    catalog.work
 
 -- the number of the segment that is found
 unfoldable pub start_segment : CatalogFields → Option ℕ
