@@ -1,10 +1,10 @@
 -- The section of a start, by the laws of links: it fits the linkage segment behind the LOT.
-use Rattle.std.proofs.Common.{ℕ, ◌≡◌, ◌+◌, ◌^◌, ◌<◌, ◌≤◌, List, [], ◌∷◌, ◌++◌, length, All, Option, Some, None, Result, Ok, refl, ap, arith}
+use Rattle.std.proofs.Common.{ℕ, ◌≡◌, ◌≤◌, List, [], length, All, Option, Some, None, Ok, refl, arith}
 use Rattle.std.proofs.lemmas.List.Elements.{All-nil, All-head}
 use Rattle.m36_dir.specs.Catalog.{CatalogFields}
 use Rattle.m36_link.specs.Fields.{LaidFields, LayFields, RingNameFields, SnapFields}
 use Rattle.m36_link.specs.Known.{nothing_known, base_of, next_base, lot_words}
-use Rattle.m36_link.specs.Accepted.{laid_of, with_laid, accepted, IsNext, MayBeLaid}
+use Rattle.m36_link.specs.Accepted.{laid_of, with_laid, accepted, MayBeLaid}
 use Rattle.m36_link.specs.Laws.{IsOfCatalog, IsWhole, IsMade, MayBeAcceptedFrom, KeepsMadeFrom}
 use Rattle.m36_boot.specs.Start.{start_link, start_answer}
 use Rattle.m36_boot.proofs.Sizes.{IsFirst}

@@ -1,27 +1,24 @@
 -- The flat memory for which the core of an image and the words kept stand.
-use Rattle.std.proofs.Common.{ℕ, zero, suc, ◌≡◌, ◌+◌, ◌-◌, ◌*◌, ◌/◌, ◌<◌, ◌≤◌, Bool, true, false, cond, List, [], ◌∷◌, ◌++◌, length, get_or, map, replicate, take, Option, Some, None, Result, Ok, Err, refl, sym, ap, inl, inr, ◌∙◌, arith}
-use Rattle.std.specs.Prelude.{nat_lt, nat_le, unwrap_or}
-use Rattle.std.proofs.lemmas.Bool.{lt-ltb, le-leb, leb-true, leb-false, cases_lt}
+use Rattle.std.proofs.Common.{ℕ, zero, suc, ◌≡◌, ◌+◌, ◌-◌, ◌*◌, ◌/◌, ◌<◌, ◌≤◌, Bool, true, false, cond, List, [], ◌∷◌, length, get_or, take, Option, Some, None, Result, refl, sym, ap, inl, inr, ◌∙◌, arith}
+use Rattle.std.specs.Prelude.{nat_lt, unwrap_or}
+use Rattle.std.proofs.lemmas.Bool.{lt-ltb, leb-true, leb-false, cases_lt}
 use Rattle.std.proofs.lemmas.List.{get_or_past}
 use Rattle.m36_desc.specs.Fields.{SdwFields}
 use Rattle.m36_desc.specs.Access.{in_order}
-use Rattle.m36_desc.specs.Violations.{out_of_segment_bounds}
-use Rattle.m36_model.specs.Store.{Spot, violation, within, place_within, place_ordered, place_by, place}
-use Rattle.m36_model.specs.Core.{core_store}
-use Rattle.m36_model.specs.Place.{directed, core_sdw, core_spot}
+use Rattle.m36_model.specs.Store.{Spot, within, place_within, place_ordered, place_by, place}
+use Rattle.m36_model.specs.Place.{core_sdw, core_spot}
 use Rattle.m36_model.specs.BootedCore.{booted_dbr, descriptor_words, wired_frames, IsLaid}
-use Rattle.m36_model.specs.Residence.{Paged, absence, word_at, paged_content, flat_of}
+use Rattle.m36_model.specs.Residence.{Paged, word_at, paged_content, flat_of}
 use Rattle.m36_model.specs.declared.outcome.Refusal.{Refusal}
 use Rattle.m36_isol.proofs.Laid.{page_of_word, absent_spot}
 use Rattle.m36_dir.specs.Catalog.{CatalogFields}
 use Rattle.m36_link.specs.Fields.{LayFields, SnapFields}
-use Rattle.m36_page.specs.Fields.{TableFields, PagerFields}
-use Rattle.m36_page.specs.Given.{table_given, pager_given}
+use Rattle.m36_page.specs.Fields.{PagerFields}
+use Rattle.m36_page.specs.Given.{pager_given}
 use Rattle.m36_page.specs.Residence.{table_of, kept_in, kept_word}
 use Rattle.m36_boot.specs.Segments.{booted_sdw, booted_words}
 use Rattle.m36_boot.specs.Image.{pages_of, booted_word, booted_tables, words_from, booted_flat, booted_content, content_by}
-use Rattle.m36_boot.proofs.Sizes.{AreFiles, IsFirst, live, blocks_fit}
-use Rattle.m36_boot.proofs.ImageTables.{page_table}
+use Rattle.m36_boot.proofs.Sizes.{AreFiles, IsFirst, blocks_fit}
 use Rattle.m36_boot.proofs.LaidCore.{IsMade, word_here, size_of}
 use Rattle.m36_boot.proofs.LaidImage.{sdw_by, sdw_here, sdw_out, live_sdw, away, laid_image}
 use Rattle.m36_boot.proofs.Contents.{table_live, filled_at}

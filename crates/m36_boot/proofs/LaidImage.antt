@@ -1,21 +1,21 @@
 -- The core of an image is laid: each descriptor is read back as it was written, and every page is put away.
-use Rattle.std.proofs.Common.{ℕ, zero, suc, ◌≡◌, ◌≢◌, ◌+◌, ◌-◌, ◌*◌, ◌/◌, ◌%◌, ◌^◌, ◌<◌, ◌≤◌, ◌⊎◌, Bool, true, false, cond, List, length, get_or, Option, Some, None, Result, Ok, Err, refl, sym, ap, subst, inl, inr, ◌∙◌, arith}
+use Rattle.std.proofs.Common.{ℕ, ◌≡◌, ◌≢◌, ◌+◌, ◌*◌, ◌^◌, ◌<◌, ◌≤◌, Bool, true, false, List, length, get_or, Option, Some, None, Result, Ok, Err, refl, sym, ap, inl, inr, ◌∙◌, arith}
 use Rattle.std.specs.Prelude.{slice_get, nat_lt, ◌&&◌}
 use Rattle.std.proofs.lemmas.Bool.{lt-ltb, le-ltb, cases_lt}
 use Rattle.std.proofs.lemmas.Option.{slice_get-get_or}
 use Rattle.m36_word.specs.Bits.{is_on}
 use Rattle.m36_desc.specs.Fields.{SdwFields}
-use Rattle.m36_desc.specs.Descriptors.{sdw_of, sdw_even, sdw_odd}
+use Rattle.m36_desc.specs.Descriptors.{sdw_even, sdw_odd}
 use Rattle.m36_desc.specs.Violations.{out_of_segment_bounds}
 use Rattle.m36_model.specs.Store.{violation}
 use Rattle.m36_model.specs.Core.{unmarked}
 use Rattle.m36_model.specs.Place.{wrapped, directed, in_bounds, directory_at, ptw_at, sdw_place_by, sdw_words, sdw_at, live_by, core_sdw}
-use Rattle.m36_model.specs.BootedCore.{booted_dbr, wired_frames, table_at, absent_ptw, resident_ptw, page_word, IsLaidSegment, IsPage, IsLaid}
+use Rattle.m36_model.specs.BootedCore.{booted_dbr, wired_frames, absent_ptw, resident_ptw, page_word, IsLaidSegment, IsPage, IsLaid}
 use Rattle.m36_model.specs.declared.outcome.Refusal.{Refusal}
 use Rattle.m36_dir.specs.Catalog.{CatalogFields}
 use Rattle.m36_link.specs.Fields.{LayFields}
 use Rattle.m36_boot.specs.Segments.{booted_sdw}
-use Rattle.m36_boot.specs.Image.{descriptor_word, pages_of, IsWhole}
+use Rattle.m36_boot.specs.Image.{descriptor_word, IsWhole}
 use Rattle.m36_boot.proofs.Sizes.{AreFiles, live}
 use Rattle.m36_boot.proofs.LaidCore.{IsMade, absent_at, descriptor_here, even_of, odd_of, size_of}
 

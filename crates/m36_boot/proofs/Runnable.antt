@@ -1,13 +1,12 @@
 -- An image may be run: its core is laid, and its pager has the pages of its segments.
-use Rattle.std.proofs.Common.{ℕ, zero, suc, ◌≡◌, ◌+◌, ◌-◌, ◌*◌, ◌/◌, ◌^◌, ◌<◌, ◌≤◌, Bool, true, false, cond, List, [], ◌∷◌, ◌++◌, length, map, replicate, Option, Some, None, Ok, refl, sym, ap, subst, ◌∙◌, arith, length-append}
+use Rattle.std.proofs.Common.{ℕ, ◌≡◌, ◌+◌, ◌-◌, ◌*◌, ◌<◌, ◌≤◌, Bool, true, false, cond, List, [], ◌∷◌, length, map, replicate, Option, Some, None, refl, sym, ap, subst, ◌∙◌, arith, length-append}
 use Rattle.std.specs.Prelude.{nat_lt, nat_le, ◌&&◌, All}
 use Rattle.std.specs.List.{list_all}
 use Rattle.std.proofs.lemmas.Bool.{lt-ltb, le-ltb, ltb-true, and_parts, leb-true}
 use Rattle.std.proofs.lemmas.List.{length-replicate}
 use Rattle.std.proofs.lemmas.List.Elements.{All-nil, All-cons}
 use Rattle.m36_desc.specs.Fields.{SdwFields}
-use Rattle.m36_model.specs.Place.{core_sdw}
-use Rattle.m36_model.specs.BootedCore.{booted_dbr, wired_frames, table_at, IsPage}
+use Rattle.m36_model.specs.BootedCore.{booted_dbr, wired_frames, table_at}
 use Rattle.m36_model.specs.Registers.{RegsFields}
 use Rattle.m36_dir.specs.Catalog.{CatalogFields}
 use Rattle.m36_link.specs.Fields.{LayFields, SnapFields}
@@ -21,7 +20,7 @@ use Rattle.m36_boot.specs.Segments.{ring_segment, linkage_pages, booted_sdw}
 use Rattle.m36_boot.specs.Start.{start_regs}
 use Rattle.m36_boot.specs.Image.{pages_of, booted_tables, IsRunnable}
 use Rattle.m36_boot.proofs.Sizes.{AreFiles, IsFirst, live}
-use Rattle.m36_boot.proofs.ImageTables.{page_table, tables_placed}
+use Rattle.m36_boot.proofs.ImageTables.{tables_placed}
 use Rattle.m36_boot.proofs.LaidCore.{IsMade}
 use Rattle.m36_boot.proofs.LaidImage.{live_sdw, sdw_live, laid_image}
 use Rattle.m36_boot.proofs.Contents.{table_live, table_dead}

@@ -1,6 +1,6 @@
 -- Where a booted machine starts, and its registers there.
-use Rattle.std.specs.Prelude.{ℕ, ◌+◌, Bool, true, false, ◌&&◌, nat_le, List, [], ◌∷◌}
-use Rattle.std.specs.Prelude.{Option, Some, None, Result, Ok, Err}
+use Rattle.std.specs.Prelude.{ℕ, Bool, false, ◌&&◌, nat_le, List, [], ◌∷◌}
+use Rattle.std.specs.Prelude.{Option, Some, None, Result}
 use Rattle.m36_desc.specs.Fields.{PtrFields, ItsFields}
 use Rattle.m36_desc.specs.Descriptors.{its_of}
 use Rattle.m36_model.specs.BootedCore.{booted_dbr}

@@ -1,6 +1,6 @@
-use Rattle.std.proofs.Common.{ℕ, ◌≡◌, ◌-◌, ◌<◌, ◌≤◌, length, ap, subst, ◌∙◌, arith}
-use Rattle.m36_boot.specs.Refusals.{first_gate_fault, AreLimits}
-use Rattle.m36_boot.proofs.LimitLoops.{limits_none, limits_stop, limits_on, limits_more, limits_done}
+use Rattle.std.proofs.Common.{ℕ, ◌≡◌, ◌<◌, length, subst, arith}
+use Rattle.m36_boot.specs.Refusals.{AreLimits}
+use Rattle.m36_boot.proofs.LimitLoops.{limits_stop, limits_on, limits_more, limits_done}
 use Rattle.m36_boot.proofs.limits.limits_of.Goals as goal
 
 pub loop-i-preserved : goal.loop-i-preserved
