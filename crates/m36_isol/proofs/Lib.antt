@@ -34,3 +34,9 @@ pub mod Booted
 pub mod PagedStep
 pub mod Moved
 pub mod LaidAudit
+pub mod Plan
+pub mod Pages
+pub mod Retry
+pub mod Tries
+pub mod Attempts
+pub mod PageLaw

@@ -2,3 +2,5 @@ pub mod Rights
 pub mod Gates
 pub mod MarkBits
 pub mod Findings
+pub mod References
+pub mod PageServices

@@ -31,6 +31,8 @@ ghost use Rattle.m36_isol.specs.Findings.{FindingsLaw, JointFindingsLaw};
 ghost use Rattle.m36_isol.specs.Rights.{RightsLaw};
 ghost use Rattle.m36_isol.specs.Gates.{GatesLaw};
 ghost use Rattle.m36_isol.specs.MarkBits.{MarksKeepBits};
+ghost use Rattle.m36_isol.specs.PageServices.{PagesLaw};
+ghost use Rattle.m36_isol.specs.References.{FewReferencesLaw};
 ghost use Rattle.m36_model.specs.Laws.{EffectLaw, EffectRefusals, DependsLaw, SightLaw, ReachLaw, CoreReachLaw};
 ghost use Rattle.m36_model.specs.Laws.{FallLaw, MarksLaw, AgreeLaw, KeptLaw};
 
@@ -145,4 +147,16 @@ pub fn law_paged()
     ensures moved { MovedLaw }
     ensures audit { SameAuditLaw }
     ensures flat { FlatAuditLaw }
+{}
+
+/// A step records at most 20 references. A booted image has at least 24 frames, so one of them holds no page that the step
+/// has referenced.
+pub fn law_references()
+    ensures { FewReferencesLaw }
+{}
+
+/// An instruction references at most 18 pages. So where it is started again after the service of each page that it met in
+/// no frame, and the pages that it has referenced stay in their frames, it meets none after 18 services.
+pub fn law_pages()
+    ensures { PagesLaw }
 {}

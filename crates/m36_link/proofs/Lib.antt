@@ -1,0 +1,3 @@
+mod Sizes
+mod KnownNames
+mod Made

@@ -1,0 +1,294 @@
+-- An answer may be accepted, and what services make they keep.
+use Rattle.std.proofs.Common.{ℕ, ◌≡◌, ◌<◌, ◌≤◌, ◌+◌, ◌-◌, ◌^◌, Bool, true, false, cond, ◌||◌, ◌&&◌, not, eqb, leb, ltb, List, [], ◌∷◌, ◌++◌, length, slice_get, option_and_then, is_some, All, Option, Some, None, Result, Ok, Err, refl, sym, ap, ◌∙◌, subst, arith}
+use Rattle.std.specs.Result.{result_ok}
+use Rattle.std.proofs.lemmas.Bool.{leb-true}
+use Rattle.std.proofs.lemmas.Option.{slice_get_within}
+use Rattle.std.proofs.lemmas.List.Elements.{All-push, All-same}
+use Rattle.m36_model.specs.Fields.{AtFields}
+use Rattle.m36_model.specs.declared.endings.LinkCode.{LinkCode}
+use Rattle.m36_model.specs.declared.endings.LinkCode.TheVariants.{L1, L2, L3, L4, L5, L6}
+use Rattle.m36_dir.specs.Fields.{SegmentFields}
+use Rattle.m36_dir.specs.Catalog.{CatalogFields}
+use Rattle.obj36_parts.specs.Fields.{LinkFields}
+use Rattle.obj36_parts.specs.PartsFields.{PartsFields}
+use Rattle.obj36_parts.specs.ObjectSegment.{has_name, has_entry, linkage_section}
+use Rattle.obj36.specs.ObjectOf.{object_of}
+use Rattle.obj36.specs.declared.fault.ObjectFault.{ObjectFault}
+use Rattle.m36_link.specs.Fields.{RingNameFields, LaidFields, LandingFields, LayFields, KnownFields, SnapFields}
+use Rattle.m36_link.specs.Known.{first_segment, place_of, segment_of, file_of, object_in, initiated, section_ring, laid_in, base_of, laid_words}
+use Rattle.m36_link.specs.Search.{searched}
+use Rattle.m36_link.specs.Links.{link_in, section_at}
+use Rattle.m36_link.specs.Landing.{point_of, pair_of, pair_to, new_home, home_by, home_of, own_by, own_landing, may_not_use, is_plain, plain_landing, lay_if, landing_in, landing_at, object_landing, landing_by, target_landing}
+use Rattle.m36_link.specs.Snap.{found_landing, candidate_landing, outer_landing, directory_of, landing_of, words_laid, lay_of, snap_by, snap_for, snap_in, snap_of, outer_snap}
+use Rattle.m36_link.specs.Accepted.{laid_of, with_laid, with_initiated, accepted, IsNext, MayBeLaid}
+use Rattle.m36_link.specs.Laws.{IsOfCatalog, IsWhole, IsMade, MayBeAccepted, MayBeAcceptedFrom, KeepsMade, KeepsMadeFrom}
+use Rattle.m36_link.specs.declared.points.Point.{Point}
+use Rattle.m36_link.specs.declared.sections.Home.{Home}
+
+-- A section that has to be laid: none is yet, it goes behind the others, and it is whole.
+record IsFresh (laid : List LaidFields) (files : List (List ℕ)) (seg : ℕ) (l : LaidFields) : Type 0 where
+  absent : laid_in laid l.ring l.seg ≡ None
+  base : l.base ≡ base_of laid l.ring
+  segment : l.seg ≡ seg
+  object : PartsFields
+  read : object_in files l.seg ≡ Some object
+  size : l.size ≡ length (laid_words object)
+  end : l.base + l.size ≤ 2 ^ 18
+
+abbrev Fresh : List LaidFields → List (List ℕ) → ℕ → Option LaidFields → Type 0
+Fresh laid files seg None = Unit {0}
+Fresh laid files seg (Some l) = IsFresh laid files seg l
+
+abbrev Sound : List LaidFields → List (List ℕ) → ℕ → Result LandingFields LinkCode → Type 0
+Sound laid files seg (Err code) = Unit {0}
+Sound laid files seg (Ok landing) = (landing.target ≡ seg) × Fresh laid files seg landing.lay
+
+-- ---- where a link leads
+
+own_sound : (laid : List LaidFields) (files : List (List ℕ)) (ring : ℕ) (l : LaidFields) (o : PartsFields) (link : LinkFields) (p : Result Point LinkCode)
+    → Sound laid files l.seg (own_by ring l o link p)
+own_sound laid files ring l o link (Ok point) = (refl, tt)
+own_sound laid files ring l o link (Err code) = tt
+
+plain_sound : (laid : List LaidFields) (files : List (List ℕ)) (ring seg : ℕ) (link : LinkFields) → Sound laid files seg (plain_landing ring seg link)
+unfolding plain_landing
+plain_sound laid files ring seg link = by (has_entry link.kind)
+  where
+    by : (b : Bool) → Sound laid files seg (cond b (Err L3) (Ok (record { pair = pair_to seg ring link.expr link; target = seg; lay = None })))
+    by true = tt
+    by false = (refl, tt)
+
+new_sound : (laid : List LaidFields) (files : List (List ℕ)) (ring e seg base size : ℕ) (o : PartsFields) (link : LinkFields) (point : Point)
+    → laid_in laid e seg ≡ None → base ≡ base_of laid e → object_in files seg ≡ Some o → size ≡ length (laid_words o)
+    → Sound laid files seg (landing_in ring seg o link point (new_home e seg base size))
+new_sound laid files ring e seg base size o link point absent at read sized = by (leb (base + size) (2 ^ 18)) refl
+  where
+    by : (b : Bool) → leb (base + size) (2 ^ 18) ≡ b
+        → Sound laid files seg (landing_in ring seg o link point (cond b (Ok (record { section = record { ring = e; seg = seg; base = base; size = size }; is_new = true })) (Err (L6 base size))))
+    by true fits = (refl, record { absent = absent; base = at; segment = refl; object = o; read = read; size = sized; end = leb-true _ _ fits })
+    by false fits = tt
+
+home_sound : (laid : List LaidFields) (files : List (List ℕ)) (ring e seg : ℕ) (o : PartsFields) (link : LinkFields) (point : Point) (found : Option LaidFields)
+    → laid_in laid e seg ≡ found → object_in files seg ≡ Some o
+    → Sound laid files seg (landing_in ring seg o link point (home_by found laid e seg o))
+home_sound laid files ring e seg o link point (Some l) is read = (refl, tt)
+home_sound laid files ring e seg o link point None is read =
+    new_sound laid files ring e seg (base_of laid e) (length (laid_words o)) o link point is refl read refl
+
+object_sound : (laid : List LaidFields) (files : List (List ℕ)) (ring e seg : ℕ) (o : PartsFields) (link : LinkFields) (p : Result Point LinkCode)
+    → object_in files seg ≡ Some o → Sound laid files seg (landing_at laid ring e seg o link p)
+unfolding home_of
+object_sound laid files ring e seg o link (Err code) read = tt
+object_sound laid files ring e seg o link (Ok point) read = home_sound laid files ring e seg o link point (laid_in laid e seg) refl read
+
+landing_sound : (laid : List LaidFields) (files : List (List ℕ)) (ring seg : ℕ) (s : SegmentFields) (words : List ℕ) (link : LinkFields) (r : Result PartsFields ObjectFault)
+    → file_of files seg ≡ Some words → object_of words ≡ r → Sound laid files seg (landing_by laid ring seg s link r)
+unfolding object_landing object_in
+landing_sound laid files ring seg s words link (Err fault) file is = tt
+landing_sound laid files ring seg s words link (Ok o) file is =
+    object_sound laid files ring (section_ring ring s) seg o link (point_of link o)
+    (ap (λ (f : Option (List ℕ)). option_and_then (λ ws. result_ok (object_of ws)) f) file ∙ ap result_ok is)
+
+target_sound : (laid : List LaidFields) (files : List (List ℕ)) (ring seg : ℕ) (s : SegmentFields) (words : List ℕ) (link : LinkFields)
+    → file_of files seg ≡ Some words → Sound laid files seg (target_landing laid ring seg s words link)
+unfolding target_landing
+target_sound laid files ring seg s words link file = by (may_not_use ring s) (is_plain s.kind)
+  where
+    by : (b c : Bool) → Sound laid files seg (cond b (Err L4) (cond c (plain_landing ring seg link) (landing_by laid ring seg s link (object_of words))))
+    by true c = tt
+    by false true = plain_sound laid files ring seg link
+    by false false = landing_sound laid files ring seg s words link (object_of words) file refl
+
+found_sound : (known : KnownFields) (files : List (List ℕ)) (ring seg : ℕ) (s : Option SegmentFields) (words : Option (List ℕ)) (link : LinkFields)
+    → file_of files seg ≡ words → Sound known.laid files seg (found_landing known.laid ring seg s words link)
+found_sound known files ring seg (Some s) (Some words) link file = target_sound known.laid files ring seg s words link file
+found_sound known files ring seg (Some s) None link file = tt
+found_sound known files ring seg None words link file = tt
+
+-- ---- of which segments
+
+abbrev FreshIn : List LaidFields → CatalogFields → List (List ℕ) → Option LaidFields → Type 0
+FreshIn laid catalog files None = Unit {0}
+FreshIn laid catalog files (Some l) = IsFresh laid files l.seg l × IsOfCatalog catalog l.seg
+
+-- what is answered to a link that has the name of a segment or has none
+abbrev Good : List LaidFields → CatalogFields → List (List ℕ) → Bool → Result LandingFields LinkCode → Type 0
+Good laid catalog files outer (Err code) = Unit {0}
+Good laid catalog files outer (Ok landing) =
+    FreshIn laid catalog files landing.lay × (outer ≡ true → IsOfCatalog catalog landing.target)
+
+of_place : (catalog : CatalogFields) (seg : ℕ) (s : SegmentFields) → segment_of catalog seg ≡ Some s → IsOfCatalog catalog seg
+unfolding segment_of place_of
+of_place catalog seg s = by (leb first_segment seg) refl
+  where
+    by : (b : Bool) → leb first_segment seg ≡ b
+        → option_and_then (slice_get catalog.segments) (cond b (Some (seg - first_segment)) None) ≡ Some s → IsOfCatalog catalog seg
+    by true low e =
+        let from : first_segment ≤ seg = leb-true _ _ low in
+        let inside : seg - first_segment < length catalog.segments = slice_get_within catalog.segments (seg - first_segment) s e in
+        record { from = from; below = omega (arith, from, inside) }
+    by false low e = absurd cc
+
+fresh_in : (laid : List LaidFields) (catalog : CatalogFields) (files : List (List ℕ)) (seg : ℕ) (lay : Option LaidFields) → IsOfCatalog catalog seg → Fresh laid files seg lay
+    → FreshIn laid catalog files lay
+fresh_in laid catalog files seg None of fresh = tt
+fresh_in laid catalog files seg (Some l) of fresh = (
+  record {
+    absent = fresh.absent;
+    base = fresh.base;
+    segment = refl;
+    object = fresh.object;
+    read = fresh.read;
+    size = fresh.size;
+    end = fresh.end;
+  },
+  (let P : ℕ → Type 0 = λ n. IsOfCatalog catalog n in subst P (sym fresh.segment) of),
+)
+
+good_of : (laid : List LaidFields) (catalog : CatalogFields) (files : List (List ℕ)) (seg : ℕ) (r : Result LandingFields LinkCode) → IsOfCatalog catalog seg → Sound laid files seg r
+    → Good laid catalog files true r
+good_of laid catalog files seg (Err code) of sound = tt
+good_of laid catalog files seg (Ok landing) of sound =
+    (fresh_in laid catalog files seg landing.lay of sound.1, λ outer. let P : ℕ → Type 0 = λ n. IsOfCatalog catalog n in subst P (sym sound.0) of)
+
+candidate_good : (known : KnownFields) (catalog : CatalogFields) (files : List (List ℕ)) (ring : ℕ) (link : LinkFields) (r : Option ℕ)
+    → Good known.laid catalog files true (candidate_landing known catalog files ring link r)
+candidate_good known catalog files ring link None = tt
+candidate_good known catalog files ring link (Some seg) = by (segment_of catalog seg) refl
+  where
+    by : (s : Option SegmentFields) → segment_of catalog seg ≡ s → Good known.laid catalog files true (found_landing known.laid ring seg s (file_of files seg) link)
+    by None is = tt
+    by (Some s) is =
+        good_of known.laid catalog files seg (found_landing known.laid ring seg (Some s) (file_of files seg) link) (of_place catalog seg s is)
+        (found_sound known files ring seg (Some s) (file_of files seg) link refl)
+
+own_good : (laid : List LaidFields) (catalog : CatalogFields) (files : List (List ℕ)) (ring : ℕ) (l : LaidFields) (o : PartsFields) (link : LinkFields) (p : Result Point LinkCode)
+    → Good laid catalog files false (own_by ring l o link p)
+own_good laid catalog files ring l o link (Ok point) = (tt, λ outer. absurd cc)
+own_good laid catalog files ring l o link (Err code) = tt
+
+landing_good : (known : KnownFields) (catalog : CatalogFields) (files : List (List ℕ)) (ring : ℕ) (l : LaidFields) (o : PartsFields) (link : LinkFields)
+    → Good known.laid catalog files (has_name link.kind) (landing_of known catalog files ring l o link)
+unfolding landing_of outer_landing own_landing
+landing_good known catalog files ring l o link = by (has_name link.kind)
+  where
+    by : (b : Bool)
+        → Good known.laid catalog files b (cond b (outer_landing known catalog files ring link (directory_of (segment_of catalog l.seg))) (own_landing ring l o link))
+    by true = candidate_good known catalog files ring link (searched known catalog ring link.name (directory_of (segment_of catalog l.seg)))
+    by false = own_good known.laid catalog files ring l o link (point_of link o)
+
+-- ---- the answer
+
+-- what an answer is that was given
+record IsGiven (known : KnownFields) (catalog : CatalogFields) (files : List (List ℕ)) (s : SnapFields) : Type 0 where
+  lay : Option LaidFields
+  laid : s.lay ≡ lay_of files lay
+  fresh : FreshIn known.laid catalog files lay
+  target : has_name s.link.kind ≡ true → IsOfCatalog catalog s.target
+
+given_by : (known : KnownFields) (catalog : CatalogFields) (files : List (List ℕ)) (ring : ℕ) (link : LinkFields) (r : Result LandingFields LinkCode) (s : SnapFields)
+    → Good known.laid catalog files (has_name link.kind) r → snap_by files ring link r ≡ Ok s → IsGiven known catalog files s
+given_by known catalog files ring link (Err code) s good e = absurd cc
+given_by known catalog files ring link (Ok landing) s good e =
+    let t : SnapFields = record { pair = landing.pair; ring = ring; target = landing.target; link = link; lay = lay_of files landing.lay } in
+    let is : t ≡ s = cc in
+    let P : SnapFields → Type 0 = λ x. IsGiven known catalog files x in
+    subst P is (record { lay = landing.lay; laid = refl; fresh = good.0; target = good.1 })
+
+given_for : (known : KnownFields) (catalog : CatalogFields) (files : List (List ℕ)) (ring : ℕ) (l : LaidFields) (o : Option PartsFields) (link : Option LinkFields) (s : SnapFields)
+    → snap_for known catalog files ring l o link ≡ Ok s → IsGiven known catalog files s
+given_for known catalog files ring l (Some o) (Some link) s e =
+    given_by known catalog files ring link (landing_of known catalog files ring l o link) s (landing_good known catalog files ring l o link) e
+given_for known catalog files ring l (Some o) None s e = absurd cc
+given_for known catalog files ring l None link s e = absurd cc
+
+given_in : (known : KnownFields) (catalog : CatalogFields) (files : List (List ℕ)) (at : AtFields) (l : Option LaidFields) (s : SnapFields)
+    → snap_in known catalog files at l ≡ Ok s → IsGiven known catalog files s
+given_in known catalog files at None s e = absurd cc
+given_in known catalog files at (Some l) s e = given_for known catalog files at.ring l (object_in files l.seg) (link_in files at.word l) s e
+
+given : (known : KnownFields) (catalog : CatalogFields) (files : List (List ℕ)) (at : AtFields) (s : SnapFields) → snap_of known catalog files at ≡ Ok s
+    → IsGiven known catalog files s
+unfolding snap_of
+given known catalog files at s e = given_in known catalog files at (section_at known.laid files at) s e
+
+-- the flag of a good answer may be that of another link
+with_name : (laid : List LaidFields) (catalog : CatalogFields) (files : List (List ℕ)) (outer : Bool) (r : Result LandingFields LinkCode) → Good laid catalog files true r
+    → Good laid catalog files outer r
+with_name laid catalog files outer (Err code) good = tt
+with_name laid catalog files outer (Ok landing) good = (good.0, λ is. good.1 refl)
+
+given_from : (known : KnownFields) (catalog : CatalogFields) (files : List (List ℕ)) (ring : ℕ) (link : LinkFields) (from : ℕ) (s : SnapFields)
+    → outer_snap known catalog files ring link from ≡ Ok s → IsGiven known catalog files s
+unfolding outer_snap outer_landing
+given_from known catalog files ring link from s e =
+    let r = candidate_landing known catalog files ring link (searched known catalog ring link.name from) in
+    given_by known catalog files ring link r s
+    (with_name known.laid catalog files (has_name link.kind) r (candidate_good known catalog files ring link (searched known catalog ring link.name from))) e
+
+-- ---- what it is accepted into
+
+words_are : (files : List (List ℕ)) (seg : ℕ) (o : PartsFields) → object_in files seg ≡ Some o → words_laid (object_in files seg) ≡ laid_words o
+words_are files seg o e = ap (λ (p : Option PartsFields). words_laid p) e
+
+may_be : (known : KnownFields) (catalog : CatalogFields) (files : List (List ℕ)) (lay : Option LaidFields) → FreshIn known.laid catalog files lay → MayBeLaid known (lay_of files lay)
+may_be known catalog files None fresh = tt
+may_be known catalog files (Some l) fresh =
+    let f = fresh.0 in
+    let long : length (words_laid (object_in files l.seg)) ≡ l.size = ap length (words_are files l.seg f.object f.read) ∙ sym f.size in
+    let end = f.end in
+    record { absent = f.absent; base = f.base; fits = omega (arith, long, end) }
+
+accepted_by : (known : KnownFields) (catalog : CatalogFields) (files : List (List ℕ)) (s : SnapFields) → IsGiven known catalog files s → MayBeLaid known s.lay
+accepted_by known catalog files s g =
+    let P : Option LayFields → Type 0 = λ lay. MayBeLaid known lay in
+    subst P (sym g.laid) (may_be known catalog files g.lay g.fresh)
+
+laid_kept : (known : KnownFields) (catalog : CatalogFields) (files : List (List ℕ)) (lay : Option LaidFields) → FreshIn known.laid catalog files lay
+    → All (IsWhole catalog files) known.laid → All (IsWhole catalog files) (with_laid known.laid (lay_of files lay))
+unfolding with_laid
+laid_kept known catalog files None fresh all = all
+laid_kept known catalog files (Some l) fresh all =
+    let f = fresh.0 in
+    let long : length (words_laid (object_in files l.seg)) ≡ l.size = ap length (words_are files l.seg f.object f.read) ∙ sym f.size in
+    let end = f.end in
+    All-push (IsWhole catalog files) known.laid (record { ring = l.ring; seg = l.seg; base = l.base; size = length (words_laid (object_in files l.seg)) }) all
+    (record { segment = fresh.1; object = f.object; read = f.read; size = long ∙ f.size; end = omega (arith, long, end) })
+
+names_kept : (catalog : CatalogFields) (names : List (RingNameFields × ℕ)) (ring : ℕ) (link : LinkFields) (target : ℕ)
+    → (has_name link.kind ≡ true → IsOfCatalog catalog target) → All (λ e. IsOfCatalog catalog e.1) names
+    → All (λ e. IsOfCatalog catalog e.1) (with_initiated names ring link target)
+unfolding with_initiated
+names_kept catalog names ring link target of all = by (has_name link.kind) (is_some (initiated names ring link.name)) of
+  where
+    by : (b c : Bool) → (b ≡ true → IsOfCatalog catalog target)
+        → All (λ e. IsOfCatalog catalog e.1) (cond b (cond c names (names ++ (record { ring = ring; name = link.name }, target) ∷ [])) names)
+    by true true of = all
+    by true false of = All-push (λ e. IsOfCatalog catalog e.1) names (record { ring = ring; name = link.name }, target) all (of refl)
+    by false c of = all
+
+made_by : (known : KnownFields) (catalog : CatalogFields) (files : List (List ℕ)) (s : SnapFields) → IsMade catalog files known → IsGiven known catalog files s
+    → IsMade catalog files (accepted known s)
+unfolding accepted
+made_by known catalog files s made g =
+    let P : Option LayFields → Type 0 = λ lay. All (IsWhole catalog files) (with_laid known.laid lay) in
+    record {
+      names = names_kept catalog known.names s.ring s.link s.target g.target made.names;
+      laid = subst P (sym g.laid) (laid_kept known catalog files g.lay g.fresh made.laid);
+    }
+
+-- ---- the laws
+
+pub may_be_accepted : MayBeAccepted
+may_be_accepted known catalog files at s e = accepted_by known catalog files s (given known catalog files at s e)
+
+pub may_be_accepted_from : MayBeAcceptedFrom
+may_be_accepted_from known catalog files ring link from s e = accepted_by known catalog files s (given_from known catalog files ring link from s e)
+
+pub keeps_made : KeepsMade
+keeps_made known catalog files at s made e = made_by known catalog files s made (given known catalog files at s e)
+
+pub keeps_made_from : KeepsMadeFrom
+keeps_made_from known catalog files ring link from s made e = made_by known catalog files s made (given_from known catalog files ring link from s e)
+
+pub ruleset laws = (may_be_accepted, may_be_accepted_from, keeps_made, keeps_made_from)

@@ -1,0 +1,36 @@
+-- What is known once an answer is accepted: a name more, where it was none yet, and the section
+-- that was laid.
+use Rattle.std.specs.Prelude.{ℕ, ◌≡◌, ◌+◌, ◌^◌, ◌≤◌, if◌then◌else◌, List, [], ◌∷◌, ◌++◌, length, Option, Some, None, is_some}
+use Rattle.obj36_parts.specs.Fields.{LinkFields}
+use Rattle.obj36_parts.specs.ObjectSegment.{has_name}
+use Rattle.m36_link.specs.Fields.{RingNameFields, LaidFields, LayFields, KnownFields, SnapFields}
+use Rattle.m36_link.specs.Known.{initiated, laid_in, base_of}
+
+abbrev pub laid_of : LayFields → LaidFields
+laid_of l = record { ring = l.ring; seg = l.seg; base = l.base; size = length l.words }
+
+unfoldable pub with_laid : List LaidFields → Option LayFields → List LaidFields
+with_laid laid None = laid
+with_laid laid (Some l) = laid ++ laid_of l ∷ []
+
+unfoldable pub with_initiated : List (RingNameFields × ℕ) → ℕ → LinkFields → ℕ → List (RingNameFields × ℕ)
+with_initiated names ring link target =
+    if has_name link.kind then
+    (if is_some (initiated names ring link.name) then names
+    else names ++ (record { ring = ring; name = link.name }, target) ∷ [])
+    else names
+
+unfoldable pub accepted : KnownFields → SnapFields → KnownFields
+accepted known s =
+    record { names = with_initiated known.names s.ring s.link s.target; laid = with_laid known.laid s.lay }
+
+-- A section may be laid: none of its segment is laid in its ring, it goes where the next one does,
+-- and it ends within the linkage segment.
+pub record IsNext (known : KnownFields) (l : LayFields) : Type 0 where
+  pub absent : laid_in known.laid l.ring l.seg ≡ None
+  pub base : l.base ≡ base_of known.laid l.ring
+  pub fits : l.base + length l.words ≤ 2 ^ 18
+
+abbrev pub MayBeLaid : KnownFields → Option LayFields → Type 0
+MayBeLaid known None = Unit {0}
+MayBeLaid known (Some l) = IsNext known l

@@ -1,0 +1,90 @@
+-- What link services have made: the names that are initiated in each ring, and the sections that
+-- are laid in it.
+--
+-- Catalog segment i has segment number 64 + i, and the linkage segment of ring r has 16 + r. Its
+-- words 0 to 1023 are the linkage offset table of the ring; sections are laid from word 1024 on,
+-- one after another, each at an even word.
+use Rattle.std.specs.Prelude.{ℕ, ◌+◌, ◌-◌, ◌*◌, ◌%◌, ◌^◌, Bool, ◌&&◌, nat_eq, nat_le, if◌then◌else◌, List, [], ◌∷◌, ◌++◌, find, slice_get, Option, Some, None, option_and_then}
+use Rattle.std.specs.Map.{lookup}
+use Rattle.std.specs.Result.{result_ok}
+use Rattle.m36_text.specs.Texts.{are_same}
+use Rattle.m36_dir.specs.Fields.{SegmentFields}
+use Rattle.m36_dir.specs.Catalog.{CatalogFields}
+use Rattle.obj36_parts.specs.PartsFields.{PartsFields}
+use Rattle.obj36_parts.specs.ObjectSegment.{linkage_section, outer_statics}
+use Rattle.obj36.specs.ObjectOf.{object_of}
+use Rattle.m36_link.specs.Fields.{RingNameFields, LaidFields, LayFields, KnownFields}
+
+abbrev pub nothing_known : KnownFields
+nothing_known = record { names = []; laid = [] }
+
+-- ---- numbers of segments
+
+abbrev pub first_segment : ℕ
+first_segment = 64
+
+abbrev pub linkage_segment : ℕ → ℕ
+linkage_segment ring = 16 + ring
+
+abbrev pub lot_words : ℕ
+lot_words = 1024
+
+-- which segment of the catalog has a number
+unfoldable pub place_of : ℕ → Option ℕ
+place_of seg = if nat_le first_segment seg then Some (seg - first_segment) else None
+
+unfoldable pub segment_of : CatalogFields → ℕ → Option SegmentFields
+segment_of catalog seg = option_and_then (slice_get catalog.segments) (place_of seg)
+
+unfoldable pub file_of : List (List ℕ) → ℕ → Option (List ℕ)
+file_of files seg = option_and_then (slice_get files) (place_of seg)
+
+-- the object that the file of a segment is
+unfoldable pub object_in : List (List ℕ) → ℕ → Option PartsFields
+object_in files seg = option_and_then (λ words. result_ok (object_of words)) (file_of files seg)
+
+-- ---- names
+
+abbrev pub is_same_name : RingNameFields → RingNameFields → Bool
+is_same_name a b = are_same a.name b.name && nat_eq a.ring b.ring
+
+-- the number of the segment that is initiated under a name in a ring
+unfoldable pub initiated : List (RingNameFields × ℕ) → ℕ → List ℕ → Option ℕ
+initiated names ring name = lookup (is_same_name (record { ring = ring; name = name })) names
+
+-- ---- sections
+
+-- The ring in whose linkage segment a section goes: that of the link, but at most the second end of
+-- the segment's ring brackets.
+abbrev pub section_ring : ℕ → SegmentFields → ℕ
+section_ring ring s = if nat_le ring s.r2 then ring else s.r2
+
+abbrev pub is_laid_of : ℕ → ℕ → LaidFields → Bool
+is_laid_of ring seg l = nat_eq l.ring ring && nat_eq l.seg seg
+
+-- the section of a segment that is laid in a ring
+unfoldable pub laid_in : List LaidFields → ℕ → ℕ → Option LaidFields
+laid_in laid ring seg = find (is_laid_of ring seg) laid
+
+-- the even word behind a section
+unfoldable pub behind : LaidFields → ℕ
+behind l = l.base + l.size + (l.base + l.size) % 2
+
+-- where the next section of a ring goes, where it would go to a word if no further one were laid
+abbrev pub base_behind : ℕ → ℕ → LaidFields → ℕ
+base_behind ring at l = if nat_eq l.ring ring then behind l else at
+
+unfoldable pub next_base : ℕ → ℕ → List LaidFields → ℕ
+next_base ring at [] = at
+next_base ring at (l ∷ laid) = next_base ring (base_behind ring at l) laid
+
+abbrev pub base_of : List LaidFields → ℕ → ℕ
+base_of laid ring = next_base ring lot_words laid
+
+-- the words that are laid: the linkage section, and behind it the static section where there is one
+unfoldable pub laid_words : PartsFields → List ℕ
+laid_words o = linkage_section o ++ outer_statics o
+
+-- The word of the linkage offset table for a section: a packed pointer to its first word.
+unfoldable pub lot_word : LayFields → ℕ
+lot_word l = linkage_segment l.ring * 2 ^ 18 + l.base

@@ -1,0 +1,157 @@
+-- Where a link leads, or the code with which it is refused.
+use Rattle.std.specs.Prelude.{ℕ, ◌+◌, ◌%◌, ◌^◌, Bool, true, false, not, ◌&&◌, ◌||◌, nat_eq, nat_le, nat_lt, if◌then◌else◌, List, length, Option, Some, None, Result, Ok, Err}
+use Rattle.m36_word.specs.declared.pair.Pair.{Pair}
+use Rattle.m36_desc.specs.Fields.{ItsFields}
+use Rattle.m36_desc.specs.Descriptors.{its_even, its_odd}
+use Rattle.m36_model.specs.declared.endings.LinkCode.{LinkCode}
+use Rattle.m36_model.specs.declared.endings.LinkCode.TheVariants.{L1, L2, L3, L4, L5, L6}
+use Rattle.m36_dir.specs.Fields.{SegmentFields}
+use Rattle.m36_dir.specs.declared.segment.SegKind.{SegKind}
+use Rattle.m36_dir.specs.declared.segment.SegKind.TheVariants.{Object, Gate, Plain}
+use Rattle.obj36_parts.specs.Fields.{DefFields, LinkFields}
+use Rattle.obj36_parts.specs.PartsFields.{PartsFields}
+use Rattle.obj36_parts.specs.ObjectSegment.{has_name, has_entry, linkage_section, definition_named}
+use Rattle.obj36_parts.specs.declared.section.Section.{Section}
+use Rattle.obj36_parts.specs.declared.section.Section.TheVariants.{Text, Linkage, Symbol, Static}
+use Rattle.obj36.specs.ObjectOf.{object_of}
+use Rattle.obj36.specs.declared.fault.ObjectFault.{ObjectFault}
+use Rattle.obj36.specs.declared.fault.ObjectFault.TheVariants.{O1, O2, O3, O4, O5, O6, O7, O8, NoMemory}
+use Rattle.m36_link.specs.Fields.{LaidFields, LandingFields}
+use Rattle.m36_link.specs.Known.{linkage_segment, section_ring, laid_in, base_of, laid_words}
+use Rattle.m36_link.specs.declared.points.Point.{Point}
+use Rattle.m36_link.specs.declared.sections.Home.{Home}
+
+-- ---- the place in an object that a link names
+
+-- the section in which a link's value counts where its entry does not say
+abbrev pub section_of : LinkFields → Section
+section_of link = if has_name link.kind then Text else link.section
+
+-- of two sections the later one counts: text and symbol, linkage, static
+abbrev pub rank : Section → ℕ
+rank Text = 0
+rank Symbol = 0
+rank Linkage = 1
+rank Static = 2
+
+abbrev pub later_section : Section → Section → Section
+later_section a b = if nat_le (rank a) (rank b) then b else a
+
+-- L3: the entry has no definition
+abbrev pub point_by : Section → Option DefFields → Result Point LinkCode
+point_by section None = Err L3
+point_by section (Some d) = Ok (record { section = later_section section d.section; value = d.value })
+
+unfoldable pub point_of : LinkFields → PartsFields → Result Point LinkCode
+point_of link o =
+    if has_entry link.kind then point_by (section_of link) (definition_named link.entry o.definitions)
+    else Ok (record { section = section_of link; value = 0 })
+
+-- ---- the pair
+
+abbrev pub its_pair : ItsFields → Pair
+its_pair p = record { even = its_even p; odd = its_odd p }
+
+-- the pair to a word of a segment, with the ring and the modifier of the link
+unfoldable pub pair_to : ℕ → ℕ → ℕ → LinkFields → Pair
+pair_to seg ring word link =
+    its_pair (record { seg = seg; ring = ring; word = word % 2 ^ 18; bit = 0; tag = link.modifier })
+
+-- A value counts from word 0 of the segment, or from where its section is laid: in the linkage
+-- section from the first word, in the static section from the word behind the linkage section, which
+-- has so many words.
+abbrev pub pair_from : Section → ℕ → ℕ → LaidFields → ℕ → LinkFields → Pair
+pair_from Text value ring l linkage link = pair_to l.seg ring (value + link.expr) link
+pair_from Symbol value ring l linkage link = pair_to l.seg ring (value + link.expr) link
+pair_from Linkage value ring l linkage link =
+    pair_to (linkage_segment l.ring) ring (l.base + value + link.expr) link
+pair_from Static value ring l linkage link =
+    pair_to (linkage_segment l.ring) ring
+    (l.base + linkage + value + link.expr) link
+
+unfoldable pub pair_of : Point → ℕ → LaidFields → ℕ → LinkFields → Pair
+pair_of point ring l linkage link = pair_from point.section point.value ring l linkage link
+
+-- ---- the section of a segment in a ring: laid already, or to be laid behind the others
+
+-- L6: the section would end past the linkage segment
+abbrev pub new_home : ℕ → ℕ → ℕ → ℕ → Result Home LinkCode
+new_home ring seg base size =
+    if nat_le (base + size) (2 ^ 18) then
+    Ok (record { section = record { ring = ring; seg = seg; base = base; size = size }; is_new = true })
+    else Err (L6 base size)
+
+abbrev pub home_by : Option LaidFields → List LaidFields → ℕ → ℕ → PartsFields → Result Home LinkCode
+home_by (Some l) laid ring seg o = Ok (record { section = l; is_new = false })
+home_by None laid ring seg o = new_home ring seg (base_of laid ring) (length (laid_words o))
+
+unfoldable pub home_of : List LaidFields → ℕ → ℕ → PartsFields → Result Home LinkCode
+home_of laid ring seg o = home_by (laid_in laid ring seg) laid ring seg o
+
+-- ---- types 1 and 5: the own object, whose section is the one that holds the link
+
+abbrev pub own_by : ℕ → LaidFields → PartsFields → LinkFields → Result Point LinkCode → Result LandingFields LinkCode
+own_by ring l o link (Ok point) = Ok (record { pair = pair_of point ring l (length (linkage_section o)) link; target = l.seg; lay = None })
+own_by ring l o link (Err code) = Err code
+
+unfoldable pub own_landing : ℕ → LaidFields → PartsFields → LinkFields → Result LandingFields LinkCode
+own_landing ring l o link = own_by ring l o link (point_of link o)
+
+-- ---- types 3 and 4: a segment that was found
+
+-- L4: the ring may not use the segment
+abbrev pub may_not_use : ℕ → SegmentFields → Bool
+may_not_use ring s = nat_lt s.r3 ring || (nat_lt s.r2 ring && not s.mode.executable)
+
+abbrev pub is_plain : SegKind → Bool
+is_plain Plain = true
+is_plain Object = false
+is_plain Gate = false
+
+-- the number of a code of objects
+abbrev pub fault_number : ObjectFault → ℕ
+fault_number (O1 at) = 1
+fault_number (O2 at) = 2
+fault_number (O3 at) = 3
+fault_number (O4 at) = 4
+fault_number (O5 at) = 5
+fault_number (O6 at) = 6
+fault_number (O7 at) = 7
+fault_number (O8 at) = 8
+fault_number NoMemory = 0
+
+-- plain words have no entries, and nothing is laid for them
+unfoldable pub plain_landing : ℕ → ℕ → LinkFields → Result LandingFields LinkCode
+plain_landing ring seg link =
+    if has_entry link.kind then Err L3
+    else Ok (record { pair = pair_to seg ring link.expr link; target = seg; lay = None })
+
+abbrev pub lay_if : Bool → LaidFields → Option LaidFields
+lay_if true l = Some l
+lay_if false l = None
+
+abbrev pub landing_in : ℕ → ℕ → PartsFields → LinkFields → Point → Result Home LinkCode → Result LandingFields LinkCode
+landing_in ring seg o link point (Err code) = Err code
+landing_in ring seg o link point (Ok home) =
+    Ok (record { pair = pair_of point ring home.section (length (linkage_section o)) link; target = seg; lay = lay_if home.is_new home.section })
+
+abbrev pub landing_at : List LaidFields → ℕ → ℕ → ℕ → PartsFields → LinkFields → Result Point LinkCode → Result LandingFields LinkCode
+landing_at laid ring section_ring seg o link (Err code) = Err code
+landing_at laid ring section_ring seg o link (Ok point) =
+    landing_in ring seg o link point (home_of laid section_ring seg o)
+
+-- an object, whose section is in a ring, which may be another than that of the link
+unfoldable pub object_landing : List LaidFields → ℕ → ℕ → ℕ → PartsFields → LinkFields → Result LandingFields LinkCode
+object_landing laid ring section_ring seg o link =
+    landing_at laid ring section_ring seg o link (point_of link o)
+
+-- L5: the file is no object
+abbrev pub landing_by : List LaidFields → ℕ → ℕ → SegmentFields → LinkFields → Result PartsFields ObjectFault → Result LandingFields LinkCode
+landing_by laid ring seg s link (Err fault) = Err (L5 (fault_number fault))
+landing_by laid ring seg s link (Ok o) = object_landing laid ring (section_ring ring s) seg o link
+
+unfoldable pub target_landing : List LaidFields → ℕ → ℕ → SegmentFields → List ℕ → LinkFields → Result LandingFields LinkCode
+target_landing laid ring seg s words link =
+    if may_not_use ring s then Err L4
+    else if is_plain s.kind then plain_landing ring seg link
+    else landing_by laid ring seg s link (object_of words)

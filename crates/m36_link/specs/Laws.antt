@@ -1,0 +1,54 @@
+-- Laws of search and of laying.
+use Rattle.std.specs.Prelude.{ℕ, ◌≡◌, ◌<◌, ◌≤◌, ◌+◌, ◌^◌, List, [], ◌∷◌, length, All, Option, Some, None, Result, Ok, Err}
+use Rattle.m36_model.specs.Fields.{AtFields}
+use Rattle.m36_dir.specs.Catalog.{CatalogFields}
+use Rattle.obj36_parts.specs.Fields.{LinkFields}
+use Rattle.obj36_parts.specs.PartsFields.{PartsFields}
+use Rattle.m36_link.specs.Fields.{RingNameFields, LaidFields, KnownFields, SnapFields}
+use Rattle.m36_link.specs.Known.{first_segment, object_in, laid_words}
+use Rattle.m36_link.specs.Snap.{snap_of, outer_snap}
+use Rattle.m36_link.specs.Accepted.{accepted, MayBeLaid}
+
+-- a number of a catalog segment
+pub record IsOfCatalog (catalog : CatalogFields) (seg : ℕ) : Type 0 where
+  pub from : first_segment ≤ seg
+  pub below : seg < first_segment + length catalog.segments
+
+-- A laid section is that of an object of the catalog, whole, within the linkage segment.
+pub record IsWhole (catalog : CatalogFields) (files : List (List ℕ)) (l : LaidFields) : Type 0 where
+  pub segment : IsOfCatalog catalog l.seg
+  pub object : PartsFields
+  pub read : object_in files l.seg ≡ Some object
+  pub size : l.size ≡ length (laid_words object)
+  pub end : l.base + l.size ≤ 2 ^ 18
+
+-- what services make
+pub record IsMade (catalog : CatalogFields) (files : List (List ℕ)) (known : KnownFields) : Type 0 where
+  pub names : All (λ e. IsOfCatalog catalog e.1) known.names
+  pub laid : All (IsWhole catalog files) known.laid
+
+-- An answer may be accepted: to a place, and to a link that is searched from a directory.
+abbrev pub MayBeAccepted : Type 0
+MayBeAccepted =
+    (known : KnownFields) (catalog : CatalogFields) (files : List (List ℕ)) (at : AtFields)
+    (s : SnapFields) → snap_of known catalog files at ≡ Ok s → MayBeLaid known s.lay
+
+abbrev pub MayBeAcceptedFrom : Type 0
+MayBeAcceptedFrom =
+    (known : KnownFields) (catalog : CatalogFields) (files : List (List ℕ)) (ring : ℕ)
+    (link : LinkFields) (from : ℕ) (s : SnapFields)
+    → outer_snap known catalog files ring link from ≡ Ok s → MayBeLaid known s.lay
+
+-- What services make they keep.
+abbrev pub KeepsMade : Type 0
+KeepsMade =
+    (known : KnownFields) (catalog : CatalogFields) (files : List (List ℕ)) (at : AtFields)
+    (s : SnapFields) → IsMade catalog files known → snap_of known catalog files at ≡ Ok s
+    → IsMade catalog files (accepted known s)
+
+abbrev pub KeepsMadeFrom : Type 0
+KeepsMadeFrom =
+    (known : KnownFields) (catalog : CatalogFields) (files : List (List ℕ)) (ring : ℕ)
+    (link : LinkFields) (from : ℕ) (s : SnapFields)
+    → IsMade catalog files known → outer_snap known catalog files ring link from ≡ Ok s
+    → IsMade catalog files (accepted known s)

@@ -1,0 +1,9 @@
+pub mod Fields
+pub mod Names
+pub mod Known
+pub mod Search
+pub mod Links
+pub mod Landing
+pub mod Snap
+pub mod Accepted
+pub mod Laws

@@ -1,0 +1,34 @@
+-- The link that a place names. What is looked at is the object as it was booted, never the words
+-- that were laid, which the program may have changed.
+use Rattle.std.specs.Prelude.{ℕ, ◌+◌, ◌-◌, ◌/◌, ◌%◌, Bool, ◌&&◌, nat_eq, nat_le, if◌then◌else◌, List, length, find, slice_get, Option, Some, None, is_some, option_and_then}
+use Rattle.m36_model.specs.Fields.{AtFields}
+use Rattle.obj36_parts.specs.Fields.{LinkFields}
+use Rattle.obj36_parts.specs.PartsFields.{PartsFields}
+use Rattle.obj36_parts.specs.ObjectSegment.{inner_statics}
+use Rattle.m36_link.specs.Fields.{LaidFields}
+use Rattle.m36_link.specs.Known.{linkage_segment, object_in}
+
+-- where the first link stands in the linkage section: behind its eight words and static words
+abbrev pub first_link : PartsFields → ℕ
+first_link o = 8 + length (inner_statics o)
+
+-- the link whose even word a word is, where the first link stands at another
+unfoldable pub link_from : ℕ → ℕ → List LinkFields → Option LinkFields
+link_from first word links =
+    if nat_le first word && nat_eq ((word - first) % 2) 0 then slice_get links ((word - first) / 2)
+    else None
+
+-- the link whose even word in a laid section a word of the linkage segment is
+unfoldable pub link_in : List (List ℕ) → ℕ → LaidFields → Option LinkFields
+link_in files word l =
+    option_and_then (λ o. link_from (l.base + first_link o) word o.links) (object_in files l.seg)
+
+abbrev pub holds_link : List (List ℕ) → ℕ → ℕ → LaidFields → Bool
+holds_link files ring word l = nat_eq l.ring ring && is_some (link_in files word l)
+
+-- The section that holds the link of a place: it is laid in the ring of the place, and the place is
+-- in the linkage segment of that ring.
+unfoldable pub section_at : List LaidFields → List (List ℕ) → AtFields → Option LaidFields
+section_at laid files at =
+    if nat_eq at.seg (linkage_segment at.ring) then find (holds_link files at.ring at.word) laid
+    else None

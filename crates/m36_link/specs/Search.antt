@@ -1,0 +1,32 @@
+-- The search for a segment by a reference name.
+use Rattle.std.specs.Prelude.{ℕ, ◌+◌, List, [], ◌∷◌, ◌++◌, Option, Some, None, option_map, filter_map}
+use Rattle.m36_dir.specs.Catalog.{CatalogFields, found}
+use Rattle.m36_link.specs.Fields.{KnownFields}
+use Rattle.m36_link.specs.Known.{initiated, first_segment}
+
+-- The directories that are looked at, in order: that of the segment that refers, the working
+-- directory, and the libraries.
+abbrev pub directories_searched : CatalogFields → ℕ → List ℕ
+directories_searched catalog from = from ∷ catalog.work ∷ catalog.libraries
+
+unfoldable pub found_in : CatalogFields → List ℕ → ℕ → Option ℕ
+found_in catalog name dir = option_map (λ i. first_segment + i) (found catalog dir name)
+
+abbrev pub some_of : Option ℕ → List ℕ
+some_of None = []
+some_of (Some seg) = seg ∷ []
+
+-- The candidates in their order: what the name is initiated as in the ring, and the segment of that
+-- name in each directory.
+unfoldable pub candidates : KnownFields → CatalogFields → ℕ → List ℕ → ℕ → List ℕ
+candidates known catalog ring name from =
+    some_of (initiated known.names ring name)
+    ++ filter_map (found_in catalog name) (directories_searched catalog from)
+
+abbrev pub head_of : List ℕ → Option ℕ
+head_of [] = None
+head_of (seg ∷ others) = Some seg
+
+-- The first is taken, and the search never goes past it.
+unfoldable pub searched : KnownFields → CatalogFields → ℕ → List ℕ → ℕ → Option ℕ
+searched known catalog ring name from = head_of (candidates known catalog ring name from)

@@ -1,0 +1,100 @@
+//! The files of the segments of a catalog, each read once.
+
+ghost use Rattle.std.specs.Prelude.{ℕ, List, ◌≡◌, ◌-◌, ◌+◌, ◌<◌, ◌≤◌, ◌^◌, Option, Some, None, Ok, Err, MatchResult, length, slice_get, option_copied, option_and_then, IfOk, IfSome};
+ghost use Rattle.std.specs.Result.{result_ok};
+ghost use Rattle.obj36_parts.specs.PartsFields.{PartsFields};
+ghost use Rattle.obj36.specs.ObjectOf.{object_of};
+ghost use Rattle.m36_link.specs.Known.{place_of, file_of, object_in, laid_words};
+
+use m36_word::{NoMemory, Word, Words};
+use obj36::{Object, ObjectFault};
+use std::alloc::Global;
+use std::marker::Model;
+
+/// The number of the first segment of a catalog.
+pub(crate) const FIRST_SEGMENT: u16 = 64;
+
+/// The words of a segment's file, with the object that they are, or why they are none. It is seen as its words.
+#[derive(Debug, Drop)]
+pub struct File {
+    words: Words,
+    object: Result<Object, ObjectFault>,
+}
+
+impl Model for File {
+    ghost use Rattle.std.specs.Prelude.{ℕ, List, ◌≡◌};
+    ghost use Rattle.obj36.specs.ObjectOf.{object_of};
+
+    ghost Value = { List ℕ };
+
+    ghost view = { λ f. f.words };
+
+    ghost invariant = { λ f. object_of f.words ≡ f.object };
+}
+
+impl File {
+    /// Reads a file of fewer than 2^32 words, whatever it is. The error is want of memory alone.
+    pub fn read(alloc: Global, words: Words) -> Result<File, NoMemory>
+        requires { length words < 2 ^ 32 }
+        ensures { IfOk result (λ file. file ≡ words) }
+    {
+        match Object::read(alloc, words.slice()) {
+            Err(ObjectFault::NoMemory) => Err(NoMemory),
+            object => Ok(File { words, object }),
+        }
+    }
+
+    /// The words of the file.
+    pub fn words(&self) -> &[Word]
+        ensures { result.now ≡ self.now }
+    {
+        self.words.slice()
+    }
+
+    /// The object that the words are, or their first fault.
+    #[tactic(auto, using(crate::proofs::Sizes::object_fits))]
+    pub fn object(&self) -> Result<&Object, ObjectFault>
+        ensures value { MatchResult result (λ o. object_of self.now ≡ Ok o.now) (λ f. object_of self.now ≡ Err f) }
+        ensures fits { IfOk result (λ o. length (laid_words o.now) ≤ 2 ^ 18) }
+    {
+        match &self.object {
+            Ok(object) => Ok(object),
+            Err(fault) => Err(*fault),
+        }
+    }
+}
+
+/// Which segment of the catalog has a number.
+#[tactic(auto, unfolding(crate::specs::Known::place_of))]
+pub(crate) fn place_of(seg: u16) -> Option<usize>
+    ensures { result ≡ place_of seg }
+{
+    if seg >= FIRST_SEGMENT {
+        Some((seg - FIRST_SEGMENT) as usize)
+    } else {
+        None
+    }
+}
+
+/// The file of a segment.
+#[tactic(auto, unfolding(crate::specs::Known::file_of))]
+pub(crate) fn file_of(files: &[File], seg: u16) -> Option<&File>
+    ensures { option_copied result ≡ file_of files.now seg }
+{
+    match place_of(seg) {
+        Some(i) => files.get(i),
+        None => None,
+    }
+}
+
+/// The object that the file of a segment is.
+#[tactic(auto, unfolding(crate::specs::Known::object_in))]
+pub(crate) fn object_in(files: &[File], seg: u16) -> Option<&Object>
+    ensures value { option_copied result ≡ object_in files.now seg }
+    ensures fits { IfSome result (λ o. length (laid_words o.now) ≤ 2 ^ 18) }
+{
+    match file_of(files, seg) {
+        Some(file) => file.object().ok(),
+        None => None,
+    }
+}

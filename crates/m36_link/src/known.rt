@@ -1,0 +1,156 @@
+//! What link services have made.
+
+ghost use Rattle.std.specs.Prelude.{ℕ, List, [], ◌∷◌, ◌++◌, ◌≡◌, ◌<◌, ◌≤◌, ◌^◌, ◌+◌, Option, Some, None, IfOk, IfSome, OnOk, OnErr, length};
+ghost use Rattle.std.specs.Vec.{vec_len, vec_capacity};
+ghost use Rattle.m36_link.specs.Known.{nothing_known, initiated};
+ghost use Rattle.m36_link.specs.Names.{AreNames};
+ghost use Rattle.m36_link.specs.Search.{searched};
+ghost use Rattle.m36_link.specs.Accepted.{accepted, with_initiated, with_laid, MayBeLaid};
+
+use crate::laid::{Laid, Lay};
+use crate::names::RingName;
+use crate::points::has_its_name;
+use crate::search::{initiated, searched_in_directories};
+use crate::snap::Snap;
+use indexmap::IndexMap;
+use m36_dir::Catalog;
+use m36_word::NoMemory;
+use obj36::Link;
+use std::alloc::Global;
+use std::marker::Model;
+
+/// The names that are initiated in each ring, and the sections that are laid in it, both in the order in which they came.
+/// It is seen as these two lists.
+#[derive(Debug, Drop)]
+pub struct Known {
+    names: IndexMap<RingName, u16>,
+    laid: Vec<Laid>,
+}
+
+impl Model for Known {
+    ghost use Rattle.std.specs.Prelude.{◌≤◌, ◌<◌, ◌^◌, length, All};
+    ghost use Rattle.m36_link.specs.Fields.{KnownFields};
+    ghost use Rattle.m36_link.specs.Names.{AreNames};
+
+    ghost Value = { KnownFields };
+
+    ghost view = { λ k. record { names = k.names.entries; laid = k.laid.items } };
+
+    ghost invariant = { λ k. AreNames k.names.entries };
+}
+
+// Adds a name that is none yet. Where no memory is found, nothing changes.
+fn insert_name(
+    names: &mut IndexMap<RingName, u16>,
+    name: RingName,
+    target: u16,
+) -> Result<(), NoMemory>
+    requires names { AreNames names.old.entries }
+    requires absent { None ≡ initiated names.old.entries name.ring name.name }
+    requires fits { length name.name ≤ 32 }
+    requires target { target < 2 ^ 15 }
+    ensures ok { OnOk result (names.new.entries ≡ names.old.entries ++ (name, target) ∷ []) }
+    ensures err { OnErr result (names.new.entries ≡ names.old.entries) }
+    ensures names { AreNames names.new.entries }
+{
+    names.insert(name, target)?;
+    Ok(())
+}
+
+// Adds the name of a link of type 3 or 4 where it is none yet. Where no memory is found, nothing changes.
+#[tactic(auto, unfolding(crate::specs::Accepted::with_initiated))]
+fn add_name(
+    names: &mut IndexMap<RingName, u16>,
+    ring: u8,
+    link: &Link,
+    target: u16,
+) -> Result<(), NoMemory>
+    requires names { AreNames names.old.entries }
+    requires target { target < 2 ^ 15 }
+    ensures ok { OnOk result (names.new.entries ≡ with_initiated names.old.entries ring link.now target) }
+    ensures err { OnErr result (names.new.entries ≡ names.old.entries) }
+    ensures names { AreNames names.new.entries }
+{
+    if !has_its_name(link.kind) {
+        return Ok(());
+    }
+    let name = &link.name;
+    match initiated(names, ring, name.bytes()) {
+        Some(_) => Ok(()),
+        None => {
+            let name = RingName {
+                name: name.copied(),
+                ring,
+            };
+            insert_name(names, name, target)
+        }
+    }
+}
+
+// Adds a section where there is room for it.
+#[tactic(auto, unfolding(crate::specs::Accepted::with_laid))]
+fn add_section(laid: &mut Vec<Laid>, lay: &Option<Lay>)
+    requires room { vec_len laid.old < vec_capacity laid.old }
+    requires fits { IfSome lay.now (λ l. l.base + length l.words ≤ 2 ^ 18) }
+    ensures { laid.new.items ≡ with_laid laid.old.items lay.now }
+{
+    if let Some(lay) = lay {
+        let section = Laid {
+            base: lay.base,
+            size: lay.words.slice().len() as u32,
+            seg: lay.seg,
+            ring: lay.ring,
+        };
+        match laid.push(section) {
+            Ok(()) => {}
+            Err(_) => unreachable!(),
+        }
+    }
+}
+
+impl Known {
+    /// Nothing is known at first. The error is want of memory alone.
+    pub fn new(alloc: Global) -> Result<Known, NoMemory>
+        ensures { IfOk result (λ known. known ≡ nothing_known) }
+    {
+        Ok(Known {
+            names: IndexMap::new(alloc),
+            laid: Vec::new(alloc),
+        })
+    }
+
+    /// The sections that are laid, in the order in which they were.
+    pub fn laid(&self) -> &[Laid]
+        ensures { result.now ≡ self.now.laid }
+    {
+        self.laid.as_slice()
+    }
+
+    /// The number of the segment that a reference name means in a ring, where a segment of a directory refers by it: what
+    /// the name is initiated as in the ring, else the segment of that name in the directory, in the working directory, or
+    /// in the first library that has it. None exactly where there is no such segment.
+    #[tactic(auto, unfolding(crate::specs::Search::searched, crate::specs::Search::candidates))]
+    pub fn search(&self, catalog: &Catalog, ring: u8, name: &[u8], from: u16) -> Option<u16>
+        ensures value { result ≡ searched self.now catalog.now ring name.now from }
+        ensures bound { IfSome result (λ seg. seg < 2 ^ 15) }
+    {
+        match initiated(&self.names, ring, name) {
+            Some(seg) => Some(seg),
+            None => searched_in_directories(catalog, name, from),
+        }
+    }
+
+    /// Adds what an answer makes: the name of a link of type 3 or 4, where the ring does not have it, and the section that
+    /// was laid. Where no memory is found, nothing changes.
+    #[tactic(auto, unfolding(crate::specs::Accepted::accepted))]
+    pub fn accept(&mut self, s: &Snap) -> Result<(), NoMemory>
+        requires { MayBeLaid self.old s.now.lay }
+        ensures ok { OnOk result (self.new ≡ accepted self.old s.now) }
+        ensures err { OnErr result (self.new ≡ self.old) }
+    {
+        self.laid.reserve(1)?;
+        add_name(&mut self.names, s.ring, &s.link, s.target)?;
+        add_section(&mut self.laid, &s.lay);
+        Ok(())
+    }
+}

@@ -1,0 +1,67 @@
+//! Sections in linkage segments.
+
+ghost use Rattle.std.specs.Prelude.{◌≡◌};
+ghost use Rattle.m36_link.specs.Known.{lot_word};
+
+use m36_word::{Word, Words};
+use std::marker::Model;
+
+/// A section that is laid in the linkage segment of a ring. It is seen as its fields.
+#[derive(Clone, Copy, Debug, PartialEq, Eq)]
+pub struct Laid {
+    /// Its first word, 18 bits.
+    pub base: u32,
+    /// How many words it has; it ends at 2^18 at most.
+    pub size: u32,
+    /// The segment whose section it is; 15 bits.
+    pub seg: u16,
+    /// The ring of the linkage segment; 3 bits.
+    pub ring: u8,
+}
+
+impl Model for Laid {
+    ghost use Rattle.std.specs.Prelude.{◌<◌, ◌≤◌, ◌+◌, ◌^◌};
+    ghost use Rattle.m36_link.specs.Fields.{LaidFields};
+
+    ghost Value = { LaidFields };
+
+    ghost view = { λ l. record { ring = l.ring; seg = l.seg; base = l.base; size = l.size } };
+
+    ghost invariant = { λ l. (l.ring < 8) × (l.seg < 2 ^ 15) × (l.base < 2 ^ 18) × (l.base + l.size ≤ 2 ^ 18) };
+
+    ghost inverse = { λ l. record { base = l.base; size = l.size; seg = l.seg; ring = l.ring } };
+}
+
+/// A section that is to be laid, with its words. It is seen as its fields.
+#[derive(Debug, Drop)]
+pub struct Lay {
+    /// The words of the linkage section, and behind them those of the static section.
+    pub words: Words,
+    /// Where the first of them goes, 18 bits; an even word.
+    pub base: u32,
+    /// The segment whose section it is; 15 bits.
+    pub seg: u16,
+    /// The ring in whose linkage segment it goes; 3 bits.
+    pub ring: u8,
+}
+
+impl Model for Lay {
+    ghost use Rattle.std.specs.Prelude.{◌<◌, ◌^◌};
+    ghost use Rattle.m36_link.specs.Fields.{LayFields};
+
+    ghost Value = { LayFields };
+
+    ghost view = { λ l. record { ring = l.ring; seg = l.seg; base = l.base; words = l.words } };
+
+    ghost invariant = { λ l. (l.ring < 8) × (l.seg < 2 ^ 15) × (l.base < 2 ^ 18) };
+}
+
+impl Lay {
+    /// The word of the ring's linkage offset table for the segment: a packed pointer to the section.
+    #[tactic(auto, unfolding(crate::specs::Known::lot_word))]
+    pub fn lot_word(&self) -> Word
+        ensures { result ≡ lot_word self.now }
+    {
+        Word::low(((16 + self.ring as u64) << 18) + self.base as u64)
+    }
+}

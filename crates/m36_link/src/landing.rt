@@ -1,0 +1,159 @@
+//! Where a link leads.
+
+ghost use Rattle.std.specs.Prelude.{◌≡◌, ◌<◌, ◌≤◌, ◌^◌, length, if◌then◌else◌, nat_le};
+ghost use Rattle.m36_link.specs.Known.{section_ring, laid_words};
+ghost use Rattle.m36_link.specs.Landing.{own_landing, may_not_use, is_plain, fault_number, plain_landing, lay_if, object_landing, target_landing};
+
+use crate::file::File;
+use crate::laid::Laid;
+use crate::points::{has_its_entry, pair_of, pair_to, point_of};
+use crate::sections::{home_of, linkage_size};
+use m36_dir::{SegKind, Segment};
+use m36_model::LinkCode;
+use m36_word::Pair;
+use obj36::{Link, Object, ObjectFault};
+use std::marker::Model;
+
+/// Where a link leads: the pair, the number of the segment, and the section that has to be laid, if one has.
+#[derive(Clone, Copy, Debug)]
+pub(crate) struct Landing {
+    pub(crate) pair: Pair,
+    pub(crate) lay: Option<Laid>,
+    /// 15 bits.
+    pub(crate) target: u16,
+}
+
+impl Model for Landing {
+    ghost use Rattle.std.specs.Prelude.{◌<◌, ◌^◌};
+    ghost use Rattle.m36_link.specs.Fields.{LandingFields};
+
+    ghost Value = { LandingFields };
+
+    ghost view = { λ l. record { pair = l.pair; target = l.target; lay = l.lay } };
+
+    ghost invariant = { λ l. l.target < 2 ^ 15 };
+
+    ghost inverse = { λ l. record { pair = l.pair; lay = l.lay; target = l.target } };
+}
+
+/// A link of the own object, whose section is laid: type 1 or 5.
+#[tactic(auto, unfolding(crate::specs::Landing::own_landing))]
+pub(crate) fn own_landing(
+    ring: u8,
+    section: Laid,
+    object: &Object,
+    link: &Link,
+) -> Result<Landing, LinkCode>
+    requires ring { ring < 8 }
+    requires size { length (laid_words object.now) ≤ 2 ^ 18 }
+    ensures { result ≡ own_landing ring section object.now link.now }
+{
+    let point = point_of(link, object)?;
+    Ok(Landing {
+        pair: pair_of(point, ring, section, linkage_size(object), link),
+        lay: None,
+        target: section.seg,
+    })
+}
+
+fn may_not_use(ring: u8, segment: &Segment) -> bool
+    ensures { result ≡ may_not_use ring segment.now }
+{
+    segment.r3 < ring || segment.r2 < ring && !segment.mode.executable
+}
+
+fn section_ring(ring: u8, segment: &Segment) -> u8
+    requires { ring < 8 }
+    ensures value { result ≡ section_ring ring segment.now }
+    ensures bound { result < 8 }
+{
+    if ring <= segment.r2 { ring } else { segment.r2 }
+}
+
+fn fault_number(fault: ObjectFault) -> u8
+    ensures { result ≡ fault_number fault }
+{
+    match fault {
+        ObjectFault::O1(_) => 1,
+        ObjectFault::O2(_) => 2,
+        ObjectFault::O3(_) => 3,
+        ObjectFault::O4(_) => 4,
+        ObjectFault::O5(_) => 5,
+        ObjectFault::O6(_) => 6,
+        ObjectFault::O7(_) => 7,
+        ObjectFault::O8(_) => 8,
+        ObjectFault::NoMemory => 0,
+    }
+}
+
+#[tactic(auto, unfolding(crate::specs::Landing::plain_landing))]
+fn plain_landing(ring: u8, seg: u16, link: &Link) -> Result<Landing, LinkCode>
+    requires ring { ring < 8 }
+    requires seg { seg < 2 ^ 15 }
+    ensures { result ≡ plain_landing ring seg link.now }
+{
+    if has_its_entry(link.kind) {
+        return Err(LinkCode::L3);
+    }
+    Ok(Landing {
+        pair: pair_to(seg, ring, link.expr, link),
+        lay: None,
+        target: seg,
+    })
+}
+
+fn lay_if(is_new: bool, section: Laid) -> Option<Laid>
+    ensures { result ≡ lay_if is_new section }
+{
+    if is_new { Some(section) } else { None }
+}
+
+#[tactic(auto, unfolding(crate::specs::Landing::object_landing))]
+fn object_landing(
+    laid: &[Laid],
+    ring: u8,
+    section_ring: u8,
+    seg: u16,
+    object: &Object,
+    link: &Link,
+) -> Result<Landing, LinkCode>
+    requires ring { ring < 8 }
+    requires section_ring { section_ring < 8 }
+    requires seg { seg < 2 ^ 15 }
+    requires size { length (laid_words object.now) ≤ 2 ^ 18 }
+    ensures { result ≡ object_landing laid.now ring section_ring seg object.now link.now }
+{
+    let point = point_of(link, object)?;
+    let home = home_of(laid, section_ring, seg, object)?;
+    Ok(Landing {
+        pair: pair_of(point, ring, home.section, linkage_size(object), link),
+        lay: lay_if(home.is_new, home.section),
+        target: seg,
+    })
+}
+
+/// A link to a segment that was found: type 3 or 4.
+#[tactic(auto, unfolding(crate::specs::Landing::target_landing))]
+pub(crate) fn target_landing(
+    laid: &[Laid],
+    ring: u8,
+    seg: u16,
+    segment: &Segment,
+    file: &File,
+    link: &Link,
+) -> Result<Landing, LinkCode>
+    requires ring { ring < 8 }
+    requires seg { seg < 2 ^ 15 }
+    ensures { result ≡ target_landing laid.now ring seg segment.now file.now link.now }
+{
+    if may_not_use(ring, segment) {
+        return Err(LinkCode::L4);
+    }
+    if segment.kind == SegKind::Plain {
+        return plain_landing(ring, seg, link);
+    }
+    match file.object() {
+        Ok(object) => object_landing(laid, ring, section_ring(ring, segment), seg, object, link),
+        Err(fault) => Err(LinkCode::L5(fault_number(fault))),
+    }
+}

@@ -1,0 +1,115 @@
+//! The place in an object that a link names, and the pair to it.
+
+ghost use Rattle.std.specs.Prelude.{◌≡◌, ◌+◌, ◌<◌, ◌≤◌, ◌^◌, length, IfOk};
+ghost use Rattle.obj36_parts.specs.ObjectSegment.{has_name, has_entry, linkage_section};
+ghost use Rattle.m36_link.specs.Known.{laid_words};
+ghost use Rattle.m36_link.specs.Landing.{section_of, rank, later_section, point_of, pair_to, pair_of};
+
+use crate::laid::Laid;
+use m36_desc::Its;
+use m36_model::LinkCode;
+use m36_word::Pair;
+use obj36::{Link, Object, Section};
+
+/// The number of the linkage segment of ring 0.
+const LINKAGE_SEGMENTS: u16 = 16;
+
+/// A place of an object: a word that counts in a section.
+#[derive(Clone, Copy, Debug)]
+pub(crate) struct Point {
+    pub(crate) value: u32,
+    pub(crate) section: Section,
+}
+
+/// Whether a link has the name of a segment.
+pub(crate) fn has_its_name(kind: u8) -> bool
+    ensures { result ≡ has_name kind }
+{
+    kind == 3 || kind == 4
+}
+
+/// Whether a link has the name of an entry.
+pub(crate) fn has_its_entry(kind: u8) -> bool
+    ensures { result ≡ has_entry kind }
+{
+    kind == 4 || kind == 5
+}
+
+fn section_of(link: &Link) -> Section
+    ensures { result ≡ section_of link.now }
+{
+    if has_its_name(link.kind) {
+        Section::Text
+    } else {
+        link.section
+    }
+}
+
+fn rank(section: Section) -> u8
+    ensures { result ≡ rank section }
+{
+    match section {
+        Section::Text | Section::Symbol => 0,
+        Section::Linkage => 1,
+        Section::Static => 2,
+    }
+}
+
+fn later_section(a: Section, b: Section) -> Section
+    ensures { result ≡ later_section a b }
+{
+    if rank(a) <= rank(b) { b } else { a }
+}
+
+/// The place that a link names in the object that it leads to; L3 where the object does not define its entry.
+#[tactic(auto, unfolding(crate::specs::Landing::point_of))]
+pub(crate) fn point_of(link: &Link, object: &Object) -> Result<Point, LinkCode>
+    ensures value { result ≡ point_of link.now object.now }
+    ensures bound { IfOk result (λ point. point.value < 2 ^ 18) }
+{
+    let section = section_of(link);
+    if !has_its_entry(link.kind) {
+        return Ok(Point { value: 0, section });
+    }
+    match object.find(link.entry.bytes()) {
+        Some(def) => Ok(Point {
+            value: def.value,
+            section: later_section(section, def.section),
+        }),
+        None => Err(LinkCode::L3),
+    }
+}
+
+/// The pair to a word of a segment, taken modulo 2^18.
+#[tactic(auto, unfolding(crate::specs::Landing::pair_to))]
+pub(crate) fn pair_to(seg: u16, ring: u8, word: u32, link: &Link) -> Pair
+    requires seg { seg < 2 ^ 15 }
+    requires ring { ring < 8 }
+    ensures { result ≡ pair_to seg ring word link.now }
+{
+    let its = Its {
+        word: word % (1 << 18),
+        seg,
+        ring,
+        bit: 0,
+        tag: link.modifier,
+    };
+    its.to_words()
+}
+
+/// The pair to a place of an object whose section is laid.
+#[tactic(auto, unfolding(crate::specs::Landing::pair_of))]
+pub(crate) fn pair_of(point: Point, ring: u8, laid: Laid, linkage: u32, link: &Link) -> Pair
+    requires point { point.value < 2 ^ 18 }
+    requires ring { ring < 8 }
+    requires linkage { linkage ≤ 2 ^ 18 }
+    ensures { result ≡ pair_of point ring laid linkage link.now }
+{
+    let value = point.value + link.expr;
+    let segment = LINKAGE_SEGMENTS + laid.ring as u16;
+    match point.section {
+        Section::Text | Section::Symbol => pair_to(laid.seg, ring, value, link),
+        Section::Linkage => pair_to(segment, ring, laid.base + value, link),
+        Section::Static => pair_to(segment, ring, laid.base + linkage + value, link),
+    }
+}

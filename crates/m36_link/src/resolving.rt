@@ -1,0 +1,271 @@
+//! The answer to a link.
+
+ghost use Rattle.std.specs.Prelude.{ℕ, ◌≡◌, ◌+◌, ◌<◌, ◌≤◌, ◌^◌, find, length, option_copied, IfOk, IfSome};
+ghost use Rattle.obj36_parts.specs.ObjectSegment.{inner_statics};
+ghost use Rattle.m36_link.specs.Known.{segment_of, object_in, laid_words};
+ghost use Rattle.m36_link.specs.Links.{first_link, link_from, link_in, holds_link, section_at};
+ghost use Rattle.m36_link.specs.Snap.{outer_landing, directory_of, landing_of, words_laid, lay_of, snap_by, outer_snap, snap_of, SnapSays};
+
+use crate::file::{File, file_of, object_in, place_of};
+use crate::known::Known;
+use crate::laid::{Laid, Lay};
+use crate::landing::{Landing, own_landing, target_landing};
+use crate::points::has_its_name;
+use crate::snap::{LinkFault, Snap};
+use m36_dir::{Catalog, Segment};
+use m36_model::{At, LinkCode};
+use m36_word::{NoMemory, Words};
+use obj36::{Link, Object, Section};
+use obj36_parts::sections::push_all;
+use std::alloc::Global;
+
+// ---- the link that a place names
+
+// Where the first link of an object stands in its linkage section.
+fn first_link(object: &Object) -> u64
+    ensures value { result ≡ first_link object.now }
+    ensures bound { result ≤ 2 ^ 63 + 8 }
+{
+    let parts = object.parts();
+    if parts.version == 2 {
+        8
+    } else {
+        8 + parts.statics.slice().len() as u64
+    }
+}
+
+// The link whose even word a word is, where the first link stands at another.
+#[tactic(auto, unfolding(crate::specs::Links::link_from))]
+fn link_from(first: u64, word: u64, links: &[Link]) -> Option<&Link>
+    ensures { option_copied result ≡ link_from first word links.now }
+{
+    if first <= word && (word - first) % 2 == 0 {
+        links.get(((word - first) / 2) as usize)
+    } else {
+        None
+    }
+}
+
+// The link whose even word in a laid section a word of the linkage segment is.
+#[tactic(auto, unfolding(crate::specs::Links::link_in))]
+fn link_in(files: &[File], word: u32, section: Laid) -> Option<&Link>
+    ensures { option_copied result ≡ link_in files.now word section }
+{
+    match object_in(files, section.seg) {
+        Some(object) => link_from(
+            section.base as u64 + first_link(object),
+            word as u64,
+            object.links(),
+        ),
+        None => None,
+    }
+}
+
+fn holds_link(files: &[File], ring: u8, word: u32, section: Laid) -> bool
+    ensures { result ≡ holds_link files.now ring word section }
+{
+    section.ring == ring && link_in(files, word, section).is_some()
+}
+
+// The section of a ring that holds a link at a word.
+fn section_with(laid: &[Laid], files: &[File], ring: u8, word: u32) -> Option<Laid>
+    ensures { result ≡ find (holds_link files.now ring word) laid.now }
+{
+    laid.iter()
+        .copied()
+        .find(|section| holds_link(files, ring, word, *section))
+}
+
+// The section that holds the link of a place.
+#[tactic(auto, unfolding(crate::specs::Links::section_at))]
+fn section_at(laid: &[Laid], files: &[File], at: At) -> Option<Laid>
+    ensures { result ≡ section_at laid.now files.now at }
+{
+    if at.seg == 16 + at.ring as u16 {
+        section_with(laid, files, at.ring, at.word)
+    } else {
+        None
+    }
+}
+
+// ---- where it leads
+
+// The segment of a number.
+#[tactic(auto, unfolding(crate::specs::Known::segment_of))]
+fn segment_of(catalog: &Catalog, seg: u16) -> Option<&Segment>
+    ensures { option_copied result ≡ segment_of catalog.now seg }
+{
+    match place_of(seg) {
+        Some(i) if i < catalog.count() => Some(catalog.segment(i)),
+        _ => None,
+    }
+}
+
+// The number of the directory of a segment.
+fn directory_of(catalog: &Catalog, seg: u16) -> u16
+    ensures { result ≡ directory_of (segment_of catalog.now seg) }
+{
+    match segment_of(catalog, seg) {
+        Some(segment) => segment.dir,
+        None => 0,
+    }
+}
+
+// A link of type 3 or 4, searched from a directory.
+#[tactic(auto, unfolding(crate::specs::Snap::outer_landing))]
+fn outer_landing(
+    known: &Known,
+    catalog: &Catalog,
+    files: &[File],
+    ring: u8,
+    link: &Link,
+    from: u16,
+) -> Result<Landing, LinkCode>
+    requires { ring < 8 }
+    ensures { result ≡ outer_landing known.now catalog.now files.now ring link.now from }
+{
+    let Some(seg) = known.search(catalog, ring, link.name.bytes(), from) else {
+        return Err(LinkCode::L2);
+    };
+    let Some(segment) = segment_of(catalog, seg) else {
+        return Err(LinkCode::L2);
+    };
+    let Some(file) = file_of(files, seg) else {
+        return Err(LinkCode::L2);
+    };
+    target_landing(known.laid(), ring, seg, segment, file, link)
+}
+
+// A link of an object whose section is laid.
+#[tactic(auto, unfolding(crate::specs::Snap::landing_of))]
+fn landing_of(
+    known: &Known,
+    catalog: &Catalog,
+    files: &[File],
+    ring: u8,
+    section: Laid,
+    object: &Object,
+    link: &Link,
+) -> Result<Landing, LinkCode>
+    requires ring { ring < 8 }
+    requires size { length (laid_words object.now) ≤ 2 ^ 18 }
+    ensures { result ≡ landing_of known.now catalog.now files.now ring section object.now link.now }
+{
+    if has_its_name(link.kind) {
+        let from = directory_of(catalog, section.seg);
+        outer_landing(known, catalog, files, ring, link, from)
+    } else {
+        own_landing(ring, section, object, link)
+    }
+}
+
+// ---- the answer
+
+// The words that are laid for an object.
+#[tactic(auto, unfolding(crate::specs::Known::laid_words))]
+fn laid_words(alloc: Global, object: &Object) -> Result<Words, NoMemory>
+    ensures { IfOk result (λ words. words ≡ laid_words object.now) }
+{
+    let mut words = Words::new(alloc);
+    push_all(&mut words, object.section(Section::Linkage))?;
+    push_all(&mut words, object.section(Section::Static))?;
+    Ok(words)
+}
+
+// The words that are laid for a segment.
+fn words_laid(alloc: Global, files: &[File], seg: u16) -> Result<Words, NoMemory>
+    ensures { IfOk result (λ words. words ≡ words_laid (object_in files.now seg)) }
+{
+    match object_in(files, seg) {
+        Some(object) => laid_words(alloc, object),
+        None => Ok(Words::new(alloc)),
+    }
+}
+
+// The section that has to be laid, with its words.
+fn lay_of(alloc: Global, files: &[File], lay: Option<Laid>) -> Result<Option<Lay>, NoMemory>
+    ensures { IfOk result (λ lays. lays ≡ lay_of files.now lay) }
+{
+    match lay {
+        Some(section) => {
+            let words = words_laid(alloc, files, section.seg)?;
+            Ok(Some(Lay {
+                words,
+                base: section.base,
+                seg: section.seg,
+                ring: section.ring,
+            }))
+        }
+        None => Ok(None),
+    }
+}
+
+// The answer, from where the link leads.
+fn snap_by(
+    alloc: Global,
+    files: &[File],
+    ring: u8,
+    link: &Link,
+    landing: Result<Landing, LinkCode>,
+) -> Result<Snap, LinkFault>
+    requires { ring < 8 }
+    ensures { SnapSays result (snap_by files.now ring link.now landing) }
+{
+    match landing {
+        Ok(landing) => Ok(Snap {
+            lay: lay_of(alloc, files, landing.lay)?,
+            link: link.copied(),
+            pair: landing.pair,
+            target: landing.target,
+            ring,
+        }),
+        Err(code) => Err(LinkFault::Refused(code, Some(link.copied()))),
+    }
+}
+
+impl Known {
+    /// What a link of type 3 or 4 comes to in a ring, searched from a directory. Nothing changes.
+    #[tactic(auto, unfolding(crate::specs::Snap::outer_snap))]
+    pub fn resolve_from(
+        &self,
+        alloc: Global,
+        catalog: &Catalog,
+        files: &[File],
+        ring: u8,
+        link: &Link,
+        from: u16,
+    ) -> Result<Snap, LinkFault>
+        requires { ring < 8 }
+        ensures { SnapSays result (outer_snap self.now catalog.now files.now ring link.now from) }
+    {
+        let landing = outer_landing(self, catalog, files, ring, link, from);
+        snap_by(alloc, files, ring, link, landing)
+    }
+
+    /// The answer to the link that a place names, where the ring of the place is that of the link. The first of these that
+    /// holds is told, and else the pair, with the section that has to be laid: L1, the place is not the even word of a
+    /// link in a section that is laid in the ring; L2, no segment is found; L4, the ring may not use it; L5, it is no
+    /// object; L3, it does not define the entry; L6, its section finds no room. Nothing changes.
+    #[tactic(auto, unfolding(crate::specs::Snap::snap_of))]
+    pub fn resolve(
+        &self,
+        alloc: Global,
+        catalog: &Catalog,
+        files: &[File],
+        at: At,
+    ) -> Result<Snap, LinkFault>
+        ensures { SnapSays result (snap_of self.now catalog.now files.now at) }
+    {
+        let Some(section) = section_at(self.laid(), files, at) else {
+            return Err(LinkFault::Refused(LinkCode::L1, None));
+        };
+        let (Some(object), Some(link)) = (
+            object_in(files, section.seg),
+            link_in(files, at.word, section),
+        ) else {
+            return Err(LinkFault::Refused(LinkCode::L1, None));
+        };
+        let landing = landing_of(self, catalog, files, at.ring, section, object, link);
+        snap_by(alloc, files, at.ring, link, landing)
+    }
+}

@@ -1,0 +1,68 @@
+//! The search for a segment by a reference name.
+
+ghost use Rattle.std.specs.Prelude.{ℕ, ◌≡◌, ◌<◌, ◌^◌, ◌++◌, ◌∷◌, [], filter_map, IfSome};
+ghost use Rattle.m36_link.specs.Names.{AreNames};
+ghost use Rattle.m36_link.specs.Known.{initiated};
+ghost use Rattle.m36_link.specs.Search.{found_in, directories_searched, head_of};
+
+use crate::file::FIRST_SEGMENT;
+use crate::names::RingName;
+use indexmap::IndexMap;
+use m36_dir::Catalog;
+use m36_text::Name;
+
+/// The number of the segment that is initiated under a name in a ring.
+#[tactic(auto, unfolding(crate::specs::Known::initiated), using(crate::proofs::KnownNames::long_absent))]
+pub(crate) fn initiated(names: &IndexMap<RingName, u16>, ring: u8, name: &[u8]) -> Option<u16>
+    requires { AreNames names.now.entries }
+    ensures value { result ≡ initiated names.now.entries ring name.now }
+    ensures bound { IfSome result (λ seg. seg < 2 ^ 15) }
+{
+    match Name::new(name) {
+        Some(name) => names.get(&RingName { name, ring }).copied(),
+        None => None,
+    }
+}
+
+// The number of the segment of a directory that has a name.
+#[tactic(auto, unfolding(crate::specs::Search::found_in))]
+fn found_in(catalog: &Catalog, name: &[u8], dir: u16) -> Option<u16>
+    ensures value { result ≡ found_in catalog.now name.now dir }
+    ensures bound { IfSome result (λ seg. seg < 2 ^ 15) }
+{
+    let _count = catalog.count();
+    match catalog.find(dir, name) {
+        Some(i) => Some(FIRST_SEGMENT + i as u16),
+        None => None,
+    }
+}
+
+// The first of the directories that has the name.
+fn first_in(catalog: &Catalog, name: &[u8], directories: &[u16]) -> Option<u16>
+    ensures value { result ≡ head_of (filter_map (found_in catalog.now name.now) directories.now) }
+    ensures bound { IfSome result (λ seg. seg < 2 ^ 15) }
+{
+    let mut rest = directories;
+    while let [dir, others @ ..] = rest {
+        if let Some(seg) = found_in(catalog, name, *dir) {
+            return Some(seg);
+        }
+        rest = others;
+    }
+    None
+}
+
+/// The number of the segment of a name: of the directory that refers, else of the working directory, else of the first
+/// library that has the name.
+pub(crate) fn searched_in_directories(catalog: &Catalog, name: &[u8], from: u16) -> Option<u16>
+    ensures value { result ≡ head_of (filter_map (found_in catalog.now name.now) (directories_searched catalog.now from)) }
+    ensures bound { IfSome result (λ seg. seg < 2 ^ 15) }
+{
+    if let Some(seg) = found_in(catalog, name, from) {
+        return Some(seg);
+    }
+    if let Some(seg) = found_in(catalog, name, catalog.work()) {
+        return Some(seg);
+    }
+    first_in(catalog, name, catalog.libraries())
+}

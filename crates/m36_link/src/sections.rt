@@ -1,0 +1,122 @@
+//! Where sections are laid.
+
+ghost use Rattle.std.specs.Prelude.{ℕ, ◌≡◌, ◌+◌, ◌<◌, ◌≤◌, ◌^◌, Bool, ◌&&◌, nat_eq, find, length, option_copied, IfOk};
+ghost use Rattle.obj36_parts.specs.ObjectSegment.{linkage_section};
+ghost use Rattle.m36_link.specs.Known.{laid_in, behind, base_behind, base_of, laid_words};
+ghost use Rattle.m36_link.specs.Landing.{home_of};
+
+use crate::laid::Laid;
+use m36_model::LinkCode;
+use obj36::{Object, Section};
+
+/// How many words a linkage offset table has.
+const LOT_WORDS: u32 = 1024;
+
+/// How many words a linkage segment may have.
+const SEGMENT_WORDS: u32 = 1 << 18;
+
+/// The section of a segment in a ring, and whether it has to be laid.
+#[derive(Clone, Copy, Debug)]
+pub(crate) struct Home {
+    pub(crate) section: Laid,
+    pub(crate) is_new: bool,
+}
+
+/// How many words the linkage section of an object has.
+#[tactic(auto, unfolding(crate::specs::Known::laid_words))]
+pub(crate) fn linkage_size(object: &Object) -> u32
+    requires { length (laid_words object.now) ≤ 2 ^ 18 }
+    ensures value { result ≡ length (linkage_section object.now) }
+    ensures bound { result ≤ 2 ^ 18 }
+{
+    object.section(Section::Linkage).len() as u32
+}
+
+// How many words are laid for an object.
+#[tactic(auto, unfolding(crate::specs::Known::laid_words))]
+fn laid_size(object: &Object) -> u32
+    requires { length (laid_words object.now) ≤ 2 ^ 18 }
+    ensures value { result ≡ length (laid_words object.now) }
+    ensures some { 8 ≤ result }
+    ensures bound { result ≤ 2 ^ 18 }
+{
+    linkage_size(object) + object.section(Section::Static).len() as u32
+}
+
+// The section of a segment that is laid in a ring.
+#[tactic(auto, unfolding(crate::specs::Known::laid_in))]
+pub(crate) fn laid_in(laid: &[Laid], ring: u8, seg: u16) -> Option<Laid>
+    ensures { result ≡ laid_in laid.now ring seg }
+{
+    laid.iter()
+        .copied()
+        .find(|l| l.ring == ring && l.seg == seg)
+}
+
+// The even word behind a section.
+#[tactic(auto, unfolding(crate::specs::Known::behind))]
+fn behind(section: &Laid) -> u32
+    ensures value { result ≡ behind section.now }
+    ensures bound { result ≤ 2 ^ 18 }
+{
+    let end = section.base + section.size;
+    end + end % 2
+}
+
+// Where the next section of a ring goes behind one more, where it would go to a word without it.
+fn base_behind(ring: u8, base: u32, section: &Laid) -> u32
+    requires { base ≤ 2 ^ 18 }
+    ensures value { result ≡ base_behind ring base section.now }
+    ensures bound { result ≤ 2 ^ 18 }
+{
+    if section.ring == ring {
+        behind(section)
+    } else {
+        base
+    }
+}
+
+// Where the next section of a ring goes.
+#[tactic(auto, unfolding(crate::specs::Known::next_base))]
+fn base_of(laid: &[Laid], ring: u8) -> u32
+    ensures value { result ≡ base_of laid.now ring }
+    ensures bound { result ≤ 2 ^ 18 }
+{
+    let mut base = LOT_WORDS;
+    let mut rest = laid;
+    while let [section, others @ ..] = rest {
+        base = base_behind(ring, base, section);
+        rest = others;
+    }
+    base
+}
+
+/// The section of an object in a ring: as it is laid, or as it has to be; L6 where it would end past the segment.
+#[tactic(auto, unfolding(crate::specs::Landing::home_of))]
+pub(crate) fn home_of(laid: &[Laid], ring: u8, seg: u16, object: &Object) -> Result<Home, LinkCode>
+    requires ring { ring < 8 }
+    requires seg { seg < 2 ^ 15 }
+    requires size { length (laid_words object.now) ≤ 2 ^ 18 }
+    ensures { result ≡ home_of laid.now ring seg object.now }
+{
+    if let Some(section) = laid_in(laid, ring, seg) {
+        return Ok(Home {
+            section,
+            is_new: false,
+        });
+    }
+    let base = base_of(laid, ring);
+    let size = laid_size(object);
+    if base + size > SEGMENT_WORDS {
+        return Err(LinkCode::L6(base, size));
+    }
+    Ok(Home {
+        section: Laid {
+            base,
+            size,
+            seg,
+            ring,
+        },
+        is_new: true,
+    })
+}
