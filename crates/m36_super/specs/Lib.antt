@@ -1,0 +1,9 @@
+pub mod Library
+pub mod Descriptors
+pub mod BootedImage
+pub mod Services
+pub mod Coming
+pub mod FlatRun
+pub mod BootedRun
+pub mod TurnLaws
+pub mod SuperFields
