@@ -1,6 +1,5 @@
 pub mod Library
-pub mod Descriptors
-pub mod BootedImage
+pub mod Laying
 pub mod Services
 pub mod Coming
 pub mod FlatRun
