@@ -3,7 +3,7 @@ use Rattle.std.specs.Prelude.{ℕ, List, codes}
 use Rattle.m36_reading.specs.declared.status.Status.{Status}
 use Rattle.m36_reading.specs.declared.status.Status.TheVariants.{Done, Usage, ReadFault, WriteFault, BadFile, AuditNo, MachineStop, Steps, NoMemory}
 use Rattle.m36_reading.specs.declared.status.Code.{Code}
-use Rattle.m36_reading.specs.declared.status.Code.TheVariants.{F1, F2, F3, T3, T4, I1, I2, I3, P1, P2, O1, O2, O3, O4, O5, O6, O7, O8, E1, E2, E3, E4, E5, E6, E7, E8}
+use Rattle.m36_reading.specs.declared.status.Code.TheVariants.{F1, F2, F3, T3, T4, I1, I2, I3, P1, P2, O1, O2, O3, O4, O5, O6, O7, O8, E1, E2, E3, E4, E5, E6, E7, E8, B1, B2, B3, B4, B5}
 
 abbrev pub status_name : Status → List ℕ
 status_name Done = codes "Done"
@@ -54,3 +54,8 @@ code_name E5 = codes "E5"
 code_name E6 = codes "E6"
 code_name E7 = codes "E7"
 code_name E8 = codes "E8"
+code_name B1 = codes "B1"
+code_name B2 = codes "B2"
+code_name B3 = codes "B3"
+code_name B4 = codes "B4"
+code_name B5 = codes "B5"

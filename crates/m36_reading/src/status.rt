@@ -61,6 +61,16 @@ pub enum Code {
     E7,
     /// A section, or an object, that grows too long.
     E8,
+    /// A line of a bind file that is not of its form, or not in its order.
+    B1,
+    /// An object that is not among those that were read.
+    B2,
+    /// A name that stands twice, or that two objects define.
+    B3,
+    /// A bound object that is too large, or a part of a word that does not fit where it goes.
+    B4,
+    /// A name that no object defines.
+    B5,
 }
 
 /// A refused file.
@@ -71,7 +81,7 @@ pub struct Bad {
     pub code: Code,
     /// The place that the code speaks of: for an image its line, counted from 1; for T3 the count of the bytes, and for
     /// T4 the place of the last one; for an object the place of a word, counted from 0, and for O1 the count of the words;
-    /// for a source the line, counted from 1; for a file as a whole 0.
+    /// for a source or a bind file the line, counted from 1, and for B4 0; for a file as a whole 0.
     pub at: u32,
     /// The column of a source, in bytes counted from 1; 0 for every other file.
     pub column: u32,
@@ -135,6 +145,11 @@ impl Code {
             Code::E6 => "E6",
             Code::E7 => "E7",
             Code::E8 => "E8",
+            Code::B1 => "B1",
+            Code::B2 => "B2",
+            Code::B3 => "B3",
+            Code::B4 => "B4",
+            Code::B5 => "B5",
         }
     }
 }

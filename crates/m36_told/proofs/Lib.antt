@@ -3,3 +3,4 @@ pub mod LineLaws
 pub mod SetLaws
 pub mod ToldLaws
 pub mod AlmLaws
+pub mod BindLaws

@@ -2,4 +2,5 @@ pub mod Assemblies
 pub mod LinesIn
 pub mod Told
 pub mod Telling
+pub mod Binding
 pub mod Setting

@@ -1,6 +1,7 @@
 //! Commands whose answer is told: what they read alone decides which files are written and which text is put.
 //!
-//! `print NAME` puts the print of an object. `alm NAME` assembles a source, writes the object and puts the listing. Each is
+//! `print NAME` puts the print of an object. `alm NAME` assembles a source, writes the object and puts the listing.
+//! `bind NAME` reads a bind file and its components, writes the bound object and puts its print. Each is
 //! a reading (`specs/Telling.antt`) that comes to files and a text, and [`tell`] does what it comes to: the files are
 //! written first, in order, and then the text is put line by line, each line with its line feed in one piece. Behind a file
 //! that could not be written nothing is written or put.
@@ -9,10 +10,12 @@
 #![tactic(auto)]
 
 pub mod assembling;
+pub mod binding;
 mod line_output;
 pub mod printing;
 pub mod telling;
 
 pub use assembling::{AlmFiles, alm_file};
+pub use binding::{BindFiles, bind_file};
 pub use printing::print_file;
 pub use telling::{Told, tell};

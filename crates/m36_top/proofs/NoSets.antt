@@ -23,7 +23,7 @@ use Rattle.m36_ran.specs.Ran.{state_reads, run_answer, audit_answer, bare_by, st
 use Rattle.m36_scheduled.specs.Scheduled.{procs_reads}
 use Rattle.m36_scheduled.proofs.YesAnswers.{procs_sets}
 use Rattle.m36_top.specs.declared.command.Command.{Command}
-use Rattle.m36_top.specs.declared.command.Command.TheVariants.{Bare, Audit, Procs, Print, Alm}
+use Rattle.m36_top.specs.declared.command.Command.TheVariants.{Bare, Audit, Procs, Print, Alm, Bind}
 use Rattle.m36_top.specs.Dues.{Due, Told, Image, Schedule, on_image, on_procs, IsDueOf, WantsOf, due_kind}
 use Rattle.m36_top.specs.Commands.{reads, writes_files}
 use Rattle.m36_top.specs.TopCall.{WriteRose, WritesStand, WriteCauseBy, KeepsBy}
@@ -119,6 +119,7 @@ reads_none (Audit file) none = audit_none file
 reads_none (Procs file unaudited) none = procs_none file unaudited
 reads_none (Print name) none = print_none name
 reads_none (Alm files) none = absurd (cc)
+reads_none (Bind files) none = absurd (cc)
 
 pub no_sets : (command : Command) (asked : List Asked) (given : Early Due) → writes_files command ≡ false → Comes (reads command) asked (Came given) → NoSets given
 no_sets command asked given none came = comes_always NoSets (reads command) asked given (reads_none command none) came

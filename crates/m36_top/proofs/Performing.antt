@@ -11,15 +11,17 @@ use Rattle.m36_reading.specs.Ends.{end_of}
 use Rattle.m36_reading.specs.Doing.{EndsBy, Does}
 use Rattle.m36_reading.proofs.EndLaws.{IsKindOf, does_mapped}
 use Rattle.m36_told.specs.declared.assembling.AlmFiles.{AlmFiles}
+use Rattle.m36_told.specs.declared.binding.BindFiles.{BindFiles}
 use Rattle.m36_told.specs.Told.{ToldFields, told_kind}
 use Rattle.m36_told.specs.Telling.{print_reads, alm_reads}
+use Rattle.m36_told.specs.Binding.{bind_reads}
 use Rattle.m36_ran.specs.declared.command.BareRun.{BareRun}
 use Rattle.m36_ran.specs.declared.command.ImageCommand.{ImageCommand}
 use Rattle.m36_ran.specs.declared.command.ImageCommand.TheVariants as image
 use Rattle.m36_ran.specs.Ran.{state_reads, state_kind}
 use Rattle.m36_scheduled.specs.Scheduled.{procs_reads, procs_kind}
 use Rattle.m36_top.specs.declared.command.Command.{Command}
-use Rattle.m36_top.specs.declared.command.Command.TheVariants.{Bare, Audit, Procs, Print, Alm}
+use Rattle.m36_top.specs.declared.command.Command.TheVariants.{Bare, Audit, Procs, Print, Alm, Bind}
 use Rattle.m36_top.specs.Dues.{Due, Told, on_image, on_procs, due_kind}
 use Rattle.m36_top.specs.Commands.{reads}
 use Rattle.m36_top.specs.TopCall.{Through, IsUnasked}
@@ -83,7 +85,15 @@ unfolding reads
 performs_alm files result old new before after does =
     does_mapped told_kind due_kind Told (alm_reads files) result old new before after told_is does
 
-pub ruleset performing = (performs_bare, performs_audit, performs_procs, performs_print, performs_alm)
+pub performs_bind :
+    (files : BindFiles) (result : Status) (old new : Outside) (before after : List Asked)
+    → Does told_kind (bind_reads files) result old new before after
+    → Does due_kind (reads (Bind files)) result old new before after
+unfolding reads
+performs_bind files result old new before after does =
+    does_mapped told_kind due_kind Told (bind_reads files) result old new before after told_is does
+
+pub ruleset performing = (performs_bare, performs_audit, performs_procs, performs_print, performs_alm, performs_bind)
 
 -- ---- whether the words are a command
 

@@ -2,11 +2,12 @@
 use Rattle.std.specs.Prelude.{Bool, true, false}
 use Rattle.m36_reading.specs.Reading.{Reading, Early, mapped}
 use Rattle.m36_told.specs.Telling.{print_reads, alm_reads}
+use Rattle.m36_told.specs.Binding.{bind_reads}
 use Rattle.m36_ran.specs.Ran.{state_reads}
 use Rattle.m36_scheduled.specs.Scheduled.{procs_reads}
 use Rattle.m36_ran.specs.declared.command.ImageCommand.TheVariants as image
 use Rattle.m36_top.specs.declared.command.Command.{Command}
-use Rattle.m36_top.specs.declared.command.Command.TheVariants.{Bare, Audit, Procs, Print, Alm}
+use Rattle.m36_top.specs.declared.command.Command.TheVariants.{Bare, Audit, Procs, Print, Alm, Bind}
 use Rattle.m36_top.specs.Dues.{Due, Told, on_image, on_procs}
 
 unfoldable pub reads : Command → Reading (Early Due)
@@ -15,6 +16,7 @@ reads (Audit file) = mapped (on_image image.Audit) (state_reads file)
 reads (Procs file unaudited) = mapped (on_procs unaudited) (procs_reads file)
 reads (Print name) = mapped Told (print_reads name)
 reads (Alm files) = mapped Told (alm_reads files)
+reads (Bind files) = mapped Told (bind_reads files)
 
 -- which commands write a file
 abbrev pub writes_files : Command → Bool
@@ -23,3 +25,4 @@ writes_files (Audit file) = false
 writes_files (Procs file unaudited) = false
 writes_files (Print name) = false
 writes_files (Alm files) = true
+writes_files (Bind files) = true

@@ -5,12 +5,13 @@
 --     procs FILE [--unaudited]
 --     print NAME
 --     alm NAME
+--     bind NAME
 --
 -- The first word is the command. Operands and options follow it in any order, and an option stands at most once. Behind
 -- `--`, which may stand once, each word is an operand. `--steps N` may be written `--steps=N`; the value of `--steps` is
 -- the next word, whatever it is. No other list of words is a command.
 --
---     FILE, NAME   1 to 32 of `A-Z a-z 0-9 _ .`, not beginning with `.`; of `alm` at most 27, since its source is NAME.alm
+--     FILE, NAME   1 to 32 of `A-Z a-z 0-9 _ .`, not beginning with `.`; of `alm` and `bind` at most 27, since they read NAME.alm and NAME.bind
 --     N            1 to 8 decimal digits, at most 10,000,000; without `--steps` 100,000
 use Rattle.std.specs.Prelude.{ℕ, Bool, true, false, not, ◌&&◌, nat_le, List, [], ◌∷◌, ◌++◌, length, take, drop, codes, Option, Some, None, unwrap_or, if◌then◌else◌}
 use Rattle.std.specs.Option.{is_none, option_map, option_and_then}
@@ -20,7 +21,7 @@ use Rattle.m36_top.specs.declared.words.Given.{Given}
 use Rattle.m36_top.specs.declared.words.Expects.{Expects}
 use Rattle.m36_top.specs.declared.words.Expects.TheVariants as expects
 use Rattle.m36_top.specs.declared.command.Command.{Command}
-use Rattle.m36_top.specs.declared.command.Command.TheVariants.{Bare, Audit, Procs, Print, Alm}
+use Rattle.m36_top.specs.declared.command.Command.TheVariants.{Bare, Audit, Procs, Print, Alm, Bind}
 
 -- operands: the files of all commands
 abbrev pub operand_of : List ℕ → Option (List ℕ)
@@ -109,11 +110,18 @@ alm_of name =
 abbrev pub alm : Given → Option Command
 alm g = if has_no_option g then option_and_then alm_of g.operand else None
 
+abbrev pub bind_of : List ℕ → Option Command
+bind_of name =
+    if nat_le (length name) 27 then Some (Bind (record { bindfile = name ++ codes ".bind"; object = name })) else None
+
+abbrev pub bind : Given → Option Command
+bind g = if has_no_option g then option_and_then bind_of g.operand else None
+
 abbrev pub Entry : Type 0
 Entry = List ℕ × (Given → Option Command)
 
 abbrev pub commands : List Entry
-commands = (codes "bare", bare) ∷ (codes "audit", audit) ∷ (codes "procs", procs) ∷ (codes "print", print) ∷ (codes "alm", alm) ∷ []
+commands = (codes "bare", bare) ∷ (codes "audit", audit) ∷ (codes "procs", procs) ∷ (codes "print", print) ∷ (codes "alm", alm) ∷ (codes "bind", bind) ∷ []
 
 -- the command of a word
 abbrev pub command_in : List Entry → List ℕ → Given → Option Command

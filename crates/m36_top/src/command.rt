@@ -2,7 +2,7 @@
 
 use m36_ran::BareRun;
 use m36_text::Name;
-use m36_told::AlmFiles;
+use m36_told::{AlmFiles, BindFiles};
 
 /// What the words of the command line ask for.
 #[derive(Drop)]
@@ -17,4 +17,6 @@ pub enum Command {
     Print(Name),
     /// `alm NAME`: assembles a source, writes the object, and then the listing.
     Alm(AlmFiles),
+    /// `bind NAME`: binds the components of a bind file, writes the object, and then its print.
+    Bind(BindFiles),
 }

@@ -7,6 +7,7 @@
 //! line is written for each step, and an end line. `procs FILE` reads a text of several processes on one core and their
 //! schedule, audits them together, and makes the events of the schedule in the same way. `print NAME` unpacks an object and writes its print.
 //! `alm NAME` assembles the source NAME.alm, writes the object as the file NAME, and then the listing.
+//! `bind NAME` binds the objects that NAME.bind names, writes the bound object as the file NAME, and then its print.
 //!
 //! What [`m36`] promises, whatever its arguments:
 //!
@@ -45,7 +46,7 @@ pub use laws::law_due;
 pub use m36_image::{Image, ImageFault, read_image};
 pub use m36_ran::BareRun;
 pub use m36_reading::{Bad, Code, Status};
-pub use m36_told::AlmFiles;
+pub use m36_told::{AlmFiles, BindFiles};
 pub use status_report::report;
 pub use top::m36;
 pub use words::command_of;

@@ -27,3 +27,14 @@ pub fn source_of(object: &[u8]) -> Option<Name>
     let _ = name.try_extend_from_slice(b".alm");
     Name::new(name.as_slice())
 }
+
+/// The name of the bind file of an object: NAME.bind.
+pub fn bindfile_of(object: &[u8]) -> Option<Name>
+    requires { length object.now ≤ 27 }
+    ensures { result ≡ Some (object.now ++ codes ".bind") }
+{
+    let mut name: ArrayVec<u8, 32> = ArrayVec::new();
+    let _ = name.try_extend_from_slice(object);
+    let _ = name.try_extend_from_slice(b".bind");
+    Name::new(name.as_slice())
+}

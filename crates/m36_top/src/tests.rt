@@ -157,6 +157,8 @@ const PRINT: List = &[b"print", b"e"];
 
 const ALM: List = &[b"alm", b"e"];
 
+const BIND: List = &[b"bind", b"e"];
+
 /// The numbers of the reads, writes and puts that fail.
 type Failing<'a> = (&'a [u32], &'a [u32], &'a [u32]);
 
@@ -258,6 +260,19 @@ fn refuses_files(rt: HostRuntime) -> Result<(), NoMemory> {
             (Code::E3, 2, 2),
         ),
         (ALM, (b"e", b""), b"e.alm", (Code::F1, 0, 0)),
+        (BIND, (b"e", b""), b"e.bind", (Code::F1, 0, 0)),
+        (
+            BIND,
+            (b"e.bind", b"object e\nobject e\n"),
+            b"e",
+            (Code::F1, 0, 0),
+        ),
+        (
+            BIND,
+            (b"e.bind", b"object e\nversion 2\n"),
+            b"e.bind",
+            (Code::B1, 2, 0),
+        ),
     ] {
         let (status, _, out) = called(alloc, list, file, (NO, NO, NO))?;
         assert!(rt; out.bytes().is_empty());

@@ -15,7 +15,7 @@ use m36_outside::{Folder, Sink, Text};
 use m36_ran::{ImageCommand, image_file};
 use m36_reading::Status;
 use m36_scheduled::procs_file;
-use m36_told::{alm_file, print_file};
+use m36_told::{alm_file, bind_file, print_file};
 use std::alloc::Global;
 
 /// Does what a command says.
@@ -43,6 +43,7 @@ pub fn perform<F: Folder, S: Sink>(
         }
         Command::Print(name) => print_file(alloc, name.bytes(), folder, out),
         Command::Alm(files) => alm_file(alloc, files, folder, out),
+        Command::Bind(files) => bind_file(alloc, files, folder, out),
     }
 }
 
@@ -71,7 +72,8 @@ fn answer<F: Folder, S: Sink>(alloc: Global, words: &[Text], folder: &mut F, out
 /// reads the file as a text of processes, audits them together, and writes the audit text; where the audit passes, or
 /// `--unaudited` is given, it then makes the events of the schedule, and writes a line for each and the last line. `print NAME`
 /// unpacks the words of the file, reads them as an object, and writes its print. `alm NAME` assembles the source NAME.alm,
-/// writes the words of the object, packed, as the file NAME, and then the listing.
+/// writes the words of the object, packed, as the file NAME, and then the listing. `bind NAME` reads NAME.bind and the objects
+/// that it names, writes the words of the bound object, packed, as the file NAME, and then its print.
 #[tactic(auto, using(crate::proofs::TopEnds::tops))]
 pub fn m36<F: Folder, S: Sink>(alloc: Global, words: &[Text], folder: &mut F, out: &mut S) -> Status
     // What is asked, answered, written and put, and in which pieces, by what the folder answers, told or not.
@@ -102,7 +104,7 @@ pub fn m36<F: Folder, S: Sink>(alloc: Global, words: &[Text], folder: &mut F, ou
         (outside_of F.files F.read_faults F.write_faults S.written S.taken S.faults folder.new out.new)
         (F.asked folder.old) (F.asked folder.new) }
 
-    // No command but `alm` changes a file.
+    // No command but `alm` and `bind` changes a file.
     ensures files { KeepsFiles (command_of words.now)
         (outside_of F.files F.read_faults F.write_faults S.written S.taken S.faults folder.old out.old)
         (outside_of F.files F.read_faults F.write_faults S.written S.taken S.faults folder.new out.new) }

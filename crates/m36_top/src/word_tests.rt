@@ -74,6 +74,8 @@ fn knows_its_words(rt: HostRuntime) -> Result<(), NoMemory> {
         (&[b"alm", b"ABCDEFGHIJKLMNOPQRSTUVWXYZ_."], 1, 0),
         (&[b"alm"], 1, 0),
         (&[b"alm", b"f", b"--unaudited"], 1, 0),
+        (&[b"bind", b"ABCDEFGHIJKLMNOPQRSTUVWXYZ_"], 4, 0),
+        (&[b"bind", b"ABCDEFGHIJKLMNOPQRSTUVWXYZ_."], 1, 0),
         (&[b"print", b"f", b"--unaudited"], 1, 0),
         (&[b"print", b"f", b"f"], 1, 0),
         (&[b"audit", b"f", b"--unaudited"], 1, 0),

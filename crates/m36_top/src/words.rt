@@ -1,14 +1,14 @@
 //! The words of the command line.
 
 ghost use Rattle.std.specs.Prelude.{ℕ, ◌≡◌, ◌≤◌, ◌++◌, true, length, drop, codes, Some, IfSome};
-ghost use Rattle.m36_top.specs.Words.{steps_of, with_operand, with_steps, with_unaudited, expecting, is_steps_with_value, with_any, with_word, ended_by, with_words, nothing, bare, has_no_option, audit, procs, print, alm_of, alm, commands, command_in, command_of};
+ghost use Rattle.m36_top.specs.Words.{steps_of, with_operand, with_steps, with_unaudited, expecting, is_steps_with_value, with_any, with_word, ended_by, with_words, nothing, bare, has_no_option, audit, procs, print, alm_of, alm, bind_of, bind, commands, command_in, command_of};
 
 use crate::command::Command;
-use crate::names::{operand_of, source_of};
+use crate::names::{bindfile_of, operand_of, source_of};
 use m36_outside::Text;
 use m36_ran::BareRun;
 use m36_text::{Name, short_decimal_in};
-use m36_told::AlmFiles;
+use m36_told::{AlmFiles, BindFiles};
 
 /// The most digits of a number of steps.
 const MOST_DIGITS: usize = 8;
@@ -19,8 +19,8 @@ const MOST_STEPS: u64 = 10000000;
 /// The most steps of a run where no number is given.
 const DEFAULT_STEPS: u32 = 100000;
 
-/// The most characters of an object's name that `alm` is given.
-const LONGEST_ALM_NAME: usize = 27;
+/// The most characters of an object's name that `alm` or `bind` is given.
+const LONGEST_MADE_NAME: usize = 27;
 
 /// What the next word is read as.
 #[derive(Clone, Copy)]
@@ -230,7 +230,7 @@ fn print(given: Given) -> Option<Command>
 fn alm_of(object: Name) -> Option<Command>
     ensures { result ≡ alm_of object }
 {
-    if object.bytes().len() > LONGEST_ALM_NAME {
+    if object.bytes().len() > LONGEST_MADE_NAME {
         return None;
     }
     let source = source_of(object.bytes())?;
@@ -243,6 +243,27 @@ fn alm(given: Given) -> Option<Command>
 {
     if has_no_option(&given) {
         alm_of(given.operand?)
+    } else {
+        None
+    }
+}
+
+fn bind_of(object: Name) -> Option<Command>
+    ensures { result ≡ bind_of object }
+{
+    if object.bytes().len() > LONGEST_MADE_NAME {
+        return None;
+    }
+    let bindfile = bindfile_of(object.bytes())?;
+    Some(Command::Bind(BindFiles { bindfile, object }))
+}
+
+// `bind NAME`
+fn bind(given: Given) -> Option<Command>
+    ensures { result ≡ bind given }
+{
+    if has_no_option(&given) {
+        bind_of(given.operand?)
     } else {
         None
     }
@@ -266,6 +287,9 @@ fn command_in(word: &[u8], given: Given) -> Option<Command>
     }
     if word == b"alm".as_slice() {
         return alm(given);
+    }
+    if word == b"bind".as_slice() {
+        return bind(given);
     }
     None
 }

@@ -1,0 +1,16 @@
+-- The object was read.
+use Rattle.std.proofs.Common.{ℕ, List, [], ◌∷◌, ◌++◌, Ok, subst}
+use Rattle.m36_reading.specs.Outside.{folder_of}
+use Rattle.m36_reading.specs.Doing.{Reads}
+use Rattle.m36_reading.specs.Readers.{file_object}
+use Rattle.m36_reading.proofs.ReadLaws.{reads_on}
+use Rattle.m36_told.specs.Binding.{object_onto}
+use Rattle.m36_told.proofs.binding.read_one.Goals as goal
+
+pub returns : goal.returns
+unfolding object_onto
+returns g c =
+    let folder = folder_of g.F.Folder.files g.F.Folder.read_faults g.F.Folder.write_faults in
+    reads_on (file_object c.args.name.now) (λ parts. Ok (c.args.objects ++ parts ∷ [])) c.in_ok-object.object c.with_object.result _ _ _ _
+    (subst (λ (n : List ℕ). Reads (file_object n) (Ok c.in_ok-object.object) (folder c.args.folder.now) (folder c.read_object.new.folder) (g.F.Folder.asked c.args.folder.now) (g.F.Folder.asked c.read_object.new.folder)) c.bytes.ensures.value c.in_ok-object.ensures)
+    c.with_object.ensures

@@ -1,0 +1,59 @@
+-- What the command `bind NAME` tells, by what it reads: the bind file, and then the objects of its components.
+use Rattle.std.specs.Prelude.{ℕ, ◌≡◌, List, [], ◌∷◌, ◌++◌, Result, Ok, Err}
+use Rattle.obj36_parts.specs.PartsFields.{PartsFields}
+use Rattle.m36_list.specs.Print.{print_of}
+use Rattle.m36_bindfile.specs.declared.fault.BindFault.{BindFault}
+use Rattle.m36_bindfile.specs.declared.fault.BindFault.TheVariants as bind
+use Rattle.m36_bindfile.specs.BindFile.{bind_lines, names_by}
+use Rattle.m36_bind.specs.Bound.{bound_of}
+use Rattle.m36_reading.specs.declared.status.Code.TheVariants as code
+use Rattle.m36_reading.specs.declared.refusal.Refusal.{Refusal}
+use Rattle.m36_reading.specs.declared.refusal.Refusal.TheVariants.{NoMemory}
+use Rattle.m36_reading.specs.Reading.{Reading, decided, Early, then_with}
+use Rattle.m36_reading.specs.Readers.{refused, file_bytes, file_object}
+use Rattle.m36_told.specs.declared.binding.BindFiles.{BindFiles}
+use Rattle.m36_told.specs.Told.{ToldFields}
+use Rattle.m36_told.specs.Assemblies.{object_bytes}
+
+-- a bind file that is refused, at a line
+abbrev pub bind_refused : List ℕ → BindFault → Refusal
+bind_refused name (bind.B1 line) = refused name code.B1 line
+bind_refused name (bind.B2 line) = refused name code.B2 line
+bind_refused name (bind.B3 line) = refused name code.B3 line
+bind_refused name (bind.B4 line) = refused name code.B4 line
+bind_refused name (bind.B5 line) = refused name code.B5 line
+bind_refused name bind.NoMemory = NoMemory
+
+-- the names of the components
+abbrev pub names_told : List ℕ → Result (List (List ℕ)) BindFault → Early (List (List ℕ))
+names_told file (Ok names) = Ok names
+names_told file (Err fault) = Err (bind_refused file fault)
+
+-- an object behind others
+unfoldable pub object_onto : List PartsFields → List ℕ → Reading (Early (List PartsFields))
+object_onto done name = then_with (file_object name) (λ parts. decided (Ok (done ++ parts ∷ [])))
+
+-- objects behind others, each with all its refusals before the next is read
+unfoldable pub objects_onto : List PartsFields → List (List ℕ) → Reading (Early (List PartsFields))
+objects_onto done [] = decided (Ok done)
+objects_onto done (name ∷ names) = then_with (object_onto done name) (λ more. objects_onto more names)
+
+-- the object is written, and then its print is put
+abbrev pub bound_told : List ℕ → PartsFields → ToldFields
+bound_told name parts =
+    record { sets = record { name = name; content = object_bytes parts } ∷ []; text = print_of name parts }
+
+abbrev pub bind_told : BindFiles → Result PartsFields BindFault → Early ToldFields
+bind_told files (Ok parts) = Ok (bound_told files.object parts)
+bind_told files (Err fault) = Err (bind_refused files.bindfile fault)
+
+-- the components of these names are read, and bound
+unfoldable pub names_read : BindFiles → List ℕ → List (List ℕ) → Reading (Early ToldFields)
+names_read files text names =
+    then_with (objects_onto [] names) (λ objects. decided (bind_told files (bound_of text names objects)))
+
+unfoldable pub text_read : BindFiles → List ℕ → Reading (Early ToldFields)
+text_read files text = then_with (decided (names_told files.bindfile (names_by (bind_lines text)))) (λ names. names_read files text names)
+
+unfoldable pub bind_reads : BindFiles → Reading (Early ToldFields)
+bind_reads files = then_with (file_bytes files.bindfile) (λ text. text_read files text)
