@@ -111,9 +111,9 @@ pub fn alm_file<F: Folder, S: Sink>(
 ) -> Status
     ensures { Does told_kind (alm_reads files.now) result
         (outside_of F.files F.wrote F.read_faults F.write_faults S.written S.taken S.faults
-            folder.old out.old)
+        folder.old out.old)
         (outside_of F.files F.wrote F.read_faults F.write_faults S.written S.taken S.faults
-            folder.new out.new)
+        folder.new out.new)
         (F.asked folder.old) (F.asked folder.new) }
 {
     match read_alm(alloc, files, folder) {

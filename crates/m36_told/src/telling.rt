@@ -75,9 +75,9 @@ pub fn write_sets<F: Folder>(alloc: Global, sets: &[Set], folder: &mut F) -> Wri
 pub fn tell<F: Folder, S: Sink>(alloc: Global, told: &Told, folder: &mut F, out: &mut S) -> Status
     ensures performs { Performs told_kind (Ok told.now) result
         (outside_of F.files F.wrote F.read_faults F.write_faults S.written S.taken S.faults
-            folder.old out.old)
+        folder.old out.old)
         (outside_of F.files F.wrote F.read_faults F.write_faults S.written S.taken S.faults
-            folder.new out.new) }
+        folder.new out.new) }
     ensures asked { F.asked folder.new ≡ F.asked folder.old }
 {
     match write_sets(alloc, told.sets.as_slice(), folder) {
