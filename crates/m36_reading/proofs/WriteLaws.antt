@@ -1,5 +1,5 @@
 -- The writes of files.
-use Rattle.std.proofs.Common.{◌≡◌, List, [], ◌∷◌, ◌++◌, refl, sym, ap, ◌∙◌}
+use Rattle.std.proofs.Common.{◌≡◌, List, [], ◌∷◌, ◌++◌, refl, ap, ◌∙◌}
 use Rattle.std.proofs.lemmas.List.{append-nil}
 use Rattle.m36_outside.specs.FolderCalls.{Wrote}
 use Rattle.m36_outside.specs.declared.folder.WriteAnswer.TheVariants.{Written}
