@@ -14,6 +14,7 @@ use Rattle.m36_reading.specs.Outside.{FolderState, SinkState}
 use Rattle.m36_reading.specs.Ends.{End, Answered, Cut, Unread, Starved, Unasked, end_of}
 use Rattle.m36_reading.specs.Doing.{EndsBy, Performs}
 use Rattle.m36_reading.proofs.ReadLaws.{gives_by}
+use Rattle.m36_reading.proofs.WriteLaws.{writes_none}
 use Rattle.m36_ran.specs.declared.command.ImageCommand.{ImageCommand}
 use Rattle.m36_ran.specs.Putting.{PutsBy, PutsDue, PutsSome}
 use Rattle.m36_ran.specs.Ran.{code_of, state_by, state_answer, IsIsolated, IsStateDue, state_kind}
@@ -68,6 +69,7 @@ ends_put command state Answered result f s s' p = record {
   made = record {
     status = p.puts.status;
     files = sym (ap (λ (sets : List Set). with_sets sets f.files) p.puts.sets);
+    wrote = sym (writes_none f.wrote p.due.sets p.puts.sets);
     text = p.puts.text;
     pieces = p.puts.pieces;
     read_faults = refl;
@@ -82,6 +84,7 @@ ends_put command state Cut result f s s' p = record {
   is_due = p.is_due;
   cut = inr (record {
     files = sym (ap (λ (sets : List Set). with_sets sets f.files) p.puts.sets);
+    wrote = sym (writes_none f.wrote p.due.sets p.puts.sets);
     text = p.puts.text;
     pieces = p.puts.pieces;
     cause = p.puts.cause;
@@ -92,7 +95,7 @@ ends_put command state Cut result f s s' p = record {
 ends_put command state Starved result f s s' p = inr (record {
   given = state;
   came = refl;
-  wants = record { files = refl; write_faults = refl; written = p.written; taken = p.taken; put_faults = p.faults };
+  wants = record { files = refl; wrote = refl; write_faults = refl; written = p.written; taken = p.taken; put_faults = p.faults };
   read_faults = refl;
 })
 ends_put command state Unread result f s s' p = absurd p

@@ -183,8 +183,10 @@ pub fn image_file<F: Folder, S: Sink>(
     out: &mut S,
 ) -> Status
     ensures { Does (state_kind command) (state_reads name.now) result
-        (outside_of F.files F.read_faults F.write_faults S.written S.taken S.faults folder.old out.old)
-        (outside_of F.files F.read_faults F.write_faults S.written S.taken S.faults folder.new out.new)
+        (outside_of F.files F.wrote F.read_faults F.write_faults S.written S.taken S.faults
+        folder.old out.old)
+        (outside_of F.files F.wrote F.read_faults F.write_faults S.written S.taken S.faults
+        folder.new out.new)
         (F.asked folder.old) (F.asked folder.new) }
 {
     match read_state(alloc, name, folder) {

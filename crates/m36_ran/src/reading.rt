@@ -43,8 +43,8 @@ pub fn state_in(alloc: Global, name: &[u8], bytes: &[u8]) -> Result<Image, Refus
 #[tactic(auto, using(m36_reading::proofs::ReadLaws::reads_early), unfolding(crate::specs::Ran::state_reads))]
 pub fn read_state<F: Folder>(alloc: Global, name: &[u8], folder: &mut F) -> Result<Image, Refusal>
     ensures { Reads (state_reads name.now) result
-        (folder_of F.files F.read_faults F.write_faults folder.old)
-        (folder_of F.files F.read_faults F.write_faults folder.new)
+        (folder_of F.files F.wrote F.read_faults F.write_faults folder.old)
+        (folder_of F.files F.wrote F.read_faults F.write_faults folder.new)
         (F.asked folder.old) (F.asked folder.new) }
 {
     let text = read_bytes(alloc, name, folder)?;

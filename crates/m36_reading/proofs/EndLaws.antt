@@ -34,8 +34,8 @@ ends_more kind Is Was Unasked result old new more e = absurd e
 
 -- ---- from a reading
 
-same_folder : (old now : FolderState) → now.files ≡ old.files → now.read_faults ≡ old.read_faults → now.write_faults ≡ old.write_faults → now ≡ old
-same_folder old now files reads writes = λ i. record { files = files i; read_faults = reads i; write_faults = writes i }
+same_folder : (old now : FolderState) → now.files ≡ old.files → now.wrote ≡ old.wrote → now.read_faults ≡ old.read_faults → now.write_faults ≡ old.write_faults → now ≡ old
+same_folder old now files wrote reads writes = λ i. record { files = files i; wrote = wrote i; read_faults = reads i; write_faults = writes i }
 
 -- what is due is done
 pub does_on :
@@ -47,7 +47,7 @@ does_on kind p d result old now sink new before after reads performs = record {
   passed = reads.passed;
   told = reads.told;
   ends =
-      subst (λ f. EndsBy kind (Comes p reads.asked) (end_of result) result (record { folder = f; sink = sink }) new) (same_folder old now reads.files reads.cause reads.write_faults)
+      subst (λ f. EndsBy kind (Comes p reads.asked) (end_of result) result (record { folder = f; sink = sink }) new) (same_folder old now reads.files reads.wrote reads.cause reads.write_faults)
       (ends_more kind (λ c. c ≡ Came (Ok d)) (Comes p reads.asked) (end_of result) result (record { folder = now; sink = sink }) new (λ c is. subst (Comes p reads.asked) (sym is) reads.comes) performs);
 }
 
@@ -61,7 +61,7 @@ does_told kind p d result old now sink new before after last reads performs same
 
 -- the reading has ended early
 idle_after : {D : Type 0} (p : Reading (Early D)) (r : Refusal) (old now : FolderState) (sink : SinkState) (before after : List Asked) → Reads p (Err r) old now before after → IsIdle (record { folder = old; sink = sink }) (record { folder = now; sink = sink })
-idle_after p r old now sink before after reads = record { files = reads.files; write_faults = reads.write_faults; written = refl; taken = refl; put_faults = refl }
+idle_after p r old now sink before after reads = record { files = reads.files; wrote = reads.wrote; write_faults = reads.write_faults; written = refl; taken = refl; put_faults = refl }
 
 pub does_stop :
     {D : Type 0} (kind : Kind D) (p : Reading (Early D)) (r : Refusal) (old now : FolderState) (sink : SinkState) (before after : List Asked)
@@ -79,6 +79,7 @@ does_stop kind p (BadFile bad) old now sink before after reads = record {
     made = record {
       status = refl;
       files = reads.files;
+      wrote = reads.wrote ∙ sym (append-nil old.wrote);
       text = grew_by_nothing sink.written;
       pieces = sym (append-nil sink.taken);
       read_faults = reads.cause;

@@ -2,3 +2,4 @@ pub mod Comings
 pub mod ReadLaws
 pub mod FileLaws
 pub mod EndLaws
+pub mod WriteLaws

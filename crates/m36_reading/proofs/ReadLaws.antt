@@ -44,16 +44,17 @@ memory_given A NoMemory definition is = tt
 pub bytes_read :
     (name bytes : List ℕ) (old new : FolderState) (before after : List Asked)
     → IfSome old.files (λ f. ReadSays (read.Read bytes) (f name)) → length bytes ≤ file_limit
-    → new.files ≡ old.files → new.read_faults ≡ old.read_faults → new.write_faults ≡ old.write_faults
+    → new.files ≡ old.files → new.wrote ≡ old.wrote → new.read_faults ≡ old.read_faults → new.write_faults ≡ old.write_faults
     → after ≡ before ++ (name, read.Read bytes) ∷ []
     → Reads (file_bytes name) (Ok bytes) old new before after
 unfolding file_bytes
-bytes_read name bytes old new before after told limit files stands writes passed = record {
+bytes_read name bytes old new before after told limit files wrote stands writes passed = record {
   asked = (name, read.Read bytes) ∷ [];
   passed = passed;
   told = (record { told = told; limit = limit }, tt);
   comes = (refl, refl);
   files = files;
+  wrote = wrote;
   cause = stands;
   write_faults = writes;
 }
@@ -61,16 +62,17 @@ bytes_read name bytes old new before after told limit files stands writes passed
 pub bytes_absent :
     (name : List ℕ) (r : Refusal) (old new : FolderState) (before after : List Asked)
     → IfSome old.files (λ f. ReadSays read.Absent (f name)) → Refuses r (refused name code.F1 0)
-    → new.files ≡ old.files → new.read_faults ≡ old.read_faults → new.write_faults ≡ old.write_faults
+    → new.files ≡ old.files → new.wrote ≡ old.wrote → new.read_faults ≡ old.read_faults → new.write_faults ≡ old.write_faults
     → after ≡ before ++ (name, read.Absent) ∷ []
     → Reads (file_bytes name) (Err r) old new before after
 unfolding file_bytes
-bytes_absent name r old new before after told is files stands writes passed = record {
+bytes_absent name r old new before after told is files wrote stands writes passed = record {
   asked = (name, read.Absent) ∷ [];
   passed = passed;
   told = (record { told = told; limit = tt }, tt);
   comes = (refl, gives_refusal (List ℕ) r (refused name code.F1 0) is);
   files = files;
+  wrote = wrote;
   cause = refused_cause (List ℕ) r (refused name code.F1 0) _ _ is stands;
   write_faults = writes;
 }
@@ -78,16 +80,17 @@ bytes_absent name r old new before after told is files stands writes passed = re
 pub bytes_large :
     (name : List ℕ) (r : Refusal) (old new : FolderState) (before after : List Asked)
     → IfSome old.files (λ f. ReadSays read.TooLarge (f name)) → Refuses r (refused name code.F2 0)
-    → new.files ≡ old.files → new.read_faults ≡ old.read_faults → new.write_faults ≡ old.write_faults
+    → new.files ≡ old.files → new.wrote ≡ old.wrote → new.read_faults ≡ old.read_faults → new.write_faults ≡ old.write_faults
     → after ≡ before ++ (name, read.TooLarge) ∷ []
     → Reads (file_bytes name) (Err r) old new before after
 unfolding file_bytes
-bytes_large name r old new before after told is files stands writes passed = record {
+bytes_large name r old new before after told is files wrote stands writes passed = record {
   asked = (name, read.TooLarge) ∷ [];
   passed = passed;
   told = (record { told = told; limit = tt }, tt);
   comes = (refl, gives_refusal (List ℕ) r (refused name code.F2 0) is);
   files = files;
+  wrote = wrote;
   cause = refused_cause (List ℕ) r (refused name code.F2 0) _ _ is stands;
   write_faults = writes;
 }
@@ -95,16 +98,17 @@ bytes_large name r old new before after told is files stands writes passed = rec
 pub bytes_failed :
     (name : List ℕ) (old new : FolderState) (before after : List Asked)
     → IfSome old.files (λ f. ReadSays read.Failed (f name))
-    → new.files ≡ old.files → Rose old.read_faults new.read_faults → new.write_faults ≡ old.write_faults
+    → new.files ≡ old.files → new.wrote ≡ old.wrote → Rose old.read_faults new.read_faults → new.write_faults ≡ old.write_faults
     → after ≡ before ++ (name, read.Failed) ∷ []
     → Reads (file_bytes name) (Err ReadFault) old new before after
 unfolding file_bytes
-bytes_failed name old new before after told files rose writes passed = record {
+bytes_failed name old new before after told files wrote rose writes passed = record {
   asked = (name, read.Failed) ∷ [];
   passed = passed;
   told = (record { told = told; limit = tt }, tt);
   comes = (refl, (refl, tt));
   files = files;
+  wrote = wrote;
   cause = rose;
   write_faults = writes;
 }
@@ -112,16 +116,17 @@ bytes_failed name old new before after told files rose writes passed = record {
 pub bytes_starved :
     (name : List ℕ) (old new : FolderState) (before after : List Asked)
     → IfSome old.files (λ f. ReadSays read.NoMemory (f name))
-    → new.files ≡ old.files → new.read_faults ≡ old.read_faults → new.write_faults ≡ old.write_faults
+    → new.files ≡ old.files → new.wrote ≡ old.wrote → new.read_faults ≡ old.read_faults → new.write_faults ≡ old.write_faults
     → after ≡ before ++ (name, read.NoMemory) ∷ []
     → Reads (file_bytes name) (Err NoMemory) old new before after
 unfolding file_bytes
-bytes_starved name old new before after told files stands writes passed = record {
+bytes_starved name old new before after told files wrote stands writes passed = record {
   asked = (name, read.NoMemory) ∷ [];
   passed = passed;
   told = (record { told = told; limit = tt }, tt);
   comes = (refl, (refl, tt));
   files = files;
+  wrote = wrote;
   cause = stands;
   write_faults = writes;
 }
@@ -147,6 +152,7 @@ reads_then p next a result old now new before middle after first then = record {
   told = told_both old.files first.asked then.asked first.told (subst (λ f. AreTold f then.asked) first.files then.told);
   comes = comes_then p next first.asked then.asked a (coming result) first.comes then.comes;
   files = then.files ∙ first.files;
+  wrote = then.wrote ∙ first.wrote;
   cause = cause_on result old.read_faults now.read_faults new.read_faults first.cause then.cause;
   write_faults = then.write_faults ∙ first.write_faults;
 }
@@ -167,6 +173,7 @@ reads_nothing definition result old before gives = record {
   told = tt;
   comes = gives;
   files = refl;
+  wrote = refl;
   cause = gives_cause result definition old.read_faults gives;
   write_faults = refl;
 }
@@ -194,6 +201,7 @@ reads_stop A B p next r old new before after first = record {
   told = first.told;
   comes = comes_stop A B p next first.asked r first.comes;
   files = first.files;
+  wrote = first.wrote;
   cause = stop_cause A B r old.read_faults new.read_faults first.cause;
   write_faults = first.write_faults;
 }

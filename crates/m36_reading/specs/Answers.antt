@@ -1,6 +1,9 @@
 -- What is due to a command: the files that it writes, the text that it puts, in which pieces, and its status.
 use Rattle.std.specs.Prelude.{ℕ, ◌≡◌, List, [], ◌∷◌, Option, Some, Result, Ok, Err}
 use Rattle.m36_outside.specs.Files.{Files, with_told_file}
+use Rattle.m36_outside.specs.FolderCalls.{Wrote}
+use Rattle.m36_outside.specs.declared.folder.WriteAnswer.{WriteAnswer}
+use Rattle.m36_outside.specs.declared.folder.WriteAnswer.TheVariants.{Written}
 use Rattle.m36_reading.specs.declared.status.Status.{Status}
 use Rattle.m36_reading.specs.declared.status.Status.TheVariants as status
 use Rattle.m36_reading.specs.declared.refusal.Refusal.{Refusal}
@@ -33,3 +36,12 @@ IsDueBy IsDue (Err refusal) due = due ≡ unwritten (status_of refusal)
 abbrev pub with_sets : List Set → Option Files → Option Files
 with_sets [] files = files
 with_sets (set ∷ sets) files = with_sets sets (with_told_file set.name (Some set.content) files)
+
+-- the write of a file, and its answer
+abbrev pub write_of : WriteAnswer → Set → Wrote
+write_of answer set = (set.name, set.content, answer)
+
+-- the writes of these files, one after another, each of them written
+abbrev pub writes_of : List Set → List Wrote
+writes_of [] = []
+writes_of (set ∷ sets) = write_of Written set ∷ writes_of sets

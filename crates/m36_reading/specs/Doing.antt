@@ -1,16 +1,17 @@
 -- What a command does, by its reading and by the kind of what is due to it.
-use Rattle.std.specs.Prelude.{ℕ, ◌≡◌, ◌⊎◌, List, ◌∷◌, ◌++◌, Result, Ok, Err}
+use Rattle.std.specs.Prelude.{ℕ, ◌≡◌, ◌⊎◌, List, [], ◌∷◌, ◌++◌, Result, Ok, Err}
 use Rattle.m36_outside.specs.Counts.{Rose}
 use Rattle.m36_outside.specs.Passing.{TakesSome}
 use Rattle.m36_outside.specs.Written.{Grew, GrewWithin}
 use Rattle.m36_outside.specs.WriteAnswer.{DiffersAtMost}
+use Rattle.m36_outside.specs.declared.folder.WriteAnswer.TheVariants as write
 use Rattle.m36_reading.specs.declared.status.Status.{Status}
 use Rattle.m36_reading.specs.declared.refusal.Refusal.{Refusal}
 use Rattle.m36_reading.specs.declared.refusal.Refusal.TheVariants.{BadFile, ReadFault, NoMemory}
 use Rattle.m36_reading.specs.declared.setting.Set.{Set}
 use Rattle.m36_reading.specs.Reading.{Reading, Early}
 use Rattle.m36_reading.specs.Asking.{Asked, AreTold, Coming, Came, Failed, Wanting, Comes, coming}
-use Rattle.m36_reading.specs.Answers.{Answer, IsDueBy, with_sets}
+use Rattle.m36_reading.specs.Answers.{Answer, IsDueBy, with_sets, write_of, writes_of}
 use Rattle.m36_reading.specs.Outside.{FolderState, SinkState, Outside, IsIdle, NoneUnread}
 use Rattle.m36_reading.specs.Ends.{End, Answered, Cut, Unread, Starved, Unasked, end_of}
 
@@ -29,7 +30,7 @@ ReadCause (Err NoMemory) old new = new ≡ old
 
 -- A call performs a reading: what the folder was asked and answered before it, and after, differ by some answers, given
 -- one after another, each that of its files where it tells them; and by them the reading comes to what the call answers.
--- No file changes.
+-- No file changes, and none is written.
 pub record Reads
     {A : Type 0} (p : Reading (Early A)) (result : Result A Refusal) (old new : FolderState) (before after : List Asked)
     : Type 0 where
@@ -38,28 +39,34 @@ pub record Reads
   pub told : AreTold old.files asked
   pub comes : Comes p asked (coming result)
   pub files : new.files ≡ old.files
+  pub wrote : new.wrote ≡ old.wrote
   pub cause : ReadCause result old.read_faults new.read_faults
   pub write_faults : new.write_faults ≡ old.write_faults
 
 -- ---- writing
 
--- The status is the one that is due, its files are written, and its text is put whole, in its pieces.
+-- The status is the one that is due, its files are written, each once and no others, and its text is put whole, in its
+-- pieces.
 pub record IsMade (due : Answer) (result : Status) (old new : Outside) : Type 0 where
   pub status : due.status ≡ result
   pub files : new.folder.files ≡ with_sets due.sets old.folder.files
+  pub wrote : new.folder.wrote ≡ old.folder.wrote ++ writes_of due.sets
   pub text : Grew old.sink.written new.sink.written due.text
   pub pieces : new.sink.taken ≡ old.sink.taken ++ due.pieces
   pub read_faults : NoneUnread old new
   pub write_faults : new.folder.write_faults ≡ old.folder.write_faults
   pub put_faults : new.sink.faults ≡ old.sink.faults
 
--- A file could not be written: those before it are, no file but this one may differ otherwise, and nothing is put.
+-- A file could not be written: those before it are, no file but this one may differ otherwise, no other write is tried,
+-- and nothing is put.
 pub record IsUnset (due : Answer) (old new : Outside) : Type 0 where
   pub before : List Set
   pub failed : Set
   pub others : List Set
   pub sets : due.sets ≡ before ++ (failed ∷ others)
   pub files : DiffersAtMost (with_sets before old.folder.files) new.folder.files failed.name
+  pub wrote :
+      new.folder.wrote ≡ old.folder.wrote ++ writes_of before ++ write_of write.Failed failed ∷ []
   pub written : new.sink.written ≡ old.sink.written
   pub taken : new.sink.taken ≡ old.sink.taken
   pub cause : Rose old.folder.write_faults new.folder.write_faults
@@ -69,6 +76,7 @@ pub record IsUnset (due : Answer) (old new : Outside) : Type 0 where
 -- All files are written, and a first part of the text is put: pieces of it, and then a first part of the next.
 pub record IsUnput (due : Answer) (old new : Outside) : Type 0 where
   pub files : new.folder.files ≡ with_sets due.sets old.folder.files
+  pub wrote : new.folder.wrote ≡ old.folder.wrote ++ writes_of due.sets
   pub text : GrewWithin old.sink.written new.sink.written due.text
   pub pieces : TakesSome old.sink.taken new.sink.taken due.pieces
   pub cause : Rose old.sink.faults new.sink.faults

@@ -1,9 +1,11 @@
--- What stands outside, as far as it is told, with the counts of faults.
+-- What stands outside, as far as it is told, with the writes so far and the counts of faults.
 use Rattle.std.specs.Prelude.{ℕ, ◌≡◌, List, Option}
 use Rattle.m36_outside.specs.Files.{Files}
+use Rattle.m36_outside.specs.FolderCalls.{Wrote}
 
 pub record FolderState : Type 0 where
   pub files : Option Files
+  pub wrote : List Wrote
   pub read_faults : ℕ
   pub write_faults : ℕ
 
@@ -17,9 +19,14 @@ pub record Outside : Type 0 where
   pub sink : SinkState
 
 -- each by what a folder and a sink tell of themselves
-abbrev pub folder_of : {F : Type 0} → (F → Option Files) → (F → ℕ) → (F → ℕ) → F → FolderState
-folder_of files read_faults write_faults folder =
-    record { files = files folder; read_faults = read_faults folder; write_faults = write_faults folder }
+abbrev pub folder_of :
+    {F : Type 0} → (F → Option Files) → (F → List Wrote) → (F → ℕ) → (F → ℕ) → F → FolderState
+folder_of files wrote read_faults write_faults folder = record {
+  files = files folder;
+  wrote = wrote folder;
+  read_faults = read_faults folder;
+  write_faults = write_faults folder;
+}
 
 abbrev pub sink_of :
     {S : Type 0} → (S → Option (List ℕ)) → (S → List (List ℕ)) → (S → ℕ) → S → SinkState
@@ -29,6 +36,7 @@ sink_of written taken faults sink =
 -- nothing but the count of reads that failed may differ
 pub record IsIdle (old new : Outside) : Type 0 where
   pub files : new.folder.files ≡ old.folder.files
+  pub wrote : new.folder.wrote ≡ old.folder.wrote
   pub write_faults : new.folder.write_faults ≡ old.folder.write_faults
   pub written : new.sink.written ≡ old.sink.written
   pub taken : new.sink.taken ≡ old.sink.taken
@@ -39,9 +47,9 @@ abbrev pub NoneUnread : Outside → Outside → Type 0
 NoneUnread old new = new.folder.read_faults ≡ old.folder.read_faults
 
 abbrev pub outside_of :
-    {F S : Type 0} → (F → Option Files) → (F → ℕ) → (F → ℕ)
+    {F S : Type 0} → (F → Option Files) → (F → List Wrote) → (F → ℕ) → (F → ℕ)
     → (S → Option (List ℕ)) → (S → List (List ℕ)) → (S → ℕ) → F → S → Outside
-outside_of files read_faults write_faults written taken put_faults folder sink = record {
-  folder = folder_of files read_faults write_faults folder;
+outside_of files wrote read_faults write_faults written taken put_faults folder sink = record {
+  folder = folder_of files wrote read_faults write_faults folder;
   sink = sink_of written taken put_faults sink;
 }

@@ -46,8 +46,8 @@ pub fn refuse(alloc: Global, name: &[u8], code: Code, at: u32) -> Refusal
 #[tactic(auto, using(crate::proofs::ReadLaws::bytes))]
 pub fn read_bytes<F: Folder>(alloc: Global, name: &[u8], folder: &mut F) -> Result<Text, Refusal>
     ensures reads { Reads (file_bytes name.now) result
-        (folder_of F.files F.read_faults F.write_faults folder.old)
-        (folder_of F.files F.read_faults F.write_faults folder.new)
+        (folder_of F.files F.wrote F.read_faults F.write_faults folder.old)
+        (folder_of F.files F.wrote F.read_faults F.write_faults folder.new)
         (F.asked folder.old) (F.asked folder.new) }
     ensures limit { IfOk result (λ text. length text ≤ file_limit) }
 {
@@ -92,8 +92,8 @@ pub fn words_in(alloc: Global, name: &[u8], bytes: &[u8]) -> Result<Words, Refus
 #[tactic(auto, using(crate::proofs::ReadLaws::reads_early), unfolding(crate::specs::Readers::file_words))]
 pub fn read_words<F: Folder>(alloc: Global, name: &[u8], folder: &mut F) -> Result<Words, Refusal>
     ensures reads { Reads (file_words name.now) result
-        (folder_of F.files F.read_faults F.write_faults folder.old)
-        (folder_of F.files F.read_faults F.write_faults folder.new)
+        (folder_of F.files F.wrote F.read_faults F.write_faults folder.old)
+        (folder_of F.files F.wrote F.read_faults F.write_faults folder.new)
         (F.asked folder.old) (F.asked folder.new) }
     ensures few { IfOk result (λ words. length words ≤ 262144) }
 {
@@ -134,8 +134,8 @@ pub fn object_in(alloc: Global, name: &[u8], words: &[Word]) -> Result<Object, R
 #[tactic(auto, using(crate::proofs::ReadLaws::reads_early), unfolding(crate::specs::Readers::file_object))]
 pub fn read_object<F: Folder>(alloc: Global, name: &[u8], folder: &mut F) -> Result<Object, Refusal>
     ensures { Reads (file_object name.now) result
-        (folder_of F.files F.read_faults F.write_faults folder.old)
-        (folder_of F.files F.read_faults F.write_faults folder.new)
+        (folder_of F.files F.wrote F.read_faults F.write_faults folder.old)
+        (folder_of F.files F.wrote F.read_faults F.write_faults folder.new)
         (F.asked folder.old) (F.asked folder.new) }
 {
     let words = read_words(alloc, name, folder)?;

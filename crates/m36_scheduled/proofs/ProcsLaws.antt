@@ -16,6 +16,7 @@ use Rattle.m36_reading.specs.Outside.{FolderState, SinkState}
 use Rattle.m36_reading.specs.Ends.{End, Answered, Cut, Unread, Starved, Unasked, end_of}
 use Rattle.m36_reading.specs.Doing.{EndsBy, Performs}
 use Rattle.m36_reading.proofs.ReadLaws.{gives_by}
+use Rattle.m36_reading.proofs.WriteLaws.{writes_none}
 use Rattle.m36_ran.specs.Putting.{PutsBy, PutsDue, PutsSome}
 use Rattle.m36_scheduled.specs.Scheduled.{code_of, procs_by, procs_answer, dbrs_of, AreIsolated, IsProcsDue, procs_kind}
 
@@ -69,6 +70,7 @@ ends_put unaudited p Answered result f s s' puts = record {
   made = record {
     status = puts.puts.status;
     files = sym (ap (λ (sets : List Set). with_sets sets f.files) puts.puts.sets);
+    wrote = sym (writes_none f.wrote puts.due.sets puts.puts.sets);
     text = puts.puts.text;
     pieces = puts.puts.pieces;
     read_faults = refl;
@@ -83,6 +85,7 @@ ends_put unaudited p Cut result f s s' puts = record {
   is_due = puts.is_due;
   cut = inr (record {
     files = sym (ap (λ (sets : List Set). with_sets sets f.files) puts.puts.sets);
+    wrote = sym (writes_none f.wrote puts.due.sets puts.puts.sets);
     text = puts.puts.text;
     pieces = puts.puts.pieces;
     cause = puts.puts.cause;
@@ -93,7 +96,7 @@ ends_put unaudited p Cut result f s s' puts = record {
 ends_put unaudited p Starved result f s s' puts = inr (record {
   given = p;
   came = refl;
-  wants = record { files = refl; write_faults = refl; written = puts.written; taken = puts.taken; put_faults = puts.faults };
+  wants = record { files = refl; wrote = refl; write_faults = refl; written = puts.written; taken = puts.taken; put_faults = puts.faults };
   read_faults = refl;
 })
 ends_put unaudited p Unread result f s s' puts = absurd puts

@@ -127,8 +127,10 @@ pub fn procs_file<F: Folder, S: Sink>(
     out: &mut S,
 ) -> Status
     ensures { Does (procs_kind unaudited) (procs_reads name.now) result
-        (outside_of F.files F.read_faults F.write_faults S.written S.taken S.faults folder.old out.old)
-        (outside_of F.files F.read_faults F.write_faults S.written S.taken S.faults folder.new out.new)
+        (outside_of F.files F.wrote F.read_faults F.write_faults S.written S.taken S.faults
+        folder.old out.old)
+        (outside_of F.files F.wrote F.read_faults F.write_faults S.written S.taken S.faults
+        folder.new out.new)
         (F.asked folder.old) (F.asked folder.new) }
 {
     match read_procs(alloc, name, folder) {

@@ -31,8 +31,8 @@ pub fn procs_in(alloc: Global, name: &[u8], bytes: &[u8]) -> Result<Procs, Refus
 #[tactic(auto, using(m36_reading::proofs::ReadLaws::reads_early), unfolding(crate::specs::Scheduled::procs_reads))]
 pub fn read_procs<F: Folder>(alloc: Global, name: &[u8], folder: &mut F) -> Result<Procs, Refusal>
     ensures { Reads (procs_reads name.now) result
-        (folder_of F.files F.read_faults F.write_faults folder.old)
-        (folder_of F.files F.read_faults F.write_faults folder.new)
+        (folder_of F.files F.wrote F.read_faults F.write_faults folder.old)
+        (folder_of F.files F.wrote F.read_faults F.write_faults folder.new)
         (F.asked folder.old) (F.asked folder.new) }
 {
     let text = read_bytes(alloc, name, folder)?;

@@ -93,8 +93,8 @@ pub fn assembled_in(alloc: Global, files: &AlmFiles, bytes: &[u8]) -> Result<Tol
 #[tactic(auto, using(m36_reading::proofs::ReadLaws::reads_early), unfolding(crate::specs::Telling::alm_reads))]
 pub fn read_alm<F: Folder>(alloc: Global, files: &AlmFiles, folder: &mut F) -> Result<Told, Refusal>
     ensures { Reads (alm_reads files.now) result
-        (folder_of F.files F.read_faults F.write_faults folder.old)
-        (folder_of F.files F.read_faults F.write_faults folder.new)
+        (folder_of F.files F.wrote F.read_faults F.write_faults folder.old)
+        (folder_of F.files F.wrote F.read_faults F.write_faults folder.new)
         (F.asked folder.old) (F.asked folder.new) }
 {
     let text = read_bytes(alloc, files.source.bytes(), folder)?;
@@ -110,8 +110,10 @@ pub fn alm_file<F: Folder, S: Sink>(
     out: &mut S,
 ) -> Status
     ensures { Does told_kind (alm_reads files.now) result
-        (outside_of F.files F.read_faults F.write_faults S.written S.taken S.faults folder.old out.old)
-        (outside_of F.files F.read_faults F.write_faults S.written S.taken S.faults folder.new out.new)
+        (outside_of F.files F.wrote F.read_faults F.write_faults S.written S.taken S.faults
+        folder.old out.old)
+        (outside_of F.files F.wrote F.read_faults F.write_faults S.written S.taken S.faults
+        folder.new out.new)
         (F.asked folder.old) (F.asked folder.new) }
 {
     match read_alm(alloc, files, folder) {

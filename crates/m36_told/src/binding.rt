@@ -111,8 +111,8 @@ fn read_one<F: Folder>(
     folder: &mut F,
 ) -> Result<Objects, Refusal>
     ensures { Reads (object_onto objects name.now) result
-        (folder_of F.files F.read_faults F.write_faults folder.old)
-        (folder_of F.files F.read_faults F.write_faults folder.new)
+        (folder_of F.files F.wrote F.read_faults F.write_faults folder.old)
+        (folder_of F.files F.wrote F.read_faults F.write_faults folder.new)
         (F.asked folder.old) (F.asked folder.new) }
 {
     let object = read_object(alloc, name.bytes(), folder)?;
@@ -126,8 +126,8 @@ fn read_objects<F: Folder>(
     folder: &mut F,
 ) -> Result<Objects, Refusal>
     ensures { Reads (objects_onto [] names.now) result
-        (folder_of F.files F.read_faults F.write_faults folder.old)
-        (folder_of F.files F.read_faults F.write_faults folder.new)
+        (folder_of F.files F.wrote F.read_faults F.write_faults folder.old)
+        (folder_of F.files F.wrote F.read_faults F.write_faults folder.new)
         (F.asked folder.old) (F.asked folder.new) }
 {
     let mut objects = Objects::new(alloc);
@@ -184,8 +184,8 @@ fn read_names<F: Folder>(
 ) -> Result<Told, Refusal>
     requires { length text.now ≤ file_limit }
     ensures { Reads (names_read files.now text.now names.now) result
-        (folder_of F.files F.read_faults F.write_faults folder.old)
-        (folder_of F.files F.read_faults F.write_faults folder.new)
+        (folder_of F.files F.wrote F.read_faults F.write_faults folder.old)
+        (folder_of F.files F.wrote F.read_faults F.write_faults folder.new)
         (F.asked folder.old) (F.asked folder.new) }
 {
     let objects = read_objects(alloc, names, folder)?;
@@ -202,8 +202,8 @@ fn read_text<F: Folder>(
 ) -> Result<Told, Refusal>
     requires { length text.now ≤ file_limit }
     ensures { Reads (text_read files.now text.now) result
-        (folder_of F.files F.read_faults F.write_faults folder.old)
-        (folder_of F.files F.read_faults F.write_faults folder.new)
+        (folder_of F.files F.wrote F.read_faults F.write_faults folder.old)
+        (folder_of F.files F.wrote F.read_faults F.write_faults folder.new)
         (F.asked folder.old) (F.asked folder.new) }
 {
     match names_in(alloc, files.bindfile.bytes(), text) {
@@ -220,8 +220,8 @@ pub fn read_bind<F: Folder>(
     folder: &mut F,
 ) -> Result<Told, Refusal>
     ensures { Reads (bind_reads files.now) result
-        (folder_of F.files F.read_faults F.write_faults folder.old)
-        (folder_of F.files F.read_faults F.write_faults folder.new)
+        (folder_of F.files F.wrote F.read_faults F.write_faults folder.old)
+        (folder_of F.files F.wrote F.read_faults F.write_faults folder.new)
         (F.asked folder.old) (F.asked folder.new) }
 {
     let text = read_bytes(alloc, files.bindfile.bytes(), folder)?;
@@ -237,8 +237,10 @@ pub fn bind_file<F: Folder, S: Sink>(
     out: &mut S,
 ) -> Status
     ensures { Does told_kind (bind_reads files.now) result
-        (outside_of F.files F.read_faults F.write_faults S.written S.taken S.faults folder.old out.old)
-        (outside_of F.files F.read_faults F.write_faults S.written S.taken S.faults folder.new out.new)
+        (outside_of F.files F.wrote F.read_faults F.write_faults S.written S.taken S.faults
+        folder.old out.old)
+        (outside_of F.files F.wrote F.read_faults F.write_faults S.written S.taken S.faults
+        folder.new out.new)
         (F.asked folder.old) (F.asked folder.new) }
 {
     match read_bind(alloc, files, folder) {

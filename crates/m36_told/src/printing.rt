@@ -26,8 +26,8 @@ fn printed(alloc: Global, name: &[u8], object: &Object) -> Result<Told, Refusal>
 #[tactic(auto, using(m36_reading::proofs::ReadLaws::reads_early), unfolding(crate::specs::Telling::print_reads))]
 pub fn read_print<F: Folder>(alloc: Global, name: &[u8], folder: &mut F) -> Result<Told, Refusal>
     ensures { Reads (print_reads name.now) result
-        (folder_of F.files F.read_faults F.write_faults folder.old)
-        (folder_of F.files F.read_faults F.write_faults folder.new)
+        (folder_of F.files F.wrote F.read_faults F.write_faults folder.old)
+        (folder_of F.files F.wrote F.read_faults F.write_faults folder.new)
         (F.asked folder.old) (F.asked folder.new) }
 {
     let object = read_object(alloc, name, folder)?;
@@ -43,8 +43,10 @@ pub fn print_file<F: Folder, S: Sink>(
     out: &mut S,
 ) -> Status
     ensures { Does told_kind (print_reads name.now) result
-        (outside_of F.files F.read_faults F.write_faults S.written S.taken S.faults folder.old out.old)
-        (outside_of F.files F.read_faults F.write_faults S.written S.taken S.faults folder.new out.new)
+        (outside_of F.files F.wrote F.read_faults F.write_faults S.written S.taken S.faults
+        folder.old out.old)
+        (outside_of F.files F.wrote F.read_faults F.write_faults S.written S.taken S.faults
+        folder.new out.new)
         (F.asked folder.old) (F.asked folder.new) }
 {
     match read_print(alloc, name, folder) {

@@ -55,8 +55,8 @@ impl Told {
 #[tactic(auto, using(crate::proofs::SetLaws::setting))]
 pub fn write_sets<F: Folder>(alloc: Global, sets: &[Set], folder: &mut F) -> WriteAnswer
     ensures says { SetsSay result sets.now
-        (folder_of F.files F.read_faults F.write_faults folder.old)
-        (folder_of F.files F.read_faults F.write_faults folder.new) }
+        (folder_of F.files F.wrote F.read_faults F.write_faults folder.old)
+        (folder_of F.files F.wrote F.read_faults F.write_faults folder.new) }
     ensures read_faults { F.read_faults folder.new ≡ F.read_faults folder.old }
     ensures asked { F.asked folder.new ≡ F.asked folder.old }
 {
@@ -74,8 +74,10 @@ pub fn write_sets<F: Folder>(alloc: Global, sets: &[Set], folder: &mut F) -> Wri
 #[tactic(auto, using(crate::proofs::ToldLaws::telling))]
 pub fn tell<F: Folder, S: Sink>(alloc: Global, told: &Told, folder: &mut F, out: &mut S) -> Status
     ensures performs { Performs told_kind (Ok told.now) result
-        (outside_of F.files F.read_faults F.write_faults S.written S.taken S.faults folder.old out.old)
-        (outside_of F.files F.read_faults F.write_faults S.written S.taken S.faults folder.new out.new) }
+        (outside_of F.files F.wrote F.read_faults F.write_faults S.written S.taken S.faults
+        folder.old out.old)
+        (outside_of F.files F.wrote F.read_faults F.write_faults S.written S.taken S.faults
+        folder.new out.new) }
     ensures asked { F.asked folder.new ≡ F.asked folder.old }
 {
     match write_sets(alloc, told.sets.as_slice(), folder) {

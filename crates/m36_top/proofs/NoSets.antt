@@ -10,10 +10,11 @@ use Rattle.m36_reading.specs.declared.status.Status.{Status}
 use Rattle.m36_reading.specs.Reading.{Found, Content, Absent, TooLarge, Reading, decided, asks, Early, then_with, mapped}
 use Rattle.m36_reading.specs.Asking.{Asked, Came, GoesOn, Comes}
 use Rattle.m36_reading.specs.Readers.{file_object}
-use Rattle.m36_reading.specs.Answers.{Answer, IsDueBy, with_sets}
-use Rattle.m36_reading.specs.Outside.{Outside}
+use Rattle.m36_reading.specs.Answers.{Answer, IsDueBy, with_sets, writes_of}
+use Rattle.m36_reading.specs.Outside.{Outside, IsIdle}
 use Rattle.m36_reading.specs.Ends.{End, Answered, Cut, Unread, Starved, Unasked, end_of}
 use Rattle.m36_reading.specs.Doing.{IsMade, IsUnset, IsUnput, EndsBy, Does}
+use Rattle.m36_reading.proofs.WriteLaws.{writes_none}
 use Rattle.m36_told.specs.Told.{ToldFields, told_answer}
 use Rattle.m36_told.specs.Telling.{printed, print_reads}
 use Rattle.m36_ran.specs.declared.command.BareRun.{BareRun}
@@ -26,7 +27,7 @@ use Rattle.m36_top.specs.declared.command.Command.{Command}
 use Rattle.m36_top.specs.declared.command.Command.TheVariants.{Bare, Audit, Procs, Print, Alm, Bind}
 use Rattle.m36_top.specs.Dues.{Due, Told, Image, Schedule, on_image, on_procs, IsDueOf, WantsOf, due_kind}
 use Rattle.m36_top.specs.Commands.{reads, writes_files}
-use Rattle.m36_top.specs.TopCall.{WriteRose, WritesStand, WriteCauseBy, KeepsBy}
+use Rattle.m36_top.specs.TopCall.{WriteRose, WritesStand, WriteCauseBy, IsKept, KeepsBy}
 
 -- ---- what holds of all that a reading can come to
 
@@ -162,37 +163,46 @@ pub does_cause :
     → Does due_kind (reads command) result old new before after → WriteCauseBy (writes_files command) (end_of result) old new
 does_cause command result old new before after does = cause_by command does.asked (end_of result) result old new does.ends
 
--- ---- no file is changed
+-- ---- no file is changed or written
 
-abbrev Keeps : Outside → Outside → Type 0
-Keeps old new = new.folder.files ≡ old.folder.files
+unset_keeps :
+    (sets : List Set) (old new : Outside)
+    → sets ≡ [] → new.folder.files ≡ with_sets sets old.folder.files → new.folder.wrote ≡ old.folder.wrote ++ writes_of sets
+    → IsKept old new
+unset_keeps sets old new none files wrote = record {
+  files = files ∙ ap (λ (s : List Set). with_sets s old.folder.files) none;
+  wrote = wrote ∙ writes_none old.folder.wrote sets none;
+}
 
 made_keeps :
     (given : Early Due) (due : Answer) (result : Status) (old new : Outside)
-    → NoSets given → IsDueBy IsDueOf given due → IsMade due result old new → Keeps old new
-made_keeps (Ok d) due result old new none is made = made.files ∙ ap (λ (s : List Set). with_sets s old.folder.files) (none due is)
-made_keeps (Err r) due result old new none is made = made.files ∙ ap (λ (d : Answer). with_sets d.sets old.folder.files) is
+    → NoSets given → IsDueBy IsDueOf given due → IsMade due result old new → IsKept old new
+made_keeps (Ok d) due result old new none is made = unset_keeps due.sets old new (none due is) made.files made.wrote
+made_keeps (Err r) due result old new none is made = unset_keeps due.sets old new (ap (λ (d : Answer). d.sets) is) made.files made.wrote
 
-cut_keeps : (due : Answer) (old new : Outside) → due.sets ≡ [] → IsUnset due old new ⊎ IsUnput due old new → Keeps old new
+cut_keeps : (due : Answer) (old new : Outside) → due.sets ≡ [] → IsUnset due old new ⊎ IsUnput due old new → IsKept old new
 cut_keeps due old new none (inl is) = absurd (none_unset due old new none is)
-cut_keeps due old new none (inr is) = is.files ∙ ap (λ (s : List Set). with_sets s old.folder.files) none
+cut_keeps due old new none (inr is) = unset_keeps due.sets old new none is.files is.wrote
 
-wants_keeps : (d : Due) (old new : Outside) → NoSets (Ok d) → WantsOf d old new → Keeps old new
+idle_keeps : (old new : Outside) → IsIdle old new → IsKept old new
+idle_keeps old new idle = record { files = idle.files; wrote = idle.wrote }
+
+wants_keeps : (d : Due) (old new : Outside) → NoSets (Ok d) → WantsOf d old new → IsKept old new
 wants_keeps (Told told) old new none w = absurd (empty_parts w.before w.next w.others (sym (none (told_answer told) refl) ∙ w.sets))
-wants_keeps (Image image) old new none w = w.files
-wants_keeps (Schedule s) old new none w = w.files
+wants_keeps (Image image) old new none w = idle_keeps old new w
+wants_keeps (Schedule s) old new none w = idle_keeps old new w
 
 keeps_by :
     (command : Command) (asked : List Asked) (end : End) (result : Status) (old new : Outside) → writes_files command ≡ false
-    → EndsBy due_kind (Comes (reads command) asked) end result old new → Keeps old new
+    → EndsBy due_kind (Comes (reads command) asked) end result old new → IsKept old new
 keeps_by command asked Answered result old new none e = made_keeps e.given e.due result old new (no_sets command asked e.given none e.came) e.is_due e.made
 keeps_by command asked Cut result old new none e = cut_keeps e.due old new (no_sets command asked (Ok e.given) none e.came e.due e.is_due) e.cut
-keeps_by command asked Unread result old new none e = e.idle.files
-keeps_by command asked Starved result old new none (inl e) = e.idle.files
+keeps_by command asked Unread result old new none e = idle_keeps old new e.idle
+keeps_by command asked Starved result old new none (inl e) = idle_keeps old new e.idle
 keeps_by command asked Starved result old new none (inr e) = wants_keeps e.given old new (no_sets command asked (Ok e.given) none e.came) e.wants
 keeps_by command asked Unasked result old new none e = absurd e
 
-keeps_where : (writes : Bool) (old new : Outside) → (writes ≡ false → Keeps old new) → KeepsBy writes old new
+keeps_where : (writes : Bool) (old new : Outside) → (writes ≡ false → IsKept old new) → KeepsBy writes old new
 keeps_where true old new keeps = tt
 keeps_where false old new keeps = keeps refl
 

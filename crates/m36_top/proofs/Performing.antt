@@ -121,7 +121,7 @@ pub none_through :
 none_through asked old before is =
     let idle : IsUnasked Usage old old = record {
       usage = refl;
-      idle = record { files = refl; write_faults = refl; written = refl; taken = refl; put_faults = refl };
+      idle = record { files = refl; wrote = refl; write_faults = refl; written = refl; taken = refl; put_faults = refl };
       read_faults = refl;
     } in
     subst (λ a. Through a Usage old old before before) is (idle, refl)

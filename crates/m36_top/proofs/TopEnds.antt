@@ -56,7 +56,7 @@ top_write (Some command) result old new before after says = does_cause command r
 
 pub top_keeps :
     (command : Option Command) (result : Status) (old new : Outside) (before after : List Asked) → Through command result old new before after → KeepsFiles command old new
-top_keeps None result old new before after says = says.0.idle.files
+top_keeps None result old new before after says = record { files = says.0.idle.files; wrote = says.0.idle.wrote }
 top_keeps (Some command) result old new before after says = does_keep command result old new before after says
 
 -- ---- completeness

@@ -22,9 +22,9 @@ pub record IsUnasked (result : Status) (old new : Outside) : Type 0 where
   pub read_faults : NoneUnread old new
 
 -- A command is performed, by whatever answers the folder gives: what it was asked and answered before the call, and after,
--- differ by those that the command's reading asks for, one after another and no others; and the pieces that the sink took
--- before the call, and after, differ by those of an answer that is due by them, or by a first part of them. Without a
--- command nothing is asked or taken.
+-- differ by those that the command's reading asks for, one after another and no others; what the folder was told to write
+-- differs by the files of an answer that is due by them, or by a first part of these; and so do the pieces that the sink
+-- took by those of the answer. Without a command nothing is asked, written or taken.
 abbrev pub Through : Option Command → Status → Outside → Outside → List Asked → List Asked → Type 0
 Through None result old new before after = IsUnasked result old new × (after ≡ before)
 Through (Some command) result old new before after = Does due_kind (reads command) result old new before after
@@ -81,10 +81,15 @@ Completes (Some command) files result old new =
 
 -- ---- files
 
--- Only the commands that write files change any.
+-- No file changes, where the folder tells its files, and nothing is written to it, whether it tells them or not.
+pub record IsKept (old new : Outside) : Type 0 where
+  pub files : new.folder.files ≡ old.folder.files
+  pub wrote : new.folder.wrote ≡ old.folder.wrote
+
+-- Only the commands that write files write any.
 abbrev pub KeepsBy : Bool → Outside → Outside → Type 0
 KeepsBy true old new = ⊤
-KeepsBy false old new = new.folder.files ≡ old.folder.files
+KeepsBy false old new = IsKept old new
 
 abbrev pub KeepsFiles : Option Command → Outside → Outside → Type 0
 KeepsFiles command old new = KeepsBy (may_write command) old new

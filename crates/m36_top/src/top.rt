@@ -27,8 +27,10 @@ pub fn perform<F: Folder, S: Sink>(
     out: &mut S,
 ) -> Status
     ensures { Does due_kind (reads command.now) result
-        (outside_of F.files F.read_faults F.write_faults S.written S.taken S.faults folder.old out.old)
-        (outside_of F.files F.read_faults F.write_faults S.written S.taken S.faults folder.new out.new)
+        (outside_of F.files F.wrote F.read_faults F.write_faults S.written S.taken S.faults
+        folder.old out.old)
+        (outside_of F.files F.wrote F.read_faults F.write_faults S.written S.taken S.faults
+        folder.new out.new)
         (F.asked folder.old) (F.asked folder.new) }
 {
     match command {
@@ -51,8 +53,10 @@ pub fn perform<F: Folder, S: Sink>(
 #[tactic(auto, using(crate::proofs::Performing::asking))]
 fn answer<F: Folder, S: Sink>(alloc: Global, words: &[Text], folder: &mut F, out: &mut S) -> Status
     ensures through { Through (command_of words.now) result
-        (outside_of F.files F.read_faults F.write_faults S.written S.taken S.faults folder.old out.old)
-        (outside_of F.files F.read_faults F.write_faults S.written S.taken S.faults folder.new out.new)
+        (outside_of F.files F.wrote F.read_faults F.write_faults S.written S.taken S.faults
+        folder.old out.old)
+        (outside_of F.files F.wrote F.read_faults F.write_faults S.written S.taken S.faults
+        folder.new out.new)
         (F.asked folder.old) (F.asked folder.new) }
     ensures usage { (result ≡ Status.Usage) ↔ (command_of words.now ≡ None) }
     ensures folder_untouched { command_of words.now ≡ None → folder.new ≡ folder.old }
@@ -78,44 +82,61 @@ fn answer<F: Folder, S: Sink>(alloc: Global, words: &[Text], folder: &mut F, out
 pub fn m36<F: Folder, S: Sink>(alloc: Global, words: &[Text], folder: &mut F, out: &mut S) -> Status
     // What is asked, answered, written and put, and in which pieces, by what the folder answers, told or not.
     ensures through { Through (command_of words.now) result
-        (outside_of F.files F.read_faults F.write_faults S.written S.taken S.faults folder.old out.old)
-        (outside_of F.files F.read_faults F.write_faults S.written S.taken S.faults folder.new out.new)
+        (outside_of F.files F.wrote F.read_faults F.write_faults S.written S.taken S.faults
+        folder.old out.old)
+        (outside_of F.files F.wrote F.read_faults F.write_faults S.written S.taken S.faults
+        folder.new out.new)
         (F.asked folder.old) (F.asked folder.new) }
 
     // The same by the files that the folder tells.
     ensures output { IfSome (F.files folder.old) (λ f. TopOutput (command_of words.now) f result
-        (outside_of F.files F.read_faults F.write_faults S.written S.taken S.faults folder.old out.old)
-        (outside_of F.files F.read_faults F.write_faults S.written S.taken S.faults folder.new out.new)) }
+        (outside_of F.files F.wrote F.read_faults F.write_faults S.written S.taken S.faults
+        folder.old out.old)
+        (outside_of F.files F.wrote F.read_faults F.write_faults S.written S.taken S.faults
+        folder.new out.new)) }
 
     // With no fault outside what is due is done, or no memory was found.
     ensures complete { IfSome (F.files folder.old) (λ f. Completes (command_of words.now) f result
-        (outside_of F.files F.read_faults F.write_faults S.written S.taken S.faults folder.old out.old)
-        (outside_of F.files F.read_faults F.write_faults S.written S.taken S.faults folder.new out.new)) }
+        (outside_of F.files F.wrote F.read_faults F.write_faults S.written S.taken S.faults
+        folder.old out.old)
+        (outside_of F.files F.wrote F.read_faults F.write_faults S.written S.taken S.faults
+        folder.new out.new)) }
 
     // Where `audit yes` is written all conditions of the audit hold, and the tables of the image isolate each ring; of
     // processes all conditions of the joint audit hold, and every schedule of them is isolated.
     ensures isolated { IfSome (F.files folder.old) (λ f. TopPasses (command_of words.now) f
-        (outside_of F.files F.read_faults F.write_faults S.written S.taken S.faults folder.old out.old)
-        (outside_of F.files F.read_faults F.write_faults S.written S.taken S.faults folder.new out.new)) }
+        (outside_of F.files F.wrote F.read_faults F.write_faults S.written S.taken S.faults
+        folder.old out.old)
+        (outside_of F.files F.wrote F.read_faults F.write_faults S.written S.taken S.faults
+        folder.new out.new)) }
 
     // The same of the image that the folder's answers write out, also where it does not tell its files.
     ensures isolated_by_answers { TopAnswersPass (command_of words.now)
-        (outside_of F.files F.read_faults F.write_faults S.written S.taken S.faults folder.old out.old)
-        (outside_of F.files F.read_faults F.write_faults S.written S.taken S.faults folder.new out.new)
+        (outside_of F.files F.wrote F.read_faults F.write_faults S.written S.taken S.faults
+        folder.old out.old)
+        (outside_of F.files F.wrote F.read_faults F.write_faults S.written S.taken S.faults
+        folder.new out.new)
         (F.asked folder.old) (F.asked folder.new) }
 
-    // No command but `alm` and `bind` changes a file.
+    // No command but `alm` and `bind` changes a file, or writes one, also where the folder does not tell its
+    // files.
     ensures files { KeepsFiles (command_of words.now)
-        (outside_of F.files F.read_faults F.write_faults S.written S.taken S.faults folder.old out.old)
-        (outside_of F.files F.read_faults F.write_faults S.written S.taken S.faults folder.new out.new) }
+        (outside_of F.files F.wrote F.read_faults F.write_faults S.written S.taken S.faults
+        folder.old out.old)
+        (outside_of F.files F.wrote F.read_faults F.write_faults S.written S.taken S.faults
+        folder.new out.new) }
 
     // A fault has a cause outside.
     ensures read_cause { ReadCause (end_of result)
-        (outside_of F.files F.read_faults F.write_faults S.written S.taken S.faults folder.old out.old)
-        (outside_of F.files F.read_faults F.write_faults S.written S.taken S.faults folder.new out.new) }
+        (outside_of F.files F.wrote F.read_faults F.write_faults S.written S.taken S.faults
+        folder.old out.old)
+        (outside_of F.files F.wrote F.read_faults F.write_faults S.written S.taken S.faults
+        folder.new out.new) }
     ensures write_cause { WriteCause (command_of words.now) result
-        (outside_of F.files F.read_faults F.write_faults S.written S.taken S.faults folder.old out.old)
-        (outside_of F.files F.read_faults F.write_faults S.written S.taken S.faults folder.new out.new) }
+        (outside_of F.files F.wrote F.read_faults F.write_faults S.written S.taken S.faults
+        folder.old out.old)
+        (outside_of F.files F.wrote F.read_faults F.write_faults S.written S.taken S.faults
+        folder.new out.new) }
 
     // Where the words are no command, nothing is touched.
     ensures usage { (result ≡ Status.Usage) ↔ (command_of words.now ≡ None) }

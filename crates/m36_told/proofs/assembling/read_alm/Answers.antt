@@ -13,7 +13,7 @@ pub returns : goal.returns
 unfolding alm_reads
 returns g c =
     let files = c.args.files.now in
-    let folder = folder_of g.F.Folder.files g.F.Folder.read_faults g.F.Folder.write_faults in
+    let folder = folder_of g.F.Folder.files g.F.Folder.wrote g.F.Folder.read_faults g.F.Folder.write_faults in
     reads_on (file_bytes files.source) (λ bytes. told_by files (assembly_of bytes)) c.in_ok-text.text c.assembled_in.result _ _ _ _
     (subst (λ n. Reads (file_bytes n) (Ok c.in_ok-text.text) (folder c.args.folder.now) (folder c.read_bytes.new.folder) (g.F.Folder.asked c.args.folder.now) (g.F.Folder.asked c.read_bytes.new.folder)) c.bytes.ensures.value c.in_ok-text.ensures.reads)
     (subst (λ b. Gives c.assembled_in.result (told_by files (assembly_of b))) c.bytes-2.ensures c.assembled_in.ensures)

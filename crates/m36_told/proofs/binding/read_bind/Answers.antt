@@ -11,7 +11,7 @@ pub returns : goal.returns
 unfolding bind_reads
 returns g c =
     let files = c.args.files.now in
-    let folder = folder_of g.F.Folder.files g.F.Folder.read_faults g.F.Folder.write_faults in
+    let folder = folder_of g.F.Folder.files g.F.Folder.wrote g.F.Folder.read_faults g.F.Folder.write_faults in
     reads_then (file_bytes files.bindfile) (λ text. text_read files text) c.in_ok-text.text c.read_text.result _ _ _ _ _ _
     (subst (λ (n : List ℕ). Reads (file_bytes n) (Ok c.in_ok-text.text) (folder c.args.folder.now) (folder c.read_bytes.new.folder) (g.F.Folder.asked c.args.folder.now) (g.F.Folder.asked c.read_bytes.new.folder)) c.bytes.ensures.value c.in_ok-text.ensures.reads)
     (subst (λ (b : List ℕ). Reads (text_read files b) c.read_text.result (folder c.read_bytes.new.folder) (folder c.read_text.new.folder) (g.F.Folder.asked c.read_bytes.new.folder) (g.F.Folder.asked c.read_text.new.folder)) c.bytes-2.ensures c.read_text.ensures)

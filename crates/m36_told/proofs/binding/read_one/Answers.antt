@@ -10,7 +10,7 @@ use Rattle.m36_told.proofs.binding.read_one.Goals as goal
 pub returns : goal.returns
 unfolding object_onto
 returns g c =
-    let folder = folder_of g.F.Folder.files g.F.Folder.read_faults g.F.Folder.write_faults in
+    let folder = folder_of g.F.Folder.files g.F.Folder.wrote g.F.Folder.read_faults g.F.Folder.write_faults in
     reads_on (file_object c.args.name.now) (λ parts. Ok (c.args.objects ++ parts ∷ [])) c.in_ok-object.object c.with_object.result _ _ _ _
     (subst (λ (n : List ℕ). Reads (file_object n) (Ok c.in_ok-object.object) (folder c.args.folder.now) (folder c.read_object.new.folder) (g.F.Folder.asked c.args.folder.now) (g.F.Folder.asked c.read_object.new.folder)) c.bytes.ensures.value c.in_ok-object.ensures)
     c.with_object.ensures

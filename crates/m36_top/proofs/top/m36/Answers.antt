@@ -6,5 +6,5 @@ use Rattle.m36_top.proofs.top.m36.Goals as goal
 
 pub returns-clause-complete : goal.returns-clause-complete
 returns-clause-complete g c =
-    let outside = outside_of g.F.Folder.files g.F.Folder.read_faults g.F.Folder.write_faults g.S.Sink.written g.S.Sink.taken g.S.Sink.faults in
+    let outside = outside_of g.F.Folder.files g.F.Folder.wrote g.F.Folder.read_faults g.F.Folder.write_faults g.S.Sink.written g.S.Sink.taken g.S.Sink.faults in
     top_complete (command_of c.args.words.now) c.answer.result (outside c.args.folder.now c.args.out.now) (outside c.answer.new.folder c.answer.new.out) (g.F.Folder.asked c.args.folder.now) (g.F.Folder.asked c.answer.new.folder) c.answer.ensures.through
