@@ -1,4 +1,5 @@
--- What the command `bind NAME` tells, by what it reads: the bind file, and then the objects of its components.
+-- What the command `bind NAME` tells, by what it reads: the bind file, and then the objects of its
+-- components.
 use Rattle.std.specs.Prelude.{ℕ, ◌≡◌, List, [], ◌∷◌, ◌++◌, Result, Ok, Err}
 use Rattle.obj36_parts.specs.PartsFields.{PartsFields}
 use Rattle.m36_list.specs.Print.{print_of}
@@ -36,12 +37,15 @@ object_onto done name = then_with (file_object name) (λ parts. decided (Ok (don
 -- objects behind others, each with all its refusals before the next is read
 unfoldable pub objects_onto : List PartsFields → List (List ℕ) → Reading (Early (List PartsFields))
 objects_onto done [] = decided (Ok done)
-objects_onto done (name ∷ names) = then_with (object_onto done name) (λ more. objects_onto more names)
+objects_onto done (name ∷ names) =
+    then_with (object_onto done name) (λ more. objects_onto more names)
 
 -- the object is written, and then its print is put
 abbrev pub bound_told : List ℕ → PartsFields → ToldFields
-bound_told name parts =
-    record { sets = record { name = name; content = object_bytes parts } ∷ []; text = print_of name parts }
+bound_told name parts = record {
+  sets = record { name = name; content = object_bytes parts } ∷ [];
+  text = print_of name parts;
+}
 
 abbrev pub bind_told : BindFiles → Result PartsFields BindFault → Early ToldFields
 bind_told files (Ok parts) = Ok (bound_told files.object parts)
@@ -50,10 +54,13 @@ bind_told files (Err fault) = Err (bind_refused files.bindfile fault)
 -- the components of these names are read, and bound
 unfoldable pub names_read : BindFiles → List ℕ → List (List ℕ) → Reading (Early ToldFields)
 names_read files text names =
-    then_with (objects_onto [] names) (λ objects. decided (bind_told files (bound_of text names objects)))
+    then_with (objects_onto [] names)
+    (λ objects. decided (bind_told files (bound_of text names objects)))
 
 unfoldable pub text_read : BindFiles → List ℕ → Reading (Early ToldFields)
-text_read files text = then_with (decided (names_told files.bindfile (names_by (bind_lines text)))) (λ names. names_read files text names)
+text_read files text =
+    then_with (decided (names_told files.bindfile (names_by (bind_lines text))))
+    (λ names. names_read files text names)
 
 unfoldable pub bind_reads : BindFiles → Reading (Early ToldFields)
 bind_reads files = then_with (file_bytes files.bindfile) (λ text. text_read files text)

@@ -11,7 +11,8 @@
 -- `--`, which may stand once, each word is an operand. `--steps N` may be written `--steps=N`; the value of `--steps` is
 -- the next word, whatever it is. No other list of words is a command.
 --
---     FILE, NAME   1 to 32 of `A-Z a-z 0-9 _ .`, not beginning with `.`; of `alm` and `bind` at most 27, since they read NAME.alm and NAME.bind
+--     FILE, NAME   1 to 32 of `A-Z a-z 0-9 _ .`, not beginning with `.`; of `alm` and `bind` at most 27,
+--                  since they read NAME.alm and NAME.bind
 --     N            1 to 8 decimal digits, at most 10,000,000; without `--steps` 100,000
 use Rattle.std.specs.Prelude.{ℕ, Bool, true, false, not, ◌&&◌, nat_le, List, [], ◌∷◌, ◌++◌, length, take, drop, codes, Option, Some, None, unwrap_or, if◌then◌else◌}
 use Rattle.std.specs.Option.{is_none, option_map, option_and_then}
@@ -121,7 +122,9 @@ abbrev pub Entry : Type 0
 Entry = List ℕ × (Given → Option Command)
 
 abbrev pub commands : List Entry
-commands = (codes "bare", bare) ∷ (codes "audit", audit) ∷ (codes "procs", procs) ∷ (codes "print", print) ∷ (codes "alm", alm) ∷ (codes "bind", bind) ∷ []
+commands =
+    (codes "bare", bare) ∷ (codes "audit", audit) ∷ (codes "procs", procs) ∷ (codes "print", print)
+    ∷ (codes "alm", alm) ∷ (codes "bind", bind) ∷ []
 
 -- the command of a word
 abbrev pub command_in : List Entry → List ℕ → Given → Option Command
