@@ -1,5 +1,5 @@
 -- The parts that are given are the object of the lines.
-use Rattle.std.proofs.Common.{◌≡◌, ℕ, ◌%◌, ◌^◌, ◌<◌, ◌≤◌, Bool, true, false, cond, eqb, List, [], ◌∷◌, ◌++◌, length, Option, Some, None, Result, Ok, Err, refl, sym, ap, ◌∙◌, subst, arith}
+use Rattle.std.proofs.Common.{◌≡◌, ℕ, ◌%◌, ◌^◌, ◌<◌, ◌≤◌, Bool, true, false, eqb, List, [], ◌∷◌, ◌++◌, length, Option, Some, None, Result, Ok, Err, refl, sym, ap, ◌∙◌, subst, arith}
 use Rattle.std.specs.Prelude.{IfOk}
 use Rattle.alm_parse.specs.SourceFields.{Source}
 use Rattle.alm_parse.specs.declared.line.Line36.{Line36}
@@ -10,13 +10,12 @@ use Rattle.obj36_parts.specs.PartsFields.{PartsFields}
 use Rattle.obj36_parts.specs.ObjectSegment.{is_well_formed}
 use Rattle.obj36_parts.proofs.Formed.{is_formed}
 use Rattle.obj36_parts.proofs.LengthLaws.{length-words_of}
-use Rattle.alm_lines.specs.Spots.{start, count_in, below, end_of}
+use Rattle.alm_lines.specs.Spots.{start, count_in, end_of}
 use Rattle.alm_asm.specs.Words.{words_from}
 use Rattle.alm_lines.specs.Layout.{symbols_from}
 use Rattle.alm_asm.specs.Assembly.{tables_of, static_section, version_of, parts_with, parts_of, refusal_of, last_line, made, assembled_by, assembled}
-use Rattle.alm_asm.specs.Laws.{holds_words}
 use Rattle.alm_asm.specs.Assembles.{evened_count, Assembles}
-use Rattle.alm_lines.specs.declared.spot.Spot.{Spot}
+use Rattle.alm_lines.specs.SpotFields.{Spot}
 use Rattle.alm_asm.specs.declared.tables.Tables.{Tables}
 use Rattle.alm_lines.specs.declared.refusal.Refusal.{Refusal}
 use Rattle.alm_asm.proofs.Unrefused.{no_layout_refusal, no_lines_refusal}

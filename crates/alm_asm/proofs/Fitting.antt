@@ -15,14 +15,15 @@ use Rattle.alm_lines.specs.Symbols.{same_name, sum_named, with_symbol}
 use Rattle.alm_lines.specs.Arguments.{name_at, first_arg, second_arg, symbol_in, terms_in, section_in}
 use Rattle.alm_lines.specs.Spots.{start, here_in, here, place, grown_in, entered, size_of, moved_by, below, end_of}
 use Rattle.alm_lines.specs.Expressions.{symbol_sum, atom_sum, term_sum, added, sum_of}
-use Rattle.alm_lines.specs.Layout.{with_labels, value_refusal, value_by, value_of, own_symbol, own_sum, with_own, symbols_with, labelled, symbols_after, symbols_from}
+use Rattle.alm_lines.specs.Refusals.{has_value}
+use Rattle.alm_lines.specs.Layout.{with_labels, value_by, value_of, own_symbol, own_sum, with_own, symbols_with, labelled, symbols_after, symbols_from}
 use Rattle.alm_lines.specs.declared.sum.Sum.{Sum}
 use Rattle.alm_lines.specs.declared.sum.Kind.{Kind}
 use Rattle.alm_lines.specs.declared.sum.Kind.TheVariants.{Absolute, Moved, Unsaid}
-use Rattle.alm_lines.specs.declared.spot.Spot.{Spot}
+use Rattle.alm_lines.specs.SpotFields.{Spot}
 use Rattle.alm_parse.specs.declared.deed.Deed.{Deed}
 use Rattle.alm_parse.specs.declared.deed.Deed.TheVariants as deed
-use Rattle.alm_lines.specs.declared.refusal.Refusal.{Refusal}
+use Rattle.alm_lines.specs.declared.refusal.Room.TheVariants.{Half}
 
 abbrev pub Fits : Bool → Sum → Type 0
 Fits outer sum = outer ≡ false → sum.outer.up ≡ sum.outer.down
@@ -201,14 +202,14 @@ own_fit : (outer : Bool) (text : List ℕ) (its : Sum) (symbols : List (List ℕ
 own_fit outer text its symbols None all fits = all
 own_fit outer text its symbols (Some span) all fits = with_fits outer symbols (name_at text span) its all fits
 
-value_fits : (outer : Bool) (refusal : Option Refusal) (sum : Sum) → Fits outer (value_by refusal sum)
-value_fits outer None sum none = refl
-value_fits outer (Some refusal) sum none = refl
+value_fits : (outer valued : Bool) (sum : Sum) → Fits outer (value_by valued sum)
+value_fits outer true sum none = refl
+value_fits outer false sum none = refl
 
 of_value_fits : (outer : Bool) (text : List ℕ) (symbols : List (List ℕ × Sum)) (spot : Spot) (line : Line36) → Fits outer (value_of text symbols spot line)
 unfolding value_of
 of_value_fits outer text symbols spot line =
-    value_fits outer (value_refusal text symbols spot line) (sum_of text symbols spot (terms_in (second_arg line.args)))
+    value_fits outer (has_value text symbols spot (terms_in (second_arg line.args)) Half false) (sum_of text symbols spot (terms_in (second_arg line.args)))
 
 own_sum_fits : (outer : Bool) (text : List ℕ) (symbols : List (List ℕ × Sum)) (spot : Spot) (line : Line36) (d : Deed) → (outer ≡ false → is_static spot.section ≡ false)
     → Fits outer (own_sum text symbols spot line d)

@@ -27,12 +27,11 @@ use Rattle.alm_asm.specs.Definitions.{definitions_after}
 use Rattle.alm_asm.specs.LineRefusals.{unless, op_place, needs_static, may_name, link_expression, reaches, operand_refusal, is_text_section, refusal_of_deed, lines_refusal}
 use Rattle.alm_asm.specs.Assembly.{version_of}
 use Rattle.alm_asm.specs.Laws.{segment_is_named, entry_is_named, args_are_named, lines_are_named}
-use Rattle.alm_lines.specs.declared.spot.Spot.{Spot}
+use Rattle.alm_lines.specs.SpotFields.{Spot}
 use Rattle.alm_asm.specs.declared.tables.Tables.{Tables}
 use Rattle.alm_parse.specs.declared.deed.Deed.{Deed}
 use Rattle.alm_parse.specs.declared.deed.Deed.TheVariants as deed
 use Rattle.alm_lines.specs.declared.refusal.Code.TheVariants.{E7}
-use Rattle.alm_lines.specs.declared.refusal.Refusal.{Refusal}
 use Rattle.alm_asm.proofs.Unrefused.{sooner_none, unless_none, line_parts, head_line, other_lines}
 use Rattle.alm_asm.proofs.GoodDefinitions.{half_small}
 

@@ -13,7 +13,7 @@ use Rattle.alm_lines.specs.Spots.{start, below, end_of}
 use Rattle.alm_asm.specs.Links.{operand_args, link_in, with_link, links_after, links_from}
 use Rattle.obj36_parts.specs.Indexes.{same_link}
 use Rattle.alm_lines.specs.declared.sum.Sum.{Sum}
-use Rattle.alm_lines.specs.declared.spot.Spot.{Spot}
+use Rattle.alm_lines.specs.SpotFields.{Spot}
 
 link_self : (l : LinkFields) → same_link l l ≡ true
 unfolding same_link

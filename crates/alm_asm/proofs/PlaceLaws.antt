@@ -9,7 +9,7 @@ use Rattle.alm_lines.specs.Arguments.{first_arg, second_arg, symbol_in, number_i
 use Rattle.alm_lines.specs.Spots.{start, count_in, place, grown_in, entered, moved_by, below, end_of}
 use Rattle.alm_asm.specs.Words.{instruction_word, halves_word, words_by, same_section, words_of_line, words_from}
 use Rattle.alm_asm.specs.Laws.{holds_words}
-use Rattle.alm_lines.specs.declared.spot.Spot.{Spot}
+use Rattle.alm_lines.specs.SpotFields.{Spot}
 use Rattle.alm_asm.specs.declared.tables.Tables.{Tables}
 use Rattle.alm_parse.specs.declared.deed.Deed.{Deed}
 use Rattle.alm_parse.specs.declared.deed.Deed.TheVariants as deed

@@ -10,7 +10,7 @@ use Rattle.alm_lines.specs.Spots.{start, here, below, end_of}
 use Rattle.alm_lines.specs.Refusals.{sooner, refusal_at}
 use Rattle.alm_lines.specs.Layout.{again, with_labels, labels_refused, own_symbol, own_refusal, own_sum, with_own, own_again, symbols_with, refused_with, over, labelled, symbols_after, refused_after, symbols_from, layout_refusal}
 use Rattle.alm_lines.specs.declared.sum.Sum.{Sum}
-use Rattle.alm_lines.specs.declared.spot.Spot.{Spot}
+use Rattle.alm_lines.specs.SpotFields.{Spot}
 use Rattle.alm_lines.specs.declared.refusal.Code.TheVariants.{E5}
 use Rattle.alm_lines.specs.declared.refusal.Refusal.{Refusal}
 use Rattle.alm_asm.proofs.Unrefused.{sooner_none}

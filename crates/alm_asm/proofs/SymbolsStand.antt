@@ -8,7 +8,7 @@ use Rattle.alm_lines.specs.Arguments.{name_at}
 use Rattle.alm_lines.specs.Spots.{start, here, below}
 use Rattle.alm_lines.specs.Layout.{with_labels, own_symbol, own_sum, with_own, symbols_with, labelled, symbols_after, symbols_from}
 use Rattle.alm_lines.specs.declared.sum.Sum.{Sum}
-use Rattle.alm_lines.specs.declared.spot.Spot.{Spot}
+use Rattle.alm_lines.specs.SpotFields.{Spot}
 
 stays_by : (b : Bool) (first sum : Sum) (rest more : Option Sum) → (rest ≡ Some sum → more ≡ Some sum) → cond b (Some first) rest ≡ Some sum → cond b (Some first) more ≡ Some sum
 stays_by true first sum rest more stays e = e

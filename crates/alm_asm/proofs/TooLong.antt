@@ -23,7 +23,7 @@ use Rattle.alm_asm.proofs.Unrefused.{no_lines_refusal}
 use Rattle.alm_asm.specs.Assembly.{tables_of, bound_by, bound_from, static_section, version_of, evened, parts_with, parts_of, refusal_of}
 use Rattle.alm_asm.specs.Laws.{holds_words, lines_are_named}
 use Rattle.alm_lines.specs.declared.sum.Sum.{Sum}
-use Rattle.alm_lines.specs.declared.spot.Spot.{Spot}
+use Rattle.alm_lines.specs.SpotFields.{Spot}
 use Rattle.alm_asm.specs.declared.tables.Tables.{Tables}
 use Rattle.alm_parse.specs.declared.deed.Deed.{Deed}
 use Rattle.alm_parse.specs.declared.deed.Deed.TheVariants as deed

@@ -12,7 +12,7 @@ use Rattle.alm_lines.specs.Layout.{layout_refusal}
 use Rattle.alm_asm.specs.Growth.{at_first, growth_refusal}
 use Rattle.alm_asm.specs.Assembly.{tables_of, refusal_of}
 use Rattle.alm_lines.specs.declared.sum.Sum.{Sum}
-use Rattle.alm_lines.specs.declared.spot.Spot.{Spot}
+use Rattle.alm_lines.specs.SpotFields.{Spot}
 use Rattle.alm_asm.specs.declared.tables.Tables.{Tables}
 use Rattle.alm_lines.specs.declared.refusal.Refusal.{Refusal}
 

@@ -1,7 +1,8 @@
 -- What an object is of lines, by what stands where. A line is told by the lines above it: it stands
 -- at the spot that these end at, in the section that the last `use` line among them names, behind
 -- the words that they place there.
-use Rattle.std.specs.Prelude.{ℕ, ◌≡◌, ◌+◌, ◌%◌, Bool, true, false, not, ◌&&◌, ◌⊎◌, List, [], ◌∷◌, ◌++◌, length, replicate, Some}
+use Rattle.std.specs.Prelude.{ℕ, ◌≡◌, ◌+◌, ◌%◌, Bool, true, false, not, ◌&&◌, ◌⊎◌, List, [], ◌∷◌}
+use Rattle.std.specs.Prelude.{◌++◌, length, replicate, Some}
 use Rattle.std.specs.List.{list_any}
 use Rattle.alm_parse.specs.SourceFields.{Source}
 use Rattle.alm_tokens.specs.declared.span.Span.{Span}
@@ -22,7 +23,7 @@ use Rattle.alm_lines.specs.Layout.{own_symbol, own_sum, labelled, symbols_from}
 use Rattle.alm_asm.specs.Definitions.{definitions_from}
 use Rattle.alm_asm.specs.Assembly.{tables_of, static_section, version_of}
 use Rattle.alm_lines.specs.declared.sum.Sum.{Sum}
-use Rattle.alm_lines.specs.declared.spot.Spot.{Spot}
+use Rattle.alm_lines.specs.SpotFields.{Spot}
 use Rattle.alm_asm.specs.declared.tables.Tables.{Tables}
 use Rattle.alm_parse.specs.declared.deed.Deed.{Deed}
 use Rattle.alm_parse.specs.declared.deed.Deed.TheVariants as deed

@@ -1,5 +1,6 @@
 -- Definitions: the names of `entry` and `segdef` lines in order, and what is refused of them.
-use Rattle.std.specs.Prelude.{ℕ, Bool, true, false, not, ◌&&◌, List, [], ◌∷◌, ◌++◌, Option, Some, None}
+use Rattle.std.specs.Prelude.{ℕ, Bool, true, false, not, ◌&&◌, List, [], ◌∷◌, ◌++◌, Option, Some}
+use Rattle.std.specs.Prelude.{None}
 use Rattle.std.specs.List.{list_any}
 use Rattle.alm_tokens.specs.declared.span.Span.{Span}
 use Rattle.alm_parse.specs.declared.args.Arg.{Arg}
@@ -35,7 +36,11 @@ named text symbols is_entry span =
     let sum = symbol_sum text symbols span in
     record {
       name = name_at text span;
-      def = record { section = section_of (kind_of sum); value = half_of sum.value; is_entry = is_entry };
+      def = record {
+        section = section_of (kind_of sum);
+        value = half_of sum.value;
+        is_entry = is_entry;
+      };
     }
 
 abbrev pub named_by : List ℕ → List (List ℕ × Sum) → Bool → Arg → List Named

@@ -1,7 +1,8 @@
 -- How the definition, linkage and symbol sections grow with the lines. Names, expressions, links
 -- and relocations stand in them, of which no line gives the words itself. The other sections have
 -- what the lines place there.
-use Rattle.std.specs.Prelude.{ℕ, ◌+◌, ◌*◌, Bool, true, false, ◌||◌, is_some, if◌then◌else◌, List, [], ◌∷◌, ◌++◌, length, Option, Some, None}
+use Rattle.std.specs.Prelude.{ℕ, ◌≡◌, ◌≤◌, ◌+◌, ◌*◌, Bool, true, false, ◌||◌, is_some}
+use Rattle.std.specs.Prelude.{if◌then◌else◌, List, [], ◌∷◌, ◌++◌, length, Option, Some, None}
 use Rattle.std.specs.List.{list_any}
 use Rattle.alm_tokens.specs.declared.span.Span.{Span}
 use Rattle.alm_tokens.specs.declared.expression.Term.{Term}
@@ -29,7 +30,7 @@ use Rattle.alm_lines.specs.declared.refusal.Room.{Room}
 use Rattle.alm_lines.specs.declared.refusal.Room.TheVariants.{Half}
 use Rattle.alm_parse.specs.declared.deed.Deed.{Deed}
 use Rattle.alm_parse.specs.declared.deed.Deed.TheVariants as deed
-use Rattle.alm_lines.specs.declared.spot.Spot.{Spot}
+use Rattle.alm_lines.specs.SpotFields.{Spot}
 use Rattle.alm_asm.specs.declared.growth.Growth.{Growth}
 use Rattle.alm_lines.specs.declared.refusal.Code.TheVariants.{E8}
 use Rattle.alm_lines.specs.declared.refusal.Refusal.{Refusal}
@@ -194,3 +195,10 @@ growth_refusal text symbols g spot (line ∷ lines) =
     (refusal_at line line.start E8)
     else growth_refusal text symbols (grown_by text symbols spot g line) (below text spot line)
     lines
+
+-- ---- how fast they grow
+
+-- The definition section has so many words more at most, and the symbol section has what it had.
+pub record IsLarger (more : ℕ) (before after : Growth) : Type 0 where
+  pub definition : after.definition ≤ before.definition + more
+  pub symbol : after.symbol ≡ before.symbol

@@ -1,5 +1,6 @@
 -- Links: the external operands of instructions, each once, in the order of their first use.
-use Rattle.std.specs.Prelude.{ℕ, ◌+◌, ◌*◌, ◌%◌, ◌^◌, Bool, List, [], ◌∷◌, ◌++◌, codes, Option, Some, None, unwrap_or, if◌then◌else◌}
+use Rattle.std.specs.Prelude.{ℕ, ◌+◌, ◌*◌, ◌%◌, ◌^◌, List, [], ◌∷◌, ◌++◌, codes, Option, Some}
+use Rattle.std.specs.Prelude.{None, unwrap_or, if◌then◌else◌}
 use Rattle.std.specs.List.{list_any, position}
 use Rattle.alm_tokens.specs.Tokens.{slice_of, is_text}
 use Rattle.alm_tokens.specs.declared.span.Span.{Span}
@@ -16,7 +17,7 @@ use Rattle.alm_lines.specs.Arguments.{name_at, first_arg}
 use Rattle.alm_lines.specs.Spots.{below}
 use Rattle.alm_lines.specs.Expressions.{sum_of}
 use Rattle.alm_lines.specs.declared.sum.Sum.{Sum}
-use Rattle.alm_lines.specs.declared.spot.Spot.{Spot}
+use Rattle.alm_lines.specs.SpotFields.{Spot}
 use Rattle.alm_parse.specs.declared.deed.Deed.{Deed}
 use Rattle.alm_parse.specs.declared.deed.Deed.TheVariants as deed
 

@@ -16,7 +16,7 @@ use Rattle.alm_asm.specs.Words.{same_section}
 use Rattle.alm_lines.specs.declared.sum.Sum.{Sum}
 use Rattle.alm_lines.specs.declared.sum.Kind.{Kind}
 use Rattle.alm_lines.specs.declared.sum.Kind.TheVariants.{Absolute, Moved, Unsaid}
-use Rattle.alm_lines.specs.declared.spot.Spot.{Spot}
+use Rattle.alm_lines.specs.SpotFields.{Spot}
 use Rattle.alm_parse.specs.declared.deed.Deed.{Deed}
 use Rattle.alm_parse.specs.declared.deed.Deed.TheVariants as deed
 

@@ -1,15 +1,18 @@
 //! Objects of lines.
 
-ghost use Rattle.std.specs.Prelude.{ℕ, Bool, List, [], ◌∷◌, ◌≡◌, ◌+◌, ◌%◌, ◌^◌, ◌<◌, Option, None, OnOk, IfOk};
+ghost use Rattle.std.specs.Prelude.{ℕ, Bool, List, [], ◌∷◌, ◌≡◌, ◌+◌, ◌%◌, ◌^◌, ◌<◌, length};
+ghost use Rattle.std.specs.Prelude.{Option, None, OnOk, IfOk};
 ghost use Rattle.alm_parse.specs.Sources.{ParseSays};
-ghost use Rattle.alm_lines.specs.Spots.{start};
+ghost use Rattle.alm_lines.specs.Spots.{start, HasRoom};
 ghost use Rattle.obj36_parts.specs.declared.section.Section.TheVariants.{Text};
 ghost use Rattle.obj36_parts.specs.ObjectSegment.{is_well_formed};
 ghost use Rattle.alm_lines.specs.Layout.{layout_refusal};
 ghost use Rattle.alm_asm.specs.Words.{words_from};
 ghost use Rattle.alm_asm.specs.Marks.{marks_from};
 ghost use Rattle.alm_asm.specs.Assembles.{Assembles};
-ghost use Rattle.alm_asm.specs.Assembly.{made, first_link, tables_of, bound_by, bound_from, static_section, version_of, evened, parts_with, last_line, assembled};
+ghost use Rattle.alm_asm.specs.Assembly.{made, first_link, tables_of, bound_by, bound_from};
+ghost use Rattle.alm_asm.specs.Assembly.{static_section, version_of, evened, parts_with, last_line};
+ghost use Rattle.alm_asm.specs.Assembly.{assembled};
 
 use crate::definitions::definitions_of;
 use crate::growth::growth_refusal;
@@ -18,22 +21,23 @@ use crate::links::links_of;
 use crate::marks::push_marks_in;
 use crate::tables::Tables;
 use crate::words::words_in;
+use alm_lines::count::Count;
 use alm_lines::layout::layout_of;
 use alm_lines::refusal::{Refusal, fault_of, sooner};
 use alm_lines::spot::{Spot, below, end_of};
-use alm_lines::sum::plus;
 use alm_parse::{AlmFault, Deed, Line36, Lines36};
 use m36_word::{NoMemory, Word, Words};
 use obj36::{Object, Parts, Relocs, Section};
 use std::alloc::Global;
 
-fn first_link(ending: Spot) -> Result<u64, NoMemory>
-    ensures { IfOk result (λ at. at ≡ first_link ending) }
+fn first_link(ending: Spot) -> Count
+    requires { HasRoom 0 ending }
+    ensures { result ≡ first_link ending }
 {
     if ending.uses_outer {
-        return Ok(8);
+        return Count::of(8);
     }
-    plus(plus(8, ending.inner)?, ending.inner % 2)
+    Count::of(8 + ending.inner + ending.inner % 2)
 }
 
 /// The tables of lines, and the first refusal of a symbol's definition or of a section's length.
@@ -45,6 +49,7 @@ struct Found {
 
 #[tactic(auto, unfolding(crate::specs::Assembly::tables_of))]
 fn found_in(alloc: Global, text: &[u8], lines: &[Line36]) -> Result<Found, NoMemory>
+    requires { length lines.now < 2 ^ 32 }
     ensures tables { IfOk result (λ found. found.tables ≡ tables_of text.now lines.now) }
     ensures refused { IfOk result (λ found.
         found.refused ≡ layout_refusal text.now None [] start lines.now) }
@@ -52,7 +57,7 @@ fn found_in(alloc: Global, text: &[u8], lines: &[Line36]) -> Result<Found, NoMem
     let layout = layout_of(alloc, text, lines)?;
     let links = links_of(alloc, text, &layout.symbols, lines)?;
     let ending = end_of(alloc, text, lines)?;
-    let first_link = first_link(ending)?;
+    let first_link = first_link(ending);
     let tables = Tables {
         symbols: layout.symbols,
         links,
@@ -85,8 +90,9 @@ fn bound_by(spot: Spot, bound: u32, deed: Deed) -> u32
     }
 }
 
-#[tactic(auto, unfolding(crate::specs::Assembly::bound_from))]
+#[tactic(auto, using(alm_lines::proofs::Rooms::rooms), unfolding(crate::specs::Assembly::bound_from))]
 fn bound_of(alloc: Global, text: &[u8], lines: &[Line36]) -> Result<u32, NoMemory>
+    requires { length lines.now < 2 ^ 32 }
     ensures value { IfOk result (λ bound. bound ≡ bound_from text.now 0 start lines.now) }
     ensures bound { IfOk result (λ bound. bound < 2 ^ 18) }
 {
@@ -135,10 +141,12 @@ fn statics_of(
     tables: &Tables,
     lines: &[Line36],
 ) -> Result<Words, NoMemory>
+    requires { length lines.now < 2 ^ 32 }
     ensures { IfOk result (λ words.
         words
         ≡ evened tables.now.uses_outer
-        (words_from text.now tables.now (static_section tables.now.uses_outer) [] start lines.now)) }
+        (words_from text.now tables.now (static_section tables.now.uses_outer) [] start
+        lines.now)) }
 {
     let section = static_section(tables.uses_outer);
     let mut words = words_in(alloc, text, tables, section, lines)?;
@@ -152,6 +160,7 @@ fn relocations_of(
     tables: &Tables,
     lines: &[Line36],
 ) -> Result<Relocs, NoMemory>
+    requires { length lines.now < 2 ^ 32 }
     ensures { IfOk result (λ marks.
         marks
         ≡ marks_from text.now tables.now.symbols (static_section tables.now.uses_outer)
@@ -179,6 +188,7 @@ fn parts_with(
     tables: Tables,
     lines: &[Line36],
 ) -> Result<Parts, NoMemory>
+    requires { length lines.now < 2 ^ 32 }
     ensures { IfOk result (λ parts. parts ≡ parts_with text.now tables lines.now) }
 {
     let words = words_in(alloc, text, &tables, Section::Text, lines)?;

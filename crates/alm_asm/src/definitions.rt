@@ -3,7 +3,11 @@
 ghost use Rattle.std.specs.Prelude.{ℕ, Bool, List, [], ◌∷◌, ◌++◌, ◌≡◌, Option, OnOk, IfOk};
 ghost use Rattle.std.specs.List.{list_any};
 ghost use Rattle.alm_lines.specs.Symbols.{same_name};
-ghost use Rattle.alm_asm.specs.Definitions.{section_of, named, named_by, with_names, gives_entries, definitions_by, definitions_after, definitions_from, is_taken, is_label_kind, is_label, sum_refusal, name_refusal, arg_refusal, names_refused, definitions_refused};
+ghost use Rattle.alm_asm.specs.Definitions.{section_of, named, named_by, with_names, gives_entries};
+ghost use Rattle.alm_asm.specs.Definitions.{definitions_by, definitions_after, definitions_from};
+ghost use Rattle.alm_asm.specs.Definitions.{is_taken, is_label_kind, is_label, sum_refusal};
+ghost use Rattle.alm_asm.specs.Definitions.{name_refusal, arg_refusal, names_refused};
+ghost use Rattle.alm_asm.specs.Definitions.{definitions_refused};
 
 use alm_lines::arguments::name_at;
 use alm_lines::expression::symbol_sum;

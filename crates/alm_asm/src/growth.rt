@@ -1,12 +1,17 @@
 //! How the definition, linkage and symbol sections grow with the lines, and the line with which one has too many words.
 
-ghost use Rattle.std.specs.Prelude.{ℕ, Bool, List, [], ◌∷◌, ◌++◌, ◌≡◌, ◌≤◌, length, if◌then◌else◌, Option, OnOk, IfOk};
+ghost use Rattle.std.specs.Prelude.{ℕ, Bool, false, List, [], ◌∷◌, ◌++◌, ◌≡◌, ◌+◌, ◌*◌, ◌^◌, ◌<◌};
+ghost use Rattle.std.specs.Prelude.{◌≤◌, length, if◌then◌else◌, Option, OnOk, IfOk};
 ghost use Rattle.std.specs.List.{list_any};
 ghost use Rattle.alm_lines.specs.Arguments.{first_arg};
 ghost use Rattle.alm_lines.specs.Spots.{start};
 ghost use Rattle.alm_asm.specs.Links.{operand_args};
 ghost use Rattle.alm_asm.specs.Definitions.{gives_entries};
-ghost use Rattle.alm_asm.specs.Growth.{at_first, with_name, with_names, with_definition, with_unrefused, with_arg, with_args, with_definitions, with_new_link, with_link_once, with_operand, with_link, mark_count, operand_room, is_own, operand_count, half_count, marks_count, with_marks, grown_by, is_over, growth_refusal};
+ghost use Rattle.alm_asm.specs.Growth.{IsLarger, at_first, with_name, with_names, with_definition};
+ghost use Rattle.alm_asm.specs.Growth.{with_unrefused, with_arg, with_args, with_definitions};
+ghost use Rattle.alm_asm.specs.Growth.{with_new_link, with_link_once, with_operand, with_link};
+ghost use Rattle.alm_asm.specs.Growth.{mark_count, operand_room, is_own, operand_count, half_count};
+ghost use Rattle.alm_asm.specs.Growth.{marks_count, with_marks, grown_by, is_over, growth_refusal};
 ghost use Rattle.obj36_parts.specs.ObjectSegment.{has_name, has_entry};
 
 use crate::definitions::{gives_entries, sum_refusal};
@@ -17,7 +22,7 @@ use alm_lines::arguments::{first_terms, name_at, second_terms};
 use alm_lines::expression::sum_of;
 use alm_lines::refusal::{Code, Refusal, Room, has_value, is_over_limit, refusal_at};
 use alm_lines::spot::{Spot, below};
-use alm_lines::sum::{Kind, absolute, plus};
+use alm_lines::sum::{Kind, absolute};
 use alm_lines::symbols::Symbols;
 use alm_parse::{Arg, Deed, Line36, Span, Term};
 use m36_text::Name;
@@ -32,8 +37,8 @@ pub struct Growth {
     pub names: Symbols,
     pub defined: Symbols,
     pub links: Links,
-    pub definition: u64,
-    pub symbol: u64,
+    pub definition: u128,
+    pub symbol: u128,
 }
 
 impl Growth {
@@ -51,19 +56,23 @@ impl Growth {
 
     #[tactic(auto, unfolding(crate::specs::Growth::with_name, obj36_parts::specs::Names::name_length))]
     fn add_name(&mut self, name: Name) -> Result<(), NoMemory>
-        ensures { OnOk result (self.new ≡ with_name self.old name) }
+        requires { self.old.definition ≤ 2 ^ 80 }
+        ensures value { OnOk result (self.new ≡ with_name self.old name) }
+        ensures larger { OnOk result (IsLarger 9 self.old self.new) }
     {
         if self.names.find(&name).is_some() {
             return Ok(());
         }
-        let words = name.bytes().len() as u64 / 4 + 1;
-        self.definition = plus(self.definition, words)?;
+        self.definition += name.bytes().len() as u128 / 4 + 1;
         self.names.define(name, absolute(0))
     }
 
     #[tactic(auto, unfolding(crate::specs::Growth::with_names))]
     fn add_use(&mut self, is_used: bool, name: Name) -> Result<(), NoMemory>
-        ensures { OnOk result (self.new ≡ with_names self.old (if is_used then name ∷ [] else [])) }
+        requires { self.old.definition ≤ 2 ^ 80 }
+        ensures value { OnOk result
+            (self.new ≡ with_names self.old (if is_used then name ∷ [] else [])) }
+        ensures larger { OnOk result (IsLarger 9 self.old self.new) }
     {
         if is_used {
             return self.add_name(name);
@@ -73,32 +82,38 @@ impl Growth {
 
     #[tactic(auto, unfolding(crate::specs::Growth::with_definition))]
     fn add_definition(&mut self, name: Name) -> Result<(), NoMemory>
-        ensures { OnOk result (self.new ≡ with_definition self.old name) }
+        requires { self.old.definition ≤ 2 ^ 79 }
+        ensures value { OnOk result (self.new ≡ with_definition self.old name) }
+        ensures larger { OnOk result (IsLarger 11 self.old self.new) }
     {
         if self.defined.find(&name).is_some() {
             return Ok(());
         }
         self.defined.define(name.copied(), absolute(0))?;
-        self.definition = plus(self.definition, 2)?;
+        self.definition += 2;
         self.add_name(name)
     }
 
     #[tactic(auto, using(crate::proofs::GrowthLaws::names_then), unfolding(crate::specs::Growth::with_new_link, obj36_parts::specs::ObjectSegment::link_names, obj36_parts::specs::ObjectSegment::name_used, obj36_parts::specs::ObjectSegment::entry_used))]
     fn add_new_link(&mut self, link: Link) -> Result<(), NoMemory>
-        ensures { OnOk result (self.new ≡ with_new_link self.old link) }
+        requires { self.old.definition ≤ 2 ^ 79 }
+        ensures value { OnOk result (self.new ≡ with_new_link self.old link) }
+        ensures symbol { OnOk result (self.new.symbol ≡ self.old.symbol) }
     {
         let kind = link.kind;
         let name = link.name.copied();
         let entry = link.entry.copied();
         self.links.push(link)?;
-        self.definition = plus(self.definition, 2)?;
+        self.definition += 2;
         self.add_use(uses_name(kind), name)?;
         self.add_use(uses_entry(kind), entry)
     }
 
     #[tactic(auto, unfolding(crate::specs::Growth::with_link_once))]
     fn add_link(&mut self, link: Link) -> Result<(), NoMemory>
-        ensures { OnOk result (self.new ≡ with_link_once self.old link) }
+        requires { self.old.definition ≤ 2 ^ 79 }
+        ensures value { OnOk result (self.new ≡ with_link_once self.old link) }
+        ensures symbol { OnOk result (self.new.symbol ≡ self.old.symbol) }
     {
         if self.links.has(&link) {
             return Ok(());
@@ -107,12 +122,14 @@ impl Growth {
     }
 
     #[tactic(auto, unfolding(crate::specs::Growth::is_over))]
-    fn is_over(&self, spot: Spot) -> Result<bool, NoMemory>
-        ensures { IfOk result (λ b. b ≡ is_over spot self.now) }
+    fn is_over(&self, spot: Spot) -> bool
+        ensures value { result ≡ is_over spot self.now }
+        ensures definition { result ≡ false → self.now.definition ≤ 258048 }
+        ensures symbol { result ≡ false → self.now.symbol ≤ 258048 }
     {
-        let links = self.links.items().len() as u64;
-        let linkage = plus(plus(8, spot.inner)?, plus(links, links)?)?;
-        Ok(is_over_limit(self.definition) || is_over_limit(linkage) || is_over_limit(self.symbol))
+        let links = self.links.items().len() as u128;
+        let linkage = 8 + spot.inner + 2 * links;
+        is_over_limit(self.definition) || is_over_limit(linkage) || is_over_limit(self.symbol)
     }
 }
 
@@ -137,8 +154,10 @@ fn take_arg(
     growth: &mut Growth,
     arg: &Arg,
 ) -> Result<(), NoMemory>
-    ensures { OnOk result
+    requires { growth.old.definition ≤ 2 ^ 79 }
+    ensures value { OnOk result
         (growth.new ≡ with_arg text.now symbols.now line.now is_entry growth.old arg.now) }
+    ensures larger { OnOk result (IsLarger 11 growth.old growth.new) }
 {
     match arg {
         Arg::Symbol(span) => {
@@ -152,7 +171,8 @@ fn take_arg(
     }
 }
 
-#[tactic(auto, unfolding(crate::specs::Growth::with_args))]
+// A line has fewer than 2^64 arguments.
+#[tactic(auto, using(crate::proofs::GrowthLaws::larger_more), unfolding(crate::specs::Growth::with_args))]
 fn take_args(
     text: &[u8],
     symbols: &Symbols,
@@ -160,7 +180,9 @@ fn take_args(
     is_entry: bool,
     growth: &mut Growth,
 ) -> Result<(), NoMemory>
-    ensures { OnOk result
+    requires { growth.old.definition ≤ 2 ^ 18 }
+    ensures larger { OnOk result (IsLarger (11 * 2 ^ 64) growth.old growth.new) }
+    ensures value { OnOk result
         (growth.new ≡ with_args text.now symbols.now line.now is_entry growth.old line.now.args) }
 {
     let mut rest = line.args.items();
@@ -177,7 +199,9 @@ fn take_definitions(
     line: &Line36,
     growth: &mut Growth,
 ) -> Result<(), NoMemory>
-    ensures { OnOk result
+    requires { growth.old.definition ≤ 2 ^ 18 }
+    ensures larger { OnOk result (IsLarger (11 * 2 ^ 64) growth.old growth.new) }
+    ensures value { OnOk result
         (growth.new
         ≡ with_definitions text.now symbols.now line.now growth.old (gives_entries line.now.deed)) }
 {
@@ -197,14 +221,18 @@ fn take_external(
     terms: &[Term],
     tag: u8,
 ) -> Result<(), NoMemory>
-    ensures { OnOk result
+    requires room { growth.old.definition ≤ 2 ^ 79 }
+    requires terms { length terms.now ≤ 2 ^ 32 }
+    ensures symbol { OnOk result (growth.new.symbol ≡ growth.old.symbol) }
+    ensures value { OnOk result
         (growth.new
-        ≡ with_operand text.now symbols.now spot growth.old (Option.Some segment) entry terms.now tag) }
+        ≡ with_operand text.now symbols.now spot growth.old (Option.Some segment) entry terms.now
+        tag) }
 {
-    if !has_value(text, symbols, spot, terms, Room::Half, false)? {
+    if !has_value(text, symbols, spot, terms, Room::Half, false) {
         return Ok(());
     }
-    let link = link_of(text, symbols, spot, segment, entry, terms, tag)?;
+    let link = link_of(text, symbols, spot, segment, entry, terms, tag);
     growth.add_link(link)
 }
 
@@ -215,7 +243,9 @@ fn take_link(
     line: &Line36,
     growth: &mut Growth,
 ) -> Result<(), NoMemory>
-    ensures { OnOk result
+    requires { growth.old.definition ≤ 2 ^ 79 }
+    ensures symbol { OnOk result (growth.new.symbol ≡ growth.old.symbol) }
+    ensures value { OnOk result
         (growth.new
         ≡ with_link text.now symbols.now spot growth.old
         (first_arg (operand_args line.now.deed line.now.args))) }
@@ -266,10 +296,9 @@ fn is_own(segment: Option<Span>) -> bool
     }
 }
 
-fn operand_count(text: &[u8], symbols: &Symbols, spot: Spot, args: &[Arg]) -> Result<u64, NoMemory>
-    ensures value { IfOk result (λ n.
-        n ≡ operand_count text.now symbols.now spot (first_arg args.now)) }
-    ensures bound { IfOk result (λ n. n ≤ 1) }
+fn operand_count(text: &[u8], symbols: &Symbols, spot: Spot, args: &[Arg]) -> u64
+    ensures value { result ≡ operand_count text.now symbols.now spot (first_arg args.now) }
+    ensures bound { result ≤ 1 }
 {
     match args {
         [
@@ -284,35 +313,35 @@ fn operand_count(text: &[u8], symbols: &Symbols, spot: Spot, args: &[Arg]) -> Re
         ] => {
             let terms = expr.items();
             let room = operand_room(*pr, *seg);
-            let is_valued = has_value(text, symbols, spot, terms, room, is_own(*seg))?;
-            let sum = sum_of(text, symbols, spot, terms)?;
-            Ok(mark_count(is_valued, operand_kind(*seg, sum)))
+            let is_valued = has_value(text, symbols, spot, terms, room, is_own(*seg));
+            let sum = sum_of(text, symbols, spot, terms);
+            mark_count(is_valued, operand_kind(*seg, sum))
         }
-        _ => Ok(0),
+        _ => 0,
     }
 }
 
-fn half_count(text: &[u8], symbols: &Symbols, spot: Spot, terms: &[Term]) -> Result<u64, NoMemory>
-    ensures value { IfOk result (λ n. n ≡ half_count text.now symbols.now spot terms.now) }
-    ensures bound { IfOk result (λ n. n ≤ 1) }
+fn half_count(text: &[u8], symbols: &Symbols, spot: Spot, terms: &[Term]) -> u64
+    requires { length terms.now ≤ 2 ^ 32 }
+    ensures value { result ≡ half_count text.now symbols.now spot terms.now }
+    ensures bound { result ≤ 1 }
 {
-    let is_valued = has_value(text, symbols, spot, terms, Room::Half, true)?;
-    let sum = sum_of(text, symbols, spot, terms)?;
-    Ok(mark_count(is_valued, sum.kind()))
+    let is_valued = has_value(text, symbols, spot, terms, Room::Half, true);
+    let sum = sum_of(text, symbols, spot, terms);
+    mark_count(is_valued, sum.kind())
 }
 
-fn marks_count(text: &[u8], symbols: &Symbols, spot: Spot, line: &Line36) -> Result<u64, NoMemory>
-    ensures value { IfOk result (λ n.
-        n ≡ marks_count text.now symbols.now spot line.now.args line.now.deed) }
-    ensures bound { IfOk result (λ n. n ≤ 2) }
+fn marks_count(text: &[u8], symbols: &Symbols, spot: Spot, line: &Line36) -> u64
+    ensures value { result ≡ marks_count text.now symbols.now spot line.now.args line.now.deed }
+    ensures bound { result ≤ 2 }
 {
     let args = line.args.items();
     match line.deed {
         Deed::Instruction(_, _) => operand_count(text, symbols, spot, args),
         Deed::Zero => {
-            let left = half_count(text, symbols, spot, first_terms(args))?;
-            let right = half_count(text, symbols, spot, second_terms(args))?;
-            Ok(left + right)
+            let left = half_count(text, symbols, spot, first_terms(args));
+            let right = half_count(text, symbols, spot, second_terms(args));
+            left + right
         }
         Deed::Nothing
         | Deed::Entry
@@ -322,23 +351,16 @@ fn marks_count(text: &[u8], symbols: &Symbols, spot: Spot, line: &Line36) -> Res
         | Deed::Words
         | Deed::Block
         | Deed::Even
-        | Deed::Bound => Ok(0),
+        | Deed::Bound => 0,
     }
 }
 
 #[tactic(auto, unfolding(crate::specs::Growth::with_marks))]
-fn take_marks(
-    text: &[u8],
-    symbols: &Symbols,
-    spot: Spot,
-    line: &Line36,
-    growth: &mut Growth,
-) -> Result<(), NoMemory>
-    ensures { OnOk result (growth.new ≡ with_marks text.now symbols.now spot line.now growth.old) }
+fn take_marks(text: &[u8], symbols: &Symbols, spot: Spot, line: &Line36, growth: &mut Growth)
+    requires { growth.old.symbol ≤ 2 ^ 18 }
+    ensures { growth.new ≡ with_marks text.now symbols.now spot line.now growth.old }
 {
-    let marks = marks_count(text, symbols, spot, line)?;
-    growth.symbol = plus(growth.symbol, marks)?;
-    Ok(())
+    growth.symbol += marks_count(text, symbols, spot, line) as u128;
 }
 
 #[tactic(auto, unfolding(crate::specs::Growth::grown_by))]
@@ -349,21 +371,26 @@ fn take_line(
     line: &Line36,
     growth: &mut Growth,
 ) -> Result<(), NoMemory>
+    requires definition { growth.old.definition ≤ 2 ^ 18 }
+    requires symbol { growth.old.symbol ≤ 2 ^ 18 }
     ensures { OnOk result (growth.new ≡ grown_by text.now symbols.now spot growth.old line.now) }
 {
     take_definitions(text, symbols, line, growth)?;
     take_link(text, symbols, spot, line, growth)?;
-    take_marks(text, symbols, spot, line, growth)
+    take_marks(text, symbols, spot, line, growth);
+    Ok(())
 }
 
-/// The refusal of the first line with which one of these sections has more than 2^18 - 4096 words.
-#[tactic(auto, unfolding(crate::specs::Growth::growth_refusal))]
+/// The refusal of the first line with which one of these sections has more than 2^18 - 4096 words. The error is want of
+/// memory alone.
+#[tactic(auto, using(alm_lines::proofs::Rooms::rooms), unfolding(crate::specs::Growth::growth_refusal))]
 pub fn growth_refusal(
     alloc: Global,
     text: &[u8],
     symbols: &Symbols,
     lines: &[Line36],
 ) -> Result<Option<Refusal>, NoMemory>
+    requires { length lines.now < 2 ^ 32 }
     ensures { IfOk result (λ r. r ≡ growth_refusal text.now symbols.now at_first start lines.now) }
 {
     let mut growth = Growth::start(alloc);
@@ -372,7 +399,7 @@ pub fn growth_refusal(
     while let [line, more @ ..] = rest {
         take_line(text, symbols, spot, line, &mut growth)?;
         spot = below(alloc, text, spot, line)?;
-        if growth.is_over(spot)? {
+        if growth.is_over(spot) {
             return Ok(Some(refusal_at(line, line.start as u64, Code::E8)));
         }
         rest = more;

@@ -1,10 +1,16 @@
 //! What is refused of lines whose symbols are known.
 
-ghost use Rattle.std.specs.Prelude.{ℕ, Bool, List, [], ◌∷◌, ◌≡◌, ◌+◌, ◌<◌, Option, OnOk, IfOk};
+ghost use Rattle.std.specs.Prelude.{ℕ, Bool, List, [], ◌∷◌, ◌≡◌, ◌+◌, ◌^◌, ◌<◌, ◌≤◌, length};
+ghost use Rattle.std.specs.Prelude.{Option, OnOk, IfOk};
 ghost use Rattle.alm_lines.specs.Arguments.{first_arg};
 ghost use Rattle.alm_lines.specs.Spots.{start};
 ghost use Rattle.alm_asm.specs.Definitions.{definitions_after};
-ghost use Rattle.alm_asm.specs.LineRefusals.{unless, op_place, external_place, needs_static, may_name, is_in_reach, own_room, link_expression, reaches, external_refusal, own_operand, operand_refusal, is_text_section, may_enter, instruction_refusal, use_refusal, halves_refusal, refusal_of_deed, line_refusal, lines_refusal};
+ghost use Rattle.alm_asm.specs.LineRefusals.{unless, op_place, external_place, needs_static};
+ghost use Rattle.alm_asm.specs.LineRefusals.{may_name, is_in_reach, own_room, link_expression};
+ghost use Rattle.alm_asm.specs.LineRefusals.{reaches, external_refusal, own_operand};
+ghost use Rattle.alm_asm.specs.LineRefusals.{operand_refusal, is_text_section, may_enter};
+ghost use Rattle.alm_asm.specs.LineRefusals.{instruction_refusal, use_refusal, halves_refusal};
+ghost use Rattle.alm_asm.specs.LineRefusals.{refusal_of_deed, line_refusal, lines_refusal};
 
 use crate::definitions::push_definitions;
 use crate::links::{link_of, link_place, own_section};
@@ -69,13 +75,12 @@ fn is_in_reach(
     entry: Option<Span>,
     terms: &[Term],
     tag: u8,
-) -> Result<bool, NoMemory>
-    ensures { IfOk result (λ b.
-        b ≡ is_in_reach text.now tables.now spot segment entry terms.now tag) }
+) -> bool
+    requires { length terms.now ≤ 2 ^ 32 }
+    ensures { result ≡ is_in_reach text.now tables.now spot segment entry terms.now tag }
 {
-    let link = link_of(text, &tables.symbols, spot, segment, entry, terms, tag)?;
-    let place = link_place(&tables.links, tables.first_link, &link)?;
-    Ok(place < 16384)
+    let link = link_of(text, &tables.symbols, spot, segment, entry, terms, tag);
+    link_place(&tables.links, tables.first_link, &link) < 16384
 }
 
 /// What the expression of an operand has to fit in.
@@ -96,9 +101,9 @@ fn link_expression_refusal(
     segment: Span,
     entry: Option<Span>,
     terms: &[Term],
-) -> Result<Option<Refusal>, NoMemory>
-    ensures { IfOk result (λ r.
-        r ≡ link_expression text.now symbols.now spot line.now segment entry terms.now) }
+) -> Option<Refusal>
+    requires { length terms.now ≤ 2 ^ 32 }
+    ensures { result ≡ link_expression text.now symbols.now spot line.now segment entry terms.now }
 {
     let wanted = Wanted {
         place: external_place(segment, entry),
@@ -117,11 +122,12 @@ fn reaches(
     entry: Option<Span>,
     terms: &[Term],
     tag: u8,
-) -> Result<bool, NoMemory>
-    ensures { IfOk result (λ b. b ≡ reaches text.now tables.now spot segment entry terms.now tag) }
+) -> bool
+    requires { length terms.now ≤ 2 ^ 32 }
+    ensures { result ≡ reaches text.now tables.now spot segment entry terms.now tag }
 {
-    if !has_value(text, &tables.symbols, spot, terms, Room::Half, false)? {
-        return Ok(true);
+    if !has_value(text, &tables.symbols, spot, terms, Room::Half, false) {
+        return true;
     }
     is_in_reach(text, tables, spot, segment, entry, terms, tag)
 }
@@ -135,9 +141,10 @@ fn external_refusal(
     entry: Option<Span>,
     terms: &[Term],
     tag: u8,
-) -> Result<Option<Refusal>, NoMemory>
-    ensures { IfOk result (λ r.
-        r ≡ external_refusal text.now tables.now spot line.now segment entry terms.now tag) }
+) -> Option<Refusal>
+    requires { length terms.now ≤ 2 ^ 32 }
+    ensures { result
+        ≡ external_refusal text.now tables.now spot line.now segment entry terms.now tag }
 {
     let at = refusal_at(line, segment.from as u64, Code::E7);
     let expression = link_expression_refusal(
@@ -148,10 +155,10 @@ fn external_refusal(
         segment,
         entry,
         terms,
-    )?;
-    let reached = reaches(text, tables, spot, segment, entry, terms, tag)?;
+    );
+    let reached = reaches(text, tables, spot, segment, entry, terms, tag);
     let named = may_name(tables, own_section(text, segment));
-    Ok(sooner(sooner(expression, unless(reached, at)), unless(named, at)))
+    sooner(sooner(expression, unless(reached, at)), unless(named, at))
 }
 
 fn own_operand_refusal(
@@ -161,8 +168,9 @@ fn own_operand_refusal(
     line: &Line36,
     room: Room,
     terms: &[Term],
-) -> Result<Option<Refusal>, NoMemory>
-    ensures { IfOk result (λ r. r ≡ own_operand text.now tables.now spot line.now room terms.now) }
+) -> Option<Refusal>
+    requires { length terms.now ≤ 2 ^ 32 }
+    ensures { result ≡ own_operand text.now tables.now spot line.now room terms.now }
 {
     let wanted = Wanted {
         place: expression_place(terms) as u64,
@@ -172,14 +180,9 @@ fn own_operand_refusal(
     expression_refusal(text, &tables.symbols, spot, line, terms, wanted)
 }
 
-fn operand_refusal(
-    text: &[u8],
-    tables: &Tables,
-    spot: Spot,
-    line: &Line36,
-) -> Result<Option<Refusal>, NoMemory>
-    ensures { IfOk result (λ r.
-        r ≡ operand_refusal text.now tables.now spot line.now (first_arg line.now.args)) }
+fn operand_refusal(text: &[u8], tables: &Tables, spot: Spot, line: &Line36) -> Option<Refusal>
+    ensures { result
+        ≡ operand_refusal text.now tables.now spot line.now (first_arg line.now.args) }
 {
     match line.args.items() {
         [
@@ -198,7 +201,7 @@ fn operand_refusal(
             }
             None => own_operand_refusal(text, tables, spot, line, own_room(*pr), expr.items()),
         },
-        _ => Ok(None),
+        _ => None,
     }
 }
 
@@ -221,17 +224,12 @@ fn may_enter(spot: Spot, section: Section) -> bool
     }
 }
 
-fn instruction_refusal(
-    text: &[u8],
-    tables: &Tables,
-    spot: Spot,
-    line: &Line36,
-) -> Result<Option<Refusal>, NoMemory>
-    ensures { IfOk result (λ r. r ≡ instruction_refusal text.now tables.now spot line.now) }
+fn instruction_refusal(text: &[u8], tables: &Tables, spot: Spot, line: &Line36) -> Option<Refusal>
+    ensures { result ≡ instruction_refusal text.now tables.now spot line.now }
 {
-    let operand = operand_refusal(text, tables, spot, line)?;
+    let operand = operand_refusal(text, tables, spot, line);
     let at = refusal_at(line, op_place(line.op), Code::E7);
-    Ok(sooner(unless(is_text_section(spot.section), at), operand))
+    sooner(unless(is_text_section(spot.section), at), operand)
 }
 
 fn use_refusal(text: &[u8], spot: Spot, line: &Line36) -> Option<Refusal>
@@ -242,18 +240,13 @@ fn use_refusal(text: &[u8], spot: Spot, line: &Line36) -> Option<Refusal>
     unless(may_enter(spot, section), at)
 }
 
-fn halves_refusal(
-    text: &[u8],
-    tables: &Tables,
-    spot: Spot,
-    line: &Line36,
-) -> Result<Option<Refusal>, NoMemory>
-    ensures { IfOk result (λ r. r ≡ halves_refusal text.now tables.now spot line.now) }
+fn halves_refusal(text: &[u8], tables: &Tables, spot: Spot, line: &Line36) -> Option<Refusal>
+    ensures { result ≡ halves_refusal text.now tables.now spot line.now }
 {
     let args = line.args.items();
-    let left = own_operand_refusal(text, tables, spot, line, Room::Half, first_terms(args))?;
-    let right = own_operand_refusal(text, tables, spot, line, Room::Half, second_terms(args))?;
-    Ok(sooner(left, right))
+    let left = own_operand_refusal(text, tables, spot, line, Room::Half, first_terms(args));
+    let right = own_operand_refusal(text, tables, spot, line, Room::Half, second_terms(args));
+    sooner(left, right)
 }
 
 fn refusal_of_deed(
@@ -262,12 +255,12 @@ fn refusal_of_deed(
     spot: Spot,
     line: &Line36,
     deed: Deed,
-) -> Result<Option<Refusal>, NoMemory>
-    ensures { IfOk result (λ r. r ≡ refusal_of_deed text.now tables.now spot line.now deed) }
+) -> Option<Refusal>
+    ensures { result ≡ refusal_of_deed text.now tables.now spot line.now deed }
 {
     match deed {
         Deed::Instruction(_, _) => instruction_refusal(text, tables, spot, line),
-        Deed::Use => Ok(use_refusal(text, spot, line)),
+        Deed::Use => use_refusal(text, spot, line),
         Deed::Zero => halves_refusal(text, tables, spot, line),
         Deed::Nothing
         | Deed::Entry
@@ -276,7 +269,7 @@ fn refusal_of_deed(
         | Deed::Words
         | Deed::Block
         | Deed::Even
-        | Deed::Bound => Ok(None),
+        | Deed::Bound => None,
     }
 }
 
@@ -294,18 +287,19 @@ fn take_line(
         r ≡ line_refusal text.now tables.now done.old spot line.now) }
 {
     let names = push_definitions(text, &tables.symbols, line, None, done)?;
-    let own = refusal_of_deed(text, tables, spot, line, line.deed)?;
+    let own = refusal_of_deed(text, tables, spot, line, line.deed);
     Ok(sooner(names, own))
 }
 
-/// The refusal of the first of the lines that is refused.
-#[tactic(auto, unfolding(crate::specs::LineRefusals::lines_refusal))]
+/// The refusal of the first of the lines that is refused. The error is want of memory alone.
+#[tactic(auto, using(alm_lines::proofs::Rooms::rooms), unfolding(crate::specs::LineRefusals::lines_refusal))]
 pub fn lines_refusal(
     alloc: Global,
     text: &[u8],
     tables: &Tables,
     lines: &[Line36],
 ) -> Result<Option<Refusal>, NoMemory>
+    requires { length lines.now < 2 ^ 32 }
     ensures { IfOk result (λ r. r ≡ lines_refusal text.now tables.now [] start lines.now) }
 {
     let mut done = Defs::new(alloc);

@@ -1,19 +1,22 @@
 //! Links: the external operands of instructions, each once, in the order of their first use.
 
-ghost use Rattle.std.specs.Prelude.{ℕ, List, [], ◌∷◌, ◌++◌, ◌≡◌, Option, OnOk, IfOk};
+ghost use Rattle.std.specs.Prelude.{ℕ, List, [], ◌∷◌, ◌++◌, ◌≡◌, ◌^◌, ◌<◌, ◌≤◌, length, Option};
+ghost use Rattle.std.specs.Prelude.{OnOk, IfOk};
 ghost use Rattle.std.specs.List.{list_any, position};
 ghost use Rattle.alm_lines.specs.Arguments.{first_arg};
 ghost use Rattle.alm_lines.specs.Spots.{start};
 ghost use Rattle.alm_tokens.specs.Tokens.{slice_of};
 ghost use Rattle.alm_lines.specs.Arguments.{name_at};
 ghost use Rattle.alm_asm.specs.Words.{same_section};
-ghost use Rattle.alm_asm.specs.Links.{own_section, link_kind, link_section, link_name, entry_name, link_of, operand_args, link_by, link_in, with_link, links_after, links_from, link_place};
+ghost use Rattle.alm_asm.specs.Links.{own_section, link_kind, link_section, link_name, entry_name};
+ghost use Rattle.alm_asm.specs.Links.{link_of, operand_args, link_by, link_in, with_link};
+ghost use Rattle.alm_asm.specs.Links.{links_after, links_from, link_place};
 ghost use Rattle.obj36_parts.specs.Indexes.{same_link};
 
 use alm_lines::arguments::name_at;
+use alm_lines::count::Count;
 use alm_lines::expression::sum_of;
 use alm_lines::spot::{Spot, below};
-use alm_lines::sum::plus;
 use alm_lines::symbols::Symbols;
 use alm_parse::span::bytes_of;
 use alm_parse::{Arg, Deed, Line36, Span, Term};
@@ -94,20 +97,20 @@ pub fn link_of(
     entry: Option<Span>,
     terms: &[Term],
     tag: u8,
-) -> Result<Link, NoMemory>
-    ensures { IfOk result (λ link.
-        link ≡ link_of text.now symbols.now spot segment entry terms.now tag) }
+) -> Link
+    requires { length terms.now ≤ 2 ^ 32 }
+    ensures { result ≡ link_of text.now symbols.now spot segment entry terms.now tag }
 {
     let own = own_section(text, segment);
-    let sum = sum_of(text, symbols, spot, terms)?;
-    Ok(Link {
+    let sum = sum_of(text, symbols, spot, terms);
+    Link {
         name: link_name(own, text, segment),
         entry: entry_name(text, entry),
         expr: sum.value.half() as u32,
         kind: link_kind(own, entry),
         section: link_section(own),
         modifier: tag % (1 << 6),
-    })
+    }
 }
 
 /// The operand of an instruction; other operations have none.
@@ -129,13 +132,8 @@ pub fn operand_args(deed: Deed, args: &[Arg]) -> &[Arg]
     }
 }
 
-fn link_in(
-    text: &[u8],
-    symbols: &Symbols,
-    spot: Spot,
-    args: &[Arg],
-) -> Result<Option<Link>, NoMemory>
-    ensures { IfOk result (λ link. link ≡ link_in text.now symbols.now spot (first_arg args.now)) }
+fn link_in(text: &[u8], symbols: &Symbols, spot: Spot, args: &[Arg]) -> Option<Link>
+    ensures { result ≡ link_in text.now symbols.now spot (first_arg args.now) }
 {
     match args {
         [
@@ -148,10 +146,10 @@ fn link_in(
             },
             ..
         ] => {
-            let link = link_of(text, symbols, spot, *segment, *entry, expr.items(), *tag)?;
-            Ok(Some(link))
+            let terms = expr.items();
+            Some(link_of(text, symbols, spot, *segment, *entry, terms, *tag))
         }
-        _ => Ok(None),
+        _ => None,
     }
 }
 
@@ -187,18 +185,19 @@ fn take_line(
     ensures { OnOk result (links.new ≡ links_after text.now symbols.now links.old spot line.now) }
 {
     let deed = line.deed;
-    let link = link_in(text, symbols, spot, operand_args(deed, line.args.items()))?;
+    let link = link_in(text, symbols, spot, operand_args(deed, line.args.items()));
     add_link(links, link)
 }
 
-/// The links of lines.
-#[tactic(auto, unfolding(crate::specs::Links::links_from))]
+/// The links of lines. The error is want of memory alone.
+#[tactic(auto, using(alm_lines::proofs::Rooms::rooms), unfolding(crate::specs::Links::links_from))]
 pub fn links_of(
     alloc: Global,
     text: &[u8],
     symbols: &Symbols,
     lines: &[Line36],
 ) -> Result<Links, NoMemory>
+    requires { length lines.now < 2 ^ 32 }
     ensures { IfOk result (λ links. links ≡ links_from text.now symbols.now [] start lines.now) }
 {
     let mut links = Links::new(alloc);
@@ -214,9 +213,9 @@ pub fn links_of(
 
 /// The offset of a link in the linkage section, whose links begin at a place.
 #[tactic(auto, unfolding(crate::specs::Links::link_place))]
-pub fn link_place(links: &Links, first: u64, link: &Link) -> Result<u64, NoMemory>
-    ensures { IfOk result (λ at. at ≡ link_place links.now first link.now) }
+pub fn link_place(links: &Links, first: Count, link: &Link) -> u128
+    ensures { result ≡ link_place links.now first link.now }
 {
-    let index = links.place(link).unwrap_or(0);
-    plus(first, plus(index, index)?)
+    let index = links.place(link).unwrap_or(0) as u128;
+    first.value() + 2 * index
 }

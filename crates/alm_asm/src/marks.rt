@@ -1,10 +1,12 @@
 //! Relocations: the parts of words whose expressions are places of a section, and the offsets of links.
 
-ghost use Rattle.std.specs.Prelude.{ℕ, List, [], ◌∷◌, ◌++◌, ◌≡◌, ◌%◌, ◌^◌, Option, OnOk, IfOk};
+ghost use Rattle.std.specs.Prelude.{ℕ, List, [], ◌∷◌, ◌++◌, ◌≡◌, ◌%◌, ◌^◌, ◌<◌, length, Option};
+ghost use Rattle.std.specs.Prelude.{OnOk, IfOk};
 ghost use Rattle.alm_lines.specs.Arguments.{first_arg};
 ghost use Rattle.alm_lines.specs.Spots.{start};
 ghost use Rattle.alm_parse.specs.declared.deed.Deed.TheVariants as deed;
-ghost use Rattle.alm_asm.specs.Marks.{mark, operand_part, operand_kind, operand_mark, marks_by, marks_after, marks_from};
+ghost use Rattle.alm_asm.specs.Marks.{mark, operand_part, operand_kind, operand_mark, marks_by};
+ghost use Rattle.alm_asm.specs.Marks.{marks_after, marks_from};
 
 use crate::links::same_section;
 use alm_lines::arguments::{first_terms, second_terms};
@@ -22,7 +24,7 @@ fn push_mark(marks: &mut Relocs, spot: Spot, part: u8, kind: Kind) -> Result<(),
 {
     match kind {
         Kind::Moved(target) => {
-            let place = spot.place()?;
+            let place = spot.place();
             marks.push(Reloc {
                 offset: (place % (1 << 18)) as u32,
                 section: spot.section,
@@ -73,7 +75,7 @@ fn push_operand(
             },
             ..
         ] => {
-            let sum = sum_of(text, symbols, spot, expr.items())?;
+            let sum = sum_of(text, symbols, spot, expr.items());
             let kind = operand_kind(*seg, sum);
             push_mark(marks, spot, operand_part(*pr, *seg), kind)
         }
@@ -91,8 +93,8 @@ fn push_halves(
     ensures { OnOk result
         (marks.new ≡ marks_by text.now symbols.now spot marks.old args.now deed.Zero) }
 {
-    let left = sum_of(text, symbols, spot, first_terms(args))?;
-    let right = sum_of(text, symbols, spot, second_terms(args))?;
+    let left = sum_of(text, symbols, spot, first_terms(args));
+    let right = sum_of(text, symbols, spot, second_terms(args));
     push_mark(marks, spot, 0, left.kind())?;
     push_mark(marks, spot, 1, right.kind())
 }
@@ -141,8 +143,8 @@ fn take_line(
     push_marks(text, symbols, spot, line.args.items(), deed, marks)
 }
 
-/// Adds the relocations of lines in a section.
-#[tactic(auto, unfolding(crate::specs::Marks::marks_from))]
+/// Adds the relocations of lines in a section. The error is want of memory alone.
+#[tactic(auto, using(alm_lines::proofs::Rooms::rooms), unfolding(crate::specs::Marks::marks_from))]
 pub fn push_marks_in(
     alloc: Global,
     text: &[u8],
@@ -151,6 +153,7 @@ pub fn push_marks_in(
     lines: &[Line36],
     marks: &mut Relocs,
 ) -> Result<(), NoMemory>
+    requires { length lines.now < 2 ^ 32 }
     ensures { OnOk result
         (marks.new ≡ marks_from text.now symbols.now section marks.old start lines.now) }
 {

@@ -1,5 +1,6 @@
 //! What both passes over the lines have found before words are made.
 
+use alm_lines::count::Count;
 use alm_lines::symbols::Symbols;
 use obj36::Links;
 
@@ -9,6 +10,6 @@ use obj36::Links;
 pub struct Tables {
     pub symbols: Symbols,
     pub links: Links,
-    pub first_link: u64,
+    pub first_link: Count,
     pub uses_outer: bool,
 }

@@ -4,7 +4,7 @@ use crate::assemble;
 use alm_parse::{AlmFault, parse};
 use m36_word::Word;
 use obj36::Object;
-use std::alloc::Global;
+use std::alloc::{AllocError, Global};
 use std::test::Fail;
 
 // The object of a source.
@@ -208,6 +208,23 @@ fn refusals(rt: HostRuntime) {
     for (source, fault) in cases {
         assert!(rt; refuses(rt.alloc(), source, fault), "{source:?}");
     }
+}
+
+// Symbols of which each is twice the one above and one more, where the first is refused.
+fn doublings(alloc: Global) -> Result<String, AllocError> {
+    let mut source = String::from_str(alloc, " equ s0,nosuch\n")?;
+    for i in 0..70u8 {
+        let next = i + 1;
+        source.push_str(&format!(in alloc; " equ s{next},s{i}+s{i}+1\n")?)?;
+    }
+    Ok(source)
+}
+
+#[test]
+fn sums_on_a_refused_one(rt: HostRuntime) -> Result<(), Fail> {
+    let source = doublings(rt.alloc())?;
+    assert!(rt; refuses(rt.alloc(), source.as_bytes(), AlmFault::E6(1, 9)));
+    Ok(())
 }
 
 #[test]

@@ -1,11 +1,14 @@
 //! The words that lines place.
 
-ghost use Rattle.std.specs.Prelude.{ℕ, Bool, List, [], ◌∷◌, ◌++◌, ◌≡◌, ◌+◌, ◌*◌, ◌%◌, ◌^◌, ◌<◌, replicate, Option, OnOk, IfOk};
+ghost use Rattle.std.specs.Prelude.{ℕ, Bool, List, [], ◌∷◌, ◌++◌, ◌≡◌, ◌+◌, ◌*◌, ◌%◌, ◌^◌, ◌<◌};
+ghost use Rattle.std.specs.Prelude.{◌≤◌, length, replicate, Option, OnOk, IfOk};
 ghost use Rattle.alm_lines.specs.Arguments.{first_arg, second_arg, terms_in};
 ghost use Rattle.alm_lines.specs.Spots.{start};
 ghost use Rattle.alm_lines.specs.Sums.{half_of, offset_of};
 ghost use Rattle.alm_asm.specs.Links.{link_of, link_place};
-ghost use Rattle.alm_asm.specs.Words.{plain_inst, pointed_inst, own_inst, inst_by, inst_in, instruction_word, halves_word, words_by, words_of_line, words_from};
+ghost use Rattle.alm_asm.specs.Words.{plain_inst, pointed_inst, own_inst, inst_by, inst_in};
+ghost use Rattle.alm_asm.specs.Words.{instruction_word, halves_word, words_by, words_of_line};
+ghost use Rattle.alm_asm.specs.Words.{words_from};
 
 use crate::links::{link_of, link_place, same_section};
 use crate::tables::Tables;
@@ -74,27 +77,21 @@ fn external_inst(
     entry: Option<Span>,
     terms: &[Term],
     tag: u8,
-) -> Result<Inst, NoMemory>
-    ensures { IfOk result (λ i.
-        i
+) -> Inst
+    requires { length terms.now ≤ 2 ^ 32 }
+    ensures { result
         ≡ pointed_inst operation.code operation.bit27 4
         (link_place tables.now.links tables.now.first_link
-        (link_of text.now tables.now.symbols spot segment entry terms.now tag) % 2 ^ 15) 16) }
+        (link_of text.now tables.now.symbols spot segment entry terms.now tag) % 2 ^ 15) 16 }
 {
-    let link = link_of(text, &tables.symbols, spot, segment, entry, terms, tag)?;
-    let place = link_place(&tables.links, tables.first_link, &link)?;
-    Ok(pointed_inst(operation, 4, place % (1 << 15), 16))
+    let link = link_of(text, &tables.symbols, spot, segment, entry, terms, tag);
+    let place = link_place(&tables.links, tables.first_link, &link);
+    pointed_inst(operation, 4, (place % (1 << 15)) as u64, 16)
 }
 
-fn inst_in(
-    text: &[u8],
-    tables: &Tables,
-    spot: Spot,
-    operation: Operation,
-    args: &[Arg],
-) -> Result<Inst, NoMemory>
-    ensures { IfOk result (λ i.
-        i ≡ inst_in text.now tables.now spot operation.code operation.bit27 (first_arg args.now)) }
+fn inst_in(text: &[u8], tables: &Tables, spot: Spot, operation: Operation, args: &[Arg]) -> Inst
+    ensures { result
+        ≡ inst_in text.now tables.now spot operation.code operation.bit27 (first_arg args.now) }
 {
     match args {
         [
@@ -118,11 +115,11 @@ fn inst_in(
                 *tag,
             ),
             None => {
-                let sum = sum_of(text, &tables.symbols, spot, expr.items())?;
-                Ok(own_inst(operation, *pr, sum, *tag))
+                let sum = sum_of(text, &tables.symbols, spot, expr.items());
+                own_inst(operation, *pr, sum, *tag)
             }
         },
-        _ => Ok(plain_inst(operation, 0, 0)),
+        _ => plain_inst(operation, 0, 0),
     }
 }
 
@@ -133,11 +130,11 @@ fn instruction_word(
     spot: Spot,
     operation: Operation,
     args: &[Arg],
-) -> Result<Word, NoMemory>
-    ensures { IfOk result (λ w.
-        w ≡ instruction_word text.now tables.now spot operation.code operation.bit27 args.now) }
+) -> Word
+    ensures { result
+        ≡ instruction_word text.now tables.now spot operation.code operation.bit27 args.now }
 {
-    Ok(inst_in(text, tables, spot, operation, args)?.to_word())
+    inst_in(text, tables, spot, operation, args).to_word()
 }
 
 // The word of two halves.
@@ -148,12 +145,12 @@ fn word_of(left: Balance, right: Balance) -> Word
 }
 
 #[tactic(auto, unfolding(crate::specs::Words::halves_word))]
-fn halves_word(text: &[u8], tables: &Tables, spot: Spot, args: &[Arg]) -> Result<Word, NoMemory>
-    ensures { IfOk result (λ w. w ≡ halves_word text.now tables.now spot args.now) }
+fn halves_word(text: &[u8], tables: &Tables, spot: Spot, args: &[Arg]) -> Word
+    ensures { result ≡ halves_word text.now tables.now spot args.now }
 {
-    let left = sum_of(text, &tables.symbols, spot, first_terms(args))?;
-    let right = sum_of(text, &tables.symbols, spot, second_terms(args))?;
-    Ok(word_of(left.value, right.value))
+    let left = sum_of(text, &tables.symbols, spot, first_terms(args));
+    let right = sum_of(text, &tables.symbols, spot, second_terms(args));
+    word_of(left.value, right.value)
 }
 
 fn push_zeros(words: &mut Words, count: u64) -> Result<(), NoMemory>
@@ -180,12 +177,12 @@ fn push_words(
     match deed {
         Deed::Instruction(code, bit27) => {
             let operation = Operation { code, bit27 };
-            words.push(instruction_word(text, tables, spot, operation, args)?)
+            words.push(instruction_word(text, tables, spot, operation, args))
         }
         Deed::Words => push_all(words, words_of_args(alloc, args)?.slice()),
-        Deed::Zero => words.push(halves_word(text, tables, spot, args)?),
+        Deed::Zero => words.push(halves_word(text, tables, spot, args)),
         Deed::Block => push_zeros(words, second_number(args)),
-        Deed::Even => push_zeros(words, spot.place()? % 2),
+        Deed::Even => push_zeros(words, (spot.place() % 2) as u64),
         Deed::Nothing | Deed::Entry | Deed::Segdef | Deed::Equ | Deed::Use | Deed::Bound => Ok(()),
     }
 }
@@ -210,8 +207,8 @@ fn take_line(
     push_words(alloc, text, tables, spot, line.args.items(), deed, words)
 }
 
-/// The words of lines in a section.
-#[tactic(auto, unfolding(crate::specs::Words::words_from))]
+/// The words of lines in a section. The error is want of memory alone.
+#[tactic(auto, using(alm_lines::proofs::Rooms::rooms), unfolding(crate::specs::Words::words_from))]
 pub fn words_in(
     alloc: Global,
     text: &[u8],
@@ -219,6 +216,7 @@ pub fn words_in(
     section: Section,
     lines: &[Line36],
 ) -> Result<Words, NoMemory>
+    requires { length lines.now < 2 ^ 32 }
     ensures { IfOk result (λ words.
         words ≡ words_from text.now tables.now section [] start lines.now) }
 {

@@ -1,5 +1,6 @@
 -- What expressions come to.
-use Rattle.std.specs.Prelude.{ℕ, ◌-◌, Bool, true, false, not, List, [], ◌∷◌, Option, option_map, is_some, unwrap_or, if◌then◌else◌}
+use Rattle.std.specs.Prelude.{ℕ, ◌-◌, Bool, true, false, not, List, [], ◌∷◌, Option, option_map}
+use Rattle.std.specs.Prelude.{is_some, unwrap_or, if◌then◌else◌}
 use Rattle.std.specs.List.{find}
 use Rattle.alm_tokens.specs.declared.expression.Atom.{Atom}
 use Rattle.alm_tokens.specs.declared.expression.Atom.TheVariants.{Number, Symbol, Here}
@@ -10,7 +11,7 @@ use Rattle.alm_lines.specs.Sums.{absolute, no_sum, sum_plus, sum_turned}
 use Rattle.alm_lines.specs.Symbols.{sum_named}
 use Rattle.alm_lines.specs.Spots.{here}
 use Rattle.alm_lines.specs.declared.sum.Sum.{Sum}
-use Rattle.alm_lines.specs.declared.spot.Spot.{Spot}
+use Rattle.alm_lines.specs.SpotFields.{Spot}
 
 -- what a symbol comes to; nothing where it is not defined
 unfoldable pub symbol_sum : List ℕ → List (List ℕ × Sum) → Span → Sum

@@ -1,6 +1,7 @@
 -- The symbols that lines define, and what is refused of their definitions and of the lengths of
 -- sections.
-use Rattle.std.specs.Prelude.{ℕ, false, is_some, List, [], ◌∷◌, Option, Some, None, if◌then◌else◌}
+use Rattle.std.specs.Prelude.{ℕ, Bool, true, false, is_some, List, [], ◌∷◌, Option, Some, None}
+use Rattle.std.specs.Prelude.{if◌then◌else◌}
 use Rattle.alm_tokens.specs.declared.span.Span.{Span}
 use Rattle.alm_parse.specs.declared.args.Arg.{Arg}
 use Rattle.alm_parse.specs.declared.line.Line36.{Line36}
@@ -9,9 +10,10 @@ use Rattle.alm_lines.specs.Symbols.{sum_named, with_symbol}
 use Rattle.alm_lines.specs.Arguments.{name_at, first_arg, second_arg, symbol_in, terms_in}
 use Rattle.alm_lines.specs.Spots.{count, here, below}
 use Rattle.alm_lines.specs.Expressions.{sum_of, expression_place}
-use Rattle.alm_lines.specs.Refusals.{sooner, refusal_at, expression_refusal, is_over_limit}
+use Rattle.alm_lines.specs.Refusals.{sooner, refusal_at, expression_refusal, has_value}
+use Rattle.alm_lines.specs.Refusals.{is_over_limit}
 use Rattle.alm_lines.specs.declared.sum.Sum.{Sum}
-use Rattle.alm_lines.specs.declared.spot.Spot.{Spot}
+use Rattle.alm_lines.specs.SpotFields.{Spot}
 use Rattle.alm_parse.specs.declared.deed.Deed.{Deed}
 use Rattle.alm_parse.specs.declared.deed.Deed.TheVariants as deed
 use Rattle.alm_lines.specs.declared.refusal.Code.TheVariants.{E5, E8}
@@ -75,22 +77,25 @@ own_refusal text symbols spot line deed.Block = None
 own_refusal text symbols spot line deed.Even = None
 own_refusal text symbols spot line deed.Bound = None
 
--- what the symbol comes to: the number of an `equ`, of which nothing is known where that is
--- refused, and else the place
-abbrev pub value_by : Option Refusal → Sum → Sum
-value_by None sum =
+-- what the symbol comes to: the number of an `equ`, of which nothing is known where that is refused
+-- or stands on one that is, and else the place
+abbrev pub number_of : Sum → Sum
+number_of sum =
     record {
       value = settled sum.value;
       text = nothing;
       inner = nothing;
       outer = nothing;
-      unknown = sum.unknown;
+      unknown = false;
     }
-value_by (Some refusal) sum = unknown_sum
+
+abbrev pub value_by : Bool → Sum → Sum
+value_by true sum = number_of sum
+value_by false sum = unknown_sum
 
 unfoldable pub value_of : List ℕ → List (List ℕ × Sum) → Spot → Line36 → Sum
 value_of text symbols spot line =
-    value_by (value_refusal text symbols spot line)
+    value_by (has_value text symbols spot (terms_in (second_arg line.args)) Half false)
     (sum_of text symbols spot (terms_in (second_arg line.args)))
 
 abbrev pub own_sum : List ℕ → List (List ℕ × Sum) → Spot → Line36 → Deed → Sum

@@ -3,6 +3,7 @@
 pub mod Sums
 pub mod Symbols
 pub mod Arguments
+pub mod SpotFields
 pub mod Spots
 pub mod Expressions
 pub mod Refusals

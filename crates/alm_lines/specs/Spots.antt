@@ -1,16 +1,17 @@
 -- Where a line is: the section that it belongs to, and how many words the lines above it place in
 -- each section.
-use Rattle.std.specs.Prelude.{ℕ, ◌+◌, ◌%◌, true, false, List, [], ◌∷◌, length}
+use Rattle.std.specs.Prelude.{ℕ, ◌≤◌, ◌+◌, ◌-◌, ◌*◌, ◌%◌, ◌^◌, true, false, List, [], ◌∷◌, length}
 use Rattle.obj36_parts.specs.declared.section.Section.{Section}
 use Rattle.obj36_parts.specs.declared.section.Section.TheVariants.{Text, Linkage, Symbol, Static}
 use Rattle.alm_parse.specs.declared.args.Arg.{Arg}
 use Rattle.alm_parse.specs.declared.line.Line36.{Line36}
 use Rattle.alm_lines.specs.Sums.{balance, nothing, no_sum}
-use Rattle.alm_lines.specs.Arguments.{first_arg, second_arg, symbol_in, number_in, words_of_args, section_in}
+use Rattle.alm_lines.specs.Arguments.{first_arg, second_arg, symbol_in, number_in, words_of_args}
+use Rattle.alm_lines.specs.Arguments.{section_in}
 use Rattle.alm_lines.specs.declared.sum.Sum.{Sum}
 use Rattle.alm_parse.specs.declared.deed.Deed.{Deed}
 use Rattle.alm_parse.specs.declared.deed.Deed.TheVariants as deed
-use Rattle.alm_lines.specs.declared.spot.Spot.{Spot}
+use Rattle.alm_lines.specs.SpotFields.{Spot}
 
 abbrev pub start : Spot
 start =
@@ -127,3 +128,18 @@ below text spot line = moved_by text line.deed line.args spot
 unfoldable pub end_of : List ℕ → Spot → List Line36 → Spot
 end_of text spot [] = spot
 end_of text spot (line ∷ lines) = end_of text (below text spot line) lines
+
+-- ---- how many words there are
+
+-- There is room for so many lines more, each of fewer than 2^64 words: there are fewer than 2^32
+-- lines.
+pub record HasRoom (lines : ℕ) (spot : Spot) : Type 0 where
+  pub text : spot.text + lines * 2 ^ 64 ≤ 2 ^ 96 - 2 ^ 64
+  pub inner : spot.inner + lines * 2 ^ 64 ≤ 2 ^ 96 - 2 ^ 64
+  pub outer : spot.outer + lines * 2 ^ 64 ≤ 2 ^ 96 - 2 ^ 64
+
+-- The line below is so far at most.
+pub record IsNear (spot after : Spot) : Type 0 where
+  pub text : after.text ≤ spot.text + 2 ^ 64
+  pub inner : after.inner ≤ spot.inner + 2 ^ 64
+  pub outer : after.outer ≤ spot.outer + 2 ^ 64

@@ -1,5 +1,6 @@
 -- What expressions come to: numbers, and how often the places of each section are counted in them.
-use Rattle.std.specs.Prelude.{ℕ, ◌+◌, ◌-◌, ◌%◌, ◌^◌, Bool, true, false, ◌&&◌, ◌||◌, nat_eq, nat_lt, nat_le, if◌then◌else◌}
+use Rattle.std.specs.Prelude.{ℕ, ◌≤◌, ◌+◌, ◌-◌, ◌%◌, ◌^◌, Bool, true, false, ◌&&◌, ◌||◌, nat_eq}
+use Rattle.std.specs.Prelude.{nat_lt, nat_le, if◌then◌else◌}
 use Rattle.obj36_parts.specs.declared.section.Section.TheVariants.{Text, Linkage, Static}
 use Rattle.alm_lines.specs.declared.sum.Balance.{Balance}
 use Rattle.alm_lines.specs.declared.sum.Sum.{Sum}
@@ -90,3 +91,21 @@ kind_of s =
     else (if is_even s.text && is_one s.inner && is_even s.outer
     then Moved Linkage
     else (if is_even s.text && is_even s.inner && is_one s.outer then Moved Static else Unsaid)))
+
+-- ---- how large sums are
+
+-- Nothing that is added or taken away is more than this.
+pub record IsAtMost (most : ℕ) (s : Sum) : Type 0 where
+  pub value_up : s.value.up ≤ most
+  pub value_down : s.value.down ≤ most
+  pub text_up : s.text.up ≤ most
+  pub text_down : s.text.down ≤ most
+  pub inner_up : s.inner.up ≤ most
+  pub inner_down : s.inner.down ≤ most
+  pub outer_up : s.outer.up ≤ most
+  pub outer_down : s.outer.down ≤ most
+
+-- A term of an expression is less than 2^96: fewer than 2^32 lines place fewer than 2^64 words
+-- each.
+abbrev pub IsTerm : Sum → Type 0
+IsTerm s = IsAtMost (2 ^ 96 - 1) s

@@ -1,7 +1,10 @@
 //! The arguments of operations.
 
-ghost use Rattle.std.specs.Prelude.{ℕ, List, [], ◌∷◌, ◌++◌, ◌≡◌, ◌≤◌, take, length, Option, OnOk, IfOk};
-ghost use Rattle.alm_lines.specs.Arguments.{name_at, first_arg, second_arg, symbol_in, terms_in, number_in, words_of_arg, words_of_args, section_named, section_in};
+ghost use Rattle.std.specs.Prelude.{ℕ, List, [], ◌∷◌, ◌++◌, ◌≡◌, ◌≤◌, ◌^◌, take, length, Option};
+ghost use Rattle.std.specs.Prelude.{OnOk, IfOk};
+ghost use Rattle.alm_lines.specs.Arguments.{name_at, first_arg, second_arg, symbol_in, terms_in};
+ghost use Rattle.alm_lines.specs.Arguments.{number_in, words_of_arg, words_of_args, section_named};
+ghost use Rattle.alm_lines.specs.Arguments.{section_in};
 
 use alm_parse::span::bytes_of;
 use alm_parse::{Arg, Span, Term};
@@ -44,7 +47,8 @@ pub fn first_symbol(args: &[Arg]) -> Option<Span>
 
 /// The terms of the first argument.
 pub fn first_terms(args: &[Arg]) -> &[Term]
-    ensures { result.now ≡ terms_in (first_arg args.now) }
+    ensures value { result.now ≡ terms_in (first_arg args.now) }
+    ensures fits { length result.now ≤ 2 ^ 32 }
 {
     match args {
         [Arg::Plain(expr), ..] => expr.items(),
@@ -55,7 +59,8 @@ pub fn first_terms(args: &[Arg]) -> &[Term]
 
 /// The terms of the second argument.
 pub fn second_terms(args: &[Arg]) -> &[Term]
-    ensures { result.now ≡ terms_in (second_arg args.now) }
+    ensures value { result.now ≡ terms_in (second_arg args.now) }
+    ensures fits { length result.now ≤ 2 ^ 32 }
 {
     match args {
         [_, rest @ ..] => first_terms(rest),

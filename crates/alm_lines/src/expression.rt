@@ -1,20 +1,22 @@
 //! What expressions come to.
 
-ghost use Rattle.std.specs.Prelude.{ℕ, List, [], ◌∷◌, ◌≡◌, ◌-◌, Option, IfOk};
-ghost use Rattle.alm_lines.specs.Sums.{no_sum};
-ghost use Rattle.alm_lines.specs.Expressions.{symbol_sum, atom_sum, term_sum, added, sum_of, is_defined, is_symbol_atom, is_undefined, place_undefined, expression_place};
+ghost use Rattle.std.specs.Prelude.{ℕ, List, [], ◌∷◌, ◌≡◌, ◌-◌, ◌^◌, ◌≤◌, length, Option};
+ghost use Rattle.alm_lines.specs.Sums.{no_sum, IsTerm};
+ghost use Rattle.alm_lines.specs.Expressions.{symbol_sum, atom_sum, term_sum, added, sum_of};
+ghost use Rattle.alm_lines.specs.Expressions.{is_defined, is_symbol_atom, is_undefined};
+ghost use Rattle.alm_lines.specs.Expressions.{place_undefined, expression_place};
 
 use crate::arguments::name_at;
 use crate::spot::Spot;
 use crate::sum::{Sum, absolute};
 use crate::symbols::Symbols;
 use alm_parse::{Atom, Span, Term};
-use m36_word::NoMemory;
 
 /// What a symbol comes to; 0 where it is not defined.
 #[tactic(auto, unfolding(crate::specs::Expressions::symbol_sum))]
 pub fn symbol_sum(text: &[u8], symbols: &Symbols, span: Span) -> Sum
-    ensures { result ≡ symbol_sum text.now symbols.now span }
+    ensures value { result ≡ symbol_sum text.now symbols.now span }
+    ensures small { IsTerm result }
 {
     match symbols.find(&name_at(text, span)) {
         Some(sum) => sum,
@@ -22,46 +24,39 @@ pub fn symbol_sum(text: &[u8], symbols: &Symbols, span: Span) -> Sum
     }
 }
 
-fn atom_sum(
-    text: &[u8],
-    symbols: &Symbols,
-    spot: Spot,
-    span: Span,
-    atom: Atom,
-) -> Result<Sum, NoMemory>
-    ensures { IfOk result (λ sum. sum ≡ atom_sum text.now symbols.now spot span atom) }
+fn atom_sum(text: &[u8], symbols: &Symbols, spot: Spot, span: Span, atom: Atom) -> Sum
+    ensures value { result ≡ atom_sum text.now symbols.now spot span atom }
+    ensures small { IsTerm result }
 {
     match atom {
-        Atom::Number(n) => Ok(absolute(n as u64)),
-        Atom::Symbol => Ok(symbol_sum(text, symbols, span)),
+        Atom::Number(n) => absolute(n as u64),
+        Atom::Symbol => symbol_sum(text, symbols, span),
         Atom::Here => spot.here(),
     }
 }
 
 #[tactic(auto, unfolding(crate::specs::Expressions::term_sum))]
-fn term_sum(text: &[u8], symbols: &Symbols, spot: Spot, term: Term) -> Result<Sum, NoMemory>
-    ensures { IfOk result (λ sum. sum ≡ term_sum text.now symbols.now spot term) }
+fn term_sum(text: &[u8], symbols: &Symbols, spot: Spot, term: Term) -> Sum
+    ensures value { result ≡ term_sum text.now symbols.now spot term }
+    ensures small { IsTerm result }
 {
-    let sum = atom_sum(text, symbols, spot, term.span, term.what)?;
-    if term.minus {
-        Ok(sum.turned())
-    } else {
-        Ok(sum)
-    }
+    let sum = atom_sum(text, symbols, spot, term.span, term.what);
+    if term.minus { sum.turned() } else { sum }
 }
 
 /// What an expression comes to; a symbol that is not defined counts as 0.
-#[tactic(auto, unfolding(crate::specs::Expressions::added))]
-pub fn sum_of(text: &[u8], symbols: &Symbols, spot: Spot, terms: &[Term]) -> Result<Sum, NoMemory>
-    ensures { IfOk result (λ sum. sum ≡ sum_of text.now symbols.now spot terms.now) }
+#[tactic(auto, using(crate::proofs::SumLaws::sums), unfolding(crate::specs::Expressions::added))]
+pub fn sum_of(text: &[u8], symbols: &Symbols, spot: Spot, terms: &[Term]) -> Sum
+    requires { length terms.now ≤ 2 ^ 32 }
+    ensures { result ≡ sum_of text.now symbols.now spot terms.now }
 {
     let mut sum = absolute(0);
     let mut rest = terms;
     while let [term, more @ ..] = rest {
-        sum = sum.plus(term_sum(text, symbols, spot, *term)?)?;
+        sum = sum.plus(term_sum(text, symbols, spot, *term));
         rest = more;
     }
-    Ok(sum)
+    sum
 }
 
 /// A symbol is defined.

@@ -1,16 +1,23 @@
 //! The symbols that lines define, and what is refused of their definitions and of the lengths of sections.
 
-ghost use Rattle.std.specs.Prelude.{ℕ, List, [], ◌∷◌, ◌≡◌, Option, None, OnOk, IfOk};
+ghost use Rattle.std.specs.Prelude.{ℕ, true, List, [], ◌∷◌, ◌≡◌, ◌^◌, ◌<◌, length, Option, None};
+ghost use Rattle.std.specs.Prelude.{OnOk, IfOk};
+ghost use Rattle.alm_lines.specs.Sums.{IsTerm};
 ghost use Rattle.alm_lines.specs.Symbols.{with_symbol};
 ghost use Rattle.alm_lines.specs.Arguments.{name_at};
-ghost use Rattle.alm_lines.specs.Spots.{start, below, end_of};
-ghost use Rattle.alm_lines.specs.Refusals.{sooner};
-ghost use Rattle.alm_lines.specs.Layout.{again, with_labels, labels_refused, own_symbol, own_refusal, value_refusal, value_by, value_of, own_sum, with_own, own_again, symbols_with, refused_with, over, symbols_after, refused_after, symbols_from, layout_refusal};
+ghost use Rattle.alm_lines.specs.Spots.{start, below, end_of, HasRoom};
+ghost use Rattle.alm_lines.specs.Refusals.{sooner, has_room};
+ghost use Rattle.alm_lines.specs.declared.refusal.Room.TheVariants.{Half};
+ghost use Rattle.alm_lines.specs.Layout.{again, with_labels, labels_refused, own_symbol};
+ghost use Rattle.alm_lines.specs.Layout.{own_refusal, value_refusal, number_of, value_by, value_of};
+ghost use Rattle.alm_lines.specs.Layout.{own_sum, with_own, own_again, symbols_with, refused_with};
+ghost use Rattle.alm_lines.specs.Layout.{over, symbols_after, refused_after, symbols_from};
+ghost use Rattle.alm_lines.specs.Layout.{layout_refusal};
 
 use crate::arguments::{first_symbol, name_at, second_terms};
 use crate::expression::{expression_place, is_defined, sum_of};
 use crate::refusal::{
-    Code, Refusal, Room, Wanted, expression_refusal, is_over_limit, refusal_at, sooner,
+    Code, Refusal, Room, Wanted, expression_refusal, has_value, is_over_limit, refusal_at, sooner,
 };
 use crate::spot::{Spot, below};
 use crate::sum::{NOTHING, Sum, unknown};
@@ -31,6 +38,7 @@ fn again(text: &[u8], line: &Line36, symbols: &Symbols, span: Span) -> Option<Re
 }
 
 fn define(text: &[u8], symbols: &mut Symbols, span: Span, sum: Sum) -> Result<(), NoMemory>
+    requires { IsTerm sum }
     ensures { OnOk result (symbols.new ≡ with_symbol symbols.old (name_at text.now span) sum) }
 {
     symbols.define(name_at(text, span), sum)
@@ -44,6 +52,7 @@ fn define_labels(
     sum: Sum,
     refused: Option<Refusal>,
 ) -> Result<Option<Refusal>, NoMemory>
+    requires { IsTerm sum }
     ensures symbols { OnOk result
         (symbols.new ≡ with_labels text.now sum symbols.old line.now.labels) }
     ensures refused { IfOk result (λ r.
@@ -76,13 +85,8 @@ fn own_symbol(deed: Deed, args: &[Arg]) -> Option<Span>
     }
 }
 
-fn value_refusal(
-    text: &[u8],
-    symbols: &Symbols,
-    spot: Spot,
-    line: &Line36,
-) -> Result<Option<Refusal>, NoMemory>
-    ensures { IfOk result (λ r. r ≡ value_refusal text.now symbols.now spot line.now) }
+fn value_refusal(text: &[u8], symbols: &Symbols, spot: Spot, line: &Line36) -> Option<Refusal>
+    ensures { result ≡ value_refusal text.now symbols.now spot line.now }
 {
     let terms = second_terms(line.args.items());
     let wanted = Wanted {
@@ -93,28 +97,31 @@ fn value_refusal(
     expression_refusal(text, symbols, spot, line, terms, wanted)
 }
 
-fn value_by(refusal: Option<Refusal>, sum: Sum) -> Sum
-    ensures { result ≡ value_by refusal sum }
+#[tactic(auto, using(crate::proofs::SumLaws::number_small))]
+fn number_of(sum: Sum) -> Sum
+    requires { has_room Half sum.value ≡ true }
+    ensures value { result ≡ number_of sum }
+    ensures small { IsTerm result }
 {
-    match refusal {
-        None => Sum {
-            value: sum.value.settled(),
-            text: NOTHING,
-            inner: NOTHING,
-            outer: NOTHING,
-            unknown: sum.unknown,
-        },
-        Some(_) => unknown(),
+    Sum {
+        value: sum.value.settled(),
+        text: NOTHING,
+        inner: NOTHING,
+        outer: NOTHING,
+        unknown: false,
     }
 }
 
-#[tactic(auto, unfolding(crate::specs::Layout::value_of))]
-fn value_of(text: &[u8], symbols: &Symbols, spot: Spot, line: &Line36) -> Result<Sum, NoMemory>
-    ensures { IfOk result (λ sum. sum ≡ value_of text.now symbols.now spot line.now) }
+#[tactic(auto, using(crate::proofs::SumLaws::valued_fits), unfolding(crate::specs::Layout::value_of))]
+fn value_of(text: &[u8], symbols: &Symbols, spot: Spot, line: &Line36) -> Sum
+    ensures value { result ≡ value_of text.now symbols.now spot line.now }
+    ensures small { IsTerm result }
 {
-    let refusal = value_refusal(text, symbols, spot, line)?;
-    let sum = sum_of(text, symbols, spot, second_terms(line.args.items()))?;
-    Ok(value_by(refusal, sum))
+    let terms = second_terms(line.args.items());
+    if !has_value(text, symbols, spot, terms, Room::Half, false) {
+        return unknown();
+    }
+    number_of(sum_of(text, symbols, spot, terms))
 }
 
 fn own_refusal(
@@ -123,8 +130,8 @@ fn own_refusal(
     spot: Spot,
     line: &Line36,
     deed: Deed,
-) -> Result<Option<Refusal>, NoMemory>
-    ensures { IfOk result (λ r. r ≡ own_refusal text.now symbols.now spot line.now deed) }
+) -> Option<Refusal>
+    ensures { result ≡ own_refusal text.now symbols.now spot line.now deed }
 {
     match deed {
         Deed::Equ => value_refusal(text, symbols, spot, line),
@@ -137,18 +144,13 @@ fn own_refusal(
         | Deed::Zero
         | Deed::Block
         | Deed::Even
-        | Deed::Bound => Ok(None),
+        | Deed::Bound => None,
     }
 }
 
-fn own_sum(
-    text: &[u8],
-    symbols: &Symbols,
-    spot: Spot,
-    line: &Line36,
-    deed: Deed,
-) -> Result<Sum, NoMemory>
-    ensures { IfOk result (λ sum. sum ≡ own_sum text.now symbols.now spot line.now deed) }
+fn own_sum(text: &[u8], symbols: &Symbols, spot: Spot, line: &Line36, deed: Deed) -> Sum
+    ensures value { result ≡ own_sum text.now symbols.now spot line.now deed }
+    ensures small { IsTerm result }
 {
     match deed {
         Deed::Equ => value_of(text, symbols, spot, line),
@@ -180,6 +182,7 @@ fn define_own(
     own: Option<Span>,
     sum: Sum,
 ) -> Result<(), NoMemory>
+    requires { IsTerm sum }
     ensures { OnOk result (symbols.new ≡ with_own text.now symbols.old own sum) }
 {
     match own {
@@ -195,12 +198,12 @@ fn refused_with(
     spot: Spot,
     line: &Line36,
     deed: Deed,
-) -> Result<Option<Refusal>, NoMemory>
-    ensures { IfOk result (λ r. r ≡ refused_with text.now symbols.now spot line.now deed) }
+) -> Option<Refusal>
+    ensures { result ≡ refused_with text.now symbols.now spot line.now deed }
 {
     let own = own_symbol(deed, line.args.items());
-    let refused = own_refusal(text, symbols, spot, line, deed)?;
-    Ok(sooner(own_again(text, line, symbols, own), refused))
+    let refused = own_refusal(text, symbols, spot, line, deed);
+    sooner(own_again(text, line, symbols, own), refused)
 }
 
 #[tactic(auto, unfolding(crate::specs::Layout::symbols_with))]
@@ -213,7 +216,7 @@ fn define_with(
 ) -> Result<(), NoMemory>
     ensures { OnOk result (symbols.new ≡ symbols_with text.now symbols.old spot line.now deed) }
 {
-    let sum = own_sum(text, symbols, spot, line, deed)?;
+    let sum = own_sum(text, symbols, spot, line, deed);
     define_own(text, symbols, own_symbol(deed, line.args.items()), sum)
 }
 
@@ -237,14 +240,15 @@ fn take_line(
     line: &Line36,
     refused: Option<Refusal>,
 ) -> Result<Option<Refusal>, NoMemory>
+    requires { HasRoom 1 spot }
     ensures symbols { OnOk result (symbols.new ≡ symbols_after text.now symbols.old spot line.now) }
     ensures refused { IfOk result (λ r.
         r ≡ refused_after text.now refused symbols.old spot line.now) }
 {
     let deed = line.deed;
     let after = below(alloc, text, spot, line)?;
-    let labels = define_labels(text, line, symbols, spot.here()?, refused)?;
-    let own = refused_with(text, symbols, spot, line, deed)?;
+    let labels = define_labels(text, line, symbols, spot.here(), refused)?;
+    let own = refused_with(text, symbols, spot, line, deed);
     define_with(text, symbols, spot, line, deed)?;
     Ok(sooner(sooner(labels, own), over(line, after)))
 }
@@ -256,9 +260,10 @@ pub struct Layout {
     pub refused: Option<Refusal>,
 }
 
-/// Lays out lines: their symbols, and what is refused of them.
-#[tactic(auto, unfolding(crate::specs::Layout::symbols_from, crate::specs::Layout::layout_refusal))]
+/// Lays out lines: their symbols, and what is refused of them. The error is want of memory alone.
+#[tactic(auto, using(crate::proofs::Rooms::rooms), unfolding(crate::specs::Layout::symbols_from, crate::specs::Layout::layout_refusal))]
 pub fn layout_of(alloc: Global, text: &[u8], lines: &[Line36]) -> Result<Layout, NoMemory>
+    requires { length lines.now < 2 ^ 32 }
     ensures symbols { IfOk result (λ layout.
         layout.symbols ≡ symbols_from text.now [] start lines.now) }
     ensures refused { IfOk result (λ layout.

@@ -5,13 +5,15 @@
 //! a place of a section, or neither; it is refused where a symbol of it is not defined, or where it does not fit.
 //!
 //! What is promised: `layout_of` gives exactly the symbols that lines define, and the first refusal of their definitions
-//! and of the lengths of sections; the other calls give what `specs/` has under their names. An error is want of memory,
-//! or a sum that passes 64 bits, which no source in memory comes to.
+//! and of the lengths of sections; the other calls give what `specs/` has under their names. An error is want of memory
+//! alone: fewer than 2^32 lines place fewer than 2^64 words each, and an expression has at most 2^32 terms, so no count and
+//! no sum passes 128 bits (`specs/Spots.antt`, `HasRoom`, and `specs/Sums.antt`, `IsTerm`).
 //!
 //! Source: the language is this project's own profile of the assembler of Multics.
 #![tactic(auto)]
 
 pub mod arguments;
+pub mod count;
 pub mod expression;
 pub mod layout;
 pub mod refusal;

@@ -1,14 +1,16 @@
 //! Refusals: which comes first in the text, and what refuses an expression.
 
-ghost use Rattle.std.specs.Prelude.{ℕ, Bool, ◌≡◌, ◌-◌, ◌+◌, ◌%◌, ◌^◌, Option, IfOk};
-ghost use Rattle.alm_lines.specs.Refusals.{code_number, precedes, sooner, refusal_at, column_of, fault_by, fault_of, has_room, may_stand, is_said, refusal_by, expression_refusal, has_value, is_over_limit};
+ghost use Rattle.std.specs.Prelude.{ℕ, Bool, ◌≡◌, ◌-◌, ◌+◌, ◌%◌, ◌^◌, ◌≤◌, List, length, Option};
+ghost use Rattle.alm_lines.specs.Refusals.{code_number, precedes, sooner, refusal_at, column_of};
+ghost use Rattle.alm_lines.specs.Refusals.{fault_by, fault_of, has_room, may_stand, is_said};
+ghost use Rattle.alm_lines.specs.Refusals.{refusal_by, expression_refusal, has_value};
+ghost use Rattle.alm_lines.specs.Refusals.{is_over_limit};
 
 use crate::expression::{place_undefined, sum_of};
 use crate::spot::Spot;
 use crate::sum::{Balance, Kind, Sum};
 use crate::symbols::Symbols;
 use alm_parse::{AlmFault, Line36, Term};
-use m36_word::NoMemory;
 
 /// Why lines are not an object's.
 #[derive(Clone, Copy, Debug, PartialEq, Eq)]
@@ -171,20 +173,20 @@ pub fn expression_refusal(
     line: &Line36,
     terms: &[Term],
     wanted: Wanted,
-) -> Result<Option<Refusal>, NoMemory>
-    ensures { IfOk result (λ r.
-        r
+) -> Option<Refusal>
+    requires { length terms.now ≤ 2 ^ 32 }
+    ensures { result
         ≡ expression_refusal text.now symbols.now spot line.now terms.now wanted.place wanted.room
-        wanted.may_move) }
+        wanted.may_move }
 {
-    let sum = sum_of(text, symbols, spot, terms)?;
+    let sum = sum_of(text, symbols, spot, terms);
     let said = sum.unknown || is_said(wanted.room, wanted.may_move, sum);
-    Ok(refusal_by(
+    refusal_by(
         line,
         place_undefined(text, symbols, terms),
         wanted.place,
         said,
-    ))
+    )
 }
 
 /// Nothing of an expression is refused, nor an `equ` that it stands on.
@@ -196,19 +198,16 @@ pub fn has_value(
     terms: &[Term],
     room: Room,
     may_move: bool,
-) -> Result<bool, NoMemory>
-    ensures { IfOk result (λ b. b ≡ has_value text.now symbols.now spot terms.now room may_move) }
+) -> bool
+    requires { length terms.now ≤ 2 ^ 32 }
+    ensures { result ≡ has_value text.now symbols.now spot terms.now room may_move }
 {
-    let sum = sum_of(text, symbols, spot, terms)?;
-    Ok(
-        place_undefined(text, symbols, terms).is_none()
-            && !sum.unknown
-            && is_said(room, may_move, sum),
-    )
+    let sum = sum_of(text, symbols, spot, terms);
+    place_undefined(text, symbols, terms).is_none() && !sum.unknown && is_said(room, may_move, sum)
 }
 
 /// A section of an object has more than 2^18 - 4096 words.
-pub fn is_over_limit(words: u64) -> bool
+pub fn is_over_limit(words: u128) -> bool
     ensures { result ≡ is_over_limit words }
 {
     words > 258048

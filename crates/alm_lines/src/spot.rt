@@ -1,30 +1,69 @@
 //! Where a line is.
 
-ghost use Rattle.std.specs.Prelude.{ℕ, List, [], ◌∷◌, ◌++◌, ◌≡◌, length, IfOk};
-ghost use Rattle.alm_lines.specs.Spots.{start, count, count_in, place, place_in, here, here_in, grown, grown_in, entered, size_of, moved_by, below, end_of};
+ghost use Rattle.std.specs.Prelude.{ℕ, List, [], ◌∷◌, ◌++◌, ◌≡◌, ◌^◌, ◌<◌, length, IfOk};
+ghost use Rattle.alm_lines.specs.Sums.{balance, IsTerm};
+ghost use Rattle.alm_lines.specs.Spots.{start, count, count_in, place, place_in, here, here_in};
+ghost use Rattle.alm_lines.specs.Spots.{grown, grown_in, entered, size_of, moved_by, below, end_of};
+ghost use Rattle.alm_lines.specs.Spots.{HasRoom, IsNear};
 
 use crate::arguments::{first_symbol, second_number, section_in, words_of_args};
-use crate::sum::{Balance, NOTHING, Sum, absolute, plus};
+use crate::sum::{Balance, NOTHING, Sum, absolute};
 use alm_parse::{Arg, Deed, Line36};
 use m36_word::NoMemory;
 use obj36_parts::Section;
 use std::alloc::Global;
+use std::marker::Model;
 
-/// Where a line is: the section that it belongs to, and how many words the lines above it place in each section. `inner`
-/// are the static words of the linkage section, `outer` those of a section of their own; `uses_inner` and `uses_outer`
-/// say whether a line above has entered them.
+/// Where a line is: the section that it belongs to, and how many words the lines above it place in each section, fewer
+/// than 2^96 - 8: there are fewer than 2^32 lines, each of fewer than 2^64 words. `inner` are the static words of the
+/// linkage section, `outer` those of a section of their own; `uses_inner` and `uses_outer` say whether a line above has
+/// entered them.
 #[derive(Clone, Copy, Debug, PartialEq, Eq)]
 pub struct Spot {
-    pub text: u64,
-    pub inner: u64,
-    pub outer: u64,
+    pub text: u128,
+    pub inner: u128,
+    pub outer: u128,
     pub section: Section,
     pub uses_inner: bool,
     pub uses_outer: bool,
 }
 
+impl Model for Spot {
+    ghost use Rattle.std.specs.Prelude.{◌<◌, ◌-◌, ◌^◌};
+    ghost use Rattle.alm_lines.specs.SpotFields.{Spot};
+
+    ghost Value = { Spot };
+
+    ghost view = { λ s. record {
+      text = s.text;
+      inner = s.inner;
+      outer = s.outer;
+      section = s.section;
+      uses_inner = s.uses_inner;
+      uses_outer = s.uses_outer;
+    } };
+
+    ghost invariant = { λ s.
+        (s.text < 2 ^ 96 - 8) × (s.inner < 2 ^ 96 - 8) × (s.outer < 2 ^ 96 - 8) };
+
+    ghost inverse = { λ s. record {
+      text = s.text;
+      inner = s.inner;
+      outer = s.outer;
+      section = s.section;
+      uses_inner = s.uses_inner;
+      uses_outer = s.uses_outer;
+    } };
+}
+
 /// A number that is added once.
 const ONCE: Balance = Balance { up: 1, down: 0 };
+
+fn up(place: u128) -> Balance
+    ensures { result ≡ balance place 0 }
+{
+    Balance { up: place, down: 0 }
+}
 
 impl Spot {
     /// Where the first line is.
@@ -42,10 +81,11 @@ impl Spot {
     }
 
     /// How many words the lines above place in the section.
-    pub fn count(self) -> u64
+    pub fn count(self) -> u128
         ensures { result ≡ count self }
     {
-        match self.section {
+        let section = self.section;
+        match section {
             Section::Text => self.text,
             Section::Linkage => self.inner,
             Section::Symbol => 0,
@@ -54,35 +94,35 @@ impl Spot {
     }
 
     /// The place in the section: static words of the linkage section begin at 8.
-    pub fn place(self) -> Result<u64, NoMemory>
-        ensures { IfOk result (λ at. at ≡ place self) }
+    pub fn place(self) -> u128
+        ensures value { result ≡ place self }
+        ensures bound { result < 2 ^ 96 }
     {
-        match self.section {
-            Section::Text => Ok(self.text),
-            Section::Linkage => plus(self.inner, 8),
-            Section::Symbol => Ok(0),
-            Section::Static => Ok(self.outer),
+        let section = self.section;
+        match section {
+            Section::Text => self.text,
+            Section::Linkage => self.inner + 8,
+            Section::Symbol => 0,
+            Section::Static => self.outer,
         }
     }
 
     /// What a label there comes to.
-    pub fn here(self) -> Result<Sum, NoMemory>
-        ensures { IfOk result (λ sum. sum ≡ here self) }
+    pub fn here(self) -> Sum
+        ensures value { result ≡ here self }
+        ensures small { IsTerm result }
     {
-        let value = Balance {
-            up: self.place()?,
-            down: 0,
-        };
-        Ok(match self.section {
+        let section = self.section;
+        match section {
             Section::Text => Sum {
-                value,
+                value: up(self.text),
                 text: ONCE,
                 inner: NOTHING,
                 outer: NOTHING,
                 unknown: false,
             },
             Section::Linkage => Sum {
-                value,
+                value: up(self.inner + 8),
                 text: NOTHING,
                 inner: ONCE,
                 outer: NOTHING,
@@ -90,39 +130,43 @@ impl Spot {
             },
             Section::Symbol => absolute(0),
             Section::Static => Sum {
-                value,
+                value: up(self.outer),
                 text: NOTHING,
                 inner: NOTHING,
                 outer: ONCE,
                 unknown: false,
             },
-        })
+        }
     }
 
     /// With so many more words.
-    pub fn grown(self, n: u64) -> Result<Spot, NoMemory>
-        ensures { IfOk result (λ spot. spot ≡ grown self n) }
+    pub fn grown(self, n: u64) -> Spot
+        requires { HasRoom 1 self }
+        ensures value { result ≡ grown self n }
+        ensures near { IsNear self result }
     {
-        match self.section {
-            Section::Text => Ok(Spot {
-                text: plus(self.text, n)?,
+        let section = self.section;
+        match section {
+            Section::Text => Spot {
+                text: self.text + n as u128,
                 ..self
-            }),
-            Section::Linkage => Ok(Spot {
-                inner: plus(self.inner, n)?,
+            },
+            Section::Linkage => Spot {
+                inner: self.inner + n as u128,
                 ..self
-            }),
-            Section::Symbol => Ok(self),
-            Section::Static => Ok(Spot {
-                outer: plus(self.outer, n)?,
+            },
+            Section::Symbol => self,
+            Section::Static => Spot {
+                outer: self.outer + n as u128,
                 ..self
-            }),
+            },
         }
     }
 
     /// In another section.
     pub fn entered(self, section: Section) -> Spot
-        ensures { result ≡ entered self section }
+        ensures value { result ≡ entered self section }
+        ensures near { IsNear self result }
     {
         match section {
             Section::Text => Spot {
@@ -145,45 +189,51 @@ impl Spot {
 }
 
 /// How many words a line places.
-pub fn size_of(alloc: Global, deed: Deed, args: &[Arg], at: u64) -> Result<u64, NoMemory>
+pub fn size_of(alloc: Global, deed: Deed, args: &[Arg], at: u128) -> Result<u64, NoMemory>
     ensures { IfOk result (λ n. n ≡ size_of deed args.now at) }
 {
     match deed {
         Deed::Instruction(_, _) | Deed::Zero => Ok(1),
         Deed::Words => Ok(words_of_args(alloc, args)?.slice().len() as u64),
         Deed::Block => Ok(second_number(args)),
-        Deed::Even => Ok(at % 2),
+        Deed::Even => Ok((at % 2) as u64),
         Deed::Nothing | Deed::Entry | Deed::Segdef | Deed::Equ | Deed::Use | Deed::Bound => Ok(0),
     }
 }
 
 fn grown_by(alloc: Global, spot: Spot, deed: Deed, args: &[Arg]) -> Result<Spot, NoMemory>
-    ensures { IfOk result (λ after. after ≡ grown spot (size_of deed args.now (place spot))) }
+    requires { HasRoom 1 spot }
+    ensures value { IfOk result (λ after.
+        after ≡ grown spot (size_of deed args.now (place spot))) }
+    ensures near { IfOk result (IsNear spot) }
 {
-    let at = spot.place()?;
-    let size = size_of(alloc, deed, args, at)?;
-    spot.grown(size)
+    let size = size_of(alloc, deed, args, spot.place())?;
+    Ok(spot.grown(size))
 }
 
-/// Where the line below is.
+/// Where the line below is. The error is want of memory alone.
 #[tactic(auto, unfolding(crate::specs::Spots::below))]
 pub fn below(alloc: Global, text: &[u8], spot: Spot, line: &Line36) -> Result<Spot, NoMemory>
-    ensures { IfOk result (λ after. after ≡ below text.now spot line.now) }
+    requires { HasRoom 1 spot }
+    ensures value { IfOk result (λ after. after ≡ below text.now spot line.now) }
+    ensures near { IfOk result (IsNear spot) }
 {
     let deed = line.deed;
     let args = line.args.items();
     match deed {
         Deed::Use => Ok(spot.entered(section_in(text, first_symbol(args)))),
         Deed::Nothing | Deed::Entry | Deed::Segdef | Deed::Equ | Deed::Bound => Ok(spot),
-        Deed::Instruction(_, _) | Deed::Zero => spot.grown(1),
+        Deed::Instruction(_, _) | Deed::Zero => Ok(spot.grown(1)),
         Deed::Words | Deed::Block | Deed::Even => grown_by(alloc, spot, deed, args),
     }
 }
 
-/// Where the end is.
-#[tactic(auto, unfolding(crate::specs::Spots::end_of))]
+/// Where the end is. The error is want of memory alone.
+#[tactic(auto, using(crate::proofs::Rooms::rooms), unfolding(crate::specs::Spots::end_of))]
 pub fn end_of(alloc: Global, text: &[u8], lines: &[Line36]) -> Result<Spot, NoMemory>
-    ensures { IfOk result (λ spot. spot ≡ end_of text.now start lines.now) }
+    requires { length lines.now < 2 ^ 32 }
+    ensures value { IfOk result (λ spot. spot ≡ end_of text.now start lines.now) }
+    ensures room { IfOk result (HasRoom 0) }
 {
     let mut spot = Spot::start();
     let mut rest = lines;

@@ -1,16 +1,17 @@
 //! What expressions come to: numbers, and how often each section counts in them.
 
-ghost use Rattle.std.specs.Prelude.{ℕ, ◌≡◌, ◌+◌, ◌-◌, ◌%◌, ◌≤◌, ◌<◌, ◌^◌, IfOk};
-ghost use Rattle.alm_lines.specs.Sums.{balance_plus, turned, is_even, is_one, is_within, half_of, offset_of, settled, absolute, unknown_sum, sum_plus, sum_turned, kind_of};
+ghost use Rattle.std.specs.Prelude.{ℕ, ◌≡◌, ◌+◌, ◌-◌, ◌%◌, ◌≤◌, ◌<◌, ◌^◌};
+ghost use Rattle.alm_lines.specs.Sums.{balance_plus, turned, is_even, is_one, is_within, half_of};
+ghost use Rattle.alm_lines.specs.Sums.{offset_of, settled, absolute, unknown_sum, sum_plus};
+ghost use Rattle.alm_lines.specs.Sums.{sum_turned, kind_of, IsAtMost, IsTerm};
 
-use m36_word::NoMemory;
 use obj36_parts::Section;
 
 /// A whole number as what is added and what is taken away.
 #[derive(Clone, Copy, Debug, PartialEq, Eq)]
 pub struct Balance {
-    pub up: u64,
-    pub down: u64,
+    pub up: u128,
+    pub down: u128,
 }
 
 /// What an expression comes to: its number, and how often the places of each section are counted in it. `inner` are the
@@ -36,24 +37,17 @@ pub enum Kind {
 /// The number 0.
 pub const NOTHING: Balance = Balance { up: 0, down: 0 };
 
-// A sum that no number of a machine holds is told as want of memory: no source in memory comes to it.
-pub fn plus(a: u64, b: u64) -> Result<u64, NoMemory>
-    ensures { IfOk result (λ c. c ≡ a + b) }
-{
-    match a.checked_add(b) {
-        Some(c) => Ok(c),
-        None => Err(NoMemory),
-    }
-}
-
 impl Balance {
     /// The sum of two numbers.
-    pub fn plus(self, other: Balance) -> Result<Balance, NoMemory>
-        ensures { IfOk result (λ b. b ≡ balance_plus self other) }
+    pub fn plus(self, other: Balance) -> Balance
+        requires up { self.up + other.up < 2 ^ 128 }
+        requires down { self.down + other.down < 2 ^ 128 }
+        ensures { result ≡ balance_plus self other }
     {
-        let up = plus(self.up, other.up)?;
-        let down = plus(self.down, other.down)?;
-        Ok(Balance { up, down })
+        Balance {
+            up: self.up + other.up,
+            down: self.down + other.down,
+        }
     }
 
     /// The number with the other sign.
@@ -84,7 +78,8 @@ impl Balance {
     pub fn is_within(self, low: u64, high: u64) -> bool
         ensures { result ≡ is_within low high self }
     {
-        self.down.saturating_sub(self.up) <= low && self.up.saturating_sub(self.down) <= high
+        self.down.saturating_sub(self.up) <= low as u128
+            && self.up.saturating_sub(self.down) <= high as u128
     }
 
     /// The number modulo 2^18.
@@ -93,7 +88,9 @@ impl Balance {
         ensures value { result ≡ half_of self }
         ensures bound { result < 2 ^ 18 }
     {
-        (self.up % (1 << 18) + ((1 << 18) - self.down % (1 << 18))) % (1 << 18)
+        let up = (self.up % (1 << 18)) as u64;
+        let down = (self.down % (1 << 18)) as u64;
+        (up + ((1 << 18) - down)) % (1 << 18)
     }
 
     /// The number modulo 2^15.
@@ -102,7 +99,9 @@ impl Balance {
         ensures value { result ≡ offset_of self }
         ensures bound { result < 2 ^ 15 }
     {
-        (self.up % (1 << 15) + ((1 << 15) - self.down % (1 << 15))) % (1 << 15)
+        let up = (self.up % (1 << 15)) as u64;
+        let down = (self.down % (1 << 15)) as u64;
+        (up + ((1 << 15) - down)) % (1 << 15)
     }
 
     /// The same number, of which nothing is added that is taken away again.
@@ -118,10 +117,14 @@ impl Balance {
 
 /// A number as a sum.
 pub fn absolute(n: u64) -> Sum
-    ensures { result ≡ absolute n }
+    ensures value { result ≡ absolute n }
+    ensures small { IsTerm result }
 {
     Sum {
-        value: Balance { up: n, down: 0 },
+        value: Balance {
+            up: n as u128,
+            down: 0,
+        },
         text: NOTHING,
         inner: NOTHING,
         outer: NOTHING,
@@ -131,7 +134,8 @@ pub fn absolute(n: u64) -> Sum
 
 /// What the symbol of an `equ` that is refused comes to.
 pub fn unknown() -> Sum
-    ensures { result ≡ unknown_sum }
+    ensures value { result ≡ unknown_sum }
+    ensures small { IsTerm result }
 {
     Sum {
         unknown: true,
@@ -140,28 +144,28 @@ pub fn unknown() -> Sum
 }
 
 impl Sum {
-    /// The sum of two sums.
+    /// The sum of what terms come to and one term more.
     #[tactic(auto, unfolding(crate::specs::Sums::sum_plus))]
-    pub fn plus(self, other: Sum) -> Result<Sum, NoMemory>
-        ensures { IfOk result (λ s. s ≡ sum_plus self other) }
+    pub fn plus(self, term: Sum) -> Sum
+        requires room { IsAtMost (2 ^ 128 - 2 ^ 96) self }
+        requires small { IsTerm term }
+        ensures { result ≡ sum_plus self term }
     {
-        let value = self.value.plus(other.value)?;
-        let text = self.text.plus(other.text)?;
-        let inner = self.inner.plus(other.inner)?;
-        let outer = self.outer.plus(other.outer)?;
-        Ok(Sum {
-            value,
-            text,
-            inner,
-            outer,
-            unknown: self.unknown || other.unknown,
-        })
+        Sum {
+            value: self.value.plus(term.value),
+            text: self.text.plus(term.text),
+            inner: self.inner.plus(term.inner),
+            outer: self.outer.plus(term.outer),
+            unknown: self.unknown || term.unknown,
+        }
     }
 
     /// The sum with the other sign.
     #[tactic(auto, unfolding(crate::specs::Sums::sum_turned))]
     pub fn turned(self) -> Sum
-        ensures { result ≡ sum_turned self }
+        requires { IsTerm self }
+        ensures value { result ≡ sum_turned self }
+        ensures small { IsTerm result }
     {
         Sum {
             value: self.value.turned(),

@@ -1,6 +1,7 @@
 //! The symbols of a source in the order of their definitions.
 
-ghost use Rattle.std.specs.Prelude.{ℕ, List, [], ◌∷◌, ◌≡◌, Option, OnOk, OnErr};
+ghost use Rattle.std.specs.Prelude.{ℕ, List, [], ◌∷◌, ◌≡◌, Option, OnOk, OnErr, IfSome};
+ghost use Rattle.alm_lines.specs.Sums.{IsTerm};
 ghost use Rattle.alm_lines.specs.Symbols.{sum_named, with_symbol};
 
 use crate::sum::Sum;
@@ -10,7 +11,7 @@ use m36_word::NoMemory;
 use std::alloc::Global;
 use std::marker::Model;
 
-/// Symbols with what they come to.
+/// Symbols with what they come to, each less than 2^96.
 #[derive(Debug, Drop)]
 pub struct Symbols {
     sums: IndexMap<Name, Sum>,
@@ -18,11 +19,15 @@ pub struct Symbols {
 
 impl Model for Symbols {
     ghost use Rattle.std.specs.Prelude.{ℕ, List};
+    ghost use Rattle.std.specs.List.{All};
+    ghost use Rattle.alm_lines.specs.Sums.{IsTerm};
     ghost use Rattle.alm_lines.specs.declared.sum.Sum.{Sum};
 
     ghost Value = { List (List ℕ × Sum) };
 
     ghost view = { λ s. s.sums.entries };
+
+    ghost invariant = { λ s. All (λ symbol. IsTerm symbol.1) s.sums.entries };
 }
 
 impl Symbols {
@@ -36,8 +41,10 @@ impl Symbols {
     }
 
     /// What a symbol comes to, if it is defined.
+    #[tactic(auto, using(crate::proofs::SymbolLaws::found_small))]
     pub fn find(&self, name: &Name) -> Option<Sum>
-        ensures { result ≡ sum_named name.now self.now }
+        ensures value { result ≡ sum_named name.now self.now }
+        ensures small { IfSome result IsTerm }
     {
         found(&self.sums, name)
     }
@@ -45,6 +52,7 @@ impl Symbols {
     /// Defines a symbol, unless it is defined. Where no memory is found, nothing changes.
     #[tactic(auto, using(crate::proofs::SymbolLaws::defined))]
     pub fn define(&mut self, name: Name, sum: Sum) -> Result<(), NoMemory>
+        requires { IsTerm sum }
         ensures ok { OnOk result (self.new ≡ with_symbol self.old name sum) }
         ensures err { OnErr result (self.new ≡ self.old) }
     {

@@ -21,9 +21,12 @@ mod resolving;
 mod search;
 mod sections;
 pub mod snap;
+#[cfg(test)]
+mod tests;
 
-pub use file::File;
+pub use file::{File, object_in};
 pub use known::Known;
 pub use laid::{Laid, Lay};
 pub use laws::link_laws;
+pub use resolving::segment_of;
 pub use snap::{LinkFault, Snap};

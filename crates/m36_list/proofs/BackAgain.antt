@@ -24,9 +24,8 @@ use Rattle.alm_tokens.specs.Lists.{members, place_out}
 use Rattle.alm_parse.specs.Operations.{operation_of, directive}
 use Rattle.alm_tokens.specs.Rows.{row_at}
 use Rattle.alm_parse.specs.Lines.{line_given}
-use Rattle.alm_lines.specs.declared.spot.Spot.{Spot}
+use Rattle.alm_lines.specs.SpotFields.{Spot}
 use Rattle.alm_asm.specs.declared.tables.Tables.{Tables}
-use Rattle.alm_parse.specs.declared.deed.Deed.TheVariants as deed
 use Rattle.alm_parse.specs.Deeds.{deed_named}
 use Rattle.alm_asm.specs.Words.{words_by}
 use Rattle.alm_asm.specs.Assembly.{assembled}

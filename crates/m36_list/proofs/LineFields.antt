@@ -1,6 +1,5 @@
 -- Fields that are put one after another are a line.
 use Rattle.std.proofs.Common.{◌≡◌, ℕ, List, [], ◌∷◌, ◌++◌, append_assoc}
-use Rattle.std.specs.Prelude.{codes}
 use Rattle.m36_list.specs.Print.{line}
 
 pub two : (old a b : List ℕ) → (old ++ (a ++ 32 ∷ [])) ++ (b ++ 10 ∷ []) ≡ old ++ line (a ∷ b ∷ [])
@@ -20,7 +19,7 @@ unfolding line
 five old a b c d e = simp append_assoc
 
 -- a reference and the space behind it
-pub reference : (old a b : List ℕ) → ((old ++ a) ++ codes "$") ++ (b ++ 32 ∷ []) ≡ old ++ (((a ++ codes "$") ++ b) ++ 32 ∷ [])
-reference old a b = simp append_assoc
+pub reference : (old a : List ℕ) → (old ++ a) ++ 32 ∷ [] ≡ old ++ (a ++ 32 ∷ [])
+reference old a = append_assoc old a (32 ∷ [])
 
 pub ruleset lines = (two, three, four, five)

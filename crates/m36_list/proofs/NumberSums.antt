@@ -7,7 +7,7 @@ use Rattle.alm_tokens.specs.declared.expression.Atom.TheVariants.{Number}
 use Rattle.alm_tokens.specs.declared.expression.Term.{Term}
 use Rattle.alm_lines.specs.declared.sum.Sum.{Sum}
 use Rattle.alm_lines.specs.declared.sum.Kind.TheVariants.{Absolute}
-use Rattle.alm_lines.specs.declared.spot.Spot.{Spot}
+use Rattle.alm_lines.specs.SpotFields.{Spot}
 use Rattle.alm_lines.specs.Sums.{balance, nothing, half_of, offset_of, absolute, sum_plus, sum_turned, kind_of}
 use Rattle.alm_lines.specs.Expressions.{term_sum, added, sum_of, is_undefined, place_undefined}
 use Rattle.alm_lines.specs.Refusals.{has_room}

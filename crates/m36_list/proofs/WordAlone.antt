@@ -8,7 +8,7 @@ use Rattle.alm_parse.specs.SourceFields.{Source}
 use Rattle.m36_inst.specs.Instruction.{inst_word}
 use Rattle.obj36_parts.specs.ObjectSegment.{definition_part, definition_section, linkage_part, linkage_section, symbol_part, symbol_section, map_part, map_words, words_of, definition_names, are_distinct, are_rising, is_well_formed, all_link_names, definition_words, expression_words, link_words, relocation_words}
 use Rattle.obj36_parts.specs.Names.{with_names, all_name_words}
-use Rattle.alm_lines.specs.declared.spot.Spot.{Spot}
+use Rattle.alm_lines.specs.SpotFields.{Spot}
 use Rattle.alm_asm.specs.declared.tables.Tables.{Tables}
 use Rattle.alm_parse.specs.declared.deed.Deed.{Deed}
 use Rattle.alm_parse.specs.declared.deed.Deed.TheVariants as deed

@@ -1,7 +1,8 @@
 -- How many words an object and its sections have.
 use Rattle.std.specs.Prelude.{◌≡◌, ◌+◌, ◌^◌, ◌<◌, length}
 use Rattle.obj36_parts.specs.PartsFields.{PartsFields}
-use Rattle.obj36_parts.specs.ObjectSegment.{definition_section, linkage_section, outer_statics, symbol_section, words_of}
+use Rattle.obj36_parts.specs.ObjectSegment.{definition_section, linkage_section, outer_statics}
+use Rattle.obj36_parts.specs.ObjectSegment.{symbol_section, words_of}
 use Rattle.m36_list.specs.declared.counts.Counts.{Counts}
 
 -- The counts are those of the object, and each offset in it has 18 bits.

@@ -8,7 +8,7 @@ use Rattle.obj36_parts.specs.declared.section.Section.{Section}
 use Rattle.obj36_parts.specs.declared.section.Section.TheVariants.{Text, Linkage, Static}
 use Rattle.obj36_parts.specs.PartsFields.{PartsFields}
 use Rattle.obj36_parts.specs.ObjectSegment.{inner_statics, outer_statics}
-use Rattle.alm_lines.specs.declared.spot.Spot.{Spot}
+use Rattle.alm_lines.specs.SpotFields.{Spot}
 use Rattle.alm_lines.specs.Spots.{start, place, size_of, below}
 use Rattle.alm_asm.specs.Words.{same_section}
 use Rattle.m36_list.specs.Print.{line, print_of}

@@ -5,10 +5,13 @@ use Rattle.std.specs.List.{join_with_byte, flat_map}
 use Rattle.m36_text.specs.Digits.{octal_text, decimal_text}
 use Rattle.obj36_parts.specs.Fields.{LinkFields}
 use Rattle.obj36_parts.specs.PartsFields.{PartsFields}
-use Rattle.obj36_parts.specs.ObjectSegment.{is_newer, has_name, has_entry, inner_statics, outer_statics, definition_section, linkage_section, symbol_section, words_of}
+use Rattle.obj36_parts.specs.ObjectSegment.{is_newer, inner_statics, outer_statics}
+use Rattle.obj36_parts.specs.ObjectSegment.{definition_section, linkage_section, symbol_section}
+use Rattle.obj36_parts.specs.ObjectSegment.{words_of}
 use Rattle.obj36_parts.specs.declared.section.Section.{Section}
 use Rattle.obj36_parts.specs.declared.section.Section.TheVariants.{Text, Linkage, Symbol, Static}
 use Rattle.obj36_parts.specs.declared.definition.Named.{Named}
+use Rattle.obj36.specs.References.{reference_text}
 use Rattle.m36_list.specs.Disassembly.{disassembly}
 
 -- a line of fields
@@ -64,19 +67,6 @@ definition_fields d =
 unfoldable pub definition_line : Named → List ℕ
 definition_line d =
     line (if d.def.is_entry then definition_fields d ++ codes "entry" ∷ [] else definition_fields d)
-
--- a link's reference, as the assembler writes it: the segment, or the section of the own object,
--- and the entry
-abbrev pub own_section : Section → List ℕ
-own_section Text = codes "*text"
-own_section Linkage = codes "*link"
-own_section Symbol = codes "*symbol"
-own_section Static = codes "*static"
-
-unfoldable pub reference_text : LinkFields → List ℕ
-reference_text l =
-    (if has_name l.kind then l.name else own_section l.section) ++ codes "$"
-    ++ (if has_entry l.kind then l.entry else [])
 
 -- a link at an offset of the linkage section: its reference, its expression, and its modifier in
 -- two digits

@@ -2,7 +2,8 @@
 
 ghost use Rattle.std.specs.Prelude.{◌≡◌, ◌+◌, ◌*◌, ◌≤◌, ◌<◌, ◌^◌, ◌++◌, length, codes};
 ghost use Rattle.m36_text.specs.Digits.{decimal_text, octal_text};
-ghost use Rattle.m36_list.specs.Disassembly.{disassembly, octal_constant, address_text, signed_text};
+ghost use Rattle.m36_list.specs.Disassembly.{disassembly, octal_constant, address_text};
+ghost use Rattle.m36_list.specs.Disassembly.{signed_text};
 
 use crate::modifiers::modifier;
 use arrayvec::ArrayString;

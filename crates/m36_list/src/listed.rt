@@ -1,6 +1,6 @@
 //! The listing of a source.
 
-ghost use Rattle.std.specs.Prelude.{ℕ, ◌+◌, ◌++◌, ◌≡◌, ◌^◌, ◌≤◌, length, take, drop, codes, IfOk, OnOk};
+ghost use Rattle.std.specs.Prelude.{ℕ, ◌+◌, ◌++◌, ◌≡◌, ◌^◌, ◌≤◌, length, codes, IfOk, OnOk};
 ghost use Rattle.obj36_parts.specs.ObjectSegment.{inner_statics};
 ghost use Rattle.m36_list.specs.Counts.{IsCount};
 ghost use Rattle.alm_lines.specs.Spots.{start};
@@ -15,6 +15,7 @@ use alm_parse::{Line36, Lines36};
 use m36_outside::Text;
 use m36_word::{NoMemory, Word};
 use obj36::{Object, Section};
+use obj36_read::reading::{behind, front};
 use std::alloc::Global;
 
 // How many words of a section a line places.
@@ -31,33 +32,11 @@ fn size_in(
     if !same_section(spot.section, section) {
         return Ok(0);
     }
-    let at = spot.place()?;
-    size_of(alloc, line.deed, line.args.items(), at)
-}
-
-// The first words, as many as there are.
-fn front(words: &[Word], count: u64) -> &[Word]
-    ensures { result.now ≡ take count words.now }
-{
-    if count <= words.len() as u64 {
-        &words[..count as usize]
-    } else {
-        words
-    }
-}
-
-// The words behind those.
-fn behind(words: &[Word], count: u64) -> &[Word]
-    ensures { result.now ≡ drop count words.now }
-{
-    if count <= words.len() as u64 {
-        &words[count as usize..]
-    } else {
-        &[]
-    }
+    size_of(alloc, line.deed, line.args.items(), spot.place())
 }
 
 /// Puts a line for each word of a section that the lines of a source place, where the first stands at a place.
+#[tactic(auto, using(alm_lines::proofs::Rooms::rooms))]
 fn put_section_words(
     alloc: Global,
     out: &mut Text,
@@ -96,12 +75,7 @@ fn inner_words(count: Counts, o: &Object) -> &[Word]
     ensures fits { 8 + length result.now ≤ 2 ^ 18 }
 {
     let _count = count.linkage;
-    let parts = o.parts();
-    if parts.version == 2 {
-        &[]
-    } else {
-        parts.statics.slice()
-    }
+    o.parts().inner_statics()
 }
 
 /// The listing of a source and the object that it assembles to, under a name: a line for each word that a line of the source

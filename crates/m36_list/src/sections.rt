@@ -1,9 +1,11 @@
 //! The sections of an object, a line for each, and the entry bound.
 
 ghost use Rattle.std.specs.Prelude.{◌+◌, ◌++◌, ◌≡◌, ◌^◌, ◌<◌, ◌≤◌, length, OnOk};
-ghost use Rattle.obj36_parts.specs.ObjectSegment.{definition_section, linkage_section, symbol_section, outer_statics};
+ghost use Rattle.obj36_parts.specs.ObjectSegment.{definition_section, linkage_section};
+ghost use Rattle.obj36_parts.specs.ObjectSegment.{symbol_section, outer_statics};
 ghost use Rattle.m36_list.specs.Counts.{IsCount};
-ghost use Rattle.m36_list.specs.Print.{statics_at, section_line, static_line, value_line, section_lines};
+ghost use Rattle.m36_list.specs.Print.{statics_at, section_line, static_line, value_line};
+ghost use Rattle.m36_list.specs.Print.{section_lines};
 
 use crate::counts::Counts;
 use crate::fields::{put_field, put_last_number, put_number};

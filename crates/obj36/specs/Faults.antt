@@ -1,14 +1,17 @@
 -- The first fault of a list of words, in the order of the codes.
-use Rattle.std.specs.Prelude.{ℕ, ◌≡◌, nat_lt, if◌then◌else◌, List, length, Option, Some, None, Result, Ok, Err}
+use Rattle.std.specs.Prelude.{ℕ, ◌≡◌, nat_lt, if◌then◌else◌, List, length, Option, Some, None}
+use Rattle.std.specs.Prelude.{Result, Ok, Err}
 use Rattle.std.specs.Option.{option_map}
 use Rattle.obj36_parts.specs.PartsFields.{PartsFields}
 use Rattle.obj36_parts.specs.ObjectSegment.{Stands}
 use Rattle.obj36_read.specs.Reading.{version_in}
-use Rattle.obj36_read.specs.MapFaults.{map_fault, section_fault, shared_fault, extents_of, extent_words}
+use Rattle.obj36_read.specs.MapFaults.{map_fault, section_fault, shared_fault, extents_of}
+use Rattle.obj36_read.specs.MapFaults.{extent_words}
 use Rattle.obj36_read.specs.TableFaults.{table_fault, names_fault}
 use Rattle.obj36_read.specs.LinkFaults.{behind, links_fault}
 use Rattle.obj36.specs.declared.fault.ObjectFault.{ObjectFault}
-use Rattle.obj36.specs.declared.fault.ObjectFault.TheVariants.{O1, O2, O3, O4, O5, O6, O7, O8, NoMemory}
+use Rattle.obj36.specs.declared.fault.ObjectFault.TheVariants.{O1, O2, O3, O4, O5, O6, O7, O8}
+use Rattle.obj36.specs.declared.fault.ObjectFault.TheVariants.{NoMemory}
 
 -- the definition and the linkage section that the map tells
 unfoldable pub told_definition : List ℕ → List ℕ
@@ -18,14 +21,18 @@ unfoldable pub told_linkage : List ℕ → List ℕ
 told_linkage words = extent_words words (extents_of words).linkage
 
 unfoldable pub definition_fault : List ℕ → Option ℕ
-definition_fault words = behind (extents_of words).definition.from (table_fault (version_in words) (told_definition words))
+definition_fault words =
+    behind (extents_of words).definition.from
+    (table_fault (version_in words) (told_definition words))
 
 unfoldable pub spelling_fault : List ℕ → Option ℕ
-spelling_fault words = behind (extents_of words).definition.from (names_fault (told_definition words))
+spelling_fault words =
+    behind (extents_of words).definition.from (names_fault (told_definition words))
 
 unfoldable pub linking_fault : List ℕ → Option ℕ
 linking_fault words =
-    links_fault (version_in words) (extents_of words).definition.from (told_definition words) (extents_of words).linkage.from (told_linkage words)
+    links_fault (version_in words) (extents_of words).definition.from (told_definition words)
+    (extents_of words).linkage.from (told_linkage words)
 
 -- each code with its place, and the first that stands; O8 where none of the others does
 abbrev pub from_links : Option ℕ → ObjectFault
@@ -55,11 +62,13 @@ from_outline None later = later
 unfoldable pub fault_behind_map : List ℕ → ObjectFault
 fault_behind_map words =
     from_sections (section_fault words) (from_sharing (shared_fault words)
-    (from_tables (definition_fault words) (from_names (spelling_fault words) (from_links (linking_fault words)))))
+    (from_tables (definition_fault words)
+    (from_names (spelling_fault words) (from_links (linking_fault words)))))
 
 -- what is told before anything is read: too few words, or a map that is not as it must be
 unfoldable pub outline_fault : List ℕ → Option ObjectFault
-outline_fault words = if nat_lt (length words) 7 then Some (O1 (length words)) else option_map O2 (map_fault words)
+outline_fault words =
+    if nat_lt (length words) 7 then Some (O1 (length words)) else option_map O2 (map_fault words)
 
 unfoldable pub first_fault : List ℕ → ObjectFault
 first_fault words = from_outline (outline_fault words) (fault_behind_map words)
@@ -69,7 +78,8 @@ pub record IsRefused (words : List ℕ) (fault : ObjectFault) : Type 0 where
   pub first : first_fault words ≡ fault
   pub stands_for_none : (p : PartsFields) → Stands p words → ⊥
 
--- What reading a list says: the value for which it stands, or its first fault, where want of memory may come at any time.
+-- What reading a list says: the value for which it stands, or its first fault, where want of memory
+-- may come at any time.
 abbrev pub ReadSays : List ℕ → Result PartsFields ObjectFault → Type 0
 ReadSays words (Ok p) = Stands p words
 ReadSays words (Err (O1 place)) = IsRefused words (O1 place)

@@ -1,14 +1,17 @@
 -- The object for which a list of words stands, or its first fault.
-use Rattle.std.specs.Prelude.{ℕ, ◌≡◌, ◌&&◌, nat_eq, if◌then◌else◌, List, Option, Some, None, Result, Ok, Err}
+use Rattle.std.specs.Prelude.{ℕ, ◌≡◌, ◌&&◌, nat_eq, if◌then◌else◌, List, Option, Some, None, Result}
+use Rattle.std.specs.Prelude.{Ok, Err}
 use Rattle.std.specs.Cmp.Lexicographic.{pointwise}
 use Rattle.obj36_parts.specs.PartsFields.{PartsFields}
 use Rattle.obj36_parts.specs.ObjectSegment.{words_of, is_well_formed}
 use Rattle.obj36_read.specs.Reading.{parts_of}
 use Rattle.obj36.specs.Faults.{first_fault}
 use Rattle.obj36.specs.declared.fault.ObjectFault.{ObjectFault}
-use Rattle.obj36.specs.declared.fault.ObjectFault.TheVariants.{O1, O2, O3, O4, O5, O6, O7, O8, NoMemory}
+use Rattle.obj36.specs.declared.fault.ObjectFault.TheVariants.{O1, O2, O3, O4, O5, O6, O7, O8}
+use Rattle.obj36.specs.declared.fault.ObjectFault.TheVariants.{NoMemory}
 
--- the value for which a list stands, if there is one: the parts that it would spell, where they spell it
+-- the value for which a list stands, if there is one: the parts that it would spell, where they
+-- spell it
 unfoldable pub value_of : List ℕ → Option PartsFields
 value_of words =
     let parts = parts_of words in

@@ -1,4 +1,5 @@
--- The text of a reference, as the assembler writes it: the segment, or the section of the own object, and the entry.
+-- The text of a reference, as the assembler writes it: the segment, or the section of the own
+-- object, and the entry.
 use Rattle.std.specs.Prelude.{ℕ, List, [], ◌++◌, codes, if◌then◌else◌}
 use Rattle.obj36_parts.specs.Fields.{LinkFields}
 use Rattle.obj36_parts.specs.ObjectSegment.{has_name, has_entry}

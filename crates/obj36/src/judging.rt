@@ -1,7 +1,10 @@
 //! The first fault of a list of words.
 
-ghost use Rattle.std.specs.Prelude.{ℕ, List, ◌≡◌, ◌+◌, ◌^◌, ◌<◌, length, Option, Some, None, IfSome, IfOk};
-ghost use Rattle.obj36.specs.Faults.{told_definition, told_linkage, definition_fault, spelling_fault, linking_fault, from_links, from_names, fault_behind_map, outline_fault};
+ghost use Rattle.std.specs.Prelude.{ℕ, List, ◌≡◌, ◌+◌, ◌^◌, ◌<◌, length, Option, Some, None};
+ghost use Rattle.std.specs.Prelude.{IfSome, IfOk};
+ghost use Rattle.obj36.specs.Faults.{told_definition, told_linkage, definition_fault};
+ghost use Rattle.obj36.specs.Faults.{spelling_fault, linking_fault, from_links, from_names};
+ghost use Rattle.obj36.specs.Faults.{fault_behind_map, outline_fault};
 
 use crate::fault::ObjectFault;
 use m36_word::{NoMemory, Word};
@@ -64,7 +67,8 @@ fn fault_of_linking(words: &[Word]) -> Option<u64>
 
 // The fault of names and links behind tables that are as they must be.
 fn fault_behind_tables(words: &[Word]) -> ObjectFault
-    ensures { result ≡ from_names (spelling_fault words.now) (from_links (linking_fault words.now)) }
+    ensures { result
+        ≡ from_names (spelling_fault words.now) (from_links (linking_fault words.now)) }
 {
     if let Some(place) = fault_of_spelling(words) {
         return ObjectFault::O6(place as u32);

@@ -1,7 +1,12 @@
 //! Objects.
 
-ghost use Rattle.std.specs.Prelude.{ℕ, List, [], ◌∷◌, ◌++◌, ◌≡◌, ◌+◌, ◌*◌, ◌<◌, ◌≤◌, ◌^◌, Bool, true, length, nat_eq, if◌then◌else◌, None, IfOk, OnOk};
-ghost use Rattle.obj36_parts.specs.ObjectSegment.{is_newer, inner_statics, outer_statics, definition_section, linkage_section, symbol_section, section_words, map_part, words_of, is_well_formed, definition_named, Stands, IsObject};
+ghost use Rattle.std.specs.Prelude.{ℕ, List, [], ◌∷◌, ◌++◌, ◌≡◌, ◌+◌, ◌*◌, ◌<◌, ◌≤◌, ◌^◌, Bool};
+ghost use Rattle.std.specs.Prelude.{true, length, nat_eq, if◌then◌else◌, None, IfOk, OnOk};
+ghost use Rattle.obj36_parts.specs.ObjectSegment.{is_newer, inner_statics, outer_statics};
+ghost use Rattle.obj36_parts.specs.ObjectSegment.{definition_section, linkage_section};
+ghost use Rattle.obj36_parts.specs.ObjectSegment.{symbol_section, section_words, map_part};
+ghost use Rattle.obj36_parts.specs.ObjectSegment.{words_of, is_well_formed, definition_named};
+ghost use Rattle.obj36_parts.specs.ObjectSegment.{Stands, IsObject};
 ghost use Rattle.obj36_parts.specs.Halves.{joined};
 ghost use Rattle.obj36_parts.specs.Sizes.{HasShortLists};
 ghost use Rattle.obj36.specs.Lengths.{AreSmall};
@@ -96,7 +101,9 @@ fn push_static_entry(out: &mut Words, newer: bool, offset: u64, length: u64) -> 
 #[tactic(auto, unfolding(obj36_parts::specs::ObjectSegment::map_part))]
 fn push_map(out: &mut Words, newer: bool, lengths: Lengths, bound: u64) -> Result<(), NoMemory>
     requires { AreSmall lengths }
-    ensures { OnOk result (out.new ≡ out.old ++ map_part newer lengths.text lengths.definition lengths.linkage lengths.statics lengths.symbol bound) }
+    ensures { OnOk result (out.new ≡ out.old
+        ++ map_part newer lengths.text lengths.definition lengths.linkage lengths.statics
+        lengths.symbol bound) }
 {
     let linkage = lengths.text + lengths.definition;
     let statics = linkage + lengths.linkage;
@@ -238,6 +245,13 @@ impl Object {
         let linkage = self.linkage.slice();
         let symbol = self.symbol.slice();
         joined_sections(alloc, &self.parts, definition, linkage, symbol)
+    }
+
+    /// Some list of words stands for the parts of an object.
+    pub fn formed(&self)
+        ensures { is_well_formed self.now ≡ true }
+    {
+        let _ = &self.parts;
     }
 
     /// The object's parts.

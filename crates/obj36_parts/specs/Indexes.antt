@@ -1,10 +1,13 @@
--- What the tables of definitions and links keep beside their lists, so that a name or a link is found at once.
-use Rattle.std.specs.Prelude.{ℕ, ◌≡◌, Bool, ◌&&◌, nat_eq, List, [], ◌∷◌, ◌++◌, position, is_some, if◌then◌else◌}
+-- What the tables of definitions and links keep beside their lists, so that a name or a link is
+-- found at once.
+use Rattle.std.specs.Prelude.{ℕ, ◌≡◌, Bool, ◌&&◌, nat_eq, List, [], ◌∷◌, ◌++◌, position, is_some}
+use Rattle.std.specs.Prelude.{if◌then◌else◌}
 use Rattle.std.specs.Map.{lookup}
 use Rattle.obj36_parts.specs.Fields.{DefFields, LinkFields}
 use Rattle.obj36_parts.specs.declared.definition.Named.{Named}
 use Rattle.obj36_parts.specs.Names.{same, with_names, names_in}
-use Rattle.obj36_parts.specs.ObjectSegment.{place_number, definition_names, all_link_names, definition_named}
+use Rattle.obj36_parts.specs.ObjectSegment.{place_number, definition_names, all_link_names}
+use Rattle.obj36_parts.specs.ObjectSegment.{definition_named}
 
 -- where the first definition of each name lies, with one more, unless its name has one
 unfoldable pub with_first : List (List ℕ × DefFields) → Named → List (List ℕ × DefFields)
@@ -20,7 +23,8 @@ pub record AreFirsts (definitions : List Named) (firsts : List (List ℕ × DefF
 unfoldable pub same_link : LinkFields → LinkFields → Bool
 same_link a b =
     nat_eq a.kind b.kind && nat_eq (place_number a.section) (place_number b.section)
-    && same a.name b.name && same a.entry b.entry && nat_eq a.expr b.expr && nat_eq a.modifier b.modifier
+    && same a.name b.name && same a.entry b.entry
+    && nat_eq a.expr b.expr && nat_eq a.modifier b.modifier
 
 -- the first places of links with that of one more, unless it has one
 unfoldable pub with_place : List (LinkFields × ℕ) → LinkFields → ℕ → List (LinkFields × ℕ)
@@ -28,6 +32,8 @@ with_place places link place =
     if is_some (lookup (same_link link) places) then places else places ++ (link, place) ∷ []
 
 -- These are the first places of the links, and the names that they use.
-pub record AreIndexed (links : List LinkFields) (places : List (LinkFields × ℕ)) (names : List (List ℕ)) : Type 0 where
-  pub places_are : (link : LinkFields) → lookup (same_link link) places ≡ position (same_link link) links
+pub record AreIndexed (links : List LinkFields) (places : List (LinkFields × ℕ))
+    (names : List (List ℕ)) : Type 0 where
+  pub places_are : (link : LinkFields)
+      → lookup (same_link link) places ≡ position (same_link link) links
   pub names_are : names ≡ with_names [] (all_link_names links)

@@ -1,5 +1,6 @@
 -- Names in a definition section: each stands there once, in order of first use.
-use Rattle.std.specs.Prelude.{ℕ, zero, suc, ◌+◌, ◌*◌, ◌/◌, ◌^◌, if◌then◌else◌, List, [], ◌∷◌, ◌++◌, length, map, slice_index}
+use Rattle.std.specs.Prelude.{ℕ, zero, suc, ◌+◌, ◌*◌, ◌/◌, ◌^◌, if◌then◌else◌, List, [], ◌∷◌, ◌++◌}
+use Rattle.std.specs.Prelude.{length, map, slice_index}
 use Rattle.std.specs.List.{list_any}
 pub use Rattle.m36_text.specs.Texts.{are_same as same, is_name_character}
 unfoldable pub use Rattle.m36_text.specs.Texts.{is_name}
@@ -26,7 +27,8 @@ name_length name = length name / 4 + 1
 -- the place of a name among names that stand one after another from a place on
 unfoldable pub place_of : List ℕ → List (List ℕ) → ℕ → ℕ
 place_of name [] at = at
-place_of name (first ∷ others) at = if same name first then at else place_of name others (at + name_length first)
+place_of name (first ∷ others) at =
+    if same name first then at else place_of name others (at + name_length first)
 
 -- ---- how a name is spelled
 
@@ -36,7 +38,9 @@ unit_of name i = slice_index (length name ∷ name) i
 
 -- a word of a name
 unfoldable pub name_word : List ℕ → ℕ → ℕ
-name_word name j = unit_of name (4 * j) * 2 ^ 27 + unit_of name (4 * j + 1) * 2 ^ 18 + unit_of name (4 * j + 2) * 2 ^ 9 + unit_of name (4 * j + 3)
+name_word name j =
+    unit_of name (4 * j) * 2 ^ 27 + unit_of name (4 * j + 1) * 2 ^ 18
+    + unit_of name (4 * j + 2) * 2 ^ 9 + unit_of name (4 * j + 3)
 
 -- so many words of a name, from one on
 unfoldable pub name_words_from : List ℕ → ℕ → ℕ → List ℕ

@@ -1,6 +1,8 @@
--- Object segments: the one list of words that stands for an object's parts. Version 1 has its static words in the
--- linkage section, version 2 in a section of their own.
-use Rattle.std.specs.Prelude.{ℕ, zero, suc, ◌≡◌, ◌+◌, ◌-◌, ◌*◌, ◌%◌, ◌^◌, Bool, true, false, ◌&&◌, ◌||◌, not, nat_eq, nat_lt, nat_le, if◌then◌else◌, List, [], ◌∷◌, ◌++◌, length, Option, Some, None}
+-- Object segments: the one list of words that stands for an object's parts. Version 1 has its
+-- static words in the linkage section, version 2 in a section of their own.
+use Rattle.std.specs.Prelude.{ℕ, zero, suc, ◌≡◌, ◌+◌, ◌-◌, ◌*◌, ◌%◌, ◌^◌, Bool, true, false, ◌&&◌}
+use Rattle.std.specs.Prelude.{◌||◌, not, nat_eq, nat_lt, nat_le, if◌then◌else◌, List, [], ◌∷◌, ◌++◌}
+use Rattle.std.specs.Prelude.{length, Option, Some, None}
 use Rattle.std.specs.List.{list_any, list_all}
 use Rattle.obj36_parts.specs.Fields.{DefFields, LinkFields, RelocFields}
 use Rattle.obj36_parts.specs.PartsFields.{PartsFields}
@@ -77,22 +79,29 @@ all_link_names (l ∷ ls) = link_names l ++ all_link_names ls
 unfoldable pub class_of : DefFields → ℕ
 class_of d = class_number d.section + (if d.is_entry then 8 else 0)
 
--- definitions from a place on: the place of the next and the class, the value and the place of the name
+-- definitions from a place on: the place of the next and the class, the value and the place of the
+-- name
 unfoldable pub definition_words : List (List ℕ) → ℕ → List Named → ℕ → List ℕ
 definition_words names base [] at = []
 definition_words names base (d ∷ ds) at =
-    joined (place_if_any (length ds) (at + 2)) (class_of d.def) ∷ joined d.def.value (place_of d.name names base) ∷ definition_words names base ds (at + 2)
+    joined (place_if_any (length ds) (at + 2)) (class_of d.def)
+    ∷ joined d.def.value (place_of d.name names base)
+    ∷ definition_words names base ds (at + 2)
 
--- an expression: the type and its section or the place of its name, the place of its entry and its number
+-- an expression: the type and its section or the place of its name, the place of its entry and its
+-- number
 unfoldable pub subject_of : List (List ℕ) → ℕ → LinkFields → ℕ
-subject_of names base l = if has_name l.kind then place_of l.name names base else place_number l.section
+subject_of names base l =
+    if has_name l.kind then place_of l.name names base else place_number l.section
 
 unfoldable pub entry_place : List (List ℕ) → ℕ → LinkFields → ℕ
 entry_place names base l = if has_entry l.kind then place_of l.entry names base else 0
 
 unfoldable pub expression_words : List (List ℕ) → ℕ → List LinkFields → List ℕ
 expression_words names base [] = []
-expression_words names base (l ∷ ls) = joined l.kind (subject_of names base l) ∷ joined (entry_place names base l) l.expr ∷ expression_words names base ls
+expression_words names base (l ∷ ls) =
+    joined l.kind (subject_of names base l) ∷ joined (entry_place names base l) l.expr
+    ∷ expression_words names base ls
 
 -- the section of these definitions and links: its names stand once each, in order of first use
 unfoldable pub definition_part : List Named → List LinkFields → List ℕ
@@ -114,7 +123,8 @@ definition_section p = definition_part p.definitions p.links
 -- a link: 2^18 less its offset with tag 46, the place of its expression with its modifier
 unfoldable pub link_words : List LinkFields → ℕ → ℕ → List ℕ
 link_words [] at expression = []
-link_words (l ∷ ls) at expression = joined (2 ^ 18 - at) 38 ∷ joined expression l.modifier ∷ link_words ls (at + 2) (expression + 2)
+link_words (l ∷ ls) at expression =
+    joined (2 ^ 18 - at) 38 ∷ joined expression l.modifier ∷ link_words ls (at + 2) (expression + 2)
 
 -- eight header words, static words, and the links, whose expressions stand from a place on
 unfoldable pub linkage_part : List ℕ → List LinkFields → ℕ → List ℕ
@@ -128,7 +138,9 @@ linkage_section p = linkage_part (inner_statics p) p.links (2 + 2 * length p.def
 -- ---- the symbol section
 
 unfoldable pub relocation_word : RelocFields → ℕ
-relocation_word r = joined r.offset (place_number r.section * 2 ^ 15 + r.part * 2 ^ 12 + place_number r.target * 2 ^ 9)
+relocation_word r =
+    joined r.offset
+    (place_number r.section * 2 ^ 15 + r.part * 2 ^ 12 + place_number r.target * 2 ^ 9)
 
 unfoldable pub relocation_words : List RelocFields → List ℕ
 relocation_words [] = []
@@ -143,8 +155,8 @@ symbol_section p = symbol_part p.relocations
 
 -- ---- the map and the last word
 
--- The map of sections of these lengths that follow one another: the version, the offset and length of each section, and
--- the entry bound; behind it the last word, with the offset of the map.
+-- The map of sections of these lengths that follow one another: the version, the offset and length
+-- of each section, and the entry bound; behind it the last word, with the offset of the map.
 unfoldable pub map_part : Bool → ℕ → ℕ → ℕ → ℕ → ℕ → ℕ → List ℕ
 map_part newer text definition linkage statics symbol bound =
     joined 0 (if newer then 2 else 1)
@@ -159,11 +171,15 @@ map_part newer text definition linkage statics symbol bound =
 
 unfoldable pub map_words : PartsFields → List ℕ
 map_words p =
-    map_part (is_newer p) (length p.text) (length (definition_section p)) (length (linkage_section p)) (length (outer_statics p)) (length (symbol_section p)) p.entry_bound
+    map_part (is_newer p) (length p.text) (length (definition_section p))
+    (length (linkage_section p)) (length (outer_statics p)) (length (symbol_section p))
+    p.entry_bound
 
 -- the one list of words of an object's parts
 unfoldable pub words_of : PartsFields → List ℕ
-words_of p = p.text ++ definition_section p ++ linkage_section p ++ outer_statics p ++ symbol_section p ++ map_words p
+words_of p =
+    p.text ++ definition_section p ++ linkage_section p ++ outer_statics p ++ symbol_section p
+    ++ map_words p
 
 -- the words of a section
 abbrev pub section_words : PartsFields → Section → List ℕ
@@ -187,7 +203,9 @@ abbrev pub last_place : ℕ → ℕ
 last_place version = if nat_eq version 2 then 2 else 1
 
 unfoldable pub is_definition : ℕ → Named → Bool
-is_definition version d = is_name d.name && nat_lt d.def.value (2 ^ 18) && nat_le (class_number d.def.section) (last_class version)
+is_definition version d =
+    is_name d.name && nat_lt d.def.value (2 ^ 18)
+    && nat_le (class_number d.def.section) (last_class version)
 
 -- The fields that a link's type does not use are the section text or an empty name.
 unfoldable pub is_link : ℕ → LinkFields → Bool
@@ -199,7 +217,8 @@ is_link version l =
     && nat_lt l.expr (2 ^ 18)
     && nat_lt l.modifier (2 ^ 6)
 
--- whether a relocation's place is a word of the text or a static word, where there are so many of each
+-- whether a relocation's place is a word of the text or a static word, where there are so many of
+-- each
 unfoldable pub is_place : ℕ → ℕ → ℕ → Section → ℕ → Bool
 is_place text inner outer Text offset = nat_lt offset text
 is_place text inner outer Linkage offset = nat_le 8 offset && nat_lt offset (8 + inner)
@@ -208,18 +227,21 @@ is_place text inner outer Symbol offset = false
 
 unfoldable pub is_relocation : ℕ → ℕ → ℕ → ℕ → RelocFields → Bool
 is_relocation text inner outer version r =
-    is_place text inner outer r.section r.offset && nat_lt r.offset (2 ^ 18) && nat_le r.part 2 && nat_le (place_number r.target) (last_place version)
+    is_place text inner outer r.section r.offset && nat_lt r.offset (2 ^ 18) && nat_le r.part 2
+    && nat_le (place_number r.target) (last_place version)
 
 -- the number by which relocations are in order
 unfoldable pub order_of : RelocFields → ℕ
 order_of r = (place_number r.section * 2 ^ 18 + r.offset) * 4 + r.part
 
--- Whether relocations are in rising order, each at least at a number, where parts 0 and 2 of one word never both stand:
--- behind part 0 of a word the number of its part 2 is barred, until the next part 0 bars another.
+-- Whether relocations are in rising order, each at least at a number, where parts 0 and 2 of one
+-- word never both stand: behind part 0 of a word the number of its part 2 is barred, until the next
+-- part 0 bars another.
 unfoldable pub are_rising : ℕ → ℕ → List RelocFields → Bool
 are_rising least barred [] = true
 are_rising least barred (r ∷ rs) =
-    nat_le least (order_of r) && not (nat_eq (order_of r) barred) && are_rising (order_of r + 1) (if nat_eq r.part 0 then order_of r + 2 else barred) rs
+    nat_le least (order_of r) && not (nat_eq (order_of r) barred)
+    && are_rising (order_of r + 1) (if nat_eq r.part 0 then order_of r + 2 else barred) rs
 
 -- whether some list stands for the parts; no part has a number that bars nothing, 3
 unfoldable pub is_well_formed : PartsFields → Bool
@@ -231,7 +253,9 @@ is_well_formed p =
     && list_all (is_definition p.version) p.definitions
     && are_distinct (definition_names p.definitions)
     && list_all (is_link p.version) p.links
-    && list_all (is_relocation (length p.text) (length (inner_statics p)) (length (outer_statics p)) p.version) p.relocations
+    && list_all
+    (is_relocation (length p.text) (length (inner_statics p)) (length (outer_statics p)) p.version)
+    p.relocations
     && are_rising 0 3 p.relocations
 
 -- The list stands for the parts.

@@ -1,9 +1,12 @@
 //! Whether parts are those of an object.
 
-ghost use Rattle.std.specs.Prelude.{ℕ, Bool, List, true, ◌∷◌, ◌++◌, ◌≡◌, ◌+◌, ◌*◌, ◌^◌, ◌<◌, ◌≤◌, ◌&&◌, ◌||◌, not, nat_eq, nat_lt, nat_le, length, if◌then◌else◌};
+ghost use Rattle.std.specs.Prelude.{ℕ, Bool, List, true, ◌∷◌, ◌++◌, ◌≡◌, ◌+◌, ◌*◌, ◌^◌, ◌<◌, ◌≤◌};
+ghost use Rattle.std.specs.Prelude.{◌&&◌, ◌||◌, not, nat_eq, nat_lt, nat_le, length, if◌then◌else◌};
 ghost use Rattle.std.specs.List.{list_all};
 ghost use Rattle.obj36_parts.specs.Names.{is_name};
-ghost use Rattle.obj36_parts.specs.ObjectSegment.{has_section, last_class, last_place, is_definition, is_link, is_place, is_relocation, order_of, are_rising, place_number};
+ghost use Rattle.obj36_parts.specs.ObjectSegment.{has_section, last_class, last_place};
+ghost use Rattle.obj36_parts.specs.ObjectSegment.{is_definition, is_link, is_place, is_relocation};
+ghost use Rattle.obj36_parts.specs.ObjectSegment.{order_of, are_rising, place_number};
 
 use crate::definition::Named;
 use crate::link::Link;
@@ -129,7 +132,8 @@ fn is_good_relocation(room: Room, relocation: &Reloc) -> bool
 }
 
 pub(crate) fn are_good_relocations(room: Room, relocations: &[Reloc]) -> bool
-    ensures { result ≡ list_all (is_relocation room.text room.inner room.outer room.version) relocations.now }
+    ensures { result
+        ≡ list_all (is_relocation room.text room.inner room.outer room.version) relocations.now }
 {
     relocations
         .iter()

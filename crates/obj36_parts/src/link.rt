@@ -1,10 +1,12 @@
 //! Links: the places outside that an object refers to.
 
-ghost use Rattle.std.specs.Prelude.{ℕ, List, [], ◌∷◌, ◌++◌, ◌≡◌, ◌+◌, ◌<◌, ◌≤◌, position, OnOk, OnErr};
+ghost use Rattle.std.specs.Prelude.{ℕ, List, [], ◌∷◌, ◌++◌, ◌≡◌, ◌+◌, ◌<◌, ◌≤◌, position, OnOk};
+ghost use Rattle.std.specs.Prelude.{OnErr};
 ghost use Rattle.std.specs.List.{list_any};
 ghost use Rattle.indexmap.specs.IndexSet.{spare};
 ghost use Rattle.obj36_parts.specs.Names.{with_name, with_names};
-ghost use Rattle.obj36_parts.specs.ObjectSegment.{name_used, entry_used, link_names, all_link_names};
+ghost use Rattle.obj36_parts.specs.ObjectSegment.{name_used, entry_used, link_names};
+ghost use Rattle.obj36_parts.specs.ObjectSegment.{all_link_names};
 ghost use Rattle.obj36_parts.specs.Indexes.{same_link, with_place};
 
 use crate::definition::put;
@@ -39,11 +41,25 @@ impl Model for Link {
 
     ghost Value = { LinkFields };
 
-    ghost view = { λ l. record { kind = l.kind; section = l.section; name = l.name; entry = l.entry; expr = l.expr; modifier = l.modifier } };
+    ghost view = { λ l. record {
+      kind = l.kind;
+      section = l.section;
+      name = l.name;
+      entry = l.entry;
+      expr = l.expr;
+      modifier = l.modifier;
+    } };
 
     ghost invariant = { λ l. (l.expr < 2 ^ 18) × (l.modifier < 2 ^ 6) };
 
-    ghost inverse = { λ l. record { name = l.name; entry = l.entry; expr = l.expr; kind = l.kind; section = l.section; modifier = l.modifier } };
+    ghost inverse = { λ l. record {
+      name = l.name;
+      entry = l.entry;
+      expr = l.expr;
+      kind = l.kind;
+      section = l.section;
+      modifier = l.modifier;
+    } };
 }
 
 impl Link {

@@ -1,8 +1,11 @@
 //! The names of a definition section: each stands there once.
 
-ghost use Rattle.std.specs.Prelude.{ℕ, List, [], ◌++◌, ◌≡◌, ◌+◌, ◌-◌, ◌*◌, ◌^◌, ◌<◌, ◌≤◌, length, OnOk, IfOk};
-ghost use Rattle.obj36_parts.specs.Names.{with_name, with_names, place_of, name_length, unit_of, name_word, name_words, all_name_words};
-ghost use Rattle.obj36_parts.specs.ObjectSegment.{definition_names, link_names, all_link_names, has_name, has_entry};
+ghost use Rattle.std.specs.Prelude.{ℕ, List, [], ◌++◌, ◌≡◌, ◌+◌, ◌-◌, ◌*◌, ◌^◌, ◌<◌, ◌≤◌, length};
+ghost use Rattle.std.specs.Prelude.{OnOk, IfOk};
+ghost use Rattle.obj36_parts.specs.Names.{with_name, with_names, place_of, name_length, unit_of};
+ghost use Rattle.obj36_parts.specs.Names.{name_word, name_words, all_name_words};
+ghost use Rattle.obj36_parts.specs.ObjectSegment.{definition_names, link_names, all_link_names};
+ghost use Rattle.obj36_parts.specs.ObjectSegment.{has_name, has_entry};
 
 use crate::definition::Named;
 use crate::link::Link;
@@ -100,8 +103,10 @@ impl NameTable {
 
 fn add_definitions(table: &mut NameTable, definitions: &[Named]) -> Result<(), NoMemory>
     requires { length table.old.names + length definitions.now < 2 ^ 40 }
-    ensures names { OnOk result (table.new.names ≡ with_names table.old.names (definition_names definitions.now)) }
-    ensures few { OnOk result (length table.new.names ≤ length table.old.names + length definitions.now) }
+    ensures names { OnOk result
+        (table.new.names ≡ with_names table.old.names (definition_names definitions.now)) }
+    ensures few { OnOk result
+        (length table.new.names ≤ length table.old.names + length definitions.now) }
     ensures base { table.new.base ≡ table.old.base }
 {
     for definition in definitions {
@@ -113,7 +118,8 @@ fn add_definitions(table: &mut NameTable, definitions: &[Named]) -> Result<(), N
 #[tactic(auto, unfolding(crate::specs::Names::with_names, crate::specs::ObjectSegment::link_names, crate::specs::ObjectSegment::name_used, crate::specs::ObjectSegment::entry_used))]
 fn add_link(table: &mut NameTable, link: &Link) -> Result<(), NoMemory>
     requires { length table.old.names + 2 < 2 ^ 40 }
-    ensures names { OnOk result (table.new.names ≡ with_names table.old.names (link_names link.now)) }
+    ensures names { OnOk result
+        (table.new.names ≡ with_names table.old.names (link_names link.now)) }
     ensures few { OnOk result (length table.new.names ≤ length table.old.names + 2) }
     ensures base { table.new.base ≡ table.old.base }
 {
@@ -128,7 +134,8 @@ fn add_link(table: &mut NameTable, link: &Link) -> Result<(), NoMemory>
 
 fn add_links(table: &mut NameTable, links: &[Link]) -> Result<(), NoMemory>
     requires { length table.old.names + 2 * length links.now < 2 ^ 40 - 2 }
-    ensures names { OnOk result (table.new.names ≡ with_names table.old.names (all_link_names links.now)) }
+    ensures names { OnOk result
+        (table.new.names ≡ with_names table.old.names (all_link_names links.now)) }
     ensures base { table.new.base ≡ table.old.base }
 {
     for link in links {
@@ -148,7 +155,8 @@ pub(crate) fn names_used(
     requires definitions { length definitions.now < 2 ^ 32 }
     requires links { length links.now < 2 ^ 32 }
     requires base { base ≤ 2 ^ 40 }
-    ensures names { IfOk result (λ table. table.names ≡ with_names [] (definition_names definitions.now ++ all_link_names links.now)) }
+    ensures names { IfOk result (λ table. table.names
+        ≡ with_names [] (definition_names definitions.now ++ all_link_names links.now)) }
     ensures base { IfOk result (λ table. table.base ≡ base) }
 {
     let mut table = NameTable::new(alloc, base);

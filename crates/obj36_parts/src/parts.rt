@@ -1,7 +1,9 @@
 //! The parts of an object.
 
-ghost use Rattle.std.specs.Prelude.{ℕ, ◌≡◌, ◌+◌, ◌*◌, ◌<◌, ◌^◌, length, [], nat_eq, if◌then◌else◌, IsTrue};
-ghost use Rattle.obj36_parts.specs.ObjectSegment.{inner_statics, outer_statics, words_of, is_well_formed};
+ghost use Rattle.std.specs.Prelude.{ℕ, ◌≡◌, ◌+◌, ◌*◌, ◌<◌, ◌^◌, length, [], nat_eq, if◌then◌else◌};
+ghost use Rattle.std.specs.Prelude.{IsTrue};
+ghost use Rattle.obj36_parts.specs.ObjectSegment.{inner_statics, outer_statics, words_of};
+ghost use Rattle.obj36_parts.specs.ObjectSegment.{is_well_formed};
 ghost use Rattle.obj36_parts.specs.Sizes.{HasShortLists};
 
 use crate::checks::{
@@ -39,7 +41,15 @@ impl Model for Parts {
 
     ghost Value = { PartsFields };
 
-    ghost view = { λ p. record { text = p.text; statics = p.statics; definitions = p.definitions; links = p.links; relocations = p.relocations; entry_bound = p.entry_bound; version = p.version } };
+    ghost view = { λ p. record {
+      text = p.text;
+      statics = p.statics;
+      definitions = p.definitions;
+      links = p.links;
+      relocations = p.relocations;
+      entry_bound = p.entry_bound;
+      version = p.version;
+    } };
 
     ghost invariant = { λ p. p.entry_bound < 2 ^ 18 };
 }

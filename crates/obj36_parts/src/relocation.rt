@@ -26,11 +26,21 @@ impl Model for Reloc {
 
     ghost Value = { RelocFields };
 
-    ghost view = { λ r. record { section = r.section; offset = r.offset; part = r.part; target = r.target } };
+    ghost view = { λ r. record {
+      section = r.section;
+      offset = r.offset;
+      part = r.part;
+      target = r.target;
+    } };
 
     ghost invariant = { λ r. r.offset < 2 ^ 18 };
 
-    ghost inverse = { λ r. record { offset = r.offset; section = r.section; part = r.part; target = r.target } };
+    ghost inverse = { λ r. record {
+      offset = r.offset;
+      section = r.section;
+      part = r.part;
+      target = r.target;
+    } };
 }
 
 /// A list of relocations that grows at its end.

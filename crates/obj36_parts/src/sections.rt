@@ -1,9 +1,15 @@
 //! The sections of an object, made from its parts.
 
-ghost use Rattle.std.specs.Prelude.{ℕ, List, [], ◌∷◌, ◌++◌, ◌≡◌, ◌+◌, ◌-◌, ◌*◌, ◌^◌, ◌<◌, ◌≤◌, length, drop, OnOk, IfOk};
+ghost use Rattle.std.specs.Prelude.{ℕ, List, [], ◌∷◌, ◌++◌, ◌≡◌, ◌+◌, ◌-◌, ◌*◌, ◌^◌, ◌<◌, ◌≤◌};
+ghost use Rattle.std.specs.Prelude.{length, drop, OnOk, IfOk};
 ghost use Rattle.obj36_parts.specs.Halves.{joined};
 ghost use Rattle.obj36_parts.specs.Names.{with_names, place_of, all_name_words};
-ghost use Rattle.obj36_parts.specs.ObjectSegment.{class_number, place_number, place_if_any, class_of, definition_names, all_link_names, definition_words, subject_of, entry_place, expression_words, definition_part, link_words, linkage_part, relocation_word, relocation_words, symbol_part};
+ghost use Rattle.obj36_parts.specs.ObjectSegment.{class_number, place_number, place_if_any};
+ghost use Rattle.obj36_parts.specs.ObjectSegment.{class_of, definition_names, all_link_names};
+ghost use Rattle.obj36_parts.specs.ObjectSegment.{definition_words, subject_of, entry_place};
+ghost use Rattle.obj36_parts.specs.ObjectSegment.{expression_words, definition_part, link_words};
+ghost use Rattle.obj36_parts.specs.ObjectSegment.{linkage_part, relocation_word, relocation_words};
+ghost use Rattle.obj36_parts.specs.ObjectSegment.{symbol_part};
 
 use crate::definition::{Def, Named};
 use crate::halves::word_of;
@@ -82,7 +88,9 @@ fn push_definition(
     definition: &Named,
     next: u64,
 ) -> Result<(), NoMemory>
-    ensures { OnOk result (out.new ≡ out.old ++ joined next (class_of definition.now.def) ∷ joined definition.now.def.value (place_of definition.now.name table.now.names table.now.base) ∷ []) }
+    ensures { OnOk result (out.new ≡ out.old ++ joined next (class_of definition.now.def)
+        ∷ joined definition.now.def.value
+        (place_of definition.now.name table.now.names table.now.base) ∷ []) }
 {
     let def = definition.def;
     let place = table.place(&definition.name);
@@ -99,7 +107,8 @@ fn push_definitions(
     definitions: &[Named],
 ) -> Result<(), NoMemory>
     requires { length definitions.now < 2 ^ 32 }
-    ensures { OnOk result (out.new ≡ out.old ++ definition_words table.now.names table.now.base definitions.now 2) }
+    ensures { OnOk result
+        (out.new ≡ out.old ++ definition_words table.now.names table.now.base definitions.now 2) }
 {
     let mut at = 2;
     for (i, definition) in definitions.iter().enumerate() {
@@ -133,7 +142,9 @@ fn entry(table: &NameTable, link: &Link) -> u64
 }
 
 fn push_expression(out: &mut Words, table: &NameTable, link: &Link) -> Result<(), NoMemory>
-    ensures { OnOk result (out.new ≡ out.old ++ joined link.now.kind (subject_of table.now.names table.now.base link.now) ∷ joined (entry_place table.now.names table.now.base link.now) link.now.expr ∷ []) }
+    ensures { OnOk result (out.new ≡ out.old
+        ++ joined link.now.kind (subject_of table.now.names table.now.base link.now)
+        ∷ joined (entry_place table.now.names table.now.base link.now) link.now.expr ∷ []) }
 {
     let first = word_of(link.kind as u64, subject(table, link));
     let second = word_of(entry(table, link), link.expr as u64);
@@ -141,7 +152,8 @@ fn push_expression(out: &mut Words, table: &NameTable, link: &Link) -> Result<()
 }
 
 fn push_expressions(out: &mut Words, table: &NameTable, links: &[Link]) -> Result<(), NoMemory>
-    ensures { OnOk result (out.new ≡ out.old ++ expression_words table.now.names table.now.base links.now) }
+    ensures { OnOk result
+        (out.new ≡ out.old ++ expression_words table.now.names table.now.base links.now) }
 {
     for link in links {
         push_expression(out, table, link)?;
@@ -205,7 +217,8 @@ fn push_links(out: &mut Words, links: &[Link], first: u64, expressions: u64) -> 
 }
 
 fn push_linkage_header(out: &mut Words, first: u64, count: u64) -> Result<(), NoMemory>
-    ensures { OnOk result (out.new ≡ out.old ++ 0 ∷ joined first count ∷ 0 ∷ 0 ∷ 0 ∷ 0 ∷ 0 ∷ 0 ∷ []) }
+    ensures { OnOk result
+        (out.new ≡ out.old ++ 0 ∷ joined first count ∷ 0 ∷ 0 ∷ 0 ∷ 0 ∷ 0 ∷ 0 ∷ []) }
 {
     push_pair(out, Word::ZERO, word_of(first, count))?;
     push_pair(out, Word::ZERO, Word::ZERO)?;

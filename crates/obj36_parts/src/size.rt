@@ -59,7 +59,8 @@ fn length_of_all(names: &[Name]) -> u64
 pub(crate) fn length_of_names(definitions: &Defs, links: &Links) -> u64
     requires definitions { length definitions.now < 2 ^ 32 }
     requires links { length links.now < 2 ^ 32 }
-    ensures value { result ≡ names_length (definition_names definitions.now ++ all_link_names links.now) }
+    ensures value { result
+        ≡ names_length (definition_names definitions.now ++ all_link_names links.now) }
     ensures bound { result < 2 ^ 40 }
 {
     let own = length_of_all(definitions.names());

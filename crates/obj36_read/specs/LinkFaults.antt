@@ -1,5 +1,7 @@
 -- Faults of links and of the linkage section.
-use Rattle.std.specs.Prelude.{ℕ, zero, suc, ◌+◌, ◌-◌, ◌*◌, ◌%◌, ◌^◌, Bool, ◌&&◌, ◌||◌, not, nat_eq, nat_lt, nat_le, if◌then◌else◌, List, length, slice_index, Option, Some, None}
+use Rattle.std.specs.Prelude.{ℕ, zero, suc, ◌+◌, ◌-◌, ◌*◌, ◌%◌, ◌^◌, Bool, ◌&&◌, ◌||◌, not, nat_eq}
+use Rattle.std.specs.Prelude.{nat_lt, nat_le, if◌then◌else◌, List, length, slice_index, Option}
+use Rattle.std.specs.Prelude.{Some, None}
 use Rattle.obj36_parts.specs.Halves.{left, right, joined}
 use Rattle.obj36_parts.specs.ObjectSegment.{has_name, has_section, last_place}
 use Rattle.obj36_read.specs.TableFaults.{earlier, where_bad, expression_count, first_expression}
@@ -7,12 +9,15 @@ use Rattle.obj36_read.specs.TableFaults.{earlier, where_bad, expression_count, f
 -- ---- types and sections of expressions, whose places count from the definition section's word 0
 
 unfoldable pub is_type : ℕ → ℕ → Bool
-is_type version word = has_name (left word) || (has_section (left word) && nat_le (right word) (last_place version))
+is_type version word =
+    has_name (left word) || (has_section (left word) && nat_le (right word) (last_place version))
 
 -- the least of so many expressions from one on whose type or section is not as it must be
 unfoldable pub type_faults : ℕ → List ℕ → ℕ → ℕ → Option ℕ
 type_faults version d zero at = None
-type_faults version d (suc count) at = earlier (where_bad (not (is_type version (slice_index d at))) at) (type_faults version d count (at + 2))
+type_faults version d (suc count) at =
+    earlier (where_bad (not (is_type version (slice_index d at))) at)
+    (type_faults version d count (at + 2))
 
 -- ---- links, whose places count from the linkage section's word 0
 
@@ -22,8 +27,8 @@ link_count k = right (slice_index k 1)
 unfoldable pub link_start : List ℕ → ℕ
 link_start k = left (slice_index k 1)
 
--- whether the head of the linkage section is as it must be: as many links as expressions, behind an even number of
--- static words in version 1 and none in version 2, up to the section's end
+-- whether the head of the linkage section is as it must be: as many links as expressions, behind an
+-- even number of static words in version 1 and none in version 2, up to the section's end
 unfoldable pub is_head : ℕ → List ℕ → List ℕ → Bool
 is_head version d k =
     nat_eq (link_count k) (expression_count d)
@@ -35,15 +40,23 @@ is_head version d k =
 -- whether the link at a place is as it must be, with its expression at another
 unfoldable pub is_link_at : List ℕ → ℕ → ℕ → Bool
 is_link_at k at expression =
-    nat_eq (slice_index k at) (joined (2 ^ 18 - at) 38) && nat_eq (left (slice_index k (at + 1))) expression && nat_lt (right (slice_index k (at + 1))) (2 ^ 6)
+    nat_eq (slice_index k at) (joined (2 ^ 18 - at) 38)
+    && nat_eq (left (slice_index k (at + 1))) expression
+    && nat_lt (right (slice_index k (at + 1))) (2 ^ 6)
 
 -- the first of so many links from one on that is not
 unfoldable pub link_faults : List ℕ → ℕ → ℕ → ℕ → Option ℕ
 link_faults k at expression zero = None
-link_faults k at expression (suc count) = if is_link_at k at expression then link_faults k (at + 2) (expression + 2) count else Some at
+link_faults k at expression (suc count) =
+    if is_link_at k at expression
+    then link_faults k (at + 2) (expression + 2) count
+    else Some at
 
 unfoldable pub linkage_fault : ℕ → List ℕ → List ℕ → Option ℕ
-linkage_fault version d k = if is_head version d k then link_faults k (link_start k) (first_expression d) (link_count k) else Some 1
+linkage_fault version d k =
+    if is_head version d k
+    then link_faults k (link_start k) (first_expression d) (link_count k)
+    else Some 1
 
 -- ---- O7, whose places count from the list's word 0
 
@@ -53,4 +66,5 @@ behind from (Some p) = Some (from + p)
 
 unfoldable pub links_fault : ℕ → ℕ → List ℕ → ℕ → List ℕ → Option ℕ
 links_fault version d_from d k_from k =
-    earlier (behind d_from (type_faults version d (expression_count d) (first_expression d))) (behind k_from (linkage_fault version d k))
+    earlier (behind d_from (type_faults version d (expression_count d) (first_expression d)))
+    (behind k_from (linkage_fault version d k))

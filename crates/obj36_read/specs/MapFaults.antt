@@ -1,5 +1,7 @@
 -- Faults of the map of a list of words, and of the sections that it tells.
-use Rattle.std.specs.Prelude.{ℕ, zero, suc, ◌+◌, ◌-◌, Bool, ◌&&◌, ◌||◌, not, nat_eq, nat_lt, nat_le, if◌then◌else◌, List, [], ◌∷◌, length, take, drop, slice_index, Option, Some, None}
+use Rattle.std.specs.Prelude.{ℕ, zero, suc, ◌+◌, ◌-◌, Bool, ◌&&◌, ◌||◌, not, nat_eq, nat_lt, nat_le}
+use Rattle.std.specs.Prelude.{if◌then◌else◌, List, [], ◌∷◌, length, take, drop, slice_index, Option}
+use Rattle.std.specs.Prelude.{Some, None}
 use Rattle.m36_word.specs.Bits.{of_bit}
 use Rattle.obj36_parts.specs.Halves.{left, right}
 use Rattle.obj36_read.specs.Reading.{map_place, version_in}
@@ -15,33 +17,43 @@ first_of (test ∷ tests) = if test.0 then Some test.1 else first_of tests
 
 -- whether the last word tells a place from which on a map of either version reaches to the end
 unfoldable pub is_told : List ℕ → Bool
-is_told words = nat_eq (map_place words + 7) (length words) || nat_eq (map_place words + 8) (length words)
+is_told words =
+    nat_eq (map_place words + 7) (length words) || nat_eq (map_place words + 8) (length words)
 
 -- how far behind map 0 the entry bound is
 abbrev pub bound_index : ℕ → ℕ
 bound_index version = if nat_eq version 2 then 6 else 5
 
--- map 0 has the version alone; the entry bound has 0 beside it, and is no more than the length of the text; the last
--- word has 0 beside the place of the map
+-- map 0 has the version alone; the entry bound has 0 beside it, and is no more than the length of
+-- the text; the last word has 0 beside the place of the map
 unfoldable pub is_bound : List ℕ → ℕ → Bool
-is_bound words bound = nat_eq (right bound) 0 && nat_le (left bound) (right (slice_index words (map_place words + 1)))
+is_bound words bound =
+    nat_eq (right bound) 0
+    && nat_le (left bound) (right (slice_index words (map_place words + 1)))
 
 unfoldable pub fixed_fault : List ℕ → ℕ → Option ℕ
 fixed_fault words version =
     first_of (
     (not (nat_eq (slice_index words (map_place words)) version), map_place words)
-    ∷ (not (is_bound words (slice_index words (map_place words + bound_index version))), map_place words + bound_index version)
+    ∷ (
+      not (is_bound words (slice_index words (map_place words + bound_index version))),
+      map_place words + bound_index version,
+    )
     ∷ (not (nat_eq (right (slice_index words (length words - 1))) 0), length words - 1)
     ∷ []
     )
 
 unfoldable pub map_fault : List ℕ → Option ℕ
-map_fault words = if is_told words then fixed_fault words (version_in words) else Some (length words - 1)
+map_fault words =
+    if is_told words then fixed_fault words (version_in words) else Some (length words - 1)
 
 -- ---- sections that leave their place or are too short: O3
 
 unfoldable pub extent_at : List ℕ → ℕ → Extent
-extent_at words i = record { from = left (slice_index words (map_place words + i)); count = right (slice_index words (map_place words + i)) }
+extent_at words i = record {
+  from = left (slice_index words (map_place words + i));
+  count = right (slice_index words (map_place words + i));
+}
 
 abbrev pub symbol_index : ℕ → ℕ
 symbol_index version = if nat_eq version 2 then 5 else 4
@@ -83,12 +95,15 @@ covers e at = nat_le e.from at && nat_lt at (e.from + e.count)
 
 -- how many sections have a word
 unfoldable pub covering : Extents → ℕ → ℕ
-covering e at = of_bit (covers e.text at) + of_bit (covers e.definition at) + of_bit (covers e.linkage at) + of_bit (covers e.statics at) + of_bit (covers e.symbol at)
+covering e at =
+    of_bit (covers e.text at) + of_bit (covers e.definition at) + of_bit (covers e.linkage at)
+    + of_bit (covers e.statics at) + of_bit (covers e.symbol at)
 
 -- the first of so many words from a place on that two sections have
 unfoldable pub first_shared : Extents → ℕ → ℕ → Option ℕ
 first_shared e at zero = None
-first_shared e at (suc count) = if nat_le 2 (covering e at) then Some at else first_shared e (at + 1) count
+first_shared e at (suc count) =
+    if nat_le 2 (covering e at) then Some at else first_shared e (at + 1) count
 
 unfoldable pub shared_fault : List ℕ → Option ℕ
 shared_fault words = first_shared (extents_of words) 0 (map_place words)

@@ -1,6 +1,8 @@
--- The parts that a list of words would spell: read by counts alone, the sections one behind another and each table in
--- order. What this does not look at, as offsets, is judged by spelling the parts again.
-use Rattle.std.specs.Prelude.{ℕ, zero, suc, ◌+◌, ◌-◌, ◌*◌, ◌/◌, ◌%◌, ◌^◌, nat_eq, nat_le, if◌then◌else◌, min, List, [], ◌∷◌, length, take, drop, slice_index}
+-- The parts that a list of words would spell: read by counts alone, the sections one behind another
+-- and each table in order. What this does not look at, as offsets, is judged by spelling the parts
+-- again.
+use Rattle.std.specs.Prelude.{ℕ, zero, suc, ◌+◌, ◌-◌, ◌*◌, ◌/◌, ◌%◌, ◌^◌, nat_eq, nat_le}
+use Rattle.std.specs.Prelude.{if◌then◌else◌, min, List, [], ◌∷◌, length, take, drop, slice_index}
 use Rattle.obj36_parts.specs.Fields.{LinkFields, RelocFields}
 use Rattle.obj36_parts.specs.PartsFields.{PartsFields}
 use Rattle.obj36_parts.specs.Halves.{left, right}
@@ -51,7 +53,14 @@ unfoldable pub definition_at : List ℕ → ℕ → Named
 definition_at words at =
     let first = right (slice_index words at) in
     let second = slice_index words (at + 1) in
-    record { name = name_at words (right second); def = record { section = class_with (first % 2 ^ 3); value = left second; is_entry = nat_le 8 first } }
+    record {
+      name = name_at words (right second);
+      def = record {
+        section = class_with (first % 2 ^ 3);
+        value = left second;
+        is_entry = nat_le 8 first;
+      };
+    }
 
 unfoldable pub definitions_in : List ℕ → ℕ → ℕ → List Named
 definitions_in words at zero = []
@@ -74,7 +83,8 @@ link_at words at linkage place =
 
 unfoldable pub links_in : List ℕ → ℕ → List ℕ → ℕ → ℕ → List LinkFields
 links_in words at linkage place zero = []
-links_in words at linkage place (suc count) = link_at words at linkage place ∷ links_in words (at + 2) linkage (place + 2) count
+links_in words at linkage place (suc count) =
+    link_at words at linkage place ∷ links_in words (at + 2) linkage (place + 2) count
 
 unfoldable pub relocation_in : ℕ → RelocFields
 relocation_in w =
@@ -87,7 +97,8 @@ relocation_in w =
 
 unfoldable pub relocations_in : List ℕ → ℕ → ℕ → List RelocFields
 relocations_in words at zero = []
-relocations_in words at (suc count) = relocation_in (slice_index words at) ∷ relocations_in words (at + 1) count
+relocations_in words at (suc count) =
+    relocation_in (slice_index words at) ∷ relocations_in words (at + 1) count
 
 -- ---- the whole
 
@@ -117,7 +128,10 @@ unfoldable pub from_statics : List ℕ → List ℕ
 from_statics words = drop (told_length words 3) (from_linkage words)
 
 unfoldable pub from_symbol : List ℕ → List ℕ
-from_symbol words = if nat_eq (version_in words) 2 then drop (told_length words 4) (from_statics words) else from_statics words
+from_symbol words =
+    if nat_eq (version_in words) 2
+    then drop (told_length words 4) (from_statics words)
+    else from_statics words
 
 -- where the first link stands
 unfoldable pub told_first : List ℕ → ℕ
@@ -125,10 +139,13 @@ told_first words = left (slice_index (from_linkage words) 1)
 
 unfoldable pub statics_in : List ℕ → List ℕ
 statics_in words =
-    if nat_eq (version_in words) 2 then take (told_length words 4) (from_statics words) else take (told_first words - 8) (drop 8 (from_linkage words))
+    if nat_eq (version_in words) 2
+    then take (told_length words 4) (from_statics words)
+    else take (told_first words - 8) (drop 8 (from_linkage words))
 
 unfoldable pub bound_in : List ℕ → ℕ
-bound_in words = left (slice_index words (map_place words + (if nat_eq (version_in words) 2 then 6 else 5)))
+bound_in words =
+    left (slice_index words (map_place words + (if nat_eq (version_in words) 2 then 6 else 5)))
 
 unfoldable pub parts_of : List ℕ → PartsFields
 parts_of words =
@@ -138,7 +155,8 @@ parts_of words =
       text = take (told_length words 1) words;
       statics = statics_in words;
       definitions = definitions_in definition 2 count;
-      links = links_in definition (2 + 2 * count) (from_linkage words) (told_first words) (told_count words definition 1);
+      links = links_in definition (2 + 2 * count) (from_linkage words) (told_first words)
+          (told_count words definition 1);
       relocations = relocations_in (from_symbol words) 1 (told_count words (from_symbol words) 0);
       entry_bound = bound_in words;
       version = version_in words;

@@ -1,5 +1,6 @@
 -- Names that stand twice, by the least place so far of each spelling.
-use Rattle.std.specs.Prelude.{ℕ, zero, suc, Bool, ◌&&◌, nat_eq, if◌then◌else◌, min, List, Option, None}
+use Rattle.std.specs.Prelude.{ℕ, zero, suc, Bool, ◌&&◌, nat_eq, if◌then◌else◌, min, List, Option}
+use Rattle.std.specs.Prelude.{None}
 use Rattle.std.specs.Option.{option_map}
 use Rattle.std.specs.Map.{lookup}
 use Rattle.std.specs.Cmp.Lexicographic.{pointwise}
@@ -11,14 +12,17 @@ use Rattle.obj36_read.specs.declared.repeats.Spelling.{Spelling}
 -- whether the name at a place is spelled so
 unfoldable pub is_spelled : List ℕ → ℕ → Spelling → Bool
 is_spelled d at s =
-    pointwise nat_eq (whole_words d at) s.whole.now && (nat_eq (unit_at d at 0) s.length && nat_eq (last_parts d at) s.last)
+    pointwise nat_eq (whole_words d at) s.whole.now
+    && (nat_eq (unit_at d at 0) s.length && nat_eq (last_parts d at) s.last)
 
 -- the lesser of a place and that of the same name, where there is one
 unfoldable pub least_with : List ℕ → List (Spelling × ℕ) → ℕ → Option ℕ
-least_with d places at = if lies_within d at then option_map (min at) (lookup (is_spelled d at) places) else None
+least_with d places at =
+    if lies_within d at then option_map (min at) (lookup (is_spelled d at) places) else None
 
 -- the least of these for so many definitions from one on
 unfoldable pub least_of_each : List ℕ → List (Spelling × ℕ) → ℕ → ℕ → Option ℕ
 least_of_each d places zero at = None
 least_of_each d places (suc count) at =
-    earlier (least_with d places (name_place d at)) (least_of_each d places count (next_definition d at))
+    earlier (least_with d places (name_place d at))
+    (least_of_each d places count (next_definition d at))

@@ -1,4 +1,5 @@
--- How the names of a definition section are spelled: what two of them have in common exactly where they are the same.
+-- How the names of a definition section are spelled: what two of them have in common exactly where
+-- they are the same.
 use Rattle.std.specs.Prelude.{ℕ, zero, suc, ◌+◌, ◌/◌, ◌%◌, ◌^◌, List, take, drop, slice_index}
 use Rattle.obj36_read.specs.Reading.{unit_at}
 

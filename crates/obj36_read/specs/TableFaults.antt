@@ -1,5 +1,7 @@
 -- Faults of the tables of a definition section. Places count from the section's word 0.
-use Rattle.std.specs.Prelude.{ℕ, zero, suc, ◌+◌, ◌-◌, ◌*◌, ◌/◌, ◌%◌, Bool, true, false, ◌&&◌, ◌||◌, not, nat_eq, nat_lt, nat_le, if◌then◌else◌, min, List, length, slice_index, Option, Some, None}
+use Rattle.std.specs.Prelude.{ℕ, zero, suc, ◌+◌, ◌-◌, ◌*◌, ◌/◌, ◌%◌, Bool, true, false, ◌&&◌, ◌||◌}
+use Rattle.std.specs.Prelude.{not, nat_eq, nat_lt, nat_le, if◌then◌else◌, min, List, length}
+use Rattle.std.specs.Prelude.{slice_index, Option, Some, None}
 use Rattle.obj36_parts.specs.Halves.{left, right}
 use Rattle.obj36_parts.specs.Names.{is_name_character}
 use Rattle.obj36_parts.specs.ObjectSegment.{has_name, has_entry, last_class}
@@ -30,16 +32,22 @@ next_definition d at = left (slice_index d at)
 unfoldable pub is_member : List ℕ → ℕ → Bool
 is_member d at = not (nat_eq at 0) && nat_le (at + 2) (length d)
 
--- A chain with so many members still to come, where a word holds the place of the next: it ends where they have come. One
--- that has fewer or more is told at word 0, and one that leaves the section behind all of them at the word that holds
--- the place.
+-- A chain with so many members still to come, where a word holds the place of the next: it ends
+-- where they have come. One that has fewer or more is told at word 0, and one that leaves the
+-- section behind all of them at the word that holds the place.
 unfoldable pub chain_fault : List ℕ → ℕ → ℕ → ℕ → Option ℕ
-chain_fault d zero holder at = if nat_eq at 0 then None else (if is_member d at then Some 0 else Some holder)
-chain_fault d (suc count) holder at = if is_member d at then chain_fault d count at (next_definition d at) else Some 0
+chain_fault d zero holder at =
+    if nat_eq at 0 then None else (if is_member d at then Some 0 else Some holder)
+chain_fault d (suc count) holder at =
+    if is_member d at then chain_fault d count at (next_definition d at) else Some 0
 
--- The count of definitions leaves the section where so many do not fit behind the two words of its head.
+-- The count of definitions leaves the section where so many do not fit behind the two words of its
+-- head.
 unfoldable pub count_fault : List ℕ → Option ℕ
-count_fault d = if nat_lt (length d) (2 + 2 * definition_count d) then Some 0 else chain_fault d (definition_count d) 0 (first_definition d)
+count_fault d =
+    if nat_lt (length d) (2 + 2 * definition_count d)
+    then Some 0
+    else chain_fault d (definition_count d) 0 (first_definition d)
 
 -- ---- the table of expressions
 
@@ -50,18 +58,25 @@ unfoldable pub first_expression : List ℕ → ℕ
 first_expression d = left (slice_index d 1)
 
 unfoldable pub leaves_section : List ℕ → Bool
-leaves_section d = nat_le (length d) (first_expression d) || nat_lt (length d) (first_expression d + 2 * expression_count d)
+leaves_section d =
+    nat_le (length d) (first_expression d)
+    || nat_lt (length d) (first_expression d + 2 * expression_count d)
 
 -- ---- classes
 
 -- the class of a definition, with 8 for an entry taken off
 unfoldable pub class_at : List ℕ → ℕ → ℕ
-class_at d at = if nat_lt (right (slice_index d at)) 8 then right (slice_index d at) else (right (slice_index d at) - 8)
+class_at d at =
+    if nat_lt (right (slice_index d at)) 8
+    then right (slice_index d at)
+    else (right (slice_index d at) - 8)
 
 -- the least of so many definitions from one on whose class is over the last
 unfoldable pub class_faults : ℕ → List ℕ → ℕ → ℕ → Option ℕ
 class_faults last d zero at = None
-class_faults last d (suc count) at = earlier (where_bad (nat_lt last (class_at d at)) at) (class_faults last d count (next_definition d at))
+class_faults last d (suc count) at =
+    earlier (where_bad (nat_lt last (class_at d at)) at)
+    (class_faults last d count (next_definition d at))
 
 -- ---- names that stand twice
 
@@ -76,20 +91,26 @@ lies_within d at = nat_lt at (length d) && nat_le (at + unit_at d at 0 / 4 + 1) 
 -- whether so many parts of nine bits from one on are the same at two places
 unfoldable pub same_units : List ℕ → ℕ → ℕ → ℕ → ℕ → Bool
 same_units d at other i zero = true
-same_units d at other i (suc count) = nat_eq (unit_at d at i) (unit_at d other i) && same_units d at other (i + 1) count
+same_units d at other i (suc count) =
+    nat_eq (unit_at d at i) (unit_at d other i) && same_units d at other (i + 1) count
 
 unfoldable pub same_name : List ℕ → ℕ → ℕ → Bool
-same_name d at other = lies_within d at && lies_within d other && same_units d at other 0 (unit_at d at 0 + 1)
+same_name d at other =
+    lies_within d at && lies_within d other && same_units d at other 0 (unit_at d at 0 + 1)
 
 -- the least place of a name, or of the same name of so many definitions from one on
 unfoldable pub repeats_of : List ℕ → ℕ → ℕ → ℕ → Option ℕ
 repeats_of d name zero at = None
-repeats_of d name (suc count) at = earlier (where_bad (same_name d name (name_place d at)) (min name (name_place d at))) (repeats_of d name count (next_definition d at))
+repeats_of d name (suc count) at =
+    earlier (where_bad (same_name d name (name_place d at)) (min name (name_place d at)))
+    (repeats_of d name count (next_definition d at))
 
 -- the least place of a name that two of so many definitions from one on have
 unfoldable pub repeats : List ℕ → ℕ → ℕ → Option ℕ
 repeats d zero at = None
-repeats d (suc count) at = earlier (repeats_of d (name_place d at) count (next_definition d at)) (repeats d count (next_definition d at))
+repeats d (suc count) at =
+    earlier (repeats_of d (name_place d at) count (next_definition d at))
+    (repeats d count (next_definition d at))
 
 -- ---- O5
 
@@ -102,17 +123,22 @@ unfoldable pub members_fault : ℕ → List ℕ → Option ℕ
 members_fault version d =
     earlier
     (where_bad (leaves_section d) 1)
-    (earlier (class_faults (last_class version) d (definition_count d) (first_definition d)) (repeats d (definition_count d) (first_definition d)))
+    (earlier (class_faults (last_class version) d (definition_count d) (first_definition d))
+    (repeats d (definition_count d) (first_definition d)))
 
 unfoldable pub table_fault : ℕ → List ℕ → Option ℕ
-table_fault version d = if is_at_head (count_fault d) then Some 0 else earlier (count_fault d) (members_fault version d)
+table_fault version d =
+    if is_at_head (count_fault d)
+    then Some 0
+    else earlier (count_fault d) (members_fault version d)
 
 -- ---- O6
 
 -- whether so many parts from one on are characters of a name
 unfoldable pub are_characters : List ℕ → ℕ → ℕ → ℕ → Bool
 are_characters d at i zero = true
-are_characters d at i (suc count) = is_name_character (unit_at d at i) && are_characters d at (i + 1) count
+are_characters d at i (suc count) =
+    is_name_character (unit_at d at i) && are_characters d at (i + 1) count
 
 -- whether so many parts from one on are zero
 unfoldable pub are_zeros : List ℕ → ℕ → ℕ → ℕ → Bool
@@ -122,29 +148,41 @@ are_zeros d at i (suc count) = nat_eq (unit_at d at i) 0 && are_zeros d at (i + 
 -- whether a name stands at a place: 1 to 32 characters, and zeros to the end of its last word
 unfoldable pub is_name_at : List ℕ → ℕ → Bool
 is_name_at d at =
-    lies_within d at && nat_le 1 (unit_at d at 0) && nat_le (unit_at d at 0) 32 && are_characters d at 1 (unit_at d at 0)
+    lies_within d at && nat_le 1 (unit_at d at 0) && nat_le (unit_at d at 0) 32
+    && are_characters d at 1 (unit_at d at 0)
     && are_zeros d at (unit_at d at 0 + 1) (3 - unit_at d at 0 % 4)
 
--- a name that is not as it must be is told where it begins; where that is past the section, at the word that holds the place
+-- a name that is not as it must be is told where it begins; where that is past the section, at the
+-- word that holds the place
 unfoldable pub name_fault : List ℕ → ℕ → ℕ → Option ℕ
-name_fault d holder at = if nat_le (length d) at then Some holder else where_bad (not (is_name_at d at)) at
+name_fault d holder at =
+    if nat_le (length d) at then Some holder else where_bad (not (is_name_at d at)) at
 
 -- the names of so many definitions from one on
 unfoldable pub defined_names_fault : List ℕ → ℕ → ℕ → Option ℕ
 defined_names_fault d zero at = None
-defined_names_fault d (suc count) at = earlier (name_fault d (at + 1) (name_place d at)) (defined_names_fault d count (next_definition d at))
+defined_names_fault d (suc count) at =
+    earlier (name_fault d (at + 1) (name_place d at))
+    (defined_names_fault d count (next_definition d at))
 
 -- the names of an expression, by its type
 unfoldable pub expression_fault : List ℕ → ℕ → Option ℕ
 expression_fault d at =
     earlier
-    (if has_name (left (slice_index d at)) then name_fault d at (right (slice_index d at)) else None)
-    (if has_entry (left (slice_index d at)) then name_fault d (at + 1) (left (slice_index d (at + 1))) else None)
+    (if has_name (left (slice_index d at))
+    then name_fault d at (right (slice_index d at))
+    else None)
+    (if has_entry (left (slice_index d at))
+    then name_fault d (at + 1) (left (slice_index d (at + 1)))
+    else None)
 
 -- the names of so many expressions from one on
 unfoldable pub linked_names_fault : List ℕ → ℕ → ℕ → Option ℕ
 linked_names_fault d zero at = None
-linked_names_fault d (suc count) at = earlier (expression_fault d at) (linked_names_fault d count (at + 2))
+linked_names_fault d (suc count) at =
+    earlier (expression_fault d at) (linked_names_fault d count (at + 2))
 
 unfoldable pub names_fault : List ℕ → Option ℕ
-names_fault d = earlier (defined_names_fault d (definition_count d) (first_definition d)) (linked_names_fault d (expression_count d) (first_expression d))
+names_fault d =
+    earlier (defined_names_fault d (definition_count d) (first_definition d))
+    (linked_names_fault d (expression_count d) (first_expression d))

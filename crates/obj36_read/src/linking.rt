@@ -1,10 +1,15 @@
 //! The links of an object, as they stand in a list of words.
 
-ghost use Rattle.std.specs.Prelude.{ℕ, List, Bool, ◌≡◌, ◌+◌, ◌-◌, ◌*◌, ◌%◌, ◌^◌, ◌<◌, ◌≤◌, ◌&&◌, ◌||◌, not, nat_eq, nat_lt, nat_le, length, Option, Some, None, IfSome, slice_index, if◌then◌else◌};
+ghost use Rattle.std.specs.Prelude.{ℕ, List, Bool, ◌≡◌, ◌+◌, ◌-◌, ◌*◌, ◌%◌, ◌^◌, ◌<◌, ◌≤◌, ◌&&◌};
+ghost use Rattle.std.specs.Prelude.{◌||◌, not, nat_eq, nat_lt, nat_le, length, Option, Some, None};
+ghost use Rattle.std.specs.Prelude.{IfSome, slice_index, if◌then◌else◌};
 ghost use Rattle.obj36_parts.specs.Halves.{left, right, joined};
 ghost use Rattle.obj36_parts.specs.ObjectSegment.{has_section};
-ghost use Rattle.obj36_read.specs.TableFaults.{earlier, where_bad, expression_count, first_expression};
-ghost use Rattle.obj36_read.specs.LinkFaults.{is_type, type_faults, link_count, link_start, is_head, is_link_at, link_faults, linkage_fault, behind, links_fault};
+ghost use Rattle.obj36_read.specs.TableFaults.{earlier, where_bad, expression_count};
+ghost use Rattle.obj36_read.specs.TableFaults.{first_expression};
+ghost use Rattle.obj36_read.specs.LinkFaults.{is_type, type_faults, link_count, link_start};
+ghost use Rattle.obj36_read.specs.LinkFaults.{is_head, is_link_at, link_faults, linkage_fault};
+ghost use Rattle.obj36_read.specs.LinkFaults.{behind, links_fault};
 
 use crate::reading::word_at;
 use crate::tables::{count_of_expressions, earlier_of, expression_first, place_if};
@@ -25,7 +30,8 @@ fn is_good_type(version: u8, word: Word) -> bool
 }
 
 fn fault_of_types(version: u8, d: &[Word]) -> Option<u64>
-    ensures value { result ≡ type_faults version d.now (expression_count d.now) (first_expression d.now) }
+    ensures value { result
+        ≡ type_faults version d.now (expression_count d.now) (first_expression d.now) }
     ensures bound { IfSome result (λ p. p < 2 ^ 20) }
 {
     let mut found = None;

@@ -1,8 +1,13 @@
 //! The map of a list of words: where its sections are.
 
-ghost use Rattle.std.specs.Prelude.{ℕ, List, Bool, ◌≡◌, ◌+◌, ◌-◌, ◌*◌, ◌^◌, ◌<◌, ◌≤◌, ◌&&◌, ◌||◌, not, nat_eq, nat_lt, nat_le, length, Option, Some, None, IfSome, if◌then◌else◌};
+ghost use Rattle.std.specs.Prelude.{ℕ, List, Bool, ◌≡◌, ◌+◌, ◌-◌, ◌*◌, ◌^◌, ◌<◌, ◌≤◌, ◌&&◌, ◌||◌};
+ghost use Rattle.std.specs.Prelude.{not, nat_eq, nat_lt, nat_le, length, Option, Some, None};
+ghost use Rattle.std.specs.Prelude.{IfSome, if◌then◌else◌};
 ghost use Rattle.obj36_read.specs.Reading.{map_place, version_in};
-ghost use Rattle.obj36_read.specs.MapFaults.{extent_at, is_told, is_bound, bound_index, symbol_index, nowhere, fixed_fault, map_fault, is_outside, section_fault, extents_of, covers, covering, first_shared, shared_fault, extent_words};
+ghost use Rattle.obj36_read.specs.MapFaults.{extent_at, is_told, is_bound, bound_index};
+ghost use Rattle.obj36_read.specs.MapFaults.{symbol_index, nowhere, fixed_fault, map_fault};
+ghost use Rattle.obj36_read.specs.MapFaults.{is_outside, section_fault, extents_of, covers};
+ghost use Rattle.obj36_read.specs.MapFaults.{covering, first_shared, shared_fault, extent_words};
 ghost use Rattle.obj36_read.specs.Near.{AreNear};
 
 use crate::reading::{behind, front, place_of_map, version, word_at};

@@ -1,10 +1,17 @@
 //! The parts that a list of words would spell.
 
-ghost use Rattle.std.specs.Prelude.{ℕ, List, [], ◌∷◌, ◌++◌, ◌≡◌, ◌+◌, ◌-◌, ◌*◌, ◌/◌, ◌%◌, ◌^◌, ◌<◌, ◌≤◌, min, length, take, drop, slice_index, if◌then◌else◌, IfOk, OnOk};
+ghost use Rattle.std.specs.Prelude.{ℕ, List, [], ◌∷◌, ◌++◌, ◌≡◌, ◌+◌, ◌-◌, ◌*◌, ◌/◌, ◌%◌, ◌^◌, ◌<◌};
+ghost use Rattle.std.specs.Prelude.{◌≤◌, min, length, take, drop, slice_index, if◌then◌else◌, IfOk};
+ghost use Rattle.std.specs.Prelude.{OnOk};
 ghost use Rattle.obj36_parts.specs.Halves.{left, right};
 ghost use Rattle.obj36_parts.specs.declared.section.Section.TheVariants.{Text};
 ghost use Rattle.obj36_parts.specs.ObjectSegment.{has_name, has_entry};
-ghost use Rattle.obj36_read.specs.Reading.{part_of, unit_at, characters, name_at, class_with, section_with, definition_at, definitions_in, link_at, links_in, relocation_in, relocations_in, map_place, version_in, told_length, told_count, from_definition, from_linkage, from_statics, from_symbol, told_first, statics_in, bound_in, parts_of};
+ghost use Rattle.obj36_read.specs.Reading.{part_of, unit_at, characters, name_at, class_with};
+ghost use Rattle.obj36_read.specs.Reading.{section_with, definition_at, definitions_in, link_at};
+ghost use Rattle.obj36_read.specs.Reading.{links_in, relocation_in, relocations_in, map_place};
+ghost use Rattle.obj36_read.specs.Reading.{version_in, told_length, told_count, from_definition};
+ghost use Rattle.obj36_read.specs.Reading.{from_linkage, from_statics, from_symbol, told_first};
+ghost use Rattle.obj36_read.specs.Reading.{statics_in, bound_in, parts_of};
 
 use m36_text::Name;
 use m36_word::{NoMemory, Word, Words};

@@ -1,9 +1,11 @@
 //! Names that two definitions have, as they stand in a list of words.
 
-ghost use Rattle.std.specs.Prelude.{ℕ, List, ◌≡◌, ◌+◌, ◌/◌, ◌%◌, ◌^◌, ◌<◌, true, min, length, take, drop, slice_index, Option, Some, None, IfSome, IfOk, OnOk};
+ghost use Rattle.std.specs.Prelude.{ℕ, List, ◌≡◌, ◌+◌, ◌/◌, ◌%◌, ◌^◌, ◌<◌, true, min, length, take};
+ghost use Rattle.std.specs.Prelude.{drop, slice_index, Option, Some, None, IfSome, IfOk, OnOk};
 ghost use Rattle.std.specs.Option.{option_map};
 ghost use Rattle.obj36_read.specs.Reading.{unit_at};
-ghost use Rattle.obj36_read.specs.TableFaults.{earlier, where_bad, definition_count, first_definition, lies_within, same_name, repeats};
+ghost use Rattle.obj36_read.specs.TableFaults.{earlier, where_bad, definition_count};
+ghost use Rattle.obj36_read.specs.TableFaults.{first_definition, lies_within, same_name, repeats};
 ghost use Rattle.obj36_read.specs.Spelled.{whole_words, kept_parts, last_parts};
 ghost use Rattle.obj36_read.specs.Repeated.{least_with};
 
@@ -92,7 +94,9 @@ fn note<'a>(
     requires { place < 2 ^ 18 }
     ensures value { IfOk result (λ here. here ≡ least_with d.now places.old.entries place) }
     ensures bound { IfOk result (λ here. IfSome here (λ p. p < 2 ^ 20)) }
-    ensures more { OnOk result ((at : ℕ) → least_with d.now places.new.entries at ≡ earlier (least_with d.now places.old.entries at) (where_bad (same_name d.now place at) (min place at))) }
+    ensures more { OnOk result ((at : ℕ) → least_with d.now places.new.entries at
+        ≡ earlier (least_with d.now places.old.entries at)
+        (where_bad (same_name d.now place at) (min place at))) }
 {
     if !is_within(d, place) {
         return Ok(None);
@@ -105,7 +109,8 @@ fn note<'a>(
 
 // The least place of a name that two definitions have.
 pub(crate) fn fault_of_repeats(alloc: Global, d: &[Word]) -> Result<Option<u64>, NoMemory>
-    ensures value { IfOk result (λ place. place ≡ repeats d.now (definition_count d.now) (first_definition d.now)) }
+    ensures value { IfOk result (λ place.
+        place ≡ repeats d.now (definition_count d.now) (first_definition d.now)) }
     ensures bound { IfOk result (λ place. IfSome place (λ p. p < 2 ^ 20)) }
 {
     let mut places = IndexMap::new(alloc);

@@ -1,10 +1,16 @@
 //! The names of a definition section, as they stand in a list of words.
 
-ghost use Rattle.std.specs.Prelude.{ℕ, List, Bool, ◌≡◌, ◌+◌, ◌-◌, ◌*◌, ◌%◌, ◌^◌, ◌<◌, ◌≤◌, ◌&&◌, not, nat_eq, nat_le, length, Option, Some, None, IfSome, slice_index, if◌then◌else◌};
+ghost use Rattle.std.specs.Prelude.{ℕ, List, Bool, ◌≡◌, ◌+◌, ◌-◌, ◌*◌, ◌%◌, ◌^◌, ◌<◌, ◌≤◌, ◌&&◌};
+ghost use Rattle.std.specs.Prelude.{not, nat_eq, nat_le, length, Option, Some, None, IfSome};
+ghost use Rattle.std.specs.Prelude.{slice_index, if◌then◌else◌};
 ghost use Rattle.obj36_parts.specs.Halves.{left, right};
 ghost use Rattle.obj36_parts.specs.Names.{is_name_character};
 ghost use Rattle.obj36_parts.specs.ObjectSegment.{has_name, has_entry};
-ghost use Rattle.obj36_read.specs.TableFaults.{earlier, where_bad, definition_count, first_definition, expression_count, first_expression, are_characters, are_zeros, is_name_at, name_fault, defined_names_fault, expression_fault, linked_names_fault, names_fault};
+ghost use Rattle.obj36_read.specs.TableFaults.{earlier, where_bad, definition_count};
+ghost use Rattle.obj36_read.specs.TableFaults.{first_definition, expression_count};
+ghost use Rattle.obj36_read.specs.TableFaults.{first_expression, are_characters, are_zeros};
+ghost use Rattle.obj36_read.specs.TableFaults.{is_name_at, name_fault, defined_names_fault};
+ghost use Rattle.obj36_read.specs.TableFaults.{expression_fault, linked_names_fault, names_fault};
 
 use crate::reading::{unit, word_at};
 use crate::tables::{
@@ -78,7 +84,8 @@ fn fault_of_name(d: &[Word], holder: u64, at: u64) -> Option<u64>
 }
 
 fn fault_of_defined_names(d: &[Word]) -> Option<u64>
-    ensures value { result ≡ defined_names_fault d.now (definition_count d.now) (first_definition d.now) }
+    ensures value { result
+        ≡ defined_names_fault d.now (definition_count d.now) (first_definition d.now) }
     ensures bound { IfSome result (λ p. p < 2 ^ 20) }
 {
     let mut found = None;
@@ -119,7 +126,8 @@ fn fault_of_expression(d: &[Word], at: u64) -> Option<u64>
 }
 
 fn fault_of_linked_names(d: &[Word]) -> Option<u64>
-    ensures value { result ≡ linked_names_fault d.now (expression_count d.now) (first_expression d.now) }
+    ensures value { result
+        ≡ linked_names_fault d.now (expression_count d.now) (first_expression d.now) }
     ensures bound { IfSome result (λ p. p < 2 ^ 20) }
 {
     let mut found = None;

@@ -1,7 +1,14 @@
 //! The tables of a definition section, as they stand in a list of words.
 
-ghost use Rattle.std.specs.Prelude.{ℕ, List, Bool, ◌≡◌, ◌+◌, ◌-◌, ◌*◌, ◌/◌, ◌^◌, ◌<◌, ◌≤◌, ◌&&◌, ◌||◌, not, nat_eq, nat_lt, nat_le, min, length, Option, Some, None, IfSome, IfOk};
-ghost use Rattle.obj36_read.specs.TableFaults.{earlier, where_bad, definition_count, first_definition, next_definition, is_member, chain_fault, count_fault, expression_count, first_expression, leaves_section, class_at, class_faults, name_place, lies_within, is_at_head, members_fault, table_fault};
+ghost use Rattle.std.specs.Prelude.{ℕ, List, Bool, ◌≡◌, ◌+◌, ◌-◌, ◌*◌, ◌/◌, ◌^◌, ◌<◌, ◌≤◌, ◌&&◌};
+ghost use Rattle.std.specs.Prelude.{◌||◌, not, nat_eq, nat_lt, nat_le, min, length, Option, Some};
+ghost use Rattle.std.specs.Prelude.{None, IfSome, IfOk};
+ghost use Rattle.obj36_read.specs.TableFaults.{earlier, where_bad, definition_count};
+ghost use Rattle.obj36_read.specs.TableFaults.{first_definition, next_definition, is_member};
+ghost use Rattle.obj36_read.specs.TableFaults.{chain_fault, count_fault, expression_count};
+ghost use Rattle.obj36_read.specs.TableFaults.{first_expression, leaves_section, class_at};
+ghost use Rattle.obj36_read.specs.TableFaults.{class_faults, name_place, lies_within, is_at_head};
+ghost use Rattle.obj36_read.specs.TableFaults.{members_fault, table_fault};
 
 use crate::reading::{unit, word_at};
 use crate::repeats::fault_of_repeats;
@@ -149,7 +156,8 @@ fn class_of_definition(d: &[Word], at: u64) -> u64
 }
 
 fn fault_of_classes(d: &[Word], last: u64) -> Option<u64>
-    ensures value { result ≡ class_faults last d.now (definition_count d.now) (first_definition d.now) }
+    ensures value { result
+        ≡ class_faults last d.now (definition_count d.now) (first_definition d.now) }
     ensures bound { IfSome result (λ p. p < 2 ^ 20) }
 {
     let mut found = None;

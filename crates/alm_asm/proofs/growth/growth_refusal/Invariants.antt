@@ -1,11 +1,16 @@
-use Rattle.std.proofs.Common.{◌≡◌, length}
-use Rattle.alm_lines.specs.Spots.{start}
+use Rattle.std.proofs.Common.{◌≡◌, ◌≤◌, length}
+use Rattle.alm_lines.specs.Spots.{start, HasRoom}
 use Rattle.alm_asm.specs.Growth.{at_first, growth_refusal}
 use Rattle.alm_asm.proofs.growth.growth_refusal.Given as goal
 
 -- what the rest are refused for is what all are refused for
 abbrev pub invariant-loop-rest : goal.invariant-loop-rest
-invariant-loop-rest l = growth_refusal l.text l.symbols l.growth l.spot l.rest ≡ growth_refusal l.text l.symbols at_first start l.lines
+invariant-loop-rest l = record {
+  room : HasRoom (length l.rest) l.spot;
+  definition : l.growth.definition ≤ 258048;
+  symbol : l.growth.symbol ≤ 258048;
+  whole : growth_refusal l.text l.symbols l.growth l.spot l.rest ≡ growth_refusal l.text l.symbols at_first start l.lines;
+}
 
 abbrev pub decreases-loop-rest : goal.decreases-loop-rest
 decreases-loop-rest l = length l.rest

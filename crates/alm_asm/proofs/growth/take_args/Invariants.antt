@@ -1,11 +1,14 @@
-use Rattle.std.proofs.Common.{◌≡◌, length}
-use Rattle.alm_asm.specs.Growth.{with_args}
+use Rattle.std.proofs.Common.{◌≡◌, ◌≤◌, ◌-◌, ◌*◌, length}
+use Rattle.alm_asm.specs.Growth.{with_args, IsLarger}
 use Rattle.alm_asm.proofs.growth.take_args.Given as goal
 
 -- what the rest give, behind what there is, is what all give
 abbrev pub invariant-loop-rest : goal.invariant-loop-rest
-invariant-loop-rest l =
-    with_args l.text l.symbols l.line l.is_entry l.growth l.rest ≡ with_args l.text l.symbols l.line l.is_entry l.initial.growth l.line.args
+invariant-loop-rest l = record {
+  left : length l.rest ≤ length l.line.args;
+  larger : IsLarger ((length l.line.args - length l.rest) * 11) l.initial.growth l.growth;
+  whole : with_args l.text l.symbols l.line l.is_entry l.growth l.rest ≡ with_args l.text l.symbols l.line l.is_entry l.initial.growth l.line.args;
+}
 
 abbrev pub decreases-loop-rest : goal.decreases-loop-rest
 decreases-loop-rest l = length l.rest

@@ -1,11 +1,14 @@
 use Rattle.std.proofs.Common.{◌≡◌, [], length}
-use Rattle.alm_lines.specs.Spots.{start}
+use Rattle.alm_lines.specs.Spots.{start, HasRoom}
 use Rattle.alm_asm.specs.LineRefusals.{lines_refusal}
 use Rattle.alm_asm.proofs.line_refusal.lines_refusal.Given as goal
 
 -- no line so far is refused: the first refusal of the rest is the first of all
 abbrev pub invariant-loop-rest : goal.invariant-loop-rest
-invariant-loop-rest l = lines_refusal l.text l.tables l.done l.spot l.rest ≡ lines_refusal l.text l.tables [] start l.lines
+invariant-loop-rest l = record {
+  room : HasRoom (length l.rest) l.spot;
+  whole : lines_refusal l.text l.tables l.done l.spot l.rest ≡ lines_refusal l.text l.tables [] start l.lines;
+}
 
 abbrev pub decreases-loop-rest : goal.decreases-loop-rest
 decreases-loop-rest l = length l.rest

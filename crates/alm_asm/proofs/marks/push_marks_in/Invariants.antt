@@ -1,11 +1,14 @@
 use Rattle.std.proofs.Common.{◌≡◌, length}
-use Rattle.alm_lines.specs.Spots.{start}
+use Rattle.alm_lines.specs.Spots.{start, HasRoom}
 use Rattle.alm_asm.specs.Marks.{marks_from}
 use Rattle.alm_asm.proofs.marks.push_marks_in.Given as goal
 
 -- what the rest give, behind what there is, is what all give
 abbrev pub invariant-loop-rest : goal.invariant-loop-rest
-invariant-loop-rest l = marks_from l.text l.symbols l.section l.marks l.spot l.rest ≡ marks_from l.text l.symbols l.section l.initial.marks start l.lines
+invariant-loop-rest l = record {
+  room : HasRoom (length l.rest) l.spot;
+  whole : marks_from l.text l.symbols l.section l.marks l.spot l.rest ≡ marks_from l.text l.symbols l.section l.initial.marks start l.lines;
+}
 
 abbrev pub decreases-loop-rest : goal.decreases-loop-rest
 decreases-loop-rest l = length l.rest

@@ -1,11 +1,14 @@
 use Rattle.std.proofs.Common.{◌≡◌, [], length}
-use Rattle.alm_lines.specs.Spots.{start}
+use Rattle.alm_lines.specs.Spots.{start, HasRoom}
 use Rattle.alm_asm.specs.Words.{words_from}
 use Rattle.alm_asm.proofs.words.words_in.Given as goal
 
 -- what the rest give, behind what there is, is what all give
 abbrev pub invariant-loop-rest : goal.invariant-loop-rest
-invariant-loop-rest l = words_from l.text l.tables l.section l.words l.spot l.rest ≡ words_from l.text l.tables l.section [] start l.lines
+invariant-loop-rest l = record {
+  room : HasRoom (length l.rest) l.spot;
+  whole : words_from l.text l.tables l.section l.words l.spot l.rest ≡ words_from l.text l.tables l.section [] start l.lines;
+}
 
 abbrev pub decreases-loop-rest : goal.decreases-loop-rest
 decreases-loop-rest l = length l.rest

@@ -1,10 +1,13 @@
 use Rattle.std.proofs.Common.{◌≡◌, length}
-use Rattle.alm_lines.specs.Spots.{start, end_of}
+use Rattle.alm_lines.specs.Spots.{start, end_of, HasRoom}
 use Rattle.alm_lines.proofs.spot.end_of.Given as goal
 
 -- the end of the rest is that of all
 abbrev pub invariant-loop-rest : goal.invariant-loop-rest
-invariant-loop-rest l = end_of l.text l.spot l.rest ≡ end_of l.text start l.lines
+invariant-loop-rest l = record {
+  room : HasRoom (length l.rest) l.spot;
+  whole : end_of l.text l.spot l.rest ≡ end_of l.text start l.lines;
+}
 
 abbrev pub decreases-loop-rest : goal.decreases-loop-rest
 decreases-loop-rest l = length l.rest

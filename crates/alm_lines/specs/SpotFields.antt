@@ -1,0 +1,12 @@
+-- Where a line is: the section that it belongs to, how many words the lines above it place in each
+-- section, and which static words they have entered.
+use Rattle.std.specs.Prelude.{ℕ, Bool}
+use Rattle.obj36_parts.specs.declared.section.Section.{Section}
+
+pub record Spot : Type 0 where
+  pub text : ℕ
+  pub inner : ℕ
+  pub outer : ℕ
+  pub section : Section
+  pub uses_inner : Bool
+  pub uses_outer : Bool

@@ -1,0 +1,91 @@
+-- What is bound, from its parts.
+use Rattle.std.proofs.Common.{ℕ, ◌≡◌, Bool, true, false, cond, List, [], Result, Ok, Err, refl, sym, ap, subst, ◌∙◌}
+use Rattle.obj36_parts.specs.Fields.{LinkFields, RelocFields}
+use Rattle.obj36_parts.specs.PartsFields.{PartsFields}
+use Rattle.obj36_parts.specs.declared.definition.Named.{Named}
+use Rattle.m36_bindfile.specs.declared.fault.BindFault.{BindFault}
+use Rattle.m36_bindfile.specs.declared.line.BindLine.{BindLine}
+use Rattle.m36_bindfile.specs.BindFile.{bind_lines, asks_newer, Refuses, BindSays}
+use Rattle.m36_bind.specs.Fields.{ShapeFields}
+use Rattle.m36_bind.specs.Given.{GivenFields}
+use Rattle.m36_bind.specs.declared.exports.Export.{Export}
+use Rattle.m36_bind.specs.Components.{PlacedFields, and_then, picked_of}
+use Rattle.m36_bind.specs.Kept.{exports_from, kept_from}
+use Rattle.m36_bind.specs.Links.{links_from}
+use Rattle.m36_bind.specs.Bound.{frame_of, laid_from, relocations_from, first_bound, bound_parts, made_of, bound_of_components, bound_of_lines, bound_of}
+use Rattle.m36_bind.proofs.ComponentLaws.{refused_on}
+
+-- ---- the parts
+
+pub parts_bound :
+    (frame : ShapeFields) (all : List PlacedFields) (kept : List Named) (parts : PartsFields) (text statics : List ℕ) (links : List LinkFields)
+    (relocations : List RelocFields) (bound version : ℕ)
+    → text ≡ laid_from frame false [] all → statics ≡ laid_from frame true [] all → links ≡ links_from frame all [] all
+    → relocations ≡ relocations_from frame true (relocations_from frame false [] all) all → bound ≡ first_bound all
+    → version ≡ cond frame.newer 2 1
+    → parts ≡ record { text = text; statics = statics; definitions = kept; links = links; relocations = relocations; entry_bound = bound; version = version }
+    → parts ≡ bound_parts frame all kept
+unfolding bound_parts
+parts_bound frame all kept parts text statics links relocations bound version t s l r b v is =
+    is ∙ (λ i. record { text = t i; statics = s i; definitions = kept; links = l i; relocations = r i; entry_bound = b i; version = v i })
+
+-- ---- answers, one behind another
+
+goes_on : {A B : Type 0} (result : Result B BindFault) (d : Result A BindFault) (a : A) (f : A → Result B BindFault)
+    → d ≡ Ok a → BindSays result (f a) → BindSays result (and_then d f)
+goes_on {A} {B} result d a f is says =
+    let P : Result A BindFault → Type 0 = λ x. BindSays result (and_then x f) in subst P (sym is) says
+
+pub components_go :
+    (frame : ShapeFields) (all : List PlacedFields) (lines : List BindLine) (exports : List (List ℕ × Export)) (kept : List Named) (result : Result PartsFields BindFault)
+    → exports ≡ exports_from frame [] all → kept_from exports [] 1 lines ≡ Ok kept → BindSays result (made_of frame all kept)
+    → BindSays result (bound_of_components frame all lines)
+components_go frame all lines exports kept result is keeps says =
+    goes_on result (kept_from (exports_from frame [] all) [] 1 lines) kept (λ k. made_of frame all k)
+    (ap (λ (e : List (List ℕ × Export)). kept_from e [] 1 lines) (sym is) ∙ keeps) says
+
+pub components_stop :
+    (frame : ShapeFields) (all : List PlacedFields) (lines : List BindLine) (exports : List (List ℕ × Export)) (told : BindFault)
+    → exports ≡ exports_from frame [] all → Refuses told (kept_from exports [] 1 lines) → Refuses told (bound_of_components frame all lines)
+components_stop frame all lines exports told is refused =
+    let P : List (List ℕ × Export) → Type 0 = λ e. Refuses told (kept_from e [] 1 lines) in
+    refused_on told (kept_from (exports_from frame [] all) [] 1 lines) (λ k. made_of frame all k) (subst P is refused)
+
+pub ruleset of_components = (components_go, components_stop)
+
+pub lines_go :
+    (given : GivenFields) (lines : List BindLine) (all : List PlacedFields) (frame : ShapeFields) (result : Result PartsFields BindFault)
+    → picked_of given lines ≡ Ok all → frame ≡ frame_of (asks_newer lines) all → BindSays result (bound_of_components frame all lines)
+    → BindSays result (bound_of_lines given lines)
+lines_go given lines all frame result picks is says =
+    let P : ShapeFields → Type 0 = λ f. BindSays result (bound_of_components f all lines) in
+    goes_on result (picked_of given lines) all (λ a. bound_of_components (frame_of (asks_newer lines) a) a lines) picks (subst P is says)
+
+pub lines_stop :
+    (given : GivenFields) (lines : List BindLine) (told : BindFault)
+    → Refuses told (picked_of given lines) → Refuses told (bound_of_lines given lines)
+lines_stop given lines told refused =
+    refused_on told (picked_of given lines) (λ a. bound_of_components (frame_of (asks_newer lines) a) a lines) refused
+
+pub ruleset of_lines = (lines_go, lines_stop)
+
+pub text_goes :
+    (text : List ℕ) (names : List (List ℕ)) (objects : List PartsFields) (given : GivenFields) (lines lent : List BindLine) (result : Result PartsFields BindFault)
+    → bind_lines text ≡ Ok lines → lent ≡ lines → given ≡ record { names = names; objects = objects } → BindSays result (bound_of_lines given lent)
+    → BindSays result (bound_of text names objects)
+unfolding bound_of
+text_goes text names objects given lines lent result reads is are says =
+    let all : GivenFields = record { names = names; objects = objects } in
+    let P : List BindLine → Type 0 = λ ls. BindSays result (bound_of_lines given ls) in
+    let Q : GivenFields → Type 0 = λ g. BindSays result (bound_of_lines g lines) in
+    goes_on result (bind_lines text) lines (λ ls. bound_of_lines all ls) reads (subst Q are (subst P is says))
+
+pub text_stops :
+    (text : List ℕ) (names : List (List ℕ)) (objects : List PartsFields) (told : BindFault)
+    → Refuses told (bind_lines text) → Refuses told (bound_of text names objects)
+unfolding bound_of
+text_stops text names objects told refused =
+    let all : GivenFields = record { names = names; objects = objects } in
+    refused_on told (bind_lines text) (λ ls. bound_of_lines all ls) refused
+
+pub ruleset of_text = (text_goes, text_stops)

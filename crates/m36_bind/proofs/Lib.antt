@@ -1,0 +1,17 @@
+pub mod Few
+pub mod GivenLaws
+pub mod ComponentLaws
+pub mod PickLaws
+pub mod KeepLaws
+pub mod BindingLaws
+pub mod WordParts
+pub mod MovedWords
+pub mod LaidWords
+pub mod Images
+pub mod WordNames
+pub mod PickedOrder
+pub mod MovedRelocations
+pub mod MovedLinks
+pub mod MovedDefinitions
+pub mod BoundMeans
+pub mod ObjectLoop

@@ -1,0 +1,100 @@
+-- The parts of a word of which one is moved.
+use Rattle.std.proofs.Common.{ℕ, zero, suc, ◌≡◌, ◌+◌, ◌*◌, ◌/◌, ◌%◌, ◌^◌, ◌<◌, ◌≤◌, Bool, true, false, cond, eqb, refl, sym, ap, ◌∙◌, arith, true≢false}
+use Rattle.std.proofs.lemmas.Bool.{ne_eqb, cond-false}
+use Rattle.obj36_parts.specs.Fields.{RelocFields}
+use Rattle.obj36_parts.specs.Halves.{left, right, joined}
+use Rattle.obj36_parts.specs.declared.section.Section.{Section}
+use Rattle.m36_bind.specs.Layout.{number_moved}
+use Rattle.m36_bind.specs.Words.{offset_in, with_offset, offset_raised, word_moved}
+use Rattle.m36_bind.specs.Meaning.{part_of, overlap}
+use Rattle.m36_bind.specs.declared.layout.Moving.{Moving}
+
+left_is : (l r : ℕ) → left (joined l r) ≡ l % 2 ^ 18
+unfolding left joined
+left_is l r = omega arith
+
+right_is : (l r : ℕ) → right (joined l r) ≡ r % 2 ^ 18
+unfolding right joined
+right_is l r = omega arith
+
+pub joined_below : (l r : ℕ) → joined l r < 2 ^ 36
+unfolding joined
+joined_below l r = omega arith
+
+left_back : (w v : ℕ) → w < 2 ^ 36 → left (joined (left w) v) ≡ left w
+unfolding left joined
+left_back w v small = omega arith
+
+right_back : (w v : ℕ) → right (joined v (right w)) ≡ right w
+unfolding right joined
+right_back w v = omega arith
+
+-- ---- a word with another part
+
+-- a number that is put into a part
+pub put_in : ℕ → ℕ → ℕ → ℕ
+put_in zero w v = joined v (right w)
+put_in (suc zero) w v = joined (left w) v
+put_in (suc (suc n)) w v = with_offset w v
+
+-- what the part keeps of it
+unfoldable pub cut_to : ℕ → ℕ → ℕ
+cut_to zero v = v % 2 ^ 18
+cut_to (suc zero) v = v % 2 ^ 18
+cut_to (suc (suc n)) v = v % 2 ^ 15
+
+pub put_below : (n w v : ℕ) → put_in n w v < 2 ^ 36
+unfolding put_in with_offset
+put_below zero w v = joined_below v (right w)
+put_below (suc zero) w v = joined_below (left w) v
+put_below (suc (suc n)) w v = joined_below (left w / 2 ^ 15 * 2 ^ 15 + v % 2 ^ 15) (right w)
+
+pub put_got : (n w v : ℕ) → part_of n (put_in n w v) ≡ cut_to n v
+unfolding put_in cut_to part_of with_offset offset_in
+put_got zero w v = left_is v (right w)
+put_got (suc zero) w v = right_is (left w) v
+put_got (suc (suc n)) w v =
+    let l : left (joined (left w / 2 ^ 15 * 2 ^ 15 + v % 2 ^ 15) (right w)) ≡ (left w / 2 ^ 15 * 2 ^ 15 + v % 2 ^ 15) % 2 ^ 18 =
+    left_is (left w / 2 ^ 15 * 2 ^ 15 + v % 2 ^ 15) (right w) in
+    omega (arith, l)
+
+pub put_kept : (n k w v : ℕ) → n ≤ 2 → k ≤ 2 → overlap n k ≡ false → w < 2 ^ 36 → part_of k (put_in n w v) ≡ part_of k w
+unfolding put_in part_of with_offset offset_in
+put_kept zero zero w v a b apart small = absurd (true≢false apart)
+put_kept zero (suc zero) w v a b apart small = right_back w v
+put_kept zero (suc (suc zero)) w v a b apart small = absurd (true≢false apart)
+put_kept (suc zero) zero w v a b apart small = left_back w v small
+put_kept (suc zero) (suc zero) w v a b apart small = absurd (true≢false apart)
+put_kept (suc zero) (suc (suc zero)) w v a b apart small = ap (λ l. l % 2 ^ 15) (left_back w v small)
+put_kept (suc (suc zero)) zero w v a b apart small = absurd (true≢false apart)
+put_kept (suc (suc zero)) (suc zero) w v a b apart small = right_back w (left w / 2 ^ 15 * 2 ^ 15 + v % 2 ^ 15)
+put_kept (suc (suc zero)) (suc (suc zero)) w v a b apart small = absurd (true≢false apart)
+put_kept n (suc (suc (suc k))) w v a b apart small = absurd (omega (arith, b))
+put_kept (suc (suc (suc n))) k w v a b apart small = absurd (omega (arith, a))
+
+-- ---- the number that a relocation puts there
+
+unfoldable pub number_put : Moving → Section → ℕ → ℕ → ℕ
+number_put m target zero v = number_moved m target v
+number_put m target (suc zero) v = number_moved m target v
+number_put m target (suc (suc n)) v = offset_raised m target v
+
+moved_by : Moving → Section → ℕ → ℕ → ℕ
+moved_by m target n w =
+    cond (eqb n 0) (joined (number_moved m target (left w)) (right w))
+    (cond (eqb n 1) (joined (left w) (number_moved m target (right w))) (with_offset w (offset_raised m target (offset_in w))))
+
+moved_puts : (m : Moving) (target : Section) (n w : ℕ) → moved_by m target n w ≡ put_in n w (number_put m target n (part_of n w))
+unfolding moved_by put_in number_put part_of
+moved_puts m target zero w = refl
+moved_puts m target (suc zero) w = refl
+moved_puts m target (suc (suc n)) w =
+    let here : ℕ = joined (number_moved m target (left w)) (right w) in
+    let there : ℕ = joined (left w) (number_moved m target (right w)) in
+    let low : ℕ = with_offset w (offset_raised m target (offset_in w)) in
+    cond-false (eqb (suc (suc n)) 0) here (cond (eqb (suc (suc n)) 1) there low) (ne_eqb (suc (suc n)) 0 (λ same. absurd (omega (arith, same))))
+    ∙ cond-false (eqb (suc (suc n)) 1) there low (ne_eqb (suc (suc n)) 1 (λ same. absurd (omega (arith, same))))
+
+pub word_puts : (m : Moving) (r : RelocFields) (w : ℕ) → word_moved m r w ≡ put_in r.part w (number_put m r.target r.part (part_of r.part w))
+unfolding word_moved moved_by
+word_puts m r w = moved_puts m r.target r.part w

@@ -1,0 +1,53 @@
+-- Tables of definitions by name: the first definition of each name, and whether another follows. A definition of class symbol
+-- counts as none.
+use Rattle.std.specs.Prelude.{ℕ, Bool, true, false, if◌then◌else◌, List, [], ◌∷◌, Option, Some, None}
+use Rattle.std.specs.Map.{lookup}
+use Rattle.indexmap.specs.IndexMap.{insert_entry}
+use Rattle.obj36_parts.specs.Fields.{DefFields}
+use Rattle.obj36_parts.specs.PartsFields.{PartsFields}
+use Rattle.obj36_parts.specs.Names.{same}
+use Rattle.obj36_parts.specs.declared.definition.Named.{Named}
+use Rattle.obj36_parts.specs.declared.section.Section.{Section}
+use Rattle.obj36_parts.specs.declared.section.Section.TheVariants.{Text, Linkage, Symbol, Static}
+use Rattle.m36_bind.specs.Layout.{spot_moved}
+use Rattle.m36_bind.specs.declared.layout.Moving.{Moving}
+use Rattle.m36_bind.specs.declared.exports.Export.{Export}
+
+-- what the table has of a name
+unfoldable pub export_named : List ℕ → List (List ℕ × Export) → Option Export
+export_named name table = lookup (same name) table
+
+abbrev pub export_behind : DefFields → Option Export → Export
+export_behind def None = record { def = def; twice = false }
+export_behind def (Some first) = record { def = first.def; twice = true }
+
+unfoldable pub with_export : List (List ℕ × Export) → List ℕ → DefFields → List (List ℕ × Export)
+with_export table name def = insert_entry same table name (export_behind def (export_named name table))
+
+abbrev pub is_symbol : Section → Bool
+is_symbol Symbol = true
+is_symbol Text = false
+is_symbol Linkage = false
+is_symbol Static = false
+
+-- ---- the definitions of one component, as they are there
+
+abbrev pub with_own : List (List ℕ × Export) → Named → List (List ℕ × Export)
+with_own table d = if is_symbol d.def.section then table else with_export table d.name d.def
+
+unfoldable pub own_from : List (List ℕ × Export) → List Named → List (List ℕ × Export)
+own_from table [] = table
+own_from table (d ∷ ds) = own_from (with_own table d) ds
+
+-- ---- the same, where they go
+
+abbrev pub def_moved : Moving → DefFields → DefFields
+def_moved m d =
+    let s = spot_moved m d.section d.value in record { section = s.section; value = s.offset; is_entry = d.is_entry }
+
+abbrev pub with_moved : Moving → List (List ℕ × Export) → Named → List (List ℕ × Export)
+with_moved m table d = if is_symbol d.def.section then table else with_export table d.name (def_moved m d.def)
+
+unfoldable pub moved_from : Moving → List (List ℕ × Export) → List Named → List (List ℕ × Export)
+moved_from m table [] = table
+moved_from m table (d ∷ ds) = moved_from m (with_moved m table d) ds

@@ -1,0 +1,104 @@
+-- Where the words of components go in the bound object.
+--
+-- The texts follow one another, each from the next even word on, and so do the static words. Links follow in the order of the
+-- components. A place that a component names is a word of its text, one of its static words, a word of its links, or one of the
+-- eight words at the head of its linkage section; the layout map sends each to a place of the bound object.
+use Rattle.std.specs.Prelude.{ℕ, ◌+◌, ◌-◌, ◌*◌, ◌%◌, ◌^◌, ◌<◌, ◌≤◌, Bool, nat_lt, if◌then◌else◌, List, length}
+use Rattle.obj36_parts.specs.PartsFields.{PartsFields}
+use Rattle.obj36_parts.specs.ObjectSegment.{is_newer}
+use Rattle.obj36_parts.specs.declared.section.Section.{Section}
+use Rattle.obj36_parts.specs.declared.section.Section.TheVariants.{Text, Linkage, Symbol, Static}
+use Rattle.m36_bind.specs.Fields.{ShapeFields, BasesFields}
+use Rattle.m36_bind.specs.declared.layout.Meant.{Meant}
+use Rattle.m36_bind.specs.declared.layout.Meant.TheVariants.{TextWord, StaticWord, LinkWord, HeadWord}
+use Rattle.m36_bind.specs.declared.layout.Spot.{Spot}
+use Rattle.m36_bind.specs.declared.layout.Moving.{Moving}
+
+abbrev pub shape_of : PartsFields → ShapeFields
+shape_of p = record { newer = is_newer p; statics = length p.statics; links = length p.links }
+
+-- ---- what a place of an object names
+
+-- Static words stand before the links in version 1. In version 2 they stand in a section of their own, which is laid behind the
+-- linkage section.
+abbrev pub meant_older : ℕ → ℕ → Meant
+meant_older statics v = if nat_lt v (8 + statics) then StaticWord (v - 8) else LinkWord (v - (8 + statics))
+
+abbrev pub meant_newer : ℕ → ℕ → Meant
+meant_newer links v = if nat_lt v (8 + 2 * links) then LinkWord (v - 8) else StaticWord (v - (8 + 2 * links))
+
+abbrev pub meant_past_head : ShapeFields → ℕ → Meant
+meant_past_head s v = if s.newer then meant_newer s.links v else meant_older s.statics v
+
+abbrev pub meant_in_linkage : ShapeFields → ℕ → Meant
+meant_in_linkage s v = if nat_lt v 8 then HeadWord v else meant_past_head s v
+
+-- the place of a section with an offset; nothing names the symbol section
+unfoldable pub meant : ShapeFields → Section → ℕ → Meant
+meant s Text v = TextWord v
+meant s Linkage v = meant_in_linkage s v
+meant s Static v = StaticWord v
+meant s Symbol v = HeadWord v
+
+abbrev pub IsBelow : ℕ → Meant → Type 0
+IsBelow n (TextWord v) = v < n
+IsBelow n (StaticWord v) = v < n
+IsBelow n (LinkWord v) = v < n
+IsBelow n (HeadWord v) = v < n
+
+-- ---- where the parts of a component begin
+
+abbrev pub first_bases : BasesFields
+first_bases = record { text = 0; statics = 0; links = 0 }
+
+abbrev pub evened : ℕ → ℕ
+evened n = n + n % 2
+
+-- those of the component behind another
+abbrev pub bases_behind : BasesFields → PartsFields → BasesFields
+bases_behind b c =
+    record { text = evened (b.text + length c.text); statics = evened (b.statics + length c.statics); links = b.links + length c.links }
+
+-- ---- the layout map
+
+-- where the first link of the bound object stands
+abbrev pub first_link : ShapeFields → ℕ
+first_link f = if f.newer then 8 else 8 + f.statics
+
+-- where its first static word stands, seen from the head of the linkage section
+abbrev pub first_static : ShapeFields → ℕ
+first_static f = if f.newer then 8 + 2 * f.links else 8
+
+abbrev pub spot : Section → ℕ → Spot
+spot section offset = record { section = section; offset = offset % 2 ^ 18 }
+
+abbrev pub static_spot : ShapeFields → ℕ → Spot
+static_spot f w = if f.newer then spot Static w else spot Linkage (8 + w)
+
+abbrev pub image_spot : ShapeFields → BasesFields → Meant → Spot
+image_spot f b (TextWord v) = spot Text (b.text + v)
+image_spot f b (StaticWord w) = static_spot f (b.statics + w)
+image_spot f b (LinkWord k) = spot Linkage (first_link f + 2 * b.links + k)
+image_spot f b (HeadWord v) = spot Linkage v
+
+-- where a place of a component goes
+unfoldable pub spot_moved : Moving → Section → ℕ → Spot
+spot_moved m section v = image_spot m.frame m.bases (meant m.shape section v)
+
+-- The number by which a relocated part names a place: a static word is counted from the head of the linkage section, unless the
+-- part counts in the static section.
+abbrev pub static_number : ShapeFields → Section → ℕ → ℕ
+static_number f Static w = w
+static_number f Text w = first_static f + w
+static_number f Linkage w = first_static f + w
+static_number f Symbol w = first_static f + w
+
+abbrev pub image_number : ShapeFields → BasesFields → Section → Meant → ℕ
+image_number f b target (TextWord v) = b.text + v
+image_number f b target (StaticWord w) = static_number f target (b.statics + w)
+image_number f b target (LinkWord k) = first_link f + 2 * b.links + k
+image_number f b target (HeadWord v) = v
+
+-- the number of the image of what a number of a component names
+unfoldable pub number_moved : Moving → Section → ℕ → ℕ
+number_moved m target v = image_number m.frame m.bases target (meant m.shape target v)

@@ -1,0 +1,10 @@
+pub mod Fields
+pub mod Layout
+pub mod Words
+pub mod Exports
+pub mod Given
+pub mod Components
+pub mod Kept
+pub mod Links
+pub mod Bound
+pub mod Meaning

@@ -1,0 +1,68 @@
+-- The links of the bound object: those of the components in their order, each as many times as it stands.
+use Rattle.std.specs.Prelude.{ℕ, ◌+◌, ◌%◌, ◌^◌, nat_eq, nat_le, if◌then◌else◌, List, [], ◌∷◌, ◌++◌, Option, Some, None}
+use Rattle.obj36_parts.specs.Fields.{LinkFields}
+use Rattle.obj36_parts.specs.declared.section.Section.{Section}
+use Rattle.obj36_parts.specs.declared.section.Section.TheVariants.{Text, Linkage, Symbol, Static}
+use Rattle.m36_bind.specs.Fields.{ShapeFields}
+use Rattle.m36_bind.specs.Layout.{spot, spot_moved}
+use Rattle.m36_bind.specs.Exports.{export_named}
+use Rattle.m36_bind.specs.Components.{PlacedFields, moving, component_named}
+use Rattle.m36_bind.specs.declared.exports.Export.{Export}
+use Rattle.m36_bind.specs.declared.layout.Spot.{Spot}
+
+-- a link to a place of the bound object itself: the modifier stays
+abbrev pub own_link : LinkFields → Spot → LinkFields
+own_link l s = record { kind = 1; section = s.section; name = []; entry = []; expr = s.offset; modifier = l.modifier }
+
+abbrev pub farther : Spot → ℕ → Spot
+farther s n = record { section = s.section; offset = (s.offset + n) % 2 ^ 18 }
+
+-- The section in which a link of type 5 counts, by its own and by that of the definition: static before linkage, and linkage
+-- before text.
+abbrev pub rank : Section → ℕ
+rank Text = 0
+rank Symbol = 0
+rank Linkage = 1
+rank Static = 2
+
+abbrev pub counting_section : Section → Section → Section
+counting_section a b = if nat_le (rank a) (rank b) then b else a
+
+-- type 3: word 0 of the component's text, and the number of the link
+abbrev pub segment_link : LinkFields → Option PlacedFields → LinkFields
+segment_link l None = l
+segment_link l (Some p) = own_link l (spot Text (p.bases.text + l.expr))
+
+-- type 4: where the definition goes, and the number of the link
+abbrev pub entry_link : ShapeFields → LinkFields → PlacedFields → Option Export → LinkFields
+entry_link frame l p None = l
+entry_link frame l p (Some e) = own_link l (farther (spot_moved (moving frame p) e.def.section e.def.value) l.expr)
+
+abbrev pub outer_link : ShapeFields → LinkFields → Option PlacedFields → LinkFields
+outer_link frame l None = l
+outer_link frame l (Some p) = entry_link frame l p (export_named l.entry p.entries)
+
+-- type 5: the definition's value counts in the section
+abbrev pub inner_link : ShapeFields → PlacedFields → LinkFields → Option Export → LinkFields
+inner_link frame p l None = l
+inner_link frame p l (Some e) =
+    own_link l (farther (spot_moved (moving frame p) (counting_section l.section e.def.section) e.def.value) l.expr)
+
+-- a link of a component
+unfoldable pub link_moved : ShapeFields → List PlacedFields → PlacedFields → LinkFields → LinkFields
+link_moved frame all p l =
+    if nat_eq l.kind 1 then own_link l (spot_moved (moving frame p) l.section l.expr)
+    else if nat_eq l.kind 3 then segment_link l (component_named l.name all)
+    else if nat_eq l.kind 4 then outer_link frame l (component_named l.name all)
+    else if nat_eq l.kind 5 then inner_link frame p l (export_named l.entry p.entries)
+    else l
+
+-- links of a component behind others
+unfoldable pub links_onto : ShapeFields → List PlacedFields → PlacedFields → List LinkFields → List LinkFields → List LinkFields
+links_onto frame all p done [] = done
+links_onto frame all p done (l ∷ ls) = links_onto frame all p (done ++ link_moved frame all p l ∷ []) ls
+
+-- and those of components
+unfoldable pub links_from : ShapeFields → List PlacedFields → List LinkFields → List PlacedFields → List LinkFields
+links_from frame all done [] = done
+links_from frame all done (p ∷ more) = links_from frame all (links_onto frame all p done p.parts.links) more

@@ -1,0 +1,117 @@
+//! What is bound, or why not.
+
+ghost use Rattle.std.specs.Prelude.{◌≡◌, ◌^◌, ◌<◌, length, IfOk};
+ghost use Rattle.m36_bindfile.specs.BindFile.{asks_newer, is_version, BindSays};
+ghost use Rattle.std.specs.List.{list_any};
+ghost use Rattle.m36_bind.specs.Bound.{bound_parts, made, made_of, bound_of_components, bound_of_lines, bound_of};
+ghost use Rattle.m36_bind.specs.Meaning.{AreObjects, BoundMeaning};
+
+use crate::bound::{bound_parts, frame_of};
+use crate::fitting::{components_fit, is_object, sections_fit};
+use crate::given::Given;
+use crate::kept::{exports, kept};
+use crate::layout::Shape;
+use crate::placed::{Components, picked};
+use m36_bindfile::{BindFault, BindLine, read_lines};
+use m36_text::Name;
+use obj36::Object;
+use obj36_parts::{Defs, Parts};
+use std::alloc::Global;
+
+fn is_version(line: &BindLine) -> bool
+    ensures { result ≡ is_version line.now }
+{
+    matches!(line, BindLine::Version)
+}
+
+// Whether version 2 is asked for.
+#[tactic(auto, unfolding(m36_bindfile::specs::BindFile::asks_newer))]
+fn asks_newer(lines: &[BindLine]) -> bool
+    ensures { result ≡ asks_newer lines.now }
+{
+    lines.iter().any(|line| is_version(line))
+}
+
+// The object of these parts, if they are those of one that fits.
+fn made(alloc: Global, parts: Parts) -> Result<Object, BindFault>
+    ensures { BindSays result (made parts) }
+{
+    if !is_object(&parts) {
+        return Err(BindFault::B4(0));
+    }
+    let object = Object::new(alloc, parts)?;
+    if !sections_fit(&object) {
+        return Err(BindFault::B4(0));
+    }
+    Ok(object)
+}
+
+// The bound object, or B4.
+fn made_of(
+    alloc: Global,
+    frame: &Shape,
+    all: &Components<'_>,
+    kept: Defs,
+) -> Result<Object, BindFault>
+    ensures { BindSays result (made_of frame.now all.now kept) }
+{
+    if !components_fit(frame, all.items()) {
+        return Err(BindFault::B4(0));
+    }
+    made(alloc, bound_parts(alloc, frame, all, kept)?)
+}
+
+// The bound object of components, or the first of B3, B5 and B4.
+#[tactic(auto, using(crate::proofs::BindingLaws::of_components))]
+fn bound_of_components(
+    alloc: Global,
+    frame: &Shape,
+    all: &Components<'_>,
+    lines: &[BindLine],
+) -> Result<Object, BindFault>
+    requires { length lines.now < 2 ^ 32 }
+    ensures { BindSays result (bound_of_components frame.now all.now lines.now) }
+{
+    let exports = exports(alloc, frame, all.items())?;
+    let kept = kept(alloc, &exports, lines)?;
+    made_of(alloc, frame, all, kept)
+}
+
+#[tactic(auto, using(crate::proofs::BindingLaws::of_lines))]
+fn bound_of_lines(alloc: Global, lines: &[BindLine], given: &Given<'_>) -> Result<Object, BindFault>
+    requires { length lines.now < 2 ^ 32 }
+    ensures { BindSays result (bound_of_lines given.now lines.now) }
+{
+    let all = picked(alloc, given, lines)?;
+    let frame = frame_of(asks_newer(lines), all.items());
+    bound_of_components(alloc, &frame, &all, lines)
+}
+
+// Each of these is an object.
+fn are_objects(objects: &[Object])
+    ensures { AreObjects objects.now }
+{
+    for object in objects {
+        object.formed();
+    }
+}
+
+/// The bound object of the components that a bind file names, or the first refusal. Object number i has name number i; of two
+/// of one name the first counts. The text has fewer than 2^32 bytes. `says` is the object that is computed; `means` says what
+/// stands where in it, and what each part of a word, link and definition of it names.
+#[tactic(auto, using(crate::proofs::BindingLaws::of_text))]
+pub fn bind(
+    alloc: Global,
+    bindfile: &[u8],
+    names: &[Name],
+    objects: &[Object],
+) -> Result<Object, BindFault>
+    requires { length bindfile.now < 2 ^ 32 }
+    ensures says { BindSays result (bound_of bindfile.now names.now objects.now) }
+    ensures means { IfOk result (λ object. BoundMeaning bindfile.now names.now objects.now object) }
+{
+    are_objects(objects);
+    let lines = read_lines(alloc, bindfile)?;
+    let given = Given::new(alloc, names, objects)?;
+    bound_of_lines(alloc, lines.items(), &given)
+}

@@ -1,0 +1,301 @@
+//! The parts of the bound object.
+
+ghost use Rattle.std.specs.Prelude.{ℕ, ◌≡◌, ◌+◌, ◌++◌, ◌^◌, ◌<◌, ◌≤◌, ◌||◌, [], true, false, if◌then◌else◌, IfOk, OnOk};
+ghost use Rattle.std.specs.List.{list_any};
+ghost use Rattle.m36_bind.specs.Components.{moving};
+ghost use Rattle.m36_bind.specs.Words.{words_in, words_moved, evened_words};
+ghost use Rattle.m36_bind.specs.Bound.{is_newer_component, statics_end, links_end, frame_of, component_words, laid_from, relocation_moved, with_relocation, relocations_onto, relocations_from, first_bound, bound_parts};
+
+use crate::layout::{Moving, Shape, spot_moved};
+use crate::links::links;
+use crate::placed::{Components, Placed, moving};
+use crate::words::{move_words, stands_in};
+use m36_word::{NoMemory, Word, Words};
+use obj36_parts::sections::push_all;
+use obj36_parts::{Defs, Parts, Reloc, Relocs};
+use std::alloc::Global;
+
+fn is_newer_component(p: &Placed<'_>) -> bool
+    ensures { result ≡ is_newer_component p.now }
+{
+    p.shape.newer
+}
+
+fn is_some_newer(all: &[Placed<'_>]) -> bool
+    ensures { result ≡ list_any is_newer_component all.now }
+{
+    all.iter().any(|p| is_newer_component(p))
+}
+
+fn end_of_statics(p: &Placed<'_>) -> u64
+    ensures value { result ≡ p.now.bases.statics + p.now.shape.statics }
+    ensures bound { result < 2 ^ 61 }
+{
+    p.bases.statics + p.shape.statics
+}
+
+fn end_of_links(p: &Placed<'_>) -> u64
+    ensures value { result ≡ p.now.bases.links + p.now.shape.links }
+    ensures bound { result < 2 ^ 61 }
+{
+    p.bases.links + p.shape.links
+}
+
+#[tactic(auto, unfolding(crate::specs::Bound::statics_end))]
+fn statics_end(all: &[Placed<'_>]) -> u64
+    ensures value { result ≡ statics_end 0 all.now }
+    ensures bound { result < 2 ^ 61 }
+{
+    let mut end = 0;
+    let mut rest = all;
+    while let [p, others @ ..] = rest {
+        end = end_of_statics(p);
+        rest = others;
+    }
+    end
+}
+
+#[tactic(auto, unfolding(crate::specs::Bound::links_end))]
+fn links_end(all: &[Placed<'_>]) -> u64
+    ensures value { result ≡ links_end 0 all.now }
+    ensures bound { result < 2 ^ 61 }
+{
+    let mut end = 0;
+    let mut rest = all;
+    while let [p, others @ ..] = rest {
+        end = end_of_links(p);
+        rest = others;
+    }
+    end
+}
+
+// The shape of the bound object.
+#[tactic(auto, unfolding(crate::specs::Bound::frame_of))]
+pub(crate) fn frame_of(asked: bool, all: &[Placed<'_>]) -> Shape
+    ensures { result ≡ frame_of asked all.now }
+{
+    Shape {
+        statics: statics_end(all),
+        links: links_end(all),
+        newer: is_newer_frame(asked, all),
+    }
+}
+
+fn is_newer_frame(asked: bool, all: &[Placed<'_>]) -> bool
+    ensures { result ≡ (asked || list_any is_newer_component all.now) }
+{
+    asked || is_some_newer(all)
+}
+
+// ---- words
+
+fn even(out: &mut Words) -> Result<(), NoMemory>
+    ensures { OnOk result (out.new ≡ evened_words out.old) }
+{
+    if out.slice().len() % 2 == 0 {
+        return Ok(());
+    }
+    out.push(Word::ZERO)
+}
+
+fn words_in<'a>(statics: bool, parts: &'a Parts) -> &'a [Word]
+    ensures { result.now ≡ words_in statics parts.now }
+{
+    if statics {
+        parts.statics.slice()
+    } else {
+        parts.text.slice()
+    }
+}
+
+fn moved_words(
+    alloc: Global,
+    m: &Moving,
+    statics: bool,
+    relocations: &[Reloc],
+    words: &[Word],
+) -> Result<Vec<Word>, NoMemory>
+    ensures { IfOk result (λ moved. moved.items ≡ words_moved m.now statics relocations.now words.now) }
+{
+    let mut moved = words.to_vec(alloc)?;
+    move_words(moved.as_mut_slice(), m, statics, relocations);
+    Ok(moved)
+}
+
+fn component_words(
+    alloc: Global,
+    frame: &Shape,
+    statics: bool,
+    p: &Placed<'_>,
+) -> Result<Vec<Word>, NoMemory>
+    ensures { IfOk result (λ moved. moved.items ≡ component_words frame.now statics p.now) }
+{
+    let m = moving(frame, p);
+    let parts = p.parts;
+    moved_words(
+        alloc,
+        &m,
+        statics,
+        parts.relocations.items(),
+        words_in(statics, parts),
+    )
+}
+
+fn lay(
+    alloc: Global,
+    out: &mut Words,
+    frame: &Shape,
+    statics: bool,
+    p: &Placed<'_>,
+) -> Result<(), NoMemory>
+    ensures { OnOk result (out.new ≡ evened_words out.old ++ component_words frame.now statics p.now) }
+{
+    even(out)?;
+    let words = component_words(alloc, frame, statics, p)?;
+    push_all(out, words.as_slice())
+}
+
+// The texts of the components, or their static words, each from an even word on.
+#[tactic(auto, unfolding(crate::specs::Bound::laid_from))]
+fn laid(alloc: Global, frame: &Shape, statics: bool, all: &[Placed<'_>]) -> Result<Words, NoMemory>
+    ensures { IfOk result (λ words. words ≡ laid_from frame.now statics [] all.now) }
+{
+    let mut out = Words::new(alloc);
+    let mut rest = all;
+    while let [p, others @ ..] = rest {
+        lay(alloc, &mut out, frame, statics, p)?;
+        rest = others;
+    }
+    Ok(out)
+}
+
+// ---- relocations
+
+fn relocation_moved(m: &Moving, r: &Reloc) -> Reloc
+    ensures { result ≡ relocation_moved m.now r.now }
+{
+    let s = spot_moved(m, r.section, r.offset as u64);
+    Reloc {
+        offset: s.offset,
+        section: s.section,
+        part: r.part,
+        target: r.target,
+    }
+}
+
+fn add_relocation(out: &mut Relocs, m: &Moving, statics: bool, r: &Reloc) -> Result<(), NoMemory>
+    ensures { OnOk result (out.new ≡ with_relocation m.now statics out.old r.now) }
+{
+    if !stands_in(statics, r) {
+        return Ok(());
+    }
+    out.push(relocation_moved(m, r))
+}
+
+#[tactic(auto, unfolding(crate::specs::Bound::relocations_onto))]
+fn add_relocations(
+    out: &mut Relocs,
+    m: &Moving,
+    statics: bool,
+    relocations: &[Reloc],
+) -> Result<(), NoMemory>
+    ensures { OnOk result (out.new ≡ relocations_onto m.now statics out.old relocations.now) }
+{
+    let mut rest = relocations;
+    while let [r, others @ ..] = rest {
+        add_relocation(out, m, statics, r)?;
+        rest = others;
+    }
+    Ok(())
+}
+
+fn add_relocations_of(
+    out: &mut Relocs,
+    frame: &Shape,
+    statics: bool,
+    p: &Placed<'_>,
+) -> Result<(), NoMemory>
+    ensures { OnOk result (out.new ≡ relocations_onto (moving frame.now p.now) statics out.old p.now.parts.relocations) }
+{
+    let m = moving(frame, p);
+    let parts = p.parts;
+    add_relocations(out, &m, statics, parts.relocations.items())
+}
+
+// Adds the relocations in the texts of the components, or those in their static words.
+#[tactic(auto, unfolding(crate::specs::Bound::relocations_from))]
+fn add_all_relocations(
+    out: &mut Relocs,
+    frame: &Shape,
+    statics: bool,
+    all: &[Placed<'_>],
+) -> Result<(), NoMemory>
+    ensures { OnOk result (out.new ≡ relocations_from frame.now statics out.old all.now) }
+{
+    let mut rest = all;
+    while let [p, others @ ..] = rest {
+        add_relocations_of(out, frame, statics, p)?;
+        rest = others;
+    }
+    Ok(())
+}
+
+fn relocations(alloc: Global, frame: &Shape, all: &[Placed<'_>]) -> Result<Relocs, NoMemory>
+    ensures { IfOk result (λ rs. rs ≡ relocations_from frame.now true (relocations_from frame.now false [] all.now) all.now) }
+{
+    let mut out = Relocs::new(alloc);
+    add_all_relocations(&mut out, frame, false, all)?;
+    add_all_relocations(&mut out, frame, true, all)?;
+    Ok(out)
+}
+
+// ---- the parts
+
+fn entry_bound_of(p: &Placed<'_>) -> u32
+    ensures value { result ≡ p.now.parts.entry_bound }
+    ensures bound { result < 2 ^ 18 }
+{
+    let parts = p.parts;
+    parts.entry_bound
+}
+
+fn first_bound(all: &[Placed<'_>]) -> u32
+    ensures value { result ≡ first_bound all.now }
+    ensures bound { result < 2 ^ 18 }
+{
+    match all {
+        [p, ..] => entry_bound_of(p),
+        [] => 0,
+    }
+}
+
+fn version_of(frame: &Shape) -> u8
+    ensures { result ≡ (if frame.now.newer then 2 else 1) }
+{
+    if frame.newer { 2 } else { 1 }
+}
+
+// The parts of the bound object, with these definitions.
+#[tactic(auto, using(crate::proofs::BindingLaws::parts_bound))]
+pub(crate) fn bound_parts(
+    alloc: Global,
+    frame: &Shape,
+    all: &Components<'_>,
+    kept: Defs,
+) -> Result<Parts, NoMemory>
+    ensures { IfOk result (λ parts. parts ≡ bound_parts frame.now all.now kept) }
+{
+    let text = laid(alloc, frame, false, all.items())?;
+    let statics = laid(alloc, frame, true, all.items())?;
+    let links = links(alloc, frame, all)?;
+    let relocations = relocations(alloc, frame, all.items())?;
+    Ok(Parts {
+        text,
+        statics,
+        definitions: kept,
+        links,
+        relocations,
+        entry_bound: first_bound(all.items()),
+        version: version_of(frame),
+    })
+}

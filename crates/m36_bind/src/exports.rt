@@ -1,0 +1,148 @@
+//! Tables of definitions by name.
+
+ghost use Rattle.std.specs.Prelude.{ℕ, ◌≡◌, ◌^◌, ◌<◌, [], IfOk, OnOk, option_map};
+ghost use Rattle.m36_bind.specs.Exports.{export_named, export_behind, with_export, is_symbol, with_own, own_from, def_moved, with_moved, moved_from};
+
+use crate::layout::{Moving, spot_moved};
+use indexmap::IndexMap;
+use m36_text::Name;
+use m36_word::NoMemory;
+use obj36_parts::{Def, Named, Section};
+use std::alloc::Global;
+use std::marker::Model;
+
+// The first definition of a name.
+#[derive(Clone, Copy)]
+pub(crate) struct Export {
+    pub(crate) def: Def,
+    // Another definition of the name follows.
+    pub(crate) twice: bool,
+}
+
+// A table of definitions, seen as its entries in order.
+#[derive(Drop)]
+pub(crate) struct Exports {
+    entries: IndexMap<Name, Export>,
+}
+
+impl Model for Exports {
+    ghost use Rattle.std.specs.Prelude.{ℕ, List};
+    ghost use Rattle.m36_bind.specs.declared.exports.Export.{Export};
+
+    ghost Value = { List (List ℕ × Export) };
+
+    ghost view = { λ e. e.entries.entries };
+}
+
+fn export_behind(def: Def, first: Option<Export>) -> Export
+    ensures { result ≡ export_behind def first }
+{
+    match first {
+        None => Export { def, twice: false },
+        Some(first) => Export {
+            def: first.def,
+            twice: true,
+        },
+    }
+}
+
+#[tactic(auto, unfolding(crate::specs::Exports::export_named))]
+fn found(entries: &IndexMap<Name, Export>, name: &Name) -> Option<Export>
+    ensures { result ≡ export_named name.now entries.now.entries }
+{
+    entries.get(name).copied()
+}
+
+impl Exports {
+    pub(crate) fn new(alloc: Global) -> Exports
+        ensures { result ≡ [] }
+    {
+        Exports {
+            entries: IndexMap::new(alloc),
+        }
+    }
+
+    // What the table has of a name.
+    pub(crate) fn find(&self, name: &Name) -> Option<Export>
+        ensures { result ≡ export_named name.now self.now }
+    {
+        found(&self.entries, name)
+    }
+
+    // Adds a definition of a name.
+    #[tactic(auto, unfolding(crate::specs::Exports::with_export))]
+    fn add(&mut self, name: &Name, def: Def) -> Result<(), NoMemory>
+        ensures { OnOk result (self.new ≡ with_export self.old name.now def) }
+    {
+        let first = found(&self.entries, name);
+        self.entries
+            .insert(name.copied(), export_behind(def, first))?;
+        Ok(())
+    }
+}
+
+fn is_symbol(section: Section) -> bool
+    ensures { result ≡ is_symbol section }
+{
+    matches!(section, Section::Symbol)
+}
+
+fn add_own(table: &mut Exports, d: &Named) -> Result<(), NoMemory>
+    ensures { OnOk result (table.new ≡ with_own table.old d.now) }
+{
+    if is_symbol(d.def.section) {
+        return Ok(());
+    }
+    table.add(&d.name, d.def)
+}
+
+// The definitions of one object.
+#[tactic(auto, unfolding(crate::specs::Exports::own_from))]
+pub(crate) fn own_entries(alloc: Global, definitions: &[Named]) -> Result<Exports, NoMemory>
+    ensures { IfOk result (λ table. table ≡ own_from [] definitions.now) }
+{
+    let mut table = Exports::new(alloc);
+    let mut rest = definitions;
+    while let [d, others @ ..] = rest {
+        add_own(&mut table, d)?;
+        rest = others;
+    }
+    Ok(table)
+}
+
+fn def_moved(m: &Moving, def: Def) -> Def
+    ensures { result ≡ def_moved m.now def }
+{
+    let s = spot_moved(m, def.section, def.value as u64);
+    Def {
+        value: s.offset,
+        section: s.section,
+        is_entry: def.is_entry,
+    }
+}
+
+fn add_one_moved(table: &mut Exports, m: &Moving, d: &Named) -> Result<(), NoMemory>
+    ensures { OnOk result (table.new ≡ with_moved m.now table.old d.now) }
+{
+    if is_symbol(d.def.section) {
+        return Ok(());
+    }
+    table.add(&d.name, def_moved(m, d.def))
+}
+
+// Adds definitions of a component, where they go.
+#[tactic(auto, unfolding(crate::specs::Exports::moved_from))]
+pub(crate) fn add_moved(
+    table: &mut Exports,
+    m: &Moving,
+    definitions: &[Named],
+) -> Result<(), NoMemory>
+    ensures { OnOk result (table.new ≡ moved_from m.now table.old definitions.now) }
+{
+    let mut rest = definitions;
+    while let [d, others @ ..] = rest {
+        add_one_moved(table, m, d)?;
+        rest = others;
+    }
+    Ok(())
+}

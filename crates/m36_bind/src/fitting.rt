@@ -1,0 +1,73 @@
+//! Whether all parts fit where they go.
+
+ghost use Rattle.std.specs.Prelude.{◌≡◌, ◌&&◌, ◌≤◌, ◌^◌, ◌-◌, nat_le, length};
+ghost use Rattle.obj36_parts.specs.ObjectSegment.{is_well_formed, definition_section};
+ghost use Rattle.m36_bind.specs.Bound.{component_fits, components_fit, sections_fit, section_fits};
+
+use crate::layout::Shape;
+use crate::placed::{Placed, moving};
+use crate::words::all_fit;
+use m36_word::Word;
+use obj36::Object;
+use obj36_parts::{Parts, Section};
+
+fn component_fits(frame: &Shape, p: &Placed<'_>) -> bool
+    ensures { result ≡ component_fits frame.now p.now }
+{
+    let m = moving(frame, p);
+    let parts = p.parts;
+    let relocations = parts.relocations.items();
+    all_fit(&m, false, parts.text.slice(), relocations)
+        && all_fit(&m, true, parts.statics.slice(), relocations)
+}
+
+// Whether the parts of all components fit.
+#[tactic(auto, unfolding(crate::specs::Bound::components_fit))]
+pub(crate) fn components_fit(frame: &Shape, all: &[Placed<'_>]) -> bool
+    ensures { result ≡ components_fit frame.now all.now }
+{
+    let mut rest = all;
+    while let [p, others @ ..] = rest {
+        if !component_fits(frame, p) {
+            return false;
+        }
+        rest = others;
+    }
+    true
+}
+
+fn section_fits(words: &[Word]) -> bool
+    ensures { result ≡ section_fits words.now }
+{
+    words.len() <= (1 << 18) - 4096
+}
+
+// Whether the definition section fits.
+fn definition_fits(object: &Object) -> bool
+    ensures { result ≡ section_fits (definition_section object.now) }
+{
+    object.definition_length() <= (1 << 18) - 4096
+}
+
+// Whether no section is over its limit.
+#[tactic(auto, unfolding(crate::specs::Bound::sections_fit))]
+pub(crate) fn sections_fit(object: &Object) -> bool
+    ensures { result ≡ sections_fit object.now }
+{
+    section_fits(object.section(Section::Text))
+        && definition_fits(object)
+        && section_fits(object.section(Section::Linkage))
+        && section_fits(object.section(Section::Static))
+        && section_fits(object.section(Section::Symbol))
+}
+
+// Whether some list of words stands for parts.
+#[tactic(auto, using(crate::proofs::Few::long_is_none))]
+pub(crate) fn is_object(parts: &Parts) -> bool
+    ensures { result ≡ is_well_formed parts.now }
+{
+    if !parts.has_short_lists() {
+        return false;
+    }
+    parts.is_well_formed()
+}

@@ -1,0 +1,95 @@
+//! The objects that are given, each found by its name.
+
+ghost use Rattle.std.specs.Prelude.{ℕ, ◌≡◌, IfOk, OnOk, option_map};
+ghost use Rattle.std.specs.Map.{lookup};
+ghost use Rattle.obj36_parts.specs.Names.{same};
+ghost use Rattle.m36_bind.specs.Given.{object_at, object_named, with_place, ArePlaces};
+
+use indexmap::IndexMap;
+use m36_text::Name;
+use m36_word::NoMemory;
+use obj36::Object;
+use std::alloc::Global;
+use std::marker::Model;
+
+// Objects with their names.
+#[derive(Drop)]
+pub(crate) struct Given<'a> {
+    names: &'a [Name],
+    objects: &'a [Object],
+    // Where the first object of each name stands.
+    places: IndexMap<Name, u64>,
+}
+
+impl<'a> Model for Given<'a> {
+    ghost use Rattle.m36_bind.specs.Given.{GivenFields, ArePlaces};
+
+    ghost Value = { GivenFields };
+
+    ghost view = { λ g. record { names = g.names.now; objects = g.objects.now } };
+
+    ghost invariant = { λ g. ArePlaces g.names.now g.places.entries };
+}
+
+fn place_in(places: &IndexMap<Name, u64>, name: &Name) -> Option<u64>
+    ensures { result ≡ lookup (same name.now) places.now.entries }
+{
+    places.get(name).copied()
+}
+
+// Keeps the place of a name that has none yet.
+#[tactic(auto, unfolding(crate::specs::Given::with_place))]
+fn note_place(places: &mut IndexMap<Name, u64>, name: &Name, place: u64) -> Result<(), NoMemory>
+    ensures { OnOk result (places.new.entries ≡ with_place places.old.entries name.now place) }
+{
+    if place_in(places, name).is_some() {
+        return Ok(());
+    }
+    places.insert(name.copied(), place)?;
+    Ok(())
+}
+
+// Where the first object of each name stands.
+fn places_of(alloc: Global, names: &[Name]) -> Result<IndexMap<Name, u64>, NoMemory>
+    ensures { IfOk result (λ places. ArePlaces names.now places.entries) }
+{
+    let mut places = IndexMap::new(alloc);
+    let mut place: u64 = 0;
+    for name in names {
+        note_place(&mut places, name, place)?;
+        place += 1;
+    }
+    Ok(places)
+}
+
+fn object_at(objects: &[Object], place: Option<u64>) -> Option<&Object>
+    ensures { option_map (λ o. o.now) result ≡ object_at objects.now place }
+{
+    let place = place?;
+    objects.get(place as usize)
+}
+
+impl<'a> Given<'a> {
+    pub(crate) fn new(
+        alloc: Global,
+        names: &'a [Name],
+        objects: &'a [Object],
+    ) -> Result<Given<'a>, NoMemory>
+        ensures { IfOk result (λ given. given ≡ record { names = names.now; objects = objects.now }) }
+    {
+        let places = places_of(alloc, names)?;
+        Ok(Given {
+            names,
+            objects,
+            places,
+        })
+    }
+
+    // The object of a name.
+    pub(crate) fn find(&self, name: &Name) -> Option<&'a Object>
+        ensures { option_map (λ o. o.now) result ≡ object_named self.now name.now }
+    {
+        let place = place_in(&self.places, name);
+        object_at(self.objects, place)
+    }
+}

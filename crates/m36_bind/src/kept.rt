@@ -1,0 +1,94 @@
+//! The definitions of the bound object: the retained names.
+
+ghost use Rattle.std.specs.Prelude.{ℕ, ◌≡◌, ◌^◌, ◌<◌, ◌||◌, [], length, IfOk, OnOk};
+ghost use Rattle.std.specs.List.{list_any};
+ghost use Rattle.obj36_parts.specs.Names.{same};
+ghost use Rattle.m36_bindfile.specs.BindFile.{BindSays};
+ghost use Rattle.m36_bind.specs.Components.{Changes, moving};
+ghost use Rattle.m36_bind.specs.Exports.{moved_from};
+ghost use Rattle.m36_bind.specs.Kept.{exports_from, kept_one, kept_line, kept_from};
+
+use crate::exports::{Export, Exports, add_moved};
+use crate::layout::Shape;
+use crate::placed::{Placed, moving};
+use m36_bindfile::{BindFault, BindLine};
+use m36_text::Name;
+use m36_word::NoMemory;
+use obj36_parts::{Defs, Named};
+use std::alloc::Global;
+
+fn add_component(table: &mut Exports, frame: &Shape, p: &Placed<'_>) -> Result<(), NoMemory>
+    ensures { OnOk result (table.new ≡ moved_from (moving frame.now p.now) table.old p.now.parts.definitions) }
+{
+    let m = moving(frame, p);
+    let parts = p.parts;
+    add_moved(table, &m, parts.definitions.items())
+}
+
+// What all components define, where it goes.
+#[tactic(auto, unfolding(crate::specs::Kept::exports_from))]
+pub(crate) fn exports(alloc: Global, frame: &Shape, all: &[Placed<'_>]) -> Result<Exports, NoMemory>
+    ensures { IfOk result (λ table. table ≡ exports_from frame.now [] all.now) }
+{
+    let mut table = Exports::new(alloc);
+    let mut rest = all;
+    while let [p, others @ ..] = rest {
+        add_component(&mut table, frame, p)?;
+        rest = others;
+    }
+    Ok(table)
+}
+
+// Whether a retained name stands above, or more than one component defines it.
+fn stands_twice(kept: &Defs, name: &Name, export: &Export) -> bool
+    ensures { result ≡ (list_any (λ d. same name.now d.name) kept.now || export.now.twice) }
+{
+    kept.has(name) || export.twice
+}
+
+#[tactic(auto, using(crate::proofs::KeepLaws::keep_done))]
+fn keep_one(kept: &mut Defs, n: u64, name: &Name, export: Option<Export>) -> Result<(), BindFault>
+    requires { n < 2 ^ 32 }
+    ensures { Changes kept.new result (kept_one kept.old n name.now export) }
+{
+    match export {
+        None => Err(BindFault::B5(n as u32)),
+        Some(export) => {
+            if stands_twice(kept, name, &export) {
+                return Err(BindFault::B3(n as u32));
+            }
+            kept.push(Named {
+                name: name.copied(),
+                def: export.def,
+            })?;
+            Ok(())
+        }
+    }
+}
+
+fn keep_line(exports: &Exports, kept: &mut Defs, n: u64, line: &BindLine) -> Result<(), BindFault>
+    requires { n < 2 ^ 32 }
+    ensures { Changes kept.new result (kept_line exports.now kept.old n line.now) }
+{
+    match line {
+        BindLine::Retain(name) => keep_one(kept, n, name, exports.find(name)),
+        _ => Ok(()),
+    }
+}
+
+// The definitions of the retained names, or the first of B3 and B5.
+pub(crate) fn kept(alloc: Global, exports: &Exports, lines: &[BindLine]) -> Result<Defs, BindFault>
+    requires { length lines.now < 2 ^ 32 }
+    ensures { BindSays result (kept_from exports.now [] 1 lines.now) }
+{
+    let mut kept = Defs::new(alloc);
+    let mut n: u64 = 1;
+    for line in lines {
+        match keep_line(exports, &mut kept, n, line) {
+            Ok(()) => {}
+            Err(fault) => return Err(fault),
+        }
+        n += 1;
+    }
+    Ok(kept)
+}

@@ -1,0 +1,256 @@
+//! Where the words of components go in the bound object.
+
+ghost use Rattle.std.specs.Prelude.{ℕ, ◌≡◌, ◌+◌, ◌*◌, ◌^◌, ◌<◌, ◌≤◌, length};
+ghost use Rattle.m36_bind.specs.Layout.{meant, meant_older, meant_newer, meant_past_head, meant_in_linkage, IsBelow, bases_behind, first_link, first_static, spot, static_spot, image_spot, spot_moved, static_number, image_number, number_moved, evened};
+
+use obj36_parts::Section;
+use std::marker::Model;
+
+// How an object numbers its words.
+#[derive(Clone, Copy)]
+pub(crate) struct Shape {
+    // How many static words there are.
+    pub(crate) statics: u64,
+    // How many links.
+    pub(crate) links: u64,
+    // It has version 2.
+    pub(crate) newer: bool,
+}
+
+impl Model for Shape {
+    ghost use Rattle.std.specs.Prelude.{◌<◌, ◌^◌};
+    ghost use Rattle.m36_bind.specs.Fields.{ShapeFields};
+
+    ghost Value = { ShapeFields };
+
+    ghost view = { λ s. record { newer = s.newer; statics = s.statics; links = s.links } };
+
+    ghost invariant = { λ s. (s.statics < 2 ^ 61) × (s.links < 2 ^ 61) };
+
+    ghost inverse = { λ s. record { statics = s.statics; links = s.links; newer = s.newer } };
+}
+
+// Where the words of a component begin.
+#[derive(Clone, Copy)]
+pub(crate) struct Bases {
+    // Its first word of the text.
+    pub(crate) text: u64,
+    // Its first static word, counted from the first of all.
+    pub(crate) statics: u64,
+    // How many links stand before its own.
+    pub(crate) links: u64,
+}
+
+impl Model for Bases {
+    ghost use Rattle.std.specs.Prelude.{◌<◌, ◌^◌};
+    ghost use Rattle.m36_bind.specs.Fields.{BasesFields};
+
+    ghost Value = { BasesFields };
+
+    ghost view = { λ b. record { text = b.text; statics = b.statics; links = b.links } };
+
+    ghost invariant = { λ b. (b.text < 2 ^ 60) × (b.statics < 2 ^ 60) × (b.links < 2 ^ 60) };
+
+    ghost inverse = { λ b. record { text = b.text; statics = b.statics; links = b.links } };
+}
+
+// What takes a component's places to those of the bound object: the shapes of both, and where the component begins.
+#[derive(Clone, Copy)]
+pub(crate) struct Moving {
+    pub(crate) frame: Shape,
+    pub(crate) shape: Shape,
+    pub(crate) bases: Bases,
+}
+
+// What a place of a component names.
+#[derive(Clone, Copy)]
+pub(crate) enum Meant {
+    // A word of the text.
+    TextWord(u64),
+    // A static word.
+    StaticWord(u64),
+    // A word from the first link on.
+    LinkWord(u64),
+    // A word at the head of the linkage section.
+    HeadWord(u64),
+}
+
+// A place of the bound object.
+#[derive(Clone, Copy)]
+pub(crate) struct Spot {
+    // 18 bits.
+    pub(crate) offset: u32,
+    pub(crate) section: Section,
+}
+
+fn meant_older(statics: u64, v: u64) -> Meant
+    requires head { 8 ≤ v }
+    requires statics { statics < 2 ^ 61 }
+    requires small { v < 2 ^ 18 }
+    ensures value { result ≡ meant_older statics v }
+    ensures small { IsBelow (2 ^ 18) result }
+{
+    let first = 8 + statics;
+    if v < first {
+        Meant::StaticWord(v - 8)
+    } else {
+        Meant::LinkWord(v - first)
+    }
+}
+
+fn meant_newer(links: u64, v: u64) -> Meant
+    requires head { 8 ≤ v }
+    requires links { links < 2 ^ 61 }
+    requires small { v < 2 ^ 18 }
+    ensures value { result ≡ meant_newer links v }
+    ensures small { IsBelow (2 ^ 18) result }
+{
+    let end = 8 + 2 * links;
+    if v < end {
+        Meant::LinkWord(v - 8)
+    } else {
+        Meant::StaticWord(v - end)
+    }
+}
+
+fn meant_past_head(s: &Shape, v: u64) -> Meant
+    requires head { 8 ≤ v }
+    requires small { v < 2 ^ 18 }
+    ensures value { result ≡ meant_past_head s.now v }
+    ensures small { IsBelow (2 ^ 18) result }
+{
+    if s.newer {
+        meant_newer(s.links, v)
+    } else {
+        meant_older(s.statics, v)
+    }
+}
+
+fn meant_in_linkage(s: &Shape, v: u64) -> Meant
+    requires small { v < 2 ^ 18 }
+    ensures value { result ≡ meant_in_linkage s.now v }
+    ensures small { IsBelow (2 ^ 18) result }
+{
+    if v < 8 {
+        Meant::HeadWord(v)
+    } else {
+        meant_past_head(s, v)
+    }
+}
+
+// What an offset of a section names.
+#[tactic(auto, unfolding(crate::specs::Layout::meant))]
+fn meaning(s: &Shape, section: Section, v: u64) -> Meant
+    requires small { v < 2 ^ 18 }
+    ensures value { result ≡ meant s.now section v }
+    ensures small { IsBelow (2 ^ 18) result }
+{
+    match section {
+        Section::Text => Meant::TextWord(v),
+        Section::Linkage => meant_in_linkage(s, v),
+        Section::Symbol => Meant::HeadWord(v),
+        Section::Static => Meant::StaticWord(v),
+    }
+}
+
+// The next even number.
+pub(crate) fn evened(n: u64) -> u64
+    requires { n < 2 ^ 62 }
+    ensures value { result ≡ evened n }
+    ensures bound { result ≤ n + 1 }
+{
+    n + n % 2
+}
+
+fn first_link(f: &Shape) -> u64
+    ensures value { result ≡ first_link f.now }
+    ensures bound { result < 2 ^ 61 + 8 }
+{
+    if f.newer { 8 } else { 8 + f.statics }
+}
+
+fn first_static(f: &Shape) -> u64
+    ensures value { result ≡ first_static f.now }
+    ensures bound { result < 2 ^ 62 + 16 }
+{
+    if f.newer { 8 + 2 * f.links } else { 8 }
+}
+
+pub(crate) fn spot_at(section: Section, offset: u64) -> Spot
+    ensures value { result ≡ spot section offset }
+    ensures bound { result.offset < 2 ^ 18 }
+{
+    Spot {
+        offset: (offset % (1 << 18)) as u32,
+        section,
+    }
+}
+
+fn static_spot(f: &Shape, w: u64) -> Spot
+    requires { w < 2 ^ 62 }
+    ensures value { result ≡ static_spot f.now w }
+    ensures bound { result.offset < 2 ^ 18 }
+{
+    if f.newer {
+        spot_at(Section::Static, w)
+    } else {
+        spot_at(Section::Linkage, 8 + w)
+    }
+}
+
+fn image_spot(f: &Shape, b: &Bases, m: Meant) -> Spot
+    requires { IsBelow (2 ^ 18) m }
+    ensures value { result ≡ image_spot f.now b.now m }
+    ensures bound { result.offset < 2 ^ 18 }
+{
+    match m {
+        Meant::TextWord(v) => spot_at(Section::Text, b.text + v),
+        Meant::StaticWord(w) => static_spot(f, b.statics + w),
+        Meant::LinkWord(k) => spot_at(Section::Linkage, first_link(f) + 2 * b.links + k),
+        Meant::HeadWord(v) => spot_at(Section::Linkage, v),
+    }
+}
+
+// Where a place of a component goes. The offset has 18 bits.
+#[tactic(auto, unfolding(crate::specs::Layout::spot_moved))]
+pub(crate) fn spot_moved(m: &Moving, section: Section, v: u64) -> Spot
+    requires { v < 2 ^ 18 }
+    ensures value { result ≡ spot_moved m.now section v }
+    ensures bound { result.offset < 2 ^ 18 }
+{
+    image_spot(&m.frame, &m.bases, meaning(&m.shape, section, v))
+}
+
+fn static_number(f: &Shape, target: Section, w: u64) -> u64
+    requires { w < 2 ^ 61 }
+    ensures value { result ≡ static_number f.now target w }
+    ensures bound { result < 2 ^ 63 }
+{
+    match target {
+        Section::Static => w,
+        _ => first_static(f) + w,
+    }
+}
+
+fn image_number(f: &Shape, b: &Bases, target: Section, m: Meant) -> u64
+    requires { IsBelow (2 ^ 18) m }
+    ensures value { result ≡ image_number f.now b.now target m }
+    ensures bound { result < 2 ^ 63 }
+{
+    match m {
+        Meant::TextWord(v) => b.text + v,
+        Meant::StaticWord(w) => static_number(f, target, b.statics + w),
+        Meant::LinkWord(k) => first_link(f) + 2 * b.links + k,
+        Meant::HeadWord(v) => v,
+    }
+}
+
+// The number of the image of what a number of a component names. The number has 18 bits.
+#[tactic(auto, unfolding(crate::specs::Layout::number_moved))]
+pub(crate) fn number_moved(m: &Moving, target: Section, v: u64) -> u64
+    requires { v < 2 ^ 18 }
+    ensures value { result ≡ number_moved m.now target v }
+    ensures bound { result < 2 ^ 63 }
+{
+    image_number(&m.frame, &m.bases, target, meaning(&m.shape, target, v))
+}

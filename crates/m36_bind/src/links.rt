@@ -1,0 +1,187 @@
+//! The links of the bound object.
+
+ghost use Rattle.std.specs.Prelude.{ℕ, ◌≡◌, ◌+◌, ◌%◌, ◌^◌, ◌<◌, [], ◌∷◌, ◌++◌, OnOk, IfOk, option_map};
+ghost use Rattle.m36_bind.specs.Components.{PlacedFields, moving};
+ghost use Rattle.m36_bind.specs.Layout.{spot_moved};
+ghost use Rattle.m36_bind.specs.Links.{own_link, farther, rank, counting_section, segment_link, entry_link, outer_link, inner_link, link_moved, links_onto, links_from};
+
+use crate::exports::Export;
+use crate::layout::{Shape, Spot, spot_at, spot_moved};
+use crate::placed::{Components, Placed, moving};
+use m36_text::Name;
+use m36_word::NoMemory;
+use obj36_parts::{Link, Links, Section};
+use std::alloc::Global;
+
+fn empty_name() -> Name
+    ensures { result ≡ [] }
+{
+    match Name::new(&[]) {
+        Some(name) => name,
+        None => unreachable!(),
+    }
+}
+
+// A link to a place of the bound object itself.
+fn own_link(l: &Link, s: Spot) -> Link
+    requires { s.offset < 2 ^ 18 }
+    ensures { result ≡ own_link l.now s }
+{
+    Link {
+        name: empty_name(),
+        entry: empty_name(),
+        expr: s.offset,
+        kind: 1,
+        section: s.section,
+        modifier: l.modifier,
+    }
+}
+
+fn farther(s: Spot, n: u32) -> Spot
+    requires offset { s.offset < 2 ^ 18 }
+    requires more { n < 2 ^ 18 }
+    ensures value { result ≡ farther s n }
+    ensures bound { result.offset < 2 ^ 18 }
+{
+    Spot {
+        offset: (s.offset + n) % (1 << 18),
+        section: s.section,
+    }
+}
+
+fn rank(section: Section) -> u8
+    ensures { result ≡ rank section }
+{
+    match section {
+        Section::Text => 0,
+        Section::Symbol => 0,
+        Section::Linkage => 1,
+        Section::Static => 2,
+    }
+}
+
+// The section in which a link of type 5 counts.
+fn counting_section(a: Section, b: Section) -> Section
+    ensures { result ≡ counting_section a b }
+{
+    if rank(a) <= rank(b) { b } else { a }
+}
+
+fn segment_link(l: &Link, p: Option<&Placed<'_>>) -> Link
+    ensures { result ≡ segment_link l.now (option_map (λ p. p.now) p.entry) }
+{
+    match p {
+        None => l.copied(),
+        Some(p) => own_link(l, spot_at(Section::Text, p.bases.text + l.expr as u64)),
+    }
+}
+
+fn entry_link(frame: &Shape, l: &Link, p: &Placed<'_>, export: Option<Export>) -> Link
+    ensures { result ≡ entry_link frame.now l.now p.now export }
+{
+    match export {
+        None => l.copied(),
+        Some(e) => {
+            let m = moving(frame, p);
+            let s = spot_moved(&m, e.def.section, e.def.value as u64);
+            own_link(l, farther(s, l.expr))
+        }
+    }
+}
+
+fn outer_link(frame: &Shape, l: &Link, p: Option<&Placed<'_>>) -> Link
+    ensures { result ≡ outer_link frame.now l.now (option_map (λ p. p.now) p.entry) }
+{
+    match p {
+        None => l.copied(),
+        Some(p) => entry_link(frame, l, p, p.entries.find(&l.entry)),
+    }
+}
+
+fn inner_link(frame: &Shape, p: &Placed<'_>, l: &Link, export: Option<Export>) -> Link
+    ensures { result ≡ inner_link frame.now p.now l.now export }
+{
+    match export {
+        None => l.copied(),
+        Some(e) => {
+            let m = moving(frame, p);
+            let section = counting_section(l.section, e.def.section);
+            own_link(
+                l,
+                farther(spot_moved(&m, section, e.def.value as u64), l.expr),
+            )
+        }
+    }
+}
+
+// A link of type 1, moved.
+fn moved_own(frame: &Shape, p: &Placed<'_>, l: &Link) -> Link
+    ensures { result ≡ own_link l.now (spot_moved (moving frame.now p.now) l.now.section l.now.expr) }
+{
+    let m = moving(frame, p);
+    own_link(l, spot_moved(&m, l.section, l.expr as u64))
+}
+
+// A link of a component.
+#[tactic(auto, unfolding(crate::specs::Links::link_moved))]
+fn link_moved(frame: &Shape, all: &Components<'_>, p: &Placed<'_>, l: &Link) -> Link
+    ensures { result ≡ link_moved frame.now all.now p.now l.now }
+{
+    if l.kind == 1 {
+        return moved_own(frame, p, l);
+    }
+    if l.kind == 3 {
+        return segment_link(l, all.find(&l.name));
+    }
+    if l.kind == 4 {
+        return outer_link(frame, l, all.find(&l.name));
+    }
+    if l.kind == 5 {
+        return inner_link(frame, p, l, p.entries.find(&l.entry));
+    }
+    l.copied()
+}
+
+#[tactic(auto, unfolding(crate::specs::Links::links_onto))]
+fn add_links(
+    out: &mut Links,
+    frame: &Shape,
+    all: &Components<'_>,
+    p: &Placed<'_>,
+    links: &[Link],
+) -> Result<(), NoMemory>
+    ensures { OnOk result (out.new ≡ links_onto frame.now all.now p.now out.old links.now) }
+{
+    let mut rest = links;
+    while let [l, others @ ..] = rest {
+        out.push(link_moved(frame, all, p, l))?;
+        rest = others;
+    }
+    Ok(())
+}
+
+fn add_links_of(
+    out: &mut Links,
+    frame: &Shape,
+    all: &Components<'_>,
+    p: &Placed<'_>,
+) -> Result<(), NoMemory>
+    ensures { OnOk result (out.new ≡ links_onto frame.now all.now p.now out.old p.now.parts.links) }
+{
+    let parts = p.parts;
+    add_links(out, frame, all, p, parts.links.items())
+}
+
+// The links of the components.
+#[tactic(auto, unfolding(crate::specs::Links::links_from))]
+pub(crate) fn links(alloc: Global, frame: &Shape, all: &Components<'_>) -> Result<Links, NoMemory>
+    ensures { IfOk result (λ links. links ≡ links_from frame.now all.now [] all.now) }
+{
+    let mut out = Links::new(alloc);
+    let mut rest = all.items();
+    while let [p, others @ ..] = rest {
+        add_links_of(&mut out, frame, all, p)?;
+        rest = others;
+    }
+    Ok(out)
+}

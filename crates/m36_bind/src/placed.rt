@@ -1,0 +1,296 @@
+//! The components of a bind file, each with where its words begin.
+
+ghost use Rattle.std.specs.Prelude.{ℕ, ◌≡◌, ◌+◌, ◌*◌, ◌^◌, ◌<◌, ◌≤◌, false, [], ◌∷◌, ◌++◌, length, Some, IfOk, OnOk, option_map};
+ghost use Rattle.std.specs.List.{list_any};
+ghost use Rattle.std.specs.Vec.{vec_len, vec_capacity};
+ghost use Rattle.obj36_parts.specs.Names.{same};
+ghost use Rattle.obj36_parts.specs.ObjectSegment.{is_newer};
+ghost use Rattle.m36_bind.specs.Exports.{own_from};
+ghost use Rattle.m36_bindfile.specs.BindFile.{BindSays};
+ghost use Rattle.m36_bind.specs.Layout.{shape_of, first_bases, bases_behind};
+ghost use Rattle.m36_bind.specs.Components.{component, moving, names_of, component_named, picked_one, picked_line, picked_of, Picks, AreNear, AreFew};
+
+use crate::exports::{Exports, own_entries};
+use crate::given::Given;
+use crate::layout::{Bases, Moving, Shape, evened};
+use indexmap::IndexSet;
+use m36_bindfile::{BindFault, BindLine};
+use m36_text::Name;
+use m36_word::NoMemory;
+use obj36::Object;
+use obj36_parts::Parts;
+use std::alloc::Global;
+use std::marker::Model;
+
+// A component.
+#[derive(Drop)]
+pub(crate) struct Placed<'a> {
+    // The name by which others refer to it.
+    pub(crate) name: &'a Name,
+    pub(crate) parts: &'a Parts,
+    // Its definitions by name.
+    pub(crate) entries: Exports,
+    pub(crate) shape: Shape,
+    pub(crate) bases: Bases,
+}
+
+impl<'a> Model for Placed<'a> {
+    ghost use Rattle.std.specs.Prelude.{◌≤◌, ◌^◌};
+    ghost use Rattle.m36_bind.specs.Components.{PlacedFields};
+
+    ghost Value = { PlacedFields };
+
+    ghost view = { λ p. record { name = p.name.now; parts = p.parts.now; shape = p.shape; bases = p.bases; entries = p.entries } };
+
+    ghost invariant = { λ p. (p.shape.statics ≤ 2 ^ 18) × (p.shape.links ≤ 2 ^ 18) };
+}
+
+// Components in their order.
+#[derive(Drop)]
+pub(crate) struct Components<'a> {
+    items: Vec<Placed<'a>>,
+    names: IndexSet<Name>,
+}
+
+impl<'a> Model for Components<'a> {
+    ghost use Rattle.std.specs.Prelude.{◌≡◌, List};
+    ghost use Rattle.m36_bind.specs.Components.{PlacedFields, names_of};
+
+    ghost Value = { List PlacedFields };
+
+    ghost view = { λ c. c.items.items };
+
+    ghost invariant = { λ c. c.names.keys ≡ names_of c.items.items };
+}
+
+// Adds an item where there is room for it.
+fn put<T: Drop>(items: &mut Vec<T>, x: T)
+    requires { vec_len items.old < vec_capacity items.old }
+    ensures { items.new.items ≡ items.old.items ++ x ∷ [] }
+{
+    match items.push(x) {
+        Ok(()) => {}
+        Err(_) => unreachable!(),
+    }
+}
+
+// How the places of a component go into a bound object of a shape.
+pub(crate) fn moving(frame: &Shape, p: &Placed<'_>) -> Moving
+    ensures { result ≡ moving frame.now p.now }
+{
+    Moving {
+        frame: *frame,
+        shape: p.shape,
+        bases: p.bases,
+    }
+}
+
+fn text_length(parts: &Parts) -> u64
+    ensures { result ≡ length parts.now.text }
+{
+    parts.text.slice().len() as u64
+}
+
+fn statics_length(parts: &Parts) -> u64
+    ensures { result ≡ length parts.now.statics }
+{
+    parts.statics.slice().len() as u64
+}
+
+fn links_length(parts: &Parts) -> u64
+    ensures { result ≡ length parts.now.links }
+{
+    parts.links.items().len() as u64
+}
+
+fn is_newer(parts: &Parts) -> bool
+    ensures { result ≡ is_newer parts.now }
+{
+    parts.version == 2
+}
+
+fn entries_of(alloc: Global, parts: &Parts) -> Result<Exports, NoMemory>
+    ensures { IfOk result (λ table. table ≡ own_from [] parts.now.definitions) }
+{
+    own_entries(alloc, parts.definitions.items())
+}
+
+// Where the component behind another begins.
+fn bases_behind(b: &Bases, parts: &Parts, n: u64) -> Bases
+    requires small { n < 2 ^ 32 }
+    requires near { AreNear b.now n }
+    requires few { AreFew parts.now }
+    ensures value { result ≡ bases_behind b.now parts.now }
+    ensures near { AreNear result (n + 1) }
+{
+    Bases {
+        text: evened(b.text + text_length(parts)),
+        statics: evened(b.statics + statics_length(parts)),
+        links: b.links + links_length(parts),
+    }
+}
+
+fn shape_of(parts: &Parts) -> Shape
+    requires { AreFew parts.now }
+    ensures value { result ≡ shape_of parts.now }
+    ensures statics { result.statics ≤ 2 ^ 18 }
+    ensures links { result.links ≤ 2 ^ 18 }
+{
+    Shape {
+        statics: statics_length(parts),
+        links: links_length(parts),
+        newer: is_newer(parts),
+    }
+}
+
+// An object's parts are few.
+fn parts_of(object: &Object) -> &Parts
+    ensures value { result.now ≡ object.now }
+    ensures few { AreFew result.now }
+{
+    object.formed();
+    object.parts()
+}
+
+impl<'a> Components<'a> {
+    fn new(alloc: Global) -> Components<'a>
+        ensures { result ≡ [] }
+    {
+        Components {
+            items: Vec::new(alloc),
+            names: IndexSet::new(alloc),
+        }
+    }
+
+    // The components in their order.
+    pub(crate) fn items(&self) -> &[Placed<'a>]
+        ensures { result.now ≡ self.now }
+    {
+        self.items.as_slice()
+    }
+
+    // Whether a component has a name.
+    fn has(&self, name: &Name) -> bool
+        ensures { result ≡ list_any (same name.now) (names_of self.now) }
+    {
+        self.names.contains(name)
+    }
+
+    // The component of a name.
+    #[tactic(auto, unfolding(crate::specs::Components::component_named))]
+    pub(crate) fn find(&self, name: &Name) -> Option<&Placed<'a>>
+        ensures { option_map (λ p. p.now) result ≡ component_named name.now self.now }
+    {
+        let i = self.names.get_index_of(name)?;
+        self.items.get(i)
+    }
+
+    // Adds a component of another name than those above.
+    fn add(
+        &mut self,
+        name: &'a Name,
+        parts: &'a Parts,
+        entries: Exports,
+        bases: Bases,
+    ) -> Result<(), NoMemory>
+        requires fresh { list_any (same name.now) (names_of self.old) ≡ false }
+        requires few { AreFew parts.now }
+        ensures { OnOk result (self.new ≡ self.old ++ component name.now parts.now bases entries ∷ []) }
+    {
+        let shape = shape_of(parts);
+        self.items.reserve(1)?;
+        self.names.insert(name.copied())?;
+        put(
+            &mut self.items,
+            Placed {
+                name,
+                parts,
+                entries,
+                shape,
+                bases,
+            },
+        );
+        Ok(())
+    }
+}
+
+// Adds an object that was found, with its name. The answer is where the next component begins.
+#[tactic(auto, using(crate::proofs::PickLaws::picking))]
+fn pick<'a>(
+    alloc: Global,
+    all: &mut Components<'a>,
+    next: Bases,
+    n: u64,
+    name: &'a Name,
+    object: &'a Object,
+) -> Result<Bases, BindFault>
+    requires small { n < 2 ^ 32 }
+    requires near { AreNear next n }
+    ensures answer { Picks all.new result (picked_one (record { placed = all.old; next = next }) n name.now (Some object.now)) }
+    ensures near { IfOk result (λ next. AreNear next (n + 1)) }
+{
+    if all.has(name) {
+        return Err(BindFault::B3(n as u32));
+    }
+    let parts = parts_of(object);
+    let behind = bases_behind(&next, parts, n);
+    let entries = entries_of(alloc, parts)?;
+    all.add(name, parts, entries, next)?;
+    Ok(behind)
+}
+
+#[tactic(auto, using(crate::proofs::PickLaws::pick_found))]
+fn pick_line<'a>(
+    alloc: Global,
+    given: &Given<'a>,
+    all: &mut Components<'a>,
+    next: Bases,
+    n: u64,
+    line: &'a BindLine,
+) -> Result<Bases, BindFault>
+    requires small { n < 2 ^ 32 }
+    requires near { AreNear next n }
+    ensures answer { Picks all.new result (picked_line given.now (record { placed = all.old; next = next }) n line.now) }
+    ensures near { IfOk result (λ next. AreNear next (n + 1)) }
+{
+    match line {
+        BindLine::Object(name) => match given.find(name) {
+            Some(object) => pick(alloc, all, next, n, name, object),
+            None => Err(BindFault::B2(n as u32)),
+        },
+        _ => Ok(next),
+    }
+}
+
+fn first_bases() -> Bases
+    ensures value { result ≡ first_bases }
+    ensures near { AreNear result 1 }
+{
+    Bases {
+        text: 0,
+        statics: 0,
+        links: 0,
+    }
+}
+
+// The components that lines name, or the first of B2 and B3.
+pub(crate) fn picked<'a>(
+    alloc: Global,
+    given: &Given<'a>,
+    lines: &'a [BindLine],
+) -> Result<Components<'a>, BindFault>
+    requires { length lines.now < 2 ^ 32 }
+    ensures { BindSays result (picked_of given.now lines.now) }
+{
+    let mut all = Components::new(alloc);
+    let mut next = first_bases();
+    let mut n: u64 = 1;
+    for line in lines {
+        match pick_line(alloc, given, &mut all, next, n, line) {
+            Ok(behind) => next = behind,
+            Err(fault) => return Err(fault),
+        }
+        n += 1;
+    }
+    Ok(all)
+}

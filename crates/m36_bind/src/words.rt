@@ -1,0 +1,183 @@
+//! Parts of words that move: halves, and bits 3 to 17.
+
+ghost use Rattle.std.specs.Prelude.{ℕ, ◌≡◌, ◌+◌, ◌-◌, ◌*◌, ◌/◌, ◌%◌, ◌^◌, ◌<◌, ◌≤◌, length, slice_index, slice_set};
+ghost use Rattle.m36_bind.specs.Words.{offset_in, with_offset, below_zero, offset_raised, word_moved, part_fits, is_text_section, stands_in, start_of, place_in, moved_at, one_moved, words_moved, one_fits, all_fit};
+
+use crate::layout::{Bases, Moving, Shape, number_moved};
+use m36_word::Word;
+use obj36_parts::halves::{left_of, right_of, word_of};
+use obj36_parts::{Reloc, Section};
+
+// Bits 3 to 17 of a word.
+#[tactic(auto, unfolding(crate::specs::Words::offset_in))]
+fn offset_in(w: Word) -> u64
+    ensures value { result ≡ offset_in w }
+    ensures bound { result < 2 ^ 15 }
+{
+    left_of(w) % (1 << 15)
+}
+
+// A word with other bits 3 to 17.
+#[tactic(auto, unfolding(crate::specs::Words::with_offset))]
+fn with_offset(w: Word, v: u64) -> Word
+    ensures { result ≡ with_offset w v }
+{
+    word_of(
+        left_of(w) / (1 << 15) * (1 << 15) + v % (1 << 15),
+        right_of(w),
+    )
+}
+
+fn below_zero(b: &Bases, target: Section, v: u64) -> u64
+    requires { v < 2 ^ 15 }
+    ensures value { result ≡ below_zero b.now target v }
+    ensures bound { result < 2 ^ 61 }
+{
+    match target {
+        Section::Text => b.text + v,
+        Section::Static => b.statics + v,
+        _ => v,
+    }
+}
+
+// What bits 3 to 17 become, 2^15 higher.
+#[tactic(auto, unfolding(crate::specs::Words::offset_raised))]
+fn offset_raised(m: &Moving, target: Section, v: u64) -> u64
+    requires { v < 2 ^ 15 }
+    ensures { result ≡ offset_raised m.now target v }
+{
+    if v < 1 << 14 {
+        (1 << 15) + number_moved(m, target, v)
+    } else {
+        below_zero(&m.bases, target, v)
+    }
+}
+
+// The word with the part of a relocation moved.
+#[tactic(auto, unfolding(crate::specs::Words::word_moved))]
+fn word_moved(m: &Moving, r: &Reloc, w: Word) -> Word
+    ensures { result ≡ word_moved m.now r.now w }
+{
+    if r.part == 0 {
+        return word_of(number_moved(m, r.target, left_of(w)), right_of(w));
+    }
+    if r.part == 1 {
+        return word_of(left_of(w), number_moved(m, r.target, right_of(w)));
+    }
+    with_offset(w, offset_raised(m, r.target, offset_in(w)))
+}
+
+// Whether the part of a relocation fits where it goes.
+#[tactic(auto, unfolding(crate::specs::Words::part_fits))]
+fn part_fits(m: &Moving, r: &Reloc, w: Word) -> bool
+    ensures { result ≡ part_fits m.now r.now w }
+{
+    if r.part == 0 {
+        return true;
+    }
+    if r.part == 1 {
+        return true;
+    }
+    offset_raised(m, r.target, offset_in(w)) < (1 << 15) + (1 << 14)
+}
+
+fn is_text_section(section: Section) -> bool
+    ensures { result ≡ is_text_section section }
+{
+    matches!(section, Section::Text)
+}
+
+// Whether a relocation's place is among static words, or in the text.
+pub(crate) fn stands_in(statics: bool, r: &Reloc) -> bool
+    ensures { result ≡ stands_in statics r.now }
+{
+    if statics {
+        !is_text_section(r.section)
+    } else {
+        is_text_section(r.section)
+    }
+}
+
+// Where the words begin, as relocations count them.
+fn start_of(statics: bool, s: &Shape) -> usize
+    ensures value { result ≡ start_of statics s.now }
+{
+    if statics {
+        if s.newer { 0 } else { 8 }
+    } else {
+        0
+    }
+}
+
+fn place_in(m: &Moving, statics: bool, r: &Reloc) -> usize
+    ensures { result ≡ place_in m.now statics r.now }
+{
+    (r.offset as usize).saturating_sub(start_of(statics, &m.shape))
+}
+
+fn move_at(words: &mut [Word], m: &Moving, r: &Reloc, i: usize)
+    ensures { words.new ≡ moved_at m.now r.now i words.old }
+{
+    if i < words.len() {
+        let w = words[i];
+        words[i] = word_moved(m, r, w);
+    }
+}
+
+#[tactic(auto, unfolding(crate::specs::Words::one_moved))]
+fn move_one(words: &mut [Word], m: &Moving, statics: bool, r: &Reloc)
+    ensures { words.new ≡ one_moved m.now statics r.now words.old }
+{
+    if stands_in(statics, r) {
+        move_at(words, m, r, place_in(m, statics, r));
+    }
+}
+
+// Moves the parts of these relocations.
+#[tactic(auto, unfolding(crate::specs::Words::words_moved))]
+pub(crate) fn move_words(words: &mut [Word], m: &Moving, statics: bool, relocations: &[Reloc])
+    ensures { words.new ≡ words_moved m.now statics relocations.now words.old }
+{
+    let mut rest = relocations;
+    while let [r, others @ ..] = rest {
+        move_one(words, m, statics, r);
+        rest = others;
+    }
+}
+
+// The word at a place; zero where there is none.
+fn word_at(words: &[Word], i: usize) -> Word
+    ensures { result ≡ slice_index words.now i }
+{
+    if i < words.len() {
+        words[i]
+    } else {
+        Word::ZERO
+    }
+}
+
+#[tactic(auto, unfolding(crate::specs::Words::one_fits))]
+fn one_fits(m: &Moving, statics: bool, words: &[Word], r: &Reloc) -> bool
+    ensures { result ≡ one_fits m.now statics words.now r.now }
+{
+    if stands_in(statics, r) {
+        part_fits(m, r, word_at(words, place_in(m, statics, r)))
+    } else {
+        true
+    }
+}
+
+// Whether the parts of these relocations fit.
+#[tactic(auto, unfolding(crate::specs::Words::all_fit))]
+pub(crate) fn all_fit(m: &Moving, statics: bool, words: &[Word], relocations: &[Reloc]) -> bool
+    ensures { result ≡ all_fit m.now statics words.now relocations.now }
+{
+    let mut rest = relocations;
+    while let [r, others @ ..] = rest {
+        if !one_fits(m, statics, words, r) {
+            return false;
+        }
+        rest = others;
+    }
+    true
+}

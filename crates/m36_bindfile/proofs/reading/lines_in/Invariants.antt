@@ -1,0 +1,13 @@
+use Rattle.std.proofs.Common.{◌≡◌, ◌+◌, ◌≤◌, [], length}
+use Rattle.m36_bindfile.specs.BindFile.{lines_from, lines_given}
+use Rattle.m36_bindfile.proofs.reading.lines_in.Given as goal
+
+-- the rest completes the whole, and each line above took a byte at least
+abbrev pub invariant-loop-line : goal.invariant-loop-line
+invariant-loop-line l = record {
+  told : lines_from l.above (lines_given l.rest) ≡ lines_from [] (lines_given l.text);
+  few : length l.above + length l.rest ≤ length l.text;
+}
+
+abbrev pub decreases-loop-line : goal.decreases-loop-line
+decreases-loop-line l = length l.rest

@@ -1,0 +1,160 @@
+-- Bind files: which objects are bound, in which order, and which of their names are kept.
+--
+--     version 2       perhaps, and then the first line
+--     object NAME     one at least
+--     retain NAME     any number
+--
+-- Each line ends with a line feed, and its words are parted by single spaces. NAME is that of a file: 1 to 32 characters of
+-- `A-Z a-z 0-9 _ .`, the first of which is no point. B1 is the first other line, or one that is out of order or lacks its
+-- line feed; of a file without an `object` line it is told at line 1, before any other; a last `object` line that lacks its
+-- line feed counts there.
+use Rattle.std.specs.Prelude.{ℕ, ◌≡◌, ◌+◌, ◌-◌, Bool, true, false, ◌&&◌, if◌then◌else◌, List, [], ◌∷◌, ◌++◌, length, map, codes, slice_get, Option, Some, None, Result, Ok, Err}
+use Rattle.std.specs.List.{list_any}
+use Rattle.m36_text.specs.Texts.{is_text, is_file_name}
+use Rattle.m36_text.specs.Lines.{lines_of, open_lines_of, words_of}
+use Rattle.m36_bindfile.specs.declared.line.BindLine.{BindLine}
+use Rattle.m36_bindfile.specs.declared.line.BindLine.TheVariants as line
+use Rattle.m36_bindfile.specs.declared.fault.BindFault.{BindFault}
+use Rattle.m36_bindfile.specs.declared.fault.BindFault.TheVariants as fault
+
+-- ---- lines by themselves
+
+abbrev pub object_line : List ℕ → Option BindLine
+object_line name = if is_file_name name then Some (line.Object name) else None
+
+abbrev pub retain_line : List ℕ → Option BindLine
+retain_line name = if is_file_name name then Some (line.Retain name) else None
+
+abbrev pub version_line : List ℕ → Option BindLine
+version_line number = if is_text (codes "2") number then Some line.Version else None
+
+abbrev pub two_words : List ℕ → List ℕ → Option BindLine
+two_words word given =
+    if is_text (codes "object") word then object_line given
+    else if is_text (codes "retain") word then retain_line given
+    else if is_text (codes "version") word then version_line given
+    else None
+
+abbrev pub line_of_words : List (List ℕ) → Option BindLine
+line_of_words (word ∷ given ∷ []) = two_words word given
+line_of_words _ = None
+
+-- a line that lacks its line feed is of no form
+unfoldable pub line_given : Option (List ℕ) → Option BindLine
+line_given None = None
+line_given (Some line) = line_of_words (words_of line)
+
+unfoldable pub lines_given : List ℕ → List (Option BindLine)
+lines_given text = map line_given (lines_of text)
+
+-- ---- order
+
+abbrev pub is_object : BindLine → Bool
+is_object line.Version = false
+is_object (line.Object name) = true
+is_object (line.Retain name) = false
+
+abbrev pub is_version : BindLine → Bool
+is_version line.Version = true
+is_version (line.Object name) = false
+is_version (line.Retain name) = false
+
+-- which line may stand behind another: objects behind the version or an object, retained names behind an object or a
+-- retained name
+abbrev pub may_follow : BindLine → BindLine → Bool
+may_follow line.Version next = is_object next
+may_follow (line.Object name) line.Version = false
+may_follow (line.Object name) (line.Object other) = true
+may_follow (line.Object name) (line.Retain other) = true
+may_follow (line.Retain name) line.Version = false
+may_follow (line.Retain name) (line.Object other) = false
+may_follow (line.Retain name) (line.Retain other) = true
+
+-- which line may stand first
+abbrev pub may_begin : BindLine → Bool
+may_begin line.Version = true
+may_begin (line.Object name) = true
+may_begin (line.Retain name) = false
+
+abbrev pub is_in_order_behind : Option BindLine → BindLine → Bool
+is_in_order_behind None next = may_begin next
+is_in_order_behind (Some above) next = may_follow above next
+
+abbrev pub last_of : List BindLine → Option BindLine
+last_of lines = slice_get lines (length lines - 1)
+
+-- a line that is of its form and in order behind another
+abbrev pub in_order : Option BindLine → Option BindLine → Option BindLine
+in_order above None = None
+in_order above (Some next) = if is_in_order_behind above next then Some next else None
+
+-- ---- B1
+
+abbrev pub read_on : Result (List BindLine) BindFault → (BindLine → Result (List BindLine) BindFault) → Option BindLine → Result (List BindLine) BindFault
+read_on otherwise next None = otherwise
+read_on otherwise next (Some line) = next line
+
+-- the lines behind some others, up to the first that is of no form or out of order
+unfoldable pub lines_from : List BindLine → List (Option BindLine) → Result (List BindLine) BindFault
+lines_from above [] = Ok above
+lines_from above (given ∷ more) =
+    read_on (Err (fault.B1 (length above + 1))) (λ next. lines_from (above ++ next ∷ []) more) (in_order (last_of above) given)
+
+-- whether something stands behind the last line feed
+abbrev pub is_cut : List ℕ → Bool
+is_cut [] = false
+is_cut (b ∷ rest) = true
+
+abbrev pub gives_object : Option BindLine → Bool
+gives_object None = false
+gives_object (Some next) = is_object next
+
+-- whether a line asks for an object, also a last one that lacks its line feed
+unfoldable pub has_object : List ℕ → Bool
+has_object text = list_any (λ line. gives_object (line_given (Some line))) (open_lines_of text)
+
+-- the lines of a bind file, or B1
+unfoldable pub bind_lines : List ℕ → Result (List BindLine) BindFault
+bind_lines text = if has_object text then lines_from [] (lines_given text) else Err (fault.B1 1)
+
+-- ---- what the lines say
+
+abbrev pub object_in : BindLine → List (List ℕ)
+object_in line.Version = []
+object_in (line.Object name) = name ∷ []
+object_in (line.Retain name) = []
+
+abbrev pub retained_in : BindLine → List (List ℕ)
+retained_in line.Version = []
+retained_in (line.Object name) = []
+retained_in (line.Retain name) = name ∷ []
+
+-- the components in their order
+unfoldable pub component_names : List BindLine → List (List ℕ)
+component_names [] = []
+component_names (next ∷ lines) = object_in next ++ component_names lines
+
+-- the retained names in their order
+unfoldable pub retained_names : List BindLine → List (List ℕ)
+retained_names [] = []
+retained_names (next ∷ lines) = retained_in next ++ retained_names lines
+
+-- whether version 2 is asked for
+unfoldable pub asks_newer : List BindLine → Bool
+asks_newer lines = list_any is_version lines
+
+-- ---- answers
+
+-- What a call answers, where want of memory may come at any time.
+abbrev pub Refuses : {A : Type 0} → BindFault → Result A BindFault → Type 0
+Refuses fault.NoMemory definition = Unit {0}
+Refuses told definition = definition ≡ Err told
+
+abbrev pub BindSays : {A : Type 0} → Result A BindFault → Result A BindFault → Type 0
+BindSays (Ok value) definition = definition ≡ Ok value
+BindSays (Err told) definition = Refuses told definition
+
+-- the names of the components of a bind file, or B1
+abbrev pub names_by : Result (List BindLine) BindFault → Result (List (List ℕ)) BindFault
+names_by (Ok lines) = Ok (component_names lines)
+names_by (Err told) = Err told

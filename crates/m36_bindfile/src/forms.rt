@@ -1,0 +1,118 @@
+//! The lines of a bind file, each read by its form. A line is given without its line feed; None is a line that is not of
+//! its form.
+
+ghost use Rattle.std.specs.Prelude.{◌≡◌, Some};
+ghost use Rattle.m36_text.specs.Lines.{words_of};
+ghost use Rattle.m36_bindfile.specs.BindFile.{object_line, retain_line, version_line, two_words, line_given, is_object, may_begin, may_follow, is_in_order_behind, last_of, in_order, gives_object};
+
+use crate::line::{BindLine, BindLines};
+use m36_text::{Name, first_word, is_file_name, only_word};
+
+fn object_line(name: &[u8]) -> Option<BindLine>
+    ensures { result ≡ object_line name.now }
+{
+    if is_file_name(name) {
+        Some(BindLine::Object(Name::new(name)?))
+    } else {
+        None
+    }
+}
+
+fn retain_line(name: &[u8]) -> Option<BindLine>
+    ensures { result ≡ retain_line name.now }
+{
+    if is_file_name(name) {
+        Some(BindLine::Retain(Name::new(name)?))
+    } else {
+        None
+    }
+}
+
+fn version_line(number: &[u8]) -> Option<BindLine>
+    ensures { result ≡ version_line number.now }
+{
+    if number == b"2".as_slice() {
+        Some(BindLine::Version)
+    } else {
+        None
+    }
+}
+
+fn two_words(word: &[u8], given: &[u8]) -> Option<BindLine>
+    ensures { result ≡ two_words word.now given.now }
+{
+    if word == b"object".as_slice() {
+        return object_line(given);
+    }
+    if word == b"retain".as_slice() {
+        return retain_line(given);
+    }
+    if word == b"version".as_slice() {
+        return version_line(given);
+    }
+    None
+}
+
+// A line of a bind file.
+#[tactic(auto, unfolding(crate::specs::BindFile::line_given))]
+fn read_line(text: &[u8]) -> Option<BindLine>
+    ensures { result ≡ line_given (Some text.now) }
+{
+    let (word, rest) = first_word(text);
+    two_words(word, only_word(rest?)?)
+}
+
+fn is_object(line: &BindLine) -> bool
+    ensures { result ≡ is_object line.now }
+{
+    matches!(line, BindLine::Object(_))
+}
+
+/// Whether a line asks for an object.
+pub(crate) fn gives_object(text: &[u8]) -> bool
+    ensures { result ≡ gives_object (line_given (Some text.now)) }
+{
+    match read_line(text) {
+        Some(line) => is_object(&line),
+        None => false,
+    }
+}
+
+fn may_begin(line: &BindLine) -> bool
+    ensures { result ≡ may_begin line.now }
+{
+    !matches!(line, BindLine::Retain(_))
+}
+
+fn may_follow(above: &BindLine, next: &BindLine) -> bool
+    ensures { result ≡ may_follow above.now next.now }
+{
+    match (above, next) {
+        (BindLine::Version, _) => is_object(next),
+        (BindLine::Object(_), BindLine::Version) => false,
+        (BindLine::Object(_), _) => true,
+        (BindLine::Retain(_), BindLine::Retain(_)) => true,
+        (BindLine::Retain(_), _) => false,
+    }
+}
+
+fn is_in_order(above: &[BindLine], next: &BindLine) -> bool
+    ensures { result ≡ is_in_order_behind (last_of above.now) next.now }
+{
+    match above.last() {
+        None => may_begin(next),
+        Some(last) => may_follow(last, next),
+    }
+}
+
+/// The line, where it is of its form and in order behind those above.
+pub(crate) fn line_behind(above: &BindLines, text: &[u8]) -> Option<BindLine>
+    ensures { result ≡ in_order (last_of above.now) (line_given (Some text.now)) }
+{
+    let next = read_line(text)?;
+    if is_in_order(above.items(), &next) {
+        Some(next)
+    } else {
+        None
+    }
+}

@@ -1,0 +1,13 @@
+pub mod Orders
+pub mod Files
+pub mod ReadObjects
+pub mod LimitLoops
+pub mod Sizes
+pub mod ImageTables
+pub mod LaidCore
+pub mod Contents
+pub mod LayAnswers
+pub mod FirstSection
+pub mod LaidImage
+pub mod Runnable
+pub mod FlatImage

@@ -1,0 +1,4 @@
+pub mod Served
+pub mod Turns
+pub mod Paging
+pub mod Audited

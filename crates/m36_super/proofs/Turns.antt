@@ -1,0 +1,169 @@
+-- A turn of a booted run is that of the flat run.
+use Rattle.std.proofs.Common.{◌≡◌, refl, sym, ◌∙◌, ap, subst, inl, inr}
+use Rattle.std.specs.Prelude.{ℕ, ◌⊎◌, Bool, true, false, nat_lt, List, take, Option, Some, None, Result, Ok, Err}
+use Rattle.m36_inst.specs.declared.effect.Effect.{Effect}
+use Rattle.m36_inst.specs.declared.effect.Effect.TheVariants as effect
+use Rattle.m36_model.specs.Fields.{AtFields}
+use Rattle.m36_model.specs.Registers.{RegsFields}
+use Rattle.m36_model.specs.Results.{moved_on}
+use Rattle.m36_model.specs.Store.{State}
+use Rattle.m36_model.specs.Core.{core_store}
+use Rattle.m36_model.specs.Step.{decode, record_of, state_after}
+use Rattle.m36_model.specs.Laws.{ExecutesLdbr}
+use Rattle.m36_model.specs.Flat.{Flat, flat_store}
+use Rattle.m36_model.specs.BootedCore.{booted_dbr, descriptor_words, IsLaid}
+use Rattle.m36_model.specs.Residence.{Paged, flat_of}
+use Rattle.m36_model.specs.PagedStep.{flat_state, IsPresent, IsFlatStep, IsPageFault, IsAbsaStep, IsPagedStep}
+use Rattle.m36_model.specs.declared.outcome.Fault.{Fault}
+use Rattle.m36_model.specs.declared.outcome.Outcome.{Outcome}
+use Rattle.m36_model.specs.declared.outcome.Outcome.TheVariants.{Next, Faulted, Stopped}
+use Rattle.m36_model.specs.declared.record.StepRecord.{StepRecord}
+use Rattle.m36_isol.specs.PageServices.{PagedState, core_state, stepped_memory}
+use Rattle.m36_isol.proofs.PagedStep.{paged_step_law}
+use Rattle.m36_link.specs.Fields.{KnownFields, SnapFields}
+use Rattle.m36_link.specs.Snap.{RefusedFields, snap_of}
+use Rattle.m36_step.specs.declared.turns.Turn.{Turn}
+use Rattle.m36_step.specs.declared.turns.Turn.TheVariants.{Stepped, Linked, Console, Ended, Full, NoMemory}
+use Rattle.m36_super.specs.Library.{Library}
+use Rattle.m36_super.specs.Services.{console_limit, console_text}
+use Rattle.m36_super.specs.Coming.{Coming, Step, Link, Print, Over, coming_after, is_ldbr, loads, loaded_after}
+use Rattle.m36_super.specs.FlatRun.{FlatRun, FlatTurn, flat_stepped, flat_linked_by, flat_printed_by, flat_turn_by, flat_turn}
+use Rattle.m36_super.specs.BootedRun.{Booted, told_of, with_step, IsStep, IsLinkTurn, IsConsoleTurn, IsTurnBy, IsTurn, IsStanding, Stands, flat_run_of}
+use Rattle.m36_super.specs.TurnLaws.{LocatesInTurn, IsFlatTurn, IsTurnKept, TurnLaw}
+use Rattle.m36_super.proofs.Served.{IsAlike, services_alike}
+
+-- ---- whether the step loads the DBR
+
+loads_ldbr : (word : Option ℕ) (outcome : Outcome) (w n : ℕ) → word ≡ Some w → decode w ≡ Some (effect.Ldbr, n) → outcome ≡ Next → loads word outcome ≡ true
+loads_ldbr word outcome w n fetched row next =
+    let here : loads (Some w) Next ≡ true = ap is_ldbr row in
+    sym (λ i. loads (sym fetched i) (sym next i)) ∙ here
+
+pub not_loaded : (e : StepRecord) → loaded_after false e ≡ false → ExecutesLdbr e → ⊥
+not_loaded e none k =
+    let loaded = loads_ldbr e.word e.outcome k.word k.number k.fetched k.loads k.next in
+    cc
+
+-- ---- steps
+
+module _ (lib : Library) (state : PagedState) (known : KnownFields) where
+  abbrev frames : ℕ
+  frames = lib.catalog.frames
+
+  abbrev before : Coming → Booted
+  before coming = record { state = state; known = known; coming = coming; loaded = false }
+
+  -- what is the turn of the flat run
+  abbrev IsBy : Coming → FlatTurn → Turn → Booted → Type 0
+  IsBy coming t turn after = (turn ≡ t.turn) × (flat_run_of after ≡ t.after)
+
+  flat_by : (coming : Coming) (turn : Turn) (after : Booted) → IsBy coming (flat_turn_by coming lib (flat_run_of (before coming))) turn after → IsFlatTurn lib (before coming) turn after
+  unfolding flat_turn
+  flat_by coming turn after h = record { turn_is = h.0; after_is = h.1 }
+
+  -- the core that a step leaves
+  stands_after : (s : PagedState) → IsPagedStep frames s.memory.kept (core_state s) → (((state_after core_store (core_state s)).regs.dbr ≡ booted_dbr) ⊎ ExecutesLdbr (told_of s)) → (b : Bool) → loaded_after false (told_of s) ≡ b → Stands b frames (record { regs = (state_after core_store (core_state s)).regs; memory = stepped_memory s })
+  stands_after s step dbr true e = tt
+  stands_after s step (inl same) false e = record { dbr = same; laid = step.laid }
+  stands_after s step (inr loads) false e = absurd (not_loaded (told_of s) e loads)
+
+  -- a step over a state that stands for the flat memory
+  step_turn : (last : PagedState) → IsAlike frames state last → (turn : Turn) → turn ≡ Stepped (told_of last) → IsFlatStep last.memory.kept (core_state last) → IsBy Step (flat_stepped (flat_run_of (before Step))) turn (with_step (before Step) last)
+  unfolding flat_stepped
+  step_turn last alike turn told h =
+      let r = alike.regs in
+      let f = alike.flat in
+      let same : flat_state last.memory.kept (core_state last) ≡ (flat_run_of (before Step)).state = λ i. record { regs = r i; store = f i } in
+      let e : told_of last ≡ record_of flat_store (flat_run_of (before Step)).state = h.told ∙ ap (record_of flat_store) same in
+      let s : flat_state last.memory.kept (state_after core_store (core_state last)) ≡ state_after flat_store (flat_run_of (before Step)).state = h.state ∙ ap (state_after flat_store) same in (
+        told ∙ ap Stepped e,
+        λ i. record {
+          state = s i;
+          known = known;
+          coming = coming_after (loaded_after false (e i)) (e i).ppr.prr (e i).outcome;
+          loaded = loaded_after false (e i);
+        },
+      )
+
+  step_cases : (last : PagedState) → IsAlike frames state last → (turn : Turn) → turn ≡ Stepped (told_of last) → IsPresent (told_of last).outcome → IsPagedStep frames last.memory.kept (core_state last) → (IsFlatStep last.memory.kept (core_state last) ⊎ IsPageFault last.memory.kept (core_state last) ⊎ IsAbsaStep last.memory.kept (core_state last)) → IsTurnKept lib (before Step) turn (with_step (before Step) last)
+  step_cases last alike turn told present step (inl h) =
+      record {
+        cases = inl (flat_by Step turn (with_step (before Step) last) (step_turn last alike turn told h));
+        stands = stands_after last step h.dbr _ refl;
+      }
+  step_cases last alike turn told present step (inr (inl h)) =
+      absurd (subst IsPresent h.outcome present h.number)
+  step_cases last alike turn told present step (inr (inr h)) =
+      record {
+        cases = inr (inr (subst LocatesInTurn (sym told) h.executes));
+        stands = stands_after last step (inl h.dbr) _ refl;
+      }
+
+  step_kept : (turn : Turn) (after : Booted) → IsStanding frames state → IsStep frames (before Step) turn after → IsTurnKept lib (before Step) turn after
+  step_kept turn after stands h =
+      let alike = services_alike frames h.services state h.last stands h.served in
+      let step = paged_step_law frames h.last.memory.kept (core_state h.last) alike.standing.dbr alike.standing.laid in
+      subst (IsTurnKept lib (before Step) turn) (sym h.after_is) (step_cases h.last alike turn h.told h.present step step.cases)
+
+  -- ---- services
+  stands_as : (after : Booted) → after.loaded ≡ false → IsStanding frames after.state → Stands after.loaded frames after.state
+  stands_as after loaded h = subst (λ (b : Bool). Stands b frames after.state) (sym loaded) h
+
+  link_cases : (at : AtFields) (answer : Result SnapFields RefusedFields) (turn : Turn) (after : Booted) → IsStanding frames state → IsLinkTurn answer frames at (before (Link at)) turn after → ((turn ≡ NoMemory) × (after ≡ before (Link at))) ⊎ (IsBy (Link at) (flat_linked_by answer (flat_run_of (before (Link at))) at) turn after × Stands after.loaded frames after.state)
+  link_cases at (Ok s) NoMemory after stands h = inl (refl, h)
+  link_cases at (Err why) NoMemory after stands h = inl (refl, h)
+  link_cases at (Ok s) turn after stands h =
+      let regs = h.regs in
+      let flat = h.written.flat in
+      let known = h.known in
+      let coming = h.coming in
+      let loaded = h.loaded in
+      inr ((h.told, λ i. record { state = record { regs = regs i; store = flat i }; known = known i; coming = coming i; loaded = loaded i }), stands_as after loaded (record { dbr = ap (λ (r : RegsFields). r.dbr) regs ∙ stands.dbr; laid = h.written.laid }))
+  link_cases at (Err why) turn after stands h =
+      inr ((h.0, ap flat_run_of h.1), subst (λ (r : Booted). Stands r.loaded frames r.state) (sym h.1) stands)
+
+  link_kept_by : (at : AtFields) (turn : Turn) (after : Booted) → IsStanding frames state → (((turn ≡ NoMemory) × (after ≡ before (Link at))) ⊎ (IsBy (Link at) (flat_turn_by (Link at) lib (flat_run_of (before (Link at)))) turn after × Stands after.loaded frames after.state)) → IsTurnKept lib (before (Link at)) turn after
+  link_kept_by at turn after stands (inl h) =
+      record { cases = inr (inl h); stands = subst (λ (r : Booted). Stands r.loaded frames r.state) (sym h.1) stands }
+  link_kept_by at turn after stands (inr h) =
+      record { cases = inl (flat_by (Link at) turn after h.0); stands = h.1 }
+
+  link_kept : (at : AtFields) (turn : Turn) (after : Booted) → IsStanding frames state → IsLinkTurn (snap_of known lib.catalog lib.files at) frames at (before (Link at)) turn after → IsTurnKept lib (before (Link at)) turn after
+  link_kept at turn after stands h =
+      link_kept_by at turn after stands (link_cases at (snap_of known lib.catalog lib.files at) turn after stands h)
+
+  moved_dbr : (g : RegsFields) → (moved_on g).dbr ≡ g.dbr
+  unfolding moved_on
+  moved_dbr g = refl
+
+  console_cases : (b : Bool) (text : Result (List ℕ) Fault) (turn : Turn) (after : Booted) → IsStanding frames state → IsConsoleTurn b text (before Print) turn after → IsBy Print (flat_printed_by b text (flat_run_of (before Print))) turn after × Stands after.loaded frames after.state
+  console_cases true text turn after stands h =
+      ((h.0, ap flat_run_of h.1), subst (λ (r : Booted). Stands r.loaded frames r.state) (sym h.1) stands)
+  console_cases false (Err f) turn after stands h =
+      ((h.0, ap flat_run_of h.1), subst (λ (r : Booted). Stands r.loaded frames r.state) (sym h.1) stands)
+  console_cases false (Ok text) turn after stands h =
+      ((h.0, ap flat_run_of h.1), subst (λ (r : Booted). Stands r.loaded frames r.state) (sym h.1) (record { dbr = moved_dbr state.regs ∙ stands.dbr; laid = stands.laid }))
+
+  print_kept : (turn : Turn) (after : Booted) → IsStanding frames state → IsConsoleTurn (nat_lt console_limit state.regs.a) (console_text state.regs (flat_of state.memory)) (before Print) turn after → IsTurnKept lib (before Print) turn after
+  print_kept turn after stands h =
+      let k = console_cases (nat_lt console_limit state.regs.a) (console_text state.regs (flat_of state.memory)) turn after stands h in
+      record { cases = inl (flat_by Print turn after k.0); stands = k.1 }
+
+  turn_by : (coming : Coming) (turn : Turn) (after : Booted) → IsStanding frames state → IsTurnBy coming lib (before coming) turn after → IsTurnKept lib (before coming) turn after
+  turn_by Step turn after stands h = step_kept turn after stands h
+  turn_by (Link at) turn after stands h = link_kept at turn after stands h
+  turn_by Print turn after stands h = print_kept turn after stands h
+  turn_by (Over e) turn after stands h =
+      record {
+        cases = inl (flat_by (Over e) turn after (h.0, ap flat_run_of h.1));
+        stands = subst (λ (r : Booted). Stands r.loaded frames r.state) (sym h.1) stands;
+      }
+
+loaded_by : (lib : Library) (before : Booted) (turn : Turn) (after : Booted) (b : Bool) → b ≡ false → IsStanding lib.catalog.frames before.state → IsTurnBy before.coming lib (record before { loaded = b }) turn after → IsTurnKept lib (record before { loaded = b }) turn after
+loaded_by lib before turn after true e stands h = cc
+loaded_by lib before turn after false e stands h =
+    turn_by lib before.state before.known before.coming turn after stands h
+
+pub turn_law : TurnLaw
+unfolding IsTurn
+turn_law lib before turn after loaded stands h = loaded_by lib before turn after before.loaded loaded stands h

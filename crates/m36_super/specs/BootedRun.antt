@@ -1,0 +1,156 @@
+-- The booted run: what the next turn may be, and to which state it leads. Page services are silent,
+-- and free in which page gives way; all else is determined.
+use Rattle.std.specs.Prelude.{◌≡◌, ℕ, ◌≤◌, Bool, true, false, nat_lt, List, [], ◌∷◌}
+use Rattle.std.specs.Prelude.{Result, Ok, Err}
+use Rattle.m36_model.specs.Fields.{AtFields}
+use Rattle.m36_model.specs.Results.{moved_on}
+use Rattle.m36_model.specs.Store.{Change}
+use Rattle.m36_model.specs.Core.{core_store}
+use Rattle.m36_model.specs.Step.{record_of, state_after}
+use Rattle.m36_model.specs.Flat.{flat_put}
+use Rattle.m36_model.specs.BootedCore.{booted_dbr, IsLaid}
+use Rattle.m36_model.specs.Residence.{Paged, flat_of}
+use Rattle.m36_model.specs.PagedStep.{IsPresent}
+use Rattle.m36_model.specs.declared.endings.End.TheVariants as end
+use Rattle.m36_model.specs.declared.outcome.Fault.{Fault}
+use Rattle.m36_model.specs.declared.record.StepRecord.{StepRecord}
+use Rattle.m36_isol.specs.PageServices.{PagedState, core_state, stepped_memory, AreServed}
+use Rattle.m36_isol.specs.PageServices.{pages_of_an_instruction}
+use Rattle.m36_link.specs.Fields.{KnownFields, SnapFields}
+use Rattle.m36_link.specs.Snap.{RefusedFields, snap_of}
+use Rattle.m36_link.specs.Accepted.{accepted}
+use Rattle.m36_step.specs.declared.turns.Turn.{Turn}
+use Rattle.m36_step.specs.declared.turns.Turn.TheVariants.{Stepped, Linked, Console, Ended, NoMemory}
+use Rattle.m36_super.specs.Library.{Library}
+use Rattle.m36_super.specs.Services.{link_changes, note_snapped, note_refused, console_limit}
+use Rattle.m36_super.specs.Services.{console_text}
+use Rattle.m36_super.specs.Coming.{Coming, Step, Link, Print, Over, coming_after, loaded_after}
+use Rattle.m36_super.specs.FlatRun.{FlatRun}
+
+-- a state of the booted run
+pub record Booted : Type 0 where
+  pub state : PagedState
+  pub known : KnownFields
+  pub coming : Coming
+  pub loaded : Bool
+
+-- ---- steps
+
+-- a step over core as it stands
+abbrev pub told_of : PagedState → StepRecord
+told_of s = record_of core_store (core_state s)
+
+abbrev pub with_step : Booted → PagedState → Booted
+with_step r s =
+    record r {
+      state =
+          record {
+            regs = (state_after core_store (core_state s)).regs;
+            memory = stepped_memory s;
+          };
+      coming =
+          coming_after (loaded_after r.loaded (told_of s)) (told_of s).ppr.prr (told_of s).outcome;
+      loaded = loaded_after r.loaded (told_of s);
+    }
+
+-- Pages are served until the step meets none that is absent.
+pub record IsStep (frames : ℕ) (before : Booted) (turn : Turn) (after : Booted) : Type 0 where
+  pub services : ℕ
+  pub few : services ≤ pages_of_an_instruction
+  pub last : PagedState
+  pub served : AreServed frames services before.state last
+  pub present : IsPresent (told_of last).outcome
+  pub told : turn ≡ Stepped (told_of last)
+  pub after_is : after ≡ with_step before last
+
+-- once an LDBR has been executed no page is served
+pub record IsLoadedStep (before : Booted) (turn : Turn) (after : Booted) : Type 0 where
+  pub told : turn ≡ Stepped (told_of before.state)
+  pub after_is : after ≡ with_step before before.state
+
+abbrev pub IsStepTurn : Bool → ℕ → Booted → Turn → Booted → Type 0
+IsStepTurn false frames before turn after = IsStep frames before turn after
+IsStepTurn true frames before turn after = IsLoadedStep before turn after
+
+-- ---- services
+
+-- words of segments are written, wherever their pages are, and no page table word and no other word
+pub record IsWritten (frames : ℕ) (old new : Paged) (changes : List Change) : Type 0 where
+  pub laid : IsLaid new.core frames
+  pub flat : flat_of new ≡ flat_put (flat_of old) changes
+
+pub record IsLinked
+    (frames : ℕ) (at : AtFields) (s : SnapFields) (before : Booted) (turn : Turn) (after : Booted)
+    : Type 0 where
+  pub told : turn ≡ Linked (note_snapped at s)
+  pub regs : after.state.regs ≡ before.state.regs
+  pub written : IsWritten frames before.state.memory after.state.memory (link_changes at s)
+  pub known : after.known ≡ accepted before.known s
+  pub coming : after.coming ≡ Step
+  pub loaded : after.loaded ≡ before.loaded
+
+-- a link service by its answer; want of memory is free, and changes nothing
+abbrev pub IsLinkTurn :
+    Result SnapFields RefusedFields → ℕ → AtFields → Booted → Turn → Booted → Type 0
+IsLinkTurn answer frames at before NoMemory after = after ≡ before
+IsLinkTurn (Ok s) frames at before turn after = IsLinked frames at s before turn after
+IsLinkTurn (Err why) frames at before turn after =
+    (turn ≡ Linked (note_refused at why)) × (after ≡ record before { coming = Over (end.Link why.code) })
+
+-- the console service
+abbrev pub IsConsoleTurn : Bool → Result (List ℕ) Fault → Booted → Turn → Booted → Type 0
+IsConsoleTurn true text before turn after =
+    (turn ≡ Ended end.Console) × (after ≡ record before { coming = Over end.Console })
+IsConsoleTurn false (Err f) before turn after =
+    (turn ≡ Ended (end.Fault f)) × (after ≡ record before { coming = Over (end.Fault f) })
+IsConsoleTurn false (Ok text) before turn after =
+    (turn ≡ Console text)
+    × (after
+    ≡ record before {
+      state = record { regs = moved_on before.state.regs; memory = before.state.memory };
+      coming = Step;
+    })
+
+-- ---- one turn
+
+abbrev pub IsTurnBy : Coming → Library → Booted → Turn → Booted → Type 0
+IsTurnBy Step lib before turn after =
+    IsStepTurn before.loaded lib.catalog.frames before turn after
+IsTurnBy (Link at) lib before turn after =
+    IsLinkTurn (snap_of before.known lib.catalog lib.files at) lib.catalog.frames at before turn
+    after
+IsTurnBy Print lib before turn after =
+    IsConsoleTurn (nat_lt console_limit before.state.regs.a)
+    (console_text before.state.regs (flat_of before.state.memory)) before turn after
+IsTurnBy (Over e) lib before turn after = (turn ≡ Ended e) × (after ≡ before)
+
+unfoldable pub IsTurn : Library → Booted → Turn → Booted → Type 0
+IsTurn lib before turn after = IsTurnBy before.coming lib before turn after
+
+-- ---- the run
+
+-- a list of turns, one after another
+unfoldable pub AreTurns : Library → Booted → List Turn → Booted → Type 0
+AreTurns lib r [] last = last ≡ r
+AreTurns lib r (turn ∷ turns) last =
+    (mid : Booted) × IsTurn lib r turn mid × AreTurns lib mid turns last
+
+-- ---- what is kept in a run until an LDBR is executed
+
+pub record IsStanding (frames : ℕ) (s : PagedState) : Type 0 where
+  pub dbr : s.regs.dbr ≡ booted_dbr
+  pub laid : IsLaid s.memory.core frames
+
+abbrev pub Stands : Bool → ℕ → PagedState → Type 0
+Stands false frames s = IsStanding frames s
+Stands true frames s = Unit {0}
+
+-- the flat run's state for which a state of the booted run stands
+abbrev pub flat_run_of : Booted → FlatRun
+flat_run_of r =
+    record {
+      state = record { regs = r.state.regs; store = flat_of r.state.memory };
+      known = r.known;
+      coming = r.coming;
+      loaded = r.loaded;
+    }

@@ -1,0 +1,52 @@
+-- What the next turn of a booted run is, by the steps before it.
+use Rattle.std.specs.Prelude.{ℕ, Bool, true, false, ◌&&◌, nat_eq, Option, None, Some}
+use Rattle.m36_inst.specs.declared.effect.Effect.{Effect}
+use Rattle.m36_inst.specs.declared.effect.Effect.TheVariants as effect
+use Rattle.m36_model.specs.Faults.{master_mode_entry}
+use Rattle.m36_model.specs.Step.{decode}
+use Rattle.m36_model.specs.declared.endings.End.TheVariants as end
+use Rattle.m36_model.specs.declared.outcome.Fault.{Fault}
+use Rattle.m36_model.specs.declared.outcome.Outcome.{Outcome}
+use Rattle.m36_model.specs.declared.outcome.Outcome.TheVariants.{Next, Faulted, Stopped}
+use Rattle.m36_model.specs.declared.record.StepRecord.{StepRecord}
+pub use Rattle.m36_super.specs.declared.coming.Coming.{Coming}
+pub use Rattle.m36_super.specs.declared.coming.Coming.TheVariants.{Step, Link, Print, Over}
+
+-- the fault of a word that is a link to be snapped
+abbrev pub link_fault : ℕ
+link_fault = 24
+
+-- A link fault calls for a link service, and MME in ring 0 for a console service, until an LDBR has
+-- been executed. Every other fault and every stop ends the run.
+abbrev pub coming_in : Bool → Bool → Fault → Coming
+coming_in true console f = Link f.at
+coming_in false true f = Print
+coming_in false false f = Over (end.Fault f)
+
+abbrev pub coming_on : Bool → ℕ → Fault → Coming
+coming_on true ring f = Over (end.Fault f)
+coming_on false ring f =
+    coming_in (nat_eq f.number link_fault) (nat_eq f.number master_mode_entry && nat_eq ring 0) f
+
+abbrev pub coming_after : Bool → ℕ → Outcome → Coming
+coming_after loaded ring Next = Step
+coming_after loaded ring (Faulted f) = coming_on loaded ring f
+coming_after loaded ring (Stopped s) = Over (end.Stop s)
+
+-- ---- whether an LDBR has been executed
+
+abbrev pub is_ldbr : Option (Effect × ℕ) → Bool
+is_ldbr None = false
+is_ldbr (Some (effect.Ldbr, n)) = true
+is_ldbr (Some (e, n)) = false
+
+abbrev pub loads : Option ℕ → Outcome → Bool
+loads None outcome = false
+loads (Some w) Next = is_ldbr (decode w)
+loads (Some w) (Faulted f) = false
+loads (Some w) (Stopped s) = false
+
+-- before or in the step
+abbrev pub loaded_after : Bool → StepRecord → Bool
+loaded_after true e = true
+loaded_after false e = loads e.word e.outcome

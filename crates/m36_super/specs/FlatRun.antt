@@ -1,0 +1,101 @@
+-- The flat run: steps over the flat memory, with the link and the console service, and no pages.
+use Rattle.std.specs.Prelude.{ℕ, zero, suc, Bool, true, false, nat_lt, List, [], ◌∷◌}
+use Rattle.std.specs.Prelude.{Result, Ok, Err}
+use Rattle.m36_model.specs.Fields.{AtFields}
+use Rattle.m36_model.specs.Results.{moved_on}
+use Rattle.m36_model.specs.Store.{State}
+use Rattle.m36_model.specs.Step.{record_of, state_after}
+use Rattle.m36_model.specs.Flat.{Flat, flat_put, flat_store}
+use Rattle.m36_model.specs.declared.endings.End.{End}
+use Rattle.m36_model.specs.declared.endings.End.TheVariants as end
+use Rattle.m36_model.specs.declared.outcome.Fault.{Fault}
+use Rattle.m36_link.specs.Fields.{KnownFields, SnapFields}
+use Rattle.m36_link.specs.Snap.{RefusedFields, snap_of}
+use Rattle.m36_link.specs.Accepted.{accepted}
+use Rattle.m36_step.specs.declared.turns.Turn.{Turn}
+use Rattle.m36_step.specs.declared.turns.Turn.TheVariants.{Stepped, Linked, Console, Ended}
+use Rattle.m36_super.specs.Library.{Library}
+use Rattle.m36_super.specs.Services.{link_changes, note_snapped, note_refused, console_limit}
+use Rattle.m36_super.specs.Services.{console_text}
+use Rattle.m36_super.specs.Coming.{Coming, Step, Link, Print, Over, coming_after, loaded_after}
+
+-- registers and flat memory, what is known, what the next turn is, and whether an LDBR has been
+-- executed
+pub record FlatRun : Type 0 where
+  pub state : State Flat
+  pub known : KnownFields
+  pub coming : Coming
+  pub loaded : Bool
+
+pub record FlatTurn : Type 0 where
+  pub turn : Turn
+  pub after : FlatRun
+
+-- a step
+unfoldable pub flat_stepped : FlatRun → FlatTurn
+flat_stepped r =
+    let told = record_of flat_store r.state in
+    record {
+      turn = Stepped told;
+      after =
+          record r {
+            state = state_after flat_store r.state;
+            coming = coming_after (loaded_after r.loaded told) told.ppr.prr told.outcome;
+            loaded = loaded_after r.loaded told;
+          };
+    }
+
+-- a link service
+abbrev pub flat_linked_by : Result SnapFields RefusedFields → FlatRun → AtFields → FlatTurn
+flat_linked_by (Ok s) r at =
+    record {
+      turn = Linked (note_snapped at s);
+      after =
+          record r {
+            state =
+                record {
+                  regs = r.state.regs;
+                  store = flat_put r.state.store (link_changes at s);
+                };
+            known = accepted r.known s;
+            coming = Step;
+          };
+    }
+flat_linked_by (Err why) r at =
+    record {
+      turn = Linked (note_refused at why);
+      after = record r { coming = Over (end.Link why.code) };
+    }
+
+-- a console service; a refused one ends the run at once
+abbrev pub flat_printed_by : Bool → Result (List ℕ) Fault → FlatRun → FlatTurn
+flat_printed_by true text r =
+    record { turn = Ended end.Console; after = record r { coming = Over end.Console } }
+flat_printed_by false (Err f) r =
+    record { turn = Ended (end.Fault f); after = record r { coming = Over (end.Fault f) } }
+flat_printed_by false (Ok text) r =
+    record {
+      turn = Console text;
+      after =
+          record r {
+            state = record { regs = moved_on r.state.regs; store = r.state.store };
+            coming = Step;
+          };
+    }
+
+abbrev pub flat_turn_by : Coming → Library → FlatRun → FlatTurn
+flat_turn_by Step lib r = flat_stepped r
+flat_turn_by (Link at) lib r = flat_linked_by (snap_of r.known lib.catalog lib.files at) r at
+flat_turn_by Print lib r =
+    flat_printed_by (nat_lt console_limit r.state.regs.a) (console_text r.state.regs r.state.store)
+    r
+flat_turn_by (Over e) lib r = record { turn = Ended e; after = r }
+
+-- one turn of the flat run
+unfoldable pub flat_turn : Library → FlatRun → FlatTurn
+flat_turn lib r = flat_turn_by r.coming lib r
+
+-- as many turns of it
+unfoldable pub flat_turns : Library → FlatRun → ℕ → List Turn
+flat_turns lib r zero = []
+flat_turns lib r (suc n) = (flat_turn lib r).turn ∷ flat_turns lib (flat_turn lib r).after n

@@ -1,0 +1,8 @@
+-- What a booted system is made of, and never changes.
+use Rattle.std.specs.Prelude.{ℕ, List}
+use Rattle.m36_dir.specs.Catalog.{CatalogFields}
+
+-- the catalog, and the words of the file of each of its segments
+pub record Library : Type 0 where
+  pub catalog : CatalogFields
+  pub files : List (List ℕ)

@@ -1,0 +1,84 @@
+-- The services that a booted run calls for: links and the console. Both see and change the content
+-- of segments, wherever the pages are.
+use Rattle.std.specs.Prelude.{ℕ, zero, suc, ◌+◌, ◌/◌, ◌%◌, ◌^◌, nat_lt, if◌then◌else◌, codes}
+use Rattle.std.specs.Prelude.{List, [], ◌∷◌, ◌++◌, take, slice_index, Option, None, Some}
+use Rattle.std.specs.Prelude.{Result, Ok, Err}
+use Rattle.m36_word.specs.declared.pair.Pair.{Pair}
+use Rattle.m36_model.specs.Fields.{AtFields}
+use Rattle.m36_model.specs.Registers.{RegsFields}
+use Rattle.m36_model.specs.Act.{Answer}
+use Rattle.m36_model.specs.Store.{Change, examined}
+use Rattle.m36_model.specs.Modification.{ptr}
+use Rattle.m36_model.specs.Flat.{Flat, flat_store}
+use Rattle.m36_model.specs.declared.endings.LinkCode.{LinkCode}
+use Rattle.m36_model.specs.declared.outcome.Fault.{Fault}
+use Rattle.obj36_parts.specs.Fields.{LinkFields}
+use Rattle.obj36.specs.References.{reference_text}
+use Rattle.m36_link.specs.Fields.{SnapFields}
+use Rattle.m36_link.specs.Snap.{RefusedFields}
+use Rattle.m36_step.specs.LinkNoteFields.{LinkNoteFields}
+use Rattle.m36_super.specs.Laying.{written_from, laying}
+
+-- ---- links
+
+-- A link service that succeeds writes the pair, the section that it lays and the word of the linkage
+-- offset table for it, and no other word.
+unfoldable pub link_changes : AtFields → SnapFields → List Change
+link_changes at s =
+    written_from at.seg at.word (s.pair.even ∷ s.pair.odd ∷ []) ++ laying s.lay
+
+-- the link as it is told: ? where the word is none
+abbrev pub link_text : Option LinkFields → List ℕ
+link_text None = codes "?"
+link_text (Some link) = reference_text link
+
+abbrev pub note_of : AtFields → Option LinkFields → Result Pair LinkCode → LinkNoteFields
+note_of at link answer = record { name = link_text link; answer = answer; at = at; ring = at.ring }
+
+-- what is told of a link that was snapped, and of one that was refused
+abbrev pub note_snapped : AtFields → SnapFields → LinkNoteFields
+note_snapped at s = note_of at (Some s.link) (Ok s.pair)
+
+abbrev pub note_refused : AtFields → RefusedFields → LinkNoteFields
+note_refused at why = note_of at why.link (Err why.code)
+
+-- ---- the console
+
+-- The service writes as many characters as A says, and is refused above 256.
+abbrev pub console_limit : ℕ
+console_limit = 256
+
+-- a character below octal 200 is written as that byte, and any other as ?
+abbrev pub written_character : ℕ → ℕ
+written_character c = if nat_lt c 128 then c else 63
+
+-- what is written of the four characters of nine bits in a word
+unfoldable pub characters_of : ℕ → List ℕ
+characters_of w =
+    written_character (w / 2 ^ 27 % 2 ^ 9) ∷ written_character (w / 2 ^ 18 % 2 ^ 9)
+    ∷ written_character (w / 2 ^ 9 % 2 ^ 9) ∷ written_character (w % 2 ^ 9) ∷ []
+
+-- The words of the text stand from the word on that PR2 names. They are read in its ring by the
+-- rules of access, and no mark is set.
+abbrev pub console_at : RegsFields → ℕ → AtFields
+console_at g k =
+    record { seg = (ptr g 2).seg; word = ((ptr g 2).word + k) % 2 ^ 18; ring = (ptr g 2).ring }
+
+abbrev pub joined : Result Answer Fault → Result (List ℕ) Fault → Result (List ℕ) Fault
+joined (Err f) rest = Err f
+joined (Ok a) (Err f) = Err f
+joined (Ok a) (Ok characters) = Ok (characters_of (slice_index a.words 0) ++ characters)
+
+-- so many words from a word of the text on
+unfoldable pub console_words : RegsFields → Flat → ℕ → ℕ → Result (List ℕ) Fault
+console_words g f k zero = Ok []
+console_words g f k (suc n) =
+    joined (examined flat_store g f (console_at g k)) (console_words g f (k + 1) n)
+
+abbrev pub cut_to : ℕ → Result (List ℕ) Fault → Result (List ℕ) Fault
+cut_to n (Err f) = Err f
+cut_to n (Ok characters) = Ok (take n characters)
+
+-- what the console writes, or the first fault of its reading
+unfoldable pub console_text : RegsFields → Flat → Result (List ℕ) Fault
+console_text g f = cut_to g.a (console_words g f 0 ((g.a + 3) / 4))

@@ -1,0 +1,65 @@
+-- What holds of every booted run: the core stays that of the image until an LDBR is executed, and
+-- until then each turn that is no ABSA is the turn of the flat run.
+use Rattle.std.specs.Prelude.{◌≡◌, ℕ, ◌⊎◌, false, List, length}
+use Rattle.m36_model.specs.StoreLaw.{Each}
+use Rattle.m36_model.specs.Audit.{IsAudited}
+use Rattle.m36_model.specs.BootedCore.{booted_dbr}
+use Rattle.m36_model.specs.PagedStep.{ExecutesAbsa}
+use Rattle.m36_step.specs.declared.turns.Turn.{Turn}
+use Rattle.m36_step.specs.declared.turns.Turn.TheVariants.{Stepped, Linked, Console, Ended, Full, NoMemory}
+use Rattle.m36_super.specs.Library.{Library}
+use Rattle.m36_super.specs.Coming.{loaded_after}
+use Rattle.m36_super.specs.FlatRun.{flat_turn, flat_turns}
+use Rattle.m36_super.specs.BootedRun.{Booted, IsTurn, AreTurns, Stands, flat_run_of}
+
+-- the turn executes ABSA
+abbrev pub LocatesInTurn : Turn → Type 0
+LocatesInTurn (Stepped e) = ExecutesAbsa e
+LocatesInTurn (Linked note) = ⊥
+LocatesInTurn (Console text) = ⊥
+LocatesInTurn (Ended e) = ⊥
+LocatesInTurn Full = ⊥
+LocatesInTurn NoMemory = ⊥
+
+-- a turn of the flat run
+pub record IsFlatTurn (lib : Library) (before : Booted) (turn : Turn) (after : Booted) : Type 0 where
+  pub turn_is : turn ≡ (flat_turn lib (flat_run_of before)).turn
+  pub after_is : flat_run_of after ≡ (flat_turn lib (flat_run_of before)).after
+
+-- Until an LDBR is executed a turn is the flat run's, or wants memory, or executes ABSA; and the
+-- core stays that of the image.
+pub record IsTurnKept (lib : Library) (before : Booted) (turn : Turn) (after : Booted) : Type 0 where
+  pub cases :
+      IsFlatTurn lib before turn after ⊎ ((turn ≡ NoMemory) × (after ≡ before)) ⊎ LocatesInTurn turn
+  pub stands : Stands after.loaded lib.catalog.frames after.state
+
+abbrev pub TurnLaw : Type 0
+TurnLaw =
+    (lib : Library) (before : Booted) (turn : Turn) (after : Booted) → before.loaded ≡ false
+    → Stands false lib.catalog.frames before.state → IsTurn lib before turn after
+    → IsTurnKept lib before turn after
+
+-- A turn keeps the audit conditions until an LDBR is executed.
+abbrev pub TurnAuditLaw : Type 0
+TurnAuditLaw =
+    (lib : Library) (before : Booted) (turn : Turn) (after : Booted) → before.loaded ≡ false
+    → Stands false lib.catalog.frames before.state
+    → IsAudited before.state.memory.core booted_dbr → IsTurn lib before turn after
+    → after.loaded ≡ false → IsAudited after.state.memory.core booted_dbr
+
+-- the turn executes no ABSA and no LDBR, and does not want memory
+abbrev pub IsPlainTurn : Turn → Type 0
+IsPlainTurn (Stepped e) = (ExecutesAbsa e → ⊥) × (loaded_after false e ≡ false)
+IsPlainTurn (Linked note) = Unit {0}
+IsPlainTurn (Console text) = Unit {0}
+IsPlainTurn (Ended e) = Unit {0}
+IsPlainTurn Full = Unit {0}
+IsPlainTurn NoMemory = ⊥
+
+-- The turns of a booted run that are plain are those of the flat run. The flat run knows of no
+-- frames.
+abbrev pub FunctionLaw : Type 0
+FunctionLaw =
+    (lib : Library) (turns : List Turn) (r last : Booted) → r.loaded ≡ false
+    → Stands false lib.catalog.frames r.state → AreTurns lib r turns last → Each IsPlainTurn turns
+    → turns ≡ flat_turns lib (flat_run_of r) (length turns)

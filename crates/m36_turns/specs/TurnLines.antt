@@ -1,0 +1,58 @@
+-- The lines of services and of the end of a run, without their line feeds.
+use Rattle.std.specs.Prelude.{ℕ, Bool, ◌||◌, nat_le, nat_eq, if◌then◌else◌, List, [], ◌∷◌, ◌++◌, codes, Result, Ok, Err}
+use Rattle.std.specs.List.{join_with_byte, flat_map}
+use Rattle.m36_word.specs.declared.pair.Pair.{Pair}
+use Rattle.m36_text.specs.Digits.{octal_text, decimal_text}
+use Rattle.m36_model.specs.declared.endings.End.{End}
+use Rattle.m36_model.specs.declared.endings.End.TheVariants as end
+use Rattle.m36_model.specs.declared.endings.LinkCode.{LinkCode}
+use Rattle.m36_model.specs.declared.endings.LinkCode.TheVariants.{L1, L2, L3, L4, L5, L6}
+use Rattle.m36_step.specs.LinkNoteFields.{LinkNoteFields}
+use Rattle.m36_trace.specs.TraceLine.{word_of_segment, fault_text, stop_text}
+
+-- ---- a link service: the ring, the word of the link, the link, and the pair or the code
+
+abbrev pub link_code_text : LinkCode → List ℕ
+link_code_text L1 = codes "L1"
+link_code_text L2 = codes "L2"
+link_code_text L3 = codes "L3"
+link_code_text L4 = codes "L4"
+link_code_text (L5 code) = codes "L5"
+link_code_text (L6 place count) = codes "L6"
+
+abbrev pub pair_text : Pair → List ℕ
+pair_text p = octal_text 12 p.even ++ codes " " ++ octal_text 12 p.odd
+
+abbrev pub link_answer_text : Result Pair LinkCode → List ℕ
+link_answer_text (Ok pair) = pair_text pair
+link_answer_text (Err code) = link_code_text code
+
+unfoldable pub link_line_of : LinkNoteFields → List ℕ
+link_line_of n =
+    join_with_byte 32
+    (codes "link" ∷ octal_text 1 n.ring ∷ word_of_segment n.at.seg n.at.word ∷ n.name
+    ∷ link_answer_text n.answer ∷ [])
+
+-- ---- a console service: the characters
+
+-- octal 40 to 176 stand as they are, but a backslash; it and all others stand as a backslash and
+-- three octal digits
+abbrev pub is_escaped : ℕ → Bool
+is_escaped c = nat_eq c 92 || nat_le c 31 || nat_le 127 c
+
+unfoldable pub console_character : ℕ → List ℕ
+console_character c = if is_escaped c then 92 ∷ octal_text 3 c else c ∷ []
+
+unfoldable pub console_line_of : List ℕ → List ℕ
+console_line_of characters = codes "console " ++ flat_map console_character characters
+
+-- ---- the end of a run: how it ended, and after how many steps
+
+abbrev pub end_text : End → List ℕ
+end_text (end.Fault fault) = fault_text fault
+end_text (end.Stop stop) = stop_text stop
+end_text (end.Link code) = codes "link " ++ link_code_text code
+end_text end.Console = codes "console"
+
+unfoldable pub run_end_line_of : End → ℕ → List ℕ
+run_end_line_of how steps = join_with_byte 32 (codes "end" ∷ end_text how ∷ decimal_text steps ∷ [])

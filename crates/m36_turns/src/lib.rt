@@ -1,0 +1,18 @@
+//! The lines of turns that are no steps: what a link service and a console service did, and how a run ended.
+//!
+//! What is promised: each line is exactly the text of its note, without its line feed, and has a bounded length. No line
+//! takes memory. A step's own line is that of `m36_trace`.
+//!
+//! The lines are this simulator's own.
+#![tactic(auto)]
+
+pub mod console;
+pub mod ending;
+pub mod link;
+mod put;
+#[cfg(test)]
+mod tests;
+
+pub use console::console_line;
+pub use ending::run_end_line;
+pub use link::link_line;
