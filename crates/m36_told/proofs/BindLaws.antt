@@ -83,9 +83,10 @@ pub ruleset binding = (bound_given, bound_refused)
 -- ---- the objects of the components, one after another
 
 -- what completes a reading that is left completes the whole
-abbrev pub Completes : {B : Type 0} → Reading (Early B) → Reading (Early B) → FolderState → FolderState → List Asked → List Asked → Type 0
-Completes {B} left whole old now before middle =
-    (result : Result B Refusal) (new : FolderState) (after : List Asked) → Reads left result now new middle after → Reads whole result old new before after
+pub record Completes
+    {B : Type 0} (left whole : Reading (Early B)) (old now : FolderState) (before middle : List Asked)
+    : Type 0 where
+  pub by : (result : Result B Refusal) (new : FolderState) (after : List Asked) → Reads left result now new middle after → Reads whole result old new before after
 
 first_read : (done : List PartsFields) (name : List ℕ) (others : List (List ℕ)) → objects_onto done (name ∷ others) ≡ then_with (object_onto done name) (λ more. objects_onto more others)
 unfolding objects_onto
@@ -96,11 +97,14 @@ pub object_read :
     (old now next : FolderState) (before middle behind : List Asked)
     → rest ≡ name ∷ others → Reads (object_onto done name) (Ok more) now next middle behind
     → Completes (objects_onto done rest) whole old now before middle → Completes (objects_onto more others) whole old next before behind
-object_read done more name others rest whole old now next before middle behind first read completes = λ result new after reads.
+object_read done more name others rest whole old now next before middle behind first read completes =
     let whole_rest : objects_onto done rest ≡ then_with (object_onto done name) (λ m. objects_onto m others) = ap (objects_onto done) first ∙ first_read done name others in
-    completes result new after
-    (subst (λ (p : Reading (Early (List PartsFields))). Reads p result now new middle after) (sym whole_rest)
-    (reads_then (object_onto done name) (λ m. objects_onto m others) more result now next new middle behind after read reads))
+    record {
+      by = λ result new after reads.
+          completes.by result new after
+          (subst (λ (p : Reading (Early (List PartsFields))). Reads p result now new middle after) (sym whole_rest)
+          (reads_then (object_onto done name) (λ m. objects_onto m others) more result now next new middle behind after read reads));
+    }
 
 pub object_stopped :
     (done : List PartsFields) (r : Refusal) (name : List ℕ) (others rest : List (List ℕ)) (whole : Reading (Early (List PartsFields)))
@@ -109,7 +113,7 @@ pub object_stopped :
     → Completes (objects_onto done rest) whole old now before middle → Reads whole (Err r) old next before behind
 object_stopped done r name others rest whole old now next before middle behind first read completes =
     let whole_rest : objects_onto done rest ≡ then_with (object_onto done name) (λ m. objects_onto m others) = ap (objects_onto done) first ∙ first_read done name others in
-    completes (Err r) next behind
+    completes.by (Err r) next behind
     (subst (λ (p : Reading (Early (List PartsFields))). Reads p (Err r) now next middle behind) (sym whole_rest)
     (reads_stop (List PartsFields) (List PartsFields) (object_onto done name) (λ m. objects_onto m others) r now next middle behind read))
 
@@ -118,13 +122,14 @@ pub objects_read :
     → rest ≡ [] → Completes (objects_onto done rest) whole old now before middle → Reads whole (Ok done) old now before middle
 unfolding objects_onto
 objects_read done rest whole old now before middle none completes =
-    completes (Ok done) now middle
+    completes.by (Ok done) now middle
     (subst (λ (ns : List (List ℕ)). Reads (objects_onto done ns) (Ok done) now now middle middle) (sym none) (reads_nothing (Ok done) (Ok done) now middle refl))
 
 pub objects_begin : (done : List PartsFields) (names : List (List ℕ)) (old : FolderState) (before : List Asked) → done ≡ []
     → Completes (objects_onto done names) (objects_onto [] names) old old before before
-objects_begin done names old before none = λ result new after reads.
-    subst (λ (d : List PartsFields). Reads (objects_onto d names) result old new before after) none reads
+objects_begin done names old before none = record {
+  by = λ result new after reads. subst (λ (d : List PartsFields). Reads (objects_onto d names) result old new before after) none reads;
+}
 
 -- what is left of names
 
