@@ -78,8 +78,6 @@ pub bound_refused :
 bound_refused files lent given f r is refused refuses =
     handed PartsFields ToldFields (bind_told files) files.bindfile lent given f r (λ f. refl) is refused refuses
 
-pub ruleset binding = (bound_given, bound_refused)
-
 -- ---- the objects of the components, one after another
 
 -- what completes a reading that is left completes the whole

@@ -2,7 +2,7 @@
 
 ghost use Rattle.std.specs.Prelude.{◌≡◌, ◌≤◌, ◌∷◌, ◌++◌, [], length, OnOk, IfOk, Ok};
 ghost use Rattle.m36_outside.specs.ReadAnswer.{file_limit};
-ghost use Rattle.m36_bindfile.specs.BindFile.{bind_lines, names_by};
+ghost use Rattle.m36_bindfile.specs.BindFile.{bind_lines, names_by, BindSays};
 ghost use Rattle.m36_bind.specs.Bound.{bound_of};
 ghost use Rattle.m36_reading.specs.Asking.{Gives, Refuses};
 ghost use Rattle.m36_reading.specs.Outside.{folder_of, outside_of};
@@ -155,8 +155,20 @@ fn told_of(alloc: Global, name: &Name, object: &Object) -> Result<Told, NoMemory
     Ok(told)
 }
 
+// What these objects are bound to, or why they are not.
+fn bound_by(
+    alloc: Global,
+    text: &[u8],
+    names: &[Name],
+    objects: &[Object],
+) -> Result<Object, BindFault>
+    requires { length text.now ≤ file_limit }
+    ensures { BindSays result (bound_of text.now names.now objects.now) }
+{
+    bind(alloc, text, names, objects)
+}
+
 // The file and the print of what these objects are bound to, or why they are not.
-#[tactic(auto, using(crate::proofs::BindLaws::binding))]
 fn bound_in(
     alloc: Global,
     files: &BindFiles,
@@ -167,10 +179,12 @@ fn bound_in(
     requires { length text.now ≤ file_limit }
     ensures { Gives result (bind_told files.now (bound_of text.now names.now objects.now)) }
 {
-    match bind(alloc, text, names, objects) {
-        Ok(object) => Ok(told_of(alloc, &files.object, &object)?),
-        Err(fault) => Err(refuse_bind(alloc, files.bindfile.bytes(), fault)),
-    }
+    let object = match bound_by(alloc, text, names, objects) {
+        Ok(object) => object,
+        Err(fault) => return Err(refuse_bind(alloc, files.bindfile.bytes(), fault)),
+    };
+    let told = told_of(alloc, &files.object, &object)?;
+    Ok(told)
 }
 
 // Reads the components, and binds them.
