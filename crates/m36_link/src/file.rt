@@ -87,9 +87,9 @@ pub(crate) fn file_of(files: &[File], seg: u16) -> Option<&File>
     }
 }
 
-/// The object that the file of a segment is.
+/// The object that the file of a segment is; None where the number is that of no file, or the file is no object.
 #[tactic(auto, unfolding(crate::specs::Known::object_in))]
-pub(crate) fn object_in(files: &[File], seg: u16) -> Option<&Object>
+pub fn object_in(files: &[File], seg: u16) -> Option<&Object>
     ensures value { option_copied result ≡ object_in files.now seg }
     ensures fits { IfSome result (λ o. length (laid_words o.now) ≤ 2 ^ 18) }
 {

@@ -90,9 +90,9 @@ fn section_at(laid: &[Laid], files: &[File], at: At) -> Option<Laid>
 
 // ---- where it leads
 
-// The segment of a number.
+/// The segment of a number; None where the catalog has none.
 #[tactic(auto, unfolding(crate::specs::Known::segment_of))]
-fn segment_of(catalog: &Catalog, seg: u16) -> Option<&Segment>
+pub fn segment_of(catalog: &Catalog, seg: u16) -> Option<&Segment>
     ensures { option_copied result ≡ segment_of catalog.now seg }
 {
     match place_of(seg) {

@@ -4,7 +4,6 @@ use Rattle.std.specs.Prelude.{ℕ, zero, suc, ◌+◌, ◌*◌, ◌/◌, ◌%◌
 use Rattle.m36_desc.specs.Fields.{SdwFields}
 use Rattle.m36_model.specs.Core.{core_store, unmarked}
 use Rattle.m36_model.specs.Place.{core_sdw}
-use Rattle.m36_model.specs.Registers.{RegsFields}
 use Rattle.m36_model.specs.Store.{State}
 use Rattle.m36_model.specs.Step.{state_after}
 use Rattle.m36_model.specs.BootedCore.{descriptor_words, booted_dbr, table_at, wired_frames, absent_ptw, resident_ptw, IsPage, page_word, IsLaid}
@@ -12,11 +11,12 @@ use Rattle.m36_model.specs.Residence.{Paged, ptw_of_page, IsResidence, resident_
 use Rattle.m36_isol.proofs.PagedStep.{paged_step_law}
 use Rattle.m36_isol.proofs.Moved.{same_descriptors, laid_by}
 use Rattle.m36_page.specs.Fields.{PagerFields}
-use Rattle.m36_page.specs.Residence.{has_page, spot_of, frame_in, frame_of, kept_word, word_in, content_by, content_of, Holds, IsPager, TellsPage, Reads} 
+use Rattle.m36_page.specs.Residence.{has_page, spot_of, frame_in, frame_of, kept_word, word_in, content_by, content_of, Holds, IsPager, TellsPage, Reads}
 use Rattle.m36_page.specs.Residence as pages
 use Rattle.m36_page.specs.Changes.{IsSpot, IsPaged, IsKept}
 use Rattle.m36_page.proofs.Frames.{frame_absent, frame_resident}
-use Rattle.m36_super.specs.SuperFields.{IsManaged, frame_by, held_in, IsPaging, PagingLaw, StepManagedLaw}
+use Rattle.m36_link.specs.Known.{linkage_segment}
+use Rattle.m36_super.specs.SuperFields.{IsLinkage, IsManaged, frame_by, held_in, IsPaging, PagingLaw, StepManagedLaw}
 
 -- lists with the same first words
 take_same : (n : ℕ) (xs ys : List ℕ) → length xs ≡ length ys → ((a : ℕ) → a < n → slice_index xs a ≡ slice_index ys a) → take n xs ≡ take n ys
@@ -135,7 +135,10 @@ frame_true : (b : Bool) (v : Option ℕ) → b ≡ true → frame_by b v ≡ v
 frame_true true v e = refl
 frame_true false v e = cc
 
-module _ (frames : ℕ) (regs : RegsFields) (core now : List ℕ) (p q : PagerFields) (m : IsManaged frames regs core p) (pager : IsPager q) (reads : Reads q now) (kept : IsKept p core q now) where
+linkage_kept : (core now : List ℕ) → ((seg : ℕ) → core_sdw now booted_dbr seg ≡ core_sdw core booted_dbr seg) → (seg : ℕ) → IsLinkage core seg → IsLinkage now seg
+linkage_kept core now same seg h = record { sdw = h.sdw; live = same seg ∙ h.live; whole = h.whole }
+
+module _ (frames : ℕ) (core now : List ℕ) (p q : PagerFields) (m : IsManaged frames core p) (pager : IsPager q) (reads : Reads q now) (kept : IsKept p core q now) where
   -- the descriptors stay
   not_paged : (a : ℕ) → a < 2048 → IsPaged p a → ⊥
   not_paged a low (inl h) =
@@ -194,7 +197,7 @@ module _ (frames : ℕ) (regs : RegsFields) (core now : List ℕ) (p q : PagerFi
       ∙ sym (word_as (record { core = core; kept = kept_word p }) (frame_of p core seg (w / 1024)) seg w)
       ∙ sym (ap (λ (v : Option ℕ). resident_word (record { core = core; kept = kept_word p }) v seg w) there)
 
-  paging : IsPaging frames regs core now p q
+  paging : IsPaging frames core now p q
   paging =
       record {
         moved =
@@ -211,7 +214,6 @@ module _ (frames : ℕ) (regs : RegsFields) (core now : List ℕ) (p q : PagerFi
         after_is = λ seg page. refl;
         manages =
             record {
-              dbr = m.dbr;
               laid = now_laid;
               first = first;
               frames_are = frames_are;
@@ -221,11 +223,12 @@ module _ (frames : ℕ) (regs : RegsFields) (core now : List ℕ) (p q : PagerFi
               serves = serves;
               exact = λ seg page h. page_now seg page (m.exact seg page (has_before seg page h));
               at = at;
+              linkage = λ ring low. linkage_kept core now (same_descriptors core now descriptors) (linkage_segment ring) (m.linkage ring low);
             };
       }
 
 pub paging_law : PagingLaw
-paging_law frames regs core now p q m pager reads kept = paging frames regs core now p q m pager reads kept
+paging_law frames core now p q m pager reads kept = paging frames core now p q m pager reads kept
 
 -- ---- a step
 
@@ -234,13 +237,12 @@ tells_as p seg page x y same (inl e) = inl (same ∙ e)
 tells_as p seg page x y same (inr h) = inr (h.0, h.1, same ∙ h.2)
 
 pub step_managed : StepManagedLaw
-step_managed frames s p m dbr =
+step_managed frames s p dbr m =
     let now = (state_after core_store s).store in
-    let step = paged_step_law frames (kept_word p) s m.dbr m.laid in
+    let step = paged_step_law frames (kept_word p) s dbr m.laid in
     let live : (seg : ℕ) → core_sdw now booted_dbr seg ≡ core_sdw s.store booted_dbr seg = same_descriptors s.store now step.descriptors in
     let same : (seg page : ℕ) → has_page p seg page ≡ true → unmarked (slice_index now (spot_of p seg page)) ≡ unmarked (slice_index s.store (spot_of p seg page)) = λ seg page has. let at = m.at seg page has in ap (λ (n : ℕ). unmarked (slice_index now n)) at ∙ step.pages seg page (m.exact seg page has) ∙ sym (ap (λ (n : ℕ). unmarked (slice_index s.store n)) at) in
     record {
-      dbr = dbr;
       laid = step.laid;
       first = m.first;
       frames_are = m.frames_are;
@@ -250,4 +252,5 @@ step_managed frames s p m dbr =
       serves = λ seg page h. m.serves seg page (record { sdw = h.sdw; live = sym (live seg) ∙ h.live; begins = h.begins });
       exact = λ seg page has. let h = m.exact seg page has in record { sdw = h.sdw; live = live seg ∙ h.live; begins = h.begins };
       at = m.at;
+      linkage = λ ring low. linkage_kept s.store now live (linkage_segment ring) (m.linkage ring low);
     }

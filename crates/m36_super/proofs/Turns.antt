@@ -75,13 +75,15 @@ module _ (lib : Library) (state : PagedState) (known : KnownFields) where
       let f = alike.flat in
       let same : flat_state last.memory.kept (core_state last) ≡ (flat_run_of (before Step)).state = λ i. record { regs = r i; store = f i } in
       let e : told_of last ≡ record_of flat_store (flat_run_of (before Step)).state = h.told ∙ ap (record_of flat_store) same in
-      let s : flat_state last.memory.kept (state_after core_store (core_state last)) ≡ state_after flat_store (flat_run_of (before Step)).state = h.state ∙ ap (state_after flat_store) same in
-      (told ∙ ap Stepped e, λ i. record {
-        state = s i;
-        known = known;
-        coming = coming_after (loaded_after false (e i)) (e i).ppr.prr (e i).outcome;
-        loaded = loaded_after false (e i);
-      })
+      let s : flat_state last.memory.kept (state_after core_store (core_state last)) ≡ state_after flat_store (flat_run_of (before Step)).state = h.state ∙ ap (state_after flat_store) same in (
+        told ∙ ap Stepped e,
+        λ i. record {
+          state = s i;
+          known = known;
+          coming = coming_after (loaded_after false (e i)) (e i).ppr.prr (e i).outcome;
+          loaded = loaded_after false (e i);
+        },
+      )
 
   step_cases : (last : PagedState) → IsAlike frames state last → (turn : Turn) → turn ≡ Stepped (told_of last) → IsPresent (told_of last).outcome → IsPagedStep frames last.memory.kept (core_state last) → (IsFlatStep last.memory.kept (core_state last) ⊎ IsPageFault last.memory.kept (core_state last) ⊎ IsAbsaStep last.memory.kept (core_state last)) → IsTurnKept lib (before Step) turn (with_step (before Step) last)
   step_cases last alike turn told present step (inl h) =

@@ -17,13 +17,11 @@ use Rattle.m36_model.specs.declared.record.StepRecord.{StepRecord}
 use Rattle.m36_isol.specs.PageServices.{PagedState, core_state, stepped_memory, AreServed}
 use Rattle.m36_isol.specs.PageServices.{pages_of_an_instruction}
 use Rattle.m36_link.specs.Fields.{KnownFields, SnapFields}
-use Rattle.m36_link.specs.Known.{nothing_known}
 use Rattle.m36_link.specs.Snap.{RefusedFields, snap_of}
 use Rattle.m36_link.specs.Accepted.{accepted}
 use Rattle.m36_step.specs.declared.turns.Turn.{Turn}
 use Rattle.m36_step.specs.declared.turns.Turn.TheVariants.{Stepped, Linked, Console, Ended, NoMemory}
 use Rattle.m36_super.specs.Library.{Library}
-use Rattle.m36_super.specs.BootedImage.{start_regs, IsBootedImage}
 use Rattle.m36_super.specs.Services.{link_changes, note_snapped, note_refused, console_limit}
 use Rattle.m36_super.specs.Services.{console_text}
 use Rattle.m36_super.specs.Coming.{Coming, Step, Link, Print, Over, coming_after, loaded_after}
@@ -130,14 +128,6 @@ unfoldable pub IsTurn : Library → Booted → Turn → Booted → Type 0
 IsTurn lib before turn after = IsTurnBy before.coming lib before turn after
 
 -- ---- the run
-
--- the states in which a run may begin: the booted image, whatever pages are in frames
-pub record IsBoot (lib : Library) (s : SnapFields) (r : Booted) : Type 0 where
-  pub image : IsBootedImage lib s r.state.memory
-  pub regs : r.state.regs ≡ start_regs lib.catalog.start.ring s
-  pub known : r.known ≡ accepted nothing_known s
-  pub coming : r.coming ≡ Step
-  pub loaded : r.loaded ≡ false
 
 -- a list of turns, one after another
 unfoldable pub AreTurns : Library → Booted → List Turn → Booted → Type 0

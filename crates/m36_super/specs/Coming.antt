@@ -3,21 +3,14 @@ use Rattle.std.specs.Prelude.{ℕ, Bool, true, false, ◌&&◌, nat_eq, Option, 
 use Rattle.m36_inst.specs.declared.effect.Effect.{Effect}
 use Rattle.m36_inst.specs.declared.effect.Effect.TheVariants as effect
 use Rattle.m36_model.specs.Faults.{master_mode_entry}
-use Rattle.m36_model.specs.Fields.{AtFields}
 use Rattle.m36_model.specs.Step.{decode}
-use Rattle.m36_model.specs.declared.endings.End.{End}
 use Rattle.m36_model.specs.declared.endings.End.TheVariants as end
 use Rattle.m36_model.specs.declared.outcome.Fault.{Fault}
 use Rattle.m36_model.specs.declared.outcome.Outcome.{Outcome}
 use Rattle.m36_model.specs.declared.outcome.Outcome.TheVariants.{Next, Faulted, Stopped}
 use Rattle.m36_model.specs.declared.record.StepRecord.{StepRecord}
-
--- a step, the service that the last step calls for, or the end again
-pub data Coming : Type 0 where
-  Step : Coming
-  Link : AtFields → Coming
-  Print : Coming
-  Over : End → Coming
+pub use Rattle.m36_super.specs.declared.coming.Coming.{Coming}
+pub use Rattle.m36_super.specs.declared.coming.Coming.TheVariants.{Step, Link, Print, Over}
 
 -- the fault of a word that is a link to be snapped
 abbrev pub link_fault : ℕ

@@ -1,9 +1,13 @@
 pub mod Library
-pub mod Descriptors
-pub mod BootedImage
+pub mod Laying
 pub mod Services
 pub mod Coming
 pub mod FlatRun
 pub mod BootedRun
 pub mod TurnLaws
 pub mod SuperFields
+pub mod BootSays
+pub mod Stepping
+pub mod Writing
+pub mod Examining
+pub mod SuperTurn

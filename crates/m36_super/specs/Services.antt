@@ -13,11 +13,11 @@ use Rattle.m36_model.specs.Flat.{Flat, flat_store}
 use Rattle.m36_model.specs.declared.endings.LinkCode.{LinkCode}
 use Rattle.m36_model.specs.declared.outcome.Fault.{Fault}
 use Rattle.obj36_parts.specs.Fields.{LinkFields}
-use Rattle.m36_list.specs.Print.{reference_text}
+use Rattle.obj36.specs.References.{reference_text}
 use Rattle.m36_link.specs.Fields.{SnapFields}
 use Rattle.m36_link.specs.Snap.{RefusedFields}
 use Rattle.m36_step.specs.LinkNoteFields.{LinkNoteFields}
-use Rattle.m36_super.specs.BootedImage.{written_from, laying}
+use Rattle.m36_super.specs.Laying.{written_from, laying}
 
 -- ---- links
 
@@ -48,18 +48,15 @@ note_refused at why = note_of at why.link (Err why.code)
 abbrev pub console_limit : ℕ
 console_limit = 256
 
--- the four characters of nine bits in a word
-abbrev pub characters_of : ℕ → List ℕ
-characters_of w =
-    w / 2 ^ 27 % 2 ^ 9 ∷ w / 2 ^ 18 % 2 ^ 9 ∷ w / 2 ^ 9 % 2 ^ 9 ∷ w % 2 ^ 9 ∷ []
-
 -- a character below octal 200 is written as that byte, and any other as ?
 abbrev pub written_character : ℕ → ℕ
 written_character c = if nat_lt c 128 then c else 63
 
-unfoldable pub written_characters : List ℕ → List ℕ
-written_characters [] = []
-written_characters (c ∷ more) = written_character c ∷ written_characters more
+-- what is written of the four characters of nine bits in a word
+unfoldable pub characters_of : ℕ → List ℕ
+characters_of w =
+    written_character (w / 2 ^ 27 % 2 ^ 9) ∷ written_character (w / 2 ^ 18 % 2 ^ 9)
+    ∷ written_character (w / 2 ^ 9 % 2 ^ 9) ∷ written_character (w % 2 ^ 9) ∷ []
 
 -- The words of the text stand from the word on that PR2 names. They are read in its ring by the
 -- rules of access, and no mark is set.
@@ -80,7 +77,7 @@ console_words g f k (suc n) =
 
 abbrev pub cut_to : ℕ → Result (List ℕ) Fault → Result (List ℕ) Fault
 cut_to n (Err f) = Err f
-cut_to n (Ok characters) = Ok (written_characters (take n characters))
+cut_to n (Ok characters) = Ok (take n characters)
 
 -- what the console writes, or the first fault of its reading
 unfoldable pub console_text : RegsFields → Flat → Result (List ℕ) Fault

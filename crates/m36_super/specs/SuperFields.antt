@@ -1,6 +1,8 @@
 -- What a booted system shows.
 use Rattle.std.specs.Prelude.{◌≡◌, ℕ, ◌≤◌, ◌+◌, Bool, true, false, if◌then◌else◌, List, length, slice_get}
-use Rattle.std.specs.Prelude.{Option, Some, None}
+use Rattle.std.specs.Prelude.{Option, Some, None, ◌<◌, Ok}
+use Rattle.m36_desc.specs.Fields.{SdwFields}
+use Rattle.m36_model.specs.Place.{core_sdw}
 use Rattle.m36_model.specs.Registers.{RegsFields}
 use Rattle.m36_model.specs.Store.{State}
 use Rattle.m36_model.specs.Core.{core_store}
@@ -11,7 +13,7 @@ use Rattle.m36_page.specs.Fields.{PagerFields}
 use Rattle.m36_page.specs.Residence.{has_page, spot_of, frame_of, kept_word, IsPager, Reads}
 use Rattle.m36_page.specs.Changes.{IsKept}
 use Rattle.m36_link.specs.Fields.{KnownFields}
-use Rattle.m36_link.specs.Laws.{IsMade}
+use Rattle.m36_link.specs.Known.{linkage_segment}
 use Rattle.m36_super.specs.Library.{Library}
 use Rattle.m36_super.specs.Coming.{Coming}
 use Rattle.m36_super.specs.BootedRun.{Booted}
@@ -41,10 +43,15 @@ booted_of s =
       loaded = s.loaded;
     }
 
--- Until an LDBR has been executed: the core is that of the image, the pager has the page tables of
--- the image and no others, and the page table words are as it left them.
-pub record IsManaged (frames : ℕ) (regs : RegsFields) (core : List ℕ) (p : PagerFields) : Type 0 where
-  pub dbr : regs.dbr ≡ booted_dbr
+-- The descriptor of a linkage segment: it has all the pages of a segment.
+pub record IsLinkage (core : List ℕ) (seg : ℕ) : Type 0 where
+  pub sdw : SdwFields
+  pub live : core_sdw core booted_dbr seg ≡ Ok sdw
+  pub whole : sdw.bound ≡ 16383
+
+-- The core is that of the image, the pager has the page tables of the image and no others, and the
+-- page table words are as it left them.
+pub record IsManaged (frames : ℕ) (core : List ℕ) (p : PagerFields) : Type 0 where
   pub laid : IsLaid core frames
   pub first : p.first ≡ wired_frames
   pub frames_are : length p.holders ≡ frames
@@ -54,16 +61,22 @@ pub record IsManaged (frames : ℕ) (regs : RegsFields) (core : List ℕ) (p : P
   pub serves : (seg page : ℕ) → IsPage core seg page → has_page p seg page ≡ true
   pub exact : (seg page : ℕ) → has_page p seg page ≡ true → IsPage core seg page
   pub at : (seg page : ℕ) → has_page p seg page ≡ true → spot_of p seg page ≡ table_at seg + page
+  pub linkage : (ring : ℕ) → ring < 8 → IsLinkage core (linkage_segment ring)
+
+-- Until an LDBR has been executed, segments are found by the descriptors of the image.
+pub record IsRunning (frames : ℕ) (regs : RegsFields) (core : List ℕ) (p : PagerFields) : Type 0 where
+  pub dbr : regs.dbr ≡ booted_dbr
+  pub managed : IsManaged frames core p
 
 abbrev pub Manages : Bool → ℕ → RegsFields → List ℕ → PagerFields → Type 0
-Manages false frames regs core p = IsManaged frames regs core p
+Manages false frames regs core p = IsRunning frames regs core p
 Manages true frames regs core p = Unit {0}
 
 -- What holds of every booted system.
 pub record IsSuper (s : SuperFields) : Type 0 where
   pub files : length s.lib.files ≡ length s.lib.catalog.segments
-  pub manages : Manages s.loaded s.lib.catalog.frames s.regs s.core s.pager
-  pub made : IsMade s.lib.catalog s.lib.files s.known
+  pub frames : length s.pager.holders ≡ s.lib.catalog.frames
+  pub manages : Manages s.loaded (length s.pager.holders) s.regs s.core s.pager
 
 -- the frame of a page of the image, if it is in one
 abbrev pub frame_by : Bool → Option ℕ → Option ℕ
@@ -75,23 +88,22 @@ held_in p core seg page = frame_by (has_page p seg page) (frame_of p core seg pa
 
 -- What a call of the pager gives: pages have moved, and all is managed again.
 pub record IsPaging
-    (frames : ℕ) (regs : RegsFields) (core now : List ℕ) (p q : PagerFields) : Type 0 where
+    (frames : ℕ) (core now : List ℕ) (p q : PagerFields) : Type 0 where
   pub moved :
       IsMoved frames (record { core = core; kept = kept_word p })
       (record { core = now; kept = kept_word q })
   pub before_is : (seg page : ℕ) → moved.before seg page ≡ held_in p core seg page
   pub after_is : (seg page : ℕ) → moved.after seg page ≡ held_in q now seg page
-  pub manages : IsManaged frames regs now q
+  pub manages : IsManaged frames now q
 
 abbrev pub PagingLaw : Type 0
 PagingLaw =
-    (frames : ℕ) (regs : RegsFields) (core now : List ℕ) (p q : PagerFields)
-    → IsManaged frames regs core p → IsPager q → Reads q now → IsKept p core q now
-    → IsPaging frames regs core now p q
+    (frames : ℕ) (core now : List ℕ) (p q : PagerFields)
+    → IsManaged frames core p → IsPager q → Reads q now → IsKept p core q now
+    → IsPaging frames core now p q
 
--- A step that leaves the DBR leaves all managed.
+-- A step leaves all managed.
 abbrev pub StepManagedLaw : Type 0
 StepManagedLaw =
-    (frames : ℕ) (s : State (List ℕ)) (p : PagerFields) → IsManaged frames s.regs s.store p
-    → (state_after core_store s).regs.dbr ≡ booted_dbr
-    → IsManaged frames (state_after core_store s).regs (state_after core_store s).store p
+    (frames : ℕ) (s : State (List ℕ)) (p : PagerFields) → s.regs.dbr ≡ booted_dbr
+    → IsManaged frames s.store p → IsManaged frames (state_after core_store s).store p

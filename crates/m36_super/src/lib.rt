@@ -12,8 +12,20 @@
 //! Multics Processor Manual AL39.
 #![tactic(auto)]
 
+pub mod booted;
+pub mod coming;
+mod console;
+mod linking;
+mod naming;
+mod stepping;
+#[cfg(test)]
+mod tests;
+
 ghost use Rattle.m36_super.specs.TurnLaws.{TurnLaw, TurnAuditLaw, FunctionLaw};
 ghost use Rattle.m36_super.specs.SuperFields.{PagingLaw, StepManagedLaw};
+
+pub use booted::Super;
+pub use coming::Coming;
 
 /// Until an LDBR is executed a turn of a booted run is that of the flat run, or wants memory, or executes ABSA, and the
 /// core stays that of the booted image; it keeps the audit conditions. So the turns up to the first that executes ABSA or

@@ -1,0 +1,100 @@
+-- What is laid of a booted image: each word of core, the pages, and the content of each segment.
+use Rattle.std.specs.Prelude.{ℕ, zero, suc, ◌≡◌, ◌+◌, ◌-◌, ◌*◌, ◌/◌, ◌%◌, ◌<◌, ◌≤◌, nat_eq, nat_lt, nat_le}
+use Rattle.std.specs.Prelude.{if◌then◌else◌, List, [], ◌∷◌, ◌++◌, length, slice_index, Option, Some, None}
+use Rattle.std.specs.Prelude.{Result, Ok, Err}
+use Rattle.m36_desc.specs.Fields.{SdwFields}
+use Rattle.m36_desc.specs.Descriptors.{sdw_even, sdw_odd}
+use Rattle.m36_model.specs.BootedCore.{descriptor_words, wired_frames, table_at, absent_ptw}
+use Rattle.m36_dir.specs.Catalog.{CatalogFields}
+use Rattle.m36_page.specs.declared.table.PageTable.{PageTable}
+use Rattle.m36_page.specs.Given.{pager_given}
+use Rattle.m36_page.specs.Residence.{content_of}
+use Rattle.m36_boot.specs.declared.fault.BootFault.{BootFault}
+use Rattle.m36_boot.specs.declared.image.Image.{Image}
+use Rattle.m36_link.specs.Fields.{LayFields, SnapFields}
+use Rattle.m36_boot.specs.Segments.{booted_sdw, booted_words}
+use Rattle.m36_boot.specs.Start.{start_regs}
+use Rattle.m36_boot.specs.Refusals.{Told, boot_answer}
+
+-- ---- core
+
+-- A descriptor is a pair of words; that of no segment is zero.
+abbrev pub descriptor_word : ℕ → Option SdwFields → ℕ
+descriptor_word half None = 0
+descriptor_word half (Some d) = if nat_eq half 0 then sdw_even d else sdw_odd d
+
+-- how many pages a segment has
+abbrev pub pages_of : SdwFields → ℕ
+pages_of d = d.bound / 64 + 1
+
+-- Each page of a segment is in no frame; a word of no page is zero.
+abbrev pub page_table_word : ℕ → Option SdwFields → ℕ
+page_table_word page None = 0
+page_table_word page (Some d) = if nat_lt page (pages_of d) then absent_ptw else 0
+
+-- the word of core at a place: descriptors, then page tables of 256 words, and then empty frames
+unfoldable pub booted_word : CatalogFields → List (List ℕ) → ℕ → ℕ
+booted_word catalog files a =
+    if nat_lt a descriptor_words then descriptor_word (a % 2) (booted_sdw catalog files (a / 2))
+    else if nat_lt a (1024 * wired_frames)
+    then page_table_word ((a - descriptor_words) % 256)
+    (booted_sdw catalog files ((a - descriptor_words) / 256))
+    else 0
+
+-- The descriptors of so many segment numbers are written, and each other word is as it was.
+pub record AreDescribed (catalog : CatalogFields) (files : List (List ℕ)) (count : ℕ) (old new : List ℕ) : Type 0 where
+  pub size : length new ≡ length old
+  pub written :
+      (a : ℕ) → a < 2 * count
+      → slice_index new a ≡ descriptor_word (a % 2) (booted_sdw catalog files (a / 2))
+  pub others : (a : ℕ) → 2 * count ≤ a → slice_index new a ≡ slice_index old a
+
+-- ---- pages
+
+-- the page table of a segment, with the segment's words
+abbrev pub table_of_segment : ℕ → Option SdwFields → List ℕ → List PageTable
+table_of_segment seg None words = []
+table_of_segment seg (Some d) words =
+    record { words = words; at = table_at seg; seg = seg; pages = pages_of d } ∷ []
+
+-- those of so many segment numbers from one on
+unfoldable pub tables_from : CatalogFields → List (List ℕ) → Option LayFields → ℕ → ℕ → List PageTable
+tables_from catalog files lay seg zero = []
+tables_from catalog files lay seg (suc n) =
+    table_of_segment seg (booted_sdw catalog files seg) (booted_words files lay seg)
+    ++ tables_from catalog files lay (seg + 1) n
+
+unfoldable pub booted_tables : CatalogFields → List (List ℕ) → Option LayFields → List PageTable
+booted_tables catalog files lay = tables_from catalog files lay 0 (64 + length catalog.segments)
+
+-- the content of a word of a segment: the word that is given, zero behind those in the segment's
+-- last page, and none past its pages
+abbrev pub content_by : Option SdwFields → List ℕ → ℕ → Option ℕ
+content_by None words w = None
+content_by (Some d) words w =
+    if nat_lt (w / 1024) (pages_of d) then Some (slice_index words w) else None
+
+unfoldable pub booted_content : CatalogFields → List (List ℕ) → Option LayFields → ℕ → ℕ → Option ℕ
+booted_content catalog files lay seg w =
+    content_by (booted_sdw catalog files seg) (booted_words files lay seg) w
+
+-- ---- the image
+
+-- The core and the registers of a booted image that starts by an answer, where every page is put
+-- away.
+pub record IsImage (catalog : CatalogFields) (files : List (List ℕ)) (s : SnapFields) (image : Image) : Type 0 where
+  pub size : length image.core ≡ 1024 * (wired_frames + catalog.frames)
+  pub core : (a : ℕ) → slice_index image.core a ≡ booted_word catalog files a
+  pub pager :
+      image.pager ≡ pager_given wired_frames catalog.frames (booted_tables catalog files s.lay)
+  pub content :
+      (seg w : ℕ)
+      → content_of image.pager image.core seg w ≡ booted_content catalog files s.lay seg w
+  pub regs : image.regs ≡ start_regs catalog.start.ring s
+
+-- What laying answers: the image of the start, or the first code; want of memory may come at any
+-- time.
+abbrev pub LaySays : CatalogFields → List (List ℕ) → Result Image BootFault → Type 0
+LaySays catalog files (Ok image) =
+    (boot_answer catalog files ≡ Ok image.snap) × IsImage catalog files image.snap image
+LaySays catalog files (Err told) = Told told (boot_answer catalog files)

@@ -1,0 +1,4 @@
+pub mod Segments
+pub mod Start
+pub mod Refusals
+pub mod Image

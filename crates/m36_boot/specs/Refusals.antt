@@ -1,0 +1,126 @@
+-- Whether a catalog and its files are booted, or the first code that says why not: U1, then U4 and
+-- U2 of the gates in the order of the catalog, and then U3 and U4 of the start.
+use Rattle.std.specs.Prelude.{ℕ, zero, suc, ◌≡◌, ◌+◌, ◌^◌, ◌<◌, Bool, true, false, not, ◌&&◌, nat_lt, nat_le, if◌then◌else◌, List}
+use Rattle.std.specs.Prelude.{length, slice_get, slice_index, Option, Some, None, Result, Ok, Err}
+use Rattle.m36_dir.specs.Fields.{SegmentFields}
+use Rattle.m36_dir.specs.Catalog.{CatalogFields}
+use Rattle.obj36_parts.specs.PartsFields.{PartsFields}
+use Rattle.obj36.specs.ObjectOf.{value_of}
+use Rattle.m36_boot.specs.declared.fault.BootFault.{BootFault}
+use Rattle.m36_boot.specs.declared.fault.BootFault.TheVariants as fault
+use Rattle.m36_link.specs.Fields.{SnapFields}
+use Rattle.m36_link.specs.Known.{segment_of, object_in}
+use Rattle.m36_link.specs.Landing.{is_plain}
+use Rattle.m36_link.specs.Snap.{RefusedFields}
+use Rattle.m36_boot.specs.Segments.{file_at, is_gate, entry_bound_of, limit_of}
+use Rattle.m36_boot.specs.Start.{start_answer, start_segment, may_start}
+
+-- an instruction that is tried again finds a frame that it does not refer to
+abbrev pub least_frames : ℕ
+least_frames = 24
+
+-- the greatest number that the call limiter of a descriptor holds
+abbrev pub most_entries : ℕ
+most_entries = 16383
+
+-- ---- gates
+
+abbrev pub bound_fault : ℕ → Option PartsFields → Option BootFault
+bound_fault seg None = Some (fault.U4 seg)
+bound_fault seg (Some p) =
+    if nat_lt 0 p.entry_bound && nat_le p.entry_bound most_entries then None
+    else Some (fault.U2 seg)
+
+unfoldable pub gate_fault : ℕ → SegmentFields → List ℕ → Option BootFault
+gate_fault seg s words = if is_gate s.kind then bound_fault seg (value_of words) else None
+
+abbrev pub gate_fault_of : ℕ → Option SegmentFields → List ℕ → Option BootFault
+gate_fault_of seg None words = None
+gate_fault_of seg (Some s) words = gate_fault seg s words
+
+abbrev pub or_later : Option BootFault → Option BootFault → Option BootFault
+or_later (Some here) later = Some here
+or_later None later = later
+
+-- of so many segments from one on, counted from 0
+unfoldable pub first_gate_fault : CatalogFields → List (List ℕ) → ℕ → ℕ → Option BootFault
+first_gate_fault catalog files i zero = None
+first_gate_fault catalog files i (suc n) =
+    or_later (gate_fault_of (64 + i) (slice_get catalog.segments i) (file_at files i))
+    (first_gate_fault catalog files (i + 1) n)
+
+-- ---- the start: where it is not found, where it is no object, and what else forbids it
+
+abbrev pub Answer : Type 0
+Answer = Result SnapFields BootFault
+
+-- an object or a gate, whose file is an object
+abbrev pub is_object : Option SegmentFields → Option PartsFields → Bool
+is_object (Some s) (Some o) = not (is_plain s.kind)
+is_object _ _ = false
+
+abbrev pub answer_if : Bool → Result SnapFields RefusedFields → Answer
+answer_if true (Ok s) = Ok s
+answer_if true (Err why) = Err fault.U3
+answer_if false answer = Err fault.U3
+
+abbrev pub start_in : CatalogFields → List (List ℕ) → Option ℕ → Answer
+start_in catalog files None = Err fault.U3
+start_in catalog files (Some seg) =
+    if is_object (segment_of catalog seg) (object_in files seg) then
+    answer_if (may_start catalog.start.ring (segment_of catalog seg)) (start_answer catalog files)
+    else Err (fault.U4 seg)
+
+unfoldable pub start_of : CatalogFields → List (List ℕ) → Answer
+start_of catalog files = start_in catalog files (start_segment catalog)
+
+-- ---- all
+
+abbrev pub unless : Option BootFault → Answer → Answer
+unless (Some first) answer = Err first
+unless None answer = answer
+
+unfoldable pub boot_answer : CatalogFields → List (List ℕ) → Answer
+boot_answer catalog files =
+    if nat_lt catalog.frames least_frames then Err fault.U1
+    else unless (first_gate_fault catalog files 0 (length catalog.segments))
+    (start_of catalog files)
+
+-- ---- what is answered, where want of memory may come at any time
+
+abbrev pub Told : BootFault → Answer → Type 0
+Told fault.NoMemory answer = Unit {0}
+Told told answer = answer ≡ Err told
+
+abbrev pub StartSays : Result SnapFields BootFault → Answer → Type 0
+StartSays (Ok s) answer = answer ≡ Ok s
+StartSays (Err told) answer = Told told answer
+
+abbrev pub ToldOfGates : BootFault → Option BootFault → Type 0
+ToldOfGates fault.NoMemory first = Unit {0}
+ToldOfGates told first = first ≡ Some told
+
+-- the call limiter of a gate
+abbrev pub GateSays : ℕ → List ℕ → Result ℕ BootFault → Type 0
+GateSays seg words (Ok limit) =
+    (bound_fault seg (value_of words) ≡ None) × (limit ≡ entry_bound_of (value_of words))
+    × (limit < 2 ^ 14)
+GateSays seg words (Err told) = ToldOfGates told (bound_fault seg (value_of words))
+
+-- the call limiter of a segment
+abbrev pub LimitSays : ℕ → SegmentFields → List ℕ → Result ℕ BootFault → Type 0
+LimitSays seg s words (Ok limit) =
+    (gate_fault seg s words ≡ None) × (limit ≡ limit_of s words) × (limit < 2 ^ 14)
+LimitSays seg s words (Err told) = ToldOfGates told (gate_fault seg s words)
+
+abbrev pub limit_at : Option SegmentFields → List ℕ → ℕ
+limit_at None words = 0
+limit_at (Some s) words = limit_of s words
+
+-- the call limiter of each segment of the catalog
+pub record AreLimits (catalog : CatalogFields) (files : List (List ℕ)) (count : ℕ) (limits : List ℕ) : Type 0 where
+  pub size : length limits ≡ count
+  pub each :
+      (i : ℕ) → i < count
+      → slice_index limits i ≡ limit_at (slice_get catalog.segments i) (file_at files i)
+  pub small : (i : ℕ) → i < count → slice_index limits i < 2 ^ 14

@@ -1,0 +1,139 @@
+-- The segments of a booted image: the stack and the linkage segment of each ring, and the segments
+-- of the catalog with their files.
+use Rattle.std.specs.Prelude.{ℕ, ◌+◌, ◌-◌, ◌*◌, ◌/◌, ◌^◌, Bool, true, false, ◌&&◌, not, nat_eq, nat_lt, nat_le}
+use Rattle.std.specs.Prelude.{if◌then◌else◌, List, [], ◌∷◌, ◌++◌, length, replicate, slice_get}
+use Rattle.std.specs.Prelude.{slice_index_or, Option, Some, None}
+use Rattle.m36_desc.specs.Fields.{SdwFields}
+use Rattle.m36_desc.specs.Descriptors.{its_tag}
+use Rattle.m36_model.specs.BootedCore.{table_at}
+use Rattle.m36_dir.specs.declared.segment.SegKind.{SegKind}
+use Rattle.m36_dir.specs.declared.segment.SegKind.TheVariants as kind
+use Rattle.m36_dir.specs.Fields.{SegmentFields}
+use Rattle.m36_dir.specs.Catalog.{CatalogFields}
+use Rattle.obj36_parts.specs.PartsFields.{PartsFields}
+use Rattle.obj36.specs.ObjectOf.{value_of}
+use Rattle.m36_link.specs.Fields.{LayFields}
+use Rattle.m36_link.specs.Known.{linkage_segment, lot_words, lot_word}
+
+-- Stacks are segments 8 to 15, linkage segments 16 to 23, and those of the catalog 64 and on.
+abbrev pub stack_segment : ℕ → ℕ
+stack_segment ring = 8 + ring
+
+abbrev pub stack_pages : ℕ
+stack_pages = 16
+
+abbrev pub linkage_pages : ℕ
+linkage_pages = 256
+
+-- a file has no more words than a segment
+abbrev pub is_short : List ℕ → Bool
+is_short words = nat_le (length words) (2 ^ 18)
+
+-- the file of a segment of the catalog, both counted from 0
+unfoldable pub file_at : List (List ℕ) → ℕ → List ℕ
+file_at files i = slice_index_or files i []
+
+-- ---- descriptors
+
+-- a segment with a page table, up to a block of 16 words
+abbrev pub paged_segment : ℕ → ℕ → SdwFields
+paged_segment seg last =
+    record {
+      addr = table_at seg;
+      r1 = 0;
+      r2 = 0;
+      r3 = 0;
+      f = true;
+      fc = 0;
+      bound = last;
+      readable = false;
+      executable = false;
+      writable = false;
+      privileged = false;
+      unpaged = false;
+      no_gate = true;
+      cached = false;
+      limit = 0;
+    }
+
+-- a stack or a linkage segment: read and written in its ring alone
+abbrev pub ring_segment : ℕ → ℕ → ℕ → SdwFields
+ring_segment seg ring pages =
+    record (paged_segment seg (64 * pages - 1)) {
+      r1 = ring;
+      r2 = ring;
+      r3 = ring;
+      readable = true;
+      writable = true;
+    }
+
+abbrev pub is_gate : SegKind → Bool
+is_gate kind.Gate = true
+is_gate kind.Object = false
+is_gate kind.Plain = false
+
+abbrev pub entry_bound_of : Option PartsFields → ℕ
+entry_bound_of None = 0
+entry_bound_of (Some p) = p.entry_bound
+
+-- how many words of a segment are entries for callers from outside: those of a gate's object
+unfoldable pub limit_of : SegmentFields → List ℕ → ℕ
+limit_of s words = if is_gate s.kind then entry_bound_of (value_of words) else 0
+
+-- the last block with a word of the file, and block 0 of an empty one
+abbrev pub last_block : List ℕ → ℕ
+last_block words = (length words - 1) / 16
+
+-- a segment of the catalog, with this limit
+abbrev pub limited_segment : ℕ → SegmentFields → List ℕ → ℕ → SdwFields
+limited_segment seg s words limit =
+    record (paged_segment seg (last_block words)) {
+      r1 = s.r1;
+      r2 = s.r2;
+      r3 = s.r3;
+      readable = s.mode.readable;
+      executable = s.mode.executable;
+      writable = s.mode.writable;
+      privileged = s.mode.privileged;
+      no_gate = not (is_gate s.kind);
+      limit = limit;
+    }
+
+abbrev pub catalog_segment : ℕ → Option SegmentFields → List ℕ → Option SdwFields
+catalog_segment seg None words = None
+catalog_segment seg (Some s) words = Some (limited_segment seg s words (limit_of s words))
+
+-- the descriptor of a segment; None where the image has no such segment
+unfoldable pub booted_sdw : CatalogFields → List (List ℕ) → ℕ → Option SdwFields
+booted_sdw catalog files seg =
+    if nat_lt seg 8 then None
+    else if nat_lt seg 16 then Some (ring_segment seg (seg - 8) stack_pages)
+    else if nat_lt seg 24 then Some (ring_segment seg (seg - 16) linkage_pages)
+    else if nat_lt seg 64 then None
+    else catalog_segment seg (slice_get catalog.segments (seg - 64)) (file_at files (seg - 64))
+
+-- ---- words; those that are lacking up to the end of the last page are zero
+
+-- Words 22 and 23 of a stack are an ITS pair to word 0 of the linkage segment of its ring.
+unfoldable pub stack_words : ℕ → List ℕ
+stack_words ring =
+    replicate 22 0 ++ (linkage_segment ring * 2 ^ 18 + ring * 2 ^ 15 + its_tag) ∷ 0 ∷ []
+
+-- the LOT in which one section is laid
+abbrev pub lot_of : LayFields → List ℕ
+lot_of l = replicate l.seg 0 ++ lot_word l ∷ replicate (lot_words - 1 - l.seg) 0
+
+-- The words of the linkage segment of a ring: in that of the start the section of its segment is
+-- laid, behind the LOT.
+abbrev pub linkage_by : ℕ → Option LayFields → List ℕ
+linkage_by ring None = []
+linkage_by ring (Some l) = if nat_eq ring l.ring then lot_of l ++ l.words else []
+
+unfoldable pub linkage_words : Option LayFields → ℕ → List ℕ
+linkage_words lay ring = linkage_by ring lay
+
+unfoldable pub booted_words : List (List ℕ) → Option LayFields → ℕ → List ℕ
+booted_words files lay seg =
+    if nat_lt seg 16 then stack_words (seg - 8)
+    else if nat_lt seg 24 then linkage_words lay (seg - 16)
+    else file_at files (seg - 64)

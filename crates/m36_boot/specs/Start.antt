@@ -1,0 +1,92 @@
+-- Where a booted machine starts, and its registers there.
+use Rattle.std.specs.Prelude.{ℕ, ◌+◌, Bool, true, false, ◌&&◌, nat_le, List, [], ◌∷◌}
+use Rattle.std.specs.Prelude.{Option, Some, None, Result, Ok, Err}
+use Rattle.m36_desc.specs.Fields.{PtrFields, ItsFields}
+use Rattle.m36_desc.specs.Descriptors.{its_of}
+use Rattle.m36_model.specs.BootedCore.{booted_dbr}
+use Rattle.m36_model.specs.Registers.{RegsFields}
+use Rattle.m36_model.specs.declared.registers.Ind.{Ind}
+use Rattle.m36_dir.specs.Fields.{SegmentFields}
+use Rattle.m36_dir.specs.StartFields.{StartFields}
+use Rattle.m36_dir.specs.Catalog.{CatalogFields}
+use Rattle.obj36_parts.specs.Fields.{LinkFields}
+use Rattle.obj36_parts.specs.declared.section.Section.TheVariants.{Text}
+use Rattle.m36_link.specs.Fields.{LayFields, SnapFields}
+use Rattle.m36_link.specs.Known.{nothing_known, linkage_segment}
+use Rattle.m36_link.specs.Search.{searched}
+use Rattle.m36_link.specs.Snap.{RefusedFields, outer_snap}
+use Rattle.m36_boot.specs.Segments.{stack_segment}
+
+-- ---- the start is linked to
+
+-- The start is a link of its ring to a name and an entry. It is searched from the working directory,
+-- where nothing is known yet.
+abbrev pub start_link : StartFields → LinkFields
+start_link s =
+    record {
+      kind = 4;
+      section = Text;
+      name = s.name;
+      entry = s.entry;
+      expr = 0;
+      modifier = 0;
+    }
+
+unfoldable pub start_answer : CatalogFields → List (List ℕ) → Result SnapFields RefusedFields
+start_answer catalog files =
+    outer_snap nothing_known catalog files catalog.start.ring (start_link catalog.start) catalog.work
+
+-- the number of the segment that is found
+unfoldable pub start_segment : CatalogFields → Option ℕ
+start_segment catalog =
+    searched nothing_known catalog catalog.start.ring catalog.start.name catalog.work
+
+-- the segment may be executed in the ring of the start
+abbrev pub may_start : ℕ → Option SegmentFields → Bool
+may_start ring None = false
+may_start ring (Some s) = s.mode.executable && nat_le s.r1 ring && nat_le ring s.r2
+
+-- ---- registers
+
+abbrev pub pointer : ℕ → ℕ → ℕ → PtrFields
+pointer seg ring word = record { seg = seg; ring = ring; word = word; bit = 0 }
+
+abbrev pub no_indicators : Ind
+no_indicators =
+    record {
+      zero = false;
+      negative = false;
+      carry = false;
+      overflow = false;
+      mask = false;
+      tally = false;
+    }
+
+-- where the linkage section of the start is laid
+abbrev pub section_base : Option LayFields → ℕ
+section_base None = 0
+section_base (Some l) = l.base
+
+-- the place to which the pair of the start leads
+abbrev pub entry_of : SnapFields → ItsFields
+entry_of s = its_of s.pair.even s.pair.odd
+
+-- PR4 points to the laid section, PR6 to word 64 and PR7 to word 0 of the stack, all in the ring of
+-- the start; the instruction is at the entry, and all else is zero.
+unfoldable pub start_regs : ℕ → SnapFields → RegsFields
+start_regs ring s =
+    record {
+      a = 0;
+      q = 0;
+      x = 0 ∷ 0 ∷ 0 ∷ 0 ∷ 0 ∷ 0 ∷ 0 ∷ 0 ∷ [];
+      pr =
+          pointer 0 ring 0 ∷ pointer 0 ring 0 ∷ pointer 0 ring 0 ∷ pointer 0 ring 0
+          ∷ pointer (linkage_segment ring) ring (section_base s.lay)
+          ∷ pointer 0 ring 0
+          ∷ pointer (stack_segment ring) ring 64
+          ∷ pointer (stack_segment ring) ring 0
+          ∷ [];
+      ind = no_indicators;
+      ppr = record { psr = (entry_of s).seg; prr = ring; ic = (entry_of s).word };
+      dbr = booted_dbr;
+    }

@@ -1,0 +1,52 @@
+//! The descriptor segment of the image.
+
+ghost use Rattle.std.specs.Prelude.{ℕ, ◌≡◌, ◌+◌, ◌*◌, ◌≤◌, ◌<◌, ◌^◌, length, All, replicate, slice_set};
+ghost use Rattle.m36_boot.specs.Segments.{booted_sdw};
+ghost use Rattle.m36_boot.specs.Refusals.{AreLimits};
+ghost use Rattle.m36_boot.specs.Image.{descriptor_word, AreDescribed};
+
+use crate::limits::FIRST_SEGMENT;
+use crate::segments::descriptor;
+use m36_core::Core;
+use m36_desc::Sdw;
+use m36_dir::Catalog;
+use m36_link::File;
+use m36_word::{Pair, Word};
+
+// The pair of words of a descriptor; zeros for that of no segment.
+fn pair_of(sdw: Option<Sdw>) -> Pair
+    ensures even { result.even ≡ descriptor_word 0 sdw }
+    ensures odd { result.odd ≡ descriptor_word 1 sdw }
+{
+    match sdw {
+        Some(sdw) => sdw.to_words(),
+        None => Pair {
+            even: Word::ZERO,
+            odd: Word::ZERO,
+        },
+    }
+}
+
+// Writes the pair of words of a segment's descriptor.
+fn put_pair(core: &mut Core, seg: u16, pair: Pair)
+    requires seg { seg < 1024 }
+    requires core { 2048 ≤ length core.old }
+    ensures { core.new ≡ slice_set (slice_set core.old (2 * seg) pair.even) (2 * seg + 1) pair.odd }
+{
+    core.poke(2 * seg as u32, pair.even);
+    core.poke(2 * seg as u32 + 1, pair.odd);
+}
+
+/// Writes the descriptors of all segments into core that is zero.
+pub(crate) fn put_descriptors(core: &mut Core, catalog: &Catalog, files: &[File], limits: &[u16])
+    requires files { length files.now ≡ length catalog.now.segments }
+    requires short { All (λ w. length w ≤ 2 ^ 18) files.now }
+    requires limits { AreLimits catalog.now files.now (length catalog.now.segments) limits.now }
+    requires core { 2048 ≤ length core.old }
+    ensures { AreDescribed catalog.now files.now (64 + length catalog.now.segments) core.old core.new }
+{
+    let count = catalog.count();
+    for seg in 0..FIRST_SEGMENT + count as u16 {
+        put_pair(core, seg, pair_of(descriptor(catalog, files, limits, seg)));
+    }
+}

@@ -1,0 +1,27 @@
+//! The booted image: the core and the registers with which a booted machine starts, from a catalog and the files of its
+//! segments.
+//!
+//! What is promised: `lay` gives exactly the image that the definitions say, word by word: the descriptors, the page
+//! tables, the content of each segment, the stacks, the LOT with the linkage section of the start, and the registers.
+//! Or it gives the first of the codes U1 to U4 that stands, with its segment; want of memory alone may stand in the place
+//! of either. Every page is put away at first, so no more of core is taken than the frames of the catalog. The work grows
+//! with the words of the segments.
+//!
+//! Source: the layout is this project's own; descriptors, page tables, pointers and rings are those of the Multics
+//! Processor Manual AL39, stacks, linkage sections and the LOT after the Multics Programmers' Manual AG91.
+#![tactic(auto)]
+
+mod core_words;
+pub mod fault;
+pub mod image;
+mod limits;
+pub mod objects;
+mod segments;
+pub mod start;
+mod tables;
+#[cfg(test)]
+mod tests;
+
+pub use fault::BootFault;
+pub use image::{Image, lay};
+pub use objects::are_short;

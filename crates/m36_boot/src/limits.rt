@@ -1,0 +1,82 @@
+//! The call limiters of the segments, and what is wrong with gates.
+
+ghost use Rattle.std.specs.Prelude.{◌≡◌, ◌+◌, ◌<◌, ◌≤◌, ◌^◌, ◌++◌, ◌∷◌, [], ◌&&◌, nat_lt, nat_le, true, length, All, OnOk, IfOk, IfErr, None};
+ghost use Rattle.m36_boot.specs.Refusals.{GateSays, LimitSays, AreLimits, ToldOfGates, first_gate_fault};
+
+use crate::fault::BootFault;
+use crate::objects::{file, object_of};
+use m36_dir::{Catalog, SegKind, Segment};
+use m36_link::File;
+use m36_word::NoMemory;
+use std::alloc::Global;
+
+// The greatest number that the call limiter of a descriptor holds.
+const MOST_ENTRIES: u32 = 16383;
+
+/// The number of the first segment of the catalog.
+pub(crate) const FIRST_SEGMENT: u16 = 64;
+
+// Whether a gate may have so many entries.
+fn is_limit(bound: u32) -> bool
+    ensures value { result ≡ (nat_lt 0 bound && nat_le bound 16383) }
+    ensures small { result ≡ true → bound < 2 ^ 14 }
+{
+    bound > 0 && bound <= MOST_ENTRIES
+}
+
+// The call limiter of a gate: the entry bound of its object.
+#[tactic(auto, using(crate::proofs::LimitLoops::gates))]
+fn gate_limit(seg: u16, file: &File) -> Result<u16, BootFault>
+    ensures { GateSays seg file.now result }
+{
+    let Some(object) = object_of(file) else {
+        return Err(BootFault::U4(seg));
+    };
+    let bound = object.entry_bound();
+    if !is_limit(bound) {
+        return Err(BootFault::U2(seg));
+    }
+    Ok(bound as u16)
+}
+
+// The call limiter of a segment.
+#[tactic(auto, unfolding(crate::specs::Refusals::gate_fault, crate::specs::Segments::limit_of))]
+fn limit(seg: u16, segment: &Segment, file: &File) -> Result<u16, BootFault>
+    ensures { LimitSays seg segment.now file.now result }
+{
+    match segment.kind {
+        SegKind::Gate => gate_limit(seg, file),
+        _ => Ok(0),
+    }
+}
+
+fn add(limits: &mut Vec<u16>, limit: u16) -> Result<(), NoMemory>
+    ensures { OnOk result (limits.new.items ≡ limits.old.items ++ limit ∷ []) }
+{
+    limits.push(limit)?;
+    Ok(())
+}
+
+/// The call limiter of each segment of the catalog. The error is the first fault of a gate, or want of memory.
+pub(crate) fn limits_of(
+    alloc: Global,
+    catalog: &Catalog,
+    files: &[File],
+) -> Result<Vec<u16>, BootFault>
+    requires files { length files.now ≡ length catalog.now.segments }
+    requires short { All (λ w. length w ≤ 2 ^ 18) files.now }
+    ensures none { IfOk result (λ limits. first_gate_fault catalog.now files.now 0 (length catalog.now.segments) ≡ None) }
+    ensures limits { IfOk result (λ limits. AreLimits catalog.now files.now (length catalog.now.segments) limits.items) }
+    ensures told { IfErr result (λ told. ToldOfGates told (first_gate_fault catalog.now files.now 0 (length catalog.now.segments))) }
+{
+    let count = catalog.count();
+    let mut limits = Vec::new(alloc);
+    for i in 0..count {
+        let seg = FIRST_SEGMENT + i as u16;
+        match limit(seg, catalog.segment(i), file(files, i)) {
+            Ok(limit) => add(&mut limits, limit)?,
+            Err(fault) => return Err(fault),
+        }
+    }
+    Ok(limits)
+}

@@ -1,0 +1,223 @@
+//! The descriptors and the words of segments.
+
+ghost use Rattle.std.specs.Prelude.{ℕ, ◌≡◌, ◌+◌, ◌*◌, ◌/◌, ◌<◌, ◌≤◌, ◌^◌, ◌++◌, ◌⊎◌, length, replicate, All, OnOk, IfOk, IfSome};
+ghost use Rattle.m36_model.specs.BootedCore.{table_at};
+ghost use Rattle.m36_boot.specs.Segments.{paged_segment, ring_segment, limited_segment, booted_sdw, stack_words, lot_of, linkage_words, booted_words};
+ghost use Rattle.m36_boot.specs.Refusals.{AreLimits};
+
+use crate::limits::FIRST_SEGMENT;
+use crate::objects::file;
+use m36_desc::Sdw;
+use m36_dir::{Catalog, SegKind, Segment};
+use m36_link::{File, Lay};
+use m36_word::{NoMemory, Word, Words};
+use obj36_parts::sections::push_all;
+use std::alloc::Global;
+
+/// The number of the stack of ring 0.
+pub(crate) const FIRST_STACK: u16 = 8;
+
+/// The number of the linkage segment of ring 0.
+pub(crate) const FIRST_LINKAGE: u16 = 16;
+
+// Behind the linkage segments.
+const BEHIND_RINGS: u16 = 24;
+
+// Words in the LOT.
+const LOT_WORDS: usize = 1024;
+
+// The place of the page table of a segment.
+pub(crate) fn table_at(seg: u16) -> u32
+    requires { seg < 576 }
+    ensures { result ≡ table_at seg }
+{
+    2048 + 256 * seg as u32
+}
+
+// ---- descriptors
+
+// A segment with a page table, up to a block.
+fn paged_segment(seg: u16, last: u16) -> Sdw
+    requires seg { seg < 576 }
+    requires last { last < 2 ^ 14 }
+    ensures { result ≡ paged_segment seg last }
+{
+    Sdw {
+        addr: table_at(seg),
+        bound: last,
+        limit: 0,
+        r1: 0,
+        r2: 0,
+        r3: 0,
+        fc: 0,
+        f: true,
+        readable: false,
+        executable: false,
+        writable: false,
+        privileged: false,
+        unpaged: false,
+        no_gate: true,
+        cached: false,
+    }
+}
+
+// A stack or a linkage segment.
+fn ring_segment(seg: u16, ring: u8, pages: u16) -> Sdw
+    requires seg { seg < 576 }
+    requires ring { ring < 8 }
+    requires some { 1 ≤ pages }
+    requires most { pages ≤ 256 }
+    ensures { result ≡ ring_segment seg ring pages }
+{
+    let mut sdw = paged_segment(seg, 64 * pages - 1);
+    sdw.r1 = ring;
+    sdw.r2 = ring;
+    sdw.r3 = ring;
+    sdw.readable = true;
+    sdw.writable = true;
+    sdw
+}
+
+// A segment of the catalog.
+fn limited_segment(seg: u16, segment: &Segment, words: &[Word], limit: u16) -> Sdw
+    requires seg { seg < 576 }
+    requires words { length words.now ≤ 2 ^ 18 }
+    requires limit { limit < 2 ^ 14 }
+    ensures { result ≡ limited_segment seg segment.now words.now limit }
+{
+    let mut sdw = paged_segment(seg, (words.len().saturating_sub(1) / 16) as u16);
+    sdw.r1 = segment.r1;
+    sdw.r2 = segment.r2;
+    sdw.r3 = segment.r3;
+    sdw.readable = segment.mode.readable;
+    sdw.executable = segment.mode.executable;
+    sdw.writable = segment.mode.writable;
+    sdw.privileged = segment.mode.privileged;
+    sdw.no_gate = segment.kind != SegKind::Gate;
+    sdw.limit = limit;
+    sdw
+}
+
+/// The descriptor of a segment; None where the image has no such segment.
+#[tactic(auto, unfolding(crate::specs::Segments::booted_sdw))]
+pub(crate) fn descriptor(
+    catalog: &Catalog,
+    files: &[File],
+    limits: &[u16],
+    seg: u16,
+) -> Option<Sdw>
+    requires files { length files.now ≡ length catalog.now.segments }
+    requires short { All (λ w. length w ≤ 2 ^ 18) files.now }
+    requires limits { AreLimits catalog.now files.now (length catalog.now.segments) limits.now }
+    requires seg { seg < 64 + length catalog.now.segments }
+    ensures { result ≡ booted_sdw catalog.now files.now seg }
+{
+    let _ = catalog.count();
+    if seg < FIRST_STACK {
+        None
+    } else if seg < FIRST_LINKAGE {
+        Some(ring_segment(seg, (seg - FIRST_STACK) as u8, 16))
+    } else if seg < BEHIND_RINGS {
+        Some(ring_segment(seg, (seg - FIRST_LINKAGE) as u8, 256))
+    } else if seg < FIRST_SEGMENT {
+        None
+    } else {
+        let i = (seg - FIRST_SEGMENT) as usize;
+        let words = file(files, i).words();
+        Some(limited_segment(seg, catalog.segment(i), words, limits[i]))
+    }
+}
+
+// ---- words
+
+// Zeros at the end.
+fn push_zeros(words: &mut Words, count: usize) -> Result<(), NoMemory>
+    ensures { OnOk result (words.new ≡ words.old ++ replicate count 0) }
+{
+    for i in 0..count {
+        words.push(Word::ZERO)?;
+    }
+    Ok(())
+}
+
+// A word of two halves.
+fn joined(left: u32, right: u32) -> Word
+    requires left { left < 2 ^ 18 }
+    requires right { right < 2 ^ 18 }
+    ensures { result ≡ left * 2 ^ 18 + right }
+{
+    Word::low(((left as u64) << 18) + right as u64)
+}
+
+// The words of a stack.
+#[tactic(auto, unfolding(crate::specs::Segments::stack_words))]
+fn stack_words(alloc: Global, ring: u8) -> Result<Words, NoMemory>
+    requires { ring < 8 }
+    ensures { IfOk result (λ words. words ≡ stack_words ring) }
+{
+    let mut words = Words::new(alloc);
+    push_zeros(&mut words, 22)?;
+    words.push(joined(
+        FIRST_LINKAGE as u32 + ring as u32,
+        ((ring as u32) << 15) + 0o43,
+    ))?;
+    words.push(Word::ZERO)?;
+    Ok(words)
+}
+
+// The LOT of a ring in which one section is laid.
+fn lot_of(alloc: Global, lay: &Lay) -> Result<Words, NoMemory>
+    ensures { IfOk result (λ words. words ≡ lot_of lay.now) }
+{
+    let mut words = Words::new(alloc);
+    push_zeros(&mut words, lay.seg as usize)?;
+    words.push(lay.lot_word())?;
+    push_zeros(&mut words, (LOT_WORDS - 1).saturating_sub(lay.seg as usize))?;
+    Ok(words)
+}
+
+// The words of a linkage segment.
+#[tactic(auto, unfolding(crate::specs::Segments::linkage_words))]
+fn linkage_words(alloc: Global, lay: &Option<Lay>, ring: u8) -> Result<Words, NoMemory>
+    ensures { IfOk result (λ words. words ≡ linkage_words lay.now ring) }
+{
+    match lay {
+        Some(lay) if ring == lay.ring => {
+            let mut words = lot_of(alloc, lay)?;
+            push_all(&mut words, lay.words.slice())?;
+            Ok(words)
+        }
+        _ => Ok(Words::new(alloc)),
+    }
+}
+
+fn copied(alloc: Global, words: &[Word]) -> Result<Words, NoMemory>
+    ensures { IfOk result (λ copy. copy ≡ words.now) }
+{
+    let mut copy = Words::new(alloc);
+    push_all(&mut copy, words)?;
+    Ok(copy)
+}
+
+/// The words of a segment of the image, in which a section is laid.
+#[tactic(auto, unfolding(crate::specs::Segments::booted_words))]
+pub(crate) fn words_of(
+    alloc: Global,
+    files: &[File],
+    lay: &Option<Lay>,
+    seg: u16,
+) -> Result<Words, NoMemory>
+    requires short { All (λ w. length w ≤ 2 ^ 18) files.now }
+    requires seg { seg < 64 + length files.now }
+    requires rings { 8 ≤ seg }
+    requires given { (seg < 24) ⊎ (64 ≤ seg) }
+    ensures { IfOk result (λ words. words ≡ booted_words files.now lay.now seg) }
+{
+    if seg < FIRST_LINKAGE {
+        stack_words(alloc, (seg - FIRST_STACK) as u8)
+    } else if seg < BEHIND_RINGS {
+        linkage_words(alloc, lay, (seg - FIRST_LINKAGE) as u8)
+    } else {
+        copied(alloc, file(files, (seg - FIRST_SEGMENT) as usize).words())
+    }
+}
