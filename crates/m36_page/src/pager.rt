@@ -201,6 +201,7 @@ impl Pager {
         ensures room { OnErr result (length self.old.holders ≤ length pinned.now.items) }
         ensures free { OnOk result (IsSome (frame_of self.old core.old seg page) ⊎ (AllPinned self.old pinned.now.items → ⊥)) }
         ensures reads { Reads self.new core.new }
+        ensures pager { IsPager self.new }
         ensures frames { HasFrames self.new core.new }
     {
         let _ = core.len();
@@ -292,6 +293,7 @@ impl Pager {
         requires page { has_page self.old seg (word / 1024) ≡ true }
         ensures set { IsSet self.old core.old self.new core.new seg word w }
         ensures reads { Reads self.new core.new }
+        ensures pager { IsPager self.new }
         ensures frames { HasFrames self.new core.new }
     {
         let _ = core.len();

@@ -13,7 +13,7 @@ use Rattle.m36_isol.proofs.Moved.{same_descriptors, laid_by}
 use Rattle.m36_page.specs.Fields.{PagerFields}
 use Rattle.m36_page.specs.Residence.{has_page, spot_of, frame_in, frame_of, kept_word, word_in, content_by, content_of, Holds, IsPager, TellsPage, Reads}
 use Rattle.m36_page.specs.Residence as pages
-use Rattle.m36_page.specs.Changes.{IsSpot, IsPaged, IsKept}
+use Rattle.m36_page.specs.Changes.{IsSpot, IsPaged, IsSameShape, IsKept}
 use Rattle.m36_page.proofs.Frames.{frame_absent, frame_resident}
 use Rattle.m36_link.specs.Known.{linkage_segment}
 use Rattle.m36_super.specs.SuperFields.{IsLinkage, IsManaged, frame_by, held_in, IsPaging, PagingLaw, StepManagedLaw}
@@ -89,7 +89,7 @@ module _ (frames : ℕ) (core : List ℕ) (p : PagerFields) (most : wired_frames
       by_tells (inr h) = here ∙ h.2.word ∙ sym (ap ptw_of_page h.1)
   word_by seg page is false has = absurd (true_false _ (serves seg page is) has)
 
-  residence : IsResidence core frames (held_in p core)
+  pub residence : IsResidence core frames (held_in p core)
   residence =
       record {
         words = λ seg page is. word_by seg page is _ refl;
@@ -115,7 +115,7 @@ module _ (frames : ℕ) (core : List ℕ) (p : PagerFields) (most : wired_frames
           (ap (λ (x : ℕ × ℕ). x.0) pair, ap (λ (x : ℕ × ℕ). x.1) pair)
 
 -- a word by the frame of its page
-word_as : (m : Paged) (v : Option ℕ) (seg w : ℕ) → resident_word m v seg w ≡ word_in v m.core w (m.kept seg w)
+pub word_as : (m : Paged) (v : Option ℕ) (seg w : ℕ) → resident_word m v seg w ≡ word_in v m.core w (m.kept seg w)
 word_as m (Some frame) seg w =
     let same : frame * 1024 + w % 1024 ≡ 1024 * frame + w % 1024 = omega arith in
     ap (slice_index m.core) same
@@ -131,14 +131,14 @@ unfolding content_of pages.page_word
 same_content p q core now seg w has other h =
     content_parts (has_page q seg (w / 1024)) (has_page p seg (w / 1024)) _ _ other has h
 
-frame_true : (b : Bool) (v : Option ℕ) → b ≡ true → frame_by b v ≡ v
+pub frame_true : (b : Bool) (v : Option ℕ) → b ≡ true → frame_by b v ≡ v
 frame_true true v e = refl
 frame_true false v e = cc
 
 linkage_kept : (core now : List ℕ) → ((seg : ℕ) → core_sdw now booted_dbr seg ≡ core_sdw core booted_dbr seg) → (seg : ℕ) → IsLinkage core seg → IsLinkage now seg
 linkage_kept core now same seg h = record { sdw = h.sdw; live = same seg ∙ h.live; whole = h.whole }
 
-module _ (frames : ℕ) (core now : List ℕ) (p q : PagerFields) (m : IsManaged frames core p) (pager : IsPager q) (reads : Reads q now) (kept : IsKept p core q now) where
+module _ (frames : ℕ) (core now : List ℕ) (p q : PagerFields) (m : IsManaged frames core p) (pager : IsPager q) (reads : Reads q now) (shape : IsSameShape p q) (size : length now ≡ length core) (others : (a : ℕ) → (IsPaged p a → ⊥) → slice_index now a ≡ slice_index core a) where
   -- the descriptors stay
   not_paged : (a : ℕ) → a < 2048 → IsPaged p a → ⊥
   not_paged a low (inl h) =
@@ -150,8 +150,8 @@ module _ (frames : ℕ) (core now : List ℕ) (p q : PagerFields) (m : IsManaged
       let from = h.0 in
       omega arith
 
-  descriptors : take descriptor_words now ≡ take descriptor_words core
-  descriptors = take_same 2048 now core kept.size (λ a low. kept.others a (not_paged a low))
+  pub descriptors : take descriptor_words now ≡ take descriptor_words core
+  descriptors = take_same 2048 now core size (λ a low. others a (not_paged a low))
 
   page_now : (seg page : ℕ) → IsPage core seg page → IsPage now seg page
   page_now seg page h =
@@ -162,19 +162,19 @@ module _ (frames : ℕ) (core now : List ℕ) (p q : PagerFields) (m : IsManaged
       record { sdw = h.sdw; live = sym (same_descriptors core now descriptors seg) ∙ h.live; begins = h.begins }
 
   serves : (seg page : ℕ) → IsPage now seg page → has_page q seg page ≡ true
-  serves seg page h = kept.shape.pages seg page ∙ m.serves seg page (page_before seg page h)
+  serves seg page h = shape.pages seg page ∙ m.serves seg page (page_before seg page h)
 
   has_before : (seg page : ℕ) → has_page q seg page ≡ true → has_page p seg page ≡ true
-  has_before seg page h = sym (kept.shape.pages seg page) ∙ h
+  has_before seg page h = sym (shape.pages seg page) ∙ h
 
   at : (seg page : ℕ) → has_page q seg page ≡ true → spot_of q seg page ≡ table_at seg + page
-  at seg page h = kept.shape.spots seg page ∙ m.at seg page (has_before seg page h)
+  at seg page h = shape.spots seg page ∙ m.at seg page (has_before seg page h)
 
   first : q.first ≡ wired_frames
-  first = kept.shape.first ∙ m.first
+  first = shape.first ∙ m.first
 
   frames_are : length q.holders ≡ frames
-  frames_are = kept.shape.frames ∙ m.frames_are
+  frames_are = shape.frames ∙ m.frames_are
 
   before_residence : IsResidence core frames (held_in p core)
   before_residence = residence frames core p m.laid.most m.first m.frames_are m.pager m.reads m.serves m.at
@@ -183,52 +183,57 @@ module _ (frames : ℕ) (core now : List ℕ) (p q : PagerFields) (m : IsManaged
   after_residence = residence frames now q m.laid.most first frames_are pager reads serves at
 
   now_laid : IsLaid now frames
-  now_laid = laid_by core frames m.laid now kept.size descriptors (held_in q now) after_residence
+  now_laid = laid_by core frames m.laid now size descriptors (held_in q now) after_residence
 
-  words : (seg w : ℕ) → IsPage core seg (w / 1024) → resident_word (record { core = now; kept = kept_word q }) (held_in q now seg (w / 1024)) seg w ≡ resident_word (record { core = core; kept = kept_word p }) (held_in p core seg (w / 1024)) seg w
-  words seg w is =
-      let has = m.serves seg (w / 1024) is in
-      let other = kept.shape.pages seg (w / 1024) ∙ has in
-      let here = frame_true _ (frame_of q now seg (w / 1024)) other in
-      let there = frame_true _ (frame_of p core seg (w / 1024)) has in
-      ap (λ (v : Option ℕ). resident_word (record { core = now; kept = kept_word q }) v seg w) here
-      ∙ word_as (record { core = now; kept = kept_word q }) (frame_of q now seg (w / 1024)) seg w
-      ∙ same_content p q core now seg w has other (kept.content seg w)
-      ∙ sym (word_as (record { core = core; kept = kept_word p }) (frame_of p core seg (w / 1024)) seg w)
-      ∙ sym (ap (λ (v : Option ℕ). resident_word (record { core = core; kept = kept_word p }) v seg w) there)
-
-  paging : IsPaging frames core now p q
-  paging =
+  pub now_managed : IsManaged frames now q
+  now_managed =
       record {
-        moved =
-            record {
-              size = kept.size;
-              descriptors = descriptors;
-              before = held_in p core;
-              residence_before = before_residence;
-              after = held_in q now;
-              residence_after = after_residence;
-              words = words;
-            };
-        before_is = λ seg page. refl;
-        after_is = λ seg page. refl;
-        manages =
-            record {
-              laid = now_laid;
-              first = first;
-              frames_are = frames_are;
-              some = m.some;
-              pager = pager;
-              reads = reads;
-              serves = serves;
-              exact = λ seg page h. page_now seg page (m.exact seg page (has_before seg page h));
-              at = at;
-              linkage = λ ring low. linkage_kept core now (same_descriptors core now descriptors) (linkage_segment ring) (m.linkage ring low);
-            };
+        laid = now_laid;
+        first = first;
+        frames_are = frames_are;
+        some = m.some;
+        pager = pager;
+        reads = reads;
+        serves = serves;
+        exact = λ seg page h. page_now seg page (m.exact seg page (has_before seg page h));
+        at = at;
+        linkage = λ ring low. linkage_kept core now (same_descriptors core now descriptors) (linkage_segment ring) (m.linkage ring low);
       }
 
+  module _ (content : (seg w : ℕ) → content_of q now seg w ≡ content_of p core seg w) where
+    words : (seg w : ℕ) → IsPage core seg (w / 1024) → resident_word (record { core = now; kept = kept_word q }) (held_in q now seg (w / 1024)) seg w ≡ resident_word (record { core = core; kept = kept_word p }) (held_in p core seg (w / 1024)) seg w
+    words seg w is =
+        let has = m.serves seg (w / 1024) is in
+        let other = shape.pages seg (w / 1024) ∙ has in
+        let here = frame_true _ (frame_of q now seg (w / 1024)) other in
+        let there = frame_true _ (frame_of p core seg (w / 1024)) has in
+        ap (λ (v : Option ℕ). resident_word (record { core = now; kept = kept_word q }) v seg w) here
+        ∙ word_as (record { core = now; kept = kept_word q }) (frame_of q now seg (w / 1024)) seg w
+        ∙ same_content p q core now seg w has other (content seg w)
+        ∙ sym (word_as (record { core = core; kept = kept_word p }) (frame_of p core seg (w / 1024)) seg w)
+        ∙ sym (ap (λ (v : Option ℕ). resident_word (record { core = core; kept = kept_word p }) v seg w) there)
+
+    paging : IsPaging frames core now p q
+    paging =
+        record {
+          moved =
+              record {
+                size = size;
+                descriptors = descriptors;
+                before = held_in p core;
+                residence_before = before_residence;
+                after = held_in q now;
+                residence_after = after_residence;
+                words = words;
+              };
+          before_is = λ seg page. refl;
+          after_is = λ seg page. refl;
+          manages = now_managed;
+        }
+
 pub paging_law : PagingLaw
-paging_law frames core now p q m pager reads kept = paging frames core now p q m pager reads kept
+paging_law frames core now p q m pager reads kept =
+    paging frames core now p q m pager reads kept.shape kept.size kept.others kept.content
 
 -- ---- a step
 

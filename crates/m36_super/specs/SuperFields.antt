@@ -14,8 +14,9 @@ use Rattle.m36_page.specs.Residence.{has_page, spot_of, frame_of, kept_word, IsP
 use Rattle.m36_page.specs.Changes.{IsKept}
 use Rattle.m36_link.specs.Fields.{KnownFields}
 use Rattle.m36_link.specs.Known.{linkage_segment}
+use Rattle.m36_link.specs.Laws.{IsMade}
 use Rattle.m36_super.specs.Library.{Library}
-use Rattle.m36_super.specs.Coming.{Coming}
+use Rattle.m36_super.specs.Coming.{Coming, Step, Link, Print, Over}
 use Rattle.m36_super.specs.BootedRun.{Booted}
 
 -- its core, the pager with the words kept, the registers, what is known, what the next turn is, and
@@ -72,11 +73,20 @@ abbrev pub Manages : Bool → ℕ → RegsFields → List ℕ → PagerFields �
 Manages false frames regs core p = IsRunning frames regs core p
 Manages true frames regs core p = Unit {0}
 
+-- no service is due once an LDBR has been executed
+abbrev pub IsDue : Coming → Bool → Type 0
+IsDue Step loaded = Unit {0}
+IsDue (Link at) loaded = loaded ≡ false
+IsDue Print loaded = loaded ≡ false
+IsDue (Over e) loaded = Unit {0}
+
 -- What holds of every booted system.
 pub record IsSuper (s : SuperFields) : Type 0 where
   pub files : length s.lib.files ≡ length s.lib.catalog.segments
   pub frames : length s.pager.holders ≡ s.lib.catalog.frames
   pub manages : Manages s.loaded (length s.pager.holders) s.regs s.core s.pager
+  pub made : IsMade s.lib.catalog s.lib.files s.known
+  pub due : IsDue s.coming s.loaded
 
 -- the frame of a page of the image, if it is in one
 abbrev pub frame_by : Bool → Option ℕ → Option ℕ

@@ -1,13 +1,17 @@
 //! Booted systems.
 
-ghost use Rattle.std.specs.Prelude.{ℕ, ◌≡◌, ◌≤◌, ◌^◌, All, length, IfOk};
-ghost use Rattle.m36_super.specs.BootSays.{BootSays};
+ghost use Rattle.std.specs.Prelude.{ℕ, ◌≡◌, ◌≤◌, ◌<◌, ◌^◌, length, false};
+ghost use Rattle.m36_model.specs.Flat.{flat_store};
+ghost use Rattle.m36_model.specs.Sight.{content_in};
+ghost use Rattle.m36_link.specs.Laws.{IsMade};
+ghost use Rattle.m36_super.specs.SuperFields.{IsRunning};
+ghost use Rattle.m36_super.specs.SuperTurn.{SuperTurns};
+ghost use Rattle.m36_super.specs.Writing.{flat_by};
 
 use crate::coming::Coming;
 use crate::console::print;
 use crate::linking::link;
 use crate::stepping::step_turn;
-use m36_boot::{BootFault, Image, lay};
 use m36_core::Core;
 use m36_dir::Catalog;
 use m36_link::{File, Known};
@@ -15,8 +19,7 @@ use m36_model::{At, Regs};
 use m36_page::Pager;
 use m36_step::{BackAnswer, Machine, Stepper, Turn};
 use m36_tables::{descriptor, in_order, within};
-use m36_walk::Walk;
-use m36_word::{NoMemory, Word, Words};
+use m36_word::Word;
 use std::alloc::Global;
 use std::marker::Model;
 
@@ -61,64 +64,41 @@ impl Model for Super {
     }) };
 }
 
-// The files, each read once.
-fn files_of(alloc: Global, words: Vec<Words>) -> Result<Vec<File>, NoMemory>
-    requires { All (λ w. length w ≤ 2 ^ 18) words.items }
-    ensures { IfOk result (λ files. files.items ≡ words.items) }
-{
-    let mut files = Vec::with_capacity(alloc, words.len())?;
-    for file in words {
-        files.push(File::read(alloc, file)?)?;
-    }
-    Ok(files)
-}
-
-// A machine that starts with core and these registers.
-fn machine_of(alloc: Global, core: Core, regs: Regs) -> Result<Machine, NoMemory> {
-    match Walk::new(alloc, core, regs.dbr) {
-        Ok(walk) => Ok(Machine::new(walk, regs)),
-        Err(_) => Err(NoMemory),
-    }
-}
-
-// The system of an image, with the answer to its start accepted.
-fn started(
-    alloc: Global,
-    catalog: Catalog,
-    files: Vec<File>,
-    image: Image,
-) -> Result<Super, NoMemory> {
-    let Image {
-        core,
-        pager,
-        regs,
-        snap,
-    } = image;
-    let mut known = Known::new(alloc)?;
-    known.accept(&snap)?;
-    Ok(Super {
-        machine: machine_of(alloc, core, regs)?,
-        pager,
-        known,
-        catalog,
-        files,
-        coming: Coming::Step,
-        loaded: false,
-        alloc,
-    })
-}
-
 impl Super {
-    /// Boots a catalog with the words of the file of each of its segments, in the order of the catalog. The error is the first
-    /// of the codes U1 to U4 that stands, or want of memory.
-    pub fn boot(alloc: Global, catalog: Catalog, words: Vec<Words>) -> Result<Super, BootFault>
-        requires files { length words.items ≡ length catalog.segments }
-        requires short { All (λ w. length w ≤ 2 ^ 18) words.items }
-        ensures says { BootSays (record { catalog = catalog; files = words.items }) result }
+    /// A system at its start.
+    pub(crate) fn at_start(
+        alloc: Global,
+        machine: Machine,
+        pager: Pager,
+        known: Known,
+        catalog: Catalog,
+        files: Vec<File>,
+    ) -> Super
+        requires files { length files.items ≡ length catalog.segments }
+        requires frames { length pager.holders ≡ catalog.frames }
+        requires runs { IsRunning (length pager.holders) machine.state.regs machine.state.store pager }
+        requires made { IsMade catalog files.items known }
+        ensures { result
+            ≡ record {
+              lib = record { catalog = catalog; files = files.items };
+              regs = machine.state.regs;
+              core = machine.state.store;
+              pager = pager;
+              known = known;
+              coming = Coming.Step;
+              loaded = false;
+            } }
     {
-        let files = files_of(alloc, words)?;
-        let image = lay(alloc, &catalog, files.as_slice())?;
-        Ok(started(alloc, catalog, files, image)?)
+        Super {
+            machine,
+            pager,
+            known,
+            catalog,
+            files,
+            coming: Coming::Step,
+            loaded: false,
+            alloc,
+        }
     }
 
     /// The catalog.
@@ -143,7 +123,10 @@ impl Super {
     }
 
     // A step, with the services of the pages that it lacks until an LDBR has been executed.
-    fn step(&mut self) -> Turn {
+    fn step(&mut self) -> Turn
+        requires { self.old.coming ≡ Coming.Step }
+        ensures { SuperTurns self.old result self.new }
+    {
         let Super {
             machine,
             pager,
@@ -155,7 +138,11 @@ impl Super {
     }
 
     // A link service.
-    fn link(&mut self, at: At) -> Turn {
+    fn link(&mut self, at: At) -> Turn
+        requires coming { self.old.coming ≡ Coming.Link at }
+        requires runs { self.old.loaded ≡ false }
+        ensures { SuperTurns self.old result self.new }
+    {
         let Super {
             machine,
             pager,
@@ -170,7 +157,11 @@ impl Super {
     }
 
     // A console service.
-    fn print(&mut self) -> Turn {
+    fn print(&mut self) -> Turn
+        requires coming { self.old.coming ≡ Coming.Print }
+        requires runs { self.old.loaded ≡ false }
+        ensures { SuperTurns self.old result self.new }
+    {
         let Super {
             machine,
             pager,
@@ -182,7 +173,14 @@ impl Super {
 }
 
 // The content of a word of a segment of the image, wherever its page is.
-fn flat_content(machine: &Machine, pager: &Pager, seg: u16, word: u32) -> Option<Word> {
+fn flat_content(machine: &Machine, pager: &Pager, seg: u16, word: u32) -> Option<Word>
+    requires runs { IsRunning (length pager.now.holders) machine.now.state.regs
+        machine.now.state.store pager.now }
+    requires seg { seg < 2 ^ 15 }
+    requires word { word < 2 ^ 18 }
+    ensures { result ≡ content_in flat_store (flat_by machine.now.state.store pager.now)
+        machine.now.state.regs.dbr seg word }
+{
     let core = machine.walk().core();
     match descriptor(core, machine.regs().dbr, seg) {
         Ok(sdw) if in_order(&sdw) && within(&sdw, word) => pager.content(core, seg, word),

@@ -13,6 +13,7 @@
 #![tactic(auto)]
 
 pub mod booted;
+pub mod booting;
 pub mod coming;
 mod console;
 mod linking;

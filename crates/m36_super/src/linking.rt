@@ -1,9 +1,10 @@
 //! Link services.
 
-ghost use Rattle.std.specs.Prelude.{ℕ, ◌≡◌, ◌≤◌, ◌<◌, ◌+◌, ◌%◌, ◌^◌, length, List, IfSome, option_copied, ◌∷◌, []};
+ghost use Rattle.std.specs.Prelude.{ℕ, ◌≡◌, ◌≤◌, ◌<◌, ◌+◌, ◌%◌, ◌^◌, ◌⊎◌, length, List, IfSome, option_copied, ◌∷◌, [], Bool, Ok, Err, Some};
 ghost use Rattle.m36_link.specs.Known.{linkage_segment};
 ghost use Rattle.m36_link.specs.Snap.{snap_of};
-ghost use Rattle.m36_link.specs.Accepted.{MayBeLaid};
+ghost use Rattle.m36_link.specs.Accepted.{accepted, MayBeLaid};
+ghost use Rattle.m36_link.specs.Laws.{IsMade};
 ghost use Rattle.m36_super.specs.BootedRun.{IsLinkTurn};
 ghost use Rattle.m36_super.specs.Laying.{written_from, laying};
 ghost use Rattle.m36_super.specs.Services.{link_changes, note_snapped, note_of};
@@ -126,7 +127,20 @@ fn snapped(
     coming: &mut Coming,
     at: At,
     snap: &Snap,
-) -> Turn {
+) -> Turn
+    requires runs { IsRunning (length pager.old.holders) machine.old.state.regs
+        machine.old.state.store pager.old }
+    requires may { MayBeLaid known.old snap.now.lay }
+    requires seg { at.seg ≡ linkage_segment at.ring }
+    requires even { at.word + 1 < 2 ^ 18 }
+    ensures turn { (loaded : Bool) → IsLinkTurn (Ok snap.now) (length pager.old.holders) at
+        (run_of machine.old.state pager.old known.old coming.old loaded) result
+        (run_of machine.new.state pager.new known.new coming.new loaded) }
+    ensures frames { length pager.new.holders ≡ length pager.old.holders }
+    ensures runs { IsRunning (length pager.new.holders) machine.new.state.regs
+        machine.new.state.store pager.new }
+    ensures known { (known.new ≡ accepted known.old snap.now) ⊎ (known.new ≡ known.old) }
+{
     match known.accept(snap) {
         Ok(()) => {
             write_changes(machine.core_mut(), pager, at, snap);
@@ -147,7 +161,19 @@ pub(crate) fn link(
     known: &mut Known,
     coming: &mut Coming,
     at: At,
-) -> Turn {
+) -> Turn
+    requires runs { IsRunning (length pager.old.holders) machine.old.state.regs
+        machine.old.state.store pager.old }
+    requires made { IsMade catalog.now files.now known.old }
+    ensures turn { (loaded : Bool) → IsLinkTurn (snap_of known.old catalog.now files.now at)
+        (length pager.old.holders) at
+        (run_of machine.old.state pager.old known.old coming.old loaded) result
+        (run_of machine.new.state pager.new known.new coming.new loaded) }
+    ensures frames { length pager.new.holders ≡ length pager.old.holders }
+    ensures runs { IsRunning (length pager.new.holders) machine.new.state.regs
+        machine.new.state.store pager.new }
+    ensures made { IsMade catalog.now files.now known.new }
+{
     link_laws();
     match known.resolve(alloc, catalog, files, at) {
         Ok(snap) => snapped(machine, pager, known, coming, at, &snap),

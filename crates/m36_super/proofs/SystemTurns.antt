@@ -1,0 +1,75 @@
+-- The turns of a booted system, and what holds after each.
+use Rattle.std.proofs.Common.{◌≡◌, refl, sym, ◌∙◌, ap, subst}
+use Rattle.std.specs.Prelude.{ℕ, Bool, true, false, ◌&&◌, nat_eq, nat_lt, List, Result, Ok, Err}
+use Rattle.m36_model.specs.declared.endings.End.{End}
+use Rattle.m36_model.specs.declared.endings.End.TheVariants as end
+use Rattle.m36_model.specs.Fields.{AtFields}
+use Rattle.m36_model.specs.Residence.{flat_of}
+use Rattle.m36_model.specs.declared.outcome.Fault.{Fault}
+use Rattle.m36_model.specs.declared.outcome.Outcome.{Outcome}
+use Rattle.m36_model.specs.declared.outcome.Outcome.TheVariants.{Next, Faulted, Stopped}
+use Rattle.m36_link.specs.Snap.{snap_of}
+use Rattle.m36_step.specs.declared.turns.Turn.{Turn}
+use Rattle.m36_step.specs.declared.turns.Turn.TheVariants.{Ended}
+use Rattle.m36_super.specs.Library.{Library}
+use Rattle.m36_super.specs.Coming.{Coming, Step, Link, Print, Over, coming_in, coming_on, coming_after}
+use Rattle.m36_super.specs.Services.{console_limit, console_text}
+use Rattle.m36_super.specs.BootedRun.{Booted, IsStepTurn, IsLinkTurn, IsConsoleTurn, IsTurnBy, IsTurn}
+use Rattle.m36_super.specs.SuperFields.{IsDue}
+
+-- ---- no service is due once an LDBR has been executed
+
+due_in : (a b : Bool) (f : Fault) → IsDue (coming_in a b f) false
+due_in true b f = refl
+due_in false true f = refl
+due_in false false f = tt
+
+due_on : (loaded : Bool) (ring : ℕ) (f : Fault) → IsDue (coming_on loaded ring f) loaded
+due_on true ring f = tt
+due_on false ring f = due_in _ _ f
+
+due_by : (loaded : Bool) (ring : ℕ) (outcome : Outcome) → IsDue (coming_after loaded ring outcome) loaded
+due_by loaded ring Next = tt
+due_by loaded ring (Faulted f) = due_on loaded ring f
+due_by loaded ring (Stopped s) = tt
+
+pub due_after : (loaded : Bool) (ring : ℕ) (outcome : Outcome) (next : Coming) → next ≡ coming_after loaded ring outcome → IsDue next loaded
+due_after loaded ring outcome next e =
+    subst (λ (c : Coming). IsDue c loaded) (sym e) (due_by loaded ring outcome)
+
+pub due_at : (loaded : Bool) (coming : Coming) (at : AtFields) → coming ≡ Link at → IsDue coming loaded → loaded ≡ false
+due_at loaded coming at e due = subst (λ (c : Coming). IsDue c loaded) e due
+
+pub due_print : (loaded : Bool) (coming : Coming) → coming ≡ Print → IsDue coming loaded → loaded ≡ false
+due_print loaded coming e due = subst (λ (c : Coming). IsDue c loaded) e due
+
+-- ---- turns by what is coming
+
+turn_by : (lib : Library) (before : Booted) (turn : Turn) (after : Booted) (coming : Coming) → before.coming ≡ coming → IsTurnBy coming lib before turn after → IsTurn lib before turn after
+unfolding IsTurn
+turn_by lib before turn after coming e h =
+    subst (λ (c : Coming). IsTurnBy c lib before turn after) (sym e) h
+
+pub step_is_turn : (lib : Library) (before : Booted) (turn : Turn) (after : Booted) (frames : ℕ) → before.coming ≡ Step → frames ≡ lib.catalog.frames → IsStepTurn before.loaded frames before turn after → IsTurn lib before turn after
+step_is_turn lib before turn after frames e same h =
+    turn_by lib before turn after Step e (subst (λ (n : ℕ). IsStepTurn before.loaded n before turn after) same h)
+
+pub link_is_turn : (lib : Library) (before : Booted) (turn : Turn) (after : Booted) (frames : ℕ) (at : AtFields) → before.coming ≡ Link at → frames ≡ lib.catalog.frames → IsLinkTurn (snap_of before.known lib.catalog lib.files at) frames at before turn after → IsTurn lib before turn after
+link_is_turn lib before turn after frames at e same h =
+    turn_by lib before turn after (Link at) e (subst (λ (n : ℕ). IsLinkTurn (snap_of before.known lib.catalog lib.files at) n at before turn after) same h)
+
+pub print_is_turn : (lib : Library) (before : Booted) (turn : Turn) (after : Booted) → before.coming ≡ Print → IsConsoleTurn (nat_lt console_limit before.state.regs.a) (console_text before.state.regs (flat_of before.state.memory)) before turn after → IsTurn lib before turn after
+print_is_turn lib before turn after e h = turn_by lib before turn after Print e h
+
+pub end_is_turn : (lib : Library) (before : Booted) (turn : Turn) (e : End) → before.coming ≡ Over e → turn ≡ Ended e → IsTurn lib before turn before
+end_is_turn lib before turn e over told = turn_by lib before turn before (Over e) over (told, refl)
+
+-- ---- the console
+
+pub console_refused : (limited : Bool) (text : Result (List ℕ) Fault) (before after : Booted) (turn : Turn) → limited ≡ true → turn ≡ Ended end.Console → after ≡ record before { coming = Over end.Console } → IsConsoleTurn limited text before turn after
+console_refused limited text before after turn e told same =
+    subst (λ (b : Bool). IsConsoleTurn b text before turn after) (sym e) (told, same)
+
+pub console_faulted : (limited : Bool) (text : Result (List ℕ) Fault) (before after : Booted) (turn : Turn) (f : Fault) → limited ≡ false → text ≡ Err f → turn ≡ Ended (end.Fault f) → after ≡ record before { coming = Over (end.Fault f) } → IsConsoleTurn limited text before turn after
+console_faulted limited text before after turn f e fault told same =
+    subst (λ (b : Bool). IsConsoleTurn b text before turn after) (sym e) (subst (λ (t : Result (List ℕ) Fault). IsConsoleTurn false t before turn after) (sym fault) (told, same))
