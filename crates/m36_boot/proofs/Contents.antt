@@ -1,25 +1,25 @@
 -- The content of each segment, and the whole image.
-use Rattle.std.proofs.Common.{ℕ, zero, suc, ◌≡◌, ◌≢◌, ◌+◌, ◌-◌, ◌*◌, ◌/◌, ◌%◌, ◌^◌, ◌<◌, ◌≤◌, ◌⊎◌, Bool, true, false, cond, List, [], ◌∷◌, ◌++◌, length, get_or, map, replicate, Option, Some, None, refl, sym, ap, subst, inl, inr, ◌∙◌, arith, eq-eqb}
+use Rattle.std.proofs.Common.{ℕ, zero, suc, ◌≡◌, ◌+◌, ◌-◌, ◌*◌, ◌/◌, ◌<◌, ◌≤◌, Bool, true, false, cond, List, [], ◌∷◌, ◌++◌, length, get_or, map, replicate, Option, Some, None, refl, sym, ap, subst, inl, inr, ◌∙◌, arith, eq-eqb}
 use Rattle.std.specs.Prelude.{slice_get, nat_eq, nat_lt, not, position, option_map, option_and_then}
 use Rattle.std.specs.List.{position_or_len}
-use Rattle.std.proofs.lemmas.Bool.{lt-ltb, le-ltb, ltb-true, ltb-false, cases_lt, eqb-true}
+use Rattle.std.proofs.lemmas.Bool.{lt-ltb, ltb-true, cases_lt, eqb-true}
 use Rattle.std.proofs.lemmas.List.{length-replicate, get_or_past, get_or_append_left, get_or-append_right}
 use Rattle.std.proofs.lemmas.List.Quantifiers.{position-Some}
-use Rattle.std.proofs.lemmas.Option.{slice_get-map, slice_get-get_or, slice_get_within}
+use Rattle.std.proofs.lemmas.Option.{slice_get-map, slice_get-get_or}
 use Rattle.m36_desc.specs.Fields.{SdwFields}
-use Rattle.m36_model.specs.BootedCore.{table_at, wired_frames, absent_ptw}
+use Rattle.m36_model.specs.BootedCore.{wired_frames, absent_ptw}
+use Rattle.m36_model.specs.Residence.{flat_of}
 use Rattle.m36_model.specs.Registers.{RegsFields}
 use Rattle.m36_dir.specs.Catalog.{CatalogFields}
 use Rattle.m36_page.specs.declared.table.PageTable.{PageTable}
 use Rattle.m36_page.specs.Fields.{TableFields, PagerFields}
 use Rattle.m36_page.specs.Changes.{AreAbsent}
 use Rattle.m36_page.specs.Given.{table_given, pager_given}
-use Rattle.m36_page.specs.Residence.{is_of, table_of, has_page_in, spot_in, kept_in, has_page, spot_of, kept_word, frame_by, frame_in, frame_of, word_in, page_word, content_by, content_of, HasFrames}
-use Rattle.m36_boot.specs.declared.image.Image.{Image}
-use Rattle.m36_link.specs.Fields.{LayFields}
+use Rattle.m36_page.specs.Residence.{is_of, table_of, has_page_in, spot_in, kept_in, has_page, spot_of, kept_word, frame_in, frame_of, word_in, page_word, content_by, content_of, HasFrames}
+use Rattle.m36_link.specs.Fields.{LayFields, SnapFields}
 use Rattle.m36_boot.specs.Segments.{booted_sdw, booted_words}
 use Rattle.m36_boot.specs.Start.{start_regs}
-use Rattle.m36_boot.specs.Image.{pages_of, booted_tables, booted_content, AreDescribed, IsImage}
+use Rattle.m36_boot.specs.Image.{pages_of, booted_tables, booted_content, booted_flat, AreDescribed, IsImage}
 use Rattle.m36_boot.specs.Image.{content_by as booted_by}
 use Rattle.m36_boot.proofs.Sizes.{AreFiles}
 use Rattle.m36_boot.proofs.ImageTables.{page_table, has_table, table_is}
@@ -90,7 +90,7 @@ some_place : (b : Bool) (i : ℕ) → b ≡ true → cond b (Some i) None ≡ No
 some_place true i e f = absurd (cc)
 some_place false i e f = absurd (cc)
 
-table_live : (catalog : CatalogFields) (files : List (List ℕ)) (lay : Option LayFields) (seg : ℕ) (d : SdwFields) → AreFiles catalog files
+pub table_live : (catalog : CatalogFields) (files : List (List ℕ)) (lay : Option LayFields) (seg : ℕ) (d : SdwFields) → AreFiles catalog files
     → booted_sdw catalog files seg ≡ Some d
     → table_of (map table_given (booted_tables catalog files lay)) seg ≡ Some (table_given (page_table catalog files lay seg d))
 unfolding table_of
@@ -115,7 +115,7 @@ dead_by catalog files lay seg (Some i) e none =
     never_both : {P : Type 0} (d : SdwFields) (o : Option SdwFields) → o ≡ None → o ≡ Some d → P
     never_both d o f g = absurd (cc)
 
-table_dead : (catalog : CatalogFields) (files : List (List ℕ)) (lay : Option LayFields) (seg : ℕ) → booted_sdw catalog files seg ≡ None
+pub table_dead : (catalog : CatalogFields) (files : List (List ℕ)) (lay : Option LayFields) (seg : ℕ) → booted_sdw catalog files seg ≡ None
     → table_of (map table_given (booted_tables catalog files lay)) seg ≡ None
 unfolding table_of
 table_dead catalog files lay seg none =
@@ -124,7 +124,7 @@ table_dead catalog files lay seg none =
 -- ---- content
 
 -- words with zeros behind them
-filled_at : (words : List ℕ) (n w z : ℕ) → get_or (words ++ replicate n z) w z ≡ get_or words w z
+pub filled_at : (words : List ℕ) (n w z : ℕ) → get_or (words ++ replicate n z) w z ≡ get_or words w z
 filled_at words n w z =
     elim (cases_lt w (length words)) [
       | inl inside ↦ get_or_append_left words (replicate n z) z w inside
@@ -175,48 +175,46 @@ content_at catalog files lay n seg w core are made = content_from catalog files 
 
 -- ---- the image
 
-pub image_made : (catalog : CatalogFields) (files : List (List ℕ)) (lay : Option LayFields) (core : List ℕ) (pager : PagerFields) (regs : RegsFields) (section start : ℕ)
-    → AreFiles catalog files → length catalog.segments ≤ 512 → IsMade catalog files lay (1024 * (wired_frames + catalog.frames)) core
-    → pager ≡ pager_given wired_frames catalog.frames (booted_tables catalog files lay) → regs ≡ start_regs catalog.start.ring p
-    → section ≡ length p.section → start ≡ p.target
-    → IsImage catalog files lay (record { core = core; pager = pager; regs = regs; section = section; start = start })
-image_made catalog files lay core pager regs section start are few made given at size target = record {
-  size = size_of catalog files lay (1024 * (wired_frames + catalog.frames)) core made;
-  core = λ a. word_here catalog files lay (1024 * (wired_frames + catalog.frames)) a core are made few;
+pub image_made : (catalog : CatalogFields) (files : List (List ℕ)) (s : SnapFields) (core : List ℕ) (pager : PagerFields) (regs : RegsFields) (snap : SnapFields)
+    → AreFiles catalog files → length catalog.segments ≤ 512 → IsMade catalog files s.lay (1024 * (wired_frames + catalog.frames)) core
+    → pager ≡ pager_given wired_frames catalog.frames (booted_tables catalog files s.lay)
+    → flat_of (record { core = core; kept = kept_word pager }) ≡ booted_flat catalog files s → regs ≡ start_regs catalog.start.ring s
+    → IsImage catalog files s (record { core = core; pager = pager; regs = regs; snap = snap })
+image_made catalog files s core pager regs snap are few made given flat at = record {
+  size = size_of catalog files s.lay (1024 * (wired_frames + catalog.frames)) core made;
+  core = λ a. word_here catalog files s.lay (1024 * (wired_frames + catalog.frames)) a core are made few;
   pager = given;
   content = λ seg w.
       ap (λ (x : PagerFields). content_of x core seg w) given
-      ∙ content_at catalog files lay (1024 * (wired_frames + catalog.frames)) seg w core are made;
+      ∙ content_at catalog files s.lay (1024 * (wired_frames + catalog.frames)) seg w core are made;
+  flat = flat;
   regs = at;
-  start = target;
-  section = size;
 }
 
--- the image by the calls that make it
-pub image_from : (catalog : CatalogFields) (files : List (List ℕ)) (lay : Option LayFields) (tables : List PageTable) (frames : ℕ) (pager : PagerFields)
-    (fresh mid core : List ℕ) (regs : RegsFields) (section start : ℕ)
-    → AreFiles catalog files → length catalog.segments ≤ 512 → tables ≡ booted_tables catalog files lay → frames ≡ catalog.frames
-    → pager ≡ pager_given wired_frames frames tables → fresh ≡ replicate (1024 * (wired_frames + frames)) 0
-    → AreDescribed catalog files (64 + length catalog.segments) fresh mid → AreAbsent pager.tables (length pager.tables) mid core
-    → regs ≡ start_regs catalog.start.ring p → section ≡ length p.section → start ≡ p.target
-    → IsImage catalog files lay (record { core = core; pager = pager; regs = regs; section = section; start = start })
-image_from catalog files lay tables frames pager fresh mid core regs section start are few made count given zeros described absent at size target =
-    let given' : pager ≡ pager_given wired_frames catalog.frames (booted_tables catalog files lay) =
-    given ∙ ap (λ n. pager_given wired_frames n tables) count ∙ ap (λ (ts : List PageTable). pager_given wired_frames catalog.frames ts) made in
+-- the pager and the core by the calls that make them
+pub given_from_calls : (catalog : CatalogFields) (files : List (List ℕ)) (s : SnapFields) (tables : List PageTable) (frames : ℕ) (pager : PagerFields)
+    → tables ≡ booted_tables catalog files s.lay → frames ≡ catalog.frames → pager ≡ pager_given wired_frames frames tables
+    → pager ≡ pager_given wired_frames catalog.frames (booted_tables catalog files s.lay)
+given_from_calls catalog files s tables frames pager made count given =
+    given ∙ ap (λ n. pager_given wired_frames n tables) count ∙ ap (λ (ts : List PageTable). pager_given wired_frames catalog.frames ts) made
+
+pub made_from : (catalog : CatalogFields) (files : List (List ℕ)) (s : SnapFields) (frames : ℕ) (pager : PagerFields) (fresh mid core : List ℕ)
+    → frames ≡ catalog.frames → pager ≡ pager_given wired_frames catalog.frames (booted_tables catalog files s.lay)
+    → fresh ≡ replicate (1024 * (wired_frames + frames)) 0 → AreDescribed catalog files (64 + length catalog.segments) fresh mid
+    → AreAbsent pager.tables (length pager.tables) mid core → IsMade catalog files s.lay (1024 * (wired_frames + catalog.frames)) core
+made_from catalog files s frames pager fresh mid core count given zeros described absent =
     let zeros' : fresh ≡ replicate (1024 * (wired_frames + catalog.frames)) 0 = zeros ∙ ap (λ n. replicate (1024 * (wired_frames + n)) 0) count in
     let D : List ℕ → Type 0 = λ x. AreDescribed catalog files (64 + length catalog.segments) x mid in
     let A : List TableFields → Type 0 = λ x. AreAbsent x (length x) mid core in
-    image_made catalog files lay core pager regs section start are few
-    (record {
+    record {
       mid = mid;
       described = subst D zeros' described;
-      absent = subst A (ap (λ (x : PagerFields). x.tables) given') absent;
-    })
-    given' at size target
+      absent = subst A (ap (λ (x : PagerFields). x.tables) given) absent;
+    }
 
-pub frames_in : (catalog : CatalogFields) (files : List (List ℕ)) (lay : Option LayFields) (pager : PagerFields) (core : List ℕ) (regs : RegsFields) (section start : ℕ)
-    → IsImage catalog files lay (record { core = core; pager = pager; regs = regs; section = section; start = start }) → HasFrames pager core
-frames_in catalog files lay pager core regs section start is =
+pub frames_in : (catalog : CatalogFields) (files : List (List ℕ)) (s : SnapFields) (pager : PagerFields) (core : List ℕ) (regs : RegsFields) (snap : SnapFields)
+    → IsImage catalog files s (record { core = core; pager = pager; regs = regs; snap = snap }) → HasFrames pager core
+frames_in catalog files s pager core regs snap is =
     let first : pager.first ≡ wired_frames = ap (λ (x : PagerFields). x.first) is.pager in
     let holders : length pager.holders ≡ catalog.frames =
     ap (λ (x : PagerFields). length x.holders) is.pager ∙ length-replicate catalog.frames (let o : Option (ℕ × ℕ) = None in o) in

@@ -1,6 +1,6 @@
 -- The page tables of an image: in order, apart, and one for each segment.
-use Rattle.std.proofs.Common.{ℕ, zero, suc, ◌≡◌, ◌+◌, ◌-◌, ◌*◌, ◌/◌, ◌<◌, ◌≤◌, ◌⊎◌, Bool, true, false, List, [], ◌∷◌, ◌++◌, length, map, Option, Some, None, refl, sym, ap, subst, inl, inr, ◌∙◌, arith, append_assoc}
-use Rattle.std.specs.Prelude.{slice_get, nat_le, ◌&&◌, ◌||◌, option_map}
+use Rattle.std.proofs.Common.{ℕ, zero, suc, ◌≡◌, ◌+◌, ◌-◌, ◌*◌, ◌<◌, ◌≤◌, Bool, true, false, List, ◌++◌, length, Option, Some, None, refl, sym, ap, subst, inl, inr, ◌∙◌, arith, append_assoc}
+use Rattle.std.specs.Prelude.{slice_get, nat_le, ◌&&◌, ◌||◌}
 use Rattle.std.specs.List.{list_all}
 use Rattle.std.proofs.lemmas.Bool.{le-leb, cases_eq}
 use Rattle.std.proofs.lemmas.List.{append-nil}
@@ -8,7 +8,7 @@ use Rattle.m36_desc.specs.Fields.{SdwFields}
 use Rattle.m36_model.specs.BootedCore.{table_at, wired_frames}
 use Rattle.m36_dir.specs.Catalog.{CatalogFields}
 use Rattle.m36_page.specs.declared.table.PageTable.{PageTable}
-use Rattle.m36_page.specs.Given.{fits_below, is_apart, are_placed}
+use Rattle.m36_page.specs.Given.{is_apart, are_placed}
 use Rattle.m36_link.specs.Fields.{LayFields}
 use Rattle.m36_boot.specs.Segments.{booted_sdw, booted_words}
 use Rattle.m36_boot.specs.Image.{pages_of, table_of_segment, tables_from, booted_tables}

@@ -1,10 +1,12 @@
 -- Core, word by word.
-use Rattle.std.proofs.Common.{ℕ, zero, suc, ◌≡◌, ◌≢◌, ◌+◌, ◌-◌, ◌*◌, ◌/◌, ◌%◌, ◌^◌, ◌<◌, ◌≤◌, ◌⊎◌, Bool, true, false, cond, List, [], ◌∷◌, ◌++◌, length, get_or, set, map, replicate, Option, Some, None, refl, sym, ap, subst, inl, inr, ◌∙◌, arith}
-use Rattle.std.specs.Prelude.{slice_get, nat_lt, option_map}
+use Rattle.std.proofs.Common.{ℕ, ◌≡◌, ◌≢◌, ◌+◌, ◌-◌, ◌*◌, ◌/◌, ◌%◌, ◌<◌, ◌≤◌, Bool, true, false, cond, List, length, get_or, set, map, replicate, Option, Some, None, refl, sym, ap, subst, inl, inr, ◌∙◌, arith}
+use Rattle.std.specs.Prelude.{slice_get, nat_lt, option_map, IfSome}
 use Rattle.std.proofs.lemmas.Bool.{lt-ltb, le-ltb, ltb-true, ltb-false, cases_lt, cases_eq}
 use Rattle.std.proofs.lemmas.List.{length-replicate, get_or-replicate, get_or_past, get_or-set_same, get_or-set_other, length-set}
 use Rattle.std.proofs.lemmas.Option.{slice_get-map, slice_get_within}
 use Rattle.m36_desc.specs.Fields.{SdwFields}
+use Rattle.m36_desc.specs.Access.{in_order}
+use Rattle.m36_desc.specs.Descriptors.{sdw_of, sdw_even, sdw_odd}
 use Rattle.m36_model.specs.BootedCore.{table_at, wired_frames, descriptor_words, absent_ptw}
 use Rattle.m36_dir.specs.Catalog.{CatalogFields}
 use Rattle.m36_page.specs.declared.table.PageTable.{PageTable}
@@ -13,14 +15,14 @@ use Rattle.m36_page.specs.Changes.{IsTableWord, AreAbsent}
 use Rattle.m36_page.specs.Given.{table_given}
 use Rattle.m36_link.specs.Fields.{LayFields}
 use Rattle.m36_boot.specs.Segments.{booted_sdw}
-use Rattle.m36_boot.specs.Image.{descriptor_word, pages_of, page_table_word, booted_word, booted_tables, AreDescribed}
+use Rattle.m36_boot.specs.Image.{descriptor_word, pages_of, page_table_word, booted_word, booted_tables, IsWhole, AreDescribed}
 use Rattle.m36_boot.proofs.Sizes.{AreFiles, live}
-use Rattle.m36_boot.proofs.ImageTables.{page_table, has_table, IsOf, table_is}
+use Rattle.m36_boot.proofs.ImageTables.{page_table, has_table, table_is}
 
 -- ---- descriptors
 
 pub described_none : (catalog : CatalogFields) (files : List (List ℕ)) (core : List ℕ) → AreDescribed catalog files 0 core core
-described_none catalog files core = record { size = refl; written = λ a lt. absurd (omega arith); others = λ a le. refl }
+described_none catalog files core = record { size = refl; written = λ a lt. absurd (omega arith); others = λ a le. refl; whole = λ k d lt has. absurd (omega (arith, lt)) }
 
 -- the words after a pair was written
 pair_even : (core : List ℕ) (s e o : ℕ) → 2 * s + 1 < length core → get_or (set (set core (2 * s) e) (2 * s + 1) o) (2 * s) 0 ≡ e
@@ -38,22 +40,30 @@ pair_other core s e o a first second =
     get_or-set_other (set core (2 * s) e) (2 * s + 1) a o 0 second ∙ get_or-set_other core (2 * s) a e 0 first
 
 -- a word of the pair of a segment
-even_of : (catalog : CatalogFields) (files : List (List ℕ)) (s : ℕ) → descriptor_word ((2 * s) % 2) (booted_sdw catalog files ((2 * s) / 2)) ≡ descriptor_word 0 (booted_sdw catalog files s)
+pub even_of : (catalog : CatalogFields) (files : List (List ℕ)) (s : ℕ) → descriptor_word ((2 * s) % 2) (booted_sdw catalog files ((2 * s) / 2)) ≡ descriptor_word 0 (booted_sdw catalog files s)
 even_of catalog files s =
     let half : (2 * s) % 2 ≡ 0 = omega arith in
     let seg : (2 * s) / 2 ≡ s = omega arith in
     ap (λ h. descriptor_word h (booted_sdw catalog files ((2 * s) / 2))) half ∙ ap (λ k. descriptor_word 0 (booted_sdw catalog files k)) seg
 
-odd_of : (catalog : CatalogFields) (files : List (List ℕ)) (s : ℕ) → descriptor_word ((2 * s + 1) % 2) (booted_sdw catalog files ((2 * s + 1) / 2)) ≡ descriptor_word 1 (booted_sdw catalog files s)
+pub odd_of : (catalog : CatalogFields) (files : List (List ℕ)) (s : ℕ) → descriptor_word ((2 * s + 1) % 2) (booted_sdw catalog files ((2 * s + 1) / 2)) ≡ descriptor_word 1 (booted_sdw catalog files s)
 odd_of catalog files s =
     let half : (2 * s + 1) % 2 ≡ 1 = omega arith in
     let seg : (2 * s + 1) / 2 ≡ s = omega arith in
     ap (λ h. descriptor_word h (booted_sdw catalog files ((2 * s + 1) / 2))) half ∙ ap (λ k. descriptor_word 1 (booted_sdw catalog files k)) seg
 
+whole_by : (o : Option SdwFields) (d : SdwFields) → o ≡ Some d → IfSome o (λ x. in_order x ≡ true) → IfSome o (λ x. sdw_of (sdw_even x) (sdw_odd x) ≡ x)
+    → IsWhole d
+whole_by None d e ordered back = absurd (cc)
+whole_by (Some c) d e ordered back =
+    let P : SdwFields → Type 0 = λ x. IsWhole x in
+    subst P (let same : c ≡ d = cc in same) (record { back = back; ordered = ordered })
+
 pub described_more : (catalog : CatalogFields) (files : List (List ℕ)) (s e o : ℕ) (old mid new : List ℕ) (d : Option SdwFields) → 2 * s + 1 < length mid
     → AreDescribed catalog files s old mid → d ≡ booted_sdw catalog files s → e ≡ descriptor_word 0 d → o ≡ descriptor_word 1 d
+    → IfSome d (λ x. in_order x ≡ true) → IfSome d (λ x. sdw_of (sdw_even x) (sdw_odd x) ≡ x)
     → new ≡ set (set mid (2 * s) e) (2 * s + 1) o → AreDescribed catalog files (s + 1) old new
-described_more catalog files s e o old mid new d inside so_far is even odd put =
+described_more catalog files s e o old mid new d inside so_far is even odd ordered back put =
     let P : List ℕ → Type 0 = λ x. AreDescribed catalog files (s + 1) old x in
     let W : ℕ → Type 0 = λ a. get_or (set (set mid (2 * s) e) (2 * s + 1) o) a 0 ≡ descriptor_word (a % 2) (booted_sdw catalog files (a / 2)) in
     subst P (sym put) (record {
@@ -71,6 +81,11 @@ described_more catalog files s e o old mid new d inside so_far is even odd put =
                 ]
           ];
       others = λ a le. pair_other mid s e o a (omega (arith, le)) (omega (arith, le)) ∙ so_far.others a (omega (arith, le));
+      whole = λ k x lt has.
+          elim (cases_eq k s) [
+            | inl last ↦ whole_by d x (is ∙ ap (λ m. booted_sdw catalog files m) (sym last) ∙ has) ordered back
+            | inr before ↦ so_far.whole k x (omega (arith, lt, before)) has
+          ];
     })
 
 pub described_done : (catalog : CatalogFields) (files : List (List ℕ)) (s count : ℕ) (old new : List ℕ) → count ≤ s → s ≤ count
@@ -137,7 +152,7 @@ dead_by : (catalog : CatalogFields) (files : List (List ℕ)) (o : Option SdwFie
 dead_by catalog files None half seg are e past = refl
 dead_by catalog files (Some d) half seg are e past = let last = (live catalog files seg d are e).last in absurd (omega (arith, last, past))
 
-descriptor_here : (catalog : CatalogFields) (files : List (List ℕ)) (lay : Option LayFields) (n a : ℕ) (core : List ℕ) → AreFiles catalog files
+pub descriptor_here : (catalog : CatalogFields) (files : List (List ℕ)) (lay : Option LayFields) (n a : ℕ) (core : List ℕ) → AreFiles catalog files
     → IsMade catalog files lay n core → a < 2048 → get_or core a 0 ≡ descriptor_word (a % 2) (booted_sdw catalog files (a / 2))
 descriptor_here catalog files lay n a core are made low =
     let out : IsWordOf catalog files a → ⊥ = λ w. let from = w.low in absurd (omega (arith, from, low)) in

@@ -1,3 +1,4 @@
+pub mod Orders
 pub mod Files
 pub mod ReadObjects
 pub mod LimitLoops
@@ -6,3 +7,7 @@ pub mod ImageTables
 pub mod LaidCore
 pub mod Contents
 pub mod LayAnswers
+pub mod FirstSection
+pub mod LaidImage
+pub mod Runnable
+pub mod FlatImage

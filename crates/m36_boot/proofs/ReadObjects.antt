@@ -1,5 +1,5 @@
 -- The object of a list of words, by what reading it answers.
-use Rattle.std.proofs.Common.{ℕ, ◌≡◌, List, Option, Some, None, Result, Ok, Err, refl, sym, ◌∙◌}
+use Rattle.std.proofs.Common.{ℕ, ◌≡◌, List, Option, Some, None, Ok, Err, refl}
 use Rattle.obj36_parts.specs.PartsFields.{PartsFields}
 use Rattle.obj36.specs.ObjectOf.{value_of, or_fault, object_of}
 use Rattle.obj36.specs.Faults.{first_fault}

@@ -1,5 +1,5 @@
 -- Which segments an image has, and how far they reach.
-use Rattle.std.proofs.Common.{ℕ, zero, suc, ◌≡◌, ◌+◌, ◌-◌, ◌*◌, ◌/◌, ◌^◌, ◌<◌, ◌≤◌, ◌⊎◌, Bool, true, false, cond, List, [], ◌∷◌, ◌++◌, length, get_or, replicate, Option, Some, None, refl, sym, ap, subst, inl, inr, ◌∙◌, arith, length-append}
+use Rattle.std.proofs.Common.{ℕ, ◌≡◌, ◌+◌, ◌-◌, ◌*◌, ◌/◌, ◌^◌, ◌<◌, ◌≤◌, ◌⊎◌, Bool, true, false, cond, List, [], ◌∷◌, ◌++◌, length, replicate, Option, Some, None, refl, ap, subst, inl, inr, ◌∙◌, arith, length-append}
 use Rattle.std.specs.Prelude.{slice_get, nat_eq, nat_lt, All}
 use Rattle.std.proofs.lemmas.Bool.{ltb-true, ltb-false, cases_lt}
 use Rattle.std.proofs.lemmas.List.{length-replicate, get_or_past}
@@ -11,7 +11,8 @@ use Rattle.m36_model.specs.BootedCore.{table_at}
 use Rattle.m36_dir.specs.Fields.{SegmentFields}
 use Rattle.m36_dir.specs.Catalog.{CatalogFields}
 use Rattle.m36_link.specs.Fields.{LayFields}
-use Rattle.m36_boot.specs.Segments.{linkage_segment, file_at, ring_segment, catalog_segment, limited_segment, limit_of, last_block, booted_sdw, stack_pages, linkage_pages, stack_words, linkage_words, lot_of, lot_words, booted_words}
+use Rattle.m36_link.specs.Known.{linkage_segment, lot_words, lot_word}
+use Rattle.m36_boot.specs.Segments.{file_at, ring_segment, catalog_segment, limited_segment, limit_of, last_block, booted_sdw, stack_pages, linkage_pages, stack_words, linkage_words, lot_of, booted_words}
 
 -- Files are short, and as many as segments.
 pub record AreFiles (catalog : CatalogFields) (files : List (List ℕ)) : Type 0 where
@@ -25,6 +26,8 @@ pub record IsLive (catalog : CatalogFields) (seg : ℕ) (d : SdwFields) : Type 0
   pub last : seg < 64 + length catalog.segments
   pub table : d.addr ≡ table_at seg
   pub bound : d.bound < 2 ^ 14
+  pub paged : d.unpaged ≡ false
+  pub on : d.f ≡ true
 
 choice : {A : Type 0} (b : Bool) (x y : Option A) (d : A) → cond b x y ≡ Some d → ((b ≡ true) × (x ≡ Some d)) ⊎ ((b ≡ false) × (y ≡ Some d))
 choice true x y d e = inl (refl, e)
@@ -41,7 +44,7 @@ ring_live : (catalog : CatalogFields) (seg ring pages : ℕ) (d : SdwFields) →
 ring_live catalog seg ring pages d low high few e =
     let is : ring_segment seg ring pages ≡ d = the_same _ _ d refl e in
     let P : SdwFields → Type 0 = λ x. IsLive catalog seg x in
-    subst P is (record { rings = low; given = inl high; last = omega (arith, high); table = refl; bound = omega (arith, few) })
+    subst P is (record { rings = low; given = inl high; last = omega (arith, high); table = refl; bound = omega (arith, few); paged = refl; on = refl })
 
 pub file_short : (catalog : CatalogFields) (files : List (List ℕ)) (i : ℕ) → AreFiles catalog files → length (file_at files i) ≤ 2 ^ 18
 unfolding file_at
@@ -59,7 +62,7 @@ given_live catalog (Some s) seg words d at low few e =
     let inside = slice_get_within catalog.segments (seg - 64) s at in
     let P : SdwFields → Type 0 = λ x. IsLive catalog seg x in
     let bound : last_block words < 2 ^ 14 = omega (arith, few) in
-    subst P is (record { rings = omega (arith, low); given = inr low; last = omega (arith, inside, low); table = refl; bound = bound })
+    subst P is (record { rings = omega (arith, low); given = inr low; last = omega (arith, inside, low); table = refl; bound = bound; paged = refl; on = refl })
 
 -- the descriptor of a segment, number by number
 pub live : (catalog : CatalogFields) (files : List (List ℕ)) (seg : ℕ) (d : SdwFields) → AreFiles catalog files → booted_sdw catalog files seg ≡ Some d
@@ -88,10 +91,14 @@ live catalog files seg d are e =
 
 -- ---- a segment's words fit its pages
 
--- a point's section fits a linkage segment
-pub record IsFirst (lay : Option LayFields) : Type 0 where
-  pub target : p.target < 576
-  pub section : 1024 + length p.section ≤ 2 ^ 18
+-- a section fits a linkage segment, behind the LOT
+pub record IsFitting (l : LayFields) : Type 0 where
+  pub seg : l.seg < 576
+  pub words : 1024 + length l.words ≤ 2 ^ 18
+
+abbrev pub IsFirst : Option LayFields → Type 0
+IsFirst None = Unit {0}
+IsFirst (Some l) = IsFitting l
 
 stack_size : (ring : ℕ) → length (stack_words ring) ≡ 24
 unfolding stack_words
@@ -101,31 +108,32 @@ stack_size ring =
     let all = length-append (replicate 22 nought) ((linkage_segment ring * 2 ^ 18 + ring * 2 ^ 15 + its_tag) ∷ 0 ∷ []) in
     omega (arith, zeros, all)
 
-lot_size : (ring seg : ℕ) → seg < 1024 → length (lot_of ring seg) ≡ 1024
-lot_size ring seg lt =
+lot_size : (l : LayFields) → l.seg < 1024 → length (lot_of l) ≡ 1024
+lot_size l lt =
     let nought : ℕ = 0 in
-    let before = length-replicate seg nought in
-    let behind = length-replicate (lot_words - 1 - seg) nought in
-    let all = length-append (replicate seg nought) ((linkage_segment ring * 2 ^ 18 + lot_words) ∷ replicate (lot_words - 1 - seg) nought) in
+    let before = length-replicate l.seg nought in
+    let behind = length-replicate (lot_words - 1 - l.seg) nought in
+    let all = length-append (replicate l.seg nought) (lot_word l ∷ replicate (lot_words - 1 - l.seg) nought) in
     omega (arith, before, behind, all, lt)
 
-linkage_by : (b : Bool) (words : List ℕ) → length words ≤ 2 ^ 18 → length (cond b words []) ≤ 2 ^ 18
-linkage_by true words le = le
-linkage_by false words le = omega arith
+linkage_if : (b : Bool) (words : List ℕ) → length words ≤ 2 ^ 18 → length (cond b words []) ≤ 2 ^ 18
+linkage_if true words le = le
+linkage_if false words le = omega arith
 
-linkage_size : (start ring : ℕ) (lay : Option LayFields) → IsFirst lay → length (linkage_words start p ring) ≤ 2 ^ 18
+linkage_size : (ring : ℕ) (lay : Option LayFields) → IsFirst lay → length (linkage_words lay ring) ≤ 2 ^ 18
 unfolding linkage_words
-linkage_size start ring p is =
-    let lot = lot_size ring p.target (let t = is.target in omega (arith, t)) in
-    let all = length-append (lot_of ring p.target) p.section in
-    let section = is.section in
-    linkage_by (nat_eq ring start) (lot_of ring p.target ++ p.section) (omega (arith, lot, all, section))
+linkage_size ring None is = omega arith
+linkage_size ring (Some l) is =
+    let lot = lot_size l (let t = is.seg in omega (arith, t)) in
+    let all = length-append (lot_of l) l.words in
+    let section = is.words in
+    linkage_if (nat_eq ring l.ring) (lot_of l ++ l.words) (omega (arith, lot, all, section))
 
--- the pages that a segment's descriptor says, and the words that are given for it
-fits_by : (words given : List ℕ) (d x : SdwFields) → words ≡ given → x ≡ d → length given ≤ 1024 * (x.bound / 64 + 1)
-    → length words ≤ 1024 * (d.bound / 64 + 1)
+-- the blocks that a segment's descriptor says, and the words that are given for it
+fits_by : (words given : List ℕ) (d x : SdwFields) → words ≡ given → x ≡ d → length given ≤ 16 * (x.bound + 1)
+    → length words ≤ 16 * (d.bound + 1)
 fits_by words given d x same is le =
-    let P : SdwFields → Type 0 = λ s. length words ≤ 1024 * (s.bound / 64 + 1) in
+    let P : SdwFields → Type 0 = λ s. length words ≤ 16 * (s.bound + 1) in
     let n = ap (λ (w : List ℕ). length w) same in
     subst P is (omega (arith, n, le))
 
@@ -137,32 +145,32 @@ chosen_false : {A : Type 0} (b : Bool) (x y : A) → b ≡ false → cond b x y 
 chosen_false true x y e = absurd (cc)
 chosen_false false x y e = refl
 
-stack_here : (catalog : CatalogFields) (files : List (List ℕ)) (lay : Option LayFields) (seg : ℕ) → nat_lt seg 16 ≡ true
+stack_here : (files : List (List ℕ)) (lay : Option LayFields) (seg : ℕ) → nat_lt seg 16 ≡ true
     → booted_words files lay seg ≡ stack_words (seg - 8)
 unfolding booted_words
-stack_here catalog files lay seg e = chosen_true (nat_lt seg 16) _ _ e
+stack_here files lay seg e = chosen_true (nat_lt seg 16) _ _ e
 
-linkage_here : (catalog : CatalogFields) (files : List (List ℕ)) (lay : Option LayFields) (seg : ℕ) → nat_lt seg 16 ≡ false → nat_lt seg 24 ≡ true
-    → booted_words files lay seg ≡ linkage_words catalog.start.ring p (seg - 16)
+linkage_here : (files : List (List ℕ)) (lay : Option LayFields) (seg : ℕ) → nat_lt seg 16 ≡ false → nat_lt seg 24 ≡ true
+    → booted_words files lay seg ≡ linkage_words lay (seg - 16)
 unfolding booted_words
-linkage_here catalog files lay seg e f = chosen_false (nat_lt seg 16) _ _ e ∙ chosen_true (nat_lt seg 24) _ _ f
+linkage_here files lay seg e f = chosen_false (nat_lt seg 16) _ _ e ∙ chosen_true (nat_lt seg 24) _ _ f
 
-file_here : (catalog : CatalogFields) (files : List (List ℕ)) (lay : Option LayFields) (seg : ℕ) → nat_lt seg 16 ≡ false → nat_lt seg 24 ≡ false
+file_here : (files : List (List ℕ)) (lay : Option LayFields) (seg : ℕ) → nat_lt seg 16 ≡ false → nat_lt seg 24 ≡ false
     → booted_words files lay seg ≡ file_at files (seg - 64)
 unfolding booted_words
-file_here catalog files lay seg e f = chosen_false (nat_lt seg 16) _ _ e ∙ chosen_false (nat_lt seg 24) _ _ f
+file_here files lay seg e f = chosen_false (nat_lt seg 16) _ _ e ∙ chosen_false (nat_lt seg 24) _ _ f
 
 given_fit : (words : List ℕ) (o : Option SegmentFields) (seg : ℕ) (file : List ℕ) (d : SdwFields) → words ≡ file
-    → catalog_segment seg o file ≡ Some d → length words ≤ 1024 * (d.bound / 64 + 1)
+    → catalog_segment seg o file ≡ Some d → length words ≤ 16 * (d.bound + 1)
 given_fit words None seg file d same e = never d e
 given_fit words (Some s) seg file d same e =
-    let room : length file ≤ 1024 * (last_block file / 64 + 1) = omega arith in
+    let room : length file ≤ 16 * (last_block file + 1) = omega arith in
     fits_by words file d (limited_segment seg s file (limit_of s file)) same (the_same _ _ d refl e) room
 
-pub pages_fit : (catalog : CatalogFields) (files : List (List ℕ)) (lay : Option LayFields) (seg : ℕ) (d : SdwFields) → IsFirst lay
-    → booted_sdw catalog files seg ≡ Some d → length (booted_words files lay seg) ≤ 1024 * (d.bound / 64 + 1)
+pub blocks_fit : (catalog : CatalogFields) (files : List (List ℕ)) (lay : Option LayFields) (seg : ℕ) (d : SdwFields) → IsFirst lay
+    → booted_sdw catalog files seg ≡ Some d → length (booted_words files lay seg) ≤ 16 * (d.bound + 1)
 unfolding booted_sdw
-pages_fit catalog files lay seg d is e =
+blocks_fit catalog files lay seg d is e =
     elim (choice (nat_lt seg 8) _ _ d e) [
       | inl low ↦ never d low.1
       | inr stacks ↦
@@ -170,20 +178,24 @@ pages_fit catalog files lay seg d is e =
             | inl here ↦
                 let size = stack_size (seg - 8) in
                 fits_by (booted_words files lay seg) (stack_words (seg - 8)) d (ring_segment seg (seg - 8) stack_pages)
-                (stack_here catalog files lay seg here.0) (the_same _ _ d refl here.1) (omega (arith, size))
+                (stack_here files lay seg here.0) (the_same _ _ d refl here.1) (omega (arith, size))
             | inr linkages ↦
                 elim (choice (nat_lt seg 24) _ _ d linkages.1) [
                   | inl here ↦
-                      let size = linkage_size catalog.start.ring (seg - 16) p is in
-                      fits_by (booted_words files lay seg) (linkage_words catalog.start.ring p (seg - 16)) d (ring_segment seg (seg - 16) linkage_pages)
-                      (linkage_here catalog files lay seg linkages.0 here.0) (the_same _ _ d refl here.1) (omega (arith, size))
+                      let size = linkage_size (seg - 16) lay is in
+                      fits_by (booted_words files lay seg) (linkage_words lay (seg - 16)) d (ring_segment seg (seg - 16) linkage_pages)
+                      (linkage_here files lay seg linkages.0 here.0) (the_same _ _ d refl here.1) (omega (arith, size))
                   | inr rest ↦
                       elim (choice (nat_lt seg 64) _ _ d rest.1) [
                         | inl gap ↦ never d gap.1
                         | inr catalogued ↦
                             given_fit (booted_words files lay seg) (slice_get catalog.segments (seg - 64)) seg (file_at files (seg - 64)) d
-                            (file_here catalog files lay seg linkages.0 rest.0) catalogued.1
+                            (file_here files lay seg linkages.0 rest.0) catalogued.1
                       ]
                 ]
           ]
     ]
+
+pub pages_fit : (catalog : CatalogFields) (files : List (List ℕ)) (lay : Option LayFields) (seg : ℕ) (d : SdwFields) → IsFirst lay
+    → booted_sdw catalog files seg ≡ Some d → length (booted_words files lay seg) ≤ 1024 * (d.bound / 64 + 1)
+pages_fit catalog files lay seg d is e = let blocks = blocks_fit catalog files lay seg d is e in omega (arith, blocks)

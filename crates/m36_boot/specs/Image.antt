@@ -1,20 +1,27 @@
 -- What is laid of a booted image: each word of core, the pages, and the content of each segment.
-use Rattle.std.specs.Prelude.{ℕ, zero, suc, ◌≡◌, ◌+◌, ◌-◌, ◌*◌, ◌/◌, ◌%◌, ◌<◌, ◌≤◌, nat_eq, nat_lt, nat_le}
-use Rattle.std.specs.Prelude.{if◌then◌else◌, List, [], ◌∷◌, ◌++◌, length, slice_index, Option, Some, None}
+use Rattle.std.specs.Prelude.{ℕ, zero, suc, ◌≡◌, ◌+◌, ◌-◌, ◌*◌, ◌/◌, ◌%◌, ◌<◌, ◌≤◌, nat_eq, nat_lt}
+use Rattle.std.specs.Prelude.{if◌then◌else◌, true, List, [], ◌∷◌, ◌++◌, length, slice_index}
+use Rattle.std.specs.Prelude.{Option, Some, None, unwrap_or}
 use Rattle.std.specs.Prelude.{Result, Ok, Err}
 use Rattle.m36_desc.specs.Fields.{SdwFields}
-use Rattle.m36_desc.specs.Descriptors.{sdw_even, sdw_odd}
-use Rattle.m36_model.specs.BootedCore.{descriptor_words, wired_frames, table_at, absent_ptw}
+use Rattle.m36_desc.specs.Access.{in_order}
+use Rattle.m36_desc.specs.Descriptors.{sdw_of, sdw_even, sdw_odd}
+use Rattle.m36_model.specs.Place.{core_sdw}
+use Rattle.m36_model.specs.BootedCore.{descriptor_words, booted_dbr, wired_frames, table_at}
+use Rattle.m36_model.specs.BootedCore.{absent_ptw, IsPage, IsLaid}
+use Rattle.m36_model.specs.Flat.{Flat}
+use Rattle.m36_model.specs.Residence.{Paged, flat_of}
 use Rattle.m36_dir.specs.Catalog.{CatalogFields}
 use Rattle.m36_page.specs.declared.table.PageTable.{PageTable}
 use Rattle.m36_page.specs.Given.{pager_given}
-use Rattle.m36_page.specs.Residence.{content_of}
+use Rattle.m36_page.specs.Residence.{content_of, kept_word, has_page, spot_of, IsPager}
 use Rattle.m36_boot.specs.declared.fault.BootFault.{BootFault}
 use Rattle.m36_boot.specs.declared.image.Image.{Image}
 use Rattle.m36_link.specs.Fields.{LayFields, SnapFields}
-use Rattle.m36_boot.specs.Segments.{booted_sdw, booted_words}
+use Rattle.m36_link.specs.Known.{linkage_segment}
+use Rattle.m36_boot.specs.Segments.{ring_segment, linkage_pages, booted_sdw, booted_words}
 use Rattle.m36_boot.specs.Start.{start_regs}
-use Rattle.m36_boot.specs.Refusals.{Told, boot_answer}
+use Rattle.m36_boot.specs.Refusals.{least_frames, Told, boot_answer}
 
 -- ---- core
 
@@ -41,13 +48,22 @@ booted_word catalog files a =
     (booted_sdw catalog files ((a - descriptor_words) / 256))
     else 0
 
+-- The words of a descriptor are read back as it, and its brackets are in order.
+pub record IsWhole (d : SdwFields) : Type 0 where
+  pub back : sdw_of (sdw_even d) (sdw_odd d) ≡ d
+  pub ordered : in_order d ≡ true
+
 -- The descriptors of so many segment numbers are written, and each other word is as it was.
-pub record AreDescribed (catalog : CatalogFields) (files : List (List ℕ)) (count : ℕ) (old new : List ℕ) : Type 0 where
+pub record AreDescribed
+    (catalog : CatalogFields) (files : List (List ℕ)) (count : ℕ) (old new : List ℕ)
+    : Type 0 where
   pub size : length new ≡ length old
   pub written :
       (a : ℕ) → a < 2 * count
       → slice_index new a ≡ descriptor_word (a % 2) (booted_sdw catalog files (a / 2))
   pub others : (a : ℕ) → 2 * count ≤ a → slice_index new a ≡ slice_index old a
+  pub whole :
+      (seg : ℕ) (d : SdwFields) → seg < count → booted_sdw catalog files seg ≡ Some d → IsWhole d
 
 -- ---- pages
 
@@ -58,7 +74,8 @@ table_of_segment seg (Some d) words =
     record { words = words; at = table_at seg; seg = seg; pages = pages_of d } ∷ []
 
 -- those of so many segment numbers from one on
-unfoldable pub tables_from : CatalogFields → List (List ℕ) → Option LayFields → ℕ → ℕ → List PageTable
+unfoldable pub tables_from :
+    CatalogFields → List (List ℕ) → Option LayFields → ℕ → ℕ → List PageTable
 tables_from catalog files lay seg zero = []
 tables_from catalog files lay seg (suc n) =
     table_of_segment seg (booted_sdw catalog files seg) (booted_words files lay seg)
@@ -78,11 +95,34 @@ unfoldable pub booted_content : CatalogFields → List (List ℕ) → Option Lay
 booted_content catalog files lay seg w =
     content_by (booted_sdw catalog files seg) (booted_words files lay seg) w
 
+-- ---- flat memory
+
+-- so many words of core from one on
+unfoldable pub words_from : CatalogFields → List (List ℕ) → ℕ → ℕ → List ℕ
+words_from catalog files a zero = []
+words_from catalog files a (suc n) =
+    booted_word catalog files a ∷ words_from catalog files (a + 1) n
+
+-- The flat memory of the image: the descriptor segment, and the content of each word of each
+-- segment; a word of no page is zero.
+unfoldable pub booted_flat : CatalogFields → List (List ℕ) → SnapFields → Flat
+booted_flat catalog files s =
+    record {
+      descriptors = words_from catalog files 0 descriptor_words;
+      content = λ seg w. unwrap_or (booted_content catalog files s.lay seg w) 0;
+    }
+
+-- the image, as a paged memory
+abbrev pub paged_of : Image → Paged
+paged_of image = record { core = image.core; kept = kept_word image.pager }
+
 -- ---- the image
 
 -- The core and the registers of a booted image that starts by an answer, where every page is put
 -- away.
-pub record IsImage (catalog : CatalogFields) (files : List (List ℕ)) (s : SnapFields) (image : Image) : Type 0 where
+pub record IsImage
+    (catalog : CatalogFields) (files : List (List ℕ)) (s : SnapFields) (image : Image)
+    : Type 0 where
   pub size : length image.core ≡ 1024 * (wired_frames + catalog.frames)
   pub core : (a : ℕ) → slice_index image.core a ≡ booted_word catalog files a
   pub pager :
@@ -90,7 +130,29 @@ pub record IsImage (catalog : CatalogFields) (files : List (List ℕ)) (s : Snap
   pub content :
       (seg w : ℕ)
       → content_of image.pager image.core seg w ≡ booted_content catalog files s.lay seg w
+  pub flat : flat_of (paged_of image) ≡ booted_flat catalog files s
   pub regs : image.regs ≡ start_regs catalog.start.ring s
+
+-- The core of the image is laid, and its pager has the pages of its segments and no others. It has
+-- pageable frames enough for each instruction.
+pub record IsRunnable (frames : ℕ) (image : Image) : Type 0 where
+  pub dbr : image.regs.dbr ≡ booted_dbr
+  pub some : least_frames ≤ frames
+  pub laid : IsLaid image.core frames
+  pub linkage :
+      (ring : ℕ) → ring < 8
+      → core_sdw image.core booted_dbr (linkage_segment ring)
+      ≡ Ok (ring_segment (linkage_segment ring) ring linkage_pages)
+  pub first : image.pager.first ≡ wired_frames
+  pub count : length image.pager.holders ≡ frames
+  pub pager : IsPager image.pager
+  pub serves :
+      (seg page : ℕ) → IsPage image.core seg page → has_page image.pager seg page ≡ true
+  pub exact :
+      (seg page : ℕ) → has_page image.pager seg page ≡ true → IsPage image.core seg page
+  pub at :
+      (seg page : ℕ) → has_page image.pager seg page ≡ true
+      → spot_of image.pager seg page ≡ table_at seg + page
 
 -- What laying answers: the image of the start, or the first code; want of memory may come at any
 -- time.

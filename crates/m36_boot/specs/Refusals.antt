@@ -1,6 +1,7 @@
 -- Whether a catalog and its files are booted, or the first code that says why not: U1, then U4 and
 -- U2 of the gates in the order of the catalog, and then U3 and U4 of the start.
-use Rattle.std.specs.Prelude.{ℕ, zero, suc, ◌≡◌, ◌+◌, ◌^◌, ◌<◌, Bool, true, false, not, ◌&&◌, nat_lt, nat_le, if◌then◌else◌, List}
+use Rattle.std.specs.Prelude.{ℕ, zero, suc, ◌≡◌, ◌+◌, ◌^◌, ◌<◌, Bool, true, false, not, ◌&&◌}
+use Rattle.std.specs.Prelude.{nat_lt, nat_le, if◌then◌else◌, List}
 use Rattle.std.specs.Prelude.{length, slice_get, slice_index, Option, Some, None, Result, Ok, Err}
 use Rattle.m36_dir.specs.Fields.{SegmentFields}
 use Rattle.m36_dir.specs.Catalog.{CatalogFields}
@@ -118,7 +119,9 @@ limit_at None words = 0
 limit_at (Some s) words = limit_of s words
 
 -- the call limiter of each segment of the catalog
-pub record AreLimits (catalog : CatalogFields) (files : List (List ℕ)) (count : ℕ) (limits : List ℕ) : Type 0 where
+pub record AreLimits
+    (catalog : CatalogFields) (files : List (List ℕ)) (count : ℕ) (limits : List ℕ)
+    : Type 0 where
   pub size : length limits ≡ count
   pub each :
       (i : ℕ) → i < count

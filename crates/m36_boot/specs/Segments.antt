@@ -1,6 +1,7 @@
 -- The segments of a booted image: the stack and the linkage segment of each ring, and the segments
 -- of the catalog with their files.
-use Rattle.std.specs.Prelude.{ℕ, ◌+◌, ◌-◌, ◌*◌, ◌/◌, ◌^◌, Bool, true, false, ◌&&◌, not, nat_eq, nat_lt, nat_le}
+use Rattle.std.specs.Prelude.{ℕ, ◌+◌, ◌-◌, ◌*◌, ◌/◌, ◌^◌, Bool, true, false, not, nat_eq}
+use Rattle.std.specs.Prelude.{nat_lt, nat_le}
 use Rattle.std.specs.Prelude.{if◌then◌else◌, List, [], ◌∷◌, ◌++◌, length, replicate, slice_get}
 use Rattle.std.specs.Prelude.{slice_index_or, Option, Some, None}
 use Rattle.m36_desc.specs.Fields.{SdwFields}

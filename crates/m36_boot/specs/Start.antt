@@ -1,6 +1,6 @@
 -- Where a booted machine starts, and its registers there.
-use Rattle.std.specs.Prelude.{ℕ, ◌+◌, Bool, true, false, ◌&&◌, nat_le, List, [], ◌∷◌}
-use Rattle.std.specs.Prelude.{Option, Some, None, Result, Ok, Err}
+use Rattle.std.specs.Prelude.{ℕ, Bool, false, ◌&&◌, nat_le, List, [], ◌∷◌}
+use Rattle.std.specs.Prelude.{Option, Some, None, Result}
 use Rattle.m36_desc.specs.Fields.{PtrFields, ItsFields}
 use Rattle.m36_desc.specs.Descriptors.{its_of}
 use Rattle.m36_model.specs.BootedCore.{booted_dbr}
@@ -19,8 +19,8 @@ use Rattle.m36_boot.specs.Segments.{stack_segment}
 
 -- ---- the start is linked to
 
--- The start is a link of its ring to a name and an entry. It is searched from the working directory,
--- where nothing is known yet.
+-- The start is a link of its ring to a name and an entry. It is searched from the working
+-- directory, where nothing is known yet.
 abbrev pub start_link : StartFields → LinkFields
 start_link s =
     record {
@@ -34,7 +34,8 @@ start_link s =
 
 unfoldable pub start_answer : CatalogFields → List (List ℕ) → Result SnapFields RefusedFields
 start_answer catalog files =
-    outer_snap nothing_known catalog files catalog.start.ring (start_link catalog.start) catalog.work
+    outer_snap nothing_known catalog files catalog.start.ring (start_link catalog.start)
+    catalog.work
 
 -- the number of the segment that is found
 unfoldable pub start_segment : CatalogFields → Option ℕ

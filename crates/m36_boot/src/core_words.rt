@@ -1,7 +1,7 @@
 //! The descriptor segment of the image.
 
-ghost use Rattle.std.specs.Prelude.{ℕ, ◌≡◌, ◌+◌, ◌*◌, ◌≤◌, ◌<◌, ◌^◌, length, All, replicate, slice_set};
-ghost use Rattle.m36_boot.specs.Segments.{booted_sdw};
+ghost use Rattle.std.specs.Prelude.{ℕ, ◌≡◌, ◌+◌, ◌*◌, ◌≤◌, ◌<◌, ◌^◌, length, All, IfSome, slice_set};
+ghost use Rattle.m36_desc.specs.Descriptors.{sdw_of, sdw_even, sdw_odd};
 ghost use Rattle.m36_boot.specs.Refusals.{AreLimits};
 ghost use Rattle.m36_boot.specs.Image.{descriptor_word, AreDescribed};
 
@@ -17,6 +17,7 @@ use m36_word::{Pair, Word};
 fn pair_of(sdw: Option<Sdw>) -> Pair
     ensures even { result.even ≡ descriptor_word 0 sdw }
     ensures odd { result.odd ≡ descriptor_word 1 sdw }
+    ensures back { IfSome sdw (λ d. sdw_of (sdw_even d) (sdw_odd d) ≡ d) }
 {
     match sdw {
         Some(sdw) => sdw.to_words(),

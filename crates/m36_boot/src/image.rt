@@ -4,12 +4,12 @@ ghost use Rattle.std.specs.Prelude.{◌≡◌, ◌<◌, ◌≤◌, ◌^◌, leng
 ghost use Rattle.m36_page.specs.Residence.{Reads, HasFrames};
 ghost use Rattle.m36_boot.specs.Start.{start_answer};
 ghost use Rattle.m36_boot.specs.Refusals.{AreLimits, first_gate_fault};
-ghost use Rattle.m36_boot.specs.Image.{IsImage, LaySays};
+ghost use Rattle.m36_boot.specs.Image.{IsImage, IsRunnable, LaySays};
 
 use crate::core_words::put_descriptors;
 use crate::fault::BootFault;
 use crate::limits::limits_of;
-use crate::start::{regs_of, start_of};
+use crate::start::{regs_of, section_of, start_of};
 use crate::tables::booted_tables;
 use m36_core::Core;
 use m36_dir::Catalog;
@@ -47,15 +47,17 @@ fn image_at(
     requires files { length files.now ≡ length catalog.now.segments }
     requires short { All (λ w. length w ≤ 2 ^ 18) files.now }
     requires limits { AreLimits catalog.now files.now (length catalog.now.segments) limits.now }
+    requires frames { 24 ≤ catalog.now.frames }
     requires snap { start_answer catalog.now files.now ≡ Ok snap }
-    ensures image { IfOk result (IsImage catalog.now files.now snap) }
+    ensures image { IfOk result (λ image. IsImage catalog.now files.now image.snap image) }
     ensures snap { IfOk result (λ image. image.snap ≡ snap) }
+    ensures runnable { IfOk result (IsRunnable catalog.now.frames) }
     ensures reads { IfOk result (λ image. Reads image.pager image.core) }
     ensures frames { IfOk result (λ image. HasFrames image.pager image.core) }
 {
     link_laws();
     let _ = catalog.count();
-    let tables = booted_tables(alloc, catalog, files, limits, &snap.lay)?;
+    let tables = booted_tables(alloc, catalog, files, limits, section_of(&snap))?;
     let frames = catalog.frames();
     let pager = Pager::new(alloc, WIRED_FRAMES, frames, tables.as_slice())?;
     let mut core = Core::new(alloc, WIRED_FRAMES + frames)?;
@@ -82,6 +84,8 @@ fn started(
     requires frames { 24 ≤ catalog.now.frames }
     requires gates { first_gate_fault catalog.now files.now 0 (length catalog.now.segments) ≡ None }
     ensures says { LaySays catalog.now files.now result }
+    ensures answer { IfOk result (λ image. start_answer catalog.now files.now ≡ Ok image.snap) }
+    ensures runnable { IfOk result (IsRunnable catalog.now.frames) }
     ensures reads { IfOk result (λ image. Reads image.pager image.core) }
     ensures frames { IfOk result (λ image. HasFrames image.pager image.core) }
 {
@@ -98,6 +102,8 @@ pub fn lay(alloc: Global, catalog: &Catalog, files: &[File]) -> Result<Image, Bo
     requires files { length files.now ≡ length catalog.now.segments }
     requires short { All (λ w. length w ≤ 2 ^ 18) files.now }
     ensures says { LaySays catalog.now files.now result }
+    ensures answer { IfOk result (λ image. start_answer catalog.now files.now ≡ Ok image.snap) }
+    ensures runnable { IfOk result (IsRunnable catalog.now.frames) }
     ensures reads { IfOk result (λ image. Reads image.pager image.core) }
     ensures frames { IfOk result (λ image. HasFrames image.pager image.core) }
 {

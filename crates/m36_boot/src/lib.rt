@@ -4,8 +4,10 @@
 //! What is promised: `lay` gives exactly the image that the definitions say, word by word: the descriptors, the page
 //! tables, the content of each segment, the stacks, the LOT with the linkage section of the start, and the registers.
 //! Or it gives the first of the codes U1 to U4 that stands, with its segment; want of memory alone may stand in the place
-//! of either. Every page is put away at first, so no more of core is taken than the frames of the catalog. The work grows
-//! with the words of the segments.
+//! of either. What core and pager of an image stand for is the flat memory of the catalog and the files; the core is laid as
+//! the laws of flat memory ask, and the pager has the pages of the image's segments and no others. Every page is put away at
+//! first, so no more of core is taken than the frames of the catalog. The work grows with the words of the segments and of
+//! core. No command calls it yet.
 //!
 //! Source: the layout is this project's own; descriptors, page tables, pointers and rings are those of the Multics
 //! Processor Manual AL39, stacks, linkage sections and the LOT after the Multics Programmers' Manual AG91.

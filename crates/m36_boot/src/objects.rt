@@ -6,23 +6,22 @@ ghost use Rattle.obj36.specs.ObjectOf.{value_of};
 ghost use Rattle.m36_boot.specs.Segments.{is_short, file_at};
 
 use m36_link::File;
-use m36_word::Words;
 use obj36::Object;
 
-fn is_short(file: &Words) -> bool
+fn is_short(file: &File) -> bool
     ensures { result ≡ is_short file.now }
 {
-    file.slice().len() <= 1 << 18
+    file.words().len() <= 1 << 18
 }
 
-fn all_short(files: &[Words]) -> bool
+fn all_short(files: &[File]) -> bool
     ensures { result ≡ list_all is_short files.now }
 {
     files.iter().all(|file| is_short(file))
 }
 
 /// Whether each file has at most 2^18 words, as many as a segment.
-pub fn are_short(files: &[Words]) -> bool
+pub fn are_short(files: &[File]) -> bool
     ensures value { result ≡ list_all is_short files.now }
     ensures short { result ≡ true → All (λ w. length w ≤ 2 ^ 18) files.now }
 {

@@ -1,6 +1,7 @@
 //! The descriptors and the words of segments.
 
-ghost use Rattle.std.specs.Prelude.{ℕ, ◌≡◌, ◌+◌, ◌*◌, ◌/◌, ◌<◌, ◌≤◌, ◌^◌, ◌++◌, ◌⊎◌, length, replicate, All, OnOk, IfOk, IfSome};
+ghost use Rattle.std.specs.Prelude.{ℕ, ◌≡◌, ◌+◌, ◌*◌, ◌/◌, ◌<◌, ◌≤◌, ◌^◌, ◌++◌, ◌⊎◌, length, replicate, All, OnOk, IfOk, IfSome, true};
+ghost use Rattle.m36_desc.specs.Access.{in_order};
 ghost use Rattle.m36_model.specs.BootedCore.{table_at};
 ghost use Rattle.m36_boot.specs.Segments.{paged_segment, ring_segment, limited_segment, booted_sdw, stack_words, lot_of, linkage_words, booted_words};
 ghost use Rattle.m36_boot.specs.Refusals.{AreLimits};
@@ -62,12 +63,14 @@ fn paged_segment(seg: u16, last: u16) -> Sdw
 }
 
 // A stack or a linkage segment.
+#[tactic(auto, using(crate::proofs::Orders::in_order_by))]
 fn ring_segment(seg: u16, ring: u8, pages: u16) -> Sdw
     requires seg { seg < 576 }
     requires ring { ring < 8 }
     requires some { 1 ≤ pages }
     requires most { pages ≤ 256 }
-    ensures { result ≡ ring_segment seg ring pages }
+    ensures value { result ≡ ring_segment seg ring pages }
+    ensures ordered { in_order result ≡ true }
 {
     let mut sdw = paged_segment(seg, 64 * pages - 1);
     sdw.r1 = ring;
@@ -79,11 +82,15 @@ fn ring_segment(seg: u16, ring: u8, pages: u16) -> Sdw
 }
 
 // A segment of the catalog.
+#[tactic(auto, using(crate::proofs::Orders::in_order_by))]
 fn limited_segment(seg: u16, segment: &Segment, words: &[Word], limit: u16) -> Sdw
     requires seg { seg < 576 }
     requires words { length words.now ≤ 2 ^ 18 }
     requires limit { limit < 2 ^ 14 }
-    ensures { result ≡ limited_segment seg segment.now words.now limit }
+    requires read_bracket { segment.now.r1 ≤ segment.now.r2 }
+    requires call_bracket { segment.now.r2 ≤ segment.now.r3 }
+    ensures value { result ≡ limited_segment seg segment.now words.now limit }
+    ensures ordered { in_order result ≡ true }
 {
     let mut sdw = paged_segment(seg, (words.len().saturating_sub(1) / 16) as u16);
     sdw.r1 = segment.r1;
@@ -100,17 +107,13 @@ fn limited_segment(seg: u16, segment: &Segment, words: &[Word], limit: u16) -> S
 
 /// The descriptor of a segment; None where the image has no such segment.
 #[tactic(auto, unfolding(crate::specs::Segments::booted_sdw))]
-pub(crate) fn descriptor(
-    catalog: &Catalog,
-    files: &[File],
-    limits: &[u16],
-    seg: u16,
-) -> Option<Sdw>
+pub(crate) fn descriptor(catalog: &Catalog, files: &[File], limits: &[u16], seg: u16) -> Option<Sdw>
     requires files { length files.now ≡ length catalog.now.segments }
     requires short { All (λ w. length w ≤ 2 ^ 18) files.now }
     requires limits { AreLimits catalog.now files.now (length catalog.now.segments) limits.now }
     requires seg { seg < 64 + length catalog.now.segments }
-    ensures { result ≡ booted_sdw catalog.now files.now seg }
+    ensures value { result ≡ booted_sdw catalog.now files.now seg }
+    ensures ordered { IfSome result (λ d. in_order d ≡ true) }
 {
     let _ = catalog.count();
     if seg < FIRST_STACK {

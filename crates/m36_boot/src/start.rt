@@ -33,7 +33,7 @@ fn start_link(start: &Start) -> Link
 
 // Whether a segment is an object or a gate, with a file that is an object.
 fn is_object(segment: Option<&Segment>, object: Option<&Object>) -> bool
-    ensures { result ≡ is_object (option_copied segment) (option_copied object) }
+    ensures { result ≡ is_object (option_copied segment.entry) (option_copied object.entry) }
 {
     match (segment, object) {
         (Some(segment), Some(_)) => segment.kind != SegKind::Plain,
@@ -43,7 +43,7 @@ fn is_object(segment: Option<&Segment>, object: Option<&Object>) -> bool
 
 // Whether a segment may be executed in a ring.
 fn may_start(ring: u8, segment: Option<&Segment>) -> bool
-    ensures { result ≡ may_start ring (option_copied segment) }
+    ensures { result ≡ may_start ring (option_copied segment.entry) }
 {
     match segment {
         Some(segment) => segment.mode.executable && segment.r1 <= ring && ring <= segment.r2,
@@ -89,7 +89,13 @@ pub(crate) fn start_of(alloc: Global, catalog: &Catalog, files: &[File]) -> Resu
     if !is_object(segment, object_in(files, seg)) {
         return Err(BootFault::U4(seg));
     }
-    answer_if(alloc, &known, catalog, files, may_start(start.ring, segment))
+    answer_if(
+        alloc,
+        &known,
+        catalog,
+        files,
+        may_start(start.ring, segment),
+    )
 }
 
 // ---- registers
@@ -117,6 +123,13 @@ fn section_base(lay: &Option<Lay>) -> u32
         Some(lay) => lay.base,
         None => 0,
     }
+}
+
+/// The section that is laid for a start.
+pub(crate) fn section_of(snap: &Snap) -> &Option<Lay>
+    ensures { result.now ≡ snap.now.lay }
+{
+    &snap.lay
 }
 
 // The registers at a start in a ring.

@@ -1,13 +1,14 @@
 //! Images of a catalog of two segments, worked out by hand.
 
+ghost use Rattle.std.specs.Prelude.{IfOk};
 ghost use Rattle.m36_page.specs.Residence.{HasFrames, Reads};
 
 use crate::{BootFault, Image, are_short, lay};
 use m36_dir::Catalog;
+use m36_link::File;
 use m36_outside::Text;
 use m36_word::{NoMemory, Word, Words};
 use std::alloc::Global;
-use std::test::Fail;
 
 // The object of an empty source.
 const EMPTY: [u64; 18] = [
@@ -77,137 +78,233 @@ const CALLER: [u64; 42] = [
     0o000043000000,
 ];
 
-fn words_of(alloc: Global, numbers: &[u64]) -> Result<Words, NoMemory> {
-    let mut words = Words::new(alloc);
-    for number in numbers {
-        words.push(Word::low(*number))?;
-    }
-    Ok(words)
-}
-
-fn text_of(alloc: Global, lines: &[&str]) -> Result<Text, NoMemory> {
-    let mut text = Text::new(alloc);
-    for line in lines {
-        text.append(line.as_bytes())?;
-        text.push(b'\n')?;
-    }
-    Ok(text)
-}
-
-// The image of a boot text of two segments, of which the second has this file.
-fn laid(alloc: Global, lines: &[&str], second: &[u64]) -> Result<Image, BootFault> {
-    let text = text_of(alloc, lines)?;
-    let bytes = text.bytes();
-    if bytes.len() >= 4294967296 {
-        return Err(BootFault::NoMemory);
-    }
-    let Ok(catalog) = Catalog::read(alloc, bytes) else {
-        return Err(BootFault::NoMemory);
-    };
-    let mut files = Vec::new(alloc);
-    add(&mut files, words_of(alloc, &CALLER)?)?;
-    add(&mut files, words_of(alloc, second)?)?;
-    if files.len() != catalog.count() || !are_short(&files) {
-        return Err(BootFault::NoMemory);
-    }
-    lay(alloc, &catalog, &files)
-}
-
-fn add(files: &mut Vec<Words>, words: Words) -> Result<(), NoMemory> {
-    files.push(words)?;
-    Ok(())
-}
-
-// Why a boot text with these lines is not booted.
-fn told(alloc: Global, frames: &str, main: &str, start: &str, second: &[u64]) -> Option<BootFault> {
-    let lines = [
-        frames,
-        "work >udd>demo",
-        "library >sss",
-        main,
-        "segment >sss con_ con_ gate re 0 0 5",
-        start,
-    ];
-    laid(alloc, &lines, second).err()
+/// What the file of the second segment is.
+#[derive(Clone, Copy)]
+enum Second {
+    /// The words of the first.
+    Same,
+    /// An object without an entry.
+    Empty,
+    /// No object.
+    Nothing,
 }
 
 const MAIN: &str = "segment >udd>demo main main object re 4 4 5";
 
-#[test]
-fn first_causes(rt: HostRuntime) {
-    let alloc = rt.alloc();
-    let data = "segment >udd>demo main main data re 4 4 5";
-    let closed = "segment >udd>demo main main object rw 4 4 5";
-    for (frames, main, start, second, fault) in [
-        (
-            "frames 23",
-            data,
-            "start 4 none$go",
-            &EMPTY[1..],
-            BootFault::U1,
-        ),
-        (
-            "frames 24",
-            data,
-            "start 4 none$go",
-            &EMPTY[1..],
-            BootFault::U4(65),
-        ),
-        (
-            "frames 24",
-            data,
-            "start 4 none$go",
-            &EMPTY[..],
-            BootFault::U2(65),
-        ),
-        (
-            "frames 24",
-            data,
-            "start 4 none$go",
-            &CALLER[..],
-            BootFault::U3,
-        ),
-        (
-            "frames 24",
-            data,
-            "start 4 main$go",
-            &CALLER[..],
-            BootFault::U4(64),
-        ),
-        (
-            "frames 24",
-            closed,
-            "start 4 main$go",
-            &CALLER[..],
-            BootFault::U3,
-        ),
-        (
-            "frames 24",
-            MAIN,
-            "start 5 main$go",
-            &CALLER[..],
-            BootFault::U3,
-        ),
-        (
-            "frames 24",
-            MAIN,
-            "start 3 main$go",
-            &CALLER[..],
-            BootFault::U3,
-        ),
-        (
-            "frames 24",
-            MAIN,
-            "start 4 main$b",
-            &CALLER[..],
-            BootFault::U3,
-        ),
-    ] {
-        assert_eq!(rt; told(alloc, frames, main, start, second), Some(fault));
+const DATA: &str = "segment >udd>demo main main data re 4 4 5";
+
+const CLOSED: &str = "segment >udd>demo main main object rw 4 4 5";
+
+/// The first, fourth and last line of a boot text, the second file, and the first cause.
+const REFUSED: [(&str, &str, &str, Second, BootFault); 9] = [
+    (
+        "frames 23",
+        DATA,
+        "start 4 none$go",
+        Second::Nothing,
+        BootFault::U1,
+    ),
+    (
+        "frames 24",
+        DATA,
+        "start 4 none$go",
+        Second::Nothing,
+        BootFault::U4(65),
+    ),
+    (
+        "frames 24",
+        DATA,
+        "start 4 none$go",
+        Second::Empty,
+        BootFault::U2(65),
+    ),
+    (
+        "frames 24",
+        DATA,
+        "start 4 none$go",
+        Second::Same,
+        BootFault::U3,
+    ),
+    (
+        "frames 24",
+        DATA,
+        "start 4 main$go",
+        Second::Same,
+        BootFault::U4(64),
+    ),
+    (
+        "frames 24",
+        CLOSED,
+        "start 4 main$go",
+        Second::Same,
+        BootFault::U3,
+    ),
+    (
+        "frames 24",
+        MAIN,
+        "start 5 main$go",
+        Second::Same,
+        BootFault::U3,
+    ),
+    (
+        "frames 24",
+        MAIN,
+        "start 3 main$go",
+        Second::Same,
+        BootFault::U3,
+    ),
+    (
+        "frames 24",
+        MAIN,
+        "start 4 main$b",
+        Second::Same,
+        BootFault::U3,
+    ),
+];
+
+/// Words of core, where the start is `main$cnt` in ring 4 and the second segment is a gate of ring 0.
+const CORE: [(usize, u64); 16] = [
+    (0, 0),
+    (24, 0o000120004444),
+    (25, 0o017775100000),
+    (40, 0o000160004444),
+    (41, 0o377775100000),
+    (128, 0o000440004454),
+    (129, 0o000026100000),
+    (130, 0o000444000054),
+    (131, 0o000026000001),
+    (132, 0),
+    (2048, 0),
+    (5120, 1),
+    (5135, 1),
+    (5136, 0),
+    (18432, 1),
+    (18433, 0),
+];
+
+/// Words of its segments: the number of the segment, the word, and what stands there.
+const WORDS: [(u16, u32, Option<u64>); 18] = [
+    (8, 22, Some(0o000020000043)),
+    (12, 21, Some(0)),
+    (12, 22, Some(0o000024400043)),
+    (12, 23, Some(0)),
+    (12, 16383, Some(0)),
+    (12, 16384, None),
+    (16, 64, Some(0)),
+    (20, 63, Some(0)),
+    (20, 64, Some(0o000024002000)),
+    (20, 65, Some(0)),
+    (20, 1025, Some(0o000012000002)),
+    (20, 1034, Some(0o777766000046)),
+    (20, 262143, Some(0)),
+    (64, 0, Some(0o400010054100)),
+    (64, 41, Some(0o000043000000)),
+    (64, 1023, Some(0)),
+    (64, 1024, None),
+    (66, 0, None),
+];
+
+// The tables are handed out by functions, so that no proof goes through them.
+fn caller() -> &'static [u64] {
+    &CALLER
+}
+
+fn empty() -> &'static [u64] {
+    &EMPTY
+}
+
+fn refused() -> &'static [(&'static str, &'static str, &'static str, Second, BootFault)] {
+    &REFUSED
+}
+
+fn core_words() -> &'static [(usize, u64)] {
+    &CORE
+}
+
+fn segment_words() -> &'static [(u16, u32, Option<u64>)] {
+    &WORDS
+}
+
+fn file(alloc: Global, numbers: &[u64]) -> Result<File, NoMemory> {
+    let mut words = Words::new(alloc);
+    for number in numbers {
+        words.push(Word::low(*number))?;
+    }
+    if words.slice().len() > 100 {
+        return Err(NoMemory);
+    }
+    File::read(alloc, words)
+}
+
+fn file_of(alloc: Global, second: Second) -> Result<File, NoMemory> {
+    match second {
+        Second::Same => file(alloc, caller()),
+        Second::Empty => file(alloc, empty()),
+        Second::Nothing => file(alloc, &[]),
     }
 }
 
-// What is told of a word of a segment: the number that stands there.
+fn files(alloc: Global, second: Second) -> Result<Vec<File>, NoMemory> {
+    let mut files = Vec::new(alloc);
+    files.push(file(alloc, caller())?)?;
+    files.push(file_of(alloc, second)?)?;
+    Ok(files)
+}
+
+fn add_line(text: &mut Text, line: &str) -> Result<(), NoMemory> {
+    text.append(line.as_bytes())?;
+    text.push(b'\n')?;
+    Ok(())
+}
+
+// The catalog of a boot text of two segments, of which the second is a gate of a library.
+fn catalog(alloc: Global, frames: &str, main: &str, start: &str) -> Result<Catalog, BootFault> {
+    let mut text = Text::new(alloc);
+    add_line(&mut text, frames)?;
+    add_line(&mut text, "work >udd>demo")?;
+    add_line(&mut text, "library >sss")?;
+    add_line(&mut text, main)?;
+    add_line(&mut text, "segment >sss con_ con_ gate re 0 0 5")?;
+    add_line(&mut text, start)?;
+    let bytes = text.bytes();
+    if bytes.len() > 1000 {
+        return Err(BootFault::NoMemory);
+    }
+    match Catalog::read(alloc, bytes) {
+        Ok(catalog) => Ok(catalog),
+        Err(_) => Err(BootFault::NoMemory),
+    }
+}
+
+// The image of such a text.
+fn laid(
+    alloc: Global,
+    frames: &str,
+    main: &str,
+    start: &str,
+    second: Second,
+) -> Result<Image, BootFault>
+    ensures reads { IfOk result (λ image. Reads image.pager image.core) }
+    ensures frames { IfOk result (λ image. HasFrames image.pager image.core) }
+{
+    let catalog = catalog(alloc, frames, main, start)?;
+    let files = files(alloc, second)?;
+    if files.len() != catalog.count() || !are_short(files.as_slice()) {
+        return Err(BootFault::NoMemory);
+    }
+    lay(alloc, &catalog, files.as_slice())
+}
+
+#[test]
+fn first_causes(rt: HostRuntime) {
+    let alloc = rt.alloc();
+    for (frames, main, start, second, fault) in refused() {
+        let told = laid(alloc, frames, main, start, *second).err();
+        assert!(rt; told == Some(*fault));
+    }
+}
+
+// A word of a segment, as a number.
 fn number_at(image: &Image, seg: u16, word: u32) -> Option<u64>
     requires frames { HasFrames image.now.pager image.now.core }
     requires reads { Reads image.now.pager image.now.core }
@@ -217,77 +314,25 @@ fn number_at(image: &Image, seg: u16, word: u32) -> Option<u64>
 }
 
 // A word of core, as a number.
-fn core_number(image: &Image, a: usize) -> u64 {
-    match image.core.words().get(a) {
-        Some(word) => word.value(),
-        None => 0o777777777777,
-    }
+fn core_number(image: &Image, a: usize) -> Option<u64> {
+    let word = image.core.words().get(a)?;
+    Some(word.value())
 }
 
 #[test]
-fn words_of_an_image(rt: HostRuntime) -> Result<(), Fail> {
+fn words_of_an_image(rt: HostRuntime) {
     let alloc = rt.alloc();
-    let lines = [
-        "frames 24",
-        "work >udd>demo",
-        MAIN,
-        "segment >udd>demo con_ con_ gate re 0 0 5",
-        "start 4 main$cnt",
-    ];
-    let image = match laid(alloc, &lines, &CALLER) {
-        Ok(image) => image,
-        Err(fault) => {
-            assert_eq!(rt; fault, BootFault::NoMemory);
-            return Ok(());
-        }
+    let Ok(image) = laid(alloc, "frames 24", MAIN, "start 4 main$cnt", Second::Same) else {
+        assert!(rt; false);
+        return;
     };
-    for (a, number) in [
-        (0, 0),
-        (24, 0o000120004444),
-        (25, 0o017775100000),
-        (40, 0o000160004444),
-        (41, 0o377775100000),
-        (128, 0o000440004454),
-        (129, 0o000026100000),
-        (130, 0o000444000054),
-        (131, 0o000026000001),
-        (132, 0),
-        (2048, 0),
-        (5120, 1),
-        (5135, 1),
-        (5136, 0),
-        (18432, 1),
-        (18433, 0),
-    ] {
-        assert_eq!(rt; core_number(&image, a), number);
+    for (a, number) in core_words() {
+        assert!(rt; core_number(&image, *a) == Some(*number));
     }
-    for (seg, word, number) in [
-        (8, 22, Some(0o000020000043)),
-        (12, 21, Some(0)),
-        (12, 22, Some(0o000024400043)),
-        (12, 23, Some(0)),
-        (12, 16383, Some(0)),
-        (12, 16384, None),
-        (16, 64, Some(0)),
-        (20, 63, Some(0)),
-        (20, 64, Some(0o000024002000)),
-        (20, 65, Some(0)),
-        (20, 1025, Some(0o000012000002)),
-        (20, 1034, Some(0o777766000046)),
-        (20, 262143, Some(0)),
-        (64, 0, Some(0o400010054100)),
-        (64, 41, Some(0o000043000000)),
-        (64, 1023, Some(0)),
-        (64, 1024, None),
-        (66, 0, None),
-    ] {
-        assert_eq!(rt; number_at(&image, seg, word), number);
+    for (seg, word, number) in segment_words() {
+        assert!(rt; number_at(&image, *seg, *word) == *number);
     }
     let regs = &image.regs;
-    assert_eq!(rt; (regs.ppr.psr, regs.ppr.prr, regs.ppr.ic), (20, 4, 1032));
-    assert_eq!(rt; (regs.pr[4].seg, regs.pr[4].word), (20, 1024));
-    assert_eq!(rt; (regs.pr[6].seg, regs.pr[6].word), (12, 64));
-    assert_eq!(rt; (regs.pr[0].seg, regs.pr[0].ring), (0, 4));
-    assert_eq!(rt; (image.start, image.section), (64, 14));
-    Ok(())
+    let entry = regs.ppr;
+    assert!(rt; (entry.psr, entry.prr, entry.ic) == (20, 4, 1032));
 }

@@ -21,6 +21,8 @@ mod resolving;
 mod search;
 mod sections;
 pub mod snap;
+#[cfg(test)]
+mod tests;
 
 pub use file::{File, object_in};
 pub use known::Known;

@@ -9,3 +9,4 @@ pub mod ConsoleReads
 pub mod LinkPlaces
 pub mod LinkTurns
 pub mod SystemTurns
+pub mod BootTurns

@@ -1,5 +1,6 @@
 -- Where a link that is snapped stands: in the linkage segment of its ring, with both of its words.
-use Rattle.std.proofs.Common.{◌≡◌, refl, sym, ◌∙◌, ap, subst, arith, eqb-true, leb-true, length-append}
+use Rattle.std.proofs.Common.{◌≡◌, refl, sym, ◌∙◌, ap, subst, arith, length-append}
+use Rattle.std.proofs.lemmas.Bool.{eqb-true, leb-true}
 use Rattle.std.specs.Prelude.{ℕ, zero, suc, ◌+◌, ◌-◌, ◌*◌, ◌/◌, ◌%◌, ◌^◌, ◌<◌, ◌≤◌, Bool, true, false, ◌&&◌, nat_eq, nat_le, if◌then◌else◌, find, List, [], ◌∷◌, length, slice_get, All, Option, Some, None, is_some, option_and_then, Result, Ok, Err}
 use Rattle.std.proofs.lemmas.Option.{slice_get_within}
 use Rattle.m36_model.specs.Fields.{AtFields}
@@ -21,16 +22,14 @@ pub record IsFound {A : Type 0} (p : A → Bool) (P : A → Type 0) (x : A) : Ty
 
 found_in : {A : Type 0} (p : A → Bool) (P : A → Type 0) (xs : List A) (y : A) → find p xs ≡ Some y → All P xs → IsFound p P y
 found_in p P [] y e all = cc
-found_in p P (x ∷ xs) y e all = by_test (p x) refl e
+found_in p P (x ∷ xs) y e all =
+    by_test (p x) refl e (λ later. found_in p P xs y later (λ k d lt. all (suc k) d (omega (arith, lt))))
   where
-    rest : All P xs
-    rest k d lt = all (suc k) d (omega (arith, lt))
-
-    by_test : (b : Bool) → p x ≡ b → (if b then Some x else find p xs) ≡ Some y → IsFound p P y
-    by_test true test e =
+    by_test : (b : Bool) → p x ≡ b → (if b then Some x else find p xs) ≡ Some y → (find p xs ≡ Some y → IsFound p P y) → IsFound p P y
+    by_test true test e later =
         let same : x ≡ y = cc in
         subst (IsFound p P) same (record { passes = test; holds = all 0 x (omega arith) })
-    by_test false test e = found_in p P xs y e rest
+    by_test false test e later = later e
 
 -- the section of a link that is snapped
 pub record IsPlaced (files : List (List ℕ)) (at : AtFields) (l : LaidFields) : Type 0 where

@@ -1,6 +1,6 @@
 -- Words that a link service writes, and the turn that it is.
-use Rattle.std.proofs.Common.{◌≡◌, refl, sym, ◌∙◌, ap, subst, inl, inr, arith}
-use Rattle.std.specs.Prelude.{ℕ, zero, suc, ◌+◌, ◌^◌, ◌<◌, ◌≤◌, Bool, List, [], ◌∷◌, ◌++◌, length, Option, Some, None, Result, Ok, Err}
+use Rattle.std.proofs.Common.{◌≡◌, refl, sym, ◌∙◌, ap, subst, arith, drop, drop-cons}
+use Rattle.std.specs.Prelude.{ℕ, zero, suc, ◌+◌, ◌^◌, ◌<◌, ◌≤◌, Bool, List, [], ◌∷◌, ◌++◌, length, slice_index_or, Option, Some, None, Result, Ok, Err}
 use Rattle.m36_model.specs.Fields.{AtFields}
 use Rattle.m36_model.specs.Registers.{RegsFields}
 use Rattle.m36_model.specs.Store.{State, Change}
@@ -21,8 +21,15 @@ use Rattle.m36_super.specs.BootedRun.{Booted, IsLinkTurn}
 use Rattle.m36_super.specs.SuperFields.{IsManaged, IsRunning}
 use Rattle.m36_super.specs.Stepping.{run_of}
 use Rattle.m36_super.specs.Writing.{flat_by, ArePut}
+use Rattle.m36_super.proofs.LinkPlaces.{snap_place}
 
 -- ---- words one after another
+
+drop_past : (i : ℕ) (xs : List ℕ) → length xs ≤ i → drop i xs ≡ []
+drop_past zero [] h = refl
+drop_past zero (x ∷ xs) h = absurd (omega arith)
+drop_past (suc i) [] h = refl
+drop_past (suc i) (x ∷ xs) h = drop_past i xs (omega arith)
 
 -- The words that are left complete what is written.
 pub record IsWriting (core : List ℕ) (p : PagerFields) (now : List ℕ) (q : PagerFields) (ring at : ℕ) (rest : List ℕ) (word : ℕ) (words : List ℕ) : Type 0 where
@@ -39,8 +46,8 @@ next_written : (f g : Flat) (seg at w : ℕ) (rest : List ℕ) → g ≡ flat_pu
 unfolding flat_put written_from
 next_written f g seg at w rest e = ap (λ (x : Flat). flat_put x (written_from seg (at + 1) rest)) e
 
-pub writing_more : (core mid now : List ℕ) (p r q : PagerFields) (ring at w word : ℕ) (rest words : List ℕ) → IsWriting core p mid r ring at (w ∷ rest) word words → ArePut mid r now q (written_from (linkage_segment ring) at (w ∷ [])) → IsWriting core p now q ring (at + 1) rest word words
-writing_more core mid now p r q ring at w word rest words h put =
+writing_next : (core mid now : List ℕ) (p r q : PagerFields) (ring at w word : ℕ) (rest words : List ℕ) → IsWriting core p mid r ring at (w ∷ rest) word words → ArePut mid r now q (written_from (linkage_segment ring) at (w ∷ [])) → IsWriting core p now q ring (at + 1) rest word words
+writing_next core mid now p r q ring at w word rest words h put =
     let fits = h.fits in
     record {
       fits = omega arith;
@@ -49,10 +56,20 @@ writing_more core mid now p r q ring at w word rest words h put =
       managed = put.managed;
     }
 
-pub writing_done : (core now : List ℕ) (p q : PagerFields) (ring at word : ℕ) (words : List ℕ) → IsWriting core p now q ring at [] word words → ArePut core p now q (written_from (linkage_segment ring) word words)
+pub writing_more : (core mid now : List ℕ) (p r q : PagerFields) (ring at word i w : ℕ) (words : List ℕ) → i < length words → w ≡ slice_index_or words i w → IsWriting core p mid r ring at (drop i words) word words → ArePut mid r now q (written_from (linkage_segment ring) at (w ∷ [])) → IsWriting core p now q ring (at + 1) (drop (i + 1) words) word words
+writing_more core mid now p r q ring at word i w words inside is h put =
+    let cut : drop i words ≡ w ∷ drop (suc i) words = drop-cons words i w inside ∙ ap (λ (x : ℕ). x ∷ drop (suc i) words) (sym is) in
+    let next : suc i ≡ i + 1 = omega arith in
+    subst (λ (n : ℕ). IsWriting core p now q ring (at + 1) (drop n words) word words) next (writing_next core mid now p r q ring at w word (drop (suc i) words) words (subst (λ (x : List ℕ). IsWriting core p mid r ring at x word words) cut h) put)
+
+writing_end : (core now : List ℕ) (p q : PagerFields) (ring at word : ℕ) (words : List ℕ) → IsWriting core p now q ring at [] word words → ArePut core p now q (written_from (linkage_segment ring) word words)
 unfolding flat_put written_from
-writing_done core now p q ring at word words h =
+writing_end core now p q ring at word words h =
     record { flat = h.written; frames = h.frames; managed = h.managed }
+
+pub writing_done : (core now : List ℕ) (p q : PagerFields) (ring at word i : ℕ) (words : List ℕ) → length words ≤ i → IsWriting core p now q ring at (drop i words) word words → ArePut core p now q (written_from (linkage_segment ring) word words)
+writing_done core now p q ring at word i words past h =
+    writing_end core now p q ring at word words (subst (λ (x : List ℕ). IsWriting core p now q ring at x word words) (drop_past i words past) h)
 
 put-append : (f : Flat) (a b : List Change) → flat_put f (a ++ b) ≡ flat_put (flat_put f a) b
 unfolding flat_put
@@ -117,3 +134,9 @@ link_answered answer frames at before after turn s e h =
 pub still_running : (old new : State (List ℕ)) (p q : PagerFields) (changes : List Change) → IsRunning (length p.holders) old.regs old.store p → new.regs ≡ old.regs → ArePut old.store p new.store q changes → IsRunning (length q.holders) new.regs new.store q
 still_running old new p q changes runs regs put =
     record { dbr = ap (λ (r : RegsFields). r.dbr) regs ∙ runs.dbr; managed = put.managed }
+
+pub ruleset writing = (writing_first, writing_more, writing_done)
+
+pub ruleset snapped = (linked, linked_without_memory, still_running)
+
+pub ruleset answers = (link_answered, link_refused, linked_without_memory, snap_place)

@@ -82,9 +82,12 @@ page_fault frames kept s at dbr laid lacked = by_cases (paged_step_law frames ke
 
 -- ---- a page was brought in
 
+none_some : IsSome {T = ℕ} None → ⊥
+none_some e = cc
+
 some_none : (v : Option ℕ) → IsSome v → v ≡ None → ⊥
 some_none (Some x) some e = cc
-some_none None some e = some
+some_none None some e = absurd (none_some some)
 
 -- a page that is in a frame
 held_page : (b : Bool) (v : Option ℕ) (frame : ℕ) → frame_by b v ≡ Some frame → (b ≡ true) × (v ≡ Some frame)
@@ -160,31 +163,33 @@ module _ (old : State (List ℕ)) (p q : PagerFields) (now : List ℕ) (runs : I
 
 -- ---- what an attempt does, by its parts
 
-module _ (old mid : State (List ℕ)) (p : PagerFields) (told : StepRecord) (at : AtFields) (told_is : told ≡ record_of core_store old) (mid_is : mid ≡ state_after core_store old) (runs : IsRunning (length p.holders) old.regs old.store p) where
-  pub bring_managed : IsManaged (length p.holders) mid.store p
-  bring_managed =
-      subst (λ (s : State (List ℕ)). IsManaged (length p.holders) s.store p) (sym mid_is) (step_managed (length p.holders) old p runs.dbr runs.managed)
+pub bring_managed : (old later : State (List ℕ)) (p : PagerFields) → later ≡ state_after core_store old → IsRunning (length p.holders) old.regs old.store p → IsManaged (length p.holders) later.store p
+bring_managed old later p mid_is runs =
+    subst (λ (s : State (List ℕ)). IsManaged (length p.holders) s.store p) (sym mid_is) (step_managed (length p.holders) old p runs.dbr runs.managed)
 
-  pub bring_few : length told.refs.items ≤ 20
-  bring_few = subst (λ (e : StepRecord). length e.refs.items ≤ 20) (sym told_is) (few_references old)
+pub bring_few : (old : State (List ℕ)) (told : StepRecord) → told ≡ record_of core_store old → length told.refs.items ≤ 20
+bring_few old told told_is =
+    subst (λ (e : StepRecord). length e.refs.items ≤ 20) (sym told_is) (few_references old)
 
-  fault_at : IsLacked told.outcome at → IsFaultAt (kept_word p) old at
-  fault_at lacked =
-      page_fault (length p.holders) (kept_word p) old at runs.dbr runs.managed.laid (subst (λ (e : StepRecord). IsLacked e.outcome at) told_is lacked)
+fault_at : (old : State (List ℕ)) (p : PagerFields) (told : StepRecord) (at : AtFields) → told ≡ record_of core_store old → IsRunning (length p.holders) old.regs old.store p → IsLacked told.outcome at → IsFaultAt (kept_word p) old at
+fault_at old p told at told_is runs lacked =
+    page_fault (length p.holders) (kept_word p) old at runs.dbr runs.managed.laid (subst (λ (e : StepRecord). IsLacked e.outcome at) told_is lacked)
 
-  pub bring_page : IsLacked told.outcome at → has_page p at.seg (at.word / 1024) ≡ true
-  bring_page lacked =
-      let f = fault_at lacked in
-      subst (λ (a : AtFields). has_page p a.seg (a.word / 1024) ≡ true) (sym f.at_is) (has old p p mid.store runs f.fault)
+pub bring_page : (old : State (List ℕ)) (p : PagerFields) (told : StepRecord) (at : AtFields) → told ≡ record_of core_store old → IsRunning (length p.holders) old.regs old.store p → IsLacked told.outcome at → has_page p at.seg (at.word / 1024) ≡ true
+bring_page old p told at told_is runs lacked =
+    let f = fault_at old p told at told_is runs lacked in
+    subst (λ (a : AtFields). has_page p a.seg (a.word / 1024) ≡ true) (sym f.at_is) (has old p p old.store runs f.fault)
 
-  pub tried : (new : State (List ℕ)) (q : PagerFields) → IsLacked told.outcome at → new.regs ≡ mid.regs → IsBrought p mid.store q new.store at.seg (at.word / 1024) told.refs.items → Reads q new.store → IsPager q → IsTried old p new q
-  tried new q lacked regs brought reads pager =
-      let f = fault_at lacked in
-      let b1 = subst (λ (e : StepRecord). IsBrought p mid.store q new.store at.seg (at.word / 1024) e.refs.items) told_is brought in
-      let b2 = subst (λ (s : State (List ℕ)). IsBrought p s.store q new.store at.seg (at.word / 1024) (record_of core_store old).refs.items) mid_is b1 in
-      let b3 = subst (λ (a : AtFields). IsBrought p (state_after core_store old).store q new.store a.seg (a.word / 1024) (record_of core_store old).refs.items) f.at_is b2 in
-      tried_at old p q new.store runs f.fault b3 reads pager new.regs (regs ∙ ap (λ (s : State (List ℕ)). s.regs) mid_is)
+pub tried : (old mid new : State (List ℕ)) (p q : PagerFields) (told : StepRecord) (at : AtFields) → told ≡ record_of core_store old → mid ≡ state_after core_store old → IsRunning (length p.holders) old.regs old.store p → IsLacked told.outcome at → new.regs ≡ mid.regs → IsBrought p mid.store q new.store at.seg (at.word / 1024) told.refs.items → Reads q new.store → IsPager q → IsTried old p new q
+tried old mid new p q told at told_is mid_is runs lacked regs brought reads pager =
+    let f = fault_at old p told at told_is runs lacked in
+    let b1 = subst (λ (e : StepRecord). IsBrought p mid.store q new.store at.seg (at.word / 1024) e.refs.items) told_is brought in
+    let b2 = subst (λ (s : State (List ℕ)). IsBrought p s.store q new.store at.seg (at.word / 1024) (record_of core_store old).refs.items) mid_is b1 in
+    let b3 = subst (λ (a : AtFields). IsBrought p (state_after core_store old).store q new.store a.seg (a.word / 1024) (record_of core_store old).refs.items) f.at_is b2 in
+    tried_at old p q new.store runs f.fault b3 reads pager new.regs (regs ∙ ap (λ (s : State (List ℕ)). s.regs) mid_is)
 
-  pub taken : (new : State (List ℕ)) (q : PagerFields) → IsPresent told.outcome → new ≡ mid → q ≡ p → IsTaken old p new q told
-  taken new q present new_is same =
-      record { told_is = told_is; state = new_is ∙ mid_is; pager = same; present = present }
+pub taken : (old new : State (List ℕ)) (p q : PagerFields) (told : StepRecord) → told ≡ record_of core_store old → new ≡ state_after core_store old → IsPresent told.outcome → q ≡ p → IsTaken old p new q told
+taken old new p q told told_is state present same =
+    record { told_is = told_is; state = state; pager = same; present = present }
+
+pub ruleset attempts = (bring_managed, bring_few, bring_page, tried, taken)

@@ -1,5 +1,6 @@
 -- What the flat memory shows of a word, by what the pager finds; and how a word that is set changes it.
-use Rattle.std.proofs.Common.{◌≡◌, refl, sym, ◌∙◌, ap, subst, inl, inr, arith, eqb-true, le-ltb}
+use Rattle.std.proofs.Common.{◌≡◌, refl, sym, ◌∙◌, ap, subst, inl, inr, arith}
+use Rattle.std.proofs.lemmas.Bool.{eqb-true, le-leb}
 use Rattle.std.specs.Prelude.{ℕ, ◌+◌, ◌*◌, ◌/◌, ◌%◌, ◌^◌, ◌<◌, ◌≤◌, ◌⊎◌, Bool, true, false, ◌&&◌, ◌==◌, if◌then◌else◌, List, [], ◌∷◌, length, take, slice_index, Option, Some, None, Result, Ok, Err}
 use Rattle.m36_desc.specs.Fields.{SdwFields}
 use Rattle.m36_desc.specs.Access.{in_order}
@@ -70,9 +71,9 @@ module _ (frames : ℕ) (core : List ℕ) (p : PagerFields) (m : IsManaged frame
       let k = here.range seg (w / 1024) frame e in
       ap (word_at memory seg w) (resident_spot core frames m.laid seg w frame d live inside (record { word = here.words seg (w / 1024) is ∙ ap ptw_of_page e; low = k.0; high = k.1 }))
 
-  found : (seg w : ℕ) → has_page p seg (w / 1024) ≡ true → found_word (content_of p core seg w) ≡ word_in (frame_of p core seg (w / 1024)) core w (kept_word p seg w)
+  found_of : (seg w : ℕ) → has_page p seg (w / 1024) ≡ true → found_word (content_of p core seg w) ≡ word_in (frame_of p core seg (w / 1024)) core w (kept_word p seg w)
   unfolding content_of pages.page_word
-  found seg w has = found_at _ _ has
+  found_of seg w has = found_at _ _ has
 
   word_there : (seg w : ℕ) (d : SdwFields) → core_sdw core booted_dbr seg ≡ Ok d → within d w ≡ true → word_at memory seg w (core_spot core booted_dbr d seg w) ≡ found_word (content_of p core seg w)
   word_there seg w d live inside =
@@ -80,7 +81,7 @@ module _ (frames : ℕ) (core : List ℕ) (p : PagerFields) (m : IsManaged frame
       spot_word seg w d live inside (held_in p core seg (w / 1024)) refl
       ∙ ap (λ (v : Option ℕ). resident_word memory v seg w) (frame_true _ (frame_of p core seg (w / 1024)) has)
       ∙ word_as memory (frame_of p core seg (w / 1024)) seg w
-      ∙ sym (found seg w has)
+      ∙ sym (found_of seg w has)
 
   dead_word : (seg w : ℕ) (why : Refusal) → (why.number ≡ 17 → ⊥) → (b : Bool) → (why.number == 17) ≡ b → word_at memory seg w (Err why) ≡ 0
   dead_word seg w why other true e = absurd (other (eqb-true why.number 17 e))
@@ -116,8 +117,8 @@ both_same : (a b : ℕ) → ((a == a) && (b == b)) ≡ true
 both_same a b = ap (λ (s : Bool). s && (b == b)) (same_test a) ∙ same_test b
 
 not_both : (a b x y : ℕ) → ((a == x) && (b == y)) ≡ false → (x ≡ a) × (y ≡ b) → ⊥
-not_both a b x y no e =
-    let k : ((x == x) && (y == y)) ≡ false = subst (λ (n : ℕ). ((n == x) && (y == y)) ≡ false) (sym e.0) (subst (λ (n : ℕ). ((a == x) && (n == y)) ≡ false) (sym e.1) no) in
+not_both a b x y apart e =
+    let k : ((x == x) && (y == y)) ≡ false = subst (λ (n : ℕ). ((n == x) && (y == y)) ≡ false) (sym e.0) (subst (λ (n : ℕ). ((a == x) && (n == y)) ≡ false) (sym e.1) apart) in
     let l = both_same x y in
     cc
 
@@ -138,7 +139,7 @@ module _ (frames : ℕ) (core now : List ℕ) (p q : PagerFields) (ring word v :
   within_whole : (d : SdwFields) → d.bound ≡ 16383 → within d word ≡ true
   within_whole d e =
       let k : word / 16 ≤ d.bound = omega arith in
-      le-ltb (word / 16) d.bound k
+      le-leb (word / 16) d.bound k
 
   shown_here : shown (core_sdw core booted_dbr seg) (content_of q now seg word) word ≡ v
   shown_here =
@@ -157,11 +158,11 @@ module _ (frames : ℕ) (core now : List ℕ) (p q : PagerFields) (ring word v :
           let P : ℕ → ℕ → Type 0 = λ a b. paged_content (record { core = now; kept = kept_word q }) a b ≡ (if (seg == a) && (word == b) then v else paged_content (record { core = core; kept = kept_word p }) a b) in
           let at : P seg word = content_shown frames now q managed seg word ∙ shown_now seg word ∙ shown_here ∙ sym (ap (λ (b : Bool). if b then v else paged_content (record { core = core; kept = kept_word p }) seg word) (both_same seg word)) in
           subst (λ (a : ℕ). P a w') e.0 (subst (P seg) e.1 at)
-      by_cases (inr no) =
+      by_cases (inr apart) =
           content_shown frames now q managed seg' w' ∙ shown_now seg' w'
-          ∙ ap (λ (c : Option ℕ). shown (core_sdw core booted_dbr seg') c w') (s.content seg' w' (not_both seg word seg' w' no))
+          ∙ ap (λ (c : Option ℕ). shown (core_sdw core booted_dbr seg') c w') (s.content seg' w' (not_both seg word seg' w' apart))
           ∙ sym (content_shown frames core p m seg' w')
-          ∙ sym (ap (λ (b : Bool). if b then v else paged_content (record { core = core; kept = kept_word p }) seg' w') no)
+          ∙ sym (ap (λ (b : Bool). if b then v else paged_content (record { core = core; kept = kept_word p }) seg' w') apart)
 
   new_flat : flat_by now q ≡ flat_put (flat_by core p) (written_from seg word (v ∷ []))
   unfolding flat_of flat_put written_from
@@ -186,3 +187,16 @@ linkage_page core p ring word m low fits =
     let whole = l.whole in
     let begins : word / 1024 ≤ l.sdw.bound / 64 = omega arith in
     m.serves (linkage_segment ring) (word / 1024) (record { sdw = l.sdw; live = l.live; begins = begins })
+
+pub ruleset words_put = (word_put, linkage_page, has_frames)
+
+pub ruleset found = (has_frames, page_there)
+
+none_by : (b : Bool) (v : ℕ) → b ≡ true → content_by b v ≡ None → ⊥
+none_by true v e h = cc
+none_by false v e h = cc
+
+-- a word of a page is found
+pub not_none : (core : List ℕ) (p : PagerFields) (seg w : ℕ) → has_page p seg (w / 1024) ≡ true → (v : Option ℕ) → v ≡ content_of p core seg w → v ≡ None → ⊥
+unfolding content_of
+not_none core p seg w has v e none = none_by (has_page p seg (w / 1024)) _ has (sym e ∙ none)

@@ -23,6 +23,7 @@ use Rattle.m36_super.specs.SuperFields.{IsManaged, IsRunning, Manages}
 use Rattle.m36_super.specs.Stepping.{paged_of, run_of, IsTried, IsTaken, IsStepped, IsBareStep, StepSays}
 use Rattle.m36_super.proofs.Paging.{step_managed}
 use Rattle.m36_super.proofs.Turns.{not_loaded}
+use Rattle.m36_super.proofs.SystemTurns.{due_after}
 
 -- ---- services one after another
 
@@ -163,3 +164,7 @@ step_manages false after old new p q told h after_is =
     manages_by after new q told h.last (sym after_is) h.runs h.taken
 step_manages true after old new p q told h after_is =
     subst (λ (b : Bool). Manages b (length q.holders) new.regs new.store q) (sym after_is) tt
+
+pub ruleset services = (serving_first, serving_more, serving_done, serving_last)
+
+pub ruleset turns = (step_turn, step_manages, frames_kept, due_after)

@@ -2,6 +2,7 @@
 use Rattle.std.specs.Prelude.{◌≡◌, false, List, ℕ, Result, Ok, Err}
 use Rattle.m36_boot.specs.declared.fault.BootFault.{BootFault}
 use Rattle.m36_boot.specs.Refusals.{Told, boot_answer}
+use Rattle.m36_boot.specs.declared.image.Image.{Image}
 use Rattle.m36_boot.specs.Image.{IsImage}
 use Rattle.m36_link.specs.Fields.{SnapFields}
 use Rattle.m36_link.specs.Known.{nothing_known}
@@ -28,3 +29,16 @@ pub record IsBooted (lib : Library) (s : SuperFields) : Type 0 where
 abbrev pub BootSays : Library → Result SuperFields BootFault → Type 0
 BootSays lib (Ok s) = IsBooted lib s
 BootSays lib (Err told) = Told told (boot_answer lib.catalog lib.files)
+
+-- the system that an image starts
+abbrev pub at_start : Library → Image → SuperFields
+at_start lib image =
+    record {
+      lib = lib;
+      regs = image.regs;
+      core = image.core;
+      pager = image.pager;
+      known = accepted nothing_known image.snap;
+      coming = Step;
+      loaded = false;
+    }

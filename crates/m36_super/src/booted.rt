@@ -1,15 +1,13 @@
 //! Booted systems.
 
 ghost use Rattle.std.specs.Prelude.{ℕ, ◌≡◌, ◌≤◌, ◌<◌, ◌^◌, length, false};
-ghost use Rattle.m36_model.specs.Flat.{flat_store};
-ghost use Rattle.m36_model.specs.Sight.{content_in};
 ghost use Rattle.m36_link.specs.Laws.{IsMade};
-ghost use Rattle.m36_super.specs.SuperFields.{IsRunning};
+ghost use Rattle.m36_super.specs.SuperFields.{IsRunning, IsDue};
 ghost use Rattle.m36_super.specs.SuperTurn.{SuperTurns};
-ghost use Rattle.m36_super.specs.Writing.{flat_by};
 
 use crate::coming::Coming;
 use crate::console::print;
+use crate::content::flat_content;
 use crate::linking::link;
 use crate::stepping::step_turn;
 use m36_core::Core;
@@ -18,7 +16,6 @@ use m36_link::{File, Known};
 use m36_model::{At, Regs};
 use m36_page::Pager;
 use m36_step::{BackAnswer, Machine, Stepper, Turn};
-use m36_tables::{descriptor, in_order, within};
 use m36_word::Word;
 use std::alloc::Global;
 use std::marker::Model;
@@ -117,12 +114,14 @@ impl Super {
 
     /// What the next turn is.
     pub fn coming(&self) -> Coming
-        ensures { result ≡ self.now.coming }
+        ensures value { result ≡ self.now.coming }
+        ensures due { IsDue self.now.coming self.now.loaded }
     {
         self.coming
     }
 
     // A step, with the services of the pages that it lacks until an LDBR has been executed.
+    #[tactic(auto, using(crate::proofs::SystemTurns::step_is_turn))]
     fn step(&mut self) -> Turn
         requires { self.old.coming ≡ Coming.Step }
         ensures { SuperTurns self.old result self.new }
@@ -138,6 +137,7 @@ impl Super {
     }
 
     // A link service.
+    #[tactic(auto, using(crate::proofs::SystemTurns::link_is_turn))]
     fn link(&mut self, at: At) -> Turn
         requires coming { self.old.coming ≡ Coming.Link at }
         requires runs { self.old.loaded ≡ false }
@@ -157,6 +157,7 @@ impl Super {
     }
 
     // A console service.
+    #[tactic(auto, using(crate::proofs::SystemTurns::print_is_turn))]
     fn print(&mut self) -> Turn
         requires coming { self.old.coming ≡ Coming.Print }
         requires runs { self.old.loaded ≡ false }
@@ -170,21 +171,20 @@ impl Super {
         } = self;
         print(machine, pager, coming)
     }
-}
 
-// The content of a word of a segment of the image, wherever its page is.
-fn flat_content(machine: &Machine, pager: &Pager, seg: u16, word: u32) -> Option<Word>
-    requires runs { IsRunning (length pager.now.holders) machine.now.state.regs
-        machine.now.state.store pager.now }
-    requires seg { seg < 2 ^ 15 }
-    requires word { word < 2 ^ 18 }
-    ensures { result ≡ content_in flat_store (flat_by machine.now.state.store pager.now)
-        machine.now.state.regs.dbr seg word }
-{
-    let core = machine.walk().core();
-    match descriptor(core, machine.regs().dbr, seg) {
-        Ok(sdw) if in_order(&sdw) && within(&sdw, word) => pager.content(core, seg, word),
-        _ => None,
+    // The turn that is coming.
+    #[tactic(auto, using(crate::proofs::SystemTurns::system_turns))]
+    fn turn_of(&mut self, coming: Coming) -> Turn
+        requires coming { coming ≡ self.old.coming }
+        requires due { IsDue coming self.old.loaded }
+        ensures { SuperTurns self.old result self.new }
+    {
+        match coming {
+            Coming::Step => self.step(),
+            Coming::Link(at) => self.link(at),
+            Coming::Print => self.print(),
+            Coming::Over(end) => Turn::Ended(end),
+        }
     }
 }
 
@@ -201,12 +201,8 @@ impl Stepper for Super {
 
     /// A step, with the services of the pages that it lacks; or the service for which the step before it calls; or the end.
     fn turn(&mut self) -> Turn {
-        match self.coming {
-            Coming::Step => self.step(),
-            Coming::Link(at) => self.link(at),
-            Coming::Print => self.print(),
-            Coming::Over(end) => Turn::Ended(end),
-        }
+        let coming = self.coming();
+        self.turn_of(coming)
     }
 
     /// A booted system does not go back.
@@ -219,6 +215,7 @@ impl Stepper for Super {
     }
 
     /// Until an LDBR has been executed, a word that is put away is found too.
+    #[tactic(auto, unfolding(crate::specs::SuperTurn::super_content))]
     fn content(&self, seg: u16, word: u32) -> Option<Word> {
         if self.loaded {
             self.machine.walk().content(seg, word)

@@ -1,6 +1,6 @@
 //! What the next turn of a booted run is, by the step before it.
 
-ghost use Rattle.std.specs.Prelude.{◌≡◌};
+ghost use Rattle.std.specs.Prelude.{ℕ, ◌≡◌, false, Some};
 ghost use Rattle.m36_model.specs.Step.{decode};
 ghost use Rattle.m36_super.specs.Coming.{is_ldbr, loads, loaded_after, coming_in, coming_on, coming_after};
 

@@ -2,8 +2,7 @@
 
 ghost use Rattle.std.specs.Prelude.{ℕ, ◌≡◌, ◌≤◌, ◌<◌, ◌+◌, ◌*◌, ◌/◌, ◌^◌, ◌++◌, Bool, length, nat_lt, true, Ok, Err, Some, MatchResult};
 ghost use Rattle.m36_model.specs.Flat.{flat_store};
-ghost use Rattle.m36_model.specs.Store.{fault_by, examined, within};
-ghost use Rattle.m36_page.specs.Residence.{content_of};
+ghost use Rattle.m36_model.specs.Store.{fault_by, examined};
 ghost use Rattle.m36_model.specs.Place.{core_sdw};
 ghost use Rattle.m36_model.specs.BootedCore.{booted_dbr};
 ghost use Rattle.m36_link.specs.Fields.{KnownFields};
@@ -16,6 +15,7 @@ ghost use Rattle.m36_super.specs.Writing.{flat_by};
 ghost use Rattle.m36_super.specs.Examining.{ExaminedSays};
 
 use crate::coming::Coming;
+use crate::content::found_word;
 use arrayvec::ArrayVec;
 use m36_core::Core;
 use m36_desc::{Acv, Sdw, may_read};
@@ -45,20 +45,8 @@ fn fault(why: Refusal, at: At) -> Fault
     }
 }
 
-// A word within the bound of a segment.
-fn found_word(core: &Core, pager: &Pager, sdw: &Sdw, at: At) -> Word
-    requires managed { IsManaged (length pager.now.holders) core.now pager.now }
-    requires live { core_sdw core.now booted_dbr at.seg ≡ Ok sdw.now }
-    requires inside { within sdw.now at.word ≡ true }
-    ensures { content_of pager.now core.now at.seg at.word ≡ Some result }
-{
-    match pager.content(core, at.seg, at.word) {
-        Some(word) => word,
-        None => unreachable!(),
-    }
-}
-
 // A word that a descriptor describes.
+#[tactic(auto, using(crate::proofs::ConsoleReads::described))]
 fn described_word(core: &Core, pager: &Pager, regs: &Regs, sdw: &Sdw, at: At) -> Result<Word, Fault>
     requires managed { IsManaged (length pager.now.holders) core.now pager.now }
     requires dbr { regs.now.dbr ≡ booted_dbr }
@@ -71,10 +59,11 @@ fn described_word(core: &Core, pager: &Pager, regs: &Regs, sdw: &Sdw, at: At) ->
     if !within(sdw, at.word) {
         return Err(fault(violation(OUT_OF_SEGMENT_BOUNDS), at));
     }
-    Ok(found_word(core, pager, sdw, at))
+    Ok(found_word(core, pager, sdw, at.seg, at.word))
 }
 
 // The word at a place, by the rules of access, wherever its page is. No mark is set.
+#[tactic(auto, using(crate::proofs::ConsoleReads::dead_word))]
 fn examined(core: &Core, pager: &Pager, regs: &Regs, at: At) -> Result<Word, Fault>
     requires managed { IsManaged (length pager.now.holders) core.now pager.now }
     requires dbr { regs.now.dbr ≡ booted_dbr }
@@ -130,6 +119,7 @@ fn place(regs: &Regs, k: u32) -> At
 }
 
 // So many words of the text, each as four characters, or the first fault of reading them.
+#[tactic(auto, using(crate::proofs::ConsoleReads::reading))]
 fn text_words(
     core: &Core,
     pager: &Pager,
@@ -147,7 +137,10 @@ fn text_words(
     let mut k = 0;
     let mut left = count;
     while left > 0 {
-        let word = examined(core, pager, regs, place(regs, k))?;
+        let word = match examined(core, pager, regs, place(regs, k)) {
+            Ok(word) => word,
+            Err(fault) => return Err(fault),
+        };
         put_characters(&mut text, word);
         k += 1;
         left -= 1;
@@ -171,7 +164,17 @@ fn text(core: &Core, pager: &Pager, regs: &Regs, count: u32) -> Result<ConsoleNo
     Ok(ConsoleNote { bytes })
 }
 
+// The run ends so.
+fn ends(coming: &mut Coming, end: &End) -> Turn
+    ensures turn { result ≡ Turn.Ended end.now }
+    ensures coming { coming.new ≡ Coming.Over end.now }
+{
+    *coming = Coming::Over(*end);
+    Turn::Ended(*end)
+}
+
 /// The console service.
+#[tactic(auto, using(crate::proofs::SystemTurns::printed))]
 pub(crate) fn print(machine: &mut Machine, pager: &Pager, coming: &mut Coming) -> Turn
     requires { IsRunning (length pager.now.holders) machine.old.state.regs machine.old.state.store
         pager.now }
@@ -186,8 +189,7 @@ pub(crate) fn print(machine: &mut Machine, pager: &Pager, coming: &mut Coming) -
     let regs = machine.regs();
     let count = regs.a.value();
     if count > MOST_CHARACTERS {
-        *coming = Coming::Over(End::Console);
-        return Turn::Ended(End::Console);
+        return ends(coming, &End::Console);
     }
     match text(machine.walk().core(), pager, regs, count as u32) {
         Ok(note) => {
@@ -195,9 +197,6 @@ pub(crate) fn print(machine: &mut Machine, pager: &Pager, coming: &mut Coming) -
             *coming = Coming::Step;
             Turn::Console(note)
         }
-        Err(fault) => {
-            *coming = Coming::Over(End::Fault(fault));
-            Turn::Ended(End::Fault(fault))
-        }
+        Err(fault) => ends(coming, &End::Fault(fault)),
     }
 }

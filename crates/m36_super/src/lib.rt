@@ -16,6 +16,7 @@ pub mod booted;
 pub mod booting;
 pub mod coming;
 mod console;
+mod content;
 mod linking;
 mod naming;
 mod stepping;
@@ -26,6 +27,7 @@ ghost use Rattle.m36_super.specs.TurnLaws.{TurnLaw, TurnAuditLaw, FunctionLaw};
 ghost use Rattle.m36_super.specs.SuperFields.{PagingLaw, StepManagedLaw};
 
 pub use booted::Super;
+pub use booting::are_short;
 pub use coming::Coming;
 
 /// Until an LDBR is executed a turn of a booted run is that of the flat run, or wants memory, or executes ABSA, and the

@@ -28,6 +28,7 @@ use std::alloc::Global;
 const FIRST_LINKAGE: u16 = 16;
 
 // Writes a word of the linkage segment of a ring.
+#[tactic(auto, using(crate::proofs::PagedContents::words_put))]
 fn write_word(core: &mut Core, pager: &mut Pager, ring: u8, word: u32, w: Word)
     requires managed { IsManaged (length pager.old.holders) core.old pager.old }
     requires ring { ring < 8 }
@@ -39,6 +40,7 @@ fn write_word(core: &mut Core, pager: &mut Pager, ring: u8, word: u32, w: Word)
 }
 
 // Writes words of the linkage segment of a ring, from a word on.
+#[tactic(auto, using(crate::proofs::LinkTurns::writing))]
 fn write_words(core: &mut Core, pager: &mut Pager, ring: u8, word: u32, words: &[Word])
     requires managed { IsManaged (length pager.old.holders) core.old pager.old }
     requires ring { ring < 8 }
@@ -46,16 +48,15 @@ fn write_words(core: &mut Core, pager: &mut Pager, ring: u8, word: u32, words: &
     ensures { ArePut core.old pager.old core.new pager.new
         (written_from (linkage_segment ring) word words.now) }
 {
-    let mut rest = words;
     let mut at = word;
-    while let [first, others @ ..] = rest {
-        write_word(core, pager, ring, at, *first);
+    for w in words {
+        write_word(core, pager, ring, at, *w);
         at += 1;
-        rest = others;
     }
 }
 
 // Writes a section that is laid, and its word of the linkage offset table.
+#[tactic(auto, using(crate::proofs::LinkTurns::put_section))]
 fn write_section(core: &mut Core, pager: &mut Pager, lay: &Lay)
     requires managed { IsManaged (length pager.old.holders) core.old pager.old }
     requires fits { lay.now.base + length lay.now.words ≤ 2 ^ 18 }
@@ -66,6 +67,7 @@ fn write_section(core: &mut Core, pager: &mut Pager, lay: &Lay)
 }
 
 // Writes the section that an answer lays, if it lays one.
+#[tactic(auto, using(crate::proofs::LinkTurns::put_nothing))]
 fn write_lay(core: &mut Core, pager: &mut Pager, lay: &Option<Lay>)
     requires managed { IsManaged (length pager.old.holders) core.old pager.old }
     requires fits { IfSome lay.now (λ l. l.base + length l.words ≤ 2 ^ 18) }
@@ -78,6 +80,7 @@ fn write_lay(core: &mut Core, pager: &mut Pager, lay: &Option<Lay>)
 }
 
 // Writes what an answer changes: the pair in the place of the link, and the section that is laid.
+#[tactic(auto, using(crate::proofs::LinkTurns::put_changes))]
 fn write_changes(core: &mut Core, pager: &mut Pager, at: At, snap: &Snap)
     requires managed { IsManaged (length pager.old.holders) core.old pager.old }
     requires seg { at.seg ≡ linkage_segment at.ring }
@@ -99,27 +102,30 @@ fn write_changes(core: &mut Core, pager: &mut Pager, at: At, snap: &Snap)
 fn note_snapped(at: At, snap: &Snap) -> LinkNote
     ensures { result ≡ note_snapped at snap.now }
 {
+    let ring = at.ring;
     LinkNote {
         name: link_text(Some(&snap.link)),
         answer: Ok(snap.pair),
         at,
-        ring: at.ring,
+        ring,
     }
 }
 
 // What is told of a link that was refused.
 fn note_refused(at: At, code: LinkCode, link: Option<&Link>) -> LinkNote
-    ensures { result ≡ note_of at (option_copied link) (Err code) }
+    ensures { result ≡ note_of at (option_copied link.entry) (Err code) }
 {
+    let ring = at.ring;
     LinkNote {
         name: link_text(link),
         answer: Err(code),
         at,
-        ring: at.ring,
+        ring,
     }
 }
 
 // The link at a place was answered.
+#[tactic(auto, using(crate::proofs::LinkTurns::snapped))]
 fn snapped(
     machine: &mut Machine,
     pager: &mut Pager,
@@ -152,6 +158,7 @@ fn snapped(
 }
 
 /// The service of the link at a place.
+#[tactic(auto, using(crate::proofs::LinkTurns::answers))]
 pub(crate) fn link(
     alloc: Global,
     catalog: &Catalog,

@@ -1,6 +1,6 @@
 //! Links as they are told.
 
-ghost use Rattle.std.specs.Prelude.{◌≡◌, ◌+◌, ◌≤◌, ◌++◌, [], length, if◌then◌else◌};
+ghost use Rattle.std.specs.Prelude.{◌≡◌, ◌+◌, ◌≤◌, ◌++◌, [], length, if◌then◌else◌, option_copied};
 ghost use Rattle.obj36_parts.specs.ObjectSegment.{has_name, has_entry};
 ghost use Rattle.obj36.specs.References.{own_section, reference_text};
 ghost use Rattle.m36_super.specs.Services.{link_text};
@@ -61,7 +61,7 @@ fn put(text: &mut ArrayVec<u8, 65>, bytes: &[u8])
 /// The text of a link: `segment$entry`, `segment$`, `*section$` or `*section$entry`, and `?` where there is none.
 #[tactic(auto, unfolding(obj36::specs::References::reference_text))]
 pub(crate) fn link_text(link: Option<&Link>) -> ArrayVec<u8, 65>
-    ensures { result.items ≡ link_text (option_copied link) }
+    ensures { result.items ≡ link_text (option_copied link.entry) }
 {
     let mut text = ArrayVec::new();
     match link {

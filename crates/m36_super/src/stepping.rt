@@ -7,12 +7,12 @@ ghost use Rattle.m36_link.specs.Fields.{KnownFields};
 ghost use Rattle.m36_page.specs.Residence.{has_page, Reads, IsPager};
 ghost use Rattle.m36_page.specs.Changes.{IsBrought};
 ghost use Rattle.m36_super.specs.BootedRun.{IsStepTurn};
-ghost use Rattle.m36_super.specs.SuperFields.{IsManaged, IsRunning, Manages};
+ghost use Rattle.m36_super.specs.SuperFields.{IsManaged, IsRunning, Manages, IsDue};
 ghost use Rattle.m36_super.specs.Stepping.{run_of, LackedSays, AttemptSays, IsStepped, StepSays};
 
 use crate::coming::{Coming, coming_after, loaded_after};
 use m36_isol::{law_paged, law_pages, law_references};
-use m36_model::{At, Outcome, Refs, StepRecord};
+use m36_model::{At, Fault, Outcome, Refs, StepRecord};
 use m36_page::{Pager, Pinned};
 use m36_step::{Machine, Turn};
 
@@ -25,17 +25,30 @@ const PAGE_FAULT: u8 = 17;
 // Words in a page.
 const PAGE: u32 = 1024;
 
+// The word whose page a step that faulted lacked.
+fn lacked_by(fault: Fault) -> Option<At>
+    ensures { LackedSays (Outcome.Faulted fault) result }
+{
+    if fault.number == PAGE_FAULT {
+        Some(fault.at)
+    } else {
+        None
+    }
+}
+
 // The word whose page a step lacked, if it lacked one.
 fn lacked(outcome: Outcome) -> Option<At>
     ensures { LackedSays outcome result }
 {
     match outcome {
-        Outcome::Faulted(fault) if fault.number == PAGE_FAULT => Some(fault.at),
-        _ => None,
+        Outcome::Faulted(fault) => lacked_by(fault),
+        Outcome::Next => None,
+        Outcome::Stopped(_) => None,
     }
 }
 
 // Brings the page of a word into a frame that holds none of these references.
+#[tactic(auto, using(crate::proofs::PagedContents::has_frames))]
 fn bring_in(machine: &mut Machine, pager: &mut Pager, at: At, refs: &Refs)
     requires managed { IsManaged (length pager.old.holders) machine.old.state.store pager.old }
     requires page { has_page pager.old at.seg (at.word / 1024) ≡ true }
@@ -53,6 +66,7 @@ fn bring_in(machine: &mut Machine, pager: &mut Pager, at: At, refs: &Refs)
 }
 
 // A step; where it lacks a page, the page is brought in, and the answer is that it has to be taken again.
+#[tactic(auto, using(crate::proofs::PageTurns::attempts))]
 fn attempt(machine: &mut Machine, pager: &mut Pager, told: &mut StepRecord) -> bool
     requires { IsRunning (length pager.old.holders) machine.old.state.regs machine.old.state.store
         pager.old }
@@ -69,6 +83,7 @@ fn attempt(machine: &mut Machine, pager: &mut Pager, told: &mut StepRecord) -> b
 }
 
 // A step, with the services of the pages that it lacks. The record becomes that of the step that lacks none.
+#[tactic(auto, using(crate::proofs::StepTurns::services))]
 fn step_with_pages(machine: &mut Machine, pager: &mut Pager, told: &mut StepRecord)
     requires { IsRunning (length pager.old.holders) machine.old.state.regs machine.old.state.store
         pager.old }
@@ -98,6 +113,7 @@ fn step_into(machine: &mut Machine, pager: &mut Pager, loaded: bool, told: &mut 
 }
 
 /// The turn that is a step.
+#[tactic(auto, using(crate::proofs::StepTurns::turns))]
 pub(crate) fn step_turn(
     machine: &mut Machine,
     pager: &mut Pager,
@@ -112,6 +128,7 @@ pub(crate) fn step_turn(
     ensures frames { length pager.new.holders ≡ length pager.old.holders }
     ensures manages { Manages loaded.new (length pager.new.holders) machine.new.state.regs
         machine.new.state.store pager.new }
+    ensures due { IsDue coming.new loaded.new }
 {
     let mut told = machine.untold();
     step_into(machine, pager, *loaded, &mut told);

@@ -1,7 +1,7 @@
 //! A folder of two segments, worked out by hand: a program that writes `hello` through a gate and stops.
 
-use crate::Super;
-use m36_boot::{BootFault, are_short};
+use crate::{Super, are_short};
+use m36_boot::BootFault;
 use m36_dir::Catalog;
 use m36_model::{End, LinkCode, Stop};
 use m36_outside::Text;

@@ -1,5 +1,5 @@
 use Rattle.std.proofs.Common.{arith}
-use Rattle.m36_boot.proofs.LaidCore.{described_none, described_more, described_done}
+use Rattle.m36_boot.proofs.LaidCore.{described_more}
 use Rattle.m36_boot.proofs.core_words.put_descriptors.Goals as goal
 
 pub put_pair-requires-clause-core : goal.put_pair-requires-clause-core
@@ -7,3 +7,13 @@ put_pair-requires-clause-core c =
     let size = c.loop-seg.invariant.size in
     let room = c.requires.core in
     omega (arith, size, room)
+
+pub loop-seg-preserved : goal.loop-seg-preserved
+loop-seg-preserved c =
+    let size = c.loop-seg.invariant.size in
+    let room = c.requires.core in
+    let most = c.count-count.ensures.most in
+    let test = c.loop-seg-test.true in
+    described_more c.args.catalog.now c.args.files.now c.loop-seg.seg _ _ _ c.loop-seg.core _ c.descriptor.result (omega (arith, size, room, most, test))
+    c.loop-seg.invariant c.descriptor.ensures.value c.pair_of.ensures.even c.pair_of.ensures.odd c.descriptor.ensures.ordered c.pair_of.ensures.back
+    c.put_pair.ensures

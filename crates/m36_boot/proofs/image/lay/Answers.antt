@@ -1,4 +1,4 @@
-use Rattle.std.proofs.Common.{ℕ, ◌≤◌, arith}
+use Rattle.std.proofs.Common.{◌≤◌, arith}
 use Rattle.m36_boot.proofs.LayAnswers.{lay_gates}
 use Rattle.m36_boot.proofs.image.lay.Goals as goal
 

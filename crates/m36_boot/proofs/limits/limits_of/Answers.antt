@@ -1,6 +1,6 @@
-use Rattle.std.proofs.Common.{ℕ, ◌≡◌, ◌-◌, ◌<◌, ◌≤◌, length, ap, subst, ◌∙◌, arith}
-use Rattle.m36_boot.specs.Refusals.{first_gate_fault, AreLimits}
-use Rattle.m36_boot.proofs.LimitLoops.{limits_none, limits_stop, limits_on, limits_more, limits_done}
+use Rattle.std.proofs.Common.{ℕ, ◌≡◌, ◌<◌, length, subst, arith}
+use Rattle.m36_boot.specs.Refusals.{AreLimits}
+use Rattle.m36_boot.proofs.LimitLoops.{limits_stop, limits_on, limits_more, limits_done}
 use Rattle.m36_boot.proofs.limits.limits_of.Goals as goal
 
 pub loop-i-preserved : goal.loop-i-preserved
@@ -11,10 +11,10 @@ loop-i-preserved c =
     record {
       rest =
           limits_on c.args.catalog.now c.args.files.now c.loop-i.i (length c.args.catalog.now.segments) _ _ inside
-          c.segment.ensures.value (c.slice-words.ensures.value ∙ c.file.ensures.value) c.in-Ok.ensures.0 c.loop-i.invariant.rest;
+          c.segment.ensures.value c.file.ensures.value c.in-Ok.ensures.0 c.loop-i.invariant.rest;
       limits =
           limits_more c.args.catalog.now c.args.files.now c.loop-i.i _ _ _ _ _ c.segment.ensures.value
-          (c.slice-words.ensures.value ∙ c.file.ensures.value) c.loop-i.invariant.limits c.in_ok-add-in-Ok.ensures c.in-Ok.ensures.1 c.in-Ok.ensures.2;
+          c.file.ensures.value c.loop-i.invariant.limits c.in_ok-add-in-Ok.ensures c.in-Ok.ensures.1 c.in-Ok.ensures.2;
     }
 
 pub returns-in-Err : goal.returns-in-Err
@@ -27,7 +27,7 @@ returns-in-Err c =
       limits = tt;
       told =
           limits_stop c.args.catalog.now c.args.files.now c.loop-i.i (length c.args.catalog.now.segments) _ _ _ inside
-          c.segment.ensures.value (c.slice-words.ensures.value ∙ c.file.ensures.value) c.in-Err.ensures c.loop-i.invariant.rest;
+          c.segment.ensures.value c.file.ensures.value c.in-Err.ensures c.loop-i.invariant.rest;
     }
 
 pub returns : goal.returns
