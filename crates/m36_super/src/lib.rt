@@ -12,11 +12,27 @@
 //! Multics Processor Manual AL39.
 #![tactic(auto)]
 
+pub mod booted;
+pub mod booting;
+pub mod coming;
+mod console;
+mod content;
+mod linking;
+mod naming;
+mod stepping;
+#[cfg(test)]
+mod tests;
+
 ghost use Rattle.m36_super.specs.TurnLaws.{TurnLaw, TurnAuditLaw, FunctionLaw};
 ghost use Rattle.m36_super.specs.SuperFields.{PagingLaw, StepManagedLaw};
 
+<<<<<<< HEAD
 pub mod coming;
 
+=======
+pub use booted::Super;
+pub use booting::are_short;
+>>>>>>> wip/super
 pub use coming::Coming;
 
 /// Until an LDBR is executed a turn of a booted run is that of the flat run, or wants memory, or executes ABSA, and the
