@@ -1,8 +1,5 @@
 //! What the next turn of a booted run is, by the step before it.
 
-<<<<<<< HEAD
-use m36_model::{At, End};
-=======
 ghost use Rattle.std.specs.Prelude.{ℕ, ◌≡◌, false, Some};
 ghost use Rattle.m36_model.specs.Step.{decode};
 ghost use Rattle.m36_super.specs.Coming.{is_ldbr, loads, loaded_after, coming_in, coming_on, coming_after};
@@ -16,7 +13,6 @@ const LINK_FAULT: u8 = 24;
 
 // The fault of MME.
 const MASTER_MODE_ENTRY: u8 = 2;
->>>>>>> wip/super
 
 /// What the next turn of a booted run is.
 #[derive(Clone, Copy, PartialEq, Eq, Debug)]
@@ -30,8 +26,6 @@ pub enum Coming {
     /// The end of the run, told again.
     Over(End),
 }
-<<<<<<< HEAD
-=======
 
 // Whether a word is the instruction LDBR.
 #[tactic(auto, unfolding(m36_model::specs::Step::decode))]
@@ -100,4 +94,3 @@ pub(crate) fn coming_after(loaded: bool, ring: u8, outcome: Outcome) -> Coming
         }
     }
 }
->>>>>>> wip/super
