@@ -2,3 +2,11 @@ pub mod Served
 pub mod Turns
 pub mod Paging
 pub mod Audited
+pub mod PageTurns
+pub mod StepTurns
+pub mod PagedContents
+pub mod ConsoleReads
+pub mod LinkPlaces
+pub mod LinkTurns
+pub mod SystemTurns
+pub mod BootTurns

@@ -6,3 +6,8 @@ pub mod FlatRun
 pub mod BootedRun
 pub mod TurnLaws
 pub mod SuperFields
+pub mod BootSays
+pub mod Stepping
+pub mod Writing
+pub mod Examining
+pub mod SuperTurn

@@ -1,6 +1,18 @@
 //! What the next turn of a booted run is, by the step before it.
 
-use m36_model::{At, End};
+ghost use Rattle.std.specs.Prelude.{ℕ, ◌≡◌, false, Some};
+ghost use Rattle.m36_model.specs.Step.{decode};
+ghost use Rattle.m36_super.specs.Coming.{is_ldbr, loads, loaded_after, coming_in, coming_on, coming_after};
+
+use m36_inst::{Effect, Inst, row};
+use m36_model::{At, End, Fault, Outcome, StepRecord};
+use m36_word::Word;
+
+// The fault of a word that is a link to be snapped.
+const LINK_FAULT: u8 = 24;
+
+// The fault of MME.
+const MASTER_MODE_ENTRY: u8 = 2;
 
 /// What the next turn of a booted run is.
 #[derive(Clone, Copy, PartialEq, Eq, Debug)]
@@ -13,4 +25,72 @@ pub enum Coming {
     Print,
     /// The end of the run, told again.
     Over(End),
+}
+
+// Whether a word is the instruction LDBR.
+#[tactic(auto, unfolding(m36_model::specs::Step::decode))]
+fn is_ldbr(word: Word) -> bool
+    ensures { result ≡ is_ldbr (decode word) }
+{
+    let inst = Inst::of_word(word);
+    match row(inst.code, inst.bit27) {
+        Some(row) => loads_dbr(row.effect),
+        None => false,
+    }
+}
+
+fn loads_dbr(effect: Effect) -> bool
+    ensures { (n : ℕ) → result ≡ is_ldbr (Some (effect, n)) }
+{
+    match effect {
+        Effect::Ldbr => true,
+        _ => false,
+    }
+}
+
+// Whether a step has executed an LDBR.
+fn loads(told: &StepRecord) -> bool
+    ensures { result ≡ loads told.now.word told.now.outcome }
+{
+    match (told.word, told.outcome) {
+        (Some(word), Outcome::Next) => is_ldbr(word),
+        _ => false,
+    }
+}
+
+/// Whether an LDBR has been executed, before a step or in it.
+pub(crate) fn loaded_after(loaded: bool, told: &StepRecord) -> bool
+    ensures { result ≡ loaded_after loaded told.now }
+{
+    loaded || loads(told)
+}
+
+// What comes after a fault, until an LDBR has been executed.
+fn coming_in(ring: u8, fault: Fault) -> Coming
+    ensures { result ≡ coming_on false ring fault }
+{
+    if fault.number == LINK_FAULT {
+        Coming::Link(fault.at)
+    } else if fault.number == MASTER_MODE_ENTRY && ring == 0 {
+        Coming::Print
+    } else {
+        Coming::Over(End::Fault(fault))
+    }
+}
+
+/// What comes after a step that an instruction of a ring took.
+pub(crate) fn coming_after(loaded: bool, ring: u8, outcome: Outcome) -> Coming
+    ensures { result ≡ coming_after loaded ring outcome }
+{
+    match outcome {
+        Outcome::Next => Coming::Step,
+        Outcome::Stopped(stop) => Coming::Over(End::Stop(stop)),
+        Outcome::Faulted(fault) => {
+            if loaded {
+                Coming::Over(End::Fault(fault))
+            } else {
+                coming_in(ring, fault)
+            }
+        }
+    }
 }

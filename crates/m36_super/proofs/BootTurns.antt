@@ -1,0 +1,59 @@
+-- A booted image is where a run starts.
+use Rattle.std.proofs.Common.{◌≡◌, refl, sym, subst, arith}
+use Rattle.std.specs.Prelude.{ℕ, ◌<◌, false, List, length, Result, Ok, Err}
+use Rattle.m36_dir.specs.Catalog.{CatalogFields}
+use Rattle.m36_boot.specs.declared.image.Image.{Image}
+use Rattle.m36_boot.specs.Image.{IsImage, IsRunnable}
+use Rattle.m36_boot.specs.Refusals.{boot_answer}
+use Rattle.m36_boot.specs.Segments.{ring_segment, linkage_pages}
+use Rattle.m36_boot.specs.Start.{start_answer, start_link}
+use Rattle.m36_link.specs.Fields.{SnapFields}
+use Rattle.m36_link.specs.Known.{nothing_known, linkage_segment}
+use Rattle.m36_link.specs.Accepted.{accepted, MayBeLaid}
+use Rattle.m36_link.specs.Laws.{IsMade, MayBeAcceptedFrom, KeepsMadeFrom}
+use Rattle.m36_page.specs.Residence.{Reads}
+use Rattle.m36_super.specs.Library.{Library}
+use Rattle.m36_super.specs.Coming.{Step}
+use Rattle.m36_super.specs.SuperFields.{SuperFields, IsManaged, IsRunning}
+use Rattle.m36_super.specs.BootSays.{IsBooted, at_start}
+
+pub image_runs : (frames : ℕ) (image : Image) → IsRunnable frames image → Reads image.pager image.core → IsRunning (length image.pager.holders) image.regs image.core image.pager
+image_runs frames image r reads =
+    record {
+      dbr = r.dbr;
+      managed = subst (λ (n : ℕ). IsManaged n image.core image.pager) (sym r.count) (record {
+        laid = r.laid;
+        first = r.first;
+        frames_are = r.count;
+        some = r.some;
+        pager = r.pager;
+        reads = reads;
+        serves = r.serves;
+        exact = r.exact;
+        at = r.at;
+        linkage = λ ring low. record { sdw = ring_segment (linkage_segment ring) ring linkage_pages; live = r.linkage ring low; whole = refl };
+      });
+    }
+
+pub start_made : (catalog : CatalogFields) (files : List (List ℕ)) (s : SnapFields) → KeepsMadeFrom → start_answer catalog files ≡ Ok s → IsMade catalog files (accepted nothing_known s)
+unfolding start_answer
+start_made catalog files s keeps e =
+    keeps nothing_known catalog files catalog.start.ring (start_link catalog.start) catalog.work s (record { names = λ k d lt. absurd (omega arith); laid = λ k d lt. absurd (omega arith) }) e
+
+pub start_laid : (catalog : CatalogFields) (files : List (List ℕ)) (s : SnapFields) → MayBeAcceptedFrom → start_answer catalog files ≡ Ok s → MayBeLaid nothing_known s.lay
+unfolding start_answer
+start_laid catalog files s may e =
+    may nothing_known catalog files catalog.start.ring (start_link catalog.start) catalog.work s e
+
+pub booted : (lib : Library) (image : Image) (s : SuperFields) → s ≡ at_start lib image → boot_answer lib.catalog lib.files ≡ Ok image.snap → IsImage lib.catalog lib.files image.snap image → IsRunnable lib.catalog.frames image → IsBooted lib s
+booted lib image s e answer is r =
+    subst (IsBooted lib) (sym e) (record {
+      library = refl;
+      snap = image.snap;
+      answer = answer;
+      image = is;
+      known = refl;
+      coming = refl;
+      loaded = refl;
+      stands = record { dbr = r.dbr; laid = r.laid };
+    })

@@ -1,0 +1,202 @@
+-- What the flat memory shows of a word, by what the pager finds; and how a word that is set changes it.
+use Rattle.std.proofs.Common.{◌≡◌, refl, sym, ◌∙◌, ap, subst, inl, inr, arith}
+use Rattle.std.proofs.lemmas.Bool.{eqb-true, le-leb}
+use Rattle.std.specs.Prelude.{ℕ, ◌+◌, ◌*◌, ◌/◌, ◌%◌, ◌^◌, ◌<◌, ◌≤◌, ◌⊎◌, Bool, true, false, ◌&&◌, ◌==◌, if◌then◌else◌, List, [], ◌∷◌, length, take, slice_index, Option, Some, None, Result, Ok, Err}
+use Rattle.m36_desc.specs.Fields.{SdwFields}
+use Rattle.m36_desc.specs.Access.{in_order}
+use Rattle.m36_model.specs.Act.{Whole}
+use Rattle.m36_model.specs.Store.{Spot, Segment_word, within, place, place_by, place_within, place_ordered}
+use Rattle.m36_model.specs.Core.{core_store}
+use Rattle.m36_model.specs.Place.{core_sdw, core_spot}
+use Rattle.m36_model.specs.Flat.{Flat, flat_put}
+use Rattle.m36_model.specs.BootedCore.{descriptor_words, booted_dbr, wired_frames, IsPage, IsLaid}
+use Rattle.m36_model.specs.Residence.{ptw_of_page, Paged, word_at, paged_content, flat_of, IsResidence, resident_word}
+use Rattle.m36_model.specs.declared.outcome.Refusal.{Refusal}
+use Rattle.m36_isol.proofs.Laid.{page_of_word, absent_spot, resident_spot}
+use Rattle.m36_isol.proofs.Moved.{same_descriptors}
+use Rattle.m36_page.specs.Fields.{PagerFields}
+use Rattle.m36_page.specs.Residence.{has_page, frame_of, kept_word, word_in, content_by, content_of, HasFrames, IsPager, Reads}
+use Rattle.m36_page.specs.Residence as pages
+use Rattle.m36_page.specs.Changes.{IsSet}
+use Rattle.m36_link.specs.Known.{linkage_segment}
+use Rattle.m36_super.specs.Laying.{written_from}
+use Rattle.m36_super.specs.SuperFields.{IsManaged, held_in}
+use Rattle.m36_super.specs.Writing.{flat_by, ArePut}
+use Rattle.m36_super.proofs.Paging.{frame_true, word_as, residence, now_managed, descriptors}
+
+-- a word that a pager finds
+abbrev pub found_word : Option ℕ → ℕ
+found_word None = 0
+found_word (Some v) = v
+
+-- the word that is shown, where it is within the bound of a live segment
+abbrev pub shown_by : Bool → Bool → Option ℕ → ℕ
+shown_by true true found = found_word found
+shown_by true false found = 0
+shown_by false b found = 0
+
+abbrev pub shown : Result SdwFields Refusal → Option ℕ → ℕ → ℕ
+shown (Err why) found w = 0
+shown (Ok d) found w = shown_by (in_order d) (within d w) found
+
+found_at : (b : Bool) (v : ℕ) → b ≡ true → found_word (content_by b v) ≡ v
+found_at true v e = refl
+found_at false v e = cc
+
+-- the core has the pageable frames
+pub has_frames : (core : List ℕ) (p : PagerFields) → IsManaged (length p.holders) core p → HasFrames p core
+has_frames core p m =
+    let first : p.first ≡ 146 = m.first in
+    let size : length core ≡ 1024 * (146 + length p.holders) = m.laid.size in
+    omega arith
+
+module _ (frames : ℕ) (core : List ℕ) (p : PagerFields) (m : IsManaged frames core p) where
+  abbrev memory : Paged
+  memory = record { core = core; kept = kept_word p }
+
+  here : IsResidence core frames (held_in p core)
+  here = residence frames core p m.laid.most m.first m.frames_are m.pager m.reads m.serves m.at
+
+  -- a word within the bound of a live segment is of a page
+  pub page_there : (seg w : ℕ) (d : SdwFields) → core_sdw core booted_dbr seg ≡ Ok d → within d w ≡ true → has_page p seg (w / 1024) ≡ true
+  page_there seg w d live inside =
+      m.serves seg (w / 1024) (page_of_word core frames m.laid seg w d live inside)
+
+  spot_word : (seg w : ℕ) (d : SdwFields) → core_sdw core booted_dbr seg ≡ Ok d → within d w ≡ true → (v : Option ℕ) → held_in p core seg (w / 1024) ≡ v → word_at memory seg w (core_spot core booted_dbr d seg w) ≡ resident_word memory v seg w
+  spot_word seg w d live inside None e =
+      let is = page_of_word core frames m.laid seg w d live inside in
+      ap (word_at memory seg w) (absent_spot core frames m.laid seg w d live inside (here.words seg (w / 1024) is ∙ ap ptw_of_page e))
+  spot_word seg w d live inside (Some frame) e =
+      let is = page_of_word core frames m.laid seg w d live inside in
+      let k = here.range seg (w / 1024) frame e in
+      ap (word_at memory seg w) (resident_spot core frames m.laid seg w frame d live inside (record { word = here.words seg (w / 1024) is ∙ ap ptw_of_page e; low = k.0; high = k.1 }))
+
+  found_of : (seg w : ℕ) → has_page p seg (w / 1024) ≡ true → found_word (content_of p core seg w) ≡ word_in (frame_of p core seg (w / 1024)) core w (kept_word p seg w)
+  unfolding content_of pages.page_word
+  found_of seg w has = found_at _ _ has
+
+  word_there : (seg w : ℕ) (d : SdwFields) → core_sdw core booted_dbr seg ≡ Ok d → within d w ≡ true → word_at memory seg w (core_spot core booted_dbr d seg w) ≡ found_word (content_of p core seg w)
+  word_there seg w d live inside =
+      let has = page_there seg w d live inside in
+      spot_word seg w d live inside (held_in p core seg (w / 1024)) refl
+      ∙ ap (λ (v : Option ℕ). resident_word memory v seg w) (frame_true _ (frame_of p core seg (w / 1024)) has)
+      ∙ word_as memory (frame_of p core seg (w / 1024)) seg w
+      ∙ sym (found_of seg w has)
+
+  dead_word : (seg w : ℕ) (why : Refusal) → (why.number ≡ 17 → ⊥) → (b : Bool) → (why.number == 17) ≡ b → word_at memory seg w (Err why) ≡ 0
+  dead_word seg w why other true e = absurd (other (eqb-true why.number 17 e))
+  dead_word seg w why other false e = ap (λ (b : Bool). if b then memory.kept seg w else 0) e
+
+  by_parts : (seg w : ℕ) (d : SdwFields) → core_sdw core booted_dbr seg ≡ Ok d → (a b : Bool) → within d w ≡ b → word_at memory seg w (place_ordered a (place_within b (core_spot core booted_dbr d seg w))) ≡ shown_by a b (content_of p core seg w)
+  by_parts seg w d live true true inside = word_there seg w d live inside
+  by_parts seg w d live true false inside = refl
+  by_parts seg w d live false b inside = refl
+
+  by_sdw : (seg w : ℕ) (v : Result SdwFields Refusal) → core_sdw core booted_dbr seg ≡ v → word_at memory seg w (place_by v (λ d. core_spot core booted_dbr d seg w) w) ≡ shown v (content_of p core seg w) w
+  by_sdw seg w (Err why) live = dead_word seg w why (m.laid.dead seg why live) _ refl
+  by_sdw seg w (Ok d) live = by_parts seg w d live (in_order d) (within d w) refl
+
+  pub content_shown : (seg w : ℕ) → paged_content memory seg w ≡ shown (core_sdw core booted_dbr seg) (content_of p core seg w) w
+  unfolding paged_content place
+  content_shown seg w = by_sdw seg w (core_sdw core booted_dbr seg) refl
+
+-- ---- a word of a linkage segment is set
+
+pair_cases : (a b x y : ℕ) → ((a ≡ x) × (b ≡ y)) ⊎ (((a == x) && (b == y)) ≡ false)
+pair_cases a b x y = by_tests (a == x) (b == y) refl refl
+  where
+    by_tests : (s t : Bool) → (a == x) ≡ s → (b == y) ≡ t → ((a ≡ x) × (b ≡ y)) ⊎ (((a == x) && (b == y)) ≡ false)
+    by_tests true true e f = inl (eqb-true a x e, eqb-true b y f)
+    by_tests false t e f = inr (ap (λ (s : Bool). s && (b == y)) e)
+    by_tests true false e f = inr (ap (λ (s : Bool). s && (b == y)) e ∙ f)
+
+same_test : (a : ℕ) → (a == a) ≡ true
+same_test a = grind arith
+
+both_same : (a b : ℕ) → ((a == a) && (b == b)) ≡ true
+both_same a b = ap (λ (s : Bool). s && (b == b)) (same_test a) ∙ same_test b
+
+not_both : (a b x y : ℕ) → ((a == x) && (b == y)) ≡ false → (x ≡ a) × (y ≡ b) → ⊥
+not_both a b x y apart e =
+    let k : ((x == x) && (y == y)) ≡ false = subst (λ (n : ℕ). ((n == x) && (y == y)) ≡ false) (sym e.0) (subst (λ (n : ℕ). ((a == x) && (n == y)) ≡ false) (sym e.1) apart) in
+    let l = both_same x y in
+    cc
+
+module _ (frames : ℕ) (core now : List ℕ) (p q : PagerFields) (ring word v : ℕ) (m : IsManaged frames core p) (low : ring < 8) (fits : word < 2 ^ 18) (s : IsSet p core q now (linkage_segment ring) word v) (reads : Reads q now) (pager : IsPager q) where
+  abbrev seg : ℕ
+  seg = linkage_segment ring
+
+  managed : IsManaged frames now q
+  managed = now_managed frames core now p q m pager reads s.shape s.size s.others
+
+  low_words : take descriptor_words now ≡ take descriptor_words core
+  low_words = descriptors frames core now p q m pager reads s.shape s.size s.others
+
+  shown_now : (seg' w' : ℕ) → shown (core_sdw now booted_dbr seg') (content_of q now seg' w') w' ≡ shown (core_sdw core booted_dbr seg') (content_of q now seg' w') w'
+  shown_now seg' w' =
+      ap (λ (x : Result SdwFields Refusal). shown x (content_of q now seg' w') w') (same_descriptors core now low_words seg')
+
+  within_whole : (d : SdwFields) → d.bound ≡ 16383 → within d word ≡ true
+  within_whole d e =
+      let k : word / 16 ≤ d.bound = omega arith in
+      le-leb (word / 16) d.bound k
+
+  shown_here : shown (core_sdw core booted_dbr seg) (content_of q now seg word) word ≡ v
+  shown_here =
+      let l = m.linkage ring low in
+      let ordered = (m.laid.segments seg l.sdw l.live).ordered in
+      let inside = within_whole l.sdw l.whole in
+      ap (λ (x : Result SdwFields Refusal). shown x (content_of q now seg word) word) l.live
+      ∙ (λ i. shown_by (ordered i) (inside i) (s.here i))
+
+  -- the content of each word
+  new_content : (seg' w' : ℕ) → paged_content (record { core = now; kept = kept_word q }) seg' w' ≡ (if (seg == seg') && (word == w') then v else paged_content (record { core = core; kept = kept_word p }) seg' w')
+  new_content seg' w' = by_cases (pair_cases seg word seg' w')
+    where
+      by_cases : (((seg ≡ seg') × (word ≡ w')) ⊎ (((seg == seg') && (word == w')) ≡ false)) → paged_content (record { core = now; kept = kept_word q }) seg' w' ≡ (if (seg == seg') && (word == w') then v else paged_content (record { core = core; kept = kept_word p }) seg' w')
+      by_cases (inl e) =
+          let P : ℕ → ℕ → Type 0 = λ a b. paged_content (record { core = now; kept = kept_word q }) a b ≡ (if (seg == a) && (word == b) then v else paged_content (record { core = core; kept = kept_word p }) a b) in
+          let at : P seg word = content_shown frames now q managed seg word ∙ shown_now seg word ∙ shown_here ∙ sym (ap (λ (b : Bool). if b then v else paged_content (record { core = core; kept = kept_word p }) seg word) (both_same seg word)) in
+          subst (λ (a : ℕ). P a w') e.0 (subst (P seg) e.1 at)
+      by_cases (inr apart) =
+          content_shown frames now q managed seg' w' ∙ shown_now seg' w'
+          ∙ ap (λ (c : Option ℕ). shown (core_sdw core booted_dbr seg') c w') (s.content seg' w' (not_both seg word seg' w' apart))
+          ∙ sym (content_shown frames core p m seg' w')
+          ∙ sym (ap (λ (b : Bool). if b then v else paged_content (record { core = core; kept = kept_word p }) seg' w') apart)
+
+  new_flat : flat_by now q ≡ flat_put (flat_by core p) (written_from seg word (v ∷ []))
+  unfolding flat_of flat_put written_from
+  new_flat =
+      let content = new_content in
+      let words = low_words in
+      λ i. record { descriptors = words i; content = λ a b. content a b i }
+
+pub word_put : (core now : List ℕ) (p q : PagerFields) (ring word v : ℕ) → IsManaged (length p.holders) core p → ring < 8 → word < 2 ^ 18 → IsSet p core q now (linkage_segment ring) word v → Reads q now → IsPager q → ArePut core p now q (written_from (linkage_segment ring) word (v ∷ []))
+word_put core now p q ring word v m low fits s reads pager =
+    let count = s.shape.frames in
+    record {
+      flat = new_flat (length p.holders) core now p q ring word v m low fits s reads pager;
+      frames = count;
+      managed = subst (λ (n : ℕ). IsManaged n now q) (sym count) (managed (length p.holders) core now p q ring word v m low fits s reads pager);
+    }
+
+-- the page of each word of a linkage segment
+pub linkage_page : (core : List ℕ) (p : PagerFields) (ring word : ℕ) → IsManaged (length p.holders) core p → ring < 8 → word < 2 ^ 18 → has_page p (linkage_segment ring) (word / 1024) ≡ true
+linkage_page core p ring word m low fits =
+    let l = m.linkage ring low in
+    let whole = l.whole in
+    let begins : word / 1024 ≤ l.sdw.bound / 64 = omega arith in
+    m.serves (linkage_segment ring) (word / 1024) (record { sdw = l.sdw; live = l.live; begins = begins })
+
+pub ruleset words_put = (word_put, linkage_page, has_frames)
+
+pub ruleset found = (has_frames, page_there)
+
+none_by : (b : Bool) (v : ℕ) → b ≡ true → content_by b v ≡ None → ⊥
+none_by true v e h = cc
+none_by false v e h = cc
+
+-- a word of a page is found
+pub not_none : (core : List ℕ) (p : PagerFields) (seg w : ℕ) → has_page p seg (w / 1024) ≡ true → (v : Option ℕ) → v ≡ content_of p core seg w → v ≡ None → ⊥
+unfolding content_of
+not_none core p seg w has v e none = none_by (has_page p seg (w / 1024)) _ has (sym e ∙ none)

@@ -1,0 +1,101 @@
+-- The turns of a booted system, and what holds after each.
+use Rattle.std.proofs.Common.{◌≡◌, refl, sym, ◌∙◌, ap, subst}
+use Rattle.std.specs.Prelude.{ℕ, Bool, true, false, ◌&&◌, nat_eq, nat_lt, length, List, Result, Ok, Err}
+use Rattle.m36_model.specs.declared.endings.End.{End}
+use Rattle.m36_model.specs.declared.endings.End.TheVariants as end
+use Rattle.m36_model.specs.Fields.{AtFields}
+use Rattle.m36_model.specs.Residence.{flat_of}
+use Rattle.m36_model.specs.Results.{moved_on}
+use Rattle.m36_model.specs.declared.outcome.Fault.{Fault}
+use Rattle.m36_model.specs.declared.outcome.Outcome.{Outcome}
+use Rattle.m36_model.specs.declared.outcome.Outcome.TheVariants.{Next, Faulted, Stopped}
+use Rattle.m36_link.specs.Snap.{snap_of}
+use Rattle.m36_step.specs.declared.turns.Turn.{Turn}
+use Rattle.m36_step.specs.declared.turns.Turn.TheVariants.{Console, Ended}
+use Rattle.m36_super.specs.Library.{Library}
+use Rattle.m36_super.specs.Coming.{Coming, Step, Link, Print, Over, coming_in, coming_on, coming_after}
+use Rattle.m36_super.specs.Services.{console_limit, console_text}
+use Rattle.m36_super.specs.BootedRun.{Booted, IsStepTurn, IsLinkTurn, IsConsoleTurn, IsTurnBy, IsTurn}
+use Rattle.m36_super.specs.SuperFields.{SuperFields, booted_of, IsDue, IsRunning}
+use Rattle.m36_page.specs.Fields.{PagerFields}
+use Rattle.m36_model.specs.Registers.{RegsFields}
+use Rattle.m36_model.specs.Store.{State}
+
+-- ---- no service is due once an LDBR has been executed
+
+due_in : (a b : Bool) (f : Fault) → IsDue (coming_in a b f) false
+due_in true b f = refl
+due_in false true f = refl
+due_in false false f = tt
+
+due_on : (loaded : Bool) (ring : ℕ) (f : Fault) → IsDue (coming_on loaded ring f) loaded
+due_on true ring f = tt
+due_on false ring f = due_in _ _ f
+
+due_by : (loaded : Bool) (ring : ℕ) (outcome : Outcome) → IsDue (coming_after loaded ring outcome) loaded
+due_by loaded ring Next = tt
+due_by loaded ring (Faulted f) = due_on loaded ring f
+due_by loaded ring (Stopped s) = tt
+
+pub due_after : (loaded : Bool) (ring : ℕ) (outcome : Outcome) (next : Coming) → next ≡ coming_after loaded ring outcome → IsDue next loaded
+due_after loaded ring outcome next e =
+    subst (λ (c : Coming). IsDue c loaded) (sym e) (due_by loaded ring outcome)
+
+pub due_at : (loaded : Bool) (coming : Coming) (at : AtFields) → coming ≡ Link at → IsDue coming loaded → loaded ≡ false
+due_at loaded coming at e due = subst (λ (c : Coming). IsDue c loaded) e due
+
+pub due_print : (loaded : Bool) (coming : Coming) → coming ≡ Print → IsDue coming loaded → loaded ≡ false
+due_print loaded coming e due = subst (λ (c : Coming). IsDue c loaded) e due
+
+-- ---- turns by what is coming
+
+turn_by : (lib : Library) (before : Booted) (turn : Turn) (after : Booted) (coming : Coming) → before.coming ≡ coming → IsTurnBy coming lib before turn after → IsTurn lib before turn after
+unfolding IsTurn
+turn_by lib before turn after coming e h =
+    subst (λ (c : Coming). IsTurnBy c lib before turn after) (sym e) h
+
+pub step_is_turn : (lib : Library) (before : Booted) (turn : Turn) (after : Booted) (frames : ℕ) → before.coming ≡ Step → frames ≡ lib.catalog.frames → IsStepTurn before.loaded frames before turn after → IsTurn lib before turn after
+step_is_turn lib before turn after frames e same h =
+    turn_by lib before turn after Step e (subst (λ (n : ℕ). IsStepTurn before.loaded n before turn after) same h)
+
+pub link_is_turn : (lib : Library) (before : Booted) (turn : Turn) (after : Booted) (frames : ℕ) (at : AtFields) (files : List (List ℕ)) → before.coming ≡ Link at → frames ≡ lib.catalog.frames → files ≡ lib.files → IsLinkTurn (snap_of before.known lib.catalog files at) frames at before turn after → IsTurn lib before turn after
+link_is_turn lib before turn after frames at files e same all h =
+    turn_by lib before turn after (Link at) e (subst (λ (n : ℕ). IsLinkTurn (snap_of before.known lib.catalog lib.files at) n at before turn after) same (subst (λ (f : List (List ℕ)). IsLinkTurn (snap_of before.known lib.catalog f at) frames at before turn after) all h))
+
+pub link_turns : (now inside later : SuperFields) (turn : Turn) (at : AtFields) (frames : ℕ) (files : List (List ℕ)) → inside ≡ now → now.coming ≡ Link at → frames ≡ inside.lib.catalog.frames → files ≡ inside.lib.files → later.lib ≡ inside.lib → IsLinkTurn (snap_of inside.known inside.lib.catalog files at) frames at (booted_of inside) turn (booted_of later) → IsTurn now.lib (booted_of now) turn (booted_of later) × (later.lib ≡ now.lib)
+link_turns now inside later turn at frames files same e count all kept h =
+    let coming : inside.coming ≡ Link at = ap (λ (s : SuperFields). s.coming) same ∙ e in
+    let P : SuperFields → Type 0 = λ s. IsTurn s.lib (booted_of s) turn (booted_of later) × (later.lib ≡ s.lib) in
+    subst P same (link_is_turn inside.lib (booted_of inside) turn (booted_of later) frames at files coming count all h, kept)
+
+pub print_is_turn : (lib : Library) (before : Booted) (turn : Turn) (after : Booted) → before.coming ≡ Print → IsConsoleTurn (nat_lt console_limit before.state.regs.a) (console_text before.state.regs (flat_of before.state.memory)) before turn after → IsTurn lib before turn after
+print_is_turn lib before turn after e h = turn_by lib before turn after Print e h
+
+pub end_is_turn : (lib : Library) (before : Booted) (turn : Turn) (e : End) → before.coming ≡ Over e → turn ≡ Ended e → IsTurn lib before turn before
+end_is_turn lib before turn e over told = turn_by lib before turn before (Over e) over (told, refl)
+
+-- ---- the console
+
+pub console_refused : (limited : Bool) (text : Result (List ℕ) Fault) (before after : Booted) (turn : Turn) → limited ≡ true → turn ≡ Ended end.Console → after ≡ record before { coming = Over end.Console } → IsConsoleTurn limited text before turn after
+console_refused limited text before after turn e told same =
+    subst (λ (b : Bool). IsConsoleTurn b text before turn after) (sym e) (told, same)
+
+pub console_faulted : (limited : Bool) (text : Result (List ℕ) Fault) (before after : Booted) (turn : Turn) (f : Fault) → limited ≡ false → text ≡ Err f → turn ≡ Ended (end.Fault f) → after ≡ record before { coming = Over (end.Fault f) } → IsConsoleTurn limited text before turn after
+console_faulted limited text before after turn f e fault told same =
+    subst (λ (b : Bool). IsConsoleTurn b text before turn after) (sym e) (subst (λ (t : Result (List ℕ) Fault). IsConsoleTurn false t before turn after) (sym fault) (told, same))
+
+pub console_printed : (limited : Bool) (text : Result (List ℕ) Fault) (before after : Booted) (turn : Turn) (characters : List ℕ) → limited ≡ false → text ≡ Ok characters → turn ≡ Console characters → after ≡ record before { state = record { regs = moved_on before.state.regs; memory = before.state.memory }; coming = Step } → IsConsoleTurn limited text before turn after
+console_printed limited text before after turn characters e read told same =
+    subst (λ (b : Bool). IsConsoleTurn b text before turn after) (sym e) (subst (λ (t : Result (List ℕ) Fault). IsConsoleTurn false t before turn after) (sym read) (told, same))
+
+moved_dbr : (g : RegsFields) → (moved_on g).dbr ≡ g.dbr
+unfolding moved_on
+moved_dbr g = refl
+
+pub running_moved : (old new : State (List ℕ)) (p : PagerFields) → IsRunning (length p.holders) old.regs old.store p → new ≡ record { regs = moved_on old.regs; store = old.store } → IsRunning (length p.holders) new.regs new.store p
+running_moved old new p runs e =
+    subst (λ (s : State (List ℕ)). IsRunning (length p.holders) s.regs s.store p) (sym e) (record { dbr = moved_dbr old.regs ∙ runs.dbr; managed = runs.managed })
+
+pub ruleset printed = (console_refused, console_faulted, console_printed)
+
+pub ruleset system_turns = (end_is_turn, due_at, due_print)

@@ -1,0 +1,17 @@
+use Rattle.std.proofs.Common.{refl}
+use Rattle.m36_super.specs.contracts.booted.Super.{the_view}
+use Rattle.m36_super.proofs.SystemTurns.{link_turns}
+use Rattle.m36_super.proofs.booted.Super.link.Goals as goal
+
+pub returns : goal.returns
+returns c =
+    link_turns c.args.self.now (the_view c.self.inside) (the_view (record {
+      machine = c.link.new.machine;
+      pager = c.link.new.pager;
+      known = c.link.new.known;
+      catalog = c.self.inside.catalog;
+      files = c.self.inside.files;
+      coming = c.link.new.coming;
+      loaded = c.self.inside.loaded;
+      alloc = c.self.inside.alloc;
+    })) c.link.result c.args.at _ _ c.self.view_is c.requires.coming c.self.invariant.frames c.deref.ensures.value refl (c.link.ensures.turn c.self.inside.loaded)

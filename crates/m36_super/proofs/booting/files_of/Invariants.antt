@@ -1,0 +1,5 @@
+use Rattle.std.proofs.Common.{◌≡◌, ℕ, ◌++◌, drop, take}
+use Rattle.m36_super.proofs.booting.files_of.Given as goal
+
+abbrev pub invariant-loop-file : goal.invariant-loop-file
+invariant-loop-file l = l.files.items ≡ l.yielded

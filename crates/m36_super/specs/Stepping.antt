@@ -1,0 +1,85 @@
+-- A step with its page services, over a processor and its pager.
+use Rattle.std.specs.Prelude.{◌≡◌, ℕ, ◌≤◌, Bool, true, false, List, length, Option, Some, None}
+use Rattle.m36_model.specs.Fields.{AtFields}
+use Rattle.m36_model.specs.Store.{State}
+use Rattle.m36_model.specs.Core.{core_store}
+use Rattle.m36_model.specs.Step.{record_of, state_after}
+use Rattle.m36_model.specs.PagedStep.{IsPresent}
+use Rattle.m36_model.specs.declared.outcome.Fault.{Fault}
+use Rattle.m36_model.specs.declared.outcome.Outcome.{Outcome}
+use Rattle.m36_model.specs.declared.outcome.Outcome.TheVariants.{Faulted}
+use Rattle.m36_model.specs.declared.record.StepRecord.{StepRecord}
+use Rattle.m36_isol.specs.PageServices.{PagedState, IsServed, AreServed}
+use Rattle.m36_page.specs.Fields.{PagerFields}
+use Rattle.m36_page.specs.Residence.{kept_word}
+use Rattle.m36_link.specs.Fields.{KnownFields}
+use Rattle.m36_super.specs.Coming.{Coming}
+use Rattle.m36_super.specs.BootedRun.{Booted}
+use Rattle.m36_super.specs.SuperFields.{IsManaged, IsRunning}
+
+-- the paged state of a processor and its pager
+abbrev pub paged_of : State (List ℕ) → PagerFields → PagedState
+paged_of s p = record { regs = s.regs; memory = record { core = s.store; kept = kept_word p } }
+
+-- the state of the booted run
+abbrev pub run_of : State (List ℕ) → PagerFields → KnownFields → Coming → Bool → Booted
+run_of s p known coming loaded =
+    record { state = paged_of s p; known = known; coming = coming; loaded = loaded }
+
+-- the word whose page a step lacked, if it lacked one
+pub record IsLacked (outcome : Outcome) (at : AtFields) : Type 0 where
+  pub fault : Fault
+  pub outcome_is : outcome ≡ Faulted fault
+  pub number : fault.number ≡ 17
+  pub at_is : at ≡ fault.at
+
+abbrev pub LackedSays : Outcome → Option AtFields → Type 0
+LackedSays outcome None = IsPresent outcome
+LackedSays outcome (Some at) = IsLacked outcome at
+
+-- A step lacked a page, and the page was brought in.
+pub record IsTried
+    (old : State (List ℕ)) (p : PagerFields) (new : State (List ℕ)) (q : PagerFields) : Type 0
+  where
+    pub served : IsServed (length p.holders) (paged_of old p) (paged_of new q)
+    pub frames : length q.holders ≡ length p.holders
+    pub runs : IsRunning (length q.holders) new.regs new.store q
+
+-- A step lacked none.
+pub record IsTaken
+    (old : State (List ℕ)) (p : PagerFields) (new : State (List ℕ)) (q : PagerFields)
+    (told : StepRecord) : Type 0 where
+  pub told_is : told ≡ record_of core_store old
+  pub state : new ≡ state_after core_store old
+  pub pager : q ≡ p
+  pub present : IsPresent told.outcome
+
+abbrev pub AttemptSays :
+    Bool → State (List ℕ) → PagerFields → State (List ℕ) → PagerFields → StepRecord → Type 0
+AttemptSays true old p new q told = IsTried old p new q
+AttemptSays false old p new q told = IsTaken old p new q told
+
+-- The pages that a step lacked were served, and then it was taken.
+pub record IsStepped
+    (old : State (List ℕ)) (p : PagerFields) (new : State (List ℕ)) (q : PagerFields)
+    (told : StepRecord) : Type 0 where
+  pub last : State (List ℕ)
+  pub services : ℕ
+  pub few : services ≤ 18
+  pub served : AreServed (length p.holders) services (paged_of old p) (paged_of last q)
+  pub frames : length q.holders ≡ length p.holders
+  pub runs : IsRunning (length q.holders) last.regs last.store q
+  pub taken : IsTaken last q new q told
+
+-- once an LDBR has been executed no page is served
+pub record IsBareStep
+    (old : State (List ℕ)) (p : PagerFields) (new : State (List ℕ)) (q : PagerFields)
+    (told : StepRecord) : Type 0 where
+  pub told_is : told ≡ record_of core_store old
+  pub state : new ≡ state_after core_store old
+  pub pager : q ≡ p
+
+abbrev pub StepSays :
+    Bool → State (List ℕ) → PagerFields → State (List ℕ) → PagerFields → StepRecord → Type 0
+StepSays false old p new q told = IsStepped old p new q told
+StepSays true old p new q told = IsBareStep old p new q told

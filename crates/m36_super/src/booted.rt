@@ -1,0 +1,230 @@
+//! Booted systems.
+
+ghost use Rattle.std.specs.Prelude.{ℕ, ◌≡◌, ◌≤◌, ◌<◌, ◌^◌, length, false};
+ghost use Rattle.m36_link.specs.Laws.{IsMade};
+ghost use Rattle.m36_super.specs.SuperFields.{IsRunning, IsDue};
+ghost use Rattle.m36_super.specs.SuperTurn.{SuperTurns};
+
+use crate::coming::Coming;
+use crate::console::print;
+use crate::content::flat_content;
+use crate::linking::link;
+use crate::stepping::step_turn;
+use m36_core::Core;
+use m36_dir::Catalog;
+use m36_link::{File, Known};
+use m36_model::{At, Regs};
+use m36_page::Pager;
+use m36_step::{BackAnswer, Machine, Stepper, Turn};
+use m36_word::Word;
+use std::alloc::Global;
+use std::marker::Model;
+
+/// A booted system: a processor with its core, the pages of all segments, what link services have made, and the catalog with
+/// the files of its segments. It is seen as these, and as what its next turn is.
+#[derive(Drop)]
+pub struct Super {
+    machine: Machine,
+    pager: Pager,
+    known: Known,
+    catalog: Catalog,
+    files: Vec<File>,
+    coming: Coming,
+    // Whether an LDBR has been executed.
+    loaded: bool,
+    alloc: Global,
+}
+
+impl Model for Super {
+    ghost use Rattle.m36_super.specs.SuperFields.{SuperFields, IsSuper};
+
+    ghost Value = { SuperFields };
+
+    ghost view = { λ s. record {
+      lib = record { catalog = s.catalog; files = s.files.items };
+      regs = s.machine.state.regs;
+      core = s.machine.state.store;
+      pager = s.pager;
+      known = s.known;
+      coming = s.coming;
+      loaded = s.loaded;
+    } };
+
+    ghost invariant = { λ s. IsSuper (record {
+      lib = record { catalog = s.catalog; files = s.files.items };
+      regs = s.machine.state.regs;
+      core = s.machine.state.store;
+      pager = s.pager;
+      known = s.known;
+      coming = s.coming;
+      loaded = s.loaded;
+    }) };
+}
+
+impl Super {
+    /// A system at its start.
+    pub(crate) fn at_start(
+        alloc: Global,
+        machine: Machine,
+        pager: Pager,
+        known: Known,
+        catalog: Catalog,
+        files: Vec<File>,
+    ) -> Super
+        requires files { length files.items ≡ length catalog.segments }
+        requires frames { length pager.holders ≡ catalog.frames }
+        requires runs { IsRunning (length pager.holders) machine.state.regs machine.state.store pager }
+        requires made { IsMade catalog files.items known }
+        ensures { result
+            ≡ record {
+              lib = record { catalog = catalog; files = files.items };
+              regs = machine.state.regs;
+              core = machine.state.store;
+              pager = pager;
+              known = known;
+              coming = Coming.Step;
+              loaded = false;
+            } }
+    {
+        Super {
+            machine,
+            pager,
+            known,
+            catalog,
+            files,
+            coming: Coming::Step,
+            loaded: false,
+            alloc,
+        }
+    }
+
+    /// The catalog.
+    pub fn catalog(&self) -> &Catalog
+        ensures { result.now ≡ self.now.lib.catalog }
+    {
+        &self.catalog
+    }
+
+    /// Core as it stands.
+    pub fn core(&self) -> &Core
+        ensures { result.now ≡ self.now.core }
+    {
+        self.machine.walk().core()
+    }
+
+    /// What the next turn is.
+    pub fn coming(&self) -> Coming
+        ensures value { result ≡ self.now.coming }
+        ensures due { IsDue self.now.coming self.now.loaded }
+    {
+        self.coming
+    }
+
+    // A step, with the services of the pages that it lacks until an LDBR has been executed.
+    #[tactic(auto, using(crate::proofs::SystemTurns::step_is_turn))]
+    fn step(&mut self) -> Turn
+        requires { self.old.coming ≡ Coming.Step }
+        ensures { SuperTurns self.old result self.new }
+    {
+        let Super {
+            machine,
+            pager,
+            coming,
+            loaded,
+            ..
+        } = self;
+        step_turn(machine, pager, coming, loaded)
+    }
+
+    // A link service.
+    #[tactic(auto, using(crate::proofs::SystemTurns::link_is_turn))]
+    fn link(&mut self, at: At) -> Turn
+        requires coming { self.old.coming ≡ Coming.Link at }
+        requires runs { self.old.loaded ≡ false }
+        ensures { SuperTurns self.old result self.new }
+    {
+        let Super {
+            machine,
+            pager,
+            known,
+            catalog,
+            files,
+            coming,
+            alloc,
+            ..
+        } = self;
+        link(*alloc, catalog, files, machine, pager, known, coming, at)
+    }
+
+    // A console service.
+    #[tactic(auto, using(crate::proofs::SystemTurns::print_is_turn))]
+    fn print(&mut self) -> Turn
+        requires coming { self.old.coming ≡ Coming.Print }
+        requires runs { self.old.loaded ≡ false }
+        ensures { SuperTurns self.old result self.new }
+    {
+        let Super {
+            machine,
+            pager,
+            coming,
+            ..
+        } = self;
+        print(machine, pager, coming)
+    }
+
+    // The turn that is coming.
+    #[tactic(auto, using(crate::proofs::SystemTurns::system_turns))]
+    fn turn_of(&mut self, coming: Coming) -> Turn
+        requires coming { coming ≡ self.old.coming }
+        requires due { IsDue coming self.old.loaded }
+        ensures { SuperTurns self.old result self.new }
+    {
+        match coming {
+            Coming::Step => self.step(),
+            Coming::Link(at) => self.link(at),
+            Coming::Print => self.print(),
+            Coming::Over(end) => Turn::Ended(end),
+        }
+    }
+}
+
+impl Stepper for Super {
+    ghost use Rattle.m36_super.specs.SuperTurn.{SuperTurns, SuperWent, super_content, super_stays, super_apart};
+
+    ghost next = { λ before turn later. SuperTurns before turn later };
+
+    ghost went = { λ before n answer later. SuperWent before n answer later };
+
+    ghost regs = { λ s. s.regs };
+
+    ghost content = { super_content };
+
+    /// A step, with the services of the pages that it lacks; or the service for which the step before it calls; or the end.
+    fn turn(&mut self) -> Turn {
+        let coming = self.coming();
+        self.turn_of(coming)
+    }
+
+    /// A booted system does not go back.
+    fn back(&mut self, _n: u32) -> BackAnswer {
+        BackAnswer::Unable
+    }
+
+    fn regs(&self) -> &Regs {
+        self.machine.regs()
+    }
+
+    /// Until an LDBR has been executed, a word that is put away is found too.
+    #[tactic(auto, unfolding(crate::specs::SuperTurn::super_content))]
+    fn content(&self, seg: u16, word: u32) -> Option<Word> {
+        if self.loaded {
+            self.machine.walk().content(seg, word)
+        } else {
+            flat_content(&self.machine, &self.pager, seg, word)
+        }
+    }
+
+    ghost stays = { super_stays };
+
+    ghost apart = { super_apart };
+}

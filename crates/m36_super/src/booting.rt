@@ -1,0 +1,117 @@
+//! Booting.
+
+ghost use Rattle.std.specs.Prelude.{ℕ, ◌≡◌, ◌≤◌, ◌^◌, All, length, IfOk, Ok, true};
+ghost use Rattle.std.specs.List.{list_all};
+ghost use Rattle.m36_boot.specs.Segments.{is_short};
+ghost use Rattle.m36_boot.specs.Image.{IsRunnable};
+ghost use Rattle.m36_boot.specs.Start.{start_answer};
+ghost use Rattle.m36_link.specs.Known.{nothing_known};
+ghost use Rattle.m36_link.specs.Accepted.{accepted};
+ghost use Rattle.m36_link.specs.Laws.{IsMade};
+ghost use Rattle.m36_page.specs.Residence.{Reads};
+ghost use Rattle.m36_super.specs.BootSays.{BootSays, at_start};
+
+use crate::booted::Super;
+use m36_boot::{BootFault, Image, lay};
+use m36_core::Core;
+use m36_dir::Catalog;
+use m36_link::{File, Known, Snap, link_laws};
+use m36_model::Regs;
+use m36_step::Machine;
+use m36_walk::Walk;
+use m36_word::{NoMemory, Words};
+use std::alloc::Global;
+
+fn is_short(file: &Words) -> bool
+    ensures { result ≡ is_short file.now }
+{
+    file.slice().len() <= 1 << 18
+}
+
+/// Whether each file has at most 2^18 words, as many as a segment.
+pub fn are_short(files: &[Words]) -> bool
+    ensures value { result ≡ list_all is_short files.now }
+    ensures short { result ≡ true → All (λ w. length w ≤ 2 ^ 18) files.now }
+{
+    files.iter().all(|file| is_short(file))
+}
+
+// The files, each read once.
+fn files_of(alloc: Global, words: Vec<Words>) -> Result<Vec<File>, NoMemory>
+    requires { All (λ w. length w ≤ 2 ^ 18) words.items }
+    ensures { IfOk result (λ files. files.items ≡ words.items) }
+{
+    let mut files = Vec::with_capacity(alloc, words.len())?;
+    for file in words {
+        files.push(File::read(alloc, file)?)?;
+    }
+    Ok(files)
+}
+
+// A machine that starts with core and these registers.
+fn machine_of(alloc: Global, core: Core, regs: Regs) -> Result<Machine, NoMemory>
+    ensures { IfOk result (λ m. m.state ≡ record { regs = regs; store = core }) }
+{
+    match Walk::new(alloc, core, regs.dbr) {
+        Ok(walk) => Ok(Machine::new(walk, regs)),
+        Err(_) => Err(NoMemory),
+    }
+}
+
+// What the answer to the start makes known.
+#[tactic(auto, using(crate::proofs::BootTurns::start_laid, crate::proofs::BootTurns::start_made))]
+fn known_of(
+    alloc: Global,
+    catalog: &Catalog,
+    files: &[File],
+    snap: &Snap,
+) -> Result<Known, NoMemory>
+    requires { start_answer catalog.now files.now ≡ Ok snap.now }
+    ensures known { IfOk result (λ known. known ≡ accepted nothing_known snap.now) }
+    ensures made { IfOk result (IsMade catalog.now files.now) }
+{
+    link_laws();
+    let mut known = Known::new(alloc)?;
+    known.accept(snap)?;
+    Ok(known)
+}
+
+// The system of an image.
+#[tactic(auto, using(crate::proofs::BootTurns::image_runs))]
+fn started(
+    alloc: Global,
+    catalog: Catalog,
+    files: Vec<File>,
+    image: Image,
+) -> Result<Super, NoMemory>
+    requires files { length files.items ≡ length catalog.segments }
+    requires answer { start_answer catalog files.items ≡ Ok image.snap }
+    requires runnable { IsRunnable catalog.frames image }
+    requires reads { Reads image.pager image.core }
+    ensures { IfOk result (λ s. s ≡ at_start (record { catalog = catalog; files = files.items }) image) }
+{
+    let known = known_of(alloc, &catalog, files.as_slice(), &image.snap)?;
+    let Image {
+        core,
+        pager,
+        regs,
+        ..
+    } = image;
+    let machine = machine_of(alloc, core, regs)?;
+    Ok(Super::at_start(alloc, machine, pager, known, catalog, files))
+}
+
+impl Super {
+    /// Boots a catalog with the words of the file of each of its segments, in the order of the catalog. The error is the first
+    /// of the codes U1 to U4 that stands, or want of memory.
+    #[tactic(auto, using(crate::proofs::BootTurns::booted))]
+    pub fn boot(alloc: Global, catalog: Catalog, words: Vec<Words>) -> Result<Super, BootFault>
+        requires files { length words.items ≡ length catalog.segments }
+        requires short { All (λ w. length w ≤ 2 ^ 18) words.items }
+        ensures says { BootSays (record { catalog = catalog; files = words.items }) result }
+    {
+        let files = files_of(alloc, words)?;
+        let image = lay(alloc, &catalog, files.as_slice())?;
+        Ok(started(alloc, catalog, files, image)?)
+    }
+}

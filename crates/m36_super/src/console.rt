@@ -1,0 +1,202 @@
+//! Console services.
+
+ghost use Rattle.std.specs.Prelude.{ℕ, ◌≡◌, ◌≤◌, ◌<◌, ◌+◌, ◌*◌, ◌/◌, ◌^◌, ◌++◌, Bool, length, nat_lt, true, Ok, Err, Some, MatchResult};
+ghost use Rattle.m36_model.specs.Flat.{flat_store};
+ghost use Rattle.m36_model.specs.Store.{fault_by, examined};
+ghost use Rattle.m36_model.specs.Place.{core_sdw};
+ghost use Rattle.m36_model.specs.BootedCore.{booted_dbr};
+ghost use Rattle.m36_link.specs.Fields.{KnownFields};
+ghost use Rattle.m36_super.specs.BootedRun.{IsConsoleTurn};
+ghost use Rattle.m36_super.specs.Services.{console_limit, written_character, characters_of};
+ghost use Rattle.m36_super.specs.Services.{console_at, console_words, console_text};
+ghost use Rattle.m36_super.specs.SuperFields.{IsManaged, IsRunning};
+ghost use Rattle.m36_super.specs.Stepping.{run_of};
+ghost use Rattle.m36_super.specs.Writing.{flat_by};
+ghost use Rattle.m36_super.specs.Examining.{ExaminedSays};
+
+use crate::coming::Coming;
+use crate::content::found_word;
+use arrayvec::ArrayVec;
+use m36_core::Core;
+use m36_desc::{Acv, Sdw, may_read};
+use m36_model::{At, End, Fault, Refusal, Regs};
+use m36_page::Pager;
+use m36_step::{ConsoleNote, Machine, Turn};
+use m36_tables::{descriptor, violation, within};
+use m36_word::Word;
+
+// A console service writes at most so many characters.
+const MOST_CHARACTERS: u64 = 256;
+
+// The pointer register that names the text.
+const TEXT: u8 = 2;
+
+// The access violation of a word past the bound.
+const OUT_OF_SEGMENT_BOUNDS: u8 = 15;
+
+// The fault of a refusal at a word.
+fn fault(why: Refusal, at: At) -> Fault
+    ensures { result ≡ fault_by why at }
+{
+    Fault {
+        at,
+        number: why.number,
+        acv: why.acv,
+    }
+}
+
+// A word that a descriptor describes.
+#[tactic(auto, using(crate::proofs::ConsoleReads::described))]
+fn described_word(core: &Core, pager: &Pager, regs: &Regs, sdw: &Sdw, at: At) -> Result<Word, Fault>
+    requires managed { IsManaged (length pager.now.holders) core.now pager.now }
+    requires dbr { regs.now.dbr ≡ booted_dbr }
+    requires live { core_sdw core.now booted_dbr at.seg ≡ Ok sdw.now }
+    ensures { ExaminedSays result (examined flat_store regs.now (flat_by core.now pager.now) at) }
+{
+    if let Err(Acv(acv)) = may_read(sdw, at.ring, at.seg == regs.ppr.psr) {
+        return Err(fault(violation(acv), at));
+    }
+    if !within(sdw, at.word) {
+        return Err(fault(violation(OUT_OF_SEGMENT_BOUNDS), at));
+    }
+    Ok(found_word(core, pager, sdw, at.seg, at.word))
+}
+
+// The word at a place, by the rules of access, wherever its page is. No mark is set.
+#[tactic(auto, using(crate::proofs::ConsoleReads::dead_word))]
+fn examined(core: &Core, pager: &Pager, regs: &Regs, at: At) -> Result<Word, Fault>
+    requires managed { IsManaged (length pager.now.holders) core.now pager.now }
+    requires dbr { regs.now.dbr ≡ booted_dbr }
+    ensures { ExaminedSays result (examined flat_store regs.now (flat_by core.now pager.now) at) }
+{
+    match descriptor(core, regs.dbr, at.seg) {
+        Ok(sdw) => described_word(core, pager, regs, &sdw, at),
+        Err(why) => Err(fault(why, at)),
+    }
+}
+
+// What is written of a character of nine bits.
+fn written(character: u64) -> u8
+    ensures { result ≡ written_character character }
+{
+    if character < 128 {
+        character as u8
+    } else {
+        b'?'
+    }
+}
+
+// Puts the four characters of a word.
+#[tactic(auto, unfolding(crate::specs::Services::characters_of))]
+fn put_characters(text: &mut ArrayVec<u8, 256>, word: Word)
+    requires { length text.old.items + 4 ≤ 256 }
+    ensures { text.new.items ≡ text.old.items ++ characters_of word }
+{
+    let v = word.value();
+    let four = [
+        written((v >> 27) % 512),
+        written((v >> 18) % 512),
+        written((v >> 9) % 512),
+        written(v % 512),
+    ];
+    match text.try_extend_from_slice(&four) {
+        Ok(()) => {}
+        Err(_) => unreachable!(),
+    }
+}
+
+// The place of a word of the text.
+fn place(regs: &Regs, k: u32) -> At
+    requires { k ≤ 64 }
+    ensures { result ≡ console_at regs.now k }
+{
+    let pointer = regs.pointer(TEXT);
+    At {
+        word: (pointer.word + k) % (1 << 18),
+        seg: pointer.seg,
+        ring: pointer.ring,
+    }
+}
+
+// So many words of the text, each as four characters, or the first fault of reading them.
+#[tactic(auto, using(crate::proofs::ConsoleReads::reading))]
+fn text_words(
+    core: &Core,
+    pager: &Pager,
+    regs: &Regs,
+    count: u32,
+) -> Result<ArrayVec<u8, 256>, Fault>
+    requires managed { IsManaged (length pager.now.holders) core.now pager.now }
+    requires dbr { regs.now.dbr ≡ booted_dbr }
+    requires count { count ≤ 64 }
+    ensures { MatchResult result
+        (λ t. console_words regs.now (flat_by core.now pager.now) 0 count ≡ Ok t.items)
+        (λ f. console_words regs.now (flat_by core.now pager.now) 0 count ≡ Err f) }
+{
+    let mut text = ArrayVec::new();
+    let mut k = 0;
+    let mut left = count;
+    while left > 0 {
+        let word = match examined(core, pager, regs, place(regs, k)) {
+            Ok(word) => word,
+            Err(fault) => return Err(fault),
+        };
+        put_characters(&mut text, word);
+        k += 1;
+        left -= 1;
+    }
+    Ok(text)
+}
+
+// So many characters of the text, or the first fault of reading them.
+#[tactic(auto, unfolding(crate::specs::Services::console_text))]
+fn text(core: &Core, pager: &Pager, regs: &Regs, count: u32) -> Result<ConsoleNote, Fault>
+    requires managed { IsManaged (length pager.now.holders) core.now pager.now }
+    requires dbr { regs.now.dbr ≡ booted_dbr }
+    requires count { count ≡ regs.now.a }
+    requires most { count ≤ 256 }
+    ensures { MatchResult result
+        (λ note. console_text regs.now (flat_by core.now pager.now) ≡ Ok note)
+        (λ f. console_text regs.now (flat_by core.now pager.now) ≡ Err f) }
+{
+    let mut bytes = text_words(core, pager, regs, (count + 3) / 4)?;
+    bytes.truncate(count as usize);
+    Ok(ConsoleNote { bytes })
+}
+
+// The run ends so.
+fn ends(coming: &mut Coming, end: &End) -> Turn
+    ensures turn { result ≡ Turn.Ended end.now }
+    ensures coming { coming.new ≡ Coming.Over end.now }
+{
+    *coming = Coming::Over(*end);
+    Turn::Ended(*end)
+}
+
+/// The console service.
+#[tactic(auto, using(crate::proofs::SystemTurns::printed))]
+pub(crate) fn print(machine: &mut Machine, pager: &Pager, coming: &mut Coming) -> Turn
+    requires { IsRunning (length pager.now.holders) machine.old.state.regs machine.old.state.store
+        pager.now }
+    ensures turn { (known : KnownFields) (loaded : Bool) → IsConsoleTurn
+        (nat_lt console_limit machine.old.state.regs.a)
+        (console_text machine.old.state.regs (flat_by machine.old.state.store pager.now))
+        (run_of machine.old.state pager.now known coming.old loaded) result
+        (run_of machine.new.state pager.now known coming.new loaded) }
+    ensures runs { IsRunning (length pager.now.holders) machine.new.state.regs
+        machine.new.state.store pager.now }
+{
+    let regs = machine.regs();
+    let count = regs.a.value();
+    if count > MOST_CHARACTERS {
+        return ends(coming, &End::Console);
+    }
+    match text(machine.walk().core(), pager, regs, count as u32) {
+        Ok(note) => {
+            machine.skip();
+            *coming = Coming::Step;
+            Turn::Console(note)
+        }
+        Err(fault) => ends(coming, &End::Fault(fault)),
+    }
+}

@@ -1,0 +1,193 @@
+//! Link services.
+
+ghost use Rattle.std.specs.Prelude.{ℕ, ◌≡◌, ◌≤◌, ◌<◌, ◌+◌, ◌%◌, ◌^◌, ◌⊎◌, length, List, IfSome, option_copied, ◌∷◌, [], Bool, Ok, Err, Some};
+ghost use Rattle.m36_link.specs.Known.{linkage_segment};
+ghost use Rattle.m36_link.specs.Snap.{snap_of};
+ghost use Rattle.m36_link.specs.Accepted.{accepted, MayBeLaid};
+ghost use Rattle.m36_link.specs.Laws.{IsMade};
+ghost use Rattle.m36_super.specs.BootedRun.{IsLinkTurn};
+ghost use Rattle.m36_super.specs.Laying.{written_from, laying};
+ghost use Rattle.m36_super.specs.Services.{link_changes, note_snapped, note_of};
+ghost use Rattle.m36_super.specs.SuperFields.{IsManaged, IsRunning};
+ghost use Rattle.m36_super.specs.Stepping.{run_of};
+ghost use Rattle.m36_super.specs.Writing.{ArePut};
+
+use crate::coming::Coming;
+use crate::naming::link_text;
+use m36_core::Core;
+use m36_dir::Catalog;
+use m36_link::{File, Known, Lay, LinkFault, Snap, link_laws};
+use m36_model::{At, End, LinkCode};
+use m36_page::Pager;
+use m36_step::{LinkNote, Machine, Turn};
+use m36_word::{NoMemory, Word};
+use obj36::Link;
+use std::alloc::Global;
+
+// The number of the linkage segment of ring 0.
+const FIRST_LINKAGE: u16 = 16;
+
+// Writes a word of the linkage segment of a ring.
+#[tactic(auto, using(crate::proofs::PagedContents::words_put))]
+fn write_word(core: &mut Core, pager: &mut Pager, ring: u8, word: u32, w: Word)
+    requires managed { IsManaged (length pager.old.holders) core.old pager.old }
+    requires ring { ring < 8 }
+    requires fits { word < 2 ^ 18 }
+    ensures { ArePut core.old pager.old core.new pager.new
+        (written_from (linkage_segment ring) word (w ∷ [])) }
+{
+    pager.set(core, FIRST_LINKAGE + ring as u16, word, w);
+}
+
+// Writes words of the linkage segment of a ring, from a word on.
+#[tactic(auto, using(crate::proofs::LinkTurns::writing))]
+fn write_words(core: &mut Core, pager: &mut Pager, ring: u8, word: u32, words: &[Word])
+    requires managed { IsManaged (length pager.old.holders) core.old pager.old }
+    requires ring { ring < 8 }
+    requires fits { word + length words.now ≤ 2 ^ 18 }
+    ensures { ArePut core.old pager.old core.new pager.new
+        (written_from (linkage_segment ring) word words.now) }
+{
+    let mut at = word;
+    for w in words {
+        write_word(core, pager, ring, at, *w);
+        at += 1;
+    }
+}
+
+// Writes a section that is laid, and its word of the linkage offset table.
+#[tactic(auto, using(crate::proofs::LinkTurns::put_section))]
+fn write_section(core: &mut Core, pager: &mut Pager, lay: &Lay)
+    requires managed { IsManaged (length pager.old.holders) core.old pager.old }
+    requires fits { lay.now.base + length lay.now.words ≤ 2 ^ 18 }
+    ensures { ArePut core.old pager.old core.new pager.new (laying (Some lay.now)) }
+{
+    write_words(core, pager, lay.ring, lay.base, lay.words.slice());
+    write_word(core, pager, lay.ring, lay.seg as u32, lay.lot_word());
+}
+
+// Writes the section that an answer lays, if it lays one.
+#[tactic(auto, using(crate::proofs::LinkTurns::put_nothing))]
+fn write_lay(core: &mut Core, pager: &mut Pager, lay: &Option<Lay>)
+    requires managed { IsManaged (length pager.old.holders) core.old pager.old }
+    requires fits { IfSome lay.now (λ l. l.base + length l.words ≤ 2 ^ 18) }
+    ensures { ArePut core.old pager.old core.new pager.new (laying lay.now) }
+{
+    match lay {
+        Some(lay) => write_section(core, pager, lay),
+        None => {}
+    }
+}
+
+// Writes what an answer changes: the pair in the place of the link, and the section that is laid.
+#[tactic(auto, using(crate::proofs::LinkTurns::put_changes))]
+fn write_changes(core: &mut Core, pager: &mut Pager, at: At, snap: &Snap)
+    requires managed { IsManaged (length pager.old.holders) core.old pager.old }
+    requires seg { at.seg ≡ linkage_segment at.ring }
+    requires even { at.word + 1 < 2 ^ 18 }
+    requires fits { IfSome snap.now.lay (λ l. l.base + length l.words ≤ 2 ^ 18) }
+    ensures { ArePut core.old pager.old core.new pager.new (link_changes at snap.now) }
+{
+    write_words(
+        core,
+        pager,
+        at.ring,
+        at.word,
+        &[snap.pair.even, snap.pair.odd],
+    );
+    write_lay(core, pager, &snap.lay);
+}
+
+// What is told of a link that was snapped.
+fn note_snapped(at: At, snap: &Snap) -> LinkNote
+    ensures { result ≡ note_snapped at snap.now }
+{
+    let ring = at.ring;
+    LinkNote {
+        name: link_text(Some(&snap.link)),
+        answer: Ok(snap.pair),
+        at,
+        ring,
+    }
+}
+
+// What is told of a link that was refused.
+fn note_refused(at: At, code: LinkCode, link: Option<&Link>) -> LinkNote
+    ensures { result ≡ note_of at (option_copied link.entry) (Err code) }
+{
+    let ring = at.ring;
+    LinkNote {
+        name: link_text(link),
+        answer: Err(code),
+        at,
+        ring,
+    }
+}
+
+// The link at a place was answered.
+#[tactic(auto, using(crate::proofs::LinkTurns::snapped))]
+fn snapped(
+    machine: &mut Machine,
+    pager: &mut Pager,
+    known: &mut Known,
+    coming: &mut Coming,
+    at: At,
+    snap: &Snap,
+) -> Turn
+    requires runs { IsRunning (length pager.old.holders) machine.old.state.regs
+        machine.old.state.store pager.old }
+    requires may { MayBeLaid known.old snap.now.lay }
+    requires seg { at.seg ≡ linkage_segment at.ring }
+    requires even { at.word + 1 < 2 ^ 18 }
+    ensures turn { (loaded : Bool) → IsLinkTurn (Ok snap.now) (length pager.old.holders) at
+        (run_of machine.old.state pager.old known.old coming.old loaded) result
+        (run_of machine.new.state pager.new known.new coming.new loaded) }
+    ensures frames { length pager.new.holders ≡ length pager.old.holders }
+    ensures runs { IsRunning (length pager.new.holders) machine.new.state.regs
+        machine.new.state.store pager.new }
+    ensures known { (known.new ≡ accepted known.old snap.now) ⊎ (known.new ≡ known.old) }
+{
+    match known.accept(snap) {
+        Ok(()) => {
+            write_changes(machine.core_mut(), pager, at, snap);
+            *coming = Coming::Step;
+            Turn::Linked(note_snapped(at, snap))
+        }
+        Err(NoMemory) => Turn::NoMemory,
+    }
+}
+
+/// The service of the link at a place.
+#[tactic(auto, using(crate::proofs::LinkTurns::answers))]
+pub(crate) fn link(
+    alloc: Global,
+    catalog: &Catalog,
+    files: &[File],
+    machine: &mut Machine,
+    pager: &mut Pager,
+    known: &mut Known,
+    coming: &mut Coming,
+    at: At,
+) -> Turn
+    requires runs { IsRunning (length pager.old.holders) machine.old.state.regs
+        machine.old.state.store pager.old }
+    requires made { IsMade catalog.now files.now known.old }
+    ensures turn { (loaded : Bool) → IsLinkTurn (snap_of known.old catalog.now files.now at)
+        (length pager.old.holders) at
+        (run_of machine.old.state pager.old known.old coming.old loaded) result
+        (run_of machine.new.state pager.new known.new coming.new loaded) }
+    ensures frames { length pager.new.holders ≡ length pager.old.holders }
+    ensures runs { IsRunning (length pager.new.holders) machine.new.state.regs
+        machine.new.state.store pager.new }
+    ensures made { IsMade catalog.now files.now known.new }
+{
+    link_laws();
+    match known.resolve(alloc, catalog, files, at) {
+        Ok(snap) => snapped(machine, pager, known, coming, at, &snap),
+        Err(LinkFault::Refused(code, link)) => {
+            *coming = Coming::Over(End::Link(code));
+            Turn::Linked(note_refused(at, code, link.as_ref()))
+        }
+        Err(LinkFault::NoMemory) => Turn::NoMemory,
+    }
+}

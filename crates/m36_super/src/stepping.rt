@@ -1,0 +1,139 @@
+//! Steps with their page services.
+
+ghost use Rattle.std.specs.Prelude.{ℕ, ◌≡◌, ◌≤◌, ◌<◌, ◌/◌, ◌+◌, length, true};
+ghost use Rattle.m36_model.specs.Core.{core_store};
+ghost use Rattle.m36_model.specs.Step.{record_of, state_after};
+ghost use Rattle.m36_link.specs.Fields.{KnownFields};
+ghost use Rattle.m36_page.specs.Residence.{has_page, Reads, IsPager};
+ghost use Rattle.m36_page.specs.Changes.{IsBrought};
+ghost use Rattle.m36_super.specs.BootedRun.{IsStepTurn};
+ghost use Rattle.m36_super.specs.SuperFields.{IsManaged, IsRunning, Manages, IsDue};
+ghost use Rattle.m36_super.specs.Stepping.{run_of, LackedSays, AttemptSays, IsStepped, StepSays};
+
+use crate::coming::{Coming, coming_after, loaded_after};
+use m36_isol::{law_paged, law_pages, law_references};
+use m36_model::{At, Fault, Outcome, Refs, StepRecord};
+use m36_page::{Pager, Pinned};
+use m36_step::{Machine, Turn};
+
+// An instruction references at most so many pages.
+const MOST_PAGES: u8 = 18;
+
+// The fault of a page that is in no frame.
+const PAGE_FAULT: u8 = 17;
+
+// Words in a page.
+const PAGE: u32 = 1024;
+
+// The word whose page a step that faulted lacked.
+fn lacked_by(fault: Fault) -> Option<At>
+    ensures { LackedSays (Outcome.Faulted fault) result }
+{
+    if fault.number == PAGE_FAULT {
+        Some(fault.at)
+    } else {
+        None
+    }
+}
+
+// The word whose page a step lacked, if it lacked one.
+fn lacked(outcome: Outcome) -> Option<At>
+    ensures { LackedSays outcome result }
+{
+    match outcome {
+        Outcome::Faulted(fault) => lacked_by(fault),
+        Outcome::Next => None,
+        Outcome::Stopped(_) => None,
+    }
+}
+
+// Brings the page of a word into a frame that holds none of these references.
+#[tactic(auto, using(crate::proofs::PagedContents::has_frames))]
+fn bring_in(machine: &mut Machine, pager: &mut Pager, at: At, refs: &Refs)
+    requires managed { IsManaged (length pager.old.holders) machine.old.state.store pager.old }
+    requires page { has_page pager.old at.seg (at.word / 1024) ≡ true }
+    requires few { length refs.now.items ≤ 20 }
+    ensures regs { machine.new.state.regs ≡ machine.old.state.regs }
+    ensures brought { IsBrought pager.old machine.old.state.store pager.new
+        machine.new.state.store at.seg (at.word / 1024) refs.now.items }
+    ensures reads { Reads pager.new machine.new.state.store }
+    ensures pager { IsPager pager.new }
+{
+    match pager.bring(machine.core_mut(), at.seg, (at.word / PAGE) as u16, refs) {
+        Ok(()) => {}
+        Err(Pinned) => unreachable!(),
+    }
+}
+
+// A step; where it lacks a page, the page is brought in, and the answer is that it has to be taken again.
+#[tactic(auto, using(crate::proofs::PageTurns::attempts))]
+fn attempt(machine: &mut Machine, pager: &mut Pager, told: &mut StepRecord) -> bool
+    requires { IsRunning (length pager.old.holders) machine.old.state.regs machine.old.state.store
+        pager.old }
+    ensures { AttemptSays result machine.old.state pager.old machine.new.state pager.new told.new }
+{
+    machine.step_into(told);
+    match lacked(told.outcome) {
+        Some(at) => {
+            bring_in(machine, pager, at, &told.refs);
+            true
+        }
+        None => false,
+    }
+}
+
+// A step, with the services of the pages that it lacks. The record becomes that of the step that lacks none.
+#[tactic(auto, using(crate::proofs::StepTurns::services))]
+fn step_with_pages(machine: &mut Machine, pager: &mut Pager, told: &mut StepRecord)
+    requires { IsRunning (length pager.old.holders) machine.old.state.regs machine.old.state.store
+        pager.old }
+    ensures { IsStepped machine.old.state pager.old machine.new.state pager.new told.new }
+{
+    let mut left = MOST_PAGES;
+    while left > 0 {
+        if !attempt(machine, pager, told) {
+            return;
+        }
+        left -= 1;
+    }
+    machine.step_into(told);
+}
+
+// A step; pages are served until an LDBR has been executed.
+fn step_into(machine: &mut Machine, pager: &mut Pager, loaded: bool, told: &mut StepRecord)
+    requires { Manages loaded (length pager.old.holders) machine.old.state.regs
+        machine.old.state.store pager.old }
+    ensures { StepSays loaded machine.old.state pager.old machine.new.state pager.new told.new }
+{
+    if loaded {
+        machine.step_into(told);
+    } else {
+        step_with_pages(machine, pager, told);
+    }
+}
+
+/// The turn that is a step.
+#[tactic(auto, using(crate::proofs::StepTurns::turns))]
+pub(crate) fn step_turn(
+    machine: &mut Machine,
+    pager: &mut Pager,
+    coming: &mut Coming,
+    loaded: &mut bool,
+) -> Turn
+    requires { Manages loaded.old (length pager.old.holders) machine.old.state.regs
+        machine.old.state.store pager.old }
+    ensures turn { (known : KnownFields) → IsStepTurn loaded.old (length pager.old.holders)
+        (run_of machine.old.state pager.old known coming.old loaded.old) result
+        (run_of machine.new.state pager.new known coming.new loaded.new) }
+    ensures frames { length pager.new.holders ≡ length pager.old.holders }
+    ensures manages { Manages loaded.new (length pager.new.holders) machine.new.state.regs
+        machine.new.state.store pager.new }
+    ensures due { IsDue coming.new loaded.new }
+{
+    let mut told = machine.untold();
+    step_into(machine, pager, *loaded, &mut told);
+    let now = loaded_after(*loaded, &told);
+    *coming = coming_after(now, told.ppr.prr, told.outcome);
+    *loaded = now;
+    Turn::Stepped(told)
+}
