@@ -1,6 +1,5 @@
 use Rattle.std.proofs.Common.{◌≡◌, ℕ, ◌==◌, ◌∙◌, sym, ap, true, false, Err, Ok}
 use Rattle.m36_desc.specs.Access.{first_of, read_rows, allowed}
-use Rattle.m36_desc.specs.declared.access.Acv.{Acv}
 use Rattle.m36_model.specs.Fields.{AtFields}
 use Rattle.m36_model.specs.Store.{fault_by, within}
 use Rattle.m36_model.specs.declared.outcome.Refusal.{Refusal}
@@ -12,9 +11,8 @@ pub returns-in-Err : goal.returns-in-Err
 returns-in-Err c =
     let ring : c.at.inside.ring ≡ c.args.at.ring = ap (λ (a : AtFields). a.ring) c.at.view_is in
     let same : c.is_executing-same.result ≡ (c.args.at.seg == c.args.regs.now.ppr.psr) = c.is_executing-same.ensures in
-    let is = c.in-Err.field-0-is in
-    let told : denied_answer c.in-Err.acv ≡ allowed tt (first_of (read_rows c.args.sdw.now c.args.at.ring (c.args.at.seg == c.args.regs.now.ppr.psr))) = ap (λ (a : Acv). denied_answer a.0) (sym is) ∙ c.in-Err.ensures ∙ (λ i. allowed tt (first_of (read_rows c.args.sdw.now (ring i) (same i)))) in
-    denied_word c.args.core.now c.args.pager.now c.args.regs.now c.args.at c.requires.dbr c.args.sdw.now c.in-Err.acv c.requires.live told
+    let told : denied_answer c.in-Err.field-0.0 ≡ allowed tt (first_of (read_rows c.args.sdw.now c.args.at.ring (c.args.at.seg == c.args.regs.now.ppr.psr))) = c.in-Err.ensures ∙ (λ i. allowed tt (first_of (read_rows c.args.sdw.now (ring i) (same i)))) in
+    denied_word c.args.core.now c.args.pager.now c.args.regs.now c.args.at c.requires.dbr c.args.sdw.now c.in-Err.field-0.0 c.requires.live told
     ∙ ap Err (sym (c.fault.ensures ∙ ap (λ (v : Refusal). fault_by v c.args.at) c.violation.ensures))
 
 pub returns-then-not-within : goal.returns-then-not-within
