@@ -7,8 +7,8 @@
 //! service alone, which then changes nothing. A system does not go back.
 //!
 //! The laws say how the booted run and the flat run, which has no pages and is a function of the catalog and the files, belong
-//! together. Until an LDBR is executed each turn that executes no ABSA is the turn of the flat run, the core stays that of the
-//! booted image, and the audit conditions are kept, services included.
+//! together. Until an LDBR is executed each turn that executes no ABSA and wants no memory is the turn of the flat run, the core
+//! stays that of the booted image, and the audit conditions are kept, services included.
 //!
 //! `specs/` says what the next turn of a run may be (`BootedRun`), what a service does (`Services`), and what the flat run is
 //! (`FlatRun`); the booted image is that of `m36_boot`. No command calls it yet.
