@@ -1,6 +1,6 @@
 //! Console services.
 
-ghost use Rattle.std.specs.Prelude.{ℕ, ◌≡◌, ◌≤◌, ◌<◌, ◌+◌, ◌*◌, ◌/◌, ◌^◌, ◌++◌, Bool, length, nat_lt, true, Ok, Err, Some, MatchResult};
+ghost use Rattle.std.specs.Prelude.{ℕ, ◌≡◌, ◌≤◌, ◌<◌, ◌+◌, ◌*◌, ◌/◌, ◌^◌, ◌++◌, ◌==◌, Bool, length, nat_lt, true, Ok, Err, Some, MatchResult};
 ghost use Rattle.m36_model.specs.Flat.{flat_store};
 ghost use Rattle.m36_model.specs.Store.{fault_by, examined};
 ghost use Rattle.m36_model.specs.Place.{core_sdw};
@@ -45,6 +45,13 @@ fn fault(why: Refusal, at: At) -> Fault
     }
 }
 
+// Whether a place is in the segment that executes.
+fn is_executing(regs: &Regs, at: At) -> bool
+    ensures { result ≡ (at.seg == regs.now.ppr.psr) }
+{
+    at.seg == regs.ppr.psr
+}
+
 // A word that a descriptor describes.
 #[tactic(auto, using(crate::proofs::ConsoleReads::described))]
 fn described_word(core: &Core, pager: &Pager, regs: &Regs, sdw: &Sdw, at: At) -> Result<Word, Fault>
@@ -53,7 +60,8 @@ fn described_word(core: &Core, pager: &Pager, regs: &Regs, sdw: &Sdw, at: At) ->
     requires live { core_sdw core.now booted_dbr at.seg ≡ Ok sdw.now }
     ensures { ExaminedSays result (examined flat_store regs.now (flat_by core.now pager.now) at) }
 {
-    if let Err(Acv(acv)) = may_read(sdw, at.ring, at.seg == regs.ppr.psr) {
+    let same = is_executing(regs, at);
+    if let Err(Acv(acv)) = may_read(sdw, at.ring, same) {
         return Err(fault(violation(acv), at));
     }
     if !within(sdw, at.word) {

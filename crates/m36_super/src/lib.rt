@@ -1,15 +1,20 @@
 //! The booted system: segments of a catalog in the core of a processor, with its paging, its links and its console.
 //!
-//! `specs/` says what the booted image is (`BootedImage`), what a service does (`Services`), and what the next turn of a
-//! run may be (`BootedRun`): a step, with its page services, or one link or console service. Page services are silent, and
-//! any page may give way; all else is a function of the state. The flat run (`FlatRun`) is the same with no pages: its
-//! turns are a function of the catalog and the files.
+//! What is promised: `Super::boot` gives exactly the system that the booted image starts, or the first of the codes U1
+//! to U4 that stands, or want of memory. A `turn` of a system is one of its booted run: a step, with the services of
+//! the pages that it lacks, or the link or console service for which the step before it called, or the end of the run,
+//! told again. Page services are silent, and any page may give way; all else is a function of the state, and want of
+//! memory may come in a link service alone, which then changes nothing. A system does not go back.
 //!
-//! The laws say how the two belong together. Until an LDBR is executed each turn that executes no ABSA is the turn of the
+//! The laws say how the booted run and the flat run, which has no pages and is a function of the catalog and the files,
+//! belong together. Until an LDBR is executed each turn that executes no ABSA and wants no memory is the turn of the
 //! flat run, the core stays that of the booted image, and the audit conditions are kept, services included.
 //!
-//! The layout, the services and their rules are this simulator's own; descriptors, page tables and faults are those of the
-//! Multics Processor Manual AL39.
+//! `specs/` says what the next turn of a run may be (`BootedRun`), what a service does (`Services`), and what the flat
+//! run is (`FlatRun`); the booted image is that of `m36_boot`. No command calls it yet.
+//!
+//! The layout, the services and their rules are this simulator's own; descriptors, page tables and faults are those of
+//! the Multics Processor Manual AL39.
 #![tactic(auto)]
 
 pub mod booted;

@@ -3,12 +3,11 @@
 use crate::{Super, are_short};
 use m36_boot::BootFault;
 use m36_dir::Catalog;
-use m36_model::{End, LinkCode, Stop};
 use m36_outside::Text;
 use m36_step::{BackAnswer, Stepper, Turn};
 use m36_word::{NoMemory, Word, Words};
 use std::alloc::Global;
-use std::test::Fail;
+use std::process::Abort;
 
 const MAIN: [u64; 48] = [
     0o000000213004,
@@ -158,32 +157,46 @@ fn letter(turn: &Turn) -> u8 {
     }
 }
 
-#[test]
-fn writes_and_stops(rt: HostRuntime) -> Result<(), Fail> {
-    for frames in ["frames 24", "frames 400"] {
-        let mut system = match booted(rt.alloc(), frames, GATE) {
-            Ok(system) => system,
-            Err(fault) => {
-                assert_eq!(rt; fault, BootFault::NoMemory);
-                return Ok(());
-            }
-        };
-        for due in b"sssssslssscsslsseee" {
-            let turn = system.turn();
-            let letter = letter(&turn);
-            if letter == b'n' {
-                return Ok(());
-            }
-            assert_eq!(rt; letter, *due);
-            if let Turn::Console(note) = turn {
-                assert!(rt; note.bytes.as_slice() == b"hello\n".as_slice());
+// Whether memory sufficed for the turns of the folder, which are these.
+fn turns(rt: &impl Abort, system: &mut Super) -> bool {
+    for due in b"sssssslssscsslsseee" {
+        let turn = system.turn();
+        let letter = letter(&turn);
+        if letter == b'n' {
+            return false;
+        }
+        assert_eq!(rt; letter, *due);
+        if let Turn::Console(note) = turn {
+            assert!(rt; note.bytes.as_slice() == b"hello\n".as_slice());
+        }
+    }
+    true
+}
+
+// What stands behind them.
+fn behind(rt: &impl Abort, system: &mut Super) {
+    assert!(rt; system.regs().ppr.ic == 1);
+    assert!(rt; system.content(16, 65) == Some(Word::low(0o000020002000)));
+    assert!(rt; system.content(20, 65) == Some(Word::ZERO));
+    assert!(rt; system.content(66, 0) == None);
+    assert!(rt; system.back(1) == BackAnswer::Unable);
+}
+
+// The folder, with so many frames.
+fn run(rt: &impl Abort, alloc: Global, frames: &str) {
+    match booted(alloc, frames, GATE) {
+        Ok(mut system) => {
+            if turns(rt, &mut system) {
+                behind(rt, &mut system);
             }
         }
-        assert!(rt; system.regs().ppr.ic == 1);
-        assert!(rt; system.content(16, 65) == Some(Word::low(0o000020002000)));
-        assert!(rt; system.content(20, 65) == Some(Word::ZERO));
-        assert!(rt; system.content(66, 0) == None);
-        assert!(rt; system.back(1) == BackAnswer::Unable);
+        Err(fault) => assert_eq!(rt; fault, BootFault::NoMemory),
     }
-    Ok(())
+}
+
+#[test]
+fn writes_and_stops(rt: HostRuntime) {
+    for frames in ["frames 24", "frames 400"] {
+        run(&rt, rt.alloc(), frames);
+    }
 }
