@@ -21,9 +21,9 @@ use Rattle.m36_bind.specs.Components.{PlacedFields, moving, picked_of}
 use Rattle.m36_bind.specs.Kept.{exports_from, kept_from}
 use Rattle.m36_bind.specs.Links.{link_moved}
 use Rattle.m36_bind.specs.Bound.{is_newer_component, statics_end, links_end, frame_of, component_words, laid_from, relocations_from, first_bound, bound_parts, component_fits, components_fit, sections_fit, made_of, bound_of_components, bound_of_lines, bound_of}
-use Rattle.m36_bind.specs.Meaning.{AreInOrder, start_in, IsMovedWord, WordsStand, LinksStand, DefinitionSource, BoundMeaning, AreObjects}
+use Rattle.m36_bind.specs.Meaning.{AreInOrder, IsOutside, start_in, IsMovedWord, WordsStand, LinksStand, DefinitionSource, BoundMeaning, AreObjects}
 use Rattle.m36_bind.proofs.MovedWords.{word_by, word_at}
-use Rattle.m36_bind.proofs.LaidWords.{laid_at, laid_within, statics_long, links_within, words_count}
+use Rattle.m36_bind.proofs.LaidWords.{laid_at, laid_gap, laid_within, statics_long, links_within, words_count}
 use Rattle.m36_bind.proofs.Images.{IsWithin}
 use Rattle.m36_bind.proofs.WordNames.{word_means}
 use Rattle.m36_bind.proofs.MovedRelocations.{relocation_stands, relocation_source}
@@ -138,6 +138,11 @@ module _ (asked : Bool) (all : List PlacedFields) (kept : List Named) (picked : 
   unfolding bound_parts
   relocations_are = ap (λ (f : ShapeFields). relocations_from f true (relocations_from f false [] all) all) frame_is
 
+  gap_is : (statics : Bool) (j : ℕ) → ((p : PlacedFields) → Contains all p → IsOutside statics p j) → slice_index (words_in statics bound) j ≡ 0
+  gap_is statics j outside =
+      ap (λ (ws : List ℕ). slice_index ws j) (words_are statics)
+      ∙ laid_gap frame statics [] first_bases all j picked.order (starts statics) (omega arith) outside
+
   links_count : length bound.links ≡ links_end 0 all
   unfolding bound_parts
   links_count = links_long frame all first_bases [] all picked.order refl
@@ -200,6 +205,7 @@ parts_mean text names objects lines all kept read pick picked keeps fit formed =
       definitions = λ d among. definition_means asked all kept picked lines keeps formed d among;
       text_length = ap (λ (ws : List ℕ). length ws) (words_are asked all kept picked false) ∙ words_count (frame_of asked all) false [] first_bases all picked.order refl;
       statics_length = ap (λ (ws : List ℕ). length ws) (words_are asked all kept picked true) ∙ words_count (frame_of asked all) true [] first_bases all picked.order refl;
+      gaps = λ statics j outside. gap_is asked all kept picked statics j outside;
       links_length = links_count asked all kept picked;
       no_other_relocations = λ r among.
           relocation_source (bound asked all kept picked) all r (relocations_are asked all kept picked) (within asked all kept picked formed) among;

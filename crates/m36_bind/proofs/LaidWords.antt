@@ -1,16 +1,16 @@
 -- Where the words of components stand.
-use Rattle.std.proofs.Common.{ℕ, zero, suc, ◌≡◌, ◌+◌, ◌%◌, ◌<◌, ◌≤◌, Bool, true, false, cond, eqb, List, [], ◌∷◌, ◌++◌, length, refl, sym, ap, subst, ◌∙◌, arith}
+use Rattle.std.proofs.Common.{ℕ, zero, suc, ◌≡◌, ◌+◌, ◌-◌, ◌%◌, ◌<◌, ◌≤◌, Bool, true, false, cond, eqb, ltb, inl, inr, List, [], ◌∷◌, ◌++◌, length, refl, sym, ap, subst, ◌∙◌, arith}
 use Rattle.std.specs.Prelude.{slice_index}
 use Rattle.std.specs.List.{Contains}
-use Rattle.std.proofs.lemmas.List.{length-append, get_or_append_left, get_or-append-add}
-use Rattle.std.proofs.lemmas.Bool.{eqb-true, ne_eqb, eq-eqb}
+use Rattle.std.proofs.lemmas.List.{length-append, get_or_append_left, get_or-append_right, get_or-append-add, get_or_past}
+use Rattle.std.proofs.lemmas.Bool.{ltb-true, ltb-false}
 use Rattle.obj36_parts.specs.PartsFields.{PartsFields}
 use Rattle.m36_bind.specs.Fields.{ShapeFields, BasesFields}
 use Rattle.m36_bind.specs.Layout.{evened, shape_of, bases_behind}
 use Rattle.m36_bind.specs.Words.{words_in, evened_words}
 use Rattle.m36_bind.specs.Components.{PlacedFields, moving}
 use Rattle.m36_bind.specs.Bound.{component_words, laid_from, statics_end, links_end}
-use Rattle.m36_bind.specs.Meaning.{AreInOrder, start_in, words_end}
+use Rattle.m36_bind.specs.Meaning.{AreInOrder, IsOutside, start_in, words_end}
 use Rattle.m36_bind.proofs.MovedWords.{words_long}
 
 even_long : (words : List ℕ) → length (evened_words words) ≡ evened (length words)
@@ -99,6 +99,50 @@ module _ (frame : ShapeFields) (statics : Bool) where
       (omega (arith, even, long, more, words_of_length q))
   laid_within words b (q ∷ all) p order starts (suc k, le, same) =
       laid_within (evened_words words ++ component_words frame statics q) (bases_behind b q.parts) all p order.2 (next_start words b q starts) (k, omega (arith, le), same)
+
+-- ---- what stands between
+zero_any : (k : ℕ) → slice_index (0 ∷ []) k ≡ 0
+zero_any zero = refl
+zero_any (suc k) = refl
+
+-- the word that evens others is zero
+even_zero : (words : List ℕ) (j : ℕ) → length words ≤ j → j < length (evened_words words) → slice_index (evened_words words) j ≡ 0
+even_zero words j le lt = by (eqb (length words % 2) 0) lt
+  where
+    by : (b : Bool) → j < length (cond b words (words ++ 0 ∷ [])) → slice_index (cond b words (words ++ 0 ∷ [])) j ≡ 0
+    by true small = absurd (omega (arith, small, le))
+    by false small = get_or-append_right words (0 ∷ []) (length words) j 0 refl le ∙ zero_any (j - length words)
+
+pub laid_gap : (frame : ShapeFields) (statics : Bool) (words : List ℕ) (b : BasesFields) (all : List PlacedFields) (j : ℕ) → AreInOrder b all
+    → evened (length words) ≡ start_in statics b → length words ≤ j → ((p : PlacedFields) → Contains all p → IsOutside statics p j)
+    → slice_index (laid_from frame statics words all) j ≡ 0
+unfolding laid_from AreInOrder
+laid_gap frame statics words b [] j order starts le outside = get_or_past words j 0 le
+laid_gap frame statics words b (p ∷ all) j order starts le outside =
+    by (ltb j (length (evened_words words ++ component_words frame statics p))) refl (outside p (zero, omega arith, refl))
+    (λ past.
+    laid_gap frame statics (evened_words words ++ component_words frame statics p) (bases_behind b p.parts) all j order.2 (next_start frame statics words b p starts) past
+    (λ q among. outside q (suc among.0, omega (arith, among.1), among.2)))
+  where
+    even : length (evened_words words) ≡ start_in statics p.bases
+    even = even_long words ∙ starts ∙ ap (start_in statics) (sym order.0)
+
+    long : length (evened_words words ++ component_words frame statics p) ≡ length (evened_words words) + length (component_words frame statics p)
+    long = length-append (evened_words words) (component_words frame statics p)
+
+    by : (c : Bool) → ltb j (length (evened_words words ++ component_words frame statics p)) ≡ c → IsOutside statics p j
+        → (length (evened_words words ++ component_words frame statics p) ≤ j → slice_index (laid_from frame statics (evened_words words ++ component_words frame statics p) all) j ≡ 0)
+        → slice_index (laid_from frame statics (evened_words words ++ component_words frame statics p) all) j ≡ 0
+    by true is (inl before) go =
+        let small : j < length (evened_words words) = (let e : length (evened_words words) ≡ start_in statics p.bases = even in omega (arith, e, before)) in
+        laid_prefix frame statics (evened_words words ++ component_words frame statics p) all j (ltb-true j _ is)
+        ∙ get_or_append_left (evened_words words) (component_words frame statics p) 0 j small
+        ∙ even_zero words j le small
+    by true is (inr behind) go =
+        let e : length (evened_words words) ≡ start_in statics p.bases = even in
+        let l : length (evened_words words ++ component_words frame statics p) ≡ length (evened_words words) + length (component_words frame statics p) = long in
+        absurd (omega (arith, ltb-true j _ is, e, l, words_of_length frame statics p, behind))
+    by false is outside go = go (ltb-false j _ is)
 
 -- ---- how many static words and links there are
 

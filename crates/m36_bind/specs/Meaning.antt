@@ -2,7 +2,7 @@
 --
 -- A part of a word that a relocation names, a link to a place and a definition name in the bound object the image of what they
 -- named in their component. All else is as it was, and nothing else stands there but the zero words that even.
-use Rattle.std.specs.Prelude.{ℕ, ◌≡◌, ◌+◌, ◌-◌, ◌*◌, ◌/◌, ◌%◌, ◌^◌, ◌<◌, ◌≤◌, zero, suc, Bool, true, false, ◌||◌, nat_lt, nat_eq, if◌then◌else◌, List, [], ◌∷◌, length, slice_index, slice_get, Option, Some, None, Result, Ok}
+use Rattle.std.specs.Prelude.{ℕ, ◌≡◌, ◌+◌, ◌-◌, ◌*◌, ◌/◌, ◌%◌, ◌^◌, ◌<◌, ◌≤◌, ◌⊎◌, zero, suc, Bool, true, false, ◌||◌, nat_lt, nat_eq, if◌then◌else◌, List, [], ◌∷◌, length, slice_index, slice_get, Option, Some, None, Result, Ok}
 use Rattle.std.specs.List.{Contains, list_any}
 use Rattle.obj36_parts.specs.Fields.{DefFields, RelocFields, LinkFields}
 use Rattle.obj36_parts.specs.PartsFields.{PartsFields}
@@ -85,6 +85,10 @@ AreInOrder b (p ∷ all) = (p.bases ≡ b) × (p.shape ≡ shape_of p.parts) × 
 
 abbrev pub start_in : Bool → BasesFields → ℕ
 start_in statics b = if statics then b.statics else b.text
+
+-- No word of a component stands there, among its text or its static words.
+abbrev pub IsOutside : Bool → PlacedFields → ℕ → Type 0
+IsOutside statics p j = (j < start_in statics p.bases) ⊎ (start_in statics p.bases + length (words_in statics p.parts) ≤ j)
 
 -- how many words there are behind so many, of the texts or of the static words
 unfoldable pub words_end : Bool → ℕ → List PlacedFields → ℕ
@@ -188,6 +192,8 @@ pub record BoundMeaning (text : List ℕ) (names : List (List ℕ)) (objects : L
   -- and that nothing else does
   pub text_length : length bound.text ≡ words_end false 0 components
   pub statics_length : length bound.statics ≡ words_end true 0 components
+  pub gaps : (statics : Bool) (j : ℕ) → ((p : PlacedFields) → Contains components p → IsOutside statics p j)
+      → slice_index (words_in statics bound) j ≡ 0
   pub links_length : length bound.links ≡ links_end 0 components
   pub no_other_relocations : (r : RelocFields) → Contains bound.relocations r → RelocationSource bound components r
   pub entry_bound : bound.entry_bound ≡ first_bound components
