@@ -13,12 +13,12 @@ use Rattle.m36_bindfile.specs.declared.fault.BindFault.TheVariants as fault
 use Rattle.m36_bindfile.specs.declared.line.BindLine.{BindLine}
 use Rattle.m36_bindfile.specs.declared.line.BindLine.TheVariants as line
 use Rattle.m36_bindfile.specs.BindFile.{Refuses}
-use Rattle.m36_bind.specs.Fields.{ShapeFields, BasesFields}
+use Rattle.m36_relocate.specs.Fields.{ShapeFields, BasesFields}
 use Rattle.m36_bind.specs.Given.{GivenFields, object_named}
-use Rattle.m36_bind.specs.Layout.{shape_of, first_bases, bases_behind}
-use Rattle.m36_bind.specs.Exports.{own_from}
-use Rattle.m36_bind.specs.declared.exports.Export.{Export}
-use Rattle.m36_bind.specs.declared.layout.Moving.{Moving}
+use Rattle.m36_relocate.specs.Layout.{shape_of, first_bases, bases_behind}
+use Rattle.m36_relocate.specs.Exports.{own_from}
+use Rattle.m36_relocate.specs.declared.exports.Export.{Export}
+use Rattle.m36_relocate.specs.declared.layout.Moving.{Moving}
 
 -- a component: the name by which others refer to it, its parts, where they begin in the bound
 -- object, and its definitions by name
@@ -72,7 +72,7 @@ abbrev pub picked_one : AllFields → ℕ → List ℕ → Option PartsFields �
 picked_one all n name None = Err (fault.B2 n)
 picked_one all n name (Some p) =
     if list_any (same name) (names_of all.placed) then Err (fault.B3 n)
-        else Ok (with_component all (component name p all.next (own_from [] p.definitions)))
+    else Ok (with_component all (component name p all.next (own_from [] p.definitions)))
 
 -- the components with that of line n
 abbrev pub picked_line : GivenFields → AllFields → ℕ → BindLine → Result AllFields BindFault

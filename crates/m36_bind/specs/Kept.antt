@@ -11,10 +11,10 @@ use Rattle.m36_bindfile.specs.declared.fault.BindFault.{BindFault}
 use Rattle.m36_bindfile.specs.declared.fault.BindFault.TheVariants as fault
 use Rattle.m36_bindfile.specs.declared.line.BindLine.{BindLine}
 use Rattle.m36_bindfile.specs.declared.line.BindLine.TheVariants as line
-use Rattle.m36_bind.specs.Fields.{ShapeFields}
-use Rattle.m36_bind.specs.Exports.{export_named, moved_from}
+use Rattle.m36_relocate.specs.Fields.{ShapeFields}
+use Rattle.m36_relocate.specs.Exports.{export_named, moved_from}
 use Rattle.m36_bind.specs.Components.{PlacedFields, moving, and_then}
-use Rattle.m36_bind.specs.declared.exports.Export.{Export}
+use Rattle.m36_relocate.specs.declared.exports.Export.{Export}
 
 -- what all components define, where it goes
 unfoldable pub exports_from : ShapeFields → List (List ℕ × Export) → List PlacedFields
@@ -27,7 +27,7 @@ abbrev pub kept_one : List Named → ℕ → List ℕ → Option Export → Resu
 kept_one kept n name None = Err (fault.B5 n)
 kept_one kept n name (Some e) =
     if list_any (λ d. same name d.name) kept || e.twice then Err (fault.B3 n)
-        else Ok (kept ++ record { name = name; def = e.def } ∷ [])
+    else Ok (kept ++ record { name = name; def = e.def } ∷ [])
 
 -- the definitions with that of line n
 abbrev pub kept_line : List (List ℕ × Export) → List Named → ℕ → BindLine

@@ -5,18 +5,24 @@ use Rattle.std.specs.Prelude.{Option, Some, None}
 use Rattle.obj36_parts.specs.Fields.{LinkFields}
 use Rattle.obj36_parts.specs.declared.section.Section.{Section}
 use Rattle.obj36_parts.specs.declared.section.Section.TheVariants.{Text, Linkage, Symbol, Static}
-use Rattle.m36_bind.specs.Fields.{ShapeFields}
-use Rattle.m36_bind.specs.Layout.{spot, spot_moved}
-use Rattle.m36_bind.specs.Exports.{export_named}
+use Rattle.m36_relocate.specs.Fields.{ShapeFields}
+use Rattle.m36_relocate.specs.Layout.{spot, spot_moved}
+use Rattle.m36_relocate.specs.Exports.{export_named}
 use Rattle.m36_bind.specs.Components.{PlacedFields, moving, component_named}
-use Rattle.m36_bind.specs.declared.exports.Export.{Export}
-use Rattle.m36_bind.specs.declared.layout.Spot.{Spot}
+use Rattle.m36_relocate.specs.declared.exports.Export.{Export}
+use Rattle.m36_relocate.specs.declared.layout.Spot.{Spot}
 
 -- a link to a place of the bound object itself: the modifier stays
 abbrev pub own_link : LinkFields → Spot → LinkFields
 own_link l s =
-    record { kind = 1; section = s.section; name = []; entry = []; expr = s.offset;
-        modifier = l.modifier }
+    record {
+      kind = 1;
+      section = s.section;
+      name = [];
+      entry = [];
+      expr = s.offset;
+      modifier = l.modifier;
+    }
 
 abbrev pub farther : Spot → ℕ → Spot
 farther s n = record { section = s.section; offset = (s.offset + n) % 2 ^ 18 }
@@ -52,7 +58,7 @@ abbrev pub inner_link : ShapeFields → PlacedFields → LinkFields → Option E
 inner_link frame p l None = l
 inner_link frame p l (Some e) =
     own_link l (farther
-        (spot_moved (moving frame p) (counting_section l.section e.def.section) e.def.value) l.expr)
+    (spot_moved (moving frame p) (counting_section l.section e.def.section) e.def.value) l.expr)
 
 -- a link of a component
 unfoldable pub link_moved : ShapeFields → List PlacedFields → PlacedFields → LinkFields → LinkFields

@@ -17,18 +17,18 @@ use Rattle.obj36_parts.specs.declared.section.Section.{Section}
 use Rattle.obj36_parts.specs.declared.section.Section.TheVariants.{Text}
 use Rattle.m36_bindfile.specs.declared.line.BindLine.{BindLine}
 use Rattle.m36_bindfile.specs.BindFile.{bind_lines, asks_newer, retained_names}
-use Rattle.m36_bind.specs.Fields.{ShapeFields, BasesFields}
-use Rattle.m36_bind.specs.Layout.{shape_of, first_bases, bases_behind, meant, spot}
-use Rattle.m36_bind.specs.declared.layout.Meant.{Meant}
-use Rattle.m36_bind.specs.declared.layout.Meant.TheVariants.{TextWord, StaticWord, LinkWord}
-use Rattle.m36_bind.specs.declared.layout.Meant.TheVariants.{HeadWord}
-use Rattle.m36_bind.specs.Words.{offset_in, below_zero, stands_in, start_of, words_in}
-use Rattle.m36_bind.specs.Exports.{export_named, is_symbol}
+use Rattle.m36_relocate.specs.Fields.{ShapeFields, BasesFields}
+use Rattle.m36_relocate.specs.Layout.{shape_of, first_bases, bases_behind, meant, spot}
+use Rattle.m36_relocate.specs.declared.layout.Meant.{Meant}
+use Rattle.m36_relocate.specs.declared.layout.Meant.TheVariants.{TextWord, StaticWord, LinkWord}
+use Rattle.m36_relocate.specs.declared.layout.Meant.TheVariants.{HeadWord}
+use Rattle.m36_relocate.specs.Words.{offset_in, below_zero, stands_in, start_of, words_in}
+use Rattle.m36_relocate.specs.Exports.{export_named, is_symbol}
 use Rattle.m36_bind.specs.Components.{PlacedFields, component_named, picked_of}
 use Rattle.m36_bind.specs.Links.{own_link, farther, counting_section}
 use Rattle.m36_bind.specs.Bound.{is_newer_component, links_end, first_bound}
-use Rattle.m36_bind.specs.declared.layout.Spot.{Spot}
-use Rattle.m36_bind.specs.declared.exports.Export.{Export}
+use Rattle.m36_relocate.specs.declared.layout.Spot.{Spot}
+use Rattle.m36_relocate.specs.declared.exports.Export.{Export}
 
 -- ---- what is named
 
@@ -113,9 +113,9 @@ words_end statics n (p ∷ all) =
 abbrev pub WordsStand : PartsFields → PlacedFields → Bool → Type 0
 WordsStand bound p statics =
     (i : ℕ) → i < length (words_in statics p.parts)
-        → slice_index (words_in statics p.parts) i < 2 ^ 36
+    → slice_index (words_in statics p.parts) i < 2 ^ 36
     → IsMovedWord bound p statics i (slice_index (words_in statics p.parts) i)
-        (slice_index (words_in statics bound) (start_in statics p.bases + i))
+    (slice_index (words_in statics bound) (start_in statics p.bases + i))
 
 -- ---- relocations
 
@@ -184,7 +184,7 @@ abbrev pub LinksStand : PartsFields → List PlacedFields → PlacedFields → T
 LinksStand bound all p =
     (i : ℕ) (old : LinkFields) → slice_get p.parts.links i ≡ Some old
     → (new : LinkFields) × (slice_get bound.links (p.bases.links + i) ≡ Some new)
-        × IsMovedLink bound all p old new
+    × IsMovedLink bound all p old new
 
 -- ---- definitions
 

@@ -10,9 +10,9 @@ use Rattle.obj36_parts.specs.Names.{same}
 use Rattle.obj36_parts.specs.declared.definition.Named.{Named}
 use Rattle.obj36_parts.specs.declared.section.Section.{Section}
 use Rattle.obj36_parts.specs.declared.section.Section.TheVariants.{Text, Linkage, Symbol, Static}
-use Rattle.m36_bind.specs.Layout.{spot_moved}
-use Rattle.m36_bind.specs.declared.layout.Moving.{Moving}
-use Rattle.m36_bind.specs.declared.exports.Export.{Export}
+use Rattle.m36_relocate.specs.Layout.{spot_moved}
+use Rattle.m36_relocate.specs.declared.layout.Moving.{Moving}
+use Rattle.m36_relocate.specs.declared.exports.Export.{Export}
 
 -- what the table has of a name
 unfoldable pub export_named : List ℕ → List (List ℕ × Export) → Option Export
@@ -46,7 +46,7 @@ own_from table (d ∷ ds) = own_from (with_own table d) ds
 abbrev pub def_moved : Moving → DefFields → DefFields
 def_moved m d =
     let s = spot_moved m d.section d.value in
-        record { section = s.section; value = s.offset; is_entry = d.is_entry }
+    record { section = s.section; value = s.offset; is_entry = d.is_entry }
 
 abbrev pub with_moved : Moving → List (List ℕ × Export) → Named → List (List ℕ × Export)
 with_moved m table d =

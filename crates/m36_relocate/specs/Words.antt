@@ -8,9 +8,9 @@ use Rattle.obj36_parts.specs.PartsFields.{PartsFields}
 use Rattle.obj36_parts.specs.Halves.{left, right, joined}
 use Rattle.obj36_parts.specs.declared.section.Section.{Section}
 use Rattle.obj36_parts.specs.declared.section.Section.TheVariants.{Text, Linkage, Symbol, Static}
-use Rattle.m36_bind.specs.Fields.{ShapeFields, BasesFields}
-use Rattle.m36_bind.specs.Layout.{number_moved}
-use Rattle.m36_bind.specs.declared.layout.Moving.{Moving}
+use Rattle.m36_relocate.specs.Fields.{ShapeFields, BasesFields}
+use Rattle.m36_relocate.specs.Layout.{number_moved}
+use Rattle.m36_relocate.specs.declared.layout.Moving.{Moving}
 
 -- ---- parts of a word
 

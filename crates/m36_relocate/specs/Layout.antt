@@ -10,12 +10,12 @@ use Rattle.obj36_parts.specs.PartsFields.{PartsFields}
 use Rattle.obj36_parts.specs.ObjectSegment.{is_newer}
 use Rattle.obj36_parts.specs.declared.section.Section.{Section}
 use Rattle.obj36_parts.specs.declared.section.Section.TheVariants.{Text, Linkage, Symbol, Static}
-use Rattle.m36_bind.specs.Fields.{ShapeFields, BasesFields}
-use Rattle.m36_bind.specs.declared.layout.Meant.{Meant}
-use Rattle.m36_bind.specs.declared.layout.Meant.TheVariants.{TextWord, StaticWord, LinkWord}
-use Rattle.m36_bind.specs.declared.layout.Meant.TheVariants.{HeadWord}
-use Rattle.m36_bind.specs.declared.layout.Spot.{Spot}
-use Rattle.m36_bind.specs.declared.layout.Moving.{Moving}
+use Rattle.m36_relocate.specs.Fields.{ShapeFields, BasesFields}
+use Rattle.m36_relocate.specs.declared.layout.Meant.{Meant}
+use Rattle.m36_relocate.specs.declared.layout.Meant.TheVariants.{TextWord, StaticWord, LinkWord}
+use Rattle.m36_relocate.specs.declared.layout.Meant.TheVariants.{HeadWord}
+use Rattle.m36_relocate.specs.declared.layout.Spot.{Spot}
+use Rattle.m36_relocate.specs.declared.layout.Moving.{Moving}
 
 abbrev pub shape_of : PartsFields → ShapeFields
 shape_of p = record { newer = is_newer p; statics = length p.statics; links = length p.links }
@@ -62,8 +62,11 @@ evened n = n + n % 2
 -- those of the component behind another
 abbrev pub bases_behind : BasesFields → PartsFields → BasesFields
 bases_behind b c =
-    record { text = evened (b.text + length c.text);
-        statics = evened (b.statics + length c.statics); links = b.links + length c.links }
+    record {
+      text = evened (b.text + length c.text);
+      statics = evened (b.statics + length c.statics);
+      links = b.links + length c.links;
+    }
 
 -- ---- the layout map
 
