@@ -41,8 +41,11 @@ links_end n (p ∷ all) = links_end (p.bases.links + p.shape.links) all
 -- version 2 where it is asked for, or where a component has it
 unfoldable pub frame_of : Bool → List PlacedFields → ShapeFields
 frame_of asked all =
-    record { newer = asked || list_any is_newer_component all; statics = statics_end 0 all;
-        links = links_end 0 all }
+    record {
+      newer = asked || list_any is_newer_component all;
+      statics = statics_end 0 all;
+      links = links_end 0 all;
+    }
 
 -- ---- words: those of each component from an even word on
 
@@ -60,7 +63,7 @@ laid_from frame statics words (p ∷ all) =
 abbrev pub relocation_moved : Moving → RelocFields → RelocFields
 relocation_moved m r =
     let s = spot_moved m r.section r.offset in
-        record { section = s.section; offset = s.offset; part = r.part; target = r.target }
+    record { section = s.section; offset = s.offset; part = r.part; target = r.target }
 
 abbrev pub with_relocation : Moving → Bool → List RelocFields → RelocFields → List RelocFields
 with_relocation m statics done r =
@@ -77,7 +80,7 @@ unfoldable pub relocations_from : ShapeFields → Bool → List RelocFields → 
 relocations_from frame statics done [] = done
 relocations_from frame statics done (p ∷ all) =
     relocations_from frame statics
-        (relocations_onto (moving frame p) statics done p.parts.relocations) all
+    (relocations_onto (moving frame p) statics done p.parts.relocations) all
 
 -- ---- the parts
 
@@ -102,7 +105,7 @@ bound_parts frame all kept =
 abbrev pub component_fits : ShapeFields → PlacedFields → Bool
 component_fits frame p =
     all_fit (moving frame p) false p.parts.text p.parts.relocations
-        && all_fit (moving frame p) true p.parts.statics p.parts.relocations
+    && all_fit (moving frame p) true p.parts.statics p.parts.relocations
 
 unfoldable pub components_fit : ShapeFields → List PlacedFields → Bool
 components_fit frame [] = true
@@ -115,7 +118,7 @@ section_fits words = nat_le (length words) (2 ^ 18 - 4096)
 unfoldable pub sections_fit : PartsFields → Bool
 sections_fit p =
     section_fits p.text && section_fits (definition_section p) && section_fits (linkage_section p)
-        && section_fits (outer_statics p) && section_fits (symbol_section p)
+    && section_fits (outer_statics p) && section_fits (symbol_section p)
 
 abbrev pub made : PartsFields → Result PartsFields BindFault
 made parts = if is_well_formed parts
@@ -135,11 +138,11 @@ bound_of_components frame all lines =
 abbrev pub bound_of_lines : GivenFields → List BindLine → Result PartsFields BindFault
 bound_of_lines given lines =
     and_then (picked_of given lines)
-        (λ all. bound_of_components (frame_of (asks_newer lines) all) all lines)
+    (λ all. bound_of_components (frame_of (asks_newer lines) all) all lines)
 
 -- the bound object of the components of a bind file, among objects that are given by name; else the
 -- first refusal
 unfoldable pub bound_of : List ℕ → List (List ℕ) → List PartsFields → Result PartsFields BindFault
 bound_of text names objects =
     and_then (bind_lines text)
-        (λ lines. bound_of_lines (record { names = names; objects = objects }) lines)
+    (λ lines. bound_of_lines (record { names = names; objects = objects }) lines)

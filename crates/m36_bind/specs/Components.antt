@@ -72,7 +72,7 @@ abbrev pub picked_one : AllFields → ℕ → List ℕ → Option PartsFields �
 picked_one all n name None = Err (fault.B2 n)
 picked_one all n name (Some p) =
     if list_any (same name) (names_of all.placed) then Err (fault.B3 n)
-        else Ok (with_component all (component name p all.next (own_from [] p.definitions)))
+    else Ok (with_component all (component name p all.next (own_from [] p.definitions)))
 
 -- the components with that of line n
 abbrev pub picked_line : GivenFields → AllFields → ℕ → BindLine → Result AllFields BindFault

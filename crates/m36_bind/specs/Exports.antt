@@ -46,7 +46,7 @@ own_from table (d ∷ ds) = own_from (with_own table d) ds
 abbrev pub def_moved : Moving → DefFields → DefFields
 def_moved m d =
     let s = spot_moved m d.section d.value in
-        record { section = s.section; value = s.offset; is_entry = d.is_entry }
+    record { section = s.section; value = s.offset; is_entry = d.is_entry }
 
 abbrev pub with_moved : Moving → List (List ℕ × Export) → Named → List (List ℕ × Export)
 with_moved m table d =

@@ -27,7 +27,7 @@ abbrev pub kept_one : List Named → ℕ → List ℕ → Option Export → Resu
 kept_one kept n name None = Err (fault.B5 n)
 kept_one kept n name (Some e) =
     if list_any (λ d. same name d.name) kept || e.twice then Err (fault.B3 n)
-        else Ok (kept ++ record { name = name; def = e.def } ∷ [])
+    else Ok (kept ++ record { name = name; def = e.def } ∷ [])
 
 -- the definitions with that of line n
 abbrev pub kept_line : List (List ℕ × Export) → List Named → ℕ → BindLine

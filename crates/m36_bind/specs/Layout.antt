@@ -62,8 +62,11 @@ evened n = n + n % 2
 -- those of the component behind another
 abbrev pub bases_behind : BasesFields → PartsFields → BasesFields
 bases_behind b c =
-    record { text = evened (b.text + length c.text);
-        statics = evened (b.statics + length c.statics); links = b.links + length c.links }
+    record {
+      text = evened (b.text + length c.text);
+      statics = evened (b.statics + length c.statics);
+      links = b.links + length c.links;
+    }
 
 -- ---- the layout map
 

@@ -15,8 +15,14 @@ use Rattle.m36_bind.specs.declared.layout.Spot.{Spot}
 -- a link to a place of the bound object itself: the modifier stays
 abbrev pub own_link : LinkFields → Spot → LinkFields
 own_link l s =
-    record { kind = 1; section = s.section; name = []; entry = []; expr = s.offset;
-        modifier = l.modifier }
+    record {
+      kind = 1;
+      section = s.section;
+      name = [];
+      entry = [];
+      expr = s.offset;
+      modifier = l.modifier;
+    }
 
 abbrev pub farther : Spot → ℕ → Spot
 farther s n = record { section = s.section; offset = (s.offset + n) % 2 ^ 18 }
@@ -52,7 +58,7 @@ abbrev pub inner_link : ShapeFields → PlacedFields → LinkFields → Option E
 inner_link frame p l None = l
 inner_link frame p l (Some e) =
     own_link l (farther
-        (spot_moved (moving frame p) (counting_section l.section e.def.section) e.def.value) l.expr)
+    (spot_moved (moving frame p) (counting_section l.section e.def.section) e.def.value) l.expr)
 
 -- a link of a component
 unfoldable pub link_moved : ShapeFields → List PlacedFields → PlacedFields → LinkFields → LinkFields

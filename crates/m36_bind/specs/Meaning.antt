@@ -113,9 +113,9 @@ words_end statics n (p ∷ all) =
 abbrev pub WordsStand : PartsFields → PlacedFields → Bool → Type 0
 WordsStand bound p statics =
     (i : ℕ) → i < length (words_in statics p.parts)
-        → slice_index (words_in statics p.parts) i < 2 ^ 36
+    → slice_index (words_in statics p.parts) i < 2 ^ 36
     → IsMovedWord bound p statics i (slice_index (words_in statics p.parts) i)
-        (slice_index (words_in statics bound) (start_in statics p.bases + i))
+    (slice_index (words_in statics bound) (start_in statics p.bases + i))
 
 -- ---- relocations
 
@@ -184,7 +184,7 @@ abbrev pub LinksStand : PartsFields → List PlacedFields → PlacedFields → T
 LinksStand bound all p =
     (i : ℕ) (old : LinkFields) → slice_get p.parts.links i ≡ Some old
     → (new : LinkFields) × (slice_get bound.links (p.bases.links + i) ≡ Some new)
-        × IsMovedLink bound all p old new
+    × IsMovedLink bound all p old new
 
 -- ---- definitions
 
