@@ -42,7 +42,7 @@ FirstNoted old new firsts after key number (Some first) =
     ((q : ℕ) → new q ≡ old q) × (after ≡ slice_set firsts number first)
 FirstNoted old new firsts after key number None =
     ((q : ℕ) → new q ≡ cond (key == q) (Some number) (old q))
-        × (after ≡ slice_set firsts number number)
+    × (after ≡ slice_set firsts number number)
 
 abbrev pub AreNoted : (ℕ → Option ℕ) → (ℕ → Option ℕ) → List ℕ → List ℕ → Option ℕ → ℕ → Type 0
 AreNoted old new firsts after None number = ((q : ℕ) → new q ≡ old q) × (after ≡ firsts)

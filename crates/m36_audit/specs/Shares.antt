@@ -144,7 +144,7 @@ abbrev pub is_between : ℕ → ℕ → ℕ → Bool
 is_between tables segments identities =
     (tables == several && identities == several)
     || ((not (tables == 0) && not (segments == 0))
-        && (not (tables == segments) || tables == several))
+    && (not (tables == segments) || tables == several))
 
 -- how many runs of first segments cover a word
 abbrev pub joint_coverage : List ℕ → List DbrFields → List ℕ → ℕ → ℕ

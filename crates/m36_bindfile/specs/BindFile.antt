@@ -104,7 +104,7 @@ unfoldable pub lines_from : List BindLine → List (Option BindLine)
 lines_from above [] = Ok above
 lines_from above (given ∷ more) =
     read_on (Err (fault.B1 (length above + 1))) (λ next. lines_from (above ++ next ∷ []) more)
-        (in_order (last_of above) given)
+    (in_order (last_of above) given)
 
 -- whether something stands behind the last line feed
 abbrev pub is_cut : List ℕ → Bool

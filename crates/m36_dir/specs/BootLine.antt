@@ -50,7 +50,7 @@ abbrev pub taken : ℕ → List ℕ → Taken
 taken letter [] = record { stands = false; rest = [] }
 taken letter (c ∷ letters) =
     if c == letter then record { stands = true; rest = letters }
-        else record { stands = false; rest = c ∷ letters }
+    else record { stands = false; rest = c ∷ letters }
 
 -- where no letter is left
 abbrev pub whole : Mode → List ℕ → Option Mode
@@ -63,8 +63,12 @@ mode_of_letters letters =
     let e = taken 101 r.rest in
     let w = taken 119 e.rest in
     let p = taken 112 w.rest in
-    whole (record { readable = r.stands; executable = e.stands; writable = w.stands;
-        privileged = p.stands }) p.rest
+    whole (record {
+      readable = r.stands;
+      executable = e.stands;
+      writable = w.stands;
+      privileged = p.stands;
+    }) p.rest
 
 abbrev pub no_mode : Mode
 no_mode = record { readable = false; executable = false; writable = false; privileged = false }
@@ -117,7 +121,7 @@ brackets_of _ = None
 
 abbrev pub segment_read :
     Option (List ℕ) → Option (List ℕ) → Option (List ℕ) → Option SegKind → Option Mode
-        → Option Brackets → Option BootLine
+    → Option Brackets → Option BootLine
 segment_read (Some dir) (Some name) (Some file) (Some kind) (Some mode) (Some ends) =
     Some (line.Segment (record {
       dir = dir;
@@ -134,7 +138,7 @@ segment_read _ _ _ _ _ _ = None
 abbrev pub segment_line : List (List ℕ) → Option BootLine
 segment_line (dir ∷ name ∷ file ∷ kind ∷ mode ∷ ends) =
     segment_read (directory_of dir) (name_of name) (name_of file) (kind_of kind) (mode_of mode)
-        (brackets_of ends)
+    (brackets_of ends)
 segment_line _ = None
 
 -- ---- lines

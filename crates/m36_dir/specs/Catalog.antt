@@ -145,11 +145,16 @@ found catalog dir name = position (λ s. nat_eq s.dir dir && has_name name s) ca
 -- A segment may be read, executed and written, or not, as is given; all else stays.
 abbrev pub with_rights : SegmentFields → Bool → Bool → Bool → SegmentFields
 with_rights s readable executable writable =
-    record s { mode = record s.mode { readable = readable; executable = executable;
-        writable = writable } }
+    record s {
+      mode = record s.mode {
+        readable = readable;
+        executable = executable;
+        writable = writable;
+      };
+    }
 
 abbrev pub SetsRights : CatalogFields → CatalogFields → ℕ → Bool → Bool → Bool → Type 0
 SetsRights old new i readable executable writable =
     IfSome (slice_get old.segments i)
     (λ s. new ≡ record old
-        { segments = slice_set old.segments i (with_rights s readable executable writable) })
+    { segments = slice_set old.segments i (with_rights s readable executable writable) })

@@ -21,7 +21,7 @@ pub record JointFindingsLaw : Type 0 where
       → IsJointlyAudited core dbrs
   pub complete :
       (core : List ℕ) (dbrs : List DbrFields) (findings : List JointFound)
-          → IsJointlyAudited core dbrs
+      → IsJointlyAudited core dbrs
       → AreJointFindings core dbrs findings → findings ≡ []
   pub unique :
       (core : List ℕ) (dbrs : List DbrFields) (findings others : List JointFound)

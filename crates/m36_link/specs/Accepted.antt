@@ -24,8 +24,10 @@ with_initiated names ring link target =
 
 unfoldable pub accepted : KnownFields → SnapFields → KnownFields
 accepted known s =
-    record { names = with_initiated known.names s.ring s.link s.target;
-        laid = with_laid known.laid s.lay }
+    record {
+      names = with_initiated known.names s.ring s.link s.target;
+      laid = with_laid known.laid s.lay;
+    }
 
 -- A section may be laid: none of its segment is laid in its ring, it goes where the next one does,
 -- and it ends within the linkage segment.

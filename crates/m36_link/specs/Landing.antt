@@ -49,7 +49,7 @@ point_by section (Some d) =
 unfoldable pub point_of : LinkFields → PartsFields → Result Point LinkCode
 point_of link o =
     if has_entry link.kind
-        then point_by (section_of link) (definition_named link.entry o.definitions)
+    then point_by (section_of link) (definition_named link.entry o.definitions)
     else Ok (record { section = section_of link; value = 0 })
 
 -- ---- the pair
@@ -83,8 +83,10 @@ pair_of point ring l linkage link = pair_from point.section point.value ring l l
 abbrev pub new_home : ℕ → ℕ → ℕ → ℕ → Result Home LinkCode
 new_home ring seg base size =
     if nat_le (base + size) (2 ^ 18) then
-    Ok (record { section = record { ring = ring; seg = seg; base = base; size = size };
-        is_new = true })
+    Ok (record {
+      section = record { ring = ring; seg = seg; base = base; size = size };
+      is_new = true;
+    })
     else Err (L6 base size)
 
 abbrev pub home_by : Option LaidFields → List LaidFields → ℕ → ℕ → PartsFields
@@ -100,8 +102,11 @@ home_of laid ring seg o = home_by (laid_in laid ring seg) laid ring seg o
 abbrev pub own_by : ℕ → LaidFields → PartsFields → LinkFields → Result Point LinkCode
     → Result LandingFields LinkCode
 own_by ring l o link (Ok point) =
-    Ok (record { pair = pair_of point ring l (length (linkage_section o)) link; target = l.seg;
-    lay = None })
+    Ok (record {
+      pair = pair_of point ring l (length (linkage_section o)) link;
+      target = l.seg;
+      lay = None;
+    })
 own_by ring l o link (Err code) = Err code
 
 unfoldable pub own_landing : ℕ → LaidFields → PartsFields → LinkFields
@@ -145,8 +150,11 @@ abbrev pub landing_in : ℕ → ℕ → PartsFields → LinkFields → Point →
     → Result LandingFields LinkCode
 landing_in ring seg o link point (Err code) = Err code
 landing_in ring seg o link point (Ok home) =
-    Ok (record { pair = pair_of point ring home.section (length (linkage_section o)) link;
-        target = seg; lay = lay_if home.is_new home.section })
+    Ok (record {
+      pair = pair_of point ring home.section (length (linkage_section o)) link;
+      target = seg;
+      lay = lay_if home.is_new home.section;
+    })
 
 abbrev pub landing_at : List LaidFields → ℕ → ℕ → ℕ → PartsFields → LinkFields
     → Result Point LinkCode → Result LandingFields LinkCode

@@ -64,14 +64,23 @@ words_laid (Some o) = laid_words o
 abbrev pub lay_of : List (List ℕ) → Option LaidFields → Option LayFields
 lay_of files None = None
 lay_of files (Some l) =
-    Some (record { ring = l.ring; seg = l.seg; base = l.base;
-        words = words_laid (object_in files l.seg) })
+    Some (record {
+      ring = l.ring;
+      seg = l.seg;
+      base = l.base;
+      words = words_laid (object_in files l.seg);
+    })
 
 abbrev pub snap_by : List (List ℕ) → ℕ → LinkFields → Result LandingFields LinkCode
     → Result SnapFields RefusedFields
 snap_by files ring link (Ok landing) =
-    Ok (record { pair = landing.pair; ring = ring; target = landing.target; link = link;
-        lay = lay_of files landing.lay })
+    Ok (record {
+      pair = landing.pair;
+      ring = ring;
+      target = landing.target;
+      link = link;
+      lay = lay_of files landing.lay;
+    })
 snap_by files ring link (Err code) = Err (record { code = code; link = Some link })
 
 -- what a link of type 3 or 4 comes to in a ring, searched from a directory

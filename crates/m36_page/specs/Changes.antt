@@ -82,7 +82,7 @@ AllPinned p refs = All (λ h. is_pinned refs h ≡ true) p.holders
 abbrev pub Stays : PagerFields → List ℕ → PagerFields → List ℕ → Reference → Type 0
 Stays old core new now e =
     (frame : ℕ) → has_page old e.at.seg (e.at.word / 1024) ≡ true
-        → frame_of old core e.at.seg (e.at.word / 1024) ≡ Some frame
+    → frame_of old core e.at.seg (e.at.word / 1024) ≡ Some frame
     → frame_of new now e.at.seg (e.at.word / 1024) ≡ Some frame
 
 -- a page was brought in

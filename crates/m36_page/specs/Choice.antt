@@ -32,4 +32,4 @@ pub record IsMarked (core now : List ℕ) (at : ℕ → Type 0) : Type 0 where
 abbrev pub AreInCore : List (Option (ℕ × ℕ)) → List ℕ → List ℕ → Type 0
 AreInCore holders spots core =
     (k : ℕ) (held : ℕ × ℕ) → slice_index_or holders k None ≡ Some held
-        → slice_index spots k < length core
+    → slice_index spots k < length core

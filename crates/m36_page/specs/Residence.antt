@@ -92,7 +92,7 @@ pub record IsPager (p : PagerFields) : Type 0 where
 abbrev pub TellsPage : PagerFields → ℕ → ℕ → ℕ → Type 0
 TellsPage p seg page w =
     (unmarked w ≡ absent_ptw)
-        ⊎ ((k : ℕ) × Holds p k seg page × (unmarked w ≡ resident_ptw (p.first + k)))
+    ⊎ ((k : ℕ) × Holds p k seg page × (unmarked w ≡ resident_ptw (p.first + k)))
 
 -- Each page table word of the tables reads as the pager left it.
 pub record Reads (p : PagerFields) (core : List ℕ) : Type 0 where

@@ -21,12 +21,12 @@ pub record StateDueLaw : Type 0 where
       → IsStateDue command state due → IsStateDue command state same → due ≡ same
   pub some :
       (command : ImageCommand) (state : State (List ℕ))
-          → ¬ ((due : Answer) → ¬ IsStateDue command state due)
+      → ¬ ((due : Answer) → ¬ IsStateDue command state due)
   pub passed :
       (command : ImageCommand) (state : State (List ℕ)) (due : Answer)
       → IsStateDue command state due → IsAudited state.store state.regs.dbr
-          → due ≡ state_answer command state []
+      → due ≡ state_answer command state []
   pub failed :
       (command : ImageCommand) (state : State (List ℕ)) (due : Answer)
       → IsStateDue command state due → ¬ IsAudited state.store state.regs.dbr
-          → IsByFindings command state due
+      → IsByFindings command state due

@@ -33,7 +33,7 @@ ReadCause (Err NoMemory) old new = new ≡ old
 -- the reading comes to what the call answers. No file changes, and none is written.
 pub record Reads
     {A : Type 0} (p : Reading (Early A)) (result : Result A Refusal) (old new : FolderState)
-        (before after : List Asked)
+    (before after : List Asked)
     : Type 0 where
   pub asked : List Asked
   pub passed : after ≡ before ++ asked
@@ -134,7 +134,7 @@ EndsBy kind Is Unasked result old new = ⊥
 -- that the folder was asked in the call, and what is due by it is done.
 pub record Does
     {D : Type 0} (kind : Kind D) (p : Reading (Early D)) (result : Status) (old new : Outside)
-        (before after : List Asked)
+    (before after : List Asked)
     : Type 0 where
   pub asked : List Asked
   pub passed : after ≡ before ++ asked

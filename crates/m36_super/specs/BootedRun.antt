@@ -97,7 +97,7 @@ IsLinkTurn answer frames at before NoMemory after = after ≡ before
 IsLinkTurn (Ok s) frames at before turn after = IsLinked frames at s before turn after
 IsLinkTurn (Err why) frames at before turn after =
     (turn ≡ Linked (note_refused at why))
-        × (after ≡ record before { coming = Over (end.Link why.code) })
+    × (after ≡ record before { coming = Over (end.Link why.code) })
 
 -- the console service
 abbrev pub IsConsoleTurn : Bool → Result (List ℕ) Fault → Booted → Turn → Booted → Type 0

@@ -37,7 +37,7 @@ unpacked bytes =
     if nat_eq (length bytes % 9) 0 then Ok (words_of (length bytes / 9) bytes)
     else (if nat_eq (length bytes % 9) 5
     then (if nat_eq (slice_index bytes (length bytes - 1) % 2 ^ 4) 0
-        then Ok (words_of (length bytes / 9) bytes) else Err (T4 (length bytes - 1)))
+    then Ok (words_of (length bytes / 9) bytes) else Err (T4 (length bytes - 1)))
     else Err (T3 (length bytes)))
 
 -- What a call that unpacks answers, where want of memory may come at any time.

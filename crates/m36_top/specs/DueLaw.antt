@@ -23,7 +23,7 @@ pub record DueLaw : Type 0 where
   pub one :
       (words : List (List ℕ)) (files : Files) (due same : Answer)
       → IsCommandDue (command_of words) files due → IsCommandDue (command_of words) files same
-          → due ≡ same
+      → due ≡ same
   pub some :
       (words : List (List ℕ)) (files : Files)
       → ¬ ((due : Answer) → ¬ IsCommandDue (command_of words) files due)

@@ -12,7 +12,7 @@ use Rattle.m36_reading.specs.declared.status.Status.TheVariants.{Steps, NoMemory
 abbrev pub bad_place : Bad → List ℕ
 bad_place bad =
     ((((((codes " " ++ bad.name) ++ codes " ") ++ code_name bad.code) ++ codes " ")
-        ++ decimal_text bad.at) ++ codes " ")
+    ++ decimal_text bad.at) ++ codes " ")
     ++ decimal_text bad.column
 
 abbrev pub details : Status → List ℕ

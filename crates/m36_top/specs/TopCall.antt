@@ -81,7 +81,7 @@ abbrev pub Completes : Option Command → Files → Status → Outside → Outsi
 Completes None files result old new = result ≡ Usage
 Completes (Some command) files result old new =
     ¬ Rose old.folder.read_faults new.folder.read_faults
-        → ¬ WriteRose (writes_files command) old new
+    → ¬ WriteRose (writes_files command) old new
     → (result ≡ NoMemory) ⊎ IsAnswered due_kind (ComesIn files (reads command)) result old new
 
 -- ---- files

@@ -113,7 +113,7 @@ print g = if has_no_option g then option_map (λ name. Print name) g.operand els
 abbrev pub alm_of : List ℕ → Option Command
 alm_of name =
     if nat_le (length name) 27
-        then Some (Alm (record { source = name ++ codes ".alm"; object = name })) else None
+    then Some (Alm (record { source = name ++ codes ".alm"; object = name })) else None
 
 abbrev pub alm : Given → Option Command
 alm g = if has_no_option g then option_and_then alm_of g.operand else None
@@ -121,7 +121,7 @@ alm g = if has_no_option g then option_and_then alm_of g.operand else None
 abbrev pub bind_of : List ℕ → Option Command
 bind_of name =
     if nat_le (length name) 27
-        then Some (Bind (record { bindfile = name ++ codes ".bind"; object = name })) else None
+    then Some (Bind (record { bindfile = name ++ codes ".bind"; object = name })) else None
 
 abbrev pub bind : Given → Option Command
 bind g = if has_no_option g then option_and_then bind_of g.operand else None
