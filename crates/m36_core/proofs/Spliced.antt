@@ -1,5 +1,5 @@
 -- Values written over a run of places that all hold values.
-use Rattle.std.proofs.Common.{ℕ, zero, suc, get_or, ◌+◌, ◌-◌, ◌*◌, ◌≡◌, ◌<◌, ◌≤◌, List, [], ◌∷◌, ◌++◌, length, take, drop, map, sym, ap, refl, ◌∙◌, arith, length-append, length-drop, length-set, set, replicate, Option, Some, None}
+use Rattle.std.proofs.Common.{ℕ, zero, suc, get_or, ◌+◌, ◌-◌, ◌≡◌, ◌<◌, ◌≤◌, List, [], ◌∷◌, ◌++◌, length, take, drop, map, sym, ap, refl, ◌∙◌, arith, length-append, length-drop, set, replicate, Option, Some, None}
 use Rattle.std.proofs.Math.Seq.{take-length}
 use Rattle.std.proofs.lemmas.List.{append-nil, drop-drop, drop_all, length-take-le, length-map, take_more, take_more_set, take_all}
 use Rattle.std.proofs.lemmas.Grind.{replicate_next}

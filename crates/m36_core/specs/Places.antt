@@ -1,5 +1,6 @@
 -- What lies in the places of a block.
-use Rattle.std.specs.Prelude.{◌≡◌, ℕ, get_or, List, [], ◌∷◌, ◌++◌, map, length, take, drop, Option, Some, None}
+use Rattle.std.specs.Prelude.{◌≡◌, ℕ, get_or, List, [], ◌∷◌, ◌++◌, map, length, take, drop}
+use Rattle.std.specs.Prelude.{Option, Some, None}
 
 module _ {X : Type 0} where
   -- the values that are there

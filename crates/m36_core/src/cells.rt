@@ -1,4 +1,4 @@
-//! A block of raw memory: a row of places, each empty or holding a value. Only the functions here hold its pointer.
+//! A block of raw memory: a row of places, each empty or holding a value. Only the functions here go through its pointer.
 ghost use Rattle.std.specs.Prelude.{◌≡◌, ℕ, ◌+◌, ◌<◌, ◌≤◌, List, Option, Some, None, map, length, take, drop, replicate, get_or, slice_set, IfOk, ⊤};
 ghost use Rattle.std.specs.Borrow.{sem};
 ghost use Rattle.std.specs.Vec.Ownership.{FitsInBlock};
@@ -33,7 +33,7 @@ unsafe impl<T> Send for Base<T> {}
 
 unsafe impl<T> Sync for Base<T> {}
 
-/// The owner of the places. It takes no space: the buffer holds the pointer and the capacity.
+/// The owner of the places. It takes no space: whoever holds it has the pointer and the number of places beside it.
 pub struct Cells<T> {
     mark: PhantomData<*const T>,
     ghost at: { Ptr },
@@ -74,7 +74,8 @@ pub(crate) fn allocate<T, A: Allocator>(
     len: usize,
 ) -> Result<(Base<T>, Cells<T>, Deed<T, A>), AllocError>
     requires { FitsInBlock T.row len }
-    ensures { IfOk result (λ r. (r.1.at ≡ r.0.ptr) × (r.1.slots ≡ replicate len None) × (r.2.at ≡ r.0.ptr) × (r.2.len ≡ len) × (r.2.alloc ≡ alloc.now)) }
+    ensures { IfOk result (λ r. (r.1.at ≡ r.0.ptr) × (r.1.slots ≡ replicate len None)
+        × (r.2.at ≡ r.0.ptr) × (r.2.len ≡ len) × (r.2.alloc ≡ alloc.now)) }
 {
     match alloc.allocate(len * size_of::<T>(), align_of::<T>()) {
         Ok(block) => {
@@ -98,7 +99,8 @@ pub(crate) fn deallocate<T, A: Allocator>(
     cells: Cells<T>,
     deed: Deed<T, A>,
 )
-    requires { (cells.at ≡ base.ptr) × (length cells.slots ≡ len) × (deed.at ≡ base.ptr) × (deed.len ≡ len) × (deed.alloc ≡ alloc.now) }
+    requires { (cells.at ≡ base.ptr) × (length cells.slots ≡ len) × (deed.at ≡ base.ptr)
+        × (deed.len ≡ len) × (deed.alloc ≡ alloc.now) }
 {
     let Cells { mark: _ } = cells;
     let Deed { mark: _ } = deed;
@@ -112,13 +114,15 @@ impl<T> Cells<T> {
 
     pub(crate) fn write(&mut self, base: Base<T>, index: usize, item: T)
         requires { (base.ptr ≡ self.old.at) × (index < length self.old.slots) }
-        ensures { (self.new.at ≡ self.old.at) × (self.new.slots ≡ slice_set self.old.slots index (Some item)) }
+        ensures { (self.new.at ≡ self.old.at)
+            × (self.new.slots ≡ slice_set self.old.slots index (Some item)) }
     {
         unsafe { base.ptr.add(index).write(item) }
     }
 
     pub(crate) fn get(&self, base: Base<T>, index: usize) -> &T
-        requires { (base.ptr ≡ self.now.at) × IsWhole self.now.slots × (index < length self.now.slots) }
+        requires { (base.ptr ≡ self.now.at) × IsWhole self.now.slots
+            × (index < length self.now.slots) }
         ensures { get_or self.now.slots index None ≡ Some result.now }
     {
         unsafe { &*base.ptr.add(index) }
@@ -126,7 +130,8 @@ impl<T> Cells<T> {
 
     /// The `len` values from `from` on.
     pub(crate) fn slice(&self, base: Base<T>, from: usize, len: usize) -> &[T]
-        requires { (base.ptr ≡ self.now.at) × IsWhole self.now.slots × (from + len ≤ length self.now.slots) }
+        requires { (base.ptr ≡ self.now.at) × IsWhole self.now.slots
+            × (from + len ≤ length self.now.slots) }
         ensures { result.now ≡ take len (drop from (somes self.now.slots)) }
     {
         unsafe { slice::from_raw_parts(base.ptr.add(from), len) }
@@ -134,7 +139,8 @@ impl<T> Cells<T> {
 
     /// The `len` values from `from` on, to be written.
     pub(crate) fn slice_mut(&mut self, base: Base<T>, from: usize, len: usize) -> &mut [T]
-        requires { (base.ptr ≡ self.old.at) × IsWhole self.old.slots × (from + len ≤ length self.old.slots) }
+        requires { (base.ptr ≡ self.old.at) × IsWhole self.old.slots
+            × (from + len ≤ length self.old.slots) }
         ensures* writes_back { sem 𝓛 (lends_run T.row self.entry from result) }
         ensures value { result.now ≡ take len (drop from (somes self.old.slots)) }
     {

@@ -31,7 +31,9 @@ impl Model for Core {
 
     ghost view = { λ c. somes c.cells.slots };
 
-    ghost invariant = { λ c. IsCore (somes c.cells.slots) × IsBlock c.base.ptr c.cells.at c.deed.at c.cells.slots c.count c.deed.len × (c.deed.alloc ≡ c.alloc) };
+    ghost invariant = { λ c. IsCore (somes c.cells.slots)
+        × IsBlock c.base.ptr c.cells.at c.deed.at c.cells.slots c.count c.deed.len
+        × (c.deed.alloc ≡ c.alloc) };
 }
 
 impl Drop for Core {

@@ -40,7 +40,7 @@ use denote.Builtin.{usize}
 use Rattle.core.proofs.mem.Param.{El, R, elτ}
 use Rattle.std_alloc.proofs.RawLayout.{as_raw}
 use Rattle.m36_core.specs.Ownership.{cells_own}
-use Rattle.m36_core.proofs.Slotted.{Cr, Bs, sz, Place, mark, mark_had, word_had}
+use Rattle.m36_core.proofs.Slotted.{Cr, Bs, sz, mark, mark_had, word_had}
 use base.Fml.{Incl-trans}
 use lib.Dec.{T}
 use lib.ListN.{length}

@@ -45,9 +45,8 @@ use denote.Builtin.{usize}
 use Rattle.std.specs.Prelude.{Some, None}
 use Rattle.core.proofs.mem.Param.{El, R, args, elτ}
 use Rattle.core.proofs.ptr.Rows.{times_below, one_below}
-use Rattle.std_alloc.proofs.RawLayout.{as_written}
 use Rattle.m36_core.specs.Ownership.{slot, slots, cells_own}
-use Rattle.m36_core.proofs.Slotted.{Cr, Bs, sz, Place, word_had, value_in, tells, Besides, slot_out, slot_in, slot_room}
+use Rattle.m36_core.proofs.Slotted.{Cr, Bs, sz, word_had, value_in, tells, Besides, slot_out, slot_in, slot_room}
 use Rattle.m36_core.specs.contracts.cells.Cells.write.Key.{name as #self}
 use Rattle.m36_core.proofs.cells.Cells.write.Statement as stated
 use Rattle.m36_core.proofs.cells.Cells.write.Code as code

@@ -1,4 +1,4 @@
-use Rattle.std.proofs.Common.{◌≡◌, ◌+◌, ◌-◌, ◌*◌, ◌<◌, ◌≤◌, ◌∙◌, ap, sym, refl, length, map, drop, arith, length-drop, Some, List, ℕ}
+use Rattle.std.proofs.Common.{◌≡◌, ◌+◌, ◌-◌, ◌*◌, ◌<◌, ◌∙◌, ap, sym, refl, length, map, drop, arith, length-drop, Some, List, ℕ}
 use Rattle.std.proofs.lemmas.List.{length-take-le, length-map}
 use Rattle.m36_core.specs.Places.{somes, overwritten}
 use Rattle.m36_core.proofs.Spliced.{somes-map, whole_map, length-overwritten}

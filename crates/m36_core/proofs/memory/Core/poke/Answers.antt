@@ -1,4 +1,4 @@
-use Rattle.std.proofs.Common.{◌≡◌, ◌%◌, ◌≤◌, ◌^◌, ◌∙◌, ap, sym, subst, length, length-set, slice_set}
+use Rattle.std.proofs.Common.{◌≡◌, ◌∙◌, ap, sym, length, length-set, slice_set}
 use Rattle.m36_core.specs.Places.{somes}
 use Rattle.m36_core.proofs.Spliced.{somes-map, set_whole, whole_map}
 use Rattle.m36_core.proofs.memory.Core.poke.Goals as goal

@@ -1,4 +1,4 @@
-use Rattle.std.proofs.Common.{◌≡◌, ◌≤◌, ◌∙◌, length, arith}
+use Rattle.std.proofs.Common.{◌≤◌, ◌∙◌, length, arith}
 use Rattle.std.proofs.lemmas.List.{take_all}
 use Rattle.m36_core.specs.Places.{somes}
 use Rattle.m36_core.proofs.Spliced.{length-somes}
