@@ -1,1 +1,5 @@
+pub mod Crosses
 pub mod FrameWords
+pub mod Slotted
+pub mod Sharing
+pub mod Spliced

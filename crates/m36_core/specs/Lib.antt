@@ -1,2 +1,6 @@
+pub mod Block
 pub mod Frames
 pub mod Lending
+pub mod Lends
+pub mod Ownership
+pub mod Places

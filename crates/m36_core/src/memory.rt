@@ -1,9 +1,10 @@
 //! Core memory.
 
-ghost use Rattle.std.specs.Prelude.{ℕ, List, ◌≡◌, ◌+◌, ◌*◌, ◌%◌, ◌<◌, ◌≤◌, ◌^◌, IfOk, length, replicate, slice_index, slice_set};
+ghost use Rattle.std.specs.Prelude.{ℕ, List, ◌≡◌, ◌+◌, ◌*◌, ◌%◌, ◌<◌, ◌≤◌, ◌^◌, IfOk, Some, length, map, replicate, slice_index, slice_set};
 ghost use Rattle.std.specs.Borrow.{sem};
 ghost use Rattle.m36_core.specs.Frames.{frame_words};
 
+use crate::cells::{Base, Cells, Deed, allocate, deallocate};
 use m36_word::{NoMemory, Word};
 use std::alloc::Global;
 use std::marker::Model;
@@ -12,20 +13,66 @@ use std::marker::Model;
 const FRAME: usize = 1024;
 
 /// Core memory: 1 to 16,384 frames of 1,024 words, seen as the list of its words.
-#[derive(Drop)]
 pub struct Core {
-    words: Vec<Word>,
+    base: Base<Word>,
+    count: usize,
+    cells: Cells<Word>,
+    deed: Deed<Word, Global>,
+    alloc: Global,
 }
 
 impl Model for Core {
-    ghost use Rattle.std.specs.Prelude.{ℕ, List};
+    ghost use Rattle.std.specs.Prelude.{ℕ, List, ◌≡◌};
     ghost use Rattle.m36_core.specs.Frames.{IsCore};
+    ghost use Rattle.m36_core.specs.Places.{somes};
+    ghost use Rattle.m36_core.specs.Block.{IsBlock};
 
     ghost Value = { List ℕ };
 
-    ghost view = { λ c. c.words.items };
+    ghost view = { λ c. somes c.cells.slots };
 
-    ghost invariant = { λ c. IsCore c.words.items };
+    ghost invariant = { λ c. IsCore (somes c.cells.slots)
+        × IsBlock c.base.ptr c.cells.at c.deed.at c.cells.slots c.count c.deed.len
+        × (c.deed.alloc ≡ c.alloc) };
+}
+
+impl Drop for Core {
+    fn drop(self) {
+        let Core {
+            base,
+            count,
+            cells,
+            deed,
+            alloc,
+        } = self;
+        deallocate(&alloc, base, count, cells, deed);
+    }
+}
+
+/// Writes zero into each place.
+fn clear(cells: &mut Cells<Word>, base: Base<Word>, count: usize)
+    requires { (base.ptr ≡ cells.old.at) × (length cells.old.slots ≡ count) }
+    ensures at { cells.new.at ≡ cells.old.at }
+    ensures slots { cells.new.slots ≡ map Some (replicate count 0) }
+{
+    let mut i = 0;
+    while i < count {
+        cells.write(base, i, Word::ZERO);
+        i += 1;
+    }
+}
+
+/// Writes the words into the places, one into each.
+fn fill(cells: &mut Cells<Word>, base: Base<Word>, words: &[Word])
+    requires { (base.ptr ≡ cells.old.at) × (length cells.old.slots ≡ length words.now) }
+    ensures at { cells.new.at ≡ cells.old.at }
+    ensures slots { cells.new.slots ≡ map Some words.now }
+{
+    let mut i = 0;
+    while i < words.len() {
+        cells.write(base, i, words[i]);
+        i += 1;
+    }
 }
 
 impl Core {
@@ -38,9 +85,15 @@ impl Core {
         ensures { IfOk result (λ core. core ≡ replicate (1024 * frames) 0) }
     {
         let count = frames as usize * FRAME;
-        let mut words = Vec::with_capacity(alloc, count)?;
-        words.resize(count, Word::ZERO)?;
-        Ok(Core { words })
+        let (base, mut cells, deed) = allocate(&alloc, count)?;
+        clear(&mut cells, base, count);
+        Ok(Core {
+            base,
+            count,
+            cells,
+            deed,
+            alloc,
+        })
     }
 
     /// How many words there are.
@@ -49,14 +102,15 @@ impl Core {
         ensures whole { length self.now % 1024 ≡ 0 }
         ensures most { length self.now ≤ 2 ^ 24 }
     {
-        self.words.len() as u32
+        self.count as u32
     }
 
     /// All words, in order.
     pub fn words(&self) -> &[Word]
         ensures { result.now ≡ self.now }
     {
-        self.words.as_slice()
+        let base = self.base;
+        self.cells.slice(base, 0, self.count)
     }
 
     /// The word at a place.
@@ -64,7 +118,8 @@ impl Core {
         requires { a < length self.now }
         ensures { result ≡ slice_index self.now a }
     {
-        self.words[a as usize]
+        let base = self.base;
+        *self.cells.get(base, a as usize)
     }
 
     /// Writes the word at a place.
@@ -72,7 +127,8 @@ impl Core {
         requires { a < length self.old }
         ensures { self.new ≡ slice_set self.old a w }
     {
-        self.words[a as usize] = w;
+        let base = self.base;
+        self.cells.write(base, a as usize, w);
     }
 
     /// The words of frame `f`.
@@ -81,8 +137,9 @@ impl Core {
         ensures words { result.now ≡ frame_words self.now f }
         ensures len { length result.now ≡ 1024 }
     {
-        let first = f as usize * FRAME;
-        &self.words[first..first + FRAME]
+        let first = FRAME * f as usize;
+        let base = self.base;
+        self.cells.slice(base, first, FRAME)
     }
 
     /// The words of frame `f`, to be written. No other word changes.
@@ -92,16 +149,25 @@ impl Core {
         ensures words { result.now ≡ frame_words self.old f }
         ensures len { length result.now ≡ 1024 }
     {
-        let first = f as usize * FRAME;
-        self.words.slice_mut(first..first + FRAME)
+        let first = FRAME * f as usize;
+        let base = self.base;
+        self.cells.slice_mut(base, first, FRAME)
     }
 
     /// A second core with the same words. The error is want of memory alone.
     pub fn copy(&self, alloc: Global) -> Result<Core, NoMemory>
         ensures { IfOk result (λ core. core ≡ self.now) }
     {
-        let words = self.words.as_slice().to_vec(alloc)?;
-        Ok(Core { words })
+        let count = self.count;
+        let (base, mut cells, deed) = allocate(&alloc, count)?;
+        fill(&mut cells, base, self.words());
+        Ok(Core {
+            base,
+            count,
+            cells,
+            deed,
+            alloc,
+        })
     }
 }
 

@@ -1,0 +1,17 @@
+-- What the places end as, once a `&mut` into them has ended.
+use Rattle.std.specs.Prelude.{ℕ, List, map, Option, Some}
+use Rattle.std.specs.Borrow.{Fml, RattleType, MutBor, Array, Lends}
+use Rattle.m36_core.specs.Places.{somes, overwritten}
+use Rattle.m36_core.specs.declared.cells.Cells.{Cells}
+use Rattle.m36_core.specs.contracts.cells.Cells.{the_row}
+
+module _ {X : Type 0} where
+  abbrev pub with_slots : Cells X → List (Option X) → Cells X
+  with_slots c cs = record { mark = c.mark; at = c.at; slots = cs }
+
+-- the places end with the values that were left in the run, and with every other as it was
+abbrev pub lends_run :
+    (R : RattleType) → MutBor (Cells R.Denot) → ℕ → MutBor (List R.Denot) → Fml
+lends_run R c from r =
+    Lends (the_row R) (Array R 0) c r
+    (λ ws. with_slots c.now (map Some (overwritten (somes c.now.slots) from ws)))
