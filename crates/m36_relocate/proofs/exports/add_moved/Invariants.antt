@@ -1,6 +1,6 @@
 use Rattle.std.proofs.Common.{◌≡◌, length}
 use Rattle.m36_relocate.specs.Exports.{moved_from}
-use Rattle.m36_bind.proofs.exports.add_moved.Given as goal
+use Rattle.m36_relocate.proofs.exports.add_moved.Given as goal
 
 -- the rest completes the whole
 abbrev pub invariant-loop-rest : goal.invariant-loop-rest

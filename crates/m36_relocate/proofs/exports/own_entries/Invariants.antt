@@ -1,6 +1,6 @@
 use Rattle.std.proofs.Common.{◌≡◌, [], length}
 use Rattle.m36_relocate.specs.Exports.{own_from}
-use Rattle.m36_bind.proofs.exports.own_entries.Given as goal
+use Rattle.m36_relocate.proofs.exports.own_entries.Given as goal
 
 -- the rest completes the whole
 abbrev pub invariant-loop-rest : goal.invariant-loop-rest

@@ -1,6 +1,6 @@
 use Rattle.std.proofs.Common.{◌≡◌, length}
 use Rattle.m36_relocate.specs.Words.{all_fit}
-use Rattle.m36_bind.proofs.words.all_fit.Given as goal
+use Rattle.m36_relocate.proofs.words.all_fit.Given as goal
 
 -- the rest completes the whole
 abbrev pub invariant-loop-rest : goal.invariant-loop-rest

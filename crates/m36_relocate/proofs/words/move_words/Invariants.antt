@@ -1,6 +1,6 @@
 use Rattle.std.proofs.Common.{◌≡◌, length}
 use Rattle.m36_relocate.specs.Words.{words_moved}
-use Rattle.m36_bind.proofs.words.move_words.Given as goal
+use Rattle.m36_relocate.proofs.words.move_words.Given as goal
 
 -- the rest completes the whole
 abbrev pub invariant-loop-rest : goal.invariant-loop-rest
