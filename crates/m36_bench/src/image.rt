@@ -29,7 +29,8 @@ const UNPAGED: [(u32, u64); 2] = [(2, 0o000020000004), (3, 0o000777300000)];
 
 const PAGED: [(u32, u64); 2] = [(2, 0o000001000004), (3, 0o000777100000)];
 
-/// The page table of one page, and of the page the simple loop, the word that is loaded, and the indirect word to the counted one.
+/// The page table of one page, and of the page the simple loop, the word that is loaded, and the indirect word to the counted
+/// one.
 const SIMPLE: [(u32, u64); 9] = [
     (0o100, 0o000020000004),
     (0o2000, 0o000100235000),

@@ -1,8 +1,8 @@
 //! The program `m36_bench`: how many steps the machine takes in a second.
 //!
-//! It lays two loops into core, a simple one of six instructions and a mixed one of fourteen, once in an unpaged segment and once in
-//! a paged one. It takes steps of a loop without and with trace lines, which are made and measured but not written, and prints a
-//! line for each run. A number among the words of the command line is the count of steps, in decimal: then the simple loop is
+//! It lays two loops into core, a simple one of six instructions and a mixed one of fourteen, once in an unpaged segment and
+//! once in a paged one. It takes steps of a loop without and with trace lines, which are made and measured but not written, and
+//! prints a line for each run. A number among the words of the command line is the count of steps, in decimal: then the simple loop is
 //! run, or with the word `mixed` the mixed one, and the line has the steps a second. With no word it takes 1,000 steps of each,
 //! and prints the same every time.
 #![tactic(auto)]
