@@ -1,7 +1,9 @@
-//! The image that is run: one segment with a loop of six instructions, in ring 0.
+//! The image that is run: one segment with two loops, in ring 0.
 //!
-//! The loop loads a word, adds a number that stands in the address itself, stores the sum, counts a word that it finds through an
-//! indirect word, counts index register 1 and begins anew.
+//! The simple loop has six instructions: it loads a word, adds a number that stands in the address itself, stores the sum, counts
+//! a word that it finds through an indirect word, counts index register 1 and begins anew. The mixed loop has fourteen: it loads,
+//! adds and stores pairs of words, one of them through an ITS pair, takes an exclusive and an inclusive or, shifts one register
+//! and two, loads and stores through a tally word that it puts forward and back, calls, returns, counts a word and begins anew.
 
 ghost use Rattle.std.specs.Prelude.{◌≡◌};
 
@@ -27,8 +29,9 @@ const UNPAGED: [(u32, u64); 2] = [(2, 0o000020000004), (3, 0o000777300000)];
 
 const PAGED: [(u32, u64); 2] = [(2, 0o000001000004), (3, 0o000777100000)];
 
-/// The page table of one page, and the page: the loop, the word that is loaded, and the indirect word to the counted one.
-const WORDS: [(u32, u64); 9] = [
+/// The page table of one page, and of the page the simple loop, the word that is loaded, and the indirect word to the counted
+/// one.
+const SIMPLE: [(u32, u64); 9] = [
     (0o100, 0o000020000004),
     (0o2000, 0o000100235000),
     (0o2001, 0o000005075007),
@@ -40,8 +43,57 @@ const WORDS: [(u32, u64); 9] = [
     (0o2102, 0o000103000000),
 ];
 
-/// Where the counted word lies in core.
-const COUNTED: u32 = 0o2103;
+/// Of the page the mixed loop: `ldaq`, `adaq`, `era`, `orq`, `als`, `lrl`, `staq`, `ldaq` through the ITS pair, `lda` and `sta`
+/// through the tally word, `call6`, `aos`, `tra` and `rtcd`; two pairs of numbers, the ITS pair, the pair of the return, and the
+/// tally word.
+const MIXED: [(u32, u64); 23] = [
+    (0o2300, 0o000316237000),
+    (0o2301, 0o000320077000),
+    (0o2302, 0o000316675000),
+    (0o2303, 0o000320276000),
+    (0o2304, 0o000003735000),
+    (0o2305, 0o000005773000),
+    (0o2306, 0o000322757000),
+    (0o2307, 0o000324237020),
+    (0o2310, 0o000330235056),
+    (0o2311, 0o000330755054),
+    (0o2312, 0o000315713000),
+    (0o2313, 0o000331054000),
+    (0o2314, 0o000300710000),
+    (0o2315, 0o000326610000),
+    (0o2316, 0o000123456701),
+    (0o2317, 0o252525252525),
+    (0o2320, 0o000000001234),
+    (0o2321, 0o000000000017),
+    (0o2324, 0o000001000043),
+    (0o2325, 0o000320000000),
+    (0o2326, 0o000001000043),
+    (0o2327, 0o000313000000),
+    (0o2330, 0o000340010000),
+];
+
+/// The loop that is run.
+#[derive(Clone, Copy)]
+pub enum Loop {
+    Simple,
+    Mixed,
+}
+
+/// The word of segment 1 where a loop begins.
+fn begin(chosen: Loop) -> u32 {
+    match chosen {
+        Loop::Simple => 0,
+        Loop::Mixed => 0o300,
+    }
+}
+
+/// Where the word that a loop counts lies in core.
+fn counted_place(chosen: Loop) -> u32 {
+    match chosen {
+        Loop::Simple => 0o2103,
+        Loop::Mixed => 0o2331,
+    }
+}
 
 fn put(core: &mut Core, words: &[(u32, u64)]) {
     for (place, word) in words {
@@ -54,12 +106,13 @@ fn put(core: &mut Core, words: &[(u32, u64)]) {
 fn core(alloc: Global, paged: bool) -> Result<Core, NoMemory> {
     let mut core = Core::new(alloc, 2)?;
     put(&mut core, if paged { &PAGED } else { &UNPAGED });
-    put(&mut core, &WORDS);
+    put(&mut core, &SIMPLE);
+    put(&mut core, &MIXED);
     Ok(core)
 }
 
-/// Registers that hold nothing, at word 0 of segment 1 in ring 0.
-fn regs(dbr: Dbr) -> Regs
+/// Registers that hold nothing, at a word of segment 1 in ring 0.
+fn regs(dbr: Dbr, ic: u32) -> Regs
     ensures { result.dbr ≡ dbr }
 {
     let pointer = Ptr {
@@ -74,11 +127,7 @@ fn regs(dbr: Dbr) -> Regs
         x: [0; 8],
         pr: [pointer; 8],
         dbr,
-        ppr: Ppr {
-            ic: 0,
-            psr: 1,
-            prr: 0,
-        },
+        ppr: Ppr { ic, psr: 1, prr: 0 },
         ind: Ind {
             zero: false,
             negative: false,
@@ -91,19 +140,20 @@ fn regs(dbr: Dbr) -> Regs
 }
 
 /// The machine before its first step.
-pub fn machine(alloc: Global, paged: bool) -> Result<Machine, NoMemory> {
+pub fn machine(alloc: Global, paged: bool, chosen: Loop) -> Result<Machine, NoMemory> {
     let dbr = DBR;
     match Walk::new(alloc, core(alloc, paged)?, dbr) {
-        Ok(walk) => Ok(Machine::new(walk, regs(dbr))),
+        Ok(walk) => Ok(Machine::new(walk, regs(dbr, begin(chosen)))),
         Err(_core) => Err(NoMemory),
     }
 }
 
 /// How often the loop has counted.
-pub fn counted(machine: &Machine) -> u64 {
+pub fn counted(machine: &Machine, chosen: Loop) -> u64 {
     let core = machine.walk().core();
-    if COUNTED < core.len() {
-        core.peek(COUNTED).value()
+    let place = counted_place(chosen);
+    if place < core.len() {
+        core.peek(place).value()
     } else {
         0
     }
