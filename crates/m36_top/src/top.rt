@@ -11,6 +11,7 @@ ghost use Rattle.m36_top.specs.TopCall.{Through, TopOutput, ReadCause, WriteCaus
 
 use crate::command::Command;
 use crate::words::command_of;
+use m36_booted::folder_booted;
 use m36_outside::{Folder, Sink, Text};
 use m36_ran::{ImageCommand, image_file};
 use m36_reading::Status;
@@ -40,6 +41,7 @@ pub fn perform<F: Folder, S: Sink>(
         Command::Audit(file) => {
             image_file(alloc, file.bytes(), ImageCommand::Audit, folder, out)
         }
+        Command::Booted(command) => folder_booted(alloc, *command, folder, out),
         Command::Procs(file, unaudited) => {
             procs_file(alloc, file.bytes(), *unaudited, folder, out)
         }
@@ -72,7 +74,10 @@ fn answer<F: Folder, S: Sink>(alloc: Global, words: &[Text], folder: &mut F, out
 ///
 /// `words` leaves out the name of the program. `audit FILE` reads the file as a bare image, audits it, and writes the
 /// audit text. `bare FILE` does so too; where the audit passes, or `--unaudited` is given, it then runs the image for at
-/// most the steps that `--steps` gives, 100,000 by default, and writes a trace line for each and the end line. `procs FILE`
+/// most the steps that `--steps` gives, 100,000 by default, and writes a trace line for each and the end line. `audit` boots
+/// the folder, audits the core of the booted system, and writes the audit text. `run` and `trace` do so too; where the audit
+/// passes, or `--unaudited` is given, they then run the system with its services: `run` writes the characters of its console,
+/// `trace` a line for each step and each service, and both the end line. `procs FILE`
 /// reads the file as a text of processes, audits them together, and writes the audit text; where the audit passes, or
 /// `--unaudited` is given, it then makes the events of the schedule, and writes a line for each and the last line. `print NAME`
 /// unpacks the words of the file, reads them as an object, and writes its print. `alm NAME` assembles the source NAME.alm,
