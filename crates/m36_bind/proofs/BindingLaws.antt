@@ -6,9 +6,9 @@ use Rattle.obj36_parts.specs.declared.definition.Named.{Named}
 use Rattle.m36_bindfile.specs.declared.fault.BindFault.{BindFault}
 use Rattle.m36_bindfile.specs.declared.line.BindLine.{BindLine}
 use Rattle.m36_bindfile.specs.BindFile.{bind_lines, asks_newer, Refuses, BindSays}
-use Rattle.m36_bind.specs.Fields.{ShapeFields}
+use Rattle.m36_relocate.specs.Fields.{ShapeFields}
 use Rattle.m36_bind.specs.Given.{GivenFields}
-use Rattle.m36_bind.specs.declared.exports.Export.{Export}
+use Rattle.m36_relocate.specs.declared.exports.Export.{Export}
 use Rattle.m36_bind.specs.Components.{PlacedFields, and_then, picked_of}
 use Rattle.m36_bind.specs.Kept.{exports_from, kept_from}
 use Rattle.m36_bind.specs.Links.{links_from}

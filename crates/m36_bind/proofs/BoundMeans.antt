@@ -13,10 +13,10 @@ use Rattle.m36_bindfile.specs.declared.fault.BindFault.{BindFault}
 use Rattle.m36_bindfile.specs.declared.fault.BindFault.TheVariants as fault
 use Rattle.m36_bindfile.specs.declared.line.BindLine.{BindLine}
 use Rattle.m36_bindfile.specs.BindFile.{bind_lines, asks_newer, retained_names, BindSays}
-use Rattle.m36_bind.specs.Fields.{ShapeFields, BasesFields}
+use Rattle.m36_relocate.specs.Fields.{ShapeFields, BasesFields}
 use Rattle.m36_bind.specs.Given.{GivenFields}
-use Rattle.m36_bind.specs.Layout.{shape_of, first_bases, bases_behind}
-use Rattle.m36_bind.specs.Words.{words_in, all_fit}
+use Rattle.m36_relocate.specs.Layout.{shape_of, first_bases, bases_behind}
+use Rattle.m36_relocate.specs.Words.{words_in, all_fit}
 use Rattle.m36_bind.specs.Components.{PlacedFields, moving, picked_of}
 use Rattle.m36_bind.specs.Kept.{exports_from, kept_from}
 use Rattle.m36_bind.specs.Links.{link_moved}

@@ -4,11 +4,11 @@ use Rattle.std.proofs.lemmas.Bool.{ltb-true, lt-ltb, le-ltb, cond-true, cond-fal
 use Rattle.obj36_parts.specs.PartsFields.{PartsFields}
 use Rattle.obj36_parts.specs.declared.section.Section.{Section}
 use Rattle.obj36_parts.specs.declared.section.Section.TheVariants.{Text, Linkage, Symbol, Static}
-use Rattle.m36_bind.specs.Fields.{ShapeFields, BasesFields}
-use Rattle.m36_bind.specs.Layout.{shape_of, meant, meant_older, meant_newer, first_link, first_static, spot, image_spot, static_spot, spot_moved, image_number, number_moved}
-use Rattle.m36_bind.specs.declared.layout.Meant.{Meant}
-use Rattle.m36_bind.specs.declared.layout.Meant.TheVariants.{TextWord, StaticWord, LinkWord, HeadWord}
-use Rattle.m36_bind.specs.declared.layout.Spot.{Spot}
+use Rattle.m36_relocate.specs.Fields.{ShapeFields, BasesFields}
+use Rattle.m36_relocate.specs.Layout.{shape_of, meant, meant_older, meant_newer, first_link, first_static, spot, image_spot, static_spot, spot_moved, image_number, number_moved}
+use Rattle.m36_relocate.specs.declared.layout.Meant.{Meant}
+use Rattle.m36_relocate.specs.declared.layout.Meant.TheVariants.{TextWord, StaticWord, LinkWord, HeadWord}
+use Rattle.m36_relocate.specs.declared.layout.Spot.{Spot}
 use Rattle.m36_bind.specs.Components.{PlacedFields, moving}
 use Rattle.m36_bind.specs.Meaning.{image, is_there, NamesImage}
 

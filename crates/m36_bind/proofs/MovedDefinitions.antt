@@ -16,13 +16,13 @@ use Rattle.m36_bindfile.specs.declared.fault.BindFault.TheVariants as fault
 use Rattle.m36_bindfile.specs.declared.line.BindLine.{BindLine}
 use Rattle.m36_bindfile.specs.declared.line.BindLine.TheVariants as line
 use Rattle.m36_bindfile.specs.BindFile.{retained_names}
-use Rattle.m36_bind.specs.Fields.{ShapeFields}
-use Rattle.m36_bind.specs.Layout.{shape_of}
-use Rattle.m36_bind.specs.Exports.{export_named, export_behind, with_export, is_symbol, def_moved, with_moved, moved_from}
+use Rattle.m36_relocate.specs.Fields.{ShapeFields}
+use Rattle.m36_relocate.specs.Layout.{shape_of}
+use Rattle.m36_relocate.specs.Exports.{export_named, export_behind, with_export, is_symbol, def_moved, with_moved, moved_from}
 use Rattle.m36_bind.specs.Components.{PlacedFields, moving, and_then}
 use Rattle.m36_bind.specs.Kept.{exports_from, kept_one, kept_line, kept_from}
 use Rattle.m36_bind.specs.Meaning.{DefinitionSource}
-use Rattle.m36_bind.specs.declared.exports.Export.{Export}
+use Rattle.m36_relocate.specs.declared.exports.Export.{Export}
 use Rattle.m36_bind.proofs.Images.{IsWithin, spot_names}
 use Rattle.m36_bind.proofs.MovedRelocations.{either_in}
 

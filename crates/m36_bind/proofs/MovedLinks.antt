@@ -8,14 +8,14 @@ use Rattle.obj36_parts.specs.Fields.{LinkFields}
 use Rattle.obj36_parts.specs.PartsFields.{PartsFields}
 use Rattle.obj36_parts.specs.Names.{same}
 use Rattle.obj36_parts.specs.declared.section.Section.TheVariants.{Text}
-use Rattle.m36_bind.specs.Fields.{ShapeFields, BasesFields}
-use Rattle.m36_bind.specs.Layout.{shape_of, bases_behind, spot, spot_moved}
-use Rattle.m36_bind.specs.Exports.{export_named}
+use Rattle.m36_relocate.specs.Fields.{ShapeFields, BasesFields}
+use Rattle.m36_relocate.specs.Layout.{shape_of, bases_behind, spot, spot_moved}
+use Rattle.m36_relocate.specs.Exports.{export_named}
 use Rattle.m36_bind.specs.Components.{PlacedFields, moving, names_of, placed_at, component_named}
 use Rattle.m36_bind.specs.Links.{own_link, farther, counting_section, segment_link, entry_link, outer_link, inner_link, link_moved, links_onto, links_from}
 use Rattle.m36_bind.specs.Bound.{links_end}
 use Rattle.m36_bind.specs.Meaning.{AreInOrder, LinksTo, LinksAt, IsUndefined, IsMovedLink, LinksStand}
-use Rattle.m36_bind.specs.declared.exports.Export.{Export}
+use Rattle.m36_relocate.specs.declared.exports.Export.{Export}
 use Rattle.m36_bind.proofs.Images.{IsWithin, spot_names}
 use Rattle.m36_bind.proofs.PickedOrder.{got}
 

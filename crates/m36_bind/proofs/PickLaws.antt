@@ -8,11 +8,11 @@ use Rattle.m36_bindfile.specs.declared.fault.BindFault.{BindFault}
 use Rattle.m36_bindfile.specs.declared.fault.BindFault.TheVariants as fault
 use Rattle.m36_bindfile.specs.declared.line.BindLine.{BindLine}
 use Rattle.m36_bindfile.specs.BindFile.{Refuses}
-use Rattle.m36_bind.specs.Fields.{BasesFields}
+use Rattle.m36_relocate.specs.Fields.{BasesFields}
 use Rattle.m36_bind.specs.Given.{GivenFields}
-use Rattle.m36_bind.specs.Layout.{bases_behind}
-use Rattle.m36_bind.specs.Exports.{own_from}
-use Rattle.m36_bind.specs.declared.exports.Export.{Export}
+use Rattle.m36_relocate.specs.Layout.{bases_behind}
+use Rattle.m36_relocate.specs.Exports.{own_from}
+use Rattle.m36_relocate.specs.declared.exports.Export.{Export}
 use Rattle.m36_bind.specs.Components.{PlacedFields, AllFields, component, with_component, no_components, names_of, placed_in, and_then, picked_one, picked_line, picked_from, picked_of, Picks}
 use Rattle.m36_bind.proofs.ComponentLaws.{refused_on, refused_whole}
 

@@ -9,10 +9,10 @@ use Rattle.m36_bindfile.specs.declared.fault.BindFault.{BindFault}
 use Rattle.m36_bindfile.specs.declared.fault.BindFault.TheVariants as fault
 use Rattle.m36_bindfile.specs.declared.line.BindLine.{BindLine}
 use Rattle.m36_bindfile.specs.declared.line.BindLine.TheVariants as line
-use Rattle.m36_bind.specs.Fields.{ShapeFields, BasesFields}
+use Rattle.m36_relocate.specs.Fields.{ShapeFields, BasesFields}
 use Rattle.m36_bind.specs.Given.{GivenFields, object_at, object_named}
-use Rattle.m36_bind.specs.Layout.{shape_of, bases_behind, first_bases}
-use Rattle.m36_bind.specs.Exports.{own_from}
+use Rattle.m36_relocate.specs.Layout.{shape_of, bases_behind, first_bases}
+use Rattle.m36_relocate.specs.Exports.{own_from}
 use Rattle.m36_bind.specs.Components.{PlacedFields, AllFields, component, with_component, no_components, names_of, placed_in, and_then, picked_one, picked_line, picked_from, picked_of}
 use Rattle.m36_bind.specs.Meaning.{AreInOrder}
 

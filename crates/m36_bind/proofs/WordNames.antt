@@ -9,12 +9,12 @@ use Rattle.obj36_parts.specs.ObjectSegment.{is_newer, inner_statics, outer_stati
 use Rattle.obj36_parts.specs.declared.section.Section.{Section}
 use Rattle.obj36_parts.specs.declared.section.Section.TheVariants.{Text, Linkage, Symbol, Static}
 use Rattle.obj36_parts.proofs.Formed.{is_formed}
-use Rattle.m36_bind.specs.Fields.{ShapeFields}
-use Rattle.m36_bind.specs.Layout.{shape_of, meant, number_moved}
-use Rattle.m36_bind.specs.Words.{is_text_section, stands_in, start_of, place_in, words_in, words_moved, offset_in, offset_raised, below_zero, part_fits, one_fits, all_fit}
+use Rattle.m36_relocate.specs.Fields.{ShapeFields}
+use Rattle.m36_relocate.specs.Layout.{shape_of, meant, number_moved}
+use Rattle.m36_relocate.specs.Words.{is_text_section, stands_in, start_of, place_in, words_in, words_moved, offset_in, offset_raised, below_zero, part_fits, one_fits, all_fit}
 use Rattle.m36_bind.specs.Components.{PlacedFields, moving}
 use Rattle.m36_bind.specs.Meaning.{part_of, overlap, Moves, NamesImage, IsMovedWord}
-use Rattle.m36_bind.specs.declared.layout.Moving.{Moving}
+use Rattle.m36_relocate.specs.declared.layout.Moving.{Moving}
 use Rattle.m36_bind.proofs.WordParts.{cut_to, number_put}
 use Rattle.m36_bind.proofs.MovedWords.{at, word_by, word_kept, word_part, AreApart, AreOf, rising_apart}
 use Rattle.m36_bind.proofs.Images.{IsWithin, number_names}

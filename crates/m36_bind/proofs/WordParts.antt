@@ -4,10 +4,10 @@ use Rattle.std.proofs.lemmas.Bool.{ne_eqb, cond-false}
 use Rattle.obj36_parts.specs.Fields.{RelocFields}
 use Rattle.obj36_parts.specs.Halves.{left, right, joined}
 use Rattle.obj36_parts.specs.declared.section.Section.{Section}
-use Rattle.m36_bind.specs.Layout.{number_moved}
-use Rattle.m36_bind.specs.Words.{offset_in, with_offset, offset_raised, word_moved}
+use Rattle.m36_relocate.specs.Layout.{number_moved}
+use Rattle.m36_relocate.specs.Words.{offset_in, with_offset, offset_raised, word_moved}
 use Rattle.m36_bind.specs.Meaning.{part_of, overlap}
-use Rattle.m36_bind.specs.declared.layout.Moving.{Moving}
+use Rattle.m36_relocate.specs.declared.layout.Moving.{Moving}
 
 left_is : (l r : ℕ) → left (joined l r) ≡ l % 2 ^ 18
 unfolding left joined

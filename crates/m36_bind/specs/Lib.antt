@@ -1,7 +1,3 @@
-pub mod Fields
-pub mod Layout
-pub mod Words
-pub mod Exports
 pub mod Given
 pub mod Components
 pub mod Kept

@@ -3,13 +3,13 @@
 ghost use Rattle.std.specs.Prelude.{ℕ, ◌≡◌, ◌+◌, ◌++◌, ◌^◌, ◌<◌, ◌≤◌, ◌||◌, [], true, false, if◌then◌else◌, IfOk, OnOk};
 ghost use Rattle.std.specs.List.{list_any};
 ghost use Rattle.m36_bind.specs.Components.{moving};
-ghost use Rattle.m36_bind.specs.Words.{words_in, words_moved, evened_words};
+ghost use Rattle.m36_relocate.specs.Words.{words_in, words_moved, evened_words};
 ghost use Rattle.m36_bind.specs.Bound.{is_newer_component, statics_end, links_end, frame_of, component_words, laid_from, relocation_moved, with_relocation, relocations_onto, relocations_from, first_bound, bound_parts};
 
-use crate::layout::{Moving, Shape, spot_moved};
 use crate::links::links;
 use crate::placed::{Components, Placed, moving};
-use crate::words::{move_words, stands_in};
+use m36_relocate::layout::{Moving, Shape, spot_moved};
+use m36_relocate::words::{move_words, stands_in};
 use m36_word::{NoMemory, Word, Words};
 use obj36_parts::sections::push_all;
 use obj36_parts::{Defs, Parts, Reloc, Relocs};

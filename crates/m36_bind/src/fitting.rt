@@ -4,9 +4,9 @@ ghost use Rattle.std.specs.Prelude.{◌≡◌, ◌&&◌, ◌≤◌, ◌^◌, ◌
 ghost use Rattle.obj36_parts.specs.ObjectSegment.{is_well_formed, definition_section};
 ghost use Rattle.m36_bind.specs.Bound.{component_fits, components_fit, sections_fit, section_fits};
 
-use crate::layout::Shape;
 use crate::placed::{Placed, moving};
-use crate::words::all_fit;
+use m36_relocate::layout::Shape;
+use m36_relocate::words::all_fit;
 use m36_word::Word;
 use obj36::Object;
 use obj36_parts::{Parts, Section};

@@ -5,13 +5,13 @@ ghost use Rattle.std.specs.List.{list_any};
 ghost use Rattle.obj36_parts.specs.Names.{same};
 ghost use Rattle.m36_bindfile.specs.BindFile.{BindSays};
 ghost use Rattle.m36_bind.specs.Components.{Changes, moving};
-ghost use Rattle.m36_bind.specs.Exports.{moved_from};
+ghost use Rattle.m36_relocate.specs.Exports.{moved_from};
 ghost use Rattle.m36_bind.specs.Kept.{exports_from, kept_one, kept_line, kept_from};
 
-use crate::exports::{Export, Exports, add_moved};
-use crate::layout::Shape;
 use crate::placed::{Placed, moving};
 use m36_bindfile::{BindFault, BindLine};
+use m36_relocate::exports::{Export, Exports, add_moved};
+use m36_relocate::layout::Shape;
 use m36_text::Name;
 use m36_word::NoMemory;
 use obj36_parts::{Defs, Named};

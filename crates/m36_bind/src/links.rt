@@ -2,12 +2,12 @@
 
 ghost use Rattle.std.specs.Prelude.{ℕ, ◌≡◌, ◌+◌, ◌%◌, ◌^◌, ◌<◌, [], ◌∷◌, ◌++◌, OnOk, IfOk, option_map};
 ghost use Rattle.m36_bind.specs.Components.{PlacedFields, moving};
-ghost use Rattle.m36_bind.specs.Layout.{spot_moved};
+ghost use Rattle.m36_relocate.specs.Layout.{spot_moved};
 ghost use Rattle.m36_bind.specs.Links.{own_link, farther, rank, counting_section, segment_link, entry_link, outer_link, inner_link, link_moved, links_onto, links_from};
 
-use crate::exports::Export;
-use crate::layout::{Shape, Spot, spot_at, spot_moved};
 use crate::placed::{Components, Placed, moving};
+use m36_relocate::exports::Export;
+use m36_relocate::layout::{Shape, Spot, spot_at, spot_moved};
 use m36_text::Name;
 use m36_word::NoMemory;
 use obj36_parts::{Link, Links, Section};

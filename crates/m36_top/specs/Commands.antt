@@ -8,7 +8,8 @@ use Rattle.m36_scheduled.specs.Scheduled.{procs_reads}
 use Rattle.m36_booted.specs.Folder.{folder_reads}
 use Rattle.m36_ran.specs.declared.command.ImageCommand.TheVariants as image
 use Rattle.m36_top.specs.declared.command.Command.{Command}
-use Rattle.m36_top.specs.declared.command.Command.TheVariants.{Bare, Audit, Booted, Procs, Print, Alm, Bind}
+use Rattle.m36_top.specs.declared.command.Command.TheVariants.{Bare, Audit, Booted, Procs}
+use Rattle.m36_top.specs.declared.command.Command.TheVariants.{Print, Alm, Bind}
 use Rattle.m36_top.specs.Dues.{Due, Told, on_image, on_folder, on_procs}
 
 unfoldable pub reads : Command → Reading (Early Due)

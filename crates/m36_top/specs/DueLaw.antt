@@ -1,4 +1,5 @@
--- That one answer is due to words and files, but to those that boot a folder, and which by the conditions of the audit.
+-- That one answer is due to words and files, but to those that boot a folder, and which by the
+-- conditions of the audit.
 use Rattle.std.specs.Prelude.{ℕ, ◌≡◌, ⊤, List, Option, Some, None, Result, Ok, Err}
 use Rattle.m36_outside.specs.Files.{Files}
 use Rattle.m36_outside.specs.Passing.{joined}
@@ -29,13 +30,16 @@ abbrev pub BootsNone : Option Command → Files → Type 0
 BootsNone None files = ⊤
 BootsNone (Some command) files = IsUnbooted (outcome_in files (reads command))
 
--- One answer at most is due to words and files that boot no folder, and it can't be that none is. The pieces of an answer, one
--- behind the other, are its text. To a command on an image, or on processes, it is the one that the findings of the audit give,
--- and of those to a command on a folder the law of folders speaks.
+-- One answer at most is due to words and files that boot no folder, and it can't be that none is.
+-- The pieces of an answer, one behind the other, are its text. To a command on an image, or on
+-- processes, it is the one that the findings of the audit give, and of those to a command on a
+-- folder the law of folders speaks.
 pub record DueLaw : Type 0 where
   pub one :
-      (words : List (List ℕ)) (files : Files) (due same : Answer) → BootsNone (command_of words) files
-      → IsCommandDue (command_of words) files due → IsCommandDue (command_of words) files same → due ≡ same
+      (words : List (List ℕ)) (files : Files) (due same : Answer)
+      → BootsNone (command_of words) files
+      → IsCommandDue (command_of words) files due → IsCommandDue (command_of words) files same
+      → due ≡ same
   pub some :
       (words : List (List ℕ)) (files : Files) → BootsNone (command_of words) files
       → ¬ ((due : Answer) → ¬ IsCommandDue (command_of words) files due)

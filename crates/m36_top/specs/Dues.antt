@@ -1,5 +1,6 @@
--- What is due to a command, in kinds: an answer that is told, one by what the audit of an image finds, one by what the audit of
--- a booted folder finds, or one by what the joint audit of processes finds.
+-- What is due to a command, in kinds: an answer that is told, one by what the audit of an image
+-- finds, one by what the audit of a booted folder finds, or one by what the joint audit of
+-- processes finds.
 use Rattle.std.specs.Prelude.{ℕ, ⊤, Bool, List}
 use Rattle.m36_model.specs.Store.{State}
 use Rattle.m36_reading.specs.Answers.{Answer}
@@ -70,7 +71,8 @@ WantsOf (Schedule schedule) old new = IsIdle old new
 abbrev pub due_kind : Kind Due
 due_kind = record { IsDue = IsDueOf; IsBegun = IsBegunOf; Wants = WantsOf }
 
--- what `audit yes` promises: of the image, of the booted folder, or of the processes, where the command audits any
+-- what `audit yes` promises: of the image, of the booted folder, or of the processes, where the
+-- command audits any
 abbrev pub Promises : Due → Type 0
 Promises (Told told) = ⊤
 Promises (Image image) = PassesAudit image.state

@@ -1,6 +1,6 @@
 //! The text of a reference.
 
-ghost use Rattle.std.specs.Prelude.{[], ◌++◌, ◌≡◌, OnOk, if◌then◌else◌};
+ghost use Rattle.std.specs.Prelude.{[], ◌++◌, ◌≡◌, ◌≤◌, length, OnOk, if◌then◌else◌};
 ghost use Rattle.obj36_parts.specs.ObjectSegment.{has_name, has_entry};
 ghost use Rattle.obj36.specs.References.{own_section, reference_text};
 
@@ -12,7 +12,8 @@ use obj36_parts::section::Section;
 
 // A section of the object itself, as the assembler writes it.
 fn own_section(section: Section) -> &'static str
-    ensures { result.now ≡ own_section section }
+    ensures text { result.now ≡ own_section section }
+    ensures len { length result.now ≤ 32 }
 {
     match section {
         Section::Text => "*text",
@@ -22,10 +23,11 @@ fn own_section(section: Section) -> &'static str
     }
 }
 
-// What a link's reference begins with: a segment, or a section of the object itself.
-fn subject(link: &Link) -> &[u8]
-    ensures { result.now
+/// What a link's reference begins with: a segment, or a section of the object itself, as `*text`. At most 32 bytes.
+pub fn subject(link: &Link) -> &[u8]
+    ensures text { result.now
         ≡ (if has_name link.now.kind then link.now.name else own_section link.now.section) }
+    ensures len { length result.now ≤ 32 }
 {
     if has_its_name(link.kind as u64) {
         link.name.bytes()
@@ -34,9 +36,10 @@ fn subject(link: &Link) -> &[u8]
     }
 }
 
-// The entry of a link's reference, or nothing.
-fn entry(link: &Link) -> &[u8]
-    ensures { result.now ≡ (if has_entry link.now.kind then link.now.entry else []) }
+/// The entry of a link's reference, or nothing. At most 32 bytes.
+pub fn entry(link: &Link) -> &[u8]
+    ensures text { result.now ≡ (if has_entry link.now.kind then link.now.entry else []) }
+    ensures len { length result.now ≤ 32 }
 {
     if has_its_entry(link.kind as u64) {
         link.entry.bytes()

@@ -1,7 +1,7 @@
 //! Parts of words that move: halves, and bits 3 to 17.
 
 ghost use Rattle.std.specs.Prelude.{ℕ, ◌≡◌, ◌+◌, ◌-◌, ◌*◌, ◌/◌, ◌%◌, ◌^◌, ◌<◌, ◌≤◌, length, slice_index, slice_set};
-ghost use Rattle.m36_bind.specs.Words.{offset_in, with_offset, below_zero, offset_raised, word_moved, part_fits, is_text_section, stands_in, start_of, place_in, moved_at, one_moved, words_moved, one_fits, all_fit};
+ghost use Rattle.m36_relocate.specs.Words.{offset_in, with_offset, below_zero, offset_raised, word_moved, part_fits, is_text_section, stands_in, start_of, place_in, moved_at, one_moved, words_moved, one_fits, all_fit};
 
 use crate::layout::{Bases, Moving, Shape, number_moved};
 use m36_word::Word;
@@ -87,8 +87,8 @@ fn is_text_section(section: Section) -> bool
     matches!(section, Section::Text)
 }
 
-// Whether a relocation's place is among static words, or in the text.
-pub(crate) fn stands_in(statics: bool, r: &Reloc) -> bool
+/// Whether a relocation's place is among static words, or in the text.
+pub fn stands_in(statics: bool, r: &Reloc) -> bool
     ensures { result ≡ stands_in statics r.now }
 {
     if statics {
@@ -133,9 +133,9 @@ fn move_one(words: &mut [Word], m: &Moving, statics: bool, r: &Reloc)
     }
 }
 
-// Moves the parts of these relocations.
+/// Moves, one relocation after another, the parts that these name: in the text, or in the static words.
 #[tactic(auto, unfolding(crate::specs::Words::words_moved))]
-pub(crate) fn move_words(words: &mut [Word], m: &Moving, statics: bool, relocations: &[Reloc])
+pub fn move_words(words: &mut [Word], m: &Moving, statics: bool, relocations: &[Reloc])
     ensures { words.new ≡ words_moved m.now statics relocations.now words.old }
 {
     let mut rest = relocations;
@@ -167,9 +167,9 @@ fn one_fits(m: &Moving, statics: bool, words: &[Word], r: &Reloc) -> bool
     }
 }
 
-// Whether the parts of these relocations fit.
+/// Whether each part that these relocations name, in the text or in the static words, fits where it goes.
 #[tactic(auto, unfolding(crate::specs::Words::all_fit))]
-pub(crate) fn all_fit(m: &Moving, statics: bool, words: &[Word], relocations: &[Reloc]) -> bool
+pub fn all_fit(m: &Moving, statics: bool, words: &[Word], relocations: &[Reloc]) -> bool
     ensures { result ≡ all_fit m.now statics words.now relocations.now }
 {
     let mut rest = relocations;

@@ -1,10 +1,10 @@
 use Rattle.std.proofs.Common.{◌≡◌, length}
-use Rattle.m36_bind.specs.Exports.{moved_from}
-use Rattle.m36_bind.proofs.exports.add_moved.Given as goal
+use Rattle.m36_relocate.specs.Words.{all_fit}
+use Rattle.m36_bind.proofs.words.all_fit.Given as goal
 
 -- the rest completes the whole
 abbrev pub invariant-loop-rest : goal.invariant-loop-rest
-invariant-loop-rest l = moved_from l.m l.table l.rest ≡ moved_from l.m l.fn.table l.definitions
+invariant-loop-rest l = all_fit l.m l.statics l.words l.rest ≡ all_fit l.m l.statics l.words l.relocations
 
 abbrev pub decreases-loop-rest : goal.decreases-loop-rest
 decreases-loop-rest l = length l.rest

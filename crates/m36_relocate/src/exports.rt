@@ -1,7 +1,7 @@
 //! Tables of definitions by name.
 
 ghost use Rattle.std.specs.Prelude.{ℕ, ◌≡◌, ◌^◌, ◌<◌, [], IfOk, OnOk, option_map};
-ghost use Rattle.m36_bind.specs.Exports.{export_named, export_behind, with_export, is_symbol, with_own, own_from, def_moved, with_moved, moved_from};
+ghost use Rattle.m36_relocate.specs.Exports.{export_named, export_behind, with_export, is_symbol, with_own, own_from, def_moved, with_moved, moved_from};
 
 use crate::layout::{Moving, spot_moved};
 use indexmap::IndexMap;
@@ -11,23 +11,24 @@ use obj36_parts::{Def, Named, Section};
 use std::alloc::Global;
 use std::marker::Model;
 
-// The first definition of a name.
+/// The first definition of a name.
 #[derive(Clone, Copy)]
-pub(crate) struct Export {
-    pub(crate) def: Def,
-    // Another definition of the name follows.
-    pub(crate) twice: bool,
+pub struct Export {
+    /// The definition.
+    pub def: Def,
+    /// Another definition of the name follows.
+    pub twice: bool,
 }
 
-// A table of definitions, seen as its entries in order.
+/// A table of definitions, seen as its entries in order.
 #[derive(Drop)]
-pub(crate) struct Exports {
+pub struct Exports {
     entries: IndexMap<Name, Export>,
 }
 
 impl Model for Exports {
     ghost use Rattle.std.specs.Prelude.{ℕ, List};
-    ghost use Rattle.m36_bind.specs.declared.exports.Export.{Export};
+    ghost use Rattle.m36_relocate.specs.declared.exports.Export.{Export};
 
     ghost Value = { List (List ℕ × Export) };
 
@@ -54,7 +55,8 @@ fn found(entries: &IndexMap<Name, Export>, name: &Name) -> Option<Export>
 }
 
 impl Exports {
-    pub(crate) fn new(alloc: Global) -> Exports
+    /// A table with no entry.
+    pub fn new(alloc: Global) -> Exports
         ensures { result ≡ [] }
     {
         Exports {
@@ -62,8 +64,8 @@ impl Exports {
         }
     }
 
-    // What the table has of a name.
-    pub(crate) fn find(&self, name: &Name) -> Option<Export>
+    /// What the table has of a name.
+    pub fn find(&self, name: &Name) -> Option<Export>
         ensures { result ≡ export_named name.now self.now }
     {
         found(&self.entries, name)
@@ -96,9 +98,9 @@ fn add_own(table: &mut Exports, d: &Named) -> Result<(), NoMemory>
     table.add(&d.name, d.def)
 }
 
-// The definitions of one object.
+/// The definitions of one object, as they are there. Those of class symbol count as none. The error is want of memory.
 #[tactic(auto, unfolding(crate::specs::Exports::own_from))]
-pub(crate) fn own_entries(alloc: Global, definitions: &[Named]) -> Result<Exports, NoMemory>
+pub fn own_entries(alloc: Global, definitions: &[Named]) -> Result<Exports, NoMemory>
     ensures { IfOk result (λ table. table ≡ own_from [] definitions.now) }
 {
     let mut table = Exports::new(alloc);
@@ -130,13 +132,9 @@ fn add_one_moved(table: &mut Exports, m: &Moving, d: &Named) -> Result<(), NoMem
     table.add(&d.name, def_moved(m, d.def))
 }
 
-// Adds definitions of a component, where they go.
+/// Adds the definitions of a component, where they go. The error is want of memory.
 #[tactic(auto, unfolding(crate::specs::Exports::moved_from))]
-pub(crate) fn add_moved(
-    table: &mut Exports,
-    m: &Moving,
-    definitions: &[Named],
-) -> Result<(), NoMemory>
+pub fn add_moved(table: &mut Exports, m: &Moving, definitions: &[Named]) -> Result<(), NoMemory>
     ensures { OnOk result (table.new ≡ moved_from m.now table.old definitions.now) }
 {
     let mut rest = definitions;

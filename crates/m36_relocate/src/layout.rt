@@ -1,25 +1,25 @@
 //! Where the words of components go in the bound object.
 
 ghost use Rattle.std.specs.Prelude.{ℕ, ◌≡◌, ◌+◌, ◌*◌, ◌^◌, ◌<◌, ◌≤◌, length};
-ghost use Rattle.m36_bind.specs.Layout.{meant, meant_older, meant_newer, meant_past_head, meant_in_linkage, IsBelow, bases_behind, first_link, first_static, spot, static_spot, image_spot, spot_moved, static_number, image_number, number_moved, evened};
+ghost use Rattle.m36_relocate.specs.Layout.{meant, meant_older, meant_newer, meant_past_head, meant_in_linkage, IsBelow, bases_behind, first_link, first_static, spot, static_spot, image_spot, spot_moved, static_number, image_number, number_moved, evened};
 
 use obj36_parts::Section;
 use std::marker::Model;
 
-// How an object numbers its words.
+/// How an object numbers its words.
 #[derive(Clone, Copy)]
-pub(crate) struct Shape {
-    // How many static words there are.
-    pub(crate) statics: u64,
-    // How many links.
-    pub(crate) links: u64,
-    // It has version 2.
-    pub(crate) newer: bool,
+pub struct Shape {
+    /// How many static words there are.
+    pub statics: u64,
+    /// How many links.
+    pub links: u64,
+    /// It has version 2.
+    pub newer: bool,
 }
 
 impl Model for Shape {
     ghost use Rattle.std.specs.Prelude.{◌<◌, ◌^◌};
-    ghost use Rattle.m36_bind.specs.Fields.{ShapeFields};
+    ghost use Rattle.m36_relocate.specs.Fields.{ShapeFields};
 
     ghost Value = { ShapeFields };
 
@@ -30,20 +30,20 @@ impl Model for Shape {
     ghost inverse = { λ s. record { statics = s.statics; links = s.links; newer = s.newer } };
 }
 
-// Where the words of a component begin.
+/// Where the words of a component begin.
 #[derive(Clone, Copy)]
-pub(crate) struct Bases {
-    // Its first word of the text.
-    pub(crate) text: u64,
-    // Its first static word, counted from the first of all.
-    pub(crate) statics: u64,
-    // How many links stand before its own.
-    pub(crate) links: u64,
+pub struct Bases {
+    /// Its first word of the text.
+    pub text: u64,
+    /// Its first static word, counted from the first of all.
+    pub statics: u64,
+    /// How many links stand before its own.
+    pub links: u64,
 }
 
 impl Model for Bases {
     ghost use Rattle.std.specs.Prelude.{◌<◌, ◌^◌};
-    ghost use Rattle.m36_bind.specs.Fields.{BasesFields};
+    ghost use Rattle.m36_relocate.specs.Fields.{BasesFields};
 
     ghost Value = { BasesFields };
 
@@ -54,33 +54,37 @@ impl Model for Bases {
     ghost inverse = { λ b. record { text = b.text; statics = b.statics; links = b.links } };
 }
 
-// What takes a component's places to those of the bound object: the shapes of both, and where the component begins.
+/// What takes a component's places to those of the bound object.
 #[derive(Clone, Copy)]
-pub(crate) struct Moving {
-    pub(crate) frame: Shape,
-    pub(crate) shape: Shape,
-    pub(crate) bases: Bases,
+pub struct Moving {
+    /// The shape of the bound object.
+    pub frame: Shape,
+    /// The shape of the component.
+    pub shape: Shape,
+    /// Where the component begins.
+    pub bases: Bases,
 }
 
-// What a place of a component names.
+/// What a place of a component names.
 #[derive(Clone, Copy)]
-pub(crate) enum Meant {
-    // A word of the text.
+pub enum Meant {
+    /// A word of the text.
     TextWord(u64),
-    // A static word.
+    /// A static word.
     StaticWord(u64),
-    // A word from the first link on.
+    /// A word from the first link on.
     LinkWord(u64),
-    // A word at the head of the linkage section.
+    /// A word at the head of the linkage section.
     HeadWord(u64),
 }
 
-// A place of the bound object.
+/// A place of the bound object.
 #[derive(Clone, Copy)]
-pub(crate) struct Spot {
-    // 18 bits.
-    pub(crate) offset: u32,
-    pub(crate) section: Section,
+pub struct Spot {
+    /// 18 bits.
+    pub offset: u32,
+    /// The section.
+    pub section: Section,
 }
 
 fn meant_older(statics: u64, v: u64) -> Meant
@@ -153,8 +157,8 @@ fn meaning(s: &Shape, section: Section, v: u64) -> Meant
     }
 }
 
-// The next even number.
-pub(crate) fn evened(n: u64) -> u64
+/// The next even number.
+pub fn evened(n: u64) -> u64
     requires { n < 2 ^ 62 }
     ensures value { result ≡ evened n }
     ensures bound { result ≤ n + 1 }
@@ -176,7 +180,8 @@ fn first_static(f: &Shape) -> u64
     if f.newer { 8 + 2 * f.links } else { 8 }
 }
 
-pub(crate) fn spot_at(section: Section, offset: u64) -> Spot
+/// A place of a section; the offset counts modulo 2^18.
+pub fn spot_at(section: Section, offset: u64) -> Spot
     ensures value { result ≡ spot section offset }
     ensures bound { result.offset < 2 ^ 18 }
 {
@@ -211,9 +216,9 @@ fn image_spot(f: &Shape, b: &Bases, m: Meant) -> Spot
     }
 }
 
-// Where a place of a component goes. The offset has 18 bits.
+/// Where a place of a component goes. The offset has 18 bits.
 #[tactic(auto, unfolding(crate::specs::Layout::spot_moved))]
-pub(crate) fn spot_moved(m: &Moving, section: Section, v: u64) -> Spot
+pub fn spot_moved(m: &Moving, section: Section, v: u64) -> Spot
     requires { v < 2 ^ 18 }
     ensures value { result ≡ spot_moved m.now section v }
     ensures bound { result.offset < 2 ^ 18 }
@@ -245,9 +250,9 @@ fn image_number(f: &Shape, b: &Bases, target: Section, m: Meant) -> u64
     }
 }
 
-// The number of the image of what a number of a component names. The number has 18 bits.
+/// The number of the image of what a number of a component names. The number has 18 bits.
 #[tactic(auto, unfolding(crate::specs::Layout::number_moved))]
-pub(crate) fn number_moved(m: &Moving, target: Section, v: u64) -> u64
+pub fn number_moved(m: &Moving, target: Section, v: u64) -> u64
     requires { v < 2 ^ 18 }
     ensures value { result ≡ number_moved m.now target v }
     ensures bound { result < 2 ^ 63 }

@@ -1,10 +1,10 @@
 use Rattle.std.proofs.Common.{◌≡◌, length}
-use Rattle.m36_bind.specs.Words.{words_moved}
-use Rattle.m36_bind.proofs.words.move_words.Given as goal
+use Rattle.m36_relocate.specs.Exports.{moved_from}
+use Rattle.m36_bind.proofs.exports.add_moved.Given as goal
 
 -- the rest completes the whole
 abbrev pub invariant-loop-rest : goal.invariant-loop-rest
-invariant-loop-rest l = words_moved l.m l.statics l.rest l.words ≡ words_moved l.m l.statics l.relocations l.fn.words
+invariant-loop-rest l = moved_from l.m l.table l.rest ≡ moved_from l.m l.fn.table l.definitions
 
 abbrev pub decreases-loop-rest : goal.decreases-loop-rest
 decreases-loop-rest l = length l.rest

@@ -1,10 +1,10 @@
 use Rattle.std.proofs.Common.{◌≡◌, length}
-use Rattle.m36_bind.specs.Words.{all_fit}
-use Rattle.m36_bind.proofs.words.all_fit.Given as goal
+use Rattle.m36_relocate.specs.Words.{words_moved}
+use Rattle.m36_bind.proofs.words.move_words.Given as goal
 
 -- the rest completes the whole
 abbrev pub invariant-loop-rest : goal.invariant-loop-rest
-invariant-loop-rest l = all_fit l.m l.statics l.words l.rest ≡ all_fit l.m l.statics l.words l.relocations
+invariant-loop-rest l = words_moved l.m l.statics l.rest l.words ≡ words_moved l.m l.statics l.relocations l.fn.words
 
 abbrev pub decreases-loop-rest : goal.decreases-loop-rest
 decreases-loop-rest l = length l.rest

@@ -1,5 +1,5 @@
 use Rattle.std.proofs.Common.{◌≡◌, [], length}
-use Rattle.m36_bind.specs.Exports.{own_from}
+use Rattle.m36_relocate.specs.Exports.{own_from}
 use Rattle.m36_bind.proofs.exports.own_entries.Given as goal
 
 -- the rest completes the whole
