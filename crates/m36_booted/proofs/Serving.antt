@@ -297,4 +297,4 @@ step_goes progress.Starved output taken before mid after told old now new turns 
   behind = leaves.behind;
 }
 
-pub ruleset stepping = (turn_steps, step_cut, step_goes)
+pub ruleset stepping = (step_cut, step_goes)

@@ -7,7 +7,7 @@ ghost use Rattle.m36_booted.specs.RunSays.{BehindLink, BehindSays, Progresses, F
 
 use crate::command::RunOutput;
 use crate::lines::{put_finish, put_linked, put_printed, put_step};
-use m36_model::{At, End};
+use m36_model::{At, End, StepRecord};
 use m36_outside::{Put, Sink};
 use m36_step::{Stepper, Turn};
 use m36_super::{Coming, Super};
@@ -105,20 +105,25 @@ fn serve<S: Sink>(system: &mut Super, taken: u32, output: RunOutput, out: &mut S
     }
 }
 
-// Takes a step before which so many were taken, with its service.
+// Takes a step before which so many were taken, with its service. The step is told in a record that an earlier one may have
+// filled.
 #[tactic(auto, using(crate::proofs::Serving::stepping))]
-fn take_step<S: Sink>(system: &mut Super, taken: u32, output: RunOutput, out: &mut S) -> Progress
+fn take_step<S: Sink>(
+    system: &mut Super,
+    taken: u32,
+    output: RunOutput,
+    told: &mut StepRecord,
+    out: &mut S,
+) -> Progress
     requires step { system.old.coming ≡ Step }
     requires few { taken + 1 < 2 ^ 32 }
     ensures { Progresses result output taken 1 system.old system.new
         (sink_of S.written S.taken S.faults out.old) (sink_of S.written S.taken S.faults out.new) }
 {
-    match system.turn() {
-        Turn::Stepped(told) => match put_step(output, taken, &told, out) {
-            Put::Failed => Progress::Cut,
-            Put::Done => serve(system, taken + 1, output, out),
-        },
-        _ => unreachable!(),
+    system.step_told(told);
+    match put_step(output, taken, told, out) {
+        Put::Failed => Progress::Cut,
+        Put::Done => serve(system, taken + 1, output, out),
     }
 }
 
@@ -140,10 +145,11 @@ pub fn run<S: Sink>(system: &mut Super, steps: u32, output: RunOutput, out: &mut
     ensures { RanSays result output steps system.old
         (sink_of S.written S.taken S.faults out.old) (sink_of S.written S.taken S.faults out.new) }
 {
+    let mut told = system.untold();
     let mut taken: u32 = 0;
     let mut left = steps;
     'steps: while left > 0 {
-        match take_step(system, taken, output, out) {
+        match take_step(system, taken, output, &mut told, out) {
             Progress::On => {}
             Progress::Over(end) => return write_end(Finish::Over(end), taken + 1, out),
             Progress::Cut => return Ran::Cut,
