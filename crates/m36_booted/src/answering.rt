@@ -11,7 +11,8 @@ ghost use Rattle.m36_reading.specs.Outside.{sink_of, outside_of};
 ghost use Rattle.m36_reading.specs.Doing.{Does};
 ghost use Rattle.m36_booted.specs.RunText.{end_status, finish_status};
 ghost use Rattle.m36_booted.specs.Folder.{folder_reads};
-ghost use Rattle.m36_booted.specs.Booted.{IsRunAnswer, IsAuditAnswer, IsRunBy, IsAnswerOf, IsFolderAnswer, folder_kind};
+ghost use Rattle.m36_booted.specs.Booted.{IsRunAnswer, IsAuditAnswer, IsRunBy, IsAnswerOf};
+ghost use Rattle.m36_booted.specs.Booted.{IsFolderAnswer, folder_kind};
 ghost use Rattle.m36_booted.specs.Putting.{Puts};
 ghost use Rattle.m36_booted.specs.Systems.{IsFresh};
 
@@ -62,7 +63,9 @@ fn run_audited<S: Sink>(
     out: &mut S,
 ) -> Status
     requires { system.old.coming ≡ Step }
-    ensures { Puts (λ extent. IsRunAnswer extent output steps system.old.lib (booted_of system.old) (pairs findings.now))
+    ensures { Puts
+        (λ extent. IsRunAnswer extent output steps system.old.lib (booted_of system.old)
+        (pairs findings.now))
         (end_of result) result
         (sink_of S.written S.taken S.faults out.old) (sink_of S.written S.taken S.faults out.new) }
 {
@@ -102,7 +105,8 @@ fn answer_run<S: Sink>(
     out: &mut S,
 ) -> Status
     requires { system.old.coming ≡ Step }
-    ensures { Puts (λ extent. IsRunBy (passes (pairs findings.now) || run.unaudited) extent output run.steps
+    ensures { Puts
+        (λ extent. IsRunBy (passes (pairs findings.now) || run.unaudited) extent output run.steps
         system.old.lib (booted_of system.old) (pairs findings.now))
         (end_of result) result
         (sink_of S.written S.taken S.faults out.old) (sink_of S.written S.taken S.faults out.new) }
@@ -122,7 +126,9 @@ fn answer_found<S: Sink>(
     out: &mut S,
 ) -> Status
     requires { system.old.coming ≡ Step }
-    ensures { Puts (λ extent. IsAnswerOf command extent system.old.lib (booted_of system.old) (pairs findings.now))
+    ensures { Puts
+        (λ extent. IsAnswerOf command extent system.old.lib (booted_of system.old)
+        (pairs findings.now))
         (end_of result) result
         (sink_of S.written S.taken S.faults out.old) (sink_of S.written S.taken S.faults out.new) }
 {
@@ -135,7 +141,8 @@ fn answer_found<S: Sink>(
 
 // The audit of the core of a booted system.
 fn audited(alloc: Global, system: &Super) -> Result<Verdict, NoMemory>
-    ensures { IfOk result (λ v. AreFindings system.now.core system.now.regs.dbr (pairs v.findings.items)) }
+    ensures { IfOk result
+        (λ v. AreFindings system.now.core system.now.regs.dbr (pairs v.findings.items)) }
 {
     let regs = system.regs();
     audit(alloc, system.core(), regs.dbr)
@@ -169,9 +176,9 @@ pub fn folder_booted<F: Folder, S: Sink>(
 ) -> Status
     ensures { Does (folder_kind command) folder_reads result
         (outside_of F.files F.wrote F.read_faults F.write_faults S.written S.taken S.faults
-            folder.old out.old)
+        folder.old out.old)
         (outside_of F.files F.wrote F.read_faults F.write_faults S.written S.taken S.faults
-            folder.new out.new)
+        folder.new out.new)
         (F.asked folder.old) (F.asked folder.new) }
 {
     match read_system(alloc, folder) {

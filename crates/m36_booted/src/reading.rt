@@ -8,7 +8,9 @@ ghost use Rattle.m36_reading.specs.Reading.{Early};
 ghost use Rattle.m36_reading.specs.Asking.{Gives, Refuses};
 ghost use Rattle.m36_reading.specs.Outside.{folder_of};
 ghost use Rattle.m36_reading.specs.Doing.{Reads};
-ghost use Rattle.m36_booted.specs.Folder.{boot_refused, catalog_refused, catalog_by, catalog_reads, files_with, files_from, library_of, fault_refused, boots, folder_reads};
+ghost use Rattle.m36_booted.specs.Folder.{boot_refused, catalog_refused, catalog_by};
+ghost use Rattle.m36_booted.specs.Folder.{catalog_reads, files_with, files_from, library_of};
+ghost use Rattle.m36_booted.specs.Folder.{fault_refused, boots, folder_reads};
 ghost use Rattle.m36_booted.specs.Systems.{IsFresh, library_in};
 
 use crate::files::SegmentFiles;
@@ -69,7 +71,8 @@ fn read_catalog<F: Folder>(alloc: Global, folder: &mut F) -> Result<Catalog, Ref
 // The files, and one more.
 fn with_file(mut files: SegmentFiles, words: Words) -> Result<SegmentFiles, Refusal>
     requires { length words ≤ 2 ^ 18 }
-    ensures gives { Gives result (let more : Early (List (List ℕ)) = Ok (files ++ words ∷ []) in more) }
+    ensures gives { Gives result
+        (let more : Early (List (List ℕ)) = Ok (files ++ words ∷ []) in more) }
     ensures more { IfOk result (λ more. more ≡ files ++ words ∷ []) }
 {
     files.push(words)?;
