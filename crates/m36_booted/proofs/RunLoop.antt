@@ -1,5 +1,5 @@
 -- A run with a limit of steps, step by step.
-use Rattle.std.proofs.Common.{◌≡◌, ℕ, ◌+◌, ◌-◌, ◌<◌, ◌≤◌, List, [], ◌∷◌, ◌++◌, Option, Some, None, refl, sym, ap, subst, ◌∙◌, arith}
+use Rattle.std.proofs.Common.{◌≡◌, ℕ, ◌+◌, ◌-◌, ◌<◌, ◌≤◌, List, [], ◌∷◌, ◌++◌, Option, Some, None, refl, sym, ap, subst, ◌∙◌, arith, zero-add}
 use Rattle.std.proofs.lemmas.List.{append-nil}
 use Rattle.m36_outside.specs.declared.sink.Put.{Put}
 use Rattle.m36_outside.specs.declared.sink.Put.TheVariants as put
@@ -41,7 +41,7 @@ run_starts output limit system s is = record {
   made = made_none output 0 system.lib (booted_of system) s;
   next = is;
   lib = refl;
-  count = refl;
+  count = zero-add limit;
 }
 
 -- what was made, and one step more
@@ -52,7 +52,8 @@ with_step :
     → AreMade answer output 0 (taken + 1) system.lib (booted_of system) last old new
 with_step answer output taken system now last old mid new one same two =
     made_on answer output 0 taken 1 system.lib (booted_of system) (booted_of now) last old mid new one
-    (subst (λ l. AreMade answer output taken 1 l (booted_of now) last mid new) same two)
+    (subst (λ n. AreMade answer output n 1 system.lib (booted_of now) last mid new) (sym (zero-add taken))
+    (subst (λ l. AreMade answer output taken 1 l (booted_of now) last mid new) same two))
 
 pub run_goes_on :
     (output : RunOutput) (limit taken left : ℕ) (system now after : SuperFields) (old mid new : SinkState)

@@ -1,5 +1,5 @@
 -- Turns that are made, one after another.
-use Rattle.std.proofs.Common.{◌≡◌, ℕ, ◌+◌, List, [], ◌∷◌, ◌++◌, refl, sym, ap, subst, ◌∙◌, arith, append_assoc, add-zero}
+use Rattle.std.proofs.Common.{◌≡◌, ℕ, ◌+◌, List, [], ◌∷◌, ◌++◌, refl, sym, ap, subst, ◌∙◌, arith, append_assoc, add-zero, zero-add}
 use Rattle.std.proofs.lemmas.List.{append-nil}
 use Rattle.m36_outside.specs.declared.sink.Put.{Put}
 use Rattle.m36_outside.specs.declared.sink.Put.TheVariants as put
@@ -20,7 +20,7 @@ pub turns_on :
 unfolding AreTurns
 turns_on lib [] more first now last are others = subst (λ r. AreTurns lib r more last) are others
 turns_on lib (turn ∷ turns) more first now last are others =
-    (are.0, (are.1.0, turns_on lib turns more are.0 now last are.1.1 others))
+    (are.0, are.1, turns_on lib turns more are.0 now last are.2 others)
 
 each_on : (P : Turn → Type 0) (turns more : List Turn) → Each P turns → Each P more → Each P (turns ++ more)
 each_on P [] more each others = others
@@ -28,7 +28,7 @@ each_on P (turn ∷ turns) more each others = (each.0, each_on P turns more each
 
 pub steps_on : (turns more : List Turn) → steps_in (turns ++ more) ≡ steps_in turns + steps_in more
 unfolding steps_in
-steps_on [] more = refl
+steps_on [] more = sym (zero-add (steps_in more))
 steps_on (turn ∷ turns) more = omega (arith, steps_on turns more)
 
 pub pieces_on :
@@ -64,7 +64,7 @@ pub made_turn :
 unfolding AreTurns pieces_from steps_in
 made_turn answer output taken lib before after turn old new is event puts = record {
   turns = turn ∷ [];
-  turns_are = (after, (is, refl));
+  turns_are = (after, is, refl);
   events = (event, tt);
   count = add-zero (steps_of turn);
   puts = pieces_are answer (pieces_of output taken turn) (pieces_of output taken turn ++ []) old new (sym (append-nil (pieces_of output taken turn))) puts;

@@ -112,7 +112,7 @@ turns_loaded :
 unfolding AreTurns IsTurn
 turns_loaded lib [] r last is are = ap (λ (r : Booted). r.loaded) are ∙ is
 turns_loaded lib (turn ∷ turns) r last is are =
-    turns_loaded lib turns are.0 last (turn_loaded r.coming lib r turn are.0 is are.1.0) are.1.1
+    turns_loaded lib turns are.0 last (turn_loaded r.coming lib r turn are.0 is are.1) are.2
 
 -- ---- what is kept until then
 
@@ -147,8 +147,8 @@ turns_keep :
 unfolding AreTurns
 turns_keep lib [] r last un are un' kept = subst (λ s. IsKept lib s) (sym are) kept
 turns_keep lib (turn ∷ turns) r last un are un' kept =
-    let mid : are.0.loaded ≡ false = mid_unloaded are.0.loaded lib turns are.0 last refl are.1.1 un' in
-    turns_keep lib turns are.0 last mid are.1.1 un' (turn_keeps lib r turn are.0 un mid are.1.0 kept)
+    let mid : are.0.loaded ≡ false = mid_unloaded are.0.loaded lib turns are.0 last refl are.2 un' in
+    turns_keep lib turns are.0 last mid are.2 un' (turn_keeps lib r turn are.0 un mid are.1 kept)
 
 -- ---- the promise
 
