@@ -159,5 +159,3 @@ run_limit r output limit taken left system now old mid new way none says =
     let all : taken ≡ limit = omega (arith, way.count, none) in
     finished r Limit output limit taken system (booted_of now) old mid new way.made (omega (arith, all))
     (way.made.count ∙ all, way.next) says
-
-pub ruleset running = (run_starts, run_goes_on, run_cut, run_starved, run_over, run_limit)

@@ -110,6 +110,16 @@ turn_prints before after turn is turns =
     print_is _ _ (booted_of before) turn (booted_of after)
     (by_coming before.lib before after turn Print is turns.0)
 
+-- a link service is told, or wants memory
+pub only_linked :
+    (turn : Turn) → IsLink turn → ((note : LinkNoteFields) → turn ≡ Linked note → ⊥) → (turn ≡ NoMemory → ⊥) → ⊥
+only_linked (Stepped told) is untold unwanting = is
+only_linked (Linked note) is untold unwanting = untold note refl
+only_linked (Console text) is untold unwanting = is
+only_linked (Ended e) is untold unwanting = is
+only_linked Full is untold unwanting = is
+only_linked NoMemory is untold unwanting = unwanting refl
+
 -- ---- what comes behind them
 
 behind_link :

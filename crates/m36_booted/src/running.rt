@@ -139,7 +139,6 @@ fn write_end<S: Sink>(how: Finish, steps: u32, out: &mut S) -> Ran
 }
 
 /// Runs a system for at most so many steps, and writes what is told of each turn, and the end line.
-#[tactic(auto, using(crate::proofs::RunLoop::running))]
 pub fn run<S: Sink>(system: &mut Super, steps: u32, output: RunOutput, out: &mut S) -> Ran
     requires { system.old.coming ≡ Step }
     ensures { RanSays result output steps system.old
