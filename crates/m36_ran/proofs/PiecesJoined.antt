@@ -44,7 +44,7 @@ unfolding finding_pieces finding_lines
 findings_joined [] = refl
 findings_joined (f ∷ findings) = ap (λ t. as_line (finding_line f) ++ t) (findings_joined findings)
 
-audit_joined : (findings : List (ℕ × ℕ)) → joined (audit_pieces findings) ≡ audit_text findings
+pub audit_joined : (findings : List (ℕ × ℕ)) → joined (audit_pieces findings) ≡ audit_text findings
 audit_joined [] = append-nil yes_line
 audit_joined (f ∷ findings) = findings_joined (f ∷ findings)
 

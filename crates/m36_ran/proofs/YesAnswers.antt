@@ -34,7 +34,7 @@ found_no f findings more rest e =
     let n : 110 ≡ 121 = ap (λ (t : List ℕ). get_or t 6 0) e in
     absurd (omega (arith, n))
 
-none_found :
+pub none_found :
     (findings : List (ℕ × ℕ)) (more rest : List ℕ) → audit_text findings ++ more ≡ yes_line ++ rest → findings ≡ []
 none_found [] more rest e = refl
 none_found (f ∷ findings) more rest e = absurd (found_no f findings more rest e)

@@ -107,7 +107,8 @@ pub record IsStateDue (command : ImageCommand) (state : State (List ℕ))
 
 -- Memory is wanted before anything is written.
 abbrev pub state_kind : ImageCommand → Kind (State (List ℕ))
-state_kind command = record { IsDue = IsStateDue command; Wants = λ state. IsIdle }
+state_kind command =
+    record { IsDue = IsStateDue command; IsBegun = IsStateDue command; Wants = λ state. IsIdle }
 
 -- ---- what `audit yes` promises
 

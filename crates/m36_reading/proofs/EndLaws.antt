@@ -24,7 +24,7 @@ pub ends_more :
 ends_more kind Is Was Answered result old new more e =
     record { given = e.given; came = more _ e.came; due = e.due; is_due = e.is_due; made = e.made }
 ends_more kind Is Was Cut result old new more e =
-    record { given = e.given; came = more _ e.came; due = e.due; is_due = e.is_due; cut = e.cut }
+    record { given = e.given; came = more _ e.came; due = e.due; begun = e.begun; cut = e.cut }
 ends_more kind Is Was Unread result old new more e = record { failed = more _ e.failed; idle = e.idle; cause = e.cause }
 ends_more kind Is Was Starved result old new more (inl e) =
     inl (record { wanting = more _ e.wanting; idle = e.idle; read_faults = e.read_faults })
@@ -151,6 +151,7 @@ comes_mapped make (asks name go) (ask ∷ asked) c came =
 -- What is due of one kind is due of another.
 pub record IsKindOf {D E : Type 0} (kind : Kind D) (other : Kind E) (make : D → E) : Type 0 where
   pub due : (d : D) (due : Answer) → kind.IsDue d due → other.IsDue (make d) due
+  pub begun : (d : D) (due : Answer) → kind.IsBegun d due → other.IsBegun (make d) due
   pub wants : (d : D) (old new : Outside) → kind.Wants d old new → other.Wants (make d) old new
 
 due_mapped :
@@ -173,7 +174,7 @@ ends_mapped kind other make p asked Cut result old new is e = record {
   given = make e.given;
   came = comes_mapped make p asked (Came (Ok e.given)) e.came;
   due = e.due;
-  is_due = is.due e.given e.due e.is_due;
+  begun = is.begun e.given e.due e.begun;
   cut = e.cut;
 }
 ends_mapped kind other make p asked Unread result old new is e = record {

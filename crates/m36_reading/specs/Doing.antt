@@ -15,9 +15,12 @@ use Rattle.m36_reading.specs.Answers.{Answer, IsDueBy, with_sets, write_of, writ
 use Rattle.m36_reading.specs.Outside.{FolderState, SinkState, Outside, IsIdle, NoneUnread}
 use Rattle.m36_reading.specs.Ends.{End, Answered, Cut, Unread, Starved, Unasked, end_of}
 
--- A kind of what is due: which answers are, and what may be written where memory is wanted.
+-- A kind of what is due: which answers are; of which a first part may be put where the output
+-- cannot be written, which are those that are due, or what is told of a run as far as it has gone;
+-- and what may be written where memory is wanted.
 pub record Kind (D : Type 0) : Type 1 where
   pub IsDue : D → Answer → Type 0
+  pub IsBegun : D → Answer → Type 0
   pub Wants : D → Outside → Outside → Type 0
 
 -- ---- reading
@@ -101,7 +104,7 @@ pub record IsCut {D : Type 0} (kind : Kind D) (Is : Coming (Early D)
   pub given : D
   pub came : Is (Came (Ok given))
   pub due : Answer
-  pub is_due : kind.IsDue given due
+  pub begun : kind.IsBegun given due
   pub cut : IsUnset due old new ⊎ IsUnput due old new
 
 pub record IsUnread {D : Type 0} (Is : Coming (Early D) → Type 0) (old new : Outside) : Type 0 where

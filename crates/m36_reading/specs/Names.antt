@@ -6,9 +6,10 @@ use Rattle.m36_reading.specs.declared.status.Status.TheVariants.{BadFile, AuditN
 use Rattle.m36_reading.specs.declared.status.Status.TheVariants.{Steps, NoMemory}
 use Rattle.m36_reading.specs.declared.status.Code.{Code}
 use Rattle.m36_reading.specs.declared.status.Code.TheVariants.{F1, F2, F3, T3, T4, I1, I2, I3, P1}
-use Rattle.m36_reading.specs.declared.status.Code.TheVariants.{P2, O1, O2, O3, O4, O5, O6, O7, O8}
-use Rattle.m36_reading.specs.declared.status.Code.TheVariants.{E1, E2, E3, E4, E5, E6, E7, E8, B1}
-use Rattle.m36_reading.specs.declared.status.Code.TheVariants.{B2, B3, B4, B5}
+use Rattle.m36_reading.specs.declared.status.Code.TheVariants.{P2, D1, D2, D3, D4, D5, D6, U1, U2}
+use Rattle.m36_reading.specs.declared.status.Code.TheVariants.{U3, U4, O1, O2, O3, O4, O5, O6, O7}
+use Rattle.m36_reading.specs.declared.status.Code.TheVariants.{O8, E1, E2, E3, E4, E5, E6, E7, E8}
+use Rattle.m36_reading.specs.declared.status.Code.TheVariants.{B1, B2, B3, B4, B5}
 
 abbrev pub status_name : Status → List ℕ
 status_name Done = codes "Done"
@@ -43,6 +44,16 @@ code_name I2 = codes "I2"
 code_name I3 = codes "I3"
 code_name P1 = codes "P1"
 code_name P2 = codes "P2"
+code_name D1 = codes "D1"
+code_name D2 = codes "D2"
+code_name D3 = codes "D3"
+code_name D4 = codes "D4"
+code_name D5 = codes "D5"
+code_name D6 = codes "D6"
+code_name U1 = codes "U1"
+code_name U2 = codes "U2"
+code_name U3 = codes "U3"
+code_name U4 = codes "U4"
 code_name O1 = codes "O1"
 code_name O2 = codes "O2"
 code_name O3 = codes "O3"

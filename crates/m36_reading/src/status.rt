@@ -29,6 +29,26 @@ pub enum Code {
     P1,
     /// A number of no process.
     P2,
+    /// A line of a boot text that is not of its form, or out of its order.
+    D1,
+    /// A name that stands a second time in one directory.
+    D2,
+    /// A working directory or a library that has no segment.
+    D3,
+    /// Ring brackets that are not in order, or a gate that may not be executed or is called from no outer ring.
+    D4,
+    /// A segment, a further name of one, or a library too many.
+    D5,
+    /// A boot text that ends without a start.
+    D6,
+    /// There are fewer than 24 pageable frames.
+    U1,
+    /// A gate without entries, or with more than 16,383.
+    U2,
+    /// The start is not found, lacks its entry, may not be executed in its ring, or its linkage section is too long.
+    U3,
+    /// A gate, or the segment of the start, that is no object.
+    U4,
     /// There are fewer than seven words; the count.
     O1,
     /// The map is not where the last word tells it to be, or a word of it is not as it must be.
@@ -81,7 +101,8 @@ pub struct Bad {
     pub code: Code,
     /// The place that the code speaks of: for an image its line, counted from 1; for T3 the count of the bytes, and for
     /// T4 the place of the last one; for an object the place of a word, counted from 0, and for O1 the count of the words;
-    /// for a source or a bind file the line, counted from 1, and for B4 0; for a file as a whole 0.
+    /// for a source, a bind file or a boot text the line, counted from 1; for U2 and U4 the number of the segment; for B4, U1
+    /// and U3, and for a file as a whole, 0.
     pub at: u32,
     /// The column of a source, in bytes counted from 1; 0 for every other file.
     pub column: u32,
@@ -107,7 +128,8 @@ pub enum Status {
     MachineStop(End),
     /// All steps that are allowed were taken, and none ended the run.
     Steps,
-    /// No memory was found. Nothing was written.
+    /// No memory was found. Nothing was written; or a link service of a booted run found none, and the run is written up to
+    /// there.
     NoMemory,
 }
 
@@ -129,6 +151,16 @@ impl Code {
             Code::I3 => "I3",
             Code::P1 => "P1",
             Code::P2 => "P2",
+            Code::D1 => "D1",
+            Code::D2 => "D2",
+            Code::D3 => "D3",
+            Code::D4 => "D4",
+            Code::D5 => "D5",
+            Code::D6 => "D6",
+            Code::U1 => "U1",
+            Code::U2 => "U2",
+            Code::U3 => "U3",
+            Code::U4 => "U4",
             Code::O1 => "O1",
             Code::O2 => "O2",
             Code::O3 => "O3",

@@ -91,7 +91,8 @@ pub record IsProcsDue (unaudited : Bool) (p : ProcsFields) (due : Answer) : Type
 
 -- Memory is wanted before anything is written.
 abbrev pub procs_kind : Bool → Kind ProcsFields
-procs_kind unaudited = record { IsDue = IsProcsDue unaudited; Wants = λ p. IsIdle }
+procs_kind unaudited =
+    record { IsDue = IsProcsDue unaudited; IsBegun = IsProcsDue unaudited; Wants = λ p. IsIdle }
 
 -- ---- what `audit yes` promises
 

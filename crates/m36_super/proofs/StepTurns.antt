@@ -15,7 +15,6 @@ use Rattle.m36_isol.proofs.PageLaw.{pages_law}
 use Rattle.m36_link.specs.Fields.{KnownFields}
 use Rattle.m36_page.specs.Fields.{PagerFields}
 use Rattle.m36_page.specs.Residence.{kept_word}
-use Rattle.m36_step.specs.declared.turns.Turn.{Turn}
 use Rattle.m36_step.specs.declared.turns.Turn.TheVariants.{Stepped}
 use Rattle.m36_super.specs.Coming.{Coming, coming_after, loaded_after}
 use Rattle.m36_super.specs.BootedRun.{Booted, IsStepTurn}
@@ -100,8 +99,8 @@ pub frames_kept : (loaded : Bool) (old new : State (List ℕ)) (p q : PagerField
 frames_kept false old new p q told h = h.frames
 frames_kept true old new p q told h = ap (λ (x : PagerFields). length x.holders) h.pager
 
-pub step_turn : (loaded after : Bool) (old new : State (List ℕ)) (p q : PagerFields) (told : StepRecord) (known : KnownFields) (coming next : Coming) (turn : Turn) → StepSays loaded old p new q told → after ≡ loaded_after loaded told → next ≡ coming_after after told.ppr.prr told.outcome → turn ≡ Stepped told → IsStepTurn loaded (length p.holders) (run_of old p known coming loaded) turn (run_of new q known next after)
-step_turn false after old new p q told known coming next turn h after_is next_is turn_is =
+pub step_turn : (loaded after : Bool) (old new : State (List ℕ)) (p q : PagerFields) (told : StepRecord) (known : KnownFields) (coming next : Coming) → StepSays loaded old p new q told → after ≡ loaded_after loaded told → next ≡ coming_after after told.ppr.prr told.outcome → IsStepTurn loaded (length p.holders) (run_of old p known coming loaded) (Stepped told) (run_of new q known next after)
+step_turn false after old new p q told known coming next h after_is next_is =
     let e = h.taken.told_is in
     let s = h.taken.state in
     let loaded : after ≡ loaded_after false (record_of core_store h.last) = after_is ∙ ap (loaded_after false) e in
@@ -112,7 +111,7 @@ step_turn false after old new p q told known coming next turn h after_is next_is
       last = paged_of h.last q;
       served = h.served;
       present = subst (λ (x : StepRecord). IsPresent x.outcome) e h.taken.present;
-      told = turn_is ∙ ap Stepped e;
+      told = ap Stepped e;
       after_is = λ i. record {
         state = record { regs = (s i).regs; memory = record { core = (s i).store; kept = kept_word q } };
         known = known;
@@ -120,14 +119,14 @@ step_turn false after old new p q told known coming next turn h after_is next_is
         loaded = loaded i;
       };
     }
-step_turn true after old new p q told known coming next turn h after_is next_is turn_is =
+step_turn true after old new p q told known coming next h after_is next_is =
     let e = h.told_is in
     let s = h.state in
     let same = h.pager in
     let loaded : after ≡ loaded_after true (record_of core_store old) = after_is ∙ ap (loaded_after true) e in
     let comes : next ≡ coming_after (loaded_after true (record_of core_store old)) (record_of core_store old).ppr.prr (record_of core_store old).outcome = next_is ∙ (λ i. coming_after (loaded i) (e i).ppr.prr (e i).outcome) in
     record {
-      told = turn_is ∙ ap Stepped e;
+      told = ap Stepped e;
       after_is = λ i. record {
         state = record { regs = (s i).regs; memory = record { core = (s i).store; kept = kept_word (same i) } };
         known = known;

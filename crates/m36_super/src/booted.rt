@@ -1,7 +1,8 @@
 //! Booted systems.
 
-ghost use Rattle.std.specs.Prelude.{ℕ, ◌≡◌, ◌≤◌, ◌<◌, ◌^◌, length, false};
+ghost use Rattle.std.specs.Prelude.{ℕ, ◌≡◌, ◌≤◌, ◌<◌, ◌^◌, [], None, length, false};
 ghost use Rattle.m36_link.specs.Laws.{IsMade};
+ghost use Rattle.m36_model.specs.declared.outcome.Outcome.TheVariants.{Next};
 ghost use Rattle.m36_super.specs.SuperFields.{IsRunning, IsDue};
 ghost use Rattle.m36_super.specs.SuperTurn.{SuperTurns};
 
@@ -9,11 +10,11 @@ use crate::coming::Coming;
 use crate::console::print;
 use crate::content::flat_content;
 use crate::linking::link;
-use crate::stepping::step_turn;
+use crate::stepping::step_told;
 use m36_core::Core;
 use m36_dir::Catalog;
 use m36_link::{File, Known};
-use m36_model::{At, Regs};
+use m36_model::{At, Regs, StepRecord};
 use m36_page::Pager;
 use m36_step::{BackAnswer, Machine, Stepper, Turn};
 use m36_word::Word;
@@ -120,11 +121,26 @@ impl Super {
         self.coming
     }
 
-    // A step, with the services of the pages that it lacks until an LDBR has been executed.
+    /// A record for `step_told` to fill: it has the registers as they stand, and tells of no step.
+    pub fn untold(&self) -> StepRecord
+        ensures { result
+            ≡ record {
+              refs = record { items = [] };
+              after = self.now.regs;
+              word = None;
+              at = None;
+              outcome = Next;
+              ppr = self.now.regs.ppr;
+            } }
+    {
+        self.machine.untold()
+    }
+
+    /// The turn that is a step, told in a record that an earlier one may have filled.
     #[tactic(auto, using(crate::proofs::SystemTurns::step_is_turn))]
-    fn step(&mut self) -> Turn
+    pub fn step_told(&mut self, told: &mut StepRecord)
         requires { self.old.coming ≡ Coming.Step }
-        ensures { SuperTurns self.old result self.new }
+        ensures { SuperTurns self.old (Turn.Stepped told.new) self.new }
     {
         let Super {
             machine,
@@ -133,7 +149,17 @@ impl Super {
             loaded,
             ..
         } = self;
-        step_turn(machine, pager, coming, loaded)
+        step_told(machine, pager, coming, loaded, told);
+    }
+
+    // A step, with the services of the pages that it lacks until an LDBR has been executed.
+    fn step(&mut self) -> Turn
+        requires { self.old.coming ≡ Coming.Step }
+        ensures { SuperTurns self.old result self.new }
+    {
+        let mut told = self.untold();
+        self.step_told(&mut told);
+        Turn::Stepped(told)
     }
 
     // A link service.

@@ -112,28 +112,27 @@ fn step_into(machine: &mut Machine, pager: &mut Pager, loaded: bool, told: &mut 
     }
 }
 
-/// The turn that is a step.
+/// The turn that is a step, told in a record that an earlier one may have filled.
 #[tactic(auto, using(crate::proofs::StepTurns::turns))]
-pub(crate) fn step_turn(
+pub(crate) fn step_told(
     machine: &mut Machine,
     pager: &mut Pager,
     coming: &mut Coming,
     loaded: &mut bool,
-) -> Turn
+    told: &mut StepRecord,
+)
     requires { Manages loaded.old (length pager.old.holders) machine.old.state.regs
         machine.old.state.store pager.old }
     ensures turn { (known : KnownFields) → IsStepTurn loaded.old (length pager.old.holders)
-        (run_of machine.old.state pager.old known coming.old loaded.old) result
+        (run_of machine.old.state pager.old known coming.old loaded.old) (Turn.Stepped told.new)
         (run_of machine.new.state pager.new known coming.new loaded.new) }
     ensures frames { length pager.new.holders ≡ length pager.old.holders }
     ensures manages { Manages loaded.new (length pager.new.holders) machine.new.state.regs
         machine.new.state.store pager.new }
     ensures due { IsDue coming.new loaded.new }
 {
-    let mut told = machine.untold();
-    step_into(machine, pager, *loaded, &mut told);
-    let now = loaded_after(*loaded, &told);
+    step_into(machine, pager, *loaded, told);
+    let now = loaded_after(*loaded, told);
     *coming = coming_after(now, told.ppr.prr, told.outcome);
     *loaded = now;
-    Turn::Stepped(told)
 }

@@ -36,4 +36,4 @@ pub record ToldWants (told : ToldFields) (old new : Outside) : Type 0 where
   pub put_faults : new.sink.faults ≡ old.sink.faults
 
 abbrev pub told_kind : Kind ToldFields
-told_kind = record { IsDue = IsToldDue; Wants = ToldWants }
+told_kind = record { IsDue = IsToldDue; IsBegun = IsToldDue; Wants = ToldWants }

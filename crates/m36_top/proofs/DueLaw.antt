@@ -11,31 +11,35 @@ use Rattle.m36_ran.proofs.DueLaws.{state_due_law}
 use Rattle.m36_ran.proofs.PiecesJoined.{state_joined}
 use Rattle.m36_scheduled.proofs.DueLaws.{procs_due_law}
 use Rattle.m36_scheduled.proofs.PiecesJoined.{procs_joined}
+use Rattle.m36_booted.specs.Runs.{Whole}
+use Rattle.m36_booted.proofs.DueLaws.{folder_due_law, folder_joined}
 use Rattle.m36_top.specs.declared.command.Command.{Command}
 use Rattle.m36_top.specs.Words.{command_of}
-use Rattle.m36_top.specs.Dues.{Due, Told, Image, Schedule, IsDueOf}
+use Rattle.m36_top.specs.Dues.{Due, Told, Image, Folder, Schedule, IsDueOf}
 use Rattle.m36_top.specs.Commands.{reads}
-use Rattle.m36_top.specs.DueLaw.{IsCommandDue, DueLaw}
+use Rattle.m36_top.specs.DueLaw.{IsCommandDue, IsUnbooted, BootsNone, DueLaw}
 
-by_one : (given : Early Due) (due same : Answer) → IsDueBy IsDueOf given due → IsDueBy IsDueOf given same → due ≡ same
-by_one (Ok (Told told)) due same is is_same = is ∙ sym is_same
-by_one (Ok (Image image)) due same is is_same = state_due_law.one image.command image.state due same is is_same
-by_one (Ok (Schedule s)) due same is is_same = procs_due_law.one s.unaudited s.procs due same is is_same
-by_one (Err r) due same is is_same = is ∙ sym is_same
+by_one : (given : Early Due) (due same : Answer) → IsUnbooted given → IsDueBy IsDueOf given due → IsDueBy IsDueOf given same → due ≡ same
+by_one (Ok (Told told)) due same un is is_same = is ∙ sym is_same
+by_one (Ok (Image image)) due same un is is_same = state_due_law.one image.command image.state due same is is_same
+by_one (Ok (Folder folder)) due same un is is_same = absurd un
+by_one (Ok (Schedule s)) due same un is is_same = procs_due_law.one s.unaudited s.procs due same is is_same
+by_one (Err r) due same un is is_same = is ∙ sym is_same
 
-by_some : (given : Early Due) → ¬ ((due : Answer) → ¬ IsDueBy IsDueOf given due)
-by_some (Ok (Told told)) none = none (told_answer told) refl
-by_some (Ok (Image image)) none = state_due_law.some image.command image.state none
-by_some (Ok (Schedule s)) none = procs_due_law.some s.unaudited s.procs none
-by_some (Err r) none = none (unwritten (status_of r)) refl
+by_some : (given : Early Due) → IsUnbooted given → ¬ ((due : Answer) → ¬ IsDueBy IsDueOf given due)
+by_some (Ok (Told told)) un none = none (told_answer told) refl
+by_some (Ok (Image image)) un none = state_due_law.some image.command image.state none
+by_some (Ok (Folder folder)) un none = absurd un
+by_some (Ok (Schedule s)) un none = procs_due_law.some s.unaudited s.procs none
+by_some (Err r) un none = none (unwritten (status_of r)) refl
 
-command_one : (command : Option Command) (files : Files) (due same : Answer) → IsCommandDue command files due → IsCommandDue command files same → due ≡ same
-command_one None files due same is is_same = is ∙ sym is_same
-command_one (Some command) files due same is is_same = by_one (outcome_in files (reads command)) due same is is_same
+command_one : (command : Option Command) (files : Files) (due same : Answer) → BootsNone command files → IsCommandDue command files due → IsCommandDue command files same → due ≡ same
+command_one None files due same un is is_same = is ∙ sym is_same
+command_one (Some command) files due same un is is_same = by_one (outcome_in files (reads command)) due same un is is_same
 
-command_some : (command : Option Command) (files : Files) → ¬ ((due : Answer) → ¬ IsCommandDue command files due)
-command_some None files none = none (unwritten Usage) refl
-command_some (Some command) files none = by_some (outcome_in files (reads command)) none
+command_some : (command : Option Command) (files : Files) → BootsNone command files → ¬ ((due : Answer) → ¬ IsCommandDue command files due)
+command_some None files un none = none (unwritten Usage) refl
+command_some (Some command) files un none = by_some (outcome_in files (reads command)) un none
 
 -- ---- pieces
 
@@ -46,6 +50,7 @@ by_joined : (given : Early Due) (due : Answer) → IsDueBy IsDueOf given due →
 by_joined (Ok (Told told)) due is = subst AreJoined (sym is) (lines_joined told.text)
 by_joined (Ok (Image image)) due is =
     subst AreJoined (sym is.answer) (state_joined image.command image.state is.findings)
+by_joined (Ok (Folder folder)) due is = folder_joined Whole folder.command folder.lib due is
 by_joined (Ok (Schedule s)) due is =
     subst AreJoined (sym is.answer) (procs_joined s.unaudited s.procs is.findings)
 by_joined (Err r) due is = subst AreJoined (sym is) refl
@@ -61,4 +66,5 @@ due_law = record {
   pieces = λ words files. command_joined (command_of words) files;
   on_images = state_due_law;
   on_processes = procs_due_law;
+  on_folders = folder_due_law;
 }

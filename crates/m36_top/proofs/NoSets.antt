@@ -22,10 +22,14 @@ use Rattle.m36_ran.specs.declared.command.ImageCommand.{ImageCommand}
 use Rattle.m36_ran.specs.declared.command.ImageCommand.TheVariants as image
 use Rattle.m36_ran.specs.Ran.{state_reads, run_answer, audit_answer, bare_by, state_answer}
 use Rattle.m36_scheduled.specs.Scheduled.{procs_reads}
+use Rattle.m36_booted.specs.declared.command.FolderCommand.{FolderCommand}
+use Rattle.m36_booted.specs.Folder.{folder_reads}
+use Rattle.m36_booted.specs.Runs.{Whole, Begun}
+use Rattle.m36_booted.proofs.DueLaws.{folder_sets}
 use Rattle.m36_scheduled.proofs.YesAnswers.{procs_sets}
 use Rattle.m36_top.specs.declared.command.Command.{Command}
-use Rattle.m36_top.specs.declared.command.Command.TheVariants.{Bare, Audit, Procs, Print, Alm, Bind}
-use Rattle.m36_top.specs.Dues.{Due, Told, Image, Schedule, on_image, on_procs, IsDueOf, WantsOf, due_kind}
+use Rattle.m36_top.specs.declared.command.Command.TheVariants.{Bare, Audit, Booted, Procs, Print, Alm, Bind}
+use Rattle.m36_top.specs.Dues.{Due, Told, Image, Folder, Schedule, on_image, on_folder, on_procs, IsDueOf, IsBegunOf, WantsOf, due_kind}
 use Rattle.m36_top.specs.Commands.{reads, writes_files}
 use Rattle.m36_top.specs.TopCall.{WriteRose, WritesStand, WriteCauseBy, IsKept, KeepsBy}
 
@@ -70,7 +74,8 @@ always_mapped P Q make (asks name go) on stop always = λ found. always_mapped P
 -- ---- no file is due
 
 abbrev NoSets : Early Due → Type 0
-NoSets (Ok d) = (due : Answer) → IsDueOf d due → due.sets ≡ []
+NoSets (Ok d) =
+    ((due : Answer) → IsDueOf d due → due.sets ≡ []) × ((due : Answer) → IsBegunOf d due → due.sets ≡ [])
 NoSets (Err r) = Unit {0}
 
 abbrev TellsNone : Early ToldFields → Type 0
@@ -91,7 +96,10 @@ image_none : (command : ImageCommand) (file : List ℕ) → Always NoSets (mappe
 unfolding mapped
 image_none command file =
     always_then NoSets (state_reads file) (λ state. decided (Ok (on_image command state)))
-    (λ state due is. ap (λ (d : Answer). d.sets) is.answer ∙ state_sets command state is.findings) (λ r. tt)
+    (λ state. (
+      λ due is. ap (λ (d : Answer). d.sets) is.answer ∙ state_sets command state is.findings,
+      λ due is. ap (λ (d : Answer). d.sets) is.answer ∙ state_sets command state is.findings,
+    )) (λ r. tt)
 
 bare_none : (file : List ℕ) (run : BareRun) → Always NoSets (reads (Bare file run))
 unfolding reads
@@ -101,22 +109,29 @@ audit_none : (file : List ℕ) → Always NoSets (reads (Audit file))
 unfolding reads
 audit_none file = image_none image.Audit file
 
+folder_none : (command : FolderCommand) → Always NoSets (reads (Booted command))
+unfolding reads mapped
+folder_none command =
+    always_then NoSets folder_reads (λ lib. decided (Ok (on_folder command lib)))
+    (λ lib. (λ due is. folder_sets Whole command lib due is, λ due is. folder_sets Begun command lib due is)) (λ r. tt)
+
 procs_none : (file : List ℕ) (unaudited : Bool) → Always NoSets (reads (Procs file unaudited))
 unfolding reads mapped
 procs_none file unaudited =
     always_then NoSets (procs_reads file) (λ p. decided (Ok (on_procs unaudited p)))
-    (λ p due is. procs_sets unaudited p due is) (λ r. tt)
+    (λ p. (λ due is. procs_sets unaudited p due is, λ due is. procs_sets unaudited p due is)) (λ r. tt)
 
 print_none : (name : List ℕ) → Always NoSets (reads (Print name))
 unfolding reads print_reads
 print_none name =
     always_mapped TellsNone NoSets Told (print_reads name)
-    (λ told none due is. ap (λ (d : Answer). d.sets) is ∙ none) (λ r. tt)
+    (λ told none. (λ due is. ap (λ (d : Answer). d.sets) is ∙ none, λ due is. ap (λ (d : Answer). d.sets) is ∙ none)) (λ r. tt)
     (always_then TellsNone (file_object name) (λ parts. decided (Ok (printed name parts))) (λ parts. refl) (λ r. tt))
 
 reads_none : (command : Command) → writes_files command ≡ false → Always NoSets (reads command)
 reads_none (Bare file run) none = bare_none file run
 reads_none (Audit file) none = audit_none file
+reads_none (Booted folder) none = folder_none folder
 reads_none (Procs file unaudited) none = procs_none file unaudited
 reads_none (Print name) none = print_none name
 reads_none (Alm files) none = absurd (cc)
@@ -145,6 +160,8 @@ cut_rose false due old new none (inr is) = is.cause
 wants_stand : (d : Due) (old new : Outside) → WantsOf d old new → WritesStand old new
 wants_stand (Told told) old new w = (w.put_faults, w.write_faults)
 wants_stand (Image image) old new w = (w.put_faults, w.write_faults)
+wants_stand (Folder folder) old new (inl w) = (w.put_faults, w.write_faults)
+wants_stand (Folder folder) old new (inr w) = (w.put_faults, w.write_faults)
 wants_stand (Schedule s) old new w = (w.put_faults, w.write_faults)
 
 cause_by :
@@ -152,7 +169,7 @@ cause_by :
     → EndsBy due_kind (Comes (reads command) asked) end result old new → WriteCauseBy (writes_files command) end old new
 cause_by command asked Answered result old new e = (e.made.put_faults, e.made.write_faults)
 cause_by command asked Cut result old new e =
-    cut_rose (writes_files command) e.due old new (λ none. no_sets command asked (Ok e.given) none e.came e.due e.is_due) e.cut
+    cut_rose (writes_files command) e.due old new (λ none. (no_sets command asked (Ok e.given) none e.came).1 e.due e.begun) e.cut
 cause_by command asked Unread result old new e = (e.idle.put_faults, e.idle.write_faults)
 cause_by command asked Starved result old new (inl e) = (e.idle.put_faults, e.idle.write_faults)
 cause_by command asked Starved result old new (inr e) = wants_stand e.given old new e.wants
@@ -177,7 +194,7 @@ unset_keeps sets old new none files wrote = record {
 made_keeps :
     (given : Early Due) (due : Answer) (result : Status) (old new : Outside)
     → NoSets given → IsDueBy IsDueOf given due → IsMade due result old new → IsKept old new
-made_keeps (Ok d) due result old new none is made = unset_keeps due.sets old new (none due is) made.files made.wrote
+made_keeps (Ok d) due result old new none is made = unset_keeps due.sets old new (none.0 due is) made.files made.wrote
 made_keeps (Err r) due result old new none is made = unset_keeps due.sets old new (ap (λ (d : Answer). d.sets) is) made.files made.wrote
 
 cut_keeps : (due : Answer) (old new : Outside) → due.sets ≡ [] → IsUnset due old new ⊎ IsUnput due old new → IsKept old new
@@ -188,15 +205,17 @@ idle_keeps : (old new : Outside) → IsIdle old new → IsKept old new
 idle_keeps old new idle = record { files = idle.files; wrote = idle.wrote }
 
 wants_keeps : (d : Due) (old new : Outside) → NoSets (Ok d) → WantsOf d old new → IsKept old new
-wants_keeps (Told told) old new none w = absurd (empty_parts w.before w.next w.others (sym (none (told_answer told) refl) ∙ w.sets))
+wants_keeps (Told told) old new none w = absurd (empty_parts w.before w.next w.others (sym (none.0 (told_answer told) refl) ∙ w.sets))
 wants_keeps (Image image) old new none w = idle_keeps old new w
+wants_keeps (Folder folder) old new none (inl w) = idle_keeps old new w
+wants_keeps (Folder folder) old new none (inr w) = record { files = w.files; wrote = w.wrote }
 wants_keeps (Schedule s) old new none w = idle_keeps old new w
 
 keeps_by :
     (command : Command) (asked : List Asked) (end : End) (result : Status) (old new : Outside) → writes_files command ≡ false
     → EndsBy due_kind (Comes (reads command) asked) end result old new → IsKept old new
 keeps_by command asked Answered result old new none e = made_keeps e.given e.due result old new (no_sets command asked e.given none e.came) e.is_due e.made
-keeps_by command asked Cut result old new none e = cut_keeps e.due old new (no_sets command asked (Ok e.given) none e.came e.due e.is_due) e.cut
+keeps_by command asked Cut result old new none e = cut_keeps e.due old new ((no_sets command asked (Ok e.given) none e.came).1 e.due e.begun) e.cut
 keeps_by command asked Unread result old new none e = idle_keeps old new e.idle
 keeps_by command asked Starved result old new none (inl e) = idle_keeps old new e.idle
 keeps_by command asked Starved result old new none (inr e) = wants_keeps e.given old new (no_sets command asked (Ok e.given) none e.came) e.wants

@@ -20,19 +20,22 @@ use Rattle.m36_ran.specs.declared.command.ImageCommand.{ImageCommand}
 use Rattle.m36_ran.specs.declared.command.ImageCommand.TheVariants as image
 use Rattle.m36_ran.specs.Ran.{state_reads, state_kind}
 use Rattle.m36_scheduled.specs.Scheduled.{procs_reads, procs_kind}
+use Rattle.m36_booted.specs.declared.command.FolderCommand.{FolderCommand}
+use Rattle.m36_booted.specs.Folder.{folder_reads}
+use Rattle.m36_booted.specs.Booted.{folder_kind}
 use Rattle.m36_top.specs.declared.command.Command.{Command}
-use Rattle.m36_top.specs.declared.command.Command.TheVariants.{Bare, Audit, Procs, Print, Alm, Bind}
-use Rattle.m36_top.specs.Dues.{Due, Told, on_image, on_procs, due_kind}
+use Rattle.m36_top.specs.declared.command.Command.TheVariants.{Bare, Audit, Booted, Procs, Print, Alm, Bind}
+use Rattle.m36_top.specs.Dues.{Due, Told, on_image, on_folder, on_procs, due_kind}
 use Rattle.m36_top.specs.Commands.{reads}
 use Rattle.m36_top.specs.TopCall.{Through, IsUnasked}
 
 -- ---- the kinds
 
 told_is : IsKindOf told_kind due_kind Told
-told_is = record { due = λ told due is. is; wants = λ told old new wants. wants }
+told_is = record { due = λ told due is. is; begun = λ told due is. is; wants = λ told old new wants. wants }
 
 image_is : (command : ImageCommand) → IsKindOf (state_kind command) due_kind (on_image command)
-image_is command = record { due = λ state due is. is; wants = λ state old new wants. wants }
+image_is command = record { due = λ state due is. is; begun = λ state due is. is; wants = λ state old new wants. wants }
 
 on_file :
     (command : ImageCommand) (name lent : List ℕ) (result : Status) (old new : Outside) (before after : List Asked)
@@ -59,7 +62,7 @@ performs_audit name lent result old new before after is does =
     on_file image.Audit name lent result old new before after is does
 
 procs_is : (unaudited : Bool) → IsKindOf (procs_kind unaudited) due_kind (on_procs unaudited)
-procs_is unaudited = record { due = λ p due is. is; wants = λ p old new wants. wants }
+procs_is unaudited = record { due = λ p due is. is; begun = λ p due is. is; wants = λ p old new wants. wants }
 
 pub performs_procs :
     (name lent : List ℕ) (unaudited : Bool) (result : Status) (old new : Outside) (before after : List Asked)
@@ -68,6 +71,17 @@ pub performs_procs :
 unfolding reads
 performs_procs name lent unaudited result old new before after is does =
     does_mapped (procs_kind unaudited) due_kind (on_procs unaudited) (procs_reads name) result old new before after (procs_is unaudited) (subst (λ n. Does (procs_kind unaudited) (procs_reads n) result old new before after) is does)
+
+folder_is : (command : FolderCommand) → IsKindOf (folder_kind command) due_kind (on_folder command)
+folder_is command = record { due = λ lib due is. is; begun = λ lib due is. is; wants = λ lib old new wants. wants }
+
+pub performs_booted :
+    (command : FolderCommand) (result : Status) (old new : Outside) (before after : List Asked)
+    → Does (folder_kind command) folder_reads result old new before after
+    → Does due_kind (reads (Booted command)) result old new before after
+unfolding reads
+performs_booted command result old new before after does =
+    does_mapped (folder_kind command) due_kind (on_folder command) folder_reads result old new before after (folder_is command) does
 
 pub performs_print :
     (name lent : List ℕ) (result : Status) (old new : Outside) (before after : List Asked)
@@ -93,7 +107,7 @@ unfolding reads
 performs_bind files result old new before after does =
     does_mapped told_kind due_kind Told (bind_reads files) result old new before after told_is does
 
-pub ruleset performing = (performs_bare, performs_audit, performs_procs, performs_print, performs_alm, performs_bind)
+pub ruleset performing = (performs_bare, performs_audit, performs_booted, performs_procs, performs_print, performs_alm, performs_bind)
 
 -- ---- whether the words are a command
 

@@ -15,8 +15,11 @@ use Rattle.m36_reading.specs.Doing.{IsUnset, IsUnput, EndsBy, Does}
 use Rattle.m36_ran.specs.AuditText.{yes_line}
 use Rattle.m36_ran.proofs.YesAnswers.{yes_passes}
 use Rattle.m36_scheduled.proofs.YesAnswers.{yes_passes as procs_pass}
+use Rattle.m36_booted.specs.Runs.{Whole, Begun}
+use Rattle.m36_booted.specs.Runs as runs
+use Rattle.m36_booted.proofs.YesAnswers.{yes_passes as folder_passes}
 use Rattle.m36_top.specs.declared.command.Command.{Command}
-use Rattle.m36_top.specs.Dues.{Due, Told, Image, Schedule, IsDueOf, WantsOf, due_kind, Promises}
+use Rattle.m36_top.specs.Dues.{Due, Told, Image, Folder, Schedule, IsDueOf, IsBegunOf, WantsOf, due_kind, Promises}
 use Rattle.m36_top.specs.Commands.{reads}
 use Rattle.m36_top.specs.TopCall.{SaysYes, YesPasses, AnswersPass}
 
@@ -53,7 +56,17 @@ yes_grew_within old new text cut told_yes =
 due_passes : (d : Due) (due : Answer) → IsDueOf d due → Begins due.text → Promises d
 due_passes (Told told) due is begins = tt
 due_passes (Image image) due is begins = yes_passes image.command image.state due begins.0 is begins.1
+due_passes (Folder folder) due is begins =
+    folder_passes Whole folder.command folder.lib due begins.0 is begins.1
 due_passes (Schedule s) due is begins = procs_pass s.unaudited s.procs due begins.0 is begins.1
+
+-- one was begun
+begun_passes : (d : Due) (due : Answer) → IsBegunOf d due → Begins due.text → Promises d
+begun_passes (Told told) due is begins = tt
+begun_passes (Image image) due is begins = yes_passes image.command image.state due begins.0 is begins.1
+begun_passes (Folder folder) due is begins =
+    folder_passes Begun folder.command folder.lib due begins.0 is begins.1
+begun_passes (Schedule s) due is begins = procs_pass s.unaudited s.procs due begins.0 is begins.1
 
 nothing_begins : (rest : List ℕ) → [] ≡ yes_line ++ rest → ⊥
 nothing_begins rest e = cc
@@ -72,14 +85,18 @@ made_passes (Err r) due old new is grew = λ told_yes.
 
 cut_passes :
     (d : Due) (due : Answer) (old new : Outside)
-    → IsDueOf d due → IsUnset due old new ⊎ IsUnput due old new → YesPasses (Ok d) old new
+    → IsBegunOf d due → IsUnset due old new ⊎ IsUnput due old new → YesPasses (Ok d) old new
 cut_passes d due old new is (inl unset) = idle_passes (Ok d) old new unset.written
-cut_passes d due old new is (inr unput) = λ told_yes. due_passes d due is (yes_grew_within old.sink.written new.sink.written due.text unput.text told_yes)
+cut_passes d due old new is (inr unput) = λ told_yes. begun_passes d due is (yes_grew_within old.sink.written new.sink.written due.text unput.text told_yes)
 
-wants_passes : (d : Due) (given : Early Due) (old new : Outside) → WantsOf d old new → YesPasses given old new
-wants_passes (Told told) given old new w = idle_passes given old new w.written
-wants_passes (Image image) given old new w = idle_passes given old new w.written
-wants_passes (Schedule s) given old new w = idle_passes given old new w.written
+wants_passes : (d : Due) (old new : Outside) → WantsOf d old new → YesPasses (Ok d) old new
+wants_passes (Told told) old new w = idle_passes (Ok (Told told)) old new w.written
+wants_passes (Image image) old new w = idle_passes (Ok (Image image)) old new w.written
+wants_passes (Folder folder) old new (inl w) = idle_passes (Ok (Folder folder)) old new w.written
+wants_passes (Folder folder) old new (inr w) = λ told_yes.
+    let b = yes_grew old.sink.written new.sink.written w.due.text w.text told_yes in
+    folder_passes runs.Starved folder.command folder.lib w.due b.0 w.is b.1
+wants_passes (Schedule s) old new w = idle_passes (Ok (Schedule s)) old new w.written
 
 -- by what a reading came to
 pub ends_pass_by :
@@ -89,10 +106,11 @@ pub ends_pass_by :
 ends_pass_by Is given Answered result old new same e =
     subst (λ o. YesPasses o old new) (sym (same e.given e.came)) (made_passes e.given e.due old new e.is_due e.made.text)
 ends_pass_by Is given Cut result old new same e =
-    subst (λ o. YesPasses o old new) (sym (same (Ok e.given) e.came)) (cut_passes e.given e.due old new e.is_due e.cut)
+    subst (λ o. YesPasses o old new) (sym (same (Ok e.given) e.came)) (cut_passes e.given e.due old new e.begun e.cut)
 ends_pass_by Is given Unread result old new same e = idle_passes given old new e.idle.written
 ends_pass_by Is given Starved result old new same (inl e) = idle_passes given old new e.idle.written
-ends_pass_by Is given Starved result old new same (inr e) = wants_passes e.given given old new e.wants
+ends_pass_by Is given Starved result old new same (inr e) =
+    subst (λ o. YesPasses o old new) (sym (same (Ok e.given) e.came)) (wants_passes e.given old new e.wants)
 ends_pass_by Is given Unasked result old new same e = absurd e
 
 pub ends_pass :

@@ -5,14 +5,17 @@ use Rattle.m36_told.specs.Telling.{print_reads, alm_reads}
 use Rattle.m36_told.specs.Binding.{bind_reads}
 use Rattle.m36_ran.specs.Ran.{state_reads}
 use Rattle.m36_scheduled.specs.Scheduled.{procs_reads}
+use Rattle.m36_booted.specs.Folder.{folder_reads}
 use Rattle.m36_ran.specs.declared.command.ImageCommand.TheVariants as image
 use Rattle.m36_top.specs.declared.command.Command.{Command}
-use Rattle.m36_top.specs.declared.command.Command.TheVariants.{Bare, Audit, Procs, Print, Alm, Bind}
-use Rattle.m36_top.specs.Dues.{Due, Told, on_image, on_procs}
+use Rattle.m36_top.specs.declared.command.Command.TheVariants.{Bare, Audit, Booted, Procs}
+use Rattle.m36_top.specs.declared.command.Command.TheVariants.{Print, Alm, Bind}
+use Rattle.m36_top.specs.Dues.{Due, Told, on_image, on_folder, on_procs}
 
 unfoldable pub reads : Command → Reading (Early Due)
 reads (Bare file run) = mapped (on_image (image.Bare run)) (state_reads file)
 reads (Audit file) = mapped (on_image image.Audit) (state_reads file)
+reads (Booted command) = mapped (on_folder command) folder_reads
 reads (Procs file unaudited) = mapped (on_procs unaudited) (procs_reads file)
 reads (Print name) = mapped Told (print_reads name)
 reads (Alm files) = mapped Told (alm_reads files)
@@ -22,6 +25,7 @@ reads (Bind files) = mapped Told (bind_reads files)
 abbrev pub writes_files : Command → Bool
 writes_files (Bare file run) = false
 writes_files (Audit file) = false
+writes_files (Booted command) = false
 writes_files (Procs file unaudited) = false
 writes_files (Print name) = false
 writes_files (Alm files) = true

@@ -2,6 +2,9 @@
 --
 --     bare FILE [--steps N] [--unaudited]
 --     audit FILE
+--     audit
+--     run [--steps N] [--unaudited]
+--     trace [--steps N] [--unaudited]
 --     procs FILE [--unaudited]
 --     print NAME
 --     alm NAME
@@ -21,11 +24,14 @@ use Rattle.std.specs.Prelude.{take, drop, codes, Option, Some, None, unwrap_or, 
 use Rattle.std.specs.Option.{is_none, option_map, option_and_then}
 use Rattle.m36_text.specs.Texts.{is_text, is_file_name}
 use Rattle.m36_text.specs.Numbers.{short_decimal_in}
+use Rattle.m36_booted.specs.declared.command.FolderRun.{FolderRun}
+use Rattle.m36_booted.specs.declared.command.FolderCommand.TheVariants as folder
 use Rattle.m36_top.specs.declared.words.Given.{Given}
 use Rattle.m36_top.specs.declared.words.Expects.{Expects}
 use Rattle.m36_top.specs.declared.words.Expects.TheVariants as expects
 use Rattle.m36_top.specs.declared.command.Command.{Command}
-use Rattle.m36_top.specs.declared.command.Command.TheVariants.{Bare, Audit, Procs, Print, Alm, Bind}
+use Rattle.m36_top.specs.declared.command.Command.TheVariants.{Bare, Audit, Booted, Procs}
+use Rattle.m36_top.specs.declared.command.Command.TheVariants.{Print, Alm, Bind}
 
 -- operands: the files of all commands
 abbrev pub operand_of : List ℕ → Option (List ℕ)
@@ -91,7 +97,7 @@ abbrev pub nothing : Given
 nothing = record { operand = None; steps = None; unaudited = false; expects = expects.Any }
 
 -- The commands by their words, each with what it makes of its operands and options. All options go
--- with `bare`, `--unaudited` with `procs`, and none with the others.
+-- with `bare`, `run` and `trace`, `--unaudited` with `procs`, and none with the others.
 abbrev pub bare : Given → Option Command
 bare g =
     option_map
@@ -101,8 +107,22 @@ bare g =
 abbrev pub has_no_option : Given → Bool
 has_no_option g = is_none g.steps && not g.unaudited
 
+-- `audit` of a file, or of the folder
+abbrev pub audit_of : Option (List ℕ) → Command
+audit_of None = Booted folder.Audit
+audit_of (Some file) = Audit file
+
 abbrev pub audit : Given → Option Command
-audit g = if has_no_option g then option_map (λ file. Audit file) g.operand else None
+audit g = if has_no_option g then Some (audit_of g.operand) else None
+
+abbrev pub folder_run : Given → FolderRun
+folder_run g = record { steps = unwrap_or g.steps 100000; unaudited = g.unaudited }
+
+abbrev pub run : Given → Option Command
+run g = if is_none g.operand then Some (Booted (folder.Run (folder_run g))) else None
+
+abbrev pub trace : Given → Option Command
+trace g = if is_none g.operand then Some (Booted (folder.Trace (folder_run g))) else None
 
 abbrev pub procs : Given → Option Command
 procs g = if is_none g.steps then option_map (λ file. Procs file g.unaudited) g.operand else None
@@ -131,8 +151,9 @@ Entry = List ℕ × (Given → Option Command)
 
 abbrev pub commands : List Entry
 commands =
-    (codes "bare", bare) ∷ (codes "audit", audit) ∷ (codes "procs", procs) ∷ (codes "print", print)
-    ∷ (codes "alm", alm) ∷ (codes "bind", bind) ∷ []
+    (codes "bare", bare) ∷ (codes "audit", audit) ∷ (codes "run", run) ∷ (codes "trace", trace)
+    ∷ (codes "procs", procs) ∷ (codes "print", print) ∷ (codes "alm", alm)
+    ∷ (codes "bind", bind) ∷ []
 
 -- the command of a word
 abbrev pub command_in : List Entry → List ℕ → Given → Option Command

@@ -1,5 +1,6 @@
 //! The commands.
 
+use m36_booted::FolderCommand;
 use m36_ran::BareRun;
 use m36_text::Name;
 use m36_told::{AlmFiles, BindFiles};
@@ -11,6 +12,8 @@ pub enum Command {
     Bare(Name, BareRun),
     /// `audit FILE`: audits the machine of a bare image.
     Audit(Name),
+    /// `audit`, `run` and `trace`: boots the folder and audits its core, and may run it.
+    Booted(FolderCommand),
     /// `procs FILE`: audits several processes on one core, and runs them by their schedule, perhaps though the audit fails.
     Procs(Name, bool),
     /// `print NAME`: writes the print of an object.

@@ -4,8 +4,11 @@
 //! `bare FILE` and `audit FILE` read a bare image, a text that writes out the core of a machine, its descriptor segment
 //! base register and where it starts. Both audit it and write what the audit finds. `bare` then runs the machine, unless
 //! the audit has failed and `--unaudited` is not given, for at most 100,000 steps or as many as `--steps` gives. A trace
-//! line is written for each step, and an end line. `procs FILE` reads a text of several processes on one core and their
-//! schedule, audits them together, and makes the events of the schedule in the same way. `print NAME` unpacks an object and writes its print.
+//! line is written for each step, and an end line. `audit`, `run` and `trace` boot the folder: they read its boot text and
+//! the files of its segments, lay them in core, and audit it; `run` and `trace` then run the system, with its pages, links
+//! and console, and write its characters or a line for each turn, and an end line. `procs FILE` reads a text of several
+//! processes on one core and their schedule, audits them together, and makes the events of the schedule in the same way.
+//! `print NAME` unpacks an object and writes its print.
 //! `alm NAME` assembles the source NAME.alm, writes the object as the file NAME, and then the listing.
 //! `bind NAME` binds the objects that NAME.bind names, writes the bound object as the file NAME, and then its print.
 //!
@@ -13,13 +16,17 @@
 //!
 //! - Each trace line that is written is the line of the written step of the state that the step before left, from the
 //!   image of the file on.
+//! - Of a booted folder each step is the written step of its state, each link service gives the pair of the search rules or
+//!   its code, and each console service the characters that the rules of access let it read. Where `audit yes` is written,
+//!   the next promise holds in every state of the run until an LDBR is executed, absent pages included.
 //! - Where `audit yes` is written, all six conditions of the audit hold of the image, and its tables isolate each ring from
 //!   1: whatever stands in it and above, until a fault, a stop or a gate call, no word outside its write brackets changes,
 //!   and none outside its read brackets affects a step. Of processes all conditions of the joint audit hold, and the same is
 //!   so over every schedule of them.
 //! - What is written is a first part of the stated output, and the whole of it where the call answers Done, AuditNo,
 //!   MachineStop or Steps. Each answer comes exactly where it is due, in the order words, file, image, audit, run; a fault
-//!   has its cause outside; and want of memory alone may stand in the place of an answer, with nothing written.
+//!   has its cause outside; and want of memory alone may stand in the place of an answer, with nothing written, or with all
+//!   that goes before a link service that found none.
 //! - No file is read but those that the command asks for, one after another, and each line is put as one piece: whatever the
 //!   folder and the sink are, those of the system too (clause `through`).
 //!
@@ -31,6 +38,8 @@
 #![tactic(auto)]
 
 pub mod command;
+#[cfg(test)]
+mod folder_tests;
 pub mod laws;
 mod names;
 pub mod status_report;
@@ -43,6 +52,7 @@ pub mod words;
 
 pub use command::Command;
 pub use laws::law_due;
+pub use m36_booted::{FolderCommand, FolderRun};
 pub use m36_image::{Image, ImageFault, read_image};
 pub use m36_ran::BareRun;
 pub use m36_reading::{Bad, Code, Status};

@@ -11,6 +11,7 @@ ghost use Rattle.m36_top.specs.TopCall.{Through, TopOutput, ReadCause, WriteCaus
 
 use crate::command::Command;
 use crate::words::command_of;
+use m36_booted::folder_booted;
 use m36_outside::{Folder, Sink, Text};
 use m36_ran::{ImageCommand, image_file};
 use m36_reading::Status;
@@ -40,6 +41,7 @@ pub fn perform<F: Folder, S: Sink>(
         Command::Audit(file) => {
             image_file(alloc, file.bytes(), ImageCommand::Audit, folder, out)
         }
+        Command::Booted(command) => folder_booted(alloc, *command, folder, out),
         Command::Procs(file, unaudited) => {
             procs_file(alloc, file.bytes(), *unaudited, folder, out)
         }
@@ -72,12 +74,15 @@ fn answer<F: Folder, S: Sink>(alloc: Global, words: &[Text], folder: &mut F, out
 ///
 /// `words` leaves out the name of the program. `audit FILE` reads the file as a bare image, audits it, and writes the
 /// audit text. `bare FILE` does so too; where the audit passes, or `--unaudited` is given, it then runs the image for at
-/// most the steps that `--steps` gives, 100,000 by default, and writes a trace line for each and the end line. `procs FILE`
-/// reads the file as a text of processes, audits them together, and writes the audit text; where the audit passes, or
-/// `--unaudited` is given, it then makes the events of the schedule, and writes a line for each and the last line. `print NAME`
-/// unpacks the words of the file, reads them as an object, and writes its print. `alm NAME` assembles the source NAME.alm,
-/// writes the words of the object, packed, as the file NAME, and then the listing. `bind NAME` reads NAME.bind and the objects
-/// that it names, writes the words of the bound object, packed, as the file NAME, and then its print.
+/// most the steps that `--steps` gives, 100,000 by default, and writes a trace line for each and the end line. `audit`
+/// boots the folder, audits the core of the booted system, and writes the audit text. `run` and `trace` do so too; where
+/// the audit passes, or `--unaudited` is given, they then run the system with its services: `run` writes the characters of
+/// its console, `trace` a line for each step and each service, and both the end line. `procs FILE` reads the file as a
+/// text of processes, audits them together, and writes the audit text; where the audit passes, or `--unaudited` is given,
+/// it then makes the events of the schedule, and writes a line for each and the last line. `print NAME` unpacks the words
+/// of the file, reads them as an object, and writes its print. `alm NAME` assembles the source NAME.alm, writes the words
+/// of the object, packed, as the file NAME, and then the listing. `bind NAME` reads NAME.bind and the objects that it
+/// names, writes the words of the bound object, packed, as the file NAME, and then its print.
 #[tactic(auto, using(crate::proofs::TopEnds::tops))]
 pub fn m36<F: Folder, S: Sink>(alloc: Global, words: &[Text], folder: &mut F, out: &mut S) -> Status
     // What is asked, answered, written and put, and in which pieces, by what the folder answers, told or not.
@@ -102,8 +107,9 @@ pub fn m36<F: Folder, S: Sink>(alloc: Global, words: &[Text], folder: &mut F, ou
         (outside_of F.files F.wrote F.read_faults F.write_faults S.written S.taken S.faults
         folder.new out.new)) }
 
-    // Where `audit yes` is written all conditions of the audit hold, and the tables of the image isolate each ring; of
-    // processes all conditions of the joint audit hold, and every schedule of them is isolated.
+    // Where `audit yes` is written all conditions of the audit hold, and the tables of the image isolate each ring; of a
+    // booted folder the same holds in every state of its run, until an LDBR is executed; of processes all conditions of the
+    // joint audit hold, and every schedule of them is isolated.
     ensures isolated { IfSome (F.files folder.old) (λ f. TopPasses (command_of words.now) f
         (outside_of F.files F.wrote F.read_faults F.write_faults S.written S.taken S.faults
         folder.old out.old)

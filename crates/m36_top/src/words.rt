@@ -1,10 +1,11 @@
 //! The words of the command line.
 
 ghost use Rattle.std.specs.Prelude.{ℕ, ◌≡◌, ◌≤◌, ◌++◌, true, length, drop, codes, Some, IfSome};
-ghost use Rattle.m36_top.specs.Words.{steps_of, with_operand, with_steps, with_unaudited, expecting, is_steps_with_value, with_any, with_word, ended_by, with_words, nothing, bare, has_no_option, audit, procs, print, alm_of, alm, bind_of, bind, commands, command_in, command_of};
+ghost use Rattle.m36_top.specs.Words.{steps_of, with_operand, with_steps, with_unaudited, expecting, is_steps_with_value, with_any, with_word, ended_by, with_words, nothing, bare, has_no_option, audit_of, audit, folder_run, run, trace, procs, print, alm_of, alm, bind_of, bind, commands, command_in, command_of};
 
 use crate::command::Command;
 use crate::names::{bindfile_of, operand_of, source_of};
+use m36_booted::{FolderCommand, FolderRun};
 use m36_outside::Text;
 use m36_ran::BareRun;
 use m36_text::{Name, short_decimal_in};
@@ -193,12 +194,53 @@ fn has_no_option(given: &Given) -> bool
     given.steps.is_none() && !given.unaudited
 }
 
-// `audit FILE`
+// `audit`, of a file or of the folder.
+fn audit_of(operand: Option<Name>) -> Command
+    ensures { result ≡ audit_of operand }
+{
+    match operand {
+        None => Command::Booted(FolderCommand::Audit),
+        Some(file) => Command::Audit(file),
+    }
+}
+
+// `audit`, `audit FILE`
 fn audit(given: Given) -> Option<Command>
     ensures { result ≡ audit given }
 {
     if has_no_option(&given) {
-        Some(Command::Audit(given.operand?))
+        Some(audit_of(given.operand))
+    } else {
+        None
+    }
+}
+
+fn folder_run(given: &Given) -> FolderRun
+    ensures { result ≡ folder_run given.now }
+{
+    FolderRun {
+        steps: given.steps.unwrap_or(DEFAULT_STEPS),
+        unaudited: given.unaudited,
+    }
+}
+
+// `run`
+fn run(given: Given) -> Option<Command>
+    ensures { result ≡ run given }
+{
+    if given.operand.is_none() {
+        Some(Command::Booted(FolderCommand::Run(folder_run(&given))))
+    } else {
+        None
+    }
+}
+
+// `trace`
+fn trace(given: Given) -> Option<Command>
+    ensures { result ≡ trace given }
+{
+    if given.operand.is_none() {
+        Some(Command::Booted(FolderCommand::Trace(folder_run(&given))))
     } else {
         None
     }
@@ -278,6 +320,12 @@ fn command_in(word: &[u8], given: Given) -> Option<Command>
     }
     if word == b"audit".as_slice() {
         return audit(given);
+    }
+    if word == b"run".as_slice() {
+        return run(given);
+    }
+    if word == b"trace".as_slice() {
+        return trace(given);
     }
     if word == b"procs".as_slice() {
         return procs(given);

@@ -1,0 +1,277 @@
+-- Answers by what an audit has found: the audit text, and a booted run behind it.
+use Rattle.std.proofs.Common.{◌≡◌, ℕ, ◌≤◌, Bool, true, false, ◌⊎◌, List, [], ◌∷◌, ◌++◌, Option, Some, None, Result, Ok, Err, refl, sym, ap, subst, ◌∙◌, arith, inl, inr}
+use Rattle.m36_outside.specs.Counts.{Rose}
+use Rattle.m36_outside.specs.Passing.{joined, TakesSome}
+use Rattle.m36_outside.specs.Written.{Grew, GrewWithin}
+use Rattle.m36_outside.specs.declared.sink.Put.{Put}
+use Rattle.m36_outside.specs.declared.sink.Put.TheVariants as put
+use Rattle.m36_outside.proofs.Grown.{grew_on, grew_more, grew_longer}
+use Rattle.m36_outside.proofs.LinesTaken.{takes_lines_on, takes_lines_more, takes_lines_longer}
+use Rattle.m36_model.specs.Audit.{AreFindings}
+use Rattle.m36_model.specs.BootedCore.{booted_dbr}
+use Rattle.m36_model.specs.declared.endings.End.{End}
+use Rattle.m36_model.specs.declared.endings.End.TheVariants as end
+use Rattle.m36_model.specs.declared.outcome.Stop.TheVariants.{Dis, Operation, Tag}
+use Rattle.m36_desc.specs.Fields.{DbrFields}
+use Rattle.m36_step.specs.declared.turns.Turn.{Turn}
+use Rattle.m36_super.specs.Library.{Library}
+use Rattle.m36_super.specs.BootedRun.{Booted, AreTurns}
+use Rattle.m36_super.specs.SuperFields.{SuperFields, booted_of}
+use Rattle.m36_reading.specs.declared.setting.Set.{Set}
+use Rattle.m36_reading.specs.declared.status.Status.{Status}
+use Rattle.m36_reading.specs.declared.status.Status.TheVariants as status
+use Rattle.m36_reading.specs.Answers.{Answer, with_sets}
+use Rattle.m36_reading.specs.Asking.{Came}
+use Rattle.m36_reading.specs.Outside.{FolderState, SinkState}
+use Rattle.m36_reading.specs.Ends.{End as Ending, Answered, Cut, Unread, Unasked, end_of}
+use Rattle.m36_reading.specs.Ends as ends
+use Rattle.m36_reading.specs.Doing.{EndsBy, Performs}
+use Rattle.m36_reading.proofs.WriteLaws.{writes_none}
+use Rattle.m36_ran.specs.AuditText.{audit_text, audit_pieces}
+use Rattle.m36_ran.specs.Putting.{PutsBy, IsPut, IsPartPut, IsNotPut}
+use Rattle.m36_ran.specs.Ran.{behind, audit_answer}
+use Rattle.m36_booted.specs.declared.command.FolderCommand.{FolderCommand}
+use Rattle.m36_booted.specs.declared.command.RunOutput.{RunOutput}
+use Rattle.m36_booted.specs.declared.running.Finish.{Finish}
+use Rattle.m36_booted.specs.declared.running.Finish.TheVariants.{Over, Limit}
+use Rattle.m36_booted.specs.declared.running.Ran.TheVariants as ran
+use Rattle.m36_booted.specs.RunText.{steps_in, end_status, finish_status, run_pieces, run_answer}
+use Rattle.m36_booted.specs.Runs.{Goes, Extent, Whole, Begun, Starved, Reaches}
+use Rattle.m36_booted.specs.RunSays.{PutsPieces, IsRan, RanSays}
+use Rattle.m36_booted.specs.Booted.{IsRunAnswer, IsAuditAnswer, IsRunBy, IsAnswerOf, IsFolderAnswer, folder_kind}
+use Rattle.m36_booted.specs.Putting.{Puts}
+use Rattle.m36_booted.specs.Systems.{IsFresh}
+
+-- ---- a run behind the audit text
+
+-- what is put of the text and of a run
+abbrev Told : List (ℕ × ℕ) → RunOutput → List Turn → Option Finish → Answer
+Told findings output turns how = behind findings (run_answer output turns how)
+
+told_whole :
+    (findings : List (ℕ × ℕ)) (output : RunOutput) (turns : List Turn) (how : Finish) (old now new : SinkState)
+    → Grew old.written now.written (audit_text findings) → now.taken ≡ old.taken ++ audit_pieces findings → now.faults ≡ old.faults
+    → PutsPieces put.Done (run_pieces output turns (Some how)) now new
+    → IsPut (Told findings output turns (Some how)) (finish_status (Some how)) old new
+unfolding run_answer
+told_whole findings output turns how old now new grew took stood puts = record {
+  sets = refl;
+  status = refl;
+  text = grew_on old.written now.written new.written (audit_text findings) (joined (run_pieces output turns (Some how))) grew puts.says;
+  pieces = takes_lines_on old.taken now.taken new.taken (audit_pieces findings) (run_pieces output turns (Some how)) took puts.through;
+  faults = puts.cause ∙ stood;
+}
+
+told_part :
+    (findings : List (ℕ × ℕ)) (output : RunOutput) (turns : List Turn) (how : Option Finish) (old now new : SinkState)
+    → Grew old.written now.written (audit_text findings) → now.taken ≡ old.taken ++ audit_pieces findings → now.faults ≡ old.faults
+    → PutsPieces put.Failed (run_pieces output turns how) now new
+    → IsPartPut (Told findings output turns how) old new
+unfolding run_answer
+told_part findings output turns how old now new grew took stood puts = record {
+  sets = refl;
+  text = grew_more old.written now.written new.written (audit_text findings) (joined (run_pieces output turns how)) grew puts.says;
+  pieces = takes_lines_more old.taken now.taken new.taken (audit_pieces findings) (run_pieces output turns how) took puts.through;
+  cause = let P : ℕ → Type 0 = λ n. Rose n new.faults in subst P stood puts.cause;
+}
+
+-- how it ends is a status with which all is answered
+answered :
+    (how : Finish) (IsAnswer : Extent → Answer → Type 0) (due : Answer) (old new : SinkState)
+    → IsAnswer Whole due → IsPut due (finish_status (Some how)) old new
+    → Puts IsAnswer (end_of (finish_status (Some how))) (finish_status (Some how)) old new
+answered (Over (end.Fault fault)) IsAnswer due old new is put = record { due = due; is = is; puts = put }
+answered (Over (end.Stop Dis)) IsAnswer due old new is put = record { due = due; is = is; puts = put }
+answered (Over (end.Stop Operation)) IsAnswer due old new is put = record { due = due; is = is; puts = put }
+answered (Over (end.Stop Tag)) IsAnswer due old new is put = record { due = due; is = is; puts = put }
+answered (Over (end.Link code)) IsAnswer due old new is put = record { due = due; is = is; puts = put }
+answered (Over end.Console) IsAnswer due old new is put = record { due = due; is = is; puts = put }
+answered Limit IsAnswer due old new is put = record { due = due; is = is; puts = put }
+
+abbrev pub RunAnswers : RunOutput → ℕ → SuperFields → List (ℕ × ℕ) → Extent → Answer → Type 0
+RunAnswers output limit system findings extent due =
+    IsRunAnswer extent output limit system.lib (booted_of system) findings due
+
+pub run_whole :
+    (findings : List (ℕ × ℕ)) (output : RunOutput) (limit : ℕ) (system : SuperFields) (how : Finish) (old now new : SinkState)
+    → Grew old.written now.written (audit_text findings) → now.taken ≡ old.taken ++ audit_pieces findings → now.faults ≡ old.faults
+    → RanSays (ran.Whole how) output limit system now new
+    → Puts (RunAnswers output limit system findings) (end_of (finish_status (Some how))) (finish_status (Some how)) old new
+run_whole findings output limit system how old now new grew took stood is =
+    answered how (RunAnswers output limit system findings) (Told findings output is.turns (Some how)) old new
+    (record { turns = is.turns; last = is.last; how = Some how; goes = is.goes; reaches = is.reaches; answer = refl })
+    (told_whole findings output is.turns how old now new grew took stood is.puts)
+
+pub run_part :
+    (findings : List (ℕ × ℕ)) (output : RunOutput) (limit : ℕ) (system : SuperFields) (old now new : SinkState)
+    → Grew old.written now.written (audit_text findings) → now.taken ≡ old.taken ++ audit_pieces findings → now.faults ≡ old.faults
+    → RanSays ran.Cut output limit system now new
+    → Puts (RunAnswers output limit system findings) (end_of status.WriteFault) status.WriteFault old new
+run_part findings output limit system old now new grew took stood says =
+    let is = says.1 in
+    record {
+      due = Told findings output is.turns says.0;
+      is = record { turns = is.turns; last = is.last; how = says.0; goes = is.goes; reaches = is.reaches; answer = refl };
+      puts = told_part findings output is.turns says.0 old now new grew took stood is.puts;
+    }
+
+pub run_starved :
+    (findings : List (ℕ × ℕ)) (output : RunOutput) (limit : ℕ) (system : SuperFields) (old now new : SinkState)
+    → Grew old.written now.written (audit_text findings) → now.taken ≡ old.taken ++ audit_pieces findings → now.faults ≡ old.faults
+    → RanSays ran.Starved output limit system now new
+    → Puts (RunAnswers output limit system findings) (end_of status.NoMemory) status.NoMemory old new
+unfolding run_answer
+run_starved findings output limit system old now new grew took stood is =
+    inr (record {
+      due = Told findings output is.turns None;
+      is = record { turns = is.turns; last = is.last; how = None; goes = is.goes; reaches = is.reaches; answer = refl };
+      text = grew_on old.written now.written new.written (audit_text findings) (joined (run_pieces output is.turns None)) grew is.puts.says;
+      pieces = takes_lines_on old.taken now.taken new.taken (audit_pieces findings) (run_pieces output is.turns None) took is.puts.through;
+      faults = is.puts.cause ∙ stood;
+    })
+
+no_turns : (lib : Library) (limit : ℕ) (first : Booted) → Goes lib limit first [] first
+unfolding AreTurns steps_in
+no_turns lib limit first = record { turns_are = refl; events = tt; few = omega arith }
+
+-- the text before the run was cut off
+pub text_part :
+    (findings : List (ℕ × ℕ)) (output : RunOutput) (limit : ℕ) (system : SuperFields) (old new : SinkState)
+    → GrewWithin old.written new.written (audit_text findings) → TakesSome old.taken new.taken (audit_pieces findings) → Rose old.faults new.faults
+    → Puts (RunAnswers output limit system findings) (end_of status.WriteFault) status.WriteFault old new
+unfolding run_answer
+text_part findings output limit system old new grew took rose = record {
+  due = Told findings output [] None;
+  is = record {
+    turns = [];
+    last = booted_of system;
+    how = None;
+    goes = no_turns system.lib limit (booted_of system);
+    reaches = tt;
+    answer = refl;
+  };
+  puts = record {
+    sets = refl;
+    text = grew_longer old.written new.written (audit_text findings) (joined (run_pieces output [] None)) grew;
+    pieces = takes_lines_longer old.taken new.taken (audit_pieces findings) (run_pieces output [] None) took;
+    cause = rose;
+  };
+}
+
+pub ruleset runs = (run_whole, run_part, run_starved, text_part)
+
+-- ---- the audit text alone
+
+alone :
+    (ending : Ending) (findings : List (ℕ × ℕ)) (result : Status) (old new : SinkState)
+    → PutsBy ending result (audit_answer findings) old new
+    → Puts (λ extent. IsAuditAnswer extent findings) ending result old new
+alone Answered findings result old new puts = record { due = audit_answer findings; is = refl; puts = puts }
+alone Cut findings result old new puts = record { due = audit_answer findings; is = refl; puts = puts }
+alone ends.Starved findings result old new puts = inl puts
+alone Unread findings result old new puts = absurd puts
+alone Unasked findings result old new puts = absurd puts
+
+pub audit_alone :
+    (findings : List (ℕ × ℕ)) (result : Status) (old new : SinkState)
+    → PutsBy (end_of result) result (audit_answer findings) old new
+    → Puts (λ extent. IsAuditAnswer extent findings) (end_of result) result old new
+audit_alone findings result old new puts = alone (end_of result) findings result old new puts
+
+pub ruleset audits = (audit_alone)
+
+-- ---- by the system of a folder
+
+puts_more :
+    (A B : Extent → Answer → Type 0) (ending : Ending) (result : Status) (old new : SinkState)
+    → ((extent : Extent) (due : Answer) → A extent due → B extent due)
+    → Puts A ending result old new → Puts B ending result old new
+puts_more A B Answered result old new more puts = record { due = puts.due; is = more Whole puts.due puts.is; puts = puts.puts }
+puts_more A B Cut result old new more puts = record { due = puts.due; is = more Begun puts.due puts.is; puts = puts.puts }
+puts_more A B ends.Starved result old new more (inl puts) = inl puts
+puts_more A B ends.Starved result old new more (inr puts) =
+    inr (record { due = puts.due; is = more Starved puts.due puts.is; text = puts.text; pieces = puts.pieces; faults = puts.faults })
+puts_more A B Unread result old new more puts = absurd puts
+puts_more A B Unasked result old new more puts = absurd puts
+
+pub folder_puts :
+    (command : FolderCommand) (system : SuperFields) (findings : List (ℕ × ℕ)) (result : Status) (old new : SinkState)
+    → IsFresh system → AreFindings system.core system.regs.dbr findings
+    → Puts (λ extent. IsAnswerOf command extent system.lib (booted_of system) findings) (end_of result) result old new
+    → Puts (λ extent. IsFolderAnswer extent command system.lib) (end_of result) result old new
+folder_puts command system findings result old new fresh found puts =
+    puts_more (λ extent. IsAnswerOf command extent system.lib (booted_of system) findings) (λ extent. IsFolderAnswer extent command system.lib)
+    (end_of result) result old new
+    (λ extent due is. record {
+      system = system;
+      booted = fresh;
+      findings = findings;
+      found = subst (λ (d : DbrFields). AreFindings system.core d findings) fresh.stands.dbr found;
+      answer = is;
+    }) puts
+
+-- no memory was found for the audit
+pub nothing_put :
+    (IsAnswer : Extent → Answer → Type 0) (s : SinkState)
+    → Puts IsAnswer (end_of status.NoMemory) status.NoMemory s s
+nothing_put IsAnswer s = inl (record { written = refl; taken = refl; faults = refl })
+
+pub ruleset dues = (folder_puts, nothing_put)
+
+-- ---- with the folder, in which nothing changes
+
+ends_put :
+    (command : FolderCommand) (lib : Library) (ending : Ending) (result : Status) (f : FolderState) (s s' : SinkState)
+    → Puts (λ extent. IsFolderAnswer extent command lib) ending result s s'
+    → EndsBy (folder_kind command) (λ c. c ≡ Came (Ok lib)) ending result (record { folder = f; sink = s }) (record { folder = f; sink = s' })
+ends_put command lib Answered result f s s' p = record {
+  given = Ok lib;
+  came = refl;
+  due = p.due;
+  is_due = p.is;
+  made = record {
+    status = p.puts.status;
+    files = sym (ap (λ (sets : List Set). with_sets sets f.files) p.puts.sets);
+    wrote = sym (writes_none f.wrote p.due.sets p.puts.sets);
+    text = p.puts.text;
+    pieces = p.puts.pieces;
+    read_faults = refl;
+    write_faults = refl;
+    put_faults = p.puts.faults;
+  };
+}
+ends_put command lib Cut result f s s' p = record {
+  given = lib;
+  came = refl;
+  due = p.due;
+  begun = p.is;
+  cut = inr (record {
+    files = sym (ap (λ (sets : List Set). with_sets sets f.files) p.puts.sets);
+    wrote = sym (writes_none f.wrote p.due.sets p.puts.sets);
+    text = p.puts.text;
+    pieces = p.puts.pieces;
+    cause = p.puts.cause;
+    read_faults = refl;
+    write_faults = refl;
+  });
+}
+ends_put command lib ends.Starved result f s s' (inl p) = inr (record {
+  given = lib;
+  came = refl;
+  wants = inl (record { files = refl; wrote = refl; write_faults = refl; written = p.written; taken = p.taken; put_faults = p.faults });
+  read_faults = refl;
+})
+ends_put command lib ends.Starved result f s s' (inr p) = inr (record {
+  given = lib;
+  came = refl;
+  wants = inr (record { due = p.due; is = p.is; files = refl; wrote = refl; text = p.text; pieces = p.pieces; write_faults = refl; put_faults = p.faults });
+  read_faults = refl;
+})
+ends_put command lib Unread result f s s' p = absurd p
+ends_put command lib Unasked result f s s' p = absurd p
+
+pub performs_put :
+    (command : FolderCommand) (lib : Library) (result : Status) (f : FolderState) (s s' : SinkState)
+    → Puts (λ extent. IsFolderAnswer extent command lib) (end_of result) result s s'
+    → Performs (folder_kind command) (Ok lib) result (record { folder = f; sink = s }) (record { folder = f; sink = s' })
+performs_put command lib result f s s' p = ends_put command lib (end_of result) result f s s' p

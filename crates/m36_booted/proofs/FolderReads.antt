@@ -1,0 +1,177 @@
+-- The boot text and the files of a folder, one after another.
+use Rattle.std.proofs.Common.{◌≡◌, ℕ, ◌+◌, ◌<◌, ◌≤◌, List, [], ◌∷◌, ◌++◌, length, drop, get_or, Option, Some, slice_get, Result, Ok, Err, refl, sym, ap, subst, ◌∙◌}
+use Rattle.std.proofs.lemmas.List.{at_drop_more, at_drop_all}
+use Rattle.std.proofs.lemmas.Option.{slice_get_within, get_or_from_slice_get}
+use Rattle.m36_dir.specs.Fields.{SegmentFields}
+use Rattle.m36_dir.specs.Catalog.{CatalogFields, Told}
+use Rattle.m36_dir.specs.declared.fault.CatalogFault.{CatalogFault}
+use Rattle.m36_dir.specs.declared.fault.CatalogFault.TheVariants as catalog
+use Rattle.m36_boot.specs.Refusals.{boot_answer}
+use Rattle.m36_boot.specs.Refusals as boot_refusals
+use Rattle.m36_boot.specs.declared.fault.BootFault.{BootFault}
+use Rattle.m36_boot.specs.declared.fault.BootFault.TheVariants as boot
+use Rattle.m36_link.specs.Fields.{SnapFields}
+use Rattle.m36_super.specs.Library.{Library}
+use Rattle.m36_super.specs.SuperFields.{SuperFields}
+use Rattle.m36_super.specs.BootSays.{IsBooted}
+use Rattle.m36_reading.specs.declared.refusal.Refusal.{Refusal}
+use Rattle.m36_reading.specs.declared.refusal.Refusal.TheVariants.{BadFile, ReadFault, NoMemory}
+use Rattle.m36_reading.specs.Reading.{Reading, decided, Early, then_with}
+use Rattle.m36_reading.specs.Asking.{Asked, Gives, Refuses}
+use Rattle.m36_reading.specs.Outside.{FolderState}
+use Rattle.m36_reading.specs.Doing.{Reads}
+use Rattle.m36_reading.proofs.ReadLaws.{gives_by, memory_given, reads_then, reads_nothing, reads_stop}
+use Rattle.m36_booted.specs.Folder.{catalog_refused, catalog_by, catalog_reads, files_with, files_from, library_of, fault_refused, booted_by, boots, folder_reads}
+use Rattle.m36_booted.specs.Systems.{IsFresh, library_in}
+
+-- ---- the catalog
+
+pub catalog_given :
+    (given : Result CatalogFields CatalogFault) (c : CatalogFields)
+    → given ≡ Ok c → Gives (Ok c) (catalog_by given)
+catalog_given given c is = ap catalog_by is
+
+pub catalog_not :
+    (given : Result CatalogFields CatalogFault) (fault : CatalogFault) (r : Refusal)
+    → Told fault given → Refuses r (catalog_refused fault) → Gives (Err r) (catalog_by given)
+catalog_not given (catalog.D1 line) r told refuses = gives_by CatalogFields r (catalog_refused (catalog.D1 line)) (catalog_by given) (ap catalog_by told) refuses
+catalog_not given (catalog.D2 line) r told refuses = gives_by CatalogFields r (catalog_refused (catalog.D2 line)) (catalog_by given) (ap catalog_by told) refuses
+catalog_not given (catalog.D3 line) r told refuses = gives_by CatalogFields r (catalog_refused (catalog.D3 line)) (catalog_by given) (ap catalog_by told) refuses
+catalog_not given (catalog.D4 line) r told refuses = gives_by CatalogFields r (catalog_refused (catalog.D4 line)) (catalog_by given) (ap catalog_by told) refuses
+catalog_not given (catalog.D5 line) r told refuses = gives_by CatalogFields r (catalog_refused (catalog.D5 line)) (catalog_by given) (ap catalog_by told) refuses
+catalog_not given (catalog.D6 line) r told refuses = gives_by CatalogFields r (catalog_refused (catalog.D6 line)) (catalog_by given) (ap catalog_by told) refuses
+catalog_not given catalog.NoMemory r told refuses = memory_given CatalogFields r (catalog_by given) refuses
+
+pub ruleset catalogs = (catalog_given, catalog_not)
+
+-- ---- the files
+
+-- What is left of a reading, by which all of it comes to the same.
+pub record ReadsOn
+    (all left : Reading (Early (List (List ℕ)))) (old now : FolderState) (before asked : List Asked)
+    : Type 0 where
+  pub on :
+      (result : Result (List (List ℕ)) Refusal) (new : FolderState) (after : List Asked)
+      → Reads left result now new asked after → Reads all result old new before after
+
+pub files_start :
+    (segments : List SegmentFields) (old : FolderState) (before : List Asked)
+    → ReadsOn (files_from [] segments) (files_from [] segments) old old before before
+files_start segments old before = record { on = λ result new after reads. reads }
+
+from_more :
+    (files : List (List ℕ)) (segments : List SegmentFields) (i : ℕ) (s : SegmentFields) (name : List ℕ)
+    → slice_get segments i ≡ Some s → name ≡ s.file
+    → files_from files (drop i segments) ≡ then_with (files_with files name) (λ more. files_from more (drop (i + 1) segments))
+unfolding files_from
+from_more files segments i s name at is =
+    let next : SegmentFields → Reading (Early (List (List ℕ))) =
+    λ t. then_with (files_with files t.file) (λ more. files_from more (drop (i + 1) segments)) in
+    at_drop_more (files_from files) segments i s (slice_get_within segments i s at)
+    ∙ ap next (get_or_from_slice_get segments i s s at)
+    ∙ ap (λ (n : List ℕ). then_with (files_with files n) (λ more. files_from more (drop (i + 1) segments))) (sym is)
+
+-- a file was read
+pub files_more :
+    (segments : List SegmentFields) (i : ℕ) (s : SegmentFields) (name : List ℕ) (files more : List (List ℕ)) (old now new : FolderState)
+    (before asked after : List Asked)
+    → slice_get segments i ≡ Some s → name ≡ s.file
+    → ReadsOn (files_from [] segments) (files_from files (drop i segments)) old now before asked
+    → Reads (files_with files name) (Ok more) now new asked after
+    → ReadsOn (files_from [] segments) (files_from more (drop (i + 1) segments)) old new before after
+files_more segments i s name files more old now new before asked after at is left reads = record {
+  on = λ result last behind rest.
+      left.on result last behind
+      (subst (λ p. Reads p result now last asked behind) (sym (from_more files segments i s name at is))
+      (reads_then (files_with files name) (λ m. files_from m (drop (i + 1) segments)) more result now new last asked after behind reads rest));
+}
+
+-- a file was not read
+pub files_stop :
+    (segments : List SegmentFields) (i : ℕ) (s : SegmentFields) (name : List ℕ) (files : List (List ℕ)) (r : Refusal) (old now new : FolderState)
+    (before asked after : List Asked)
+    → slice_get segments i ≡ Some s → name ≡ s.file
+    → ReadsOn (files_from [] segments) (files_from files (drop i segments)) old now before asked
+    → Reads (files_with files name) (Err r) now new asked after
+    → Reads (files_from [] segments) (Err r) old new before after
+files_stop segments i s name files r old now new before asked after at is left reads =
+    left.on (Err r) new after
+    (subst (λ p. Reads p (let e : Result (List (List ℕ)) Refusal = Err r in e) now new asked after) (sym (from_more files segments i s name at is))
+    (reads_stop (List (List ℕ)) (List (List ℕ)) (files_with files name) (λ m. files_from m (drop (i + 1) segments)) r now new asked after reads))
+
+from_none : (files : List (List ℕ)) → files_from files [] ≡ decided (Ok files)
+unfolding files_from
+from_none files = refl
+
+-- all were read
+pub files_end :
+    (segments : List SegmentFields) (i : ℕ) (files : List (List ℕ)) (old now : FolderState) (before asked : List Asked)
+    → length segments ≤ i
+    → ReadsOn (files_from [] segments) (files_from files (drop i segments)) old now before asked
+    → Reads (files_from [] segments) (Ok files) old now before asked
+files_end segments i files old now before asked past left =
+    left.on (Ok files) now asked
+    (subst (λ p. Reads p (let e : Result (List (List ℕ)) Refusal = Ok files in e) now now asked asked) (sym (at_drop_all (files_from files) segments i past ∙ from_none files))
+    (reads_nothing (Ok files) (Ok files) now asked refl))
+
+pub ruleset files_in_turn = (files_start, files_more, files_stop, files_end)
+
+-- ---- booting
+
+pub booted_given :
+    (lib : Library) (s : SuperFields) → IsBooted lib s → Gives (library_in (Ok s)) (boots lib)
+unfolding boots
+booted_given lib s is = ap (booted_by lib) is.answer ∙ ap (λ (l : Library). Ok l) (sym is.library)
+
+pub booted_not :
+    (lib : Library) (fault : BootFault) (r : Refusal)
+    → boot_refusals.Told fault (boot_answer lib.catalog lib.files) → Refuses r (fault_refused fault)
+    → Gives (library_in (Err r)) (boots lib)
+unfolding boots
+booted_not lib boot.U1 r told refuses = gives_by Library r (fault_refused boot.U1) (boots lib) (ap (booted_by lib) told) refuses
+booted_not lib (boot.U2 seg) r told refuses = gives_by Library r (fault_refused (boot.U2 seg)) (boots lib) (ap (booted_by lib) told) refuses
+booted_not lib boot.U3 r told refuses = gives_by Library r (fault_refused boot.U3) (boots lib) (ap (booted_by lib) told) refuses
+booted_not lib (boot.U4 seg) r told refuses = gives_by Library r (fault_refused (boot.U4 seg)) (boots lib) (ap (booted_by lib) told) refuses
+booted_not lib boot.NoMemory r told refuses = memory_given Library r (boots lib) refuses
+
+pub booted_fresh : (lib : Library) (s : SuperFields) → IsBooted lib s → IsFresh s
+booted_fresh lib s is = subst (λ (l : Library). IsBooted l s) (sym is.library) is
+
+pub ruleset booting = (booted_given, booted_not, booted_fresh)
+
+-- ---- all
+
+pub folder_given :
+    (c : CatalogFields) (files : List (List ℕ)) (result : Result SuperFields Refusal) (old mid new : FolderState)
+    (before between after : List Asked)
+    → Reads catalog_reads (Ok c) old mid before between
+    → Reads (files_from [] c.segments) (Ok files) mid new between after
+    → Gives (library_in result) (boots (library_of c files))
+    → Reads folder_reads (library_in result) old new before after
+unfolding folder_reads
+folder_given c files result old mid new before between after one two gives =
+    reads_then catalog_reads (λ catalog. then_with (files_from [] catalog.segments) (λ files. decided (boots (library_of catalog files))))
+    c (library_in result) old mid new before between after one
+    (reads_then (files_from [] c.segments) (λ files. decided (boots (library_of c files))) files (library_in result) mid new new between after after two
+    (reads_nothing (boots (library_of c files)) (library_in result) new after gives))
+
+pub folder_no_catalog :
+    (r : Refusal) (old new : FolderState) (before after : List Asked)
+    → Reads catalog_reads (Err r) old new before after
+    → Reads folder_reads (library_in (Err r)) old new before after
+unfolding folder_reads
+folder_no_catalog r old new before after one =
+    reads_stop CatalogFields Library catalog_reads (λ catalog. then_with (files_from [] catalog.segments) (λ files. decided (boots (library_of catalog files)))) r old new before after one
+
+pub folder_no_files :
+    (c : CatalogFields) (r : Refusal) (old mid new : FolderState) (before between after : List Asked)
+    → Reads catalog_reads (Ok c) old mid before between
+    → Reads (files_from [] c.segments) (Err r) mid new between after
+    → Reads folder_reads (library_in (Err r)) old new before after
+unfolding folder_reads
+folder_no_files c r old mid new before between after one two =
+    reads_then catalog_reads (λ catalog. then_with (files_from [] catalog.segments) (λ files. decided (boots (library_of catalog files))))
+    c (library_in (Err r)) old mid new before between after one
+    (reads_stop (List (List ℕ)) Library (files_from [] c.segments) (λ files. decided (boots (library_of c files))) r mid new between after two)
+
+pub ruleset folders = (folder_given, folder_no_catalog, folder_no_files)

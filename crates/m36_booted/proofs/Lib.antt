@@ -1,0 +1,9 @@
+pub mod Pieces
+pub mod TurnsMade
+pub mod Serving
+pub mod RunLoop
+pub mod FolderReads
+pub mod FolderAnswers
+pub mod OneSystem
+pub mod YesAnswers
+pub mod DueLaws

@@ -1,0 +1,88 @@
+-- What is due to a command on a folder that is booted: the text of what the audit of the booted
+-- core finds, and, where the system is run, what is written of the run.
+use Rattle.std.specs.Prelude.{◌≡◌, ℕ, ◌⊎◌, Bool, true, false, ◌||◌, List, ◌++◌, Option}
+use Rattle.m36_outside.specs.Written.{Grew}
+use Rattle.m36_model.specs.Audit.{AreFindings}
+use Rattle.m36_model.specs.BootedCore.{booted_dbr}
+use Rattle.m36_step.specs.declared.turns.Turn.{Turn}
+use Rattle.m36_super.specs.Library.{Library}
+use Rattle.m36_super.specs.BootedRun.{Booted}
+use Rattle.m36_super.specs.SuperFields.{SuperFields, booted_of}
+use Rattle.m36_super.specs.BootSays.{IsBooted}
+use Rattle.m36_reading.specs.Answers.{Answer}
+use Rattle.m36_reading.specs.Outside.{Outside, IsIdle}
+use Rattle.m36_reading.specs.Doing.{Kind}
+use Rattle.m36_ran.specs.Ran.{passes, behind, audit_answer}
+use Rattle.m36_booted.specs.declared.command.FolderCommand.{FolderCommand}
+use Rattle.m36_booted.specs.declared.command.FolderCommand.TheVariants.{Audit, Run, Trace}
+use Rattle.m36_booted.specs.declared.command.RunOutput.{RunOutput}
+use Rattle.m36_booted.specs.declared.command.RunOutput.TheVariants as output
+use Rattle.m36_booted.specs.declared.running.Finish.{Finish}
+use Rattle.m36_booted.specs.RunText.{run_answer}
+use Rattle.m36_booted.specs.Runs.{Goes, Extent, Whole, Begun, Starved, Reaches}
+
+-- The audit text, and a run behind it. Which page gives way where one is brought in is free, so
+-- several runs may be due where a program has looked at the addresses of frames, by ABSA; until
+-- then one is.
+pub record IsRunAnswer
+    (extent : Extent) (output : RunOutput) (limit : ℕ) (lib : Library) (first : Booted)
+    (findings : List (ℕ × ℕ)) (due : Answer) : Type 0 where
+  pub turns : List Turn
+  pub last : Booted
+  pub how : Option Finish
+  pub goes : Goes lib limit first turns last
+  pub reaches : Reaches extent how lib limit turns last
+  pub answer : due ≡ behind findings (run_answer output turns how)
+
+-- The audit text alone. No memory is wanted behind it.
+abbrev pub IsAuditAnswer : Extent → List (ℕ × ℕ) → Answer → Type 0
+IsAuditAnswer Whole findings due = due ≡ audit_answer findings
+IsAuditAnswer Begun findings due = due ≡ audit_answer findings
+IsAuditAnswer Starved findings due = ⊥
+
+-- The system is run where the audit passes, or `--unaudited` is given.
+abbrev pub IsRunBy :
+    Bool → Extent → RunOutput → ℕ → Library → Booted → List (ℕ × ℕ) → Answer → Type 0
+IsRunBy true extent output limit lib first findings due =
+    IsRunAnswer extent output limit lib first findings due
+IsRunBy false extent output limit lib first findings due = IsAuditAnswer extent findings due
+
+abbrev pub IsAnswerOf : FolderCommand → Extent → Library → Booted → List (ℕ × ℕ) → Answer → Type 0
+IsAnswerOf Audit extent lib first findings due = IsAuditAnswer extent findings due
+IsAnswerOf (Run run) extent lib first findings due =
+    IsRunBy (passes findings || run.unaudited) extent output.Console run.steps lib first findings
+    due
+IsAnswerOf (Trace run) extent lib first findings due =
+    IsRunBy (passes findings || run.unaudited) extent output.Trace run.steps lib first findings due
+
+-- The answer is by the system to which the folder boots, and by what the audit of its core finds,
+-- of which there is one list.
+pub record IsFolderAnswer (extent : Extent) (command : FolderCommand) (lib : Library) (due : Answer)
+    : Type 0 where
+  pub system : SuperFields
+  pub booted : IsBooted lib system
+  pub findings : List (ℕ × ℕ)
+  pub found : AreFindings system.core booted_dbr findings
+  pub answer : IsAnswerOf command extent lib (booted_of system) findings due
+
+-- Memory was wanted by a link service, and the run up to it is written whole.
+pub record IsStarvedRun (command : FolderCommand) (lib : Library) (old new : Outside) : Type 0 where
+  pub due : Answer
+  pub is : IsFolderAnswer Starved command lib due
+  pub files : new.folder.files ≡ old.folder.files
+  pub wrote : new.folder.wrote ≡ old.folder.wrote
+  pub text : Grew old.sink.written new.sink.written due.text
+  pub pieces : new.sink.taken ≡ old.sink.taken ++ due.pieces
+  pub write_faults : new.folder.write_faults ≡ old.folder.write_faults
+  pub put_faults : new.sink.faults ≡ old.sink.faults
+
+-- Memory is wanted before anything is written, or by a link service.
+abbrev pub FolderWants : FolderCommand → Library → Outside → Outside → Type 0
+FolderWants command lib old new = IsIdle old new ⊎ IsStarvedRun command lib old new
+
+abbrev pub folder_kind : FolderCommand → Kind Library
+folder_kind command = record {
+  IsDue = IsFolderAnswer Whole command;
+  IsBegun = IsFolderAnswer Begun command;
+  Wants = FolderWants command;
+}

@@ -1,0 +1,9 @@
+pub mod Folder
+pub mod RunText
+pub mod Runs
+pub mod Booted
+pub mod Promise
+pub mod Putting
+pub mod Systems
+pub mod RunSays
+pub mod DueLaw

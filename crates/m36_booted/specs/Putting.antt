@@ -1,0 +1,38 @@
+-- What is said of a sink where a booted system is audited and run.
+use Rattle.std.specs.Prelude.{◌≡◌, ◌⊎◌, ◌++◌}
+use Rattle.m36_outside.specs.Written.{Grew}
+use Rattle.m36_reading.specs.declared.status.Status.{Status}
+use Rattle.m36_reading.specs.Answers.{Answer}
+use Rattle.m36_reading.specs.Outside.{SinkState}
+use Rattle.m36_reading.specs.Ends.{End, Answered, Cut, Unread, Starved, Unasked}
+use Rattle.m36_ran.specs.Putting.{IsPut, IsPartPut, IsNotPut}
+use Rattle.m36_booted.specs.Runs.{Extent}
+use Rattle.m36_booted.specs.Runs as extent
+
+-- an answer is put whole, with its status
+pub record PutsWhole
+    (IsAnswer : Extent → Answer → Type 0) (result : Status) (old new : SinkState) : Type 0 where
+  pub due : Answer
+  pub is : IsAnswer extent.Whole due
+  pub puts : IsPut due result old new
+
+-- a first part of what was begun is put
+pub record PutsPart (IsAnswer : Extent → Answer → Type 0) (old new : SinkState) : Type 0 where
+  pub due : Answer
+  pub is : IsAnswer extent.Begun due
+  pub puts : IsPartPut due old new
+
+-- what goes before a link service is put whole
+pub record PutsBefore (IsAnswer : Extent → Answer → Type 0) (old new : SinkState) : Type 0 where
+  pub due : Answer
+  pub is : IsAnswer extent.Starved due
+  pub text : Grew old.written new.written due.text
+  pub pieces : new.taken ≡ old.taken ++ due.pieces
+  pub faults : new.faults ≡ old.faults
+
+abbrev pub Puts : (Extent → Answer → Type 0) → End → Status → SinkState → SinkState → Type 0
+Puts IsAnswer Answered result old new = PutsWhole IsAnswer result old new
+Puts IsAnswer Cut result old new = PutsPart IsAnswer old new
+Puts IsAnswer Starved result old new = IsNotPut old new ⊎ PutsBefore IsAnswer old new
+Puts IsAnswer Unread result old new = ⊥
+Puts IsAnswer Unasked result old new = ⊥

@@ -1,0 +1,112 @@
+-- What the parts of a booted run answer, and what they put.
+use Rattle.std.specs.Prelude.{ℕ, ◌≡◌, ⊤, List, [], ◌∷◌, Option, Some, None}
+use Rattle.m36_outside.specs.Passing.{joined, TakesLines}
+use Rattle.m36_outside.specs.Put.{PutSays, PutHasCause}
+use Rattle.m36_outside.specs.declared.sink.Put.{Put}
+use Rattle.m36_outside.specs.declared.sink.Put.TheVariants as put
+use Rattle.m36_model.specs.StoreLaw.{Each}
+use Rattle.m36_step.specs.declared.turns.Turn.{Turn}
+use Rattle.m36_step.specs.declared.turns.Turn.TheVariants.{Ended}
+use Rattle.m36_super.specs.Library.{Library}
+use Rattle.m36_super.specs.declared.coming.Coming.{Coming}
+use Rattle.m36_super.specs.declared.coming.Coming.TheVariants.{Step, Link, Print, Over}
+use Rattle.m36_super.specs.BootedRun.{Booted, IsTurn, AreTurns}
+use Rattle.m36_super.specs.SuperFields.{SuperFields, booted_of}
+use Rattle.m36_reading.specs.Outside.{SinkState}
+use Rattle.m36_booted.specs.declared.command.RunOutput.{RunOutput}
+use Rattle.m36_booted.specs.declared.running.Finish.{Finish}
+use Rattle.m36_booted.specs.declared.running.Progress.{Progress}
+use Rattle.m36_booted.specs.declared.running.Progress.TheVariants as progress
+use Rattle.m36_booted.specs.declared.running.Ran.{Ran}
+use Rattle.m36_booted.specs.declared.running.Ran.TheVariants as ran
+use Rattle.m36_ran.specs.Output.{as_line}
+use Rattle.m36_booted.specs.RunText.{steps_in, pieces_from, finish_line, run_pieces}
+use Rattle.m36_booted.specs.Runs.{IsEvent, Goes, AwaitsLink, Extent, Whole, Begun, Starved, Reaches}
+
+-- pieces are put, or a first part of them where a put failed
+pub record PutsPieces (answer : Put) (pieces : List (List ℕ)) (old new : SinkState) : Type 0 where
+  pub says : PutSays answer old.written new.written (joined pieces)
+  pub through : TakesLines answer old.taken new.taken pieces
+  pub cause : PutHasCause answer old.faults new.faults
+
+-- ---- turns
+
+-- Turns are made, so many of them steps, and what is told of them is put.
+pub record AreMade
+    (answer : Put) (output : RunOutput) (taken steps : ℕ) (lib : Library) (before last : Booted)
+    (old new : SinkState) : Type 0 where
+  pub turns : List Turn
+  pub turns_are : AreTurns lib before turns last
+  pub events : Each IsEvent turns
+  pub count : steps_in turns ≡ steps
+  pub puts : PutsPieces answer (pieces_from output taken turns) old new
+
+-- Behind them a step comes next.
+pub record GoesOn
+    (output : RunOutput) (taken steps : ℕ) (before after : SuperFields) (old new : SinkState)
+    : Type 0 where
+  pub made :
+      AreMade put.Done output taken steps before.lib (booted_of before) (booted_of after) old new
+  pub next : after.coming ≡ Step
+  pub lib : after.lib ≡ before.lib
+
+-- The run ends behind a state, or could not be told, or waits for memory.
+pub record Leaves
+    (answer : Put) (Behind : Booted → Type 0) (output : RunOutput) (taken steps : ℕ)
+    (before : SuperFields) (old new : SinkState) : Type 0 where
+  pub last : Booted
+  pub made : AreMade answer output taken steps before.lib (booted_of before) last old new
+  pub behind : Behind last
+
+-- a link was answered: a step comes next, or the end of the run
+abbrev pub BehindLink : Coming → Type 0
+BehindLink Step = ⊤
+BehindLink (Link at) = ⊥
+BehindLink Print = ⊥
+BehindLink (Over e) = ⊤
+
+abbrev pub BehindSays : Progress → Coming → Type 0
+BehindSays progress.On coming = coming ≡ Step
+BehindSays (progress.Over e) coming = coming ≡ Over e
+BehindSays progress.Cut coming = ⊥
+BehindSays progress.Starved coming = ⊥
+
+-- what a step with its service, or a service alone, comes to
+abbrev pub Progresses :
+    Progress → RunOutput → ℕ → ℕ → SuperFields → SuperFields → SinkState → SinkState → Type 0
+Progresses progress.On output taken steps before after old new =
+    GoesOn output taken steps before after old new
+Progresses (progress.Over e) output taken steps before after old new =
+    Leaves put.Done (λ last. (later : Booted) × IsTurn before.lib last (Ended e) later) output taken
+    steps before old new
+Progresses progress.Cut output taken steps before after old new =
+    Leaves put.Failed (λ last. ⊤) output taken steps before old new
+Progresses progress.Starved output taken steps before after old new =
+    Leaves put.Done (λ last. AwaitsLink last.coming) output taken steps before old new
+
+-- ---- the run
+
+-- what putting the end line answers
+abbrev pub FinishSays : Ran → Finish → ℕ → SinkState → SinkState → Type 0
+FinishSays (ran.Whole how) due steps old new =
+    (how ≡ due) × PutsPieces put.Done (as_line (finish_line due steps) ∷ []) old new
+FinishSays ran.Cut due steps old new =
+    PutsPieces put.Failed (as_line (finish_line due steps) ∷ []) old new
+FinishSays ran.Starved due steps old new = ⊥
+
+pub record IsRan
+    (extent : Extent) (how : Option Finish) (answer : Put) (output : RunOutput) (limit : ℕ)
+    (system : SuperFields) (old new : SinkState) : Type 0 where
+  pub turns : List Turn
+  pub last : Booted
+  pub goes : Goes system.lib limit (booted_of system) turns last
+  pub reaches : Reaches extent how system.lib limit turns last
+  pub puts : PutsPieces answer (run_pieces output turns how) old new
+
+abbrev pub RanSays : Ran → RunOutput → ℕ → SuperFields → SinkState → SinkState → Type 0
+RanSays (ran.Whole how) output limit system old new =
+    IsRan Whole (Some how) put.Done output limit system old new
+RanSays ran.Cut output limit system old new =
+    (how : Option Finish) × IsRan Begun how put.Failed output limit system old new
+RanSays ran.Starved output limit system old new =
+    IsRan Starved None put.Done output limit system old new

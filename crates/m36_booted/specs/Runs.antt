@@ -1,0 +1,60 @@
+-- Booted runs with a limit of steps, as lists of turns.
+use Rattle.std.specs.Prelude.{◌≡◌, ℕ, ⊤, ◌≤◌, List, Option, Some, None}
+use Rattle.m36_model.specs.StoreLaw.{Each}
+use Rattle.m36_step.specs.declared.turns.Turn.{Turn}
+use Rattle.m36_step.specs.declared.turns.Turn.TheVariants.{Stepped, Linked, Console, Ended}
+use Rattle.m36_step.specs.declared.turns.Turn.TheVariants.{Full, NoMemory}
+use Rattle.m36_super.specs.Library.{Library}
+use Rattle.m36_super.specs.declared.coming.Coming.{Coming}
+use Rattle.m36_super.specs.declared.coming.Coming.TheVariants.{Step, Link, Print}
+use Rattle.m36_super.specs.declared.coming.Coming.TheVariants as coming
+use Rattle.m36_super.specs.BootedRun.{Booted, IsTurn, AreTurns}
+use Rattle.m36_booted.specs.declared.running.Finish.{Finish}
+use Rattle.m36_booted.specs.declared.running.Finish.TheVariants.{Over, Limit}
+use Rattle.m36_booted.specs.RunText.{steps_in}
+
+-- a step or a service that was made
+abbrev pub IsEvent : Turn → Type 0
+IsEvent (Stepped told) = ⊤
+IsEvent (Linked note) = ⊤
+IsEvent (Console text) = ⊤
+IsEvent (Ended e) = ⊥
+IsEvent Full = ⊥
+IsEvent NoMemory = ⊥
+
+-- Turns are made one after another, with no more steps than are allowed. What a turn is and which
+-- state it leaves says the booted run: a step is the written step of its state, and a link service
+-- gives the snapped pair or its code.
+pub record Goes
+    (lib : Library) (limit : ℕ) (first : Booted) (turns : List Turn) (last : Booted) : Type 0 where
+  pub turns_are : AreTurns lib first turns last
+  pub events : Each IsEvent turns
+  pub few : steps_in turns ≤ limit
+
+-- The run has ended; or as many steps as are allowed were taken, the service that the last one
+-- calls for was made, and a step would be next.
+abbrev pub Finishes : Finish → Library → ℕ → List Turn → Booted → Type 0
+Finishes (Over e) lib limit turns last = (after : Booted) × IsTurn lib last (Ended e) after
+Finishes Limit lib limit turns last = (steps_in turns ≡ limit) × (last.coming ≡ Step)
+
+abbrev pub AwaitsLink : Coming → Type 0
+AwaitsLink (Link at) = ⊤
+AwaitsLink Step = ⊥
+AwaitsLink Print = ⊥
+AwaitsLink (coming.Over e) = ⊥
+
+-- how much of a run is told: all of it; or what was made of it so far; or all up to a link service
+-- that found no memory
+pub data Extent : Type 0 where
+  Whole : Extent
+  Begun : Extent
+  Starved : Extent
+
+-- a run told in this extent ends so, or has not come to its end
+abbrev pub Reaches : Extent → Option Finish → Library → ℕ → List Turn → Booted → Type 0
+Reaches Whole (Some how) lib limit turns last = Finishes how lib limit turns last
+Reaches Whole None lib limit turns last = ⊥
+Reaches Begun (Some how) lib limit turns last = Finishes how lib limit turns last
+Reaches Begun None lib limit turns last = ⊤
+Reaches Starved (Some how) lib limit turns last = ⊥
+Reaches Starved None lib limit turns last = AwaitsLink last.coming

@@ -1,0 +1,132 @@
+//! What is put of a turn: a line, characters as they are, or nothing.
+
+ghost use Rattle.std.specs.Prelude.{ℕ, ◌≡◌, ◌≤◌, ◌<◌, ◌+◌, ◌^◌, [], ◌∷◌, ◌++◌, length};
+ghost use Rattle.m36_step.specs.declared.turns.Turn.TheVariants as turn;
+ghost use Rattle.m36_trace.specs.TraceLine.{line_of};
+ghost use Rattle.m36_turns.specs.TurnLines.{link_line_of, console_line_of};
+ghost use Rattle.m36_reading.specs.Outside.{sink_of};
+ghost use Rattle.m36_ran.specs.Output.{as_line};
+ghost use Rattle.m36_booted.specs.RunText.{characters, pieces_of, finish_line};
+ghost use Rattle.m36_booted.specs.RunSays.{PutsPieces};
+
+use crate::command::RunOutput;
+use crate::running::Finish;
+use arrayvec::{ArrayString, ArrayVec};
+use m36_model::{Outcome, StepRecord};
+use m36_outside::{Put, Sink};
+use m36_ran::running::put_line;
+use m36_step::{ConsoleNote, LinkNote};
+use m36_trace::{end_line, line};
+use m36_turns::{console_line, link_line, run_end_line};
+
+// Puts bytes in one piece.
+#[tactic(auto, using(crate::proofs::Pieces::putting))]
+fn put_piece<S: Sink>(piece: &[u8], out: &mut S) -> Put
+    ensures { PutsPieces result (piece.now ∷ [])
+        (sink_of S.written S.taken S.faults out.old) (sink_of S.written S.taken S.faults out.new) }
+{
+    out.put(piece)
+}
+
+// Puts a line with its line feed, in one piece.
+#[tactic(auto, using(crate::proofs::Pieces::putting))]
+fn put_text<S: Sink>(text: ArrayString<160>, out: &mut S) -> Put
+    requires { length text.bytes < 160 }
+    ensures { PutsPieces result (as_line text.bytes ∷ [])
+        (sink_of S.written S.taken S.faults out.old) (sink_of S.written S.taken S.faults out.new) }
+{
+    put_line(out, text)
+}
+
+// The same of bytes.
+fn put_bytes<S: Sink, const N: usize>(mut text: ArrayVec<u8, N>, out: &mut S) -> Put
+    requires { length text.items < N }
+    ensures { PutsPieces result (as_line text.entry.items ∷ [])
+        (sink_of S.written S.taken S.faults out.old) (sink_of S.written S.taken S.faults out.new) }
+{
+    text.push(b'\n');
+    put_piece(text.as_slice(), out)
+}
+
+// Puts the characters of a console service, as they are; nothing where there are none.
+#[tactic(auto, using(crate::proofs::Pieces::putting))]
+fn put_characters<S: Sink>(note: &ConsoleNote, out: &mut S) -> Put
+    ensures { PutsPieces result (characters note.now)
+        (sink_of S.written S.taken S.faults out.old) (sink_of S.written S.taken S.faults out.new) }
+{
+    let bytes = note.bytes.as_slice();
+    if bytes.is_empty() {
+        Put::Done
+    } else {
+        put_piece(bytes, out)
+    }
+}
+
+/// Puts what is told of a step before which so many were taken.
+#[tactic(auto, using(crate::proofs::Pieces::putting))]
+pub(crate) fn put_step<S: Sink>(
+    output: RunOutput,
+    taken: u32,
+    told: &StepRecord,
+    out: &mut S,
+) -> Put
+    ensures { PutsPieces result (pieces_of output taken (turn.Stepped told.now))
+        (sink_of S.written S.taken S.faults out.old) (sink_of S.written S.taken S.faults out.new) }
+{
+    match output {
+        RunOutput::Console => Put::Done,
+        RunOutput::Trace => put_text(line(taken as u64 + 1, told), out),
+    }
+}
+
+/// Puts what is told of a link service.
+#[tactic(auto, using(crate::proofs::Pieces::putting))]
+pub(crate) fn put_linked<S: Sink>(
+    output: RunOutput,
+    taken: u32,
+    note: &LinkNote,
+    out: &mut S,
+) -> Put
+    ensures { PutsPieces result (pieces_of output taken (turn.Linked note.now))
+        (sink_of S.written S.taken S.faults out.old) (sink_of S.written S.taken S.faults out.new) }
+{
+    match output {
+        RunOutput::Console => Put::Done,
+        RunOutput::Trace => put_bytes(link_line(note), out),
+    }
+}
+
+/// Puts what is told of a console service.
+pub(crate) fn put_printed<S: Sink>(
+    output: RunOutput,
+    taken: u32,
+    note: &ConsoleNote,
+    out: &mut S,
+) -> Put
+    ensures { PutsPieces result (pieces_of output taken (turn.Console note.now))
+        (sink_of S.written S.taken S.faults out.old) (sink_of S.written S.taken S.faults out.new) }
+{
+    match output {
+        RunOutput::Console => put_characters(note, out),
+        RunOutput::Trace => put_bytes(console_line(note), out),
+    }
+}
+
+// The end line of a run of so many steps.
+fn finish_line(how: Finish, steps: u32) -> ArrayString<160>
+    ensures text { result.bytes ≡ finish_line how steps }
+    ensures len { length result.bytes < 160 }
+{
+    match how {
+        Finish::Over(end) => run_end_line(end, steps as u64),
+        Finish::Limit => end_line(Outcome::Next, steps as u64),
+    }
+}
+
+/// Puts the end line of a run of so many steps.
+pub(crate) fn put_finish<S: Sink>(how: &Finish, steps: u32, out: &mut S) -> Put
+    ensures { PutsPieces result (as_line (finish_line how.now steps) ∷ [])
+        (sink_of S.written S.taken S.faults out.old) (sink_of S.written S.taken S.faults out.new) }
+{
+    put_text(finish_line(*how, steps), out)
+}
