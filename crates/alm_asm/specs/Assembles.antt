@@ -96,8 +96,8 @@ is_entrybound line = is_bound line.deed
 
 -- ---- the relation
 
--- The words of a line of the text stand in the text behind those that the lines above it place
--- there.
+-- The words of a line of the text stand in the text behind those that the lines above
+-- it place there.
 abbrev pub PlacesText : Source → PartsFields → Type 0
 PlacesText source parts =
     (above : List Line36) (line : Line36) (others : List Line36) → IsSplit source above line others
@@ -142,8 +142,8 @@ LabelsMean source =
     → sum_named (name_at source.text span) (meaning_of source).symbols
     ≡ Some (here (spot_below source above))
 
--- The symbol of an `equ` comes to its number by the symbols above, and that of a `bss` to its
--- place.
+-- The symbol of an `equ` comes to its number by the symbols above, and that of a `bss`
+-- to its place.
 abbrev pub above_line : Source → List Line36 → Line36 → List (List ℕ × Sum)
 above_line source above line =
     labelled source.text (symbols_from source.text [] start above) (spot_below source above) line

@@ -55,8 +55,8 @@ SymbolsStay =
 
 -- ---- which objects are too long
 
--- Whether the names that lines use are names of an object. Those of a source that has been read
--- are.
+-- Whether the names that lines use are names of an object. Those of a source that has
+-- been read are.
 abbrev pub segment_is_named : List ℕ → Option Span → Bool
 segment_is_named text (Some segment) =
     is_some (own_section (slice_of text segment)) || is_name (name_at text segment)

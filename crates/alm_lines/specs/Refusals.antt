@@ -24,8 +24,8 @@ code_number E6 = 6
 code_number E7 = 7
 code_number E8 = 8
 
--- whether a refusal comes before another: earlier in the text, or at the same place with a lesser
--- code
+-- whether a refusal comes before another: earlier in the text, or at the same place with
+-- a lesser code
 unfoldable pub precedes : Refusal → Refusal → Bool
 precedes a b =
     nat_lt a.place b.place

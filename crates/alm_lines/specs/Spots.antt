@@ -131,8 +131,8 @@ end_of text spot (line ∷ lines) = end_of text (below text spot line) lines
 
 -- ---- how many words there are
 
--- There is room for so many lines more, each of fewer than 2^64 words: there are fewer than 2^32
--- lines.
+-- There is room for so many lines more, each of fewer than 2^64 words: there are fewer
+-- than 2^32 lines.
 pub record HasRoom (lines : ℕ) (spot : Spot) : Type 0 where
   pub text : spot.text + lines * 2 ^ 64 ≤ 2 ^ 96 - 2 ^ 64
   pub inner : spot.inner + lines * 2 ^ 64 ≤ 2 ^ 96 - 2 ^ 64

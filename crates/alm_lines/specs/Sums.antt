@@ -105,7 +105,7 @@ pub record IsAtMost (most : ℕ) (s : Sum) : Type 0 where
   pub outer_up : s.outer.up ≤ most
   pub outer_down : s.outer.down ≤ most
 
--- A term of an expression is less than 2^96: fewer than 2^32 lines place fewer than 2^64 words
--- each.
+-- A term of an expression is less than 2^96: fewer than 2^32 lines place fewer than
+-- 2^64 words each.
 abbrev pub IsTerm : Sum → Type 0
 IsTerm s = IsAtMost (2 ^ 96 - 1) s

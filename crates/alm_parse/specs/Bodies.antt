@@ -1,7 +1,9 @@
 -- The operand of an instruction, up to its modifier: a pointer register, a bar and an expression;
 -- or a segment, a dollar sign, perhaps an entry, and perhaps a sign and an expression; or an
 -- expression.
-use Rattle.std.specs.Prelude.{ℕ, ◌+◌, Bool, true, false, not, ◌&&◌, ◌||◌, ◌==◌, List, [], length, slice_index, codes, Option, Some, None, option_map, is_some, if◌then◌else◌}
+use Rattle.std.specs.Prelude.{ℕ, ◌+◌, Bool, true, false, not, ◌&&◌, ◌||◌, ◌==◌, List, [], length}
+use Rattle.std.specs.Prelude.{slice_index, codes, Option, Some, None, option_map, is_some}
+use Rattle.std.specs.Prelude.{if◌then◌else◌}
 use Rattle.std.specs.List.{position}
 use Rattle.alm_tokens.specs.declared.span.Span.{Span}
 use Rattle.alm_tokens.specs.declared.pieces.Piece.{Piece}

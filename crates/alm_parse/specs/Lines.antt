@@ -1,11 +1,15 @@
 -- The lines of a source.
-use Rattle.std.specs.Prelude.{ℕ, Bool, not, List, [], Option, Some, None, option_map, Result, Ok, Err}
+use Rattle.std.specs.Prelude.{ℕ, Bool, not, List, [], Option, Some, None, option_map, Result, Ok}
+use Rattle.std.specs.Prelude.{Err}
 use Rattle.std.specs.List.{find}
 use Rattle.alm_tokens.specs.declared.span.Span.{Span}
 use Rattle.alm_parse.specs.declared.args.Arg.{Arg}
 use Rattle.alm_tokens.specs.declared.numerals.Numeral.TheVariants as numeral
 use Rattle.alm_parse.specs.declared.operation.Operation.{Operation}
-use Rattle.alm_parse.specs.declared.operation.Operation.TheVariants.{Instruction, Names, Value, Section, Decimal, Octal, Characters, Halves, Block, Bare, End}
+use Rattle.alm_parse.specs.declared.operation.Operation.TheVariants.{Instruction, Names, Value}
+use Rattle.alm_parse.specs.declared.operation.Operation.TheVariants.{Section, Decimal, Octal}
+use Rattle.alm_parse.specs.declared.operation.Operation.TheVariants.{Characters, Halves, Block}
+use Rattle.alm_parse.specs.declared.operation.Operation.TheVariants.{Bare, End}
 use Rattle.alm_parse.specs.declared.refusal.Code.TheVariants.{E2, E3}
 use Rattle.alm_parse.specs.declared.refusal.Refusal.{Refusal}
 use Rattle.alm_tokens.specs.declared.head.Head.{Head}

@@ -2,7 +2,10 @@
 use Rattle.std.specs.Prelude.{ℕ, ◌||◌, List, codes, Option, Some, None, if◌then◌else◌}
 use Rattle.m36_inst.specs.Lookup.{code_named}
 use Rattle.alm_parse.specs.declared.operation.Operation.{Operation}
-use Rattle.alm_parse.specs.declared.operation.Operation.TheVariants.{Instruction, Names, Value, Section, Decimal, Octal, Characters, Halves, Block, Bare, End}
+use Rattle.alm_parse.specs.declared.operation.Operation.TheVariants.{Instruction, Names, Value}
+use Rattle.alm_parse.specs.declared.operation.Operation.TheVariants.{Section, Decimal, Octal}
+use Rattle.alm_parse.specs.declared.operation.Operation.TheVariants.{Characters, Halves, Block}
+use Rattle.alm_parse.specs.declared.operation.Operation.TheVariants.{Bare, End}
 use Rattle.alm_tokens.specs.Tokens.{is_text}
 
 unfoldable pub directive : List ℕ → Option Operation

@@ -1,5 +1,6 @@
 -- Operands of two parts between a comma, and names of sections.
-use Rattle.std.specs.Prelude.{ℕ, Bool, ◌&&◌, ◌||◌, List, [], ◌∷◌, map, codes, Option, Some, None, Result, Err}
+use Rattle.std.specs.Prelude.{ℕ, Bool, ◌&&◌, ◌||◌, List, [], ◌∷◌, map, codes, Option, Some, None}
+use Rattle.std.specs.Prelude.{Result, Err}
 use Rattle.std.specs.List.{list_all}
 use Rattle.alm_tokens.specs.declared.span.Span.{Span}
 use Rattle.alm_tokens.specs.declared.pieces.Piece.{Piece}

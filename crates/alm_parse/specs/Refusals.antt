@@ -1,5 +1,6 @@
 -- Why a source is refused.
-use Rattle.std.specs.Prelude.{ℕ, ⊤, ◌≡◌, ◌<◌, Bool, true, false, List, slice_index, Option, Some, None, Result, Ok, Err, if◌then◌else◌}
+use Rattle.std.specs.Prelude.{ℕ, ⊤, ◌≡◌, ◌<◌, Bool, true, false, List, slice_index, Option, Some}
+use Rattle.std.specs.Prelude.{None, Result, Ok, Err, if◌then◌else◌}
 use Rattle.alm_parse.specs.declared.refusal.Code.{Code}
 use Rattle.alm_parse.specs.declared.refusal.Code.TheVariants.{E1, E2, E4}
 use Rattle.alm_parse.specs.declared.refusal.Refusal.{Refusal}

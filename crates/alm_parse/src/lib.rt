@@ -17,7 +17,7 @@
 //! | Code | Exactly where |
 //! |---|---|
 //! | E1 | a label, an operation or an operand begins with a byte that no source may have; or characters that are placed, or their delimiter, have a byte outside octal 40 to 176 |
-//! | E2 | a label or an operand is not of its form, or an operand is missing |
+//! | E2 | a label or an operand is not of its form; an operation lacks its operand, or has one that it may not have |
 //! | E3 | there is no such operation |
 //! | E4 | a number is out of its range |
 //!

@@ -1,12 +1,14 @@
 -- Expressions: terms joined by + and -. A minus may stand before the first term.
-use Rattle.std.specs.Prelude.{ℕ, ◌+◌, ◌≤◌, ⊤, Bool, not, ◌||◌, ◌==◌, List, slice_index, codes, Option, option_map, if◌then◌else◌}
+use Rattle.std.specs.Prelude.{ℕ, ◌+◌, ◌≤◌, ⊤, Bool, not, ◌||◌, ◌==◌, List, slice_index, codes}
+use Rattle.std.specs.Prelude.{Option, option_map, if◌then◌else◌}
 use Rattle.std.specs.List.{find}
 use Rattle.alm_tokens.specs.declared.pieces.Parter.TheVariants.{Sign}
 use Rattle.alm_tokens.specs.declared.pieces.Piece.{Piece}
 use Rattle.alm_tokens.specs.declared.expression.Atom.{Atom}
 use Rattle.alm_tokens.specs.declared.expression.Atom.TheVariants.{Number, Symbol, Here}
 use Rattle.alm_tokens.specs.declared.expression.Term.{Term}
-use Rattle.alm_tokens.specs.Tokens.{slice_of, is_text, is_symbol, is_number, is_over, value_of, small_read}
+use Rattle.alm_tokens.specs.Tokens.{slice_of, is_text, is_symbol, is_number, is_over, value_of}
+use Rattle.alm_tokens.specs.Tokens.{small_read}
 use Rattle.alm_tokens.specs.Pieces.{pieces_of, piece_at}
 
 -- A term is a number, a symbol, or *, the current place.
@@ -19,8 +21,8 @@ is_term bytes = is_here bytes || is_number bytes || is_symbol bytes
 abbrev pub is_term_at : List ℕ → Piece → Bool
 is_term_at text piece = is_term (slice_of text piece.span)
 
--- The terms as pieces: behind a minus that stands before the whole the first term has the other
--- sign.
+-- The terms as pieces: behind a minus that stands before the whole the first term has
+-- the other sign.
 unfoldable pub signed_start : List ℕ → Piece → Piece
 signed_start text whole =
     if slice_index (slice_of text whole.span) 0 == 45

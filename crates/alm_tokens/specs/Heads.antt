@@ -1,6 +1,7 @@
 -- The labels and the operation of a line, and where its operand stands. Blanks and tabs part
 -- tokens, a colon ends a label, and a quotation mark begins a comment.
-use Rattle.std.specs.Prelude.{ℕ, ◌+◌, ◌<◌, ◌≤◌, Bool, not, ◌==◌, List, [], ◌∷◌, ◌++◌, slice_index, Option, Some, None, option_map, if◌then◌else◌}
+use Rattle.std.specs.Prelude.{ℕ, ◌+◌, ◌<◌, ◌≤◌, Bool, not, ◌==◌, List, [], ◌∷◌, ◌++◌, slice_index}
+use Rattle.std.specs.Prelude.{Option, Some, None, option_map, if◌then◌else◌}
 use Rattle.std.specs.List.{position}
 use Rattle.alm_tokens.specs.declared.span.Span.{Span}
 use Rattle.alm_tokens.specs.declared.head.Turn.{Turn}
@@ -75,8 +76,8 @@ delimited_in text rest =
     then None
     else delimited_by rest (operand_start text rest)
 
--- A label ends before a byte that there is, in a text of so many bytes, and the operation has a
--- byte.
+-- A label ends before a byte that there is, in a text of so many bytes, and the operation
+-- has a byte.
 pub record IsMark (count : ℕ) (span : Span) : Type 0 where
   pub ordered : span.from ≤ span.to
   pub inside : span.to < count

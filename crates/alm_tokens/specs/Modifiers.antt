@@ -2,7 +2,8 @@
 -- tag of a register then indirect modification is the register's and 20 (octal), that of an
 -- indirect then register modification the register's and 60; 44, 51, 53, 54 and 56 are those of
 -- indirect then tally.
-use Rattle.std.specs.Prelude.{ℕ, ◌+◌, ◌-◌, ◌&&◌, ◌==◌, List, [], ◌∷◌, length, take, slice_index, codes, Option, Some, None, option_map, if◌then◌else◌}
+use Rattle.std.specs.Prelude.{ℕ, ◌+◌, ◌-◌, ◌&&◌, ◌==◌, List, [], ◌∷◌, length, take, slice_index}
+use Rattle.std.specs.Prelude.{codes, Option, Some, None, option_map, if◌then◌else◌}
 use Rattle.m36_text.specs.Digits.{is_digit, digit_of}
 use Rattle.alm_tokens.specs.Tokens.{is_text}
 

@@ -1,5 +1,5 @@
--- Equal descriptors of several processes: each has the number of the first descriptor with its words. The descriptor of
--- a segment of process k has number 2^15 * k + the segment.
+-- Equal descriptors of several processes: each has the number of the first descriptor with its
+-- words. The descriptor of a segment of process k has number 2^15 * k + the segment.
 use Rattle.std.specs.Prelude.{◌≡◌, ℕ, ◌+◌, ◌*◌, ◌/◌, ◌%◌, ◌^◌, ◌<◌, ◌≤◌, List, length}
 use Rattle.std.specs.Prelude.{◌==◌, cond, slice_get, slice_index, slice_set, Option, Some, None, Ok}
 use Rattle.m36_desc.specs.Fields.{DbrFields}
@@ -26,32 +26,37 @@ pub record AreClasses (core : List ℕ) (dbrs : List DbrFields) (n : ℕ) (first
     : Type 0 where
   pub len : length firsts ≡ 2 ^ 15 * length dbrs
   pub below : (i : ℕ) → slice_index firsts i < 2 ^ 18
-  pub each : (i key : ℕ) → i < n → KeyAt core dbrs i key → KeyAt core dbrs (slice_index firsts i) key
+  pub each : (i key : ℕ) → i < n → KeyAt core dbrs i key
+      → KeyAt core dbrs (slice_index firsts i) key
   pub before : (i key : ℕ) → i < n → KeyAt core dbrs i key → slice_index firsts i < n
   pub small : (i key : ℕ) → i < n → (h : KeyAt core dbrs i key) → h.is.odd < 2 ^ 36
   pub same :
       (i j key : ℕ) → i < n → j < n → KeyAt core dbrs i key → KeyAt core dbrs j key
       → slice_index firsts i ≡ slice_index firsts j
 
--- One more descriptor is noted in a map from words to the number of the first descriptor with them, and in the list of
--- these numbers.
-abbrev pub FirstNoted : (ℕ → Option ℕ) → (ℕ → Option ℕ) → List ℕ → List ℕ → ℕ → ℕ → Option ℕ → Type 0
+-- One more descriptor is noted in a map from words to the number of the first descriptor with them,
+-- and in the list of these numbers.
+abbrev pub FirstNoted : (ℕ → Option ℕ) → (ℕ → Option ℕ) → List ℕ → List ℕ → ℕ → ℕ → Option ℕ
+    → Type 0
 FirstNoted old new firsts after key number (Some first) =
     ((q : ℕ) → new q ≡ old q) × (after ≡ slice_set firsts number first)
 FirstNoted old new firsts after key number None =
-    ((q : ℕ) → new q ≡ cond (key == q) (Some number) (old q)) × (after ≡ slice_set firsts number number)
+    ((q : ℕ) → new q ≡ cond (key == q) (Some number) (old q))
+    × (after ≡ slice_set firsts number number)
 
 abbrev pub AreNoted : (ℕ → Option ℕ) → (ℕ → Option ℕ) → List ℕ → List ℕ → Option ℕ → ℕ → Type 0
 AreNoted old new firsts after None number = ((q : ℕ) → new q ≡ old q) × (after ≡ firsts)
-AreNoted old new firsts after (Some key) number = FirstNoted old new firsts after key number (old key)
+AreNoted old new firsts after (Some key) number =
+    FirstNoted old new firsts after key number (old key)
 
--- The first n descriptors are noted: the map has the number of the first descriptor with its words for each of them, and
--- no others.
+-- The first n descriptors are noted: the map has the number of the first descriptor with its words
+-- for each of them, and no others.
 pub record AreNotedSo (core : List ℕ) (dbrs : List DbrFields) (n : ℕ) (places : ℕ → Option ℕ)
     (firsts : List ℕ) : Type 0 where
   pub len : length firsts ≡ 2 ^ 15 * length dbrs
   pub below : (i : ℕ) → slice_index firsts i < 2 ^ 18
-  pub listed : (i key : ℕ) → i < n → KeyAt core dbrs i key → places key ≡ Some (slice_index firsts i)
+  pub listed : (i key : ℕ) → i < n → KeyAt core dbrs i key
+      → places key ≡ Some (slice_index firsts i)
   pub known : (key f : ℕ) → places key ≡ Some f → KeyAt core dbrs f key
   pub earlier : (key f : ℕ) → places key ≡ Some f → f < n
   pub small : (i key : ℕ) → i < n → (h : KeyAt core dbrs i key) → h.is.odd < 2 ^ 36

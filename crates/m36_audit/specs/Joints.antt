@@ -12,8 +12,8 @@ found_of f = record { process = f.process; condition = f.condition; place = f.pl
 abbrev pub all_found : List JointFinding → List JointFound
 all_found findings = map found_of findings
 
--- What is told of the core words is told of the first n processes: which have a table word there, which have a word of a
--- segment, and which tables these are.
+-- What is told of the core words is told of the first n processes: which have a table word there,
+-- which have a word of a segment, and which tables these are.
 pub record AreShares (core : List ℕ) (dbrs : List DbrFields) (firsts : List ℕ) (n : ℕ)
     (tables segments identities : List ℕ) : Type 0 where
   pub of_tables : AreTold (Below (TableOwned core dbrs) n) (length core) tables

@@ -1,5 +1,8 @@
--- The words of the segments as runs of core words, one for each page and two for each unpaged segment.
-use Rattle.std.specs.Prelude.{◌≡◌, ℕ, zero, suc, ◌+◌, ◌-◌, ◌*◌, ◌/◌, ◌%◌, ◌^◌, ◌<◌, ◌≤◌, min, Bool, true, false, nat_lt, nat_le, ◌==◌, ◌&&◌, List, length, slice_index, slice_set, Option, Some, None, Result, Ok, Err}
+-- The words of the segments as runs of core words, one for each page and two for each unpaged
+-- segment.
+use Rattle.std.specs.Prelude.{◌≡◌, ℕ, zero, suc, ◌+◌, ◌-◌, ◌*◌, ◌/◌, ◌%◌, ◌^◌, ◌<◌, ◌≤◌, min, Bool}
+use Rattle.std.specs.Prelude.{true, false, nat_lt, nat_le, ◌==◌, ◌&&◌, List, length, slice_index}
+use Rattle.std.specs.Prelude.{slice_set, Option, Some, None, Result, Ok, Err}
 use Rattle.std.specs.Result.{result_ok}
 use Rattle.m36_word.specs.Bits.{of_bit}
 use Rattle.m36_desc.specs.Fields.{SdwFields, DbrFields}
@@ -94,6 +97,7 @@ pub record AreOpen (runs : ℕ → Option Run) (n a open_runs : ℕ) : Type 0 wh
 pub record InOrder (runs : ℕ → Option Run) : Type 0 where
   pub each : (i : ℕ) (r : Run) → runs i ≡ Some r → r.first ≤ r.end
 
--- how many of the runs of all segments cover a word; segment numbers have 15 bits, so there are 2^23 numbers of runs
+-- how many of the runs of all segments cover a word; segment numbers have 15 bits, so there are
+-- 2^23 numbers of runs
 abbrev pub coverage : List ℕ → DbrFields → ℕ → ℕ
 coverage core dbr a = count_below (λ i. covers a (run core dbr i)) (2 ^ 23)

@@ -1,6 +1,9 @@
--- Which processes have a table word or a segment word at each core word, and which tables of which segments these are.
-use Rattle.std.specs.Prelude.{◌≡◌, ℕ, zero, suc, ◌+◌, ◌*◌, ◌/◌, ◌%◌, ◌^◌, ◌<◌, ◌≤◌, Bool, true, false, nat_lt}
-use Rattle.std.specs.Prelude.{◌-◌, if◌then◌else◌, ◌==◌, ◌&&◌, ◌||◌, not, List, length, slice_get, slice_index, Option, Some, None, Result, Ok, Err}
+-- Which processes have a table word or a segment word at each core word, and which tables of which
+-- segments these are.
+use Rattle.std.specs.Prelude.{◌≡◌, ℕ, zero, suc, ◌+◌, ◌*◌, ◌/◌, ◌%◌, ◌^◌, ◌<◌, ◌≤◌, Bool, true}
+use Rattle.std.specs.Prelude.{false, nat_lt}
+use Rattle.std.specs.Prelude.{◌-◌, if◌then◌else◌, ◌==◌, ◌&&◌, ◌||◌, not, List, length, slice_get}
+use Rattle.std.specs.Prelude.{slice_index, Option, Some, None, Result, Ok, Err}
 use Rattle.m36_desc.specs.Fields.{SdwFields, DbrFields}
 use Rattle.m36_model.specs.Place.{wrapped, directory_at, page_at, sdw_place, core_sdw, in_bounds}
 use Rattle.m36_model.specs.Audit.{Table, Sdws, Directory, Pages, IsOf, IsSegmentWord}
@@ -9,8 +12,8 @@ use Rattle.m36_audit.specs.declared.run.Run.{Run}
 use Rattle.m36_audit.specs.Runs.{run, counted, count_below, covers}
 use Rattle.m36_audit.specs.Told.{several, joined, joined_at}
 
--- The number of a table among those of all processes: two processes have the same one exactly where it is the page table
--- of segments with equal descriptors.
+-- The number of a table among those of all processes: two processes have the same one exactly where
+-- it is the page table of segments with equal descriptors.
 abbrev pub identity : List ℕ → ℕ → Table → ℕ
 identity firsts k Sdws = 2 * k + 1
 identity firsts k Directory = 2 * k + 2
@@ -18,7 +21,8 @@ identity firsts k (Pages seg) = 17 + slice_index firsts (2 ^ 15 * k + seg)
 
 -- The numbers told of the table words of process k: of one descriptor, ..
 abbrev pub descriptor_told : ℕ → Result ℕ Refusal → List ℕ → List ℕ
-descriptor_told number (Ok even) values = joined_at (joined_at values even number) (wrapped (even + 1)) number
+descriptor_told number (Ok even) values =
+    joined_at (joined_at values even number) (wrapped (even + 1)) number
 descriptor_told number (Err e) values = values
 
 -- .. of the word by which it is found, ..
@@ -92,8 +96,8 @@ pub record AreOwned (test : ℕ → Bool) (number a : ℕ) (old new : List ℕ) 
   pub before : (q : ℕ) → q < a → slice_index new q ≡ owned (test q) (slice_index old q) number
   pub after : (q : ℕ) → a ≤ q → slice_index new q ≡ slice_index old q
 
--- The runs of all segments of all processes whose descriptors are the first with their words: 2^23 numbers for each
--- process.
+-- The runs of all segments of all processes whose descriptors are the first with their words: 2^23
+-- numbers for each process.
 abbrev pub first_run : Bool → Option Run → Option Run
 first_run true r = r
 first_run false r = None
@@ -134,12 +138,13 @@ abbrev pub owned_at : Bool → List ℕ → ℕ → ℕ → List ℕ
 owned_at true values a number = joined_at values a number
 owned_at false values a number = values
 
--- By what was told of a core word: there are tables of two processes with two numbers, or a table of one process and a
--- segment word of another.
+-- By what was told of a core word: there are tables of two processes with two numbers, or a table
+-- of one process and a segment word of another.
 abbrev pub is_between : ℕ → ℕ → ℕ → Bool
 is_between tables segments identities =
     (tables == several && identities == several)
-    || ((not (tables == 0) && not (segments == 0)) && (not (tables == segments) || tables == several))
+    || ((not (tables == 0) && not (segments == 0))
+    && (not (tables == segments) || tables == several))
 
 -- how many runs of first segments cover a word
 abbrev pub joint_coverage : List ℕ → List DbrFields → List ℕ → ℕ → ℕ

@@ -1,7 +1,9 @@
 -- The marks that tell of each core word which table it belongs to.
-use Rattle.std.specs.Prelude.{◌≡◌, ◌≢◌, ℕ, ◌+◌, ◌*◌, ◌<◌, min, Bool, true, false, ◌||◌, ◌==◌, List, length, slice_index, slice_set, Option, Some, None}
+use Rattle.std.specs.Prelude.{◌≡◌, ◌≢◌, ℕ, ◌+◌, ◌*◌, ◌<◌, min, Bool, true, false, ◌||◌, ◌==◌, List}
+use Rattle.std.specs.Prelude.{length, slice_index, slice_set, Option, Some, None}
 use Rattle.m36_desc.specs.Fields.{DbrFields}
-use Rattle.m36_model.specs.Audit.{IsSdwWord, IsDirectoryWord, IsPageWord, Table, Sdws, Directory, Pages, Finds}
+use Rattle.m36_model.specs.Audit.{IsSdwWord, IsDirectoryWord, IsPageWord, Table, Sdws, Directory}
+use Rattle.m36_model.specs.Audit.{Pages, Finds}
 
 -- the number that stands for a table in the marks; 0 stands for none
 abbrev pub number : Table → ℕ
@@ -45,8 +47,8 @@ pub record HasMark (Of : Table → ℕ → Type 0) (a mark : ℕ) : Type 0 where
   pub of : Of table a
   pub numbered : mark ≡ number table
 
--- Each core word has the number of a table that it is a word of, and 0 where it is of none; and the least word of two
--- tables is known.
+-- Each core word has the number of a table that it is a word of, and 0 where it is of none; and the
+-- least word of two tables is known.
 pub record AreMarked (Of : Table → ℕ → Type 0) (size : ℕ) (tables : List ℕ) (least : Option ℕ) :
     Type 0 where
   pub len : length tables ≡ size
@@ -54,8 +56,9 @@ pub record AreMarked (Of : Table → ℕ → Type 0) (size : ℕ) (tables : List
   pub some : (a : ℕ) → slice_index tables a ≢ 0 → HasMark Of a (slice_index tables a)
   pub least_two : Finds (InTwo Of size) least
 
--- The table words that were marked so far: of the descriptors of so many segments, of the descriptor segment's page table
--- for so many segments, and of so many pages, 256 of them for each segment.
+-- The table words that were marked so far: of the descriptors of so many segments, of the
+-- descriptor segment's page table for so many segments, and of so many pages, 256 of them for each
+-- segment.
 abbrev pub SoFar : List ℕ → DbrFields → ℕ → ℕ → ℕ → Table → ℕ → Type 0
 SoFar core dbr sdws directories pages Sdws a = (seg : ℕ) × (seg < sdws) × IsSdwWord core dbr seg a
 SoFar core dbr sdws directories pages Directory a = (seg : ℕ) × (seg < directories)

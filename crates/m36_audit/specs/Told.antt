@@ -1,5 +1,5 @@
--- Numbers told of core words, one value for each word: 0 where none was told, the number where one and the same was told,
--- and one that stands for several where two different ones were.
+-- Numbers told of core words, one value for each word: 0 where none was told, the number where one
+-- and the same was told, and one that stands for several where two different ones were.
 use Rattle.std.specs.Prelude.{◌≡◌, ◌≢◌, ℕ, ◌<◌, ◌||◌, ◌==◌, if◌then◌else◌, List, length}
 use Rattle.std.specs.Prelude.{slice_index, slice_set}
 

@@ -1,13 +1,16 @@
 -- What binding gives: the bound object, or the first refusal.
 --
---     B4   a section over its limit, an object of more than 2^18 words, or a part of a word that does not fit
+--     B4   a section over its limit, an object of more than 2^18 words, or a part of a word that
+--          does not fit
 --
 -- B1 is looked for first, over the whole file, then B2, B3 and B5 line by line, and B4 last.
-use Rattle.std.specs.Prelude.{ℕ, ◌+◌, ◌-◌, ◌^◌, Bool, true, false, ◌&&◌, ◌||◌, nat_le, if◌then◌else◌, List, [], ◌∷◌, ◌++◌, length, Result, Ok, Err}
+use Rattle.std.specs.Prelude.{ℕ, ◌+◌, ◌-◌, ◌^◌, Bool, true, false, ◌&&◌, ◌||◌, nat_le}
+use Rattle.std.specs.Prelude.{if◌then◌else◌, List, [], ◌∷◌, ◌++◌, length, Result, Ok, Err}
 use Rattle.std.specs.List.{list_any}
 use Rattle.obj36_parts.specs.Fields.{RelocFields}
 use Rattle.obj36_parts.specs.PartsFields.{PartsFields}
-use Rattle.obj36_parts.specs.ObjectSegment.{is_well_formed, definition_section, linkage_section, outer_statics, symbol_section}
+use Rattle.obj36_parts.specs.ObjectSegment.{is_well_formed, definition_section, linkage_section}
+use Rattle.obj36_parts.specs.ObjectSegment.{outer_statics, symbol_section}
 use Rattle.obj36_parts.specs.declared.definition.Named.{Named}
 use Rattle.m36_bindfile.specs.declared.fault.BindFault.{BindFault}
 use Rattle.m36_bindfile.specs.declared.fault.BindFault.TheVariants as fault
@@ -38,34 +41,46 @@ links_end n (p ∷ all) = links_end (p.bases.links + p.shape.links) all
 -- version 2 where it is asked for, or where a component has it
 unfoldable pub frame_of : Bool → List PlacedFields → ShapeFields
 frame_of asked all =
-    record { newer = asked || list_any is_newer_component all; statics = statics_end 0 all; links = links_end 0 all }
+    record {
+      newer = asked || list_any is_newer_component all;
+      statics = statics_end 0 all;
+      links = links_end 0 all;
+    }
 
 -- ---- words: those of each component from an even word on
 
 abbrev pub component_words : ShapeFields → Bool → PlacedFields → List ℕ
-component_words frame statics p = words_moved (moving frame p) statics p.parts.relocations (words_in statics p.parts)
+component_words frame statics p =
+    words_moved (moving frame p) statics p.parts.relocations (words_in statics p.parts)
 
 unfoldable pub laid_from : ShapeFields → Bool → List ℕ → List PlacedFields → List ℕ
 laid_from frame statics words [] = words
-laid_from frame statics words (p ∷ all) = laid_from frame statics (evened_words words ++ component_words frame statics p) all
+laid_from frame statics words (p ∷ all) =
+    laid_from frame statics (evened_words words ++ component_words frame statics p) all
 
 -- ---- relocations: each at its part's new place, with its old target
 
 abbrev pub relocation_moved : Moving → RelocFields → RelocFields
 relocation_moved m r =
-    let s = spot_moved m r.section r.offset in record { section = s.section; offset = s.offset; part = r.part; target = r.target }
+    let s = spot_moved m r.section r.offset in
+    record { section = s.section; offset = s.offset; part = r.part; target = r.target }
 
 abbrev pub with_relocation : Moving → Bool → List RelocFields → RelocFields → List RelocFields
-with_relocation m statics done r = if stands_in statics r then done ++ relocation_moved m r ∷ [] else done
+with_relocation m statics done r =
+    if stands_in statics r then done ++ relocation_moved m r ∷ [] else done
 
-unfoldable pub relocations_onto : Moving → Bool → List RelocFields → List RelocFields → List RelocFields
+unfoldable pub relocations_onto : Moving → Bool → List RelocFields → List RelocFields
+    → List RelocFields
 relocations_onto m statics done [] = done
-relocations_onto m statics done (r ∷ rs) = relocations_onto m statics (with_relocation m statics done r) rs
+relocations_onto m statics done (r ∷ rs) =
+    relocations_onto m statics (with_relocation m statics done r) rs
 
-unfoldable pub relocations_from : ShapeFields → Bool → List RelocFields → List PlacedFields → List RelocFields
+unfoldable pub relocations_from : ShapeFields → Bool → List RelocFields → List PlacedFields
+    → List RelocFields
 relocations_from frame statics done [] = done
 relocations_from frame statics done (p ∷ all) =
-    relocations_from frame statics (relocations_onto (moving frame p) statics done p.parts.relocations) all
+    relocations_from frame statics
+    (relocations_onto (moving frame p) statics done p.parts.relocations) all
 
 -- ---- the parts
 
@@ -89,7 +104,8 @@ bound_parts frame all kept =
 
 abbrev pub component_fits : ShapeFields → PlacedFields → Bool
 component_fits frame p =
-    all_fit (moving frame p) false p.parts.text p.parts.relocations && all_fit (moving frame p) true p.parts.statics p.parts.relocations
+    all_fit (moving frame p) false p.parts.text p.parts.relocations
+    && all_fit (moving frame p) true p.parts.statics p.parts.relocations
 
 unfoldable pub components_fit : ShapeFields → List PlacedFields → Bool
 components_fit frame [] = true
@@ -101,25 +117,32 @@ section_fits words = nat_le (length words) (2 ^ 18 - 4096)
 
 unfoldable pub sections_fit : PartsFields → Bool
 sections_fit p =
-    section_fits p.text && section_fits (definition_section p) && section_fits (linkage_section p) && section_fits (outer_statics p) && section_fits (symbol_section p)
+    section_fits p.text && section_fits (definition_section p) && section_fits (linkage_section p)
+    && section_fits (outer_statics p) && section_fits (symbol_section p)
 
 abbrev pub made : PartsFields → Result PartsFields BindFault
-made parts = if is_well_formed parts then (if sections_fit parts then Ok parts else Err (fault.B4 0)) else Err (fault.B4 0)
+made parts = if is_well_formed parts
+    then (if sections_fit parts then Ok parts else Err (fault.B4 0)) else Err (fault.B4 0)
 
 abbrev pub made_of : ShapeFields → List PlacedFields → List Named → Result PartsFields BindFault
-made_of frame all kept = if components_fit frame all then made (bound_parts frame all kept) else Err (fault.B4 0)
+made_of frame all kept =
+    if components_fit frame all then made (bound_parts frame all kept) else Err (fault.B4 0)
 
 -- ---- the whole
 
-abbrev pub bound_of_components : ShapeFields → List PlacedFields → List BindLine → Result PartsFields BindFault
+abbrev pub bound_of_components : ShapeFields → List PlacedFields → List BindLine
+    → Result PartsFields BindFault
 bound_of_components frame all lines =
     and_then (kept_from (exports_from frame [] all) [] 1 lines) (λ kept. made_of frame all kept)
 
 abbrev pub bound_of_lines : GivenFields → List BindLine → Result PartsFields BindFault
 bound_of_lines given lines =
-    and_then (picked_of given lines) (λ all. bound_of_components (frame_of (asks_newer lines) all) all lines)
+    and_then (picked_of given lines)
+    (λ all. bound_of_components (frame_of (asks_newer lines) all) all lines)
 
--- the bound object of the components of a bind file, among objects that are given by name; else the first refusal
+-- the bound object of the components of a bind file, among objects that are given by name; else the
+-- first refusal
 unfoldable pub bound_of : List ℕ → List (List ℕ) → List PartsFields → Result PartsFields BindFault
 bound_of text names objects =
-    and_then (bind_lines text) (λ lines. bound_of_lines (record { names = names; objects = objects }) lines)
+    and_then (bind_lines text)
+    (λ lines. bound_of_lines (record { names = names; objects = objects }) lines)

@@ -2,7 +2,9 @@
 --
 --     B2   no object of the name is given
 --     B3   an object of the name stands above
-use Rattle.std.specs.Prelude.{ℕ, ◌≡◌, ◌+◌, ◌*◌, ◌^◌, ◌≤◌, Bool, true, if◌then◌else◌, List, [], ◌∷◌, ◌++◌, length, map, position, slice_get, Option, Some, None, Result, Ok, Err}
+use Rattle.std.specs.Prelude.{ℕ, ◌≡◌, ◌+◌, ◌*◌, ◌^◌, ◌≤◌, Bool, true, if◌then◌else◌, List, [], ◌∷◌}
+use Rattle.std.specs.Prelude.{◌++◌, length, map, position, slice_get, Option, Some, None, Result}
+use Rattle.std.specs.Prelude.{Ok, Err}
 use Rattle.std.specs.List.{list_any}
 use Rattle.obj36_parts.specs.PartsFields.{PartsFields}
 use Rattle.obj36_parts.specs.Names.{same}
@@ -18,7 +20,8 @@ use Rattle.m36_bind.specs.Exports.{own_from}
 use Rattle.m36_bind.specs.declared.exports.Export.{Export}
 use Rattle.m36_bind.specs.declared.layout.Moving.{Moving}
 
--- a component: the name by which others refer to it, its parts, where they begin in the bound object, and its definitions by name
+-- a component: the name by which others refer to it, its parts, where they begin in the bound
+-- object, and its definitions by name
 pub record PlacedFields : Type 0 where
   pub name : List ℕ
   pub parts : PartsFields
@@ -27,7 +30,8 @@ pub record PlacedFields : Type 0 where
   pub entries : List (List ℕ × Export)
 
 abbrev pub component : List ℕ → PartsFields → BasesFields → List (List ℕ × Export) → PlacedFields
-component name p b table = record { name = name; parts = p; shape = shape_of p; bases = b; entries = table }
+component name p b table =
+    record { name = name; parts = p; shape = shape_of p; bases = b; entries = table }
 
 -- how the places of a component go into a bound object of a shape
 abbrev pub moving : ShapeFields → PlacedFields → Moving
@@ -45,7 +49,8 @@ abbrev pub names_of : List PlacedFields → List (List ℕ)
 names_of all = map (λ p. p.name) all
 
 abbrev pub with_component : AllFields → PlacedFields → AllFields
-with_component all p = record { placed = all.placed ++ p ∷ []; next = bases_behind all.next p.parts }
+with_component all p =
+    record { placed = all.placed ++ p ∷ []; next = bases_behind all.next p.parts }
 
 -- ---- the component of a name
 
@@ -58,14 +63,16 @@ component_named name all = placed_at all (position (same name) (names_of all))
 
 -- ---- the lines in turn
 
-abbrev pub and_then : {A B : Type 0} → Result A BindFault → (A → Result B BindFault) → Result B BindFault
+abbrev pub and_then : {A B : Type 0} → Result A BindFault → (A → Result B BindFault)
+    → Result B BindFault
 and_then (Ok a) next = next a
 and_then (Err told) next = Err told
 
 abbrev pub picked_one : AllFields → ℕ → List ℕ → Option PartsFields → Result AllFields BindFault
 picked_one all n name None = Err (fault.B2 n)
 picked_one all n name (Some p) =
-    if list_any (same name) (names_of all.placed) then Err (fault.B3 n) else Ok (with_component all (component name p all.next (own_from [] p.definitions)))
+    if list_any (same name) (names_of all.placed) then Err (fault.B3 n)
+    else Ok (with_component all (component name p all.next (own_from [] p.definitions)))
 
 -- the components with that of line n
 abbrev pub picked_line : GivenFields → AllFields → ℕ → BindLine → Result AllFields BindFault
@@ -74,12 +81,14 @@ picked_line given all n (line.Object name) = picked_one all n name (object_named
 picked_line given all n (line.Retain name) = Ok all
 
 -- those of lines from line n on
-unfoldable pub picked_from : GivenFields → AllFields → ℕ → List BindLine → Result AllFields BindFault
+unfoldable pub picked_from : GivenFields → AllFields → ℕ → List BindLine
+    → Result AllFields BindFault
 picked_from given all n [] = Ok all
 picked_from given all n (next ∷ lines) =
     and_then (picked_line given all n next) (λ more. picked_from given more (n + 1) lines)
 
--- A call that changes something answered as the definition says, where want of memory may come at any time.
+-- A call that changes something answered as the definition says, where want of memory may come at
+-- any time.
 abbrev pub Changes : {A B : Type 0} → A → Result B BindFault → Result A BindFault → Type 0
 Changes new (Ok done) definition = definition ≡ Ok new
 Changes new (Err told) definition = Refuses told definition
@@ -89,10 +98,12 @@ placed_in all = all.placed
 
 -- all components that lines name
 unfoldable pub picked_of : GivenFields → List BindLine → Result (List PlacedFields) BindFault
-picked_of given lines = and_then (picked_from given no_components 1 lines) (λ all. Ok (placed_in all))
+picked_of given lines =
+    and_then (picked_from given no_components 1 lines) (λ all. Ok (placed_in all))
 
 -- A call that adds a component answered where the next begins.
-abbrev pub Picks : List PlacedFields → Result BasesFields BindFault → Result AllFields BindFault → Type 0
+abbrev pub Picks : List PlacedFields → Result BasesFields BindFault → Result AllFields BindFault
+    → Type 0
 Picks new (Ok next) definition = definition ≡ Ok (record { placed = new; next = next })
 Picks new (Err told) definition = Refuses told definition
 

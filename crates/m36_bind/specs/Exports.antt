@@ -1,6 +1,7 @@
--- Tables of definitions by name: the first definition of each name, and whether another follows. A definition of class symbol
--- counts as none.
-use Rattle.std.specs.Prelude.{ℕ, Bool, true, false, if◌then◌else◌, List, [], ◌∷◌, Option, Some, None}
+-- Tables of definitions by name: the first definition of each name, and whether another follows. A
+-- definition of class symbol counts as none.
+use Rattle.std.specs.Prelude.{ℕ, Bool, true, false, if◌then◌else◌, List, [], ◌∷◌, Option, Some}
+use Rattle.std.specs.Prelude.{None}
 use Rattle.std.specs.Map.{lookup}
 use Rattle.indexmap.specs.IndexMap.{insert_entry}
 use Rattle.obj36_parts.specs.Fields.{DefFields}
@@ -22,7 +23,8 @@ export_behind def None = record { def = def; twice = false }
 export_behind def (Some first) = record { def = first.def; twice = true }
 
 unfoldable pub with_export : List (List ℕ × Export) → List ℕ → DefFields → List (List ℕ × Export)
-with_export table name def = insert_entry same table name (export_behind def (export_named name table))
+with_export table name def =
+    insert_entry same table name (export_behind def (export_named name table))
 
 abbrev pub is_symbol : Section → Bool
 is_symbol Symbol = true
@@ -43,10 +45,12 @@ own_from table (d ∷ ds) = own_from (with_own table d) ds
 
 abbrev pub def_moved : Moving → DefFields → DefFields
 def_moved m d =
-    let s = spot_moved m d.section d.value in record { section = s.section; value = s.offset; is_entry = d.is_entry }
+    let s = spot_moved m d.section d.value in
+    record { section = s.section; value = s.offset; is_entry = d.is_entry }
 
 abbrev pub with_moved : Moving → List (List ℕ × Export) → Named → List (List ℕ × Export)
-with_moved m table d = if is_symbol d.def.section then table else with_export table d.name (def_moved m d.def)
+with_moved m table d =
+    if is_symbol d.def.section then table else with_export table d.name (def_moved m d.def)
 
 unfoldable pub moved_from : Moving → List (List ℕ × Export) → List Named → List (List ℕ × Export)
 moved_from m table [] = table

@@ -1,11 +1,13 @@
 -- The objects that are given by name; of two of one name the first counts.
-use Rattle.std.specs.Prelude.{ℕ, ◌≡◌, List, [], ◌∷◌, position, slice_get, is_some, if◌then◌else◌, Option, Some, None}
+use Rattle.std.specs.Prelude.{ℕ, ◌≡◌, List, [], ◌∷◌, position, slice_get, is_some, if◌then◌else◌}
+use Rattle.std.specs.Prelude.{Option, Some, None}
 use Rattle.std.specs.Map.{lookup}
 use Rattle.indexmap.specs.IndexMap.{insert_entry}
 use Rattle.obj36_parts.specs.PartsFields.{PartsFields}
 use Rattle.obj36_parts.specs.Names.{same}
 
--- What contracts see of the objects: their names, and their parts. Object number i has name number i.
+-- What contracts see of the objects: their names, and their parts. Object number i has
+-- name number i.
 pub record GivenFields : Type 0 where
   pub names : List (List ℕ)
   pub objects : List PartsFields

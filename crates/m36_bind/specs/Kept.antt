@@ -2,7 +2,8 @@
 --
 --     B3   the name stands above, or two components define it
 --     B5   no component defines it
-use Rattle.std.specs.Prelude.{ℕ, ◌+◌, Bool, ◌||◌, if◌then◌else◌, List, [], ◌∷◌, ◌++◌, Option, Some, None, Result, Ok, Err}
+use Rattle.std.specs.Prelude.{ℕ, ◌+◌, Bool, ◌||◌, if◌then◌else◌, List, [], ◌∷◌, ◌++◌, Option, Some}
+use Rattle.std.specs.Prelude.{None, Result, Ok, Err}
 use Rattle.std.specs.List.{list_any}
 use Rattle.obj36_parts.specs.Names.{same}
 use Rattle.obj36_parts.specs.declared.definition.Named.{Named}
@@ -16,22 +17,28 @@ use Rattle.m36_bind.specs.Components.{PlacedFields, moving, and_then}
 use Rattle.m36_bind.specs.declared.exports.Export.{Export}
 
 -- what all components define, where it goes
-unfoldable pub exports_from : ShapeFields → List (List ℕ × Export) → List PlacedFields → List (List ℕ × Export)
+unfoldable pub exports_from : ShapeFields → List (List ℕ × Export) → List PlacedFields
+    → List (List ℕ × Export)
 exports_from frame table [] = table
-exports_from frame table (p ∷ all) = exports_from frame (moved_from (moving frame p) table p.parts.definitions) all
+exports_from frame table (p ∷ all) =
+    exports_from frame (moved_from (moving frame p) table p.parts.definitions) all
 
 abbrev pub kept_one : List Named → ℕ → List ℕ → Option Export → Result (List Named) BindFault
 kept_one kept n name None = Err (fault.B5 n)
 kept_one kept n name (Some e) =
-    if list_any (λ d. same name d.name) kept || e.twice then Err (fault.B3 n) else Ok (kept ++ record { name = name; def = e.def } ∷ [])
+    if list_any (λ d. same name d.name) kept || e.twice then Err (fault.B3 n)
+    else Ok (kept ++ record { name = name; def = e.def } ∷ [])
 
 -- the definitions with that of line n
-abbrev pub kept_line : List (List ℕ × Export) → List Named → ℕ → BindLine → Result (List Named) BindFault
+abbrev pub kept_line : List (List ℕ × Export) → List Named → ℕ → BindLine
+    → Result (List Named) BindFault
 kept_line exports kept n line.Version = Ok kept
 kept_line exports kept n (line.Object name) = Ok kept
 kept_line exports kept n (line.Retain name) = kept_one kept n name (export_named name exports)
 
 -- those of lines from line n on
-unfoldable pub kept_from : List (List ℕ × Export) → List Named → ℕ → List BindLine → Result (List Named) BindFault
+unfoldable pub kept_from : List (List ℕ × Export) → List Named → ℕ → List BindLine
+    → Result (List Named) BindFault
 kept_from exports kept n [] = Ok kept
-kept_from exports kept n (next ∷ lines) = and_then (kept_line exports kept n next) (λ more. kept_from exports more (n + 1) lines)
+kept_from exports kept n (next ∷ lines) =
+    and_then (kept_line exports kept n next) (λ more. kept_from exports more (n + 1) lines)

@@ -1,16 +1,19 @@
 -- Where the words of components go in the bound object.
 --
--- The texts follow one another, each from the next even word on, and so do the static words. Links follow in the order of the
--- components. A place that a component names is a word of its text, one of its static words, a word of its links, or one of the
--- eight words at the head of its linkage section; the layout map sends each to a place of the bound object.
-use Rattle.std.specs.Prelude.{ℕ, ◌+◌, ◌-◌, ◌*◌, ◌%◌, ◌^◌, ◌<◌, ◌≤◌, Bool, nat_lt, if◌then◌else◌, List, length}
+-- The texts follow one another, each from the next even word on, and so do the static words. Links
+-- follow in the order of the components. A place that a component names is a word of its text, one
+-- of its static words, a word of its links, or one of the eight words at the head of its linkage
+-- section; the layout map sends each to a place of the bound object.
+use Rattle.std.specs.Prelude.{ℕ, ◌+◌, ◌-◌, ◌*◌, ◌%◌, ◌^◌, ◌<◌, ◌≤◌, Bool, nat_lt, if◌then◌else◌}
+use Rattle.std.specs.Prelude.{List, length}
 use Rattle.obj36_parts.specs.PartsFields.{PartsFields}
 use Rattle.obj36_parts.specs.ObjectSegment.{is_newer}
 use Rattle.obj36_parts.specs.declared.section.Section.{Section}
 use Rattle.obj36_parts.specs.declared.section.Section.TheVariants.{Text, Linkage, Symbol, Static}
 use Rattle.m36_bind.specs.Fields.{ShapeFields, BasesFields}
 use Rattle.m36_bind.specs.declared.layout.Meant.{Meant}
-use Rattle.m36_bind.specs.declared.layout.Meant.TheVariants.{TextWord, StaticWord, LinkWord, HeadWord}
+use Rattle.m36_bind.specs.declared.layout.Meant.TheVariants.{TextWord, StaticWord, LinkWord}
+use Rattle.m36_bind.specs.declared.layout.Meant.TheVariants.{HeadWord}
 use Rattle.m36_bind.specs.declared.layout.Spot.{Spot}
 use Rattle.m36_bind.specs.declared.layout.Moving.{Moving}
 
@@ -19,13 +22,15 @@ shape_of p = record { newer = is_newer p; statics = length p.statics; links = le
 
 -- ---- what a place of an object names
 
--- Static words stand before the links in version 1. In version 2 they stand in a section of their own, which is laid behind the
--- linkage section.
+-- Static words stand before the links in version 1. In version 2 they stand in a section of their
+-- own, which is laid behind the linkage section.
 abbrev pub meant_older : ℕ → ℕ → Meant
-meant_older statics v = if nat_lt v (8 + statics) then StaticWord (v - 8) else LinkWord (v - (8 + statics))
+meant_older statics v =
+    if nat_lt v (8 + statics) then StaticWord (v - 8) else LinkWord (v - (8 + statics))
 
 abbrev pub meant_newer : ℕ → ℕ → Meant
-meant_newer links v = if nat_lt v (8 + 2 * links) then LinkWord (v - 8) else StaticWord (v - (8 + 2 * links))
+meant_newer links v =
+    if nat_lt v (8 + 2 * links) then LinkWord (v - 8) else StaticWord (v - (8 + 2 * links))
 
 abbrev pub meant_past_head : ShapeFields → ℕ → Meant
 meant_past_head s v = if s.newer then meant_newer s.links v else meant_older s.statics v
@@ -57,7 +62,11 @@ evened n = n + n % 2
 -- those of the component behind another
 abbrev pub bases_behind : BasesFields → PartsFields → BasesFields
 bases_behind b c =
-    record { text = evened (b.text + length c.text); statics = evened (b.statics + length c.statics); links = b.links + length c.links }
+    record {
+      text = evened (b.text + length c.text);
+      statics = evened (b.statics + length c.statics);
+      links = b.links + length c.links;
+    }
 
 -- ---- the layout map
 
@@ -85,8 +94,8 @@ image_spot f b (HeadWord v) = spot Linkage v
 unfoldable pub spot_moved : Moving → Section → ℕ → Spot
 spot_moved m section v = image_spot m.frame m.bases (meant m.shape section v)
 
--- The number by which a relocated part names a place: a static word is counted from the head of the linkage section, unless the
--- part counts in the static section.
+-- The number by which a relocated part names a place: a static word is counted from the head of the
+-- linkage section, unless the part counts in the static section.
 abbrev pub static_number : ShapeFields → Section → ℕ → ℕ
 static_number f Static w = w
 static_number f Text w = first_static f + w

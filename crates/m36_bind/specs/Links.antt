@@ -1,5 +1,7 @@
--- The links of the bound object: those of the components in their order, each as many times as it stands.
-use Rattle.std.specs.Prelude.{ℕ, ◌+◌, ◌%◌, ◌^◌, nat_eq, nat_le, if◌then◌else◌, List, [], ◌∷◌, ◌++◌, Option, Some, None}
+-- The links of the bound object: those of the components in their order, each as many times as it
+-- stands.
+use Rattle.std.specs.Prelude.{ℕ, ◌+◌, ◌%◌, ◌^◌, nat_eq, nat_le, if◌then◌else◌, List, [], ◌∷◌, ◌++◌}
+use Rattle.std.specs.Prelude.{Option, Some, None}
 use Rattle.obj36_parts.specs.Fields.{LinkFields}
 use Rattle.obj36_parts.specs.declared.section.Section.{Section}
 use Rattle.obj36_parts.specs.declared.section.Section.TheVariants.{Text, Linkage, Symbol, Static}
@@ -12,13 +14,21 @@ use Rattle.m36_bind.specs.declared.layout.Spot.{Spot}
 
 -- a link to a place of the bound object itself: the modifier stays
 abbrev pub own_link : LinkFields → Spot → LinkFields
-own_link l s = record { kind = 1; section = s.section; name = []; entry = []; expr = s.offset; modifier = l.modifier }
+own_link l s =
+    record {
+      kind = 1;
+      section = s.section;
+      name = [];
+      entry = [];
+      expr = s.offset;
+      modifier = l.modifier;
+    }
 
 abbrev pub farther : Spot → ℕ → Spot
 farther s n = record { section = s.section; offset = (s.offset + n) % 2 ^ 18 }
 
--- The section in which a link of type 5 counts, by its own and by that of the definition: static before linkage, and linkage
--- before text.
+-- The section in which a link of type 5 counts, by its own and by that of the definition: static
+-- before linkage, and linkage before text.
 abbrev pub rank : Section → ℕ
 rank Text = 0
 rank Symbol = 0
@@ -36,7 +46,8 @@ segment_link l (Some p) = own_link l (spot Text (p.bases.text + l.expr))
 -- type 4: where the definition goes, and the number of the link
 abbrev pub entry_link : ShapeFields → LinkFields → PlacedFields → Option Export → LinkFields
 entry_link frame l p None = l
-entry_link frame l p (Some e) = own_link l (farther (spot_moved (moving frame p) e.def.section e.def.value) l.expr)
+entry_link frame l p (Some e) =
+    own_link l (farther (spot_moved (moving frame p) e.def.section e.def.value) l.expr)
 
 abbrev pub outer_link : ShapeFields → LinkFields → Option PlacedFields → LinkFields
 outer_link frame l None = l
@@ -46,7 +57,8 @@ outer_link frame l (Some p) = entry_link frame l p (export_named l.entry p.entri
 abbrev pub inner_link : ShapeFields → PlacedFields → LinkFields → Option Export → LinkFields
 inner_link frame p l None = l
 inner_link frame p l (Some e) =
-    own_link l (farther (spot_moved (moving frame p) (counting_section l.section e.def.section) e.def.value) l.expr)
+    own_link l (farther
+    (spot_moved (moving frame p) (counting_section l.section e.def.section) e.def.value) l.expr)
 
 -- a link of a component
 unfoldable pub link_moved : ShapeFields → List PlacedFields → PlacedFields → LinkFields → LinkFields
@@ -58,11 +70,15 @@ link_moved frame all p l =
     else l
 
 -- links of a component behind others
-unfoldable pub links_onto : ShapeFields → List PlacedFields → PlacedFields → List LinkFields → List LinkFields → List LinkFields
+unfoldable pub links_onto : ShapeFields → List PlacedFields → PlacedFields → List LinkFields
+    → List LinkFields → List LinkFields
 links_onto frame all p done [] = done
-links_onto frame all p done (l ∷ ls) = links_onto frame all p (done ++ link_moved frame all p l ∷ []) ls
+links_onto frame all p done (l ∷ ls) =
+    links_onto frame all p (done ++ link_moved frame all p l ∷ []) ls
 
 -- and those of components
-unfoldable pub links_from : ShapeFields → List PlacedFields → List LinkFields → List PlacedFields → List LinkFields
+unfoldable pub links_from : ShapeFields → List PlacedFields → List LinkFields → List PlacedFields
+    → List LinkFields
 links_from frame all done [] = done
-links_from frame all done (p ∷ more) = links_from frame all (links_onto frame all p done p.parts.links) more
+links_from frame all done (p ∷ more) =
+    links_from frame all (links_onto frame all p done p.parts.links) more

@@ -1,8 +1,12 @@
--- What the bound object is of its components: what stands where in it, and what each moved part names there.
+-- What the bound object is of its components: what stands where in it, and what each moved part
+-- names there.
 --
--- A part of a word that a relocation names, a link to a place and a definition name in the bound object the image of what they
--- named in their component. All else is as it was, and nothing else stands there but the zero words that even.
-use Rattle.std.specs.Prelude.{ℕ, ◌≡◌, ◌+◌, ◌-◌, ◌*◌, ◌/◌, ◌%◌, ◌^◌, ◌<◌, ◌≤◌, ◌⊎◌, zero, suc, Bool, true, false, ◌||◌, nat_lt, nat_eq, if◌then◌else◌, List, [], ◌∷◌, length, slice_index, slice_get, Option, Some, None, Result, Ok}
+-- A part of a word that a relocation names, a link to a place and a definition name in the bound
+-- object the image of what they named in their component. All else is as it was, and nothing else
+-- stands there but the zero words that even.
+use Rattle.std.specs.Prelude.{ℕ, ◌≡◌, ◌+◌, ◌-◌, ◌*◌, ◌/◌, ◌%◌, ◌^◌, ◌<◌, ◌≤◌, ◌⊎◌, zero, suc, Bool}
+use Rattle.std.specs.Prelude.{true, false, ◌||◌, nat_lt, nat_eq, if◌then◌else◌, List, [], ◌∷◌}
+use Rattle.std.specs.Prelude.{length, slice_index, slice_get, Option, Some, None, Result, Ok}
 use Rattle.std.specs.List.{Contains, list_any}
 use Rattle.obj36_parts.specs.Fields.{DefFields, RelocFields, LinkFields}
 use Rattle.obj36_parts.specs.PartsFields.{PartsFields}
@@ -16,7 +20,8 @@ use Rattle.m36_bindfile.specs.BindFile.{bind_lines, asks_newer, retained_names}
 use Rattle.m36_bind.specs.Fields.{ShapeFields, BasesFields}
 use Rattle.m36_bind.specs.Layout.{shape_of, first_bases, bases_behind, meant, spot}
 use Rattle.m36_bind.specs.declared.layout.Meant.{Meant}
-use Rattle.m36_bind.specs.declared.layout.Meant.TheVariants.{TextWord, StaticWord, LinkWord, HeadWord}
+use Rattle.m36_bind.specs.declared.layout.Meant.TheVariants.{TextWord, StaticWord, LinkWord}
+use Rattle.m36_bind.specs.declared.layout.Meant.TheVariants.{HeadWord}
 use Rattle.m36_bind.specs.Words.{offset_in, below_zero, stands_in, start_of, words_in}
 use Rattle.m36_bind.specs.Exports.{export_named, is_symbol}
 use Rattle.m36_bind.specs.Components.{PlacedFields, component_named, picked_of}
@@ -41,8 +46,8 @@ is_there p (StaticWord w) = nat_lt w p.shape.statics
 is_there p (LinkWord k) = nat_lt k (2 * p.shape.links)
 is_there p (HeadWord v) = nat_lt v 8
 
--- A number that counts in a section of the bound object names the image of what another named in the component, if there is
--- such a word.
+-- A number that counts in a section of the bound object names the image of what another named in
+-- the component, if there is such a word.
 abbrev pub NamesImage : PartsFields → PlacedFields → Section → ℕ → Section → ℕ → Type 0
 NamesImage bound p section old target new =
     is_there p (meant p.shape section old) ≡ true
@@ -60,63 +65,77 @@ part_of (suc (suc n)) w = offset_in w
 abbrev pub overlap : ℕ → ℕ → Bool
 overlap j k = nat_eq j k || nat_eq (j + k) 2
 
--- The relocation is the component's, and names a part of the word of this number of its text, or of its static words.
+-- The relocation is the component's, and names a part of the word of this number of its text, or of
+-- its static words.
 pub record Moves (p : PlacedFields) (statics : Bool) (i : ℕ) (r : RelocFields) : Type 0 where
   pub among : Contains p.parts.relocations r
   pub stands : stands_in statics r ≡ true
   pub place : r.offset - start_of statics p.shape ≡ i
 
--- What stands for a word of a component: each relocated part names the image of what it named, but that bits 3 to 17 which
--- are below zero count from where the component's words begin; each other part is as it was.
-pub record IsMovedWord (bound : PartsFields) (p : PlacedFields) (statics : Bool) (i old new : ℕ) : Type 0 where
+-- What stands for a word of a component: each relocated part names the image of what it named, but
+-- that bits 3 to 17 which are below zero count from where the component's words begin; each other
+-- part is as it was.
+pub record IsMovedWord (bound : PartsFields) (p : PlacedFields) (statics : Bool)
+    (i old new : ℕ) : Type 0 where
   pub names : (r : RelocFields) → Moves p statics i r → (r.part ≡ 2 → part_of 2 old < 2 ^ 14)
       → NamesImage bound p r.target (part_of r.part old) r.target (part_of r.part new)
   pub below : (r : RelocFields) → Moves p statics i r → r.part ≡ 2 → 2 ^ 14 ≤ part_of 2 old
       → part_of 2 new ≡ below_zero p.bases r.target (part_of 2 old) % 2 ^ 15
-  pub stays : (part : ℕ) → part ≤ 2 → ((r : RelocFields) → Moves p statics i r → overlap r.part part ≡ false)
+  pub stays : (part : ℕ) → part ≤ 2
+      → ((r : RelocFields) → Moves p statics i r → overlap r.part part ≡ false)
       → part_of part new ≡ part_of part old
 
 -- ---- where components stand
 
--- Each component has the shape of its parts, and begins where the one above it ends, from an even word on.
+-- Each component has the shape of its parts, and begins where the one above it ends, from an even
+-- word on.
 unfoldable pub AreInOrder : BasesFields → List PlacedFields → Type 0
 AreInOrder b [] = Unit {0}
-AreInOrder b (p ∷ all) = (p.bases ≡ b) × (p.shape ≡ shape_of p.parts) × AreInOrder (bases_behind b p.parts) all
+AreInOrder b (p ∷ all) =
+    (p.bases ≡ b) × (p.shape ≡ shape_of p.parts) × AreInOrder (bases_behind b p.parts) all
 
 abbrev pub start_in : Bool → BasesFields → ℕ
 start_in statics b = if statics then b.statics else b.text
 
 -- No word of a component stands there, among its text or its static words.
 abbrev pub IsOutside : Bool → PlacedFields → ℕ → Type 0
-IsOutside statics p j = (j < start_in statics p.bases) ⊎ (start_in statics p.bases + length (words_in statics p.parts) ≤ j)
+IsOutside statics p j = (j < start_in statics p.bases)
+    ⊎ (start_in statics p.bases + length (words_in statics p.parts) ≤ j)
 
 -- how many words there are behind so many, of the texts or of the static words
 unfoldable pub words_end : Bool → ℕ → List PlacedFields → ℕ
 words_end statics n [] = n
-words_end statics n (p ∷ all) = words_end statics (start_in statics p.bases + length (words_in statics p.parts)) all
+words_end statics n (p ∷ all) =
+    words_end statics (start_in statics p.bases + length (words_in statics p.parts)) all
 
--- The words of a component stand one behind another from its first on, each moved. A word has 36 bits.
+-- The words of a component stand one behind another from its first on, each moved. A word
+-- has 36 bits.
 abbrev pub WordsStand : PartsFields → PlacedFields → Bool → Type 0
 WordsStand bound p statics =
-    (i : ℕ) → i < length (words_in statics p.parts) → slice_index (words_in statics p.parts) i < 2 ^ 36
-    → IsMovedWord bound p statics i (slice_index (words_in statics p.parts) i) (slice_index (words_in statics bound) (start_in statics p.bases + i))
+    (i : ℕ) → i < length (words_in statics p.parts)
+    → slice_index (words_in statics p.parts) i < 2 ^ 36
+    → IsMovedWord bound p statics i (slice_index (words_in statics p.parts) i)
+    (slice_index (words_in statics bound) (start_in statics p.bases + i))
 
 -- ---- relocations
 
 -- The part is that of the image of the word, and it counts in the same section.
-pub record IsMovedRelocation (bound : PartsFields) (p : PlacedFields) (old new : RelocFields) : Type 0 where
+pub record IsMovedRelocation (bound : PartsFields) (p : PlacedFields)
+    (old new : RelocFields) : Type 0 where
   pub place : NamesImage bound p old.section old.offset new.section new.offset
   pub part : new.part ≡ old.part
   pub target : new.target ≡ old.target
 
 -- what stands for a relocation of a component
-pub record MovedRelocation (bound : PartsFields) (p : PlacedFields) (old : RelocFields) : Type 0 where
+pub record MovedRelocation (bound : PartsFields) (p : PlacedFields)
+    (old : RelocFields) : Type 0 where
   pub new : RelocFields
   pub among : Contains bound.relocations new
   pub moved : IsMovedRelocation bound p old new
 
 -- what a relocation of the bound object stands for
-pub record RelocationSource (bound : PartsFields) (all : List PlacedFields) (new : RelocFields) : Type 0 where
+pub record RelocationSource (bound : PartsFields) (all : List PlacedFields)
+    (new : RelocFields) : Type 0 where
   pub component : PlacedFields
   pub one : Contains all component
   pub old : RelocFields
@@ -125,8 +144,10 @@ pub record RelocationSource (bound : PartsFields) (all : List PlacedFields) (new
 
 -- ---- links
 
--- A link names a place of the bound object: the image of a place of a component, and a number more. The modifier stays.
-pub record LinksTo (bound : PartsFields) (p : PlacedFields) (section : Section) (value : ℕ) (old new : LinkFields) : Type 0 where
+-- A link names a place of the bound object: the image of a place of a component, and a number more.
+-- The modifier stays.
+pub record LinksTo (bound : PartsFields) (p : PlacedFields) (section : Section) (value : ℕ)
+    (old new : LinkFields) : Type 0 where
   pub place : Spot
   pub names : NamesImage bound p section value place.section place.offset
   pub is : new ≡ own_link old (farther place old.expr)
@@ -139,13 +160,18 @@ pub record LinksAt (bound : PartsFields) (p : PlacedFields) (old new : LinkField
 
 -- Whether a name that a link uses is none of a component, or none that it defines.
 abbrev pub IsUndefined : List PlacedFields → LinkFields → Type 0
-IsUndefined all l = (q : PlacedFields) → component_named l.name all ≡ Some q → export_named l.entry q.entries ≡ None
+IsUndefined all l =
+    (q : PlacedFields) → component_named l.name all ≡ Some q → export_named l.entry q.entries ≡ None
 
--- What stands for a link of a component, by its type; a link to no component, or to a name that none defines, is as it was.
-pub record IsMovedLink (bound : PartsFields) (all : List PlacedFields) (p : PlacedFields) (old new : LinkFields) : Type 0 where
+-- What stands for a link of a component, by its type; a link to no component, or to a name that
+-- none defines, is as it was.
+pub record IsMovedLink (bound : PartsFields) (all : List PlacedFields) (p : PlacedFields)
+    (old new : LinkFields) : Type 0 where
   pub own : old.kind ≡ 1 → LinksAt bound p old new
-  pub segment : (q : PlacedFields) → old.kind ≡ 3 → component_named old.name all ≡ Some q → new ≡ own_link old (spot Text (q.bases.text + old.expr))
-  pub outer : (q : PlacedFields) (e : Export) → old.kind ≡ 4 → component_named old.name all ≡ Some q → export_named old.entry q.entries ≡ Some e
+  pub segment : (q : PlacedFields) → old.kind ≡ 3 → component_named old.name all ≡ Some q
+      → new ≡ own_link old (spot Text (q.bases.text + old.expr))
+  pub outer : (q : PlacedFields) (e : Export) → old.kind ≡ 4 → component_named old.name all ≡ Some q
+      → export_named old.entry q.entries ≡ Some e
       → LinksTo bound q e.def.section e.def.value old new
   pub inner : (e : Export) → old.kind ≡ 5 → export_named old.entry p.entries ≡ Some e
       → LinksTo bound p (counting_section old.section e.def.section) e.def.value old new
@@ -157,13 +183,15 @@ pub record IsMovedLink (bound : PartsFields) (all : List PlacedFields) (p : Plac
 abbrev pub LinksStand : PartsFields → List PlacedFields → PlacedFields → Type 0
 LinksStand bound all p =
     (i : ℕ) (old : LinkFields) → slice_get p.parts.links i ≡ Some old
-    → (new : LinkFields) × (slice_get bound.links (p.bases.links + i) ≡ Some new) × IsMovedLink bound all p old new
+    → (new : LinkFields) × (slice_get bound.links (p.bases.links + i) ≡ Some new)
+    × IsMovedLink bound all p old new
 
 -- ---- definitions
 
--- What a definition of the bound object stands for: it names the image of what a component's definition of the name names. A
--- definition of class symbol counts as none.
-pub record DefinitionSource (bound : PartsFields) (all : List PlacedFields) (name : List ℕ) (new : DefFields) : Type 0 where
+-- What a definition of the bound object stands for: it names the image of what a component's
+-- definition of the name names. A definition of class symbol counts as none.
+pub record DefinitionSource (bound : PartsFields) (all : List PlacedFields) (name : List ℕ)
+    (new : DefFields) : Type 0 where
   pub component : PlacedFields
   pub one : Contains all component
   pub old : Named
@@ -176,7 +204,8 @@ pub record DefinitionSource (bound : PartsFields) (all : List PlacedFields) (nam
 -- ---- the whole
 
 -- The object is bound of the components of a bind file.
-pub record BoundMeaning (text : List ℕ) (names : List (List ℕ)) (objects : List PartsFields) (bound : PartsFields) : Type 0 where
+pub record BoundMeaning (text : List ℕ) (names : List (List ℕ)) (objects : List PartsFields)
+    (bound : PartsFields) : Type 0 where
   pub lines : List BindLine
   pub read : bind_lines text ≡ Ok lines
   pub components : List PlacedFields
@@ -186,18 +215,23 @@ pub record BoundMeaning (text : List ℕ) (names : List (List ℕ)) (objects : L
   pub texts : (p : PlacedFields) → Contains components p → WordsStand bound p false
   pub statics : (p : PlacedFields) → Contains components p → WordsStand bound p true
   pub links : (p : PlacedFields) → Contains components p → LinksStand bound components p
-  pub relocations : (p : PlacedFields) → Contains components p → (r : RelocFields) → Contains p.parts.relocations r → MovedRelocation bound p r
+  pub relocations : (p : PlacedFields) → Contains components p → (r : RelocFields)
+      → Contains p.parts.relocations r → MovedRelocation bound p r
   pub retained : definition_names bound.definitions ≡ retained_names lines
-  pub definitions : (d : Named) → Contains bound.definitions d → DefinitionSource bound components d.name d.def
+  pub definitions : (d : Named) → Contains bound.definitions d
+      → DefinitionSource bound components d.name d.def
   -- and that nothing else does
   pub text_length : length bound.text ≡ words_end false 0 components
   pub statics_length : length bound.statics ≡ words_end true 0 components
-  pub gaps : (statics : Bool) (j : ℕ) → ((p : PlacedFields) → Contains components p → IsOutside statics p j)
+  pub gaps : (statics : Bool) (j : ℕ)
+      → ((p : PlacedFields) → Contains components p → IsOutside statics p j)
       → slice_index (words_in statics bound) j ≡ 0
   pub links_length : length bound.links ≡ links_end 0 components
-  pub no_other_relocations : (r : RelocFields) → Contains bound.relocations r → RelocationSource bound components r
+  pub no_other_relocations : (r : RelocFields) → Contains bound.relocations r
+      → RelocationSource bound components r
   pub entry_bound : bound.entry_bound ≡ first_bound components
-  pub version : bound.version ≡ (if asks_newer lines || list_any is_newer_component components then 2 else 1)
+  pub version : bound.version ≡ (if asks_newer lines || list_any is_newer_component components
+      then 2 else 1)
 
 -- Each of these parts is that of an object.
 abbrev pub AreObjects : List PartsFields → Type 0

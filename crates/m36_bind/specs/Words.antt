@@ -1,6 +1,8 @@
--- The words of components with their relocated parts moved: halves, which count modulo 2^18, and bits 3 to 17, which count as
--- signed and must fit.
-use Rattle.std.specs.Prelude.{ℕ, ◌+◌, ◌-◌, ◌*◌, ◌/◌, ◌%◌, ◌^◌, Bool, true, false, not, nat_lt, nat_eq, if◌then◌else◌, List, [], ◌∷◌, ◌++◌, length, slice_index, slice_set}
+-- The words of components with their relocated parts moved: halves, which count modulo 2^18, and
+-- bits 3 to 17, which count as signed and must fit.
+use Rattle.std.specs.Prelude.{ℕ, ◌+◌, ◌-◌, ◌*◌, ◌/◌, ◌%◌, ◌^◌, Bool, true, false, not, nat_lt}
+use Rattle.std.specs.Prelude.{nat_eq, if◌then◌else◌, List, [], ◌∷◌, ◌++◌, length, slice_index}
+use Rattle.std.specs.Prelude.{slice_set}
 use Rattle.obj36_parts.specs.Fields.{RelocFields}
 use Rattle.obj36_parts.specs.PartsFields.{PartsFields}
 use Rattle.obj36_parts.specs.Halves.{left, right, joined}
@@ -19,8 +21,9 @@ offset_in w = left w % 2 ^ 15
 unfoldable pub with_offset : ℕ → ℕ → ℕ
 with_offset w v = joined (left w / 2 ^ 15 * 2 ^ 15 + v % 2 ^ 15) (right w)
 
--- Bits 3 to 17 are counted from -2^15 here, so that no number is below zero. A number below zero counts back from where the
--- component's words begin; in the linkage section it names a head word, and stays.
+-- Bits 3 to 17 are counted from -2^15 here, so that no number is below zero. A number below zero
+-- counts back from where the component's words begin; in the linkage section it names a head word,
+-- and stays.
 abbrev pub below_zero : BasesFields → Section → ℕ → ℕ
 below_zero b Text v = b.text + v
 below_zero b Static v = b.statics + v
@@ -28,7 +31,8 @@ below_zero b Linkage v = v
 below_zero b Symbol v = v
 
 unfoldable pub offset_raised : Moving → Section → ℕ → ℕ
-offset_raised m target v = if nat_lt v (2 ^ 14) then 2 ^ 15 + number_moved m target v else below_zero m.bases target v
+offset_raised m target v =
+    if nat_lt v (2 ^ 14) then 2 ^ 15 + number_moved m target v else below_zero m.bases target v
 
 -- the word with the part of a relocation moved
 unfoldable pub word_moved : Moving → RelocFields → ℕ → ℕ
@@ -67,21 +71,25 @@ abbrev pub place_in : Moving → Bool → RelocFields → ℕ
 place_in m statics r = r.offset - start_of statics m.shape
 
 abbrev pub moved_at : Moving → RelocFields → ℕ → List ℕ → List ℕ
-moved_at m r i words = if nat_lt i (length words) then slice_set words i (word_moved m r (slice_index words i)) else words
+moved_at m r i words = if nat_lt i (length words)
+    then slice_set words i (word_moved m r (slice_index words i)) else words
 
 unfoldable pub one_moved : Moving → Bool → RelocFields → List ℕ → List ℕ
-one_moved m statics r words = if stands_in statics r then moved_at m r (place_in m statics r) words else words
+one_moved m statics r words =
+    if stands_in statics r then moved_at m r (place_in m statics r) words else words
 
 unfoldable pub words_moved : Moving → Bool → List RelocFields → List ℕ → List ℕ
 words_moved m statics [] words = words
 words_moved m statics (r ∷ rs) words = words_moved m statics rs (one_moved m statics r words)
 
 unfoldable pub one_fits : Moving → Bool → List ℕ → RelocFields → Bool
-one_fits m statics words r = if stands_in statics r then part_fits m r (slice_index words (place_in m statics r)) else true
+one_fits m statics words r =
+    if stands_in statics r then part_fits m r (slice_index words (place_in m statics r)) else true
 
 unfoldable pub all_fit : Moving → Bool → List ℕ → List RelocFields → Bool
 all_fit m statics words [] = true
-all_fit m statics words (r ∷ rs) = if one_fits m statics words r then all_fit m statics words rs else false
+all_fit m statics words (r ∷ rs) =
+    if one_fits m statics words r then all_fit m statics words rs else false
 
 abbrev pub evened_words : List ℕ → List ℕ
 evened_words words = if nat_eq (length words % 2) 0 then words else words ++ 0 ∷ []

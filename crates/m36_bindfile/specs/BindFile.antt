@@ -4,11 +4,14 @@
 --     object NAME     one at least
 --     retain NAME     any number
 --
--- Each line ends with a line feed, and its words are parted by single spaces. NAME is that of a file: 1 to 32 characters of
--- `A-Z a-z 0-9 _ .`, the first of which is no point. B1 is the first other line, or one that is out of order or lacks its
--- line feed; of a file without an `object` line it is told at line 1, before any other; a last `object` line that lacks its
--- line feed counts there.
-use Rattle.std.specs.Prelude.{ℕ, ◌≡◌, ◌+◌, ◌-◌, Bool, true, false, ◌&&◌, if◌then◌else◌, List, [], ◌∷◌, ◌++◌, length, map, codes, slice_get, Option, Some, None, Result, Ok, Err}
+-- Each line ends with a line feed, and its words are parted by single spaces. NAME is that of a
+-- file: 1 to 32 characters of `A-Z a-z 0-9 _ .`, the first of which is no point. B1 is the first
+-- other line, or one that is out of order or lacks its line feed; of a file without an `object`
+-- line it is told at line 1, before any other; a last `object` line that lacks its line
+-- feed counts there.
+use Rattle.std.specs.Prelude.{ℕ, ◌≡◌, ◌+◌, ◌-◌, Bool, true, false, ◌&&◌, if◌then◌else◌, List, []}
+use Rattle.std.specs.Prelude.{◌∷◌, ◌++◌, length, map, codes, slice_get, Option, Some, None, Result}
+use Rattle.std.specs.Prelude.{Ok, Err}
 use Rattle.std.specs.List.{list_any}
 use Rattle.m36_text.specs.Texts.{is_text, is_file_name}
 use Rattle.m36_text.specs.Lines.{lines_of, open_lines_of, words_of}
@@ -59,8 +62,8 @@ is_version line.Version = true
 is_version (line.Object name) = false
 is_version (line.Retain name) = false
 
--- which line may stand behind another: objects behind the version or an object, retained names behind an object or a
--- retained name
+-- which line may stand behind another: objects behind the version or an object, retained names
+-- behind an object or a retained name
 abbrev pub may_follow : BindLine → BindLine → Bool
 may_follow line.Version next = is_object next
 may_follow (line.Object name) line.Version = false
@@ -90,15 +93,18 @@ in_order above (Some next) = if is_in_order_behind above next then Some next els
 
 -- ---- B1
 
-abbrev pub read_on : Result (List BindLine) BindFault → (BindLine → Result (List BindLine) BindFault) → Option BindLine → Result (List BindLine) BindFault
+abbrev pub read_on : Result (List BindLine) BindFault → (BindLine
+    → Result (List BindLine) BindFault) → Option BindLine → Result (List BindLine) BindFault
 read_on otherwise next None = otherwise
 read_on otherwise next (Some line) = next line
 
 -- the lines behind some others, up to the first that is of no form or out of order
-unfoldable pub lines_from : List BindLine → List (Option BindLine) → Result (List BindLine) BindFault
+unfoldable pub lines_from : List BindLine → List (Option BindLine)
+    → Result (List BindLine) BindFault
 lines_from above [] = Ok above
 lines_from above (given ∷ more) =
-    read_on (Err (fault.B1 (length above + 1))) (λ next. lines_from (above ++ next ∷ []) more) (in_order (last_of above) given)
+    read_on (Err (fault.B1 (length above + 1))) (λ next. lines_from (above ++ next ∷ []) more)
+    (in_order (last_of above) given)
 
 -- whether something stands behind the last line feed
 abbrev pub is_cut : List ℕ → Bool

@@ -118,8 +118,8 @@ paged_of image = record { core = image.core; kept = kept_word image.pager }
 
 -- ---- the image
 
--- The core and the registers of a booted image that starts by an answer, where every page is put
--- away.
+-- The core and the registers of a booted image that starts by an answer, where every page
+-- is put away.
 pub record IsImage
     (catalog : CatalogFields) (files : List (List ℕ)) (s : SnapFields) (image : Image)
     : Type 0 where
@@ -154,8 +154,8 @@ pub record IsRunnable (frames : ℕ) (image : Image) : Type 0 where
       (seg page : ℕ) → has_page image.pager seg page ≡ true
       → spot_of image.pager seg page ≡ table_at seg + page
 
--- What laying answers: the image of the start, or the first code; want of memory may come at any
--- time.
+-- What laying answers: the image of the start, or the first code; want of memory may come
+-- at any time.
 abbrev pub LaySays : CatalogFields → List (List ℕ) → Result Image BootFault → Type 0
 LaySays catalog files (Ok image) =
     (boot_answer catalog files ≡ Ok image.snap) × IsImage catalog files image.snap image

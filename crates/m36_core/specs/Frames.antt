@@ -1,5 +1,6 @@
 -- Core in frames.
-use Rattle.std.specs.Prelude.{ℕ, ◌+◌, ◌*◌, ◌%◌, ◌≡◌, ◌<◌, ◌≤◌, ◌^◌, List, ◌++◌, length, take, drop, slice_index, slice_range}
+use Rattle.std.specs.Prelude.{ℕ, ◌+◌, ◌*◌, ◌%◌, ◌≡◌, ◌<◌, ◌≤◌, ◌^◌, List, ◌++◌, length, take, drop}
+use Rattle.std.specs.Prelude.{slice_index, slice_range}
 
 -- Core has whole frames of 1,024 words, and no more words than an address of 24 bits can name.
 pub record IsCore (core : List ℕ) : Type 0 where

@@ -91,8 +91,8 @@ its_even p = p.seg * 2 ^ 18 + p.ring * 2 ^ 15 + its_tag
 abbrev pub its_odd : ItsFields → ℕ
 its_odd p = p.word * 2 ^ 18 + p.bit * 2 ^ 9 + p.tag
 
--- Indirect through a pointer register. Even word: PRNUM 0-2, tag 41 octal in 30-35. Odd word as of
--- ITS.
+-- Indirect through a pointer register. Even word: PRNUM 0-2, tag 41 octal in 30-35. Odd word
+-- as of ITS.
 abbrev pub itp_tag : ℕ
 itp_tag = 0o41
 

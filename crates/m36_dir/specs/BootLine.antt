@@ -3,13 +3,15 @@
 --     frames N                                     N decimal, 1 to 8192
 --     work DIR
 --     library DIR
---     segment DIR NAME FILE KIND MODE R1 R2 R3      KIND object, gate or data; each ring one octal digit
---     name NAME
+--     segment DIR NAME FILE KIND MODE R1 R2 R3      KIND object, gate or data; each ring one octal
+--     digit name NAME
 --     start RING NAME$ENTRY
 --
--- The words of a line are parted by single spaces. MODE is one or more of the letters r, e, w and p in this order, or
--- `null`. DIR is 1 to 64 characters of `A-Z a-z 0-9 _ . >`; NAME, FILE and ENTRY are names of files.
-use Rattle.std.specs.Prelude.{ℕ, ◌+◌, Bool, true, false, ◌||◌, ◌==◌, if◌then◌else◌, List, [], ◌∷◌, take, drop, codes, Option, Some, None, option_map}
+-- The words of a line are parted by single spaces. MODE is one or more of the letters r, e, w and p
+-- in this order, or `null`. DIR is 1 to 64 characters of `A-Z a-z 0-9 _ . >`; NAME, FILE and ENTRY
+-- are names of files.
+use Rattle.std.specs.Prelude.{ℕ, ◌+◌, Bool, true, false, ◌||◌, ◌==◌, if◌then◌else◌, List, [], ◌∷◌}
+use Rattle.std.specs.Prelude.{take, drop, codes, Option, Some, None, option_map}
 use Rattle.std.specs.List.{position}
 use Rattle.m36_text.specs.Texts.{is_text, is_name_character, is_run_of, is_file_name}
 use Rattle.m36_text.specs.Lines.{words_of}
@@ -47,7 +49,8 @@ pub record Taken : Type 0 where
 abbrev pub taken : ℕ → List ℕ → Taken
 taken letter [] = record { stands = false; rest = [] }
 taken letter (c ∷ letters) =
-    if c == letter then record { stands = true; rest = letters } else record { stands = false; rest = c ∷ letters }
+    if c == letter then record { stands = true; rest = letters }
+    else record { stands = false; rest = c ∷ letters }
 
 -- where no letter is left
 abbrev pub whole : Mode → List ℕ → Option Mode
@@ -60,14 +63,20 @@ mode_of_letters letters =
     let e = taken 101 r.rest in
     let w = taken 119 e.rest in
     let p = taken 112 w.rest in
-    whole (record { readable = r.stands; executable = e.stands; writable = w.stands; privileged = p.stands }) p.rest
+    whole (record {
+      readable = r.stands;
+      executable = e.stands;
+      writable = w.stands;
+      privileged = p.stands;
+    }) p.rest
 
 abbrev pub no_mode : Mode
 no_mode = record { readable = false; executable = false; writable = false; privileged = false }
 
 unfoldable pub mode_of : List ℕ → Option Mode
 mode_of [] = None
-mode_of (c ∷ word) = if is_text (codes "null") (c ∷ word) then Some no_mode else mode_of_letters (c ∷ word)
+mode_of (c ∷ word) =
+    if is_text (codes "null") (c ∷ word) then Some no_mode else mode_of_letters (c ∷ word)
 
 -- ---- what stands behind the first word of a line
 
@@ -89,11 +98,13 @@ name_line _ = None
 
 -- NAME and ENTRY stand before and behind the first dollar sign, and neither has another
 abbrev pub start_read : Option ℕ → Option (List ℕ) → Option (List ℕ) → Option BootLine
-start_read (Some ring) (Some name) (Some entry) = Some (line.Start (record { name = name; entry = entry; ring = ring }))
+start_read (Some ring) (Some name) (Some entry) =
+    Some (line.Start (record { name = name; entry = entry; ring = ring }))
 start_read _ _ _ = None
 
 abbrev pub start_parts : Option ℕ → List ℕ → Option ℕ → Option BootLine
-start_parts ring word (Some dollar) = start_read ring (name_of (take dollar word)) (name_of (drop (dollar + 1) word))
+start_parts ring word (Some dollar) =
+    start_read ring (name_of (take dollar word)) (name_of (drop (dollar + 1) word))
 start_parts ring word None = None
 
 abbrev pub start_line : List (List ℕ) → Option BootLine
@@ -109,7 +120,8 @@ brackets_of (r1 ∷ r2 ∷ r3 ∷ []) = brackets_read (octal_in 1 r1) (octal_in 
 brackets_of _ = None
 
 abbrev pub segment_read :
-    Option (List ℕ) → Option (List ℕ) → Option (List ℕ) → Option SegKind → Option Mode → Option Brackets → Option BootLine
+    Option (List ℕ) → Option (List ℕ) → Option (List ℕ) → Option SegKind → Option Mode
+    → Option Brackets → Option BootLine
 segment_read (Some dir) (Some name) (Some file) (Some kind) (Some mode) (Some ends) =
     Some (line.Segment (record {
       dir = dir;
@@ -125,7 +137,8 @@ segment_read _ _ _ _ _ _ = None
 
 abbrev pub segment_line : List (List ℕ) → Option BootLine
 segment_line (dir ∷ name ∷ file ∷ kind ∷ mode ∷ ends) =
-    segment_read (directory_of dir) (name_of name) (name_of file) (kind_of kind) (mode_of mode) (brackets_of ends)
+    segment_read (directory_of dir) (name_of name) (name_of file) (kind_of kind) (mode_of mode)
+    (brackets_of ends)
 segment_line _ = None
 
 -- ---- lines

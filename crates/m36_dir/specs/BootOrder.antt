@@ -2,13 +2,16 @@
 --
 --     D1   the line is not of its form, or not in its order
 --     D2   a name stands a second time in one directory
---     D3   no segment line of the text, anywhere in it, has the directory of a `work` or `library` line
+--     D3   no segment line of the text, anywhere in it, has the directory of a `work` or `library`
+--          line
 --     D4   not R1 <= R2 <= R3, or a gate that may not be executed, or with R2 = R3
 --     D5   a 513th segment, an eighth further name, or a 17th library
 --     D6   the text ends without `start`: behind its last line
 --
 -- The least line that has a code is told, and its least code.
-use Rattle.std.specs.Prelude.{ℕ, ◌≡◌, ◌+◌, ◌-◌, Bool, true, false, not, ◌&&◌, ◌||◌, nat_eq, nat_le, if◌then◌else◌, List, [], ◌∷◌, ◌++◌, length, slice_get, count_by, filter_map, map, Option, Some, None, Result, Ok, Err}
+use Rattle.std.specs.Prelude.{ℕ, ◌≡◌, ◌+◌, ◌-◌, Bool, true, false, not, ◌&&◌, ◌||◌, nat_eq, nat_le}
+use Rattle.std.specs.Prelude.{if◌then◌else◌, List, [], ◌∷◌, ◌++◌, length, slice_get, count_by}
+use Rattle.std.specs.Prelude.{filter_map, map, Option, Some, None, Result, Ok, Err}
 use Rattle.std.specs.List.{list_any}
 use Rattle.m36_text.specs.Texts.{is_text}
 use Rattle.m36_text.specs.Lines.{lines_of, first_met, first_told}
@@ -97,7 +100,8 @@ entries_of_line dir _ = []
 -- what lines put into directories, the first of them behind a segment line with this directory
 unfoldable pub entries_from : List ℕ → List BootLine → List Entry
 entries_from dir [] = []
-entries_from dir (next ∷ lines) = entries_of_line dir next ++ entries_from (directory_behind dir next) lines
+entries_from dir (next ∷ lines) =
+    entries_of_line dir next ++ entries_from (directory_behind dir next) lines
 
 unfoldable pub has_entry : List BootLine → List ℕ → List ℕ → Bool
 has_entry lines dir name = list_any (is_entry (entry dir name)) (entries_from [] lines)
@@ -191,13 +195,16 @@ code_of_rest above [] = code_at_end (last_of above)
 code_of_rest above (c ∷ rest) = Some D1
 
 -- A line that has no code; else its code.
-abbrev pub Judges : List BootLine → List BootLine → Option BootLine → Result BootLine BootCode → Type 0
+abbrev pub Judges : List BootLine → List BootLine → Option BootLine → Result BootLine BootCode
+    → Type 0
 Judges all above given (Ok next) = (given ≡ Some next) × (code_of all above next ≡ None)
 Judges all above given (Err code) = code_given all above given ≡ Some code
 
-unfoldable pub codes_from : List BootLine → List BootLine → List (Option BootLine) → List (Option BootCode)
+unfoldable pub codes_from : List BootLine → List BootLine → List (Option BootLine)
+    → List (Option BootCode)
 codes_from all above [] = code_at_end (last_of above) ∷ []
-codes_from all above (next ∷ lines) = code_given all above next ∷ codes_from all (with_line above next) lines
+codes_from all above (next ∷ lines) =
+    code_given all above next ∷ codes_from all (with_line above next) lines
 
 -- ---- the text
 

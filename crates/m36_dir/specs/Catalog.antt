@@ -1,5 +1,7 @@
 -- The catalog that a boot text writes out, or why it does not.
-use Rattle.std.specs.Prelude.{ℕ, ◌≡◌, Bool, ◌&&◌, nat_eq, if◌then◌else◌, List, [], ◌∷◌, ◌++◌, position, slice_get, slice_set, Option, Some, None, unwrap_or, Result, Ok, Err, IfSome}
+use Rattle.std.specs.Prelude.{ℕ, ◌≡◌, Bool, ◌&&◌, nat_eq, if◌then◌else◌, List, [], ◌∷◌, ◌++◌}
+use Rattle.std.specs.Prelude.{position, slice_get, slice_set, Option, Some, None, unwrap_or, Result}
+use Rattle.std.specs.Prelude.{Ok, Err, IfSome}
 use Rattle.std.specs.List.{list_any}
 use Rattle.m36_text.specs.Texts.{is_text}
 use Rattle.m36_dir.specs.declared.fault.CatalogFault.{CatalogFault}
@@ -143,9 +145,16 @@ found catalog dir name = position (λ s. nat_eq s.dir dir && has_name name s) ca
 -- A segment may be read, executed and written, or not, as is given; all else stays.
 abbrev pub with_rights : SegmentFields → Bool → Bool → Bool → SegmentFields
 with_rights s readable executable writable =
-    record s { mode = record s.mode { readable = readable; executable = executable; writable = writable } }
+    record s {
+      mode = record s.mode {
+        readable = readable;
+        executable = executable;
+        writable = writable;
+      };
+    }
 
 abbrev pub SetsRights : CatalogFields → CatalogFields → ℕ → Bool → Bool → Bool → Type 0
 SetsRights old new i readable executable writable =
     IfSome (slice_get old.segments i)
-    (λ s. new ≡ record old { segments = slice_set old.segments i (with_rights s readable executable writable) })
+    (λ s. new ≡ record old
+    { segments = slice_set old.segments i (with_rights s readable executable writable) })

@@ -1,18 +1,21 @@
--- The bare image: a text that writes out the core of a machine, its descriptor segment base register
--- and where it starts.
+-- The bare image: a text that writes out the core of a machine, its descriptor segment base
+-- register and where it starts.
 --
 --     core N          N decimal, 1 to 16384 frames of 1,024 words
 --     dbr E O         two words of 12 octal digits
 --     start S R I     segment, ring and word number, of 5, 1 and 6 octal digits
---     at A W ..       a core address of 8 octal digits, and one to eight words of 12, there and behind
+--     at A W ..       a core address of 8 octal digits, and one to eight words of 12, there and
+--     behind
 --
--- Each line ends with a line feed, and the words of a line are parted by single spaces. The first three
--- lines stand once, in this order; any number of `at` lines follows.
+-- Each line ends with a line feed, and the words of a line are parted by single spaces. The first
+-- three lines stand once, in this order; any number of `at` lines follows.
 --
--- I1 is a line not of its form, a missing line or a missing line feed. I2 is an N out of range. I3 is an
--- `at` whose first address is not above every earlier address, or whose last address is outside core. The
--- first line with a fault counts, and in it the least code.
-use Rattle.std.specs.Prelude.{ℕ, zero, suc, ◌+◌, ◌*◌, ◌&&◌, nat_le, nat_lt, List, [], ◌∷◌, ◌++◌, length, drop, codes, Option, Some, None, Result, Ok, Err, unwrap_or, if◌then◌else◌}
+-- I1 is a line not of its form, a missing line or a missing line feed. I2 is an N out of range. I3
+-- is an `at` whose first address is not above every earlier address, or whose last address is
+-- outside core. The first line with a fault counts, and in it the least code.
+use Rattle.std.specs.Prelude.{ℕ, zero, suc, ◌+◌, ◌*◌, ◌&&◌, nat_le, nat_lt, List, [], ◌∷◌, ◌++◌}
+use Rattle.std.specs.Prelude.{length, drop, codes, Option, Some, None, Result, Ok, Err, unwrap_or}
+use Rattle.std.specs.Prelude.{if◌then◌else◌}
 use Rattle.std.specs.List.{list_all, filter_map}
 use Rattle.std.specs.Result.{result_unwrap_or}
 use Rattle.m36_word.specs.declared.pair.Pair.{Pair}
@@ -99,8 +102,8 @@ abbrev pub at_line : Option (List ℕ) → Option PlacedWords
 at_line (Some line) = at_words (words_of line)
 at_line None = None
 
--- The code of an `at` line in a core of so many words, with the addresses of the earlier ones: the least
--- that holds.
+-- The code of an `at` line in a core of so many words, with the addresses of the earlier ones: the
+-- least that holds.
 abbrev pub at_code : ℕ → List ℕ → Option PlacedWords → Option ImageCode
 at_code size earlier None = Some I1
 at_code size earlier (Some p) =

@@ -7,7 +7,8 @@ use Rattle.m36_text.specs.Lines.{lines_of, line_at, first_told}
 use Rattle.m36_image.specs.BareImage.{core_line, dbr_line, start_line, header_codes}
 
 -- what a header and the text behind it tell of the lines of their file
-pub record IsHeader (header : Header) (rest : List ℕ) (lines : List (Option (List ℕ))) : Type 0 where
+pub record IsHeader (header : Header) (rest : List ℕ)
+    (lines : List (Option (List ℕ))) : Type 0 where
   pub frames : core_line (line_at lines 1) ≡ Ok header.frames
   pub dbr : dbr_line (line_at lines 2) ≡ Some header.dbr
   pub start : start_line (line_at lines 3) ≡ Some header.start
@@ -16,4 +17,5 @@ pub record IsHeader (header : Header) (rest : List ℕ) (lines : List (Option (L
 -- What reading the header answers: what the lines say, or the first of them with a fault.
 abbrev pub HeaderSays : Result (Header × Bor (List ℕ)) Refusal → List (Option (List ℕ)) → Type 0
 HeaderSays (Ok read) lines = IsHeader read.0 read.1.now lines
-HeaderSays (Err refusal) lines = first_told 1 (header_codes lines) ≡ Some (refusal.line, refusal.code)
+HeaderSays (Err refusal) lines =
+    first_told 1 (header_codes lines) ≡ Some (refusal.line, refusal.code)

@@ -1,5 +1,6 @@
 -- The state of a machine that a bare image writes out.
-use Rattle.std.specs.Prelude.{ℕ, false, ◌+◌, ◌*◌, List, [], ◌∷◌, replicate, slice_set, Result, Ok, Err}
+use Rattle.std.specs.Prelude.{ℕ, false, ◌+◌, ◌*◌, List, [], ◌∷◌, replicate, slice_set, Result, Ok}
+use Rattle.std.specs.Prelude.{Err}
 use Rattle.m36_word.specs.declared.pair.Pair.{Pair}
 use Rattle.m36_desc.specs.Fields.{PtrFields}
 use Rattle.m36_desc.specs.Descriptors.{dbr_of}
@@ -13,7 +14,8 @@ use Rattle.m36_image.specs.BareImage.{Image, image_of}
 -- words written from an address on
 abbrev pub written_at : List ℕ → ℕ → List ℕ → List ℕ
 written_at core address [] = core
-written_at core address (word ∷ words) = written_at (slice_set core address word) (address + 1) words
+written_at core address (word ∷ words) =
+    written_at (slice_set core address word) (address + 1) words
 
 -- the words of all lines, in order
 abbrev pub written_all : List ℕ → List PlacedWords → List ℕ
@@ -27,8 +29,8 @@ core_of image = written_all (replicate (1024 * image.frames) 0) image.placed
 abbrev pub no_pointer : PtrFields
 no_pointer = record { seg = 0; ring = 0; word = 0; bit = 0 }
 
--- The words of the descriptor segment base register and the first instruction: all other registers are
--- zero.
+-- The words of the descriptor segment base register and the first instruction: all other registers
+-- are zero.
 abbrev pub regs_of : Pair → PprFields → RegsFields
 regs_of dbr start =
     record {

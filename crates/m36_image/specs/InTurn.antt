@@ -1,5 +1,6 @@
 -- A bare image as it is read, line after line. That this comes to what the image is, is proved.
-use Rattle.std.specs.Prelude.{ℕ, ◌≡◌, ◌+◌, ◌&&◌, nat_le, List, [], length, Option, Some, None, Result, Ok, Err, if◌then◌else◌}
+use Rattle.std.specs.Prelude.{ℕ, ◌≡◌, ◌+◌, ◌&&◌, nat_le, List, [], length, Option, Some, None}
+use Rattle.std.specs.Prelude.{Result, Ok, Err, if◌then◌else◌}
 use Rattle.std.specs.List.{filter_map}
 use Rattle.m36_image.specs.declared.refusal.ImageCode.{ImageCode}
 use Rattle.m36_image.specs.declared.refusal.ImageCode.TheVariants.{I1, I3}
@@ -9,8 +10,8 @@ use Rattle.m36_image.specs.PlacedWords.{PlacedWords}
 use Rattle.m36_image.specs.BareImage.{at_line, at_codes}
 use Rattle.m36_image.specs.ImageState.{written_at, written_all}
 
--- An `at` line, where no address below `next` may be written again: its code, or the address behind its
--- last word.
+-- An `at` line, where no address below `next` may be written again: its code, or the address behind
+-- its last word.
 abbrev pub at_end : ℕ → ℕ → Option PlacedWords → Result ℕ ImageCode
 at_end size next None = Err I1
 at_end size next (Some p) =
@@ -22,9 +23,10 @@ abbrev pub with_placed : List ℕ → Option PlacedWords → List ℕ
 with_placed core None = core
 with_placed core (Some p) = written_at core p.first p.words
 
--- What the `at` lines of a file did to a core: they were all written, or the first one with a fault is
--- told.
-abbrev pub AtLinesSay : Result (Unit {0}) Refusal → List ℕ → List ℕ → List (Option (List ℕ)) → Type 0
+-- What the `at` lines of a file did to a core: they were all written, or the first one with a fault
+-- is told.
+abbrev pub AtLinesSay : Result (Unit {0}) Refusal → List ℕ → List ℕ → List (Option (List ℕ))
+    → Type 0
 AtLinesSay (Ok done) old new lines =
     (first_told 4 (at_codes (length old) [] lines) ≡ None)
     × (new ≡ written_all old (filter_map at_line lines))

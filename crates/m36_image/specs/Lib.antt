@@ -1,5 +1,5 @@
--- A reader of this crate begins with `BareImage`, the grammar, and `ImageState`, the state that an image
--- writes out. The others say how the code reads it.
+-- A reader of this crate begins with `BareImage`, the grammar, and `ImageState`, the state that an
+-- image writes out. The others say how the code reads it.
 pub mod PlacedWords
 pub mod BareImage
 pub mod ImageState

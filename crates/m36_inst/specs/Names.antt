@@ -1,5 +1,6 @@
 -- The names in rising order: each has its operation code beside it, and a name is found by halves.
-use Rattle.std.specs.Prelude.{ℕ, ◌≡◌, ◌+◌, ◌*◌, ◌^◌, ◌<◌, Bool, false, List, Some, length, map, slice_index_or}
+use Rattle.std.specs.Prelude.{ℕ, ◌≡◌, ◌+◌, ◌*◌, ◌^◌, ◌<◌, Bool, false, List, Some, length, map}
+use Rattle.std.specs.Prelude.{slice_index_or}
 use Rattle.m36_inst.specs.Lookup.{name_at}
 use Rattle.m36_inst.specs.declared.names.Coded.{Coded}
 

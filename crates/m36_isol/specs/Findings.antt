@@ -20,7 +20,8 @@ pub record JointFindingsLaw : Type 0 where
       (core : List ℕ) (dbrs : List DbrFields) → AreJointFindings core dbrs []
       → IsJointlyAudited core dbrs
   pub complete :
-      (core : List ℕ) (dbrs : List DbrFields) (findings : List JointFound) → IsJointlyAudited core dbrs
+      (core : List ℕ) (dbrs : List DbrFields) (findings : List JointFound)
+      → IsJointlyAudited core dbrs
       → AreJointFindings core dbrs findings → findings ≡ []
   pub unique :
       (core : List ℕ) (dbrs : List DbrFields) (findings others : List JointFound)

@@ -1,5 +1,5 @@
--- Page services: an instruction that ends at a page in no frame is started again once the page is in
--- a frame. How often that is at most.
+-- Page services: an instruction that ends at a page in no frame is started again once the page is
+-- in a frame. How often that is at most.
 use Rattle.std.specs.Prelude.{◌≡◌, ◌≢◌, ℕ, zero, suc, ◌/◌, List, Option, Some, None}
 use Rattle.m36_model.specs.Registers.{RegsFields}
 use Rattle.m36_model.specs.Store.{State}

@@ -1,6 +1,7 @@
 -- What is known once an answer is accepted: a name more, where it was none yet, and the section
 -- that was laid.
-use Rattle.std.specs.Prelude.{ℕ, ◌≡◌, ◌+◌, ◌^◌, ◌≤◌, if◌then◌else◌, List, [], ◌∷◌, ◌++◌, length, Option, Some, None, is_some}
+use Rattle.std.specs.Prelude.{ℕ, ◌≡◌, ◌+◌, ◌^◌, ◌≤◌, if◌then◌else◌, List, [], ◌∷◌, ◌++◌, length}
+use Rattle.std.specs.Prelude.{Option, Some, None, is_some}
 use Rattle.obj36_parts.specs.Fields.{LinkFields}
 use Rattle.obj36_parts.specs.ObjectSegment.{has_name}
 use Rattle.m36_link.specs.Fields.{RingNameFields, LaidFields, LayFields, KnownFields, SnapFields}
@@ -13,7 +14,8 @@ unfoldable pub with_laid : List LaidFields → Option LayFields → List LaidFie
 with_laid laid None = laid
 with_laid laid (Some l) = laid ++ laid_of l ∷ []
 
-unfoldable pub with_initiated : List (RingNameFields × ℕ) → ℕ → LinkFields → ℕ → List (RingNameFields × ℕ)
+unfoldable pub with_initiated : List (RingNameFields × ℕ) → ℕ → LinkFields → ℕ
+    → List (RingNameFields × ℕ)
 with_initiated names ring link target =
     if has_name link.kind then
     (if is_some (initiated names ring link.name) then names
@@ -22,7 +24,10 @@ with_initiated names ring link target =
 
 unfoldable pub accepted : KnownFields → SnapFields → KnownFields
 accepted known s =
-    record { names = with_initiated known.names s.ring s.link s.target; laid = with_laid known.laid s.lay }
+    record {
+      names = with_initiated known.names s.ring s.link s.target;
+      laid = with_laid known.laid s.lay;
+    }
 
 -- A section may be laid: none of its segment is laid in its ring, it goes where the next one does,
 -- and it ends within the linkage segment.

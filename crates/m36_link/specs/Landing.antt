@@ -1,5 +1,7 @@
 -- Where a link leads, or the code with which it is refused.
-use Rattle.std.specs.Prelude.{ℕ, ◌+◌, ◌%◌, ◌^◌, Bool, true, false, not, ◌&&◌, ◌||◌, nat_eq, nat_le, nat_lt, if◌then◌else◌, List, length, Option, Some, None, Result, Ok, Err}
+use Rattle.std.specs.Prelude.{ℕ, ◌+◌, ◌%◌, ◌^◌, Bool, true, false, not, ◌&&◌, ◌||◌, nat_eq, nat_le}
+use Rattle.std.specs.Prelude.{nat_lt, if◌then◌else◌, List, length, Option, Some, None, Result, Ok}
+use Rattle.std.specs.Prelude.{Err}
 use Rattle.m36_word.specs.declared.pair.Pair.{Pair}
 use Rattle.m36_desc.specs.Fields.{ItsFields}
 use Rattle.m36_desc.specs.Descriptors.{its_even, its_odd}
@@ -15,7 +17,8 @@ use Rattle.obj36_parts.specs.declared.section.Section.{Section}
 use Rattle.obj36_parts.specs.declared.section.Section.TheVariants.{Text, Linkage, Symbol, Static}
 use Rattle.obj36.specs.ObjectOf.{object_of}
 use Rattle.obj36.specs.declared.fault.ObjectFault.{ObjectFault}
-use Rattle.obj36.specs.declared.fault.ObjectFault.TheVariants.{O1, O2, O3, O4, O5, O6, O7, O8, NoMemory}
+use Rattle.obj36.specs.declared.fault.ObjectFault.TheVariants.{O1, O2, O3, O4, O5, O6, O7, O8}
+use Rattle.obj36.specs.declared.fault.ObjectFault.TheVariants.{NoMemory}
 use Rattle.m36_link.specs.Fields.{LaidFields, LandingFields}
 use Rattle.m36_link.specs.Known.{linkage_segment, section_ring, laid_in, base_of, laid_words}
 use Rattle.m36_link.specs.declared.points.Point.{Point}
@@ -40,11 +43,13 @@ later_section a b = if nat_le (rank a) (rank b) then b else a
 -- L3: the entry has no definition
 abbrev pub point_by : Section → Option DefFields → Result Point LinkCode
 point_by section None = Err L3
-point_by section (Some d) = Ok (record { section = later_section section d.section; value = d.value })
+point_by section (Some d) =
+    Ok (record { section = later_section section d.section; value = d.value })
 
 unfoldable pub point_of : LinkFields → PartsFields → Result Point LinkCode
 point_of link o =
-    if has_entry link.kind then point_by (section_of link) (definition_named link.entry o.definitions)
+    if has_entry link.kind
+    then point_by (section_of link) (definition_named link.entry o.definitions)
     else Ok (record { section = section_of link; value = 0 })
 
 -- ---- the pair
@@ -58,8 +63,8 @@ pair_to seg ring word link =
     its_pair (record { seg = seg; ring = ring; word = word % 2 ^ 18; bit = 0; tag = link.modifier })
 
 -- A value counts from word 0 of the segment, or from where its section is laid: in the linkage
--- section from the first word, in the static section from the word behind the linkage section, which
--- has so many words.
+-- section from the first word, in the static section from the word behind the linkage section,
+-- which has so many words.
 abbrev pub pair_from : Section → ℕ → ℕ → LaidFields → ℕ → LinkFields → Pair
 pair_from Text value ring l linkage link = pair_to l.seg ring (value + link.expr) link
 pair_from Symbol value ring l linkage link = pair_to l.seg ring (value + link.expr) link
@@ -78,10 +83,14 @@ pair_of point ring l linkage link = pair_from point.section point.value ring l l
 abbrev pub new_home : ℕ → ℕ → ℕ → ℕ → Result Home LinkCode
 new_home ring seg base size =
     if nat_le (base + size) (2 ^ 18) then
-    Ok (record { section = record { ring = ring; seg = seg; base = base; size = size }; is_new = true })
+    Ok (record {
+      section = record { ring = ring; seg = seg; base = base; size = size };
+      is_new = true;
+    })
     else Err (L6 base size)
 
-abbrev pub home_by : Option LaidFields → List LaidFields → ℕ → ℕ → PartsFields → Result Home LinkCode
+abbrev pub home_by : Option LaidFields → List LaidFields → ℕ → ℕ → PartsFields
+    → Result Home LinkCode
 home_by (Some l) laid ring seg o = Ok (record { section = l; is_new = false })
 home_by None laid ring seg o = new_home ring seg (base_of laid ring) (length (laid_words o))
 
@@ -90,11 +99,18 @@ home_of laid ring seg o = home_by (laid_in laid ring seg) laid ring seg o
 
 -- ---- types 1 and 5: the own object, whose section is the one that holds the link
 
-abbrev pub own_by : ℕ → LaidFields → PartsFields → LinkFields → Result Point LinkCode → Result LandingFields LinkCode
-own_by ring l o link (Ok point) = Ok (record { pair = pair_of point ring l (length (linkage_section o)) link; target = l.seg; lay = None })
+abbrev pub own_by : ℕ → LaidFields → PartsFields → LinkFields → Result Point LinkCode
+    → Result LandingFields LinkCode
+own_by ring l o link (Ok point) =
+    Ok (record {
+      pair = pair_of point ring l (length (linkage_section o)) link;
+      target = l.seg;
+      lay = None;
+    })
 own_by ring l o link (Err code) = Err code
 
-unfoldable pub own_landing : ℕ → LaidFields → PartsFields → LinkFields → Result LandingFields LinkCode
+unfoldable pub own_landing : ℕ → LaidFields → PartsFields → LinkFields
+    → Result LandingFields LinkCode
 own_landing ring l o link = own_by ring l o link (point_of link o)
 
 -- ---- types 3 and 4: a segment that was found
@@ -130,27 +146,36 @@ abbrev pub lay_if : Bool → LaidFields → Option LaidFields
 lay_if true l = Some l
 lay_if false l = None
 
-abbrev pub landing_in : ℕ → ℕ → PartsFields → LinkFields → Point → Result Home LinkCode → Result LandingFields LinkCode
+abbrev pub landing_in : ℕ → ℕ → PartsFields → LinkFields → Point → Result Home LinkCode
+    → Result LandingFields LinkCode
 landing_in ring seg o link point (Err code) = Err code
 landing_in ring seg o link point (Ok home) =
-    Ok (record { pair = pair_of point ring home.section (length (linkage_section o)) link; target = seg; lay = lay_if home.is_new home.section })
+    Ok (record {
+      pair = pair_of point ring home.section (length (linkage_section o)) link;
+      target = seg;
+      lay = lay_if home.is_new home.section;
+    })
 
-abbrev pub landing_at : List LaidFields → ℕ → ℕ → ℕ → PartsFields → LinkFields → Result Point LinkCode → Result LandingFields LinkCode
+abbrev pub landing_at : List LaidFields → ℕ → ℕ → ℕ → PartsFields → LinkFields
+    → Result Point LinkCode → Result LandingFields LinkCode
 landing_at laid ring section_ring seg o link (Err code) = Err code
 landing_at laid ring section_ring seg o link (Ok point) =
     landing_in ring seg o link point (home_of laid section_ring seg o)
 
 -- an object, whose section is in a ring, which may be another than that of the link
-unfoldable pub object_landing : List LaidFields → ℕ → ℕ → ℕ → PartsFields → LinkFields → Result LandingFields LinkCode
+unfoldable pub object_landing : List LaidFields → ℕ → ℕ → ℕ → PartsFields → LinkFields
+    → Result LandingFields LinkCode
 object_landing laid ring section_ring seg o link =
     landing_at laid ring section_ring seg o link (point_of link o)
 
 -- L5: the file is no object
-abbrev pub landing_by : List LaidFields → ℕ → ℕ → SegmentFields → LinkFields → Result PartsFields ObjectFault → Result LandingFields LinkCode
+abbrev pub landing_by : List LaidFields → ℕ → ℕ → SegmentFields → LinkFields
+    → Result PartsFields ObjectFault → Result LandingFields LinkCode
 landing_by laid ring seg s link (Err fault) = Err (L5 (fault_number fault))
 landing_by laid ring seg s link (Ok o) = object_landing laid ring (section_ring ring s) seg o link
 
-unfoldable pub target_landing : List LaidFields → ℕ → ℕ → SegmentFields → List ℕ → LinkFields → Result LandingFields LinkCode
+unfoldable pub target_landing : List LaidFields → ℕ → ℕ → SegmentFields → List ℕ → LinkFields
+    → Result LandingFields LinkCode
 target_landing laid ring seg s words link =
     if may_not_use ring s then Err L4
     else if is_plain s.kind then plain_landing ring seg link

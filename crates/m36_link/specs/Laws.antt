@@ -1,5 +1,6 @@
 -- Laws of search and of laying.
-use Rattle.std.specs.Prelude.{ℕ, ◌≡◌, ◌<◌, ◌≤◌, ◌+◌, ◌^◌, List, [], ◌∷◌, length, All, Option, Some, None, Result, Ok, Err}
+use Rattle.std.specs.Prelude.{ℕ, ◌≡◌, ◌<◌, ◌≤◌, ◌+◌, ◌^◌, List, [], ◌∷◌, length, All, Option, Some}
+use Rattle.std.specs.Prelude.{None, Result, Ok, Err}
 use Rattle.m36_model.specs.Fields.{AtFields}
 use Rattle.m36_dir.specs.Catalog.{CatalogFields}
 use Rattle.obj36_parts.specs.Fields.{LinkFields}
@@ -23,7 +24,8 @@ pub record IsWhole (catalog : CatalogFields) (files : List (List ℕ)) (l : Laid
   pub end : l.base + l.size ≤ 2 ^ 18
 
 -- what services make
-pub record IsMade (catalog : CatalogFields) (files : List (List ℕ)) (known : KnownFields) : Type 0 where
+pub record IsMade (catalog : CatalogFields) (files : List (List ℕ))
+    (known : KnownFields) : Type 0 where
   pub names : All (λ e. IsOfCatalog catalog e.1) known.names
   pub laid : All (IsWhole catalog files) known.laid
 

@@ -24,17 +24,20 @@ pub record RefusedFields : Type 0 where
 -- ---- where a link of a ring leads
 
 -- L2: there is no candidate
-abbrev pub found_landing : List LaidFields → ℕ → ℕ → Option SegmentFields → Option (List ℕ) → LinkFields → Result LandingFields LinkCode
+abbrev pub found_landing : List LaidFields → ℕ → ℕ → Option SegmentFields → Option (List ℕ)
+    → LinkFields → Result LandingFields LinkCode
 found_landing laid ring seg (Some s) (Some words) link = target_landing laid ring seg s words link
 found_landing laid ring seg _ _ link = Err L2
 
-abbrev pub candidate_landing : KnownFields → CatalogFields → List (List ℕ) → ℕ → LinkFields → Option ℕ → Result LandingFields LinkCode
+abbrev pub candidate_landing : KnownFields → CatalogFields → List (List ℕ) → ℕ → LinkFields
+    → Option ℕ → Result LandingFields LinkCode
 candidate_landing known catalog files ring link None = Err L2
 candidate_landing known catalog files ring link (Some seg) =
     found_landing known.laid ring seg (segment_of catalog seg) (file_of files seg) link
 
 -- a link of type 3 or 4, searched from a directory
-unfoldable pub outer_landing : KnownFields → CatalogFields → List (List ℕ) → ℕ → LinkFields → ℕ → Result LandingFields LinkCode
+unfoldable pub outer_landing : KnownFields → CatalogFields → List (List ℕ) → ℕ → LinkFields → ℕ
+    → Result LandingFields LinkCode
 outer_landing known catalog files ring link from =
     candidate_landing known catalog files ring link (searched known catalog ring link.name from)
 
@@ -44,7 +47,8 @@ directory_of None = 0
 directory_of (Some s) = s.dir
 
 -- a link of an object, whose section is laid
-unfoldable pub landing_of : KnownFields → CatalogFields → List (List ℕ) → ℕ → LaidFields → PartsFields → LinkFields → Result LandingFields LinkCode
+unfoldable pub landing_of : KnownFields → CatalogFields → List (List ℕ) → ℕ → LaidFields
+    → PartsFields → LinkFields → Result LandingFields LinkCode
 landing_of known catalog files ring l o link =
     if has_name link.kind then
     outer_landing known catalog files ring link (directory_of (segment_of catalog l.seg))
@@ -60,15 +64,28 @@ words_laid (Some o) = laid_words o
 abbrev pub lay_of : List (List ℕ) → Option LaidFields → Option LayFields
 lay_of files None = None
 lay_of files (Some l) =
-    Some (record { ring = l.ring; seg = l.seg; base = l.base; words = words_laid (object_in files l.seg) })
+    Some (record {
+      ring = l.ring;
+      seg = l.seg;
+      base = l.base;
+      words = words_laid (object_in files l.seg);
+    })
 
-abbrev pub snap_by : List (List ℕ) → ℕ → LinkFields → Result LandingFields LinkCode → Result SnapFields RefusedFields
+abbrev pub snap_by : List (List ℕ) → ℕ → LinkFields → Result LandingFields LinkCode
+    → Result SnapFields RefusedFields
 snap_by files ring link (Ok landing) =
-    Ok (record { pair = landing.pair; ring = ring; target = landing.target; link = link; lay = lay_of files landing.lay })
+    Ok (record {
+      pair = landing.pair;
+      ring = ring;
+      target = landing.target;
+      link = link;
+      lay = lay_of files landing.lay;
+    })
 snap_by files ring link (Err code) = Err (record { code = code; link = Some link })
 
 -- what a link of type 3 or 4 comes to in a ring, searched from a directory
-unfoldable pub outer_snap : KnownFields → CatalogFields → List (List ℕ) → ℕ → LinkFields → ℕ → Result SnapFields RefusedFields
+unfoldable pub outer_snap : KnownFields → CatalogFields → List (List ℕ) → ℕ → LinkFields → ℕ
+    → Result SnapFields RefusedFields
 outer_snap known catalog files ring link from =
     snap_by files ring link (outer_landing known catalog files ring link from)
 
@@ -76,22 +93,26 @@ outer_snap known catalog files ring link from =
 abbrev pub no_link : Result SnapFields RefusedFields
 no_link = Err (record { code = L1; link = None })
 
-abbrev pub snap_for : KnownFields → CatalogFields → List (List ℕ) → ℕ → LaidFields → Option PartsFields → Option LinkFields → Result SnapFields RefusedFields
+abbrev pub snap_for : KnownFields → CatalogFields → List (List ℕ) → ℕ → LaidFields
+    → Option PartsFields → Option LinkFields → Result SnapFields RefusedFields
 snap_for known catalog files ring l (Some o) (Some link) =
     snap_by files ring link (landing_of known catalog files ring l o link)
 snap_for known catalog files ring l _ _ = no_link
 
-abbrev pub snap_in : KnownFields → CatalogFields → List (List ℕ) → AtFields → Option LaidFields → Result SnapFields RefusedFields
+abbrev pub snap_in : KnownFields → CatalogFields → List (List ℕ) → AtFields → Option LaidFields
+    → Result SnapFields RefusedFields
 snap_in known catalog files at None = no_link
 snap_in known catalog files at (Some l) =
     snap_for known catalog files at.ring l (object_in files l.seg) (link_in files at.word l)
 
 -- The answer to the fault of a link word at a place, whose ring is the ring of the link.
-unfoldable pub snap_of : KnownFields → CatalogFields → List (List ℕ) → AtFields → Result SnapFields RefusedFields
+unfoldable pub snap_of : KnownFields → CatalogFields → List (List ℕ) → AtFields
+    → Result SnapFields RefusedFields
 snap_of known catalog files at = snap_in known catalog files at (section_at known.laid files at)
 
 -- What is answered is this, where want of memory may come at any time.
 abbrev pub SnapSays : Result SnapFields LinkFault → Result SnapFields RefusedFields → Type 0
 SnapSays (Ok snap) definition = definition ≡ Ok snap
-SnapSays (Err (Refused code link)) definition = definition ≡ Err (record { code = code; link = link })
+SnapSays (Err (Refused code link)) definition =
+    definition ≡ Err (record { code = code; link = link })
 SnapSays (Err NoMemory) definition = Unit {0}

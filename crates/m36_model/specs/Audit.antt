@@ -91,8 +91,8 @@ pub record IsCallable (core : List ℕ) (dbr : DbrFields) (seg : ℕ) (sdw : Sdw
   pub executable : sdw.executable ≡ true
   pub outer : sdw.r2 < sdw.r3
 
--- Fifth condition: each live segment with E on and R3 greater than R2 is a gate. A segment breaks
--- it.
+-- Fifth condition: each live segment with E on and R3 greater than R2 is a gate. A
+-- segment breaks it.
 pub record IsNoGate (core : List ℕ) (dbr : DbrFields) (seg : ℕ) : Type 0 where
   pub sdw : SdwFields
   pub callable : IsCallable core dbr seg sdw

@@ -27,8 +27,8 @@ with_marks_of o dbr s [] = s
 with_marks_of o dbr s (q ∷ more) =
     with_marks_of o dbr (o.marked s dbr q.kind q.at.seg q.at.word) more
 
--- the references of requests, after earlier ones; the odd word of an indirect pair joins its even
--- word
+-- the references of requests, after earlier ones; the odd word of an indirect pair joins
+-- its even word
 unfoldable pub references_of : List Reference → List Request → List Reference
 references_of refs [] = refs
 references_of refs (q ∷ more) = references_of (with_reference q.kind q refs) more

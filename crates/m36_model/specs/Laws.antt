@@ -38,8 +38,8 @@ words_written kind.Rw = 1
 words_written kind.Rwl = 1
 words_written _ = 0
 
--- CALL6 goes to the final address in the operand's ring, and PR7 becomes the base of that ring's
--- stack
+-- CALL6 goes to the final address in the operand's ring, and PR7 becomes the base of
+-- that ring's stack
 pub record IsCalled (g : RegsFields) (f : FinalFields) (o : OperandFields)
     (x : EffectFields) : Type 0 where
   pub ring : x.regs.ppr.prr ≡ o.ring

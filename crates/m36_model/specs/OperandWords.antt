@@ -26,8 +26,8 @@ pub record AreReadWords {S : Type 0} (o : Store S) (g : RegsFields) (m : Mid S) 
   pub places : ArePlaces o m.store g q a.sdw spots
   pub words : a.words ≡ map (o.word (o.put after.store (changes m.claims q.pending))) spots
 
--- an answered request to write: these places are claimed, after those that the step has claimed
--- before
+-- an answered request to write: these places are claimed, after those that the step
+-- has claimed before
 pub record AreWrittenWords {S : Type 0} (o : Store S) (g : RegsFields) (m : Mid S) (q : Request)
     (a : Answer) (after : Mid S) : Type 0 where
   pub spots : List Spot

@@ -18,8 +18,8 @@ pub record Paged : Type 0 where
 abbrev pub absence : Refusal
 absence = record { number = 17; acv = 0 }
 
--- The content of a word: its frame's word where its page is resident, and else the word kept for
--- it.
+-- The content of a word: its frame's word where its page is resident, and else the word
+-- kept for it.
 abbrev pub word_at : Paged → ℕ → ℕ → Result Spot Refusal → ℕ
 word_at m seg w (Ok spot) = core_word m.core spot
 word_at m seg w (Err why) = if why.number == 17 then m.kept seg w else 0
@@ -40,8 +40,8 @@ abbrev pub ptw_of_page : Option ℕ → ℕ
 ptw_of_page None = absent_ptw
 ptw_of_page (Some frame) = resident_ptw frame
 
--- Which frame each page is in, as the page table words tell: a pageable one, and no frame holds two
--- pages.
+-- Which frame each page is in, as the page table words tell: a pageable one, and no frame
+-- holds two pages.
 pub record IsResidence (core : List ℕ) (frames : ℕ) (frame_of : ℕ → ℕ → Option ℕ) : Type 0 where
   pub words :
       (seg page : ℕ) → IsPage core seg page

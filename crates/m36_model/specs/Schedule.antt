@@ -16,8 +16,8 @@ pub record Processes (S : Type 0) : Type 0 where
 abbrev pub process_of : {S : Type 0} → Processes S → RegsFields → State S
 process_of s g = record { regs = g; store = s.store }
 
--- one step of one process: which it was, the state before, what the step tells, and the state after
--- it
+-- one step of one process: which it was, the state before, what the step tells, and the
+-- state after it
 pub record Event (S : Type 0) : Type 0 where
   pub process : ℕ
   pub before : Processes S

@@ -17,8 +17,8 @@ use Rattle.m36_model.specs.declared.outcome.Refusal.{Refusal}
 use Rattle.m36_model.specs.declared.place.Reference.{Reference}
 use Rattle.m36_model.specs.declared.place.Kind.TheVariants as reference
 
--- where a word lies in a store: its address in core, or in a flat store the word of the segment
--- itself
+-- where a word lies in a store: its address in core, or in a flat store the word of
+-- the segment itself
 pub data Spot : Type 0 where
   Core_word : ℕ → Spot
   Segment_word : (seg word : ℕ) → Spot
@@ -118,8 +118,8 @@ denied kind d trr prr same word = first_of (rows kind d trr prr same word)
 abbrev pub within : SdwFields → ℕ → Bool
 within d word = nat_le (word / 16) d.bound
 
--- the descriptor gives the word a place: its brackets are in order, and the word is within its
--- bound
+-- the descriptor gives the word a place: its brackets are in order, and the word is
+-- within its bound
 abbrev pub placed : SdwFields → ℕ → Bool
 placed d word = in_order d && within d word
 

@@ -31,8 +31,8 @@ words_from place [] = []
 words_from place (w ∷ words) = (place, w) ∷ words_from (place + 1) words
 
 -- the descriptor of a segment that lies in one piece and has one block of 16 words, with these
--- brackets and no rights; and the same with a right, as a gate with so many entries, or with more
--- blocks
+-- brackets and no rights; and the same with a right, as a gate with so many entries, or
+-- with more blocks
 abbrev pub rings : ℕ → ℕ → ℕ → SdwFields
 rings r1 r2 r3 =
     record {

@@ -115,8 +115,8 @@ SixteenIndirectWordsAreServed =
     (outcome_of_step (long_chain 0o000002235020) ≡ Next)
     × ((registers_after (long_chain 0o000002235020)).a ≡ 5)
 
--- `lda 8,*x1` holds X1 while it reads the word at 10, which is 000020000000: the address is 20 and
--- 5.
+-- `lda 8,*x1` holds X1 while it reads the word at 10, which is 000020000000: the address is
+-- 20 and 5.
 abbrev pub held_core : List ℕ
 held_core =
     core_of 0o100

@@ -32,8 +32,8 @@ at_gate ring instruction =
       store = gate_core instruction;
     }
 
--- `call6 pr2|1` from ring 4 enters ring 0 at word 1, and PR7 is the base of ring 0's stack, segment
--- 10.
+-- `call6 pr2|1` from ring 4 enters ring 0 at word 1, and PR7 is the base of ring 0's
+-- stack, segment 10.
 abbrev pub CallThroughAGate : Type 0
 CallThroughAGate =
     (outcome_of_step (at_gate 4 0o200001713100) ≡ Next)

@@ -5,13 +5,13 @@ use crate::outcome::{Fault, Stop};
 /// Why a link was refused.
 #[derive(Clone, Copy, PartialEq, Eq, Debug)]
 pub enum LinkCode {
-    /// The place is no link of a laid linkage section.
+    /// The place is no link of a section that is laid in the ring.
     L1,
     /// The name has no candidate.
     L2,
-    /// The candidate does not define the entry.
+    /// An entry is named, and the candidate is plain data, or its object does not define it.
     L3,
-    /// The candidate may not be used in this ring.
+    /// The ring is above those from which the candidate may be used.
     L4,
     /// The candidate is no object segment; the number of its refusal.
     L5(u8),

@@ -5,7 +5,8 @@ use Rattle.std.specs.Io.KnownBytes.{Consumes, IsAtEnd}
 use Rattle.m36_outside.specs.Passing.{HasMore}
 use Rattle.m36_outside.specs.ReadAnswer.{file_limit}
 use Rattle.m36_outside.specs.declared.reading.Chunk.{Chunk}
-use Rattle.m36_outside.specs.declared.reading.Chunk.TheVariants.{More, End, TooLarge, Failed, NoMemory}
+use Rattle.m36_outside.specs.declared.reading.Chunk.TheVariants.{More, End, TooLarge, Failed}
+use Rattle.m36_outside.specs.declared.reading.Chunk.TheVariants.{NoMemory}
 
 -- Bytes moved from what the reader had left, where that is known, to the end of the text.
 pub record Moves (old new : Option (List ℕ)) (before after : List ℕ) : Type 0 where

@@ -11,4 +11,5 @@ has_name name file = pointwise nat_eq name file.name
 -- the files of the list by their names
 abbrev pub file_named : List NamedFile → Files
 file_named [] name = None
-file_named (file ∷ files) name = if has_name name file then Some file.content else file_named files name
+file_named (file ∷ files) name =
+    if has_name name file then Some file.content else file_named files name

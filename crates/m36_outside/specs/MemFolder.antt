@@ -40,7 +40,8 @@ after_read folder name answer = record {
   write_faults = folder.write_faults;
 }
 
--- the folder after a write that left these files: one more write is counted, and a fault where it was to fail
+-- the folder after a write that left these files: one more write is counted, and a fault where it
+-- was to fail
 abbrev pub after_write :
     MemFolderFields → List NamedFile → List ℕ → List ℕ → WriteAnswer → MemFolderFields
 after_write folder files name content answer = record {
@@ -50,5 +51,6 @@ after_write folder files name content answer = record {
   asked = folder.asked;
   wrote = folder.wrote ++ (name, content, answer) ∷ [];
   read_faults = folder.read_faults;
-  write_faults = if next_fails folder.writes then raised folder.write_faults else folder.write_faults;
+  write_faults =
+      if next_fails folder.writes then raised folder.write_faults else folder.write_faults;
 }

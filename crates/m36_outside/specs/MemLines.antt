@@ -20,7 +20,8 @@ next_piece lines room = take (min room (length lines.left)) lines.left
 -- The input after a call: one whose number is listed takes nothing.
 abbrev pub after_piece : MemLinesFields → ℕ → MemLinesFields
 after_piece lines room = record {
-  left = if next_fails lines.calls then lines.left else drop (min room (length lines.left)) lines.left;
+  left = if next_fails lines.calls then lines.left
+      else drop (min room (length lines.left)) lines.left;
   given = if next_fails lines.calls then lines.given else lines.given ++ next_piece lines room ∷ [];
   calls = after_call lines.calls;
   faults = if next_fails lines.calls then raised lines.faults else lines.faults;

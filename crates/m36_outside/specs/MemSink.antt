@@ -1,5 +1,7 @@
--- A place for output in memory: what it holds, in which pieces, how much it may hold, and which of its calls fail.
-use Rattle.std.specs.Prelude.{ℕ, Bool, List, [], ◌∷◌, ◌++◌, ◌-◌, ◌||◌, length, take, nat_lt, if◌then◌else◌}
+-- A place for output in memory: what it holds, in which pieces, how much it may hold, and which of
+-- its calls fail.
+use Rattle.std.specs.Prelude.{ℕ, Bool, List, [], ◌∷◌, ◌++◌, ◌-◌, ◌||◌, length, take, nat_lt}
+use Rattle.std.specs.Prelude.{if◌then◌else◌}
 use Rattle.m36_outside.specs.Counts.{raised}
 use Rattle.m36_outside.specs.CallPlan.{CallPlan, new_plan, next_fails, after_call}
 
@@ -12,7 +14,8 @@ pub record MemSinkFields : Type 0 where
 
 -- nothing written yet, room for so many bytes, and the numbers of the puts that are to fail
 abbrev pub new_sink : ℕ → List ℕ → MemSinkFields
-new_sink room puts = record { bytes = []; pieces = []; room = room; puts = new_plan puts; faults = 0 }
+new_sink room puts =
+    record { bytes = []; pieces = []; room = room; puts = new_plan puts; faults = 0 }
 
 -- how many more bytes it may hold
 abbrev pub room_left : MemSinkFields → ℕ
@@ -22,7 +25,8 @@ room_left sink = sink.room - length sink.bytes
 abbrev pub put_fails : MemSinkFields → List ℕ → Bool
 put_fails sink piece = next_fails sink.puts || nat_lt (room_left sink) (length piece)
 
--- what is taken of a piece: nothing by a put whose number is listed, and else as much as there is room for
+-- what is taken of a piece: nothing by a put whose number is listed, and else as much as there is
+-- room for
 abbrev pub taken : MemSinkFields → List ℕ → List ℕ
 taken sink piece = if next_fails sink.puts then [] else take (room_left sink) piece
 

@@ -1,4 +1,5 @@
--- What passed through an object, in order: the pieces that a sink took and those that an input gave.
+-- What passed through an object, in order: the pieces that a sink took and those that an input
+-- gave.
 use Rattle.std.specs.Prelude.{ℕ, ◌≡◌, ◌<◌, List, [], ◌∷◌, ◌++◌, length, take, Option}
 use Rattle.m36_outside.specs.Written.{Grew}
 use Rattle.m36_outside.specs.declared.lines.Piece.{Piece}
@@ -16,7 +17,8 @@ joined [] = []
 joined (piece ∷ pieces) = piece ++ joined pieces
 
 -- A sink took a first part of a piece, by which what is written grew.
-pub record TakesPart (written written' : Option (List ℕ)) (old new : List (List ℕ)) (whole : List ℕ) : Type 0 where
+pub record TakesPart (written written' : Option (List ℕ)) (old new : List (List ℕ))
+    (whole : List ℕ) : Type 0 where
   pub part : List ℕ
   pub rest : List ℕ
   pub is : whole ≡ part ++ rest

@@ -2,7 +2,8 @@
 use Rattle.std.specs.Prelude.{ℕ, ◌≡◌, ◌≤◌, ◌<◌, List, length, Option, Some, None, ⊤}
 use Rattle.m36_outside.specs.Counts.{Rose}
 use Rattle.m36_outside.specs.declared.folder.ReadAnswer.{ReadAnswer}
-use Rattle.m36_outside.specs.declared.folder.ReadAnswer.TheVariants.{Read, Absent, TooLarge, Failed, NoMemory}
+use Rattle.m36_outside.specs.declared.folder.ReadAnswer.TheVariants.{Read, Absent, TooLarge, Failed}
+use Rattle.m36_outside.specs.declared.folder.ReadAnswer.TheVariants.{NoMemory}
 
 -- the greatest length of a file that is read, 16 MiB
 abbrev pub file_limit : ℕ

@@ -44,7 +44,8 @@ OpenHasError read.NoMemory old new = ⊤
 abbrev pub NamesNoFile : List ℕ → Type 0
 NamesNoFile name = IsUtf8 name → Contains name slash
 
--- Absent was answered to a name of no file, or behind the one error that there is no such file; Failed behind an error.
+-- Absent was answered to a name of no file, or behind the one error that there is no such file;
+-- Failed behind an error.
 abbrev pub ReadHasError : ReadAnswer → List ℕ → List ErrorKind → List ErrorKind → Type 0
 ReadHasError (read.Read bytes) name old new = ⊤
 ReadHasError read.Absent name old new = NamesNoFile name ⊎ (new ≡ old ++ NotFound ∷ [])

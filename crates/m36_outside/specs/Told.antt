@@ -1,4 +1,5 @@
--- What is known of the files, the input and the output of the system: counts of faults, and what passed.
+-- What is known of the files, the input and the output of the system: counts of faults, and what
+-- passed.
 use Rattle.std.specs.Prelude.{ℕ, List}
 use Rattle.std.specs.declared.io.ErrorKind.{ErrorKind}
 use Rattle.m36_outside.specs.FolderCalls.{Asked, Wrote}

@@ -5,7 +5,8 @@ use Rattle.m36_outside.specs.Files.{Files, with_told_file}
 use Rattle.m36_outside.specs.declared.folder.WriteAnswer.{WriteAnswer}
 use Rattle.m36_outside.specs.declared.folder.WriteAnswer.TheVariants.{Written, Failed, NoMemory}
 
--- No file but the named one differs: it has some bytes now, or is not there. Whether the files are told stays.
+-- No file but the named one differs: it has some bytes now, or is not there. Whether the files are
+-- told stays.
 pub record DiffersAtMost (old new : Option Files) (name : List ℕ) : Type 0 where
   pub left : Option (List ℕ)
   pub files : new ≡ with_told_file name left old

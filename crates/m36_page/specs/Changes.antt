@@ -1,5 +1,7 @@
 -- What the calls of a pager change, and what they keep.
-use Rattle.std.specs.Prelude.{ℕ, ◌≡◌, ◌+◌, ◌*◌, ◌/◌, ◌<◌, ◌≤◌, ◌⊎◌, Bool, true, false, ◌&&◌, nat_eq, if◌then◌else◌, List, length, slice_get, slice_index, All, Option, Some, None, IsSome}
+use Rattle.std.specs.Prelude.{ℕ, ◌≡◌, ◌+◌, ◌*◌, ◌/◌, ◌<◌, ◌≤◌, ◌⊎◌, Bool, true, false, ◌&&◌, nat_eq}
+use Rattle.std.specs.Prelude.{if◌then◌else◌, List, length, slice_get, slice_index, All, Option}
+use Rattle.std.specs.Prelude.{Some, None, IsSome}
 use Rattle.std.specs.List.{list_any}
 use Rattle.m36_model.specs.declared.place.Reference.{Reference}
 use Rattle.m36_page.specs.Fields.{TableFields, PagerFields}
@@ -23,8 +25,10 @@ pub record IsSpot (p : PagerFields) (a : ℕ) : Type 0 where
 abbrev pub IsPaged : PagerFields → ℕ → Type 0
 IsPaged p a = IsSpot p a ⊎ ((1024 * p.first ≤ a) × (a < 1024 * (p.first + length p.holders)))
 
--- Pages may have moved: no content has changed, and no core word but page table words and those of pageable frames.
-pub record IsKept (old : PagerFields) (core : List ℕ) (new : PagerFields) (now : List ℕ) : Type 0 where
+-- Pages may have moved: no content has changed, and no core word but page table words and those of
+-- pageable frames.
+pub record IsKept (old : PagerFields) (core : List ℕ) (new : PagerFields)
+    (now : List ℕ) : Type 0 where
   pub shape : IsSameShape old new
   pub size : length now ≡ length core
   pub content : (seg w : ℕ) → content_of new now seg w ≡ content_of old core seg w
@@ -35,10 +39,12 @@ abbrev pub IsTableWord : List TableFields → ℕ → Type 0
 IsTableWord tables a =
     (j : ℕ) × (t : TableFields) × (slice_get tables j ≡ Some t) × (t.at ≤ a) × (a < t.at + t.pages)
 
--- Every page table word of so many tables says that its page is in no frame, and no other core word has changed.
+-- Every page table word of so many tables says that its page is in no frame, and no other core word
+-- has changed.
 pub record AreAbsent (tables : List TableFields) (count : ℕ) (core now : List ℕ) : Type 0 where
   pub size : length now ≡ length core
-  pub absent : (j : ℕ) (t : TableFields) (q : ℕ) → j < count → slice_get tables j ≡ Some t → q < t.pages
+  pub absent : (j : ℕ) (t : TableFields) (q : ℕ) → j < count → slice_get tables j ≡ Some t
+      → q < t.pages
       → slice_index now (t.at + q) ≡ absent_ptw
   pub others : (a : ℕ) → (IsTableWord tables a → ⊥) → slice_index now a ≡ slice_index core a
 
@@ -47,12 +53,14 @@ abbrev pub AllEmpty : PagerFields → Type 0
 AllEmpty p = (k seg page : ℕ) → Holds p k seg page → ⊥
 
 -- A word of a segment was set: the content of no other has changed, nor where any page is.
-pub record IsSet (old : PagerFields) (core : List ℕ) (new : PagerFields) (now : List ℕ) (seg word v : ℕ) : Type 0 where
+pub record IsSet (old : PagerFields) (core : List ℕ) (new : PagerFields) (now : List ℕ)
+    (seg word v : ℕ) : Type 0 where
   pub shape : IsSameShape old new
   pub holders : new.holders ≡ old.holders
   pub size : length now ≡ length core
   pub here : content_of new now seg word ≡ Some v
-  pub content : (s w : ℕ) → ((s ≡ seg) × (w ≡ word) → ⊥) → content_of new now s w ≡ content_of old core s w
+  pub content : (s w : ℕ) → ((s ≡ seg) × (w ≡ word) → ⊥)
+      → content_of new now s w ≡ content_of old core s w
   pub others : (a : ℕ) → (IsPaged old a → ⊥) → slice_index now a ≡ slice_index core a
 
 -- ---- references that stay
@@ -73,11 +81,13 @@ AllPinned p refs = All (λ h. is_pinned refs h ≡ true) p.holders
 -- a page that is referenced stays in its frame
 abbrev pub Stays : PagerFields → List ℕ → PagerFields → List ℕ → Reference → Type 0
 Stays old core new now e =
-    (frame : ℕ) → has_page old e.at.seg (e.at.word / 1024) ≡ true → frame_of old core e.at.seg (e.at.word / 1024) ≡ Some frame
+    (frame : ℕ) → has_page old e.at.seg (e.at.word / 1024) ≡ true
+    → frame_of old core e.at.seg (e.at.word / 1024) ≡ Some frame
     → frame_of new now e.at.seg (e.at.word / 1024) ≡ Some frame
 
 -- a page was brought in
-pub record IsBrought (old : PagerFields) (core : List ℕ) (new : PagerFields) (now : List ℕ) (seg page : ℕ) (refs : List Reference) : Type 0 where
+pub record IsBrought (old : PagerFields) (core : List ℕ) (new : PagerFields) (now : List ℕ)
+    (seg page : ℕ) (refs : List Reference) : Type 0 where
   pub kept : IsKept old core new now
   pub resident : IsSome (frame_of new now seg page)
   pub stays : All (Stays old core new now) refs

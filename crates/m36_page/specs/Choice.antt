@@ -1,5 +1,6 @@
 -- Frames that may be taken.
-use Rattle.std.specs.Prelude.{ℕ, ◌≡◌, ◌≤◌, ◌<◌, true, false, List, length, slice_index, slice_index_or, Option, Some, None}
+use Rattle.std.specs.Prelude.{ℕ, ◌≡◌, ◌≤◌, ◌<◌, true, false, List, length, slice_index}
+use Rattle.std.specs.Prelude.{slice_index_or, Option, Some, None}
 use Rattle.m36_model.specs.Core.{unmarked}
 use Rattle.m36_model.specs.declared.place.Reference.{Reference}
 use Rattle.m36_page.specs.Changes.{is_pinned}
@@ -10,7 +11,8 @@ pub record IsFree (refs : List Reference) (holders : List (Option (ℕ × ℕ)))
   pub free : is_pinned refs (slice_index_or holders k None) ≡ false
 
 -- the frames from one up to another all hold pages of the references
-pub record ArePinned (refs : List Reference) (holders : List (Option (ℕ × ℕ))) (from to : ℕ) : Type 0 where
+pub record ArePinned (refs : List Reference) (holders : List (Option (ℕ × ℕ)))
+    (from to : ℕ) : Type 0 where
   pub each : (k : ℕ) → from ≤ k → k < to → is_pinned refs (slice_index_or holders k None) ≡ true
 
 -- a core word that holds the page table word of a page in a frame
@@ -29,4 +31,5 @@ pub record IsMarked (core now : List ℕ) (at : ℕ → Type 0) : Type 0 where
 -- each spot of a frame that holds a page is a word of core
 abbrev pub AreInCore : List (Option (ℕ × ℕ)) → List ℕ → List ℕ → Type 0
 AreInCore holders spots core =
-    (k : ℕ) (held : ℕ × ℕ) → slice_index_or holders k None ≡ Some held → slice_index spots k < length core
+    (k : ℕ) (held : ℕ × ℕ) → slice_index_or holders k None ≡ Some held
+    → slice_index spots k < length core

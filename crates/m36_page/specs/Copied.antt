@@ -1,8 +1,10 @@
 -- A page that is copied.
 use Rattle.std.specs.Prelude.{ℕ, ◌≡◌, ◌+◌, ◌<◌, ◌≤◌, ◌⊎◌, List, length, slice_index}
 
--- The 1,024 words of one list from one place on stand in another from a place on, and nothing else of it has changed.
-pub record IsCopied (source : List ℕ) (from : ℕ) (old : List ℕ) (at : ℕ) (new : List ℕ) : Type 0 where
+-- The 1,024 words of one list from one place on stand in another from a place on, and nothing else
+-- of it has changed.
+pub record IsCopied (source : List ℕ) (from : ℕ) (old : List ℕ) (at : ℕ)
+    (new : List ℕ) : Type 0 where
   pub size : length new ≡ length old
   pub inside : (i : ℕ) → i < 1024 → slice_index new (at + i) ≡ slice_index source (from + i)
   pub outside : (a : ℕ) → (a < at) ⊎ (at + 1024 ≤ a) → slice_index new a ≡ slice_index old a

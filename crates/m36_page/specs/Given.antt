@@ -1,5 +1,7 @@
--- The pager that page tables give: every page is in no frame, and the words that are lacking are zero.
-use Rattle.std.specs.Prelude.{ℕ, ◌+◌, ◌-◌, ◌*◌, ◌≤◌, Bool, true, ◌&&◌, ◌||◌, nat_le, List, [], ◌∷◌, ◌++◌, length, map, replicate, Option, None}
+-- The pager that page tables give: every page is in no frame, and the words that are lacking are
+-- zero.
+use Rattle.std.specs.Prelude.{ℕ, ◌+◌, ◌-◌, ◌*◌, ◌≤◌, Bool, true, ◌&&◌, ◌||◌, nat_le, List, [], ◌∷◌}
+use Rattle.std.specs.Prelude.{◌++◌, length, map, replicate, Option, None}
 use Rattle.std.specs.List.{list_all}
 use Rattle.m36_page.specs.declared.table.PageTable.{PageTable}
 use Rattle.m36_page.specs.Fields.{TableFields, PagerFields}
@@ -14,11 +16,13 @@ table_given t =
     }
 
 abbrev pub pager_given : ℕ → ℕ → List PageTable → PagerFields
-pager_given first frames tables = record { first = first; holders = replicate frames None; tables = map table_given tables }
+pager_given first frames tables =
+    record { first = first; holders = replicate frames None; tables = map table_given tables }
 
 -- A table ends below a frame, and its segment has no more words than its pages.
 abbrev pub fits_below : ℕ → PageTable → Bool
-fits_below first t = nat_le (t.at + t.pages) (1024 * first) && nat_le (length t.words) (1024 * t.pages)
+fits_below first t =
+    nat_le (t.at + t.pages) (1024 * first) && nat_le (length t.words) (1024 * t.pages)
 
 -- Two tables share no core word.
 abbrev pub is_apart : PageTable → PageTable → Bool
@@ -26,4 +30,5 @@ is_apart a b = nat_le (a.at + a.pages) b.at || nat_le (b.at + b.pages) a.at
 
 unfoldable pub are_placed : ℕ → List PageTable → Bool
 are_placed first [] = true
-are_placed first (t ∷ tables) = fits_below first t && list_all (is_apart t) tables && are_placed first tables
+are_placed first (t ∷ tables) =
+    fits_below first t && list_all (is_apart t) tables && are_placed first tables

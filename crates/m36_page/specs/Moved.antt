@@ -1,29 +1,38 @@
 -- A page that is put away, and one that is taken in: what has changed, word by word.
-use Rattle.std.specs.Prelude.{ℕ, ◌≡◌, ◌≢◌, ◌+◌, ◌*◌, ◌/◌, ◌%◌, ◌<◌, ◌≤◌, ◌⊎◌, true, List, length, slice_index, slice_index_or, slice_set, position, Option, Some, None}
+use Rattle.std.specs.Prelude.{ℕ, ◌≡◌, ◌≢◌, ◌+◌, ◌*◌, ◌/◌, ◌%◌, ◌<◌, ◌≤◌, ◌⊎◌, true, List, length}
+use Rattle.std.specs.Prelude.{slice_index, slice_index_or, slice_set, position, Option, Some, None}
 use Rattle.m36_page.specs.Fields.{TableFields, PagerFields}
-use Rattle.m36_page.specs.Residence.{is_of, has_page, spot_of, kept_word, absent_ptw, resident_ptw, frame_of, Holds, IsPager, IsSettled}
+use Rattle.m36_page.specs.Residence.{is_of, has_page, spot_of, kept_word, absent_ptw, resident_ptw}
+use Rattle.m36_page.specs.Residence.{frame_of, Holds, IsPager, IsSettled}
 use Rattle.m36_page.specs.Changes.{IsSameShape, IsKept}
 
 -- The table of a segment, at place i, has these words now.
-pub record HasWords (p new : PagerFields) (seg i : ℕ) (d : TableFields) (words : List ℕ) : Type 0 where
+pub record HasWords (p new : PagerFields) (seg i : ℕ) (d : TableFields)
+    (words : List ℕ) : Type 0 where
   pub at : position (is_of seg) p.tables ≡ Some i
-  pub tables : new.tables ≡ slice_set p.tables i (record (slice_index_or p.tables i d) { words = words })
+  pub tables : new.tables
+      ≡ slice_set p.tables i (record (slice_index_or p.tables i d) { words = words })
 
 -- The page of frame k was put away: its words are kept as they stood in the frame.
-pub record IsAway (p : PagerFields) (core : List ℕ) (new : PagerFields) (now : List ℕ) (k seg page : ℕ) : Type 0 where
+pub record IsAway (p : PagerFields) (core : List ℕ) (new : PagerFields) (now : List ℕ)
+    (k seg page : ℕ) : Type 0 where
   pub held : Holds p k seg page
   pub shape : IsSameShape p new
   pub words : IsPager new
   pub left : (j s q : ℕ) → Holds new j s q → Holds p j s q × (j ≢ k)
   pub stay : (j s q : ℕ) → Holds p j s q → j ≢ k → Holds new j s q
-  pub kept_others : (s w : ℕ) → ((s ≡ seg) × (w / 1024 ≡ page) → ⊥) → kept_word new s w ≡ kept_word p s w
-  pub kept_page : (w : ℕ) → w / 1024 ≡ page → kept_word new seg w ≡ slice_index core (1024 * (p.first + k) + w % 1024)
+  pub kept_others : (s w : ℕ) → ((s ≡ seg) × (w / 1024 ≡ page) → ⊥)
+      → kept_word new s w ≡ kept_word p s w
+  pub kept_page : (w : ℕ) → w / 1024 ≡ page
+      → kept_word new seg w ≡ slice_index core (1024 * (p.first + k) + w % 1024)
   pub size : length now ≡ length core
   pub spot : slice_index now (spot_of p seg page) ≡ absent_ptw
   pub others : (a : ℕ) → a ≢ spot_of p seg page → slice_index now a ≡ slice_index core a
 
--- A page that was in no frame was taken into frame k, which held none: the frame has the words that were kept for it.
-pub record IsTaken (p : PagerFields) (core : List ℕ) (new : PagerFields) (now : List ℕ) (k seg page : ℕ) : Type 0 where
+-- A page that was in no frame was taken into frame k, which held none: the frame has the words that
+-- were kept for it.
+pub record IsTaken (p : PagerFields) (core : List ℕ) (new : PagerFields) (now : List ℕ)
+    (k seg page : ℕ) : Type 0 where
   pub has : has_page p seg page ≡ true
   pub out : frame_of p core seg page ≡ None
   pub empty : slice_index_or p.holders k None ≡ None
@@ -36,18 +45,23 @@ pub record IsTaken (p : PagerFields) (core : List ℕ) (new : PagerFields) (now 
   pub kept : (s w : ℕ) → kept_word new s w ≡ kept_word p s w
   pub size : length now ≡ length core
   pub spot : slice_index now (spot_of p seg page) ≡ resident_ptw (p.first + k)
-  pub page_in : (i : ℕ) → i < 1024 → slice_index now (1024 * (p.first + k) + i) ≡ kept_word p seg (1024 * page + i)
-  pub others : (a : ℕ) → a ≢ spot_of p seg page → (a < 1024 * (p.first + k)) ⊎ (1024 * (p.first + k) + 1024 ≤ a)
+  pub page_in : (i : ℕ) → i < 1024
+      → slice_index now (1024 * (p.first + k) + i) ≡ kept_word p seg (1024 * page + i)
+  pub others : (a : ℕ) → a ≢ spot_of p seg page → (a < 1024 * (p.first + k))
+      ⊎ (1024 * (p.first + k) + 1024 ≤ a)
       → slice_index now a ≡ slice_index core a
 
 -- A frame was emptied, if it held a page: all other pages stay where they are.
-pub record IsEmptied (p : PagerFields) (core : List ℕ) (new : PagerFields) (now : List ℕ) (k : ℕ) : Type 0 where
+pub record IsEmptied (p : PagerFields) (core : List ℕ) (new : PagerFields) (now : List ℕ)
+    (k : ℕ) : Type 0 where
   pub kept : IsKept p core new now
   pub settled : IsSettled new now
   pub empty : slice_index_or new.holders k None ≡ None
-  pub stays : (s q frame : ℕ) → has_page p s q ≡ true → frame_of p core s q ≡ Some frame → frame ≢ p.first + k
+  pub stays : (s q frame : ℕ) → has_page p s q ≡ true → frame_of p core s q ≡ Some frame
+      → frame ≢ p.first + k
       → frame_of new now s q ≡ Some frame
-  pub out : (s q : ℕ) → has_page p s q ≡ true → frame_of p core s q ≡ None → frame_of new now s q ≡ None
+  pub out : (s q : ℕ) → has_page p s q ≡ true → frame_of p core s q ≡ None
+      → frame_of new now s q ≡ None
 
 -- A word that is kept was changed, and nothing else.
 pub record IsKeptWord (p new : PagerFields) (seg word v : ℕ) : Type 0 where

@@ -1,6 +1,8 @@
--- Which frame each page is in, and what the words of the pages are: those of the frame where a page is in one, and else those
--- that are kept. A page table word tells the frame.
-use Rattle.std.specs.Prelude.{ℕ, ◌≡◌, ◌+◌, ◌*◌, ◌/◌, ◌%◌, ◌^◌, ◌<◌, ◌≤◌, ◌⊎◌, Bool, true, false, nat_eq, nat_lt, if◌then◌else◌, List, length, position, slice_get, slice_index, slice_index_or, All, Option, Some, None, option_and_then}
+-- Which frame each page is in, and what the words of the pages are: those of the frame where a page
+-- is in one, and else those that are kept. A page table word tells the frame.
+use Rattle.std.specs.Prelude.{ℕ, ◌≡◌, ◌+◌, ◌*◌, ◌/◌, ◌%◌, ◌^◌, ◌<◌, ◌≤◌, ◌⊎◌, Bool, true, false}
+use Rattle.std.specs.Prelude.{nat_eq, nat_lt, if◌then◌else◌, List, length, position, slice_get}
+use Rattle.std.specs.Prelude.{slice_index, slice_index_or, All, Option, Some, None, option_and_then}
 use Rattle.m36_desc.specs.Descriptors.{ptw_of, ptw_word}
 use Rattle.m36_desc.specs.Fields.{PtwFields}
 use Rattle.m36_model.specs.Core.{unmarked}
@@ -61,7 +63,8 @@ word_in None core w kept = kept
 unfoldable pub page_word : PagerFields → List ℕ → ℕ → ℕ → ℕ
 page_word p core seg w = word_in (frame_of p core seg (w / 1024)) core w (kept_word p seg w)
 
--- the content of a word of a segment; None where the segment has no table or the word is past its pages
+-- the content of a word of a segment; None where the segment has no table or the word is
+-- past its pages
 abbrev pub content_by : Bool → ℕ → Option ℕ
 content_by true v = Some v
 content_by false v = None
@@ -75,8 +78,8 @@ content_of p core seg w = content_by (has_page p seg (w / 1024)) (page_word p co
 abbrev pub Holds : PagerFields → ℕ → ℕ → ℕ → Type 0
 Holds p k seg page = slice_index_or p.holders k None ≡ Some (seg, page)
 
--- Tables have the words of all their pages, end below the pageable frames and share no core word; a frame that holds a page
--- holds one of a table.
+-- Tables have the words of all their pages, end below the pageable frames and share no core word; a
+-- frame that holds a page holds one of a table.
 pub record IsPager (p : PagerFields) : Type 0 where
   pub words : All (λ t. length t.words ≡ 1024 * t.pages) p.tables
   pub below : (seg page : ℕ) → has_page p seg page ≡ true → spot_of p seg page < 1024 * p.first
@@ -84,14 +87,17 @@ pub record IsPager (p : PagerFields) : Type 0 where
       → spot_of p seg page ≡ spot_of p seg' page' → (seg ≡ seg') × (page ≡ page')
   pub held : (k seg page : ℕ) → Holds p k seg page → has_page p seg page ≡ true
 
--- a page table word, but for its marks, says that the page is in no frame, or names the one that holds it
+-- a page table word, but for its marks, says that the page is in no frame, or names the one that
+-- holds it
 abbrev pub TellsPage : PagerFields → ℕ → ℕ → ℕ → Type 0
 TellsPage p seg page w =
-    (unmarked w ≡ absent_ptw) ⊎ ((k : ℕ) × Holds p k seg page × (unmarked w ≡ resident_ptw (p.first + k)))
+    (unmarked w ≡ absent_ptw)
+    ⊎ ((k : ℕ) × Holds p k seg page × (unmarked w ≡ resident_ptw (p.first + k)))
 
 -- Each page table word of the tables reads as the pager left it.
 pub record Reads (p : PagerFields) (core : List ℕ) : Type 0 where
-  pub pages : (seg page : ℕ) → has_page p seg page ≡ true → TellsPage p seg page (slice_index core (spot_of p seg page))
+  pub pages : (seg page : ℕ) → has_page p seg page ≡ true
+      → TellsPage p seg page (slice_index core (spot_of p seg page))
   pub frames : (k seg page : ℕ) → Holds p k seg page
       → unmarked (slice_index core (spot_of p seg page)) ≡ resident_ptw (p.first + k)
 
@@ -106,7 +112,8 @@ pub record IsSettled (p : PagerFields) (core : List ℕ) : Type 0 where
   pub frames : HasFrames p core
   pub most : length core ≤ 2 ^ 24
 
--- What a pager has beside: for each frame that holds a page the core word that holds its page table word.
+-- What a pager has beside: for each frame that holds a page the core word that holds its
+-- page table word.
 pub record IsInside (p : PagerFields) (places : List ℕ) : Type 0 where
   pub pager : IsPager p
   pub count : length places ≡ length p.holders

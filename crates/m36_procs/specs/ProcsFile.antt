@@ -1,5 +1,5 @@
--- The text of processes: it writes out one core, the processes on it, and the schedule by which they
--- run.
+-- The text of processes: it writes out one core, the processes on it, and the schedule by which
+-- they run.
 --
 --     core N              N decimal, 1 to 16384 frames of 1,024 words
 --     process E O S R I   a process: the two words of its descriptor segment base register, of 12
@@ -15,9 +15,10 @@
 -- `turns`. Processes are numbered from 0. All `turns` lines together make at most 10000000 events.
 --
 -- P1 is a line not of its form, out of order or missing, a missing line feed, an N out of range, an
--- `at` whose first address is not above every earlier address or whose last address is outside core,
--- or a `turns` line with which there are too many events. P2 is a number of no process. The first
--- line with a fault counts, and in it P1 before P2. A missing line has the number that it would have.
+-- `at` whose first address is not above every earlier address or whose last address is outside
+-- core, or a `turns` line with which there are too many events. P2 is a number of no process. The
+-- first line with a fault counts, and in it P1 before P2. A missing line has the number that it
+-- would have.
 use Rattle.std.specs.Prelude.{ℕ, zero, suc, ◌+◌, ◌*◌, ◌&&◌, Bool, true, false, nat_le, nat_lt, List}
 use Rattle.std.specs.Prelude.{[], ◌∷◌, ◌++◌, length, drop, replicate, codes, Option, Some, None}
 use Rattle.std.specs.Prelude.{Result, Ok, Err, if◌then◌else◌}

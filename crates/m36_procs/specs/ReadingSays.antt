@@ -14,8 +14,8 @@ use Rattle.m36_procs.specs.declared.fault.ProcsFault.{ProcsFault}
 use Rattle.m36_procs.specs.declared.fault.ProcsFault.TheVariants.{P1, P2, NoMemory}
 use Rattle.m36_procs.specs.declared.reader.Reader.{Reader}
 
--- the fault told of a list of codes, of which the first is that of line n; want of memory may come at
--- any time
+-- the fault told of a list of codes, of which the first is that of line n; want of memory may come
+-- at any time
 abbrev pub FaultSays : ProcsFault → ℕ → List (Option Code) → Type 0
 FaultSays (P1 line) n codes = first_told n codes ≡ Some (line, code.P1)
 FaultSays (P2 line) n codes = first_told n codes ≡ Some (line, code.P2)

@@ -23,7 +23,8 @@ RunSays (Err cut) schedule old new before now = GrewWithin before now (schedule_
 
 -- which pieces the sink took by it: a line in each
 abbrev pub RunTakes :
-    Result (Unit {0}) WriteFault → List ℕ → Processes (List ℕ) → List (List ℕ) → List (List ℕ) → Type 0
+    Result (Unit {0}) WriteFault → List ℕ → Processes (List ℕ) → List (List ℕ) → List (List ℕ)
+    → Type 0
 RunTakes (Ok done) schedule old before now = now ≡ before ++ schedule_pieces schedule old
 RunTakes (Err cut) schedule old before now = TakesSome before now (schedule_pieces schedule old)
 

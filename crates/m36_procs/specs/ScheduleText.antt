@@ -30,7 +30,8 @@ abbrev pub text_from : ℕ → ℕ → List ℕ → Processes (List ℕ) → Lis
 text_from total n schedule s = event_lines n (events core_store schedule s) ++ end_line total
 
 abbrev pub pieces_from : ℕ → ℕ → List ℕ → Processes (List ℕ) → List (List ℕ)
-pieces_from total n schedule s = event_pieces n (events core_store schedule s) ++ end_line total ∷ []
+pieces_from total n schedule s =
+    event_pieces n (events core_store schedule s) ++ end_line total ∷ []
 
 unfoldable pub schedule_text : List ℕ → Processes (List ℕ) → List ℕ
 schedule_text schedule s = text_from (length schedule) 1 schedule s

@@ -1,16 +1,18 @@
--- The text of an audit: the line `audit yes`, or a line for each finding with its condition and its place in octal.
+-- The text of an audit: the line `audit yes`, or a line for each finding with its condition and its
+-- place in octal.
 use Rattle.std.specs.Prelude.{ℕ, ◌||◌, ◌==◌, List, [], ◌∷◌, ◌++◌, codes, if◌then◌else◌}
 use Rattle.m36_text.specs.Digits.{octal_text, decimal_text}
 use Rattle.m36_ran.specs.Output.{as_line}
 
--- The first, the fifth and the sixth condition are broken by a segment, which is written in five digits. The others are
--- broken by a core word, which is written in eight.
+-- The first, the fifth and the sixth condition are broken by a segment, which is written in five
+-- digits. The others are broken by a core word, which is written in eight.
 abbrev pub place_digits : ℕ → ℕ
 place_digits condition = if condition == 1 || (condition == 5 || condition == 6) then 5 else 8
 
 -- a condition and its place, as in `audit no A3 00000100`
 unfoldable pub finding_line : ℕ × ℕ → List ℕ
-finding_line f = codes "audit no A" ++ decimal_text f.0 ++ codes " " ++ octal_text (place_digits f.0) f.1
+finding_line f =
+    codes "audit no A" ++ decimal_text f.0 ++ codes " " ++ octal_text (place_digits f.0) f.1
 
 unfoldable pub finding_lines : List (ℕ × ℕ) → List ℕ
 finding_lines [] = []

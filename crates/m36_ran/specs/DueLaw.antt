@@ -7,22 +7,26 @@ use Rattle.m36_ran.specs.declared.command.ImageCommand.{ImageCommand}
 use Rattle.m36_ran.specs.Ran.{state_answer, IsStateDue}
 
 -- an answer by some findings
-pub record IsByFindings (command : ImageCommand) (state : State (List ℕ)) (due : Answer) : Type 0 where
+pub record IsByFindings (command : ImageCommand) (state : State (List ℕ))
+    (due : Answer) : Type 0 where
   pub first : ℕ × ℕ
   pub others : List (ℕ × ℕ)
   pub answer : due ≡ state_answer command state (first ∷ others)
 
--- One answer at most is due on a state, and it can't be that none is. Where all conditions hold it is that without
--- findings, and on every other state it is one by some findings.
+-- One answer at most is due on a state, and it can't be that none is. Where all conditions hold it
+-- is that without findings, and on every other state it is one by some findings.
 pub record StateDueLaw : Type 0 where
   pub one :
       (command : ImageCommand) (state : State (List ℕ)) (due same : Answer)
       → IsStateDue command state due → IsStateDue command state same → due ≡ same
   pub some :
-      (command : ImageCommand) (state : State (List ℕ)) → ¬ ((due : Answer) → ¬ IsStateDue command state due)
+      (command : ImageCommand) (state : State (List ℕ))
+      → ¬ ((due : Answer) → ¬ IsStateDue command state due)
   pub passed :
       (command : ImageCommand) (state : State (List ℕ)) (due : Answer)
-      → IsStateDue command state due → IsAudited state.store state.regs.dbr → due ≡ state_answer command state []
+      → IsStateDue command state due → IsAudited state.store state.regs.dbr
+      → due ≡ state_answer command state []
   pub failed :
       (command : ImageCommand) (state : State (List ℕ)) (due : Answer)
-      → IsStateDue command state due → ¬ IsAudited state.store state.regs.dbr → IsByFindings command state due
+      → IsStateDue command state due → ¬ IsAudited state.store state.regs.dbr
+      → IsByFindings command state due

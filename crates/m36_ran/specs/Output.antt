@@ -29,11 +29,13 @@ trace_pieces n (step ∷ steps) = as_line (line_of n step) ∷ trace_pieces (n +
 -- what is written from there on where so many steps were taken before these
 abbrev pub output_from : ℕ → List StepRecord → List ℕ
 output_from taken steps =
-    trace_text (taken + 1) steps ++ as_line (end_line_of (last_outcome steps) (taken + length steps))
+    trace_text (taken + 1) steps
+    ++ as_line (end_line_of (last_outcome steps) (taken + length steps))
 
 abbrev pub pieces_from : ℕ → List StepRecord → List (List ℕ)
 pieces_from taken steps =
-    trace_pieces (taken + 1) steps ++ as_line (end_line_of (last_outcome steps) (taken + length steps)) ∷ []
+    trace_pieces (taken + 1) steps
+    ++ as_line (end_line_of (last_outcome steps) (taken + length steps)) ∷ []
 
 -- what a run of at most so many steps writes
 unfoldable pub run_text : ℕ → State (List ℕ) → List ℕ

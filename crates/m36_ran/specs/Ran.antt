@@ -1,5 +1,5 @@
--- What is due to a command on a bare image: the text of what its audit finds, and, where it is run, the output of the run,
--- both line by line.
+-- What is due to a command on a bare image: the text of what its audit finds, and, where it is run,
+-- the output of the run, both line by line.
 use Rattle.std.specs.Prelude.{◌≡◌, ℕ, Bool, true, false, ◌||◌, List, [], ◌∷◌, ◌++◌, Result, Ok, Err}
 use Rattle.m36_desc.specs.Fields.{DbrFields}
 use Rattle.m36_model.specs.Store.{State}
@@ -39,7 +39,8 @@ state_by name (Err refusal) = Err (refused name (code_of refusal.code) refusal.l
 
 -- the state that a file writes out
 unfoldable pub state_reads : List ℕ → Reading (Early (State (List ℕ)))
-state_reads name = then_with (file_bytes name) (λ bytes. decided (state_by name (state_given bytes)))
+state_reads name =
+    then_with (file_bytes name) (λ bytes. decided (state_by name (state_given bytes)))
 
 -- ---- answers
 
@@ -69,7 +70,8 @@ audit_answer findings = record {
   status = audit_status (passes findings);
 }
 
--- The audit text, and the run behind it where it is to be made: where the audit passes, or `--unaudited` is given.
+-- The audit text, and the run behind it where it is to be made: where the audit passes, or
+-- `--unaudited` is given.
 abbrev pub behind : List (ℕ × ℕ) → Answer → Answer
 behind findings answer = record {
   sets = answer.sets;
@@ -84,7 +86,8 @@ bare_by false steps state findings = audit_answer findings
 
 -- by what the audit of the state finds
 abbrev pub state_answer : ImageCommand → State (List ℕ) → List (ℕ × ℕ) → Answer
-state_answer (Bare bare) state findings = bare_by (passes findings || bare.unaudited) bare.steps state findings
+state_answer (Bare bare) state findings =
+    bare_by (passes findings || bare.unaudited) bare.steps state findings
 state_answer Audit state findings = audit_answer findings
 
 -- ---- what is due
@@ -93,9 +96,10 @@ state_answer Audit state findings = audit_answer findings
 pub record IsIsolated (core : List ℕ) (dbr : DbrFields) : Type 0 where
   pub isolates : Isolated core_store (core_tables core dbr)
 
--- An answer is due to a command on a state: the one by the findings of the audit, of which there is one list. Where
--- there are none, the tables of the state isolate each ring.
-pub record IsStateDue (command : ImageCommand) (state : State (List ℕ)) (due : Answer) : Type 0 where
+-- An answer is due to a command on a state: the one by the findings of the audit, of which there is
+-- one list. Where there are none, the tables of the state isolate each ring.
+pub record IsStateDue (command : ImageCommand) (state : State (List ℕ))
+    (due : Answer) : Type 0 where
   pub findings : List (ℕ × ℕ)
   pub found : AreFindings state.store state.regs.dbr findings
   pub isolated : findings ≡ [] → IsIsolated state.store state.regs.dbr

@@ -7,8 +7,8 @@ use Rattle.m36_model.specs.declared.outcome.Outcome.{Outcome}
 use Rattle.m36_model.specs.declared.outcome.Outcome.TheVariants.{Next}
 use Rattle.m36_model.specs.declared.record.StepRecord.{StepRecord}
 
--- The records of at most so many steps, each of the state that the step before left. The run ends after the first whose
--- outcome is a fault or a stop.
+-- The records of at most so many steps, each of the state that the step before left. The run ends
+-- after the first whose outcome is a fault or a stop.
 unfoldable pub run : ℕ → State (List ℕ) → List StepRecord
 run steps state = told core_store steps state
 

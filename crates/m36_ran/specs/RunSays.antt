@@ -17,18 +17,21 @@ use Rattle.m36_ran.specs.Run.{run, last_outcome}
 use Rattle.m36_ran.specs.Output.{as_line, run_text, run_pieces}
 
 -- A step was taken, and its line written; whether another follows.
-pub record Stepped (n : ℕ) (outcome : Outcome) (old new : State (List ℕ)) (before now : Option (List ℕ)) : Type 0 where
+pub record Stepped (n : ℕ) (outcome : Outcome) (old new : State (List ℕ))
+    (before now : Option (List ℕ)) : Type 0 where
   pub outcome_is : (told old).outcome ≡ outcome
   pub state : new ≡ after old
   pub grew : Grew before now (as_line (line_of n (told old)))
 
-pub record Ending (n : ℕ) (outcome : Outcome) (old : State (List ℕ)) (before now : Option (List ℕ)) : Type 0 where
+pub record Ending (n : ℕ) (outcome : Outcome) (old : State (List ℕ))
+    (before now : Option (List ℕ)) : Type 0 where
   pub outcome_is : (told old).outcome ≡ outcome
   pub last : is_next outcome ≡ false
   pub grew : Grew before now (as_line (line_of n (told old)))
 
 -- what step n of a run answers, of the states and of what is written
-abbrev pub TurnSays : Turn → ℕ → State (List ℕ) → State (List ℕ) → Option (List ℕ) → Option (List ℕ) → Type 0
+abbrev pub TurnSays : Turn → ℕ → State (List ℕ) → State (List ℕ) → Option (List ℕ) → Option (List ℕ)
+    → Type 0
 TurnSays turn.Next n old new before now = Stepped n Next old new before now
 TurnSays (turn.Last outcome) n old new before now = Ending n outcome old before now
 TurnSays turn.Cut n old new before now = GrewWithin before now (as_line (line_of n (told old)))

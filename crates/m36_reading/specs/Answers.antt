@@ -1,4 +1,5 @@
--- What is due to a command: the files that it writes, the text that it puts, in which pieces, and its status.
+-- What is due to a command: the files that it writes, the text that it puts, in which pieces, and
+-- its status.
 use Rattle.std.specs.Prelude.{ℕ, ◌≡◌, List, [], ◌∷◌, Option, Some, Result, Ok, Err}
 use Rattle.m36_outside.specs.Files.{Files, with_told_file}
 use Rattle.m36_outside.specs.FolderCalls.{Wrote}
@@ -11,7 +12,8 @@ use Rattle.m36_reading.specs.declared.refusal.Refusal.TheVariants.{BadFile, Read
 use Rattle.m36_reading.specs.declared.setting.Set.{Set}
 use Rattle.m36_reading.specs.Reading.{Early}
 
--- the files that are written, in order, all that is put then, the pieces in which it is put, and the status
+-- the files that are written, in order, all that is put then, the pieces in which it is put, and
+-- the status
 pub record Answer : Type 0 where
   pub sets : List Set
   pub text : List ℕ

@@ -7,7 +7,8 @@ use Rattle.m36_outside.specs.declared.folder.ReadAnswer.{ReadAnswer}
 use Rattle.m36_outside.specs.declared.folder.ReadAnswer.TheVariants as read
 use Rattle.m36_reading.specs.declared.refusal.Refusal.{Refusal}
 use Rattle.m36_reading.specs.declared.refusal.Refusal.TheVariants.{BadFile, ReadFault, NoMemory}
-use Rattle.m36_reading.specs.Reading.{Found, Content, Absent, TooLarge, Reading, decided, asks, Early, outcome_in}
+use Rattle.m36_reading.specs.Reading.{Found, Content, Absent, TooLarge, Reading, decided, asks}
+use Rattle.m36_reading.specs.Reading.{Early, outcome_in}
 
 -- The answer is that of the files, where these are told.
 pub record IsTold (files : Option Files) (ask : Asked) : Type 0 where
@@ -19,7 +20,8 @@ abbrev pub AreTold : Option Files → List Asked → Type 0
 AreTold files [] = ⊤
 AreTold files (ask ∷ asked) = IsTold files ask × AreTold files asked
 
--- What came of a reading: what it comes to; or a read has failed; or memory was wanted, in a read or behind one.
+-- What came of a reading: what it comes to; or a read has failed; or memory was wanted, in a read
+-- or behind one.
 pub data Coming (A : Type 0) : Type 0 where
   Came : A → Coming A
   Failed : Coming A
@@ -42,7 +44,8 @@ HasFailed (Came a) = ⊥
 HasFailed Failed = ⊤
 HasFailed Wanting = ⊥
 
--- by one answer: the reading goes on by what the folder has, and nothing is asked behind an answer that has nothing
+-- by one answer: the reading goes on by what the folder has, and nothing is asked behind an answer
+-- that has nothing
 abbrev pub GoesOn : {A : Type 0} → ReadAnswer → (Found → Type 0) → List Asked → Coming A → Type 0
 GoesOn (read.Read bytes) goes asked coming = goes (Content bytes)
 GoesOn read.Absent goes asked coming = goes Absent
@@ -71,7 +74,8 @@ coming (Err (BadFile bad)) = Came (Err (BadFile bad))
 coming (Err ReadFault) = Failed
 coming (Err NoMemory) = Wanting
 
--- What a call answers that reads nothing, beside its definition. Want of memory may come at any time.
+-- What a call answers that reads nothing, beside its definition. Want of memory may come
+-- at any time.
 abbrev pub Gives : {A : Type 0} → Result A Refusal → Early A → Type 0
 Gives result definition = IsDecided definition (coming result)
 

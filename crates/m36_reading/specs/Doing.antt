@@ -28,11 +28,12 @@ ReadCause (Err (BadFile bad)) old new = new ≡ old
 ReadCause (Err ReadFault) old new = Rose old new
 ReadCause (Err NoMemory) old new = new ≡ old
 
--- A call performs a reading: what the folder was asked and answered before it, and after, differ by some answers, given
--- one after another, each that of its files where it tells them; and by them the reading comes to what the call answers.
--- No file changes, and none is written.
+-- A call performs a reading: what the folder was asked and answered before it, and after, differ by
+-- some answers, given one after another, each that of its files where it tells them; and by them
+-- the reading comes to what the call answers. No file changes, and none is written.
 pub record Reads
-    {A : Type 0} (p : Reading (Early A)) (result : Result A Refusal) (old new : FolderState) (before after : List Asked)
+    {A : Type 0} (p : Reading (Early A)) (result : Result A Refusal) (old new : FolderState)
+    (before after : List Asked)
     : Type 0 where
   pub asked : List Asked
   pub passed : after ≡ before ++ asked
@@ -45,8 +46,8 @@ pub record Reads
 
 -- ---- writing
 
--- The status is the one that is due, its files are written, each once and no others, and its text is put whole, in its
--- pieces.
+-- The status is the one that is due, its files are written, each once and no others, and its text
+-- is put whole, in its pieces.
 pub record IsMade (due : Answer) (result : Status) (old new : Outside) : Type 0 where
   pub status : due.status ≡ result
   pub files : new.folder.files ≡ with_sets due.sets old.folder.files
@@ -57,8 +58,8 @@ pub record IsMade (due : Answer) (result : Status) (old new : Outside) : Type 0 
   pub write_faults : new.folder.write_faults ≡ old.folder.write_faults
   pub put_faults : new.sink.faults ≡ old.sink.faults
 
--- A file could not be written: those before it are, no file but this one may differ otherwise, no other write is tried,
--- and nothing is put.
+-- A file could not be written: those before it are, no file but this one may differ otherwise, no
+-- other write is tried, and nothing is put.
 pub record IsUnset (due : Answer) (old new : Outside) : Type 0 where
   pub before : List Set
   pub failed : Set
@@ -73,7 +74,8 @@ pub record IsUnset (due : Answer) (old new : Outside) : Type 0 where
   pub read_faults : NoneUnread old new
   pub put_faults : new.sink.faults ≡ old.sink.faults
 
--- All files are written, and a first part of the text is put: pieces of it, and then a first part of the next.
+-- All files are written, and a first part of the text is put: pieces of it, and then a first part
+-- of the next.
 pub record IsUnput (due : Answer) (old new : Outside) : Type 0 where
   pub files : new.folder.files ≡ with_sets due.sets old.folder.files
   pub wrote : new.folder.wrote ≡ old.folder.wrote ++ writes_of due.sets
@@ -85,7 +87,8 @@ pub record IsUnput (due : Answer) (old new : Outside) : Type 0 where
 
 -- ---- ends, by what may have come of the reading
 
-pub record IsAnswered {D : Type 0} (kind : Kind D) (Is : Coming (Early D) → Type 0) (result : Status) (old new : Outside)
+pub record IsAnswered {D : Type 0} (kind : Kind D) (Is : Coming (Early D)
+    → Type 0) (result : Status) (old new : Outside)
     : Type 0 where
   pub given : Early D
   pub came : Is (Came given)
@@ -93,7 +96,8 @@ pub record IsAnswered {D : Type 0} (kind : Kind D) (Is : Coming (Early D) → Ty
   pub is_due : IsDueBy kind.IsDue given due
   pub made : IsMade due result old new
 
-pub record IsCut {D : Type 0} (kind : Kind D) (Is : Coming (Early D) → Type 0) (old new : Outside) : Type 0 where
+pub record IsCut {D : Type 0} (kind : Kind D) (Is : Coming (Early D)
+    → Type 0) (old new : Outside) : Type 0 where
   pub given : D
   pub came : Is (Came (Ok given))
   pub due : Answer
@@ -111,7 +115,8 @@ pub record IsUnmade {D : Type 0} (Is : Coming (Early D) → Type 0) (old new : O
   pub idle : IsIdle old new
   pub read_faults : NoneUnread old new
 
-pub record IsStarved {D : Type 0} (kind : Kind D) (Is : Coming (Early D) → Type 0) (old new : Outside) : Type 0 where
+pub record IsStarved {D : Type 0} (kind : Kind D) (Is : Coming (Early D)
+    → Type 0) (old new : Outside) : Type 0 where
   pub given : D
   pub came : Is (Came (Ok given))
   pub wants : kind.Wants given old new
@@ -125,10 +130,11 @@ EndsBy kind Is Unread result old new = IsUnread Is old new
 EndsBy kind Is Starved result old new = IsUnmade Is old new ⊎ IsStarved kind Is old new
 EndsBy kind Is Unasked result old new = ⊥
 
--- A call performs a command: its reading comes to what the answers of the folder are, which are all that the folder was
--- asked in the call, and what is due by it is done.
+-- A call performs a command: its reading comes to what the answers of the folder are, which are all
+-- that the folder was asked in the call, and what is due by it is done.
 pub record Does
-    {D : Type 0} (kind : Kind D) (p : Reading (Early D)) (result : Status) (old new : Outside) (before after : List Asked)
+    {D : Type 0} (kind : Kind D) (p : Reading (Early D)) (result : Status) (old new : Outside)
+    (before after : List Asked)
     : Type 0 where
   pub asked : List Asked
   pub passed : after ≡ before ++ asked
@@ -137,4 +143,5 @@ pub record Does
 
 -- The same where it is known already what the reading comes to.
 abbrev pub Performs : {D : Type 0} → Kind D → Early D → Status → Outside → Outside → Type 0
-Performs kind given result old new = EndsBy kind (λ c. c ≡ Came given) (end_of result) result old new
+Performs kind given result old new =
+    EndsBy kind (λ c. c ≡ Came given) (end_of result) result old new

@@ -1,6 +1,8 @@
 -- The statuses, sorted into the ends of which contracts speak.
 use Rattle.m36_reading.specs.declared.status.Status.{Status}
-use Rattle.m36_reading.specs.declared.status.Status.TheVariants.{Done, Usage, ReadFault, WriteFault, BadFile, AuditNo, MachineStop, Steps, NoMemory}
+use Rattle.m36_reading.specs.declared.status.Status.TheVariants.{Done, Usage, ReadFault, WriteFault}
+use Rattle.m36_reading.specs.declared.status.Status.TheVariants.{BadFile, AuditNo, MachineStop}
+use Rattle.m36_reading.specs.declared.status.Status.TheVariants.{Steps, NoMemory}
 
 pub data End : Type 0 where
   -- what is due is answered, and written whole

@@ -1,9 +1,14 @@
 -- The names and numbers of statuses, and the names of codes.
 use Rattle.std.specs.Prelude.{ℕ, List, codes}
 use Rattle.m36_reading.specs.declared.status.Status.{Status}
-use Rattle.m36_reading.specs.declared.status.Status.TheVariants.{Done, Usage, ReadFault, WriteFault, BadFile, AuditNo, MachineStop, Steps, NoMemory}
+use Rattle.m36_reading.specs.declared.status.Status.TheVariants.{Done, Usage, ReadFault, WriteFault}
+use Rattle.m36_reading.specs.declared.status.Status.TheVariants.{BadFile, AuditNo, MachineStop}
+use Rattle.m36_reading.specs.declared.status.Status.TheVariants.{Steps, NoMemory}
 use Rattle.m36_reading.specs.declared.status.Code.{Code}
-use Rattle.m36_reading.specs.declared.status.Code.TheVariants.{F1, F2, F3, T3, T4, I1, I2, I3, P1, P2, O1, O2, O3, O4, O5, O6, O7, O8, E1, E2, E3, E4, E5, E6, E7, E8, B1, B2, B3, B4, B5}
+use Rattle.m36_reading.specs.declared.status.Code.TheVariants.{F1, F2, F3, T3, T4, I1, I2, I3, P1}
+use Rattle.m36_reading.specs.declared.status.Code.TheVariants.{P2, O1, O2, O3, O4, O5, O6, O7, O8}
+use Rattle.m36_reading.specs.declared.status.Code.TheVariants.{E1, E2, E3, E4, E5, E6, E7, E8, B1}
+use Rattle.m36_reading.specs.declared.status.Code.TheVariants.{B2, B3, B4, B5}
 
 abbrev pub status_name : Status → List ℕ
 status_name Done = codes "Done"

@@ -1,4 +1,5 @@
--- The readers of one file, each with all its refusals: its bytes (F1, F2), its words (T3, T4, F3), its object (O1 to O8).
+-- The readers of one file, each with all its refusals: its bytes (F1, F2), its words (T3, T4, F3),
+-- its object (O1 to O8).
 use Rattle.std.specs.Prelude.{ℕ, nat_lt, if◌then◌else◌, List, length, Result, Ok, Err}
 use Rattle.m36_text.specs.Packing.{unpacked}
 use Rattle.m36_text.specs.declared.packing.PackFault.{PackFault}
@@ -11,12 +12,14 @@ use Rattle.m36_reading.specs.declared.status.Code.{Code}
 use Rattle.m36_reading.specs.declared.status.Code.TheVariants as code
 use Rattle.m36_reading.specs.declared.refusal.Refusal.{Refusal}
 use Rattle.m36_reading.specs.declared.refusal.Refusal.TheVariants.{BadFile, ReadFault, NoMemory}
-use Rattle.m36_reading.specs.Reading.{Found, Content, Absent, TooLarge, Reading, decided, asks, Early, then_with}
+use Rattle.m36_reading.specs.Reading.{Found, Content, Absent, TooLarge, Reading, decided, asks}
+use Rattle.m36_reading.specs.Reading.{Early, then_with}
 use Rattle.obj36.specs.ObjectOf.{object_of}
 
 -- a refused file by its name, a code, a place and a column
 abbrev pub refused_at : List ℕ → Code → ℕ → ℕ → Refusal
-refused_at name code at column = BadFile (record { name = name; code = code; at = at; column = column })
+refused_at name code at column =
+    BadFile (record { name = name; code = code; at = at; column = column })
 
 abbrev pub refused : List ℕ → Code → ℕ → Refusal
 refused name code at = refused_at name code at 0

@@ -1,6 +1,8 @@
--- What a command reads, as a program over a folder: it asks for a file, and goes on by what the folder has. So the order of
--- reading and refusing is part of what a command is. A read that fails, or that wants memory, ends the program.
-use Rattle.std.specs.Prelude.{ℕ, nat_lt, if◌then◌else◌, List, length, Option, Some, None, Result, Ok, Err}
+-- What a command reads, as a program over a folder: it asks for a file, and goes on by what the
+-- folder has. So the order of reading and refusing is part of what a command is. A read that fails,
+-- or that wants memory, ends the program.
+use Rattle.std.specs.Prelude.{ℕ, nat_lt, if◌then◌else◌, List, length, Option, Some, None, Result}
+use Rattle.std.specs.Prelude.{Ok, Err}
 use Rattle.m36_outside.specs.Files.{Files}
 use Rattle.m36_outside.specs.ReadAnswer.{file_limit}
 use Rattle.m36_reading.specs.declared.refusal.Refusal.{Refusal}
@@ -20,7 +22,8 @@ abbrev pub Early : Type 0 → Type 0
 Early A = Result A Refusal
 
 -- one reading behind another, unless it ends early
-unfoldable pub then_with : {A B : Type 0} → Reading (Early A) → (A → Reading (Early B)) → Reading (Early B)
+unfoldable pub then_with : {A B : Type 0} → Reading (Early A) → (A → Reading (Early B))
+    → Reading (Early B)
 then_with (decided (Ok a)) next = next a
 then_with (decided (Err refusal)) next = decided (Err refusal)
 then_with (asks name go) next = asks name (λ found. then_with (go found) next)

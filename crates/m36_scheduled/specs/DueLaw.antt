@@ -11,8 +11,8 @@ pub record IsByFound (unaudited : Bool) (p : ProcsFields) (due : Answer) : Type 
   pub others : List JointFound
   pub answer : due ≡ procs_answer unaudited p (first ∷ others)
 
--- One answer at most is due, and it can't be that none is. Where all conditions hold it is that without findings, and
--- otherwise it is one by some findings.
+-- One answer at most is due, and it can't be that none is. Where all conditions hold it is that
+-- without findings, and otherwise it is one by some findings.
 pub record ProcsDueLaw : Type 0 where
   pub one :
       (unaudited : Bool) (p : ProcsFields) (due same : Answer)

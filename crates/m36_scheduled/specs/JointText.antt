@@ -1,6 +1,6 @@
--- The text of a joint audit: the line `audit yes`, or a line for each finding. One of a process has the number of the
--- process, its condition and its place in octal, as in `audit no 1 A3 00000100`; one between processes has its condition and
--- the core word, as in `audit no J2 00000060`.
+-- The text of a joint audit: the line `audit yes`, or a line for each finding. One of a process has
+-- the number of the process, its condition and its place in octal, as in `audit no 1 A3 00000100`;
+-- one between processes has its condition and the core word, as in `audit no J2 00000060`.
 use Rattle.std.specs.Prelude.{ℕ, List, [], ◌∷◌, ◌++◌, codes, Option, Some, None}
 use Rattle.m36_text.specs.Digits.{octal_text, decimal_text}
 use Rattle.m36_model.specs.JointAudit.{JointFound}

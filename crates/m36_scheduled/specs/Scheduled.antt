@@ -1,6 +1,7 @@
--- What is due to a schedule of processes: the text of what their joint audit finds, and, where they are run, the lines of the
--- schedule, both line by line.
-use Rattle.std.specs.Prelude.{◌≡◌, ℕ, Bool, true, false, ◌||◌, List, [], ◌∷◌, ◌++◌, map, Result, Ok, Err}
+-- What is due to a schedule of processes: the text of what their joint audit finds, and, where they
+-- are run, the lines of the schedule, both line by line.
+use Rattle.std.specs.Prelude.{◌≡◌, ℕ, Bool, true, false, ◌||◌, List, [], ◌∷◌, ◌++◌, map, Result, Ok}
+use Rattle.std.specs.Prelude.{Err}
 use Rattle.m36_desc.specs.Fields.{DbrFields}
 use Rattle.m36_model.specs.Core.{core_store, core_tables}
 use Rattle.m36_model.specs.Schedule.{Processes}
@@ -35,7 +36,8 @@ procs_by name (Err refusal) = Err (refused name (code_of refusal.1) refusal.0)
 
 -- the processes and the schedule that a file writes out
 unfoldable pub procs_reads : List ℕ → Reading (Early ProcsFields)
-procs_reads name = then_with (file_bytes name) (λ bytes. decided (procs_by name (procs_given bytes)))
+procs_reads name =
+    then_with (file_bytes name) (λ bytes. decided (procs_by name (procs_given bytes)))
 
 -- ---- answers
 
@@ -79,8 +81,8 @@ dbrs_of s = map (λ g. g.dbr) s.regs
 pub record AreIsolated (s : Processes (List ℕ)) : Type 0 where
   pub isolates : JointlyIsolated core_store (map (core_tables s.store) (dbrs_of s))
 
--- An answer is due: the one by the findings of the joint audit, of which there is one list. Where there are none, every
--- schedule of the processes is isolated.
+-- An answer is due: the one by the findings of the joint audit, of which there is one list. Where
+-- there are none, every schedule of the processes is isolated.
 pub record IsProcsDue (unaudited : Bool) (p : ProcsFields) (due : Answer) : Type 0 where
   pub findings : List JointFound
   pub found : AreJointFindings p.state.store (dbrs_of p.state) findings
@@ -93,7 +95,8 @@ procs_kind unaudited = record { IsDue = IsProcsDue unaudited; Wants = λ p. IsId
 
 -- ---- what `audit yes` promises
 
--- All conditions of the joint audit hold, and every schedule of the processes is isolated in each ring from 1.
+-- All conditions of the joint audit hold, and every schedule of the processes is isolated in each
+-- ring from 1.
 pub record PassesJoint (s : Processes (List ℕ)) : Type 0 where
   pub conditions : IsJointlyAudited s.store (dbrs_of s)
   pub isolates : JointlyIsolated core_store (map (core_tables s.store) (dbrs_of s))

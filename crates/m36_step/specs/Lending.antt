@@ -10,6 +10,7 @@ use Rattle.m36_step.specs.contracts.machine.Machine as machine
 abbrev pub with_core : MachineFields → List ℕ → MachineFields
 with_core m c = record { state = record { regs = m.state.regs; store = c }; ended = m.ended }
 
--- The machine ends with core as it was last left; its registers, and whether its run has ended, stay.
+-- The machine ends with core as it was last left; its registers, and whether its run
+-- has ended, stay.
 abbrev pub LendsCore : MutBor MachineFields → MutBor (List ℕ) → Fml
 LendsCore m r = Lends machine.the_row core.the_row m r (λ c. with_core m.now c)

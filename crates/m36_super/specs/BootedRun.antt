@@ -20,7 +20,8 @@ use Rattle.m36_link.specs.Fields.{KnownFields, SnapFields}
 use Rattle.m36_link.specs.Snap.{RefusedFields, snap_of}
 use Rattle.m36_link.specs.Accepted.{accepted}
 use Rattle.m36_step.specs.declared.turns.Turn.{Turn}
-use Rattle.m36_step.specs.declared.turns.Turn.TheVariants.{Stepped, Linked, Console, Ended, NoMemory}
+use Rattle.m36_step.specs.declared.turns.Turn.TheVariants.{Stepped, Linked, Console, Ended}
+use Rattle.m36_step.specs.declared.turns.Turn.TheVariants.{NoMemory}
 use Rattle.m36_super.specs.Library.{Library}
 use Rattle.m36_super.specs.Services.{link_changes, note_snapped, note_refused, console_limit}
 use Rattle.m36_super.specs.Services.{console_text}
@@ -95,7 +96,8 @@ abbrev pub IsLinkTurn :
 IsLinkTurn answer frames at before NoMemory after = after ≡ before
 IsLinkTurn (Ok s) frames at before turn after = IsLinked frames at s before turn after
 IsLinkTurn (Err why) frames at before turn after =
-    (turn ≡ Linked (note_refused at why)) × (after ≡ record before { coming = Over (end.Link why.code) })
+    (turn ≡ Linked (note_refused at why))
+    × (after ≡ record before { coming = Over (end.Link why.code) })
 
 -- the console service
 abbrev pub IsConsoleTurn : Bool → Result (List ℕ) Fault → Booted → Turn → Booted → Type 0

@@ -1,5 +1,5 @@
--- Words that are written into segments: one after another, and the section of an object with its word
--- of the linkage offset table.
+-- Words that are written into segments: one after another, and the section of an object with its
+-- word of the linkage offset table.
 use Rattle.std.specs.Prelude.{ℕ, ◌+◌, List, [], ◌∷◌, ◌++◌, Option, None, Some}
 use Rattle.m36_model.specs.Act.{Whole}
 use Rattle.m36_model.specs.Store.{Segment_word, Change}

@@ -21,8 +21,8 @@ use Rattle.m36_super.specs.Laying.{written_from, laying}
 
 -- ---- links
 
--- A link service that succeeds writes the pair, the section that it lays and the word of the linkage
--- offset table for it, and no other word.
+-- A link service that succeeds writes the pair, the section that it lays and the word of the
+-- linkage offset table for it, and no other word.
 unfoldable pub link_changes : AtFields → SnapFields → List Change
 link_changes at s =
     written_from at.seg at.word (s.pair.even ∷ s.pair.odd ∷ []) ++ laying s.lay

@@ -1,5 +1,6 @@
 -- What a booted system shows.
-use Rattle.std.specs.Prelude.{◌≡◌, ℕ, ◌≤◌, ◌+◌, Bool, true, false, if◌then◌else◌, List, length, slice_get}
+use Rattle.std.specs.Prelude.{◌≡◌, ℕ, ◌≤◌, ◌+◌, Bool, true, false, if◌then◌else◌, List, length}
+use Rattle.std.specs.Prelude.{slice_get}
 use Rattle.std.specs.Prelude.{Option, Some, None, ◌<◌, Ok}
 use Rattle.m36_desc.specs.Fields.{SdwFields}
 use Rattle.m36_model.specs.Place.{core_sdw}
@@ -65,7 +66,8 @@ pub record IsManaged (frames : ℕ) (core : List ℕ) (p : PagerFields) : Type 0
   pub linkage : (ring : ℕ) → ring < 8 → IsLinkage core (linkage_segment ring)
 
 -- Until an LDBR has been executed, segments are found by the descriptors of the image.
-pub record IsRunning (frames : ℕ) (regs : RegsFields) (core : List ℕ) (p : PagerFields) : Type 0 where
+pub record IsRunning (frames : ℕ) (regs : RegsFields) (core : List ℕ)
+    (p : PagerFields) : Type 0 where
   pub dbr : regs.dbr ≡ booted_dbr
   pub managed : IsManaged frames core p
 

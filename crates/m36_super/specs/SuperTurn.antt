@@ -12,12 +12,14 @@ use Rattle.m36_link.specs.Fields.{SnapFields}
 use Rattle.m36_link.specs.Snap.{RefusedFields}
 use Rattle.m36_step.specs.Answers.{IsDone, IsService}
 use Rattle.m36_step.specs.declared.turns.Turn.{Turn}
-use Rattle.m36_step.specs.declared.turns.Turn.TheVariants.{Stepped, Linked, Console, Ended, Full, NoMemory}
+use Rattle.m36_step.specs.declared.turns.Turn.TheVariants.{Stepped, Linked, Console, Ended, Full}
+use Rattle.m36_step.specs.declared.turns.Turn.TheVariants.{NoMemory}
 use Rattle.m36_step.specs.declared.turns.BackAnswer.{BackAnswer}
 use Rattle.m36_step.specs.declared.turns.BackAnswer.TheVariants as back
 use Rattle.m36_super.specs.Coming.{Coming, Step, Link, Print, Over}
 use Rattle.m36_super.specs.Library.{Library}
-use Rattle.m36_super.specs.BootedRun.{Booted, IsStepTurn, IsLinkTurn, IsConsoleTurn, IsTurnBy, IsTurn}
+use Rattle.m36_super.specs.BootedRun.{Booted, IsStepTurn, IsLinkTurn, IsConsoleTurn, IsTurnBy}
+use Rattle.m36_super.specs.BootedRun.{IsTurn}
 use Rattle.m36_super.specs.SuperFields.{SuperFields, booted_of}
 
 abbrev pub SuperTurns : SuperFields → Turn → SuperFields → Type 0
@@ -28,7 +30,8 @@ SuperTurns before turn later =
 abbrev pub SuperWent : SuperFields → ℕ → BackAnswer → SuperFields → Type 0
 SuperWent before n answer later = (answer ≡ back.Unable) × (later ≡ before)
 
--- The content of a word: of the flat memory until an LDBR has been executed, and of core from then on.
+-- The content of a word: of the flat memory until an LDBR has been executed, and of core
+-- from then on.
 abbrev pub content_by : Bool → SuperFields → ℕ → ℕ → Option ℕ
 content_by false s seg w =
     content_in flat_store (flat_of (booted_of s).state.memory) s.regs.dbr seg w

@@ -6,7 +6,8 @@ use Rattle.m36_model.specs.Audit.{IsAudited}
 use Rattle.m36_model.specs.BootedCore.{booted_dbr}
 use Rattle.m36_model.specs.PagedStep.{ExecutesAbsa}
 use Rattle.m36_step.specs.declared.turns.Turn.{Turn}
-use Rattle.m36_step.specs.declared.turns.Turn.TheVariants.{Stepped, Linked, Console, Ended, Full, NoMemory}
+use Rattle.m36_step.specs.declared.turns.Turn.TheVariants.{Stepped, Linked, Console, Ended, Full}
+use Rattle.m36_step.specs.declared.turns.Turn.TheVariants.{NoMemory}
 use Rattle.m36_super.specs.Library.{Library}
 use Rattle.m36_super.specs.Coming.{loaded_after}
 use Rattle.m36_super.specs.FlatRun.{flat_turn, flat_turns}
@@ -22,13 +23,15 @@ LocatesInTurn Full = ⊥
 LocatesInTurn NoMemory = ⊥
 
 -- a turn of the flat run
-pub record IsFlatTurn (lib : Library) (before : Booted) (turn : Turn) (after : Booted) : Type 0 where
+pub record IsFlatTurn (lib : Library) (before : Booted) (turn : Turn)
+    (after : Booted) : Type 0 where
   pub turn_is : turn ≡ (flat_turn lib (flat_run_of before)).turn
   pub after_is : flat_run_of after ≡ (flat_turn lib (flat_run_of before)).after
 
 -- Until an LDBR is executed a turn is the flat run's, or wants memory, or executes ABSA; and the
 -- core stays that of the image.
-pub record IsTurnKept (lib : Library) (before : Booted) (turn : Turn) (after : Booted) : Type 0 where
+pub record IsTurnKept (lib : Library) (before : Booted) (turn : Turn)
+    (after : Booted) : Type 0 where
   pub cases :
       IsFlatTurn lib before turn after ⊎ ((turn ≡ NoMemory) × (after ≡ before)) ⊎ LocatesInTurn turn
   pub stands : Stands after.loaded lib.catalog.frames after.state

@@ -1,9 +1,11 @@
--- What the reader of tables says of the words that it has passed, and of the places that it has found.
+-- What the reader of tables says of the words that it has passed, and of the places that it has
+-- found.
 use Rattle.std.specs.Prelude.{ℕ, ◌<◌, Bool, true, false, Result, Ok, Err}
 use Rattle.m36_model.specs.Store.{Spot, Core_word}
 use Rattle.m36_model.specs.declared.outcome.Refusal.{Refusal}
 
--- A table is passed unless what it stands for lies in one piece; the word of it that is read lies in core.
+-- A table is passed unless what it stands for lies in one piece; the word of it that is read lies
+-- in core.
 abbrev pub TableIn : ℕ → Bool → ℕ → Type 0
 TableIn size true a = Unit {0}
 TableIn size false a = a < size

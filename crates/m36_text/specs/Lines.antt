@@ -1,9 +1,10 @@
 -- The lines of a text, the words of a line, and the first line of which something is told.
-use Rattle.std.specs.Prelude.{ℕ, ◌≡◌, ◌+◌, ◌-◌, ◌==◌, Bool, if◌then◌else◌, List, [], ◌∷◌, Option, Some, None, slice_get, unwrap_or}
+use Rattle.std.specs.Prelude.{ℕ, ◌≡◌, ◌+◌, ◌-◌, ◌==◌, Bool, if◌then◌else◌, List, [], ◌∷◌, Option}
+use Rattle.std.specs.Prelude.{Some, None, slice_get, unwrap_or}
 use Rattle.std.specs.List.{slice_split}
 
--- A line ends with its line feed. What stands behind the last line feed is a line too, if it is anything, but one
--- without its line feed: none stands for it, since it is of no form.
+-- A line ends with its line feed. What stands behind the last line feed is a line too, if it is
+-- anything, but one without its line feed: none stands for it, since it is of no form.
 abbrev pub cut_line : List ℕ → List (Option (List ℕ))
 cut_line [] = []
 cut_line (b ∷ rest) = None ∷ []

@@ -1,11 +1,13 @@
 -- The numbers of the lines that are read.
-use Rattle.std.specs.Prelude.{ℕ, ◌-◌, ◌^◌, Bool, ◌||◌, not, ◌==◌, nat_le, if◌then◌else◌, List, length, slice_index, Option, Some, None}
+use Rattle.std.specs.Prelude.{ℕ, ◌-◌, ◌^◌, Bool, ◌||◌, not, ◌==◌, nat_le, if◌then◌else◌, List}
+use Rattle.std.specs.Prelude.{length, slice_index, Option, Some, None}
 use Rattle.std.specs.Result.{result_ok}
 use Rattle.m36_text.specs.Reading.{number_read}
 
 -- exactly so many octal digits
 unfoldable pub octal_in : ℕ → List ℕ → Option ℕ
-octal_in places text = if length text == places then result_ok (number_read 8 text (8 ^ places - 1)) else None
+octal_in places text =
+    if length text == places then result_ok (number_read 8 text (8 ^ places - 1)) else None
 
 abbrev pub at_least : ℕ → Option ℕ → Option ℕ
 at_least least None = None
@@ -17,11 +19,13 @@ decimal_in least most text = at_least least (result_ok (number_read 10 text most
 
 -- the same of at most so many digits
 unfoldable pub short_decimal_in : ℕ → ℕ → ℕ → List ℕ → Option ℕ
-short_decimal_in digits least most text = if nat_le (length text) digits then decimal_in least most text else None
+short_decimal_in digits least most text =
+    if nat_le (length text) digits then decimal_in least most text else None
 
 -- the same without a leading zero, but for the number 0
 abbrev pub has_no_leading_zero : List ℕ → Bool
 has_no_leading_zero text = (length text == 1) || not (slice_index text 0 == 48)
 
 unfoldable pub plain_decimal_in : ℕ → ℕ → List ℕ → Option ℕ
-plain_decimal_in least most text = if has_no_leading_zero text then decimal_in least most text else None
+plain_decimal_in least most text =
+    if has_no_leading_zero text then decimal_in least most text else None

@@ -1,13 +1,15 @@
 -- Words packed into bytes.
-use Rattle.std.specs.Prelude.{ℕ, zero, suc, ◌+◌, ◌-◌, ◌*◌, ◌/◌, ◌%◌, ◌^◌, ◌<◌, ◌≡◌, nat_eq, if◌then◌else◌, List, [], ◌∷◌, ◌++◌, length, take, drop, slice_index, Result, Ok, Err}
+use Rattle.std.specs.Prelude.{ℕ, zero, suc, ◌+◌, ◌-◌, ◌*◌, ◌/◌, ◌%◌, ◌^◌, ◌<◌, ◌≡◌, nat_eq}
+use Rattle.std.specs.Prelude.{if◌then◌else◌, List, [], ◌∷◌, ◌++◌, length, take, drop, slice_index}
+use Rattle.std.specs.Prelude.{Result, Ok, Err}
 use Rattle.std.specs.List.{All}
 use Rattle.std.specs.Int.Digits.{number_from_digits}
 use Rattle.m36_text.specs.Digits.{digits}
 use Rattle.m36_text.specs.declared.packing.PackFault.{PackFault}
 use Rattle.m36_text.specs.declared.packing.PackFault.TheVariants.{T3, T4, NoMemory}
 
--- Words go in order, the most significant bit first: two words are 72 bits, which fill nine bytes, and a last word
--- alone is 36 bits and four zero bits, which fill five.
+-- Words go in order, the most significant bit first: two words are 72 bits, which fill nine bytes,
+-- and a last word alone is 36 bits and four zero bits, which fill five.
 unfoldable pub packed : List ℕ → List ℕ
 packed [] = []
 packed (last ∷ []) = digits 256 5 (last * 2 ^ 4)
@@ -17,22 +19,25 @@ packed (even ∷ odd ∷ words) = digits 256 9 (even * 2 ^ 36 + odd) ++ packed w
 unfoldable pub bits_of : List ℕ → ℕ
 bits_of bytes = number_from_digits 256 bytes
 
--- the words of so many groups of nine bytes, and then those of what is left, of which only five bytes are a word
+-- the words of so many groups of nine bytes, and then those of what is left, of which only five
+-- bytes are a word
 abbrev pub last_word : List ℕ → List ℕ
 last_word [] = []
 last_word (byte ∷ bytes) = bits_of (byte ∷ bytes) / 2 ^ 4 ∷ []
 
 unfoldable pub words_of : ℕ → List ℕ → List ℕ
 words_of zero bytes = last_word bytes
-words_of (suc groups) bytes = bits_of (take 9 bytes) / 2 ^ 36 ∷ bits_of (take 9 bytes) % 2 ^ 36 ∷ words_of groups (drop 9 bytes)
+words_of (suc groups) bytes = bits_of (take 9 bytes) / 2 ^ 36 ∷ bits_of (take 9 bytes) % 2 ^ 36
+    ∷ words_of groups (drop 9 bytes)
 
--- Bytes as words: T3 with their count, where it is no count of packed words; T4 with the place of the last byte, where
--- the last four bits behind a word alone are not zero.
+-- Bytes as words: T3 with their count, where it is no count of packed words; T4 with the place of
+-- the last byte, where the last four bits behind a word alone are not zero.
 unfoldable pub unpacked : List ℕ → Result (List ℕ) PackFault
 unpacked bytes =
     if nat_eq (length bytes % 9) 0 then Ok (words_of (length bytes / 9) bytes)
     else (if nat_eq (length bytes % 9) 5
-    then (if nat_eq (slice_index bytes (length bytes - 1) % 2 ^ 4) 0 then Ok (words_of (length bytes / 9) bytes) else Err (T4 (length bytes - 1)))
+    then (if nat_eq (slice_index bytes (length bytes - 1) % 2 ^ 4) 0
+    then Ok (words_of (length bytes / 9) bytes) else Err (T4 (length bytes - 1)))
     else Err (T3 (length bytes)))
 
 -- What a call that unpacks answers, where want of memory may come at any time.
@@ -50,12 +55,15 @@ IsOfCount count NoMemory = Unit {0}
 
 -- Words that were packed are unpacked as themselves.
 abbrev pub UnpacksWhatWasPacked : Type 0
-UnpacksWhatWasPacked = (words : List ℕ) → All (λ word. word < 2 ^ 36) words → unpacked (packed words) ≡ Ok words
+UnpacksWhatWasPacked =
+    (words : List ℕ) → All (λ word. word < 2 ^ 36) words → unpacked (packed words) ≡ Ok words
 
 -- Bytes that give words are those that the words are packed into.
 abbrev pub PacksWhatWasUnpacked : Type 0
-PacksWhatWasUnpacked = (bytes words : List ℕ) → All (λ byte. byte < 2 ^ 8) bytes → unpacked bytes ≡ Ok words → packed words ≡ bytes
+PacksWhatWasUnpacked = (bytes words : List ℕ) → All (λ byte. byte < 2 ^ 8) bytes
+    → unpacked bytes ≡ Ok words → packed words ≡ bytes
 
 -- What bytes give are words.
 abbrev pub UnpacksIntoWords : Type 0
-UnpacksIntoWords = (bytes words : List ℕ) → All (λ byte. byte < 2 ^ 8) bytes → unpacked bytes ≡ Ok words → All (λ word. word < 2 ^ 36) words
+UnpacksIntoWords = (bytes words : List ℕ) → All (λ byte. byte < 2 ^ 8) bytes
+    → unpacked bytes ≡ Ok words → All (λ word. word < 2 ^ 36) words

@@ -1,5 +1,7 @@
 -- Texts of digits read as numbers.
-use Rattle.std.specs.Prelude.{ℕ, ◌+◌, ◌-◌, ◌^◌, ◌<◌, ◌≤◌, ◌≡◌, ◌≢◌, not, nat_le, if◌then◌else◌, List, [], ◌∷◌, map, length, slice_index, Option, Some, None, Result, Ok, Err}
+use Rattle.std.specs.Prelude.{ℕ, ◌+◌, ◌-◌, ◌^◌, ◌<◌, ◌≤◌, ◌≡◌, ◌≢◌, not, nat_le, if◌then◌else◌}
+use Rattle.std.specs.Prelude.{List, [], ◌∷◌, map, length, slice_index, Option, Some, None, Result}
+use Rattle.std.specs.Prelude.{Ok, Err}
 use Rattle.std.specs.List.{position}
 use Rattle.std.specs.Int.Digits.{number_from_digits}
 use Rattle.m36_text.specs.Digits.{is_digit, digit_of, octal_text, decimal_text}
@@ -14,15 +16,16 @@ first_other base text = position (λ byte. not (is_digit base byte)) text
 unfoldable pub number_of : ℕ → List ℕ → ℕ
 number_of base text = number_from_digits base (map digit_of text)
 
--- a text as a number of at most max: T1 with the place of the first byte that is no digit, and with 0 where there is
--- no byte; T2 where all are digits and the number is over max
+-- a text as a number of at most max: T1 with the place of the first byte that is no digit, and with
+-- 0 where there is no byte; T2 where all are digits and the number is over max
 abbrev pub judged : Option ℕ → ℕ → ℕ → Result ℕ NumberFault
 judged (Some place) v max = Err (T1 place)
 judged None v max = if nat_le v max then Ok v else Err T2
 
 unfoldable pub number_read : ℕ → List ℕ → ℕ → Result ℕ NumberFault
 number_read base [] max = Err (T1 0)
-number_read base (byte ∷ text) max = judged (first_other base (byte ∷ text)) (number_of base (byte ∷ text)) max
+number_read base (byte ∷ text) max =
+    judged (first_other base (byte ∷ text)) (number_of base (byte ∷ text)) max
 
 -- what a fault tells lies within a text of so many bytes
 abbrev pub IsWithin : ℕ → NumberFault → Type 0
@@ -31,7 +34,8 @@ IsWithin count T2 = Unit {0}
 
 -- A number that was written in octal, in places enough for it, is read as itself.
 abbrev pub ReadsOctal : Type 0
-ReadsOctal = (places v max : ℕ) → 1 ≤ places → v < 8 ^ places → v ≤ max → number_read 8 (octal_text places v) max ≡ Ok v
+ReadsOctal = (places v max : ℕ) → 1 ≤ places → v < 8 ^ places → v ≤ max
+    → number_read 8 (octal_text places v) max ≡ Ok v
 
 -- A number that was written in decimal is read as itself.
 abbrev pub ReadsDecimal : Type 0

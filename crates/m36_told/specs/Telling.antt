@@ -56,7 +56,8 @@ alm_reads files =
 -- ---- what the parts of `alm` say
 
 -- the object and the listing of what a source means
-pub record IsMade (name : List ℕ) (told : ToldFields) (given : Result Assembly AlmFault) : Type 0 where
+pub record IsMade (name : List ℕ) (told : ToldFields)
+    (given : Result Assembly AlmFault) : Type 0 where
   pub assembly : Assembly
   pub is : given ≡ Ok assembly
   pub told_is : told ≡ assembly_told name assembly

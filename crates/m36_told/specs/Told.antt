@@ -1,4 +1,5 @@
--- Answers that are told: the files that are written, and the text that is put behind them, line by line.
+-- Answers that are told: the files that are written, and the text that is put behind them, line by
+-- line.
 use Rattle.std.specs.Prelude.{ℕ, ◌≡◌, List, [], ◌∷◌, ◌++◌}
 use Rattle.m36_outside.specs.declared.folder.WriteAnswer.TheVariants.{NoMemory}
 use Rattle.m36_reading.specs.declared.setting.Set.{Set}
@@ -20,8 +21,8 @@ told_answer told =
 abbrev pub IsToldDue : ToldFields → Answer → Type 0
 IsToldDue told due = due ≡ told_answer told
 
--- Memory may be wanted for the writing of a file: then those before it are written, no other write is tried, and nothing
--- is put.
+-- Memory may be wanted for the writing of a file: then those before it are written, no other write
+-- is tried, and nothing is put.
 pub record ToldWants (told : ToldFields) (old new : Outside) : Type 0 where
   pub before : List Set
   pub next : Set

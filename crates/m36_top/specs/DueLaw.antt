@@ -16,12 +16,14 @@ abbrev pub IsCommandDue : Option Command → Files → Answer → Type 0
 IsCommandDue None files due = due ≡ unwritten Usage
 IsCommandDue (Some command) files due = IsDueBy IsDueOf (outcome_in files (reads command)) due
 
--- One answer at most is due to words and files, and it can't be that none is. Its pieces, one behind the other, are its
--- text. To a command on an image, or on processes, it is the one that the findings of the audit give.
+-- One answer at most is due to words and files, and it can't be that none is. Its pieces, one
+-- behind the other, are its text. To a command on an image, or on processes, it is the one that the
+-- findings of the audit give.
 pub record DueLaw : Type 0 where
   pub one :
       (words : List (List ℕ)) (files : Files) (due same : Answer)
-      → IsCommandDue (command_of words) files due → IsCommandDue (command_of words) files same → due ≡ same
+      → IsCommandDue (command_of words) files due → IsCommandDue (command_of words) files same
+      → due ≡ same
   pub some :
       (words : List (List ℕ)) (files : Files)
       → ¬ ((due : Answer) → ¬ IsCommandDue (command_of words) files due)

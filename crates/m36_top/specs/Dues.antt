@@ -1,5 +1,5 @@
--- What is due to a command, in kinds: an answer that is told, one by what the audit of an image finds, or one by what the
--- joint audit of processes finds.
+-- What is due to a command, in kinds: an answer that is told, one by what the audit of an image
+-- finds, or one by what the joint audit of processes finds.
 use Rattle.std.specs.Prelude.{ℕ, ⊤, Bool, List}
 use Rattle.m36_model.specs.Store.{State}
 use Rattle.m36_reading.specs.Answers.{Answer}

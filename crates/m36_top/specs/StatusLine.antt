@@ -4,12 +4,15 @@ use Rattle.m36_text.specs.Digits.{decimal_text}
 use Rattle.m36_reading.specs.Names.{status_name, code_name}
 use Rattle.m36_reading.specs.declared.status.Bad.{Bad}
 use Rattle.m36_reading.specs.declared.status.Status.{Status}
-use Rattle.m36_reading.specs.declared.status.Status.TheVariants.{Done, Usage, ReadFault, WriteFault, BadFile, AuditNo, MachineStop, Steps, NoMemory}
+use Rattle.m36_reading.specs.declared.status.Status.TheVariants.{Done, Usage, ReadFault, WriteFault}
+use Rattle.m36_reading.specs.declared.status.Status.TheVariants.{BadFile, AuditNo, MachineStop}
+use Rattle.m36_reading.specs.declared.status.Status.TheVariants.{Steps, NoMemory}
 
 -- the file, the code, the place and the column, each behind a blank
 abbrev pub bad_place : Bad → List ℕ
 bad_place bad =
-    ((((((codes " " ++ bad.name) ++ codes " ") ++ code_name bad.code) ++ codes " ") ++ decimal_text bad.at) ++ codes " ")
+    ((((((codes " " ++ bad.name) ++ codes " ") ++ code_name bad.code) ++ codes " ")
+    ++ decimal_text bad.at) ++ codes " ")
     ++ decimal_text bad.column
 
 abbrev pub details : Status → List ℕ

@@ -1,5 +1,6 @@
 -- What the top call says, by the command that its words are.
-use Rattle.std.specs.Prelude.{ℕ, ◌≡◌, ◌⊎◌, ⊤, Bool, true, false, ◌++◌, List, Option, Some, None, IfSome, Ok, Err}
+use Rattle.std.specs.Prelude.{ℕ, ◌≡◌, ◌⊎◌, ⊤, Bool, true, false, ◌++◌, List, Option, Some, None}
+use Rattle.std.specs.Prelude.{IfSome, Ok, Err}
 use Rattle.m36_outside.specs.Counts.{Rose}
 use Rattle.m36_outside.specs.Files.{Files}
 use Rattle.m36_outside.specs.FolderCalls.{Asked}
@@ -21,13 +22,15 @@ pub record IsUnasked (result : Status) (old new : Outside) : Type 0 where
   pub idle : IsIdle old new
   pub read_faults : NoneUnread old new
 
--- A command is performed, by whatever answers the folder gives: what it was asked and answered before the call, and after,
--- differ by those that the command's reading asks for, one after another and no others; what the folder was told to write
--- differs by the files of an answer that is due by them, or by a first part of these; and so do the pieces that the sink
--- took by those of the answer. Without a command nothing is asked, written or taken.
+-- A command is performed, by whatever answers the folder gives: what it was asked and answered
+-- before the call, and after, differ by those that the command's reading asks for, one after
+-- another and no others; what the folder was told to write differs by the files of an answer that
+-- is due by them, or by a first part of these; and so do the pieces that the sink took by those of
+-- the answer. Without a command nothing is asked, written or taken.
 abbrev pub Through : Option Command → Status → Outside → Outside → List Asked → List Asked → Type 0
 Through None result old new before after = IsUnasked result old new × (after ≡ before)
-Through (Some command) result old new before after = Does due_kind (reads command) result old new before after
+Through (Some command) result old new before after =
+    Does due_kind (reads command) result old new before after
 
 -- It ends by what its reading comes to in the files that the folder tells.
 abbrev pub TopOutput : Option Command → Files → Status → Outside → Outside → Type 0
@@ -45,7 +48,8 @@ ReadCause Cut old new = NoneUnread old new
 ReadCause Starved old new = NoneUnread old new
 ReadCause Unasked old new = NoneUnread old new
 
--- With a command that writes files, the count of the sink or that of the folder rose; with every other that of the sink.
+-- With a command that writes files, the count of the sink or that of the folder rose; with every
+-- other that of the sink.
 abbrev pub WriteRose : Bool → Outside → Outside → Type 0
 WriteRose true old new =
     Rose old.sink.faults new.sink.faults ⊎ Rose old.folder.write_faults new.folder.write_faults
@@ -76,12 +80,14 @@ WriteCause command result old new = WriteCauseBy (may_write command) (end_of res
 abbrev pub Completes : Option Command → Files → Status → Outside → Outside → Type 0
 Completes None files result old new = result ≡ Usage
 Completes (Some command) files result old new =
-    ¬ Rose old.folder.read_faults new.folder.read_faults → ¬ WriteRose (writes_files command) old new
+    ¬ Rose old.folder.read_faults new.folder.read_faults
+    → ¬ WriteRose (writes_files command) old new
     → (result ≡ NoMemory) ⊎ IsAnswered due_kind (ComesIn files (reads command)) result old new
 
 -- ---- files
 
--- No file changes, where the folder tells its files, and nothing is written to it, whether it tells them or not.
+-- No file changes, where the folder tells its files, and nothing is written to it, whether it tells
+-- them or not.
 pub record IsKept (old new : Outside) : Type 0 where
   pub files : new.folder.files ≡ old.folder.files
   pub wrote : new.folder.wrote ≡ old.folder.wrote
@@ -103,7 +109,8 @@ pub record SaysYes (old new : Option (List ℕ)) : Type 0 where
   pub was : old ≡ Some before
   pub is : new ≡ Some (before ++ (yes_line ++ rest))
 
--- Then the image or the processes that the command audits pass. Nothing is owed for a command that audits none.
+-- Then the image or the processes that the command audits pass. Nothing is owed for a command that
+-- audits none.
 abbrev pub YesPasses : Early Due → Outside → Outside → Type 0
 YesPasses (Ok due) old new = SaysYes old.sink.written new.sink.written → Promises due
 YesPasses (Err refusal) old new = ¬ SaysYes old.sink.written new.sink.written
@@ -113,10 +120,12 @@ TopPasses None files old new = ¬ SaysYes old.sink.written new.sink.written
 TopPasses (Some command) files old new = YesPasses (outcome_in files (reads command)) old new
 
 -- The same by what the folder answered, whether it tells its files or not.
-pub record AnswersPass (command : Command) (old new : Outside) (before after : List Asked) : Type 0 where
+pub record AnswersPass (command : Command) (old new : Outside)
+    (before after : List Asked) : Type 0 where
   pub asked : List Asked
   pub passed : after ≡ before ++ asked
-  pub passes : (given : Early Due) → Comes (reads command) asked (Came given) → YesPasses given old new
+  pub passes : (given : Early Due) → Comes (reads command) asked (Came given)
+      → YesPasses given old new
 
 abbrev pub TopAnswersPass : Option Command → Outside → Outside → List Asked → List Asked → Type 0
 TopAnswersPass None old new before after = ¬ SaysYes old.sink.written new.sink.written

@@ -7,14 +7,17 @@
 --     alm NAME
 --     bind NAME
 --
--- The first word is the command. Operands and options follow it in any order, and an option stands at most once. Behind
--- `--`, which may stand once, each word is an operand. `--steps N` may be written `--steps=N`; the value of `--steps` is
--- the next word, whatever it is. No other list of words is a command.
+-- The first word is the command. Operands and options follow it in any order, and an option stands
+-- at most once. Behind `--`, which may stand once, each word is an operand. `--steps N` may be
+-- written `--steps=N`; the value of `--steps` is the next word, whatever it is. No other list of
+-- words is a command.
 --
---     FILE, NAME   1 to 32 of `A-Z a-z 0-9 _ .`, not beginning with `.`; of `alm` and `bind` at most 27,
+--     FILE, NAME   1 to 32 of `A-Z a-z 0-9 _ .`, not beginning with `.`; of `alm` and `bind` at
+--     most 27,
 --                  since they read NAME.alm and NAME.bind
 --     N            1 to 8 decimal digits, at most 10,000,000; without `--steps` 100,000
-use Rattle.std.specs.Prelude.{ℕ, Bool, true, false, not, ◌&&◌, nat_le, List, [], ◌∷◌, ◌++◌, length, take, drop, codes, Option, Some, None, unwrap_or, if◌then◌else◌}
+use Rattle.std.specs.Prelude.{ℕ, Bool, true, false, not, ◌&&◌, nat_le, List, [], ◌∷◌, ◌++◌, length}
+use Rattle.std.specs.Prelude.{take, drop, codes, Option, Some, None, unwrap_or, if◌then◌else◌}
 use Rattle.std.specs.Option.{is_none, option_map, option_and_then}
 use Rattle.m36_text.specs.Texts.{is_text, is_file_name}
 use Rattle.m36_text.specs.Numbers.{short_decimal_in}
@@ -37,12 +40,15 @@ abbrev pub given_once : {A : Type 0} → Option A → Option A → Option A
 given_once None new = new
 given_once (Some old) new = None
 
--- What the words so far give, and one more. None is given for a word that makes the list no command.
+-- What the words so far give, and one more. None is given for a word that makes the list no
+-- command.
 abbrev pub with_operand : Given → List ℕ → Option Given
-with_operand g word = option_map (λ name. record g { operand = Some name }) (given_once g.operand (operand_of word))
+with_operand g word =
+    option_map (λ name. record g { operand = Some name }) (given_once g.operand (operand_of word))
 
 abbrev pub with_steps : Given → List ℕ → Option Given
-with_steps g text = option_map (λ n. record g { steps = Some n }) (given_once g.steps (steps_of text))
+with_steps g text =
+    option_map (λ n. record g { steps = Some n }) (given_once g.steps (steps_of text))
 
 abbrev pub with_unaudited : Given → Option Given
 with_unaudited g = if g.unaudited then None else Some (record g { unaudited = true })
@@ -84,8 +90,8 @@ with_words g (word ∷ words) = option_and_then (λ h. with_words h words) (with
 abbrev pub nothing : Given
 nothing = record { operand = None; steps = None; unaudited = false; expects = expects.Any }
 
--- The commands by their words, each with what it makes of its operands and options. All options go with `bare`, `--unaudited`
--- with `procs`, and none with the others.
+-- The commands by their words, each with what it makes of its operands and options. All options go
+-- with `bare`, `--unaudited` with `procs`, and none with the others.
 abbrev pub bare : Given → Option Command
 bare g =
     option_map
@@ -106,14 +112,16 @@ print g = if has_no_option g then option_map (λ name. Print name) g.operand els
 
 abbrev pub alm_of : List ℕ → Option Command
 alm_of name =
-    if nat_le (length name) 27 then Some (Alm (record { source = name ++ codes ".alm"; object = name })) else None
+    if nat_le (length name) 27
+    then Some (Alm (record { source = name ++ codes ".alm"; object = name })) else None
 
 abbrev pub alm : Given → Option Command
 alm g = if has_no_option g then option_and_then alm_of g.operand else None
 
 abbrev pub bind_of : List ℕ → Option Command
 bind_of name =
-    if nat_le (length name) 27 then Some (Bind (record { bindfile = name ++ codes ".bind"; object = name })) else None
+    if nat_le (length name) 27
+    then Some (Bind (record { bindfile = name ++ codes ".bind"; object = name })) else None
 
 abbrev pub bind : Given → Option Command
 bind g = if has_no_option g then option_and_then bind_of g.operand else None
@@ -129,7 +137,8 @@ commands =
 -- the command of a word
 abbrev pub command_in : List Entry → List ℕ → Given → Option Command
 command_in [] word g = None
-command_in (entry ∷ entries) word g = if is_text entry.0 word then entry.1 g else command_in entries word g
+command_in (entry ∷ entries) word g =
+    if is_text entry.0 word then entry.1 g else command_in entries word g
 
 -- what a list of words asks for; none where it is no command
 unfoldable pub command_of : List (List ℕ) → Option Command

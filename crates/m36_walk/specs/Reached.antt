@@ -1,4 +1,5 @@
--- What a reference to core gives: descriptor, rights and places in this order, or the first refusal, told at its word.
+-- What a reference to core gives: descriptor, rights and places in this order, or the first
+-- refusal, told at its word.
 use Rattle.std.specs.Prelude.{ℕ, Bool, true, false, ◌≡◌, ◌++◌, List, Result, Ok, Err}
 use Rattle.m36_desc.specs.Fields.{SdwFields, DbrFields}
 use Rattle.m36_desc.specs.declared.access.Acv.{Acv}

@@ -1,5 +1,6 @@
 -- Words that lie one after another: those of a pair or a block.
-use Rattle.std.specs.Prelude.{ℕ, zero, suc, ◌+◌, ◌<◌, true, List, [], ◌∷◌, Result, Ok, Err, nat_lt, slice_index}
+use Rattle.std.specs.Prelude.{ℕ, zero, suc, ◌+◌, ◌<◌, true, List, [], ◌∷◌, Result, Ok, Err, nat_lt}
+use Rattle.std.specs.Prelude.{slice_index}
 use Rattle.m36_model.specs.Fields.{AtFields}
 use Rattle.m36_model.specs.Store.{Spot, Core_word, placed_one, fault_by}
 use Rattle.m36_model.specs.Place.{wrapped, inside_core_by}
@@ -17,7 +18,8 @@ unfoldable pub words_from : List ℕ → ℕ → ℕ → List ℕ
 words_from core a zero = []
 words_from core a (suc n) = slice_index core a ∷ words_from core (wrapped (a + 1)) n
 
--- the run lies in core, or the first of its words that does not; word is the word number of the first
+-- the run lies in core, or the first of its words that does not; word is the word number
+-- of the first
 unfoldable pub examined : ℕ → ℕ → ℕ → ℕ → Result (List Spot) (ℕ × Refusal)
 examined size word a zero = Ok []
 examined size word a (suc n) =
@@ -34,7 +36,8 @@ abbrev pub told_places : AtFields → Result (List Spot) (ℕ × Refusal) → Re
 told_places at (Ok spots) = Ok spots
 told_places at (Err e) = Err (fault_by e.1 (record { seg = at.seg; word = e.0; ring = at.ring }))
 
--- the run whose first place was found, or the word that is refused; word is the word number of the first
+-- the run whose first place was found, or the word that is refused; word is the word number
+-- of the first
 abbrev pub run_by : ℕ → ℕ → Result ℕ Refused → Result (List Spot) (ℕ × Refusal)
 run_by word count (Ok a) = Ok (run_from a count)
 run_by word count (Err r) = Err (word + r.further, r.why)

@@ -1,11 +1,14 @@
--- What a call of the walk says of a request of a step's program: the store of core words serves it so.
-use Rattle.std.specs.Prelude.{ℕ, ◌≡◌, ◌⊎◌, if◌then◌else◌, List, [], ◌∷◌, map, length, Option, Result, Ok, Err}
+-- What a call of the walk says of a request of a step's program: the store of core words serves it
+-- so.
+use Rattle.std.specs.Prelude.{ℕ, ◌≡◌, ◌⊎◌, if◌then◌else◌, List, [], ◌∷◌, map, length, Option}
+use Rattle.std.specs.Prelude.{Result, Ok, Err}
 use Rattle.m36_desc.specs.Fields.{SdwFields}
 use Rattle.m36_desc.specs.Descriptors.{sdw_of}
 use Rattle.m36_model.specs.Fields.{AtFields}
 use Rattle.m36_model.specs.Registers.{RegsFields}
 use Rattle.m36_model.specs.Act.{RequestKind, Read, Write, Whole, Put, Request}
-use Rattle.m36_model.specs.Store.{Spot, Change, Mid, Served, serve, changes, reads, located, with_claims, with_reference}
+use Rattle.m36_model.specs.Store.{Spot, Change, Mid, Served, serve, changes, reads, located}
+use Rattle.m36_model.specs.Store.{with_claims, with_reference}
 use Rattle.m36_model.specs.Core.{core_store, core_word, core_put}
 use Rattle.m36_model.specs.Place.{core_sdw}
 use Rattle.m36_model.specs.Step.{aligned, puts_from}
@@ -43,7 +46,8 @@ sdw_by (Err why) = sdw_of 0 0
 unfoldable pub sdw_in : Memory → ℕ → SdwFields
 sdw_in m seg = sdw_by (core_sdw m.core m.dbr seg)
 
--- A reference that is answered leaves its store, its claims and its reference, and one that is refused nothing.
+-- A reference that is answered leaves its store, its claims and its reference, and one that is
+-- refused nothing.
 abbrev pub served_by : Request → List ℕ → List Spot → List Reference → Result Reached Fault
     → Served (List ℕ)
 served_by q new claims refs (Err f) = record { reply = Err f; mid = standing new claims refs }
@@ -65,7 +69,8 @@ served_by q new claims refs (Ok r) =
       };
     }
 
--- a reference that gives a place, by the descriptor that was found: a run of so many words from there
+-- a reference that gives a place, by the descriptor that was found: a run of so many
+-- words from there
 abbrev pub at_place : SdwFields → ℕ → Result ℕ Fault → Result Reached Fault
 at_place d count (Ok a) = Ok (record { sdw = d; spots = run_from a count })
 at_place d count (Err f) = Err f
@@ -85,8 +90,8 @@ with_words q d new claims refs (Ok words) =
       mid = record { store = new; claims = claims; refs = with_reference q.kind q refs };
     }
 
--- Whatever the registers hold beside what Known says of them, and whatever the step has claimed and referred to before:
--- the request is served so.
+-- Whatever the registers hold beside what Known says of them, and whatever the step has claimed and
+-- referred to before: the request is served so.
 abbrev pub Serves : (RegsFields → Type 0) → Memory → Request
     → (List Spot → List Reference → Served (List ℕ)) → Type 0
 Serves Known m q s =
@@ -126,7 +131,8 @@ ServesWord Known kind m new at word =
     (λ claims refs. with_words (request kind at 1 []) (sdw_in m at.seg) new claims refs
     (ok_map (λ w. w ∷ []) word))
 
--- a Read of so many words, which sees the pending word as written; of that the claims and puts of the step tell the same
+-- a Read of so many words, which sees the pending word as written; of that the claims and puts of
+-- the step tell the same
 abbrev pub Reads : Memory → List ℕ → ℕ → AtFields → ℕ → Option Pending → Result (List ℕ) Fault
     → Type 0
 Reads m new psr at count pending words =
@@ -148,8 +154,8 @@ written_by s words = core_put s.mid.store (changes s.mid.claims (puts_from Whole
 abbrev pub replied : Served (List ℕ) → Result Unit Fault
 replied s = ok_map (λ a. tt) s.reply
 
--- a Write of words on its own: it is served, and the words stand where it has claimed their places; where it is refused
--- nothing has changed
+-- a Write of words on its own: it is served, and the words stand where it has claimed their places;
+-- where it is refused nothing has changed
 pub record IsWritten (s : Served (List ℕ)) (new words : List ℕ)
     (result : Result Unit Fault) : Type 0 where
   pub told : result ≡ replied s

@@ -1,4 +1,8 @@
-//! Data instructions.
+//! Data instructions of the Honeywell 6180: loads, stores, sums, shifts, products, comparisons and booleans.
+//!
+//! [`exec`] gives exactly the effect that the instruction's equations say: the new registers and the words to write, or the
+//! fault 14, divide check, where DIV is given 0 or its quotient does not fit. [`exec_in_place`] does the same in the
+//! registers as they are. What A, Q and the indicators become is of `m36_arith`.
 //!
 //! Source: Multics Processor Manual AL39, "Fixed-point instructions" and "Boolean instructions".
 #![tactic(auto)]

@@ -79,8 +79,8 @@ all_link_names (l ∷ ls) = link_names l ++ all_link_names ls
 unfoldable pub class_of : DefFields → ℕ
 class_of d = class_number d.section + (if d.is_entry then 8 else 0)
 
--- definitions from a place on: the place of the next and the class, the value and the place of the
--- name
+-- definitions from a place on: the place of the next and the class, the value and the place
+-- of the name
 unfoldable pub definition_words : List (List ℕ) → ℕ → List Named → ℕ → List ℕ
 definition_words names base [] at = []
 definition_words names base (d ∷ ds) at =
@@ -88,8 +88,8 @@ definition_words names base (d ∷ ds) at =
     ∷ joined d.def.value (place_of d.name names base)
     ∷ definition_words names base ds (at + 2)
 
--- an expression: the type and its section or the place of its name, the place of its entry and its
--- number
+-- an expression: the type and its section or the place of its name, the place of its entry
+-- and its number
 unfoldable pub subject_of : List (List ℕ) → ℕ → LinkFields → ℕ
 subject_of names base l =
     if has_name l.kind then place_of l.name names base else place_number l.section
@@ -217,8 +217,8 @@ is_link version l =
     && nat_lt l.expr (2 ^ 18)
     && nat_lt l.modifier (2 ^ 6)
 
--- whether a relocation's place is a word of the text or a static word, where there are so many of
--- each
+-- whether a relocation's place is a word of the text or a static word, where there are so
+-- many of each
 unfoldable pub is_place : ℕ → ℕ → ℕ → Section → ℕ → Bool
 is_place text inner outer Text offset = nat_lt offset text
 is_place text inner outer Linkage offset = nat_le 8 offset && nat_lt offset (8 + inner)

@@ -1,6 +1,6 @@
 -- The parts that a list of words would spell: read by counts alone, the sections one behind another
--- and each table in order. What this does not look at, as offsets, is judged by spelling the parts
--- again.
+-- and each table in order. What this does not look at, as offsets, is judged by spelling
+-- the parts again.
 use Rattle.std.specs.Prelude.{ℕ, zero, suc, ◌+◌, ◌-◌, ◌*◌, ◌/◌, ◌%◌, ◌^◌, nat_eq, nat_le}
 use Rattle.std.specs.Prelude.{if◌then◌else◌, min, List, [], ◌∷◌, length, take, drop, slice_index}
 use Rattle.obj36_parts.specs.Fields.{LinkFields, RelocFields}

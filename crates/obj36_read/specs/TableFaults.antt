@@ -41,8 +41,8 @@ chain_fault d zero holder at =
 chain_fault d (suc count) holder at =
     if is_member d at then chain_fault d count at (next_definition d at) else Some 0
 
--- The count of definitions leaves the section where so many do not fit behind the two words of its
--- head.
+-- The count of definitions leaves the section where so many do not fit behind the two words
+-- of its head.
 unfoldable pub count_fault : List ℕ → Option ℕ
 count_fault d =
     if nat_lt (length d) (2 + 2 * definition_count d)
