@@ -3,11 +3,11 @@
 ghost use Rattle.std.specs.Prelude.{◌≡◌, ◌+◌, ◌*◌, ◌≤◌, length};
 ghost use Rattle.m36_page.specs.Copied.{IsCopied};
 
-use m36_core::Core;
+use m36_core::{Core, frame_law};
 use m36_word::Word;
 
 // Words in a page.
-const PAGE: u32 = 1024;
+const PAGE: usize = 1024;
 
 /// Copies the words of a frame into words from a place on.
 pub(crate) fn copy_out(core: &Core, frame: u32, words: &mut [Word], from: usize)
@@ -15,9 +15,9 @@ pub(crate) fn copy_out(core: &Core, frame: u32, words: &mut [Word], from: usize)
     requires room { from + 1024 ≤ length words.old }
     ensures { IsCopied core.now (1024 * frame) words.old from words.new }
 {
-    let _ = core.len();
+    let page = core.page(frame);
     for i in 0..PAGE {
-        words[from + i as usize] = core.peek(PAGE * frame + i);
+        words[from + i] = page[i];
     }
 }
 
@@ -27,8 +27,9 @@ pub(crate) fn copy_in(core: &mut Core, frame: u32, words: &[Word], from: usize)
     requires room { from + 1024 ≤ length words.now }
     ensures { IsCopied words.now from core.old (1024 * frame) core.new }
 {
-    let _ = core.len();
+    frame_law();
+    let page = core.page_mut(frame);
     for i in 0..PAGE {
-        core.poke(PAGE * frame + i, words[from + i as usize]);
+        page[i] = words[from + i];
     }
 }

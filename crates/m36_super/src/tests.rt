@@ -1,8 +1,9 @@
 //! A folder of two segments, worked out by hand: a program that writes `hello` through a gate and stops.
 
-use crate::{Super, are_short};
+use crate::{Coming, Super, are_short};
 use m36_boot::BootFault;
 use m36_dir::Catalog;
+use m36_model::StepRecord;
 use m36_outside::Text;
 use m36_step::{BackAnswer, Stepper, Turn};
 use m36_word::{NoMemory, Word, Words};
@@ -198,5 +199,54 @@ fn run(rt: &impl Abort, alloc: Global, frames: &str) {
 fn writes_and_stops(rt: HostRuntime) {
     for frames in ["frames 24", "frames 400"] {
         run(&rt, rt.alloc(), frames);
+    }
+}
+
+// Whether a record is that of a turn.
+fn is_step(told: &StepRecord, turn: &Turn) -> bool {
+    match turn {
+        Turn::Stepped(due) => {
+            told.word == due.word
+                && told.outcome == due.outcome
+                && told.after == due.after
+                && told.refs.len() == due.refs.len()
+        }
+        _ => false,
+    }
+}
+
+// Takes a turn of both systems, which is the same, and says whether memory sufficed. A step of the first is told in a record.
+fn both(rt: &impl Abort, one: &mut Super, told: &mut StepRecord, other: &mut Super) -> bool {
+    match one.coming() {
+        Coming::Step => {
+            one.step_told(told);
+            assert!(rt; is_step(told, &other.turn()));
+            true
+        }
+        _ => {
+            let first = letter(&one.turn());
+            let second = letter(&other.turn());
+            if first == b'n' || second == b'n' {
+                return false;
+            }
+            assert_eq!(rt; first, second);
+            true
+        }
+    }
+}
+
+#[test]
+fn tells_steps_in_one_record(rt: HostRuntime) {
+    let Ok(mut one) = booted(rt.alloc(), "frames 24", GATE) else {
+        return;
+    };
+    let Ok(mut other) = booted(rt.alloc(), "frames 24", GATE) else {
+        return;
+    };
+    let mut told = one.untold();
+    for _ in 0..19 {
+        if !both(&rt, &mut one, &mut told, &mut other) {
+            return;
+        }
     }
 }
