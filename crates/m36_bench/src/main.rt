@@ -24,7 +24,7 @@ struct Asked {
     mixed: bool,
 }
 
-fn asked(rt: &(impl Env + AllocGlobal)) -> io::Result<Asked> {
+fn read_words(rt: &(impl Env + AllocGlobal)) -> io::Result<Asked> {
     let mut steps = None;
     let mut mixed = false;
     for arg in env::args(rt)?.skip(1) {
@@ -94,7 +94,7 @@ fn four_reports<R: Print + Clock + AllocGlobal>(
 }
 
 fn main(rt: HostRuntime) -> io::Result<()> {
-    let asked = asked(&rt)?;
+    let asked = read_words(&rt)?;
     if !asked.mixed {
         four_reports(&rt, asked.steps, Loop::Simple)?;
     }
