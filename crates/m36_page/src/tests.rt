@@ -31,20 +31,25 @@ fn tables(alloc: Global) -> Result<Vec<PageTable>, NoMemory> {
     Ok(tables)
 }
 
-// References to words of segments.
-fn references(places: &[(u16, u32)]) -> Refs {
-    let mut refs = Refs::new();
-    for (seg, word) in places {
-        let _ = refs.try_push(Reference {
-            at: At {
-                word: *word % 262144,
-                seg: *seg % 32768,
-                ring: 4,
-            },
-            kind: Kind::Read,
-            count: 1,
-        });
+// A reference to a word of a segment.
+fn reference(place: (u16, u32)) -> Reference {
+    let (seg, word) = place;
+    Reference {
+        at: At {
+            word: word % 262144,
+            seg: seg % 32768,
+            ring: 4,
+        },
+        kind: Kind::Read,
+        count: 1,
     }
+}
+
+// References to two words.
+fn references(first: (u16, u32), second: (u16, u32)) -> Refs {
+    let mut refs = Refs::new();
+    let _ = refs.try_push(reference(first));
+    let _ = refs.try_push(reference(second));
     refs
 }
 
@@ -89,16 +94,16 @@ fn pages_in_turn(rt: HostRuntime) -> Result<(), Fail> {
     let mut core = Core::new(alloc, 3)?;
     pager.lay(&mut core);
     assert!(rt; core.peek(17) == Word::low(1));
-    for (seg, page, pins, brought) in [
-        (5, 0, [(6, 0), (6, 1024)], Ok(())),
-        (6, 1, [(5, 7), (5, 7)], Ok(())),
-        (5, 1, [(5, 7), (6, 1024)], Err(Pinned)),
-        (5, 1, [(5, 7), (5, 7)], Ok(())),
-        (5, 0, [(5, 1030), (5, 7)], Ok(())),
+    for (seg, page, first, second, brought) in [
+        (5, 0, (6, 0), (6, 1024), Ok(())),
+        (6, 1, (5, 7), (5, 7), Ok(())),
+        (5, 1, (5, 7), (6, 1024), Err(Pinned)),
+        (5, 1, (5, 7), (5, 7), Ok(())),
+        (5, 0, (5, 1030), (5, 7), Ok(())),
     ] {
         assert!(rt; pager.has_page(seg, page));
         assert_eq!(rt;
-            pager.bring(&mut core, seg, page, &references(&pins)),
+            pager.bring(&mut core, seg, page, &references(first, second)),
             brought
         );
     }
