@@ -5,7 +5,7 @@
 //! adds and stores pairs of words, one of them through an ITS pair, takes an exclusive and an inclusive or, shifts one register
 //! and two, loads and stores through a tally word that it puts forward and back, calls, returns, counts a word and begins anew.
 
-ghost use Rattle.std.specs.Prelude.{◌≡◌};
+ghost use Rattle.std.specs.Prelude.{◌≡◌, ◌<◌, ◌^◌};
 
 use m36_core::Core;
 use m36_desc::{Dbr, Ptr};
@@ -80,7 +80,9 @@ pub enum Loop {
 }
 
 /// The word of segment 1 where a loop begins.
-fn begin(chosen: Loop) -> u32 {
+fn begin(chosen: Loop) -> u32
+    ensures { result < 2 ^ 18 }
+{
     match chosen {
         Loop::Simple => 0,
         Loop::Mixed => 0o300,
@@ -113,6 +115,7 @@ fn core(alloc: Global, paged: bool) -> Result<Core, NoMemory> {
 
 /// Registers that hold nothing, at a word of segment 1 in ring 0.
 fn regs(dbr: Dbr, ic: u32) -> Regs
+    requires { ic < 2 ^ 18 }
     ensures { result.dbr ≡ dbr }
 {
     let pointer = Ptr {
