@@ -1,0 +1,7 @@
+pub mod Parts
+pub mod Modes
+pub mod AclLines
+pub mod AclLoops
+pub mod Places
+pub mod Firsts
+pub mod Rights

@@ -1,0 +1,16 @@
+-- The parts of a text between its points.
+use Rattle.std.proofs.Common.{ℕ, ◌≡◌, ◌<◌, List, [], ◌∷◌, length, Option, None, refl, arith}
+use Rattle.std.proofs.lemmas.List.Splits.{length-slice_split}
+use Rattle.m36_acl.specs.Users.{Components, parts_of, three_of, components_of}
+
+three_and_more : (person project tag : List ℕ) (more : List (List ℕ)) → 0 < length more
+    → three_of (person ∷ project ∷ tag ∷ more) ≡ None
+three_and_more person project tag [] some = absurd (omega arith)
+three_and_more person project tag (next ∷ more) some = refl
+
+-- behind a third point there is a fourth part
+pub four_parts : (text person project tag rest : List ℕ) → parts_of text ≡ person ∷ project ∷ tag ∷ parts_of rest
+    → components_of text ≡ None
+unfolding components_of
+four_parts text person project tag rest e =
+    rw e (three_and_more person project tag (parts_of rest) (omega (arith, length-slice_split (λ c. c == 46) rest)))

@@ -1,0 +1,13 @@
+use Rattle.std.proofs.Common.{◌≡◌, ◌+◌, ◌≤◌, length}
+use Rattle.m36_acl.specs.AccessLists.{lists_from, lines_given, lists_of}
+use Rattle.m36_acl.proofs.reading.segments_in.Given as goal
+
+-- the rest completes the whole, and each line above took a byte at least
+abbrev pub invariant-loop-line : goal.invariant-loop-line
+invariant-loop-line l = record {
+  told : lists_from l.number l.above.items (lines_given l.rest) ≡ lists_of l.text;
+  few : l.number + length l.rest ≤ length l.text + 1;
+}
+
+abbrev pub decreases-loop-line : goal.decreases-loop-line
+decreases-loop-line l = length l.rest

@@ -1,0 +1,86 @@
+-- The lines of access lists, each read by itself.
+--
+--     segment DIR NAME
+--     term TERM MODE
+--
+-- The words of a line are parted by single spaces. DIR and NAME are as in a boot text. MODE is so
+-- too, but without the letter p: one or more of r, e and w in this order, or `null`.
+use Rattle.std.specs.Prelude.{ℕ, Bool, if◌then◌else◌, List, [], ◌∷◌, codes, Option, Some, None}
+use Rattle.std.specs.Prelude.{option_map, option_and_then}
+use Rattle.m36_text.specs.Texts.{is_text}
+use Rattle.m36_text.specs.Lines.{words_of}
+use Rattle.m36_dir.specs.declared.segment.Mode.{Mode}
+use Rattle.m36_dir.specs.BootLine.{directory_of, name_of, taken, whole, mode_of}
+use Rattle.m36_dir.specs.BootOrder.{Entry, entry}
+use Rattle.m36_acl.specs.Fields.{TermFields}
+use Rattle.m36_acl.specs.Users.{is_term}
+
+pub data Line : Type 0 where
+  Segment : Entry → Line
+  Term : TermFields → Line
+
+-- ---- modes
+
+abbrev pub unprivileged : Mode → Option Mode
+unprivileged mode = if mode.privileged then None else Some mode
+
+-- the rights of letters r, e and w, with what stands behind them
+abbrev pub rights_before : Bool → Bool → Bool → List ℕ → Option Mode
+rights_before readable executable writable rest =
+    let p = taken 112 rest in
+    option_and_then unprivileged
+    (whole (record {
+      readable = readable;
+      executable = executable;
+      writable = writable;
+      privileged = p.stands;
+    }) p.rest)
+
+unfoldable pub rights_of : List ℕ → Option Mode
+rights_of word = option_and_then unprivileged (mode_of word)
+
+-- ---- what stands behind the first word of a line
+
+abbrev pub entry_read : Option (List ℕ) → Option (List ℕ) → Option Entry
+entry_read (Some dir) (Some name) = Some (entry dir name)
+entry_read _ _ = None
+
+-- DIR NAME
+abbrev pub entry_of : List (List ℕ) → Option Entry
+entry_of (dir ∷ name ∷ []) = entry_read (directory_of dir) (name_of name)
+entry_of _ = None
+
+abbrev pub term_with : List ℕ → Mode → TermFields
+term_with text mode =
+    record {
+      text = text;
+      readable = mode.readable;
+      executable = mode.executable;
+      writable = mode.writable;
+    }
+
+abbrev pub term_read : List ℕ → Option Mode → Option TermFields
+term_read text None = None
+term_read text (Some mode) = if is_term text then Some (term_with text mode) else None
+
+-- TERM MODE
+abbrev pub term_of : List (List ℕ) → Option TermFields
+term_of (text ∷ mode ∷ []) = term_read text (rights_of mode)
+term_of _ = None
+
+-- ---- lines
+
+abbrev pub line_named : List ℕ → List (List ℕ) → Option Line
+line_named word given =
+    if is_text (codes "segment") word then option_map Segment (entry_of given)
+    else if is_text (codes "term") word then option_map Term (term_of given)
+    else None
+
+abbrev pub line_of_words : List (List ℕ) → Option Line
+line_of_words [] = None
+line_of_words (word ∷ given) = line_named word given
+
+-- a line that lacks its line feed is of no form
+unfoldable pub line_given : Option (List ℕ) → Option Line
+line_given None = None
+line_given (Some line) = line_of_words (words_of line)

@@ -1,0 +1,96 @@
+-- The access lists that a text writes out, or why it does not.
+--
+--     C1   the line is not of its form, no `segment` line stands above a `term`, or 16 terms stand
+--          below the segment already
+--     C2   the segment stands already, or the term below the same segment
+--
+-- The least line that has a code is told, and C1 where a line has both.
+use Rattle.std.specs.Prelude.{ℕ, ◌≡◌, ◌+◌, ◌-◌, Bool, nat_le, if◌then◌else◌, List, [], ◌∷◌, ◌++◌}
+use Rattle.std.specs.Prelude.{length, map, slice_get, slice_set, Option, Some, None, Result, Ok, Err}
+use Rattle.std.specs.List.{list_any}
+use Rattle.m36_text.specs.Texts.{is_text}
+use Rattle.m36_text.specs.Lines.{lines_of}
+use Rattle.m36_dir.specs.BootOrder.{Entry, entry, is_entry}
+use Rattle.m36_acl.specs.declared.fault.AclFault.{AclFault}
+use Rattle.m36_acl.specs.declared.fault.AclFault.TheVariants as fault
+use Rattle.m36_acl.specs.Fields.{TermFields, AclSegmentFields}
+use Rattle.m36_acl.specs.AccessLine.{Line, Segment, Term, line_given}
+
+abbrev pub Lists : Type 0
+Lists = List AclSegmentFields
+
+-- what lines come to: lists, or a code at its line
+abbrev pub Read : Type 0
+Read = Result (List AclSegmentFields) AclFault
+
+-- ---- a `segment` line
+
+abbrev pub is_of : Entry → AclSegmentFields → Bool
+is_of given segment = is_entry given (entry segment.dir segment.name)
+
+abbrev pub has_segment : Lists → Entry → Bool
+has_segment lists given = list_any (is_of given) lists
+
+abbrev pub begun : ℕ → Entry → AclSegmentFields
+begun line given = record { line = line; dir = given.dir; name = given.name; terms = [] }
+
+abbrev pub segment_behind : ℕ → Lists → Entry → Read
+segment_behind line above given =
+    if has_segment above given then Err (fault.C2 line) else Ok (above ++ begun line given ∷ [])
+
+-- ---- a `term` line, which belongs to the last segment
+
+abbrev pub last_of : Lists → Option AclSegmentFields
+last_of lists = slice_get lists (length lists - 1)
+
+abbrev pub has_term : List TermFields → List ℕ → Bool
+has_term terms text = list_any (λ t. is_text text t.text) terms
+
+abbrev pub with_term : AclSegmentFields → TermFields → AclSegmentFields
+with_term segment term = record segment { terms = segment.terms ++ term ∷ [] }
+
+abbrev pub term_behind : ℕ → Lists → Option AclSegmentFields → TermFields → Read
+term_behind line above None term = Err (fault.C1 line)
+term_behind line above (Some last) term =
+    if nat_le 16 (length last.terms) then Err (fault.C1 line)
+    else if has_term last.terms term.text then Err (fault.C2 line)
+    else Ok (slice_set above (length above - 1) (with_term last term))
+
+-- ---- the lines in turn
+
+abbrev pub line_behind : ℕ → Lists → Option Line → Read
+line_behind line above None = Err (fault.C1 line)
+line_behind line above (Some (Segment given)) = segment_behind line above given
+line_behind line above (Some (Term term)) = term_behind line above (last_of above) term
+
+abbrev pub read_on : Read → (Lists → Read) → Read
+read_on (Err told) next = Err told
+read_on (Ok above) next = next above
+
+-- lines behind some others, of which the first has this number
+unfoldable pub lists_from : ℕ → Lists → List (Option Line) → Read
+lists_from line above [] = Ok above
+lists_from line above (given ∷ lines) =
+    read_on (line_behind line above given) (λ next. lists_from (line + 1) next lines)
+
+unfoldable pub lines_given : List ℕ → List (Option Line)
+lines_given text = map line_given (lines_of text)
+
+unfoldable pub lists_of : List ℕ → Read
+lists_of text = lists_from 1 [] (lines_given text)
+
+-- ---- answers
+
+-- What a call answers, where want of memory may come at any time.
+abbrev pub Told : AclFault → Read → Type 0
+Told fault.NoMemory definition = Unit {0}
+Told told definition = definition ≡ Err told
+
+abbrev pub ReadSays : Read → Read → Type 0
+ReadSays (Ok lists) definition = definition ≡ Ok lists
+ReadSays (Err told) definition = Told told definition
+
+-- A line made these of the lists above it, or is told of.
+abbrev pub Takes : {A : Type 0} → Lists → Result A AclFault → Read → Type 0
+Takes new (Ok done) definition = definition ≡ Ok new
+Takes new (Err told) definition = Told told definition

@@ -1,0 +1,61 @@
+-- What access lists give a user in a catalog.
+use Rattle.std.specs.Prelude.{ℕ, ◌≡◌, Bool, not, List, [], map, find, slice_get, slice_set, Option}
+use Rattle.std.specs.Prelude.{unwrap_or, option_map, IfSome}
+use Rattle.std.specs.List.{list_any}
+use Rattle.m36_dir.specs.Fields.{SegmentFields}
+use Rattle.m36_dir.specs.BootOrder.{Entry, entry, is_entry}
+use Rattle.m36_dir.specs.Catalog.{CatalogFields, with_rights}
+use Rattle.m36_acl.specs.declared.policy.Decision.{Decision}
+use Rattle.m36_acl.specs.Fields.{AclSegmentFields}
+use Rattle.m36_acl.specs.AccessLists.{Lists}
+use Rattle.m36_acl.specs.Policy.{policy}
+
+-- ---- the segments of a catalog, as the lines of its boot text name them
+
+abbrev pub directory_of : List (List ℕ) → SegmentFields → List ℕ
+directory_of directories s = unwrap_or (slice_get directories s.dir) []
+
+-- not one of its further names
+abbrev pub name_of : SegmentFields → List ℕ
+name_of s = unwrap_or (slice_get s.names 0) []
+
+-- ---- C3: a segment that no segment line of the boot text has
+
+abbrev pub names : CatalogFields → AclSegmentFields → SegmentFields → Bool
+names catalog given s =
+    is_entry (entry given.dir given.name) (entry (directory_of catalog.directories s) (name_of s))
+
+abbrev pub is_known : CatalogFields → AclSegmentFields → Bool
+is_known catalog given = list_any (names catalog given) catalog.segments
+
+-- the first `segment` line of a segment that is not in the catalog
+unfoldable pub first_unknown : CatalogFields → Lists → Option ℕ
+first_unknown catalog lists =
+    option_map (λ given. given.line) (find (λ given. not (is_known catalog given)) lists)
+
+-- ---- rights
+
+-- what a user may do with a segment of a catalog
+unfoldable pub decision_on : Lists → List ℕ → List (List ℕ) → SegmentFields → Decision
+decision_on lists user directories s = policy lists (directory_of directories s) (name_of s) user
+
+abbrev pub by_decision : SegmentFields → Decision → SegmentFields
+by_decision s d = with_rights s d.readable d.executable d.writable
+
+-- Each segment may be read, executed and written as the lists give it to the user, whatever its
+-- mode in the boot text; all else stays, its right to be privileged too.
+abbrev pub granted_to : Lists → List ℕ → List (List ℕ) → SegmentFields → SegmentFields
+granted_to lists user directories s = by_decision s (decision_on lists user directories s)
+
+unfoldable pub granted : Lists → List ℕ → CatalogFields → CatalogFields
+granted lists user catalog =
+    record catalog {
+      segments = map (granted_to lists user catalog.directories) catalog.segments;
+    }
+
+-- One segment of a catalog gets its rights.
+abbrev pub GrantsOne : Lists → List ℕ → CatalogFields → CatalogFields → ℕ → Type 0
+GrantsOne lists user old new i =
+    IfSome (slice_get old.segments i)
+    (λ s. new ≡ record old
+    { segments = slice_set old.segments i (granted_to lists user old.directories s) })

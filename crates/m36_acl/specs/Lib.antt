@@ -1,0 +1,6 @@
+pub mod Fields
+pub mod Users
+pub mod AccessLine
+pub mod AccessLists
+pub mod Policy
+pub mod Granted

@@ -1,0 +1,69 @@
+-- What a user may do with a segment, by its access list.
+use Rattle.std.specs.Prelude.{ℕ, ◌≡◌, true, false, List, [], find, position, take, slice_get}
+use Rattle.std.specs.Prelude.{Option, Some, None, All}
+use Rattle.m36_dir.specs.BootOrder.{entry}
+use Rattle.m36_acl.specs.declared.policy.Decision.{Decision}
+use Rattle.m36_acl.specs.Fields.{TermFields, AclSegmentFields}
+use Rattle.m36_acl.specs.Users.{matches}
+use Rattle.m36_acl.specs.AccessLists.{Lists, is_of}
+
+-- ---- the list of a segment
+
+abbrev pub terms_in : Option AclSegmentFields → List TermFields
+terms_in None = []
+terms_in (Some segment) = segment.terms
+
+-- the terms of a segment; none where no `segment` line has it
+unfoldable pub terms_of : Lists → List ℕ → List ℕ → List TermFields
+terms_of lists dir name = terms_in (find (is_of (entry dir name)) lists)
+
+-- ---- the first term that matches
+
+abbrev pub nothing : Decision
+nothing = record { readable = false; executable = false; writable = false; term = None }
+
+-- the rights of a term, and its place
+abbrev pub rights_by : ℕ → Option TermFields → Decision
+rights_by place None = nothing
+rights_by place (Some term) =
+    record {
+      readable = term.readable;
+      executable = term.executable;
+      writable = term.writable;
+      term = Some place;
+    }
+
+abbrev pub decided_at : List TermFields → Option ℕ → Decision
+decided_at terms None = nothing
+decided_at terms (Some place) = rights_by place (slice_get terms place)
+
+-- The mode of the first term that matches, with the place of that term; where none matches no right
+-- and no term.
+unfoldable pub decided : List TermFields → List ℕ → Decision
+decided terms user = decided_at terms (position (λ term. matches term.text user) terms)
+
+unfoldable pub policy : Lists → List ℕ → List ℕ → List ℕ → Decision
+policy lists dir name user = decided (terms_of lists dir name) user
+
+-- ---- laws
+
+abbrev pub NoneMatches : List TermFields → List ℕ → Type 0
+NoneMatches terms user = All (λ term. matches term.text user ≡ false) terms
+
+-- The term at a place gives the rights, and is the first that matches.
+pub record IsFirst (terms : List TermFields) (user : List ℕ) (d : Decision) (place : ℕ) : Type 0 where
+  pub term : TermFields
+  pub stands : slice_get terms place ≡ Some term
+  pub matching : matches term.text user ≡ true
+  pub earlier : NoneMatches (take place terms) user
+  pub rights : d ≡ rights_by place (Some term)
+
+abbrev pub IsRight : List TermFields → List ℕ → Decision → Option ℕ → Type 0
+IsRight terms user d None = NoneMatches terms user × (d ≡ nothing)
+IsRight terms user d (Some place) = IsFirst terms user d place
+
+-- The first term that matches decides, and where none does there is no right.
+abbrev pub FirstMatchDecides : Type 0
+FirstMatchDecides = (lists : Lists) (dir name user : List ℕ) →
+    IsRight (terms_of lists dir name) user (policy lists dir name user)
+    (policy lists dir name user).term

@@ -1,0 +1,83 @@
+-- Users, and whom the terms of an access list match.
+--
+--     Person.Project.tag     Person and Project 1 to 32 characters of `A-Z a-z 0-9 _`, tag one
+--                            character of `a-z`
+--
+-- A term is as a user, but any of its three components may be `*`.
+use Rattle.std.specs.Prelude.{ℕ, Bool, false, ◌&&◌, ◌||◌, ◌==◌, nat_le, if◌then◌else◌, List, []}
+use Rattle.std.specs.Prelude.{◌∷◌, codes, Option, Some, None}
+use Rattle.std.specs.List.{slice_split}
+use Rattle.m36_text.specs.Digits.{is_digit}
+use Rattle.m36_text.specs.Texts.{is_text, is_letter, is_run_of}
+
+-- ---- components
+
+pub record Components : Type 0 where
+  pub person : List ℕ
+  pub project : List ℕ
+  pub tag : List ℕ
+
+-- what the points of a text part
+abbrev pub parts_of : List ℕ → List (List ℕ)
+parts_of text = slice_split (λ c. c == 46) text
+
+abbrev pub three_of : List (List ℕ) → Option Components
+three_of (person ∷ project ∷ tag ∷ []) =
+    Some (record { person = person; project = project; tag = tag })
+three_of _ = None
+
+unfoldable pub components_of : List ℕ → Option Components
+components_of text = three_of (parts_of text)
+
+-- ---- forms
+
+-- A-Z a-z 0-9 _
+abbrev pub is_component_character : ℕ → Bool
+is_component_character c = is_letter c || is_digit 10 c || (c == 95)
+
+abbrev pub is_component : List ℕ → Bool
+is_component text = is_run_of is_component_character 32 text
+
+abbrev pub is_tag_character : ℕ → Bool
+is_tag_character c = nat_le 97 c && nat_le c 122
+
+abbrev pub is_tag : List ℕ → Bool
+is_tag text = is_run_of is_tag_character 1 text
+
+abbrev pub is_any : List ℕ → Bool
+is_any text = is_text (codes "*") text
+
+abbrev pub have_form_of_user : Option Components → Bool
+have_form_of_user None = false
+have_form_of_user (Some u) = is_component u.person && is_component u.project && is_tag u.tag
+
+unfoldable pub is_user : List ℕ → Bool
+is_user text = have_form_of_user (components_of text)
+
+abbrev pub have_form_of_term : Option Components → Bool
+have_form_of_term None = false
+have_form_of_term (Some t) =
+    (is_any t.person || is_component t.person) && (is_any t.project || is_component t.project)
+    && (is_any t.tag || is_tag t.tag)
+
+unfoldable pub is_term : List ℕ → Bool
+is_term text = have_form_of_term (components_of text)
+
+-- a user, seen as its text
+abbrev pub user_of : List ℕ → Option (List ℕ)
+user_of text = if is_user text then Some text else None
+
+-- ---- matching
+
+-- `*`, or equal
+abbrev pub admits : List ℕ → List ℕ → Bool
+admits component given = is_any component || is_text component given
+
+abbrev pub all_admit : Option Components → Option Components → Bool
+all_admit (Some t) (Some u) =
+    admits t.person u.person && admits t.project u.project && admits t.tag u.tag
+all_admit _ _ = false
+
+-- A term matches a user where each of its components is `*` or that of the user.
+unfoldable pub matches : List ℕ → List ℕ → Bool
+matches term user = all_admit (components_of term) (components_of user)

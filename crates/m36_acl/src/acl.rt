@@ -1,0 +1,97 @@
+//! Access lists.
+
+ghost use Rattle.std.specs.Prelude.{◌≡◌, ◌<◌, ◌^◌, length, slice_get, IfSome};
+ghost use Rattle.m36_acl.specs.AccessLists.{lists_of, ReadSays};
+ghost use Rattle.m36_acl.specs.Policy.{terms_of, policy};
+ghost use Rattle.m36_acl.specs.Granted.{first_unknown, decision_on, granted};
+
+use crate::fault::AclFault;
+use crate::granting::{decision_on, first_unknown, grant_all};
+use crate::policy::{Decision, decided};
+use crate::reading::{is_of, segments_in};
+use crate::segment::{AclSegment, Term};
+use crate::user::User;
+use m36_dir::Catalog;
+use std::alloc::Global;
+use std::marker::Model;
+
+/// Access lists. They are seen as the segments in the order of their lines, each with its terms.
+#[derive(Debug, Drop)]
+pub struct Acl {
+    segments: Vec<AclSegment>,
+}
+
+impl Model for Acl {
+    ghost use Rattle.std.specs.Prelude.{List};
+    ghost use Rattle.m36_acl.specs.Fields.{AclSegmentFields};
+
+    ghost Value = { List AclSegmentFields };
+
+    ghost view = { λ a. a.segments.items };
+}
+
+impl Acl {
+    /// The lists that a text writes out. The error is the first line that has a code, counted from 1, with its least
+    /// code, or want of memory. The text has fewer than 2^32 bytes.
+    #[tactic(auto, unfolding(crate::specs::AccessLists::lists_of))]
+    pub fn read(alloc: Global, text: &[u8]) -> Result<Acl, AclFault>
+        requires { length text.now < 2 ^ 32 }
+        ensures { ReadSays result (lists_of text.now) }
+    {
+        let segments = segments_in(alloc, text)?;
+        Ok(Acl { segments })
+    }
+
+    /// The `segment` lines in their order.
+    pub fn segments(&self) -> &[AclSegment]
+        ensures { result.now ≡ self.now }
+    {
+        self.segments.as_slice()
+    }
+
+    /// The list of a segment, in the order of its lines; empty where no `segment` line has the segment.
+    #[tactic(auto, unfolding(crate::specs::Policy::terms_of))]
+    pub fn terms(&self, dir: &[u8], name: &[u8]) -> &[Term]
+        ensures { result.now ≡ terms_of self.now dir.now name.now }
+    {
+        match self
+            .segments
+            .iter()
+            .find(|segment| is_of(segment, dir, name))
+        {
+            Some(segment) => segment.terms(),
+            None => &[],
+        }
+    }
+
+    /// What a user may do with a segment: the mode of the first matching term in its list, with the place of that term;
+    /// no right and no term where none matches.
+    #[tactic(auto, unfolding(crate::specs::Policy::policy))]
+    pub fn mode_for(&self, dir: &[u8], name: &[u8], user: &User) -> Decision
+        ensures { result ≡ policy self.now dir.now name.now user.now }
+    {
+        decided(self.terms(dir, name), user)
+    }
+    /// The number of the first `segment` line whose segment is not in a catalog by its directory and its first name, which
+    /// are those of its segment line in the boot text.
+    pub fn first_unknown(&self, catalog: &Catalog) -> Option<u32>
+        ensures { result ≡ first_unknown catalog.now self.now }
+    {
+        first_unknown(self.segments(), catalog)
+    }
+
+    /// What a user may do with a segment of a catalog, counted from 0: `mode_for` of its directory and its first name.
+    pub fn decision_on(&self, catalog: &Catalog, i: usize, user: &User) -> Decision
+        requires { i < length catalog.now.segments }
+        ensures { IfSome (slice_get catalog.now.segments i) (λ s. result ≡ decision_on self.now user.now catalog.now.directories s) }
+    {
+        decision_on(self, catalog, catalog.segment(i), user)
+    }
+
+    /// Gives each segment of a catalog the rights that the lists give to a user. All else of the catalog stays.
+    pub fn grant(&self, catalog: &mut Catalog, user: &User)
+        ensures { catalog.new ≡ granted self.now user.now catalog.old }
+    {
+        grant_all(self, catalog, user);
+    }
+}

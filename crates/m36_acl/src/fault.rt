@@ -1,0 +1,29 @@
+//! Why a text gives no access lists.
+
+use m36_word::NoMemory;
+use thiserror::Error;
+
+/// The first line of a text that has a code, counted from 1, with the least code of that line.
+#[derive(Clone, Copy, Debug, PartialEq, Eq, Error)]
+pub enum AclFault {
+    /// The line is not of its form, no `segment` line stands above a `term`, or it is the 17th `term` of a segment.
+    #[error("C1 {0}")]
+    C1(u32),
+    /// The segment stands a second time, or the term below one segment.
+    #[error("C2 {0}")]
+    C2(u32),
+    /// No memory was found.
+    #[error("no memory")]
+    NoMemory,
+}
+
+impl From<NoMemory> for AclFault {
+    ghost use Rattle.std.specs.Prelude.{◌≡◌};
+    ghost use Rattle.m36_acl.specs.declared.fault.AclFault.TheVariants as fault;
+
+    ghost from_gives = { λ _ given. given ≡ fault.NoMemory };
+
+    fn from(_cause: NoMemory) -> AclFault {
+        AclFault::NoMemory
+    }
+}

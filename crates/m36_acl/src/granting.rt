@@ -1,0 +1,85 @@
+//! What access lists give a user in a catalog.
+
+ghost use Rattle.std.specs.Prelude.{◌≡◌, ◌<◌, length};
+ghost use Rattle.m36_dir.specs.IsCatalog.{IsSegment};
+ghost use Rattle.m36_acl.specs.Granted.{directory_of, name_of, names, is_known, first_unknown, decision_on, GrantsOne, granted};
+
+use crate::acl::Acl;
+use crate::policy::Decision;
+use crate::segment::AclSegment;
+use crate::user::User;
+use m36_dir::{Catalog, Segment};
+
+// The first name of a segment, which its line in the boot text has.
+fn name_of(segment: &Segment) -> &[u8]
+    ensures { result.now ≡ name_of segment.now }
+{
+    match segment.names.items().first() {
+        Some(name) => name.bytes(),
+        None => &[],
+    }
+}
+
+// Whether a `segment` line is that of a segment of a catalog.
+fn names(catalog: &Catalog, given: &AclSegment, segment: &Segment) -> bool
+    requires { IsSegment (length catalog.now.directories) segment.now }
+    ensures { result ≡ names catalog.now given.now segment.now }
+{
+    catalog.directory(segment.dir) == given.dir.bytes() && name_of(segment) == given.name.bytes()
+}
+
+// Whether a `segment` line is that of some segment of a catalog.
+#[tactic(auto, using(crate::proofs::Rights::known_here, crate::proofs::Rights::known_later, crate::proofs::Rights::known_never))]
+fn is_known(catalog: &Catalog, given: &AclSegment) -> bool
+    ensures { result ≡ is_known catalog.now given.now }
+{
+    for i in 0..catalog.count() {
+        if names(catalog, given, catalog.segment(i)) {
+            return true;
+        }
+    }
+    false
+}
+
+/// The number of the first `segment` line whose segment is not in a catalog.
+#[tactic(auto, unfolding(crate::specs::Granted::first_unknown))]
+pub(crate) fn first_unknown(lists: &[AclSegment], catalog: &Catalog) -> Option<u32>
+    ensures { result ≡ first_unknown catalog.now lists.now }
+{
+    let given = lists.iter().find(|given| !is_known(catalog, given))?;
+    Some(given.line)
+}
+
+/// What a user may do with a segment of a catalog.
+#[tactic(auto, unfolding(crate::specs::Granted::decision_on))]
+pub(crate) fn decision_on(
+    lists: &Acl,
+    catalog: &Catalog,
+    segment: &Segment,
+    user: &User,
+) -> Decision
+    requires { IsSegment (length catalog.now.directories) segment.now }
+    ensures { result ≡ decision_on lists.now user.now catalog.now.directories segment.now }
+{
+    lists.mode_for(catalog.directory(segment.dir), name_of(segment), user)
+}
+
+// Gives a segment of a catalog the rights that the lists give to a user.
+fn grant_one(lists: &Acl, catalog: &mut Catalog, i: usize, user: &User)
+    requires { i < length catalog.old.segments }
+    ensures { GrantsOne lists.now user.now catalog.old catalog.new i }
+{
+    let decision = decision_on(lists, catalog, catalog.segment(i), user);
+    catalog.set_rights(i, decision.readable, decision.executable, decision.writable);
+}
+
+/// Gives each segment of a catalog the rights that the lists give to a user.
+#[tactic(auto, using(crate::proofs::Rights::grant_more, crate::proofs::Rights::grant_done, crate::proofs::Rights::grant_count))]
+pub(crate) fn grant_all(lists: &Acl, catalog: &mut Catalog, user: &User)
+    ensures { catalog.new ≡ granted lists.now user.now catalog.old }
+{
+    let count = catalog.count();
+    for i in 0..count {
+        grant_one(lists, catalog, i, user);
+    }
+}

@@ -1,0 +1,62 @@
+//! What a user may do with a segment.
+
+ghost use Rattle.std.specs.Prelude.{◌≡◌, ◌<◌, length, position, Some, IfSome};
+ghost use Rattle.m36_acl.specs.Users.{matches};
+ghost use Rattle.m36_acl.specs.Policy.{nothing, rights_by, decided};
+
+use crate::matching::matches;
+use crate::segment::Term;
+use crate::user::User;
+
+/// What a user may do with a segment, and the term that says so: its place in the list of the segment, counted from 0.
+/// Where no term matches there is none, and no right.
+#[derive(Clone, Copy, Debug, PartialEq, Eq)]
+pub struct Decision {
+    pub term: Option<usize>,
+    pub readable: bool,
+    pub executable: bool,
+    pub writable: bool,
+}
+
+fn nothing() -> Decision
+    ensures { result ≡ nothing }
+{
+    Decision {
+        term: None,
+        readable: false,
+        executable: false,
+        writable: false,
+    }
+}
+
+fn rights_by(place: usize, term: &Term) -> Decision
+    ensures { result ≡ rights_by place (Some term.now) }
+{
+    Decision {
+        term: Some(place),
+        readable: term.readable(),
+        executable: term.executable(),
+        writable: term.writable(),
+    }
+}
+
+/// The place of the first term that matches, counted from 0.
+fn first_match(terms: &[Term], user: &User) -> Option<usize>
+    ensures value { result ≡ position (λ term. matches term.text user.now) terms.now }
+    ensures within { IfSome result (λ place. place < length terms.now) }
+{
+    terms
+        .iter()
+        .position(|term| matches(term.bytes(), user.bytes()))
+}
+
+/// The rights of the first term that matches.
+#[tactic(auto, unfolding(crate::specs::Policy::decided))]
+pub(crate) fn decided(terms: &[Term], user: &User) -> Decision
+    ensures { result ≡ decided terms.now user.now }
+{
+    match first_match(terms, user) {
+        Some(place) => rights_by(place, &terms[place]),
+        None => nothing(),
+    }
+}

@@ -1,0 +1,126 @@
+//! Segments of access lists, and their terms.
+
+ghost use Rattle.std.specs.Prelude.{◌≡◌, ◌≤◌, ◌++◌, ◌∷◌, [], length, IfOk, OnOk};
+ghost use Rattle.m36_dir.specs.BootOrder.{entry};
+ghost use Rattle.m36_acl.specs.AccessLine.{term_with};
+ghost use Rattle.m36_acl.specs.AccessLists.{begun, with_term};
+
+use crate::user::kept;
+use arrayvec::ArrayVec;
+use m36_dir::Mode;
+use m36_outside::Text;
+use m36_text::Name;
+use m36_word::NoMemory;
+use std::alloc::Global;
+use std::marker::Model;
+
+/// A term of a list: whom it matches, and what he may do. It is seen as its fields.
+#[derive(Debug, Drop)]
+pub struct Term {
+    text: ArrayVec<u8, 67>,
+    mode: Mode,
+}
+
+impl Model for Term {
+    ghost use Rattle.m36_acl.specs.Fields.{TermFields};
+
+    ghost Value = { TermFields };
+
+    ghost view = { λ t. record { text = t.text.items; readable = t.mode.readable; executable = t.mode.executable; writable = t.mode.writable } };
+}
+
+impl Term {
+    // A term of a text and a mode, of which the right to be privileged is not looked at.
+    pub(crate) fn new(text: &[u8], mode: Mode) -> Term
+        requires { length text.now ≤ 67 }
+        ensures { result ≡ term_with text.now mode }
+    {
+        Term {
+            text: kept(text),
+            mode,
+        }
+    }
+
+    /// The term as it is written, without its mode: at most 67 bytes.
+    pub fn bytes(&self) -> &[u8]
+        ensures value { result.now ≡ self.now.text }
+        ensures fits { length self.now.text ≤ 67 }
+    {
+        self.text.as_slice()
+    }
+
+    /// Whether it gives the right to read.
+    pub fn readable(&self) -> bool
+        ensures { result ≡ self.now.readable }
+    {
+        self.mode.readable
+    }
+
+    /// Whether it gives the right to execute.
+    pub fn executable(&self) -> bool
+        ensures { result ≡ self.now.executable }
+    {
+        self.mode.executable
+    }
+
+    /// Whether it gives the right to write.
+    pub fn writable(&self) -> bool
+        ensures { result ≡ self.now.writable }
+    {
+        self.mode.writable
+    }
+}
+
+/// A `segment` line, with the terms of the lines behind it. It is seen as its fields.
+#[derive(Debug, Drop)]
+pub struct AclSegment {
+    /// The directory of the segment.
+    pub dir: Text,
+    terms: Vec<Term>,
+    /// The name of the segment in its directory.
+    pub name: Name,
+    /// The number of the line, counted from 1.
+    pub line: u32,
+}
+
+impl Model for AclSegment {
+    ghost use Rattle.m36_acl.specs.Fields.{AclSegmentFields};
+
+    ghost Value = { AclSegmentFields };
+
+    ghost view = { λ s. record { line = s.line; dir = s.dir; name = s.name; terms = s.terms.items } };
+}
+
+impl AclSegment {
+    // A segment without terms.
+    pub(crate) fn new(
+        alloc: Global,
+        line: u32,
+        dir: &[u8],
+        name: Name,
+    ) -> Result<AclSegment, NoMemory>
+        ensures { IfOk result (λ segment. segment ≡ begun line (entry dir.now name)) }
+    {
+        Ok(AclSegment {
+            dir: Text::from_bytes(alloc, dir)?,
+            terms: Vec::new(alloc),
+            name,
+            line,
+        })
+    }
+
+    // Adds a term behind the others.
+    pub(crate) fn push(&mut self, term: Term) -> Result<(), NoMemory>
+        ensures { OnOk result (self.new ≡ with_term self.old term) }
+    {
+        self.terms.push(term)?;
+        Ok(())
+    }
+
+    /// The terms in the order of their lines.
+    pub fn terms(&self) -> &[Term]
+        ensures { result.now ≡ self.now.terms }
+    {
+        self.terms.as_slice()
+    }
+}

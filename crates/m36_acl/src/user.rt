@@ -1,0 +1,56 @@
+//! Users.
+
+ghost use Rattle.std.specs.Prelude.{◌≡◌, ◌≤◌, length};
+ghost use Rattle.m36_acl.specs.Users.{user_of};
+
+use crate::matching::is_user;
+use arrayvec::ArrayVec;
+use std::marker::Model;
+
+/// A user: `Person.Project.tag`, where Person and Project have 1 to 32 letters, digits and `_`, and the tag is a small
+/// letter. It is seen as its text, and takes no memory.
+#[derive(Debug, Drop)]
+pub struct User {
+    text: ArrayVec<u8, 67>,
+}
+
+impl Model for User {
+    ghost use Rattle.std.specs.Prelude.{ℕ, List};
+
+    ghost Value = { List ℕ };
+
+    ghost view = { λ u. u.text.items };
+}
+
+// The same bytes, which are few.
+pub(crate) fn kept(text: &[u8]) -> ArrayVec<u8, 67>
+    requires { length text.now ≤ 67 }
+    ensures { result.items ≡ text.now }
+{
+    let mut items = ArrayVec::new();
+    match items.try_extend_from_slice(text) {
+        Ok(()) => items,
+        Err(_) => unreachable!(),
+    }
+}
+
+impl User {
+    /// The user of a text; None exactly where it is not of the form of a user.
+    pub fn read(t: &[u8]) -> Option<User>
+        ensures { result ≡ user_of t.now }
+    {
+        if is_user(t) {
+            Some(User { text: kept(t) })
+        } else {
+            None
+        }
+    }
+
+    /// The text of the user, at most 67 bytes.
+    pub fn bytes(&self) -> &[u8]
+        ensures value { result.now ≡ self.now }
+        ensures fits { length self.now ≤ 67 }
+    {
+        self.text.as_slice()
+    }
+}
