@@ -27,16 +27,16 @@ known_at catalog given i s e = ap (λ (ss : List SegmentFields). list_any (names
 pub known_here : (catalog : CatalogFields) (given : AclSegmentFields) (i : ℕ) (s : SegmentFields) (total : Bool)
     → slice_get catalog.segments i ≡ Some s → true ≡ names catalog given s
     → list_any (names catalog given) (drop i catalog.segments) ≡ total → true ≡ total
-known_here catalog given i s total e yes so_far =
-    ap (λ (b : Bool). (b || list_any (names catalog given) (drop (i + 1) catalog.segments))) yes
+known_here catalog given i s total e here so_far =
+    ap (λ (b : Bool). (b || list_any (names catalog given) (drop (i + 1) catalog.segments))) here
     ∙ sym (known_at catalog given i s e) ∙ so_far
 
 pub known_later : (catalog : CatalogFields) (given : AclSegmentFields) (i : ℕ) (s : SegmentFields) (total : Bool)
     → slice_get catalog.segments i ≡ Some s → false ≡ names catalog given s
     → list_any (names catalog given) (drop i catalog.segments) ≡ total
     → list_any (names catalog given) (drop (i + 1) catalog.segments) ≡ total
-known_later catalog given i s total e no so_far =
-    ap (λ (b : Bool). (b || list_any (names catalog given) (drop (i + 1) catalog.segments))) no
+known_later catalog given i s total e other so_far =
+    ap (λ (b : Bool). (b || list_any (names catalog given) (drop (i + 1) catalog.segments))) other
     ∙ sym (known_at catalog given i s e) ∙ so_far
 
 pub known_never : (catalog : CatalogFields) (given : AclSegmentFields) (i : ℕ) (total : Bool) → length catalog.segments ≤ i

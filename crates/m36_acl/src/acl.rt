@@ -7,8 +7,8 @@ ghost use Rattle.m36_acl.specs.Granted.{first_unknown, decision_on, granted};
 
 use crate::fault::AclFault;
 use crate::granting::{decision_on, first_unknown, grant_all};
-use crate::policy::{Decision, decided};
-use crate::reading::{is_of, segments_in};
+use crate::policy::{Decision, decided, terms_in};
+use crate::reading::segments_in;
 use crate::segment::{AclSegment, Term};
 use crate::user::User;
 use m36_dir::Catalog;
@@ -50,18 +50,10 @@ impl Acl {
     }
 
     /// The list of a segment, in the order of its lines; empty where no `segment` line has the segment.
-    #[tactic(auto, unfolding(crate::specs::Policy::terms_of))]
     pub fn terms(&self, dir: &[u8], name: &[u8]) -> &[Term]
         ensures { result.now ≡ terms_of self.now dir.now name.now }
     {
-        match self
-            .segments
-            .iter()
-            .find(|segment| is_of(segment, dir, name))
-        {
-            Some(segment) => segment.terms(),
-            None => &[],
-        }
+        terms_in(self.segments(), dir, name)
     }
 
     /// What a user may do with a segment: the mode of the first matching term in its list, with the place of that term;
@@ -72,6 +64,7 @@ impl Acl {
     {
         decided(self.terms(dir, name), user)
     }
+
     /// The number of the first `segment` line whose segment is not in a catalog by its directory and its first name, which
     /// are those of its segment line in the boot text.
     pub fn first_unknown(&self, catalog: &Catalog) -> Option<u32>

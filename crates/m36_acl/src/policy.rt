@@ -1,11 +1,15 @@
 //! What a user may do with a segment.
 
-ghost use Rattle.std.specs.Prelude.{◌≡◌, ◌<◌, length, position, Some, IfSome};
+ghost use Rattle.std.specs.Prelude.{◌≡◌, ◌<◌, length, find, position, Some, IfSome};
+ghost use Rattle.std.specs.Option.{option_copied};
+ghost use Rattle.m36_dir.specs.BootOrder.{entry};
 ghost use Rattle.m36_acl.specs.Users.{matches};
-ghost use Rattle.m36_acl.specs.Policy.{nothing, rights_by, decided};
+ghost use Rattle.m36_acl.specs.AccessLists.{is_of};
+ghost use Rattle.m36_acl.specs.Policy.{terms_of, nothing, rights_by, decided};
 
 use crate::matching::matches;
-use crate::segment::Term;
+use crate::reading::is_of;
+use crate::segment::{AclSegment, Term};
 use crate::user::User;
 
 /// What a user may do with a segment, and the term that says so: its place in the list of the segment, counted from 0.
@@ -16,6 +20,24 @@ pub struct Decision {
     pub readable: bool,
     pub executable: bool,
     pub writable: bool,
+}
+
+// The `segment` line of a name in a directory among some.
+fn line_of<'a>(segments: &'a [AclSegment], dir: &[u8], name: &[u8]) -> Option<&'a AclSegment>
+    ensures { option_copied result ≡ find (is_of (entry dir.now name.now)) segments.now }
+{
+    segments.iter().find(|segment| is_of(segment, dir, name))
+}
+
+/// The list of a segment among some; empty where none is of the segment.
+#[tactic(auto, unfolding(crate::specs::Policy::terms_of))]
+pub(crate) fn terms_in<'a>(segments: &'a [AclSegment], dir: &[u8], name: &[u8]) -> &'a [Term]
+    ensures { result.now ≡ terms_of segments.now dir.now name.now }
+{
+    match line_of(segments, dir, name) {
+        Some(segment) => segment.terms(),
+        None => &[],
+    }
 }
 
 fn nothing() -> Decision
