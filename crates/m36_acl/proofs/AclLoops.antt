@@ -1,5 +1,5 @@
 -- Steps of the loop over the lines of access lists.
-use Rattle.std.proofs.Common.{ℕ, ◌≡◌, ◌+◌, ◌<◌, List, [], ◌∷◌, length, map, Option, Some, Result, Ok, Err, refl, sym, ap, subst, ◌∙◌, arith}
+use Rattle.std.proofs.Common.{ℕ, ◌≡◌, ◌+◌, ◌<◌, List, [], ◌∷◌, length, map, Option, Some, Ok, Err, refl, sym, ap, subst, ◌∙◌, arith}
 use Rattle.m36_text.specs.Lines.{lines_of, cut_line}
 use Rattle.m36_acl.specs.declared.fault.AclFault.{AclFault}
 use Rattle.m36_acl.specs.declared.fault.AclFault.TheVariants as fault

@@ -1,6 +1,6 @@
 -- The term that decides is the first that matches.
-use Rattle.std.proofs.Common.{ℕ, ◌≡◌, ◌<◌, ◌≤◌, Bool, true, false, cond, List, length, take, get_or, Option, Some, None, refl, sym, ap, subst, ◌∙◌, arith}
-use Rattle.std.specs.Prelude.{slice_get, position}
+use Rattle.std.proofs.Common.{ℕ, ◌≡◌, ◌<◌, ◌≤◌, Bool, true, false, cond, List, length, get_or, Option, Some, None, refl, sym, ap, subst, arith}
+use Rattle.std.specs.Prelude.{position}
 use Rattle.std.specs.List.{position_or_len}
 use Rattle.std.proofs.Math.Dec.{ltb}
 use Rattle.std.proofs.lemmas.Bool.{ltb-true, ltb-false}
@@ -11,9 +11,8 @@ use Rattle.std.proofs.lemmas.Option.{cond_some, get_or_from_slice_get}
 use Rattle.m36_acl.specs.declared.policy.Decision.{Decision}
 use Rattle.m36_acl.specs.Fields.{TermFields}
 use Rattle.m36_acl.specs.Users.{matches}
-use Rattle.m36_acl.specs.AccessLists.{Lists}
-use Rattle.m36_acl.specs.Policy.{terms_of, nothing, rights_by, decided_at, decided, policy, NoneMatches, IsFirst, IsRight, FirstMatchDecides}
-use Rattle.m36_acl.proofs.Places.{At, at_place}
+use Rattle.m36_acl.specs.Policy.{terms_of, rights_by, decided_at, decided, policy, IsFirst, IsRight, FirstMatchDecides}
+use Rattle.m36_acl.proofs.Places.{at_place}
 
 cond_none : {A : Type 0} (b : Bool) (x : A) → cond b (Some x) None ≡ None → b ≡ false
 cond_none true x h = cc

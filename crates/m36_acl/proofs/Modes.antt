@@ -2,7 +2,7 @@
 use Rattle.std.proofs.Common.{ℕ, ◌≡◌, ◌<◌, ◌==◌, Bool, true, false, List, [], ◌∷◌, length, Option, Some, None, refl, arith}
 use Rattle.std.specs.Prelude.{option_and_then, if◌then◌else◌}
 use Rattle.m36_dir.specs.declared.segment.Mode.{Mode}
-use Rattle.m36_dir.specs.BootLine.{Taken, taken, whole}
+use Rattle.m36_dir.specs.BootLine.{Taken, whole}
 use Rattle.m36_acl.specs.AccessLine.{unprivileged, rights_before}
 
 -- behind the letters r, e and w stands nothing

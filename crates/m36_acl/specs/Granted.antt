@@ -3,7 +3,7 @@ use Rattle.std.specs.Prelude.{ℕ, ◌≡◌, Bool, not, List, [], map, find, sl
 use Rattle.std.specs.Prelude.{unwrap_or, option_map, IfSome}
 use Rattle.std.specs.List.{list_any}
 use Rattle.m36_dir.specs.Fields.{SegmentFields}
-use Rattle.m36_dir.specs.BootOrder.{Entry, entry, is_entry}
+use Rattle.m36_dir.specs.BootOrder.{entry, is_entry}
 use Rattle.m36_dir.specs.Catalog.{CatalogFields, with_rights}
 use Rattle.m36_acl.specs.declared.policy.Decision.{Decision}
 use Rattle.m36_acl.specs.Fields.{AclSegmentFields}
