@@ -1,9 +1,7 @@
 //! What is put of a turn: a line, characters as they are, or nothing.
 
-ghost use Rattle.std.specs.Prelude.{ℕ, ◌≡◌, ◌≤◌, ◌<◌, ◌+◌, ◌^◌, [], ◌∷◌, ◌++◌, length};
+ghost use Rattle.std.specs.Prelude.{◌≡◌, ◌<◌, ◌+◌, [], ◌∷◌, length};
 ghost use Rattle.m36_step.specs.declared.turns.Turn.TheVariants as turn;
-ghost use Rattle.m36_trace.specs.TraceLine.{line_of};
-ghost use Rattle.m36_turns.specs.TurnLines.{link_line_of, console_line_of};
 ghost use Rattle.m36_reading.specs.Outside.{sink_of};
 ghost use Rattle.m36_ran.specs.Output.{as_line};
 ghost use Rattle.m36_booted.specs.RunText.{characters, pieces_of, finish_line};

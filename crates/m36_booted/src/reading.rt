@@ -1,9 +1,8 @@
 //! The boot text of a folder and the files of its segments, and the system that they boot to.
 
-ghost use Rattle.std.specs.Prelude.{ℕ, ◌≡◌, ◌≤◌, ◌+◌, ◌^◌, List, [], ◌∷◌, ◌++◌, Ok, All, length, IfOk};
+ghost use Rattle.std.specs.Prelude.{ℕ, ◌≡◌, ◌≤◌, ◌+◌, ◌^◌, List, [], ◌∷◌, ◌++◌, Ok, length, IfOk};
 ghost use Rattle.m36_outside.specs.ReadAnswer.{file_limit};
 ghost use Rattle.m36_dir.specs.Catalog.{catalog_of};
-ghost use Rattle.m36_super.specs.SuperFields.{booted_of};
 ghost use Rattle.m36_reading.specs.Reading.{Early};
 ghost use Rattle.m36_reading.specs.Asking.{Gives, Refuses};
 ghost use Rattle.m36_reading.specs.Outside.{folder_of};

@@ -1,6 +1,6 @@
 //! A run of a booted system, written as it goes.
 
-ghost use Rattle.std.specs.Prelude.{ℕ, ◌≡◌, ◌<◌, ◌≤◌, ◌+◌, ◌^◌};
+ghost use Rattle.std.specs.Prelude.{◌≡◌, ◌<◌, ◌+◌, ◌^◌};
 ghost use Rattle.m36_reading.specs.Outside.{sink_of};
 ghost use Rattle.m36_super.specs.declared.coming.Coming.TheVariants.{Step, Link, Print};
 ghost use Rattle.m36_booted.specs.RunSays.{BehindLink, BehindSays, Progresses, FinishSays, RanSays};

@@ -90,8 +90,9 @@ pub record IsUnput (due : Answer) (old new : Outside) : Type 0 where
 
 -- ---- ends, by what may have come of the reading
 
-pub record IsAnswered {D : Type 0} (kind : Kind D) (Is : Coming (Early D)
-    → Type 0) (result : Status) (old new : Outside)
+pub record IsAnswered
+    {D : Type 0} (kind : Kind D) (Is : Coming (Early D) → Type 0)
+    (result : Status) (old new : Outside)
     : Type 0 where
   pub given : Early D
   pub came : Is (Came given)
@@ -99,8 +100,9 @@ pub record IsAnswered {D : Type 0} (kind : Kind D) (Is : Coming (Early D)
   pub is_due : IsDueBy kind.IsDue given due
   pub made : IsMade due result old new
 
-pub record IsCut {D : Type 0} (kind : Kind D) (Is : Coming (Early D)
-    → Type 0) (old new : Outside) : Type 0 where
+pub record IsCut
+    {D : Type 0} (kind : Kind D) (Is : Coming (Early D) → Type 0) (old new : Outside)
+    : Type 0 where
   pub given : D
   pub came : Is (Came (Ok given))
   pub due : Answer
@@ -118,8 +120,9 @@ pub record IsUnmade {D : Type 0} (Is : Coming (Early D) → Type 0) (old new : O
   pub idle : IsIdle old new
   pub read_faults : NoneUnread old new
 
-pub record IsStarved {D : Type 0} (kind : Kind D) (Is : Coming (Early D)
-    → Type 0) (old new : Outside) : Type 0 where
+pub record IsStarved
+    {D : Type 0} (kind : Kind D) (Is : Coming (Early D) → Type 0) (old new : Outside)
+    : Type 0 where
   pub given : D
   pub came : Is (Came (Ok given))
   pub wants : kind.Wants given old new

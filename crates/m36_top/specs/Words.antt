@@ -16,8 +16,7 @@
 -- words is a command.
 --
 --     FILE, NAME   1 to 32 of `A-Z a-z 0-9 _ .`, not beginning with `.`; of `alm` and `bind` at
---     most 27,
---                  since they read NAME.alm and NAME.bind
+--                  most 27, since they read NAME.alm and NAME.bind
 --     N            1 to 8 decimal digits, at most 10,000,000; without `--steps` 100,000
 use Rattle.std.specs.Prelude.{ℕ, Bool, true, false, not, ◌&&◌, nat_le, List, [], ◌∷◌, ◌++◌, length}
 use Rattle.std.specs.Prelude.{take, drop, codes, Option, Some, None, unwrap_or, if◌then◌else◌}
