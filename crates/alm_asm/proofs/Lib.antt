@@ -16,3 +16,4 @@ pub mod Assembling
 pub mod ReadNames
 pub mod SectionsStand
 pub mod LinksApart
+pub mod LinksSoFar

@@ -36,7 +36,7 @@ stays_by : (l other : LinkFields) (links : List LinkFields) (b : Bool) → list_
 stays_by l other links true e = e
 stays_by l other links false e = list_any-append (same_link l) links (other ∷ []) ∙ or_left (list_any (same_link l) links) (list_any (same_link l) (other ∷ [])) e
 
-stays_with : (l : LinkFields) (links : List LinkFields) (more : Option LinkFields) → list_any (same_link l) links ≡ true → list_any (same_link l) (with_link links more) ≡ true
+pub stays_with : (l : LinkFields) (links : List LinkFields) (more : Option LinkFields) → list_any (same_link l) links ≡ true → list_any (same_link l) (with_link links more) ≡ true
 stays_with l links None e = e
 stays_with l links (Some other) e = stays_by l other links (list_any (same_link other) links) e
 
@@ -53,7 +53,7 @@ added_by l links true e = e
 added_by l links false e =
     list_any-append (same_link l) links (l ∷ []) ∙ or_right (list_any (same_link l) links) (list_any (same_link l) (l ∷ [])) (or_left (same_link l l) false (link_self l))
 
-added_with : (l : LinkFields) (links : List LinkFields) (given : Option LinkFields) → given ≡ Some l → list_any (same_link l) (with_link links given) ≡ true
+pub added_with : (l : LinkFields) (links : List LinkFields) (given : Option LinkFields) → given ≡ Some l → list_any (same_link l) (with_link links given) ≡ true
 added_with l links given e = ap (λ (g : Option LinkFields). list_any (same_link l) (with_link links g)) e ∙ added_by l links (list_any (same_link l) links) refl
 
 follows : (text : List ℕ) (symbols : List (List ℕ × Sum)) (links : List LinkFields) (spot : Spot) (above lines : List Line36)

@@ -10,6 +10,7 @@ use Rattle.alm_parse.specs.declared.line.Line36.{Line36}
 use Rattle.obj36_parts.specs.declared.section.Section.{Section}
 use Rattle.obj36_parts.specs.declared.section.Section.TheVariants.{Text, Linkage, Symbol, Static}
 use Rattle.obj36_parts.specs.declared.definition.Named.{Named}
+use Rattle.obj36_parts.specs.Fields.{LinkFields}
 use Rattle.alm_lines.specs.Arguments.{first_arg, second_arg, symbol_in, terms_in, section_in}
 use Rattle.alm_lines.specs.Spots.{below}
 use Rattle.alm_lines.specs.Expressions.{expression_place}
@@ -150,6 +151,10 @@ refusal_of_deed text tables spot line deed.Even = None
 refusal_of_deed text tables spot line deed.Bound = None
 
 -- ---- the lines
+
+-- tables with these links
+abbrev pub with_links : Tables → List LinkFields → Tables
+with_links tables links = record tables { links = links }
 
 unfoldable pub line_refusal : List ℕ → Tables → List Named → Spot → Line36 → Option Refusal
 line_refusal text tables done spot line =

@@ -7,6 +7,8 @@ ghost use Rattle.alm_lines.specs.Spots.{start, HasRoom};
 ghost use Rattle.obj36_parts.specs.declared.section.Section.TheVariants.{Text};
 ghost use Rattle.obj36_parts.specs.ObjectSegment.{is_well_formed};
 ghost use Rattle.alm_lines.specs.Layout.{layout_refusal};
+ghost use Rattle.alm_lines.specs.Refusals.{sooner};
+ghost use Rattle.alm_asm.specs.LineRefusals.{lines_refusal};
 ghost use Rattle.alm_asm.specs.Words.{words_from};
 ghost use Rattle.alm_asm.specs.Marks.{marks_from};
 ghost use Rattle.alm_asm.specs.Assembles.{Assembles};
@@ -17,7 +19,6 @@ ghost use Rattle.alm_asm.specs.Assembly.{assembled};
 use crate::definitions::definitions_of;
 use crate::growth::growth_refusal;
 use crate::line_refusal::lines_refusal;
-use crate::links::links_of;
 use crate::marks::push_marks_in;
 use crate::tables::Tables;
 use crate::words::words_in;
@@ -27,7 +28,7 @@ use alm_lines::refusal::{Refusal, fault_of, sooner};
 use alm_lines::spot::{Spot, below, end_of};
 use alm_parse::{AlmFault, Deed, Line36, Lines36};
 use m36_word::{NoMemory, Word, Words};
-use obj36::{Object, Parts, Relocs, Section};
+use obj36::{Links, Object, Parts, Relocs, Section};
 use std::alloc::Global;
 
 fn first_link(ending: Spot) -> Count
@@ -40,7 +41,8 @@ fn first_link(ending: Spot) -> Count
     Count::of(8 + ending.inner + ending.inner % 2)
 }
 
-/// The tables of lines, and the first refusal of a symbol's definition or of a section's length.
+/// The tables of lines: of all where no line is refused, or else with the links of those up to the one that is; and
+/// the first refusal of a symbol's definition, of a section's length or of a line.
 #[derive(Drop)]
 struct Found {
     tables: Tables,
@@ -50,23 +52,27 @@ struct Found {
 #[tactic(auto, unfolding(crate::specs::Assembly::tables_of))]
 fn found_in(alloc: Global, text: &[u8], lines: &[Line36]) -> Result<Found, NoMemory>
     requires { length lines.now < 2 ^ 32 }
-    ensures tables { IfOk result (λ found. found.tables ≡ tables_of text.now lines.now) }
+    ensures symbols { IfOk result (λ found.
+        found.tables.symbols ≡ (tables_of text.now lines.now).symbols) }
+    ensures tables { IfOk result (λ found.
+        found.refused ≡ None → found.tables ≡ tables_of text.now lines.now) }
     ensures refused { IfOk result (λ found.
-        found.refused ≡ layout_refusal text.now None [] start lines.now) }
+        found.refused
+        ≡ sooner (layout_refusal text.now None [] start lines.now)
+        (lines_refusal text.now (tables_of text.now lines.now) [] start lines.now)) }
 {
     let layout = layout_of(alloc, text, lines)?;
-    let links = links_of(alloc, text, &layout.symbols, lines)?;
     let ending = end_of(alloc, text, lines)?;
-    let first_link = first_link(ending);
-    let tables = Tables {
+    let mut tables = Tables {
         symbols: layout.symbols,
-        links,
-        first_link,
+        links: Links::new(alloc),
+        first_link: first_link(ending),
         uses_outer: ending.uses_outer,
     };
+    let refused = lines_refusal(alloc, text, &mut tables, lines)?;
     Ok(Found {
         tables,
-        refused: layout.refused,
+        refused: sooner(layout.refused, refused),
     })
 }
 
@@ -250,9 +256,8 @@ fn meaning(alloc: Global, lines: &Lines36) -> Result<Object, AlmFault>
     let text = lines.text();
     let rows = lines.lines();
     let found = found_in(alloc, text, rows)?;
-    let refused = lines_refusal(alloc, text, &found.tables, rows)?;
     let grown = growth_refusal(alloc, text, &found.tables.symbols, rows)?;
-    match sooner(sooner(found.refused, refused), grown) {
+    match sooner(found.refused, grown) {
         Some(refusal) => Err(fault_of(refusal)),
         None => {
             let parts = parts_with(alloc, text, found.tables, rows)?;

@@ -1,7 +1,7 @@
 //! What is refused of lines whose symbols are known.
 
 ghost use Rattle.std.specs.Prelude.{ℕ, Bool, List, [], ◌∷◌, ◌≡◌, ◌+◌, ◌^◌, ◌<◌, ◌≤◌, length};
-ghost use Rattle.std.specs.Prelude.{Option, OnOk, IfOk};
+ghost use Rattle.std.specs.Prelude.{Option, None, OnOk, IfOk};
 ghost use Rattle.alm_lines.specs.Arguments.{first_arg};
 ghost use Rattle.alm_lines.specs.Spots.{start};
 ghost use Rattle.alm_asm.specs.Definitions.{definitions_after};
@@ -11,9 +11,11 @@ ghost use Rattle.alm_asm.specs.LineRefusals.{reaches, external_refusal, own_oper
 ghost use Rattle.alm_asm.specs.LineRefusals.{operand_refusal, is_text_section, may_enter};
 ghost use Rattle.alm_asm.specs.LineRefusals.{instruction_refusal, use_refusal, halves_refusal};
 ghost use Rattle.alm_asm.specs.LineRefusals.{refusal_of_deed, line_refusal, lines_refusal};
+ghost use Rattle.alm_asm.specs.LineRefusals.{with_links};
+ghost use Rattle.alm_asm.specs.Links.{links_after, links_from};
 
 use crate::definitions::push_definitions;
-use crate::links::{link_of, link_place, own_section};
+use crate::links::{link_of, link_place, note_link, own_section};
 use crate::tables::Tables;
 use alm_lines::arguments::{first_symbol, first_terms, second_terms, section_in};
 use alm_lines::expression::expression_place;
@@ -273,34 +275,52 @@ fn refusal_of_deed(
     }
 }
 
+// What is refused of a line, whose link stands among the links then.
 #[tactic(auto, unfolding(crate::specs::LineRefusals::line_refusal))]
 fn take_line(
     text: &[u8],
-    tables: &Tables,
+    tables: &mut Tables,
     spot: Spot,
     line: &Line36,
     done: &mut Defs,
 ) -> Result<Option<Refusal>, NoMemory>
     ensures definitions { OnOk result
-        (done.new ≡ definitions_after text.now tables.now.symbols done.old line.now) }
+        (done.new ≡ definitions_after text.now tables.old.symbols done.old line.now) }
+    ensures links { OnOk result
+        (tables.new
+        ≡ with_links tables.old
+        (links_after text.now tables.old.symbols tables.old.links spot line.now)) }
     ensures refused { IfOk result (λ r.
-        r ≡ line_refusal text.now tables.now done.old spot line.now) }
+        r ≡ line_refusal text.now tables.new done.old spot line.now) }
 {
+    note_link(text, &tables.symbols, &mut tables.links, spot, line)?;
     let names = push_definitions(text, &tables.symbols, line, None, done)?;
     let own = refusal_of_deed(text, tables, spot, line, line.deed);
     Ok(sooner(names, own))
 }
 
-/// The refusal of the first of the lines that is refused. The error is want of memory alone.
-#[tactic(auto, using(alm_lines::proofs::Rooms::rooms), unfolding(crate::specs::LineRefusals::lines_refusal))]
+/// The refusal of the first of the lines that is refused, and the links of the lines: of all where none is refused, or
+/// else of those up to it. The error is want of memory alone.
+#[tactic(auto, using(alm_lines::proofs::Rooms::rooms, crate::proofs::LinksSoFar::later_same), unfolding(crate::specs::LineRefusals::lines_refusal, crate::specs::Links::links_from))]
 pub fn lines_refusal(
     alloc: Global,
     text: &[u8],
-    tables: &Tables,
+    tables: &mut Tables,
     lines: &[Line36],
 ) -> Result<Option<Refusal>, NoMemory>
     requires { length lines.now < 2 ^ 32 }
-    ensures { IfOk result (λ r. r ≡ lines_refusal text.now tables.now [] start lines.now) }
+    ensures symbols { IfOk result (λ r. tables.new.symbols ≡ tables.old.symbols) }
+    ensures refused { IfOk result (λ r.
+        r
+        ≡ lines_refusal text.now
+        (with_links tables.old
+        (links_from text.now tables.old.symbols tables.old.links start lines.now))
+        [] start lines.now) }
+    ensures links { IfOk result (λ r.
+        r ≡ None
+        → tables.new
+        ≡ with_links tables.old
+        (links_from text.now tables.old.symbols tables.old.links start lines.now)) }
 {
     let mut done = Defs::new(alloc);
     let mut spot = Spot::start();

@@ -174,8 +174,9 @@ fn add_link(links: &mut Links, link: Option<Link>) -> Result<(), NoMemory>
     }
 }
 
+/// Notes the link of a line behind those of the lines above. The error is want of memory alone.
 #[tactic(auto, unfolding(crate::specs::Links::links_after))]
-fn take_line(
+pub fn note_link(
     text: &[u8],
     symbols: &Symbols,
     links: &mut Links,
@@ -187,28 +188,6 @@ fn take_line(
     let deed = line.deed;
     let link = link_in(text, symbols, spot, operand_args(deed, line.args.items()));
     add_link(links, link)
-}
-
-/// The links of lines. The error is want of memory alone.
-#[tactic(auto, using(alm_lines::proofs::Rooms::rooms), unfolding(crate::specs::Links::links_from))]
-pub fn links_of(
-    alloc: Global,
-    text: &[u8],
-    symbols: &Symbols,
-    lines: &[Line36],
-) -> Result<Links, NoMemory>
-    requires { length lines.now < 2 ^ 32 }
-    ensures { IfOk result (λ links. links ≡ links_from text.now symbols.now [] start lines.now) }
-{
-    let mut links = Links::new(alloc);
-    let mut spot = Spot::start();
-    let mut rest = lines;
-    while let [line, more @ ..] = rest {
-        take_line(text, symbols, &mut links, spot, line)?;
-        spot = below(alloc, text, spot, line)?;
-        rest = more;
-    }
-    Ok(links)
 }
 
 /// The offset of a link in the linkage section, whose links begin at a place.
