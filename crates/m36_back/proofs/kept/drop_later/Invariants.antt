@@ -1,0 +1,13 @@
+use Rattle.std.proofs.Common.{◌≤◌, length}
+use Rattle.m36_back.specs.Kept.{AllKept}
+use Rattle.m36_back.proofs.kept.drop_later.Given as goal
+
+abbrev pub decreases-kept : goal.decreases-kept
+decreases-kept g l = l.n
+
+-- what is left was kept
+abbrev pub invariant-kept : goal.invariant-kept
+invariant-kept g l = record {
+  within : l.n ≤ length l.kept.items;
+  all : (first : _) → AllKept g.M.Replay.after first l.fn.kept.items → AllKept g.M.Replay.after first l.kept.items;
+}

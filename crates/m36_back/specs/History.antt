@@ -1,0 +1,58 @@
+-- The history of a machine whose turns are a function of its state: the first state, the state
+-- after the one turn from it, the state after the one turn from that, and so on.
+use Rattle.std.specs.Prelude.{ℕ, zero, suc, ◌≡◌, ◌+◌, ◌-◌, ◌<◌, ◌≤◌, ◌^◌, ◌==◌, if◌then◌else◌}
+use Rattle.m36_step.specs.declared.turns.Turn.{Turn}
+use Rattle.m36_step.specs.declared.turns.Turn.TheVariants.{Stepped, Linked, Console, Ended, Full}
+use Rattle.m36_step.specs.declared.turns.Turn.TheVariants.{NoMemory}
+use Rattle.m36_step.specs.declared.turns.BackAnswer.{BackAnswer}
+use Rattle.m36_step.specs.declared.turns.BackAnswer.TheVariants as back
+
+-- the state with number n of the history; the first has number 0
+unfoldable pub state_at : {M : Type 0} → (M → M) → M → ℕ → M
+state_at after first zero = first
+state_at after first (suc n) = after (state_at after first n)
+
+-- a first state, and how many steps were taken from there and not taken back
+pub record History (M : Type 0) : Type 0 where
+  pub first : M
+  pub taken : ℕ
+
+-- the state where the machine stands
+abbrev pub standing_at : {M : Type 0} → (M → M) → History M → M
+standing_at after h = state_at after h.first h.taken
+
+-- ---- turns
+
+-- A turn is that of the machine, but where no more steps can be counted.
+abbrev pub past_answer : {M : Type 0} → (M → Turn) → (M → M) → History M → Turn
+past_answer answer after h =
+    if h.taken == 2 ^ 64 - 1 then Full else answer (standing_at after h)
+
+-- the count of steps after a turn
+abbrev pub counted : ℕ → Turn → ℕ
+counted taken (Stepped told) = taken + 1
+counted taken (Linked note) = taken
+counted taken (Console text) = taken
+counted taken (Ended end) = taken
+counted taken Full = taken
+counted taken NoMemory = taken
+
+abbrev pub past_after : {M : Type 0} → (M → Turn) → (M → M) → History M → History M
+past_after answer after h =
+    record { first = h.first; taken = counted h.taken (past_answer answer after h) }
+
+abbrev pub PastTurns :
+    {M : Type 0} → (M → Turn) → (M → M) → History M → Turn → History M → Type 0
+PastTurns answer after before turn later =
+    (turn ≡ past_answer answer after before) × (later ≡ past_after answer after before)
+
+-- ---- going back
+
+-- So many steps are taken back, where so many were taken; want of memory is free.
+abbrev pub PastWent : {M : Type 0} → History M → ℕ → BackAnswer → History M → Type 0
+PastWent before n back.Done later =
+    (n ≤ before.taken) × (later ≡ record { first = before.first; taken = before.taken - n })
+PastWent before n (back.Before taken) later =
+    (before.taken < n) × (taken ≡ before.taken) × (later ≡ before)
+PastWent before n back.Unable later = ⊥
+PastWent before n back.NoMemory later = (n ≤ before.taken) × (later ≡ before)

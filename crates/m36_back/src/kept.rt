@@ -1,0 +1,104 @@
+//! The states that are kept of a history, in the order of their numbers.
+
+ghost use Rattle.std.specs.Prelude.{ℕ, ◌≡◌, ◌<◌, ◌≤◌, IfOk};
+ghost use Rattle.m36_back.specs.History.{state_at};
+ghost use Rattle.m36_back.specs.Kept.{AllKept};
+
+use m36_step::Replay;
+use m36_word::NoMemory;
+use std::alloc::Global;
+
+/// The most states that are kept besides the first.
+const MOST_KEPT: usize = 8;
+
+/// A state that is kept, with its number in the history.
+#[derive(Drop)]
+pub struct Kept<M> {
+    pub at: u64,
+    pub state: M,
+}
+
+/// A copy of the latest state that is kept and whose number is not over `target`; of the first state where there is none.
+/// The error is want of memory alone.
+#[tactic(auto, unfolding(crate::specs::History::state_at))]
+pub(crate) fn nearest<M: Replay + Drop>(
+    alloc: Global,
+    first: &M,
+    kept: &[Kept<M>],
+    target: u64,
+) -> Result<Kept<M>, NoMemory>
+    ensures { IfOk result (λ k. (k.at ≤ target)
+        × (AllKept M.after first.now kept.now → k.state ≡ state_at M.after first.now k.at)) }
+{
+    let mut i = kept.len();
+    'kept: while i > 0 {
+        i -= 1;
+        if kept[i].at <= target {
+            let state = kept[i].state.copy(alloc)?;
+            return Ok(Kept {
+                at: kept[i].at,
+                state,
+            });
+        }
+    }
+    let state = first.copy(alloc)?;
+    Ok(Kept { at: 0, state })
+}
+
+/// Drops the states whose numbers are over `target`.
+#[tactic(auto, using(crate::proofs::KeptLaws::keeping))]
+pub(crate) fn drop_later<M: Replay + Drop>(kept: &mut Vec<Kept<M>>, target: u64)
+    ensures { (first : M) → AllKept M.after first kept.old.items → AllKept M.after first kept.new.items }
+{
+    let mut n = kept.len();
+    'kept: while n > 0 {
+        if kept[n - 1].at <= target {
+            return;
+        }
+        n -= 1;
+        kept.truncate(n);
+    }
+}
+
+/// Drops the states whose numbers are no multiples of `distance`.
+#[tactic(auto, using(crate::proofs::KeptLaws::keeping))]
+fn thin<M: Replay + Drop>(kept: &mut Vec<Kept<M>>, distance: u64)
+    requires { 0 < distance }
+    ensures { (first : M) → AllKept M.after first kept.old.items → AllKept M.after first kept.new.items }
+{
+    kept.retain(|k| -> bool { k.at % distance == 0 });
+}
+
+/// Keeps a copy of the state with number `taken`, where one is due: where the number is a multiple of the distance. Where
+/// eight are kept already the distance is doubled first. Answers the distance from then on. A copy that finds no memory is
+/// not kept.
+#[tactic(auto, using(crate::proofs::KeptLaws::keeping))]
+pub(crate) fn keep<M: Replay + Drop>(
+    alloc: Global,
+    kept: &mut Vec<Kept<M>>,
+    machine: &M,
+    taken: u64,
+    distance: u64,
+) -> u64
+    ensures { (first : M) → AllKept M.after first kept.old.items → machine.now ≡ state_at M.after first taken
+        → AllKept M.after first kept.new.items }
+{
+    if distance == 0 || taken % distance != 0 {
+        return distance;
+    }
+    let mut distance = distance;
+    if kept.len() >= MOST_KEPT {
+        distance = distance.saturating_mul(2);
+        thin(kept, distance);
+        if taken % distance != 0 {
+            return distance;
+        }
+    }
+    match machine.copy(alloc) {
+        Err(_) => {}
+        Ok(state) => {
+            let _ = kept.push(Kept { at: taken, state });
+        }
+    }
+    distance
+}

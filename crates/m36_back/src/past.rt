@@ -1,0 +1,140 @@
+//! A machine that goes back.
+
+ghost use Rattle.std.specs.Prelude.{ℕ, ◌≡◌, ◌-◌, ◌<◌, ◌^◌, MatchResult};
+ghost use Rattle.m36_back.specs.History.{counted};
+
+use crate::kept::{Kept, drop_later, keep, nearest};
+use crate::replaying::replay;
+use m36_model::Regs;
+use m36_step::{BackAnswer, Replay, Stepper, Turn};
+use m36_word::Word;
+use std::alloc::Global;
+use std::marker::Model;
+
+/// How many steps the states that are kept stand apart to begin with.
+const FIRST_DISTANCE: u64 = 1024;
+
+/// A machine that goes back. It is seen as its first state and how many steps were taken from there and not taken back.
+#[derive(Drop)]
+pub struct Past<M: Replay> {
+    alloc: Global,
+    first: M,
+    machine: M,
+    taken: u64,
+    kept: Vec<Kept<M>>,
+    distance: u64,
+}
+
+impl<M: Replay> Model for Past<M> {
+    ghost use Rattle.m36_back.specs.History.{History};
+    ghost use Rattle.m36_back.specs.Kept.{IsHistory};
+
+    ghost Value = { History M };
+
+    ghost view = { λ p. record { first = p.first; taken = p.taken } };
+
+    ghost invariant = { λ p. IsHistory M.after p.first p.machine p.taken p.kept.items };
+}
+
+impl<M: Replay + Drop> Past<M> {
+    /// A machine that goes back to where it stands now. It keeps the allocator. Where no memory is found, the machine is
+    /// handed back.
+    #[tactic(auto, using(crate::proofs::KeptLaws::new_history))]
+    pub fn new(alloc: Global, m: M) -> Result<Past<M>, M>
+        ensures { MatchResult result (λ past. past ≡ record { first = m; taken = 0 }) (λ back. back ≡ m) }
+    {
+        match m.copy(alloc) {
+            Err(_) => Err(m),
+            Ok(first) => Ok(Past {
+                alloc,
+                first,
+                machine: m,
+                taken: 0,
+                kept: Vec::new(alloc),
+                distance: FIRST_DISTANCE,
+            }),
+        }
+    }
+
+    /// How many steps were taken and not taken back.
+    pub fn taken(&self) -> u64
+        ensures { result ≡ self.now.taken }
+    {
+        self.taken
+    }
+}
+
+// The count of steps after a turn.
+fn count(taken: u64, turn: &Turn) -> u64
+    requires { taken < 2 ^ 64 - 1 }
+    ensures { result ≡ counted taken turn.now }
+{
+    match turn {
+        Turn::Stepped(_) => taken + 1,
+        _ => taken,
+    }
+}
+
+impl<M: Replay + Drop> Stepper for Past<M> {
+    ghost use Rattle.m36_back.specs.History.{standing_at, PastTurns, PastWent};
+    ghost use Rattle.m36_back.specs.PastLaws.{past_stays, past_apart};
+
+    ghost next = { λ before turn later. PastTurns M.answer M.after before turn later };
+
+    ghost went = { λ before n answer later. PastWent before n answer later };
+
+    ghost regs = { λ h. M.regs (standing_at M.after h) };
+
+    ghost content = { λ h seg word. M.content (standing_at M.after h) seg word };
+
+    /// A turn of the machine inside. Full is answered exactly where 2^64 - 1 steps are counted, and then nothing changes.
+    fn turn(&mut self) -> Turn {
+        if self.taken == u64::MAX {
+            return Turn::Full;
+        }
+        let turn = self.machine.turn();
+        self.taken = count(self.taken, &turn);
+        if let Turn::Stepped(_) = turn {
+            self.distance = keep(
+                self.alloc,
+                &mut self.kept,
+                &self.machine,
+                self.taken,
+                self.distance,
+            );
+        }
+        turn
+    }
+
+    /// Goes back: Before exactly where fewer steps were taken. With every answer but Done nothing has changed.
+    fn back(&mut self, n: u32) -> BackAnswer {
+        let n = n as u64;
+        if self.taken < n {
+            return BackAnswer::Before(self.taken);
+        }
+        let target = self.taken - n;
+        match nearest(self.alloc, &self.first, &self.kept, target) {
+            Err(_) => BackAnswer::NoMemory,
+            Ok(Kept { at, state }) => {
+                let mut machine = state;
+                replay(&mut machine, target - at);
+                self.machine = machine;
+                self.taken = target;
+                drop_later(&mut self.kept, target);
+                BackAnswer::Done
+            }
+        }
+    }
+
+    fn regs(&self) -> &Regs {
+        self.machine.regs()
+    }
+
+    fn content(&self, seg: u16, word: u32) -> Option<Word> {
+        self.machine.content(seg, word)
+    }
+
+    ghost stays = { past_stays };
+
+    ghost apart = { past_apart M.answer M.after M.kept };
+}
