@@ -2,7 +2,7 @@
 
 ghost use Rattle.std.specs.Prelude.{◌≡◌, ◌<◌, length};
 ghost use Rattle.m36_dir.specs.IsCatalog.{IsSegment};
-ghost use Rattle.m36_acl.specs.Granted.{directory_of, name_of, names, is_known, first_unknown, decision_on, GrantsOne, granted};
+ghost use Rattle.m36_acl.specs.Granted.{name_of, names, is_known, first_unknown, decision_on, GrantsOne, granted};
 
 use crate::acl::Acl;
 use crate::policy::Decision;

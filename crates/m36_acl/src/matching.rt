@@ -1,6 +1,6 @@
 //! The components of users and terms, and which term matches which user.
 
-ghost use Rattle.std.specs.Prelude.{ℕ, ◌≡◌, ◌+◌, ◌≤◌, ◌&&◌, ◌||◌, true, length, ◌∷◌, [], Some, None, MatchOption, IfSome};
+ghost use Rattle.std.specs.Prelude.{◌≡◌, ◌+◌, ◌≤◌, ◌&&◌, ◌||◌, true, length, ◌∷◌, [], Some, None, MatchOption, IfSome};
 ghost use Rattle.std.specs.List.{list_all};
 ghost use Rattle.m36_acl.specs.Users.{parts_of, components_of, is_component_character, is_component, is_tag_character, is_tag, is_any, is_user, is_term, admits, matches};
 

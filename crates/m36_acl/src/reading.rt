@@ -1,6 +1,6 @@
 //! The lines of access lists in turn, up to the first that has a code.
 
-ghost use Rattle.std.specs.Prelude.{◌≡◌, ◌<◌, ◌≤◌, ◌^◌, ◌∷◌, [], ◌++◌, ◌-◌, length, slice_get, slice_set, Some, Ok, IfOk, IfErr, IfSome, OnOk, option_map};
+ghost use Rattle.std.specs.Prelude.{◌≡◌, ◌<◌, ◌≤◌, ◌^◌, ◌∷◌, [], ◌++◌, ◌-◌, length, slice_set, Some, Ok, IfOk, IfErr, IfSome, OnOk, option_map};
 ghost use Rattle.m36_text.specs.Lines.{words_of};
 ghost use Rattle.m36_dir.specs.BootOrder.{entry};
 ghost use Rattle.m36_acl.specs.AccessLine.{Segment, Term as TermLine, entry_of, term_of, line_given};
