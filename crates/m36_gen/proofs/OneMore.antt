@@ -1,5 +1,6 @@
 -- One program more.
 use Rattle.std.proofs.Common.{ℕ, ◌≡◌, ◌+◌, List, [], ◌∷◌, ◌++◌, map, refl, sym, ap, ◌∙◌, append_assoc, add-one, arith}
+use Rattle.std.specs.Prelude.{codes}
 use Rattle.std.specs.List.{flat_map, range_with_len}
 use Rattle.std.proofs.lemmas.List.{append-nil, map-id}
 use Rattle.std.proofs.lemmas.List.FromFn.{map-range_with_len_more}
@@ -7,9 +8,9 @@ use Rattle.std.proofs.lemmas.Grind.{flat_map-append}
 use Rattle.m36_gen.specs.declared.files.File.{File}
 use Rattle.m36_gen.specs.Draws.{next, draws_from, state_at}
 use Rattle.m36_gen.specs.Lines.{source_name}
-use Rattle.m36_gen.specs.Sources.{source_text}
+use Rattle.m36_gen.specs.Sources.{source_text, stop_text}
 use Rattle.m36_gen.specs.BootText.{program_line, program_lines}
-use Rattle.m36_gen.specs.Folder.{file, source_file, source_files}
+use Rattle.m36_gen.specs.Folder.{file, source_file, source_files, sources_of}
 
 -- where the sequence stands behind the draws of a program
 pub state_moved : (seed i state new : ℕ) → state ≡ state_at seed i → new ≡ next (next (next state)) → new ≡ state_at seed (i + 1)
@@ -51,6 +52,24 @@ pub none_yet : (text : List ℕ) → text ≡ text ++ program_lines 0
 unfolding program_lines
 none_yet text = sym (append-nil text)
 
-pub ruleset of_sources = (state_moved, source_added)
+-- before the first program
+pub none_made : (seed : ℕ) (files : List File) → files ≡ [] → files ≡ source_files seed 0
+unfolding source_files
+none_made seed files is = is
+
+pub at_seed : (seed state : ℕ) → state ≡ seed → state ≡ state_at seed 0
+unfolding state_at
+at_seed seed state is = is
+
+-- the gate's source behind those of the programs
+pub all_sources : (seed : ℕ) (old new : List File) (content : List ℕ) → old ≡ source_files seed 64 → content ≡ stop_text
+    → new ≡ old ++ file (codes "stop_.alm") content ∷ [] → new ≡ sources_of seed
+unfolding sources_of
+all_sources seed old new content is stops added =
+    added
+    ∙ ap (λ (files : List File). files ++ file (codes "stop_.alm") content ∷ []) is
+    ∙ ap (λ (text : List ℕ). source_files seed 64 ++ file (codes "stop_.alm") text ∷ []) stops
+
+pub ruleset of_sources = (state_moved, source_added, none_made, at_seed)
 
 pub ruleset of_lines = (line_added, none_yet)

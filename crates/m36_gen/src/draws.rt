@@ -15,7 +15,7 @@ pub struct Draws {
 }
 
 /// A sequence of draws.
-#[derive(Clone, Copy, Debug)]
+#[derive(Drop)]
 pub struct Sequence {
     state: u64,
 }

@@ -11,15 +11,14 @@
 //! section 3.3.4), of which the upper 31 bits are taken; the programs are this project's own.
 #![tactic(auto)]
 
-mod boot_text;
-pub mod draws;
+mod catalog;
+mod draws;
 pub mod files;
 mod lines;
 pub mod making;
-mod sources;
+mod programs;
 #[cfg(test)]
 mod tests;
 
-pub use draws::{Draws, Sequence};
 pub use files::{File, Files};
 pub use making::{add_others, make, sources};

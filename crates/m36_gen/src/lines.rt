@@ -10,15 +10,15 @@ use m36_word::NoMemory;
 
 /// Puts a line.
 #[tactic(auto, unfolding(crate::specs::Lines::line))]
-pub fn put_line(text: &mut Text, line: &[u8]) -> Result<(), NoMemory>
-    ensures { OnOk result (text.new ≡ text.old ++ line line.now) }
+pub fn put_line(text: &mut Text, bytes: &[u8]) -> Result<(), NoMemory>
+    ensures { OnOk result (text.new ≡ text.old ++ line bytes.now) }
 {
-    text.append(line)?;
+    text.append(bytes)?;
     text.push(b'\n')
 }
 
 /// Puts a line with a number in it.
-#[tactic(auto, unfolding(crate::specs::Lines::numbered))]
+#[tactic(auto, using(crate::proofs::Parts::numbered_put))]
 pub fn put_numbered(text: &mut Text, before: &[u8], n: u64, behind: &[u8]) -> Result<(), NoMemory>
     ensures { OnOk result (text.new ≡ text.old ++ numbered before.now n behind.now) }
 {

@@ -7,11 +7,11 @@ ghost use Rattle.m36_gen.specs.Folder.{file, source_files, data_words, zeros, so
 ghost use Rattle.m36_gen.specs.Lines.{source_name};
 ghost use Rattle.m36_gen.specs.Sources.{source_text};
 
-use crate::boot_text::boot_text;
+use crate::catalog::boot_text;
 use crate::draws::{Draws, Sequence};
 use crate::files::{File, Files};
 use crate::lines::{name_of, source_name};
-use crate::sources::{PROGRAMS, source, stop_source};
+use crate::programs::{PROGRAMS, source, stop_source};
 use m36_outside::Text;
 use m36_text::pack;
 use m36_word::{NoMemory, Word, Words};
@@ -30,13 +30,13 @@ fn zeros(alloc: Global, count: u64) -> Result<Words, NoMemory>
     ensures { IfOk result (λ words. words ≡ zeros count) }
 {
     let mut words = Words::new(alloc);
-    for _i in 0..count {
-        words.push(Word::low(0))?;
+    for _ in 0..count {
+        words.push(Word::ZERO)?;
     }
     Ok(words)
 }
 
-fn data(alloc: Global) -> Result<Text, NoMemory>
+fn packed_data(alloc: Global) -> Result<Text, NoMemory>
     ensures { IfOk result (λ text. text ≡ packed (zeros data_words)) }
 {
     let words = zeros(alloc, data_words())?;
@@ -82,12 +82,13 @@ fn program_sources(alloc: Global, seed: u64, count: u64) -> Result<Files, NoMemo
 }
 
 /// The sources that a seed makes: those of 64 programs, and that of the gate. The error is want of memory alone.
-#[tactic(auto, unfolding(crate::specs::Folder::sources_of))]
+#[tactic(auto, using(crate::proofs::OneMore::all_sources))]
 pub fn sources(alloc: Global, seed: u64) -> Result<Files, NoMemory>
     ensures { IfOk result (λ files. files ≡ sources_of seed) }
 {
     let mut files = program_sources(alloc, seed, PROGRAMS)?;
-    add_file(&mut files, b"stop_.alm", stop_source(alloc)?)?;
+    let stop = stop_source(alloc)?;
+    add_file(&mut files, b"stop_.alm", stop)?;
     Ok(files)
 }
 
@@ -96,8 +97,10 @@ pub fn sources(alloc: Global, seed: u64) -> Result<Files, NoMemory>
 pub fn add_others(alloc: Global, files: &mut Files) -> Result<(), NoMemory>
     ensures { OnOk result (files.new ≡ files.old ++ other_files) }
 {
-    add_file(files, b"d_", data(alloc)?)?;
-    add_file(files, b"boot", boot_text(alloc)?)
+    let words = packed_data(alloc)?;
+    let text = boot_text(alloc)?;
+    add_file(files, b"d_", words)?;
+    add_file(files, b"boot", text)
 }
 
 /// The files of the folder that a seed makes: the sources, the data and the boot text, in this order. The error is want of

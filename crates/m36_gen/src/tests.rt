@@ -1,6 +1,7 @@
 //! Files worked out by hand. The draws are computed by the recurrence elsewhere.
 
-use crate::{Draws, Sequence, make};
+use crate::draws::{Draws, Sequence};
+use crate::make;
 use std::test::Fail;
 
 // The first three draws of a seed.

@@ -1,6 +1,7 @@
-use Rattle.std.proofs.Common.{◌≡◌, replicate}
+use Rattle.std.proofs.Common.{◌≡◌}
+use Rattle.std.specs.Prelude.{replicate}
 use Rattle.m36_gen.proofs.making.zeros.Given as goal
 
 -- so many zeros so far
-abbrev pub invariant-loop-_i : goal.invariant-loop-_i
-invariant-loop-_i l = l.words ≡ replicate l._i 0
+abbrev pub invariant-loop : goal.invariant-loop
+invariant-loop l = l.words ≡ replicate l.counter 0

@@ -1,4 +1,4 @@
-//! The sources.
+//! The sources of the programs and of the gate.
 
 ghost use Rattle.std.specs.Prelude.{ℕ, ◌≡◌, ◌<◌, ◌++◌, IfOk, OnOk};
 ghost use Rattle.m36_gen.specs.Sources.{entry_lines, loop_lines, following_line, source_text, stop_text};
@@ -12,7 +12,7 @@ use std::alloc::Global;
 /// How many programs there are.
 pub const PROGRAMS: u64 = 64;
 
-#[tactic(auto, unfolding(crate::specs::Sources::entry_lines))]
+#[tactic(auto, unfolding(crate::specs::Sources::entry_lines), using(crate::proofs::Parts::together))]
 fn put_entry(text: &mut Text) -> Result<(), NoMemory>
     ensures { OnOk result (text.new ≡ text.old ++ entry_lines) }
 {
@@ -21,7 +21,7 @@ fn put_entry(text: &mut Text) -> Result<(), NoMemory>
     put_line(text, b" lprp4 pr7|22,*au")
 }
 
-#[tactic(auto, unfolding(crate::specs::Sources::loop_lines))]
+#[tactic(auto, unfolding(crate::specs::Sources::loop_lines), using(crate::proofs::Parts::together))]
 fn put_loop(text: &mut Text, draws: Draws) -> Result<(), NoMemory>
     ensures { OnOk result (text.new ≡ text.old ++ loop_lines draws) }
 {

@@ -4,13 +4,13 @@ ghost use Rattle.std.specs.Prelude.{ℕ, ◌≡◌, ◌≤◌, ◌++◌, IfOk, O
 ghost use Rattle.m36_gen.specs.BootText.{segment_line, program_line, program_lines, boot_text};
 
 use crate::lines::{put_line, segment_name};
-use crate::sources::PROGRAMS;
+use crate::programs::PROGRAMS;
 use m36_outside::Text;
 use m36_word::NoMemory;
 use std::alloc::Global;
 
 // A segment, whose file has its name, with its kind, its mode and its brackets.
-#[tactic(auto, unfolding(crate::specs::BootText::segment_line))]
+#[tactic(auto, using(crate::proofs::Parts::segment_put))]
 fn put_segment(text: &mut Text, name: &[u8], has: &[u8]) -> Result<(), NoMemory>
     ensures { OnOk result (text.new ≡ text.old ++ segment_line name.now has.now) }
 {
