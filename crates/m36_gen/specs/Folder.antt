@@ -1,4 +1,5 @@
--- The files of the folder that a seed makes: the sources, the data and the boot text, in this order.
+-- The files of the folder that a seed makes: the sources, the data and the boot text, in this
+-- order.
 use Rattle.std.specs.Prelude.{ℕ, List, [], ◌∷◌, ◌++◌, map, replicate, codes}
 use Rattle.std.specs.List.{range_with_len}
 use Rattle.m36_text.specs.Packing.{packed}
