@@ -1,5 +1,5 @@
 -- Parts that are put one after another.
-use Rattle.std.proofs.Common.{◌≡◌, ℕ, List, [], ◌∷◌, ◌++◌, append_assoc}
+use Rattle.std.proofs.Common.{◌≡◌, ℕ, List, ◌++◌, append_assoc}
 use Rattle.std.specs.Prelude.{codes}
 use Rattle.m36_text.specs.Digits.{decimal_text}
 use Rattle.m36_gen.specs.Lines.{line, numbered}
@@ -20,7 +20,7 @@ segment_put old name has = simp append_assoc
 pub three : (old a b c : List ℕ) → ((old ++ a) ++ b) ++ c ≡ old ++ (a ++ b ++ c)
 three old a b c = simp append_assoc
 
-pub six : (old a b c d e f : List ℕ) → (((((old ++ a) ++ b) ++ c) ++ d) ++ e) ++ f ≡ old ++ (a ++ b ++ c ++ d ++ e ++ f)
-six old a b c d e f = simp append_assoc
+pub two : (old a b : List ℕ) → (old ++ a) ++ b ≡ old ++ (a ++ b)
+two old a b = simp append_assoc
 
-pub ruleset together = (three, six)
+pub ruleset together = (two, three)

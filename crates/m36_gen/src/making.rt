@@ -82,7 +82,6 @@ fn program_sources(alloc: Global, seed: u64, count: u64) -> Result<Files, NoMemo
 }
 
 /// The sources that a seed makes: those of 64 programs, and that of the gate. The error is want of memory alone.
-#[tactic(auto, using(crate::proofs::OneMore::all_sources))]
 pub fn sources(alloc: Global, seed: u64) -> Result<Files, NoMemory>
     ensures { IfOk result (λ files. files ≡ sources_of seed) }
 {
