@@ -1,0 +1,24 @@
+-- The numbers that a seed draws.
+use Rattle.std.specs.Prelude.{ℕ, zero, suc, ◌+◌, ◌*◌, ◌/◌, ◌%◌, ◌^◌}
+use Rattle.m36_gen.specs.declared.draws.Draws.{Draws}
+
+-- A draw moves the sequence on, and gives its upper bits.
+unfoldable pub next : ℕ → ℕ
+next x = (6364136223846793005 * x + 1442695040888963407) % 2 ^ 64
+
+abbrev pub drawn : ℕ → ℕ
+drawn x = x / 2 ^ 33
+
+-- Three draws make a source: what its loop adds, how often it goes round, and where in the data its
+-- words stand.
+unfoldable pub draws_from : ℕ → Draws
+draws_from x = record {
+  add = drawn (next x) % 1000;
+  count = 1 + drawn (next (next x)) % 200;
+  offset = drawn (next (next (next x))) % 65536;
+}
+
+-- where the sequence of a seed stands before source i
+unfoldable pub state_at : ℕ → ℕ → ℕ
+state_at seed zero = seed
+state_at seed (suc i) = next (next (next (state_at seed i)))

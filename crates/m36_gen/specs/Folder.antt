@@ -1,0 +1,38 @@
+-- The files of the folder that a seed makes: the sources, the data and the boot text, in this
+-- order.
+use Rattle.std.specs.Prelude.{ℕ, List, [], ◌∷◌, ◌++◌, map, replicate, codes}
+use Rattle.std.specs.List.{range_with_len}
+use Rattle.m36_text.specs.Packing.{packed}
+use Rattle.m36_gen.specs.declared.files.File.{File}
+use Rattle.m36_gen.specs.Draws.{draws_from, state_at}
+use Rattle.m36_gen.specs.Lines.{source_name}
+use Rattle.m36_gen.specs.Sources.{source_text, stop_text}
+use Rattle.m36_gen.specs.BootText.{boot_text}
+
+abbrev pub file : List ℕ → List ℕ → File
+file name content = record { name = name; content = content }
+
+-- the source of program i, which the three draws behind those of the programs before it make
+unfoldable pub source_file : ℕ → ℕ → File
+source_file seed i = file (source_name i) (source_text i (draws_from (state_at seed i)))
+
+unfoldable pub source_files : ℕ → ℕ → List File
+source_files seed count = map (source_file seed) (range_with_len 0 count)
+
+-- Each program leaves at most 200 words, from one behind an offset below 2^16 on.
+unfoldable pub data_words : ℕ
+data_words = 65792
+
+unfoldable pub zeros : ℕ → List ℕ
+zeros count = replicate count 0
+
+unfoldable pub sources_of : ℕ → List File
+sources_of seed = source_files seed 64 ++ file (codes "stop_.alm") stop_text ∷ []
+
+-- the files beside the sources, which are the same for each seed
+unfoldable pub other_files : List File
+other_files =
+    file (codes "d_") (packed (zeros data_words)) ∷ file (codes "boot") boot_text ∷ []
+
+unfoldable pub files_of : ℕ → List File
+files_of seed = sources_of seed ++ other_files

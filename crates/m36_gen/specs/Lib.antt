@@ -1,0 +1,5 @@
+pub mod Draws
+pub mod Lines
+pub mod Sources
+pub mod BootText
+pub mod Folder

@@ -1,0 +1,16 @@
+-- Lines, and the names of the segments whose programs follow one another.
+use Rattle.std.specs.Prelude.{ℕ, List, [], ◌∷◌, ◌++◌, codes}
+use Rattle.m36_text.specs.Digits.{decimal_text}
+
+unfoldable pub line : List ℕ → List ℕ
+line text = text ++ 10 ∷ []
+
+-- a line with a number in it
+unfoldable pub numbered : List ℕ → ℕ → List ℕ → List ℕ
+numbered before n behind = line (before ++ decimal_text n ++ behind)
+
+unfoldable pub segment_name : ℕ → List ℕ
+segment_name i = codes "g" ++ decimal_text i
+
+unfoldable pub source_name : ℕ → List ℕ
+source_name i = segment_name i ++ codes ".alm"

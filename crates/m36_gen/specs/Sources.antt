@@ -1,0 +1,47 @@
+-- The sources of a seed: 64 programs, each of which calls the next, and the gate that stops.
+use Rattle.std.specs.Prelude.{ℕ, ◌+◌, nat_eq, if◌then◌else◌, List, ◌++◌, codes}
+use Rattle.m36_gen.specs.declared.draws.Draws.{Draws}
+use Rattle.m36_gen.specs.Lines.{line, numbered}
+
+-- The entry, by which the linkage section of the segment is found.
+unfoldable pub entry_lines : List ℕ
+entry_lines =
+    line (codes " entry start")
+    ++ line (codes "start: epaq 0,ic")
+    ++ line (codes " lprp4 pr7|22,*au")
+
+-- The loop adds to X1 as often as X2 counts,
+unfoldable pub adding_lines : Draws → List ℕ
+adding_lines draws =
+    numbered (codes " epp1 d_$+") draws.offset (codes "")
+    ++ numbered (codes " eax2 ") draws.count (codes "")
+    ++ numbered (codes "loop: eax1 ") draws.add (codes ",x1")
+
+-- and leaves each sum in the data.
+unfoldable pub storing_lines : List ℕ
+storing_lines =
+    line (codes " stx1 pr1|0,x2")
+    ++ line (codes " eax2 -1,x2")
+    ++ line (codes " tnz loop")
+
+unfoldable pub loop_lines : Draws → List ℕ
+loop_lines draws = adding_lines draws ++ storing_lines
+
+-- what follows the loop: the next program, or the gate behind the last
+unfoldable pub following_line : ℕ → List ℕ
+following_line i =
+    if nat_eq i 63 then line (codes " call6 stop_$stop")
+    else numbered (codes " tra g") (i + 1) (codes "$start")
+
+unfoldable pub source_text : ℕ → Draws → List ℕ
+source_text i draws =
+    entry_lines ++ loop_lines draws ++ following_line i ++ line (codes " end")
+
+unfoldable pub stop_lines : List ℕ
+stop_lines =
+    line (codes " entry stop")
+    ++ line (codes "stop: dis 0")
+    ++ line (codes " entrybound")
+
+unfoldable pub stop_text : List ℕ
+stop_text = stop_lines ++ line (codes " end")

@@ -1,0 +1,59 @@
+//! The numbers that a seed draws.
+
+ghost use Rattle.std.specs.Prelude.{ℕ, ◌≡◌, ◌+◌, ◌*◌, ◌/◌, ◌%◌, ◌^◌, ◌<◌, ◌≤◌};
+ghost use Rattle.m36_gen.specs.Draws.{next, drawn, draws_from};
+
+/// What three draws make of a source.
+#[derive(Clone, Copy, Debug, PartialEq, Eq)]
+pub struct Draws {
+    /// What its loop adds: below 1,000.
+    pub add: u64,
+    /// How often it goes round: 1 to 200.
+    pub count: u64,
+    /// Where in the data its words stand: below 2^16.
+    pub offset: u64,
+}
+
+/// A sequence of draws.
+#[derive(Drop)]
+pub struct Sequence {
+    state: u64,
+}
+
+// The state behind one more draw.
+#[tactic(auto, unfolding(crate::specs::Draws::next))]
+fn next(state: u64) -> u64
+    ensures { result ≡ next state }
+{
+    ((6_364_136_223_846_793_005 * state as u128 + 1_442_695_040_888_963_407) % (1 << 64)) as u64
+}
+
+impl Sequence {
+    /// The sequence of a seed.
+    pub fn new(seed: u64) -> Sequence
+        ensures { result.state ≡ seed }
+    {
+        Sequence { state: seed }
+    }
+
+    /// One draw: below 2^31.
+    fn draw(&mut self) -> u64
+        ensures state { self.new.state ≡ next self.old.state }
+        ensures drawn { result ≡ drawn self.new.state }
+    {
+        self.state = next(self.state);
+        self.state >> 33
+    }
+
+    /// Three draws, of one source.
+    #[tactic(auto, unfolding(crate::specs::Draws::draws_from))]
+    pub fn draws(&mut self) -> Draws
+        ensures state { self.new.state ≡ next (next (next self.old.state)) }
+        ensures draws { result ≡ draws_from self.old.state }
+    {
+        let add = self.draw() % 1000;
+        let count = 1 + self.draw() % 200;
+        let offset = self.draw() % (1 << 16);
+        Draws { add, count, offset }
+    }
+}
