@@ -26,5 +26,3 @@ pub use alm_lines::{arguments, expression, layout, refusal, spot, sum, symbols};
 pub use assembly::assemble;
 pub use laws::assembly_laws;
 
-#[cfg(test)]
-mod tests;

@@ -41,8 +41,6 @@ pub mod operation;
 mod pairs;
 mod refusal;
 pub mod source;
-#[cfg(test)]
-mod tests;
 
 pub use alm_tokens::{Atom, Expr, Span, Spans, Term, bytes_of, expression, span};
 pub use args::{Arg, Args};

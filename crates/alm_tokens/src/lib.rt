@@ -24,8 +24,6 @@ pub mod numerals;
 pub mod pieces;
 pub mod rows;
 pub mod span;
-#[cfg(test)]
-mod tests;
 pub mod tokens;
 
 pub use expression::{Atom, Expr, Term};

@@ -30,8 +30,6 @@ mod matching;
 pub mod policy;
 mod reading;
 pub mod segment;
-#[cfg(test)]
-mod tests;
 pub mod user;
 
 pub use acl::Acl;

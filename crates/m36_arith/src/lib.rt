@@ -23,8 +23,6 @@ pub mod shifts;
 mod signs;
 pub mod subtractions;
 pub mod sums;
-#[cfg(test)]
-mod tests;
 mod wide;
 mod word_shifts;
 

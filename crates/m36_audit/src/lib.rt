@@ -65,7 +65,3 @@ pub use joint_auditor::joint;
 pub use joint_verdict::{Joint, JointFinding};
 pub use verdict::{Finding, Verdict};
 
-#[cfg(test)]
-mod joint_tests;
-#[cfg(test)]
-mod tests;

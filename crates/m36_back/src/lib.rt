@@ -16,7 +16,5 @@
 mod kept;
 pub mod past;
 mod replaying;
-#[cfg(test)]
-mod tests;
 
 pub use past::Past;

@@ -22,8 +22,6 @@ mod given;
 mod kept;
 mod links;
 mod placed;
-#[cfg(test)]
-mod tests;
 
 pub use binding::bind;
 pub use m36_bindfile::{BindFault, components};

@@ -21,8 +21,6 @@ pub mod objects;
 mod segments;
 pub mod start;
 mod tables;
-#[cfg(test)]
-mod tests;
 
 pub use fault::BootFault;
 pub use image::{Image, lay};

@@ -29,5 +29,3 @@ pub use pointer::Ptr;
 pub use ptw::Ptw;
 pub use sdw::Sdw;
 
-#[cfg(test)]
-mod tests;

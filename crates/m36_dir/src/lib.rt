@@ -20,8 +20,6 @@ pub mod laws;
 mod order;
 mod reading;
 pub mod segment;
-#[cfg(test)]
-mod tests;
 
 pub use catalog::Catalog;
 pub use fault::CatalogFault;

@@ -23,5 +23,3 @@ mod temporary;
 
 pub use chain::{effective, pending};
 
-#[cfg(test)]
-mod tests;

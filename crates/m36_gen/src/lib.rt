@@ -17,8 +17,6 @@ pub mod files;
 mod lines;
 pub mod making;
 mod programs;
-#[cfg(test)]
-mod tests;
 
 pub use files::{File, Files};
 pub use making::{add_others, make, sources};

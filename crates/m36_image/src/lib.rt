@@ -15,8 +15,6 @@ mod header;
 pub mod image;
 pub mod placed;
 pub mod refusal;
-#[cfg(test)]
-mod tests;
 
 pub use core_words::put_line_into_core;
 pub use forms::core_line;

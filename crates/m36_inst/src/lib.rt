@@ -26,5 +26,3 @@ pub use lookup::{by_name, name_of, row};
 pub use operand::Operand;
 pub use rows::Row;
 
-#[cfg(test)]
-mod tests;

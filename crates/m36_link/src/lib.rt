@@ -21,8 +21,6 @@ mod resolving;
 mod search;
 mod sections;
 pub mod snap;
-#[cfg(test)]
-mod tests;
 
 pub use file::{File, object_in};
 pub use known::Known;

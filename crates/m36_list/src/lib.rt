@@ -26,8 +26,6 @@ mod modifiers;
 mod placed;
 mod printing;
 mod sections;
-#[cfg(test)]
-mod tests;
 mod words;
 
 pub use disassembly::disassemble;

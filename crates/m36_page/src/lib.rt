@@ -14,8 +14,6 @@ mod copying;
 pub mod pager;
 mod residence;
 mod table;
-#[cfg(test)]
-mod tests;
 
 pub use pager::{Pager, Pinned};
 pub use table::{PageTable, are_placed};

@@ -21,8 +21,6 @@ pub mod procs;
 mod reader;
 mod reading;
 mod running;
-#[cfg(test)]
-mod tests;
 
 pub use fault::{Code, ProcsFault, WriteFault};
 pub use procs::Procs;

@@ -36,5 +36,3 @@ pub use machine::Machine;
 pub use stepper::{Replay, Stepper};
 pub use turns::{BackAnswer, ConsoleNote, LinkNote, Turn};
 
-#[cfg(test)]
-mod tests;

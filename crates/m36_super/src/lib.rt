@@ -25,8 +25,6 @@ mod content;
 mod linking;
 mod naming;
 mod stepping;
-#[cfg(test)]
-mod tests;
 
 ghost use Rattle.m36_super.specs.TurnLaws.{TurnLaw, TurnAuditLaw, FunctionLaw};
 ghost use Rattle.m36_super.specs.SuperFields.{PagingLaw, StepManagedLaw};

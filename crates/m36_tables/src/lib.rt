@@ -30,5 +30,3 @@ pub use pages::{page_frame, page_table_word};
 pub use places::{content, in_order, place, word_in_core, word_place};
 pub use refusals::{directed, store_fault, violation};
 
-#[cfg(test)]
-mod tests;

@@ -20,8 +20,6 @@ pub mod numbers;
 pub mod numerals;
 pub mod packing;
 pub mod reading;
-#[cfg(test)]
-mod tests;
 pub mod texts;
 
 pub use lines::{first_line, first_open_line, first_word, only_word, place_of};

@@ -38,16 +38,10 @@
 #![tactic(auto)]
 
 pub mod command;
-#[cfg(test)]
-mod folder_tests;
 pub mod laws;
 mod names;
 pub mod status_report;
-#[cfg(test)]
-mod tests;
 pub mod top;
-#[cfg(test)]
-mod word_tests;
 pub mod words;
 
 pub use command::Command;

@@ -71,29 +71,3 @@ pub fn report(alloc: Global, status: &Status) -> Result<Text, NoMemory>
         | Status::NoMemory => status_line(alloc, status),
     }
 }
-
-#[cfg(test)]
-mod tests {
-    use super::*;
-    use m36_reading::Code;
-
-    #[test]
-    fn tells_the_place(rt: HostRuntime) -> Result<(), NoMemory> {
-        let alloc = rt.alloc();
-        let bad = Bad {
-            name: Text::from_bytes(alloc, b"main.alm")?,
-            code: Code::E3,
-            at: 12,
-            column: 7,
-        };
-        for (status, want) in [
-            (Status::Done, b"".as_slice()),
-            (Status::Usage, b"m36: Usage\n"),
-            (Status::BadFile(bad), b"m36: BadFile main.alm E3 12 7\n"),
-        ] {
-            let line = report(alloc, &status)?;
-            assert!(rt; line.bytes() == want);
-        }
-        Ok(())
-    }
-}

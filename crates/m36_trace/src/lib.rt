@@ -11,8 +11,6 @@
 mod digits;
 pub mod end;
 mod fields;
-#[cfg(test)]
-mod tests;
 pub mod trace;
 
 pub use end::end_line;

@@ -11,8 +11,6 @@ pub mod console;
 pub mod ending;
 pub mod link;
 pub mod put;
-#[cfg(test)]
-mod tests;
 
 pub use console::console_line;
 pub use ending::run_end_line;

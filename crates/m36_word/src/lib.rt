@@ -15,8 +15,6 @@ pub mod field;
 pub mod half;
 pub mod memory;
 pub mod pair;
-#[cfg(test)]
-mod tests;
 pub mod word;
 pub mod words;
 

@@ -23,7 +23,5 @@ mod results;
 mod shifts;
 mod stores;
 mod sums;
-#[cfg(test)]
-mod tests;
 
 pub use execute::{exec, exec_in_place};

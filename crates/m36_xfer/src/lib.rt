@@ -17,8 +17,6 @@
 mod calls;
 mod execute;
 mod privileged;
-#[cfg(test)]
-mod tests;
 mod transfers;
 
 pub use execute::exec;

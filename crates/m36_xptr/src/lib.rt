@@ -16,7 +16,5 @@ mod execute;
 mod loads;
 mod registers;
 mod stores;
-#[cfg(test)]
-mod tests;
 
 pub use execute::exec;

@@ -14,8 +14,6 @@ mod judging;
 pub mod laws;
 pub mod object;
 pub mod reference;
-#[cfg(test)]
-mod tests;
 
 pub use fault::ObjectFault;
 pub use laws::object_laws;

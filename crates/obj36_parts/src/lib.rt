@@ -17,8 +17,6 @@ pub mod relocation;
 pub mod section;
 pub mod sections;
 mod size;
-#[cfg(test)]
-mod tests;
 
 pub use definition::{Def, Defs, Named};
 pub use link::{Link, Links};

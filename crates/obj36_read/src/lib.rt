@@ -14,5 +14,3 @@ pub mod reading;
 mod repeats;
 pub mod spelling;
 pub mod tables;
-#[cfg(test)]
-mod tests;

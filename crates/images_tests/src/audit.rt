@@ -1,0 +1,259 @@
+//! Small images that break a condition each, and some that break none. Findings are worked out by hand.
+
+use Segment::{Code, Disordered, Paged, Stack, Text, Whole};
+use m36_audit::auditor::audit;
+use m36_core::Core;
+use m36_desc::{Dbr, Ptw, Sdw};
+use m36_word::{NoMemory, Word};
+use std::alloc::Global;
+
+/// A live segment: mostly its number, the address where it or its page table lies, and its bound in blocks of 16 words.
+#[derive(Clone, Copy)]
+enum Segment {
+    /// Of ring 4, to be read and written.
+    Whole(u32, u32, u16),
+    /// The same with a page table.
+    Paged(u32, u32, u16),
+    /// The same with brackets out of order.
+    Disordered(u32, u32, u16),
+    /// Segment 0 with these first two brackets, which may be read, and perhaps written.
+    Stack(u8, u8, bool),
+    /// Segment 1, which rings up to 5 may call, in 16 words at octal 40: open at every word or not.
+    Code(bool),
+    /// The same, to be read alone.
+    Text,
+}
+
+/// An image of three frames: its descriptor segment, its segments, its page table words, each with the frame of its
+/// page, and what the audit finds in it, each a condition and a place.
+struct Image<'a>(Dbr, &'a [Segment], &'a [(u32, u8)], &'a [(u8, u32)]);
+
+/// An unpaged descriptor segment at core word 0 with eight descriptors; the stacks are segments 0 to 7.
+const EIGHT: Dbr = Dbr {
+    addr: 0,
+    bnd: 0,
+    stack: 0,
+    unpaged: true,
+};
+
+/// A descriptor segment of eight descriptors with its page table at octal 100.
+const PAGED: Dbr = Dbr {
+    addr: 0o100,
+    bnd: 0,
+    stack: 0,
+    unpaged: false,
+};
+
+/// A descriptor segment of two pages with its page table at octal 100.
+const TWO_PAGES: Dbr = Dbr {
+    addr: 0o100,
+    bnd: 0o177,
+    stack: 0,
+    unpaged: false,
+};
+
+/// A descriptor segment whose page table is a word of one of its descriptors.
+const INSIDE: Dbr = Dbr {
+    addr: 0o2003,
+    bnd: 0,
+    stack: 0,
+    unpaged: false,
+};
+
+/// The number of a segment, and its descriptor.
+fn described(segment: Segment) -> (u32, Sdw) {
+    let outer = Sdw {
+        addr: 0o40,
+        bound: 0,
+        limit: 0,
+        r1: 4,
+        r2: 4,
+        r3: 4,
+        fc: 0,
+        f: true,
+        readable: true,
+        executable: false,
+        writable: true,
+        privileged: false,
+        unpaged: true,
+        no_gate: true,
+        cached: false,
+    };
+    match segment {
+        Whole(number, addr, bound) => (number, lying(outer, addr, bound, true)),
+        Paged(number, addr, bound) => (number, lying(outer, addr, bound, false)),
+        Disordered(number, addr, bound) => {
+            let sdw = Sdw { r2: 3, ..outer };
+            (number, lying(sdw, addr, bound, true))
+        }
+        Stack(r1, r2, writable) => {
+            let sdw = Sdw {
+                addr: 0o200,
+                r1: r1 % 8,
+                r2: r2 % 8,
+                writable,
+                ..outer
+            };
+            (0, sdw)
+        }
+        Code(no_gate) => (1, called(outer, true, no_gate)),
+        Text => (1, called(outer, false, true)),
+    }
+}
+
+fn lying(sdw: Sdw, addr: u32, bound: u16, unpaged: bool) -> Sdw {
+    Sdw {
+        addr: addr % 0o100000000,
+        bound: bound % 0o40000,
+        unpaged,
+        ..sdw
+    }
+}
+
+fn called(sdw: Sdw, executable: bool, no_gate: bool) -> Sdw {
+    Sdw {
+        r1: 0,
+        r2: 0,
+        r3: 5,
+        executable,
+        writable: false,
+        no_gate,
+        ..sdw
+    }
+}
+
+/// The word of a page that is in a frame.
+fn page_table_word(frame: u8) -> Word {
+    let ptw = Ptw {
+        addr: 16 * frame as u32,
+        fc: 0,
+        used: false,
+        modified: false,
+        f: true,
+    };
+    ptw.to_words()
+}
+
+fn put(core: &mut Core, place: u32, word: Word) {
+    if place < core.len() {
+        core.poke(place, word);
+    }
+}
+
+/// Core with the tables of an image. Paged descriptors lie in frame 1.
+fn core_of(
+    alloc: Global,
+    unpaged: bool,
+    segments: &[Segment],
+    pages: &[(u32, u8)],
+) -> Result<Core, NoMemory> {
+    let mut core = Core::new(alloc, 3)?;
+    let first = if unpaged { 0 } else { 0o2000 };
+    for segment in segments {
+        let (number, sdw) = described(*segment);
+        let pair = sdw.to_words();
+        let place = first + 2 * (number % 8);
+        put(&mut core, place, pair.even);
+        put(&mut core, place + 1, pair.odd);
+    }
+    for (place, frame) in pages {
+        put(&mut core, *place, page_table_word(*frame));
+    }
+    Ok(core)
+}
+
+/// Whether the audit finds these, each a condition and a place.
+fn finds(alloc: Global, core: &Core, dbr: Dbr, expected: &[(u8, u32)]) -> Result<bool, NoMemory> {
+    let verdict = audit(alloc, core, dbr)?;
+    if verdict.findings.len() != expected.len() || verdict.yes() != expected.is_empty() {
+        return Ok(false);
+    }
+    for (finding, (condition, place)) in verdict.findings.iter().zip(expected.iter()) {
+        if finding.condition != *condition || finding.place != *place {
+            return Ok(false);
+        }
+    }
+    Ok(true)
+}
+
+const IMAGES: [Image<'static>; 24] = [
+    // The least image, and brackets 4 3 4 of two segments.
+    Image(EIGHT, &[Whole(1, 0o40, 0)], &[], &[]),
+    Image(
+        EIGHT,
+        &[Disordered(2, 0o40, 0), Disordered(5, 0o60, 0)],
+        &[],
+        &[(1, 2)],
+    ),
+    // Outer rings may call it at every word, and ring 0 has no stack; then with a stack; then as a gate.
+    Image(EIGHT, &[Code(true)], &[], &[(5, 1), (6, 1)]),
+    Image(EIGHT, &[Stack(0, 0, true), Code(true)], &[], &[(5, 1)]),
+    Image(EIGHT, &[Stack(0, 0, true), Code(false)], &[], &[]),
+    // The stack cannot be written, or has brackets 0 4 4. Without the right to execute nothing is asked.
+    Image(EIGHT, &[Stack(0, 0, false), Code(false)], &[], &[(6, 1)]),
+    Image(EIGHT, &[Stack(0, 4, true), Code(false)], &[], &[(6, 1)]),
+    Image(EIGHT, &[Text], &[], &[]),
+    // Segments side by side, and segments that meet. With brackets out of order the first has no words.
+    Image(EIGHT, &[Whole(1, 0o40, 0), Whole(2, 0o60, 0)], &[], &[]),
+    Image(
+        EIGHT,
+        &[Whole(1, 0o40, 1), Whole(2, 0o77, 0)],
+        &[],
+        &[(4, 0o77)],
+    ),
+    Image(
+        EIGHT,
+        &[Disordered(1, 0o40, 1), Whole(2, 0o77, 0)],
+        &[],
+        &[(1, 1)],
+    ),
+    // On descriptors that are not live. At the last addresses it goes on at 0, and begins past the end of core.
+    Image(EIGHT, &[Whole(1, 0o14, 0)], &[], &[(3, 0o14)]),
+    Image(EIGHT, &[Whole(1, 0o77777770, 0)], &[], &[(3, 0)]),
+    // A segment on a page table, a page table on the descriptors, and two pages in one frame.
+    Image(
+        EIGHT,
+        &[Paged(1, 0o100, 0), Whole(2, 0o100, 0)],
+        &[(0o100, 2)],
+        &[(3, 0o100)],
+    ),
+    Image(EIGHT, &[Paged(1, 0o10, 0)], &[], &[(2, 0o10)]),
+    Image(
+        EIGHT,
+        &[Paged(1, 0o100, 0), Paged(2, 0o101, 0)],
+        &[(0o100, 2), (0o101, 2)],
+        &[(4, 0o4000)],
+    ),
+    Image(
+        EIGHT,
+        &[Paged(1, 0o100, 64)],
+        &[(0o100, 2), (0o101, 2)],
+        &[(4, 0o4000)],
+    ),
+    // Two page tables on one word, whose page is absent.
+    Image(
+        EIGHT,
+        &[Paged(1, 0o100, 0), Paged(2, 0o100, 0)],
+        &[],
+        &[(2, 0o100)],
+    ),
+    // Beside the page table of the descriptor segment, and on it; and that table is a word of a descriptor.
+    Image(PAGED, &[Whole(1, 0o40, 0)], &[(0o100, 1)], &[]),
+    Image(PAGED, &[Whole(1, 0o100, 0)], &[(0o100, 1)], &[(3, 0o100)]),
+    Image(INSIDE, &[], &[(0o2003, 1)], &[(2, 0o2003)]),
+    // Two pages of descriptors in one frame: two words of one table on one core word. The second page is absent.
+    Image(TWO_PAGES, &[], &[(0o100, 1), (0o101, 1)], &[]),
+    Image(TWO_PAGES, &[], &[(0o100, 1)], &[]),
+    // It is past the end of core.
+    Image(TWO_PAGES, &[], &[(0o100, 1), (0o101, 3)], &[]),
+];
+
+#[test]
+fn findings_of_images(rt: HostRuntime) -> Result<(), NoMemory> {
+    for (n, image) in IMAGES.iter().enumerate() {
+        let Image(dbr, segments, pages, findings) = image;
+        let core = core_of(rt.alloc(), dbr.unpaged, segments, pages)?;
+        assert!(rt; finds(rt.alloc(), &core, *dbr, findings)?, "image {n}");
+    }
+    Ok(())
+}

@@ -1,0 +1,115 @@
+//! Two processes on a core of two frames: images that share, and some that break a condition between them. Findings are
+//! worked out by hand.
+
+use m36_audit::joint_auditor::joint;
+use m36_core::Core;
+use m36_desc::Dbr;
+use m36_word::{NoMemory, Word};
+use std::alloc::Global;
+
+/// An image: words that are put behind those of `LOCK`, where the descriptors of the second process lie, and what the joint
+/// audit finds: a process or none, a condition and a place.
+struct Image<'a>(&'a [(u32, u64)], u32, &'a [(Option<u8>, u8, u32)]);
+
+/// Each process has the segments 1 and 2 at octal 40 and 60, by equal descriptors at octal 2 and at octal 22.
+const LOCK: [(u32, u64); 8] = [
+    (0o2, 0o000000404444),
+    (0o3, 0o000006300000),
+    (0o4, 0o000000604444),
+    (0o5, 0o000005300000),
+    (0o22, 0o000000404444),
+    (0o23, 0o000006300000),
+    (0o24, 0o000000604444),
+    (0o25, 0o000005300000),
+];
+
+fn dbr(addr: u32) -> Dbr {
+    Dbr {
+        addr: addr % 0o100000000,
+        bnd: 0,
+        stack: 0,
+        unpaged: true,
+    }
+}
+
+fn put(core: &mut Core, words: &[(u32, u64)]) {
+    for (place, word) in words {
+        if *place < core.len() {
+            core.poke(*place, Word::low(*word));
+        }
+    }
+}
+
+/// Whether the joint audit of an image finds what it is to find.
+fn finds(alloc: Global, image: &Image<'_>) -> Result<bool, NoMemory> {
+    let Image(words, second, expected) = image;
+    let mut core = Core::new(alloc, 2)?;
+    put(&mut core, &LOCK);
+    put(&mut core, words);
+    let joint = joint(alloc, &core, &[dbr(0), dbr(*second)])?;
+    if joint.findings.len() != expected.len() || joint.yes() != expected.is_empty() {
+        return Ok(false);
+    }
+    for (finding, (process, condition, place)) in joint.findings.iter().zip(expected.iter()) {
+        if finding.process != *process
+            || finding.condition != *condition
+            || finding.place != *place
+        {
+            return Ok(false);
+        }
+    }
+    Ok(true)
+}
+
+const IMAGES: [Image<'static>; 7] = [
+    // Both segments are shared.
+    Image(&[], 0o20, &[]),
+    // Other brackets: the same words, but another segment.
+    Image(&[(0o24, 0o000000604554)], 0o20, &[(None, 3, 0o60)]),
+    // One descriptor segment register twice.
+    Image(&[], 0, &[(None, 2, 0)]),
+    // A segment of the second process on the descriptors of the first.
+    Image(&[(0o22, 0o000000004444)], 0o20, &[(None, 2, 0)]),
+    // A paged segment that is shared, with its page table; and one table of two segments.
+    Image(
+        &[
+            (0o6, 0o000001004444),
+            (0o7, 0o000005100000),
+            (0o26, 0o000001004444),
+            (0o27, 0o000005100000),
+            (0o100, 0o000020000004),
+        ],
+        0o20,
+        &[],
+    ),
+    Image(
+        &[
+            (0o6, 0o000001004444),
+            (0o7, 0o000005100000),
+            (0o26, 0o000001004554),
+            (0o27, 0o000005100000),
+            (0o100, 0o000020000004),
+        ],
+        0o20,
+        &[(None, 2, 0o100), (None, 3, 0o2000)],
+    ),
+    // Two segments of one process on a word that the other does not have.
+    Image(
+        &[
+            (0o6, 0o000002004444),
+            (0o7, 0o000005300000),
+            (0o10, 0o000002004554),
+            (0o11, 0o000005300000),
+        ],
+        0o20,
+        &[(Some(0), 4, 0o200)],
+    ),
+];
+
+#[test]
+fn findings_of_two_processes(rt: HostRuntime) -> Result<(), NoMemory> {
+    for (n, image) in IMAGES.iter().enumerate() {
+        assert!(rt; finds(rt.alloc(), image)?, "image {n}");
+    }
+    Ok(())
+}

@@ -1,0 +1,287 @@
+//! Objects worked out by hand.
+
+use m36_word::{Word, Words};
+use obj36::{Object, ObjectFault, Section, object_laws};
+use std::alloc::Global;
+use std::process::Abort;
+use std::test::Fail;
+
+/// The object of an empty source.
+const EMPTY: [u64; 18] = [
+    0o000000000000,
+    0o000000000000,
+    0o000000000000,
+    0o000010000000,
+    0o000000000000,
+    0o000000000000,
+    0o000000000000,
+    0o000000000000,
+    0o000000000000,
+    0o000000000000,
+    0o000000000000,
+    0o000000000001,
+    0o000000000000,
+    0o000000000002,
+    0o000002000010,
+    0o000012000001,
+    0o000000000000,
+    0o000013000000,
+];
+
+/// One static word in a section of its own.
+const COUNTER: [u64; 20] = [
+    0o000000000000,
+    0o000000000000,
+    0o000000000000,
+    0o000010000000,
+    0o000000000000,
+    0o000000000000,
+    0o000000000000,
+    0o000000000000,
+    0o000000000000,
+    0o000000000000,
+    0o000000000005,
+    0o000000000000,
+    0o000000000002,
+    0o000000000000,
+    0o000000000002,
+    0o000002000010,
+    0o000012000001,
+    0o000013000001,
+    0o000000000000,
+    0o000014000000,
+];
+
+/// Version 1: the entry `go`, the static word `cnt`, and links to `b$x` and to the own entry `go`.
+const CALLER: [u64; 42] = [
+    0o400010054100,
+    0o400012235120,
+    0o400014235120,
+    0o000002000002,
+    0o000006000002,
+    0o000004000010,
+    0o000000000012,
+    0o000000000001,
+    0o000010000013,
+    0o000004000014,
+    0o000015000000,
+    0o000005000000,
+    0o000012000002,
+    0o002147157000,
+    0o003143156164,
+    0o001142000000,
+    0o001170000000,
+    0o000000000000,
+    0o000012000002,
+    0o000000000000,
+    0o000000000000,
+    0o000000000000,
+    0o000000000000,
+    0o000000000000,
+    0o000000000000,
+    0o000000000005,
+    0o000000000000,
+    0o777766000046,
+    0o000006000020,
+    0o777764000046,
+    0o000010000000,
+    0o000000000003,
+    0o000000021000,
+    0o000001021000,
+    0o000002021000,
+    0o000000000001,
+    0o000000000003,
+    0o000003000016,
+    0o000021000016,
+    0o000037000004,
+    0o000001000000,
+    0o000043000000,
+];
+
+/// Version 2: the same with other links, to `b$` and to the own static section.
+const NEWER: [u64; 41] = [
+    0o400000054100,
+    0o400010235120,
+    0o400012235120,
+    0o000002000002,
+    0o000006000002,
+    0o000004000010,
+    0o000000000012,
+    0o000000000003,
+    0o000000000013,
+    0o000003000014,
+    0o000000000003,
+    0o000001000002,
+    0o000000000000,
+    0o002147157000,
+    0o003143156164,
+    0o001142000000,
+    0o000000000000,
+    0o000010000002,
+    0o000000000000,
+    0o000000000000,
+    0o000000000000,
+    0o000000000000,
+    0o000000000000,
+    0o000000000000,
+    0o777770000046,
+    0o000006000011,
+    0o777766000046,
+    0o000010000000,
+    0o000000000005,
+    0o000000000003,
+    0o000000022000,
+    0o000001021000,
+    0o000002021000,
+    0o000000000002,
+    0o000000000003,
+    0o000003000015,
+    0o000020000014,
+    0o000034000001,
+    0o000035000004,
+    0o000001000000,
+    0o000041000000,
+];
+
+/// A word that is changed: its place, what it becomes, and the fault that is told.
+type Change = (usize, u64, ObjectFault);
+
+const OF_EMPTY: [Change; 12] = [
+    (17, 0o000012000000, ObjectFault::O2(10)),
+    (17, 0o000013000001, ObjectFault::O2(17)),
+    (17, 0o000014000000, ObjectFault::O2(17)),
+    (11, 0o000000000002, ObjectFault::O2(11)),
+    (16, 0o000001000000, ObjectFault::O2(16)),
+    (13, 0o000000000001, ObjectFault::O3(13)),
+    (15, 0o000012000002, ObjectFault::O3(15)),
+    (14, 0o000001000010, ObjectFault::O4(1)),
+    (0, 0o000002000001, ObjectFault::O5(0)),
+    (3, 0o000010000001, ObjectFault::O7(3)),
+    (5, 0o000000000001, ObjectFault::O8(0)),
+    (10, 0o000000000001, ObjectFault::O8(0)),
+];
+
+const OF_CALLER: [Change; 19] = [
+    // The chain goes round, and the count is one short.
+    (7, 0o000002000001, ObjectFault::O5(3)),
+    (3, 0o000002000001, ObjectFault::O5(3)),
+    // The chain leaves the section behind its last definition.
+    (7, 0o000777000001, ObjectFault::O5(7)),
+    // The expressions leave the section.
+    (4, 0o000015000002, ObjectFault::O5(4)),
+    // The class static in version 1.
+    (7, 0o000000000003, ObjectFault::O5(7)),
+    // Both definitions have one name: at one place, at two, and at two with other padding.
+    (8, 0o000010000012, ObjectFault::O5(13)),
+    (14, 0o002147157000, ObjectFault::O5(13)),
+    (14, 0o002147157001, ObjectFault::O5(13)),
+    // Names: with a character that may not stand there, with padding, empty, and past the section.
+    (14, 0o003143156055, ObjectFault::O6(14)),
+    (15, 0o001142000001, ObjectFault::O6(15)),
+    (16, 0o000000000000, ObjectFault::O6(16)),
+    (9, 0o000004000077, ObjectFault::O6(9)),
+    (12, 0o000077000002, ObjectFault::O6(12)),
+    // The section static in version 1, a type that there is not, a link that is not its own, and a first link behind
+    // an odd number of static words.
+    (11, 0o000005000002, ObjectFault::O7(11)),
+    (11, 0o000002000000, ObjectFault::O7(11)),
+    (28, 0o000010000020, ObjectFault::O7(27)),
+    (18, 0o000013000002, ObjectFault::O7(18)),
+    // Relocations of one part, and in no section's words.
+    (33, 0o000000021000, ObjectFault::O8(0)),
+    (34, 0o000003021000, ObjectFault::O8(0)),
+];
+
+const OF_NEWER: [Change; 4] = [
+    // The class past static, the section past static, a linkage section with other words than links, and an unused
+    // field that is not empty.
+    (7, 0o000000000004, ObjectFault::O5(7)),
+    (11, 0o000001000003, ObjectFault::O7(11)),
+    (17, 0o000012000002, ObjectFault::O7(17)),
+    (10, 0o000013000003, ObjectFault::O8(0)),
+];
+
+fn are_words(words: &[Word], values: &[u64]) -> bool {
+    words.len() == values.len()
+        && words
+            .iter()
+            .zip(values)
+            .all(|(word, value)| word.value() == *value)
+}
+
+fn words_of(alloc: Global, values: &[u64]) -> Result<Words, Fail> {
+    let mut words = Words::new(alloc);
+    for value in values {
+        words.push(Word::low(*value))?;
+    }
+    Ok(words)
+}
+
+/// The object that words are read as, or the fault.
+fn read_as(alloc: Global, words: &Words) -> Result<Result<Object, ObjectFault>, Fail> {
+    let slice = words.slice();
+    if slice.len() > 1000 {
+        return Err(Fail::from("there are few words"));
+    }
+    Ok(Object::read(alloc, slice))
+}
+
+fn object_of(alloc: Global, values: &[u64]) -> Result<Object, Fail> {
+    let words = words_of(alloc, values)?;
+    Ok(read_as(alloc, &words)?.ok().ok_or("it is an object")?)
+}
+
+/// The words with one of them changed.
+fn changed(alloc: Global, values: &[u64], place: usize, value: u64) -> Result<Words, Fail> {
+    let mut words = Words::new(alloc);
+    for (i, old) in values.iter().enumerate() {
+        words.push(Word::low(if i == place { value } else { *old }))?;
+    }
+    Ok(words)
+}
+
+fn refuses(rt: &impl Abort, alloc: Global, values: &[u64], changes: &[Change]) -> Result<(), Fail> {
+    for (place, value, fault) in changes {
+        let words = changed(alloc, values, *place, *value)?;
+        assert_eq!(rt; read_as(alloc, &words)?.err(), Some(*fault));
+    }
+    Ok(())
+}
+
+fn reads_back(rt: &impl Abort, alloc: Global, values: &[u64]) -> Result<(), Fail> {
+    let object = object_of(alloc, values)?;
+    assert!(rt; are_words(object.write(alloc)?.slice(), values));
+    Ok(())
+}
+
+#[test]
+fn values_of_a_caller(rt: HostRuntime) -> Result<(), Fail> {
+    let object = object_of(rt.alloc(), &CALLER)?;
+    assert_eq!(rt; object.definition_length(), 14);
+    assert_eq!(rt; object.entry_bound(), 1);
+    assert_eq!(rt; object.parts().relocations.items().len(), 3);
+    assert_eq!(rt; object.links().len(), 2);
+    assert!(rt; are_words(object.section(Section::Linkage), &CALLER[17..31]));
+    assert!(rt; object.section(Section::Static).is_empty());
+    assert_eq!(rt; object.find(b"cnt").map(|def| def.value), Some(8));
+    assert_eq!(rt; object.find(b"co"), None);
+    object_laws();
+    Ok(())
+}
+
+#[test]
+fn objects_are_read(rt: HostRuntime) -> Result<(), Fail> {
+    reads_back(&rt, rt.alloc(), &EMPTY)?;
+    reads_back(&rt, rt.alloc(), &COUNTER)?;
+    reads_back(&rt, rt.alloc(), &CALLER)?;
+    reads_back(&rt, rt.alloc(), &NEWER)
+}
+
+#[test]
+fn changes_are_refused(rt: HostRuntime) -> Result<(), Fail> {
+    let few = words_of(rt.alloc(), &EMPTY[..6])?;
+    assert_eq!(rt; read_as(rt.alloc(), &few)?.err(), Some(ObjectFault::O1(6)));
+    refuses(&rt, rt.alloc(), &EMPTY, &OF_EMPTY)?;
+    refuses(&rt, rt.alloc(), &CALLER, &OF_CALLER)?;
+    refuses(&rt, rt.alloc(), &NEWER, &OF_NEWER)
+}

@@ -1,0 +1,15 @@
+//! Tests of sources, from tokens to bound objects.
+#![tactic(auto)]
+
+#[cfg(test)]
+mod assembling;
+#[cfg(test)]
+mod binding;
+#[cfg(test)]
+mod generating;
+#[cfg(test)]
+mod listing;
+#[cfg(test)]
+mod parsing;
+#[cfg(test)]
+mod tokens;

@@ -1,0 +1,50 @@
+//! Tokens told by hand.
+
+use alm_tokens::modifiers::tag_of;
+use alm_tokens::pieces::pieces_of;
+use alm_tokens::{Parter, Piece, Span};
+use m36_word::NoMemory;
+use std::alloc::Global;
+
+#[test]
+fn modifiers(rt: HostRuntime) {
+    let cases: [(&[u8], Option<u8>); 7] = [
+        (b"n", Some(0)),
+        (b"7", Some(0o17)),
+        (b"x7*", Some(0o37)),
+        (b"*n", Some(0o60)),
+        (b"id", Some(0o56)),
+        (b"x8", None),
+        (b"", None),
+    ];
+    for (text, tag) in cases {
+        assert!(rt; tag_of(text) == tag, "{text:?}");
+    }
+}
+
+// How many pieces a text has.
+fn count(alloc: Global, parter: Parter, text: &[u8]) -> Result<usize, NoMemory> {
+    if text.len() > 4000 {
+        return Ok(0);
+    }
+    let span = Span {
+        from: 0,
+        to: text.len() as u32,
+    };
+    let pieces = pieces_of(alloc, parter, text, Piece { span, minus: false })?;
+    Ok(pieces.items().len())
+}
+
+#[test]
+fn pieces(rt: HostRuntime) -> Result<(), NoMemory> {
+    let cases: [(Parter, &[u8], usize); 4] = [
+        (Parter::Comma, b"a,b", 2),
+        (Parter::Comma, b"", 1),
+        (Parter::Sign, b"a+5-x", 3),
+        (Parter::Sign, b"a,b", 1),
+    ];
+    for (parter, text, expected) in cases {
+        assert!(rt; count(rt.alloc(), parter, text)? == expected, "{text:?}");
+    }
+    Ok(())
+}

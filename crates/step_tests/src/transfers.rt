@@ -1,0 +1,198 @@
+//! Worked control instructions. Words are octal, as the manual lays out ITS pairs and descriptors.
+
+ghost use Rattle.std.specs.Prelude.{◌<◌, ◌^◌, IsTrue};
+ghost use Rattle.m36_inst.specs.Operands.{operand_of};
+ghost use Rattle.m36_model.specs.OperandHeld.{HoldsFor};
+ghost use Rattle.m36_xfer.specs.ControlInstructions.{is_control};
+
+use m36_desc::{Dbr, Ptr};
+use m36_inst::{Effect, Operand, Row};
+use m36_model::{At, Effect36, Fault, Final, Held, Ind, Operand36, Ppr, Regs};
+use m36_word::{Pair, Word};
+use m36_xfer::{exec, is_absa, is_taken};
+use std::test::Fail;
+
+const NOTHING_ON: Ind = Ind {
+    zero: false,
+    negative: false,
+    carry: false,
+    overflow: false,
+    mask: false,
+    tally: false,
+};
+
+/// At word 3 of segment 1 in a ring. Pointer registers point to segment 5 in that ring; stacks are segments 10 to 17.
+fn registers(ring: u8) -> Regs
+    requires { ring < 2 ^ 3 }
+{
+    let pointer = Ptr {
+        word: 0o22,
+        seg: 5,
+        ring,
+        bit: 9,
+    };
+    Regs {
+        a: Word::ZERO,
+        q: Word::ZERO,
+        x: [0; 8],
+        pr: [pointer; 8],
+        dbr: Dbr {
+            addr: 0,
+            bnd: 0,
+            stack: 1,
+            unpaged: true,
+        },
+        ppr: Ppr {
+            ic: 3,
+            psr: 1,
+            prr: ring,
+        },
+        ind: NOTHING_ON,
+    }
+}
+
+fn pair(even: u64, odd: u64) -> Pair {
+    Pair {
+        even: Word::low(even),
+        odd: Word::low(odd),
+    }
+}
+
+/// An instruction whose final address is word 1 of segment 3 in the ring of execution, with the ring of its operand.
+fn effect_of(effect: Effect, reg: u8, regs: &Regs, got: Held, ring: u8) -> Result<Effect36, Fault>
+    requires control { IsTrue (is_control effect) }
+    requires reg { reg < 8 }
+    requires got { HoldsFor (operand_of effect) got }
+    requires ring { ring < 2 ^ 3 }
+{
+    let row = Row {
+        effect,
+        operand: Operand::A,
+        reg,
+        direct: false,
+        privileged: false,
+    };
+    let at = At {
+        word: 1,
+        seg: 3,
+        ring: regs.ppr.prr,
+    };
+    let last = Final {
+        direct: None,
+        at,
+        bit: 0,
+    };
+    let operand = Operand36 {
+        got,
+        place: 0o40000000,
+        ring,
+    };
+    exec(&row, regs, &last, operand)
+}
+
+fn stands_at(regs: &Regs, seg: u16, ring: u8, word: u32) -> bool {
+    let ppr = regs.ppr;
+    ppr.psr == seg && ppr.prr == ring && ppr.ic == word
+}
+
+/// Whether a pointer register points to a word, and no bit behind its first.
+fn points_to(pointer: Ptr, seg: u16, ring: u8, word: u32) -> bool {
+    pointer.seg == seg && pointer.ring == ring && pointer.word == word && pointer.bit == 0
+}
+
+/// The ring of the caller, the ring that is entered, and the segment of the stack: in another ring that of the entered
+/// ring, in the same that of PR6.
+const CALLS: [(u8, u8, u16); 2] = [(4, 0, 0o10), (3, 3, 5)];
+
+/// The ring that returns, the pair, and the first bracket of its segment, for a return to ring 4: by the pair's ring, by the
+/// ring of the reference, and by the first bracket.
+const RETURNS: [(u8, u64, u8); 3] = [
+    (0, 0o000001400043, 0),
+    (4, 0o000001000043, 0),
+    (0, 0o000001000043, 4),
+];
+
+#[test]
+fn calls_and_returns(rt: HostRuntime) -> Result<(), Fail> {
+    for (from, to, stack) in CALLS {
+        let called = effect_of(Effect::Call6, 0, &registers(from % 8), Held::Empty, to % 8)?.regs;
+        assert!(rt; stands_at(&called, 3, to, 1), "{from}");
+        assert!(rt; points_to(called.pr[7], stack, to, 0), "{from}");
+    }
+    for (from, even, bracket) in RETURNS {
+        let held = Held::Two(pair(even, 0o000002000000));
+        let regs = effect_of(Effect::Rtcd, 0, &registers(from % 8), held, bracket % 8)?.regs;
+        assert!(rt; stands_at(&regs, 1, 4, 2), "{from} {bracket}");
+        for pointer in regs.pr {
+            assert!(rt; pointer == registers(4).pr[0], "{from} {bracket}");
+        }
+    }
+    Ok(())
+}
+
+#[test]
+fn transfers_and_descriptor_base(rt: HostRuntime) -> Result<(), Fail> {
+    let gone = effect_of(Effect::TsxN, 1, &registers(4), Held::Empty, 0)?.regs;
+    assert!(rt; gone.x[1] == 4 && stands_at(&gone, 3, 4, 1));
+    let gone = effect_of(Effect::TspN, 2, &registers(4), Held::Empty, 0)?.regs;
+    assert!(rt; points_to(gone.pr[2], 1, 4, 4) && stands_at(&gone, 3, 4, 1));
+    let gone = effect_of(Effect::Tov, 0, &registers(4), Held::Empty, 0)?.regs;
+    assert!(rt; stands_at(&gone, 1, 4, 4));
+    let mut regs = registers(4);
+    regs.ind.overflow = true;
+    let gone = effect_of(Effect::Tov, 0, &regs, Held::Empty, 0)?.regs;
+    assert!(rt; stands_at(&gone, 3, 4, 1) && gone.ind == NOTHING_ON);
+    let gone = effect_of(Effect::Nop, 0, &regs, Held::Empty, 0)?.regs;
+    assert!(rt; stands_at(&gone, 1, 4, 4) && gone.ind == regs.ind);
+
+    let words = Held::Two(pair(0o000001000000, 0o000010200007));
+    let loaded = effect_of(Effect::Ldbr, 0, &registers(0), words, 0)?.regs;
+    let dbr = Dbr {
+        addr: 0o100,
+        bnd: 1,
+        stack: 7,
+        unpaged: true,
+    };
+    assert!(rt; loaded.dbr == dbr);
+    assert!(rt; effect_of(Effect::Sdbr, 0, &loaded, Held::Empty, 0)?.put == words);
+    let found = effect_of(Effect::Absa, 0, &loaded, Held::Empty, 0)?.regs;
+    assert!(rt; found.a.value() == 0o400000000000);
+    assert!(rt; found.ind.negative && !found.ind.zero);
+    Ok(())
+}
+
+/// Conditional transfers, and whether each is taken where its indicators are on; where they are off it is the opposite.
+const CONDITIONS: [(Effect, bool); 10] = [
+    (Effect::Tze, true),
+    (Effect::Tmi, true),
+    (Effect::Trc, true),
+    (Effect::Tmoz, true),
+    (Effect::Tov, true),
+    (Effect::Tnz, false),
+    (Effect::Tpl, false),
+    (Effect::Tnc, false),
+    (Effect::Tpnz, false),
+    (Effect::Ttf, false),
+];
+
+#[test]
+fn conditions(rt: HostRuntime) {
+    let off = registers(0);
+    let mut on = off;
+    on.ind = Ind {
+        zero: true,
+        negative: true,
+        carry: true,
+        overflow: true,
+        mask: false,
+        tally: true,
+    };
+    for (effect, taken) in CONDITIONS {
+        assert!(rt;
+            is_taken(effect, &on) == taken && is_taken(effect, &off) != taken,
+            "{effect:?}"
+        );
+    }
+    assert!(rt; is_taken(Effect::Tra, &on) && is_taken(Effect::TsxN, &off));
+    assert!(rt; is_absa(Effect::Absa) && !is_absa(Effect::Eaa));
+}

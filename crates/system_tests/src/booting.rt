@@ -1,0 +1,338 @@
+//! Images of a catalog of two segments, worked out by hand.
+
+ghost use Rattle.std.specs.Prelude.{IfOk};
+ghost use Rattle.m36_page.specs.Residence.{HasFrames, Reads};
+
+use m36_boot::{BootFault, Image, are_short, lay};
+use m36_dir::Catalog;
+use m36_link::File;
+use m36_outside::Text;
+use m36_word::{NoMemory, Word, Words};
+use std::alloc::Global;
+
+// The object of an empty source.
+const EMPTY: [u64; 18] = [
+    0o000000000000,
+    0o000000000000,
+    0o000000000000,
+    0o000010000000,
+    0o000000000000,
+    0o000000000000,
+    0o000000000000,
+    0o000000000000,
+    0o000000000000,
+    0o000000000000,
+    0o000000000000,
+    0o000000000001,
+    0o000000000000,
+    0o000000000002,
+    0o000002000010,
+    0o000012000001,
+    0o000000000000,
+    0o000013000000,
+];
+
+// Version 1: the entry `go`, the static word `cnt`, and links to `b$x` and to the own entry `go`.
+const CALLER: [u64; 42] = [
+    0o400010054100,
+    0o400012235120,
+    0o400014235120,
+    0o000002000002,
+    0o000006000002,
+    0o000004000010,
+    0o000000000012,
+    0o000000000001,
+    0o000010000013,
+    0o000004000014,
+    0o000015000000,
+    0o000005000000,
+    0o000012000002,
+    0o002147157000,
+    0o003143156164,
+    0o001142000000,
+    0o001170000000,
+    0o000000000000,
+    0o000012000002,
+    0o000000000000,
+    0o000000000000,
+    0o000000000000,
+    0o000000000000,
+    0o000000000000,
+    0o000000000000,
+    0o000000000005,
+    0o000000000000,
+    0o777766000046,
+    0o000006000020,
+    0o777764000046,
+    0o000010000000,
+    0o000000000003,
+    0o000000021000,
+    0o000001021000,
+    0o000002021000,
+    0o000000000001,
+    0o000000000003,
+    0o000003000016,
+    0o000021000016,
+    0o000037000004,
+    0o000001000000,
+    0o000043000000,
+];
+
+/// What the file of the second segment is.
+#[derive(Clone, Copy)]
+enum Second {
+    /// The words of the first.
+    Same,
+    /// An object without an entry.
+    Empty,
+    /// No object.
+    Nothing,
+}
+
+const MAIN: &str = "segment >udd>demo main main object re 4 4 5";
+
+const DATA: &str = "segment >udd>demo main main data re 4 4 5";
+
+const CLOSED: &str = "segment >udd>demo main main object rw 4 4 5";
+
+/// The first, fourth and last line of a boot text, the second file, and the first cause.
+const REFUSED: [(&str, &str, &str, Second, BootFault); 9] = [
+    (
+        "frames 23",
+        DATA,
+        "start 4 none$go",
+        Second::Nothing,
+        BootFault::U1,
+    ),
+    (
+        "frames 24",
+        DATA,
+        "start 4 none$go",
+        Second::Nothing,
+        BootFault::U4(65),
+    ),
+    (
+        "frames 24",
+        DATA,
+        "start 4 none$go",
+        Second::Empty,
+        BootFault::U2(65),
+    ),
+    (
+        "frames 24",
+        DATA,
+        "start 4 none$go",
+        Second::Same,
+        BootFault::U3,
+    ),
+    (
+        "frames 24",
+        DATA,
+        "start 4 main$go",
+        Second::Same,
+        BootFault::U4(64),
+    ),
+    (
+        "frames 24",
+        CLOSED,
+        "start 4 main$go",
+        Second::Same,
+        BootFault::U3,
+    ),
+    (
+        "frames 24",
+        MAIN,
+        "start 5 main$go",
+        Second::Same,
+        BootFault::U3,
+    ),
+    (
+        "frames 24",
+        MAIN,
+        "start 3 main$go",
+        Second::Same,
+        BootFault::U3,
+    ),
+    (
+        "frames 24",
+        MAIN,
+        "start 4 main$b",
+        Second::Same,
+        BootFault::U3,
+    ),
+];
+
+/// Words of core, where the start is `main$cnt` in ring 4 and the second segment is a gate of ring 0.
+const CORE: [(usize, u64); 16] = [
+    (0, 0),
+    (24, 0o000120004444),
+    (25, 0o017775100000),
+    (40, 0o000160004444),
+    (41, 0o377775100000),
+    (128, 0o000440004454),
+    (129, 0o000026100000),
+    (130, 0o000444000054),
+    (131, 0o000026000001),
+    (132, 0),
+    (2048, 0),
+    (5120, 1),
+    (5135, 1),
+    (5136, 0),
+    (18432, 1),
+    (18433, 0),
+];
+
+/// Words of its segments: the number of the segment, the word, and what stands there.
+const WORDS: [(u16, u32, Option<u64>); 18] = [
+    (8, 22, Some(0o000020000043)),
+    (12, 21, Some(0)),
+    (12, 22, Some(0o000024400043)),
+    (12, 23, Some(0)),
+    (12, 16383, Some(0)),
+    (12, 16384, None),
+    (16, 64, Some(0)),
+    (20, 63, Some(0)),
+    (20, 64, Some(0o000024002000)),
+    (20, 65, Some(0)),
+    (20, 1025, Some(0o000012000002)),
+    (20, 1034, Some(0o777766000046)),
+    (20, 262143, Some(0)),
+    (64, 0, Some(0o400010054100)),
+    (64, 41, Some(0o000043000000)),
+    (64, 1023, Some(0)),
+    (64, 1024, None),
+    (66, 0, None),
+];
+
+// The tables are handed out by functions, so that no proof goes through them.
+fn caller() -> &'static [u64] {
+    &CALLER
+}
+
+fn empty() -> &'static [u64] {
+    &EMPTY
+}
+
+fn refused() -> &'static [(&'static str, &'static str, &'static str, Second, BootFault)] {
+    &REFUSED
+}
+
+fn core_words() -> &'static [(usize, u64)] {
+    &CORE
+}
+
+fn segment_words() -> &'static [(u16, u32, Option<u64>)] {
+    &WORDS
+}
+
+fn file(alloc: Global, numbers: &[u64]) -> Result<File, NoMemory> {
+    let mut words = Words::new(alloc);
+    for number in numbers {
+        words.push(Word::low(*number))?;
+    }
+    if words.slice().len() > 100 {
+        return Err(NoMemory);
+    }
+    File::read(alloc, words)
+}
+
+fn file_of(alloc: Global, second: Second) -> Result<File, NoMemory> {
+    match second {
+        Second::Same => file(alloc, caller()),
+        Second::Empty => file(alloc, empty()),
+        Second::Nothing => file(alloc, &[]),
+    }
+}
+
+fn files(alloc: Global, second: Second) -> Result<Vec<File>, NoMemory> {
+    let mut files = Vec::new(alloc);
+    files.push(file(alloc, caller())?)?;
+    files.push(file_of(alloc, second)?)?;
+    Ok(files)
+}
+
+fn add_line(text: &mut Text, line: &str) -> Result<(), NoMemory> {
+    text.append(line.as_bytes())?;
+    text.push(b'\n')?;
+    Ok(())
+}
+
+// The catalog of a boot text of two segments, of which the second is a gate of a library.
+fn catalog(alloc: Global, frames: &str, main: &str, start: &str) -> Result<Catalog, BootFault> {
+    let mut text = Text::new(alloc);
+    add_line(&mut text, frames)?;
+    add_line(&mut text, "work >udd>demo")?;
+    add_line(&mut text, "library >sss")?;
+    add_line(&mut text, main)?;
+    add_line(&mut text, "segment >sss con_ con_ gate re 0 0 5")?;
+    add_line(&mut text, start)?;
+    let bytes = text.bytes();
+    if bytes.len() > 1000 {
+        return Err(BootFault::NoMemory);
+    }
+    match Catalog::read(alloc, bytes) {
+        Ok(catalog) => Ok(catalog),
+        Err(_) => Err(BootFault::NoMemory),
+    }
+}
+
+// The image of such a text.
+fn laid(
+    alloc: Global,
+    frames: &str,
+    main: &str,
+    start: &str,
+    second: Second,
+) -> Result<Image, BootFault>
+    ensures reads { IfOk result (λ image. Reads image.pager image.core) }
+    ensures frames { IfOk result (λ image. HasFrames image.pager image.core) }
+{
+    let catalog = catalog(alloc, frames, main, start)?;
+    let files = files(alloc, second)?;
+    if files.len() != catalog.count() || !are_short(files.as_slice()) {
+        return Err(BootFault::NoMemory);
+    }
+    lay(alloc, &catalog, files.as_slice())
+}
+
+#[test]
+fn first_causes(rt: HostRuntime) {
+    let alloc = rt.alloc();
+    for (frames, main, start, second, fault) in refused() {
+        let told = laid(alloc, frames, main, start, *second).err();
+        assert!(rt; told == Some(*fault));
+    }
+}
+
+// A word of a segment, as a number.
+fn number_at(image: &Image, seg: u16, word: u32) -> Option<u64>
+    requires frames { HasFrames image.now.pager image.now.core }
+    requires reads { Reads image.now.pager image.now.core }
+{
+    let word = image.pager.content(&image.core, seg, word)?;
+    Some(word.value())
+}
+
+// A word of core, as a number.
+fn core_number(image: &Image, a: usize) -> Option<u64> {
+    let word = image.core.words().get(a)?;
+    Some(word.value())
+}
+
+#[test]
+fn words_of_an_image(rt: HostRuntime) {
+    let alloc = rt.alloc();
+    let Ok(image) = laid(alloc, "frames 24", MAIN, "start 4 main$cnt", Second::Same) else {
+        assert!(rt; false);
+        return;
+    };
+    for (a, number) in core_words() {
+        assert!(rt; core_number(&image, *a) == Some(*number));
+    }
+    for (seg, word, number) in segment_words() {
+        assert!(rt; number_at(&image, *seg, *word) == *number);
+    }
+    let regs = &image.regs;
+    let entry = regs.ppr;
+    assert!(rt; (entry.psr, entry.prr, entry.ic) == (20, 4, 1032));
+}

@@ -1,0 +1,19 @@
+//! Tests of the booted system and of its parts.
+#![tactic(auto)]
+
+#[cfg(test)]
+mod access_lists;
+#[cfg(test)]
+mod booting;
+#[cfg(test)]
+mod catalogs;
+#[cfg(test)]
+mod going_back;
+#[cfg(test)]
+mod links;
+#[cfg(test)]
+mod pages;
+#[cfg(test)]
+mod running;
+#[cfg(test)]
+mod turns;

@@ -1,0 +1,252 @@
+//! A folder of two segments, worked out by hand: a program that writes `hello` through a gate and stops.
+
+use m36_boot::BootFault;
+use m36_dir::Catalog;
+use m36_model::StepRecord;
+use m36_outside::Text;
+use m36_step::{BackAnswer, Stepper, Turn};
+use m36_super::{Coming, Super, are_short};
+use m36_word::{NoMemory, Word, Words};
+use std::alloc::Global;
+use std::process::Abort;
+
+const MAIN: [u64; 48] = [
+    0o000000213004,
+    0o700026764161,
+    0o000007352000,
+    0o000006235007,
+    0o600024357100,
+    0o400010713120,
+    0o400012713120,
+    0o150145154154,
+    0o157012000000,
+    0o000002000001,
+    0o000004000002,
+    0o000000000010,
+    0o000000000010,
+    0o000004000012,
+    0o000014000000,
+    0o000004000012,
+    0o000016000000,
+    0o005163164141,
+    0o162164000000,
+    0o004143157156,
+    0o137000000000,
+    0o005167162151,
+    0o164145000000,
+    0o004163164157,
+    0o160000000000,
+    0o000000000000,
+    0o000010000002,
+    0o000000000000,
+    0o000000000000,
+    0o000000000000,
+    0o000000000000,
+    0o000000000000,
+    0o000000000000,
+    0o777770000046,
+    0o000004000000,
+    0o777766000046,
+    0o000006000000,
+    0o000000000003,
+    0o000002000000,
+    0o000005021000,
+    0o000006021000,
+    0o000000000001,
+    0o000000000011,
+    0o000011000020,
+    0o000031000014,
+    0o000045000004,
+    0o000000000000,
+    0o000051000000,
+];
+
+const CON: [u64; 31] = [
+    0o000002710000,
+    0o000000616000,
+    0o000000001000,
+    0o600024610100,
+    0o000002000002,
+    0o000000000000,
+    0o000004000010,
+    0o000000000006,
+    0o000000000010,
+    0o000001000010,
+    0o005167162151,
+    0o164145000000,
+    0o004163164157,
+    0o160000000000,
+    0o000000000000,
+    0o000010000000,
+    0o000000000000,
+    0o000000000000,
+    0o000000000000,
+    0o000000000000,
+    0o000000000000,
+    0o000000000000,
+    0o000000000001,
+    0o000000000000,
+    0o000000000001,
+    0o000000000004,
+    0o000004000012,
+    0o000016000010,
+    0o000026000002,
+    0o000002000000,
+    0o000030000000,
+];
+
+fn words_of(alloc: Global, numbers: &[u64]) -> Result<Words, NoMemory> {
+    let mut words = Words::new(alloc);
+    for number in numbers {
+        words.push(Word::low(*number))?;
+    }
+    Ok(words)
+}
+
+fn text_of(alloc: Global, lines: &[&str]) -> Result<Text, NoMemory> {
+    let mut text = Text::new(alloc);
+    for line in lines {
+        text.append(line.as_bytes())?;
+        text.push(b'\n')?;
+    }
+    Ok(text)
+}
+
+// The folder, with so many frames.
+fn booted(alloc: Global, frames: &str, gate: &str) -> Result<Super, BootFault> {
+    let lines = [
+        frames,
+        "work >udd>demo",
+        "library >sss",
+        "segment >udd>demo main main object re 4 4 4",
+        gate,
+        "start 4 main$start",
+    ];
+    let text = text_of(alloc, &lines)?;
+    let bytes = text.bytes();
+    if bytes.len() >= 4294967296 {
+        return Err(BootFault::NoMemory);
+    }
+    let Ok(catalog) = Catalog::read(alloc, bytes) else {
+        return Err(BootFault::NoMemory);
+    };
+    let mut files = Vec::new(alloc);
+    add(&mut files, words_of(alloc, &MAIN)?)?;
+    add(&mut files, words_of(alloc, &CON)?)?;
+    if files.len() != catalog.count() || !are_short(&files) {
+        return Err(BootFault::NoMemory);
+    }
+    Super::boot(alloc, catalog, files)
+}
+
+fn add(files: &mut Vec<Words>, words: Words) -> Result<(), NoMemory> {
+    files.push(words)?;
+    Ok(())
+}
+
+const GATE: &str = "segment >sss con_ con_ gate rep 0 0 5";
+
+// A letter for each turn: s a step, l a link that was snapped, r one that was refused, c the console, e the end, n no memory.
+fn letter(turn: &Turn) -> u8 {
+    match turn {
+        Turn::Stepped(_) => b's',
+        Turn::Linked(note) => { if note.answer.is_ok() { b'l' } else { b'r' } }
+        Turn::Console(_) => b'c',
+        Turn::Ended(_) => b'e',
+        Turn::Full => b'f',
+        Turn::NoMemory => b'n',
+    }
+}
+
+// Whether memory sufficed for the turns of the folder, which are these.
+fn turns(rt: &impl Abort, system: &mut Super) -> bool {
+    for due in b"sssssslssscsslsseee" {
+        let turn = system.turn();
+        let letter = letter(&turn);
+        if letter == b'n' {
+            return false;
+        }
+        assert_eq!(rt; letter, *due);
+        if let Turn::Console(note) = turn {
+            assert!(rt; note.bytes.as_slice() == b"hello\n".as_slice());
+        }
+    }
+    true
+}
+
+// What stands behind them.
+fn behind(rt: &impl Abort, system: &mut Super) {
+    assert!(rt; system.regs().ppr.ic == 1);
+    assert!(rt; system.content(16, 65) == Some(Word::low(0o000020002000)));
+    assert!(rt; system.content(20, 65) == Some(Word::ZERO));
+    assert!(rt; system.content(66, 0) == None);
+    assert!(rt; system.back(1) == BackAnswer::Unable);
+}
+
+// The folder, with so many frames.
+fn run(rt: &impl Abort, alloc: Global, frames: &str) {
+    match booted(alloc, frames, GATE) {
+        Ok(mut system) => {
+            if turns(rt, &mut system) {
+                behind(rt, &mut system);
+            }
+        }
+        Err(fault) => assert_eq!(rt; fault, BootFault::NoMemory),
+    }
+}
+
+#[test]
+fn writes_and_stops(rt: HostRuntime) {
+    for frames in ["frames 24", "frames 400"] {
+        run(&rt, rt.alloc(), frames);
+    }
+}
+
+// Whether a record is that of a turn.
+fn is_step(told: &StepRecord, turn: &Turn) -> bool {
+    match turn {
+        Turn::Stepped(due) => {
+            told.word == due.word
+                && told.outcome == due.outcome
+                && told.after == due.after
+                && told.refs.len() == due.refs.len()
+        }
+        _ => false,
+    }
+}
+
+// Takes a turn of both systems, which is the same, and says whether memory sufficed. A step of the first is told in a record.
+fn both(rt: &impl Abort, one: &mut Super, told: &mut StepRecord, other: &mut Super) -> bool {
+    match one.coming() {
+        Coming::Step => {
+            one.step_told(told);
+            assert!(rt; is_step(told, &other.turn()));
+            true
+        }
+        _ => {
+            let first = letter(&one.turn());
+            let second = letter(&other.turn());
+            if first == b'n' || second == b'n' {
+                return false;
+            }
+            assert_eq!(rt; first, second);
+            true
+        }
+    }
+}
+
+#[test]
+fn tells_steps_in_one_record(rt: HostRuntime) {
+    let Ok(mut one) = booted(rt.alloc(), "frames 24", GATE) else {
+        return;
+    };
+    let Ok(mut other) = booted(rt.alloc(), "frames 24", GATE) else {
+        return;
+    };
+    let mut told = one.untold();
+    for _ in 0..19 {
+        if !both(&rt, &mut one, &mut told, &mut other) {
+            return;
+        }
+    }
+}

@@ -1,0 +1,138 @@
+//! Worked descriptors and accesses.
+
+use m36_desc::*;
+use m36_word::{Pair, Word};
+
+fn pair(even: u64, odd: u64) -> Pair {
+    Pair {
+        even: Word::low(even),
+        odd: Word::low(odd),
+    }
+}
+
+#[test]
+fn segment_descriptor(rt: HostRuntime) {
+    let words = pair(0o000100004444, 0o000775300000);
+    let s = Sdw::of_words(words);
+    let expected = Sdw {
+        addr: 0o10000,
+        bound: 0o77,
+        limit: 0,
+        r1: 4,
+        r2: 4,
+        r3: 4,
+        fc: 0,
+        f: true,
+        readable: true,
+        executable: false,
+        writable: true,
+        privileged: false,
+        unpaged: true,
+        no_gate: true,
+        cached: false,
+    };
+    assert!(rt; s == expected);
+    assert!(rt; s.to_words() == words);
+}
+
+#[test]
+fn other_descriptors(rt: HostRuntime) {
+    let mut page = Ptw::of_words(Word::low(0o000020000004));
+    assert!(rt; page.addr == 0o20 && page.f && page.fc == 0);
+    page.used = true;
+    assert!(rt; page.to_words() == Word::low(0o000020001004));
+    page.modified = true;
+    assert!(rt; page.to_words() == Word::low(0o000020001104));
+
+    let words = pair(0o000001000000, 0o001770200001);
+    let base = Dbr::of_words(words);
+    assert!(rt; base.addr == 0o100 && base.bnd == 127 && base.unpaged && base.stack == 1);
+    assert!(rt; base.to_words() == words);
+}
+
+#[test]
+fn pairs_and_pointers(rt: HostRuntime) {
+    let words = pair(0o000101400043, 0o000012005020);
+    let link = Its::of_words(words);
+    assert!(rt; link.seg == 0o101 && link.ring == 4 && link.word == 0o12);
+    assert!(rt; link.bit == 5 && link.tag == 0o20);
+    assert!(rt; link.to_words() == words);
+
+    let register = Ptr::of_words(words);
+    assert!(rt; register.seg == 0o101 && register.ring == 4 && register.word == 0o12);
+    assert!(rt; register.bit == 5);
+    assert!(rt; register.to_words() == pair(0o000101400043, 0o000012005000));
+
+    let words = pair(0o600000000041, 0o000024000020);
+    let through = Itp::of_words(words);
+    assert!(rt; through.pr == 6 && through.word == 0o24);
+    assert!(rt; through.bit == 0 && through.tag == 0o20);
+    assert!(rt; through.to_words() == words);
+
+    descriptor_laws();
+    field_widths();
+    word_widths();
+}
+
+/// A reference, with the ring that it is made from.
+#[derive(Clone, Copy, Debug)]
+enum Asked {
+    Fetch(u8),
+    /// Whether the segment is the one that executes.
+    Read(u8, bool),
+    Write(u8),
+    /// The ring of the pointer, and the ring of execution.
+    Transfer(u8, u8),
+    /// The ring of the pointer, the ring of execution, and the word that is called.
+    Call(u8, u8, u32),
+}
+
+/// Brackets, the call limiter of a gate, a reference, and the ring in which it goes on or its access violation. The
+/// segments may be executed, and not be read or written.
+const REFERENCES: [((u8, u8, u8), Option<u16>, Asked, Result<u8, Acv>); 16] = [
+    ((1, 4, 4), None, Asked::Fetch(4), Ok(4)),
+    ((1, 0, 4), None, Asked::Fetch(0), Err(Acv(0))),
+    ((1, 4, 4), None, Asked::Fetch(0), Err(Acv(1))),
+    ((1, 4, 4), None, Asked::Read(4, true), Ok(4)),
+    ((1, 4, 4), None, Asked::Read(5, true), Err(Acv(3))),
+    ((1, 4, 4), None, Asked::Read(4, false), Err(Acv(4))),
+    ((1, 4, 4), None, Asked::Write(2), Err(Acv(5))),
+    ((1, 4, 4), None, Asked::Write(1), Err(Acv(6))),
+    ((1, 4, 4), None, Asked::Transfer(4, 4), Ok(4)),
+    ((1, 4, 4), None, Asked::Transfer(4, 3), Err(Acv(12))),
+    ((0, 0, 5), Some(2), Asked::Call(4, 4, 1), Ok(0)),
+    ((0, 0, 5), Some(2), Asked::Call(4, 4, 2), Err(Acv(7))),
+    ((0, 0, 5), Some(2), Asked::Call(6, 6, 1), Err(Acv(8))),
+    ((2, 3, 3), None, Asked::Call(1, 1, 0), Err(Acv(9))),
+    ((2, 3, 3), None, Asked::Call(3, 1, 0), Err(Acv(10))),
+    ((2, 3, 3), None, Asked::Call(3, 3, 0), Ok(3)),
+];
+
+fn segment(brackets: (u8, u8, u8), gate: Option<u16>) -> Sdw {
+    let mut s = Sdw::of_words(pair(0, 0));
+    s.r1 = brackets.0 % 8;
+    s.r2 = brackets.1 % 8;
+    s.r3 = brackets.2 % 8;
+    s.executable = true;
+    s.no_gate = gate.is_none();
+    s.limit = gate.unwrap_or(0) % (1 << 14);
+    s
+}
+
+fn answer(s: &Sdw, asked: Asked) -> Result<u8, Acv> {
+    match asked {
+        Asked::Fetch(ring) => may_fetch(s, ring).map(|()| ring),
+        Asked::Read(ring, same) => may_read(s, ring, same).map(|()| ring),
+        Asked::Write(ring) => may_write(s, ring).map(|()| ring),
+        Asked::Transfer(ring, prr) => may_transfer(s, ring, prr).map(|()| ring),
+        Asked::Call(ring, prr, word) => call_ring(s, ring, prr, false, word),
+    }
+}
+
+#[test]
+fn references(rt: HostRuntime) {
+    for (brackets, gate, asked, expected) in REFERENCES {
+        let s = segment(brackets, gate);
+        assert!(rt; answer(&s, asked) == expected, "{asked:?} at {brackets:?}");
+    }
+}

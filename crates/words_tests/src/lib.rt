@@ -1,0 +1,13 @@
+//! Tests of words, texts, descriptors, instructions and tables.
+#![tactic(auto)]
+
+#[cfg(test)]
+mod descriptors;
+#[cfg(test)]
+mod instructions;
+#[cfg(test)]
+mod tables;
+#[cfg(test)]
+mod text;
+#[cfg(test)]
+mod word;

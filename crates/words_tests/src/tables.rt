@@ -1,0 +1,149 @@
+//! Small tables, and where the words that they give lie. Places are worked out by hand.
+
+ghost use Rattle.std.specs.Prelude.{◌<◌, ◌^◌};
+
+use m36_core::Core;
+use m36_desc::{Dbr, Ptw, Sdw};
+use m36_model::Refusal;
+use m36_tables::{
+    content, descriptor, descriptor_place, directory_at, in_order, page_at, page_frame,
+    page_table_word, place, segment_count, within, word_in_core, word_place,
+};
+use m36_word::{NoMemory, Pair, Word};
+use std::alloc::Global;
+
+/// The descriptor segment is unpaged at core word 0 and has eight descriptors.
+const WHOLE: Dbr = Dbr {
+    addr: 0,
+    bnd: 0,
+    stack: 0,
+    unpaged: true,
+};
+
+/// The page table of the descriptor segment is at core word octal 100.
+const PAGED: Dbr = Dbr {
+    addr: 0o100,
+    bnd: 0,
+    stack: 0,
+    unpaged: false,
+};
+
+/// A segment of ring `r1` with a bound of so many blocks and one.
+fn segment(addr: u32, bound: u16, r1: u8, unpaged: bool) -> Sdw
+    requires addr { addr < 2 ^ 24 }
+    requires bound { bound < 2 ^ 14 }
+    requires ring { r1 < 2 ^ 3 }
+{
+    Sdw {
+        addr,
+        bound,
+        limit: 0,
+        r1,
+        r2: 4,
+        r3: 4,
+        fc: 3,
+        f: true,
+        readable: true,
+        executable: true,
+        writable: true,
+        privileged: false,
+        unpaged,
+        no_gate: true,
+        cached: false,
+    }
+}
+
+/// The page table word of a page in a frame, or of none.
+fn page(frame: Option<u8>) -> Word {
+    let ptw = Ptw {
+        addr: 16 * frame.unwrap_or(0) as u32,
+        fc: 2,
+        used: false,
+        modified: false,
+        f: frame.is_some(),
+    };
+    ptw.to_words()
+}
+
+/// Core of two frames with descriptors from a place on, the page table of segment 2 at octal 200, and a word at octal
+/// 2017.
+fn image(alloc: Global, descriptors: u32) -> Result<Core, NoMemory> {
+    let absent = Sdw {
+        f: false,
+        ..segment(0, 0, 4, true)
+    };
+    let segments = [
+        segment(0, 0, 4, true),
+        segment(0o2000, 0, 4, true),
+        segment(0o200, 127, 4, false),
+        segment(0o2000, 0, 5, true),
+        absent,
+        segment(0o4000, 0, 4, true),
+    ];
+    let mut core = Core::new(alloc, 2)?;
+    let mut next = descriptors;
+    for sdw in segments.iter() {
+        let pair = sdw.to_words();
+        put(&mut core, next, pair.even);
+        put(&mut core, next.wrapping_add(1), pair.odd);
+        next = next.wrapping_add(2);
+    }
+    put(&mut core, 0o100, page(Some(1)));
+    put(&mut core, 0o200, page(Some(1)));
+    put(&mut core, 0o201, page(None));
+    put(&mut core, 0o2017, Word::low(7));
+    Ok(core)
+}
+
+fn put(core: &mut Core, place: u32, word: Word) {
+    if place < core.len() {
+        core.poke(place, word);
+    }
+}
+
+fn refused(number: u8, acv: u8) -> Result<u32, Refusal> {
+    Err(Refusal { number, acv })
+}
+
+#[test]
+fn places_of_words(rt: HostRuntime) -> Result<(), NoMemory> {
+    let core = image(rt.alloc(), 0)?;
+    let places = [
+        (1, 0, Ok(0o2000)),
+        (1, 0o17, Ok(0o2017)),
+        (1, 0o20, refused(20, 15)),
+        (2, 5, Ok(0o2005)),
+        (2, 0o2000, refused(18, 0)),
+        (2, 0o4000, refused(20, 15)),
+        (3, 0, refused(20, 0)),
+        (4, 0, refused(19, 0)),
+        (5, 0, refused(1, 0)),
+        (8, 0, refused(20, 15)),
+    ];
+    for (seg, word, expected) in places.iter() {
+        assert!(rt; place(&core, WHOLE, *seg % 0o100000, *word % 0o1000000) == *expected);
+    }
+    assert!(rt; content(&core, WHOLE, 1, 0o17) == Some(Word::low(7)));
+    assert!(rt; content(&core, WHOLE, 2, 0o17) == Some(Word::low(7)));
+    assert!(rt; content(&core, WHOLE, 2, 0o2017) == None);
+    Ok(())
+}
+
+#[test]
+fn words_of_tables(rt: HostRuntime) -> Result<(), NoMemory> {
+    let core = image(rt.alloc(), 0o2000)?;
+    assert!(rt; segment_count(PAGED) == 8);
+    assert!(rt; directory_at(PAGED, 2) == 0o100);
+    assert!(rt; descriptor_place(&core, PAGED, 2) == Ok(0o2004));
+    let sdw = segment(0o200, 127, 4, false);
+    assert!(rt; descriptor(&core, PAGED, 2) == Ok(sdw));
+    assert!(rt; in_order(&sdw) && within(&sdw, 0o3777) && !within(&sdw, 0o4000));
+    assert!(rt; page_at(&sdw, 1) == 0o201);
+    assert!(rt; page_table_word(&core, 0o201) == Some(Ptw::of_words(page(None))));
+    assert!(rt; page_table_word(&core, 0o4000) == None);
+    assert!(rt; page_frame(&core, &sdw, 0) == Ok(0o2000));
+    assert!(rt; page_frame(&core, &sdw, 1) == refused(18, 0));
+    assert!(rt; word_place(&core, &sdw, 3) == Ok(0o2003));
+    assert!(rt; word_in_core(&core, &sdw, 3) == Ok(0o2003));
+    Ok(())
+}
