@@ -25,4 +25,3 @@ pub mod words;
 pub use alm_lines::{arguments, expression, layout, refusal, spot, sum, symbols};
 pub use assembly::assemble;
 pub use laws::assembly_laws;
-

@@ -64,4 +64,3 @@ pub use auditor::audit;
 pub use joint_auditor::joint;
 pub use joint_verdict::{Joint, JointFinding};
 pub use verdict::{Finding, Verdict};
-

@@ -28,4 +28,3 @@ pub use pairs::{ITP_TAG, ITS_TAG, Itp, Its};
 pub use pointer::Ptr;
 pub use ptw::Ptw;
 pub use sdw::Sdw;
-

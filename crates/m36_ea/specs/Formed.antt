@@ -1,6 +1,7 @@
 -- A formed address: what the program of an address chain gives over core.
 use Rattle.std.specs.Prelude.{ℕ, ◌≡◌, ◌<◌, List, [], ◌∷◌, ◌++◌, Option, Some, None, Result, Ok, Err}
 use Rattle.m36_inst.specs.Fields.{InstFields}
+use Rattle.m36_model.specs.Fields.{FinalFields}
 use Rattle.m36_model.specs.Registers.{RegsFields}
 use Rattle.m36_model.specs.Store.{Mid, Ran, run}
 use Rattle.m36_model.specs.Core.{core_store}
@@ -33,6 +34,10 @@ ended core refs (Ok f) =
       mid = standing core (claimed_by f.tally f.place) refs;
     }
 ended core refs (Err h) = record { value = Err h; mid = standing core [] refs }
+
+-- an address without a tally word
+abbrev pub plain : FinalFields → Formed
+plain last = record { last = last; tally = None; place = 0 }
 
 -- this is the last of the references
 abbrev pub EndsIn : List Reference → Reference → Type 0

@@ -1,16 +1,17 @@
 //! The address chain, and the address that it ends at.
 
-ghost use Rattle.std.specs.Prelude.{◌≡◌, ◌+◌, ◌<◌, ◌≤◌, ◌^◌, IfOk, length, option_map};
+ghost use Rattle.std.specs.Prelude.{◌≡◌, ◌+◌, ◌<◌, ◌≤◌, ◌^◌, Ok, IfOk, IfSome, IfNone, List, length, option_map, ℕ};
 ghost use Rattle.m36_model.specs.Chain.{lockup, pending_of, claimed_by};
 ghost use Rattle.m36_model.specs.Store.{changes};
+ghost use Rattle.m36_model.specs.declared.place.Reference.{Reference};
 ghost use Rattle.m36_walk.specs.Words.{pending_changes};
-ghost use Rattle.m36_ea.specs.Formed.{formed_from, ended, TallyLies};
+ghost use Rattle.m36_ea.specs.Formed.{formed_from, ended, plain, TallyLies};
 
 use crate::indirect::{count, follow, formed};
-use crate::modification::{Action, action_of, fault};
+use crate::modification::{Action, action_of, end_by_register, fault};
 use crate::temporary::{Tpr, first};
 use m36_inst::Inst;
-use m36_model::{Formed, Halt, Refs, Regs};
+use m36_model::{Final, Formed, Halt, Refs, Regs};
 use m36_walk::{Pending, Walk};
 
 /// How many indirect words an address may have.
@@ -67,6 +68,21 @@ pub fn effective(walk: &mut Walk, regs: &Regs, inst: &Inst, refs: &mut Refs) -> 
             }
         }
         left -= 1;
+    }
+}
+
+/// The address of an instruction by its tag alone, where that is one of register modification: such an address makes no
+/// reference, and nothing refuses it. None says that the tag is another, and that `effective` has to form the address.
+#[inline(always)]
+pub fn plain_address(regs: &Regs, inst: &Inst) -> Option<Final>
+    ensures forms { IfSome result (λ last. (core : List ℕ) (refs : List Reference)
+        → formed_from regs.now inst.now core refs ≡ ended core refs (Ok (plain last))) }
+    ensures none { IfNone result (16 ≤ inst.now.tag) }
+{
+    let tpr = first(regs, inst);
+    match end_by_register(regs, &tpr) {
+        Some(last) => Some(last),
+        None => None,
     }
 }
 

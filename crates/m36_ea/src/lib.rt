@@ -21,5 +21,4 @@ mod registers;
 mod tallies;
 mod temporary;
 
-pub use chain::{effective, pending};
-
+pub use chain::{effective, pending, plain_address};

@@ -1,6 +1,6 @@
 //! Address modification: what the tag of a point does.
 
-ghost use Rattle.std.specs.Prelude.{◌≡◌, ◌<◌, ◌%◌, ◌^◌};
+ghost use Rattle.std.specs.Prelude.{◌≡◌, ◌<◌, ◌≤◌, ◌%◌, ◌^◌, IfSome, IfNone};
 ghost use Rattle.m36_model.specs.Modification.{Ends, Fails, here, fault_at, is_direct};
 ghost use Rattle.m36_model.specs.Modification.{move_register, move_register_then_indirect};
 ghost use Rattle.m36_model.specs.Modification.{move_indirect_then_tally};
@@ -66,6 +66,7 @@ fn illegal(regs: &Regs) -> Action
 }
 
 /// Register modification: the end of the chain at y plus a register, or a direct operand.
+#[inline(always)]
 fn register(regs: &Regs, tpr: &Tpr, td: u8) -> Final
     requires { td < 16 }
     ensures { Ends result ≡ move_register regs.now tpr.now td tpr.now.held }
@@ -125,6 +126,20 @@ fn indirect_then_tally(regs: &Regs, tpr: &Tpr, td: u8) -> Action
             Action::Counts
         }
         _ => Action::Fails(Halt::Stop(Stop::Tag)),
+    }
+}
+
+/// The end of the chain, where the tag of the point is one of register modification.
+#[inline(always)]
+#[tactic(auto, unfolding(m36_model::specs::Modification::move_of_point))]
+pub(crate) fn end_by_register(regs: &Regs, tpr: &Tpr) -> Option<Final>
+    ensures ends { IfSome result (λ last. Ends last ≡ move_of_point regs.now tpr.now) }
+    ensures none { IfNone result (16 ≤ tpr.now.tag) }
+{
+    let td = tpr.tag % 16;
+    match tpr.tag / 16 {
+        0 => Some(register(regs, tpr, td)),
+        _ => None,
     }
 }
 

@@ -15,6 +15,7 @@ pub(crate) fn procedure_segment(regs: &Regs) -> u16
 }
 
 /// The register that the low four bits of a tag name, where they name no direct operand.
+#[inline(always)]
 #[tactic(auto, unfolding(m36_model::specs::Modification::index_of))]
 pub(crate) fn index(regs: &Regs, td: u8) -> u32
     requires td { td < 16 }
@@ -36,6 +37,7 @@ pub(crate) fn index(regs: &Regs, td: u8) -> u32
 }
 
 /// Bits 0 to 17.
+#[inline(always)]
 fn upper(w: Word) -> u32
     ensures value { result ≡ field w 0 18 }
     ensures bound { result < 2 ^ 18 }
@@ -44,6 +46,7 @@ fn upper(w: Word) -> u32
 }
 
 /// Bits 18 to 35.
+#[inline(always)]
 fn lower(w: Word) -> u32
     ensures value { result ≡ field w 18 18 }
     ensures bound { result < 2 ^ 18 }

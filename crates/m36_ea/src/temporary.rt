@@ -45,9 +45,11 @@ impl Model for Tpr {
 }
 
 /// Where the instruction itself points.
+#[inline(always)]
 #[tactic(auto, unfolding(m36_model::specs::FirstPoint::first_point))]
 pub(crate) fn first(regs: &Regs, inst: &Inst) -> Tpr
-    ensures { result ≡ first_point regs.now inst.now }
+    ensures value { result ≡ first_point regs.now inst.now }
+    ensures tag { result.tag ≡ inst.now.tag }
 {
     let here = regs.here();
     let seg = here.seg;
@@ -78,6 +80,7 @@ pub(crate) fn first(regs: &Regs, inst: &Inst) -> Tpr
 }
 
 /// The signed offset of an address through a pointer register, modulo 2^18.
+#[inline(always)]
 fn signed_offset(inst: &Inst) -> u32
     ensures value { result ≡ pr_offset inst.now }
     ensures bound { result < 2 ^ 18 }
@@ -92,6 +95,7 @@ fn signed_offset(inst: &Inst) -> u32
 
 impl Tpr {
     /// A word of the segment, in the ring of the point.
+    #[inline(always)]
     pub(crate) fn at(&self, word: u32) -> At
         requires { word < 2 ^ 18 }
         ensures { result ≡ at_point self.now word }
@@ -104,6 +108,7 @@ impl Tpr {
     }
 
     /// The end of the chain at a word of the segment.
+    #[inline(always)]
     pub(crate) fn end_at(&self, word: u32) -> Final
         requires { word < 2 ^ 18 }
         ensures { result ≡ final_at self.now word None }
@@ -116,6 +121,7 @@ impl Tpr {
     }
 
     /// The end of the chain at a direct operand.
+    #[inline(always)]
     pub(crate) fn end_direct(&self, operand: Word) -> Final
         ensures { result ≡ final_at self.now self.now.y (Some operand) }
     {

@@ -25,4 +25,3 @@ pub use laws::{instruction_laws, table_laws};
 pub use lookup::{by_name, name_of, row};
 pub use operand::Operand;
 pub use rows::Row;
-

@@ -3,4 +3,5 @@ pub mod Reaching
 pub mod Groups
 pub mod Operations
 pub mod Direct
+pub mod Plain
 pub mod Writing

@@ -10,6 +10,7 @@ use Rattle.m36_model.specs.Step.{Ending}
 use Rattle.m36_model.specs.declared.effects.Formed.{Formed}
 use Rattle.m36_model.specs.declared.outcome.Outcome.{Outcome}
 use Rattle.m36_model.specs.declared.place.Reference.{Reference}
+use Rattle.m36_model.specs.declared.record.StepRecord.{StepRecord}
 use Rattle.m36_walk.specs.Served.{standing}
 use Rattle.m36_step.specs.declared.ended.Ended.{Ended}
 
@@ -45,6 +46,10 @@ given_end core refs after e =
       refs = refs;
       core = core;
     }
+
+-- the end that a record tells
+abbrev pub ended_of : StepRecord → Ended
+ended_of told = record { word = told.word; at = told.at; outcome = told.outcome }
 
 -- A program over core, in a step that has completed these references and claimed nothing, ends as
 -- the code does.

@@ -50,6 +50,7 @@ pub(crate) fn halted(word: Option<Word>, at: Option<Final>, halt: Halt) -> Ended
 }
 
 /// The outcome of a step that has its effect: an overflow is a fault, at the instruction, where the overflow mask is off.
+#[inline(always)]
 pub(crate) fn outcome_by(place: At, mask: bool, overflow: bool) -> Outcome
     ensures { (g : RegsFields) → place ≡ here g → result ≡ outcome_by (overflow && not mask) g }
 {

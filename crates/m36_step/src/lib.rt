@@ -9,6 +9,10 @@
 //! are written, that of the tally first, and the registers take their new values. A refusal anywhere before leaves
 //! registers and words as they were but for the marks of the references that were completed. A step takes no memory.
 //!
+//! Frequent instructions on one word go a shorter way by the same parts: a reference answers a word or a place alone, the
+//! effect is made in the registers, and the record is filled as the step goes. Where a reference does not answer, nothing
+//! has changed, and the step goes on from there as every other does.
+//!
 //! Whatever answers turns is a [`Stepper`]: a [`Turn`] is a step, a service that the step before it calls for, or says how the
 //! run has ended. The traits' relations are the contracts of their methods. A `Machine` is one, and a [`Replay`], whose turns
 //! are a function of its state: steps, until one has ended the run, and from then on that end. It is seen as its state and
@@ -21,6 +25,7 @@
 mod effects;
 mod ended;
 mod execute;
+mod frequent;
 pub mod machine;
 mod operands;
 mod operate;
@@ -29,10 +34,10 @@ mod reach;
 mod references;
 pub mod stepper;
 mod targets;
+mod telling;
 pub mod turns;
 mod writes;
 
 pub use machine::Machine;
 pub use stepper::{Replay, Stepper};
 pub use turns::{BackAnswer, ConsoleNote, LinkNote, Turn};
-

@@ -56,11 +56,8 @@ fn take_step(walk: &mut Walk, regs: &mut Regs, told: &mut StepRecord)
 {
     told.refs.clear();
     told.ppr = regs.ppr;
-    let ended = execute(walk, regs, &mut told.refs);
+    execute(walk, regs, told);
     told.after = *regs;
-    told.word = ended.word;
-    told.at = ended.at;
-    told.outcome = ended.outcome;
 }
 
 /// A record that tells of no step yet.

@@ -1,17 +1,19 @@
 //! The references of an operand: words that are read, and words that are to be written.
 
-ghost use Rattle.std.specs.Prelude.{ℕ, ◌≡◌, ◌+◌, ◌<◌, ◌≤◌, ◌^◌, [], ◌∷◌, ◌++◌, IfOk, length};
+ghost use Rattle.std.specs.Prelude.{ℕ, ◌≡◌, ◌+◌, ◌<◌, ◌≤◌, ◌^◌, [], ◌∷◌, ◌++◌, Ok, IfOk, IfSome, IfNone, length};
+ghost use Rattle.m36_ea.specs.Formed.{plain};
 ghost use Rattle.m36_walk.specs.Runs.{LiesIn};
 ghost use Rattle.m36_walk.specs.Served.{IsCount, aligned_at, sdw_in, ok_map};
 ghost use Rattle.m36_walk.specs.Words.{pair_words, block_words};
 ghost use Rattle.m36_step.specs.References.{ServesRead, ServesWrite};
 
 use m36_ea::pending;
-use m36_model::{At, Fault, Formed, Kind, Reference, Refs, Regs};
+use m36_model::{At, Fault, Final, Formed, Kind, Reference, Refs, Regs};
 use m36_walk::Walk;
 use m36_word::{Pair, Word};
 
 /// The segment of the instruction.
+#[inline(always)]
 fn procedure_segment(regs: &Regs) -> u16
     ensures { result ≡ regs.now.ppr.psr }
 {
@@ -28,6 +30,7 @@ pub(crate) fn end_at(formed: &Formed) -> At
 }
 
 /// The first of so many words, in a reference.
+#[inline(always)]
 fn first_at(at: At, count: u8) -> At
     requires { IsCount count }
     ensures { result ≡ aligned_at count at }
@@ -49,6 +52,7 @@ fn first_at(at: At, count: u8) -> At
 }
 
 /// Adds a completed reference.
+#[inline(always)]
 fn complete(refs: &mut Refs, kind: Kind, at: At, count: u8)
     requires room { length refs.old.items < 40 }
     requires count { IsCount count }
@@ -170,5 +174,62 @@ pub(crate) fn hold_words(
             Ok(place)
         }
         Err(fault) => Err(fault),
+    }
+}
+
+/// The word of a final address.
+#[inline(always)]
+pub(crate) fn final_at(last: &Final) -> At
+    ensures { result ≡ last.now.at }
+{
+    last.at
+}
+
+/// Reads the word at the end of an address, where nothing refuses it.
+#[inline(always)]
+#[tactic(auto, unfolding(m36_model::specs::Store::changes))]
+pub(crate) fn try_read(walk: &mut Walk, regs: &Regs, last: &Final, refs: &mut Refs) -> Option<Word>
+    requires dbr { walk.old.dbr ≡ regs.now.dbr }
+    requires room { length refs.old.items < 40 }
+    ensures serves { IfSome result (λ w. ServesRead regs.now (plain last.now) 1 walk.old
+        refs.old.items walk.new.core refs.new.items (Ok (w ∷ []))) }
+    ensures walk { IfNone result (walk.new ≡ walk.old) }
+    ensures refs { IfNone result (refs.new ≡ refs.old) }
+    ensures dbr { walk.new.dbr ≡ walk.old.dbr }
+    ensures len { length walk.new.core ≡ length walk.old.core }
+    ensures count { length refs.new.items ≤ length refs.old.items + 1 }
+{
+    let at = final_at(last);
+    match walk.try_read(at, procedure_segment(regs)) {
+        Some(word) => {
+            complete(refs, Kind::Read, at, 1);
+            Some(word)
+        }
+        None => None,
+    }
+}
+
+/// Examines a Write of the word at the end of an address, where nothing refuses it. The answer is its place.
+#[inline(always)]
+#[tactic(auto, unfolding(m36_model::specs::Store::changes))]
+pub(crate) fn try_hold(walk: &mut Walk, regs: &Regs, last: &Final, refs: &mut Refs) -> Option<u32>
+    requires dbr { walk.old.dbr ≡ regs.now.dbr }
+    requires room { length refs.old.items < 40 }
+    ensures serves { IfSome result (λ a. ServesWrite regs.now (plain last.now) 1 walk.old
+        refs.old.items walk.new.core refs.new.items (Ok a)) }
+    ensures inside { IfSome result (λ a. a < length walk.new.core) }
+    ensures walk { IfNone result (walk.new ≡ walk.old) }
+    ensures refs { IfNone result (refs.new ≡ refs.old) }
+    ensures dbr { walk.new.dbr ≡ walk.old.dbr }
+    ensures len { length walk.new.core ≡ length walk.old.core }
+    ensures count { length refs.new.items ≤ length refs.old.items + 1 }
+{
+    let at = final_at(last);
+    match walk.try_hold(at) {
+        Some(place) => {
+            complete(refs, Kind::Write, at, 1);
+            Some(place)
+        }
+        None => None,
     }
 }

@@ -10,6 +10,7 @@ use m36_desc::{Dbr, Sdw};
 const SEGMENTS: u16 = 1 << 15;
 
 /// Sums of addresses wrap.
+#[inline(always)]
 pub fn wrapped(a: u32) -> u32
     ensures value { result ≡ wrapped a }
     ensures bound { result < 2 ^ 24 }
@@ -31,6 +32,7 @@ pub fn segment_count(dbr: Dbr) -> u16
 }
 
 /// The address of the descriptor segment's page table word for a segment.
+#[inline(always)]
 pub fn directory_at(dbr: Dbr, seg: u16) -> u32
     requires { seg < 2 ^ 15 }
     ensures value { result ≡ directory_at dbr seg }
@@ -40,6 +42,7 @@ pub fn directory_at(dbr: Dbr, seg: u16) -> u32
 }
 
 /// The address of a segment's page table word for a page.
+#[inline(always)]
 pub fn page_at(sdw: &Sdw, page: u32) -> u32
     requires { page < 256 }
     ensures value { result ≡ page_at sdw.now page }
@@ -49,6 +52,7 @@ pub fn page_at(sdw: &Sdw, page: u32) -> u32
 }
 
 /// Whether a word is within the bound of its segment.
+#[inline(always)]
 pub fn within(sdw: &Sdw, word: u32) -> bool
     ensures { result ≡ within sdw.now word }
 {

@@ -14,6 +14,7 @@ use m36_model::Refusal;
 use m36_word::Pair;
 
 /// Whether the descriptor segment reaches to a segment's descriptor.
+#[inline(always)]
 fn in_bounds(dbr: Dbr, seg: u16) -> bool
     requires { seg < 2 ^ 15 }
     ensures { result ≡ in_bounds dbr seg }
@@ -23,6 +24,7 @@ fn in_bounds(dbr: Dbr, seg: u16) -> bool
 
 /// The address of the even word of a segment's descriptor, which may be past the end of core. The odd word follows it
 /// modulo 2^24.
+#[inline(always)]
 pub fn descriptor_place(core: &Core, dbr: Dbr, seg: u16) -> Result<u32, Refusal>
     requires { seg < 2 ^ 15 }
     ensures value { result ≡ sdw_place core.now dbr seg }
@@ -42,6 +44,7 @@ pub fn descriptor_place(core: &Core, dbr: Dbr, seg: u16) -> Result<u32, Refusal>
 }
 
 /// The descriptor in a pair, where the segment is there.
+#[inline(always)]
 fn live(pair: Pair) -> Result<Sdw, Refusal>
     ensures { result ≡ live_by (is_on pair.even 33) pair.even pair.odd }
 {

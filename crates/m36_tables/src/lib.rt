@@ -29,4 +29,3 @@ pub use descriptors::{descriptor, descriptor_place};
 pub use pages::{page_frame, page_table_word};
 pub use places::{content, in_order, place, word_in_core, word_place};
 pub use refusals::{directed, store_fault, violation};
-

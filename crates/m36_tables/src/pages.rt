@@ -10,6 +10,7 @@ use m36_desc::{Ptw, Sdw};
 use m36_model::Refusal;
 
 /// The page table word at an address, where that lies in core.
+#[inline(always)]
 pub fn page_table_word(core: &Core, a: u32) -> Option<Ptw>
     ensures value { result ≡ ptw_at core.now a }
     ensures inside { OnSome result (a < length core.now) }
@@ -22,6 +23,7 @@ pub fn page_table_word(core: &Core, a: u32) -> Option<Ptw>
 }
 
 /// The place of a word of a page, by its page table word.
+#[inline(always)]
 pub(crate) fn in_frame(ptw: Option<Ptw>, offset: u32) -> Result<u32, Refusal>
     requires { offset < 1024 }
     ensures value { result ≡ in_frame ptw offset }

@@ -26,6 +26,7 @@ pub fn in_order(sdw: &Sdw) -> bool
 }
 
 /// The place of a word within the bound, which may be past the end of core.
+#[inline(always)]
 pub fn word_place(core: &Core, sdw: &Sdw, word: u32) -> Result<u32, Refusal>
     requires { word < 2 ^ 18 }
     ensures value { result

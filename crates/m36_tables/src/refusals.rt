@@ -7,6 +7,7 @@ ghost use Rattle.m36_model.specs.Store.{violation};
 use m36_model::Refusal;
 
 /// A table word or a place at or past the end of core.
+#[inline(always)]
 pub fn store_fault() -> Refusal
     ensures { result ≡ store_fault }
 {
@@ -14,6 +15,7 @@ pub fn store_fault() -> Refusal
 }
 
 /// The access violation of this number.
+#[inline(always)]
 pub fn violation(acv: u8) -> Refusal
     ensures { result ≡ violation acv }
 {
@@ -21,6 +23,7 @@ pub fn violation(acv: u8) -> Refusal
 }
 
 /// The directed fault that a descriptor with F off names.
+#[inline(always)]
 pub fn directed(fc: u8) -> Refusal
     requires { fc < 2 ^ 2 }
     ensures { result ≡ directed fc }

@@ -14,6 +14,7 @@
 #![tactic(auto)]
 
 mod asks;
+mod hot;
 mod marks;
 mod place;
 mod reads;

@@ -42,6 +42,7 @@ pub(crate) fn mark(core: &mut Core, a: u32, modified: bool)
 }
 
 /// Marks the page table word of the descriptor segment for a segment.
+#[inline(always)]
 #[tactic(auto, unfolding(m36_model::specs::Place::with_marks))]
 fn mark_directory(core: &mut Core, dbr: Dbr, seg: u16)
     requires seg { seg < 2 ^ 15 }
@@ -55,6 +56,7 @@ fn mark_directory(core: &mut Core, dbr: Dbr, seg: u16)
 }
 
 /// Marks the page table word of a segment for a word, as modified too under a write.
+#[inline(always)]
 #[tactic(auto, unfolding(m36_model::specs::Place::with_marks))]
 fn mark_page(core: &mut Core, sdw: &Sdw, word: u32, write: bool)
     requires word { word < 2 ^ 18 }
@@ -68,6 +70,7 @@ fn mark_page(core: &mut Core, sdw: &Sdw, word: u32, write: bool)
 }
 
 /// Sets the marks of a reference to a word of a segment.
+#[inline(always)]
 #[tactic(auto, using(crate::proofs::MarksInOrder::marks_in_order))]
 pub(crate) fn set_marks(core: &mut Core, dbr: Dbr, sdw: &Sdw, seg: u16, word: u32, write: bool)
     requires seg { seg < 2 ^ 15 }

@@ -37,6 +37,7 @@ fn words_inside(size: u32, place: u32, count: u32) -> u32
 }
 
 /// As `words_inside`, at once where core does not end within the run.
+#[inline(always)]
 #[tactic(auto, using(crate::proofs::Spots::examined_inside, crate::proofs::Spots::lies_inside))]
 fn run_inside(size: u32, place: u32, count: u32) -> u32
     requires size { size ≤ 2 ^ 24 }
@@ -56,6 +57,7 @@ fn run_inside(size: u32, place: u32, count: u32) -> u32
 }
 
 /// The run of so many words of a block from a place on, where it lies in core.
+#[inline(always)]
 fn run_in_core(size: u32, place: u32, count: u32) -> Result<u32, Refused>
     requires size { size ≤ 2 ^ 24 }
     requires place { place < 2 ^ 24 }
@@ -76,6 +78,7 @@ fn run_in_core(size: u32, place: u32, count: u32) -> Result<u32, Refused>
 }
 
 /// The place of the first of so many words of a block, all of them examined in rising order.
+#[inline(always)]
 #[tactic(auto, using(crate::proofs::Spots::by_first))]
 pub(crate) fn places(core: &Core, sdw: &Sdw, word: u32, count: u32) -> Result<u32, Refused>
     requires word { word < 2 ^ 18 }

@@ -1,6 +1,6 @@
 //! One reference, and how it serves a request of a step.
 
-ghost use Rattle.std.specs.Prelude.{ℕ, ◌≡◌, ◌+◌, ◌%◌, ◌<◌, ◌≤◌, ◌^◌, IfOk, length};
+ghost use Rattle.std.specs.Prelude.{ℕ, ◌≡◌, ◌+◌, ◌%◌, ◌<◌, ◌≤◌, ◌^◌, IfOk, IfErr, length};
 ghost use Rattle.m36_model.specs.Act.{Fetch, Indirect, Odd, Read};
 ghost use Rattle.m36_walk.specs.Runs.{LiesIn};
 ghost use Rattle.m36_walk.specs.Served.{sdw_in, ok_map, ServesRun, ServesClaim};
@@ -20,6 +20,7 @@ pub(crate) struct Reach {
     pub(crate) privileged: bool,
 }
 
+#[inline(always)]
 fn reach_of(found: &Found) -> Reach
     ensures place { result.place ≡ found.now.place }
     ensures ring { result.ring ≡ found.now.sdw.r1 }
@@ -34,6 +35,7 @@ fn reach_of(found: &Found) -> Reach
 }
 
 /// Reads so many words in the ring of `at`, for an instruction of segment `psr`.
+#[inline(always)]
 pub(crate) fn refer_read(
     core: &mut Core,
     dbr: Dbr,
@@ -54,6 +56,7 @@ pub(crate) fn refer_read(
     ensures ring_bound { IfOk result (λ r. r.ring < 2 ^ 3) }
     ensures inside { IfOk result (λ r. LiesIn (length core.new) r.place count) }
     ensures bound { IfOk result (λ r. r.place < 2 ^ 24) }
+    ensures stays { IfErr result (λ e. core.new ≡ core.old) }
     ensures len { length core.new ≡ length core.old }
 {
     match find_read(core, dbr, at, psr, count) {
@@ -63,6 +66,7 @@ pub(crate) fn refer_read(
 }
 
 /// Examines so many words that are to be written, in the ring of `at`.
+#[inline(always)]
 pub(crate) fn refer_write(core: &mut Core, dbr: Dbr, at: At, count: u32) -> Result<Run, Fault>
     requires some { 1 ≤ count }
     requires block { at.word % 16 + count ≤ 16 }
@@ -71,6 +75,7 @@ pub(crate) fn refer_write(core: &mut Core, dbr: Dbr, at: At, count: u32) -> Resu
     ensures count { IfOk result (λ r. r.count ≡ count) }
     ensures inside { IfOk result (λ r. LiesIn (length core.new) r.place count) }
     ensures bound { IfOk result (λ r. r.place < 2 ^ 24) }
+    ensures stays { IfErr result (λ e. core.new ≡ core.old) }
     ensures len { length core.new ≡ length core.old }
 {
     match find_write(core, dbr, at, count) {
@@ -83,6 +88,7 @@ pub(crate) fn refer_write(core: &mut Core, dbr: Dbr, at: At, count: u32) -> Resu
 }
 
 /// Fetches an instruction in the ring of `at`.
+#[inline(always)]
 pub(crate) fn refer_fetch(core: &mut Core, dbr: Dbr, at: At) -> Result<Reach, Fault>
     ensures fetch { ServesRun (λ g. g.ppr.prr ≡ at.ring) Fetch
         (record { core = core.old; dbr = dbr }) core.new at 1 (ok_map (λ r. r.place) result) }
@@ -90,6 +96,7 @@ pub(crate) fn refer_fetch(core: &mut Core, dbr: Dbr, at: At) -> Result<Reach, Fa
         ≡ (sdw_in (record { core = core.old; dbr = dbr }) at.seg).privileged) }
     ensures inside { IfOk result (λ r. LiesIn (length core.new) r.place 1) }
     ensures bound { IfOk result (λ r. r.place < 2 ^ 24) }
+    ensures stays { IfErr result (λ e. core.new ≡ core.old) }
     ensures len { length core.new ≡ length core.old }
 {
     match find_fetch(core, dbr, at) {

@@ -42,6 +42,7 @@ pub(crate) fn described(core: &Core, dbr: Dbr, at: At) -> Result<Sdw, Fault>
 }
 
 /// What a descriptor says of a right, told at a word.
+#[inline(always)]
 pub(crate) fn permitted(answer: Result<(), Acv>, at: At) -> Result<(), Fault>
     ensures { result ≡ told_acv at answer }
 {
@@ -52,6 +53,7 @@ pub(crate) fn permitted(answer: Result<(), Acv>, at: At) -> Result<(), Fault>
 }
 
 /// A reference that reads so many words in the ring of `at`, for an instruction of segment `psr`.
+#[inline(always)]
 #[tactic(auto, unfolding(crate::specs::Reached::reached))]
 pub(crate) fn find_read(
     core: &mut Core,
@@ -82,6 +84,7 @@ pub(crate) fn find_read(
 }
 
 /// A reference that is to write so many words, in the ring of `at`.
+#[inline(always)]
 #[tactic(auto, unfolding(crate::specs::Reached::reached))]
 pub(crate) fn find_write(core: &mut Core, dbr: Dbr, at: At, count: u32) -> Result<Found, Fault>
     requires some { 1 ≤ count }
@@ -106,6 +109,7 @@ pub(crate) fn find_write(core: &mut Core, dbr: Dbr, at: At, count: u32) -> Resul
 }
 
 /// The fetch of an instruction, in the ring of `at`.
+#[inline(always)]
 #[tactic(auto, unfolding(crate::specs::Reached::reached))]
 pub(crate) fn find_fetch(core: &mut Core, dbr: Dbr, at: At) -> Result<Found, Fault>
     ensures examined { reached (λ d. allowed tt (first_of (fetch_rows d at.ring)))

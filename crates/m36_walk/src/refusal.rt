@@ -6,6 +6,7 @@ ghost use Rattle.m36_model.specs.Store.{fault_by};
 use m36_model::{At, Fault, Refusal};
 
 /// The fault of a refusal, at a word.
+#[inline(always)]
 pub(crate) fn fault(why: Refusal, at: At) -> Fault
     ensures { result ≡ fault_by why at }
 {
@@ -24,6 +25,7 @@ pub(crate) struct Refused {
 }
 
 /// The fault of a refused word of a block, told at it.
+#[inline(always)]
 pub(crate) fn fault_further(refused: Refused, at: At) -> Fault
     requires { at.word % 16 + refused.further < 16 }
     ensures { result

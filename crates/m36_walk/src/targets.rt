@@ -19,6 +19,7 @@ use m36_model::{At, Fault, Ppr, Refusal};
 use m36_tables::{descriptor, in_order, violation, within};
 
 /// The word of a target is within the bound.
+#[inline(always)]
 fn bounded(sdw: &Sdw, at: At) -> Result<(), Fault>
     ensures { ok_map (λ u. []) result
         ≡ told_places at (bound_only (within sdw.now at.word) at.word) }
@@ -31,6 +32,7 @@ fn bounded(sdw: &Sdw, at: At) -> Result<(), Fault>
 }
 
 /// The target of a transfer in the ring of `at` from ring `prr`.
+#[inline(always)]
 #[tactic(auto, unfolding(crate::specs::Reached::reached))]
 pub(crate) fn find_transfer(core: &Core, dbr: Dbr, at: At, prr: u8) -> Result<(), Fault>
     ensures { reached (λ d. allowed tt (first_of (transfer_rows d at.ring prr)))

@@ -1,4 +1,5 @@
 pub mod Changes
 pub mod DataInstructions
+pub mod Frequent
 pub mod Registers
 pub mod Results

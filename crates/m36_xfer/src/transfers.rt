@@ -16,6 +16,7 @@ use m36_model::{Effect36, Final, Held, Regs};
 
 /// Whether a transfer is taken, by the indicators. Every instruction but the conditional transfers is taken.
 #[tactic(auto, unfolding(m36_model::specs::Transfers::is_taken))]
+#[inline(always)]
 pub fn is_taken(effect: Effect, regs: &Regs) -> bool
     ensures { result ≡ is_taken effect regs.now }
 {
@@ -37,6 +38,7 @@ pub fn is_taken(effect: Effect, regs: &Regs) -> bool
 
 /// Whether an instruction is TRA or a conditional transfer but TOV. These change where the next instruction stands, and nothing
 /// else.
+#[inline(always)]
 pub fn is_transfer(effect: Effect) -> bool
     ensures { result ≡ is_transfer effect }
 {
@@ -57,9 +59,11 @@ pub fn is_transfer(effect: Effect) -> bool
 
 /// Goes to the final address, or on to the next instruction.
 #[tactic(auto, unfolding(m36_model::specs::Transfers::transfer_where, m36_model::specs::Transfers::gone_to, m36_model::specs::Results::moved_on))]
+#[inline(always)]
 fn go(taken: bool, regs: &mut Regs, f: &Final)
-    ensures { transfer_where taken f.now regs.old
+    ensures value { transfer_where taken f.now regs.old
         ≡ Ok (record { regs = regs.new; put = []; overflow = false }) }
+    ensures dbr { regs.new.dbr ≡ regs.old.dbr }
 {
     if taken {
         let at = f.at;
@@ -72,12 +76,14 @@ fn go(taken: bool, regs: &mut Regs, f: &Final)
 
 /// TRA and the conditional transfers but TOV, done in the registers. They put no words.
 #[tactic(auto, unfolding(m36_model::specs::Effect::exec))]
+#[inline(always)]
 pub fn transfer(effect: Effect, regs: &mut Regs, f: &Final)
     requires { IsTrue (is_transfer effect) }
     ensures value { (n : ℕ) (o : OperandFields)
         → exec effect n regs.old f.now o
         ≡ Ok (record { regs = regs.new; put = []; overflow = false }) }
     ensures kind { operand_of effect ≡ T }
+    ensures dbr { regs.new.dbr ≡ regs.old.dbr }
 {
     match effect {
         Effect::Tra

@@ -1,17 +1,18 @@
 use Rattle.std.proofs.Common.{ℕ, List, ap, sym}
 use Rattle.m36_model.specs.Registers.{RegsFields}
 use Rattle.m36_model.specs.Store.{State}
+use Rattle.m36_step.specs.Ended.{ended_of}
 use Rattle.m36_step.proofs.Ends.{step_told, step_left}
 use Rattle.m36_step.proofs.machine.take_step.Goals as goal
 
 pub returns-clause-told : goal.returns-clause-told
 returns-clause-told c =
     let s : State (List ℕ) = record { regs = c.args.regs.now; store = c.args.walk.now.core } in
-    let ends = rw c.clear.ensures at c.execute-ended.ensures.ends in
-    rw (ap (λ (x : RegsFields). x.ppr) c.regs.view_is, c.regs-2.view_is) (sym (step_told s c.execute-ended.new.walk.core c.execute-ended.new.refs.items c.execute-ended.new.regs c.execute-ended.result ends))
+    let ends = rw c.clear.ensures at c.execute.ensures.ends in
+    rw (c.execute.ensures.ppr, ap (λ (x : RegsFields). x.ppr) c.regs.view_is, c.regs-2.view_is) (sym (step_told s c.execute.new.walk.core c.execute.new.told.refs.items c.execute.new.regs (ended_of c.execute.new.told) ends))
 
 pub returns-clause-state : goal.returns-clause-state
 returns-clause-state c =
     let s : State (List ℕ) = record { regs = c.args.regs.now; store = c.args.walk.now.core } in
-    let ends = rw c.clear.ensures at c.execute-ended.ensures.ends in
-    sym (step_left s c.execute-ended.new.walk.core c.execute-ended.new.refs.items c.execute-ended.new.regs c.execute-ended.result ends)
+    let ends = rw c.clear.ensures at c.execute.ensures.ends in
+    sym (step_left s c.execute.new.walk.core c.execute.new.told.refs.items c.execute.new.regs (ended_of c.execute.new.told) ends)

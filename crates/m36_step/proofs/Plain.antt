@@ -1,0 +1,211 @@
+-- How an instruction ends whose address has no tally word, by what its references and its effect gave.
+use Rattle.std.proofs.Common.{ℕ, ◌≡◌, ◌∙◌, refl, sym, ap, Bool, true, false, not, ◌&&◌, IsTrue, List, [], ◌∷◌, ◌++◌, Option, Some, None, Result, Ok, Err, slice_set}
+use Rattle.m36_inst.specs.Operands.{operand_of, takes_direct, is_privileged}
+use Rattle.m36_inst.specs.declared.effect.Effect.{Effect}
+use Rattle.m36_inst.specs.declared.effect.Effect.TheVariants as effect
+use Rattle.m36_inst.specs.declared.operand.Operand.{Operand}
+use Rattle.m36_inst.specs.declared.operand.Operand.TheVariants as kind
+use Rattle.m36_desc.specs.Fields.{SdwFields}
+use Rattle.m36_model.specs.Act.{Whole, Read, Write, Transfer, refer}
+use Rattle.m36_model.specs.Chain.{ChainEnd, chain_end_fields, claimed_by, pending_of, runout_of}
+use Rattle.m36_model.specs.Core.{core_store, core_put}
+use Rattle.m36_model.specs.Effect.{exec, is_absa}
+use Rattle.m36_model.specs.Fields.{FinalFields}
+use Rattle.m36_model.specs.Registers.{RegsFields}
+use Rattle.m36_model.specs.Results.{OperandFields, EffectFields, words_of_held}
+use Rattle.m36_model.specs.Step.{Performed, puts_from, performed, perform, tallied, operate, operate_on, operated, addressed, started, admitted, by_kind, by_direct, direct_word, addressing, transferring, request_at, outcome_by}
+use Rattle.m36_model.specs.Store.{Spot, Ran, serve, run, changes}
+use Rattle.m36_model.specs.Transfers.{is_taken}
+use Rattle.m36_model.specs.declared.effects.Formed.{Formed}
+use Rattle.m36_model.specs.declared.effects.Tally.{Tally}
+use Rattle.m36_model.specs.declared.effects.Held.{Held}
+use Rattle.m36_model.specs.declared.effects.Held.TheVariants as held
+use Rattle.m36_model.specs.declared.outcome.Halt.{Halt}
+use Rattle.m36_model.specs.declared.outcome.Halt.TheVariants as halt
+use Rattle.m36_model.specs.declared.place.Reference.{Reference}
+use Rattle.m36_walk.specs.Memory.{Memory}
+use Rattle.m36_walk.specs.Runs.{run_from}
+use Rattle.m36_walk.specs.Served.{standing, sdw_in, request, served_by, at_target}
+use Rattle.m36_walk.proofs.Claims.{changes_of_run, put_one_word}
+use Rattle.m36_xdata.specs.Frequent.{loads_address, word_read, nothing_read}
+use Rattle.m36_ea.specs.Formed.{plain}
+use Rattle.m36_step.specs.Ended.{EndsFormed, end_of}
+use Rattle.m36_step.specs.Operated.{formed_mid, claims_of, puts_of, operation_from, operated_end}
+use Rattle.m36_step.specs.References.{ServesRead, ServesWrite, HoldRefused}
+use Rattle.m36_step.specs.declared.ended.Ended.{Ended}
+use Rattle.m36_step.specs.declared.operated.Operated.{Operated}
+use Rattle.m36_step.specs.declared.operated.Part.TheVariants as part
+use Rattle.m36_step.proofs.Ends.{operation_performed, operation_refused}
+use Rattle.m36_step.proofs.Reaching.{run_ask, run_done}
+
+-- an instruction that loads its address does not ask for its place
+pub not_absa : (e : Effect) → IsTrue (loads_address e) → is_absa e ≡ false
+not_absa effect.Absa h = cc
+not_absa _ h = refl
+
+module _ (e : Effect) (n w : ℕ) (g : RegsFields) (last : FinalFields) where
+  abbrev f : Formed
+  f = plain last
+
+  abbrev c : ChainEnd
+  c = chain_end_fields f
+
+  -- the end of the step, with the registers as the effect leaves them
+  abbrev done_end : RegsFields → Bool → Ended
+  done_end g' overflow = record { word = Some w; at = Some last; outcome = outcome_by (overflow && not g'.ind.mask) g }
+
+  -- what is written, and where the first word stands
+  abbrev operated_at : ℕ → Bool → Operated
+  operated_at place overflow = record { place = place; part = part.Whole; overflow = overflow }
+
+  same_regs : tallied g c ≡ g
+  unfolding tallied
+  same_regs = refl
+
+  effect_done : (o : OperandFields) (g' : RegsFields) (words : List ℕ) (overflow : Bool) → Ok (record { regs = g'; put = words; overflow = overflow }) ≡ exec e n g last o
+      → performed g c Whole 0 (exec e n (tallied g c) last o) ≡ Ok (record { regs = g'; puts = puts_from Whole 0 words; overflow = overflow })
+  effect_done o g' words overflow h =
+      ap (λ (x : RegsFields). performed g c Whole 0 (exec e n x last o)) same_regs ∙ ap (performed g c Whole 0) (sym h)
+
+  -- a program that is over its effect
+  performs : (o : OperandFields) (g' : RegsFields) (words : List ℕ) (overflow : Bool) (core : List ℕ) (claims : List Spot) (refs : List Reference) → Ok (record { regs = g'; put = words; overflow = overflow }) ≡ exec e n g last o
+      → run core_store g (perform e n g c Whole 0 o) (standing core claims refs) ≡ record { value = Ok (record { regs = g'; puts = puts_from Whole 0 words; overflow = overflow }); mid = standing core claims refs }
+  performs o g' words overflow core claims refs h =
+      run_done g (performed g c Whole 0 (exec e n (tallied g c) last o)) (standing core claims refs)
+      ∙ ap (λ (v : Result Performed Halt). record { value = v; mid = standing core claims refs }) (effect_done o g' words overflow h)
+
+  operates_by : (k : Operand) → operand_of e ≡ k → last.direct ≡ None → operate e n g c ≡ by_kind e n g c k
+  unfolding operate
+  operates_by k is none =
+      ap (λ (x : Option ℕ). operate_on e n g c x) none ∙ ap (λ (x : Operand). by_kind e n g c x) is
+
+  -- A step that writes nothing, and one that writes a word.
+  module _ (core : List ℕ) (refs : List Reference) (core' : List ℕ) (refs' : List Reference) (g' : RegsFields) (overflow : Bool) (end : Ended) (is : end ≡ done_end g' overflow) where
+    nothing_put : core' ≡ core_put core' (changes (claims_of f held.Empty (operated_at 0 overflow)) (puts_of f held.Empty (operated_at 0 overflow)))
+    unfolding core_put changes run_from
+    nothing_put = refl
+
+    no_words : record { value = Ok (record { regs = g'; puts = puts_from Whole 0 []; overflow = overflow }); mid = standing core' [] refs' } ≡ operated_end core' refs' f g' held.Empty (Ok (operated_at 0 overflow))
+    unfolding run_from
+    no_words = refl
+
+    ends_unwritten : run core_store g (operate e n g c) (standing core [] refs) ≡ record { value = Ok (record { regs = g'; puts = puts_from Whole 0 []; overflow = overflow }); mid = standing core' [] refs' }
+        → EndsFormed g (operated e n g w c) core f refs core' refs' g' end
+    ends_unwritten runs =
+        operation_performed g e n w f core refs core' refs' g' held.Empty (operated_at 0 overflow) core' end (runs ∙ no_words) nothing_put is
+
+    ends_written : (place word : ℕ) (core'' : List ℕ) → run core_store g (operate e n g c) (standing core [] refs) ≡ record { value = Ok (record { regs = g'; puts = puts_from Whole 0 (word ∷ []); overflow = overflow }); mid = standing core' (run_from place 1) refs' }
+        → core'' ≡ slice_set core' place word → EndsFormed g (operated e n g w c) core f refs core'' refs' g' end
+    ends_written place word core'' runs stored =
+        operation_performed g e n w f core refs core' refs' g' (held.One word) (operated_at place overflow) core'' end runs
+        (stored ∙ put_one_word core' place word ∙ sym (ap (core_put core') (changes_of_run [] place (word ∷ [])))) is
+
+  module _ (m : Memory) (refs : List Reference) (core' : List ℕ) (refs' : List Reference) (g' : RegsFields) (overflow : Bool) (end : Ended) (is : end ≡ done_end g' overflow) where
+    -- A word is read.
+    pub read_ends : (got : ℕ) → operand_of e ≡ kind.R → last.direct ≡ None → ServesRead g f 1 m refs core' refs' (Ok (got ∷ []))
+        → Ok (record { regs = g'; put = []; overflow = overflow }) ≡ exec e n g last (word_read got)
+        → EndsFormed g (operated e n g w c) m.core f refs core' refs' g' end
+    read_ends got k none served effect =
+        ends_unwritten m.core refs core' refs' g' overflow end is
+        (ap (λ p. run core_store g p (standing m.core [] refs)) (operates_by kind.R k none)
+        ∙ run_ask g (request_at Read c 1) _ (standing m.core [] refs) _ served
+        ∙ performs (word_read got) g' [] overflow core' [] refs' effect)
+
+    -- A word is stored.
+    pub stored_ends : (place word : ℕ) (core'' : List ℕ) → operand_of e ≡ kind.W → last.direct ≡ None → ServesWrite g f 1 m refs core' refs' (Ok place)
+        → Ok (record { regs = g'; put = word ∷ []; overflow = overflow }) ≡ exec e n g last nothing_read
+        → core'' ≡ slice_set core' place word → EndsFormed g (operated e n g w c) m.core f refs core'' refs' g' end
+    stored_ends place word core'' k none served effect stored =
+        ends_written m.core refs core' refs' g' overflow end is place word core''
+        (ap (λ p. run core_store g p (standing m.core [] refs)) (operates_by kind.W k none)
+        ∙ run_ask g (request_at Write c 1) _ (standing m.core [] refs) _ served
+        ∙ performs nothing_read g' (word ∷ []) overflow core' (run_from place 1) refs' effect)
+        stored
+
+    -- A word is read, and then it is written: by what the Write gave.
+    module _ (m' : Memory) (core'' : List ℕ) (refs'' : List Reference) (got : ℕ) (k : operand_of e ≡ kind.Rw) (none : last.direct ≡ None) (read : ServesRead g f 1 m refs core' refs' (Ok (got ∷ []))) (same : m'.core ≡ core') where
+      changes_by : run core_store g (operate e n g c) (standing m.core [] refs) ≡ run core_store g (refer (request_at Write c 1) (λ b. perform e n g c Whole b.first (word_read got))) (standing m'.core [] refs')
+      changes_by =
+          ap (λ p. run core_store g p (standing m.core [] refs)) (operates_by kind.Rw k none)
+          ∙ run_ask g (request_at Read c 1) _ (standing m.core [] refs) _ read
+          ∙ ap (λ (x : List ℕ). run core_store g (refer (request_at Write c 1) (λ b. perform e n g c Whole b.first (word_read got))) (standing x [] refs')) (sym same)
+
+      pub changed_ends : (place word : ℕ) (after : List ℕ) → ServesWrite g f 1 m' refs' core'' refs'' (Ok place)
+          → Ok (record { regs = g'; put = word ∷ []; overflow = overflow }) ≡ exec e n g last (word_read got)
+          → after ≡ slice_set core'' place word → EndsFormed g (operated e n g w c) m.core f refs after refs'' g' end
+      changed_ends place word after held effect stored =
+          ends_written m.core refs core'' refs'' g' overflow end is place word after
+          (changes_by ∙ run_ask g (request_at Write c 1) _ (standing m'.core [] refs') _ held
+          ∙ performs (word_read got) g' (word ∷ []) overflow core'' (run_from place 1) refs'' effect)
+          stored
+
+  -- The Write is refused.
+  pub change_refused : (m m' : Memory) (refs : List Reference) (core' : List ℕ) (refs' : List Reference) (core'' : List ℕ) (refs'' : List Reference) (got : ℕ) (end : Ended) → operand_of e ≡ kind.Rw → last.direct ≡ None → ServesRead g f 1 m refs core' refs' (Ok (got ∷ [])) → m'.core ≡ core'
+      → HoldRefused g w last m' refs' core'' refs'' end → EndsFormed g (operated e n g w c) m.core f refs core'' refs'' g end
+  change_refused m m' refs core' refs' core'' refs'' got end k none read same h =
+      operation_refused g e n w f m.core refs core'' refs'' g held.Empty (halt.Fault h.fault) end
+      (changes_by m refs core' refs' g false (done_end g false) refl m' core'' refs'' got k none read same
+      ∙ run_ask g (request_at Write c 1) _ (standing m'.core [] refs') _ h.serves
+      ∙ run_done g (Err (halt.Fault h.fault)) (standing core'' [] refs''))
+      refl h.told
+
+  -- Nothing is referenced: the operand is direct, or the address alone is used, or a transfer is not taken, or its target is examined and not touched.
+  module _ (core : List ℕ) (refs : List Reference) (g' : RegsFields) (overflow : Bool) (end : Ended) (is : end ≡ done_end g' overflow) where
+    pub direct_ends : (operand : ℕ) → operand_of e ≡ kind.R → last.direct ≡ Some operand → takes_direct e ≡ true
+        → Ok (record { regs = g'; put = []; overflow = overflow }) ≡ exec e n g last (word_read operand)
+        → EndsFormed g (operated e n g w c) core f refs core refs g' end
+    unfolding operate
+    direct_ends operand k some takes effect =
+        let by : operate e n g c ≡ perform e n g c Whole 0 (word_read operand) =
+        ap (λ (x : Option ℕ). operate_on e n g c x) some ∙ ap (λ (b : Bool). by_direct e n g c operand b) takes
+        ∙ ap (λ (x : Operand). perform e n g c Whole 0 (record { got = direct_word x operand; ring = 0; place = 0 })) k in
+        ends_unwritten core refs core refs g' overflow end is
+        (ap (λ p. run core_store g p (standing core [] refs)) by ∙ performs (word_read operand) g' [] overflow core [] refs effect)
+
+    pub address_ends : operand_of e ≡ kind.A → last.direct ≡ None → is_absa e ≡ false
+        → Ok (record { regs = g'; put = []; overflow = overflow }) ≡ exec e n g last nothing_read
+        → EndsFormed g (operated e n g w c) core f refs core refs g' end
+    address_ends k none other effect =
+        let by : operate e n g c ≡ perform e n g c Whole 0 nothing_read =
+        operates_by kind.A k none ∙ ap (λ (b : Bool). addressing e n g c b) other in
+        ends_unwritten core refs core refs g' overflow end is
+        (ap (λ p. run core_store g p (standing core [] refs)) by ∙ performs nothing_read g' [] overflow core [] refs effect)
+
+    transfers_by : (taken : Bool) → operand_of e ≡ kind.T → last.direct ≡ None → taken ≡ is_taken e g → operate e n g c ≡ transferring e n g c taken
+    transfers_by taken k none t =
+        operates_by kind.T k none ∙ ap (λ (x : RegsFields). transferring e n g c (is_taken e x)) same_regs ∙ ap (transferring e n g c) (sym t)
+
+    pub stays_ends : operand_of e ≡ kind.T → last.direct ≡ None → false ≡ is_taken e g
+        → Ok (record { regs = g'; put = []; overflow = overflow }) ≡ exec e n g last nothing_read
+        → EndsFormed g (operated e n g w c) core f refs core refs g' end
+    stays_ends k none t effect =
+        ends_unwritten core refs core refs g' overflow end is
+        (ap (λ p. run core_store g p (standing core [] refs)) (transfers_by false k none t) ∙ performs nothing_read g' [] overflow core [] refs effect)
+
+    pub target_ends : (d : SdwFields) → operand_of e ≡ kind.T → last.direct ≡ None → true ≡ is_taken e g
+        → serve core_store g (standing core [] refs) (request Transfer last.at 1 []) ≡ served_by (request Transfer last.at 1 []) core [] refs (at_target d (Ok (tt {0})))
+        → Ok (record { regs = g'; put = []; overflow = overflow }) ≡ exec e n g last nothing_read
+        → EndsFormed g (operated e n g w c) core f refs core refs g' end
+    target_ends d k none t served effect =
+        ends_unwritten core refs core refs g' overflow end is
+        (ap (λ p. run core_store g p (standing core [] refs)) (transfers_by true k none t)
+        ∙ run_ask g (request_at Transfer c 1) _ (standing core [] refs) _ served
+        ∙ performs nothing_read g' [] overflow core [] refs effect)
+
+module _ (e : Effect) (n w : ℕ) (g : RegsFields) where
+  -- An address without a tally word has claimed none.
+  pub without_tally : (f : Formed) (core : List ℕ) (refs : List Reference) (core' : List ℕ) (refs' : List Reference) (g' : RegsFields) (end : Ended) → f.tally ≡ None
+      → EndsFormed g (operated e n g w (chain_end_fields (plain f.last))) core (plain f.last) refs core' refs' g' end
+      → EndsFormed g (operated e n g w (chain_end_fields f)) core f refs core' refs' g' end
+  without_tally f core refs core' refs' g' end none ends =
+      ap (λ (t : Option Tally). end_of (run core_store g (operated e n g w (record { last = f.last; pending = pending_of t; runout = runout_of t })) (standing core (claimed_by t f.place) refs))) none
+      ∙ ends
+
+  starts_addressed : (k : Operand) → (k ≡ kind.N → ⊥) → started e n g w k ≡ addressed e n g w
+  starts_addressed kind.N forms = absurd (forms refl)
+  starts_addressed _ forms = refl
+
+  -- an instruction that forms an address, and is not privileged
+  pub unprivileged : (privileged : Bool) → is_privileged e ≡ false → (operand_of e ≡ kind.N → ⊥) → admitted e n g w (is_privileged e && not privileged) ≡ addressed e n g w
+  unprivileged privileged none forms =
+      ap (λ (b : Bool). admitted e n g w (b && not privileged)) none ∙ starts_addressed (operand_of e) forms

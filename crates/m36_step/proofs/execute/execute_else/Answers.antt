@@ -1,0 +1,12 @@
+use Rattle.std.proofs.Common.{refl, sym}
+use Rattle.m36_step.proofs.Ends.{fetch_refused, fetches}
+use Rattle.m36_step.proofs.execute.execute_else.Goals as goal
+
+pub returns-in-Err-clause-ends : goal.returns-in-Err-clause-ends
+returns-in-Err-clause-ends c =
+    fetch_refused c.args.regs.now c.args.walk.now c.args.refs.now.items c.fetch.new.self.core (sym c.requires.dbr) c.in-Err.fault c.args.regs.now c.halted.result (rw c.here-here.ensures at (c.in-Err.ensures {u = tt}).serves) refl c.halted.ensures
+
+pub returns-in-Ok-clause-ends : goal.returns-in-Ok-clause-ends
+returns-in-Ok-clause-ends c =
+    let ok = c.in-Ok.ensures {u = tt} in
+    fetches c.args.regs.now c.args.walk.now c.args.refs.now.items c.fetch.new.self.core (sym c.requires.dbr) c.in-Ok.fetched.0 c.in-Ok.fetched.1 c.push.new.self.items c.decoded.new.walk.core c.decoded.new.refs.items c.decoded.new.regs c.decoded.result (rw c.here-here.ensures at ok.serves) (rw c.here-here.ensures at ok.privileged) (rw c.here-here.ensures at c.push.ensures.items) c.decoded.ensures.ends
