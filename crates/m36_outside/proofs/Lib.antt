@@ -1,9 +1,11 @@
 mod Appended
+mod Blocks
 mod Causes
 pub mod Completes
 mod Consumed
 pub mod FilesKept
 mod FilesNamed
+pub mod Gathered
 pub mod Grown
 pub mod LinesTaken
 pub mod Risen

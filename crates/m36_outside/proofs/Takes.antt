@@ -1,5 +1,5 @@
 -- A put took a first part of its piece.
-use Rattle.std.proofs.Common.{◌≡◌, ℕ, List, [], ◌∷◌, ◌++◌, Option, Some, None, take, drop, refl, sym, ap, ◌∙◌}
+use Rattle.std.proofs.Common.{◌≡◌, ℕ, List, [], ◌∷◌, ◌++◌, Option, Some, take, drop, refl, sym, ap, ◌∙◌}
 use Rattle.std.proofs.lemmas.List.{append-nil, append_assoc, take-append-drop}
 use Rattle.m36_outside.specs.Passing.{TakesPart, joined}
 use Rattle.m36_outside.specs.Written.{Grew, GrewWithin}
@@ -26,11 +26,11 @@ takes_front written written' old new whole count grown took = record {
 }
 
 -- what a writer took, of which nothing was noted before
-taken_is : (before after bytes : List ℕ) → Grew (Some before) (Some after) bytes → before ≡ [] → after ≡ bytes
+pub taken_is : (before after bytes : List ℕ) → Grew (Some before) (Some after) bytes → before ≡ [] → after ≡ bytes
 taken_is before after bytes grown none = let same : Some after ≡ Some bytes = rw none at grown in cc
 
 -- one more piece behind the others
-joined_more : (pieces : List (List ℕ)) (piece : List ℕ) → joined (pieces ++ piece ∷ []) ≡ joined pieces ++ piece
+pub joined_more : (pieces : List (List ℕ)) (piece : List ℕ) → joined (pieces ++ piece ∷ []) ≡ joined pieces ++ piece
 joined_more [] piece = append-nil piece
 joined_more (first ∷ pieces) piece =
     ap (λ l. first ++ l) (joined_more pieces piece) ∙ sym (append_assoc first (joined pieces) piece)

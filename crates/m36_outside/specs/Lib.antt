@@ -1,9 +1,11 @@
+pub mod Block
 pub mod CallPlan
 pub mod Chunk
 pub mod Counts
 pub mod FileList
 pub mod Files
 pub mod FolderCalls
+pub mod Gathered
 pub mod MemFolder
 pub mod MemLines
 pub mod MemSink

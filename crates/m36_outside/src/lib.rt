@@ -9,6 +9,8 @@
 //!   named file alone, and where it failed no other file differs.
 //! - [`Lines`] are input that is taken in pieces, from the beginning on. The end is told exactly where nothing is left.
 //! - A [`Sink`] has what was written to it. A put adds the piece at the end, and where it failed a first part of the piece.
+//!   Many pieces are put at once in a [`Block`]: the standard output takes them in one call of the system, and every other
+//!   sink one by one. A block that gathers pieces is no sink: what is in it is not written until it is handed over.
 //!
 //! A call answers Failed only where a count of faults rose in this call: it is greater after the call than before, or stands
 //! at 2^64 - 1, where every count ends. Counts never fall. Want of memory is the one answer that needs no cause; such a
@@ -29,10 +31,11 @@
 //! an error behind it. What a real file holds, or a terminal has left, is not told: what std says of the system is taken as it is.
 //!
 //! A caller composes these contracts by the laws in `proofs/`: `Grown` for what several puts wrote, `LinesTaken` for the
-//! pieces that they put, `Completes` for puts in a loop, `Risen` for counts, and `FilesKept` for files. `caller.rt` is a
-//! worked one. No part of the manual speaks of this.
+//! pieces that they put, `Completes` for puts in a loop, `Gathered` for pieces that were gathered in a block, `Risen` for
+//! counts, and `FilesKept` for files. `caller.rt` is a worked one. No part of the manual speaks of this.
 #![tactic(auto)]
 
+pub mod block;
 #[cfg(test)]
 mod caller;
 mod calls;
@@ -58,6 +61,7 @@ pub mod text;
 mod unread;
 mod writing;
 
+pub use block::Block;
 pub use directory::DirFolder;
 pub use folder::{FILE_LIMIT, Folder, ReadAnswer, WriteAnswer};
 pub use lines::{Lines, Piece};

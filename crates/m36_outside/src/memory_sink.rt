@@ -120,6 +120,7 @@ fn add_within(bytes: &mut Vec<u8>, more: &[u8])
 #[cfg(test)]
 mod tests {
     use super::*;
+    use crate::block::Block;
 
     #[test]
     fn fails_past_its_room(rt: HostRuntime) -> Result<(), NoMemory> {
@@ -134,6 +135,24 @@ mod tests {
             assert_eq!(rt; out.put(piece), want);
         }
         assert!(rt; out.bytes() == b"abcde".as_slice());
+        Ok(())
+    }
+
+    #[test]
+    fn takes_blocks_piece_by_piece(rt: HostRuntime) -> Result<(), NoMemory> {
+        let mut out = MemSink::new(rt.alloc(), 9, &[3])?;
+        for (want, written) in [
+            (Put::Failed, b"a\nb\n".as_slice()),
+            (Put::Failed, b"a\nb\na\nb\nc"),
+            (Put::Failed, b"a\nb\na\nb\nc"),
+        ] {
+            let mut block = Block::new();
+            for piece in [b"a\n".as_slice(), b"b\n", b"c\n"] {
+                assert_eq!(rt; block.add(piece, &mut out), Put::Done);
+            }
+            assert_eq!(rt; block.hand_over(&mut out), want);
+            assert!(rt; out.bytes() == written);
+        }
         Ok(())
     }
 }

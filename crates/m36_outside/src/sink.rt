@@ -1,8 +1,10 @@
 //! A place for the output.
 
 ghost use Rattle.std.specs.Prelude.{ℕ, ◌≡◌, ◌≤◌, ◌<◌, ◌^◌, List, Option};
-ghost use Rattle.m36_outside.specs.Passing.{PutTakes};
+ghost use Rattle.m36_outside.specs.Passing.{PutTakes, TakesLines, joined};
 ghost use Rattle.m36_outside.specs.Put.{PutSays, PutHasCause};
+
+use crate::block::Block;
 
 /// The answer of a put.
 #[derive(Clone, Copy, PartialEq, Eq, Debug)]
@@ -37,4 +39,26 @@ pub trait Sink {
         ensures cause { PutHasCause result (faults self.old) (faults self.new) }
         ensures count { faults self.old ≤ faults self.new }
         ensures count_bound { faults self.new < 2 ^ 64 };
+
+    /// Writes the pieces of a block behind all that is written, each as a piece of its own: all of them, or where that
+    /// failed some of them and a first part of the next. A block of no pieces never fails.
+    #[tactic(auto, using(crate::proofs::Blocks::putting))]
+    fn put_block(&mut self, block: &Block) -> Put
+        ensures says { PutSays result (written self.old) (written self.new) (joined block.now) }
+        ensures took { TakesLines result (taken self.old) (taken self.new) block.now }
+
+        ensures cause { PutHasCause result (faults self.old) (faults self.new) }
+        ensures count { faults self.old ≤ faults self.new }
+        ensures count_bound { faults self.old < 2 ^ 64 → faults self.new < 2 ^ 64 }
+    {
+        let mut place = 0;
+        while place < block.len() {
+            match self.put(block.piece(place)) {
+                Put::Done => {}
+                Put::Failed => return Put::Failed,
+            }
+            place += 1;
+        }
+        Put::Done
+    }
 }

@@ -1,10 +1,11 @@
 //! The standard output.
 
 ghost use Rattle.std.specs.Prelude.{[], ◌≡◌, ◌≤◌, ◌<◌, ◌^◌, Some};
-ghost use Rattle.m36_outside.specs.Passing.{PutTakes, joined};
+ghost use Rattle.m36_outside.specs.Passing.{PutTakes, TakesLines, joined};
 ghost use Rattle.m36_outside.specs.Put.{PutSays, PutHasCause};
 ghost use Rattle.m36_outside.specs.System.{PutHasError};
 
+use crate::block::{Begun, Block};
 use crate::faults::raise;
 use crate::noted::NotedWriter;
 use crate::passed::Passed;
@@ -80,6 +81,40 @@ impl<R: Print + Drop> Sink for StdSink<R> {
             }
         }
     }
+
+    /// The pieces go in one call of the system, or in as many as it needs.
+    #[tactic(auto, using(crate::proofs::Blocks::written_at_once))]
+    fn put_block(&mut self, block: &Block) -> Put
+        ensures says { PutSays result
+            (Some (joined self.old.taken)) (Some (joined self.new.taken)) (joined block.now) }
+        ensures took { TakesLines result self.old.taken self.new.taken block.now }
+        ensures cause { PutHasCause result self.old.faults self.new.faults }
+        ensures count { self.old.faults ≤ self.new.faults }
+        ensures count_bound { self.old.faults < 2 ^ 64 → self.new.faults < 2 ^ 64 }
+
+        ensures error { PutHasError result self.old.errors self.new.errors }
+    {
+        if block.is_empty() {
+            return Put::Done;
+        }
+        let mut to = NotedWriter::new(io::writer(&self.rt));
+        let answer = write_whole(&mut to, block.bytes());
+        self.errors.note(&to.errors);
+        match answer {
+            Put::Done => {
+                self.taken.note(block);
+                Put::Done
+            }
+            Put::Failed => {
+                self.taken.note(&Begun {
+                    block,
+                    taken: &to.taken,
+                });
+                self.faults = raise(self.faults);
+                Put::Failed
+            }
+        }
+    }
 }
 
 #[cfg(test)]
@@ -92,6 +127,10 @@ mod tests {
         let mut out = StdSink::new(rt.clone()?);
         assert_eq!(rt; out.put(b"end dis 2\n"), Put::Done);
         assert_eq!(rt; out.put(b""), Put::Done);
+        let mut block = Block::new();
+        assert_eq!(rt; block.add(b"end dis 2\n", &mut out), Put::Done);
+        assert_eq!(rt; block.hand_over(&mut out), Put::Done);
+        assert_eq!(rt; out.put_block(&block), Put::Done);
         Ok(())
     }
 }

@@ -4,6 +4,7 @@ ghost use Rattle.std.specs.Prelude.{[], ◌∷◌, ◌++◌, ◌≡◌, Some};
 ghost use Rattle.m36_outside.specs.Passing.{joined};
 ghost use Rattle.m36_outside.specs.Put.{PutSays, PutHasCause};
 
+use crate::block::Block;
 use crate::passed::Passed;
 use crate::sink::{Put, Sink};
 use crate::text::Text;
@@ -41,6 +42,18 @@ impl Sink for SureSink {
         ensures sure { result ≡ Put.Done }
     {
         self.taken.note(&piece);
+        Put::Done
+    }
+
+    #[tactic(auto, using(crate::proofs::Blocks::written_at_once))]
+    fn put_block(&mut self, block: &Block) -> Put
+        ensures says { PutSays result
+            (Some (joined self.old.taken.entries)) (Some (joined self.new.taken.entries)) (joined block.now) }
+        ensures took { self.new.taken.entries ≡ self.old.taken.entries ++ block.now }
+        ensures cause { PutHasCause result 0 0 }
+        ensures sure { result ≡ Put.Done }
+    {
+        self.taken.note(block);
         Put::Done
     }
 }
