@@ -2,8 +2,11 @@
 use Rattle.std.proofs.Common.{◌≡◌, ℕ, zero, suc, ◌+◌, ◌<◌, Bool, true, false, ◌&&◌, List, [], ◌∷◌, ◌++◌, length, Option, Some, refl, sym, ap, subst, ◌∙◌, arith, append_assoc}
 use Rattle.std.specs.Prelude.{slice_get, nat_lt}
 use Rattle.std.proofs.lemmas.Bool.{ltb-true}
+use Rattle.m36_outside.specs.Gathered.{Gathers, Loses}
+use Rattle.m36_outside.specs.Passing.{joined}
 use Rattle.m36_outside.specs.Written.{Grew, GrewWithin}
-use Rattle.m36_outside.proofs.Completes.{Completes, completes_all, completes_rest, completes_whole, completes_cut, completes_cut_last}
+use Rattle.m36_outside.proofs.Completes.{Completes, completes_all}
+use Rattle.m36_outside.proofs.Gathered.{completes_added, completes_lost, completes_finished, completes_finished_cut}
 use Rattle.m36_model.specs.Core.{core_store}
 use Rattle.m36_model.specs.Registers.{RegsFields}
 use Rattle.m36_model.specs.Schedule.{Processes, Event, process_of, stepped, event, events, events_by}
@@ -51,25 +54,25 @@ unfolding last_state
 last_last s = refl
 
 -- A run that began in state `first` with the schedule `all` has made n events, has the schedule `left`, stands in a
--- state, and has written what is written now.
-pub record Runs (all : List ℕ) (first : Processes (List ℕ)) (start now : Option (List ℕ)) (n : ℕ) (left : List ℕ) (s : Processes (List ℕ)) : Type 0 where
-  pub text : Completes now start (text_from (length all) (n + 1) left s) (schedule_text all first)
+-- state, has gathered some lines, and has written what is written now.
+pub record Runs (all : List ℕ) (first : Processes (List ℕ)) (start now : Option (List ℕ)) (gathered : List (List ℕ)) (n : ℕ) (left : List ℕ) (s : Processes (List ℕ)) : Type 0 where
+  pub text : Completes now start (joined gathered ++ text_from (length all) (n + 1) left s) (schedule_text all first)
   pub last : last_state left s ≡ last_state all first
   pub count : n + length left ≡ length all
   pub named : are_named (length s.regs) left ≡ true
   pub regs : length s.regs ≡ length first.regs
 
 pub runs_start :
-    (all : List ℕ) (first : Processes (List ℕ)) (start : Option (List ℕ))
-    → are_named (length first.regs) all ≡ true → Runs all first start start 0 all first
+    (all : List ℕ) (first : Processes (List ℕ)) (start : Option (List ℕ)) (gathered : List (List ℕ))
+    → are_named (length first.regs) all ≡ true → gathered ≡ [] → Runs all first start start gathered 0 all first
 unfolding schedule_text
-runs_start all first start named = record {
+runs_start all first start gathered named none = subst (λ l. Runs all first start start l 0 all first) (sym none) (record {
   text = completes_all start (text_from (length all) 1 all first);
   last = refl;
   count = omega arith;
   named = named;
   regs = refl;
-}
+})
 
 both_left : (a b : Bool) → a && b ≡ true → a ≡ true
 both_left true b e = refl
@@ -89,70 +92,70 @@ get_of [] i within = absurd (omega arith)
 get_of (x ∷ xs) zero within = (x, refl)
 get_of (x ∷ xs) (suc i) within = get_of xs i (omega arith)
 
--- an event was made, and its line is written
+-- an event was made, and its line is added
 pub runs_more :
-    (all : List ℕ) (first : Processes (List ℕ)) (start now next : Option (List ℕ)) (n i : ℕ) (left more : List ℕ) (s new : Processes (List ℕ)) (told : StepRecord)
-    → Runs all first start now n left s
+    (all : List ℕ) (first : Processes (List ℕ)) (start now next : Option (List ℕ)) (pieces pieces' gathered gathered' : List (List ℕ)) (n i : ℕ) (left more : List ℕ) (s new : Processes (List ℕ)) (told : StepRecord)
+    → Runs all first start now gathered n left s
     → left ≡ i ∷ more
     → EventSays i s new told
     → length new.regs ≡ length s.regs
-    → Grew now next (event_line (n + 1) i told)
-    → Runs all first start next (n + 1) more new
-runs_more all first start now next n i left more s new told so_far begins says count grew =
+    → Gathers gathered gathered' (event_line (n + 1) i told ∷ []) now next pieces pieces'
+    → Runs all first start next gathered' (n + 1) more new
+runs_more all first start now next pieces pieces' gathered gathered' n i left more s new told so_far begins says count added =
     let own = get_of s.regs i (next_named (length s.regs) i left more so_far.named begins) in
     let is : IsEvent i s new told own.0 = says own.0 own.1 in
     let line : event_line (n + 1) i told ≡ event_line (n + 1) i (record_of core_store (process_of s own.0)) = ap (event_line (n + 1) i) is.told_is in
     let here : text_from (length all) (n + 1) left s ≡ event_line (n + 1) i told ++ text_from (length all) (n + 1 + 1) more new = ap (λ l. text_from (length all) (n + 1) l s) begins ∙ text_first (length all) (n + 1) i more s own.0 own.1 ∙ ap (λ l. l ++ text_from (length all) (n + 1 + 1) more (stepped core_store s i own.0)) (sym line) ∙ ap (λ p. event_line (n + 1) i told ++ text_from (length all) (n + 1 + 1) more p) (sym is.state) in
     record {
-      text = completes_rest now next start (text_from (length all) (n + 1) left s) (event_line (n + 1) i told) (text_from (length all) (n + 1 + 1) more new) (schedule_text all first) so_far.text here grew;
+      text = completes_added now next start pieces pieces' gathered gathered' (event_line (n + 1) i told) (text_from (length all) (n + 1) left s) (text_from (length all) (n + 1 + 1) more new) (schedule_text all first) so_far.text here added;
       last = ap (last_state more) is.state ∙ sym (last_first i more s own.0 own.1) ∙ ap (λ l. last_state l s) (sym begins) ∙ so_far.last;
       count = omega (arith, so_far.count, ap length begins);
       named = ap (λ k. are_named k more) count ∙ both_right (nat_lt i (length s.regs)) (are_named (length s.regs) more) (ap (are_named (length s.regs)) (sym begins) ∙ so_far.named);
       regs = count ∙ so_far.regs;
     }
 
--- the line of an event was not written whole
+-- the line of an event, or one before it, was not written whole
 pub runs_cut :
-    (all : List ℕ) (first : Processes (List ℕ)) (start now next : Option (List ℕ)) (n i : ℕ) (left more : List ℕ) (s new : Processes (List ℕ)) (told : StepRecord)
-    → Runs all first start now n left s
+    (all : List ℕ) (first : Processes (List ℕ)) (start now next : Option (List ℕ)) (pieces pieces' gathered : List (List ℕ)) (n i : ℕ) (left more : List ℕ) (s new : Processes (List ℕ)) (told : StepRecord)
+    → Runs all first start now gathered n left s
     → left ≡ i ∷ more
     → EventSays i s new told
-    → GrewWithin now next (event_line (n + 1) i told)
+    → Loses (gathered ++ event_line (n + 1) i told ∷ []) now next pieces pieces'
     → GrewWithin start next (schedule_text all first)
-runs_cut all first start now next n i left more s new told so_far begins says cut =
+runs_cut all first start now next pieces pieces' gathered n i left more s new told so_far begins says lost =
     let own = get_of s.regs i (next_named (length s.regs) i left more so_far.named begins) in
     let is : IsEvent i s new told own.0 = says own.0 own.1 in
     let line : event_line (n + 1) i told ≡ event_line (n + 1) i (record_of core_store (process_of s own.0)) = ap (event_line (n + 1) i) is.told_is in
     let here : text_from (length all) (n + 1) left s ≡ event_line (n + 1) i told ++ text_from (length all) (n + 1 + 1) more (stepped core_store s i own.0) = ap (λ l. text_from (length all) (n + 1) l s) begins ∙ text_first (length all) (n + 1) i more s own.0 own.1 ∙ ap (λ l. l ++ text_from (length all) (n + 1 + 1) more (stepped core_store s i own.0)) (sym line) in
-    completes_cut now next start (text_from (length all) (n + 1) left s) (event_line (n + 1) i told) (text_from (length all) (n + 1 + 1) more (stepped core_store s i own.0)) (schedule_text all first) so_far.text here cut
+    completes_lost now next start pieces pieces' gathered (event_line (n + 1) i told) (text_from (length all) (n + 1) left s) (text_from (length all) (n + 1 + 1) more (stepped core_store s i own.0)) (schedule_text all first) so_far.text here lost
 
 pub none_left : {A : Type 0} (xs : List A) → length xs ≡ 0 → xs ≡ []
 none_left [] e = refl
 none_left (x ∷ xs) e = absurd (omega (arith, e))
 
 ended_text :
-    (all : List ℕ) (first : Processes (List ℕ)) (start now : Option (List ℕ)) (n : ℕ) (left : List ℕ) (s : Processes (List ℕ))
-    → Runs all first start now n left s → left ≡ [] → Completes now start (end_line n) (schedule_text all first)
-ended_text all first start now n left s so_far none =
+    (all : List ℕ) (first : Processes (List ℕ)) (start now : Option (List ℕ)) (gathered : List (List ℕ)) (n : ℕ) (left : List ℕ) (s : Processes (List ℕ))
+    → Runs all first start now gathered n left s → left ≡ [] → Completes now start (joined gathered ++ end_line n) (schedule_text all first)
+ended_text all first start now gathered n left s so_far none =
     let total : length all ≡ n = omega (arith, so_far.count, ap length none) in
     let text : text_from (length all) (n + 1) left s ≡ end_line n = ap (λ l. text_from (length all) (n + 1) l s) none ∙ text_last (length all) (n + 1) s ∙ ap end_line total in
-    subst (λ t. Completes now start t (schedule_text all first)) text so_far.text
+    subst (λ t. Completes now start (joined gathered ++ t) (schedule_text all first)) text so_far.text
 
 -- all events were made, and the last line was put
 pub runs_done :
-    (all : List ℕ) (first : Processes (List ℕ)) (start now next : Option (List ℕ)) (n : ℕ) (left : List ℕ) (s : Processes (List ℕ))
-    → Runs all first start now n left s → length left ≡ 0 → Grew now next (end_line n) → IsRun all first s start next
-runs_done all first start now next n left s so_far empty grew =
+    (all : List ℕ) (first : Processes (List ℕ)) (start now next : Option (List ℕ)) (gathered : List (List ℕ)) (n : ℕ) (left : List ℕ) (s : Processes (List ℕ))
+    → Runs all first start now gathered n left s → length left ≡ 0 → Grew now next (joined (gathered ++ end_line n ∷ [])) → IsRun all first s start next
+runs_done all first start now next gathered n left s so_far empty grew =
     let none : left ≡ [] = none_left left empty in
     record {
       state = sym (last_last s) ∙ ap (λ l. last_state l s) (sym none) ∙ so_far.last;
-      grew = completes_whole now next start (end_line n) (schedule_text all first) (ended_text all first start now n left s so_far none) grew;
+      grew = completes_finished now next start gathered (end_line n) (schedule_text all first) (ended_text all first start now gathered n left s so_far none) grew;
     }
 
 pub runs_cut_last :
-    (all : List ℕ) (first : Processes (List ℕ)) (start now next : Option (List ℕ)) (n : ℕ) (left : List ℕ) (s : Processes (List ℕ))
-    → Runs all first start now n left s → length left ≡ 0 → GrewWithin now next (end_line n) → GrewWithin start next (schedule_text all first)
-runs_cut_last all first start now next n left s so_far empty cut =
-    completes_cut_last now next start (end_line n) (schedule_text all first) (ended_text all first start now n left s so_far (none_left left empty)) cut
+    (all : List ℕ) (first : Processes (List ℕ)) (start now next : Option (List ℕ)) (gathered : List (List ℕ)) (n : ℕ) (left : List ℕ) (s : Processes (List ℕ))
+    → Runs all first start now gathered n left s → length left ≡ 0 → GrewWithin now next (joined (gathered ++ end_line n ∷ [])) → GrewWithin start next (schedule_text all first)
+runs_cut_last all first start now next gathered n left s so_far empty cut =
+    completes_finished_cut now next start gathered (end_line n) (schedule_text all first) (ended_text all first start now gathered n left s so_far (none_left left empty)) cut
 
 pub ruleset running = (runs_start, next_named, runs_more, runs_cut, runs_done, runs_cut_last)

@@ -1,7 +1,9 @@
-//! A run of a schedule, written line by line.
+//! A run of a schedule, written line by line. The lines are gathered in a block, which is handed over when it is full and at
+//! the end.
 
-ghost use Rattle.std.specs.Prelude.{ℕ, ◌≡◌, ◌<◌, ◌≤◌, ◌^◌, true, [], ◌∷◌, length};
-ghost use Rattle.m36_outside.specs.Passing.{TakesLines};
+ghost use Rattle.std.specs.Prelude.{ℕ, ◌≡◌, ◌<◌, ◌≤◌, ◌^◌, true, [], ◌∷◌, ◌++◌, length};
+ghost use Rattle.m36_outside.specs.Gathered.{Adds};
+ghost use Rattle.m36_outside.specs.Passing.{TakesLines, joined};
 ghost use Rattle.m36_outside.specs.Put.{PutSays, PutHasCause};
 ghost use Rattle.m36_procs.specs.ProcsFile.{are_named};
 ghost use Rattle.m36_procs.specs.ScheduleText.{event_line, end_line};
@@ -11,7 +13,7 @@ use crate::fault::WriteFault;
 use crate::process_set::ProcessSet;
 use arrayvec::ArrayString;
 use m36_model::StepRecord;
-use m36_outside::{Put, Sink};
+use m36_outside::{Block, Put, Sink};
 use m36_text::decimal;
 use m36_trace::line;
 
@@ -40,26 +42,26 @@ fn end_line(events: u64) -> ArrayString<40>
     text
 }
 
-// Puts the line of an event, in one piece.
+// Adds the line of an event to a block, as one piece.
 #[tactic(auto, using(crate::proofs::EventPieces::one_line))]
-fn put_event<S: Sink>(process: u8, n: u64, told: &StepRecord, out: &mut S) -> Put
-    ensures says { PutSays result
-        (S.written out.old) (S.written out.new) (event_line n process told.now) }
-    ensures through { TakesLines result
-        (S.taken out.old) (S.taken out.new) (event_line n process told.now ∷ []) }
+fn add_event<S: Sink>(process: u8, n: u64, told: &StepRecord, block: &mut Block, out: &mut S) -> Put
+    ensures adds { Adds result block.old block.new (event_line n process told.now ∷ [])
+        (S.written out.old) (S.written out.new) (S.taken out.old) (S.taken out.new) }
     ensures cause { PutHasCause result (S.faults out.old) (S.faults out.new) }
 {
-    out.put(event_line(process, n, told).as_str().as_bytes())
+    block.add(event_line(process, n, told).as_str().as_bytes(), out)
 }
 
-// Puts the last line, in one piece.
+// Adds the last line to a block, as one piece, and hands the block over.
 #[tactic(auto, using(crate::proofs::EventPieces::one_line))]
-fn put_end<S: Sink>(events: u64, out: &mut S) -> Put
-    ensures says { PutSays result (S.written out.old) (S.written out.new) (end_line events) }
-    ensures through { TakesLines result (S.taken out.old) (S.taken out.new) (end_line events ∷ []) }
+fn put_end<S: Sink>(events: u64, block: &mut Block, out: &mut S) -> Put
+    ensures says { PutSays result
+        (S.written out.old) (S.written out.new) (joined (block.old ++ end_line events ∷ [])) }
+    ensures through { TakesLines result
+        (S.taken out.old) (S.taken out.new) (block.old ++ end_line events ∷ []) }
     ensures cause { PutHasCause result (S.faults out.old) (S.faults out.new) }
 {
-    out.put(end_line(events).as_str().as_bytes())
+    block.finish(end_line(events).as_str().as_bytes(), out)
 }
 
 /// Makes the events of a schedule, and writes a line for each and the last line.
@@ -76,19 +78,20 @@ pub(crate) fn run_schedule<S: Sink>(
     ensures cause { RunHasCause result (S.faults out.old) (S.faults out.new) }
     ensures count { length processes.new.regs ≡ length processes.old.regs }
 {
+    let mut block = Block::new();
     let mut told = processes.untold();
     let mut n: u64 = 0;
     let mut rest = schedule;
     'events: while let Some((process, more)) = rest.split_first() {
         processes.step_into(*process as usize, &mut told);
-        match put_event(*process, n + 1, &told, out) {
+        match add_event(*process, n + 1, &told, &mut block, out) {
             Put::Done => {}
             Put::Failed => return Err(WriteFault),
         }
         n += 1;
         rest = more;
     }
-    match put_end(n, out) {
+    match put_end(n, &mut block, out) {
         Put::Done => Ok(()),
         Put::Failed => Err(WriteFault),
     }

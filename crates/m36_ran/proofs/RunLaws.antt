@@ -1,7 +1,10 @@
 -- A run, step by step: what is left of its output, and how it will have ended.
 use Rattle.std.proofs.Common.{◌≡◌, ℕ, zero, suc, ◌+◌, ◌-◌, ◌<◌, Bool, true, false, List, [], ◌∷◌, ◌++◌, map, length, Option, refl, sym, ap, subst, ◌∙◌, arith, append_assoc, add-zero}
-use Rattle.m36_outside.specs.Written.{Grew, GrewWithin}
-use Rattle.m36_outside.proofs.Completes.{Completes, completes_all, completes_rest, completes_whole, completes_cut, completes_cut_last}
+use Rattle.m36_outside.specs.Gathered.{Gathers, Loses}
+use Rattle.m36_outside.specs.Passing.{joined}
+use Rattle.m36_outside.specs.Written.{GrewWithin}
+use Rattle.m36_outside.proofs.Completes.{Completes, completes_all}
+use Rattle.m36_outside.proofs.Gathered.{completes_added, completes_lost, completes_finished, completes_finished_cut}
 use Rattle.m36_model.specs.Store.{State}
 use Rattle.m36_model.specs.Core.{core_store}
 use Rattle.m36_model.specs.Run.{Visited, visits, is_next, only_if}
@@ -87,43 +90,46 @@ output_none : (taken : ℕ) → output_from taken [] ≡ as_line (end_line_of Ne
 unfolding trace_text
 output_none taken = ap (λ n. as_line (end_line_of Next n)) (add-zero taken)
 
--- A run that began in state `first` with so many steps has taken some, has some left, stands in a state, and has written
--- what is written now.
-pub record Running (steps : ℕ) (first : State (List ℕ)) (start now : Option (List ℕ)) (taken left : ℕ) (state : State (List ℕ)) : Type 0 where
-  pub text : Completes now start (output_from taken (run left state)) (run_text steps first)
+-- A run that began in state `first` with so many steps has taken some, has some left, stands in a state, has gathered some
+-- lines, and has written what is written now.
+pub record Running (steps : ℕ) (first : State (List ℕ)) (start now : Option (List ℕ)) (gathered : List (List ℕ)) (taken left : ℕ) (state : State (List ℕ)) : Type 0 where
+  pub text : Completes now start (joined gathered ++ output_from taken (run left state)) (run_text steps first)
   pub last : last_outcome (run left state) ≡ last_outcome (run steps first)
 
 pub running_starts :
-    (steps : ℕ) (first : State (List ℕ)) (start : Option (List ℕ)) → Running steps first start start 0 steps first
+    (steps : ℕ) (first : State (List ℕ)) (start : Option (List ℕ)) (gathered : List (List ℕ))
+    → gathered ≡ [] → Running steps first start start gathered 0 steps first
 unfolding run_text
-running_starts steps first start = record { text = completes_all start (run_text steps first); last = refl }
+running_starts steps first start gathered none =
+    subst (λ l. Running steps first start start l 0 steps first) (sym none)
+    (record { text = completes_all start (run_text steps first); last = refl })
 
 -- a step was taken, and another may follow
 pub running_next :
-    (steps : ℕ) (first : State (List ℕ)) (start now next : Option (List ℕ)) (taken left : ℕ) (state new : State (List ℕ))
-    → Running steps first start now taken left state
+    (steps : ℕ) (first : State (List ℕ)) (start now next : Option (List ℕ)) (pieces pieces' gathered gathered' : List (List ℕ)) (taken left : ℕ) (state new : State (List ℕ))
+    → Running steps first start now gathered taken left state
     → 0 < left
     → (told state).outcome ≡ Next
     → new ≡ after state
-    → Grew now next (as_line (line_of (taken + 1) (told state)))
-    → Running steps first start next (taken + 1) (left - 1) new
-running_next steps first start now next taken left state new so_far some outcome moved grew =
-    let P : State (List ℕ) → Type 0 = λ s. Running steps first start next (taken + 1) (left - 1) s in
+    → Gathers gathered gathered' (as_line (line_of (taken + 1) (told state)) ∷ []) now next pieces pieces'
+    → Running steps first start next gathered' (taken + 1) (left - 1) new
+running_next steps first start now next pieces pieces' gathered gathered' taken left state new so_far some outcome moved added =
+    let P : State (List ℕ) → Type 0 = λ s. Running steps first start next gathered' (taken + 1) (left - 1) s in
     subst P (sym moved) (record {
-      text = completes_rest now next start (output_from taken (run left state)) (as_line (line_of (taken + 1) (told state))) (output_from (taken + 1) (run (left - 1) (after state))) (run_text steps first) so_far.text (ap (output_from taken) (run_next left state some outcome) ∙ output_next taken (told state) (run (left - 1) (after state)) outcome) grew;
+      text = completes_added now next start pieces pieces' gathered gathered' (as_line (line_of (taken + 1) (told state))) (output_from taken (run left state)) (output_from (taken + 1) (run (left - 1) (after state))) (run_text steps first) so_far.text (ap (output_from taken) (run_next left state some outcome) ∙ output_next taken (told state) (run (left - 1) (after state)) outcome) added;
       last = sym (ap last_outcome (run_next left state some outcome) ∙ last_after_next (told state) (run (left - 1) (after state)) outcome) ∙ so_far.last;
     })
 
--- the line of a step was not written whole
+-- the line of a step, or one before it, was not written whole
 pub running_cut :
-    (steps : ℕ) (first : State (List ℕ)) (start now new : Option (List ℕ)) (taken left : ℕ) (state : State (List ℕ))
-    → Running steps first start now taken left state
+    (steps : ℕ) (first : State (List ℕ)) (start now new : Option (List ℕ)) (pieces pieces' gathered : List (List ℕ)) (taken left : ℕ) (state : State (List ℕ))
+    → Running steps first start now gathered taken left state
     → 0 < left
-    → GrewWithin now new (as_line (line_of (taken + 1) (told state)))
+    → Loses (gathered ++ as_line (line_of (taken + 1) (told state)) ∷ []) now new pieces pieces'
     → GrewWithin start new (run_text steps first)
-running_cut steps first start now new taken left state so_far some cut =
+running_cut steps first start now new pieces pieces' gathered taken left state so_far some lost =
     let others : List StepRecord = only_if (is_next (told state).outcome) (run (left - 1) (after state)) in
-    completes_cut now new start (output_from taken (run left state)) (as_line (line_of (taken + 1) (told state))) (trace_text (taken + 1 + 1) others ++ as_line (end_line_of (last_outcome (told state ∷ others)) (taken + length (told state ∷ others)))) (run_text steps first) so_far.text (ap (output_from taken) (run_begins left state some) ∙ output_begins taken (told state) others) cut
+    completes_lost now new start pieces pieces' gathered (as_line (line_of (taken + 1) (told state))) (output_from taken (run left state)) (trace_text (taken + 1 + 1) others ++ as_line (end_line_of (last_outcome (told state ∷ others)) (taken + length (told state ∷ others)))) (run_text steps first) so_far.text (ap (output_from taken) (run_begins left state some) ∙ output_begins taken (told state) others) lost
 
 last_text :
     (taken left : ℕ) (state : State (List ℕ)) (outcome : Outcome)
@@ -132,54 +138,54 @@ last_text :
 last_text taken left state outcome some is ends =
     ap (output_from taken) (run_last left state some (ap is_next is ∙ ends)) ∙ output_last taken (told state) ∙ ap (λ o. as_line (line_of (taken + 1) (told state)) ++ as_line (end_line_of o (taken + 1))) is
 
--- the last step was taken, and its line is written
+-- the last step was taken, and its line is added
 pub running_ends :
-    (steps : ℕ) (first : State (List ℕ)) (start now next : Option (List ℕ)) (taken left : ℕ) (state : State (List ℕ)) (outcome : Outcome)
-    → Running steps first start now taken left state
+    (steps : ℕ) (first : State (List ℕ)) (start now next : Option (List ℕ)) (pieces pieces' gathered gathered' : List (List ℕ)) (taken left : ℕ) (state : State (List ℕ)) (outcome : Outcome)
+    → Running steps first start now gathered taken left state
     → 0 < left
     → (told state).outcome ≡ outcome
     → is_next outcome ≡ false
-    → Grew now next (as_line (line_of (taken + 1) (told state)))
-    → Completes next start (as_line (end_line_of outcome (taken + 1))) (run_text steps first)
-running_ends steps first start now next taken left state outcome so_far some is ends grew =
-    completes_rest now next start (output_from taken (run left state)) (as_line (line_of (taken + 1) (told state))) (as_line (end_line_of outcome (taken + 1))) (run_text steps first) so_far.text (last_text taken left state outcome some is ends) grew
+    → Gathers gathered gathered' (as_line (line_of (taken + 1) (told state)) ∷ []) now next pieces pieces'
+    → Completes next start (joined gathered' ++ as_line (end_line_of outcome (taken + 1))) (run_text steps first)
+running_ends steps first start now next pieces pieces' gathered gathered' taken left state outcome so_far some is ends added =
+    completes_added now next start pieces pieces' gathered gathered' (as_line (line_of (taken + 1) (told state))) (output_from taken (run left state)) (as_line (end_line_of outcome (taken + 1))) (run_text steps first) so_far.text (last_text taken left state outcome some is ends) added
 
 pub running_outcome :
-    (steps : ℕ) (first : State (List ℕ)) (start now : Option (List ℕ)) (taken left : ℕ) (state : State (List ℕ)) (outcome : Outcome)
-    → Running steps first start now taken left state
+    (steps : ℕ) (first : State (List ℕ)) (start now : Option (List ℕ)) (gathered : List (List ℕ)) (taken left : ℕ) (state : State (List ℕ)) (outcome : Outcome)
+    → Running steps first start now gathered taken left state
     → 0 < left
     → (told state).outcome ≡ outcome
     → is_next outcome ≡ false
     → last_outcome (run steps first) ≡ outcome
-running_outcome steps first start now taken left state outcome so_far some is ends =
+running_outcome steps first start now gathered taken left state outcome so_far some is ends =
     sym so_far.last ∙ ap last_outcome (run_last left state some (ap is_next is ∙ ends)) ∙ is
 
 -- no step is left
 pub running_limit :
-    (steps : ℕ) (first : State (List ℕ)) (start now : Option (List ℕ)) (taken left : ℕ) (state : State (List ℕ))
-    → Running steps first start now taken left state
+    (steps : ℕ) (first : State (List ℕ)) (start now : Option (List ℕ)) (gathered : List (List ℕ)) (taken left : ℕ) (state : State (List ℕ))
+    → Running steps first start now gathered taken left state
     → left ≡ 0
-    → Completes now start (as_line (end_line_of Next taken)) (run_text steps first)
-running_limit steps first start now taken left state so_far none =
+    → Completes now start (joined gathered ++ as_line (end_line_of Next taken)) (run_text steps first)
+running_limit steps first start now gathered taken left state so_far none =
     let text : output_from taken (run left state) ≡ as_line (end_line_of Next taken) = ap (λ n. output_from taken (run n state)) none ∙ ap (output_from taken) (run_none state) ∙ output_none taken in
-    subst (λ t. Completes now start t (run_text steps first)) text so_far.text
+    subst (λ t. Completes now start (joined gathered ++ t) (run_text steps first)) text so_far.text
 
 pub running_limited :
-    (steps : ℕ) (first : State (List ℕ)) (start now : Option (List ℕ)) (taken left : ℕ) (state : State (List ℕ))
-    → Running steps first start now taken left state → left ≡ 0 → last_outcome (run steps first) ≡ Next
-running_limited steps first start now taken left state so_far none =
+    (steps : ℕ) (first : State (List ℕ)) (start now : Option (List ℕ)) (gathered : List (List ℕ)) (taken left : ℕ) (state : State (List ℕ))
+    → Running steps first start now gathered taken left state → left ≡ 0 → last_outcome (run steps first) ≡ Next
+running_limited steps first start now gathered taken left state so_far none =
     sym so_far.last ∙ ap (λ n. last_outcome (run n state)) none ∙ ap last_outcome (run_none state)
 
 -- the end line was put behind all trace lines
 pub run_ended :
-    (ended : Ended) (steps : ℕ) (first : State (List ℕ)) (start now new : Option (List ℕ)) (outcome : Outcome) (line : List ℕ)
-    → EndSays ended outcome line now new
-    → Completes now start line (run_text steps first)
+    (ended : Ended) (steps : ℕ) (first : State (List ℕ)) (start now new : Option (List ℕ)) (gathered : List (List ℕ)) (outcome : Outcome) (line : List ℕ)
+    → EndSays ended outcome (gathered ++ line ∷ []) now new
+    → Completes now start (joined gathered ++ line) (run_text steps first)
     → last_outcome (run steps first) ≡ outcome
     → RunSays ended steps first start new
-run_ended (Whole last) steps first start now new outcome line says left is =
-    (is ∙ sym says.0, completes_whole now new start line (run_text steps first) left says.1)
-run_ended Cut steps first start now new outcome line says left is =
-    completes_cut_last now new start line (run_text steps first) left says
+run_ended (Whole last) steps first start now new gathered outcome line says left is =
+    (is ∙ sym says.0, completes_finished now new start gathered line (run_text steps first) left says.1)
+run_ended Cut steps first start now new gathered outcome line says left is =
+    completes_finished_cut now new start gathered line (run_text steps first) left says
 
 pub ruleset running = (running_starts, running_next, running_cut, running_ends, running_outcome, running_limit, running_limited, run_ended)

@@ -18,7 +18,7 @@ use Rattle.m36_reading.specs.Reading.{Reading, decided, Early, then_with}
 use Rattle.m36_reading.specs.Readers.{refused, file_bytes}
 use Rattle.m36_reading.specs.Answers.{Answer}
 use Rattle.m36_reading.specs.Outside.{Outside, IsIdle}
-use Rattle.m36_reading.specs.Doing.{Kind}
+use Rattle.m36_reading.specs.Doing.{Kind, fails_never}
 use Rattle.m36_ran.specs.declared.command.ImageCommand.{ImageCommand}
 use Rattle.m36_ran.specs.declared.command.ImageCommand.TheVariants.{Bare, Audit}
 use Rattle.m36_ran.specs.Run.{run, last_outcome}
@@ -107,8 +107,12 @@ pub record IsStateDue (command : ImageCommand) (state : State (List ℕ))
 
 -- Memory is wanted before anything is written.
 abbrev pub state_kind : ImageCommand → Kind (State (List ℕ))
-state_kind command =
-    record { IsDue = IsStateDue command; IsBegun = IsStateDue command; Wants = λ state. IsIdle }
+state_kind command = record {
+  IsDue = IsStateDue command;
+  IsBegun = IsStateDue command;
+  Wants = λ state. IsIdle;
+  Fails = fails_never;
+}
 
 -- ---- what `audit yes` promises
 

@@ -1,19 +1,21 @@
-//! A run of the machine, written line by line.
+//! A run of the machine, written line by line. The lines are gathered in a block, which is handed over when it is full and
+//! at the end of the run.
 
-ghost use Rattle.std.specs.Prelude.{ℕ, ◌≡◌, ◌≤◌, ◌<◌, ◌+◌, ◌^◌, [], ◌∷◌, length};
-ghost use Rattle.m36_outside.specs.Passing.{TakesLines};
+ghost use Rattle.std.specs.Prelude.{ℕ, ◌≡◌, ◌≤◌, ◌<◌, ◌+◌, ◌^◌, [], ◌∷◌, ◌++◌, length};
+ghost use Rattle.m36_outside.specs.Gathered.{Adds};
+ghost use Rattle.m36_outside.specs.Passing.{TakesLines, joined};
 ghost use Rattle.m36_outside.specs.Put.{PutSays, PutHasCause};
 ghost use Rattle.m36_trace.specs.EndLine.{end_line_of};
 ghost use Rattle.m36_ran.specs.Output.{as_line};
-ghost use Rattle.m36_ran.specs.RunSays.{TurnSays, TurnTakes, TurnHasCause, EndSays, EndTakes, RunSays, RunTakes, EndedHasCause};
+ghost use Rattle.m36_ran.specs.RunSays.{TurnSays, TurnHasCause, EndSays, EndTakes, RunSays, RunTakes, EndedHasCause};
 
 use arrayvec::ArrayString;
 use m36_model::{Outcome, StepRecord};
-use m36_outside::{Put, Sink};
+use m36_outside::{Block, Put, Sink};
 use m36_step::Machine;
 use m36_trace::{end_line, line};
 
-/// What one step of a run came to. Its line is written but for the last case.
+/// What one step of a run came to. Its line is written or in the block but for the last case.
 #[derive(Clone, Copy)]
 pub enum Turn {
     /// Another step may follow.
@@ -45,15 +47,45 @@ pub fn put_line<S: Sink>(out: &mut S, mut line: ArrayString<160>) -> Put
     out.put(line.as_str().as_bytes())
 }
 
-/// Takes step n of a run, and writes its line. The step is told in a record that an earlier one may have filled.
-pub fn take_turn<S: Sink>(machine: &mut Machine, n: u64, told: &mut StepRecord, out: &mut S) -> Turn
-    ensures says { TurnSays result n machine.old.state machine.new.state (S.written out.old) (S.written out.new) }
-    ensures through { TurnTakes result n machine.old.state (S.taken out.old) (S.taken out.new) }
+/// Adds a line with its line feed to a block, as one piece.
+#[tactic(auto, using(crate::proofs::RunPieces::one_line))]
+pub fn add_line<S: Sink>(block: &mut Block, mut line: ArrayString<160>, out: &mut S) -> Put
+    requires { length line.bytes < 160 }
+    ensures adds { Adds result block.old block.new (as_line line.bytes ∷ [])
+        (S.written out.old) (S.written out.new) (S.taken out.old) (S.taken out.new) }
+    ensures cause { PutHasCause result (S.faults out.old) (S.faults out.new) }
+{
+    line.push_str("\n");
+    block.add(line.as_str().as_bytes(), out)
+}
+
+/// Adds the last line with its line feed to a block, as one piece, and hands the block over.
+#[tactic(auto, using(crate::proofs::RunPieces::one_line))]
+pub fn finish_with<S: Sink>(block: &mut Block, mut line: ArrayString<160>, out: &mut S) -> Put
+    requires { length line.bytes < 160 }
+    ensures says { PutSays result (S.written out.old) (S.written out.new) (joined (block.old ++ as_line line.bytes ∷ [])) }
+    ensures through { TakesLines result (S.taken out.old) (S.taken out.new) (block.old ++ as_line line.bytes ∷ []) }
+    ensures cause { PutHasCause result (S.faults out.old) (S.faults out.new) }
+{
+    line.push_str("\n");
+    block.finish(line.as_str().as_bytes(), out)
+}
+
+/// Takes step n of a run, and adds its line. The step is told in a record that an earlier one may have filled.
+pub fn take_turn<S: Sink>(
+    machine: &mut Machine,
+    n: u64,
+    told: &mut StepRecord,
+    block: &mut Block,
+    out: &mut S,
+) -> Turn
+    ensures says { TurnSays result n machine.old.state machine.new.state block.old block.new
+        (S.written out.old) (S.written out.new) (S.taken out.old) (S.taken out.new) }
     ensures cause { TurnHasCause result (S.faults out.old) (S.faults out.new) }
 {
     machine.step_into(told);
     let outcome = told.outcome;
-    match put_line(out, line(n, told)) {
+    match add_line(block, line(n, told), out) {
         Put::Failed => Turn::Cut,
         Put::Done => match outcome {
             Outcome::Next => Turn::Next,
@@ -62,13 +94,15 @@ pub fn take_turn<S: Sink>(machine: &mut Machine, n: u64, told: &mut StepRecord, 
     }
 }
 
-/// Writes the end line of a run of so many steps.
-pub fn put_end<S: Sink>(out: &mut S, outcome: &Outcome, steps: u64) -> Ended
-    ensures says { EndSays result outcome.now (as_line (end_line_of outcome.now steps)) (S.written out.old) (S.written out.new) }
-    ensures through { EndTakes result (as_line (end_line_of outcome.now steps)) (S.taken out.old) (S.taken out.new) }
+/// Writes the lines of a block and the end line of a run of so many steps.
+pub fn put_end<S: Sink>(block: &mut Block, outcome: &Outcome, steps: u64, out: &mut S) -> Ended
+    ensures says { EndSays result outcome.now (block.old ++ as_line (end_line_of outcome.now steps) ∷ [])
+        (S.written out.old) (S.written out.new) }
+    ensures through { EndTakes result (block.old ++ as_line (end_line_of outcome.now steps) ∷ [])
+        (S.taken out.old) (S.taken out.new) }
     ensures cause { EndedHasCause result (S.faults out.old) (S.faults out.new) }
 {
-    match put_line(out, end_line(*outcome, steps)) {
+    match finish_with(block, end_line(*outcome, steps), out) {
         Put::Failed => Ended::Cut,
         Put::Done => Ended::Whole(*outcome),
     }
@@ -81,17 +115,18 @@ pub fn run<S: Sink>(machine: &mut Machine, steps: u32, out: &mut S) -> Ended
     ensures through { RunTakes result steps machine.old.state (S.taken out.old) (S.taken out.new) }
     ensures cause { EndedHasCause result (S.faults out.old) (S.faults out.new) }
 {
+    let mut block = Block::new();
     let mut told = machine.untold();
     let mut taken: u32 = 0;
     let mut left = steps;
     'steps: while left > 0 {
-        match take_turn(machine, taken as u64 + 1, &mut told, out) {
+        match take_turn(machine, taken as u64 + 1, &mut told, &mut block, out) {
             Turn::Next => {}
-            Turn::Last(outcome) => return put_end(out, &outcome, taken as u64 + 1),
+            Turn::Last(outcome) => return put_end(&mut block, &outcome, taken as u64 + 1, out),
             Turn::Cut => return Ended::Cut,
         }
         taken += 1;
         left -= 1;
     }
-    put_end(out, &Outcome::Next, taken as u64)
+    put_end(&mut block, &Outcome::Next, taken as u64, out)
 }

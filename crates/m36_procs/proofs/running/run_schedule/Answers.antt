@@ -7,42 +7,43 @@ use Rattle.m36_procs.proofs.running.run_schedule.Goals as goal
 pub returns-in-Failed-clause-says : goal.returns-in-Failed-clause-says
 returns-in-Failed-clause-says g c =
     let written = g.S.Sink.written in
-    runs_cut c.args.schedule.now c.args.processes.now (written c.args.out.now) (written c.events.out) (written c.put_event.new.out) c.events.n c.in-Some.process.now c.events.rest.now c.in-Some.more.now c.events.processes c.step_into.new.self c.step_into.new.told c.events.invariant.runs c.in-Some.ensures.cases.0 c.step_into.ensures.says c.in-Failed.ensures.says
+    let taken = g.S.Sink.taken in
+    runs_cut c.args.schedule.now c.args.processes.now (written c.args.out.now) (written c.events.out) (written c.add_event.new.out) (taken c.events.out) (taken c.add_event.new.out) c.events.block c.events.n c.in-Some.process.now c.events.rest.now c.in-Some.more.now c.events.processes c.step_into.new.self c.step_into.new.told c.events.invariant.runs c.in-Some.ensures.cases.0 c.step_into.ensures.says c.in-Failed.ensures.adds
 
 pub returns-in-Failed-clause-through : goal.returns-in-Failed-clause-through
 returns-in-Failed-clause-through g c =
     let written = g.S.Sink.written in
     let taken = g.S.Sink.taken in
-    pieces_cut c.args.schedule.now c.args.processes.now (written c.args.out.now) (written c.events.out) (taken c.args.out.now) (taken c.events.out) (taken c.put_event.new.out) c.events.n c.in-Some.process.now c.events.rest.now c.in-Some.more.now c.events.processes c.step_into.new.self c.step_into.new.told c.events.invariant.runs c.events.invariant.pieces c.in-Some.ensures.cases.0 c.step_into.ensures.says c.in-Failed.ensures.through
+    pieces_cut c.args.schedule.now c.args.processes.now (written c.args.out.now) (written c.events.out) (written c.add_event.new.out) (taken c.args.out.now) (taken c.events.out) (taken c.add_event.new.out) c.events.block c.events.n c.in-Some.process.now c.events.rest.now c.in-Some.more.now c.events.processes c.step_into.new.self c.step_into.new.told c.events.invariant.runs c.events.invariant.pieces c.in-Some.ensures.cases.0 c.step_into.ensures.says c.in-Failed.ensures.adds
 
 pub events-preserved : goal.events-preserved
 events-preserved g c =
     let written = g.S.Sink.written in
     let taken = g.S.Sink.taken in
     record {
-      runs = runs_more c.args.schedule.now c.args.processes.now (written c.args.out.now) (written c.events.out) (written c.put_event.new.out) c.events.n c.in-Some.process.now c.events.rest.now c.in-Some.more.now c.events.processes c.step_into.new.self c.step_into.new.told c.events.invariant.runs c.in-Some.ensures.cases.0 c.step_into.ensures.says c.step_into.ensures.count c.in-Done.ensures.says;
-      pieces = pieces_more c.args.schedule.now c.args.processes.now (written c.args.out.now) (written c.events.out) (taken c.args.out.now) (taken c.events.out) (taken c.put_event.new.out) c.events.n c.in-Some.process.now c.events.rest.now c.in-Some.more.now c.events.processes c.step_into.new.self c.step_into.new.told c.events.invariant.runs c.events.invariant.pieces c.in-Some.ensures.cases.0 c.step_into.ensures.says c.in-Done.ensures.through;
+      runs = runs_more c.args.schedule.now c.args.processes.now (written c.args.out.now) (written c.events.out) (written c.add_event.new.out) (taken c.events.out) (taken c.add_event.new.out) c.events.block c.add_event.new.block c.events.n c.in-Some.process.now c.events.rest.now c.in-Some.more.now c.events.processes c.step_into.new.self c.step_into.new.told c.events.invariant.runs c.in-Some.ensures.cases.0 c.step_into.ensures.says c.step_into.ensures.count c.in-Done.ensures.adds;
+      pieces = pieces_more c.args.schedule.now c.args.processes.now (written c.args.out.now) (written c.events.out) (written c.add_event.new.out) (taken c.args.out.now) (taken c.events.out) (taken c.add_event.new.out) c.events.block c.add_event.new.block c.events.n c.in-Some.process.now c.events.rest.now c.in-Some.more.now c.events.processes c.step_into.new.self c.step_into.new.told c.events.invariant.runs c.events.invariant.pieces c.in-Some.ensures.cases.0 c.step_into.ensures.says c.in-Done.ensures.adds;
       faults = c.in-Done.ensures.cause ∙ c.events.invariant.faults;
     }
 
 pub returns-in-Done-put_end-clause-says : goal.returns-in-Done-put_end-clause-says
 returns-in-Done-put_end-clause-says g c =
     let written = g.S.Sink.written in
-    runs_done c.args.schedule.now c.args.processes.now (written c.args.out.now) (written c.events.out) (written c.put_end.new.out) c.events.n c.events.rest.now c.events.processes c.events.invariant.runs c.in_default.ensures.cases c.in-Done-put_end.ensures.says
+    runs_done c.args.schedule.now c.args.processes.now (written c.args.out.now) (written c.events.out) (written c.put_end.new.out) c.events.block c.events.n c.events.rest.now c.events.processes c.events.invariant.runs c.in_default.ensures.cases c.in-Done-put_end.ensures.says
 
 pub returns-in-Failed-put_end-clause-says : goal.returns-in-Failed-put_end-clause-says
 returns-in-Failed-put_end-clause-says g c =
     let written = g.S.Sink.written in
-    runs_cut_last c.args.schedule.now c.args.processes.now (written c.args.out.now) (written c.events.out) (written c.put_end.new.out) c.events.n c.events.rest.now c.events.processes c.events.invariant.runs c.in_default.ensures.cases c.in-Failed-put_end.ensures.says
+    runs_cut_last c.args.schedule.now c.args.processes.now (written c.args.out.now) (written c.events.out) (written c.put_end.new.out) c.events.block c.events.n c.events.rest.now c.events.processes c.events.invariant.runs c.in_default.ensures.cases c.in-Failed-put_end.ensures.says
 
 pub returns-in-Done-put_end-clause-through : goal.returns-in-Done-put_end-clause-through
 returns-in-Done-put_end-clause-through g c =
     let written = g.S.Sink.written in
     let taken = g.S.Sink.taken in
-    pieces_done c.args.schedule.now c.args.processes.now (written c.args.out.now) (written c.events.out) (taken c.args.out.now) (taken c.events.out) (taken c.put_end.new.out) c.events.n c.events.rest.now c.events.processes c.events.invariant.runs c.events.invariant.pieces c.in_default.ensures.cases c.in-Done-put_end.ensures.through
+    pieces_done c.args.schedule.now c.args.processes.now (written c.args.out.now) (written c.events.out) (taken c.args.out.now) (taken c.events.out) (taken c.put_end.new.out) c.events.block c.events.n c.events.rest.now c.events.processes c.events.invariant.runs c.events.invariant.pieces c.in_default.ensures.cases c.in-Done-put_end.ensures.through
 
 pub returns-in-Failed-put_end-clause-through : goal.returns-in-Failed-put_end-clause-through
 returns-in-Failed-put_end-clause-through g c =
     let written = g.S.Sink.written in
     let taken = g.S.Sink.taken in
-    pieces_cut_last c.args.schedule.now c.args.processes.now (written c.args.out.now) (written c.events.out) (taken c.args.out.now) (taken c.events.out) (taken c.put_end.new.out) c.events.n c.events.rest.now c.events.processes c.events.invariant.runs c.events.invariant.pieces c.in_default.ensures.cases c.in-Failed-put_end.ensures.through
+    pieces_cut_last c.args.schedule.now c.args.processes.now (written c.args.out.now) (written c.events.out) (taken c.args.out.now) (taken c.events.out) (taken c.put_end.new.out) c.events.block c.events.n c.events.rest.now c.events.processes c.events.invariant.runs c.events.invariant.pieces c.in_default.ensures.cases c.in-Failed-put_end.ensures.through

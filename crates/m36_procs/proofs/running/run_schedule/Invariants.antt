@@ -1,4 +1,4 @@
-use Rattle.std.proofs.Common.{◌≡◌, ◌+◌, length}
+use Rattle.std.proofs.Common.{◌≡◌, ◌+◌, ◌++◌, length}
 use Rattle.m36_outside.proofs.LinesTaken.{CompletesLines}
 use Rattle.m36_procs.specs.ScheduleText.{pieces_from, schedule_pieces}
 use Rattle.m36_procs.proofs.EventsRun.{Runs}
@@ -13,7 +13,7 @@ invariant-events g l =
     let taken = g.S.Sink.taken in
     let faults = g.S.Sink.faults in
     record {
-      runs : Runs l.schedule l.fn.processes (written l.fn.out) (written l.out) l.n l.rest l.processes;
-      pieces : CompletesLines (taken l.out) (taken l.fn.out) (pieces_from (length l.schedule) (l.n + 1) l.rest l.processes) (schedule_pieces l.schedule l.fn.processes);
+      runs : Runs l.schedule l.fn.processes (written l.fn.out) (written l.out) l.block l.n l.rest l.processes;
+      pieces : CompletesLines (taken l.out) (taken l.fn.out) (l.block ++ pieces_from (length l.schedule) (l.n + 1) l.rest l.processes) (schedule_pieces l.schedule l.fn.processes);
       faults : faults l.out ≡ faults l.fn.out;
     }

@@ -1,4 +1,4 @@
-use Rattle.std.proofs.Common.{◌≡◌, ◌+◌}
+use Rattle.std.proofs.Common.{◌≡◌, ◌+◌, ◌++◌}
 use Rattle.m36_outside.proofs.LinesTaken.{CompletesLines}
 use Rattle.m36_ran.specs.Run.{run}
 use Rattle.m36_ran.specs.Output.{pieces_from, run_pieces}
@@ -14,8 +14,8 @@ invariant-steps g l =
     let pieces = g.S.Sink.taken in
     let faults = g.S.Sink.faults in
     record {
-      running : Running l.steps l.fn.machine.state (written l.fn.out) (written l.out) l.taken l.left l.machine.state;
-      pieces : CompletesLines (pieces l.out) (pieces l.fn.out) (pieces_from l.taken (run l.left l.machine.state)) (run_pieces l.steps l.fn.machine.state);
+      running : Running l.steps l.fn.machine.state (written l.fn.out) (written l.out) l.block l.taken l.left l.machine.state;
+      pieces : CompletesLines (pieces l.out) (pieces l.fn.out) (l.block ++ pieces_from l.taken (run l.left l.machine.state)) (run_pieces l.steps l.fn.machine.state);
       count : l.taken + l.left ≡ l.steps;
       faults : faults l.out ≡ faults l.fn.out;
     }
