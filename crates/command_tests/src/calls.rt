@@ -1,6 +1,6 @@
 //! Calls over files and output in memory. What is expected was worked out by hand.
 
-use m36_outside::{Folder, MemFolder, MemSink, ReadAnswer, Text};
+use m36_outside::{Folder, MemFolder, MemSink, ReadAnswer, SureLines, Text};
 use m36_reading::{Code, Status};
 use m36_top::top::m36;
 use m36_word::NoMemory;
@@ -185,7 +185,8 @@ fn called(
     folder.add(file.0, file.1)?;
     let mut out = MemSink::new(alloc, 10_000_000, failing.2)?;
     let words = words(alloc, list)?;
-    let status = m36(alloc, words.as_slice(), &mut folder, &mut out);
+    let mut lines = SureLines::new(alloc, &[])?;
+    let status = m36(alloc, words.as_slice(), &mut folder, &mut lines, &mut out);
     Ok((status, folder, out))
 }
 

@@ -1,7 +1,7 @@
 //! Folders that boot. What is expected was worked out by hand.
 
 use crate::calls::words;
-use m36_outside::{MemFolder, MemSink};
+use m36_outside::{MemFolder, MemSink, SureLines};
 use m36_reading::Status;
 use m36_top::top::m36;
 use m36_word::NoMemory;
@@ -139,11 +139,19 @@ fn booted(
     for name in [b"main".as_slice(), b"con_", b"changes"] {
         let mut out = MemSink::new(alloc, 10_000, &[])?;
         let assembly = words(alloc, &[b"alm", name])?;
-        let _ = m36(alloc, assembly.as_slice(), &mut folder, &mut out);
+        let mut lines = SureLines::new(alloc, &[])?;
+        let _ = m36(
+            alloc,
+            assembly.as_slice(),
+            &mut folder,
+            &mut lines,
+            &mut out,
+        );
     }
     let mut out = MemSink::new(alloc, 10_000, puts)?;
     let words = words(alloc, list)?;
-    let status = m36(alloc, words.as_slice(), &mut folder, &mut out);
+    let mut lines = SureLines::new(alloc, &[])?;
+    let status = m36(alloc, words.as_slice(), &mut folder, &mut lines, &mut out);
     Ok((status, out))
 }
 

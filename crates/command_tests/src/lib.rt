@@ -6,6 +6,10 @@ mod calls;
 #[cfg(test)]
 mod folders;
 #[cfg(test)]
+mod lists;
+#[cfg(test)]
 mod reports;
+#[cfg(test)]
+mod sessions;
 #[cfg(test)]
 mod word_lists;

@@ -1,7 +1,7 @@
 //! Lists of words, in and out of the set.
 
 use crate::calls::{LEAST, words};
-use m36_outside::{MemFolder, MemSink};
+use m36_outside::{MemFolder, MemSink, SureLines};
 use m36_top::top::m36;
 use m36_word::NoMemory;
 use std::alloc::Global;
@@ -12,7 +12,8 @@ fn asked(alloc: Global, list: &[&[u8]]) -> Result<(u8, usize), NoMemory> {
     folder.add(b"f", LEAST)?;
     let mut out = MemSink::new(alloc, 1000, &[])?;
     let words = words(alloc, list)?;
-    let status = m36(alloc, words.as_slice(), &mut folder, &mut out);
+    let mut lines = SureLines::new(alloc, &[])?;
+    let status = m36(alloc, words.as_slice(), &mut folder, &mut lines, &mut out);
     Ok((status.number(), out.bytes().len()))
 }
 
@@ -36,6 +37,12 @@ fn knows_its_words(rt: HostRuntime) -> Result<(), NoMemory> {
         (&[b"audit", b"none"], 4, 0),
         (&[b"procs", b"f", b"--unaudited"], 4, 0),
         (&[b"procs", b"f", b"--steps", b"1"], 1, 0),
+        (&[b"debug", b"f"], 0, 0),
+        (&[b"debug", b"--", b"f"], 0, 0),
+        (&[b"debug"], 4, 0),
+        (&[b"debug", b"f", b"f"], 1, 0),
+        (&[b"debug", b"f", b"--unaudited"], 1, 0),
+        (&[b"debug", b"f", b"--steps=1"], 1, 0),
         (&[b"print", b"f"], 4, 0),
         (&[b"print", b"--", b"none"], 4, 0),
         (&[b"", b"", b""], 1, 0),
@@ -74,6 +81,20 @@ fn knows_its_words(rt: HostRuntime) -> Result<(), NoMemory> {
         (&[b"trace", b"--steps", b"0", b"--unaudited"], 4, 0),
         (&[b"trace", b"f"], 1, 0),
         (&[b"run", b"--user", b"a"], 1, 0),
+        (&[b"run", b"--user", b"A.B.c"], 4, 0),
+        (&[b"run", b"--user=A.B.c", b"--steps", b"1"], 4, 0),
+        (&[b"trace", b"--user", b"--unaudited"], 1, 0),
+        (&[b"trace", b"--user=", b"A.B.c"], 1, 0),
+        (&[b"run", b"--user=A.B.C"], 1, 0),
+        (&[b"run", b"--user=A.B.c", b"--user=A.B.c"], 1, 0),
+        (&[b"audit", b"--user", b"A.B.c"], 4, 0),
+        (&[b"audit", b"f", b"--user", b"A.B.c"], 1, 0),
+        (&[b"bare", b"f", b"--user=A.B.c"], 1, 0),
+        (&[b"access", b"A.B.c"], 4, 0),
+        (&[b"access", b"--", b"A.B.c"], 4, 0),
+        (&[b"access", b"f"], 1, 0),
+        (&[b"access"], 1, 0),
+        (&[b"access", b"A.B.c", b"--user=A.B.c"], 1, 0),
         (&[b"print"], 1, 0),
         (&[b"alm", b"f"], 4, 0),
         (&[b"alm", b"ABCDEFGHIJKLMNOPQRSTUVWXYZ_"], 4, 0),

@@ -1,14 +1,14 @@
-//! The program `m36`: the simulator over the files of the current directory and the standard output.
+//! The program `m36`: the simulator over the files of the current directory, the standard input and the standard output.
 //!
 //! It takes the words of the command line, calls the simulator, prints one line to standard error unless the call
 //! answered Done, and ends with the number of the status. The line is `m36: ` and the name of the status; behind BadFile
 //! stand the name of the file, the code, the place and the column.
 //!
 //! What the call does, the line and the number are said by clauses of `m36`, `report` and `Status::number`, all of
-//! `m36_top`. That these are called, on the words as they are and on the real folder and output, is to be read here.
+//! `m36_top`. That these are called, on the words as they are and on the real folder, input and output, is to be read here.
 #![tactic(auto)]
 
-use m36_outside::{DirFolder, StdSink, Text};
+use m36_outside::{DirFolder, StdLines, StdSink, Text};
 use m36_top::{Status, m36, report};
 use m36_word::NoMemory;
 use std::env;
@@ -27,8 +27,15 @@ fn answer(rt: &HostRuntime) -> Result<Status, NoMemory> {
         words.push(Text::from_bytes(rt.alloc(), arg.as_bytes())?)?;
     }
     let mut folder = DirFolder::new(rt.clone()?);
+    let mut lines = StdLines::new(rt.clone()?);
     let mut out = StdSink::new(rt.clone()?);
-    Ok(m36(rt.alloc(), words.as_slice(), &mut folder, &mut out))
+    Ok(m36(
+        rt.alloc(),
+        words.as_slice(),
+        &mut folder,
+        &mut lines,
+        &mut out,
+    ))
 }
 
 fn main(rt: HostRuntime) -> ExitCode {

@@ -5,3 +5,4 @@ pub mod AclLoops
 pub mod Places
 pub mod Firsts
 pub mod Rights
+pub mod AccessLoops

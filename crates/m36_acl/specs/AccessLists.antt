@@ -6,7 +6,8 @@
 --
 -- The least line that has a code is told, and C1 where a line has both.
 use Rattle.std.specs.Prelude.{ℕ, ◌≡◌, ◌+◌, ◌-◌, Bool, nat_le, if◌then◌else◌, List, [], ◌∷◌, ◌++◌}
-use Rattle.std.specs.Prelude.{length, map, slice_get, slice_set, Option, Some, None, Result, Ok, Err}
+use Rattle.std.specs.Prelude.{length, map, slice_get, slice_set}
+use Rattle.std.specs.Prelude.{Option, Some, None, Result, Ok, Err}
 use Rattle.std.specs.List.{list_any}
 use Rattle.m36_text.specs.Texts.{is_text}
 use Rattle.m36_text.specs.Lines.{lines_of}

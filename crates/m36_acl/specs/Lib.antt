@@ -4,3 +4,4 @@ pub mod AccessLine
 pub mod AccessLists
 pub mod Policy
 pub mod Granted
+pub mod AccessText

@@ -51,7 +51,8 @@ abbrev pub NoneMatches : List TermFields → List ℕ → Type 0
 NoneMatches terms user = All (λ term. matches term.text user ≡ false) terms
 
 -- The term at a place gives the rights, and is the first that matches.
-pub record IsFirst (terms : List TermFields) (user : List ℕ) (d : Decision) (place : ℕ) : Type 0 where
+pub record IsFirst
+    (terms : List TermFields) (user : List ℕ) (d : Decision) (place : ℕ) : Type 0 where
   pub term : TermFields
   pub stands : slice_get terms place ≡ Some term
   pub matching : matches term.text user ≡ true

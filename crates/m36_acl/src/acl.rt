@@ -1,17 +1,22 @@
 //! Access lists.
 
-ghost use Rattle.std.specs.Prelude.{◌≡◌, ◌<◌, ◌^◌, length, slice_get, IfSome};
+ghost use Rattle.std.specs.Prelude.{◌≡◌, ◌<◌, ◌^◌, length, slice_get, IfOk, IfSome};
 ghost use Rattle.m36_acl.specs.AccessLists.{lists_of, ReadSays};
 ghost use Rattle.m36_acl.specs.Policy.{terms_of, policy};
 ghost use Rattle.m36_acl.specs.Granted.{first_unknown, decision_on, granted};
+ghost use Rattle.m36_acl.specs.AccessText.{access_text, denied_lines};
 
+use crate::denied::DeniedLines;
 use crate::fault::AclFault;
 use crate::granting::{decision_on, first_unknown, grant_all};
 use crate::policy::{Decision, decided, terms_in};
 use crate::reading::segments_in;
 use crate::segment::{AclSegment, Term};
 use crate::user::User;
+use crate::writing::{access_text, denied_lines};
 use m36_dir::Catalog;
+use m36_outside::Text;
+use m36_word::NoMemory;
 use std::alloc::Global;
 use std::marker::Model;
 
@@ -86,5 +91,31 @@ impl Acl {
         ensures { catalog.new ≡ granted self.now user.now catalog.old }
     {
         grant_all(self, catalog, user);
+    }
+
+    /// What a user may do with each segment of a catalog: `DIR NAME MODE TERM`, a line for each, where TERM is the term that
+    /// decides, or `none`. The error is want of memory alone.
+    pub fn access_text(
+        &self,
+        alloc: Global,
+        catalog: &Catalog,
+        user: &User,
+    ) -> Result<Text, NoMemory>
+        ensures { IfOk result (λ text. text ≡ access_text self.now user.now catalog.now) }
+    {
+        access_text(alloc, self, catalog, user)
+    }
+
+    /// `denied DIR NAME TERM` for each segment of a catalog: what is told of a user whose run ended for want of a right to
+    /// it. The error is want of memory alone.
+    pub fn denied_lines(
+        &self,
+        alloc: Global,
+        catalog: &Catalog,
+        user: &User,
+    ) -> Result<DeniedLines, NoMemory>
+        ensures { IfOk result (λ lines. lines ≡ denied_lines self.now user.now catalog.now) }
+    {
+        denied_lines(alloc, self, catalog, user)
     }
 }

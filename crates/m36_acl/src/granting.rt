@@ -10,8 +10,8 @@ use crate::segment::AclSegment;
 use crate::user::User;
 use m36_dir::{Catalog, Segment};
 
-// The first name of a segment, which its line in the boot text has.
-fn name_of(segment: &Segment) -> &[u8]
+/// The first name of a segment, which its line in the boot text has.
+pub(crate) fn name_of(segment: &Segment) -> &[u8]
     ensures { result.now ≡ name_of segment.now }
 {
     match segment.names.items().first() {

@@ -22,6 +22,7 @@
 #![tactic(auto)]
 
 pub mod acl;
+pub mod denied;
 pub mod fault;
 mod forms;
 mod granting;
@@ -31,8 +32,10 @@ pub mod policy;
 mod reading;
 pub mod segment;
 pub mod user;
+mod writing;
 
 pub use acl::Acl;
+pub use denied::DeniedLines;
 pub use fault::AclFault;
 pub use laws::policy_laws;
 pub use policy::Decision;

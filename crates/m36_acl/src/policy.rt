@@ -63,7 +63,7 @@ fn rights_by(place: usize, term: &Term) -> Decision
 }
 
 /// The place of the first term that matches, counted from 0.
-fn first_match(terms: &[Term], user: &User) -> Option<usize>
+pub(crate) fn first_match(terms: &[Term], user: &User) -> Option<usize>
     ensures value { result ≡ position (λ term. matches term.text user.now) terms.now }
     ensures within { IfSome result (λ place. place < length terms.now) }
 {

@@ -20,6 +20,7 @@ use Rattle.m36_ran.proofs.PiecesJoined.{joined_on, audit_joined}
 use Rattle.m36_booted.specs.declared.command.FolderCommand.{FolderCommand}
 use Rattle.m36_booted.specs.declared.command.FolderCommand.TheVariants.{Audit, Run, Trace}
 use Rattle.m36_booted.specs.declared.command.RunOutput.{RunOutput}
+use Rattle.m36_booted.specs.Folder.{FolderFields}
 use Rattle.m36_booted.specs.RunText.{run_pieces, run_answer}
 use Rattle.m36_booted.specs.Runs.{Extent, Whole, Begun, Starved}
 use Rattle.m36_booted.specs.Booted.{IsAuditAnswer, IsRunBy, IsAnswerOf, IsFolderAnswer}
@@ -29,10 +30,10 @@ use Rattle.m36_booted.proofs.OneSystem.{one_system}
 -- ---- one answer to `audit`
 
 one_audit :
-    (lib : Library) (due same : Answer) → IsFolderAnswer Whole Audit lib due
-    → IsFolderAnswer Whole Audit lib same → due ≡ same
-one_audit lib due same is is_same =
-    let system : is.system ≡ is_same.system = one_system lib is.system is_same.system is.booted is_same.booted in
+    (given : FolderFields) (due same : Answer) → IsFolderAnswer Whole Audit given due
+    → IsFolderAnswer Whole Audit given same → due ≡ same
+one_audit given due same is is_same =
+    let system : is.system ≡ is_same.system = one_system given.lib is.system is_same.system is.booted is_same.booted in
     let findings : is.findings ≡ is_same.findings =
     findings_law.unique is_same.system.core booted_dbr is.findings is_same.findings
     (subst (λ (s : SuperFields). AreFindings s.core booted_dbr is.findings) system is.found) is_same.found in
@@ -65,46 +66,46 @@ audit_are Begun findings due is = subst AreJoined (sym is) (audit_pieces_joined 
 audit_are Starved findings due is = absurd is
 
 run_are :
-    (b : Bool) (extent : Extent) (output : RunOutput) (limit : ℕ) (lib : Library) (first : Booted) (findings : List (ℕ × ℕ)) (due : Answer)
-    → IsRunBy b extent output limit lib first findings due → AreJoined due
+    (b : Bool) (extent : Extent) (denied : List (List ℕ)) (output : RunOutput) (limit : ℕ) (lib : Library) (first : Booted) (findings : List (ℕ × ℕ)) (due : Answer)
+    → IsRunBy b extent denied output limit lib first findings due → AreJoined due
 unfolding run_answer
-run_are true extent output limit lib first findings due is =
-    let pieces = run_pieces output is.turns is.how in
+run_are true extent denied output limit lib first findings due is =
+    let pieces = run_pieces denied output is.turns is.how in
     subst AreJoined (sym is.answer)
     (joined_on (audit_pieces findings) pieces ∙ ap (λ (t : List ℕ). t ++ joined pieces) (audit_joined findings))
-run_are false extent output limit lib first findings due is = audit_are extent findings due is
+run_are false extent denied output limit lib first findings due is = audit_are extent findings due is
 
 answer_are :
-    (command : FolderCommand) (extent : Extent) (lib : Library) (first : Booted) (findings : List (ℕ × ℕ)) (due : Answer)
-    → IsAnswerOf command extent lib first findings due → AreJoined due
-answer_are Audit extent lib first findings due is = audit_are extent findings due is
-answer_are (Run run) extent lib first findings due is = run_are _ extent _ run.steps lib first findings due is
-answer_are (Trace run) extent lib first findings due is = run_are _ extent _ run.steps lib first findings due is
+    (command : FolderCommand) (extent : Extent) (denied : List (List ℕ)) (lib : Library) (first : Booted) (findings : List (ℕ × ℕ)) (due : Answer)
+    → IsAnswerOf command extent denied lib first findings due → AreJoined due
+answer_are Audit extent denied lib first findings due is = audit_are extent findings due is
+answer_are (Run run) extent denied lib first findings due is = run_are _ extent denied _ run.steps lib first findings due is
+answer_are (Trace run) extent denied lib first findings due is = run_are _ extent denied _ run.steps lib first findings due is
 
 pub folder_due_law : FolderDueLaw
 folder_due_law = record {
   system = one_system;
   audit = one_audit;
   turns = same_turns;
-  pieces = λ extent command lib due is.
-      answer_are command extent lib (booted_of is.system) is.findings due is.answer;
+  pieces = λ extent command given due is.
+      answer_are command extent given.denied given.lib (booted_of is.system) is.findings due is.answer;
 }
 
 pub folder_joined :
-    (extent : Extent) (command : FolderCommand) (lib : Library) (due : Answer)
-    → IsFolderAnswer extent command lib due → joined due.pieces ≡ due.text
-folder_joined extent command lib due is =
-    answer_are command extent lib (booted_of is.system) is.findings due is.answer
+    (extent : Extent) (command : FolderCommand) (given : FolderFields) (due : Answer)
+    → IsFolderAnswer extent command given due → joined due.pieces ≡ due.text
+folder_joined extent command given due is =
+    answer_are command extent given.denied given.lib (booted_of is.system) is.findings due is.answer
 
 -- no file is written
 run_sets :
-    (b : Bool) (extent : Extent) (output : RunOutput) (limit : ℕ) (lib : Library) (first : Booted) (findings : List (ℕ × ℕ)) (due : Answer)
-    → IsRunBy b extent output limit lib first findings due → due.sets ≡ []
+    (b : Bool) (extent : Extent) (denied : List (List ℕ)) (output : RunOutput) (limit : ℕ) (lib : Library) (first : Booted) (findings : List (ℕ × ℕ)) (due : Answer)
+    → IsRunBy b extent denied output limit lib first findings due → due.sets ≡ []
 unfolding run_answer audit_answer
-run_sets true extent output limit lib first findings due is = ap (λ (d : Answer). d.sets) is.answer
-run_sets false Whole output limit lib first findings due is = ap (λ (d : Answer). d.sets) is
-run_sets false Begun output limit lib first findings due is = ap (λ (d : Answer). d.sets) is
-run_sets false Starved output limit lib first findings due is = absurd is
+run_sets true extent denied output limit lib first findings due is = ap (λ (d : Answer). d.sets) is.answer
+run_sets false Whole denied output limit lib first findings due is = ap (λ (d : Answer). d.sets) is
+run_sets false Begun denied output limit lib first findings due is = ap (λ (d : Answer). d.sets) is
+run_sets false Starved denied output limit lib first findings due is = absurd is
 
 audit_sets : (extent : Extent) (findings : List (ℕ × ℕ)) (due : Answer) → IsAuditAnswer extent findings due → due.sets ≡ []
 unfolding audit_answer
@@ -113,14 +114,14 @@ audit_sets Begun findings due is = ap (λ (d : Answer). d.sets) is
 audit_sets Starved findings due is = absurd is
 
 answer_sets :
-    (command : FolderCommand) (extent : Extent) (lib : Library) (first : Booted) (findings : List (ℕ × ℕ)) (due : Answer)
-    → IsAnswerOf command extent lib first findings due → due.sets ≡ []
-answer_sets Audit extent lib first findings due is = audit_sets extent findings due is
-answer_sets (Run run) extent lib first findings due is = run_sets _ extent _ run.steps lib first findings due is
-answer_sets (Trace run) extent lib first findings due is = run_sets _ extent _ run.steps lib first findings due is
+    (command : FolderCommand) (extent : Extent) (denied : List (List ℕ)) (lib : Library) (first : Booted) (findings : List (ℕ × ℕ)) (due : Answer)
+    → IsAnswerOf command extent denied lib first findings due → due.sets ≡ []
+answer_sets Audit extent denied lib first findings due is = audit_sets extent findings due is
+answer_sets (Run run) extent denied lib first findings due is = run_sets _ extent denied _ run.steps lib first findings due is
+answer_sets (Trace run) extent denied lib first findings due is = run_sets _ extent denied _ run.steps lib first findings due is
 
 pub folder_sets :
-    (extent : Extent) (command : FolderCommand) (lib : Library) (due : Answer)
-    → IsFolderAnswer extent command lib due → due.sets ≡ []
-folder_sets extent command lib due is =
-    answer_sets command extent lib (booted_of is.system) is.findings due is.answer
+    (extent : Extent) (command : FolderCommand) (given : FolderFields) (due : Answer)
+    → IsFolderAnswer extent command given due → due.sets ≡ []
+folder_sets extent command given due is =
+    answer_sets command extent given.denied given.lib (booted_of is.system) is.findings due is.answer

@@ -35,6 +35,7 @@ use Rattle.m36_booted.specs.declared.command.RunOutput.{RunOutput}
 use Rattle.m36_booted.specs.declared.running.Finish.{Finish}
 use Rattle.m36_booted.specs.declared.running.Finish.TheVariants.{Over, Limit}
 use Rattle.m36_booted.specs.declared.running.Ran.TheVariants as ran
+use Rattle.m36_booted.specs.Folder.{FolderFields}
 use Rattle.m36_booted.specs.RunText.{steps_in, end_status, finish_status, run_pieces, run_answer}
 use Rattle.m36_booted.specs.Runs.{Goes, Extent, Whole, Begun, Starved, Reaches}
 use Rattle.m36_booted.specs.RunSays.{PutsPieces, IsRan, RanSays}
@@ -45,33 +46,33 @@ use Rattle.m36_booted.specs.Systems.{IsFresh}
 -- ---- a run behind the audit text
 
 -- what is put of the text and of a run
-abbrev Told : List (ℕ × ℕ) → RunOutput → List Turn → Option Finish → Answer
-Told findings output turns how = behind findings (run_answer output turns how)
+abbrev Told : List (ℕ × ℕ) → List (List ℕ) → RunOutput → List Turn → Option Finish → Answer
+Told findings denied output turns how = behind findings (run_answer denied output turns how)
 
 told_whole :
-    (findings : List (ℕ × ℕ)) (output : RunOutput) (turns : List Turn) (how : Finish) (old now new : SinkState)
+    (findings : List (ℕ × ℕ)) (denied : List (List ℕ)) (output : RunOutput) (turns : List Turn) (how : Finish) (old now new : SinkState)
     → Grew old.written now.written (audit_text findings) → now.taken ≡ old.taken ++ audit_pieces findings → now.faults ≡ old.faults
-    → PutsPieces put.Done (run_pieces output turns (Some how)) now new
-    → IsPut (Told findings output turns (Some how)) (finish_status (Some how)) old new
+    → PutsPieces put.Done (run_pieces denied output turns (Some how)) now new
+    → IsPut (Told findings denied output turns (Some how)) (finish_status (Some how)) old new
 unfolding run_answer
-told_whole findings output turns how old now new grew took stood puts = record {
+told_whole findings denied output turns how old now new grew took stood puts = record {
   sets = refl;
   status = refl;
-  text = grew_on old.written now.written new.written (audit_text findings) (joined (run_pieces output turns (Some how))) grew puts.says;
-  pieces = takes_lines_on old.taken now.taken new.taken (audit_pieces findings) (run_pieces output turns (Some how)) took puts.through;
+  text = grew_on old.written now.written new.written (audit_text findings) (joined (run_pieces denied output turns (Some how))) grew puts.says;
+  pieces = takes_lines_on old.taken now.taken new.taken (audit_pieces findings) (run_pieces denied output turns (Some how)) took puts.through;
   faults = puts.cause ∙ stood;
 }
 
 told_part :
-    (findings : List (ℕ × ℕ)) (output : RunOutput) (turns : List Turn) (how : Option Finish) (old now new : SinkState)
+    (findings : List (ℕ × ℕ)) (denied : List (List ℕ)) (output : RunOutput) (turns : List Turn) (how : Option Finish) (old now new : SinkState)
     → Grew old.written now.written (audit_text findings) → now.taken ≡ old.taken ++ audit_pieces findings → now.faults ≡ old.faults
-    → PutsPieces put.Failed (run_pieces output turns how) now new
-    → IsPartPut (Told findings output turns how) old new
+    → PutsPieces put.Failed (run_pieces denied output turns how) now new
+    → IsPartPut (Told findings denied output turns how) old new
 unfolding run_answer
-told_part findings output turns how old now new grew took stood puts = record {
+told_part findings denied output turns how old now new grew took stood puts = record {
   sets = refl;
-  text = grew_more old.written now.written new.written (audit_text findings) (joined (run_pieces output turns how)) grew puts.says;
-  pieces = takes_lines_more old.taken now.taken new.taken (audit_pieces findings) (run_pieces output turns how) took puts.through;
+  text = grew_more old.written now.written new.written (audit_text findings) (joined (run_pieces denied output turns how)) grew puts.says;
+  pieces = takes_lines_more old.taken now.taken new.taken (audit_pieces findings) (run_pieces denied output turns how) took puts.through;
   cause = let P : ℕ → Type 0 = λ n. Rose n new.faults in subst P stood puts.cause;
 }
 
@@ -88,45 +89,45 @@ answered (Over (end.Link code)) IsAnswer due old new is put = record { due = due
 answered (Over end.Console) IsAnswer due old new is put = record { due = due; is = is; puts = put }
 answered Limit IsAnswer due old new is put = record { due = due; is = is; puts = put }
 
-abbrev pub RunAnswers : RunOutput → ℕ → SuperFields → List (ℕ × ℕ) → Extent → Answer → Type 0
-RunAnswers output limit system findings extent due =
-    IsRunAnswer extent output limit system.lib (booted_of system) findings due
+abbrev pub RunAnswers : List (List ℕ) → RunOutput → ℕ → SuperFields → List (ℕ × ℕ) → Extent → Answer → Type 0
+RunAnswers denied output limit system findings extent due =
+    IsRunAnswer extent denied output limit system.lib (booted_of system) findings due
 
 pub run_whole :
-    (findings : List (ℕ × ℕ)) (output : RunOutput) (limit : ℕ) (system : SuperFields) (how : Finish) (old now new : SinkState)
+    (findings : List (ℕ × ℕ)) (denied : List (List ℕ)) (output : RunOutput) (limit : ℕ) (system : SuperFields) (how : Finish) (old now new : SinkState)
     → Grew old.written now.written (audit_text findings) → now.taken ≡ old.taken ++ audit_pieces findings → now.faults ≡ old.faults
-    → RanSays (ran.Whole how) output limit system now new
-    → Puts (RunAnswers output limit system findings) (end_of (finish_status (Some how))) (finish_status (Some how)) old new
-run_whole findings output limit system how old now new grew took stood is =
-    answered how (RunAnswers output limit system findings) (Told findings output is.turns (Some how)) old new
+    → RanSays (ran.Whole how) denied output limit system now new
+    → Puts (RunAnswers denied output limit system findings) (end_of (finish_status (Some how))) (finish_status (Some how)) old new
+run_whole findings denied output limit system how old now new grew took stood is =
+    answered how (RunAnswers denied output limit system findings) (Told findings denied output is.turns (Some how)) old new
     (record { turns = is.turns; last = is.last; how = Some how; goes = is.goes; reaches = is.reaches; answer = refl })
-    (told_whole findings output is.turns how old now new grew took stood is.puts)
+    (told_whole findings denied output is.turns how old now new grew took stood is.puts)
 
 pub run_part :
-    (findings : List (ℕ × ℕ)) (output : RunOutput) (limit : ℕ) (system : SuperFields) (old now new : SinkState)
+    (findings : List (ℕ × ℕ)) (denied : List (List ℕ)) (output : RunOutput) (limit : ℕ) (system : SuperFields) (old now new : SinkState)
     → Grew old.written now.written (audit_text findings) → now.taken ≡ old.taken ++ audit_pieces findings → now.faults ≡ old.faults
-    → RanSays ran.Cut output limit system now new
-    → Puts (RunAnswers output limit system findings) (end_of status.WriteFault) status.WriteFault old new
-run_part findings output limit system old now new grew took stood says =
+    → RanSays ran.Cut denied output limit system now new
+    → Puts (RunAnswers denied output limit system findings) (end_of status.WriteFault) status.WriteFault old new
+run_part findings denied output limit system old now new grew took stood says =
     let is = says.1 in
     record {
-      due = Told findings output is.turns says.0;
+      due = Told findings denied output is.turns says.0;
       is = record { turns = is.turns; last = is.last; how = says.0; goes = is.goes; reaches = is.reaches; answer = refl };
-      puts = told_part findings output is.turns says.0 old now new grew took stood is.puts;
+      puts = told_part findings denied output is.turns says.0 old now new grew took stood is.puts;
     }
 
 pub run_starved :
-    (findings : List (ℕ × ℕ)) (output : RunOutput) (limit : ℕ) (system : SuperFields) (old now new : SinkState)
+    (findings : List (ℕ × ℕ)) (denied : List (List ℕ)) (output : RunOutput) (limit : ℕ) (system : SuperFields) (old now new : SinkState)
     → Grew old.written now.written (audit_text findings) → now.taken ≡ old.taken ++ audit_pieces findings → now.faults ≡ old.faults
-    → RanSays ran.Starved output limit system now new
-    → Puts (RunAnswers output limit system findings) (end_of status.NoMemory) status.NoMemory old new
+    → RanSays ran.Starved denied output limit system now new
+    → Puts (RunAnswers denied output limit system findings) (end_of status.NoMemory) status.NoMemory old new
 unfolding run_answer
-run_starved findings output limit system old now new grew took stood is =
+run_starved findings denied output limit system old now new grew took stood is =
     inr (record {
-      due = Told findings output is.turns None;
+      due = Told findings denied output is.turns None;
       is = record { turns = is.turns; last = is.last; how = None; goes = is.goes; reaches = is.reaches; answer = refl };
-      text = grew_on old.written now.written new.written (audit_text findings) (joined (run_pieces output is.turns None)) grew is.puts.says;
-      pieces = takes_lines_on old.taken now.taken new.taken (audit_pieces findings) (run_pieces output is.turns None) took is.puts.through;
+      text = grew_on old.written now.written new.written (audit_text findings) (joined (run_pieces denied output is.turns None)) grew is.puts.says;
+      pieces = takes_lines_on old.taken now.taken new.taken (audit_pieces findings) (run_pieces denied output is.turns None) took is.puts.through;
       faults = is.puts.cause ∙ stood;
     })
 
@@ -136,12 +137,12 @@ no_turns lib limit first = record { turns_are = refl; events = tt; few = omega a
 
 -- the text before the run was cut off
 pub text_part :
-    (findings : List (ℕ × ℕ)) (output : RunOutput) (limit : ℕ) (system : SuperFields) (old new : SinkState)
+    (findings : List (ℕ × ℕ)) (denied : List (List ℕ)) (output : RunOutput) (limit : ℕ) (system : SuperFields) (old new : SinkState)
     → GrewWithin old.written new.written (audit_text findings) → TakesSome old.taken new.taken (audit_pieces findings) → Rose old.faults new.faults
-    → Puts (RunAnswers output limit system findings) (end_of status.WriteFault) status.WriteFault old new
+    → Puts (RunAnswers denied output limit system findings) (end_of status.WriteFault) status.WriteFault old new
 unfolding run_answer
-text_part findings output limit system old new grew took rose = record {
-  due = Told findings output [] None;
+text_part findings denied output limit system old new grew took rose = record {
+  due = Told findings denied output [] None;
   is = record {
     turns = [];
     last = booted_of system;
@@ -152,8 +153,8 @@ text_part findings output limit system old new grew took rose = record {
   };
   puts = record {
     sets = refl;
-    text = grew_longer old.written new.written (audit_text findings) (joined (run_pieces output [] None)) grew;
-    pieces = takes_lines_longer old.taken new.taken (audit_pieces findings) (run_pieces output [] None) took;
+    text = grew_longer old.written new.written (audit_text findings) (joined (run_pieces denied output [] None)) grew;
+    pieces = takes_lines_longer old.taken new.taken (audit_pieces findings) (run_pieces denied output [] None) took;
     cause = rose;
   };
 }
@@ -195,12 +196,12 @@ puts_more A B Unread result old new more puts = absurd puts
 puts_more A B Unasked result old new more puts = absurd puts
 
 pub folder_puts :
-    (command : FolderCommand) (system : SuperFields) (findings : List (ℕ × ℕ)) (result : Status) (old new : SinkState)
+    (command : FolderCommand) (system : SuperFields) (denied : List (List ℕ)) (findings : List (ℕ × ℕ)) (result : Status) (old new : SinkState)
     → IsFresh system → AreFindings system.core system.regs.dbr findings
-    → Puts (λ extent. IsAnswerOf command extent system.lib (booted_of system) findings) (end_of result) result old new
-    → Puts (λ extent. IsFolderAnswer extent command system.lib) (end_of result) result old new
-folder_puts command system findings result old new fresh found puts =
-    puts_more (λ extent. IsAnswerOf command extent system.lib (booted_of system) findings) (λ extent. IsFolderAnswer extent command system.lib)
+    → Puts (λ extent. IsAnswerOf command extent denied system.lib (booted_of system) findings) (end_of result) result old new
+    → Puts (λ extent. IsFolderAnswer extent command (record { lib = system.lib; denied = denied })) (end_of result) result old new
+folder_puts command system denied findings result old new fresh found puts =
+    puts_more (λ extent. IsAnswerOf command extent denied system.lib (booted_of system) findings) (λ extent. IsFolderAnswer extent command (record { lib = system.lib; denied = denied }))
     (end_of result) result old new
     (λ extent due is. record {
       system = system;
@@ -221,11 +222,11 @@ pub ruleset dues = (folder_puts, nothing_put)
 -- ---- with the folder, in which nothing changes
 
 ends_put :
-    (command : FolderCommand) (lib : Library) (ending : Ending) (result : Status) (f : FolderState) (s s' : SinkState)
-    → Puts (λ extent. IsFolderAnswer extent command lib) ending result s s'
-    → EndsBy (folder_kind command) (λ c. c ≡ Came (Ok lib)) ending result (record { folder = f; sink = s }) (record { folder = f; sink = s' })
-ends_put command lib Answered result f s s' p = record {
-  given = Ok lib;
+    (command : FolderCommand) (given : FolderFields) (ending : Ending) (result : Status) (f : FolderState) (s s' : SinkState)
+    → Puts (λ extent. IsFolderAnswer extent command given) ending result s s'
+    → EndsBy (folder_kind command) (λ c. c ≡ Came (Ok given)) ending result (record { folder = f; sink = s }) (record { folder = f; sink = s' })
+ends_put command given Answered result f s s' p = record {
+  given = Ok given;
   came = refl;
   due = p.due;
   is_due = p.is;
@@ -240,8 +241,8 @@ ends_put command lib Answered result f s s' p = record {
     put_faults = p.puts.faults;
   };
 }
-ends_put command lib Cut result f s s' p = record {
-  given = lib;
+ends_put command given Cut result f s s' p = record {
+  given = given;
   came = refl;
   due = p.due;
   begun = p.is;
@@ -255,23 +256,23 @@ ends_put command lib Cut result f s s' p = record {
     write_faults = refl;
   });
 }
-ends_put command lib ends.Starved result f s s' (inl p) = inr (record {
-  given = lib;
+ends_put command given ends.Starved result f s s' (inl p) = inr (record {
+  given = given;
   came = refl;
   wants = inl (record { files = refl; wrote = refl; write_faults = refl; written = p.written; taken = p.taken; put_faults = p.faults });
   read_faults = refl;
 })
-ends_put command lib ends.Starved result f s s' (inr p) = inr (record {
-  given = lib;
+ends_put command given ends.Starved result f s s' (inr p) = inr (record {
+  given = given;
   came = refl;
   wants = inr (record { due = p.due; is = p.is; files = refl; wrote = refl; text = p.text; pieces = p.pieces; write_faults = refl; put_faults = p.faults });
   read_faults = refl;
 })
-ends_put command lib Unread result f s s' p = absurd p
-ends_put command lib Unasked result f s s' p = absurd p
+ends_put command given Unread result f s s' p = absurd p
+ends_put command given Unasked result f s s' p = absurd p
 
 pub performs_put :
-    (command : FolderCommand) (lib : Library) (result : Status) (f : FolderState) (s s' : SinkState)
-    → Puts (λ extent. IsFolderAnswer extent command lib) (end_of result) result s s'
-    → Performs (folder_kind command) (Ok lib) result (record { folder = f; sink = s }) (record { folder = f; sink = s' })
-performs_put command lib result f s s' p = ends_put command lib (end_of result) result f s s' p
+    (command : FolderCommand) (given : FolderFields) (result : Status) (f : FolderState) (s s' : SinkState)
+    → Puts (λ extent. IsFolderAnswer extent command given) (end_of result) result s s'
+    → Performs (folder_kind command) (Ok given) result (record { folder = f; sink = s }) (record { folder = f; sink = s' })
+performs_put command given result f s s' p = ends_put command given (end_of result) result f s s' p

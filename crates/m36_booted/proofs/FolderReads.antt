@@ -3,9 +3,6 @@ use Rattle.std.proofs.Common.{◌≡◌, ℕ, ◌+◌, ◌<◌, ◌≤◌, List,
 use Rattle.std.proofs.lemmas.List.{at_drop_more, at_drop_all}
 use Rattle.std.proofs.lemmas.Option.{slice_get_within, get_or_from_slice_get}
 use Rattle.m36_dir.specs.Fields.{SegmentFields}
-use Rattle.m36_dir.specs.Catalog.{CatalogFields, Told}
-use Rattle.m36_dir.specs.declared.fault.CatalogFault.{CatalogFault}
-use Rattle.m36_dir.specs.declared.fault.CatalogFault.TheVariants as catalog
 use Rattle.m36_boot.specs.Refusals.{boot_answer}
 use Rattle.m36_boot.specs.Refusals as boot_refusals
 use Rattle.m36_boot.specs.declared.fault.BootFault.{BootFault}
@@ -15,34 +12,16 @@ use Rattle.m36_super.specs.Library.{Library}
 use Rattle.m36_super.specs.SuperFields.{SuperFields}
 use Rattle.m36_super.specs.BootSays.{IsBooted}
 use Rattle.m36_reading.specs.declared.refusal.Refusal.{Refusal}
-use Rattle.m36_reading.specs.declared.refusal.Refusal.TheVariants.{BadFile, ReadFault, NoMemory}
 use Rattle.m36_reading.specs.Reading.{Reading, decided, Early, then_with}
 use Rattle.m36_reading.specs.Asking.{Asked, Gives, Refuses}
 use Rattle.m36_reading.specs.Outside.{FolderState}
 use Rattle.m36_reading.specs.Doing.{Reads}
 use Rattle.m36_reading.proofs.ReadLaws.{gives_by, memory_given, reads_then, reads_nothing, reads_stop}
-use Rattle.m36_booted.specs.Folder.{catalog_refused, catalog_by, catalog_reads, files_with, files_from, library_of, fault_refused, booted_by, boots, folder_reads}
-use Rattle.m36_booted.specs.Systems.{IsFresh, library_in}
-
--- ---- the catalog
-
-pub catalog_given :
-    (given : Result CatalogFields CatalogFault) (c : CatalogFields)
-    → given ≡ Ok c → Gives (Ok c) (catalog_by given)
-catalog_given given c is = ap catalog_by is
-
-pub catalog_not :
-    (given : Result CatalogFields CatalogFault) (fault : CatalogFault) (r : Refusal)
-    → Told fault given → Refuses r (catalog_refused fault) → Gives (Err r) (catalog_by given)
-catalog_not given (catalog.D1 line) r told refuses = gives_by CatalogFields r (catalog_refused (catalog.D1 line)) (catalog_by given) (ap catalog_by told) refuses
-catalog_not given (catalog.D2 line) r told refuses = gives_by CatalogFields r (catalog_refused (catalog.D2 line)) (catalog_by given) (ap catalog_by told) refuses
-catalog_not given (catalog.D3 line) r told refuses = gives_by CatalogFields r (catalog_refused (catalog.D3 line)) (catalog_by given) (ap catalog_by told) refuses
-catalog_not given (catalog.D4 line) r told refuses = gives_by CatalogFields r (catalog_refused (catalog.D4 line)) (catalog_by given) (ap catalog_by told) refuses
-catalog_not given (catalog.D5 line) r told refuses = gives_by CatalogFields r (catalog_refused (catalog.D5 line)) (catalog_by given) (ap catalog_by told) refuses
-catalog_not given (catalog.D6 line) r told refuses = gives_by CatalogFields r (catalog_refused (catalog.D6 line)) (catalog_by given) (ap catalog_by told) refuses
-catalog_not given catalog.NoMemory r told refuses = memory_given CatalogFields r (catalog_by given) refuses
-
-pub ruleset catalogs = (catalog_given, catalog_not)
+use Rattle.m36_catalog.specs.declared.access.Access.{Access}
+use Rattle.m36_catalog.specs.Catalogs.{access_reads}
+use Rattle.m36_booted.specs.declared.reading.BootedFolder.{BootedFolder}
+use Rattle.m36_booted.specs.Folder.{FolderFields, files_with, files_from, folder_with, fault_refused, booted_by, boots, files_booted, folder_reads}
+use Rattle.m36_booted.specs.Systems.{IsFresh, given_in}
 
 -- ---- the files
 
@@ -119,59 +98,69 @@ pub ruleset files_in_turn = (files_start, files_more, files_stop, files_end)
 -- ---- booting
 
 pub booted_given :
-    (lib : Library) (s : SuperFields) → IsBooted lib s → Gives (library_in (Ok s)) (boots lib)
+    (given : FolderFields) (b : BootedFolder) → IsBooted given.lib b.system → b.denied ≡ given.denied
+    → Gives (given_in (Ok b)) (boots given)
 unfolding boots
-booted_given lib s is = ap (booted_by lib) is.answer ∙ ap (λ (l : Library). Ok l) (sym is.library)
+booted_given given b is same =
+    ap (booted_by given) is.answer
+    ∙ ap (λ (l : Library). Ok (record { lib = l; denied = given.denied })) (sym is.library)
+    ∙ ap (λ (d : List (List ℕ)). Ok (record { lib = b.system.lib; denied = d })) (sym same)
 
 pub booted_not :
-    (lib : Library) (fault : BootFault) (r : Refusal)
-    → boot_refusals.Told fault (boot_answer lib.catalog lib.files) → Refuses r (fault_refused fault)
-    → Gives (library_in (Err r)) (boots lib)
+    (given : FolderFields) (fault : BootFault) (r : Refusal)
+    → boot_refusals.Told fault (boot_answer given.lib.catalog given.lib.files) → Refuses r (fault_refused fault)
+    → Gives (given_in (Err r)) (boots given)
 unfolding boots
-booted_not lib boot.U1 r told refuses = gives_by Library r (fault_refused boot.U1) (boots lib) (ap (booted_by lib) told) refuses
-booted_not lib (boot.U2 seg) r told refuses = gives_by Library r (fault_refused (boot.U2 seg)) (boots lib) (ap (booted_by lib) told) refuses
-booted_not lib boot.U3 r told refuses = gives_by Library r (fault_refused boot.U3) (boots lib) (ap (booted_by lib) told) refuses
-booted_not lib (boot.U4 seg) r told refuses = gives_by Library r (fault_refused (boot.U4 seg)) (boots lib) (ap (booted_by lib) told) refuses
-booted_not lib boot.NoMemory r told refuses = memory_given Library r (boots lib) refuses
+booted_not given boot.U1 r told refuses = gives_by FolderFields r (fault_refused boot.U1) (boots given) (ap (booted_by given) told) refuses
+booted_not given (boot.U2 seg) r told refuses = gives_by FolderFields r (fault_refused (boot.U2 seg)) (boots given) (ap (booted_by given) told) refuses
+booted_not given boot.U3 r told refuses = gives_by FolderFields r (fault_refused boot.U3) (boots given) (ap (booted_by given) told) refuses
+booted_not given (boot.U4 seg) r told refuses = gives_by FolderFields r (fault_refused (boot.U4 seg)) (boots given) (ap (booted_by given) told) refuses
+booted_not given boot.NoMemory r told refuses = memory_given FolderFields r (boots given) refuses
 
 pub booted_fresh : (lib : Library) (s : SuperFields) → IsBooted lib s → IsFresh s
 booted_fresh lib s is = subst (λ (l : Library). IsBooted l s) (sym is.library) is
 
 pub ruleset booting = (booted_given, booted_not, booted_fresh)
 
+-- ---- the files, and booting
+
+pub files_given :
+    (access : Access) (files : List (List ℕ)) (result : Result BootedFolder Refusal) (old new : FolderState) (before after : List Asked)
+    → Reads (files_from [] access.catalog.segments) (Ok files) old new before after
+    → Gives (given_in result) (boots (folder_with access files))
+    → Reads (files_booted access) (given_in result) old new before after
+unfolding files_booted
+files_given access files result old new before after one gives =
+    reads_then (files_from [] access.catalog.segments) (λ files. decided (boots (folder_with access files))) files (given_in result) old new new before after after one
+    (reads_nothing (boots (folder_with access files)) (given_in result) new after gives)
+
+pub files_not :
+    (access : Access) (r : Refusal) (old new : FolderState) (before after : List Asked)
+    → Reads (files_from [] access.catalog.segments) (Err r) old new before after
+    → Reads (files_booted access) (given_in (Err r)) old new before after
+unfolding files_booted
+files_not access r old new before after one =
+    reads_stop (List (List ℕ)) FolderFields (files_from [] access.catalog.segments) (λ files. decided (boots (folder_with access files))) r old new before after one
+
+pub ruleset boots_files = (files_given, files_not)
+
 -- ---- all
 
 pub folder_given :
-    (c : CatalogFields) (files : List (List ℕ)) (result : Result SuperFields Refusal) (old mid new : FolderState)
-    (before between after : List Asked)
-    → Reads catalog_reads (Ok c) old mid before between
-    → Reads (files_from [] c.segments) (Ok files) mid new between after
-    → Gives (library_in result) (boots (library_of c files))
-    → Reads folder_reads (library_in result) old new before after
+    (user : Option (List ℕ)) (access : Access) (result : Result BootedFolder Refusal) (old mid new : FolderState) (before between after : List Asked)
+    → Reads (access_reads user) (Ok access) old mid before between
+    → Reads (files_booted access) (given_in result) mid new between after
+    → Reads (folder_reads user) (given_in result) old new before after
 unfolding folder_reads
-folder_given c files result old mid new before between after one two gives =
-    reads_then catalog_reads (λ catalog. then_with (files_from [] catalog.segments) (λ files. decided (boots (library_of catalog files))))
-    c (library_in result) old mid new before between after one
-    (reads_then (files_from [] c.segments) (λ files. decided (boots (library_of c files))) files (library_in result) mid new new between after after two
-    (reads_nothing (boots (library_of c files)) (library_in result) new after gives))
+folder_given user access result old mid new before between after one two =
+    reads_then (access_reads user) (λ access. files_booted access) access (given_in result) old mid new before between after one two
 
-pub folder_no_catalog :
-    (r : Refusal) (old new : FolderState) (before after : List Asked)
-    → Reads catalog_reads (Err r) old new before after
-    → Reads folder_reads (library_in (Err r)) old new before after
+pub folder_not :
+    (user : Option (List ℕ)) (r : Refusal) (old new : FolderState) (before after : List Asked)
+    → Reads (access_reads user) (Err r) old new before after
+    → Reads (folder_reads user) (given_in (Err r)) old new before after
 unfolding folder_reads
-folder_no_catalog r old new before after one =
-    reads_stop CatalogFields Library catalog_reads (λ catalog. then_with (files_from [] catalog.segments) (λ files. decided (boots (library_of catalog files)))) r old new before after one
+folder_not user r old new before after one =
+    reads_stop Access FolderFields (access_reads user) (λ access. files_booted access) r old new before after one
 
-pub folder_no_files :
-    (c : CatalogFields) (r : Refusal) (old mid new : FolderState) (before between after : List Asked)
-    → Reads catalog_reads (Ok c) old mid before between
-    → Reads (files_from [] c.segments) (Err r) mid new between after
-    → Reads folder_reads (library_in (Err r)) old new before after
-unfolding folder_reads
-folder_no_files c r old mid new before between after one two =
-    reads_then catalog_reads (λ catalog. then_with (files_from [] catalog.segments) (λ files. decided (boots (library_of catalog files))))
-    c (library_in (Err r)) old mid new before between after one
-    (reads_stop (List (List ℕ)) Library (files_from [] c.segments) (λ files. decided (boots (library_of c files))) r mid new between after two)
-
-pub ruleset folders = (folder_given, folder_no_catalog, folder_no_files)
+pub ruleset folders = (folder_given, folder_not)

@@ -90,6 +90,13 @@ pieces_then put.Failed xs ys old now new one two = record {
   cause = let P : ℕ → Type 0 = λ n. Rose n new.faults in subst P one.cause two.cause;
 }
 
+-- one, and then others, or a first part of them
+pub first_then :
+    (answer : Put) (line : List ℕ) (pieces : List (List ℕ)) (old now new : SinkState)
+    → PutsPieces put.Done (line ∷ []) old now → PutsPieces answer pieces now new
+    → PutsPieces answer (line ∷ pieces) old new
+first_then answer line pieces old now new one two = pieces_then answer (line ∷ []) pieces old now new one two
+
 -- a first part of some is one of more
 pub pieces_longer :
     (xs ys : List (List ℕ)) (old new : SinkState)
@@ -101,3 +108,8 @@ pieces_longer xs ys old new cut = record {
   through = takes_lines_longer old.taken new.taken xs ys cut.through;
   cause = cut.cause;
 }
+
+pub first_cut :
+    (line : List ℕ) (pieces : List (List ℕ)) (old new : SinkState)
+    → PutsPieces put.Failed (line ∷ []) old new → PutsPieces put.Failed (line ∷ pieces) old new
+first_cut line pieces old new cut = pieces_longer (line ∷ []) pieces old new cut

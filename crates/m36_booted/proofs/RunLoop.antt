@@ -12,14 +12,13 @@ use Rattle.m36_super.specs.declared.coming.Coming.TheVariants.{Step}
 use Rattle.m36_super.specs.BootedRun.{Booted, IsTurn, AreTurns}
 use Rattle.m36_super.specs.SuperFields.{SuperFields, booted_of}
 use Rattle.m36_reading.specs.Outside.{SinkState}
-use Rattle.m36_ran.specs.Output.{as_line}
 use Rattle.m36_booted.specs.declared.command.RunOutput.{RunOutput}
 use Rattle.m36_booted.specs.declared.running.Finish.{Finish}
 use Rattle.m36_booted.specs.declared.running.Finish.TheVariants.{Over, Limit}
 use Rattle.m36_booted.specs.declared.running.Progress.TheVariants as progress
 use Rattle.m36_booted.specs.declared.running.Ran.{Ran}
 use Rattle.m36_booted.specs.declared.running.Ran.TheVariants as ran
-use Rattle.m36_booted.specs.RunText.{steps_in, pieces_from, finish_line, end_pieces, run_pieces}
+use Rattle.m36_booted.specs.RunText.{steps_in, pieces_from, end_pieces, run_pieces}
 use Rattle.m36_booted.specs.Runs.{IsEvent, Extent, Whole, Begun, Starved, Reaches, Finishes}
 use Rattle.m36_booted.specs.RunSays.{PutsPieces, AreMade, Progresses, IsRan, FinishSays, RanSays}
 use Rattle.m36_booted.proofs.Pieces.{pieces_are, pieces_then}
@@ -69,12 +68,12 @@ run_goes_on output limit taken left system now after old mid new way some goes =
 
 -- a run that is told so far
 ran_so :
-    (extent : Extent) (how : Option Finish) (answer : Put) (output : RunOutput) (limit steps : ℕ) (system : SuperFields) (last : Booted) (turns : List Turn) (old new : SinkState)
+    (extent : Extent) (how : Option Finish) (answer : Put) (denied : List (List ℕ)) (output : RunOutput) (limit steps : ℕ) (system : SuperFields) (last : Booted) (turns : List Turn) (old new : SinkState)
     → AreTurns system.lib (booted_of system) turns last → Each IsEvent turns → steps_in turns ≡ steps → steps ≤ limit
     → Reaches extent how system.lib limit turns last
-    → PutsPieces answer (run_pieces output turns how) old new
-    → IsRan extent how answer output limit system old new
-ran_so extent how answer output limit steps system last turns old new turns_are events count few reaches puts = record {
+    → PutsPieces answer (run_pieces denied output turns how) old new
+    → IsRan extent how answer denied output limit system old new
+ran_so extent how answer denied output limit steps system last turns old new turns_are events count few reaches puts = record {
   turns = turns;
   last = last;
   goes = record {
@@ -87,75 +86,75 @@ ran_so extent how answer output limit steps system last turns old new turns_are 
 }
 
 unended :
-    (output : RunOutput) (turns : List Turn) → pieces_from output 0 turns ≡ run_pieces output turns None
+    (denied : List (List ℕ)) (output : RunOutput) (turns : List Turn) → pieces_from output 0 turns ≡ run_pieces denied output turns None
 unfolding run_pieces
-unended output turns = sym (append-nil (pieces_from output 0 turns))
+unended denied output turns = sym (append-nil (pieces_from output 0 turns))
 
 pub run_cut :
-    (output : RunOutput) (limit taken left : ℕ) (system now after : SuperFields) (old mid new : SinkState)
+    (denied : List (List ℕ)) (output : RunOutput) (limit taken left : ℕ) (system now after : SuperFields) (old mid new : SinkState)
     → IsUnderWay output limit taken left system now old mid → 0 < left
     → Progresses progress.Cut output taken 1 now after mid new
-    → RanSays ran.Cut output limit system old new
-run_cut output limit taken left system now after old mid new way some leaves =
+    → RanSays ran.Cut denied output limit system old new
+run_cut denied output limit taken left system now after old mid new way some leaves =
     let made = with_step put.Failed output taken system now leaves.last old mid new way.made way.lib leaves.made in (
       None,
-      ran_so Begun None put.Failed output limit (taken + 1) system leaves.last made.turns old new made.turns_are made.events made.count (omega (arith, way.count, some)) tt
-          (pieces_are put.Failed (pieces_from output 0 made.turns) (run_pieces output made.turns None) old new (unended output made.turns) made.puts),
+      ran_so Begun None put.Failed denied output limit (taken + 1) system leaves.last made.turns old new made.turns_are made.events made.count (omega (arith, way.count, some)) tt
+          (pieces_are put.Failed (pieces_from output 0 made.turns) (run_pieces denied output made.turns None) old new (unended denied output made.turns) made.puts),
     )
 
 pub run_starved :
-    (output : RunOutput) (limit taken left : ℕ) (system now after : SuperFields) (old mid new : SinkState)
+    (denied : List (List ℕ)) (output : RunOutput) (limit taken left : ℕ) (system now after : SuperFields) (old mid new : SinkState)
     → IsUnderWay output limit taken left system now old mid → 0 < left
     → Progresses progress.Starved output taken 1 now after mid new
-    → RanSays ran.Starved output limit system old new
-run_starved output limit taken left system now after old mid new way some leaves =
+    → RanSays ran.Starved denied output limit system old new
+run_starved denied output limit taken left system now after old mid new way some leaves =
     let made = with_step put.Done output taken system now leaves.last old mid new way.made way.lib leaves.made in
-    ran_so Starved None put.Done output limit (taken + 1) system leaves.last made.turns old new made.turns_are made.events made.count (omega (arith, way.count, some)) leaves.behind
-    (pieces_are put.Done (pieces_from output 0 made.turns) (run_pieces output made.turns None) old new (unended output made.turns) made.puts)
+    ran_so Starved None put.Done denied output limit (taken + 1) system leaves.last made.turns old new made.turns_are made.events made.count (omega (arith, way.count, some)) leaves.behind
+    (pieces_are put.Done (pieces_from output 0 made.turns) (run_pieces denied output made.turns None) old new (unended denied output made.turns) made.puts)
 
 -- the end line behind what was made
 ended :
-    (answer : Put) (how : Finish) (output : RunOutput) (steps : ℕ) (turns : List Turn) (old mid new : SinkState)
+    (answer : Put) (how : Finish) (denied : List (List ℕ)) (output : RunOutput) (steps : ℕ) (turns : List Turn) (old mid new : SinkState)
     → steps_in turns ≡ steps → PutsPieces put.Done (pieces_from output 0 turns) old mid
-    → PutsPieces answer (as_line (finish_line how steps) ∷ []) mid new
-    → PutsPieces answer (run_pieces output turns (Some how)) old new
+    → PutsPieces answer (end_pieces denied (Some how) steps) mid new
+    → PutsPieces answer (run_pieces denied output turns (Some how)) old new
 unfolding run_pieces
-ended answer how output steps turns old mid new count one two =
-    pieces_then answer (pieces_from output 0 turns) (end_pieces (Some how) (steps_in turns)) old mid new one
-    (subst (λ n. PutsPieces answer (as_line (finish_line how n) ∷ []) mid new) (sym count) two)
+ended answer how denied output steps turns old mid new count one two =
+    pieces_then answer (pieces_from output 0 turns) (end_pieces denied (Some how) (steps_in turns)) old mid new one
+    (subst (λ n. PutsPieces answer (end_pieces denied (Some how) n) mid new) (sym count) two)
 
 finished :
-    (r : Ran) (how : Finish) (output : RunOutput) (limit steps : ℕ) (system : SuperFields) (last : Booted) (old mid new : SinkState)
+    (r : Ran) (how : Finish) (denied : List (List ℕ)) (output : RunOutput) (limit steps : ℕ) (system : SuperFields) (last : Booted) (old mid new : SinkState)
     (made : AreMade put.Done output 0 steps system.lib (booted_of system) last old mid) → steps ≤ limit
-    → Finishes how system.lib limit made.turns last → FinishSays r how steps mid new
-    → RanSays r output limit system old new
-finished (ran.Whole told) how output limit steps system last old mid new made few finishes says =
-    subst (λ h. IsRan Whole (Some h) put.Done output limit system old new) (sym says.0)
-    (ran_so Whole (Some how) put.Done output limit steps system last made.turns old new made.turns_are made.events made.count few finishes
-    (ended put.Done how output steps made.turns old mid new made.count made.puts says.1))
-finished ran.Cut how output limit steps system last old mid new made few finishes says = (
+    → Finishes how system.lib limit made.turns last → FinishSays r denied how steps mid new
+    → RanSays r denied output limit system old new
+finished (ran.Whole told) how denied output limit steps system last old mid new made few finishes says =
+    subst (λ h. IsRan Whole (Some h) put.Done denied output limit system old new) (sym says.0)
+    (ran_so Whole (Some how) put.Done denied output limit steps system last made.turns old new made.turns_are made.events made.count few finishes
+    (ended put.Done how denied output steps made.turns old mid new made.count made.puts says.1))
+finished ran.Cut how denied output limit steps system last old mid new made few finishes says = (
   Some how,
-  ran_so Begun (Some how) put.Failed output limit steps system last made.turns old new made.turns_are made.events made.count few finishes
-      (ended put.Failed how output steps made.turns old mid new made.count made.puts says),
+  ran_so Begun (Some how) put.Failed denied output limit steps system last made.turns old new made.turns_are made.events made.count few finishes
+      (ended put.Failed how denied output steps made.turns old mid new made.count made.puts says),
 )
-finished ran.Starved how output limit steps system last old mid new made few finishes says = absurd says
+finished ran.Starved how denied output limit steps system last old mid new made few finishes says = absurd says
 
 pub run_over :
-    (r : Ran) (e : End) (output : RunOutput) (limit taken left : ℕ) (system now after : SuperFields) (old mid next new : SinkState)
+    (r : Ran) (e : End) (denied : List (List ℕ)) (output : RunOutput) (limit taken left : ℕ) (system now after : SuperFields) (old mid next new : SinkState)
     → IsUnderWay output limit taken left system now old mid → 0 < left
     → Progresses (progress.Over e) output taken 1 now after mid next
-    → FinishSays r (Over e) (taken + 1) next new
-    → RanSays r output limit system old new
-run_over r e output limit taken left system now after old mid next new way some leaves says =
+    → FinishSays r denied (Over e) (taken + 1) next new
+    → RanSays r denied output limit system old new
+run_over r e denied output limit taken left system now after old mid next new way some leaves says =
     let made = with_step put.Done output taken system now leaves.last old mid next way.made way.lib leaves.made in
-    finished r (Over e) output limit (taken + 1) system leaves.last old next new made (omega (arith, way.count, some))
+    finished r (Over e) denied output limit (taken + 1) system leaves.last old next new made (omega (arith, way.count, some))
     (leaves.behind.0, subst (λ l. IsTurn l leaves.last (Ended e) leaves.behind.0) way.lib leaves.behind.1) says
 
 pub run_limit :
-    (r : Ran) (output : RunOutput) (limit taken left : ℕ) (system now : SuperFields) (old mid new : SinkState)
+    (r : Ran) (denied : List (List ℕ)) (output : RunOutput) (limit taken left : ℕ) (system now : SuperFields) (old mid new : SinkState)
     → IsUnderWay output limit taken left system now old mid → left ≡ 0
-    → FinishSays r Limit taken mid new → RanSays r output limit system old new
-run_limit r output limit taken left system now old mid new way none says =
+    → FinishSays r denied Limit taken mid new → RanSays r denied output limit system old new
+run_limit r denied output limit taken left system now old mid new way none says =
     let all : taken ≡ limit = omega (arith, way.count, none) in
-    finished r Limit output limit taken system (booted_of now) old mid new way.made (omega (arith, all))
+    finished r Limit denied output limit taken system (booted_of now) old mid new way.made (omega (arith, all))
     (way.made.count ∙ all, way.next) says

@@ -31,6 +31,7 @@ use Rattle.m36_ran.proofs.YesAnswers.{none_found}
 use Rattle.m36_booted.specs.declared.command.FolderCommand.{FolderCommand}
 use Rattle.m36_booted.specs.declared.command.FolderCommand.TheVariants.{Audit, Run, Trace}
 use Rattle.m36_booted.specs.declared.command.RunOutput.{RunOutput}
+use Rattle.m36_booted.specs.Folder.{FolderFields}
 use Rattle.m36_booted.specs.RunText.{run_pieces, run_answer}
 use Rattle.m36_booted.specs.Runs.{Extent, Whole, Begun, Starved}
 use Rattle.m36_booted.specs.Booted.{IsAuditAnswer, IsRunBy, IsAnswerOf, IsFolderAnswer}
@@ -49,19 +50,19 @@ audit_begins Begun findings due is = ([], ap (λ (d : Answer). d.text) is ∙ sy
 audit_begins Starved findings due is = absurd is
 
 run_begins :
-    (b : Bool) (extent : Extent) (output : RunOutput) (limit : ℕ) (lib : Library) (first : Booted) (findings : List (ℕ × ℕ)) (due : Answer)
-    → IsRunBy b extent output limit lib first findings due → Begins findings due
+    (b : Bool) (extent : Extent) (denied : List (List ℕ)) (output : RunOutput) (limit : ℕ) (lib : Library) (first : Booted) (findings : List (ℕ × ℕ)) (due : Answer)
+    → IsRunBy b extent denied output limit lib first findings due → Begins findings due
 unfolding run_answer
-run_begins true extent output limit lib first findings due is =
-    (joined (run_pieces output is.turns is.how), ap (λ (d : Answer). d.text) is.answer)
-run_begins false extent output limit lib first findings due is = audit_begins extent findings due is
+run_begins true extent denied output limit lib first findings due is =
+    (joined (run_pieces denied output is.turns is.how), ap (λ (d : Answer). d.text) is.answer)
+run_begins false extent denied output limit lib first findings due is = audit_begins extent findings due is
 
 answer_begins :
-    (command : FolderCommand) (extent : Extent) (lib : Library) (first : Booted) (findings : List (ℕ × ℕ)) (due : Answer)
-    → IsAnswerOf command extent lib first findings due → Begins findings due
-answer_begins Audit extent lib first findings due is = audit_begins extent findings due is
-answer_begins (Run run) extent lib first findings due is = run_begins _ extent _ run.steps lib first findings due is
-answer_begins (Trace run) extent lib first findings due is = run_begins _ extent _ run.steps lib first findings due is
+    (command : FolderCommand) (extent : Extent) (denied : List (List ℕ)) (lib : Library) (first : Booted) (findings : List (ℕ × ℕ)) (due : Answer)
+    → IsAnswerOf command extent denied lib first findings due → Begins findings due
+answer_begins Audit extent denied lib first findings due is = audit_begins extent findings due is
+answer_begins (Run run) extent denied lib first findings due is = run_begins _ extent denied _ run.steps lib first findings due is
+answer_begins (Trace run) extent denied lib first findings due is = run_begins _ extent denied _ run.steps lib first findings due is
 
 -- ---- an LDBR that was executed stays executed
 
@@ -172,10 +173,10 @@ passes_booted lib system booted audited = record {
 }
 
 pub yes_passes :
-    (extent : Extent) (command : FolderCommand) (lib : Library) (due : Answer) (rest : List ℕ)
-    → IsFolderAnswer extent command lib due → due.text ≡ yes_line ++ rest → PassesBooted lib
-yes_passes extent command lib due rest is begins =
-    let b = answer_begins command extent lib (booted_of is.system) is.findings due is.answer in
+    (extent : Extent) (command : FolderCommand) (given : FolderFields) (due : Answer) (rest : List ℕ)
+    → IsFolderAnswer extent command given due → due.text ≡ yes_line ++ rest → PassesBooted given.lib
+yes_passes extent command given due rest is begins =
+    let b = answer_begins command extent given.denied given.lib (booted_of is.system) is.findings due is.answer in
     let none : is.findings ≡ [] = none_found is.findings b.0 rest (sym b.1 ∙ begins) in
-    passes_booted lib is.system is.booted
+    passes_booted given.lib is.system is.booted
     (findings_law.sound is.system.core booted_dbr (subst (AreFindings is.system.core booted_dbr) none is.found))

@@ -11,13 +11,14 @@ use Rattle.m36_super.specs.SuperFields.{SuperFields, booted_of}
 use Rattle.m36_super.specs.BootSays.{IsBooted}
 use Rattle.m36_reading.specs.Answers.{Answer}
 use Rattle.m36_reading.specs.Outside.{Outside, IsIdle}
-use Rattle.m36_reading.specs.Doing.{Kind}
+use Rattle.m36_reading.specs.Doing.{Kind, fails_never}
 use Rattle.m36_ran.specs.Ran.{passes, behind, audit_answer}
 use Rattle.m36_booted.specs.declared.command.FolderCommand.{FolderCommand}
 use Rattle.m36_booted.specs.declared.command.FolderCommand.TheVariants.{Audit, Run, Trace}
 use Rattle.m36_booted.specs.declared.command.RunOutput.{RunOutput}
 use Rattle.m36_booted.specs.declared.command.RunOutput.TheVariants as output
 use Rattle.m36_booted.specs.declared.running.Finish.{Finish}
+use Rattle.m36_booted.specs.Folder.{FolderFields}
 use Rattle.m36_booted.specs.RunText.{run_answer}
 use Rattle.m36_booted.specs.Runs.{Goes, Extent, Whole, Begun, Starved, Reaches}
 
@@ -25,14 +26,14 @@ use Rattle.m36_booted.specs.Runs.{Goes, Extent, Whole, Begun, Starved, Reaches}
 -- several runs may be due where a program has looked at the addresses of frames, by ABSA; until
 -- then one is.
 pub record IsRunAnswer
-    (extent : Extent) (output : RunOutput) (limit : ℕ) (lib : Library) (first : Booted)
-    (findings : List (ℕ × ℕ)) (due : Answer) : Type 0 where
+    (extent : Extent) (denied : List (List ℕ)) (output : RunOutput) (limit : ℕ) (lib : Library)
+    (first : Booted) (findings : List (ℕ × ℕ)) (due : Answer) : Type 0 where
   pub turns : List Turn
   pub last : Booted
   pub how : Option Finish
   pub goes : Goes lib limit first turns last
   pub reaches : Reaches extent how lib limit turns last
-  pub answer : due ≡ behind findings (run_answer output turns how)
+  pub answer : due ≡ behind findings (run_answer denied output turns how)
 
 -- The audit text alone. No memory is wanted behind it.
 abbrev pub IsAuditAnswer : Extent → List (ℕ × ℕ) → Answer → Type 0
@@ -42,33 +43,39 @@ IsAuditAnswer Starved findings due = ⊥
 
 -- The system is run where the audit passes, or `--unaudited` is given.
 abbrev pub IsRunBy :
-    Bool → Extent → RunOutput → ℕ → Library → Booted → List (ℕ × ℕ) → Answer → Type 0
-IsRunBy true extent output limit lib first findings due =
-    IsRunAnswer extent output limit lib first findings due
-IsRunBy false extent output limit lib first findings due = IsAuditAnswer extent findings due
+    Bool → Extent → List (List ℕ) → RunOutput → ℕ → Library → Booted → List (ℕ × ℕ) → Answer
+    → Type 0
+IsRunBy true extent denied output limit lib first findings due =
+    IsRunAnswer extent denied output limit lib first findings due
+IsRunBy false extent denied output limit lib first findings due =
+    IsAuditAnswer extent findings due
 
-abbrev pub IsAnswerOf : FolderCommand → Extent → Library → Booted → List (ℕ × ℕ) → Answer → Type 0
-IsAnswerOf Audit extent lib first findings due = IsAuditAnswer extent findings due
-IsAnswerOf (Run run) extent lib first findings due =
-    IsRunBy (passes findings || run.unaudited) extent output.Console run.steps lib first findings
-    due
-IsAnswerOf (Trace run) extent lib first findings due =
-    IsRunBy (passes findings || run.unaudited) extent output.Trace run.steps lib first findings due
+abbrev pub IsAnswerOf :
+    FolderCommand → Extent → List (List ℕ) → Library → Booted → List (ℕ × ℕ) → Answer → Type 0
+IsAnswerOf Audit extent denied lib first findings due = IsAuditAnswer extent findings due
+IsAnswerOf (Run run) extent denied lib first findings due =
+    IsRunBy (passes findings || run.unaudited) extent denied output.Console run.steps lib first
+    findings due
+IsAnswerOf (Trace run) extent denied lib first findings due =
+    IsRunBy (passes findings || run.unaudited) extent denied output.Trace run.steps lib first
+    findings due
 
 -- The answer is by the system to which the folder boots, and by what the audit of its core finds,
 -- of which there is one list.
-pub record IsFolderAnswer (extent : Extent) (command : FolderCommand) (lib : Library) (due : Answer)
+pub record IsFolderAnswer
+    (extent : Extent) (command : FolderCommand) (given : FolderFields) (due : Answer)
     : Type 0 where
   pub system : SuperFields
-  pub booted : IsBooted lib system
+  pub booted : IsBooted given.lib system
   pub findings : List (ℕ × ℕ)
   pub found : AreFindings system.core booted_dbr findings
-  pub answer : IsAnswerOf command extent lib (booted_of system) findings due
+  pub answer : IsAnswerOf command extent given.denied given.lib (booted_of system) findings due
 
 -- Memory was wanted by a link service, and the run up to it is written whole.
-pub record IsStarvedRun (command : FolderCommand) (lib : Library) (old new : Outside) : Type 0 where
+pub record IsStarvedRun
+    (command : FolderCommand) (given : FolderFields) (old new : Outside) : Type 0 where
   pub due : Answer
-  pub is : IsFolderAnswer Starved command lib due
+  pub is : IsFolderAnswer Starved command given due
   pub files : new.folder.files ≡ old.folder.files
   pub wrote : new.folder.wrote ≡ old.folder.wrote
   pub text : Grew old.sink.written new.sink.written due.text
@@ -77,12 +84,13 @@ pub record IsStarvedRun (command : FolderCommand) (lib : Library) (old new : Out
   pub put_faults : new.sink.faults ≡ old.sink.faults
 
 -- Memory is wanted before anything is written, or by a link service.
-abbrev pub FolderWants : FolderCommand → Library → Outside → Outside → Type 0
-FolderWants command lib old new = IsIdle old new ⊎ IsStarvedRun command lib old new
+abbrev pub FolderWants : FolderCommand → FolderFields → Outside → Outside → Type 0
+FolderWants command given old new = IsIdle old new ⊎ IsStarvedRun command given old new
 
-abbrev pub folder_kind : FolderCommand → Kind Library
+abbrev pub folder_kind : FolderCommand → Kind FolderFields
 folder_kind command = record {
   IsDue = IsFolderAnswer Whole command;
   IsBegun = IsFolderAnswer Begun command;
   Wants = FolderWants command;
+  Fails = fails_never;
 }

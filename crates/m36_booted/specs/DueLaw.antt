@@ -11,6 +11,7 @@ use Rattle.m36_super.specs.BootSays.{IsBooted}
 use Rattle.m36_reading.specs.Answers.{Answer}
 use Rattle.m36_booted.specs.declared.command.FolderCommand.{FolderCommand}
 use Rattle.m36_booted.specs.declared.command.FolderCommand.TheVariants.{Audit}
+use Rattle.m36_booted.specs.Folder.{FolderFields}
 use Rattle.m36_booted.specs.Runs.{Extent, Whole}
 use Rattle.m36_booted.specs.Booted.{IsFolderAnswer}
 
@@ -22,13 +23,13 @@ pub record FolderDueLaw : Type 0 where
       (lib : Library) (system same : SuperFields)
       → IsBooted lib system → IsBooted lib same → system ≡ same
   pub audit :
-      (lib : Library) (due same : Answer) → IsFolderAnswer Whole Audit lib due
-      → IsFolderAnswer Whole Audit lib same → due ≡ same
+      (given : FolderFields) (due same : Answer) → IsFolderAnswer Whole Audit given due
+      → IsFolderAnswer Whole Audit given same → due ≡ same
   pub turns :
       (lib : Library) (system : SuperFields) (turns same : List Turn) (last other : Booted)
       → IsBooted lib system → AreTurns lib (booted_of system) turns last
       → AreTurns lib (booted_of system) same other → Each IsPlainTurn turns → Each IsPlainTurn same
       → length turns ≡ length same → turns ≡ same
   pub pieces :
-      (extent : Extent) (command : FolderCommand) (lib : Library) (due : Answer)
-      → IsFolderAnswer extent command lib due → joined due.pieces ≡ due.text
+      (extent : Extent) (command : FolderCommand) (given : FolderFields) (due : Answer)
+      → IsFolderAnswer extent command given due → joined due.pieces ≡ due.text

@@ -19,8 +19,7 @@ use Rattle.m36_booted.specs.declared.running.Progress.{Progress}
 use Rattle.m36_booted.specs.declared.running.Progress.TheVariants as progress
 use Rattle.m36_booted.specs.declared.running.Ran.{Ran}
 use Rattle.m36_booted.specs.declared.running.Ran.TheVariants as ran
-use Rattle.m36_ran.specs.Output.{as_line}
-use Rattle.m36_booted.specs.RunText.{steps_in, pieces_from, finish_line, run_pieces}
+use Rattle.m36_booted.specs.RunText.{steps_in, pieces_from, end_pieces, run_pieces}
 use Rattle.m36_booted.specs.Runs.{IsEvent, Goes, AwaitsLink, Extent, Whole, Begun, Starved, Reaches}
 
 -- pieces are put, or a first part of them where a put failed
@@ -86,27 +85,29 @@ Progresses progress.Starved output taken steps before after old new =
 
 -- ---- the run
 
--- what putting the end line answers
-abbrev pub FinishSays : Ran → Finish → ℕ → SinkState → SinkState → Type 0
-FinishSays (ran.Whole how) due steps old new =
-    (how ≡ due) × PutsPieces put.Done (as_line (finish_line due steps) ∷ []) old new
-FinishSays ran.Cut due steps old new =
-    PutsPieces put.Failed (as_line (finish_line due steps) ∷ []) old new
-FinishSays ran.Starved due steps old new = ⊥
+-- what putting the end answers
+abbrev pub FinishSays :
+    Ran → List (List ℕ) → Finish → ℕ → SinkState → SinkState → Type 0
+FinishSays (ran.Whole how) denied due steps old new =
+    (how ≡ due) × PutsPieces put.Done (end_pieces denied (Some due) steps) old new
+FinishSays ran.Cut denied due steps old new =
+    PutsPieces put.Failed (end_pieces denied (Some due) steps) old new
+FinishSays ran.Starved denied due steps old new = ⊥
 
 pub record IsRan
-    (extent : Extent) (how : Option Finish) (answer : Put) (output : RunOutput) (limit : ℕ)
-    (system : SuperFields) (old new : SinkState) : Type 0 where
+    (extent : Extent) (how : Option Finish) (answer : Put) (denied : List (List ℕ))
+    (output : RunOutput) (limit : ℕ) (system : SuperFields) (old new : SinkState) : Type 0 where
   pub turns : List Turn
   pub last : Booted
   pub goes : Goes system.lib limit (booted_of system) turns last
   pub reaches : Reaches extent how system.lib limit turns last
-  pub puts : PutsPieces answer (run_pieces output turns how) old new
+  pub puts : PutsPieces answer (run_pieces denied output turns how) old new
 
-abbrev pub RanSays : Ran → RunOutput → ℕ → SuperFields → SinkState → SinkState → Type 0
-RanSays (ran.Whole how) output limit system old new =
-    IsRan Whole (Some how) put.Done output limit system old new
-RanSays ran.Cut output limit system old new =
-    (how : Option Finish) × IsRan Begun how put.Failed output limit system old new
-RanSays ran.Starved output limit system old new =
-    IsRan Starved None put.Done output limit system old new
+abbrev pub RanSays :
+    Ran → List (List ℕ) → RunOutput → ℕ → SuperFields → SinkState → SinkState → Type 0
+RanSays (ran.Whole how) denied output limit system old new =
+    IsRan Whole (Some how) put.Done denied output limit system old new
+RanSays ran.Cut denied output limit system old new =
+    (how : Option Finish) × IsRan Begun how put.Failed denied output limit system old new
+RanSays ran.Starved denied output limit system old new =
+    IsRan Starved None put.Done denied output limit system old new

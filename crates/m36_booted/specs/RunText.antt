@@ -1,7 +1,11 @@
 -- What is written of a booted run, in pieces: its trace or the characters of its console, and then
--- its end line.
-use Rattle.std.specs.Prelude.{ℕ, ◌+◌, List, [], ◌∷◌, ◌++◌, Option, Some, None}
+-- its end line. Behind a run for a user that ended for want of a right to a segment of the catalog
+-- stands the line of that segment.
+use Rattle.std.specs.Prelude.{ℕ, ◌+◌, ◌&&◌, ◌||◌, nat_eq, if◌then◌else◌, List, [], ◌∷◌, ◌++◌}
+use Rattle.std.specs.Prelude.{Option, Some, None, slice_get, option_and_then}
 use Rattle.m36_outside.specs.Passing.{joined}
+use Rattle.m36_link.specs.Known.{place_of}
+use Rattle.m36_model.specs.declared.outcome.Fault.{Fault}
 use Rattle.m36_model.specs.declared.endings.End.{End}
 use Rattle.m36_model.specs.declared.endings.End.TheVariants as end
 use Rattle.m36_model.specs.declared.outcome.Outcome.TheVariants.{Next}
@@ -74,10 +78,38 @@ abbrev pub finish_line : Finish → ℕ → List ℕ
 finish_line (Over e) steps = run_end_line_of e steps
 finish_line Limit steps = end_line_of Next steps
 
+-- a fault for want of a right to execute, read or write: the segment
+abbrev pub denied_at : Fault → Option ℕ
+denied_at fault =
+    if nat_eq fault.number 20 && (nat_eq fault.acv 2 || nat_eq fault.acv 4 || nat_eq fault.acv 6)
+    then Some fault.at.seg else None
+
+abbrev pub denied_by : End → Option ℕ
+denied_by (end.Fault fault) = denied_at fault
+denied_by (end.Stop stop) = None
+denied_by (end.Link code) = None
+denied_by end.Console = None
+
+abbrev pub denied_segment : Finish → Option ℕ
+denied_segment (Over e) = denied_by e
+denied_segment Limit = None
+
+-- the line that is told for such a segment of the catalog, if there is one
+abbrev pub line_for : List (List ℕ) → Option ℕ → Option (List ℕ)
+line_for denied seg =
+    option_and_then (slice_get denied) (option_and_then place_of seg)
+
+abbrev pub pieces_if : Option (List ℕ) → List (List ℕ)
+pieces_if None = []
+pieces_if (Some line) = line ∷ []
+
+unfoldable pub denied_pieces : List (List ℕ) → Finish → List (List ℕ)
+denied_pieces denied how = pieces_if (line_for denied (denied_segment how))
+
 -- a run that has not come to its end has no end line
-abbrev pub end_pieces : Option Finish → ℕ → List (List ℕ)
-end_pieces None steps = []
-end_pieces (Some how) steps = as_line (finish_line how steps) ∷ []
+abbrev pub end_pieces : List (List ℕ) → Option Finish → ℕ → List (List ℕ)
+end_pieces denied None steps = []
+end_pieces denied (Some how) steps = as_line (finish_line how steps) ∷ denied_pieces denied how
 
 -- DIS is the one end without a fault, a refused service or another stop.
 abbrev pub end_status : End → Status
@@ -96,13 +128,15 @@ finish_status (Some Limit) = status.Steps
 
 -- ---- the run
 
-unfoldable pub run_pieces : RunOutput → List Turn → Option Finish → List (List ℕ)
-run_pieces output turns how = pieces_from output 0 turns ++ end_pieces how (steps_in turns)
+unfoldable pub run_pieces :
+    List (List ℕ) → RunOutput → List Turn → Option Finish → List (List ℕ)
+run_pieces denied output turns how =
+    pieces_from output 0 turns ++ end_pieces denied how (steps_in turns)
 
-unfoldable pub run_answer : RunOutput → List Turn → Option Finish → Answer
-run_answer output turns how = record {
+unfoldable pub run_answer : List (List ℕ) → RunOutput → List Turn → Option Finish → Answer
+run_answer denied output turns how = record {
   sets = [];
-  text = joined (run_pieces output turns how);
-  pieces = run_pieces output turns how;
+  text = joined (run_pieces denied output turns how);
+  pieces = run_pieces denied output turns how;
   status = finish_status how;
 }

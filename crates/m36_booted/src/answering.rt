@@ -19,6 +19,7 @@ ghost use Rattle.m36_booted.specs.Systems.{IsFresh};
 use crate::command::{FolderCommand, FolderRun, RunOutput};
 use crate::reading::read_system;
 use crate::running::{Finish, Ran, run};
+use m36_acl::{DeniedLines, User};
 use m36_audit::{Finding, Verdict, audit};
 use m36_model::{End, Stop};
 use m36_outside::{Folder, Put, Sink};
@@ -60,18 +61,19 @@ fn run_audited<S: Sink>(
     findings: &[Finding],
     steps: u32,
     output: RunOutput,
+    denied: &DeniedLines,
     out: &mut S,
 ) -> Status
     requires { system.old.coming ≡ Step }
     ensures { Puts
-        (λ extent. IsRunAnswer extent output steps system.old.lib (booted_of system.old)
+        (λ extent. IsRunAnswer extent denied.now output steps system.old.lib (booted_of system.old)
         (pairs findings.now))
         (end_of result) result
         (sink_of S.written S.taken S.faults out.old) (sink_of S.written S.taken S.faults out.new) }
 {
     match put_audit(findings, out) {
         Put::Failed => Status::WriteFault,
-        Put::Done => match run(system, steps, output, out) {
+        Put::Done => match run(system, steps, output, denied, out) {
             Ran::Whole(how) => finish_status(how),
             Ran::Cut => Status::WriteFault,
             Ran::Starved => Status::NoMemory,
@@ -102,17 +104,18 @@ fn answer_run<S: Sink>(
     findings: &[Finding],
     run: FolderRun,
     output: RunOutput,
+    denied: &DeniedLines,
     out: &mut S,
 ) -> Status
     requires { system.old.coming ≡ Step }
     ensures { Puts
-        (λ extent. IsRunBy (passes (pairs findings.now) || run.unaudited) extent output run.steps
-        system.old.lib (booted_of system.old) (pairs findings.now))
+        (λ extent. IsRunBy (passes (pairs findings.now) || run.unaudited) extent denied.now output
+        run.steps system.old.lib (booted_of system.old) (pairs findings.now))
         (end_of result) result
         (sink_of S.written S.taken S.faults out.old) (sink_of S.written S.taken S.faults out.new) }
 {
     if is_run(findings, run) {
-        run_audited(system, findings, run.steps, output, out)
+        run_audited(system, findings, run.steps, output, denied, out)
     } else {
         answer_alone(findings, out)
     }
@@ -122,20 +125,25 @@ fn answer_run<S: Sink>(
 fn answer_found<S: Sink>(
     command: FolderCommand,
     system: &mut Super,
+    denied: &DeniedLines,
     findings: &[Finding],
     out: &mut S,
 ) -> Status
     requires { system.old.coming ≡ Step }
     ensures { Puts
-        (λ extent. IsAnswerOf command extent system.old.lib (booted_of system.old)
+        (λ extent. IsAnswerOf command extent denied.now system.old.lib (booted_of system.old)
         (pairs findings.now))
         (end_of result) result
         (sink_of S.written S.taken S.faults out.old) (sink_of S.written S.taken S.faults out.new) }
 {
     match command {
         FolderCommand::Audit => answer_alone(findings, out),
-        FolderCommand::Run(run) => answer_run(system, findings, run, RunOutput::Console, out),
-        FolderCommand::Trace(run) => answer_run(system, findings, run, RunOutput::Trace, out),
+        FolderCommand::Run(run) => {
+            answer_run(system, findings, run, RunOutput::Console, denied, out)
+        }
+        FolderCommand::Trace(run) => {
+            answer_run(system, findings, run, RunOutput::Trace, denied, out)
+        }
     }
 }
 
@@ -154,35 +162,47 @@ fn with_system<S: Sink>(
     alloc: Global,
     command: FolderCommand,
     mut system: Super,
+    denied: &DeniedLines,
     out: &mut S,
 ) -> Status
     requires { IsFresh system }
-    ensures { Puts (λ extent. IsFolderAnswer extent command system.lib) (end_of result) result
+    ensures { Puts
+        (λ extent. IsFolderAnswer extent command
+        record { lib = system.lib; denied = denied.now }) (end_of result) result
         (sink_of S.written S.taken S.faults out.old) (sink_of S.written S.taken S.faults out.new) }
 {
     match audited(alloc, &system) {
-        Ok(verdict) => { answer_found(command, &mut system, verdict.findings.as_slice(), out) }
+        Ok(verdict) => {
+            answer_found(
+                command,
+                &mut system,
+                denied,
+                verdict.findings.as_slice(),
+                out,
+            )
+        }
         Err(_) => Status::NoMemory,
     }
 }
 
-/// The commands `audit`, `run` and `trace` on a folder that is booted.
+/// The commands `audit`, `run` and `trace` on a folder that is booted, with the rights of a user if there is one.
 #[tactic(auto, using(m36_reading::proofs::EndLaws::doing, crate::proofs::FolderAnswers::performs_put))]
 pub fn folder_booted<F: Folder, S: Sink>(
     alloc: Global,
     command: FolderCommand,
+    user: &Option<User>,
     folder: &mut F,
     out: &mut S,
 ) -> Status
-    ensures { Does (folder_kind command) folder_reads result
+    ensures { Does (folder_kind command) (folder_reads user.now) result
         (outside_of F.files F.wrote F.read_faults F.write_faults S.written S.taken S.faults
         folder.old out.old)
         (outside_of F.files F.wrote F.read_faults F.write_faults S.written S.taken S.faults
         folder.new out.new)
         (F.asked folder.old) (F.asked folder.new) }
 {
-    match read_system(alloc, folder) {
-        Ok(system) => with_system(alloc, command, system, out),
+    match read_system(alloc, user, folder) {
+        Ok(booted) => with_system(alloc, command, booted.system, &booted.denied, out),
         Err(refusal) => refusal.status(),
     }
 }

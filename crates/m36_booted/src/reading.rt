@@ -1,70 +1,32 @@
 //! The boot text of a folder and the files of its segments, and the system that they boot to.
 
 ghost use Rattle.std.specs.Prelude.{ℕ, ◌≡◌, ◌≤◌, ◌+◌, ◌^◌, List, [], ◌∷◌, ◌++◌, Ok, length, IfOk};
-ghost use Rattle.m36_outside.specs.ReadAnswer.{file_limit};
-ghost use Rattle.m36_dir.specs.Catalog.{catalog_of};
 ghost use Rattle.m36_reading.specs.Reading.{Early};
 ghost use Rattle.m36_reading.specs.Asking.{Gives, Refuses};
 ghost use Rattle.m36_reading.specs.Outside.{folder_of};
 ghost use Rattle.m36_reading.specs.Doing.{Reads};
-ghost use Rattle.m36_booted.specs.Folder.{boot_refused, catalog_refused, catalog_by};
-ghost use Rattle.m36_booted.specs.Folder.{catalog_reads, files_with, files_from, library_of};
-ghost use Rattle.m36_booted.specs.Folder.{fault_refused, boots, folder_reads};
-ghost use Rattle.m36_booted.specs.Systems.{IsFresh, library_in};
+ghost use Rattle.m36_booted.specs.Folder.{files_with, files_from, folder_with};
+ghost use Rattle.m36_booted.specs.Folder.{fault_refused, boots, files_booted, folder_reads};
+ghost use Rattle.m36_booted.specs.Systems.{IsFresh, given_in};
 
 use crate::files::SegmentFiles;
+use m36_acl::{DeniedLines, User};
 use m36_boot::BootFault;
-use m36_dir::{Catalog, CatalogFault};
+use m36_catalog::reading::refuse_boot;
+use m36_catalog::{Access, read_access};
+use m36_dir::Catalog;
 use m36_outside::Folder;
-use m36_reading::{Code, Refusal, read_bytes, read_words, refuse};
+use m36_reading::{Code, Refusal, read_words};
 use m36_super::Super;
 use m36_word::Words;
 use std::alloc::Global;
 
-// Refuses the boot text.
-fn refuse_boot(alloc: Global, code: Code, at: u32) -> Refusal
-    ensures { Refuses result (boot_refused code at) }
-{
-    refuse(alloc, b"boot", code, at)
-}
-
-// D1 to D6: a text that writes out no catalog.
-fn refuse_catalog(alloc: Global, fault: CatalogFault) -> Refusal
-    ensures { Refuses result (catalog_refused fault) }
-{
-    match fault {
-        CatalogFault::D1(line) => refuse_boot(alloc, Code::D1, line),
-        CatalogFault::D2(line) => refuse_boot(alloc, Code::D2, line),
-        CatalogFault::D3(line) => refuse_boot(alloc, Code::D3, line),
-        CatalogFault::D4(line) => refuse_boot(alloc, Code::D4, line),
-        CatalogFault::D5(line) => refuse_boot(alloc, Code::D5, line),
-        CatalogFault::D6(line) => refuse_boot(alloc, Code::D6, line),
-        CatalogFault::NoMemory => Refusal::NoMemory,
-    }
-}
-
-// The catalog that the bytes of a boot text, of at most 16 MiB, write out.
-#[tactic(auto, using(crate::proofs::FolderReads::catalogs))]
-fn catalog_in(alloc: Global, bytes: &[u8]) -> Result<Catalog, Refusal>
-    requires { length bytes.now ≤ file_limit }
-    ensures { Gives result (catalog_by (catalog_of bytes.now)) }
-{
-    match Catalog::read(alloc, bytes) {
-        Ok(catalog) => Ok(catalog),
-        Err(fault) => Err(refuse_catalog(alloc, fault)),
-    }
-}
-
-/// Reads the boot text: F1, F2, D1 to D6.
-#[tactic(auto, using(m36_reading::proofs::ReadLaws::reads_early), unfolding(crate::specs::Folder::catalog_reads))]
-fn read_catalog<F: Folder>(alloc: Global, folder: &mut F) -> Result<Catalog, Refusal>
-    ensures { Reads catalog_reads result
-        (folder_of F.files F.wrote F.read_faults F.write_faults folder.old)
-        (folder_of F.files F.wrote F.read_faults F.write_faults folder.new)
-        (F.asked folder.old) (F.asked folder.new) }
-{
-    let text = read_bytes(alloc, b"boot", folder)?;
-    catalog_in(alloc, text.bytes())
+/// What a folder boots to, and the line for each segment of its catalog that is told where a run ends for want of a right
+/// to it; no lines without a user.
+#[derive(Drop)]
+pub struct BootedFolder {
+    pub system: Super,
+    pub denied: DeniedLines,
 }
 
 // The files, and one more.
@@ -131,27 +93,54 @@ fn refuse_fault(alloc: Global, fault: BootFault) -> Refusal
 
 // The system that a catalog boots to with its files.
 #[tactic(auto, using(crate::proofs::FolderReads::booting))]
-fn boot_files(alloc: Global, catalog: Catalog, files: SegmentFiles) -> Result<Super, Refusal>
+fn boot_files(
+    alloc: Global,
+    catalog: Catalog,
+    denied: DeniedLines,
+    files: SegmentFiles,
+) -> Result<BootedFolder, Refusal>
     requires { length files ≡ length catalog.segments }
-    ensures gives { Gives (library_in result) (boots (library_of catalog files)) }
-    ensures booted { IfOk result IsFresh }
+    ensures gives { Gives (given_in result)
+        (boots (folder_with record { catalog = catalog; denied = denied } files)) }
+    ensures booted { IfOk result (λ booted. IsFresh booted.system) }
 {
     match Super::boot(alloc, catalog, files.items) {
-        Ok(system) => Ok(system),
+        Ok(system) => Ok(BootedFolder { system, denied }),
         Err(fault) => Err(refuse_fault(alloc, fault)),
     }
 }
 
-/// Reads a folder, and boots it.
-#[tactic(auto, using(crate::proofs::FolderReads::folders))]
-pub fn read_system<F: Folder>(alloc: Global, folder: &mut F) -> Result<Super, Refusal>
-    ensures reads { Reads folder_reads (library_in result)
+// Reads the files of a catalog, and boots it.
+#[tactic(auto, using(crate::proofs::FolderReads::boots_files))]
+fn read_booted<F: Folder>(
+    alloc: Global,
+    access: Access,
+    folder: &mut F,
+) -> Result<BootedFolder, Refusal>
+    ensures reads { Reads (files_booted access) (given_in result)
         (folder_of F.files F.wrote F.read_faults F.write_faults folder.old)
         (folder_of F.files F.wrote F.read_faults F.write_faults folder.new)
         (F.asked folder.old) (F.asked folder.new) }
-    ensures booted { IfOk result IsFresh }
+    ensures booted { IfOk result (λ booted. IsFresh booted.system) }
 {
-    let catalog = read_catalog(alloc, folder)?;
+    let Access { catalog, denied } = access;
     let files = read_files(alloc, &catalog, folder)?;
-    boot_files(alloc, catalog, files)
+    boot_files(alloc, catalog, denied, files)
+}
+
+/// Reads a folder, and boots it, for a user if there is one.
+#[tactic(auto, using(crate::proofs::FolderReads::folders))]
+pub fn read_system<F: Folder>(
+    alloc: Global,
+    user: &Option<User>,
+    folder: &mut F,
+) -> Result<BootedFolder, Refusal>
+    ensures reads { Reads (folder_reads user.now) (given_in result)
+        (folder_of F.files F.wrote F.read_faults F.write_faults folder.old)
+        (folder_of F.files F.wrote F.read_faults F.write_faults folder.new)
+        (F.asked folder.old) (F.asked folder.new) }
+    ensures booted { IfOk result (λ booted. IsFresh booted.system) }
+{
+    let access = read_access(alloc, user, folder)?;
+    read_booted(alloc, access, folder)
 }

@@ -7,6 +7,7 @@ ghost use Rattle.m36_booted.specs.RunSays.{BehindLink, BehindSays, Progresses, F
 
 use crate::command::RunOutput;
 use crate::lines::{put_finish, put_linked, put_printed, put_step};
+use m36_acl::DeniedLines;
 use m36_model::{At, End, StepRecord};
 use m36_outside::{Put, Sink};
 use m36_step::{Stepper, Turn};
@@ -127,21 +128,28 @@ fn take_step<S: Sink>(
     }
 }
 
-// Puts the end line of a run of so many steps.
-fn write_end<S: Sink>(how: Finish, steps: u32, out: &mut S) -> Ran
-    ensures { FinishSays result how steps
+// Puts the end of a run of so many steps.
+fn write_end<S: Sink>(how: Finish, steps: u32, denied: &DeniedLines, out: &mut S) -> Ran
+    ensures { FinishSays result denied.now how steps
         (sink_of S.written S.taken S.faults out.old) (sink_of S.written S.taken S.faults out.new) }
 {
-    match put_finish(&how, steps, out) {
+    match put_finish(&how, steps, denied, out) {
         Put::Failed => Ran::Cut,
         Put::Done => Ran::Whole(how),
     }
 }
 
-/// Runs a system for at most so many steps, and writes what is told of each turn, and the end line.
-pub fn run<S: Sink>(system: &mut Super, steps: u32, output: RunOutput, out: &mut S) -> Ran
+/// Runs a system for at most so many steps, and writes what is told of each turn, and the end line, with the line of a
+/// segment behind it to which a right was wanted.
+pub fn run<S: Sink>(
+    system: &mut Super,
+    steps: u32,
+    output: RunOutput,
+    denied: &DeniedLines,
+    out: &mut S,
+) -> Ran
     requires { system.old.coming ≡ Step }
-    ensures { RanSays result output steps system.old
+    ensures { RanSays result denied.now output steps system.old
         (sink_of S.written S.taken S.faults out.old) (sink_of S.written S.taken S.faults out.new) }
 {
     let mut told = system.untold();
@@ -150,12 +158,12 @@ pub fn run<S: Sink>(system: &mut Super, steps: u32, output: RunOutput, out: &mut
     'steps: while left > 0 {
         match take_step(system, taken, output, &mut told, out) {
             Progress::On => {}
-            Progress::Over(end) => return write_end(Finish::Over(end), taken + 1, out),
+            Progress::Over(end) => return write_end(Finish::Over(end), taken + 1, denied, out),
             Progress::Cut => return Ran::Cut,
             Progress::Starved => return Ran::Starved,
         }
         taken += 1;
         left -= 1;
     }
-    write_end(Finish::Limit, taken, out)
+    write_end(Finish::Limit, taken, denied, out)
 }

@@ -12,7 +12,7 @@
 #![tactic(auto)]
 
 mod catalog;
-mod draws;
+pub mod draws;
 pub mod files;
 mod lines;
 pub mod making;

@@ -14,7 +14,7 @@ use Rattle.m36_reading.specs.Asking.{Asked, AreTold, Coming, Came, Failed, Wanti
 use Rattle.m36_reading.specs.Answers.{Answer, unwritten, status_of, IsDueBy}
 use Rattle.m36_reading.specs.Outside.{FolderState, SinkState, Outside, IsIdle}
 use Rattle.m36_reading.specs.Ends.{End, Answered, Cut, Unread, Starved, Unasked, end_of}
-use Rattle.m36_reading.specs.Doing.{Kind, ReadCause, Reads, IsMade, IsAnswered, IsCut, IsUnread, IsUnmade, IsStarved, EndsBy, Does, Performs}
+use Rattle.m36_reading.specs.Doing.{Kind, ReadCause, Reads, IsMade, IsAnswered, IsCut, IsUnread, IsFailed, IsUnmade, IsStarved, EndsBy, Does, Performs}
 use Rattle.m36_reading.proofs.Comings.{comes_in}
 
 -- More is known of what came of a reading.
@@ -25,7 +25,9 @@ ends_more kind Is Was Answered result old new more e =
     record { given = e.given; came = more _ e.came; due = e.due; is_due = e.is_due; made = e.made }
 ends_more kind Is Was Cut result old new more e =
     record { given = e.given; came = more _ e.came; due = e.due; begun = e.begun; cut = e.cut }
-ends_more kind Is Was Unread result old new more e = record { failed = more _ e.failed; idle = e.idle; cause = e.cause }
+ends_more kind Is Was Unread result old new more (inl e) = inl (record { failed = more _ e.failed; idle = e.idle; cause = e.cause })
+ends_more kind Is Was Unread result old new more (inr e) =
+    inr (record { given = e.given; came = more _ e.came; fails = e.fails; read_faults = e.read_faults })
 ends_more kind Is Was Starved result old new more (inl e) =
     inl (record { wanting = more _ e.wanting; idle = e.idle; read_faults = e.read_faults })
 ends_more kind Is Was Starved result old new more (inr e) =
@@ -92,7 +94,7 @@ does_stop kind p ReadFault old now sink before after reads = record {
   asked = reads.asked;
   passed = reads.passed;
   told = reads.told;
-  ends = record { failed = reads.comes; idle = idle_after p ReadFault old now sink before after reads; cause = reads.cause };
+  ends = inl (record { failed = reads.comes; idle = idle_after p ReadFault old now sink before after reads; cause = reads.cause });
 }
 does_stop kind p NoMemory old now sink before after reads = record {
   asked = reads.asked;
@@ -153,6 +155,7 @@ pub record IsKindOf {D E : Type 0} (kind : Kind D) (other : Kind E) (make : D �
   pub due : (d : D) (due : Answer) → kind.IsDue d due → other.IsDue (make d) due
   pub begun : (d : D) (due : Answer) → kind.IsBegun d due → other.IsBegun (make d) due
   pub wants : (d : D) (old new : Outside) → kind.Wants d old new → other.Wants (make d) old new
+  pub fails : (d : D) (old new : Outside) → kind.Fails d old new → other.Fails (make d) old new
 
 due_mapped :
     {D E : Type 0} (kind : Kind D) (other : Kind E) (make : D → E) (given : Early D) (due : Answer)
@@ -177,11 +180,10 @@ ends_mapped kind other make p asked Cut result old new is e = record {
   begun = is.begun e.given e.due e.begun;
   cut = e.cut;
 }
-ends_mapped kind other make p asked Unread result old new is e = record {
-  failed = comes_mapped make p asked Failed e.failed;
-  idle = e.idle;
-  cause = e.cause;
-}
+ends_mapped kind other make p asked Unread result old new is (inl e) =
+    inl (record { failed = comes_mapped make p asked Failed e.failed; idle = e.idle; cause = e.cause })
+ends_mapped kind other make p asked Unread result old new is (inr e) =
+    inr (record { given = make e.given; came = comes_mapped make p asked (Came (Ok e.given)) e.came; fails = is.fails e.given old new e.fails; read_faults = e.read_faults })
 ends_mapped kind other make p asked Starved result old new is (inl e) =
     inl (record { wanting = comes_mapped make p asked Wanting e.wanting; idle = e.idle; read_faults = e.read_faults })
 ends_mapped kind other make p asked Starved result old new is (inr e) =

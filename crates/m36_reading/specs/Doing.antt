@@ -17,11 +17,17 @@ use Rattle.m36_reading.specs.Ends.{End, Answered, Cut, Unread, Starved, Unasked,
 
 -- A kind of what is due: which answers are; of which a first part may be put where the output
 -- cannot be written, which are those that are due, or what is told of a run as far as it has gone;
--- and what may be written where memory is wanted.
+-- and what may be written where memory is wanted, and where input that is not of the folder could
+-- not be read.
 pub record Kind (D : Type 0) : Type 1 where
   pub IsDue : D → Answer → Type 0
   pub IsBegun : D → Answer → Type 0
   pub Wants : D → Outside → Outside → Type 0
+  pub Fails : D → Outside → Outside → Type 0
+
+-- for a kind that takes no such input
+abbrev pub fails_never : {D : Type 0} → D → Outside → Outside → Type 0
+fails_never d old new = ⊥
 
 -- ---- reading
 
@@ -114,6 +120,15 @@ pub record IsUnread {D : Type 0} (Is : Coming (Early D) → Type 0) (old new : O
   pub idle : IsIdle old new
   pub cause : Rose old.folder.read_faults new.folder.read_faults
 
+-- Behind a reading input could not be read.
+pub record IsFailed
+    {D : Type 0} (kind : Kind D) (Is : Coming (Early D) → Type 0) (old new : Outside)
+    : Type 0 where
+  pub given : D
+  pub came : Is (Came (Ok given))
+  pub fails : kind.Fails given old new
+  pub read_faults : NoneUnread old new
+
 -- Memory was wanted for a reading, and nothing is written; or behind it.
 pub record IsUnmade {D : Type 0} (Is : Coming (Early D) → Type 0) (old new : Outside) : Type 0 where
   pub wanting : Is Wanting
@@ -132,7 +147,7 @@ abbrev pub EndsBy :
     {D : Type 0} → Kind D → (Coming (Early D) → Type 0) → End → Status → Outside → Outside → Type 0
 EndsBy kind Is Answered result old new = IsAnswered kind Is result old new
 EndsBy kind Is Cut result old new = IsCut kind Is old new
-EndsBy kind Is Unread result old new = IsUnread Is old new
+EndsBy kind Is Unread result old new = IsUnread Is old new ⊎ IsFailed kind Is old new
 EndsBy kind Is Starved result old new = IsUnmade Is old new ⊎ IsStarved kind Is old new
 EndsBy kind Is Unasked result old new = ⊥
 

@@ -5,11 +5,11 @@ use Rattle.m36_reading.specs.declared.status.Status.TheVariants.{Done, Usage, Re
 use Rattle.m36_reading.specs.declared.status.Status.TheVariants.{BadFile, AuditNo, MachineStop}
 use Rattle.m36_reading.specs.declared.status.Status.TheVariants.{Steps, NoMemory}
 use Rattle.m36_reading.specs.declared.status.Code.{Code}
-use Rattle.m36_reading.specs.declared.status.Code.TheVariants.{F1, F2, F3, T3, T4, I1, I2, I3, P1}
-use Rattle.m36_reading.specs.declared.status.Code.TheVariants.{P2, D1, D2, D3, D4, D5, D6, U1, U2}
-use Rattle.m36_reading.specs.declared.status.Code.TheVariants.{U3, U4, O1, O2, O3, O4, O5, O6, O7}
-use Rattle.m36_reading.specs.declared.status.Code.TheVariants.{O8, E1, E2, E3, E4, E5, E6, E7, E8}
-use Rattle.m36_reading.specs.declared.status.Code.TheVariants.{B1, B2, B3, B4, B5}
+use Rattle.m36_reading.specs.declared.status.Code.TheVariants.{F1, F2, F3, T3, T4, S1, I1, I2, I3}
+use Rattle.m36_reading.specs.declared.status.Code.TheVariants.{P1, P2, D1, D2, D3, D4, D5, D6, C1}
+use Rattle.m36_reading.specs.declared.status.Code.TheVariants.{C2, C3, U1, U2, U3, U4, O1, O2, O3}
+use Rattle.m36_reading.specs.declared.status.Code.TheVariants.{O4, O5, O6, O7, O8, E1, E2, E3, E4}
+use Rattle.m36_reading.specs.declared.status.Code.TheVariants.{E5, E6, E7, E8, B1, B2, B3, B4, B5}
 
 abbrev pub status_name : Status → List ℕ
 status_name Done = codes "Done"
@@ -39,6 +39,7 @@ code_name F2 = codes "F2"
 code_name F3 = codes "F3"
 code_name T3 = codes "T3"
 code_name T4 = codes "T4"
+code_name S1 = codes "S1"
 code_name I1 = codes "I1"
 code_name I2 = codes "I2"
 code_name I3 = codes "I3"
@@ -50,6 +51,9 @@ code_name D3 = codes "D3"
 code_name D4 = codes "D4"
 code_name D5 = codes "D5"
 code_name D6 = codes "D6"
+code_name C1 = codes "C1"
+code_name C2 = codes "C2"
+code_name C3 = codes "C3"
 code_name U1 = codes "U1"
 code_name U2 = codes "U2"
 code_name U3 = codes "U3"

@@ -18,6 +18,8 @@ pub enum Code {
     T3,
     /// The last four bits, behind the last word, are not zero.
     T4,
+    /// The standard input, named `stdin`, is longer than a session may be.
+    S1,
     /// A line of a bare image that is not of its form, or is missing.
     I1,
     /// A number of frames out of range.
@@ -41,6 +43,12 @@ pub enum Code {
     D5,
     /// A boot text that ends without a start.
     D6,
+    /// A line of access lists that is not of its form, has no segment above it, or is a term too many.
+    C1,
+    /// A segment that stands twice in access lists, or a term that stands twice below one.
+    C2,
+    /// A segment of access lists that the boot text does not have.
+    C3,
     /// There are fewer than 24 pageable frames.
     U1,
     /// A gate without entries, or with more than 16,383.
@@ -100,9 +108,9 @@ pub struct Bad {
     pub name: Text,
     pub code: Code,
     /// The place that the code speaks of: for an image its line, counted from 1; for T3 the count of the bytes, and for
-    /// T4 the place of the last one; for an object the place of a word, counted from 0, and for O1 the count of the words;
-    /// for a source, a bind file or a boot text the line, counted from 1; for U2 and U4 the number of the segment; for B4, U1
-    /// and U3, and for a file as a whole, 0.
+    /// T4 the place of the last one; for an object the place of a word, counted from 0, and for O1 the count of the
+    /// words; for a source, a bind file, a boot text or access lists the line, counted from 1; for U2 and U4 the number
+    /// of the segment; for B4, U1 and U3, and for a file as a whole, 0.
     pub at: u32,
     /// The column of a source, in bytes counted from 1; 0 for every other file.
     pub column: u32,
@@ -112,11 +120,11 @@ pub struct Bad {
 #[derive(Drop)]
 pub enum Status {
     /// The output is written whole. The machine executed DIS, or the audit alone was asked for and passes, or a print
-    /// or an assembly was asked for.
+    /// or an assembly was asked for, or a session has come to `quit` or to the end of its input.
     Done,
     /// The words are no command. Nothing was read or written.
     Usage,
-    /// The file could not be read.
+    /// The file could not be read; or the input of a session could not, and what is said of it is written up to there.
     ReadFault,
     /// The output could not be written, of which a first part is; or the object could not, and nothing of the output is.
     WriteFault,
@@ -128,8 +136,8 @@ pub enum Status {
     MachineStop(End),
     /// All steps that are allowed were taken, and none ended the run.
     Steps,
-    /// No memory was found. Nothing was written; or a link service of a booted run found none, and the run is written up to
-    /// there.
+    /// No memory was found. Nothing was written; or a link service of a booted run, or a session, found none, and it is
+    /// written up to there.
     NoMemory,
 }
 
@@ -146,6 +154,7 @@ impl Code {
             Code::F3 => "F3",
             Code::T3 => "T3",
             Code::T4 => "T4",
+            Code::S1 => "S1",
             Code::I1 => "I1",
             Code::I2 => "I2",
             Code::I3 => "I3",
@@ -157,6 +166,9 @@ impl Code {
             Code::D4 => "D4",
             Code::D5 => "D5",
             Code::D6 => "D6",
+            Code::C1 => "C1",
+            Code::C2 => "C2",
+            Code::C3 => "C3",
             Code::U1 => "U1",
             Code::U2 => "U2",
             Code::U3 => "U3",

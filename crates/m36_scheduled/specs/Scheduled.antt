@@ -20,7 +20,7 @@ use Rattle.m36_reading.specs.Reading.{Reading, decided, Early, then_with}
 use Rattle.m36_reading.specs.Readers.{refused, file_bytes}
 use Rattle.m36_reading.specs.Answers.{Answer}
 use Rattle.m36_reading.specs.Outside.{IsIdle}
-use Rattle.m36_reading.specs.Doing.{Kind}
+use Rattle.m36_reading.specs.Doing.{Kind, fails_never}
 use Rattle.m36_scheduled.specs.JointText.{joint_text, joint_pieces}
 
 -- ---- reading
@@ -91,8 +91,12 @@ pub record IsProcsDue (unaudited : Bool) (p : ProcsFields) (due : Answer) : Type
 
 -- Memory is wanted before anything is written.
 abbrev pub procs_kind : Bool → Kind ProcsFields
-procs_kind unaudited =
-    record { IsDue = IsProcsDue unaudited; IsBegun = IsProcsDue unaudited; Wants = λ p. IsIdle }
+procs_kind unaudited = record {
+  IsDue = IsProcsDue unaudited;
+  IsBegun = IsProcsDue unaudited;
+  Wants = λ p. IsIdle;
+  Fails = fails_never;
+}
 
 -- ---- what `audit yes` promises
 

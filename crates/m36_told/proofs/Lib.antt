@@ -4,3 +4,4 @@ pub mod SetLaws
 pub mod ToldLaws
 pub mod AlmLaws
 pub mod BindLaws
+pub mod AccessLaws

@@ -3,4 +3,5 @@ pub mod LinesIn
 pub mod Told
 pub mod Telling
 pub mod Binding
+pub mod Accesses
 pub mod Setting

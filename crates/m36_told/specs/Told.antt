@@ -6,7 +6,7 @@ use Rattle.m36_reading.specs.declared.setting.Set.{Set}
 use Rattle.m36_reading.specs.declared.status.Status.TheVariants.{Done}
 use Rattle.m36_reading.specs.Answers.{Answer, with_sets, write_of, writes_of}
 use Rattle.m36_reading.specs.Outside.{Outside}
-use Rattle.m36_reading.specs.Doing.{Kind}
+use Rattle.m36_reading.specs.Doing.{Kind, fails_never}
 use Rattle.m36_told.specs.LinesIn.{lines_in}
 
 pub record ToldFields : Type 0 where
@@ -36,4 +36,5 @@ pub record ToldWants (told : ToldFields) (old new : Outside) : Type 0 where
   pub put_faults : new.sink.faults ≡ old.sink.faults
 
 abbrev pub told_kind : Kind ToldFields
-told_kind = record { IsDue = IsToldDue; IsBegun = IsToldDue; Wants = ToldWants }
+told_kind =
+    record { IsDue = IsToldDue; IsBegun = IsToldDue; Wants = ToldWants; Fails = fails_never }

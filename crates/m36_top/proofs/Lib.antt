@@ -1,6 +1,7 @@
 pub mod WordLaws
 pub mod Performing
 pub mod NoSets
+pub mod Inputs
 pub mod YesPasses
 pub mod TopEnds
 pub mod DueLaw

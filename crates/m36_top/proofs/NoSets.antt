@@ -16,6 +16,9 @@ use Rattle.m36_reading.specs.Ends.{End, Answered, Cut, Unread, Starved, Unasked,
 use Rattle.m36_reading.specs.Doing.{IsMade, IsUnset, IsUnput, EndsBy, Does}
 use Rattle.m36_reading.proofs.WriteLaws.{writes_none}
 use Rattle.m36_told.specs.Told.{ToldFields, told_answer}
+use Rattle.m36_dir.specs.Catalog.{CatalogFields}
+use Rattle.m36_catalog.specs.Catalogs.{catalog_reads, lists_reads}
+use Rattle.m36_told.specs.Accesses.{access_told, lists_told, user_reads}
 use Rattle.m36_told.specs.Telling.{printed, print_reads}
 use Rattle.m36_ran.specs.declared.command.BareRun.{BareRun}
 use Rattle.m36_ran.specs.declared.command.ImageCommand.{ImageCommand}
@@ -28,14 +31,16 @@ use Rattle.m36_booted.specs.Runs.{Whole, Begun}
 use Rattle.m36_booted.proofs.DueLaws.{folder_sets}
 use Rattle.m36_scheduled.proofs.YesAnswers.{procs_sets}
 use Rattle.m36_top.specs.declared.command.Command.{Command}
-use Rattle.m36_top.specs.declared.command.Command.TheVariants.{Bare, Audit, Booted, Procs, Print, Alm, Bind}
-use Rattle.m36_top.specs.Dues.{Due, Told, Image, Folder, Schedule, on_image, on_folder, on_procs, IsDueOf, IsBegunOf, WantsOf, due_kind}
+use Rattle.m36_top.specs.declared.command.Command.TheVariants.{Bare, Audit, Booted, Procs, Access, Print, Alm, Bind, DebugFolder, DebugImage}
+use Rattle.m36_sessions.specs.Held.{Talk, HoldsImage, HoldsFolder}
+use Rattle.m36_sessions.specs.Sessions.{Told as Holding, IsSessionDue, SessionWants}
+use Rattle.m36_top.specs.Dues.{Due, Told, Image, Folder, Schedule, ImageSession, FolderSession, on_image, on_folder, on_procs, IsDueOf, IsBegunOf, WantsOf, FailsOf, due_kind}
 use Rattle.m36_top.specs.Commands.{reads, writes_files}
 use Rattle.m36_top.specs.TopCall.{WriteRose, WritesStand, WriteCauseBy, IsKept, KeepsBy}
 
 -- ---- what holds of all that a reading can come to
 
-abbrev Always : {A : Type 0} → (A → Type 0) → Reading A → Type 0
+abbrev pub Always : {A : Type 0} → (A → Type 0) → Reading A → Type 0
 Always P (decided a) = P a
 Always P (asks name go) = (found : Found) → Always P (go found)
 
@@ -48,14 +53,14 @@ goes_always P a read.TooLarge go asked on goes = on TooLarge goes
 goes_always P a read.Failed go asked on goes = absurd goes.1
 goes_always P a read.NoMemory go asked on goes = absurd goes.1
 
-comes_always : {A : Type 0} (P : A → Type 0) (p : Reading A) (asked : List Asked) (a : A) → Always P p → Comes p asked (Came a) → P a
+pub comes_always : {A : Type 0} (P : A → Type 0) (p : Reading A) (asked : List Asked) (a : A) → Always P p → Comes p asked (Came a) → P a
 comes_always P (decided b) [] a always came = subst P came always
 comes_always P (decided b) (ask ∷ asked) a always came = absurd came
 comes_always P (asks name go) [] a always came = absurd came
 comes_always P (asks name go) (ask ∷ asked) a always came =
     goes_always P a ask.1 go asked (λ found x. comes_always P (go found) asked a (always found) x) came.1
 
-always_then :
+pub always_then :
     {A B : Type 0} (P : Early B → Type 0) (p : Reading (Early A)) (next : A → Reading (Early B))
     → ((a : A) → Always P (next a)) → ((r : Refusal) → P (Err r)) → Always P (then_with p next)
 unfolding then_with
@@ -73,10 +78,10 @@ always_mapped P Q make (asks name go) on stop always = λ found. always_mapped P
 
 -- ---- no file is due
 
-abbrev NoSets : Early Due → Type 0
-NoSets (Ok d) =
-    ((due : Answer) → IsDueOf d due → due.sets ≡ []) × ((due : Answer) → IsBegunOf d due → due.sets ≡ [])
-NoSets (Err r) = Unit {0}
+abbrev NoSets : Talk → Early Due → Type 0
+NoSets talk (Ok d) =
+    ((due : Answer) → IsDueOf talk d due → due.sets ≡ []) × ((due : Answer) → IsBegunOf talk d due → due.sets ≡ [])
+NoSets talk (Err r) = Unit {0}
 
 abbrev TellsNone : Early ToldFields → Type 0
 TellsNone (Ok told) = told.sets ≡ []
@@ -92,53 +97,84 @@ unfolding audit_answer
 state_sets (image.Bare bare) state findings = bare_sets _ bare.steps state findings
 state_sets image.Audit state findings = refl
 
-image_none : (command : ImageCommand) (file : List ℕ) → Always NoSets (mapped (on_image command) (state_reads file))
+image_none : (talk : Talk) (command : ImageCommand) (file : List ℕ) → Always (NoSets talk) (mapped (on_image command) (state_reads file))
 unfolding mapped
-image_none command file =
-    always_then NoSets (state_reads file) (λ state. decided (Ok (on_image command state)))
+image_none talk command file =
+    always_then (NoSets talk) (state_reads file) (λ state. decided (Ok (on_image command state)))
     (λ state. (
       λ due is. ap (λ (d : Answer). d.sets) is.answer ∙ state_sets command state is.findings,
       λ due is. ap (λ (d : Answer). d.sets) is.answer ∙ state_sets command state is.findings,
     )) (λ r. tt)
 
-bare_none : (file : List ℕ) (run : BareRun) → Always NoSets (reads (Bare file run))
+bare_none : (talk : Talk) (file : List ℕ) (run : BareRun) → Always (NoSets talk) (reads (Bare file run))
 unfolding reads
-bare_none file run = image_none (image.Bare run) file
+bare_none talk file run = image_none talk (image.Bare run) file
 
-audit_none : (file : List ℕ) → Always NoSets (reads (Audit file))
+audit_none : (talk : Talk) (file : List ℕ) → Always (NoSets talk) (reads (Audit file))
 unfolding reads
-audit_none file = image_none image.Audit file
+audit_none talk file = image_none talk image.Audit file
 
-folder_none : (command : FolderCommand) → Always NoSets (reads (Booted command))
+folder_none : (talk : Talk) (command : FolderCommand) (user : Option (List ℕ)) → Always (NoSets talk) (reads (Booted command user))
 unfolding reads mapped
-folder_none command =
-    always_then NoSets folder_reads (λ lib. decided (Ok (on_folder command lib)))
-    (λ lib. (λ due is. folder_sets Whole command lib due is, λ due is. folder_sets Begun command lib due is)) (λ r. tt)
+folder_none talk command user =
+    always_then (NoSets talk) (folder_reads user) (λ given. decided (Ok (on_folder command given)))
+    (λ given. (λ due is. folder_sets Whole command given due is, λ due is. folder_sets Begun command given due is)) (λ r. tt)
 
-procs_none : (file : List ℕ) (unaudited : Bool) → Always NoSets (reads (Procs file unaudited))
+procs_none : (talk : Talk) (file : List ℕ) (unaudited : Bool) → Always (NoSets talk) (reads (Procs file unaudited))
 unfolding reads mapped
-procs_none file unaudited =
-    always_then NoSets (procs_reads file) (λ p. decided (Ok (on_procs unaudited p)))
+procs_none talk file unaudited =
+    always_then (NoSets talk) (procs_reads file) (λ p. decided (Ok (on_procs unaudited p)))
     (λ p. (λ due is. procs_sets unaudited p due is, λ due is. procs_sets unaudited p due is)) (λ r. tt)
 
-print_none : (name : List ℕ) → Always NoSets (reads (Print name))
+print_none : (talk : Talk) (name : List ℕ) → Always (NoSets talk) (reads (Print name))
 unfolding reads print_reads
-print_none name =
-    always_mapped TellsNone NoSets Told (print_reads name)
+print_none talk name =
+    always_mapped TellsNone (NoSets talk) Told (print_reads name)
     (λ told none. (λ due is. ap (λ (d : Answer). d.sets) is ∙ none, λ due is. ap (λ (d : Answer). d.sets) is ∙ none)) (λ r. tt)
     (always_then TellsNone (file_object name) (λ parts. decided (Ok (printed name parts))) (λ parts. refl) (λ r. tt))
 
-reads_none : (command : Command) → writes_files command ≡ false → Always NoSets (reads command)
-reads_none (Bare file run) none = bare_none file run
-reads_none (Audit file) none = audit_none file
-reads_none (Booted folder) none = folder_none folder
-reads_none (Procs file unaudited) none = procs_none file unaudited
-reads_none (Print name) none = print_none name
-reads_none (Alm files) none = absurd (cc)
-reads_none (Bind files) none = absurd (cc)
+access_tells : (user : List ℕ) (catalog : CatalogFields) → Always TellsNone (lists_told user catalog)
+unfolding lists_told
+access_tells user catalog =
+    always_then TellsNone (lists_reads catalog) (λ lists. decided (Ok (access_told user catalog lists))) (λ lists. refl) (λ r. tt)
 
-pub no_sets : (command : Command) (asked : List Asked) (given : Early Due) → writes_files command ≡ false → Comes (reads command) asked (Came given) → NoSets given
-no_sets command asked given none came = comes_always NoSets (reads command) asked given (reads_none command none) came
+access_none : (talk : Talk) (user : List ℕ) → Always (NoSets talk) (reads (Access user))
+unfolding reads user_reads
+access_none talk user =
+    always_mapped TellsNone (NoSets talk) Told (user_reads user)
+    (λ told none. (λ due is. ap (λ (d : Answer). d.sets) is ∙ none, λ due is. ap (λ (d : Answer). d.sets) is ∙ none)) (λ r. tt)
+    (always_then TellsNone catalog_reads (λ catalog. lists_told user catalog) (λ catalog. access_tells user catalog) (λ r. tt))
+
+session_sets : (Holds : Holding) (due : Answer) → IsSessionDue Holds due → due.sets ≡ []
+session_sets Holds due (inl is) = ap (λ (d : Answer). d.sets) is.answer
+session_sets Holds due (inr is) = ap (λ (d : Answer). d.sets) is.answer
+
+debug_folder_none : (talk : Talk) → Always (NoSets talk) (reads DebugFolder)
+unfolding reads mapped
+debug_folder_none talk =
+    always_then (NoSets talk) (folder_reads None) (λ given. decided (Ok (FolderSession given)))
+    (λ given. (λ due is. session_sets (HoldsFolder talk given.lib) due is, λ due is. ap (λ (d : Answer). d.sets) is.answer)) (λ r. tt)
+
+debug_image_none : (talk : Talk) (file : List ℕ) → Always (NoSets talk) (reads (DebugImage file))
+unfolding reads mapped
+debug_image_none talk file =
+    always_then (NoSets talk) (state_reads file) (λ state. decided (Ok (ImageSession state)))
+    (λ state. (λ due is. session_sets (HoldsImage talk state) due is, λ due is. ap (λ (d : Answer). d.sets) is.answer)) (λ r. tt)
+
+reads_none : (talk : Talk) (command : Command) → writes_files command ≡ false → Always (NoSets talk) (reads command)
+reads_none talk (Bare file run) none = bare_none talk file run
+reads_none talk (Audit file) none = audit_none talk file
+reads_none talk (Booted folder user) none = folder_none talk folder user
+reads_none talk (Procs file unaudited) none = procs_none talk file unaudited
+reads_none talk (Access user) none = access_none talk user
+reads_none talk (Print name) none = print_none talk name
+reads_none talk (Alm files) none = absurd (cc)
+reads_none talk (Bind files) none = absurd (cc)
+reads_none talk DebugFolder none = debug_folder_none talk
+reads_none talk (DebugImage file) none = debug_image_none talk file
+
+pub no_sets : (talk : Talk) (command : Command) (asked : List Asked) (given : Early Due) → writes_files command ≡ false → Comes (reads command) asked (Came given) → NoSets talk given
+no_sets talk command asked given none came = comes_always (NoSets talk) (reads command) asked given (reads_none talk command none) came
 
 -- ---- causes of failed writes
 
@@ -157,28 +193,43 @@ cut_rose true due old new none (inr is) = inl is.cause
 cut_rose false due old new none (inl is) = absurd (none_unset due old new (none refl) is)
 cut_rose false due old new none (inr is) = is.cause
 
-wants_stand : (d : Due) (old new : Outside) → WantsOf d old new → WritesStand old new
-wants_stand (Told told) old new w = (w.put_faults, w.write_faults)
-wants_stand (Image image) old new w = (w.put_faults, w.write_faults)
-wants_stand (Folder folder) old new (inl w) = (w.put_faults, w.write_faults)
-wants_stand (Folder folder) old new (inr w) = (w.put_faults, w.write_faults)
-wants_stand (Schedule s) old new w = (w.put_faults, w.write_faults)
+session_stands : (Holds : Holding) (talk : Talk) (old new : Outside) → SessionWants Holds talk old new → WritesStand old new
+session_stands Holds talk old new (inl w) = (w.idle.put_faults, w.idle.write_faults)
+session_stands Holds talk old new (inr w) = (w.put_faults, w.write_faults)
+
+wants_stand : (talk : Talk) (d : Due) (old new : Outside) → WantsOf talk d old new → WritesStand old new
+wants_stand talk (Told told) old new w = (w.put_faults, w.write_faults)
+wants_stand talk (Image image) old new w = (w.put_faults, w.write_faults)
+wants_stand talk (Folder folder) old new (inl w) = (w.put_faults, w.write_faults)
+wants_stand talk (Folder folder) old new (inr w) = (w.put_faults, w.write_faults)
+wants_stand talk (Schedule s) old new w = (w.put_faults, w.write_faults)
+wants_stand talk (ImageSession state) old new w = session_stands (HoldsImage talk state) talk old new w
+wants_stand talk (FolderSession given) old new w = session_stands (HoldsFolder talk given.lib) talk old new w
+
+fails_stand : (talk : Talk) (d : Due) (old new : Outside) → FailsOf talk d old new → WritesStand old new
+fails_stand talk (Told told) old new f = absurd f
+fails_stand talk (Image image) old new f = absurd f
+fails_stand talk (Folder folder) old new f = absurd f
+fails_stand talk (Schedule s) old new f = absurd f
+fails_stand talk (ImageSession state) old new f = (f.put_faults, f.write_faults)
+fails_stand talk (FolderSession given) old new f = (f.put_faults, f.write_faults)
 
 cause_by :
-    (command : Command) (asked : List Asked) (end : End) (result : Status) (old new : Outside)
-    → EndsBy due_kind (Comes (reads command) asked) end result old new → WriteCauseBy (writes_files command) end old new
-cause_by command asked Answered result old new e = (e.made.put_faults, e.made.write_faults)
-cause_by command asked Cut result old new e =
-    cut_rose (writes_files command) e.due old new (λ none. (no_sets command asked (Ok e.given) none e.came).1 e.due e.begun) e.cut
-cause_by command asked Unread result old new e = (e.idle.put_faults, e.idle.write_faults)
-cause_by command asked Starved result old new (inl e) = (e.idle.put_faults, e.idle.write_faults)
-cause_by command asked Starved result old new (inr e) = wants_stand e.given old new e.wants
-cause_by command asked Unasked result old new e = absurd e
+    (talk : Talk) (command : Command) (asked : List Asked) (end : End) (result : Status) (old new : Outside)
+    → EndsBy (due_kind talk) (Comes (reads command) asked) end result old new → WriteCauseBy (writes_files command) end old new
+cause_by talk command asked Answered result old new e = (e.made.put_faults, e.made.write_faults)
+cause_by talk command asked Cut result old new e =
+    cut_rose (writes_files command) e.due old new (λ none. (no_sets talk command asked (Ok e.given) none e.came).1 e.due e.begun) e.cut
+cause_by talk command asked Unread result old new (inl e) = (e.idle.put_faults, e.idle.write_faults)
+cause_by talk command asked Unread result old new (inr e) = fails_stand talk e.given old new e.fails
+cause_by talk command asked Starved result old new (inl e) = (e.idle.put_faults, e.idle.write_faults)
+cause_by talk command asked Starved result old new (inr e) = wants_stand talk e.given old new e.wants
+cause_by talk command asked Unasked result old new e = absurd e
 
 pub does_cause :
-    (command : Command) (result : Status) (old new : Outside) (before after : List Asked)
-    → Does due_kind (reads command) result old new before after → WriteCauseBy (writes_files command) (end_of result) old new
-does_cause command result old new before after does = cause_by command does.asked (end_of result) result old new does.ends
+    (talk : Talk) (command : Command) (result : Status) (old new : Outside) (before after : List Asked)
+    → Does (due_kind talk) (reads command) result old new before after → WriteCauseBy (writes_files command) (end_of result) old new
+does_cause talk command result old new before after does = cause_by talk command does.asked (end_of result) result old new does.ends
 
 -- ---- no file is changed or written
 
@@ -192,10 +243,10 @@ unset_keeps sets old new none files wrote = record {
 }
 
 made_keeps :
-    (given : Early Due) (due : Answer) (result : Status) (old new : Outside)
-    → NoSets given → IsDueBy IsDueOf given due → IsMade due result old new → IsKept old new
-made_keeps (Ok d) due result old new none is made = unset_keeps due.sets old new (none.0 due is) made.files made.wrote
-made_keeps (Err r) due result old new none is made = unset_keeps due.sets old new (ap (λ (d : Answer). d.sets) is) made.files made.wrote
+    (talk : Talk) (given : Early Due) (due : Answer) (result : Status) (old new : Outside)
+    → NoSets talk given → IsDueBy (IsDueOf talk) given due → IsMade due result old new → IsKept old new
+made_keeps talk (Ok d) due result old new none is made = unset_keeps due.sets old new (none.0 due is) made.files made.wrote
+made_keeps talk (Err r) due result old new none is made = unset_keeps due.sets old new (ap (λ (d : Answer). d.sets) is) made.files made.wrote
 
 cut_keeps : (due : Answer) (old new : Outside) → due.sets ≡ [] → IsUnset due old new ⊎ IsUnput due old new → IsKept old new
 cut_keeps due old new none (inl is) = absurd (none_unset due old new none is)
@@ -204,29 +255,44 @@ cut_keeps due old new none (inr is) = unset_keeps due.sets old new none is.files
 idle_keeps : (old new : Outside) → IsIdle old new → IsKept old new
 idle_keeps old new idle = record { files = idle.files; wrote = idle.wrote }
 
-wants_keeps : (d : Due) (old new : Outside) → NoSets (Ok d) → WantsOf d old new → IsKept old new
-wants_keeps (Told told) old new none w = absurd (empty_parts w.before w.next w.others (sym (none.0 (told_answer told) refl) ∙ w.sets))
-wants_keeps (Image image) old new none w = idle_keeps old new w
-wants_keeps (Folder folder) old new none (inl w) = idle_keeps old new w
-wants_keeps (Folder folder) old new none (inr w) = record { files = w.files; wrote = w.wrote }
-wants_keeps (Schedule s) old new none w = idle_keeps old new w
+session_keeps : (Holds : Holding) (talk : Talk) (old new : Outside) → SessionWants Holds talk old new → IsKept old new
+session_keeps Holds talk old new (inl w) = idle_keeps old new w.idle
+session_keeps Holds talk old new (inr w) = record { files = w.files; wrote = w.wrote }
+
+wants_keeps : (talk : Talk) (d : Due) (old new : Outside) → NoSets talk (Ok d) → WantsOf talk d old new → IsKept old new
+wants_keeps talk (Told told) old new none w = absurd (empty_parts w.before w.next w.others (sym (none.0 (told_answer told) refl) ∙ w.sets))
+wants_keeps talk (Image image) old new none w = idle_keeps old new w
+wants_keeps talk (Folder folder) old new none (inl w) = idle_keeps old new w
+wants_keeps talk (Folder folder) old new none (inr w) = record { files = w.files; wrote = w.wrote }
+wants_keeps talk (Schedule s) old new none w = idle_keeps old new w
+wants_keeps talk (ImageSession state) old new none w = session_keeps (HoldsImage talk state) talk old new w
+wants_keeps talk (FolderSession given) old new none w = session_keeps (HoldsFolder talk given.lib) talk old new w
+
+fails_keeps : (talk : Talk) (d : Due) (old new : Outside) → FailsOf talk d old new → IsKept old new
+fails_keeps talk (Told told) old new f = absurd f
+fails_keeps talk (Image image) old new f = absurd f
+fails_keeps talk (Folder folder) old new f = absurd f
+fails_keeps talk (Schedule s) old new f = absurd f
+fails_keeps talk (ImageSession state) old new f = record { files = f.files; wrote = f.wrote }
+fails_keeps talk (FolderSession given) old new f = record { files = f.files; wrote = f.wrote }
 
 keeps_by :
-    (command : Command) (asked : List Asked) (end : End) (result : Status) (old new : Outside) → writes_files command ≡ false
-    → EndsBy due_kind (Comes (reads command) asked) end result old new → IsKept old new
-keeps_by command asked Answered result old new none e = made_keeps e.given e.due result old new (no_sets command asked e.given none e.came) e.is_due e.made
-keeps_by command asked Cut result old new none e = cut_keeps e.due old new ((no_sets command asked (Ok e.given) none e.came).1 e.due e.begun) e.cut
-keeps_by command asked Unread result old new none e = idle_keeps old new e.idle
-keeps_by command asked Starved result old new none (inl e) = idle_keeps old new e.idle
-keeps_by command asked Starved result old new none (inr e) = wants_keeps e.given old new (no_sets command asked (Ok e.given) none e.came) e.wants
-keeps_by command asked Unasked result old new none e = absurd e
+    (talk : Talk) (command : Command) (asked : List Asked) (end : End) (result : Status) (old new : Outside) → writes_files command ≡ false
+    → EndsBy (due_kind talk) (Comes (reads command) asked) end result old new → IsKept old new
+keeps_by talk command asked Answered result old new none e = made_keeps talk e.given e.due result old new (no_sets talk command asked e.given none e.came) e.is_due e.made
+keeps_by talk command asked Cut result old new none e = cut_keeps e.due old new ((no_sets talk command asked (Ok e.given) none e.came).1 e.due e.begun) e.cut
+keeps_by talk command asked Unread result old new none (inl e) = idle_keeps old new e.idle
+keeps_by talk command asked Unread result old new none (inr e) = fails_keeps talk e.given old new e.fails
+keeps_by talk command asked Starved result old new none (inl e) = idle_keeps old new e.idle
+keeps_by talk command asked Starved result old new none (inr e) = wants_keeps talk e.given old new (no_sets talk command asked (Ok e.given) none e.came) e.wants
+keeps_by talk command asked Unasked result old new none e = absurd e
 
 keeps_where : (writes : Bool) (old new : Outside) → (writes ≡ false → IsKept old new) → KeepsBy writes old new
 keeps_where true old new keeps = tt
 keeps_where false old new keeps = keeps refl
 
 pub does_keep :
-    (command : Command) (result : Status) (old new : Outside) (before after : List Asked)
-    → Does due_kind (reads command) result old new before after → KeepsBy (writes_files command) old new
-does_keep command result old new before after does =
-    keeps_where (writes_files command) old new (λ none. keeps_by command does.asked (end_of result) result old new none does.ends)
+    (talk : Talk) (command : Command) (result : Status) (old new : Outside) (before after : List Asked)
+    → Does (due_kind talk) (reads command) result old new before after → KeepsBy (writes_files command) old new
+does_keep talk command result old new before after does =
+    keeps_where (writes_files command) old new (λ none. keeps_by talk command does.asked (end_of result) result old new none does.ends)

@@ -15,6 +15,7 @@ use Rattle.m36_told.specs.declared.binding.BindFiles.{BindFiles}
 use Rattle.m36_told.specs.Told.{ToldFields, told_kind}
 use Rattle.m36_told.specs.Telling.{print_reads, alm_reads}
 use Rattle.m36_told.specs.Binding.{bind_reads}
+use Rattle.m36_told.specs.Accesses.{user_reads}
 use Rattle.m36_ran.specs.declared.command.BareRun.{BareRun}
 use Rattle.m36_ran.specs.declared.command.ImageCommand.{ImageCommand}
 use Rattle.m36_ran.specs.declared.command.ImageCommand.TheVariants as image
@@ -24,120 +25,170 @@ use Rattle.m36_booted.specs.declared.command.FolderCommand.{FolderCommand}
 use Rattle.m36_booted.specs.Folder.{folder_reads}
 use Rattle.m36_booted.specs.Booted.{folder_kind}
 use Rattle.m36_top.specs.declared.command.Command.{Command}
-use Rattle.m36_top.specs.declared.command.Command.TheVariants.{Bare, Audit, Booted, Procs, Print, Alm, Bind}
-use Rattle.m36_top.specs.Dues.{Due, Told, on_image, on_folder, on_procs, due_kind}
-use Rattle.m36_top.specs.Commands.{reads}
-use Rattle.m36_top.specs.TopCall.{Through, IsUnasked}
+use Rattle.m36_top.specs.declared.command.Command.TheVariants.{Bare, Audit, Booted, Procs, Access, Print, Alm, Bind, DebugFolder, DebugImage}
+use Rattle.m36_sessions.specs.Held.{Talk}
+use Rattle.m36_sessions.specs.Sessions.{image_kind, folder_kind as session_folder_kind}
+use Rattle.m36_top.specs.Dues.{Due, Told, ImageSession, FolderSession, on_image, on_folder, on_procs, due_kind}
+use Rattle.m36_top.specs.Commands.{reads, takes_input}
+use Rattle.m36_top.specs.TopCall.{Through, IsUnasked, InputBy, InputSays}
 
 -- ---- the kinds
 
-told_is : IsKindOf told_kind due_kind Told
-told_is = record { due = λ told due is. is; begun = λ told due is. is; wants = λ told old new wants. wants }
+told_is : (talk : Talk) → IsKindOf told_kind (due_kind talk) Told
+told_is talk = record { due = λ told due is. is; begun = λ told due is. is; wants = λ told old new wants. wants; fails = λ told old new fails. fails }
 
-image_is : (command : ImageCommand) → IsKindOf (state_kind command) due_kind (on_image command)
-image_is command = record { due = λ state due is. is; begun = λ state due is. is; wants = λ state old new wants. wants }
+image_is : (talk : Talk) (command : ImageCommand) → IsKindOf (state_kind command) (due_kind talk) (on_image command)
+image_is talk command = record { due = λ state due is. is; begun = λ state due is. is; wants = λ state old new wants. wants; fails = λ state old new fails. fails }
 
 on_file :
-    (command : ImageCommand) (name lent : List ℕ) (result : Status) (old new : Outside) (before after : List Asked)
+    (talk : Talk) (command : ImageCommand) (name lent : List ℕ) (result : Status) (old new : Outside) (before after : List Asked)
     → lent ≡ name → Does (state_kind command) (state_reads lent) result old new before after
-    → Does due_kind (mapped (on_image command) (state_reads name)) result old new before after
-on_file command name lent result old new before after is does =
-    does_mapped (state_kind command) due_kind (on_image command) (state_reads name) result old new before after (image_is command)
+    → Does (due_kind talk) (mapped (on_image command) (state_reads name)) result old new before after
+on_file talk command name lent result old new before after is does =
+    does_mapped (state_kind command) (due_kind talk) (on_image command) (state_reads name) result old new before after (image_is talk command)
     (subst (λ n. Does (state_kind command) (state_reads n) result old new before after) is does)
 
 pub performs_bare :
-    (name lent : List ℕ) (run : BareRun) (result : Status) (old new : Outside) (before after : List Asked)
+    (talk : Talk) (name lent : List ℕ) (run : BareRun) (result : Status) (old new : Outside) (before after : List Asked)
     → lent ≡ name → Does (state_kind (image.Bare run)) (state_reads lent) result old new before after
-    → Does due_kind (reads (Bare name run)) result old new before after
+    → Does (due_kind talk) (reads (Bare name run)) result old new before after
 unfolding reads
-performs_bare name lent run result old new before after is does =
-    on_file (image.Bare run) name lent result old new before after is does
+performs_bare talk name lent run result old new before after is does =
+    on_file talk (image.Bare run) name lent result old new before after is does
 
 pub performs_audit :
-    (name lent : List ℕ) (result : Status) (old new : Outside) (before after : List Asked)
+    (talk : Talk) (name lent : List ℕ) (result : Status) (old new : Outside) (before after : List Asked)
     → lent ≡ name → Does (state_kind image.Audit) (state_reads lent) result old new before after
-    → Does due_kind (reads (Audit name)) result old new before after
+    → Does (due_kind talk) (reads (Audit name)) result old new before after
 unfolding reads
-performs_audit name lent result old new before after is does =
-    on_file image.Audit name lent result old new before after is does
+performs_audit talk name lent result old new before after is does =
+    on_file talk image.Audit name lent result old new before after is does
 
-procs_is : (unaudited : Bool) → IsKindOf (procs_kind unaudited) due_kind (on_procs unaudited)
-procs_is unaudited = record { due = λ p due is. is; begun = λ p due is. is; wants = λ p old new wants. wants }
+procs_is : (talk : Talk) (unaudited : Bool) → IsKindOf (procs_kind unaudited) (due_kind talk) (on_procs unaudited)
+procs_is talk unaudited = record { due = λ p due is. is; begun = λ p due is. is; wants = λ p old new wants. wants; fails = λ p old new fails. fails }
 
 pub performs_procs :
-    (name lent : List ℕ) (unaudited : Bool) (result : Status) (old new : Outside) (before after : List Asked)
+    (talk : Talk) (name lent : List ℕ) (unaudited : Bool) (result : Status) (old new : Outside) (before after : List Asked)
     → lent ≡ name → Does (procs_kind unaudited) (procs_reads lent) result old new before after
-    → Does due_kind (reads (Procs name unaudited)) result old new before after
+    → Does (due_kind talk) (reads (Procs name unaudited)) result old new before after
 unfolding reads
-performs_procs name lent unaudited result old new before after is does =
-    does_mapped (procs_kind unaudited) due_kind (on_procs unaudited) (procs_reads name) result old new before after (procs_is unaudited) (subst (λ n. Does (procs_kind unaudited) (procs_reads n) result old new before after) is does)
+performs_procs talk name lent unaudited result old new before after is does =
+    does_mapped (procs_kind unaudited) (due_kind talk) (on_procs unaudited) (procs_reads name) result old new before after (procs_is talk unaudited) (subst (λ n. Does (procs_kind unaudited) (procs_reads n) result old new before after) is does)
 
-folder_is : (command : FolderCommand) → IsKindOf (folder_kind command) due_kind (on_folder command)
-folder_is command = record { due = λ lib due is. is; begun = λ lib due is. is; wants = λ lib old new wants. wants }
+folder_is : (talk : Talk) (command : FolderCommand) → IsKindOf (folder_kind command) (due_kind talk) (on_folder command)
+folder_is talk command = record { due = λ given due is. is; begun = λ given due is. is; wants = λ given old new wants. wants; fails = λ given old new fails. fails }
 
 pub performs_booted :
-    (command : FolderCommand) (result : Status) (old new : Outside) (before after : List Asked)
-    → Does (folder_kind command) folder_reads result old new before after
-    → Does due_kind (reads (Booted command)) result old new before after
+    (talk : Talk) (command : FolderCommand) (user : Option (List ℕ)) (result : Status) (old new : Outside) (before after : List Asked)
+    → Does (folder_kind command) (folder_reads user) result old new before after
+    → Does (due_kind talk) (reads (Booted command user)) result old new before after
 unfolding reads
-performs_booted command result old new before after does =
-    does_mapped (folder_kind command) due_kind (on_folder command) folder_reads result old new before after (folder_is command) does
+performs_booted talk command user result old new before after does =
+    does_mapped (folder_kind command) (due_kind talk) (on_folder command) (folder_reads user) result old new before after (folder_is talk command) does
+
+pub performs_access :
+    (talk : Talk) (user : List ℕ) (result : Status) (old new : Outside) (before after : List Asked)
+    → Does told_kind (user_reads user) result old new before after
+    → Does (due_kind talk) (reads (Access user)) result old new before after
+unfolding reads
+performs_access talk user result old new before after does =
+    does_mapped told_kind (due_kind talk) Told (user_reads user) result old new before after (told_is talk) does
 
 pub performs_print :
-    (name lent : List ℕ) (result : Status) (old new : Outside) (before after : List Asked)
+    (talk : Talk) (name lent : List ℕ) (result : Status) (old new : Outside) (before after : List Asked)
     → lent ≡ name → Does told_kind (print_reads lent) result old new before after
-    → Does due_kind (reads (Print name)) result old new before after
+    → Does (due_kind talk) (reads (Print name)) result old new before after
 unfolding reads
-performs_print name lent result old new before after is does =
-    does_mapped told_kind due_kind Told (print_reads name) result old new before after told_is (subst (λ n. Does told_kind (print_reads n) result old new before after) is does)
+performs_print talk name lent result old new before after is does =
+    does_mapped told_kind (due_kind talk) Told (print_reads name) result old new before after (told_is talk) (subst (λ n. Does told_kind (print_reads n) result old new before after) is does)
 
 pub performs_alm :
-    (files : AlmFiles) (result : Status) (old new : Outside) (before after : List Asked)
+    (talk : Talk) (files : AlmFiles) (result : Status) (old new : Outside) (before after : List Asked)
     → Does told_kind (alm_reads files) result old new before after
-    → Does due_kind (reads (Alm files)) result old new before after
+    → Does (due_kind talk) (reads (Alm files)) result old new before after
 unfolding reads
-performs_alm files result old new before after does =
-    does_mapped told_kind due_kind Told (alm_reads files) result old new before after told_is does
+performs_alm talk files result old new before after does =
+    does_mapped told_kind (due_kind talk) Told (alm_reads files) result old new before after (told_is talk) does
 
 pub performs_bind :
-    (files : BindFiles) (result : Status) (old new : Outside) (before after : List Asked)
+    (talk : Talk) (files : BindFiles) (result : Status) (old new : Outside) (before after : List Asked)
     → Does told_kind (bind_reads files) result old new before after
-    → Does due_kind (reads (Bind files)) result old new before after
+    → Does (due_kind talk) (reads (Bind files)) result old new before after
 unfolding reads
-performs_bind files result old new before after does =
-    does_mapped told_kind due_kind Told (bind_reads files) result old new before after told_is does
+performs_bind talk files result old new before after does =
+    does_mapped told_kind (due_kind talk) Told (bind_reads files) result old new before after (told_is talk) does
 
-pub ruleset performing = (performs_bare, performs_audit, performs_booted, performs_procs, performs_print, performs_alm, performs_bind)
+image_session_is : (talk : Talk) → IsKindOf (image_kind talk) (due_kind talk) ImageSession
+image_session_is talk =
+    record { due = λ state due is. is; begun = λ state due is. is; wants = λ state old new wants. wants; fails = λ state old new fails. fails }
+
+pub performs_debug_image :
+    (talk : Talk) (name lent : List ℕ) (result : Status) (old new : Outside) (before after : List Asked)
+    → lent ≡ name → Does (image_kind talk) (state_reads lent) result old new before after
+    → Does (due_kind talk) (reads (DebugImage name)) result old new before after
+unfolding reads
+performs_debug_image talk name lent result old new before after is does =
+    does_mapped (image_kind talk) (due_kind talk) ImageSession (state_reads name) result old new before after (image_session_is talk) (subst (λ n. Does (image_kind talk) (state_reads n) result old new before after) is does)
+
+folder_session_is : (talk : Talk) → IsKindOf (session_folder_kind talk) (due_kind talk) FolderSession
+folder_session_is talk =
+    record { due = λ given due is. is; begun = λ given due is. is; wants = λ given old new wants. wants; fails = λ given old new fails. fails }
+
+pub performs_debug_folder :
+    (talk : Talk) (result : Status) (old new : Outside) (before after : List Asked)
+    → Does (session_folder_kind talk) (folder_reads None) result old new before after
+    → Does (due_kind talk) (reads DebugFolder) result old new before after
+unfolding reads
+performs_debug_folder talk result old new before after does =
+    does_mapped (session_folder_kind talk) (due_kind talk) FolderSession (folder_reads None) result old new before after (folder_session_is talk) does
+
+pub ruleset performing = (performs_bare, performs_audit, performs_booted, performs_procs, performs_access, performs_print, performs_alm, performs_bind, performs_debug_image, performs_debug_folder)
+
+-- by the name of the command
+pub as_command :
+    (talk : Talk) (command same : Command) (result : Status) (old new : Outside) (before after : List Asked)
+    → command ≡ same → Does (due_kind talk) (reads same) result old new before after
+    → Does (due_kind talk) (reads command) result old new before after
+as_command talk command same result old new before after is does =
+    subst (λ c. Does (due_kind talk) (reads c) result old new before after) (sym is) does
 
 -- ---- whether the words are a command
 
 never_usage :
-    (p : Reading (Early Due)) (result : Status) (old new : Outside) (before after : List Asked)
-    → Does due_kind p result old new before after → result ≡ Usage → ⊥
-never_usage p result old new before after does is = subst (λ r. EndsBy due_kind (Comes p does.asked) (end_of r) r old new) is does.ends
+    (talk : Talk) (p : Reading (Early Due)) (result : Status) (old new : Outside) (before after : List Asked)
+    → Does (due_kind talk) p result old new before after → result ≡ Usage → ⊥
+never_usage talk p result old new before after does is = subst (λ r. EndsBy (due_kind talk) (Comes p does.asked) (end_of r) r old new) is does.ends
 
 pub some_usage :
-    (asked : Option Command) (command : Command) (result : Status) (old new : Outside) (before after : List Asked)
-    → Some command ≡ asked → Does due_kind (reads command) result old new before after → (result ≡ Usage) ↔ (asked ≡ None)
-some_usage asked command result old new before after is does =
-    (λ e. absurd (never_usage (reads command) result old new before after does e), λ none. let e : Some command ≡ None = is ∙ none in absurd (cc))
+    (talk : Talk) (asked : Option Command) (command : Command) (result : Status) (old new : Outside) (before after : List Asked)
+    → Some command ≡ asked → Does (due_kind talk) (reads command) result old new before after → (result ≡ Usage) ↔ (asked ≡ None)
+some_usage talk asked command result old new before after is does =
+    (λ e. absurd (never_usage talk (reads command) result old new before after does e), λ none. let e : Some command ≡ None = is ∙ none in absurd (cc))
 
 pub some_through :
-    (asked : Option Command) (command : Command) (result : Status) (old new : Outside) (before after : List Asked)
-    → Some command ≡ asked → Does due_kind (reads command) result old new before after
-    → Through asked result old new before after
-some_through asked command result old new before after is does =
-    subst (λ a. Through a result old new before after) is does
+    (talk : Talk) (asked : Option Command) (command : Command) (result : Status) (old new : Outside) (before after : List Asked)
+    → Some command ≡ asked → Does (due_kind talk) (reads command) result old new before after
+    → Through asked result talk old new before after
+some_through talk asked command result old new before after is does =
+    subst (λ a. Through a result talk old new before after) is does
 
 pub none_through :
-    (asked : Option Command) (old : Outside) (before : List Asked)
-    → None ≡ asked → Through asked Usage old old before before
-none_through asked old before is =
+    (talk : Talk) (asked : Option Command) (old : Outside) (before : List Asked)
+    → None ≡ asked → Through asked Usage talk old old before before
+none_through talk asked old before is =
     let idle : IsUnasked Usage old old = record {
       usage = refl;
       idle = record { files = refl; wrote = refl; write_faults = refl; written = refl; taken = refl; put_faults = refl };
       read_faults = refl;
     } in
-    subst (λ a. Through a Usage old old before before) is (idle, refl)
+    subst (λ a. Through a Usage talk old old before before) is (idle, refl)
 
-pub ruleset asking = (some_usage, some_through, none_through)
+pub some_input :
+    (talk : Talk) (asked : Option Command) (command : Command) (result : Status)
+    → Some command ≡ asked → InputBy (takes_input command) (end_of result) talk → InputSays asked result talk
+some_input talk asked command result is input = subst (λ a. InputSays a result talk) is input
+
+pub none_input : (talk : Talk) (asked : Option Command) → None ≡ asked → talk.after ≡ talk.before → InputSays asked Usage talk
+none_input talk asked is same = subst (λ a. InputSays a Usage talk) is same
+
+pub ruleset asking = (some_usage, some_through, none_through, some_input, none_input)

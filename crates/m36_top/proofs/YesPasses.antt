@@ -19,7 +19,8 @@ use Rattle.m36_booted.specs.Runs.{Whole, Begun}
 use Rattle.m36_booted.specs.Runs as runs
 use Rattle.m36_booted.proofs.YesAnswers.{yes_passes as folder_passes}
 use Rattle.m36_top.specs.declared.command.Command.{Command}
-use Rattle.m36_top.specs.Dues.{Due, Told, Image, Folder, Schedule, IsDueOf, IsBegunOf, WantsOf, due_kind, Promises}
+use Rattle.m36_sessions.specs.Held.{Talk}
+use Rattle.m36_top.specs.Dues.{Due, Told, Image, Folder, Schedule, ImageSession, FolderSession, IsDueOf, IsBegunOf, WantsOf, FailsOf, due_kind, Promises}
 use Rattle.m36_top.specs.Commands.{reads}
 use Rattle.m36_top.specs.TopCall.{SaysYes, YesPasses, AnswersPass}
 
@@ -53,20 +54,24 @@ yes_grew_within old new text cut told_yes =
     (b.0 ++ cut.rest, cut.whole ∙ ap (λ t. t ++ cut.rest) b.1 ∙ append_assoc yes_line b.0 cut.rest)
 
 -- an answer is due that begins so
-due_passes : (d : Due) (due : Answer) → IsDueOf d due → Begins due.text → Promises d
-due_passes (Told told) due is begins = tt
-due_passes (Image image) due is begins = yes_passes image.command image.state due begins.0 is begins.1
-due_passes (Folder folder) due is begins =
-    folder_passes Whole folder.command folder.lib due begins.0 is begins.1
-due_passes (Schedule s) due is begins = procs_pass s.unaudited s.procs due begins.0 is begins.1
+due_passes : (talk : Talk) (d : Due) (due : Answer) → IsDueOf talk d due → Begins due.text → Promises d
+due_passes talk (Told told) due is begins = tt
+due_passes talk (Image image) due is begins = yes_passes image.command image.state due begins.0 is begins.1
+due_passes talk (Folder folder) due is begins =
+    folder_passes Whole folder.command folder.given due begins.0 is begins.1
+due_passes talk (Schedule s) due is begins = procs_pass s.unaudited s.procs due begins.0 is begins.1
+due_passes talk (ImageSession state) due is begins = tt
+due_passes talk (FolderSession given) due is begins = tt
 
 -- one was begun
-begun_passes : (d : Due) (due : Answer) → IsBegunOf d due → Begins due.text → Promises d
-begun_passes (Told told) due is begins = tt
-begun_passes (Image image) due is begins = yes_passes image.command image.state due begins.0 is begins.1
-begun_passes (Folder folder) due is begins =
-    folder_passes Begun folder.command folder.lib due begins.0 is begins.1
-begun_passes (Schedule s) due is begins = procs_pass s.unaudited s.procs due begins.0 is begins.1
+begun_passes : (talk : Talk) (d : Due) (due : Answer) → IsBegunOf talk d due → Begins due.text → Promises d
+begun_passes talk (Told told) due is begins = tt
+begun_passes talk (Image image) due is begins = yes_passes image.command image.state due begins.0 is begins.1
+begun_passes talk (Folder folder) due is begins =
+    folder_passes Begun folder.command folder.given due begins.0 is begins.1
+begun_passes talk (Schedule s) due is begins = procs_pass s.unaudited s.procs due begins.0 is begins.1
+begun_passes talk (ImageSession state) due is begins = tt
+begun_passes talk (FolderSession given) due is begins = tt
 
 nothing_begins : (rest : List ℕ) → [] ≡ yes_line ++ rest → ⊥
 nothing_begins rest e = cc
@@ -76,48 +81,60 @@ idle_passes (Ok d) old new same = λ told_yes. absurd (yes_nothing old.sink.writ
 idle_passes (Err r) old new same = yes_nothing old.sink.written new.sink.written same
 
 made_passes :
-    (given : Early Due) (due : Answer) (old new : Outside)
-    → IsDueBy IsDueOf given due → Grew old.sink.written new.sink.written due.text → YesPasses given old new
-made_passes (Ok d) due old new is grew = λ told_yes. due_passes d due is (yes_grew old.sink.written new.sink.written due.text grew told_yes)
-made_passes (Err r) due old new is grew = λ told_yes.
+    (talk : Talk) (given : Early Due) (due : Answer) (old new : Outside)
+    → IsDueBy (IsDueOf talk) given due → Grew old.sink.written new.sink.written due.text → YesPasses given old new
+made_passes talk (Ok d) due old new is grew = λ told_yes. due_passes talk d due is (yes_grew old.sink.written new.sink.written due.text grew told_yes)
+made_passes talk (Err r) due old new is grew = λ told_yes.
     let b = yes_grew old.sink.written new.sink.written due.text grew told_yes in
     nothing_begins b.0 (sym (ap (λ (d : Answer). d.text) is) ∙ b.1)
 
 cut_passes :
-    (d : Due) (due : Answer) (old new : Outside)
-    → IsBegunOf d due → IsUnset due old new ⊎ IsUnput due old new → YesPasses (Ok d) old new
-cut_passes d due old new is (inl unset) = idle_passes (Ok d) old new unset.written
-cut_passes d due old new is (inr unput) = λ told_yes. begun_passes d due is (yes_grew_within old.sink.written new.sink.written due.text unput.text told_yes)
+    (talk : Talk) (d : Due) (due : Answer) (old new : Outside)
+    → IsBegunOf talk d due → IsUnset due old new ⊎ IsUnput due old new → YesPasses (Ok d) old new
+cut_passes talk d due old new is (inl unset) = idle_passes (Ok d) old new unset.written
+cut_passes talk d due old new is (inr unput) = λ told_yes. begun_passes talk d due is (yes_grew_within old.sink.written new.sink.written due.text unput.text told_yes)
 
-wants_passes : (d : Due) (old new : Outside) → WantsOf d old new → YesPasses (Ok d) old new
-wants_passes (Told told) old new w = idle_passes (Ok (Told told)) old new w.written
-wants_passes (Image image) old new w = idle_passes (Ok (Image image)) old new w.written
-wants_passes (Folder folder) old new (inl w) = idle_passes (Ok (Folder folder)) old new w.written
-wants_passes (Folder folder) old new (inr w) = λ told_yes.
+wants_passes : (talk : Talk) (d : Due) (old new : Outside) → WantsOf talk d old new → YesPasses (Ok d) old new
+wants_passes talk (Told told) old new w = idle_passes (Ok (Told told)) old new w.written
+wants_passes talk (Image image) old new w = idle_passes (Ok (Image image)) old new w.written
+wants_passes talk (Folder folder) old new (inl w) = idle_passes (Ok (Folder folder)) old new w.written
+wants_passes talk (Folder folder) old new (inr w) = λ told_yes.
     let b = yes_grew old.sink.written new.sink.written w.due.text w.text told_yes in
-    folder_passes runs.Starved folder.command folder.lib w.due b.0 w.is b.1
-wants_passes (Schedule s) old new w = idle_passes (Ok (Schedule s)) old new w.written
+    folder_passes runs.Starved folder.command folder.given w.due b.0 w.is b.1
+wants_passes talk (Schedule s) old new w = idle_passes (Ok (Schedule s)) old new w.written
+wants_passes talk (ImageSession state) old new w = λ told_yes. tt
+wants_passes talk (FolderSession given) old new w = λ told_yes. tt
+
+fails_passes : (talk : Talk) (d : Due) (old new : Outside) → FailsOf talk d old new → YesPasses (Ok d) old new
+fails_passes talk (Told told) old new f = absurd f
+fails_passes talk (Image image) old new f = absurd f
+fails_passes talk (Folder folder) old new f = absurd f
+fails_passes talk (Schedule s) old new f = absurd f
+fails_passes talk (ImageSession state) old new f = λ told_yes. tt
+fails_passes talk (FolderSession given) old new f = λ told_yes. tt
 
 -- by what a reading came to
 pub ends_pass_by :
-    (Is : Coming (Early Due) → Type 0) (given : Early Due) (end : End) (result : Status) (old new : Outside)
+    (talk : Talk) (Is : Coming (Early Due) → Type 0) (given : Early Due) (end : End) (result : Status) (old new : Outside)
     → ((other : Early Due) → Is (Came other) → given ≡ other)
-    → EndsBy due_kind Is end result old new → YesPasses given old new
-ends_pass_by Is given Answered result old new same e =
-    subst (λ o. YesPasses o old new) (sym (same e.given e.came)) (made_passes e.given e.due old new e.is_due e.made.text)
-ends_pass_by Is given Cut result old new same e =
-    subst (λ o. YesPasses o old new) (sym (same (Ok e.given) e.came)) (cut_passes e.given e.due old new e.begun e.cut)
-ends_pass_by Is given Unread result old new same e = idle_passes given old new e.idle.written
-ends_pass_by Is given Starved result old new same (inl e) = idle_passes given old new e.idle.written
-ends_pass_by Is given Starved result old new same (inr e) =
-    subst (λ o. YesPasses o old new) (sym (same (Ok e.given) e.came)) (wants_passes e.given old new e.wants)
-ends_pass_by Is given Unasked result old new same e = absurd e
+    → EndsBy (due_kind talk) Is end result old new → YesPasses given old new
+ends_pass_by talk Is given Answered result old new same e =
+    subst (λ o. YesPasses o old new) (sym (same e.given e.came)) (made_passes talk e.given e.due old new e.is_due e.made.text)
+ends_pass_by talk Is given Cut result old new same e =
+    subst (λ o. YesPasses o old new) (sym (same (Ok e.given) e.came)) (cut_passes talk e.given e.due old new e.begun e.cut)
+ends_pass_by talk Is given Unread result old new same (inl e) = idle_passes given old new e.idle.written
+ends_pass_by talk Is given Unread result old new same (inr e) =
+    subst (λ o. YesPasses o old new) (sym (same (Ok e.given) e.came)) (fails_passes talk e.given old new e.fails)
+ends_pass_by talk Is given Starved result old new same (inl e) = idle_passes given old new e.idle.written
+ends_pass_by talk Is given Starved result old new same (inr e) =
+    subst (λ o. YesPasses o old new) (sym (same (Ok e.given) e.came)) (wants_passes talk e.given old new e.wants)
+ends_pass_by talk Is given Unasked result old new same e = absurd e
 
 pub ends_pass :
-    (command : Command) (files : Files) (end : End) (result : Status) (old new : Outside)
-    → EndsBy due_kind (ComesIn files (reads command)) end result old new → YesPasses (outcome_in files (reads command)) old new
-ends_pass command files end result old new e =
-    ends_pass_by (ComesIn files (reads command)) (outcome_in files (reads command)) end result old new (λ other came. came) e
+    (talk : Talk) (command : Command) (files : Files) (end : End) (result : Status) (old new : Outside)
+    → EndsBy (due_kind talk) (ComesIn files (reads command)) end result old new → YesPasses (outcome_in files (reads command)) old new
+ends_pass talk command files end result old new e =
+    ends_pass_by talk (ComesIn files (reads command)) (outcome_in files (reads command)) end result old new (λ other came. came) e
 
 -- a reading comes to one end by the same answers
 goes_one :
@@ -139,12 +156,12 @@ comes_one (asks name go) (ask ∷ asked) a b x y =
     goes_one ask.1 go asked a b (λ found x y. comes_one (go found) asked a b x y) x.1 y.1
 
 pub does_pass :
-    (command : Command) (result : Status) (old new : Outside) (before after : List Asked)
-    → Does due_kind (reads command) result old new before after → AnswersPass command old new before after
-does_pass command result old new before after does = record {
+    (talk : Talk) (command : Command) (result : Status) (old new : Outside) (before after : List Asked)
+    → Does (due_kind talk) (reads command) result old new before after → AnswersPass command old new before after
+does_pass talk command result old new before after does = record {
   asked = does.asked;
   passed = does.passed;
   passes = λ given came.
-      ends_pass_by (Comes (reads command) does.asked) given (end_of result) result old new
+      ends_pass_by talk (Comes (reads command) does.asked) given (end_of result) result old new
       (λ other came'. comes_one (reads command) does.asked given other came came') does.ends;
 }

@@ -11,41 +11,47 @@ use Rattle.m36_scheduled.specs.DueLaw.{ProcsDueLaw}
 use Rattle.m36_booted.specs.DueLaw.{FolderDueLaw}
 use Rattle.m36_top.specs.declared.command.Command.{Command}
 use Rattle.m36_top.specs.Words.{command_of}
-use Rattle.m36_top.specs.Dues.{Due, Told, Image, Folder, Schedule, IsDueOf}
+use Rattle.m36_sessions.specs.Held.{Talk}
+use Rattle.m36_top.specs.Dues.{Due, Told, Image, Folder, Schedule, ImageSession, FolderSession}
+use Rattle.m36_top.specs.Dues.{IsDueOf}
 use Rattle.m36_top.specs.Commands.{reads}
 
-abbrev pub IsCommandDue : Option Command → Files → Answer → Type 0
-IsCommandDue None files due = due ≡ unwritten Usage
-IsCommandDue (Some command) files due = IsDueBy IsDueOf (outcome_in files (reads command)) due
+abbrev pub IsCommandDue : Option Command → Files → Talk → Answer → Type 0
+IsCommandDue None files talk due = due ≡ unwritten Usage
+IsCommandDue (Some command) files talk due =
+    IsDueBy (IsDueOf talk) (outcome_in files (reads command)) due
 
--- no folder is booted
+-- no folder is booted, and no session held
 abbrev pub IsUnbooted : Early Due → Type 0
 IsUnbooted (Ok (Told told)) = ⊤
 IsUnbooted (Ok (Image image)) = ⊤
 IsUnbooted (Ok (Folder folder)) = ⊥
 IsUnbooted (Ok (Schedule schedule)) = ⊤
+IsUnbooted (Ok (ImageSession state)) = ⊥
+IsUnbooted (Ok (FolderSession given)) = ⊥
 IsUnbooted (Err refusal) = ⊤
 
 abbrev pub BootsNone : Option Command → Files → Type 0
 BootsNone None files = ⊤
 BootsNone (Some command) files = IsUnbooted (outcome_in files (reads command))
 
--- One answer at most is due to words and files that boot no folder, and it can't be that none is.
+-- One answer at most is due to words and files that boot no folder and hold no session, and it
+-- can't be that none is.
 -- The pieces of an answer, one behind the other, are its text. To a command on an image, or on
 -- processes, it is the one that the findings of the audit give, and of those to a command on a
 -- folder the law of folders speaks.
 pub record DueLaw : Type 0 where
   pub one :
-      (words : List (List ℕ)) (files : Files) (due same : Answer)
+      (words : List (List ℕ)) (files : Files) (talk : Talk) (due same : Answer)
       → BootsNone (command_of words) files
-      → IsCommandDue (command_of words) files due → IsCommandDue (command_of words) files same
-      → due ≡ same
+      → IsCommandDue (command_of words) files talk due
+      → IsCommandDue (command_of words) files talk same → due ≡ same
   pub some :
-      (words : List (List ℕ)) (files : Files) → BootsNone (command_of words) files
-      → ¬ ((due : Answer) → ¬ IsCommandDue (command_of words) files due)
+      (words : List (List ℕ)) (files : Files) (talk : Talk) → BootsNone (command_of words) files
+      → ¬ ((due : Answer) → ¬ IsCommandDue (command_of words) files talk due)
   pub pieces :
-      (words : List (List ℕ)) (files : Files) (due : Answer)
-      → IsCommandDue (command_of words) files due → joined due.pieces ≡ due.text
+      (words : List (List ℕ)) (files : Files) (talk : Talk) (due : Answer)
+      → IsCommandDue (command_of words) files talk due → joined due.pieces ≡ due.text
   pub on_images : StateDueLaw
   pub on_processes : ProcsDueLaw
   pub on_folders : FolderDueLaw

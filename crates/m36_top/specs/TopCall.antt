@@ -12,9 +12,11 @@ use Rattle.m36_reading.specs.Outside.{Outside, IsIdle, NoneUnread}
 use Rattle.m36_reading.specs.Ends.{End, Answered, Cut, Unread, Starved, Unasked, end_of}
 use Rattle.m36_reading.specs.Doing.{IsAnswered, EndsBy, Does}
 use Rattle.m36_ran.specs.AuditText.{yes_line}
+use Rattle.m36_sessions.specs.Held.{Talk}
+use Rattle.m36_sessions.specs.Sessions.{InputStands}
 use Rattle.m36_top.specs.declared.command.Command.{Command}
 use Rattle.m36_top.specs.Dues.{Due, due_kind, Promises}
-use Rattle.m36_top.specs.Commands.{reads, writes_files}
+use Rattle.m36_top.specs.Commands.{reads, writes_files, takes_input}
 
 -- no command
 pub record IsUnasked (result : Status) (old new : Outside) : Type 0 where
@@ -27,26 +29,56 @@ pub record IsUnasked (result : Status) (old new : Outside) : Type 0 where
 -- another and no others; what the folder was told to write differs by the files of an answer that
 -- is due by them, or by a first part of these; and so do the pieces that the sink took by those of
 -- the answer. Without a command nothing is asked, written or taken.
-abbrev pub Through : Option Command → Status → Outside → Outside → List Asked → List Asked → Type 0
-Through None result old new before after = IsUnasked result old new × (after ≡ before)
-Through (Some command) result old new before after =
-    Does due_kind (reads command) result old new before after
+abbrev pub Through :
+    Option Command → Status → Talk → Outside → Outside → List Asked → List Asked → Type 0
+Through None result talk old new before after = IsUnasked result old new × (after ≡ before)
+Through (Some command) result talk old new before after =
+    Does (due_kind talk) (reads command) result old new before after
 
 -- It ends by what its reading comes to in the files that the folder tells.
-abbrev pub TopOutput : Option Command → Files → Status → Outside → Outside → Type 0
-TopOutput None files result old new = IsUnasked result old new
-TopOutput (Some command) files result old new =
-    EndsBy due_kind (ComesIn files (reads command)) (end_of result) result old new
+abbrev pub TopOutput : Option Command → Files → Status → Talk → Outside → Outside → Type 0
+TopOutput None files result talk old new = IsUnasked result old new
+TopOutput (Some command) files result talk old new =
+    EndsBy (due_kind talk) (ComesIn files (reads command)) (end_of result) result old new
+
+-- ---- the input
+
+-- whether words take input beside the folder
+abbrev pub may_take : Option Command → Bool
+may_take None = false
+may_take (Some command) = takes_input command
+
+-- With a command that takes input its count of faults stands, but where it could not be read; with
+-- every other nothing is taken of it.
+abbrev pub InputBy : Bool → End → Talk → Type 0
+InputBy true end talk = InputStands end talk
+InputBy false end talk = talk.after ≡ talk.before
+
+abbrev pub InputSays : Option Command → Status → Talk → Type 0
+InputSays command result talk = InputBy (may_take command) (end_of result) talk
 
 -- ---- causes
 
--- A count of reads that failed rose in a call that ended so, and stands after any other.
-abbrev pub ReadCause : End → Outside → Outside → Type 0
-ReadCause Unread old new = Rose old.folder.read_faults new.folder.read_faults
-ReadCause Answered old new = NoneUnread old new
-ReadCause Cut old new = NoneUnread old new
-ReadCause Starved old new = NoneUnread old new
-ReadCause Unasked old new = NoneUnread old new
+-- With a command that takes input, the count of the folder or that of the input rose; with every
+-- other that of the folder.
+abbrev pub ReadRose : Bool → Talk → Outside → Outside → Type 0
+ReadRose true talk old new =
+    Rose old.folder.read_faults new.folder.read_faults
+    ⊎ Rose talk.before.faults talk.after.faults
+ReadRose false talk old new = Rose old.folder.read_faults new.folder.read_faults
+
+-- A count of reads that failed rose in a call that ended so, and that of the folder stands after
+-- any other.
+abbrev pub ReadCauseBy : Bool → End → Talk → Outside → Outside → Type 0
+ReadCauseBy takes Unread talk old new = ReadRose takes talk old new
+ReadCauseBy takes Answered talk old new = NoneUnread old new
+ReadCauseBy takes Cut talk old new = NoneUnread old new
+ReadCauseBy takes Starved talk old new = NoneUnread old new
+ReadCauseBy takes Unasked talk old new = NoneUnread old new
+
+abbrev pub ReadCause : Option Command → Status → Talk → Outside → Outside → Type 0
+ReadCause command result talk old new =
+    ReadCauseBy (may_take command) (end_of result) talk old new
 
 -- With a command that writes files, the count of the sink or that of the folder rose; with every
 -- other that of the sink.
@@ -77,12 +109,13 @@ WriteCause command result old new = WriteCauseBy (may_write command) (end_of res
 -- ---- completeness
 
 -- With no fault outside what is due is done, unless want of memory stands in its place.
-abbrev pub Completes : Option Command → Files → Status → Outside → Outside → Type 0
-Completes None files result old new = result ≡ Usage
-Completes (Some command) files result old new =
-    ¬ Rose old.folder.read_faults new.folder.read_faults
+abbrev pub Completes : Option Command → Files → Status → Talk → Outside → Outside → Type 0
+Completes None files result talk old new = result ≡ Usage
+Completes (Some command) files result talk old new =
+    ¬ ReadRose (takes_input command) talk old new
     → ¬ WriteRose (writes_files command) old new
-    → (result ≡ NoMemory) ⊎ IsAnswered due_kind (ComesIn files (reads command)) result old new
+    → (result ≡ NoMemory)
+    ⊎ IsAnswered (due_kind talk) (ComesIn files (reads command)) result old new
 
 -- ---- files
 

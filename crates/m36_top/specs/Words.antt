@@ -2,22 +2,26 @@
 --
 --     bare FILE [--steps N] [--unaudited]
 --     audit FILE
---     audit
---     run [--steps N] [--unaudited]
---     trace [--steps N] [--unaudited]
+--     audit [--user USER]
+--     run [--steps N] [--unaudited] [--user USER]
+--     trace [--steps N] [--unaudited] [--user USER]
+--     access USER
 --     procs FILE [--unaudited]
 --     print NAME
 --     alm NAME
 --     bind NAME
+--     debug
+--     debug FILE
 --
 -- The first word is the command. Operands and options follow it in any order, and an option stands
 -- at most once. Behind `--`, which may stand once, each word is an operand. `--steps N` may be
--- written `--steps=N`; the value of `--steps` is the next word, whatever it is. No other list of
--- words is a command.
+-- written `--steps=N`, and `--user USER` `--user=USER`; the value of either is the next word,
+-- whatever it is. No other list of words is a command.
 --
 --     FILE, NAME   1 to 32 of `A-Z a-z 0-9 _ .`, not beginning with `.`; of `alm` and `bind` at
 --                  most 27, since they read NAME.alm and NAME.bind
 --     N            1 to 8 decimal digits, at most 10,000,000; without `--steps` 100,000
+--     USER         Person.Project.tag: two times 1 to 32 of `A-Z a-z 0-9 _`, and one of `a-z`
 use Rattle.std.specs.Prelude.{ℕ, Bool, true, false, not, ◌&&◌, nat_le, List, [], ◌∷◌, ◌++◌, length}
 use Rattle.std.specs.Prelude.{take, drop, codes, Option, Some, None, unwrap_or, if◌then◌else◌}
 use Rattle.std.specs.Option.{is_none, option_map, option_and_then}
@@ -25,16 +29,26 @@ use Rattle.m36_text.specs.Texts.{is_text, is_file_name}
 use Rattle.m36_text.specs.Numbers.{short_decimal_in}
 use Rattle.m36_booted.specs.declared.command.FolderRun.{FolderRun}
 use Rattle.m36_booted.specs.declared.command.FolderCommand.TheVariants as folder
+use Rattle.m36_acl.specs.Users.{user_of}
+use Rattle.m36_top.specs.declared.names.Operand.{Operand}
 use Rattle.m36_top.specs.declared.words.Given.{Given}
 use Rattle.m36_top.specs.declared.words.Expects.{Expects}
 use Rattle.m36_top.specs.declared.words.Expects.TheVariants as expects
 use Rattle.m36_top.specs.declared.command.Command.{Command}
 use Rattle.m36_top.specs.declared.command.Command.TheVariants.{Bare, Audit, Booted, Procs}
-use Rattle.m36_top.specs.declared.command.Command.TheVariants.{Print, Alm, Bind}
+use Rattle.m36_top.specs.declared.command.Command.TheVariants.{Access, Print, Alm, Bind}
+use Rattle.m36_top.specs.declared.command.Command.TheVariants.{DebugFolder, DebugImage}
 
--- operands: the files of all commands
-abbrev pub operand_of : List ℕ → Option (List ℕ)
-operand_of word = if is_file_name word then Some word else None
+-- operands: the files of all commands but `access`, which has a user; some texts are both
+abbrev pub file_of : List ℕ → Option (List ℕ)
+file_of word = if is_file_name word then Some word else None
+
+abbrev pub operand_by : Option (List ℕ) → Option (List ℕ) → Option Operand
+operand_by file user =
+    if is_none file && is_none user then None else Some (record { file = file; user = user })
+
+abbrev pub operand_of : List ℕ → Option Operand
+operand_of word = operand_by (file_of word) (user_of word)
 
 -- N: one to eight digits
 abbrev pub steps_of : List ℕ → Option ℕ
@@ -49,11 +63,15 @@ given_once (Some old) new = None
 -- command.
 abbrev pub with_operand : Given → List ℕ → Option Given
 with_operand g word =
-    option_map (λ name. record g { operand = Some name }) (given_once g.operand (operand_of word))
+    option_map (λ o. record g { operand = Some o }) (given_once g.operand (operand_of word))
 
 abbrev pub with_steps : Given → List ℕ → Option Given
 with_steps g text =
     option_map (λ n. record g { steps = Some n }) (given_once g.steps (steps_of text))
+
+abbrev pub with_user : Given → List ℕ → Option Given
+with_user g text =
+    option_map (λ user. record g { user = Some user }) (given_once g.user (user_of text))
 
 abbrev pub with_unaudited : Given → Option Given
 with_unaudited g = if g.unaudited then None else Some (record g { unaudited = true })
@@ -65,18 +83,25 @@ expecting g e = record g { expects = e }
 abbrev pub is_steps_with_value : List ℕ → Bool
 is_steps_with_value word = nat_le 8 (length word) && is_text (codes "--steps=") (take 8 word)
 
+-- `--user=` and a value
+abbrev pub is_user_with_value : List ℕ → Bool
+is_user_with_value word = nat_le 7 (length word) && is_text (codes "--user=") (take 7 word)
+
 -- options by their words, and operands
 abbrev pub with_any : Given → List ℕ → Option Given
 with_any g word =
     if is_text (codes "--") word then Some (expecting g expects.Operand)
     else if is_text (codes "--steps") word then Some (expecting g expects.Steps)
+    else if is_text (codes "--user") word then Some (expecting g expects.User)
     else if is_text (codes "--unaudited") word then with_unaudited g
     else if is_steps_with_value word then with_steps g (drop 8 word)
+    else if is_user_with_value word then with_user g (drop 7 word)
     else with_operand g word
 
 abbrev pub word_by : Expects → Given → List ℕ → Option Given
 word_by expects.Any g word = with_any g word
 word_by expects.Steps g word = with_steps (expecting g expects.Any) word
+word_by expects.User g word = with_user (expecting g expects.Any) word
 word_by expects.Operand g word = with_operand g word
 
 unfoldable pub with_word : Given → List ℕ → Option Given
@@ -86,6 +111,7 @@ with_word g word = word_by g.expects g word
 abbrev pub ended_by : Expects → Given → Option Given
 ended_by expects.Any g = Some g
 ended_by expects.Steps g = None
+ended_by expects.User g = None
 ended_by expects.Operand g = Some g
 
 unfoldable pub with_words : Given → List (List ℕ) → Option Given
@@ -93,41 +119,65 @@ with_words g [] = ended_by g.expects g
 with_words g (word ∷ words) = option_and_then (λ h. with_words h words) (with_word g word)
 
 abbrev pub nothing : Given
-nothing = record { operand = None; steps = None; unaudited = false; expects = expects.Any }
+nothing =
+    record {
+      operand = None;
+      user = None;
+      steps = None;
+      expects = expects.Any;
+      unaudited = false;
+    }
+
+abbrev pub file_given : Given → Option (List ℕ)
+file_given g = option_and_then (λ (o : Operand). o.file) g.operand
+
+abbrev pub user_given : Given → Option (List ℕ)
+user_given g = option_and_then (λ (o : Operand). o.user) g.operand
 
 -- The commands by their words, each with what it makes of its operands and options. All options go
--- with `bare`, `run` and `trace`, `--unaudited` with `procs`, and none with the others.
+-- with `run` and `trace`, all but `--user` with `bare`, `--user` with `audit` of the folder,
+-- `--unaudited` with `procs`, and none with the others.
 abbrev pub bare : Given → Option Command
 bare g =
-    option_map
+    if is_none g.user
+    then option_map
     (λ file. Bare file (record { steps = unwrap_or g.steps 100000; unaudited = g.unaudited }))
-    g.operand
+    (file_given g) else None
+
+abbrev pub runs_nothing : Given → Bool
+runs_nothing g = is_none g.steps && not g.unaudited
 
 abbrev pub has_no_option : Given → Bool
-has_no_option g = is_none g.steps && not g.unaudited
+has_no_option g = runs_nothing g && is_none g.user
 
 -- `audit` of a file, or of the folder
-abbrev pub audit_of : Option (List ℕ) → Command
-audit_of None = Booted folder.Audit
-audit_of (Some file) = Audit file
+abbrev pub audit_of : Option Operand → Option (List ℕ) → Option Command
+audit_of None user = Some (Booted folder.Audit user)
+audit_of (Some o) None = option_map Audit o.file
+audit_of (Some o) (Some user) = None
 
 abbrev pub audit : Given → Option Command
-audit g = if has_no_option g then Some (audit_of g.operand) else None
+audit g = if runs_nothing g then audit_of g.operand g.user else None
 
 abbrev pub folder_run : Given → FolderRun
 folder_run g = record { steps = unwrap_or g.steps 100000; unaudited = g.unaudited }
 
 abbrev pub run : Given → Option Command
-run g = if is_none g.operand then Some (Booted (folder.Run (folder_run g))) else None
+run g = if is_none g.operand then Some (Booted (folder.Run (folder_run g)) g.user) else None
 
 abbrev pub trace : Given → Option Command
-trace g = if is_none g.operand then Some (Booted (folder.Trace (folder_run g))) else None
+trace g = if is_none g.operand then Some (Booted (folder.Trace (folder_run g)) g.user) else None
 
 abbrev pub procs : Given → Option Command
-procs g = if is_none g.steps then option_map (λ file. Procs file g.unaudited) g.operand else None
+procs g =
+    if is_none g.steps && is_none g.user
+    then option_map (λ file. Procs file g.unaudited) (file_given g) else None
+
+abbrev pub access : Given → Option Command
+access g = if has_no_option g then option_map Access (user_given g) else None
 
 abbrev pub print : Given → Option Command
-print g = if has_no_option g then option_map (λ name. Print name) g.operand else None
+print g = if has_no_option g then option_map (λ name. Print name) (file_given g) else None
 
 abbrev pub alm_of : List ℕ → Option Command
 alm_of name =
@@ -135,7 +185,7 @@ alm_of name =
     then Some (Alm (record { source = name ++ codes ".alm"; object = name })) else None
 
 abbrev pub alm : Given → Option Command
-alm g = if has_no_option g then option_and_then alm_of g.operand else None
+alm g = if has_no_option g then option_and_then alm_of (file_given g) else None
 
 abbrev pub bind_of : List ℕ → Option Command
 bind_of name =
@@ -143,7 +193,15 @@ bind_of name =
     then Some (Bind (record { bindfile = name ++ codes ".bind"; object = name })) else None
 
 abbrev pub bind : Given → Option Command
-bind g = if has_no_option g then option_and_then bind_of g.operand else None
+bind g = if has_no_option g then option_and_then bind_of (file_given g) else None
+
+-- `debug` of a file, or of the folder
+abbrev pub debug_of : Option Operand → Option Command
+debug_of None = Some DebugFolder
+debug_of (Some o) = option_map DebugImage o.file
+
+abbrev pub debug : Given → Option Command
+debug g = if has_no_option g then debug_of g.operand else None
 
 abbrev pub Entry : Type 0
 Entry = List ℕ × (Given → Option Command)
@@ -151,8 +209,8 @@ Entry = List ℕ × (Given → Option Command)
 abbrev pub commands : List Entry
 commands =
     (codes "bare", bare) ∷ (codes "audit", audit) ∷ (codes "run", run) ∷ (codes "trace", trace)
-    ∷ (codes "procs", procs) ∷ (codes "print", print) ∷ (codes "alm", alm)
-    ∷ (codes "bind", bind) ∷ []
+    ∷ (codes "procs", procs) ∷ (codes "access", access) ∷ (codes "print", print)
+    ∷ (codes "alm", alm) ∷ (codes "bind", bind) ∷ (codes "debug", debug) ∷ []
 
 -- the command of a word
 abbrev pub command_in : List Entry → List ℕ → Given → Option Command

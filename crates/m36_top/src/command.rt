@@ -1,5 +1,6 @@
 //! The commands.
 
+use m36_acl::User;
 use m36_booted::FolderCommand;
 use m36_ran::BareRun;
 use m36_text::Name;
@@ -12,14 +13,20 @@ pub enum Command {
     Bare(Name, BareRun),
     /// `audit FILE`: audits the machine of a bare image.
     Audit(Name),
-    /// `audit`, `run` and `trace`: boots the folder and audits its core, and may run it.
-    Booted(FolderCommand),
+    /// `audit`, `run` and `trace`: boots the folder, perhaps with the rights of a user, and audits its core, and may run it.
+    Booted(FolderCommand, Option<User>),
     /// `procs FILE`: audits several processes on one core, and runs them by their schedule, perhaps though the audit fails.
     Procs(Name, bool),
+    /// `access USER`: writes what a user may do with each segment.
+    Access(User),
     /// `print NAME`: writes the print of an object.
     Print(Name),
     /// `alm NAME`: assembles a source, writes the object, and then the listing.
     Alm(AlmFiles),
     /// `bind NAME`: binds the components of a bind file, writes the object, and then its print.
     Bind(BindFiles),
+    /// `debug`: boots the folder, and holds a session over it.
+    DebugFolder,
+    /// `debug FILE`: holds a session over the machine of a bare image.
+    DebugImage(Name),
 }

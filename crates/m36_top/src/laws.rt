@@ -2,7 +2,7 @@
 
 ghost use Rattle.m36_top.specs.DueLaw.{DueLaw};
 
-/// One answer at most is due to words and files that boot no folder, and it can't be that none is. On a state of which all
+/// One answer at most is due to words and files that boot no folder and hold no session, and it can't be that none is. On a state of which all
 /// conditions of the audit hold it is the one without findings, and on every other state one by some findings. A folder
 /// boots to one system at most, and its runs make the same turns up to the first that executes ABSA or LDBR.
 pub fn law_due()

@@ -6,8 +6,10 @@
 //! the audit has failed and `--unaudited` is not given, for at most 100,000 steps or as many as `--steps` gives. A trace
 //! line is written for each step, and an end line. `audit`, `run` and `trace` boot the folder: they read its boot text and
 //! the files of its segments, lay them in core, and audit it; `run` and `trace` then run the system, with its pages, links
-//! and console, and write its characters or a line for each turn, and an end line. `procs FILE` reads a text of several
-//! processes on one core and their schedule, audits them together, and makes the events of the schedule in the same way.
+//! and console, and write its characters or a line for each turn, and an end line. With `--user` the segments have the
+//! rights that the access lists of the folder give to that user; `access USER` writes them, a line for each segment. `procs
+//! FILE` reads a text of several processes on one core and their schedule, audits them together, and makes the events of
+//! the schedule in the same way.
 //! `print NAME` unpacks an object and writes its print.
 //! `alm NAME` assembles the source NAME.alm, writes the object as the file NAME, and then the listing.
 //! `bind NAME` binds the objects that NAME.bind names, writes the bound object as the file NAME, and then its print.
@@ -41,6 +43,7 @@ pub mod command;
 pub mod laws;
 mod names;
 pub mod status_report;
+mod table;
 pub mod top;
 pub mod words;
 

@@ -4,35 +4,41 @@ ghost use Rattle.std.specs.Prelude.{◌≡◌, ◌↔◌, None, IfSome};
 ghost use Rattle.m36_reading.specs.Ends.{end_of};
 ghost use Rattle.m36_reading.specs.Outside.{outside_of};
 ghost use Rattle.m36_reading.specs.Doing.{Does};
+ghost use Rattle.m36_sessions.specs.Held.{talk_of};
 ghost use Rattle.m36_top.specs.Words.{command_of};
 ghost use Rattle.m36_top.specs.Dues.{due_kind};
-ghost use Rattle.m36_top.specs.Commands.{reads};
-ghost use Rattle.m36_top.specs.TopCall.{Through, TopOutput, ReadCause, WriteCause, Completes, KeepsFiles, TopPasses, TopAnswersPass};
+ghost use Rattle.m36_top.specs.Commands.{reads, takes_input};
+ghost use Rattle.m36_top.specs.TopCall.{Through, TopOutput, InputBy, InputSays, ReadCause, WriteCause, Completes, KeepsFiles, TopPasses, TopAnswersPass};
 
 use crate::command::Command;
 use crate::words::command_of;
 use m36_booted::folder_booted;
-use m36_outside::{Folder, Sink, Text};
+use m36_outside::{Folder, Lines, Sink, Text};
 use m36_ran::{ImageCommand, image_file};
 use m36_reading::Status;
 use m36_scheduled::procs_file;
-use m36_told::{alm_file, bind_file, print_file};
+use m36_sessions::{folder_session, image_session};
+use m36_told::{access_user, alm_file, bind_file, print_file};
 use std::alloc::Global;
 
 /// Does what a command says.
 #[tactic(auto, using(crate::proofs::Performing::performing))]
-pub fn perform<F: Folder, S: Sink>(
+pub fn perform<F: Folder, L: Lines, S: Sink>(
     alloc: Global,
     command: &Command,
     folder: &mut F,
+    lines: &mut L,
     out: &mut S,
 ) -> Status
-    ensures { Does due_kind (reads command.now) result
+    ensures does { Does (due_kind (talk_of L.left L.given L.faults lines.old lines.new))
+        (reads command.now) result
         (outside_of F.files F.wrote F.read_faults F.write_faults S.written S.taken S.faults
         folder.old out.old)
         (outside_of F.files F.wrote F.read_faults F.write_faults S.written S.taken S.faults
         folder.new out.new)
         (F.asked folder.old) (F.asked folder.new) }
+    ensures input { InputBy (takes_input command.now) (end_of result)
+        (talk_of L.left L.given L.faults lines.old lines.new) }
 {
     match command {
         Command::Bare(file, run) => {
@@ -41,31 +47,44 @@ pub fn perform<F: Folder, S: Sink>(
         Command::Audit(file) => {
             image_file(alloc, file.bytes(), ImageCommand::Audit, folder, out)
         }
-        Command::Booted(command) => folder_booted(alloc, *command, folder, out),
+        Command::Booted(command, user) => folder_booted(alloc, *command, user, folder, out),
         Command::Procs(file, unaudited) => {
             procs_file(alloc, file.bytes(), *unaudited, folder, out)
         }
+        Command::Access(user) => access_user(alloc, user, folder, out),
         Command::Print(name) => print_file(alloc, name.bytes(), folder, out),
         Command::Alm(files) => alm_file(alloc, files, folder, out),
         Command::Bind(files) => bind_file(alloc, files, folder, out),
+        Command::DebugFolder => folder_session(alloc, folder, lines, out),
+        Command::DebugImage(file) => image_session(alloc, file.bytes(), folder, lines, out),
     }
 }
 
 // What the words ask for.
 #[tactic(auto, using(crate::proofs::Performing::asking))]
-fn answer<F: Folder, S: Sink>(alloc: Global, words: &[Text], folder: &mut F, out: &mut S) -> Status
+fn answer<F: Folder, L: Lines, S: Sink>(
+    alloc: Global,
+    words: &[Text],
+    folder: &mut F,
+    lines: &mut L,
+    out: &mut S,
+) -> Status
     ensures through { Through (command_of words.now) result
+        (talk_of L.left L.given L.faults lines.old lines.new)
         (outside_of F.files F.wrote F.read_faults F.write_faults S.written S.taken S.faults
         folder.old out.old)
         (outside_of F.files F.wrote F.read_faults F.write_faults S.written S.taken S.faults
         folder.new out.new)
         (F.asked folder.old) (F.asked folder.new) }
+    ensures input { InputSays (command_of words.now) result
+        (talk_of L.left L.given L.faults lines.old lines.new) }
     ensures usage { (result ≡ Status.Usage) ↔ (command_of words.now ≡ None) }
     ensures folder_untouched { command_of words.now ≡ None → folder.new ≡ folder.old }
     ensures sink_untouched { command_of words.now ≡ None → out.new ≡ out.old }
+    ensures lines_untouched { command_of words.now ≡ None → lines.new ≡ lines.old }
 {
     match command_of(words) {
-        Some(command) => perform(alloc, &command, folder, out),
+        Some(command) => perform(alloc, &command, folder, lines, out),
         None => Status::Usage,
     }
 }
@@ -73,20 +92,31 @@ fn answer<F: Folder, S: Sink>(alloc: Global, words: &[Text], folder: &mut F, out
 /// The simulator: does what the words of the command line ask for, and answers how that ended.
 ///
 /// `words` leaves out the name of the program. `audit FILE` reads the file as a bare image, audits it, and writes the
-/// audit text. `bare FILE` does so too; where the audit passes, or `--unaudited` is given, it then runs the image for at
-/// most the steps that `--steps` gives, 100,000 by default, and writes a trace line for each and the end line. `audit`
-/// boots the folder, audits the core of the booted system, and writes the audit text. `run` and `trace` do so too; where
-/// the audit passes, or `--unaudited` is given, they then run the system with its services: `run` writes the characters of
-/// its console, `trace` a line for each step and each service, and both the end line. `procs FILE` reads the file as a
-/// text of processes, audits them together, and writes the audit text; where the audit passes, or `--unaudited` is given,
-/// it then makes the events of the schedule, and writes a line for each and the last line. `print NAME` unpacks the words
-/// of the file, reads them as an object, and writes its print. `alm NAME` assembles the source NAME.alm, writes the words
-/// of the object, packed, as the file NAME, and then the listing. `bind NAME` reads NAME.bind and the objects that it
-/// names, writes the words of the bound object, packed, as the file NAME, and then its print.
+/// audit text. `bare FILE` does so too; where the audit passes, or `--unaudited` is given, it then runs the image for
+/// at most the steps that `--steps` gives, 100,000 by default, and writes a trace line for each and the end line.
+/// `audit` boots the folder, audits the core of the booted system, and writes the audit text. `run` and `trace` do so
+/// too; where the audit passes, or `--unaudited` is given, they then run the system with its services: `run` writes the
+/// characters of its console, `trace` a line for each step and each service, and both the end line. With `--user` these
+/// three give the segments the rights that the access lists give to that user; where a run ended for want of a right to
+/// a segment of the catalog, its line stands behind the end line. `access USER` writes what the user may do with each
+/// segment. `procs FILE` reads the file as a text of processes, audits them together, and writes the audit text; where
+/// the audit passes, or `--unaudited` is given, it then makes the events of the schedule, and writes a line for each
+/// and the last line. `print NAME` unpacks the words of the file, reads them as an object, and writes its print. `alm
+/// NAME` assembles the source NAME.alm, writes the words of the object, packed, as the file NAME, and then the listing.
+/// `bind NAME` reads NAME.bind and the objects that it names, writes the words of the bound object, packed, as the file
+/// NAME, and then its print. `debug FILE` reads the file as a bare image, and `debug` boots the folder; a session is then
+/// held over the machine by the lines of the input.
 #[tactic(auto, using(crate::proofs::TopEnds::tops))]
-pub fn m36<F: Folder, S: Sink>(alloc: Global, words: &[Text], folder: &mut F, out: &mut S) -> Status
+pub fn m36<F: Folder, L: Lines, S: Sink>(
+    alloc: Global,
+    words: &[Text],
+    folder: &mut F,
+    lines: &mut L,
+    out: &mut S,
+) -> Status
     // What is asked, answered, written and put, and in which pieces, by what the folder answers, told or not.
     ensures through { Through (command_of words.now) result
+        (talk_of L.left L.given L.faults lines.old lines.new)
         (outside_of F.files F.wrote F.read_faults F.write_faults S.written S.taken S.faults
         folder.old out.old)
         (outside_of F.files F.wrote F.read_faults F.write_faults S.written S.taken S.faults
@@ -95,6 +125,7 @@ pub fn m36<F: Folder, S: Sink>(alloc: Global, words: &[Text], folder: &mut F, ou
 
     // The same by the files that the folder tells.
     ensures output { IfSome (F.files folder.old) (λ f. TopOutput (command_of words.now) f result
+        (talk_of L.left L.given L.faults lines.old lines.new)
         (outside_of F.files F.wrote F.read_faults F.write_faults S.written S.taken S.faults
         folder.old out.old)
         (outside_of F.files F.wrote F.read_faults F.write_faults S.written S.taken S.faults
@@ -102,6 +133,7 @@ pub fn m36<F: Folder, S: Sink>(alloc: Global, words: &[Text], folder: &mut F, ou
 
     // With no fault outside what is due is done, or no memory was found.
     ensures complete { IfSome (F.files folder.old) (λ f. Completes (command_of words.now) f result
+        (talk_of L.left L.given L.faults lines.old lines.new)
         (outside_of F.files F.wrote F.read_faults F.write_faults S.written S.taken S.faults
         folder.old out.old)
         (outside_of F.files F.wrote F.read_faults F.write_faults S.written S.taken S.faults
@@ -133,7 +165,8 @@ pub fn m36<F: Folder, S: Sink>(alloc: Global, words: &[Text], folder: &mut F, ou
         folder.new out.new) }
 
     // A fault has a cause outside.
-    ensures read_cause { ReadCause (end_of result)
+    ensures read_cause { ReadCause (command_of words.now) result
+        (talk_of L.left L.given L.faults lines.old lines.new)
         (outside_of F.files F.wrote F.read_faults F.write_faults S.written S.taken S.faults
         folder.old out.old)
         (outside_of F.files F.wrote F.read_faults F.write_faults S.written S.taken S.faults
@@ -144,10 +177,16 @@ pub fn m36<F: Folder, S: Sink>(alloc: Global, words: &[Text], folder: &mut F, ou
         (outside_of F.files F.wrote F.read_faults F.write_faults S.written S.taken S.faults
         folder.new out.new) }
 
+    // No command but `debug` takes anything of the input, and with it the count of faults of the input stands unless the
+    // input could not be read.
+    ensures input { InputSays (command_of words.now) result
+        (talk_of L.left L.given L.faults lines.old lines.new) }
+
     // Where the words are no command, nothing is touched.
     ensures usage { (result ≡ Status.Usage) ↔ (command_of words.now ≡ None) }
     ensures folder_untouched { command_of words.now ≡ None → folder.new ≡ folder.old }
     ensures sink_untouched { command_of words.now ≡ None → out.new ≡ out.old }
+    ensures lines_untouched { command_of words.now ≡ None → lines.new ≡ lines.old }
 {
-    answer(alloc, words, folder, out)
+    answer(alloc, words, folder, lines, out)
 }

@@ -1,27 +1,20 @@
 //! The words of the command line.
 
-ghost use Rattle.std.specs.Prelude.{ℕ, ◌≡◌, ◌≤◌, ◌++◌, true, length, drop, codes, Some, IfSome};
-ghost use Rattle.m36_top.specs.Words.{steps_of, with_operand, with_steps, with_unaudited, expecting, is_steps_with_value, with_any, with_word, ended_by, with_words, nothing, bare, has_no_option, audit_of, audit, folder_run, run, trace, procs, print, alm_of, alm, bind_of, bind, commands, command_in, command_of};
+ghost use Rattle.std.specs.Prelude.{◌≡◌, ◌≤◌, true, length, drop, IfSome};
+ghost use Rattle.m36_top.specs.Words.{steps_of, with_operand, with_steps, with_user, with_unaudited, expecting, is_steps_with_value, is_user_with_value, with_any, with_word, ended_by, with_words, nothing, command_of};
 
 use crate::command::Command;
-use crate::names::{bindfile_of, operand_of, source_of};
-use m36_booted::{FolderCommand, FolderRun};
+use crate::names::{Operand, operand_of};
+use crate::table::command_in;
+use m36_acl::User;
 use m36_outside::Text;
-use m36_ran::BareRun;
-use m36_text::{Name, short_decimal_in};
-use m36_told::{AlmFiles, BindFiles};
+use m36_text::short_decimal_in;
 
 /// The most digits of a number of steps.
 const MOST_DIGITS: usize = 8;
 
 /// The most steps that can be asked for.
 const MOST_STEPS: u64 = 10000000;
-
-/// The most steps of a run where no number is given.
-const DEFAULT_STEPS: u32 = 100000;
-
-/// The most characters of an object's name that `alm` or `bind` is given.
-const LONGEST_MADE_NAME: usize = 27;
 
 /// What the next word is read as.
 #[derive(Clone, Copy)]
@@ -30,6 +23,8 @@ pub enum Expects {
     Any,
     /// The value of `--steps`.
     Steps,
+    /// The value of `--user`.
+    User,
     /// An operand, behind `--`.
     Operand,
 }
@@ -38,7 +33,9 @@ pub enum Expects {
 #[derive(Drop)]
 pub struct Given {
     /// The operand.
-    pub operand: Option<Name>,
+    pub operand: Option<Operand>,
+    /// The value of `--user`.
+    pub user: Option<User>,
     /// The value of `--steps`.
     pub steps: Option<u32>,
     pub expects: Expects,
@@ -60,6 +57,7 @@ fn nothing() -> Given
 {
     Given {
         operand: None,
+        user: None,
         steps: None,
         expects: Expects::Any,
         unaudited: false,
@@ -87,6 +85,18 @@ fn with_steps(mut given: Given, text: &[u8]) -> Option<Given>
         Some(_) => None,
         None => {
             given.steps = Some(steps_of(text)?);
+            Some(given)
+        }
+    }
+}
+
+fn with_user(mut given: Given, text: &[u8]) -> Option<Given>
+    ensures { result ≡ with_user given text.now }
+{
+    match given.user {
+        Some(_) => None,
+        None => {
+            given.user = Some(User::read(text)?);
             Some(given)
         }
     }
@@ -125,6 +135,22 @@ fn value_of_steps(word: &[u8]) -> &[u8]
     &word[8..]
 }
 
+fn is_user_with_value(word: &[u8]) -> bool
+    ensures value { result ≡ is_user_with_value word.now }
+    ensures long { result ≡ true → 7 ≤ length word.now }
+{
+    word.len() >= 7 && &word[..7] == b"--user=".as_slice()
+}
+
+// What stands behind `--user=`.
+#[tactic(auto, using(m36_text::proofs::Splitting::rest_whole))]
+fn value_of_user(word: &[u8]) -> &[u8]
+    requires { 7 ≤ length word.now }
+    ensures { result.now ≡ drop 7 word.now }
+{
+    &word[7..]
+}
+
 // An option by its word, or an operand.
 fn with_any(given: Given, word: &[u8]) -> Option<Given>
     ensures { result ≡ with_any given word.now }
@@ -135,11 +161,17 @@ fn with_any(given: Given, word: &[u8]) -> Option<Given>
     if word == b"--steps".as_slice() {
         return Some(expecting(given, Expects::Steps));
     }
+    if word == b"--user".as_slice() {
+        return Some(expecting(given, Expects::User));
+    }
     if word == b"--unaudited".as_slice() {
         return with_unaudited(given);
     }
     if is_steps_with_value(word) {
         return with_steps(given, value_of_steps(word));
+    }
+    if is_user_with_value(word) {
+        return with_user(given, value_of_user(word));
     }
     with_operand(given, word)
 }
@@ -151,6 +183,7 @@ fn with_word(given: Given, word: &[u8]) -> Option<Given>
     match given.expects {
         Expects::Any => with_any(given, word),
         Expects::Steps => with_steps(expecting(given, Expects::Any), word),
+        Expects::User => with_user(expecting(given, Expects::Any), word),
         Expects::Operand => with_operand(given, word),
     }
 }
@@ -160,7 +193,7 @@ fn ended(given: Given) -> Option<Given>
 {
     match given.expects {
         Expects::Any | Expects::Operand => Some(given),
-        Expects::Steps => None,
+        Expects::Steps | Expects::User => None,
     }
 }
 
@@ -174,172 +207,6 @@ fn read_given(words: &[Text]) -> Option<Given>
         given = with_word(given, word.bytes())?;
     }
     ended(given)
-}
-
-// `bare FILE`
-fn bare(given: Given) -> Option<Command>
-    ensures { result ≡ bare given }
-{
-    let file = given.operand?;
-    let run = BareRun {
-        steps: given.steps.unwrap_or(DEFAULT_STEPS),
-        unaudited: given.unaudited,
-    };
-    Some(Command::Bare(file, run))
-}
-
-fn has_no_option(given: &Given) -> bool
-    ensures { result ≡ has_no_option given.now }
-{
-    given.steps.is_none() && !given.unaudited
-}
-
-// `audit`, of a file or of the folder.
-fn audit_of(operand: Option<Name>) -> Command
-    ensures { result ≡ audit_of operand }
-{
-    match operand {
-        None => Command::Booted(FolderCommand::Audit),
-        Some(file) => Command::Audit(file),
-    }
-}
-
-// `audit`, `audit FILE`
-fn audit(given: Given) -> Option<Command>
-    ensures { result ≡ audit given }
-{
-    if has_no_option(&given) {
-        Some(audit_of(given.operand))
-    } else {
-        None
-    }
-}
-
-fn folder_run(given: &Given) -> FolderRun
-    ensures { result ≡ folder_run given.now }
-{
-    FolderRun {
-        steps: given.steps.unwrap_or(DEFAULT_STEPS),
-        unaudited: given.unaudited,
-    }
-}
-
-// `run`
-fn run(given: Given) -> Option<Command>
-    ensures { result ≡ run given }
-{
-    if given.operand.is_none() {
-        Some(Command::Booted(FolderCommand::Run(folder_run(&given))))
-    } else {
-        None
-    }
-}
-
-// `trace`
-fn trace(given: Given) -> Option<Command>
-    ensures { result ≡ trace given }
-{
-    if given.operand.is_none() {
-        Some(Command::Booted(FolderCommand::Trace(folder_run(&given))))
-    } else {
-        None
-    }
-}
-
-// `procs FILE`
-fn procs(given: Given) -> Option<Command>
-    ensures { result ≡ procs given }
-{
-    if given.steps.is_none() {
-        let unaudited = given.unaudited;
-        Some(Command::Procs(given.operand?, unaudited))
-    } else {
-        None
-    }
-}
-
-// `print NAME`
-fn print(given: Given) -> Option<Command>
-    ensures { result ≡ print given }
-{
-    if has_no_option(&given) {
-        Some(Command::Print(given.operand?))
-    } else {
-        None
-    }
-}
-
-fn alm_of(object: Name) -> Option<Command>
-    ensures { result ≡ alm_of object }
-{
-    if object.bytes().len() > LONGEST_MADE_NAME {
-        return None;
-    }
-    let source = source_of(object.bytes())?;
-    Some(Command::Alm(AlmFiles { source, object }))
-}
-
-// `alm NAME`
-fn alm(given: Given) -> Option<Command>
-    ensures { result ≡ alm given }
-{
-    if has_no_option(&given) {
-        alm_of(given.operand?)
-    } else {
-        None
-    }
-}
-
-fn bind_of(object: Name) -> Option<Command>
-    ensures { result ≡ bind_of object }
-{
-    if object.bytes().len() > LONGEST_MADE_NAME {
-        return None;
-    }
-    let bindfile = bindfile_of(object.bytes())?;
-    Some(Command::Bind(BindFiles { bindfile, object }))
-}
-
-// `bind NAME`
-fn bind(given: Given) -> Option<Command>
-    ensures { result ≡ bind given }
-{
-    if has_no_option(&given) {
-        bind_of(given.operand?)
-    } else {
-        None
-    }
-}
-
-// The command of a word.
-fn command_in(word: &[u8], given: Given) -> Option<Command>
-    ensures { result ≡ command_in commands word.now given }
-{
-    if word == b"bare".as_slice() {
-        return bare(given);
-    }
-    if word == b"audit".as_slice() {
-        return audit(given);
-    }
-    if word == b"run".as_slice() {
-        return run(given);
-    }
-    if word == b"trace".as_slice() {
-        return trace(given);
-    }
-    if word == b"procs".as_slice() {
-        return procs(given);
-    }
-    if word == b"print".as_slice() {
-        return print(given);
-    }
-    if word == b"alm".as_slice() {
-        return alm(given);
-    }
-    if word == b"bind".as_slice() {
-        return bind(given);
-    }
-    None
 }
 
 /// What the words ask for; None exactly where they are no command.

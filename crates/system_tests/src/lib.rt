@@ -16,4 +16,6 @@ mod pages;
 #[cfg(test)]
 mod running;
 #[cfg(test)]
+mod sessions;
+#[cfg(test)]
 mod turns;

@@ -12,16 +12,16 @@ steps-preserved g c =
 
 pub returns-in-Over : goal.returns-in-Over
 returns-in-Over g c =
-    run_over c.write_end.result c.in-Over.end c.args.output c.args.steps c.steps.taken c.steps.left c.args.system.now c.steps.system c.take_step.new.system _ _ _ _ c.steps.invariant c.steps-test.true c.in-Over.ensures c.write_end.ensures
+    run_over c.write_end.result c.in-Over.end c.args.denied.now c.args.output c.args.steps c.steps.taken c.steps.left c.args.system.now c.steps.system c.take_step.new.system _ _ _ _ c.steps.invariant c.steps-test.true c.in-Over.ensures c.write_end.ensures
 
 pub returns-in-Cut : goal.returns-in-Cut
 returns-in-Cut g c =
-    run_cut c.args.output c.args.steps c.steps.taken c.steps.left c.args.system.now c.steps.system c.take_step.new.system _ _ _ c.steps.invariant c.steps-test.true c.in-Cut.ensures
+    run_cut c.args.denied.now c.args.output c.args.steps c.steps.taken c.steps.left c.args.system.now c.steps.system c.take_step.new.system _ _ _ c.steps.invariant c.steps-test.true c.in-Cut.ensures
 
 pub returns-in-Starved : goal.returns-in-Starved
 returns-in-Starved g c =
-    run_starved c.args.output c.args.steps c.steps.taken c.steps.left c.args.system.now c.steps.system c.take_step.new.system _ _ _ c.steps.invariant c.steps-test.true c.in-Starved.ensures
+    run_starved c.args.denied.now c.args.output c.args.steps c.steps.taken c.steps.left c.args.system.now c.steps.system c.take_step.new.system _ _ _ c.steps.invariant c.steps-test.true c.in-Starved.ensures
 
 pub returns : goal.returns
 returns g c =
-    run_limit c.write_end-2.result c.args.output c.args.steps c.steps.taken c.steps.left c.args.system.now c.steps.system _ _ _ c.steps.invariant (omega (arith, c.steps-test.false)) c.write_end-2.ensures
+    run_limit c.write_end-2.result c.args.denied.now c.args.output c.args.steps c.steps.taken c.steps.left c.args.system.now c.steps.system _ _ _ c.steps.invariant (omega (arith, c.steps-test.false)) c.write_end-2.ensures

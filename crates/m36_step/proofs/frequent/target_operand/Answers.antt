@@ -18,5 +18,5 @@ returns-else-not-try_transfer-clause-ends c =
     let g = c.args.regs.now in
     let m = c.args.walk.now in
     let refs = c.args.told.now.refs.items in
-    let served = rw c.final_at.ensures at (c.try_transfer.ensures.serves c.if-not-try_transfer.false g (sym c.requires.dbr) (ap (λ (a : AtFields). a.ring) (sym c.here-place.ensures)) [] refs []) in
-    rw c.tell_done-2.ensures.refs (target_ends row.effect row.reg c.args.word g c.args.last.now m.core refs c.transfer-2.new.regs false (ended_of c.tell_done-2.new.told) (c.tell_done-2.ensures.ended g c.here-place.ensures) (sdw_in m c.args.last.now.at.seg) (sym c.requires.row.operand ∙ c.requires.kind) (ap (λ (x : FinalFields). x.direct) (sym c.last.view_is) ∙ c.in-None.is) (sym c.if-not-is_taken.false ∙ c.is_taken.ensures) served (sym (c.transfer-2.ensures.value row.reg nothing_read)))
+    let served = rw c.final_at.ensures at (c.try_transfer.ensures.serves c.if-not-try_transfer.false g (sym c.requires.dbr) (ap (λ (a : AtFields). a.ring) (sym c.here-place.ensures ∙ sym c.place.view_is)) [] refs []) in
+    rw c.tell_done-in-None.ensures.refs (target_ends row.effect row.reg c.args.word g c.args.last.now m.core refs c.transfer-in-None.new.regs false (ended_of c.tell_done-in-None.new.told) (c.tell_done-in-None.ensures.ended g c.here-place.ensures) (sdw_in m c.args.last.now.at.seg) (sym c.requires.row.operand ∙ c.requires.kind) (ap (λ (x : FinalFields). x.direct) (sym c.last.view_is) ∙ c.in-None.is) (sym c.if-not-is_taken.false ∙ c.is_taken.ensures) served (sym (c.transfer-in-None.ensures.value row.reg nothing_read)))

@@ -1,0 +1,79 @@
+-- What is written of access lists, of each segment of a catalog.
+--
+--     DIR NAME MODE TERM        what a user may do with it
+--     denied DIR NAME TERM      behind a run that ended for want of a right to it
+--
+-- MODE has the letters r, e and w, or is `null`. TERM is the term that decides, or `none`.
+use Rattle.std.specs.Prelude.{ℕ, Bool, true, false, List, [], ◌∷◌, ◌++◌, map, codes, slice_get}
+use Rattle.std.specs.Prelude.{Option, Some, None}
+use Rattle.m36_dir.specs.Fields.{SegmentFields}
+use Rattle.m36_dir.specs.Catalog.{CatalogFields}
+use Rattle.m36_acl.specs.declared.policy.Decision.{Decision}
+use Rattle.m36_acl.specs.Fields.{TermFields}
+use Rattle.m36_acl.specs.AccessLists.{Lists}
+use Rattle.m36_acl.specs.Policy.{terms_of, decided}
+use Rattle.m36_acl.specs.Granted.{directory_of, name_of, decision_on}
+
+-- the letters of the rights to read, execute and write
+abbrev pub mode_text : Bool → Bool → Bool → List ℕ
+mode_text false false false = codes "null"
+mode_text true false false = codes "r"
+mode_text false true false = codes "e"
+mode_text true true false = codes "re"
+mode_text false false true = codes "w"
+mode_text true false true = codes "rw"
+mode_text false true true = codes "ew"
+mode_text true true true = codes "rew"
+
+abbrev pub mode_of : Decision → List ℕ
+mode_of d = mode_text d.readable d.executable d.writable
+
+-- ---- the term that decides
+
+abbrev pub text_of : Option TermFields → List ℕ
+text_of None = codes "none"
+text_of (Some term) = term.text
+
+abbrev pub term_at : List TermFields → Option ℕ → List ℕ
+term_at terms None = codes "none"
+term_at terms (Some place) = text_of (slice_get terms place)
+
+unfoldable pub deciding_in : List TermFields → List ℕ → List ℕ
+deciding_in terms user = term_at terms (decided terms user).term
+
+abbrev pub deciding : Lists → List ℕ → List (List ℕ) → SegmentFields → List ℕ
+deciding lists user directories s =
+    deciding_in (terms_of lists (directory_of directories s) (name_of s)) user
+
+-- ---- lines
+
+-- a text behind a blank
+abbrev pub and_then : List ℕ → List ℕ → List ℕ
+and_then text word = (text ++ codes " ") ++ word
+
+unfoldable pub access_line : Lists → List ℕ → List (List ℕ) → SegmentFields → List ℕ
+access_line lists user directories s =
+    and_then (and_then (and_then (directory_of directories s) (name_of s))
+    (mode_of (decision_on lists user directories s)))
+    (deciding lists user directories s)
+    ++ 10 ∷ []
+
+unfoldable pub denied_line : Lists → List ℕ → List (List ℕ) → SegmentFields → List ℕ
+denied_line lists user directories s =
+    and_then (and_then (and_then (codes "denied") (directory_of directories s)) (name_of s))
+    (deciding lists user directories s)
+    ++ 10 ∷ []
+
+-- ---- of all segments, in their order
+
+unfoldable pub access_from : Lists → List ℕ → List (List ℕ) → List SegmentFields → List ℕ
+access_from lists user directories [] = []
+access_from lists user directories (s ∷ segments) =
+    access_line lists user directories s ++ access_from lists user directories segments
+
+unfoldable pub access_text : Lists → List ℕ → CatalogFields → List ℕ
+access_text lists user catalog = access_from lists user catalog.directories catalog.segments
+
+unfoldable pub denied_lines : Lists → List ℕ → CatalogFields → List (List ℕ)
+denied_lines lists user catalog =
+    map (denied_line lists user catalog.directories) catalog.segments

@@ -1,0 +1,147 @@
+//! What is written of access lists.
+
+ghost use Rattle.std.specs.Prelude.{◌≡◌, ◌++◌, ◌∷◌, [], length, IfOk, OnOk};
+ghost use Rattle.m36_dir.specs.IsCatalog.{IsSegment};
+ghost use Rattle.m36_acl.specs.Granted.{directory_of, name_of};
+ghost use Rattle.m36_acl.specs.AccessText.{mode_text, deciding_in, deciding, and_then, access_line, denied_line, access_text, denied_lines};
+
+use crate::acl::Acl;
+use crate::denied::DeniedLines;
+use crate::granting::{decision_on, name_of};
+use crate::policy::first_match;
+use crate::segment::Term;
+use crate::user::User;
+use m36_dir::{Catalog, Segment};
+use m36_outside::Text;
+use m36_word::NoMemory;
+use std::alloc::Global;
+
+// The letters of the rights to read, execute and write.
+fn mode_text(readable: bool, executable: bool, writable: bool) -> &'static str
+    ensures { result.now ≡ mode_text readable executable writable }
+{
+    match (readable, executable, writable) {
+        (false, false, false) => "null",
+        (true, false, false) => "r",
+        (false, true, false) => "e",
+        (true, true, false) => "re",
+        (false, false, true) => "w",
+        (true, false, true) => "rw",
+        (false, true, true) => "ew",
+        (true, true, true) => "rew",
+    }
+}
+
+// The term of a list that decides for a user.
+#[tactic(auto, unfolding(crate::specs::AccessText::deciding_in, crate::specs::Policy::decided))]
+fn deciding_in<'a>(terms: &'a [Term], user: &User) -> &'a [u8]
+    ensures { result.now ≡ deciding_in terms.now user.now }
+{
+    match first_match(terms, user) {
+        Some(place) => terms[place].bytes(),
+        None => b"none".as_slice(),
+    }
+}
+
+// The directory of a segment of a catalog.
+fn directory_of<'a>(catalog: &'a Catalog, segment: &Segment) -> &'a [u8]
+    requires { IsSegment (length catalog.now.directories) segment.now }
+    ensures { result.now ≡ directory_of catalog.now.directories segment.now }
+{
+    catalog.directory(segment.dir)
+}
+
+// The term that decides what a user may do with a segment of a catalog.
+fn deciding<'a>(lists: &'a Acl, catalog: &Catalog, segment: &Segment, user: &User) -> &'a [u8]
+    requires { IsSegment (length catalog.now.directories) segment.now }
+    ensures { result.now ≡ deciding lists.now user.now catalog.now.directories segment.now }
+{
+    deciding_in(
+        lists.terms(directory_of(catalog, segment), name_of(segment)),
+        user,
+    )
+}
+
+// Adds a blank and a word.
+fn append_word(line: &mut Text, word: &[u8]) -> Result<(), NoMemory>
+    ensures { OnOk result (line.new ≡ and_then line.old word.now) }
+{
+    line.append(b" ")?;
+    line.append(word)?;
+    Ok(())
+}
+
+#[tactic(auto, unfolding(crate::specs::AccessText::access_line))]
+fn access_line(
+    alloc: Global,
+    lists: &Acl,
+    catalog: &Catalog,
+    segment: &Segment,
+    user: &User,
+) -> Result<Text, NoMemory>
+    requires { IsSegment (length catalog.now.directories) segment.now }
+    ensures { IfOk result (λ line. line ≡ access_line lists.now user.now catalog.now.directories segment.now) }
+{
+    let decision = decision_on(lists, catalog, segment, user);
+    let mode = mode_text(decision.readable, decision.executable, decision.writable);
+    let mut line = Text::from_bytes(alloc, directory_of(catalog, segment))?;
+    append_word(&mut line, name_of(segment))?;
+    append_word(&mut line, mode.as_bytes())?;
+    append_word(&mut line, deciding(lists, catalog, segment, user))?;
+    line.append(b"\n")?;
+    Ok(line)
+}
+
+#[tactic(auto, unfolding(crate::specs::AccessText::denied_line))]
+fn denied_line(
+    alloc: Global,
+    lists: &Acl,
+    catalog: &Catalog,
+    segment: &Segment,
+    user: &User,
+) -> Result<Text, NoMemory>
+    requires { IsSegment (length catalog.now.directories) segment.now }
+    ensures { IfOk result (λ line. line ≡ denied_line lists.now user.now catalog.now.directories segment.now) }
+{
+    let mut line = Text::from_bytes(alloc, b"denied")?;
+    append_word(&mut line, directory_of(catalog, segment))?;
+    append_word(&mut line, name_of(segment))?;
+    append_word(&mut line, deciding(lists, catalog, segment, user))?;
+    line.append(b"\n")?;
+    Ok(line)
+}
+
+/// What a user may do with each segment of a catalog, a line for each.
+#[tactic(auto, using(crate::proofs::AccessLoops::texts))]
+pub(crate) fn access_text(
+    alloc: Global,
+    lists: &Acl,
+    catalog: &Catalog,
+    user: &User,
+) -> Result<Text, NoMemory>
+    ensures { IfOk result (λ text. text ≡ access_text lists.now user.now catalog.now) }
+{
+    let mut text = Text::new(alloc);
+    for i in 0..catalog.count() {
+        let line = access_line(alloc, lists, catalog, catalog.segment(i), user)?;
+        text.append(line.bytes())?;
+    }
+    Ok(text)
+}
+
+/// The line behind a run that ended for want of a right, for each segment of a catalog.
+#[tactic(auto, using(crate::proofs::AccessLoops::lines))]
+pub(crate) fn denied_lines(
+    alloc: Global,
+    lists: &Acl,
+    catalog: &Catalog,
+    user: &User,
+) -> Result<DeniedLines, NoMemory>
+    ensures { IfOk result (λ lines. lines ≡ denied_lines lists.now user.now catalog.now) }
+{
+    let mut told = DeniedLines::new(alloc);
+    for i in 0..catalog.count() {
+        told.push(denied_line(alloc, lists, catalog, catalog.segment(i), user)?)?;
+    }
+    Ok(told)
+}

@@ -1,0 +1,90 @@
+-- What is read of a folder before the files of its segments: the boot text, which gives a catalog,
+-- and for a user the access lists, by which its segments get their rights.
+use Rattle.std.specs.Prelude.{ℕ, List, [], codes, Option, Some, None, Result, Ok, Err}
+use Rattle.m36_dir.specs.Catalog.{CatalogFields, catalog_of}
+use Rattle.m36_dir.specs.declared.fault.CatalogFault.{CatalogFault}
+use Rattle.m36_dir.specs.declared.fault.CatalogFault.TheVariants as catalog
+use Rattle.m36_acl.specs.declared.fault.AclFault.{AclFault}
+use Rattle.m36_acl.specs.declared.fault.AclFault.TheVariants as acl
+use Rattle.m36_acl.specs.Fields.{AclSegmentFields}
+use Rattle.m36_acl.specs.AccessLists.{Lists, lists_of}
+use Rattle.m36_acl.specs.Granted.{first_unknown, granted}
+use Rattle.m36_acl.specs.AccessText.{denied_lines}
+use Rattle.m36_catalog.specs.declared.access.Access.{Access}
+use Rattle.m36_reading.specs.declared.status.Code.{Code}
+use Rattle.m36_reading.specs.declared.status.Code.TheVariants as code
+use Rattle.m36_reading.specs.declared.refusal.Refusal.{Refusal}
+use Rattle.m36_reading.specs.declared.refusal.Refusal.TheVariants.{BadFile, ReadFault, NoMemory}
+use Rattle.m36_reading.specs.Reading.{Reading, decided, Early, then_with}
+use Rattle.m36_reading.specs.Readers.{refused, file_bytes}
+
+-- ---- the boot text: D1 to D6 at its line
+
+abbrev pub boot_name : List ℕ
+boot_name = codes "boot"
+
+abbrev pub boot_refused : Code → ℕ → Refusal
+boot_refused code at = refused boot_name code at
+
+abbrev pub catalog_refused : CatalogFault → Refusal
+catalog_refused (catalog.D1 line) = boot_refused code.D1 line
+catalog_refused (catalog.D2 line) = boot_refused code.D2 line
+catalog_refused (catalog.D3 line) = boot_refused code.D3 line
+catalog_refused (catalog.D4 line) = boot_refused code.D4 line
+catalog_refused (catalog.D5 line) = boot_refused code.D5 line
+catalog_refused (catalog.D6 line) = boot_refused code.D6 line
+catalog_refused catalog.NoMemory = NoMemory
+
+abbrev pub catalog_by : Result CatalogFields CatalogFault → Early CatalogFields
+catalog_by (Ok catalog) = Ok catalog
+catalog_by (Err fault) = Err (catalog_refused fault)
+
+unfoldable pub catalog_reads : Reading (Early CatalogFields)
+catalog_reads =
+    then_with (file_bytes boot_name) (λ text. decided (catalog_by (catalog_of text)))
+
+-- ---- the access lists: C1 and C2 at the first line that has one, and then C3 at the first line of
+-- a segment that the boot text does not have
+
+abbrev pub acl_name : List ℕ
+acl_name = codes "acl"
+
+abbrev pub acl_refused : Code → ℕ → Refusal
+acl_refused code at = refused acl_name code at
+
+abbrev pub lists_refused : AclFault → Refusal
+lists_refused (acl.C1 line) = acl_refused code.C1 line
+lists_refused (acl.C2 line) = acl_refused code.C2 line
+lists_refused acl.NoMemory = NoMemory
+
+abbrev pub known_by : Lists → Option ℕ → Early (List AclSegmentFields)
+known_by lists None = Ok lists
+known_by lists (Some line) = Err (acl_refused code.C3 line)
+
+abbrev pub lists_by : CatalogFields → Result (List AclSegmentFields) AclFault
+    → Early (List AclSegmentFields)
+lists_by catalog (Ok lists) = known_by lists (first_unknown catalog lists)
+lists_by catalog (Err fault) = Err (lists_refused fault)
+
+unfoldable pub lists_reads : CatalogFields → Reading (Early (List AclSegmentFields))
+lists_reads catalog =
+    then_with (file_bytes acl_name) (λ text. decided (lists_by catalog (lists_of text)))
+
+-- ---- the catalog with the rights of a user
+
+abbrev pub as_given : CatalogFields → Access
+as_given catalog = record { catalog = catalog; denied = [] }
+
+abbrev pub for_user : List ℕ → CatalogFields → Lists → Access
+for_user user catalog lists = record {
+  catalog = granted lists user catalog;
+  denied = denied_lines lists user catalog;
+}
+
+unfoldable pub rights_read : Option (List ℕ) → CatalogFields → Reading (Early Access)
+rights_read None catalog = decided (Ok (as_given catalog))
+rights_read (Some user) catalog =
+    then_with (lists_reads catalog) (λ lists. decided (Ok (for_user user catalog lists)))
+
+unfoldable pub access_reads : Option (List ℕ) → Reading (Early Access)
+access_reads user = then_with catalog_reads (λ catalog. rights_read user catalog)

@@ -1,0 +1,258 @@
+-- Laws of lines that are answered.
+use Rattle.std.proofs.Common.{◌≡◌, ◌≢◌, ℕ, Bool, true, false, nat_le, List, [], ◌∷◌, ◌++◌, Option, Some, None, refl, sym, ap, subst, ◌∙◌}
+use Rattle.std.specs.Prelude.{if◌then◌else◌}
+use Rattle.std.proofs.lemmas.List.{append-nil}
+use Rattle.m36_model.specs.declared.endings.End.{End}
+use Rattle.m36_outside.specs.declared.sink.Put.{Put}
+use Rattle.m36_outside.specs.declared.sink.Put.TheVariants.{Done, Failed}
+use Rattle.m36_step.specs.declared.turns.BackAnswer.{BackAnswer}
+use Rattle.m36_step.specs.declared.turns.BackAnswer.TheVariants as back
+use Rattle.m36_debug.specs.declared.commands.Run.{Run}
+use Rattle.m36_debug.specs.declared.session_line.SessionLine.{SessionLine}
+use Rattle.m36_debug.specs.declared.session_line.SessionLine.TheVariants as session
+use Rattle.m36_debug.specs.declared.turning.Ends.{Ends}
+use Rattle.m36_debug.specs.declared.turning.Ends.TheVariants as ends
+use Rattle.m36_debug.specs.Parts.{Part, CutPart, EndSays, EndPuts, IsTold, CommandSays, BackSays, told, doing_at}
+use Rattle.m36_debug.specs.Putting.{SinkSeen, PutAll, PutSome, PutsLines}
+use Rattle.m36_debug.specs.Session.{Turning, Doing, Waiting, Running, Backing, Over, Starved, Standing, standing, Took, Went, onward, said, begun, remembered, line_says, run_begun, went, back_says}
+use Rattle.m36_debug.specs.SessionLines.{session_line}
+use Rattle.m36_debug.specs.SessionTexts.{unknown_line, end_line, end_lines}
+use Rattle.m36_debug.specs.Sitting.{SittingFields}
+use Rattle.m36_debug.proofs.PutLaws.{puts_nothing}
+use Rattle.m36_debug.proofs.PartLaws.{event_part, event_cut, part_on, part_cut}
+
+-- a part, and then what an answer says
+pub then_ends :
+    {M : Type 0} (o : Turning M) (end : Ends) (s : Standing) (m : M) (lines others : List (List ℕ)) (s1 : Standing) (m1 : M) (sitting : SittingFields) (m2 : M) (old now new : SinkSeen)
+    → Part o s m lines s1 m1 (PutAll old now) → EndSays o end s1 m1 others sitting m2 now new
+    → EndSays o end s m (lines ++ others) sitting m2 old new
+then_ends o ends.Line s m lines others s1 m1 sitting m2 old now new one two =
+    part_on o s m lines others s1 m1 (standing sitting Waiting) m2 old now new one two
+then_ends o ends.Quit s m lines others s1 m1 sitting m2 old now new one two =
+    part_on o s m lines others s1 m1 (standing sitting Over) m2 old now new one two
+then_ends o ends.Starved s m lines others s1 m1 sitting m2 old now new one two =
+    part_on o s m lines others s1 m1 (standing sitting Starved) m2 old now new one two
+then_ends o ends.Cut s m lines others s1 m1 sitting m2 old now new one two =
+    part_cut o s m lines others s1 m1 m2 old now new one two
+
+-- a line of this kind was taken
+took_part :
+    {M : Type 0} (o : Turning M) (s : SittingFields) (m : M) (text : List ℕ) (kind : SessionLine) (old new : SinkSeen)
+    → session_line text ≡ kind → PutAll old new (line_says (o.regs m) (o.content m) s text kind)
+    → Part o (standing s Waiting) m (text ∷ []) (standing (remembered s kind) (begun s text kind)) m (PutAll old new)
+unfolding onward said
+took_part o s m text kind old new is puts =
+    let P : SessionLine → Type 0 = λ k. Part o (standing s Waiting) m (text ∷ []) (standing (remembered s k) (begun s text k)) m (PutAll old new) in
+    subst P is
+    (event_part o (standing s Waiting) m m (Took text) old new refl
+    (subst (λ k. PutAll old new (line_says (o.regs m) (o.content m) s text k)) (sym is) puts))
+
+took_cut :
+    {M : Type 0} (o : Turning M) (s : SittingFields) (m : M) (text : List ℕ) (kind : SessionLine) (old new : SinkSeen)
+    → session_line text ≡ kind → PutSome old new (line_says (o.regs m) (o.content m) s text kind)
+    → CutPart o (standing s Waiting) m (text ∷ []) m old new
+unfolding said
+took_cut o s m text kind old new is puts =
+    event_cut o (standing s Waiting) m m (Took text) old new refl
+    (subst (λ k. PutSome old new (line_says (o.regs m) (o.content m) s text k)) (sym is) puts)
+
+-- it was told at once
+pub took_told :
+    {M : Type 0} (o : Turning M) (put : Put) (s : SittingFields) (m : M) (text : List ℕ) (kind : SessionLine) (sitting : SittingFields) (old new : SinkSeen)
+    → session_line text ≡ kind → begun s text kind ≡ Waiting → sitting ≡ remembered s kind
+    → PutsLines put old new (line_says (o.regs m) (o.content m) s text kind)
+    → EndSays o (told put) (standing s Waiting) m (text ∷ []) sitting m old new
+took_told o Done s m text kind sitting old new is waits remembers puts =
+    subst (λ r. Part o (standing s Waiting) m (text ∷ []) (standing r Waiting) m (PutAll old new)) (sym remembers)
+    (subst (λ d. Part o (standing s Waiting) m (text ∷ []) (standing (remembered s kind) d) m (PutAll old new)) waits (took_part o s m text kind old new is puts))
+took_told o Failed s m text kind sitting old new is waits remembers puts = took_cut o s m text kind old new is puts
+
+-- the same by how it ended
+took_end :
+    {M : Type 0} (o : Turning M) (end : Ends) (s : SittingFields) (m : M) (text : List ℕ) (kind : SessionLine) (old new : SinkSeen)
+    → session_line text ≡ kind → begun s text kind ≡ Waiting → remembered s kind ≡ s
+    → EndPuts end old new (line_says (o.regs m) (o.content m) s text kind)
+    → EndSays o end (standing s Waiting) m (text ∷ []) s m old new
+took_end o ends.Line s m text kind old new is waits remembers puts =
+    took_told o Done s m text kind s old new is waits (sym remembers) puts
+took_end o ends.Quit s m text kind old new is waits remembers puts = absurd puts
+took_end o ends.Starved s m text kind old new is waits remembers puts = absurd puts
+took_end o ends.Cut s m text kind old new is waits remembers puts =
+    took_told o Failed s m text kind s old new is waits (sym remembers) puts
+
+-- and where nothing was changed
+took_is_told :
+    {M : Type 0} (o : Turning M) (end : Ends) (s : SittingFields) (m : M) (text : List ℕ) (kind : SessionLine) (lines : List (List ℕ)) (sitting : SittingFields) (m' : M) (old new : SinkSeen)
+    → session_line text ≡ kind → begun s text kind ≡ Waiting → remembered s kind ≡ s
+    → line_says (o.regs m) (o.content m) s text kind ≡ lines
+    → IsTold end lines s m sitting m' old new
+    → EndSays o end (standing s Waiting) m (text ∷ []) sitting m' old new
+took_is_told o end s m text kind lines sitting m' old new is waits remembers says told =
+    subst (λ r. EndSays o end (standing s Waiting) m (text ∷ []) r m' old new) (sym told.sitting_stays)
+    (subst (λ n. EndSays o end (standing s Waiting) m (text ∷ []) s n old new) (sym told.machine_stays)
+    (took_end o end s m text kind old new is waits remembers (subst (EndPuts end old new) (sym says) told.puts)))
+
+-- a line that says nothing
+pub took_quit :
+    {M : Type 0} (o : Turning M) (s : SittingFields) (m : M) (text : List ℕ) (now : SinkSeen)
+    → session_line text ≡ session.Quit → EndSays o ends.Quit (standing s Waiting) m (text ∷ []) s m now now
+took_quit o s m text now is = took_part o s m text session.Quit now now is (puts_nothing now)
+
+pub took_empty :
+    {M : Type 0} (o : Turning M) (s : SittingFields) (m : M) (text : List ℕ) (now : SinkSeen)
+    → session_line text ≡ session.Empty → EndSays o ends.Line (standing s Waiting) m (text ∷ []) s m now now
+took_empty o s m text now is = took_part o s m text session.Empty now now is (puts_nothing now)
+
+-- a line that begins something
+took_then :
+    {M : Type 0} (o : Turning M) (end : Ends) (s : SittingFields) (m : M) (text : List ℕ) (kind : SessionLine) (doing : Doing) (sitting : SittingFields) (m' : M) (old new : SinkSeen)
+    → session_line text ≡ kind → begun s text kind ≡ doing → remembered s kind ≡ s
+    → line_says (o.regs m) (o.content m) s text kind ≡ []
+    → EndSays o end (standing s doing) m [] sitting m' old new
+    → EndSays o end (standing s Waiting) m (text ∷ []) sitting m' old new
+took_then o end s m text kind doing sitting m' old new is begins remembers silent says =
+    let took : Part o (standing s Waiting) m (text ∷ []) (standing (remembered s kind) (begun s text kind)) m (PutAll old old) =
+    took_part o s m text kind old old is (subst (PutAll old old) (sym silent) (puts_nothing old)) in
+    let there : Part o (standing s Waiting) m (text ∷ []) (standing s doing) m (PutAll old old) =
+    subst (λ r. Part o (standing s Waiting) m (text ∷ []) (standing r doing) m (PutAll old old)) remembers
+    (subst (λ d. Part o (standing s Waiting) m (text ∷ []) (standing (remembered s kind) d) m (PutAll old old)) begins took) in
+    then_ends o end (standing s Waiting) m (text ∷ []) [] (standing s doing) m sitting m' old old new there says
+
+-- a command that takes turns, by whether the run has ended
+command_by :
+    {M : Type 0} (o : Turning M) (end : Ends) (ended : Option End) (run : Run) (s : SittingFields) (m : M) (text : List ℕ) (kind : SessionLine) (sitting : SittingFields) (m' : M) (old new : SinkSeen)
+    → session_line text ≡ kind → begun s text kind ≡ run_begun ended run.command run.left → remembered s kind ≡ s
+    → line_says (o.regs m) (o.content m) s text kind ≡ end_lines ended s.taken
+    → CommandSays o end ended run s m sitting m' old new
+    → EndSays o end (standing s Waiting) m (text ∷ []) sitting m' old new
+command_by o end None run s m text kind sitting m' old new is begins remembers says command =
+    took_then o end s m text kind (Running run) sitting m' old new is begins remembers says command
+command_by o end (Some e) run s m text kind sitting m' old new is begins remembers says command =
+    took_is_told o end s m text kind (end_line e s.taken ∷ []) sitting m' old new is begins remembers says command
+
+-- `step`, and `go`
+pub took_command :
+    {M : Type 0} (o : Turning M) (end : Ends) (run : Run) (s : SittingFields) (m : M) (text : List ℕ) (kind : SessionLine) (sitting : SittingFields) (m' : M) (old new : SinkSeen)
+    → session_line text ≡ kind → begun s text kind ≡ run_begun s.ended run.command run.left → remembered s kind ≡ s
+    → line_says (o.regs m) (o.content m) s text kind ≡ end_lines s.ended s.taken
+    → CommandSays o end s.ended run s m sitting m' old new
+    → EndSays o end (standing s Waiting) m (text ∷ []) sitting m' old new
+took_command o end run s m text kind sitting m' old new is begins remembers says command =
+    command_by o end s.ended run s m text kind sitting m' old new is begins remembers says command
+
+-- `back`, by whether so many steps were taken
+back_by :
+    {M : Type 0} (o : Turning M) (end : Ends) (some : Bool) (n : ℕ) (s : SittingFields) (m : M) (text : List ℕ) (sitting : SittingFields) (m' : M) (old new : SinkSeen)
+    → session_line text ≡ session.Back n → nat_le n s.taken ≡ some
+    → BackSays o end some text n s m sitting m' old new
+    → EndSays o end (standing s Waiting) m (text ∷ []) sitting m' old new
+back_by o end true n s m text sitting m' old new is enough back =
+    took_then o end s m text (session.Back n) (Backing n text) sitting m' old new is
+    (ap (λ b. if b then Backing n text else Waiting) enough) refl
+    (ap (λ b. if b then [] else unknown_line text ∷ []) enough) back
+back_by o end false n s m text sitting m' old new is few back =
+    took_is_told o end s m text (session.Back n) (unknown_line text ∷ []) sitting m' old new is
+    (ap (λ b. if b then Backing n text else Waiting) few) refl
+    (ap (λ b. if b then [] else unknown_line text ∷ []) few) back
+
+pub took_back :
+    {M : Type 0} (o : Turning M) (end : Ends) (n : ℕ) (s : SittingFields) (m : M) (text : List ℕ) (sitting : SittingFields) (m' : M) (old new : SinkSeen)
+    → session_line text ≡ session.Back n
+    → BackSays o end (nat_le n s.taken) text n s m sitting m' old new
+    → EndSays o end (standing s Waiting) m (text ∷ []) sitting m' old new
+took_back o end n s m text sitting m' old new is back =
+    back_by o end (nat_le n s.taken) n s m text sitting m' old new is refl back
+
+-- the machine was to go back
+pub went_part :
+    {M : Type 0} (o : Turning M) (answer : BackAnswer) (n : ℕ) (text : List ℕ) (s : SittingFields) (m m' : M) (old new : SinkSeen)
+    → o.went m n answer m' → PutAll old new (back_says (o.regs m') text answer)
+    → Part o (standing s (Backing n text)) m [] (went s n answer) m' (PutAll old new)
+unfolding onward said
+went_part o answer n text s m m' old new may puts =
+    event_part o (standing s (Backing n text)) m m' (Went answer) old new may puts
+
+pub went_cut :
+    {M : Type 0} (o : Turning M) (answer : BackAnswer) (n : ℕ) (text : List ℕ) (s : SittingFields) (m m' : M) (old new : SinkSeen)
+    → o.went m n answer m' → PutSome old new (back_says (o.regs m') text answer)
+    → CutPart o (standing s (Backing n text)) m [] m' old new
+unfolding said
+went_cut o answer n text s m m' old new may puts =
+    event_cut o (standing s (Backing n text)) m m' (Went answer) old new may puts
+
+-- ---- by the equations that the code has
+
+-- what is told at once, by how it ended
+pub told_puts :
+    (put : Put) (old new : SinkSeen) (lines : List (List ℕ))
+    → PutsLines put old new lines → EndPuts (told put) old new lines
+told_puts Done old new lines puts = puts
+told_puts Failed old new lines puts = puts
+
+-- the end was told again
+pub command_told :
+    {M : Type 0} (o : Turning M) (put : Put) (answer : Ends) (end : End) (run : Run) (s : SittingFields) (taken : ℕ) (m : M) (old new : SinkSeen)
+    → Some end ≡ s.ended → taken ≡ s.taken → PutsLines put old new (end_line end taken ∷ []) → answer ≡ told put
+    → CommandSays o answer s.ended run s m s m old new
+command_told o put answer end run s taken m old new is counted puts ends =
+    let lines : PutsLines put old new (end_line end s.taken ∷ []) =
+    subst (λ (n : ℕ). PutsLines put old new (end_line end n ∷ [])) counted puts in
+    let there : IsTold (told put) (end_line end s.taken ∷ []) s m s m old new =
+    record { puts = told_puts put old new (end_line end s.taken ∷ []) lines; sitting_stays = refl; machine_stays = refl } in
+    subst (λ (e : Option End). CommandSays o answer e run s m s m old new) is
+    (subst (λ (a : Ends). IsTold a (end_line end s.taken ∷ []) s m s m old new) (sym ends) there)
+
+-- the turns were taken
+pub command_ran :
+    {M : Type 0} (o : Turning M) (answer : Ends) (run : Run) (s : SittingFields) (m : M) (sitting : SittingFields) (m' : M) (old new : SinkSeen)
+    → None ≡ s.ended → EndSays o answer (standing s (Running run)) m [] sitting m' old new
+    → CommandSays o answer s.ended run s m sitting m' old new
+command_ran o answer run s m sitting m' old new is says =
+    subst (λ (e : Option End). CommandSays o answer e run s m sitting m' old new) is says
+
+-- the machine was to go back, and it was told at once how
+pub went_told :
+    {M : Type 0} (o : Turning M) (put : Put) (end : Ends) (answer : BackAnswer) (n : ℕ) (text : List ℕ) (s sitting : SittingFields) (m m' : M) (old new : SinkSeen)
+    → o.went m n answer m' → went s n answer ≡ standing sitting Waiting
+    → PutsLines put old new (back_says (o.regs m') text answer) → end ≡ told put
+    → EndSays o end (standing s (Backing n text)) m [] sitting m' old new
+went_told o Done end answer n text s sitting m m' old new may stands puts ends =
+    subst (λ (a : Ends). EndSays o a (standing s (Backing n text)) m [] sitting m' old new) (sym ends)
+    (subst (λ (t : Standing). Part o (standing s (Backing n text)) m [] t m' (PutAll old new)) stands (went_part o answer n text s m m' old new may puts))
+went_told o Failed end answer n text s sitting m m' old new may stands puts ends =
+    subst (λ (a : Ends). EndSays o a (standing s (Backing n text)) m [] sitting m' old new) (sym ends)
+    (went_cut o answer n text s m m' old new may puts)
+
+pub went_starved :
+    {M : Type 0} (o : Turning M) (n : ℕ) (text : List ℕ) (s : SittingFields) (m m' : M) (now : SinkSeen)
+    → o.went m n back.NoMemory m' → EndSays o ends.Starved (standing s (Backing n text)) m [] s m' now now
+went_starved o n text s m m' now may = went_part o back.NoMemory n text s m m' now now may (puts_nothing now)
+
+-- so many steps were taken
+pub back_went :
+    {M : Type 0} (o : Turning M) (end : Ends) (n : ℕ) (text : List ℕ) (s : SittingFields) (m : M) (sitting : SittingFields) (m' : M) (old new : SinkSeen)
+    → nat_le n s.taken ≡ true → EndSays o end (standing s (Backing n text)) m [] sitting m' old new
+    → BackSays o end (nat_le n s.taken) text n s m sitting m' old new
+back_went o end n text s m sitting m' old new enough says =
+    subst (λ (b : Bool). BackSays o end b text n s m sitting m' old new) (sym enough) says
+
+-- fewer were
+pub back_not :
+    {M : Type 0} (o : Turning M) (put : Put) (end : Ends) (n : ℕ) (text : List ℕ) (s : SittingFields) (m : M) (old new : SinkSeen)
+    → nat_le n s.taken ≡ false → PutsLines put old new (unknown_line text ∷ []) → end ≡ told put
+    → BackSays o end (nat_le n s.taken) text n s m s m old new
+back_not o put end n text s m old new few puts ends =
+    let there : IsTold (told put) (unknown_line text ∷ []) s m s m old new =
+    record { puts = told_puts put old new (unknown_line text ∷ []) puts; sitting_stays = refl; machine_stays = refl } in
+    subst (λ (b : Bool). BackSays o end b text n s m s m old new) (sym few)
+    (subst (λ (a : Ends). IsTold a (unknown_line text ∷ []) s m s m old new) (sym ends) there)
+
+-- a line of this kind was told at once
+pub took_at_once :
+    {M : Type 0} (o : Turning M) (put : Put) (end : Ends) (s : SittingFields) (m : M) (text : List ℕ) (kind : SessionLine) (sitting : SittingFields) (old new : SinkSeen)
+    → kind ≡ session_line text → begun s text kind ≡ Waiting → sitting ≡ remembered s kind
+    → PutsLines put old new (line_says (o.regs m) (o.content m) s text kind) → end ≡ told put
+    → EndSays o end (standing s Waiting) m (text ∷ []) sitting m old new
+took_at_once o put end s m text kind sitting old new is waits remembers puts ends =
+    subst (λ (a : Ends). EndSays o a (standing s Waiting) m (text ∷ []) sitting m old new) (sym ends)
+    (took_told o put s m text kind sitting old new (sym is) waits remembers puts)

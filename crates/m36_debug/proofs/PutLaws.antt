@@ -1,0 +1,191 @@
+-- Laws of lines that are put one after another.
+use Rattle.std.proofs.Common.{◌≡◌, ◌≤◌, ◌<◌, ◌+◌, ℕ, List, [], ◌∷◌, ◌++◌, length, take, drop, get_or, Option, refl, sym, ap, subst, ◌∙◌, arith}
+use Rattle.std.proofs.lemmas.List.{append-nil, append_assoc, take_all, at_drop_more, at_drop_all}
+use Rattle.m36_desc.specs.Fields.{PtrFields}
+use Rattle.m36_outside.specs.Counts.{Rose}
+use Rattle.m36_outside.specs.Passing.{joined, PutTakes, TakesLines}
+use Rattle.m36_outside.specs.Put.{PutSays, PutHasCause}
+use Rattle.m36_outside.specs.Written.{Grew, GrewWithin}
+use Rattle.m36_outside.specs.declared.sink.Put.{Put}
+use Rattle.m36_outside.specs.declared.sink.Put.TheVariants.{Done, Failed}
+use Rattle.m36_outside.proofs.Grown.{grew_by_nothing, grew_on, grew_more, grew_longer}
+use Rattle.m36_outside.proofs.LinesTaken.{takes_no_lines, takes_lines_on, takes_some_of_line, takes_lines_more, takes_lines_longer}
+use Rattle.m36_debug.specs.Putting.{SinkSeen, seen, PutAll, PutSome, PutsLines}
+use Rattle.m36_debug.specs.SessionTexts.{pointer_line, pointer_lines}
+
+pub joined_on : (first second : List (List ℕ)) → joined (first ++ second) ≡ joined first ++ joined second
+joined_on [] second = refl
+joined_on (piece ∷ first) second =
+    ap (λ t. piece ++ t) (joined_on first second) ∙ sym (append_assoc piece (joined first) (joined second))
+
+-- nothing is to be put
+pub puts_nothing : (now : SinkSeen) → PutAll now now []
+puts_nothing now =
+    record { text = grew_by_nothing now.written; pieces = takes_no_lines now.taken; faults = refl }
+
+-- some lines, and then others
+pub puts_on :
+    (old now new : SinkSeen) (first second : List (List ℕ))
+    → PutAll old now first → PutAll now new second → PutAll old new (first ++ second)
+puts_on old now new first second one two = record {
+  text = subst (Grew old.written new.written) (sym (joined_on first second)) (grew_on old.written now.written new.written (joined first) (joined second) one.text two.text);
+  pieces = takes_lines_on old.taken now.taken new.taken first second one.pieces two.pieces;
+  faults = two.faults ∙ one.faults;
+}
+
+-- some lines, and then a part of others
+pub puts_more :
+    (old now new : SinkSeen) (first second : List (List ℕ))
+    → PutAll old now first → PutSome now new second → PutSome old new (first ++ second)
+puts_more old now new first second one two = record {
+  text = subst (GrewWithin old.written new.written) (sym (joined_on first second)) (grew_more old.written now.written new.written (joined first) (joined second) one.text two.text);
+  pieces = takes_lines_more old.taken now.taken new.taken first second one.pieces two.pieces;
+  cause = subst (λ n. Rose n new.faults) one.faults two.cause;
+}
+
+-- a part of some lines is a part of more
+pub puts_longer :
+    (old new : SinkSeen) (first second : List (List ℕ))
+    → PutSome old new first → PutSome old new (first ++ second)
+puts_longer old new first second cut = record {
+  text = subst (GrewWithin old.written new.written) (sym (joined_on first second)) (grew_longer old.written new.written (joined first) (joined second) cut.text);
+  pieces = takes_lines_longer old.taken new.taken first second cut.pieces;
+  cause = cut.cause;
+}
+
+-- one line was put
+pub puts_line :
+    (answer : Put) (written written' : Option (List ℕ)) (taken taken' : List (List ℕ)) (faults faults' : ℕ) (line : List ℕ)
+    → PutSays answer written written' line → PutTakes answer written written' taken taken' line → PutHasCause answer faults faults'
+    → PutsLines answer (seen written taken faults) (seen written' taken' faults') (line ∷ [])
+puts_line Done written written' taken taken' faults faults' line says took cause = record {
+  text = subst (Grew written written') (sym (append-nil line)) says;
+  pieces = took;
+  faults = cause;
+}
+puts_line Failed written written' taken taken' faults faults' line says took cause = record {
+  text = subst (GrewWithin written written') (sym (append-nil line)) says;
+  pieces = takes_some_of_line written written' taken taken' line took;
+  cause = cause;
+}
+
+-- what was put is this line
+pub puts_same :
+    (answer : Put) (old new : SinkSeen) (lines others : List (List ℕ))
+    → lines ≡ others → PutsLines answer old new lines → PutsLines answer old new others
+puts_same answer old new lines others is puts = subst (PutsLines answer old new) is puts
+
+-- some lines, and then what an answer says of others
+pub puts_then :
+    (answer : Put) (old now new : SinkSeen) (first second : List (List ℕ))
+    → PutAll old now first → PutsLines answer now new second → PutsLines answer old new (first ++ second)
+puts_then Done old now new first second one two = puts_on old now new first second one two
+puts_then Failed old now new first second one two = puts_more old now new first second one two
+
+-- Of the lines `all`, put from `start` on, `left` are left to put behind `now`.
+pub record Putting (now start : SinkSeen) (left all : List (List ℕ)) : Type 0 where
+  pub whole : (new : SinkSeen) → PutAll now new left → PutAll start new all
+  pub cut : (new : SinkSeen) → PutSome now new left → PutSome start new all
+
+-- at the beginning all are left
+pub putting_all : (start : SinkSeen) (all : List (List ℕ)) → Putting start start all all
+putting_all start all = record { whole = λ new puts. puts; cut = λ new puts. puts }
+
+-- the first of those that were left was put
+pub putting_next :
+    (now next start : SinkSeen) (line : List ℕ) (left all : List (List ℕ))
+    → Putting now start (line ∷ left) all → PutAll now next (line ∷ []) → Putting next start left all
+putting_next now next start line left all before puts = record {
+  whole = λ new rest. before.whole new (puts_on now next new (line ∷ []) left puts rest);
+  cut = λ new rest. before.cut new (puts_more now next new (line ∷ []) left puts rest);
+}
+
+-- it was not put whole
+pub putting_cut :
+    (now new start : SinkSeen) (line : List ℕ) (left all : List (List ℕ))
+    → Putting now start (line ∷ left) all → PutSome now new (line ∷ []) → PutSome start new all
+putting_cut now new start line left all before cut =
+    before.cut new (puts_longer now new (line ∷ []) left cut)
+
+-- none is left
+pub putting_none : (now start : SinkSeen) (all : List (List ℕ)) → Putting now start [] all → PutAll start now all
+putting_none now start all before = before.whole now (puts_nothing now)
+
+-- ---- pointer registers, one after another
+
+pointers_first :
+    (n : ℕ) (p : PtrFields) (pointers : List PtrFields)
+    → pointer_lines n (p ∷ pointers) ≡ pointer_line n p ∷ pointer_lines (n + 1) pointers
+unfolding pointer_lines
+pointers_first n p pointers = refl
+
+pointers_none : (n : ℕ) → pointer_lines n [] ≡ []
+unfolding pointer_lines
+pointers_none n = refl
+
+pointers_at :
+    (n : ℕ) (pointers : List PtrFields) (i : ℕ) (p : PtrFields)
+    → i < length pointers → p ≡ get_or pointers i p
+    → pointer_lines n (drop i pointers) ≡ pointer_line n p ∷ pointer_lines (n + 1) (drop (i + 1) pointers)
+pointers_at n pointers i p inside is =
+    at_drop_more (pointer_lines n) pointers i p inside
+    ∙ pointers_first n (get_or pointers i p) (drop (i + 1) pointers)
+    ∙ ap (λ (q : PtrFields). pointer_line n q ∷ pointer_lines (n + 1) (drop (i + 1) pointers)) (sym is)
+
+pub pointers_start : (now : SinkSeen) (pointers : List PtrFields) → Putting now now (pointer_lines 0 pointers) (pointer_lines 0 pointers)
+pointers_start now pointers = putting_all now (pointer_lines 0 pointers)
+
+-- the line of the next one was put
+pub pointer_put :
+    (now next start : SinkSeen) (n : ℕ) (pointers : List PtrFields) (i : ℕ) (p : PtrFields) (all : List (List ℕ))
+    → i < length pointers → p ≡ get_or pointers i p
+    → Putting now start (pointer_lines n (drop i pointers)) all → PutAll now next (pointer_line n p ∷ [])
+    → Putting next start (pointer_lines (n + 1) (drop (i + 1) pointers)) all
+pointer_put now next start n pointers i p all inside is before puts =
+    putting_next now next start (pointer_line n p) (pointer_lines (n + 1) (drop (i + 1) pointers)) all
+    (subst (λ l. Putting now start l all) (pointers_at n pointers i p inside is) before) puts
+
+-- it was not put whole
+pub pointer_cut :
+    (now new start : SinkSeen) (n : ℕ) (pointers : List PtrFields) (i : ℕ) (p : PtrFields) (all : List (List ℕ))
+    → i < length pointers → p ≡ get_or pointers i p
+    → Putting now start (pointer_lines n (drop i pointers)) all → PutSome now new (pointer_line n p ∷ [])
+    → PutSome start new all
+pointer_cut now new start n pointers i p all inside is before cut =
+    putting_cut now new start (pointer_line n p) (pointer_lines (n + 1) (drop (i + 1) pointers)) all
+    (subst (λ l. Putting now start l all) (pointers_at n pointers i p inside is) before) cut
+
+-- all were put
+pub pointers_end :
+    (now start : SinkSeen) (n : ℕ) (pointers : List PtrFields) (i : ℕ) (all : List (List ℕ))
+    → length pointers ≤ i → Putting now start (pointer_lines n (drop i pointers)) all → PutAll start now all
+pointers_end now start n pointers i all past before =
+    putting_none now start all (subst (λ l. Putting now start l all) (at_drop_all (pointer_lines n) pointers i past ∙ pointers_none n) before)
+
+-- what a function that puts them in a loop takes by `using`
+pub ruleset pointers = (pointers_start, pointer_put, pointer_cut, pointers_end)
+
+-- a short line is shown whole
+pub shown_whole : (line : List ℕ) → length line ≤ 64 → line ≡ take 64 line
+shown_whole line within = sym (take_all 64 line within)
+
+-- one line, and then what an answer says of others
+pub puts_behind :
+    (answer : Put) (old now new : SinkSeen) (line : List ℕ) (lines : List (List ℕ))
+    → PutAll old now (line ∷ []) → PutsLines answer now new lines → PutsLines answer old new (line ∷ lines)
+puts_behind answer old now new line lines one two = puts_then answer old now new (line ∷ []) lines one two
+
+-- one line, and then a part of others
+pub puts_behind_cut :
+    (old now new : SinkSeen) (line : List ℕ) (lines : List (List ℕ))
+    → PutAll old now (line ∷ []) → PutSome now new lines → PutSome old new (line ∷ lines)
+puts_behind_cut old now new line lines one two = puts_more old now new (line ∷ []) lines one two
+
+-- a part of the first of several lines
+pub puts_first_cut :
+    (old new : SinkSeen) (line : List ℕ) (lines : List (List ℕ))
+    → PutSome old new (line ∷ []) → PutSome old new (line ∷ lines)
+puts_first_cut old new line lines cut = puts_longer old new (line ∷ []) lines cut
+
+-- what a function that puts several lines takes by `using`
+pub ruleset lines_in_turn = (puts_behind, puts_behind_cut, puts_first_cut)

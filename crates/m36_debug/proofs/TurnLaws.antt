@@ -1,0 +1,239 @@
+-- Laws of turns that a command takes.
+use Rattle.std.proofs.Common.{◌≡◌, ◌+◌, ◌-◌, ◌<◌, ◌≤◌, ℕ, Bool, true, false, List, [], ◌∷◌, ◌++◌, Option, refl, sym, ap, subst, ◌∙◌, arith}
+use Rattle.std.specs.Prelude.{◌≢◌, nat_eq, if◌then◌else◌, Result, Ok, Err}
+use Rattle.std.proofs.lemmas.Bool.{eqb-false}
+use Rattle.m36_word.specs.declared.pair.Pair.{Pair}
+use Rattle.m36_model.specs.declared.endings.LinkCode.{LinkCode}
+use Rattle.m36_model.specs.declared.outcome.Outcome.{Outcome}
+use Rattle.m36_model.specs.declared.outcome.Outcome.TheVariants.{Next, Faulted, Stopped}
+use Rattle.m36_model.specs.declared.record.StepRecord.{StepRecord}
+use Rattle.m36_step.specs.LinkNoteFields.{LinkNoteFields}
+use Rattle.m36_outside.specs.declared.sink.Put.{Put}
+use Rattle.m36_outside.specs.declared.sink.Put.TheVariants.{Done, Failed}
+use Rattle.m36_step.specs.Answers.{IsService}
+use Rattle.m36_step.specs.declared.turns.Turn.{Turn}
+use Rattle.m36_step.specs.declared.turns.Turn.TheVariants as turns
+use Rattle.m36_model.specs.Registers.{RegsFields}
+use Rattle.m36_debug.specs.declared.commands.Break.{Break}
+use Rattle.m36_debug.specs.declared.commands.Command.{Command}
+use Rattle.m36_debug.specs.declared.commands.Run.{Run}
+use Rattle.m36_debug.specs.declared.commands.Further.{Further}
+use Rattle.m36_debug.specs.declared.commands.Further.TheVariants.{Runs, Waits, Starves}
+use Rattle.m36_debug.specs.declared.turning.Came.{Came}
+use Rattle.m36_debug.specs.declared.turning.Came.TheVariants as comes
+use Rattle.m36_debug.specs.Commands.{run_of, wants, after_step, after_link, after_turn, is_at_break}
+use Rattle.m36_debug.specs.Parts.{Part, CutPart, CameSays, CameServed, CameCounts, RunsCounts, Serves, is_service, came_of, told_turn}
+use Rattle.m36_debug.specs.Putting.{SinkSeen, PutAll, PutSome, PutsLines}
+use Rattle.m36_debug.specs.Session.{Turning, Standing, standing, Running, Turned, doing_by, next_of, turn_says, command_says, onward, said}
+use Rattle.m36_debug.specs.Sitting.{SittingFields, sitting_after}
+use Rattle.m36_debug.proofs.PartLaws.{event_part, event_cut}
+
+-- a part that goes on as the command does
+came_says :
+    {M : Type 0} (o : Turning M) (turn : Turn) (next : Further) (s : Standing) (m : M) (sitting : SittingFields) (m' : M) (old new : SinkSeen)
+    → Part o s m [] (standing sitting (doing_by next)) m' (PutAll old new)
+    → CameSays o (came_of turn next) s m sitting m' old new
+came_says o turn (Runs run) s m sitting m' old new part = part
+came_says o turn Waits s m sitting m' old new part = part
+came_says o turn Starves s m sitting m' old new part = part
+
+turn_part :
+    {M : Type 0} (o : Turning M) (turn : Turn) (run : Run) (s : SittingFields) (m m' : M) (old new : SinkSeen)
+    → o.next m turn m' → PutAll old new (turn_says (o.regs m') s run turn)
+    → Part o (standing s (Running run)) m [] (standing (sitting_after s turn) (doing_by (next_of (o.regs m') s run turn))) m' (PutAll old new)
+unfolding onward said
+turn_part o turn run s m m' old new next puts = event_part o (standing s (Running run)) m m' (Turned turn) old new next puts
+
+turn_cut :
+    {M : Type 0} (o : Turning M) (turn : Turn) (run : Run) (s : SittingFields) (m m' : M) (old new : SinkSeen)
+    → o.next m turn m' → PutSome old new (turn_says (o.regs m') s run turn)
+    → CutPart o (standing s (Running run)) m [] m' old new
+unfolding said
+turn_cut o turn run s m m' old new next puts = event_cut o (standing s (Running run)) m m' (Turned turn) old new next puts
+
+-- a turn was taken, and what it says was put
+pub turn_came :
+    {M : Type 0} (o : Turning M) (put : Put) (turn : Turn) (run : Run) (s : SittingFields) (m m' : M) (old new : SinkSeen)
+    → o.next m turn m' → PutsLines put old new (turn_says (o.regs m') s run turn)
+    → CameSays o (told_turn put turn (next_of (o.regs m') s run turn)) (standing s (Running run)) m (sitting_after s turn) m' old new
+turn_came o Done turn run s m m' old new next puts =
+    came_says o turn (next_of (o.regs m') s run turn) (standing s (Running run)) m (sitting_after s turn) m' old new (turn_part o turn run s m m' old new next puts)
+turn_came o Failed turn run s m m' old new next puts = turn_cut o turn run s m m' old new next puts
+
+false_not_true : false ≡ true → ⊥
+false_not_true is = cc
+
+service_made : {M : Type 0} (o : Turning M) (turn : Turn) (m m' : M) → o.next m turn m' → is_service turn ≡ true → Serves o m m'
+service_made o (turns.Stepped told) m m' may is = absurd (false_not_true is)
+service_made o (turns.Linked note) m m' may is = record { turn = turns.Linked note; next = may; service = tt }
+service_made o (turns.Console text) m m' may is = record { turn = turns.Console text; next = may; service = tt }
+service_made o (turns.Ended end) m m' may is = absurd (false_not_true is)
+service_made o turns.Full m m' may is = absurd (false_not_true is)
+service_made o turns.NoMemory m m' may is = absurd (false_not_true is)
+
+came_served :
+    {M : Type 0} (o : Turning M) (turn : Turn) (next : Further) (m m' : M)
+    → o.next m turn m' → CameServed o (came_of turn next) m m'
+came_served o turn (Runs run) m m' may = λ is. service_made o turn m m' may is
+came_served o turn Waits m m' may = tt
+came_served o turn Starves m m' may = tt
+
+-- a service is one that the machine made
+pub turn_served :
+    {M : Type 0} (o : Turning M) (put : Put) (turn : Turn) (next : Further) (m m' : M)
+    → o.next m turn m' → CameServed o (told_turn put turn next) m m'
+turn_served o Done turn next m m' may = came_served o turn next m m' may
+turn_served o Failed turn next m m' may = tt
+
+-- ---- counts
+
+settled_step :
+    (more : Bool) (command : Command) (told : StepRecord) (n left before : ℕ)
+    → n < left → CameCounts (came_of (turns.Stepped told) (if more then Runs (run_of command n) else Waits)) left before (before + 1)
+settled_step true command told n left before below = (below, omega arith)
+settled_step false command told n left before below = omega arith
+
+step_counts :
+    (outcome : Outcome) (command : Command) (b : Bool) (told : StepRecord) (n left before : ℕ)
+    → n < left → CameCounts (came_of (turns.Stepped told) (after_step command n b outcome)) left before (before + 1)
+step_counts Next command b told n left before below = settled_step (wants command n b) command told n left before below
+step_counts (Faulted fault) command b told n left before below = (below, omega arith)
+step_counts (Stopped stop) command b told n left before below = (below, omega arith)
+
+stepped_counts :
+    (none : Bool) (run : Run) (b : Bool) (told : StepRecord) (before : ℕ)
+    → nat_eq run.left 0 ≡ none
+    → CameCounts (came_of (turns.Stepped told) (if none then Waits else after_step run.command (run.left - 1) b told.outcome)) run.left before (before + 1)
+stepped_counts true run b told before is = omega arith
+stepped_counts false run b told before is =
+    let some : run.left ≢ 0 = eqb-false run.left 0 is in
+    step_counts told.outcome run.command b told (run.left - 1) run.left before (omega (arith, some))
+
+settled_link :
+    (more : Bool) (command : Command) (note : LinkNoteFields) (left before : ℕ)
+    → CameCounts (came_of (turns.Linked note) (if more then Runs (run_of command left) else Waits)) left before before
+settled_link true command note left before = (refl, refl)
+settled_link false command note left before = omega arith
+
+link_counts :
+    (answer : Result Pair LinkCode) (run : Run) (b : Bool) (note : LinkNoteFields) (before : ℕ)
+    → CameCounts (came_of (turns.Linked note) (after_link run.command run.left b answer)) run.left before before
+link_counts (Ok pair) run b note before = settled_link (wants run.command run.left b) run.command note run.left before
+link_counts (Err code) run b note before = (refl, refl)
+
+settled_console :
+    (more : Bool) (command : Command) (text : List ℕ) (left before : ℕ)
+    → CameCounts (came_of (turns.Console text) (if more then Runs (run_of command left) else Waits)) left before before
+settled_console true command text left before = (refl, refl)
+settled_console false command text left before = omega arith
+
+came_counts :
+    (turn : Turn) (run : Run) (b : Bool) (s : SittingFields)
+    → CameCounts (came_of turn (after_turn run b turn)) run.left s.taken (sitting_after s turn).taken
+unfolding after_turn sitting_after
+came_counts (turns.Stepped told) run b s = stepped_counts (nat_eq run.left 0) run b told s.taken refl
+came_counts (turns.Linked note) run b s = link_counts note.answer run b note s.taken
+came_counts (turns.Console text) run b s = settled_console (wants run.command run.left b) run.command text run.left s.taken
+came_counts (turns.Ended end) run b s = omega arith
+came_counts turns.Full run b s = omega arith
+came_counts turns.NoMemory run b s = omega arith
+
+taken_after : (turn : Turn) (s : SittingFields) → (sitting_after s turn).taken ≤ s.taken + 1
+unfolding sitting_after
+taken_after (turns.Stepped told) s = omega arith
+taken_after (turns.Linked note) s = omega arith
+taken_after (turns.Console text) s = omega arith
+taken_after (turns.Ended end) s = omega arith
+taken_after turns.Full s = omega arith
+taken_after turns.NoMemory s = omega arith
+
+-- a step is one that was left to the command, and a service is none
+pub turn_counts :
+    (put : Put) (turn : Turn) (run : Run) (b : Bool) (s : SittingFields)
+    → CameCounts (told_turn put turn (after_turn run b turn)) run.left s.taken (sitting_after s turn).taken
+turn_counts Done turn run b s = came_counts turn run b s
+turn_counts Failed turn run b s = taken_after turn s
+
+-- breaks stay
+pub breaks_stay : (turn : Turn) (s : SittingFields) → (sitting_after s turn).breaks ≡ s.breaks
+unfolding sitting_after
+breaks_stay (turns.Stepped told) s = refl
+breaks_stay (turns.Linked note) s = refl
+breaks_stay (turns.Console text) s = refl
+breaks_stay (turns.Ended end) s = refl
+breaks_stay turns.Full s = refl
+breaks_stay turns.NoMemory s = refl
+
+-- ---- a turn by its equations, as the code has them
+
+further_same :
+    {M : Type 0} (o : Turning M) (turn : Turn) (run : Run) (next : Further) (g : RegsFields) (s s' : SittingFields) (m' : M)
+    → s' ≡ sitting_after s turn → g ≡ o.regs m' → next ≡ after_turn run (is_at_break g.ppr s'.breaks) turn
+    → next ≡ next_of (o.regs m') s run turn
+further_same o turn run next g s s' m' noted regs further =
+    further
+    ∙ ap (λ (h : RegsFields). after_turn run (is_at_break h.ppr s'.breaks) turn) regs
+    ∙ ap (λ (t : SittingFields). after_turn run (is_at_break (o.regs m').ppr t.breaks) turn) noted
+    ∙ ap (λ (b : List Break). after_turn run (is_at_break (o.regs m').ppr b) turn) (breaks_stay turn s)
+
+pub took_turn :
+    {M : Type 0} (o : Turning M) (put : Put) (turn : Turn) (run : Run) (next : Further) (came : Came) (g : RegsFields) (s s' : SittingFields) (taken : ℕ) (m m' : M) (old new : SinkSeen)
+    → taken ≡ s.taken → o.next m turn m' → s' ≡ sitting_after s turn → g ≡ o.regs m' → next ≡ after_turn run (is_at_break g.ppr s'.breaks) turn
+    → PutsLines put old new (command_says run.command g taken s' turn next) → came ≡ told_turn put turn next
+    → CameSays o came (standing s (Running run)) m s' m' old new
+took_turn o put turn run next came g s s' taken m m' old new counted may noted regs further puts comes =
+    let same : next ≡ next_of (o.regs m') s run turn = further_same o turn run next g s s' m' noted regs further in
+    let lines : command_says run.command g taken s' turn next ≡ turn_says (o.regs m') s run turn =
+    ap (λ (h : RegsFields). command_says run.command h taken s' turn next) regs
+    ∙ ap (λ (n : ℕ). command_says run.command (o.regs m') n s' turn next) counted
+    ∙ ap (λ (t : SittingFields). command_says run.command (o.regs m') s.taken t turn next) noted
+    ∙ ap (λ (f : Further). command_says run.command (o.regs m') s.taken (sitting_after s turn) turn f) same in
+    let there : CameSays o (told_turn put turn (next_of (o.regs m') s run turn)) (standing s (Running run)) m (sitting_after s turn) m' old new =
+    turn_came o put turn run s m m' old new may (subst (PutsLines put old new) lines puts) in
+    subst (λ (c : Came). CameSays o c (standing s (Running run)) m s' m' old new) (sym (comes ∙ ap (λ (f : Further). told_turn put turn f) same))
+    (subst (λ (t : SittingFields). CameSays o (told_turn put turn (next_of (o.regs m') s run turn)) (standing s (Running run)) m t m' old new) (sym noted) there)
+
+pub took_served :
+    {M : Type 0} (o : Turning M) (put : Put) (turn : Turn) (next : Further) (came : Came) (m m' : M)
+    → o.next m turn m' → came ≡ told_turn put turn next → CameServed o came m m'
+took_served o put turn next came m m' may comes =
+    subst (λ (c : Came). CameServed o c m m') (sym comes) (turn_served o put turn next m m' may)
+
+pub took_counts :
+    (put : Put) (turn : Turn) (run : Run) (b : Bool) (next : Further) (came : Came) (s s' : SittingFields)
+    → s' ≡ sitting_after s turn → next ≡ after_turn run b turn → came ≡ told_turn put turn next
+    → CameCounts came run.left s.taken s'.taken
+took_counts put turn run b next came s s' noted further comes =
+    subst (λ (c : Came). CameCounts c run.left s.taken s'.taken) (sym (comes ∙ ap (λ (f : Further). told_turn put turn f) further))
+    (subst (λ (t : SittingFields). CameCounts (told_turn put turn (after_turn run b turn)) run.left s.taken t.taken) (sym noted) (turn_counts put turn run b s))
+
+-- ---- turns one after another
+
+-- the turn before was a service
+pub record WasServed {M : Type 0} (o : Turning M) (m : M) : Type 0 where
+  pub before : M
+  pub serves : Serves o before m
+
+pub none_served : {M : Type 0} (o : Turning M) (m : M) → false ≡ true → WasServed o m
+none_served o m is = absurd (false_not_true is)
+
+-- the steps that are left, and those that were taken
+pub runs_count :
+    (service : Bool) (next left before after most : ℕ)
+    → RunsCounts service next left before after → before + left ≤ most → after + next ≤ most
+runs_count true next left before after most counts within = omega (arith, counts.0, counts.1)
+runs_count false next left before after most counts within = omega (arith, counts.0, counts.1)
+
+-- A step counts twice, and a service once: it is not followed by another.
+pub runs_shorter :
+    {M : Type 0} (o : Turning M) (was service : Bool) (m m' : M) (next left before after : ℕ)
+    → ((first second third : M) (one two : Turn) → o.next first one second → o.next second two third → IsService one → IsService two → ⊥)
+    → RunsCounts service next left before after → (was ≡ true → WasServed o m) → (service ≡ true → Serves o m m')
+    → next + next + (if service then 0 else 1) < left + left + (if was then 0 else 1)
+runs_shorter o true true m m' next left before after apart counts served serves =
+    let one = served refl in
+    let two = serves refl in
+    absurd (apart one.before m m' one.serves.turn two.turn one.serves.next two.next one.serves.service two.service)
+runs_shorter o true false m m' next left before after apart counts served serves = omega (arith, counts.0)
+runs_shorter o false true m m' next left before after apart counts served serves = omega (arith, counts.0)
+runs_shorter o false false m m' next left before after apart counts served serves = omega (arith, counts.0)

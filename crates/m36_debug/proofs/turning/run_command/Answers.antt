@@ -1,0 +1,53 @@
+use Rattle.std.proofs.Common.{[], arith}
+use Rattle.m36_debug.specs.Putting.{seen}
+use Rattle.m36_debug.specs.Session.{turning, standing, Running, Waiting, Starved}
+use Rattle.m36_debug.proofs.PartLaws.{part_none, part_on, part_cut}
+use Rattle.m36_debug.proofs.TurnLaws.{none_served, runs_count, runs_shorter}
+use Rattle.m36_debug.proofs.turning.run_command.Goals as goal
+
+pub turns-init : goal.turns-init
+turns-init g c =
+    let s = g.S.Sink in
+    let m = g.M.Stepper in
+    let o = turning m.regs m.content m.next m.went in
+    record {
+      part = part_none o (standing c.args.sitting.now (Running c.args.first)) c.args.m.now (seen (s.written c.args.out.now) (s.taken c.args.out.now) (s.faults c.args.out.now));
+      count = omega arith;
+      service = none_served o c.args.m.now;
+    }
+
+pub turns-preserved : goal.turns-preserved
+turns-preserved g c =
+    let s = g.S.Sink in
+    let m = g.M.Stepper in
+    let o = turning m.regs m.content m.next m.went in
+    record {
+      part =
+          part_on o (standing c.args.sitting.now (Running c.args.first)) c.args.m.now [] [] (standing c.turns.sitting (Running c.turns.run)) c.turns.m (standing c.take_turn.new.sitting (Running c.in-Runs.next)) c.take_turn.new.m (seen (s.written c.args.out.now) (s.taken c.args.out.now) (s.faults c.args.out.now)) (seen (s.written c.turns.out) (s.taken c.turns.out) (s.faults c.turns.out)) (seen (s.written c.take_turn.new.out) (s.taken c.take_turn.new.out) (s.faults c.take_turn.new.out))
+          c.turns.invariant.part c.in-Runs.ensures.says;
+      count = runs_count c.in-Runs.service c.in-Runs.next.left c.turns.run.left c.turns.sitting.taken c.take_turn.new.sitting.taken _ c.in-Runs.ensures.counts c.turns.invariant.count;
+      service = λ is. record { before = c.turns.m; serves = c.in-Runs.ensures.served is };
+    }
+
+pub turns-smaller : goal.turns-smaller
+turns-smaller g c =
+    let m = g.M.Stepper in
+    runs_shorter (turning m.regs m.content m.next m.went) c.turns.served c.in-Runs.service c.turns.m c.take_turn.new.m c.in-Runs.next.left c.turns.run.left c.turns.sitting.taken c.take_turn.new.sitting.taken g.met.M.Stepper.apart c.in-Runs.ensures.counts c.turns.invariant.service c.in-Runs.ensures.served
+
+pub returns-in-Waits-clause-says : goal.returns-in-Waits-clause-says
+returns-in-Waits-clause-says g c =
+    let s = g.S.Sink in
+    let m = g.M.Stepper in
+    part_on (turning m.regs m.content m.next m.went) (standing c.args.sitting.now (Running c.args.first)) c.args.m.now [] [] (standing c.turns.sitting (Running c.turns.run)) c.turns.m (standing c.take_turn.new.sitting Waiting) c.take_turn.new.m (seen (s.written c.args.out.now) (s.taken c.args.out.now) (s.faults c.args.out.now)) (seen (s.written c.turns.out) (s.taken c.turns.out) (s.faults c.turns.out)) (seen (s.written c.take_turn.new.out) (s.taken c.take_turn.new.out) (s.faults c.take_turn.new.out)) c.turns.invariant.part c.in-Waits.ensures.says
+
+pub returns-in-Starves-clause-says : goal.returns-in-Starves-clause-says
+returns-in-Starves-clause-says g c =
+    let s = g.S.Sink in
+    let m = g.M.Stepper in
+    part_on (turning m.regs m.content m.next m.went) (standing c.args.sitting.now (Running c.args.first)) c.args.m.now [] [] (standing c.turns.sitting (Running c.turns.run)) c.turns.m (standing c.take_turn.new.sitting Starved) c.take_turn.new.m (seen (s.written c.args.out.now) (s.taken c.args.out.now) (s.faults c.args.out.now)) (seen (s.written c.turns.out) (s.taken c.turns.out) (s.faults c.turns.out)) (seen (s.written c.take_turn.new.out) (s.taken c.take_turn.new.out) (s.faults c.take_turn.new.out)) c.turns.invariant.part c.in-Starves.ensures.says
+
+pub returns-in-Cut-clause-says : goal.returns-in-Cut-clause-says
+returns-in-Cut-clause-says g c =
+    let s = g.S.Sink in
+    let m = g.M.Stepper in
+    part_cut (turning m.regs m.content m.next m.went) (standing c.args.sitting.now (Running c.args.first)) c.args.m.now [] [] (standing c.turns.sitting (Running c.turns.run)) c.turns.m c.take_turn.new.m (seen (s.written c.args.out.now) (s.taken c.args.out.now) (s.faults c.args.out.now)) (seen (s.written c.turns.out) (s.taken c.turns.out) (s.faults c.turns.out)) (seen (s.written c.take_turn.new.out) (s.taken c.take_turn.new.out) (s.faults c.take_turn.new.out)) c.turns.invariant.part c.in-Cut.ensures.says

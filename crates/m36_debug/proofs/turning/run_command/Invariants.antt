@@ -1,0 +1,23 @@
+use Rattle.std.proofs.Common.{◌≡◌, ◌+◌, ◌≤◌, true, []}
+use Rattle.std.specs.Prelude.{if◌then◌else◌}
+use Rattle.m36_debug.specs.Parts.{Part}
+use Rattle.m36_debug.specs.Putting.{PutAll, seen}
+use Rattle.m36_debug.specs.Session.{turning, standing, Running}
+use Rattle.m36_debug.proofs.TurnLaws.{WasServed}
+use Rattle.m36_debug.proofs.turning.run_command.Given as goal
+
+-- a step counts twice, and a service once: it is not followed by another
+abbrev pub decreases-turns : goal.decreases-turns
+decreases-turns g l = l.run.left + l.run.left + (if l.served then 0 else 1)
+
+-- what was done is a part of the session
+abbrev pub invariant-turns : goal.invariant-turns
+invariant-turns g l =
+    let s = g.S.Sink in
+    let m = g.M.Stepper in
+    let o = turning m.regs m.content m.next m.went in
+    record {
+      part : Part o (standing l.fn.sitting (Running l.fn.first)) l.fn.m [] (standing l.sitting (Running l.run)) l.m (PutAll (seen (s.written l.fn.out) (s.taken l.fn.out) (s.faults l.fn.out)) (seen (s.written l.out) (s.taken l.out) (s.faults l.out)));
+      count : l.sitting.taken + l.run.left ≤ l.fn.sitting.taken + l.fn.first.left;
+      service : l.served ≡ true → WasServed o l.m;
+    }

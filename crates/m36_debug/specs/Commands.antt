@@ -1,0 +1,64 @@
+-- The commands that take turns, and whether another turn follows one.
+use Rattle.std.specs.Prelude.{ℕ, ◌-◌, Bool, true, false, not, ◌&&◌, ◌||◌, nat_lt, nat_eq, List}
+use Rattle.std.specs.Prelude.{if◌then◌else◌, Result, Ok, Err}
+use Rattle.std.specs.List.{list_any}
+use Rattle.m36_word.specs.declared.pair.Pair.{Pair}
+use Rattle.m36_model.specs.Fields.{PprFields}
+use Rattle.m36_model.specs.declared.endings.LinkCode.{LinkCode}
+use Rattle.m36_model.specs.declared.outcome.Outcome.{Outcome}
+use Rattle.m36_model.specs.declared.outcome.Outcome.TheVariants.{Next, Faulted, Stopped}
+use Rattle.m36_step.specs.declared.turns.Turn.{Turn}
+use Rattle.m36_step.specs.declared.turns.Turn.TheVariants as turns
+use Rattle.m36_debug.specs.declared.commands.Break.{Break}
+use Rattle.m36_debug.specs.declared.commands.Command.{Command}
+use Rattle.m36_debug.specs.declared.commands.Command.TheVariants.{Step, Go}
+use Rattle.m36_debug.specs.declared.commands.Run.{Run}
+use Rattle.m36_debug.specs.declared.commands.Further.{Further}
+use Rattle.m36_debug.specs.declared.commands.Further.TheVariants.{Runs, Waits, Starves}
+
+-- `go` takes at most so many steps
+abbrev pub go_limit : ℕ
+go_limit = 100000
+
+abbrev pub run_of : Command → ℕ → Run
+run_of command left = record { left = left; command = command }
+
+-- the next instruction stands at a break
+abbrev pub is_at : PprFields → Break → Bool
+is_at p b = nat_eq b.seg p.psr && nat_eq b.word p.ic
+
+abbrev pub is_at_break : PprFields → List Break → Bool
+is_at_break p breaks = list_any (is_at p) breaks
+
+-- Whether a command takes another step, of which so many are left to it. `go` stops at a break, but
+-- takes one step at least.
+abbrev pub wants : Command → ℕ → Bool → Bool
+wants Step left at_break = nat_lt 0 left
+wants Go left at_break = nat_lt 0 left && (nat_eq left go_limit || not at_break)
+
+abbrev pub settled : Command → ℕ → Bool → Further
+settled command left at_break =
+    if wants command left at_break then Runs (run_of command left) else Waits
+
+-- A step whose outcome is not Next is followed at once by its service or by the end of the run, and
+-- so is a link that was refused: by one turn more, though no step may be left.
+abbrev pub after_step : Command → ℕ → Bool → Outcome → Further
+after_step command left at_break Next = settled command left at_break
+after_step command left at_break (Faulted fault) = Runs (run_of command left)
+after_step command left at_break (Stopped stop) = Runs (run_of command left)
+
+abbrev pub after_link : Command → ℕ → Bool → Result Pair LinkCode → Further
+after_link command left at_break (Ok pair) = settled command left at_break
+after_link command left at_break (Err code) = Runs (run_of command left)
+
+-- what a command does after a turn
+unfoldable pub after_turn : Run → Bool → Turn → Further
+after_turn run at_break (turns.Stepped told) =
+    if nat_eq run.left 0 then Waits
+    else after_step run.command (run.left - 1) at_break told.outcome
+after_turn run at_break (turns.Linked note) =
+    after_link run.command run.left at_break note.answer
+after_turn run at_break (turns.Console text) = settled run.command run.left at_break
+after_turn run at_break (turns.Ended end) = Waits
+after_turn run at_break turns.Full = Waits
+after_turn run at_break turns.NoMemory = Starves

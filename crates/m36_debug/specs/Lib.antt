@@ -1,0 +1,11 @@
+pub mod SessionLines
+pub mod SessionTexts
+pub mod Commands
+pub mod Sitting
+pub mod Session
+pub mod Putting
+pub mod Parts
+pub mod LinesTaken
+pub mod PieceSays
+pub mod SessionSays
+pub mod Taking

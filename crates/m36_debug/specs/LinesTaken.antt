@@ -1,0 +1,29 @@
+-- How the lines of a session come from the bytes that are taken.
+use Rattle.std.specs.Prelude.{ℕ, ◌≡◌, ◌==◌, ◌++◌, false, List, [], ◌∷◌, map, Option, Some}
+use Rattle.std.specs.Prelude.{None, All}
+use Rattle.m36_outside.specs.Passing.{joined}
+use Rattle.m36_text.specs.Lines.{lines_of}
+use Rattle.m36_debug.specs.SessionTexts.{as_line}
+
+-- the whole lines: those that have their line feeds
+abbrev pub whole : List (Option (List ℕ)) → List (List ℕ)
+whole [] = []
+whole (Some line ∷ lines) = line ∷ whole lines
+whole (None ∷ lines) = whole lines
+
+abbrev pub whole_lines : List ℕ → List (List ℕ)
+whole_lines text = whole (lines_of text)
+
+-- a first part of some lines
+pub record IsFirstPart (lines all : List (List ℕ)) : Type 0 where
+  pub rest : List (List ℕ)
+  pub is : all ≡ lines ++ rest
+
+-- a text without a line feed
+abbrev pub IsUnbroken : List ℕ → Type 0
+IsUnbroken text = All (λ b. (b == 10) ≡ false) text
+
+-- A text is these whole lines, and what stands behind them.
+pub record IsLines (text : List ℕ) (lines : List (List ℕ)) (rest : List ℕ) : Type 0 where
+  pub is : text ≡ joined (map as_line lines) ++ rest
+  pub unbroken : All IsUnbroken lines

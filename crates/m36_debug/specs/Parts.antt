@@ -1,0 +1,145 @@
+-- What the parts of a session say: those of a turn, a command, a line and several lines.
+use Rattle.std.specs.Prelude.{ℕ, ◌≡◌, ◌+◌, ◌<◌, ◌≤◌, Bool, true, false, List, [], ◌∷◌}
+use Rattle.std.specs.Prelude.{Option, Some, None}
+use Rattle.m36_step.specs.Answers.{IsService}
+use Rattle.m36_model.specs.declared.endings.End.{End}
+use Rattle.m36_outside.specs.declared.sink.Put.{Put}
+use Rattle.m36_outside.specs.declared.sink.Put.TheVariants.{Done, Failed}
+use Rattle.m36_step.specs.declared.turns.Turn.{Turn}
+use Rattle.m36_step.specs.declared.turns.Turn.TheVariants as turns
+use Rattle.m36_debug.specs.declared.commands.Run.{Run}
+use Rattle.m36_debug.specs.declared.commands.Further.{Further}
+use Rattle.m36_debug.specs.declared.commands.Further.TheVariants.{Runs, Waits, Starves}
+use Rattle.m36_debug.specs.declared.turning.Came.{Came}
+use Rattle.m36_debug.specs.declared.turning.Came.TheVariants as comes
+use Rattle.m36_debug.specs.declared.turning.Ends.{Ends}
+use Rattle.m36_debug.specs.declared.turning.Ends.TheVariants as ends
+use Rattle.m36_debug.specs.Putting.{SinkSeen, PutAll, PutSome}
+use Rattle.m36_debug.specs.Session.{Turning, Doing, Waiting, Running, Backing, Over, Starved}
+use Rattle.m36_debug.specs.Session.{Standing, Event, standing, Follow, lines_said, lines_in}
+use Rattle.m36_debug.specs.SessionTexts.{unknown_line, end_line}
+use Rattle.m36_debug.specs.Sitting.{SittingFields}
+
+-- A part of a session, in which these lines were taken, and of which this is said to be written.
+pub record Part {M : Type 0} (o : Turning M) (s : Standing) (m : M) (lines : List (List ℕ))
+    (s' : Standing) (m' : M) (Wrote : List (List ℕ) → Type 0) : Type 0 where
+  pub events : List (Event M)
+  pub follow : Follow o s m events s' m'
+  pub took : lines_in events ≡ lines
+  pub wrote : Wrote (lines_said o s events)
+
+-- One whose output was cut: the session stood somewhere.
+pub record CutPart {M : Type 0} (o : Turning M) (s : Standing) (m : M) (lines : List (List ℕ))
+    (m' : M) (old new : SinkSeen) : Type 0 where
+  pub stands : Standing
+  pub part : Part o s m lines stands m' (PutSome old new)
+
+-- ---- a turn
+
+abbrev pub doing_came : Came → Doing
+doing_came (comes.Runs run service) = Running run
+doing_came comes.Waits = Waiting
+doing_came comes.Starves = Starved
+doing_came comes.Cut = Waiting
+
+abbrev pub is_service : Turn → Bool
+is_service (turns.Stepped told) = false
+is_service (turns.Linked note) = true
+is_service (turns.Console text) = true
+is_service (turns.Ended end) = false
+is_service turns.Full = false
+is_service turns.NoMemory = false
+
+-- by the turn and by what the command does after it
+abbrev pub came_of : Turn → Further → Came
+came_of turn (Runs run) = comes.Runs run (is_service turn)
+came_of turn Waits = comes.Waits
+came_of turn Starves = comes.Starves
+
+abbrev pub told_turn : Put → Turn → Further → Came
+told_turn Done turn next = came_of turn next
+told_turn Failed turn next = comes.Cut
+
+-- How many more steps a command may take, and how many the session has taken: a step is one that
+-- was left to it, and a service is none.
+abbrev pub RunsCounts : Bool → ℕ → ℕ → ℕ → ℕ → Type 0
+RunsCounts true next left before after = (next ≡ left) × (after ≡ before)
+RunsCounts false next left before after = (next < left) × (after ≤ before + 1)
+
+abbrev pub CameCounts : Came → ℕ → ℕ → ℕ → Type 0
+CameCounts (comes.Runs run service) left before after =
+    RunsCounts service run.left left before after
+CameCounts comes.Waits left before after = after ≤ before + 1
+CameCounts comes.Starves left before after = after ≤ before + 1
+CameCounts comes.Cut left before after = after ≤ before + 1
+
+-- A service was made from this machine, by which it came to that.
+pub record Serves {M : Type 0} (o : Turning M) (m m' : M) : Type 0 where
+  pub turn : Turn
+  pub next : o.next m turn m'
+  pub service : IsService turn
+
+abbrev pub CameServed : {M : Type 0} → Turning M → Came → M → M → Type 0
+CameServed o (comes.Runs run service) m m' = service ≡ true → Serves o m m'
+CameServed o comes.Waits m m' = Unit {0}
+CameServed o comes.Starves m m' = Unit {0}
+CameServed o comes.Cut m m' = Unit {0}
+
+-- what a turn that a command takes came to
+abbrev pub CameSays :
+    {M : Type 0} → Turning M → Came → Standing → M → SittingFields → M → SinkSeen → SinkSeen
+    → Type 0
+CameSays o comes.Cut s m sitting m' old new = CutPart o s m [] m' old new
+CameSays o came s m sitting m' old new =
+    Part o s m [] (standing sitting (doing_came came)) m' (PutAll old new)
+
+-- ---- a command, a line, and several lines
+
+abbrev pub doing_at : Ends → Doing
+doing_at ends.Line = Waiting
+doing_at ends.Quit = Over
+doing_at ends.Starved = Starved
+doing_at ends.Cut = Waiting
+
+abbrev pub EndSays :
+    {M : Type 0} → Turning M → Ends → Standing → M → List (List ℕ) → SittingFields → M → SinkSeen
+    → SinkSeen → Type 0
+EndSays o ends.Cut s m lines sitting m' old new = CutPart o s m lines m' old new
+EndSays o end s m lines sitting m' old new =
+    Part o s m lines (standing sitting (doing_at end)) m' (PutAll old new)
+
+-- how a line ends that is told at once
+abbrev pub told : Put → Ends
+told Done = ends.Line
+told Failed = ends.Cut
+
+-- A line was told at once: nothing has changed but for what was put.
+abbrev pub EndPuts : Ends → SinkSeen → SinkSeen → List (List ℕ) → Type 0
+EndPuts ends.Line old new lines = PutAll old new lines
+EndPuts ends.Quit old new lines = ⊥
+EndPuts ends.Starved old new lines = ⊥
+EndPuts ends.Cut old new lines = PutSome old new lines
+
+pub record IsTold {M : Type 0} (end : Ends) (lines : List (List ℕ)) (s : SittingFields) (m : M)
+    (sitting : SittingFields) (m' : M) (old new : SinkSeen) : Type 0 where
+  pub puts : EndPuts end old new lines
+  pub sitting_stays : sitting ≡ s
+  pub machine_stays : m' ≡ m
+
+-- A command whose run has ended tells the end again, and any other takes its turns.
+abbrev pub CommandSays :
+    {M : Type 0} → Turning M → Ends → Option End → Run → SittingFields → M → SittingFields → M
+    → SinkSeen → SinkSeen → Type 0
+CommandSays o answer (Some end) run s m sitting m' old new =
+    IsTold answer (end_line end s.taken ∷ []) s m sitting m' old new
+CommandSays o answer None run s m sitting m' old new =
+    EndSays o answer (standing s (Running run)) m [] sitting m' old new
+
+-- The machine goes back where so many steps were taken, and else the line is not known.
+abbrev pub BackSays :
+    {M : Type 0} → Turning M → Ends → Bool → List ℕ → ℕ → SittingFields → M → SittingFields → M
+    → SinkSeen → SinkSeen → Type 0
+BackSays o answer true line n s m sitting m' old new =
+    EndSays o answer (standing s (Backing n line)) m [] sitting m' old new
+BackSays o answer false line n s m sitting m' old new =
+    IsTold answer (unknown_line line ∷ []) s m sitting m' old new

@@ -1,0 +1,215 @@
+-- A session over a machine: what happens in it, one thing after another, and what is written of
+-- each.
+use Rattle.std.specs.Prelude.{ℕ, ◌≡◌, nat_le, nat_lt, if◌then◌else◌, List, [], ◌∷◌, ◌++◌, length}
+use Rattle.std.specs.Prelude.{Option, Some, None}
+use Rattle.m36_model.specs.Registers.{RegsFields}
+use Rattle.m36_model.specs.declared.endings.End.{End}
+use Rattle.m36_step.specs.declared.turns.Turn.{Turn}
+use Rattle.m36_step.specs.declared.turns.BackAnswer.{BackAnswer}
+use Rattle.m36_step.specs.declared.turns.BackAnswer.TheVariants as back
+use Rattle.m36_debug.specs.declared.commands.Command.{Command}
+use Rattle.m36_debug.specs.declared.commands.Command.TheVariants as commands
+use Rattle.m36_debug.specs.declared.commands.Run.{Run}
+use Rattle.m36_debug.specs.declared.commands.Further.{Further}
+use Rattle.m36_debug.specs.declared.commands.Further.TheVariants.{Runs, Waits, Starves}
+use Rattle.m36_debug.specs.declared.session_line.SessionLine.{SessionLine}
+use Rattle.m36_debug.specs.declared.session_line.SessionLine.TheVariants as session
+use Rattle.m36_debug.specs.Commands.{run_of, go_limit, is_at_break, after_turn}
+use Rattle.m36_debug.specs.SessionLines.{session_line}
+use Rattle.m36_debug.specs.SessionTexts.{unknown_line, where_line, break_line, seg_line, regs_lines}
+use Rattle.m36_debug.specs.SessionTexts.{end_lines, end_or_where, turn_lines}
+use Rattle.m36_debug.specs.Sitting.{SittingFields, sitting_after, sitting_before, sitting_with}
+use Rattle.m36_debug.specs.Sitting.{most_breaks}
+
+-- what a session knows of a machine: its registers and words, which turns it may answer, and how it
+-- may go back
+pub record Turning (M : Type 0) : Type 1 where
+  pub regs : M → RegsFields
+  pub content : M → ℕ → ℕ → Option ℕ
+  pub next : M → Turn → M → Type 0
+  pub went : M → ℕ → BackAnswer → M → Type 0
+
+abbrev pub turning :
+    {M : Type 0} → (M → RegsFields) → (M → ℕ → ℕ → Option ℕ) → (M → Turn → M → Type 0)
+    → (M → ℕ → BackAnswer → M → Type 0) → Turning M
+turning regs content next went =
+    record { regs = regs; content = content; next = next; went = went }
+
+-- ---- where a session stands
+
+-- what is under way
+pub data Doing : Type 0 where
+  Waiting : Doing  -- the next line is waited for
+  Running : Run → Doing  -- a command takes turns
+  Backing : ℕ → List ℕ → Doing  -- the machine is to go back so many steps, by this line
+  Over : Doing  -- `quit` was taken
+  Starved : Doing  -- a turn, or going back, found no memory
+
+pub record Standing : Type 0 where
+  pub sitting : SittingFields
+  pub doing : Doing
+
+abbrev pub standing : SittingFields → Doing → Standing
+standing s doing = record { sitting = s; doing = doing }
+
+-- ---- what happens
+
+pub data Happening : Type 0 where
+  Took : List ℕ → Happening  -- a line was taken
+  Turned : Turn → Happening  -- the machine made a turn
+  Went : BackAnswer → Happening  -- the machine was to go back
+
+-- and the machine after it
+pub record Event (M : Type 0) : Type 0 where
+  pub happened : Happening
+  pub after : M
+
+-- Each thing happens where it is due: a line is taken where one is waited for, a turn is made where
+-- a command runs, and the machine goes back where it is to. A turn is one that the machine may
+-- answer, and so is going back.
+abbrev pub May : {M : Type 0} → Turning M → Doing → M → Happening → M → Type 0
+May o Waiting m (Took line) m' = m' ≡ m
+May o (Running run) m (Turned turn) m' = o.next m turn m'
+May o (Backing n line) m (Went answer) m' = o.went m n answer m'
+May o doing m happened m' = ⊥
+
+-- ---- a line is taken
+
+-- a command begins, where the run has not ended
+abbrev pub run_begun : Option End → Command → ℕ → Doing
+run_begun None command left = Running (run_of command left)
+run_begun (Some end) command left = Waiting
+
+abbrev pub begun : SittingFields → List ℕ → SessionLine → Doing
+begun s line (session.Step n) = run_begun s.ended commands.Step n
+begun s line session.Go = run_begun s.ended commands.Go go_limit
+begun s line (session.Break seg word) = Waiting
+begun s line session.Regs = Waiting
+begun s line (session.Seg seg word) = Waiting
+begun s line session.Where = Waiting
+begun s line (session.Back n) = if nat_le n s.taken then Backing n line else Waiting
+begun s line session.Quit = Over
+begun s line session.Empty = Waiting
+begun s line session.Unknown = Waiting
+
+abbrev pub remembered : SittingFields → SessionLine → SittingFields
+remembered s (session.Step n) = s
+remembered s session.Go = s
+remembered s (session.Break seg word) = sitting_with s seg word
+remembered s session.Regs = s
+remembered s (session.Seg seg word) = s
+remembered s session.Where = s
+remembered s (session.Back n) = s
+remembered s session.Quit = s
+remembered s session.Empty = s
+remembered s session.Unknown = s
+
+-- what is written then: a command whose run has ended tells the end again
+abbrev pub line_says :
+    RegsFields → (ℕ → ℕ → Option ℕ) → SittingFields → List ℕ → SessionLine → List (List ℕ)
+line_says g content s line (session.Step n) = end_lines s.ended s.taken
+line_says g content s line session.Go = end_lines s.ended s.taken
+line_says g content s line (session.Break seg word) =
+    (if nat_lt (length s.breaks) most_breaks then break_line seg word else unknown_line line) ∷ []
+line_says g content s line session.Regs = regs_lines g
+line_says g content s line (session.Seg seg word) = seg_line seg word (content seg word) ∷ []
+line_says g content s line session.Where = where_line g.ppr ∷ []
+line_says g content s line (session.Back n) =
+    if nat_le n s.taken then [] else unknown_line line ∷ []
+line_says g content s line session.Quit = []
+line_says g content s line session.Empty = []
+line_says g content s line session.Unknown = unknown_line line ∷ []
+
+-- ---- a command takes a turn
+
+abbrev pub doing_by : Further → Doing
+doing_by (Runs run) = Running run
+doing_by Waits = Waiting
+doing_by Starves = Starved
+
+-- `go` tells nothing before it is through
+abbrev pub go_says : RegsFields → SittingFields → Further → List (List ℕ)
+go_says g s (Runs run) = []
+go_says g s Waits = end_or_where s.ended s.taken g.ppr ∷ []
+go_says g s Starves = []
+
+abbrev pub command_says :
+    Command → RegsFields → ℕ → SittingFields → Turn → Further → List (List ℕ)
+command_says commands.Step g taken after turn next = turn_lines taken turn
+command_says commands.Go g taken after turn next = go_says g after next
+
+-- what a command does after a turn that left these registers
+abbrev pub next_of : RegsFields → SittingFields → Run → Turn → Further
+next_of g s run turn = after_turn run (is_at_break g.ppr s.breaks) turn
+
+abbrev pub turn_says : RegsFields → SittingFields → Run → Turn → List (List ℕ)
+turn_says g s run turn =
+    command_says run.command g s.taken (sitting_after s turn) turn (next_of g s run turn)
+
+abbrev pub turned : RegsFields → SittingFields → Run → Turn → Standing
+turned g s run turn = standing (sitting_after s turn) (doing_by (next_of g s run turn))
+
+-- ---- the machine was to go back
+
+abbrev pub went : SittingFields → ℕ → BackAnswer → Standing
+went s n back.Done = standing (sitting_before s n) Waiting
+went s n (back.Before taken) = standing s Waiting
+went s n back.Unable = standing s Waiting
+went s n back.NoMemory = standing s Starved
+
+-- whoever has not gone back is told so as by an unknown line
+abbrev pub back_says : RegsFields → List ℕ → BackAnswer → List (List ℕ)
+back_says g line back.Done = where_line g.ppr ∷ []
+back_says g line (back.Before taken) = unknown_line line ∷ []
+back_says g line back.Unable = unknown_line line ∷ []
+back_says g line back.NoMemory = []
+
+-- ---- a session
+
+-- where it stands after what happened, by the registers that the machine then has
+abbrev pub onward_by : RegsFields → SittingFields → Doing → Happening → Standing
+onward_by g s Waiting (Took line) =
+    standing (remembered s (session_line line)) (begun s line (session_line line))
+onward_by g s (Running run) (Turned turn) = turned g s run turn
+onward_by g s (Backing n line) (Went answer) = went s n answer
+onward_by g s doing happened = standing s doing
+
+unfoldable pub onward : RegsFields → Standing → Happening → Standing
+onward g s happened = onward_by g s.sitting s.doing happened
+
+-- what is written of it, in lines
+abbrev pub said_by :
+    RegsFields → (ℕ → ℕ → Option ℕ) → SittingFields → Doing → Happening → List (List ℕ)
+said_by g content s Waiting (Took line) = line_says g content s line (session_line line)
+said_by g content s (Running run) (Turned turn) = turn_says g s run turn
+said_by g content s (Backing n line) (Went answer) = back_says g line answer
+said_by g content s doing happened = []
+
+unfoldable pub said :
+    RegsFields → (ℕ → ℕ → Option ℕ) → Standing → Happening → List (List ℕ)
+said g content s happened = said_by g content s.sitting s.doing happened
+
+-- Events follow one another from a standing and a machine on, and lead to others.
+unfoldable pub Follow :
+    {M : Type 0} → Turning M → Standing → M → List (Event M) → Standing → M → Type 0
+Follow o s m [] s' m' = (s' ≡ s) × (m' ≡ m)
+Follow o s m (e ∷ events) s' m' =
+    May o s.doing m e.happened e.after
+    × Follow o (onward (o.regs e.after) s e.happened) e.after events s' m'
+
+-- the lines that are written of them
+unfoldable pub lines_said : {M : Type 0} → Turning M → Standing → List (Event M) → List (List ℕ)
+lines_said o s [] = []
+lines_said o s (e ∷ events) =
+    said (o.regs e.after) (o.content e.after) s e.happened
+    ++ lines_said o (onward (o.regs e.after) s e.happened) events
+
+-- the lines that are taken in them
+abbrev pub line_in : Happening → List (List ℕ)
+line_in (Took line) = line ∷ []
+line_in (Turned turn) = []
+line_in (Went answer) = []
+
+unfoldable pub lines_in : {M : Type 0} → List (Event M) → List (List ℕ)
+lines_in [] = []
+lines_in (e ∷ events) = line_in e.happened ++ lines_in events

@@ -1,0 +1,83 @@
+-- The lines of a session.
+--
+--     step, step N      N decimal, 1 to 1,000,000
+--     go
+--     break S W         five and six octal digits
+--     regs
+--     seg S W
+--     where
+--     back, back N
+--     quit
+--
+-- Words are parted by single spaces, and a number has no leading zero. A line has at most 256
+-- bytes. An empty line is taken, and any other line is unknown.
+use Rattle.std.specs.Prelude.{ℕ, ◌<◌, ◌≤◌, ◌^◌, nat_le, if◌then◌else◌, List, [], ◌∷◌, codes}
+use Rattle.std.specs.Prelude.{length, Option, Some}
+use Rattle.std.specs.Prelude.{None, option_map, unwrap_or}
+use Rattle.m36_text.specs.Texts.{is_text}
+use Rattle.m36_text.specs.Lines.{words_of}
+use Rattle.m36_text.specs.Numbers.{octal_in, plain_decimal_in}
+use Rattle.m36_debug.specs.declared.session_line.SessionLine.{SessionLine}
+use Rattle.m36_debug.specs.declared.session_line.SessionLine.TheVariants.{Step, Go, Break, Regs}
+use Rattle.m36_debug.specs.declared.session_line.SessionLine.TheVariants.{Seg, Where, Back, Quit}
+use Rattle.m36_debug.specs.declared.session_line.SessionLine.TheVariants.{Empty, Unknown}
+
+abbrev pub one_word : List ℕ → SessionLine
+one_word word =
+    if is_text [] word then Empty
+    else if is_text (codes "step") word then Step 1
+    else if is_text (codes "go") word then Go
+    else if is_text (codes "regs") word then Regs
+    else if is_text (codes "where") word then Where
+    else if is_text (codes "back") word then Back 1
+    else if is_text (codes "quit") word then Quit
+    else Unknown
+
+-- a number of steps
+abbrev pub steps_in : List ℕ → Option ℕ
+steps_in word = plain_decimal_in 1 1000000 word
+
+abbrev pub two_words : List ℕ → List ℕ → SessionLine
+two_words word n =
+    if is_text (codes "step") word then unwrap_or (option_map Step (steps_in n)) Unknown
+    else if is_text (codes "back") word then unwrap_or (option_map Back (steps_in n)) Unknown
+    else Unknown
+
+abbrev pub placed : (ℕ → ℕ → SessionLine) → Option ℕ → Option ℕ → SessionLine
+placed line (Some seg) (Some word) = line seg word
+placed line (Some seg) None = Unknown
+placed line None word = Unknown
+
+abbrev pub three_words : List ℕ → List ℕ → List ℕ → SessionLine
+three_words word s w =
+    if is_text (codes "break") word then placed Break (octal_in 5 s) (octal_in 6 w)
+    else if is_text (codes "seg") word then placed Seg (octal_in 5 s) (octal_in 6 w)
+    else Unknown
+
+abbrev pub line_of_words : List (List ℕ) → SessionLine
+line_of_words [] = Unknown
+line_of_words (word ∷ []) = one_word word
+line_of_words (word ∷ n ∷ []) = two_words word n
+line_of_words (word ∷ s ∷ w ∷ []) = three_words word s w
+line_of_words (word ∷ s ∷ w ∷ more ∷ words) = Unknown
+
+-- the longest line that is known
+abbrev pub longest_line : ℕ
+longest_line = 256
+
+unfoldable pub session_line : List ℕ → SessionLine
+session_line line =
+    if nat_le (length line) longest_line then line_of_words (words_of line) else Unknown
+
+-- How far the numbers of a line go.
+abbrev pub IsBounded : SessionLine → Type 0
+IsBounded (Step n) = n ≤ 1000000
+IsBounded Go = Unit {0}
+IsBounded (Break seg word) = (seg < 2 ^ 15) × (word < 2 ^ 18)
+IsBounded Regs = Unit {0}
+IsBounded (Seg seg word) = (seg < 2 ^ 15) × (word < 2 ^ 18)
+IsBounded Where = Unit {0}
+IsBounded (Back n) = n ≤ 1000000
+IsBounded Quit = Unit {0}
+IsBounded Empty = Unit {0}
+IsBounded Unknown = Unit {0}

@@ -1,0 +1,132 @@
+-- What a session says by its answer.
+use Rattle.std.specs.Prelude.{ℕ, ◌≡◌, ◌≢◌, ◌+◌, ◌≤◌, ◌<◌, ◌⊎◌, List, [], ◌∷◌, ◌++◌, All, length}
+use Rattle.std.specs.Prelude.{take, Option}
+use Rattle.std.specs.Prelude.{IfSome, Result, Ok, Err}
+use Rattle.m36_outside.specs.Counts.{Rose}
+use Rattle.m36_outside.specs.Passing.{joined}
+use Rattle.m36_outside.specs.Piece.{preceded}
+use Rattle.m36_text.specs.Lines.{open_lines_of}
+use Rattle.m36_debug.specs.declared.fault.SessionFault.{SessionFault}
+use Rattle.m36_debug.specs.declared.fault.SessionFault.TheVariants as fault
+use Rattle.m36_debug.specs.declared.session_line.SessionLine.TheVariants.{Quit}
+use Rattle.m36_debug.specs.declared.turning.Ends.{Ends}
+use Rattle.m36_debug.specs.declared.turning.Ends.TheVariants as ends
+use Rattle.m36_debug.specs.LinesTaken.{whole_lines, IsFirstPart}
+use Rattle.m36_debug.specs.Putting.{SinkSeen, PutAll, PutSome}
+use Rattle.m36_debug.specs.Session.{Turning, Doing, Waiting, Over, Standing, Event, standing}
+use Rattle.m36_debug.specs.Session.{Follow, lines_said, lines_in}
+use Rattle.m36_debug.specs.SessionLines.{session_line}
+use Rattle.m36_debug.specs.Sitting.{new_sitting}
+
+-- the most bytes of a session
+abbrev pub bytes_limit : ℕ
+bytes_limit = 1048576
+
+-- what is left of the input, where it is told, the pieces that it gave, and the count of its faults
+pub record LinesSeen : Type 0 where
+  pub left : Option (List ℕ)
+  pub given : List (List ℕ)
+  pub faults : ℕ
+
+abbrev pub input : Option (List ℕ) → List (List ℕ) → ℕ → LinesSeen
+input left given faults = record { left = left; given = given; faults = faults }
+
+-- The input has told its end: an empty piece was given last, and nothing is left.
+pub record HasEnded (pieces : List (List ℕ)) (new : LinesSeen) : Type 0 where
+  pub before : List (List ℕ)
+  pub last : pieces ≡ before ++ [] ∷ []
+  pub none : IfSome new.left (λ left. left ≡ [])
+
+-- all lines were taken, the last of which may lack its line feed
+pub record TookAll (bytes : List ℕ) (pieces : List (List ℕ)) (lines : List (List ℕ)) (doing : Doing)
+    (new : LinesSeen) : Type 0 where
+  pub waits : doing ≡ Waiting
+  pub all : lines ≡ open_lines_of bytes
+  pub ended : HasEnded pieces new
+
+-- the last of these lines is `quit`
+pub record EndInQuit (lines : List (List ℕ)) : Type 0 where
+  pub before : List (List ℕ)
+  pub last : List ℕ
+  pub are : lines ≡ before ++ last ∷ []
+  pub quits : session_line last ≡ Quit
+
+-- some were, the last of which is `quit`
+pub record TookQuit (bytes : List ℕ) (lines : List (List ℕ)) (doing : Doing) : Type 0 where
+  pub over : doing ≡ Over
+  pub some : IsFirstPart lines (open_lines_of bytes)
+  pub quit : EndInQuit lines
+
+-- all whole lines were taken, and none is `quit`
+pub record TookWhole (bytes : List ℕ) (lines : List (List ℕ)) (doing : Doing) : Type 0 where
+  pub waits : doing ≡ Waiting
+  pub whole : lines ≡ whole_lines bytes
+  pub none : All (λ line. session_line line ≢ Quit) lines
+
+-- which lines were taken, by the answer, of the bytes in these pieces
+abbrev pub TookBy :
+    Result (Unit {0}) SessionFault → List (List ℕ) → List (List ℕ) → Doing → LinesSeen → Type 0
+TookBy (Ok done) pieces lines doing new =
+    TookQuit (joined pieces) lines doing ⊎ TookAll (joined pieces) pieces lines doing new
+TookBy (Err fault.ReadFault) pieces lines doing new = TookWhole (joined pieces) lines doing
+TookBy (Err fault.TooLong) pieces lines doing new =
+    TookWhole (take bytes_limit (joined pieces)) lines doing
+TookBy (Err fault.WriteFault) pieces lines doing new =
+    IsFirstPart lines (open_lines_of (joined pieces))
+TookBy (Err fault.NoMemory) pieces lines doing new =
+    IsFirstPart lines (open_lines_of (joined pieces))
+
+-- how many bytes were taken: one more than the most tells that there are too many
+abbrev pub CountBy : Result (Unit {0}) SessionFault → ℕ → Type 0
+CountBy (Ok done) count = count ≤ bytes_limit
+CountBy (Err fault.ReadFault) count = count ≤ bytes_limit
+CountBy (Err fault.TooLong) count = (bytes_limit < count) × (count ≤ bytes_limit + 1)
+CountBy (Err fault.WriteFault) count = count ≤ bytes_limit
+CountBy (Err fault.NoMemory) count = count ≤ bytes_limit
+
+-- what was written of it
+abbrev pub WroteBy :
+    Result (Unit {0}) SessionFault → SinkSeen → SinkSeen → List (List ℕ) → Type 0
+WroteBy (Ok done) old new lines = PutAll old new lines
+WroteBy (Err fault.ReadFault) old new lines = PutAll old new lines
+WroteBy (Err fault.TooLong) old new lines = PutAll old new lines
+WroteBy (Err fault.WriteFault) old new lines = PutSome old new lines
+WroteBy (Err fault.NoMemory) old new lines = PutAll old new lines
+
+-- how a session ends with its input
+abbrev pub answer_of : Ends → Result (Unit {0}) SessionFault
+answer_of ends.Line = Ok tt
+answer_of ends.Quit = Ok tt
+answer_of ends.Starved = Err fault.NoMemory
+answer_of ends.Cut = Err fault.WriteFault
+
+-- the count of faults of the input rose with ReadFault alone
+abbrev pub ReadHasCause : Result (Unit {0}) SessionFault → ℕ → ℕ → Type 0
+ReadHasCause (Ok done) old new = new ≡ old
+ReadHasCause (Err fault.ReadFault) old new = Rose old new
+ReadHasCause (Err fault.TooLong) old new = new ≡ old
+ReadHasCause (Err fault.WriteFault) old new = new ≡ old
+ReadHasCause (Err fault.NoMemory) old new = new ≡ old
+
+-- A session by its events: each is one that may follow, from the machine as it was to the machine
+-- as it is. The lines that they take are those of the bytes that were taken, and these lines are
+-- what is said of them.
+pub record IsSession {M : Type 0} (o : Turning M) (result : Result (Unit {0}) SessionFault)
+    (m m' : M) (before after : LinesSeen) (lines : List (List ℕ)) : Type 0 where
+  pub pieces : List (List ℕ)
+  pub gave : after.given ≡ before.given ++ pieces
+  pub came : before.left ≡ preceded (joined pieces) after.left
+  pub count : CountBy result (length (joined pieces))
+  pub read_cause : ReadHasCause result before.faults after.faults
+  pub events : List (Event M)
+  pub stands : Standing
+  pub follow : Follow o (standing new_sitting Waiting) m events stands m'
+  pub took : TookBy result pieces (lines_in events) stands.doing after
+  pub said : lines ≡ lines_said o (standing new_sitting Waiting) events
+
+-- A session was held, and what is said of it was written, or some of it.
+pub record SessionSays {M : Type 0} (o : Turning M) (result : Result (Unit {0}) SessionFault)
+    (m m' : M) (before after : LinesSeen) (old new : SinkSeen) : Type 0 where
+  pub lines : List (List ℕ)
+  pub session : IsSession o result m m' before after lines
+  pub wrote : WroteBy result old new lines

@@ -1,0 +1,91 @@
+-- The lines that a session writes, each with its line feed.
+use Rattle.std.specs.Prelude.{ℕ, ◌+◌, List, [], ◌∷◌, ◌++◌, codes, take, Option, Some, None}
+use Rattle.std.specs.List.{flat_map}
+use Rattle.m36_text.specs.Digits.{octal_text}
+use Rattle.m36_desc.specs.Fields.{PtrFields}
+use Rattle.m36_model.specs.Fields.{PprFields}
+use Rattle.m36_model.specs.Registers.{RegsFields}
+use Rattle.m36_model.specs.declared.endings.End.{End}
+use Rattle.m36_step.specs.declared.turns.Turn.{Turn}
+use Rattle.m36_step.specs.declared.turns.Turn.TheVariants.{Stepped, Linked, Console, Ended, Full}
+use Rattle.m36_step.specs.declared.turns.Turn.TheVariants.{NoMemory}
+use Rattle.m36_trace.specs.TraceLine.{line_of, word_of_segment, indicators_text}
+use Rattle.m36_turns.specs.TurnLines.{link_line_of, console_line_of, run_end_line_of}
+
+-- a text as a line
+abbrev pub as_line : List ℕ → List ℕ
+as_line text = text ++ 10 ∷ []
+
+-- an unknown line is shown up to its 64th byte
+unfoldable pub unknown_line : List ℕ → List ℕ
+unknown_line line = as_line (codes "? " ++ take 64 line)
+
+-- where the machine stands: the ring of execution, and the segment and the word of the next
+-- instruction
+unfoldable pub where_line : PprFields → List ℕ
+where_line p =
+    as_line (octal_text 1 p.prr ++ codes " " ++ word_of_segment p.psr p.ic)
+
+unfoldable pub break_line : ℕ → ℕ → List ℕ
+break_line seg word = as_line (codes "break " ++ word_of_segment seg word)
+
+-- a word of a segment, where it has a place
+abbrev pub content_text : Option ℕ → List ℕ
+content_text (Some word) = octal_text 12 word
+content_text None = codes "absent"
+
+unfoldable pub seg_line : ℕ → ℕ → Option ℕ → List ℕ
+seg_line seg word content =
+    as_line (word_of_segment seg word ++ codes " " ++ content_text content)
+
+-- ---- the registers
+
+unfoldable pub a_line : RegsFields → List ℕ
+a_line g =
+    as_line
+    (codes "a " ++ octal_text 12 g.a ++ codes " q " ++ octal_text 12 g.q ++ codes " ind "
+    ++ indicators_text g.ind)
+
+abbrev pub index_text : ℕ → List ℕ
+index_text x = codes " " ++ octal_text 6 x
+
+unfoldable pub x_line : RegsFields → List ℕ
+x_line g = as_line (codes "x" ++ flat_map index_text g.x)
+
+-- a pointer register by its number: the ring, the segment and the word, and the bit
+unfoldable pub pointer_line : ℕ → PtrFields → List ℕ
+pointer_line n p =
+    as_line
+    (codes "pr" ++ octal_text 1 n ++ codes " " ++ octal_text 1 p.ring ++ codes ":"
+    ++ word_of_segment p.seg p.word ++ codes " " ++ octal_text 2 p.bit)
+
+-- those from number n on
+unfoldable pub pointer_lines : ℕ → List PtrFields → List (List ℕ)
+pointer_lines n [] = []
+pointer_lines n (p ∷ pointers) = pointer_line n p ∷ pointer_lines (n + 1) pointers
+
+unfoldable pub regs_lines : RegsFields → List (List ℕ)
+regs_lines g = a_line g ∷ x_line g ∷ pointer_lines 0 g.pr
+
+-- ---- turns, where so many steps were taken before
+
+unfoldable pub end_line : End → ℕ → List ℕ
+end_line end taken = as_line (run_end_line_of end taken)
+
+-- where the run has ended, its end line
+abbrev pub end_lines : Option End → ℕ → List (List ℕ)
+end_lines (Some end) taken = end_line end taken ∷ []
+end_lines None taken = []
+
+-- where it has not, where the machine stands
+abbrev pub end_or_where : Option End → ℕ → PprFields → List ℕ
+end_or_where (Some end) taken p = end_line end taken
+end_or_where None taken p = where_line p
+
+unfoldable pub turn_lines : ℕ → Turn → List (List ℕ)
+turn_lines taken (Stepped told) = as_line (line_of (taken + 1) told) ∷ []
+turn_lines taken (Linked note) = as_line (link_line_of note) ∷ []
+turn_lines taken (Console text) = as_line (console_line_of text) ∷ []
+turn_lines taken (Ended end) = end_line end taken ∷ []
+turn_lines taken Full = []
+turn_lines taken NoMemory = []

@@ -1,0 +1,47 @@
+-- What a session remembers.
+use Rattle.std.specs.Prelude.{ℕ, ◌+◌, ◌-◌, nat_lt, if◌then◌else◌, List, [], ◌∷◌, ◌++◌, length}
+use Rattle.std.specs.Prelude.{Option, Some, None}
+use Rattle.m36_model.specs.declared.endings.End.{End}
+use Rattle.m36_step.specs.declared.turns.Turn.{Turn}
+use Rattle.m36_step.specs.declared.turns.Turn.TheVariants.{Stepped, Linked, Console, Ended, Full}
+use Rattle.m36_step.specs.declared.turns.Turn.TheVariants.{NoMemory}
+use Rattle.m36_debug.specs.declared.commands.Break.{Break}
+
+-- how many steps were taken and not taken back, how the run has ended, if it has, and the breaks
+pub record SittingFields : Type 0 where
+  pub taken : ℕ
+  pub ended : Option End
+  pub breaks : List Break
+
+-- at the beginning
+abbrev pub new_sitting : SittingFields
+new_sitting = record { taken = 0; ended = None; breaks = [] }
+
+-- after a turn
+unfoldable pub sitting_after : SittingFields → Turn → SittingFields
+sitting_after s (Stepped told) = record { taken = s.taken + 1; ended = s.ended; breaks = s.breaks }
+sitting_after s (Linked note) = s
+sitting_after s (Console text) = s
+sitting_after s (Ended end) =
+    record { taken = s.taken; ended = Some end; breaks = s.breaks }
+sitting_after s Full = s
+sitting_after s NoMemory = s
+
+-- So many steps were taken back: a run that had ended is running again, and breaks stay.
+abbrev pub sitting_before : SittingFields → ℕ → SittingFields
+sitting_before s n = record { taken = s.taken - n; ended = None; breaks = s.breaks }
+
+-- the most breaks
+abbrev pub most_breaks : ℕ
+most_breaks = 16
+
+-- one break more, where there are fewer
+abbrev pub sitting_with : SittingFields → ℕ → ℕ → SittingFields
+sitting_with s seg word =
+    if nat_lt (length s.breaks) most_breaks
+    then record {
+      taken = s.taken;
+      ended = s.ended;
+      breaks = s.breaks ++ record { word = word; seg = seg } ∷ [];
+    }
+    else s

@@ -1,0 +1,34 @@
+-- What is said of a piece of input that is taken.
+use Rattle.std.specs.Prelude.{ℕ, ◌≡◌, ◌≤◌, List, [], ◌∷◌, ◌++◌, length, take, IfSome}
+use Rattle.m36_outside.specs.Counts.{Rose}
+use Rattle.m36_outside.specs.Piece.{preceded}
+use Rattle.m36_outside.specs.declared.lines.Piece.{Piece}
+use Rattle.m36_outside.specs.declared.lines.Piece.TheVariants.{Got, End, Failed}
+use Rattle.m36_debug.specs.SessionSays.{LinesSeen}
+
+-- So many bytes were taken, of so many at most: they stand at the beginning of the buffer.
+pub record GotPiece (count most : ℕ) (old new : LinesSeen) (buffer : List ℕ) : Type 0 where
+  pub some : 1 ≤ count
+  pub within : count ≤ most
+  pub room : count ≤ length buffer
+  pub came : old.left ≡ preceded (take count buffer) new.left
+  pub gave : new.given ≡ old.given ++ take count buffer ∷ []
+  pub faults : new.faults ≡ old.faults
+
+-- The input has ended: it gave an empty piece.
+pub record GotEnd (old new : LinesSeen) : Type 0 where
+  pub none : IfSome old.left (λ left. left ≡ [])
+  pub stays : new.left ≡ old.left
+  pub gave : new.given ≡ old.given ++ [] ∷ []
+  pub faults : new.faults ≡ old.faults
+
+-- Nothing could be read.
+pub record GotNothing (old new : LinesSeen) : Type 0 where
+  pub stays : new.left ≡ old.left
+  pub gave : new.given ≡ old.given
+  pub cause : Rose old.faults new.faults
+
+abbrev pub PieceTaken : Piece → ℕ → LinesSeen → LinesSeen → List ℕ → Type 0
+PieceTaken (Got count) most old new buffer = GotPiece count most old new buffer
+PieceTaken End most old new buffer = GotEnd old new
+PieceTaken Failed most old new buffer = GotNothing old new

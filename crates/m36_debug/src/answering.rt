@@ -1,0 +1,148 @@
+//! Lines that are answered.
+
+ghost use Rattle.std.specs.Prelude.{ℕ, ◌≡◌, ◌≤◌, ◌<◌, ◌+◌, ◌-◌, ◌^◌, [], ◌∷◌, length, nat_le, nat_lt, if◌then◌else◌};
+ghost use Rattle.m36_debug.specs.Parts.{EndSays, CommandSays, BackSays, told};
+ghost use Rattle.m36_debug.specs.Putting.{PutsLines, seen};
+ghost use Rattle.m36_debug.specs.Session.{Waiting, Backing, standing, turning};
+ghost use Rattle.m36_debug.specs.SessionTexts.{unknown_line, break_line};
+ghost use Rattle.m36_debug.specs.Sitting.{sitting_with, most_breaks};
+
+use crate::commands::{Command, GO_LIMIT, Run};
+use crate::registers::put_regs;
+use crate::session_line::{SessionLine, session_line};
+use crate::sitting::Sitting;
+use crate::texts::{put_break, put_end, put_seg, put_unknown, put_where};
+use crate::turning::{Ends, run_command};
+use m36_outside::{Put, Sink};
+use m36_step::{BackAnswer, Stepper};
+
+// How a line ends that is told at once.
+fn told(put: Put) -> Ends
+    ensures { result ≡ told put }
+{
+    match put {
+        Put::Done => Ends::Line,
+        Put::Failed => Ends::Cut,
+    }
+}
+
+// Takes the turns of a command; where the run has ended, tells its end again.
+fn command<M: Stepper, S: Sink>(m: &mut M, run: Run, sitting: &mut Sitting, out: &mut S) -> Ends
+    requires { sitting.old.taken + run.left + 2 < 2 ^ 64 }
+    ensures says { CommandSays (turning M.regs M.content M.next M.went) result sitting.old.ended run
+        sitting.old m.old sitting.new m.new
+        (seen (S.written out.old) (S.taken out.old) (S.faults out.old))
+        (seen (S.written out.new) (S.taken out.new) (S.faults out.new)) }
+    ensures taken { sitting.new.taken ≤ sitting.old.taken + run.left + 1 }
+{
+    match sitting.ended() {
+        Some(end) => told(put_end(out, end, sitting.taken())),
+        None => run_command(m, run, sitting, out),
+    }
+}
+
+// Adds a break, where there is room for it.
+fn add_break<S: Sink>(line: &[u8], seg: u16, word: u32, sitting: &mut Sitting, out: &mut S) -> Put
+    requires seg { seg < 2 ^ 15 }
+    requires word { word < 2 ^ 18 }
+    ensures sitting { sitting.new ≡ sitting_with sitting.old seg word }
+    ensures taken { sitting.new.taken ≡ sitting.old.taken }
+    ensures puts { PutsLines result
+        (seen (S.written out.old) (S.taken out.old) (S.faults out.old))
+        (seen (S.written out.new) (S.taken out.new) (S.faults out.new))
+        ((if nat_lt (length sitting.old.breaks) most_breaks then break_line seg word else unknown_line line.now) ∷ []) }
+{
+    if sitting.has_room() {
+        sitting.add(seg, word);
+        put_break(out, seg, word)
+    } else {
+        put_unknown(out, line)
+    }
+}
+
+// Goes back.
+fn go_back<M: Stepper, S: Sink>(
+    line: &[u8],
+    n: u32,
+    m: &mut M,
+    sitting: &mut Sitting,
+    out: &mut S,
+) -> Ends
+    requires { n ≤ sitting.old.taken }
+    ensures says { EndSays (turning M.regs M.content M.next M.went) result
+        (standing sitting.old (Backing n line.now)) m.old [] sitting.new m.new
+        (seen (S.written out.old) (S.taken out.old) (S.faults out.old))
+        (seen (S.written out.new) (S.taken out.new) (S.faults out.new)) }
+    ensures taken { sitting.new.taken ≤ sitting.old.taken }
+{
+    match m.back(n) {
+        BackAnswer::Done => {
+            sitting.note_back(n);
+            told(put_where(out, m.regs()))
+        }
+        BackAnswer::Before(_) => told(put_unknown(out, line)),
+        BackAnswer::Unable => told(put_unknown(out, line)),
+        BackAnswer::NoMemory => Ends::Starved,
+    }
+}
+
+// Goes back, where so many steps were taken.
+fn back<M: Stepper, S: Sink>(
+    line: &[u8],
+    n: u32,
+    m: &mut M,
+    sitting: &mut Sitting,
+    out: &mut S,
+) -> Ends
+    ensures says { BackSays (turning M.regs M.content M.next M.went) result (nat_le n sitting.old.taken) line.now n
+        sitting.old m.old sitting.new m.new
+        (seen (S.written out.old) (S.taken out.old) (S.faults out.old))
+        (seen (S.written out.new) (S.taken out.new) (S.faults out.new)) }
+    ensures taken { sitting.new.taken ≤ sitting.old.taken }
+{
+    if sitting.has_taken(n) {
+        go_back(line, n, m, sitting, out)
+    } else {
+        told(put_unknown(out, line))
+    }
+}
+
+/// Answers a line.
+pub(crate) fn answer<M: Stepper, S: Sink>(
+    line: &[u8],
+    m: &mut M,
+    sitting: &mut Sitting,
+    out: &mut S,
+) -> Ends
+    requires { sitting.old.taken < 2 ^ 62 }
+    ensures says { EndSays (turning M.regs M.content M.next M.went) result
+        (standing sitting.old Waiting) m.old (line.now ∷ []) sitting.new m.new
+        (seen (S.written out.old) (S.taken out.old) (S.faults out.old))
+        (seen (S.written out.new) (S.taken out.new) (S.faults out.new)) }
+    ensures taken { sitting.new.taken ≤ sitting.old.taken + 1000001 }
+{
+    match session_line(line) {
+        SessionLine::Step(left) => {
+            let command_run = Run {
+                left,
+                command: Command::Step,
+            };
+            command(m, command_run, sitting, out)
+        }
+        SessionLine::Go => {
+            let command_run = Run {
+                left: GO_LIMIT,
+                command: Command::Go,
+            };
+            command(m, command_run, sitting, out)
+        }
+        SessionLine::Break(seg, word) => told(add_break(line, seg, word, sitting, out)),
+        SessionLine::Regs => told(put_regs(out, m.regs())),
+        SessionLine::Seg(seg, word) => told(put_seg(out, seg, word, m.content(seg, word))),
+        SessionLine::Where => told(put_where(out, m.regs())),
+        SessionLine::Back(n) => back(line, n, m, sitting, out),
+        SessionLine::Quit => Ends::Quit,
+        SessionLine::Empty => Ends::Line,
+        SessionLine::Unknown => told(put_unknown(out, line)),
+    }
+}

@@ -1,0 +1,116 @@
+//! The commands that take turns, and whether another turn follows one.
+
+ghost use Rattle.std.specs.Prelude.{ℕ, ◌≡◌, ◌<◌};
+ghost use Rattle.std.specs.List.{list_any};
+ghost use Rattle.m36_debug.specs.Commands.{is_at, is_at_break, wants, settled, after_step, after_link, after_turn};
+
+use m36_model::{LinkCode, Outcome, Ppr};
+use m36_step::Turn;
+use m36_word::Pair;
+
+/// The most steps of `go`.
+pub const GO_LIMIT: u32 = 100_000;
+
+/// A place where `go` stops.
+#[derive(Clone, Copy, PartialEq, Eq, Default, Debug)]
+pub struct Break {
+    pub word: u32,
+    pub seg: u16,
+}
+
+/// A command that takes turns.
+#[derive(Clone, Copy, PartialEq, Eq, Debug)]
+pub enum Command {
+    /// `step`: tells each turn.
+    Step,
+    /// `go`: tells where it has come to.
+    Go,
+}
+
+/// A command under way.
+#[derive(Clone, Copy, PartialEq, Eq, Debug)]
+pub struct Run {
+    /// How many more steps it may take.
+    pub left: u32,
+    pub command: Command,
+}
+
+/// What a command does after a turn.
+#[derive(Clone, Copy, PartialEq, Eq, Debug)]
+pub enum Further {
+    /// It takes another turn.
+    Runs(Run),
+    /// It is through: the next line is waited for.
+    Waits,
+    /// The turn found no memory.
+    Starves,
+}
+
+/// Whether the next instruction stands at one of these breaks.
+pub(crate) fn is_at_break(place: Ppr, breaks: &[Break]) -> bool
+    ensures { result ≡ is_at_break place breaks.now }
+{
+    breaks
+        .iter()
+        .any(|b| b.seg == place.psr && b.word == place.ic)
+}
+
+// Whether a command takes another step, of which so many are left to it.
+fn wants(command: Command, left: u32, at_break: bool) -> bool
+    ensures { result ≡ wants command left at_break }
+{
+    match command {
+        Command::Step => left > 0,
+        Command::Go => left > 0 && (left == GO_LIMIT || !at_break),
+    }
+}
+
+// Where nothing is owed to a command.
+fn settled(command: Command, left: u32, at_break: bool) -> Further
+    ensures { result ≡ settled command left at_break }
+{
+    if wants(command, left, at_break) {
+        Further::Runs(Run { left, command })
+    } else {
+        Further::Waits
+    }
+}
+
+fn after_step(command: Command, left: u32, at_break: bool, outcome: Outcome) -> Further
+    ensures { result ≡ after_step command left at_break outcome }
+{
+    match outcome {
+        Outcome::Next => settled(command, left, at_break),
+        Outcome::Faulted(_) | Outcome::Stopped(_) => Further::Runs(Run { left, command }),
+    }
+}
+
+fn after_link(
+    command: Command,
+    left: u32,
+    at_break: bool,
+    answer: &Result<Pair, LinkCode>,
+) -> Further
+    ensures { result ≡ after_link command left at_break answer.now }
+{
+    match answer {
+        Ok(_) => settled(command, left, at_break),
+        Err(_) => Further::Runs(Run { left, command }),
+    }
+}
+
+/// What a command does after a turn, which left the machine at a break or not.
+#[tactic(auto, unfolding(crate::specs::Commands::after_turn))]
+pub(crate) fn after_turn(run: Run, at_break: bool, turn: &Turn) -> Further
+    ensures { result ≡ after_turn run at_break turn.now }
+{
+    let Run { left, command } = run;
+    match turn {
+        Turn::Stepped(_) if left == 0 => Further::Waits,
+        Turn::Stepped(told) => after_step(command, left - 1, at_break, told.outcome),
+        Turn::Linked(note) => after_link(command, left, at_break, &note.answer),
+        Turn::Console(_) => settled(command, left, at_break),
+        Turn::Ended(_) | Turn::Full => Further::Waits,
+        Turn::NoMemory => Further::Starves,
+    }
+}

@@ -1,0 +1,20 @@
+//! Pieces of input, and the lines that they cut.
+
+ghost use Rattle.std.specs.Prelude.{ℕ, ◌≡◌, ◌≤◌, ◌<◌, ◌++◌, MatchOption, IfSome, length};
+ghost use Rattle.m36_debug.specs.LinesTaken.{IsUnbroken};
+ghost use Rattle.m36_debug.specs.SessionTexts.{as_line};
+
+use m36_text::place_of;
+
+/// A text up to its first line feed, and what stands behind that; none where there is no line feed.
+#[tactic(auto, using(crate::proofs::LinesLaws::cutting))]
+pub(crate) fn cut_line(text: &[u8]) -> Option<(&[u8], &[u8])>
+    ensures parts { MatchOption result (IsUnbroken text.now)
+        (λ parts. (text.now ≡ as_line parts.0.now ++ parts.1.now) × IsUnbroken parts.0.now) }
+    ensures shorter { IfSome result (λ parts. length parts.1.now < length text.now) }
+{
+    match place_of(text, b'\n') {
+        Some(end) => Some((&text[..end], &text[end + 1..])),
+        None => None,
+    }
+}

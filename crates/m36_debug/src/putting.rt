@@ -1,0 +1,40 @@
+//! Lines put to the output, each with its line feed in one piece.
+
+ghost use Rattle.std.specs.Prelude.{ℕ, ◌≡◌, ◌<◌, [], ◌∷◌, length};
+ghost use Rattle.m36_debug.specs.Putting.{PutsLines, seen};
+ghost use Rattle.m36_debug.specs.SessionTexts.{as_line};
+
+use arrayvec::{ArrayString, ArrayVec};
+use m36_outside::{Put, Sink};
+
+/// Puts a line that has its line feed.
+#[tactic(auto, using(crate::proofs::PutLaws::puts_line))]
+pub(crate) fn put_whole<S: Sink>(out: &mut S, line: &[u8]) -> Put
+    ensures { PutsLines result
+        (seen (S.written out.old) (S.taken out.old) (S.faults out.old))
+        (seen (S.written out.new) (S.taken out.new) (S.faults out.new)) (line.now ∷ []) }
+{
+    out.put(line)
+}
+
+/// Puts a text as a line.
+pub(crate) fn put_text<S: Sink, const N: usize>(out: &mut S, mut text: ArrayString<N>) -> Put
+    requires { length text.bytes < N }
+    ensures { PutsLines result
+        (seen (S.written out.old) (S.taken out.old) (S.faults out.old))
+        (seen (S.written out.new) (S.taken out.new) (S.faults out.new)) (as_line text.entry.bytes ∷ []) }
+{
+    text.push_str("\n");
+    put_whole(out, text.as_str().as_bytes())
+}
+
+/// Puts characters as a line.
+pub(crate) fn put_characters<S: Sink, const N: usize>(out: &mut S, mut text: ArrayVec<u8, N>) -> Put
+    requires { length text.items < N }
+    ensures { PutsLines result
+        (seen (S.written out.old) (S.taken out.old) (S.faults out.old))
+        (seen (S.written out.new) (S.taken out.new) (S.faults out.new)) (as_line text.entry.items ∷ []) }
+{
+    text.push(b'\n');
+    put_whole(out, text.as_slice())
+}

@@ -1,0 +1,77 @@
+//! Pieces of input that are answered: their whole lines are, and what stands behind them is kept.
+
+ghost use Rattle.std.specs.Prelude.{ℕ, ◌≡◌, ◌≤◌, ◌<◌, ◌+◌, ◌*◌, ◌^◌, [], ◌∷◌, ◌++◌, length};
+ghost use Rattle.m36_text.specs.Lines.{open_rest};
+ghost use Rattle.m36_debug.specs.LinesTaken.{IsUnbroken};
+ghost use Rattle.m36_debug.specs.Parts.{EndSays};
+ghost use Rattle.m36_debug.specs.PieceSays.{PieceSays};
+ghost use Rattle.m36_debug.specs.Putting.{seen};
+ghost use Rattle.m36_debug.specs.Session.{Waiting, standing, turning};
+
+use crate::answering::answer;
+use crate::piece::cut_line;
+use crate::sitting::Sitting;
+use crate::turning::Ends;
+use m36_outside::{Sink, Text};
+use m36_step::Stepper;
+use std::alloc::Global;
+
+/// Answers the whole lines of a piece. The first of them has begun already, if there was a part of it before. What stands
+/// behind them has begun the next one.
+pub(crate) fn answer_piece<M: Stepper, S: Sink>(
+    alloc: Global,
+    piece: &[u8],
+    begun: &mut Text,
+    m: &mut M,
+    sitting: &mut Sitting,
+    out: &mut S,
+) -> Ends
+    requires unbroken { IsUnbroken begun.old }
+    requires few { sitting.old.taken + 1000001 * length piece.now < 2 ^ 62 }
+    ensures says { PieceSays (turning M.regs M.content M.next M.went) result
+        (standing sitting.old Waiting) m.old (begun.old ++ piece.now) begun.new sitting.new m.new
+        (seen (S.written out.old) (S.taken out.old) (S.faults out.old))
+        (seen (S.written out.new) (S.taken out.new) (S.faults out.new)) }
+    ensures taken { sitting.new.taken ≤ sitting.old.taken + 1000001 * length piece.now }
+{
+    let mut rest = piece;
+    'lines: while let Some(parts) = cut_line(rest) {
+        let (end, behind) = parts;
+        match begun.append(end) {
+            Ok(()) => {}
+            Err(_) => return Ends::Starved,
+        }
+        match answer(begun.bytes(), m, sitting, out) {
+            Ends::Line => {}
+            Ends::Quit => return Ends::Quit,
+            Ends::Starved => return Ends::Starved,
+            Ends::Cut => return Ends::Cut,
+        }
+        *begun = Text::new(alloc);
+        rest = behind;
+    }
+    match begun.append(rest) {
+        Ok(()) => Ends::Line,
+        Err(_) => Ends::Starved,
+    }
+}
+
+/// Answers the line that has begun when the input ends, if there is a part of it.
+#[tactic(auto, using(crate::proofs::PieceLaws::last))]
+pub(crate) fn answer_last<M: Stepper, S: Sink>(
+    begun: &Text,
+    m: &mut M,
+    sitting: &mut Sitting,
+    out: &mut S,
+) -> Ends
+    requires { sitting.old.taken < 2 ^ 62 }
+    ensures { EndSays (turning M.regs M.content M.next M.went) result
+        (standing sitting.old Waiting) m.old (open_rest begun.now) sitting.new m.new
+        (seen (S.written out.old) (S.taken out.old) (S.faults out.old))
+        (seen (S.written out.new) (S.taken out.new) (S.faults out.new)) }
+{
+    if begun.bytes().is_empty() {
+        return Ends::Line;
+    }
+    answer(begun.bytes(), m, sitting, out)
+}

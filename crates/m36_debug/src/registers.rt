@@ -1,0 +1,147 @@
+//! The lines of the registers.
+
+ghost use Rattle.std.specs.Prelude.{ℕ, ◌≡◌, ◌≤◌, ◌<◌, ◌+◌, ◌*◌, ◌^◌, ◌++◌, [], ◌∷◌, length, slice_index, codes, if◌then◌else◌};
+ghost use Rattle.std.specs.List.{flat_map};
+ghost use Rattle.m36_trace.specs.TraceLine.{indicators_text};
+ghost use Rattle.m36_debug.specs.Putting.{PutsLines, seen};
+ghost use Rattle.m36_debug.specs.SessionTexts.{a_line, index_text, x_line, pointer_line, pointer_lines, regs_lines};
+
+use crate::putting::put_text;
+use crate::texts::push_place;
+use arrayvec::ArrayString;
+use m36_desc::Ptr;
+use m36_model::{Ind, Regs};
+use m36_outside::{Put, Sink};
+use m36_text::octal;
+
+// Adds the letter of an indicator that is on, and a point for one that is off.
+fn push_indicator(text: &mut ArrayString<80>, name: &str, on: bool)
+    requires letter { length name.now ≡ 1 }
+    requires room { length text.old.bytes + 1 ≤ 80 }
+    ensures text { text.new.bytes ≡ text.old.bytes ++ (if on then name.now else codes ".") }
+    ensures len { length text.new.bytes ≡ length text.old.bytes + 1 }
+{
+    text.push_str(if on { name } else { "." });
+}
+
+// Adds the six indicators.
+fn push_indicators(text: &mut ArrayString<80>, ind: &Ind)
+    requires room { length text.old.bytes + 6 ≤ 80 }
+    ensures text { text.new.bytes ≡ text.old.bytes ++ indicators_text ind.now }
+    ensures len { length text.new.bytes ≡ length text.old.bytes + 6 }
+{
+    push_indicator(text, "z", ind.zero);
+    push_indicator(text, "n", ind.negative);
+    push_indicator(text, "c", ind.carry);
+    push_indicator(text, "o", ind.overflow);
+    push_indicator(text, "m", ind.mask);
+    push_indicator(text, "t", ind.tally);
+}
+
+// Tells A, Q and the indicators.
+#[tactic(auto, unfolding(crate::specs::SessionTexts::a_line))]
+fn put_a<S: Sink>(out: &mut S, regs: &Regs) -> Put
+    ensures { PutsLines result
+        (seen (S.written out.old) (S.taken out.old) (S.faults out.old))
+        (seen (S.written out.new) (S.taken out.new) (S.faults out.new)) (a_line regs.now ∷ []) }
+{
+    let mut text = ArrayString::new();
+    text.push_str("a ");
+    text.push_str(octal(regs.a.value(), 12).as_str());
+    text.push_str(" q ");
+    text.push_str(octal(regs.q.value(), 12).as_str());
+    text.push_str(" ind ");
+    push_indicators(&mut text, &regs.ind);
+    put_text(out, text)
+}
+
+// Adds the index registers, each behind a space.
+fn push_indexes(text: &mut ArrayString<80>, indexes: &[u32])
+    requires width { (k : ℕ) → slice_index indexes.now k < 2 ^ 18 }
+    requires room { length text.old.bytes + 7 * length indexes.now ≤ 80 }
+    ensures text { text.new.bytes ≡ text.old.bytes ++ flat_map index_text indexes.now }
+    ensures len { length text.new.bytes ≡ length text.old.bytes + 7 * length indexes.now }
+{
+    for x in indexes {
+        text.push_str(" ");
+        text.push_str(octal(*x as u64, 6).as_str());
+    }
+}
+
+// Tells the index registers.
+#[tactic(auto, unfolding(crate::specs::SessionTexts::x_line))]
+fn put_x<S: Sink>(out: &mut S, regs: &Regs) -> Put
+    ensures { PutsLines result
+        (seen (S.written out.old) (S.taken out.old) (S.faults out.old))
+        (seen (S.written out.new) (S.taken out.new) (S.faults out.new)) (x_line regs.now ∷ []) }
+{
+    let mut text = ArrayString::new();
+    text.push_str("x");
+    push_indexes(&mut text, &regs.x);
+    put_text(out, text)
+}
+
+// Tells a pointer register, by its number.
+#[tactic(auto, unfolding(crate::specs::SessionTexts::pointer_line))]
+fn put_pointer<S: Sink>(out: &mut S, n: u32, pointer: &Ptr) -> Put
+    requires { n < 8 }
+    ensures { PutsLines result
+        (seen (S.written out.old) (S.taken out.old) (S.faults out.old))
+        (seen (S.written out.new) (S.taken out.new) (S.faults out.new)) (pointer_line n pointer.now ∷ []) }
+{
+    let mut text = ArrayString::new();
+    text.push_str("pr");
+    text.push_str(octal(n as u64, 1).as_str());
+    text.push_str(" ");
+    text.push_str(octal(pointer.ring as u64, 1).as_str());
+    text.push_str(":");
+    push_place(&mut text, pointer.seg, pointer.word);
+    text.push_str(" ");
+    text.push_str(octal(pointer.bit as u64, 2).as_str());
+    put_text(out, text)
+}
+
+// Tells pointer registers, numbered from 0 on.
+#[tactic(auto, using(crate::proofs::PutLaws::pointers))]
+fn put_pointers<S: Sink>(out: &mut S, pointers: &[Ptr]) -> Put
+    requires { length pointers.now ≤ 8 }
+    ensures { PutsLines result
+        (seen (S.written out.old) (S.taken out.old) (S.faults out.old))
+        (seen (S.written out.new) (S.taken out.new) (S.faults out.new)) (pointer_lines 0 pointers.now) }
+{
+    let mut n: u32 = 0;
+    for pointer in pointers {
+        match put_pointer(out, n, pointer) {
+            Put::Done => {}
+            Put::Failed => return Put::Failed,
+        }
+        n += 1;
+    }
+    Put::Done
+}
+
+// Tells the pointer registers.
+fn put_pr<S: Sink>(out: &mut S, regs: &Regs) -> Put
+    ensures { PutsLines result
+        (seen (S.written out.old) (S.taken out.old) (S.faults out.old))
+        (seen (S.written out.new) (S.taken out.new) (S.faults out.new)) (pointer_lines 0 regs.now.pr) }
+{
+    put_pointers(out, &regs.pr)
+}
+
+/// Tells the registers.
+pub(crate) fn put_regs<S: Sink>(out: &mut S, regs: &Regs) -> Put
+    ensures { PutsLines result
+        (seen (S.written out.old) (S.taken out.old) (S.faults out.old))
+        (seen (S.written out.new) (S.taken out.new) (S.faults out.new)) (regs_lines regs.now) }
+{
+    match put_a(out, regs) {
+        Put::Done => {}
+        Put::Failed => return Put::Failed,
+    }
+    match put_x(out, regs) {
+        Put::Done => {}
+        Put::Failed => return Put::Failed,
+    }
+    put_pr(out, regs)
+}

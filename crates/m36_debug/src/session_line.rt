@@ -1,0 +1,129 @@
+//! The lines of a session, each read by its form. A line is given without its line feed.
+
+ghost use Rattle.std.specs.Prelude.{ℕ, ◌≡◌, ◌<◌, ◌≤◌, ◌^◌, IfSome};
+ghost use Rattle.m36_text.specs.Lines.{words_of};
+ghost use Rattle.m36_debug.specs.SessionLines.{one_word, two_words, three_words, line_of_words, steps_in, session_line, IsBounded};
+
+use m36_text::{first_word, is_text, octal_in, only_word, plain_decimal_in};
+
+/// The most bytes of a line that is known.
+const LONGEST_LINE: usize = 256;
+
+/// The most steps of a line.
+const MOST_STEPS: u64 = 1_000_000;
+
+/// What a line says.
+#[derive(Clone, Copy, PartialEq, Eq, Debug)]
+pub enum SessionLine {
+    /// `step`, `step N`: takes so many steps.
+    Step(u32),
+    /// `go`: runs up to a break.
+    Go,
+    /// `break S W`: a segment, and a word of it.
+    Break(u16, u32),
+    /// `regs`: tells the registers.
+    Regs,
+    /// `seg S W`: tells a word of a segment.
+    Seg(u16, u32),
+    /// `where`: tells where the machine stands.
+    Where,
+    /// `back`, `back N`: goes back so many steps.
+    Back(u32),
+    /// `quit`: ends the session.
+    Quit,
+    /// An empty line.
+    Empty,
+    /// Any other line.
+    Unknown,
+}
+
+fn one_word(word: &[u8]) -> SessionLine
+    ensures value { result ≡ one_word word.now }
+    ensures bounds { IsBounded result }
+{
+    if is_text(b"", word) {
+        SessionLine::Empty
+    } else if is_text(b"step", word) {
+        SessionLine::Step(1)
+    } else if is_text(b"go", word) {
+        SessionLine::Go
+    } else if is_text(b"regs", word) {
+        SessionLine::Regs
+    } else if is_text(b"where", word) {
+        SessionLine::Where
+    } else if is_text(b"back", word) {
+        SessionLine::Back(1)
+    } else if is_text(b"quit", word) {
+        SessionLine::Quit
+    } else {
+        SessionLine::Unknown
+    }
+}
+
+// A number of steps.
+fn steps_in(word: &[u8]) -> Option<u64>
+    ensures value { result ≡ steps_in word.now }
+    ensures bound { IfSome result (λ n. n ≤ 1000000) }
+{
+    plain_decimal_in(word, 1, MOST_STEPS)
+}
+
+fn two_words(word: &[u8], number: &[u8]) -> SessionLine
+    ensures value { result ≡ two_words word.now number.now }
+    ensures bounds { IsBounded result }
+{
+    let is_step = is_text(b"step", word);
+    if !is_step && !is_text(b"back", word) {
+        return SessionLine::Unknown;
+    }
+    match steps_in(number) {
+        Some(n) if is_step => SessionLine::Step(n as u32),
+        Some(n) => SessionLine::Back(n as u32),
+        None => SessionLine::Unknown,
+    }
+}
+
+fn three_words(word: &[u8], seg: &[u8], place: &[u8]) -> SessionLine
+    ensures value { result ≡ three_words word.now seg.now place.now }
+    ensures bounds { IsBounded result }
+{
+    let is_break = is_text(b"break", word);
+    if !is_break && !is_text(b"seg", word) {
+        return SessionLine::Unknown;
+    }
+    match (octal_in(seg, 5), octal_in(place, 6)) {
+        (Some(seg), Some(place)) if is_break => SessionLine::Break(seg as u16, place as u32),
+        (Some(seg), Some(place)) => SessionLine::Seg(seg as u16, place as u32),
+        _ => SessionLine::Unknown,
+    }
+}
+
+fn line_of_words(line: &[u8]) -> SessionLine
+    ensures value { result ≡ line_of_words (words_of line.now) }
+    ensures bounds { IsBounded result }
+{
+    let (word, rest) = first_word(line);
+    let Some(rest) = rest else {
+        return one_word(word);
+    };
+    let (second, rest) = first_word(rest);
+    let Some(rest) = rest else {
+        return two_words(word, second);
+    };
+    match only_word(rest) {
+        Some(third) => three_words(word, second, third),
+        None => SessionLine::Unknown,
+    }
+}
+
+/// What a line says.
+#[tactic(auto, unfolding(crate::specs::SessionLines::session_line))]
+pub fn session_line(line: &[u8]) -> SessionLine
+    ensures value { result ≡ session_line line.now }
+    ensures bounds { IsBounded result }
+{
+    if line.len() > LONGEST_LINE {
+        return SessionLine::Unknown;
+    }
+    line_of_words(line)
+}

@@ -1,0 +1,110 @@
+//! What a session remembers.
+
+ghost use Rattle.std.specs.Prelude.{ℕ, ◌≡◌, ◌≤◌, ◌<◌, ◌-◌, ◌^◌, nat_le, nat_lt, length};
+ghost use Rattle.m36_debug.specs.Commands.{is_at_break, after_turn};
+ghost use Rattle.m36_debug.specs.Sitting.{new_sitting, sitting_after, sitting_before, sitting_with, most_breaks};
+
+use crate::commands::{Break, Further, Run, after_turn, is_at_break};
+use arrayvec::ArrayVec;
+use m36_model::{End, Regs};
+use m36_step::Turn;
+use std::marker::Model;
+
+/// How many steps were taken and not taken back, how the run has ended, if it has, and where `go` stops.
+#[derive(Drop)]
+pub(crate) struct Sitting {
+    taken: u64,
+    ended: Option<End>,
+    breaks: ArrayVec<Break, 16>,
+}
+
+impl Model for Sitting {
+    ghost use Rattle.std.specs.Prelude.{◌<◌, ◌^◌};
+    ghost use Rattle.m36_debug.specs.Sitting.{SittingFields};
+
+    ghost Value = { SittingFields };
+
+    ghost view = { λ s. record { taken = s.taken; ended = s.ended; breaks = s.breaks.items } };
+
+    ghost invariant = { λ s. s.taken < 2 ^ 64 };
+}
+
+impl Sitting {
+    /// Nothing was taken yet.
+    pub(crate) fn new() -> Sitting
+        ensures { result ≡ new_sitting }
+    {
+        Sitting {
+            taken: 0,
+            ended: None,
+            breaks: ArrayVec::new(),
+        }
+    }
+
+    /// How many steps were taken and not taken back.
+    pub(crate) fn taken(&self) -> u64
+        ensures { result ≡ self.now.taken }
+    {
+        self.taken
+    }
+
+    /// Whether so many steps were taken.
+    pub(crate) fn has_taken(&self, n: u32) -> bool
+        ensures { result ≡ nat_le n self.now.taken }
+    {
+        n as u64 <= self.taken
+    }
+
+    /// How the run has ended, if it has.
+    pub(crate) fn ended(&self) -> Option<End>
+        ensures { result ≡ self.now.ended }
+    {
+        self.ended
+    }
+
+    /// What a command does after a turn that left these registers.
+    pub(crate) fn further(&self, run: Run, regs: &Regs, turn: &Turn) -> Further
+        ensures { result ≡ after_turn run (is_at_break regs.now.ppr self.now.breaks) turn.now }
+    {
+        after_turn(run, is_at_break(regs.ppr, self.breaks.as_slice()), turn)
+    }
+
+    /// Notes a turn.
+    #[tactic(auto, unfolding(crate::specs::Sitting::sitting_after))]
+    pub(crate) fn note(&mut self, turn: &Turn)
+        requires { self.old.taken < 2 ^ 64 - 1 }
+        ensures { self.new ≡ sitting_after self.old turn.now }
+    {
+        match turn {
+            Turn::Stepped(_) => self.taken += 1,
+            Turn::Ended(end) => self.ended = Some(*end),
+            Turn::Linked(_) | Turn::Console(_) | Turn::Full | Turn::NoMemory => {}
+        }
+    }
+
+    /// Notes that so many steps were taken back.
+    pub(crate) fn note_back(&mut self, n: u32)
+        requires { n ≤ self.old.taken }
+        ensures { self.new ≡ sitting_before self.old n }
+    {
+        self.taken -= n as u64;
+        self.ended = None;
+    }
+
+    /// Whether there is room for one more break.
+    pub(crate) fn has_room(&self) -> bool
+        ensures { result ≡ nat_lt (length self.now.breaks) most_breaks }
+    {
+        self.breaks.len() < 16
+    }
+
+    /// Adds a break, where there is room for it.
+    pub(crate) fn add(&mut self, seg: u16, word: u32)
+        ensures sitting { self.new ≡ sitting_with self.old seg word }
+        ensures taken { self.new.taken ≡ self.old.taken }
+    {
+        if self.has_room() {
+            self.breaks.push(Break { word, seg });
+        }
+    }
+}

@@ -1,0 +1,135 @@
+//! Lines that tell one thing, each put to the output.
+
+ghost use Rattle.std.specs.Prelude.{ℕ, ◌≡◌, ◌≤◌, ◌<◌, ◌+◌, ◌-◌, ◌^◌, ◌++◌, [], ◌∷◌, length, take};
+ghost use Rattle.m36_trace.specs.TraceLine.{word_of_segment};
+ghost use Rattle.m36_debug.specs.Putting.{PutsLines, seen};
+ghost use Rattle.m36_debug.specs.SessionTexts.{where_line, break_line, seg_line, end_line, unknown_line, turn_lines};
+
+use crate::putting::{put_characters, put_text};
+use arrayvec::{ArrayString, ArrayVec};
+use m36_model::{End, Regs};
+use m36_outside::{Put, Sink};
+use m36_step::Turn;
+use m36_text::octal;
+use m36_trace::line;
+use m36_turns::put::put;
+use m36_turns::{console_line, link_line, run_end_line};
+use m36_word::Word;
+
+/// How many bytes of an unknown line are shown.
+const SHOWN: usize = 64;
+
+/// Adds a segment and a word of it.
+pub(crate) fn push_place(text: &mut ArrayString<80>, seg: u16, word: u32)
+    requires seg { seg < 2 ^ 15 }
+    requires word { word < 2 ^ 18 }
+    requires room { length text.old.bytes + 12 ≤ 80 }
+    ensures text { text.new.bytes ≡ text.old.bytes ++ word_of_segment seg word }
+    ensures len { length text.new.bytes ≡ length text.old.bytes + 12 }
+{
+    text.push_str(octal(seg as u64, 5).as_str());
+    text.push_str("|");
+    text.push_str(octal(word as u64, 6).as_str());
+}
+
+/// Tells where a machine stands.
+#[tactic(auto, unfolding(crate::specs::SessionTexts::where_line))]
+pub(crate) fn put_where<S: Sink>(out: &mut S, regs: &Regs) -> Put
+    ensures { PutsLines result
+        (seen (S.written out.old) (S.taken out.old) (S.faults out.old))
+        (seen (S.written out.new) (S.taken out.new) (S.faults out.new)) (where_line regs.now.ppr ∷ []) }
+{
+    let place = regs.ppr;
+    let mut text = ArrayString::new();
+    text.push_str(octal(place.prr as u64, 1).as_str());
+    text.push_str(" ");
+    push_place(&mut text, place.psr, place.ic);
+    put_text(out, text)
+}
+
+/// Tells a break.
+#[tactic(auto, unfolding(crate::specs::SessionTexts::break_line))]
+pub(crate) fn put_break<S: Sink>(out: &mut S, seg: u16, word: u32) -> Put
+    requires seg { seg < 2 ^ 15 }
+    requires word { word < 2 ^ 18 }
+    ensures { PutsLines result
+        (seen (S.written out.old) (S.taken out.old) (S.faults out.old))
+        (seen (S.written out.new) (S.taken out.new) (S.faults out.new)) (break_line seg word ∷ []) }
+{
+    let mut text = ArrayString::new();
+    text.push_str("break ");
+    push_place(&mut text, seg, word);
+    put_text(out, text)
+}
+
+/// Tells a word of a segment, where it has a place.
+#[tactic(auto, unfolding(crate::specs::SessionTexts::seg_line))]
+pub(crate) fn put_seg<S: Sink>(out: &mut S, seg: u16, word: u32, content: Option<Word>) -> Put
+    requires seg { seg < 2 ^ 15 }
+    requires word { word < 2 ^ 18 }
+    ensures { PutsLines result
+        (seen (S.written out.old) (S.taken out.old) (S.faults out.old))
+        (seen (S.written out.new) (S.taken out.new) (S.faults out.new)) (seg_line seg word content ∷ []) }
+{
+    let mut text = ArrayString::new();
+    push_place(&mut text, seg, word);
+    text.push_str(" ");
+    match content {
+        Some(word) => text.push_str(octal(word.value(), 12).as_str()),
+        None => text.push_str("absent"),
+    }
+    put_text(out, text)
+}
+
+/// Tells how a run has ended, after so many steps.
+#[tactic(auto, unfolding(crate::specs::SessionTexts::end_line))]
+pub(crate) fn put_end<S: Sink>(out: &mut S, end: End, taken: u64) -> Put
+    ensures { PutsLines result
+        (seen (S.written out.old) (S.taken out.old) (S.faults out.old))
+        (seen (S.written out.new) (S.taken out.new) (S.faults out.new)) (end_line end taken ∷ []) }
+{
+    put_text(out, run_end_line(end, taken))
+}
+
+// What is shown of an unknown line.
+#[tactic(auto, using(crate::proofs::PutLaws::shown_whole))]
+fn shown(line: &[u8]) -> &[u8]
+    ensures value { result.now ≡ take 64 line.now }
+    ensures len { length result.now ≤ 64 }
+{
+    if line.len() <= SHOWN {
+        line
+    } else {
+        &line[..SHOWN]
+    }
+}
+
+/// Shows a line that is not known, up to its 64th byte.
+#[tactic(auto, unfolding(crate::specs::SessionTexts::unknown_line))]
+pub(crate) fn put_unknown<S: Sink>(out: &mut S, line: &[u8]) -> Put
+    ensures { PutsLines result
+        (seen (S.written out.old) (S.taken out.old) (S.faults out.old))
+        (seen (S.written out.new) (S.taken out.new) (S.faults out.new)) (unknown_line line.now ∷ []) }
+{
+    let mut text: ArrayVec<u8, 80> = ArrayVec::new();
+    put(&mut text, b"? ");
+    put(&mut text, shown(line));
+    put_characters(out, text)
+}
+
+/// Tells a turn, where so many steps were taken before it.
+#[tactic(auto, unfolding(crate::specs::SessionTexts::turn_lines), using(crate::proofs::PutLaws::puts_nothing))]
+pub(crate) fn put_turn<S: Sink>(out: &mut S, taken: u64, turn: &Turn) -> Put
+    requires { taken < 2 ^ 64 - 1 }
+    ensures { PutsLines result
+        (seen (S.written out.old) (S.taken out.old) (S.faults out.old))
+        (seen (S.written out.new) (S.taken out.new) (S.faults out.new)) (turn_lines taken turn.now) }
+{
+    match turn {
+        Turn::Stepped(told) => put_text(out, line(taken + 1, told)),
+        Turn::Linked(note) => put_characters(out, link_line(note)),
+        Turn::Console(note) => put_characters(out, console_line(note)),
+        Turn::Ended(end) => put_end(out, *end, taken),
+        Turn::Full | Turn::NoMemory => Put::Done,
+    }
+}

@@ -1,0 +1,158 @@
+//! Turns that a command takes.
+
+ghost use Rattle.std.specs.Prelude.{ℕ, ◌≡◌, ◌≤◌, ◌<◌, ◌+◌, ◌-◌, ◌^◌, [], ◌∷◌};
+ghost use Rattle.m36_debug.specs.Parts.{CameSays, CameServed, CameCounts, EndSays, is_service, came_of, told_turn};
+ghost use Rattle.m36_debug.specs.Putting.{PutsLines, seen};
+ghost use Rattle.m36_debug.specs.Session.{Running, standing, turning, go_says, command_says};
+
+use crate::commands::{Command, Further, Run};
+use crate::sitting::Sitting;
+use crate::texts::{put_end, put_turn, put_where};
+use m36_model::Regs;
+use m36_outside::{Put, Sink};
+use m36_step::{Stepper, Turn};
+
+/// What a turn that a command takes came to. What it says is written but for the last case.
+#[derive(Clone, Copy, PartialEq, Eq, Debug)]
+pub enum Came {
+    /// The command takes another turn; the flag says that this one was a service.
+    Runs(Run, bool),
+    /// The command is through.
+    Waits,
+    /// The turn found no memory.
+    Starves,
+    /// What the turn says could not be written.
+    Cut,
+}
+
+/// How a command, a line or several lines ended. What they say is written but for the last case.
+#[derive(Clone, Copy, PartialEq, Eq, Debug)]
+pub enum Ends {
+    /// The next line is waited for.
+    Line,
+    /// The session is over.
+    Quit,
+    /// No memory was found.
+    Starved,
+    /// What they say could not be written.
+    Cut,
+}
+
+// Tells where `go` has come to, once it is through.
+#[tactic(auto, using(crate::proofs::PutLaws::puts_nothing))]
+fn put_go<S: Sink>(out: &mut S, regs: &Regs, sitting: &Sitting, next: Further) -> Put
+    ensures { PutsLines result
+        (seen (S.written out.old) (S.taken out.old) (S.faults out.old))
+        (seen (S.written out.new) (S.taken out.new) (S.faults out.new)) (go_says regs.now sitting.now next) }
+{
+    match next {
+        Further::Runs(_) | Further::Starves => Put::Done,
+        Further::Waits => match sitting.ended() {
+            Some(end) => put_end(out, end, sitting.taken()),
+            None => put_where(out, regs),
+        },
+    }
+}
+
+// Tells what a turn of a command says.
+fn put_command<S: Sink>(
+    out: &mut S,
+    command: Command,
+    taken: u64,
+    regs: &Regs,
+    sitting: &Sitting,
+    turn: &Turn,
+    next: Further,
+) -> Put
+    requires { taken < 2 ^ 64 - 1 }
+    ensures { PutsLines result
+        (seen (S.written out.old) (S.taken out.old) (S.faults out.old))
+        (seen (S.written out.new) (S.taken out.new) (S.faults out.new))
+        (command_says command regs.now taken sitting.now turn.now next) }
+{
+    match command {
+        Command::Step => put_turn(out, taken, turn),
+        Command::Go => put_go(out, regs, sitting, next),
+    }
+}
+
+fn is_service(turn: &Turn) -> bool
+    ensures { result ≡ is_service turn.now }
+{
+    match turn {
+        Turn::Linked(_) | Turn::Console(_) => true,
+        Turn::Stepped(_) | Turn::Ended(_) | Turn::Full | Turn::NoMemory => false,
+    }
+}
+
+fn came_of(turn: &Turn, next: Further) -> Came
+    ensures { result ≡ came_of turn.now next }
+{
+    match next {
+        Further::Runs(run) => Came::Runs(run, is_service(turn)),
+        Further::Waits => Came::Waits,
+        Further::Starves => Came::Starves,
+    }
+}
+
+fn told_turn(put: Put, turn: &Turn, next: Further) -> Came
+    ensures { result ≡ told_turn put turn.now next }
+{
+    match put {
+        Put::Done => came_of(turn, next),
+        Put::Failed => Came::Cut,
+    }
+}
+
+/// Takes a turn of a command, and writes what it says.
+pub(crate) fn take_turn<M: Stepper, S: Sink>(
+    m: &mut M,
+    run: Run,
+    sitting: &mut Sitting,
+    out: &mut S,
+) -> Came
+    requires { sitting.old.taken < 2 ^ 64 - 1 }
+    ensures says { CameSays (turning M.regs M.content M.next M.went) result
+        (standing sitting.old (Running run)) m.old sitting.new m.new
+        (seen (S.written out.old) (S.taken out.old) (S.faults out.old))
+        (seen (S.written out.new) (S.taken out.new) (S.faults out.new)) }
+    ensures served { CameServed (turning M.regs M.content M.next M.went) result m.old m.new }
+    ensures counts { CameCounts result run.left sitting.old.taken sitting.new.taken }
+{
+    let taken = sitting.taken();
+    let turn = m.turn();
+    sitting.note(&turn);
+    let regs = m.regs();
+    let next = sitting.further(run, regs, &turn);
+    let put = put_command(out, run.command, taken, regs, sitting, &turn, next);
+    told_turn(put, &turn, next)
+}
+
+/// Takes the turns of a command, and writes what they say.
+pub(crate) fn run_command<M: Stepper, S: Sink>(
+    m: &mut M,
+    first: Run,
+    sitting: &mut Sitting,
+    out: &mut S,
+) -> Ends
+    requires { sitting.old.taken + first.left + 2 < 2 ^ 64 }
+    ensures says { EndSays (turning M.regs M.content M.next M.went) result
+        (standing sitting.old (Running first)) m.old [] sitting.new m.new
+        (seen (S.written out.old) (S.taken out.old) (S.faults out.old))
+        (seen (S.written out.new) (S.taken out.new) (S.faults out.new)) }
+    ensures taken { sitting.new.taken ≤ sitting.old.taken + first.left + 1 }
+{
+    let mut run = first;
+    let mut served = false;
+    'turns: loop {
+        match take_turn(m, run, sitting, out) {
+            Came::Runs(next, service) => {
+                run = next;
+                served = service;
+            }
+            Came::Waits => return Ends::Line,
+            Came::Starves => return Ends::Starved,
+            Came::Cut => return Ends::Cut,
+        }
+    }
+}

@@ -1,0 +1,249 @@
+-- Ends of a command that holds a session.
+use Rattle.std.proofs.Common.{◌≡◌, ℕ, ◌⊎◌, List, ◌++◌, Result, Ok, Err, inl, inr, refl, sym, ap, subst}
+use Rattle.std.specs.Prelude.{codes}
+use Rattle.std.proofs.lemmas.List.{append-nil}
+use Rattle.m36_model.specs.Store.{State}
+use Rattle.m36_step.specs.MachineFields.{MachineFields}
+use Rattle.m36_back.specs.History.{History}
+use Rattle.m36_super.specs.SuperFields.{SuperFields}
+use Rattle.m36_booted.specs.Folder.{FolderFields}
+use Rattle.m36_booted.specs.Systems.{IsFresh}
+use Rattle.m36_reading.specs.declared.refusal.Refusal.{Refusal}
+use Rattle.m36_reading.specs.declared.status.Status.{Status}
+use Rattle.m36_reading.specs.declared.status.Status.TheVariants.{Done}
+use Rattle.m36_reading.specs.declared.status.Status.TheVariants as status
+use Rattle.m36_reading.specs.Asking.{Came}
+use Rattle.m36_reading.specs.Answers.{status_of}
+use Rattle.m36_reading.specs.Outside.{FolderState, SinkState}
+use Rattle.m36_reading.specs.Ends.{End, Answered, Cut, Unread, Starved, Unasked, end_of}
+use Rattle.m36_reading.specs.Doing.{EndsBy, Performs}
+use Rattle.m36_debug.specs.declared.fault.SessionFault.{SessionFault}
+use Rattle.m36_debug.specs.declared.fault.SessionFault.TheVariants as fault
+use Rattle.m36_debug.specs.Session.{Turning}
+use Rattle.m36_debug.specs.SessionSays.{SessionSays}
+use Rattle.m36_sessions.specs.Held.{Talk, IsHeld, new_history, past_turning, super_turning, HoldsImage, HoldsFolder}
+use Rattle.m36_sessions.specs.Sessions.{Told, too_long, stdin_name, session_answer, session_kind, folder_kind, InputStands, session_status, sink_seen, PutsSession, PutsBy}
+
+-- ---- a session was held
+
+put_of :
+    {M : Type 0} (o : Turning M) (ended : Result (Unit {0}) SessionFault) (m m' : M) (talk : Talk) (old new : SinkState)
+    → SessionSays o ended m m' talk.before talk.after (sink_seen old) (sink_seen new)
+    → PutsSession (IsHeld o m talk) ended old new
+put_of o ended m m' talk old new says =
+    record { lines = says.lines; holds = record { later = m'; session = says.session }; puts = says.wrote }
+
+puts_by :
+    {M : Type 0} (o : Turning M) (ended : Result (Unit {0}) SessionFault) (m m' : M) (talk : Talk) (old new : SinkState)
+    → SessionSays o ended m m' talk.before talk.after (sink_seen old) (sink_seen new)
+    → PutsBy (IsHeld o m talk) (end_of (session_status ended stdin_name)) (session_status ended stdin_name) talk old new
+puts_by o (Ok done) m m' talk old new says = inl (record { is = refl; puts = put_of o (Ok done) m m' talk old new says })
+puts_by o (Err fault.ReadFault) m m' talk old new says = put_of o (Err fault.ReadFault) m m' talk old new says
+puts_by o (Err fault.WriteFault) m m' talk old new says = put_of o (Err fault.WriteFault) m m' talk old new says
+puts_by o (Err fault.TooLong) m m' talk old new says = inr (record { is = refl; puts = put_of o (Err fault.TooLong) m m' talk old new says })
+puts_by o (Err fault.NoMemory) m m' talk old new says = inr (put_of o (Err fault.NoMemory) m m' talk old new says)
+
+-- its status is that of how it ended
+pub held_puts :
+    {M : Type 0} (o : Turning M) (result : Status) (name : List ℕ) (ended : Result (Unit {0}) SessionFault) (m m' : M) (talk : Talk) (old new : SinkState)
+    → name ≡ codes "stdin" → result ≡ session_status ended name
+    → SessionSays o ended m m' talk.before talk.after (sink_seen old) (sink_seen new)
+    → PutsBy (IsHeld o m talk) (end_of result) result talk old new
+held_puts o result name ended m m' talk old new named is says =
+    subst (λ (r : Status). PutsBy (IsHeld o m talk) (end_of r) r talk old new) (sym is)
+    (subst (λ n. PutsBy (IsHeld o m talk) (end_of (session_status ended n)) (session_status ended n) talk old new) (sym named) (puts_by o ended m m' talk old new says))
+
+input_by :
+    {M : Type 0} (o : Turning M) (ended : Result (Unit {0}) SessionFault) (name : List ℕ) (m m' : M) (talk : Talk) (old new : SinkState)
+    → SessionSays o ended m m' talk.before talk.after (sink_seen old) (sink_seen new)
+    → InputStands (end_of (session_status ended name)) talk
+input_by o (Ok done) name m m' talk old new says = says.session.read_cause
+input_by o (Err fault.ReadFault) name m m' talk old new says = tt
+input_by o (Err fault.WriteFault) name m m' talk old new says = says.session.read_cause
+input_by o (Err fault.TooLong) name m m' talk old new says = says.session.read_cause
+input_by o (Err fault.NoMemory) name m m' talk old new says = says.session.read_cause
+
+pub held_input :
+    {M : Type 0} (o : Turning M) (result : Status) (name : List ℕ) (ended : Result (Unit {0}) SessionFault) (m m' : M) (talk : Talk) (old new : SinkState)
+    → result ≡ session_status ended name
+    → SessionSays o ended m m' talk.before talk.after (sink_seen old) (sink_seen new)
+    → InputStands (end_of result) talk
+held_input o result name ended m m' talk old new is says =
+    subst (λ (r : Status). InputStands (end_of r) talk) (sym is) (input_by o ended name m m' talk old new says)
+
+-- ---- none was held
+
+pub none_puts :
+    (Holds : Told) (talk : Talk) (now : SinkState) → talk.after ≡ talk.before
+    → PutsBy Holds (end_of status.NoMemory) status.NoMemory talk now now
+none_puts Holds talk now untaken = inl (record { same = refl; untaken = untaken })
+
+stands_same : (end : End) (talk : Talk) → talk.after ≡ talk.before → InputStands end talk
+stands_same Unread talk same = tt
+stands_same Answered talk same = ap (λ l. l.faults) same
+stands_same Cut talk same = ap (λ l. l.faults) same
+stands_same Starved talk same = ap (λ l. l.faults) same
+stands_same Unasked talk same = ap (λ l. l.faults) same
+
+-- nothing was taken of the input
+pub input_same : (result : Status) (talk : Talk) → talk.after ≡ talk.before → InputStands (end_of result) talk
+input_same result talk same = stands_same (end_of result) talk same
+
+-- ---- over what
+
+puts_more :
+    (A B : Told) (end : End) (result : Status) (talk : Talk) (old new : SinkState)
+    → ((ended : Result (Unit {0}) SessionFault) (lines : List (List ℕ)) → A ended lines → B ended lines)
+    → PutsBy A end result talk old new → PutsBy B end result talk old new
+puts_more A B Answered result talk old new more (inl p) =
+    inl (record { is = p.is; puts = record { lines = p.puts.lines; holds = more (Ok tt) p.puts.lines p.puts.holds; puts = p.puts.puts } })
+puts_more A B Answered result talk old new more (inr p) =
+    inr (record { is = p.is; puts = record { lines = p.puts.lines; holds = more (Err fault.TooLong) p.puts.lines p.puts.holds; puts = p.puts.puts } })
+puts_more A B Cut result talk old new more p =
+    record { lines = p.lines; holds = more (Err fault.WriteFault) p.lines p.holds; puts = p.puts }
+puts_more A B Unread result talk old new more p =
+    record { lines = p.lines; holds = more (Err fault.ReadFault) p.lines p.holds; puts = p.puts }
+puts_more A B Starved result talk old new more (inl p) = inl p
+puts_more A B Starved result talk old new more (inr p) =
+    inr (record { lines = p.lines; holds = more (Err fault.NoMemory) p.lines p.holds; puts = p.puts })
+puts_more A B Unasked result talk old new more p = absurd p
+
+-- the machine of an image
+pub image_puts :
+    (state : State (List ℕ)) (past : History MachineFields) (result : Status) (talk : Talk) (old new : SinkState)
+    → past ≡ new_history state
+    → PutsBy (IsHeld past_turning past talk) (end_of result) result talk old new
+    → PutsBy (HoldsImage talk state) (end_of result) result talk old new
+image_puts state past result talk old new is puts =
+    subst (λ (h : History MachineFields). PutsBy (IsHeld past_turning h talk) (end_of result) result talk old new) is puts
+
+-- a booted system
+pub folder_puts :
+    (system : SuperFields) (result : Status) (talk : Talk) (old new : SinkState)
+    → IsFresh system
+    → PutsBy (IsHeld super_turning system talk) (end_of result) result talk old new
+    → PutsBy (HoldsFolder talk system.lib) (end_of result) result talk old new
+folder_puts system result talk old new fresh puts =
+    puts_more (IsHeld super_turning system talk) (HoldsFolder talk system.lib) (end_of result) result talk old new
+    (λ ended lines held. record { system = system; booted = fresh; held = held }) puts
+
+-- ---- with the folder, in which nothing changes
+
+ends_put :
+    {D : Type 0} (Holds : D → Told) (d : D) (end : End) (result : Status) (talk : Talk) (f : FolderState) (s s' : SinkState)
+    → PutsBy (Holds d) end result talk s s'
+    → EndsBy (session_kind Holds talk) (λ c. c ≡ Came (Ok d)) end result (record { folder = f; sink = s }) (record { folder = f; sink = s' })
+ends_put Holds d Answered result talk f s s' (inl p) = record {
+  given = Ok d;
+  came = refl;
+  due = session_answer Done p.puts.lines;
+  is_due = inl (record { lines = p.puts.lines; holds = p.puts.holds; answer = refl });
+  made = record {
+    status = sym p.is;
+    files = refl;
+    wrote = sym (append-nil f.wrote);
+    text = p.puts.puts.text;
+    pieces = p.puts.puts.pieces;
+    read_faults = refl;
+    write_faults = refl;
+    put_faults = p.puts.puts.faults;
+  };
+}
+ends_put Holds d Answered result talk f s s' (inr p) = record {
+  given = Ok d;
+  came = refl;
+  due = session_answer (too_long stdin_name) p.puts.lines;
+  is_due = inr (record { lines = p.puts.lines; holds = p.puts.holds; answer = refl });
+  made = record {
+    status = sym p.is;
+    files = refl;
+    wrote = sym (append-nil f.wrote);
+    text = p.puts.puts.text;
+    pieces = p.puts.puts.pieces;
+    read_faults = refl;
+    write_faults = refl;
+    put_faults = p.puts.puts.faults;
+  };
+}
+ends_put Holds d Cut result talk f s s' p = record {
+  given = d;
+  came = refl;
+  due = session_answer status.WriteFault p.lines;
+  begun = record { lines = p.lines; holds = p.holds; answer = refl };
+  cut = inr (record {
+    files = refl;
+    wrote = sym (append-nil f.wrote);
+    text = p.puts.text;
+    pieces = p.puts.pieces;
+    cause = p.puts.cause;
+    read_faults = refl;
+    write_faults = refl;
+  });
+}
+ends_put Holds d Unread result talk f s s' p = inr (record {
+  given = d;
+  came = refl;
+  fails = record {
+    lines = p.lines;
+    holds = p.holds;
+    files = refl;
+    wrote = refl;
+    text = p.puts.text;
+    pieces = p.puts.pieces;
+    write_faults = refl;
+    put_faults = p.puts.faults;
+  };
+  read_faults = refl;
+})
+ends_put Holds d Starved result talk f s s' (inl p) = inr (record {
+  given = d;
+  came = refl;
+  wants = inl (record {
+    idle = record {
+      files = refl;
+      wrote = refl;
+      write_faults = refl;
+      written = ap (λ (t : SinkState). t.written) p.same;
+      taken = ap (λ (t : SinkState). t.taken) p.same;
+      put_faults = ap (λ (t : SinkState). t.faults) p.same;
+    };
+    untaken = p.untaken;
+  });
+  read_faults = refl;
+})
+ends_put Holds d Starved result talk f s s' (inr p) = inr (record {
+  given = d;
+  came = refl;
+  wants = inr (record {
+    lines = p.lines;
+    holds = p.holds;
+    files = refl;
+    wrote = refl;
+    text = p.puts.text;
+    pieces = p.puts.pieces;
+    write_faults = refl;
+    put_faults = p.puts.faults;
+  });
+  read_faults = refl;
+})
+ends_put Holds d Unasked result talk f s s' p = absurd p
+
+pub performs_put :
+    {D : Type 0} (Holds : D → Told) (d : D) (result : Status) (talk : Talk) (f : FolderState) (s s' : SinkState)
+    → PutsBy (Holds d) (end_of result) result talk s s'
+    → Performs (session_kind Holds talk) (Ok d) result (record { folder = f; sink = s }) (record { folder = f; sink = s' })
+performs_put Holds d result talk f s s' p = ends_put Holds d (end_of result) result talk f s s' p
+
+-- over the system to which a folder boots
+pub performs_booted :
+    (given : FolderFields) (result : Status) (talk : Talk) (f : FolderState) (s s' : SinkState)
+    → PutsBy (HoldsFolder talk given.lib) (end_of result) result talk s s'
+    → Performs (folder_kind talk) (Ok given) result (record { folder = f; sink = s }) (record { folder = f; sink = s' })
+performs_booted given result talk f s s' p =
+    performs_put (λ (g : FolderFields). HoldsFolder talk g.lib) given result talk f s s' p
+
+-- what a session over an image, or over a system, takes by `using`
+pub ruleset over = (none_puts, input_same, image_puts, folder_puts)
+
+-- nothing was taken of the input, where a file was refused
+pub ruleset performs = (performs_put, performs_booted, input_same)

@@ -1,0 +1,146 @@
+-- What is due to a session, and what is written of it by how it ends.
+use Rattle.std.specs.Prelude.{ℕ, ◌≡◌, ⊤, ◌⊎◌, List, [], ◌++◌, codes, Result, Ok, Err}
+use Rattle.m36_outside.specs.Passing.{joined}
+use Rattle.m36_outside.specs.Written.{Grew}
+use Rattle.m36_model.specs.Store.{State}
+use Rattle.m36_reading.specs.declared.status.Code.TheVariants.{S1}
+use Rattle.m36_reading.specs.declared.status.Status.{Status}
+use Rattle.m36_reading.specs.declared.status.Status.TheVariants.{Done, BadFile}
+use Rattle.m36_reading.specs.declared.status.Status.TheVariants as status
+use Rattle.m36_reading.specs.Answers.{Answer}
+use Rattle.m36_reading.specs.Outside.{SinkState, Outside, IsIdle}
+use Rattle.m36_reading.specs.Ends.{End, Answered, Cut, Unread, Starved, Unasked}
+use Rattle.m36_reading.specs.Doing.{Kind}
+use Rattle.m36_booted.specs.Folder.{FolderFields}
+use Rattle.m36_debug.specs.declared.fault.SessionFault.{SessionFault}
+use Rattle.m36_debug.specs.declared.fault.SessionFault.TheVariants as fault
+use Rattle.m36_debug.specs.Putting.{SinkSeen, seen}
+use Rattle.m36_debug.specs.SessionSays.{WroteBy}
+use Rattle.m36_sessions.specs.Held.{Talk, HoldsImage, HoldsFolder}
+
+-- how a session ended, and the lines that are said of it
+abbrev pub Told : Type 1
+Told = Result (Unit {0}) SessionFault → List (List ℕ) → Type 0
+
+-- ---- answers
+
+-- S1: there is more input than a session takes
+abbrev pub too_long : List ℕ → Status
+too_long name = BadFile (record { name = name; code = S1; at = 0; column = 0 })
+
+abbrev pub stdin_name : List ℕ
+stdin_name = codes "stdin"
+
+-- the lines that are said of a session, each in one piece
+abbrev pub session_answer : Status → List (List ℕ) → Answer
+session_answer status lines =
+    record { sets = []; text = joined lines; pieces = lines; status = status }
+
+-- An answer is that of a session that ended so.
+pub record IsAnswerOf (Holds : Told) (ended : Result (Unit {0}) SessionFault) (status : Status)
+    (due : Answer) : Type 0 where
+  pub lines : List (List ℕ)
+  pub holds : Holds ended lines
+  pub answer : due ≡ session_answer status lines
+
+-- The session has come to `quit` or to the end of its input; or the input was too long, and none of
+-- the whole lines within the most is `quit`.
+abbrev pub IsSessionDue : Told → Answer → Type 0
+IsSessionDue Holds due =
+    IsAnswerOf Holds (Ok tt) Done due
+    ⊎ IsAnswerOf Holds (Err fault.TooLong) (too_long stdin_name) due
+
+-- The output could not be written.
+abbrev pub IsSessionBegun : Told → Answer → Type 0
+IsSessionBegun Holds due = IsAnswerOf Holds (Err fault.WriteFault) status.WriteFault due
+
+-- What is said of a session that ended so is written whole.
+pub record IsWritten (Holds : Told) (ended : Result (Unit {0}) SessionFault) (old new : Outside)
+    : Type 0 where
+  pub lines : List (List ℕ)
+  pub holds : Holds ended lines
+  pub files : new.folder.files ≡ old.folder.files
+  pub wrote : new.folder.wrote ≡ old.folder.wrote
+  pub text : Grew old.sink.written new.sink.written (joined lines)
+  pub pieces : new.sink.taken ≡ old.sink.taken ++ lines
+  pub write_faults : new.folder.write_faults ≡ old.folder.write_faults
+  pub put_faults : new.sink.faults ≡ old.sink.faults
+
+-- Memory is wanted before a session, of which nothing is taken or written then; or in it.
+pub record IsNotHeld (talk : Talk) (old new : Outside) : Type 0 where
+  pub idle : IsIdle old new
+  pub untaken : talk.after ≡ talk.before
+
+abbrev pub SessionWants : Told → Talk → Outside → Outside → Type 0
+SessionWants Holds talk old new =
+    IsNotHeld talk old new ⊎ IsWritten Holds (Err fault.NoMemory) old new
+
+-- The input could not be read.
+abbrev pub SessionFails : Told → Outside → Outside → Type 0
+SessionFails Holds old new = IsWritten Holds (Err fault.ReadFault) old new
+
+-- Sessions over whatever there is, by what holds of one over it.
+abbrev pub session_kind : {D : Type 0} → (D → Told) → Talk → Kind D
+session_kind Holds talk = record {
+  IsDue = λ d. IsSessionDue (Holds d);
+  IsBegun = λ d. IsSessionBegun (Holds d);
+  Wants = λ d. SessionWants (Holds d) talk;
+  Fails = λ d. SessionFails (Holds d);
+}
+
+abbrev pub image_kind : Talk → Kind (State (List ℕ))
+image_kind talk = session_kind (HoldsImage talk) talk
+
+abbrev pub folder_kind : Talk → Kind FolderFields
+folder_kind talk = session_kind (λ given. HoldsFolder talk given.lib) talk
+
+-- The count of faults of the input stands, but where it could not be read.
+abbrev pub InputStands : End → Talk → Type 0
+InputStands Unread talk = ⊤
+InputStands Answered talk = talk.after.faults ≡ talk.before.faults
+InputStands Cut talk = talk.after.faults ≡ talk.before.faults
+InputStands Starved talk = talk.after.faults ≡ talk.before.faults
+InputStands Unasked talk = talk.after.faults ≡ talk.before.faults
+
+-- ---- statuses
+
+-- by how a session ended; the standard input has this name
+abbrev pub session_status : Result (Unit {0}) SessionFault → List ℕ → Status
+session_status (Ok done) name = Done
+session_status (Err fault.ReadFault) name = status.ReadFault
+session_status (Err fault.WriteFault) name = status.WriteFault
+session_status (Err fault.TooLong) name = too_long name
+session_status (Err fault.NoMemory) name = status.NoMemory
+
+-- ---- what is put
+
+abbrev pub sink_seen : SinkState → SinkSeen
+sink_seen s = seen s.written s.taken s.faults
+
+-- what is said of a session that ended so is put, or some of it
+pub record PutsSession (Holds : Told) (ended : Result (Unit {0}) SessionFault) (old new : SinkState)
+    : Type 0 where
+  pub lines : List (List ℕ)
+  pub holds : Holds ended lines
+  pub puts : WroteBy ended (sink_seen old) (sink_seen new) lines
+
+-- with this status
+pub record PutsWith (Holds : Told) (ended : Result (Unit {0}) SessionFault) (status : Status)
+    (result : Status) (old new : SinkState) : Type 0 where
+  pub is : result ≡ status
+  pub puts : PutsSession Holds ended old new
+
+-- nothing was taken or put
+pub record PutsNone (talk : Talk) (old new : SinkState) : Type 0 where
+  pub same : new ≡ old
+  pub untaken : talk.after ≡ talk.before
+
+abbrev pub PutsBy : Told → End → Status → Talk → SinkState → SinkState → Type 0
+PutsBy Holds Answered result talk old new =
+    PutsWith Holds (Ok tt) Done result old new
+    ⊎ PutsWith Holds (Err fault.TooLong) (too_long stdin_name) result old new
+PutsBy Holds Cut result talk old new = PutsSession Holds (Err fault.WriteFault) old new
+PutsBy Holds Unread result talk old new = PutsSession Holds (Err fault.ReadFault) old new
+PutsBy Holds Starved result talk old new =
+    PutsNone talk old new ⊎ PutsSession Holds (Err fault.NoMemory) old new
+PutsBy Holds Unasked result talk old new = ⊥

@@ -1,0 +1,145 @@
+-- Each command does what its kind does.
+use Rattle.m36_reading.specs.Outside.{outside_of}
+use Rattle.m36_sessions.specs.Held.{talk_of}
+use Rattle.m36_top.proofs.Performing.{as_command, performs_bare, performs_audit, performs_booted, performs_procs, performs_access, performs_print, performs_alm, performs_bind, performs_debug_folder, performs_debug_image}
+use Rattle.m36_top.proofs.top.perform.Goals as goal
+
+pub returns-in-Bare-clause-does : goal.returns-in-Bare-clause-does
+returns-in-Bare-clause-does g c =
+    let f = g.F.Folder in
+    let s = g.S.Sink in
+    let i = g.L.Lines in
+    let at = outside_of f.files f.wrote f.read_faults f.write_faults s.written s.taken s.faults in
+    let talk = talk_of i.left i.given i.faults c.args.lines.now c.args.lines.now in
+    let old = at c.args.folder.now c.args.out.now in
+    let new = at c.image_file.new.folder c.image_file.new.out in
+    let before = f.asked c.args.folder.now in
+    let after = f.asked c.image_file.new.folder in
+    as_command talk c.args.command.now _ c.image_file.result old new before after c.in-Bare.is
+    (performs_bare talk c.in-Bare.file c.bytes.result.now c.in-Bare.run' c.image_file.result old new before after c.bytes.ensures.value c.image_file.ensures)
+
+pub returns-in-Audit-clause-does : goal.returns-in-Audit-clause-does
+returns-in-Audit-clause-does g c =
+    let f = g.F.Folder in
+    let s = g.S.Sink in
+    let i = g.L.Lines in
+    let at = outside_of f.files f.wrote f.read_faults f.write_faults s.written s.taken s.faults in
+    let talk = talk_of i.left i.given i.faults c.args.lines.now c.args.lines.now in
+    let old = at c.args.folder.now c.args.out.now in
+    let new = at c.image_file-in-Audit.new.folder c.image_file-in-Audit.new.out in
+    let before = f.asked c.args.folder.now in
+    let after = f.asked c.image_file-in-Audit.new.folder in
+    as_command talk c.args.command.now _ c.image_file-in-Audit.result old new before after c.in-Audit.is
+    (performs_audit talk c.in-Audit.file c.bytes-in-Audit.result.now c.image_file-in-Audit.result old new before after c.bytes-in-Audit.ensures.value c.image_file-in-Audit.ensures)
+
+pub returns-in-Booted-clause-does : goal.returns-in-Booted-clause-does
+returns-in-Booted-clause-does g c =
+    let f = g.F.Folder in
+    let s = g.S.Sink in
+    let i = g.L.Lines in
+    let at = outside_of f.files f.wrote f.read_faults f.write_faults s.written s.taken s.faults in
+    let talk = talk_of i.left i.given i.faults c.args.lines.now c.args.lines.now in
+    let old = at c.args.folder.now c.args.out.now in
+    let new = at c.folder_booted.new.folder c.folder_booted.new.out in
+    let before = f.asked c.args.folder.now in
+    let after = f.asked c.folder_booted.new.folder in
+    as_command talk c.args.command.now _ c.folder_booted.result old new before after c.in-Booted.is
+    (performs_booted talk c.in-Booted.command c.in-Booted.user c.folder_booted.result old new before after c.folder_booted.ensures)
+
+pub returns-in-Procs-clause-does : goal.returns-in-Procs-clause-does
+returns-in-Procs-clause-does g c =
+    let f = g.F.Folder in
+    let s = g.S.Sink in
+    let i = g.L.Lines in
+    let at = outside_of f.files f.wrote f.read_faults f.write_faults s.written s.taken s.faults in
+    let talk = talk_of i.left i.given i.faults c.args.lines.now c.args.lines.now in
+    let old = at c.args.folder.now c.args.out.now in
+    let new = at c.procs_file.new.folder c.procs_file.new.out in
+    let before = f.asked c.args.folder.now in
+    let after = f.asked c.procs_file.new.folder in
+    as_command talk c.args.command.now _ c.procs_file.result old new before after c.in-Procs.is
+    (performs_procs talk c.in-Procs.file c.bytes-in-Procs.result.now c.in-Procs.unaudited c.procs_file.result old new before after c.bytes-in-Procs.ensures.value c.procs_file.ensures)
+
+pub returns-in-Access-clause-does : goal.returns-in-Access-clause-does
+returns-in-Access-clause-does g c =
+    let f = g.F.Folder in
+    let s = g.S.Sink in
+    let i = g.L.Lines in
+    let at = outside_of f.files f.wrote f.read_faults f.write_faults s.written s.taken s.faults in
+    let talk = talk_of i.left i.given i.faults c.args.lines.now c.args.lines.now in
+    let old = at c.args.folder.now c.args.out.now in
+    let new = at c.access_user.new.folder c.access_user.new.out in
+    let before = f.asked c.args.folder.now in
+    let after = f.asked c.access_user.new.folder in
+    as_command talk c.args.command.now _ c.access_user.result old new before after c.in-Access.is
+    (performs_access talk c.in-Access.user c.access_user.result old new before after c.access_user.ensures)
+
+pub returns-in-Print-clause-does : goal.returns-in-Print-clause-does
+returns-in-Print-clause-does g c =
+    let f = g.F.Folder in
+    let s = g.S.Sink in
+    let i = g.L.Lines in
+    let at = outside_of f.files f.wrote f.read_faults f.write_faults s.written s.taken s.faults in
+    let talk = talk_of i.left i.given i.faults c.args.lines.now c.args.lines.now in
+    let old = at c.args.folder.now c.args.out.now in
+    let new = at c.print_file.new.folder c.print_file.new.out in
+    let before = f.asked c.args.folder.now in
+    let after = f.asked c.print_file.new.folder in
+    as_command talk c.args.command.now _ c.print_file.result old new before after c.in-Print.is
+    (performs_print talk c.in-Print.name c.bytes-in-Print.result.now c.print_file.result old new before after c.bytes-in-Print.ensures.value c.print_file.ensures)
+
+pub returns-in-Alm-clause-does : goal.returns-in-Alm-clause-does
+returns-in-Alm-clause-does g c =
+    let f = g.F.Folder in
+    let s = g.S.Sink in
+    let i = g.L.Lines in
+    let at = outside_of f.files f.wrote f.read_faults f.write_faults s.written s.taken s.faults in
+    let talk = talk_of i.left i.given i.faults c.args.lines.now c.args.lines.now in
+    let old = at c.args.folder.now c.args.out.now in
+    let new = at c.alm_file.new.folder c.alm_file.new.out in
+    let before = f.asked c.args.folder.now in
+    let after = f.asked c.alm_file.new.folder in
+    as_command talk c.args.command.now _ c.alm_file.result old new before after c.in-Alm.is
+    (performs_alm talk c.in-Alm.files c.alm_file.result old new before after c.alm_file.ensures)
+
+pub returns-in-Bind-clause-does : goal.returns-in-Bind-clause-does
+returns-in-Bind-clause-does g c =
+    let f = g.F.Folder in
+    let s = g.S.Sink in
+    let i = g.L.Lines in
+    let at = outside_of f.files f.wrote f.read_faults f.write_faults s.written s.taken s.faults in
+    let talk = talk_of i.left i.given i.faults c.args.lines.now c.args.lines.now in
+    let old = at c.args.folder.now c.args.out.now in
+    let new = at c.bind_file.new.folder c.bind_file.new.out in
+    let before = f.asked c.args.folder.now in
+    let after = f.asked c.bind_file.new.folder in
+    as_command talk c.args.command.now _ c.bind_file.result old new before after c.in-Bind.is
+    (performs_bind talk c.in-Bind.files c.bind_file.result old new before after c.bind_file.ensures)
+
+pub returns-in-DebugFolder-clause-does : goal.returns-in-DebugFolder-clause-does
+returns-in-DebugFolder-clause-does g c =
+    let f = g.F.Folder in
+    let s = g.S.Sink in
+    let i = g.L.Lines in
+    let at = outside_of f.files f.wrote f.read_faults f.write_faults s.written s.taken s.faults in
+    let talk = talk_of i.left i.given i.faults c.args.lines.now c.folder_session.new.lines in
+    let old = at c.args.folder.now c.args.out.now in
+    let new = at c.folder_session.new.folder c.folder_session.new.out in
+    let before = f.asked c.args.folder.now in
+    let after = f.asked c.folder_session.new.folder in
+    as_command talk c.args.command.now _ c.folder_session.result old new before after c.in-DebugFolder.is
+    (performs_debug_folder talk c.folder_session.result old new before after c.folder_session.ensures.does)
+
+pub returns-in-DebugImage-clause-does : goal.returns-in-DebugImage-clause-does
+returns-in-DebugImage-clause-does g c =
+    let f = g.F.Folder in
+    let s = g.S.Sink in
+    let i = g.L.Lines in
+    let at = outside_of f.files f.wrote f.read_faults f.write_faults s.written s.taken s.faults in
+    let talk = talk_of i.left i.given i.faults c.args.lines.now c.image_session.new.lines in
+    let old = at c.args.folder.now c.args.out.now in
+    let new = at c.image_session.new.folder c.image_session.new.out in
+    let before = f.asked c.args.folder.now in
+    let after = f.asked c.image_session.new.folder in
+    as_command talk c.args.command.now _ c.image_session.result old new before after c.in-DebugImage.is
+    (performs_debug_image talk c.in-DebugImage.file c.bytes-in-DebugImage.result.now c.image_session.result old new before after c.bytes-in-DebugImage.ensures.value c.image_session.ensures.does)

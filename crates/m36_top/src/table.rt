@@ -1,0 +1,250 @@
+//! The commands by their words.
+
+ghost use Rattle.std.specs.Prelude.{◌≡◌};
+ghost use Rattle.m36_top.specs.Words.{file_given, user_given, bare, runs_nothing, has_no_option, audit_of, audit, folder_run, run, trace, procs, access, print, alm_of, alm, bind_of, bind, debug_of, debug, commands, command_in};
+
+use crate::command::Command;
+use crate::names::{Operand, bindfile_of, source_of};
+use crate::words::Given;
+use m36_acl::User;
+use m36_booted::{FolderCommand, FolderRun};
+use m36_ran::BareRun;
+use m36_text::Name;
+use m36_told::{AlmFiles, BindFiles};
+
+/// The most steps of a run where no number is given.
+const DEFAULT_STEPS: u32 = 100000;
+
+/// The most characters of an object's name that `alm` or `bind` is given.
+const LONGEST_MADE_NAME: usize = 27;
+
+fn file_given(given: Given) -> Option<Name>
+    ensures { result ≡ file_given given }
+{
+    given.operand?.file
+}
+
+fn user_given(given: Given) -> Option<User>
+    ensures { result ≡ user_given given }
+{
+    given.operand?.user
+}
+
+// `bare FILE`
+fn bare(given: Given) -> Option<Command>
+    ensures { result ≡ bare given }
+{
+    if given.user.is_some() {
+        return None;
+    }
+    let run = BareRun {
+        steps: given.steps.unwrap_or(DEFAULT_STEPS),
+        unaudited: given.unaudited,
+    };
+    Some(Command::Bare(file_given(given)?, run))
+}
+
+fn runs_nothing(given: &Given) -> bool
+    ensures { result ≡ runs_nothing given.now }
+{
+    given.steps.is_none() && !given.unaudited
+}
+
+fn has_no_option(given: &Given) -> bool
+    ensures { result ≡ has_no_option given.now }
+{
+    runs_nothing(given) && given.user.is_none()
+}
+
+// `audit`, of a file or of the folder.
+fn audit_of(operand: Option<Operand>, user: Option<User>) -> Option<Command>
+    ensures { result ≡ audit_of operand user }
+{
+    match operand {
+        None => Some(Command::Booted(FolderCommand::Audit, user)),
+        Some(operand) => {
+            if user.is_some() {
+                return None;
+            }
+            Some(Command::Audit(operand.file?))
+        }
+    }
+}
+
+// `audit`, `audit FILE`
+fn audit(given: Given) -> Option<Command>
+    ensures { result ≡ audit given }
+{
+    if runs_nothing(&given) {
+        audit_of(given.operand, given.user)
+    } else {
+        None
+    }
+}
+
+fn folder_run(given: &Given) -> FolderRun
+    ensures { result ≡ folder_run given.now }
+{
+    FolderRun {
+        steps: given.steps.unwrap_or(DEFAULT_STEPS),
+        unaudited: given.unaudited,
+    }
+}
+
+// `run`
+fn run(given: Given) -> Option<Command>
+    ensures { result ≡ run given }
+{
+    if given.operand.is_none() {
+        let run = folder_run(&given);
+        Some(Command::Booted(FolderCommand::Run(run), given.user))
+    } else {
+        None
+    }
+}
+
+// `trace`
+fn trace(given: Given) -> Option<Command>
+    ensures { result ≡ trace given }
+{
+    if given.operand.is_none() {
+        let run = folder_run(&given);
+        Some(Command::Booted(FolderCommand::Trace(run), given.user))
+    } else {
+        None
+    }
+}
+
+// `procs FILE`
+fn procs(given: Given) -> Option<Command>
+    ensures { result ≡ procs given }
+{
+    if given.steps.is_none() && given.user.is_none() {
+        let unaudited = given.unaudited;
+        Some(Command::Procs(file_given(given)?, unaudited))
+    } else {
+        None
+    }
+}
+
+// `access USER`
+fn access(given: Given) -> Option<Command>
+    ensures { result ≡ access given }
+{
+    if has_no_option(&given) {
+        Some(Command::Access(user_given(given)?))
+    } else {
+        None
+    }
+}
+
+// `print NAME`
+fn print(given: Given) -> Option<Command>
+    ensures { result ≡ print given }
+{
+    if has_no_option(&given) {
+        Some(Command::Print(file_given(given)?))
+    } else {
+        None
+    }
+}
+
+fn alm_of(object: Name) -> Option<Command>
+    ensures { result ≡ alm_of object }
+{
+    if object.bytes().len() > LONGEST_MADE_NAME {
+        return None;
+    }
+    let source = source_of(object.bytes())?;
+    Some(Command::Alm(AlmFiles { source, object }))
+}
+
+// `alm NAME`
+fn alm(given: Given) -> Option<Command>
+    ensures { result ≡ alm given }
+{
+    if has_no_option(&given) {
+        alm_of(file_given(given)?)
+    } else {
+        None
+    }
+}
+
+fn bind_of(object: Name) -> Option<Command>
+    ensures { result ≡ bind_of object }
+{
+    if object.bytes().len() > LONGEST_MADE_NAME {
+        return None;
+    }
+    let bindfile = bindfile_of(object.bytes())?;
+    Some(Command::Bind(BindFiles { bindfile, object }))
+}
+
+// `bind NAME`
+fn bind(given: Given) -> Option<Command>
+    ensures { result ≡ bind given }
+{
+    if has_no_option(&given) {
+        bind_of(file_given(given)?)
+    } else {
+        None
+    }
+}
+
+// `debug`, of a file or of the folder.
+fn debug_of(operand: Option<Operand>) -> Option<Command>
+    ensures { result ≡ debug_of operand }
+{
+    match operand {
+        None => Some(Command::DebugFolder),
+        Some(operand) => Some(Command::DebugImage(operand.file?)),
+    }
+}
+
+// `debug`, `debug FILE`
+fn debug(given: Given) -> Option<Command>
+    ensures { result ≡ debug given }
+{
+    if has_no_option(&given) {
+        debug_of(given.operand)
+    } else {
+        None
+    }
+}
+
+/// The command of a word.
+pub(crate) fn command_in(word: &[u8], given: Given) -> Option<Command>
+    ensures { result ≡ command_in commands word.now given }
+{
+    if word == b"bare".as_slice() {
+        return bare(given);
+    }
+    if word == b"audit".as_slice() {
+        return audit(given);
+    }
+    if word == b"run".as_slice() {
+        return run(given);
+    }
+    if word == b"trace".as_slice() {
+        return trace(given);
+    }
+    if word == b"procs".as_slice() {
+        return procs(given);
+    }
+    if word == b"access".as_slice() {
+        return access(given);
+    }
+    if word == b"print".as_slice() {
+        return print(given);
+    }
+    if word == b"alm".as_slice() {
+        return alm(given);
+    }
+    if word == b"bind".as_slice() {
+        return bind(given);
+    }
+    if word == b"debug".as_slice() {
+        return debug(given);
+    }
+    None
+}
