@@ -1,9 +1,12 @@
 pub mod Pieces
+pub mod Gathering
 pub mod TurnsMade
 pub mod Serving
 pub mod RunLoop
 pub mod FolderReads
 pub mod FolderAnswers
 pub mod OneSystem
+pub mod OneRun
+pub mod FramesAlike
 pub mod YesAnswers
 pub mod DueLaws

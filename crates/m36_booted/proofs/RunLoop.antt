@@ -19,33 +19,38 @@ use Rattle.m36_booted.specs.declared.running.Progress.TheVariants as progress
 use Rattle.m36_booted.specs.declared.running.Ran.{Ran}
 use Rattle.m36_booted.specs.declared.running.Ran.TheVariants as ran
 use Rattle.m36_booted.specs.RunText.{steps_in, pieces_from, end_pieces, run_pieces}
-use Rattle.m36_booted.specs.Runs.{IsEvent, Extent, Whole, Begun, Starved, Reaches, Finishes}
-use Rattle.m36_booted.specs.RunSays.{PutsPieces, AreMade, Progresses, IsRan, FinishSays, RanSays}
-use Rattle.m36_booted.proofs.Pieces.{pieces_are, pieces_then}
+use Rattle.m36_booted.specs.Runs.{IsEvent, AwaitsLink, Extent, Whole, Begun, Starved, Reaches, Finishes}
+use Rattle.m36_booted.specs.RunSays.{PutsPieces, BlockState, block_of, AddsPieces, AreMade, Progresses, IsRan, FinishSays, StarvedSays, RanSays}
+use Rattle.m36_booted.proofs.Pieces.{pieces_are}
+use Rattle.m36_booted.proofs.Gathering.{lost_of, put_behind, put_all}
 use Rattle.m36_booted.proofs.TurnsMade.{made_none, made_on}
 
 -- A run of a system has taken some steps, has some left, and stands before a step.
 pub record IsUnderWay
-    (output : RunOutput) (limit taken left : ℕ) (system now : SuperFields) (old new : SinkState)
+    (output : RunOutput) (limit taken left : ℕ) (system now : SuperFields) (old new : BlockState)
     : Type 0 where
   pub made : AreMade put.Done output 0 taken system.lib (booted_of system) (booted_of now) old new
   pub next : now.coming ≡ Step
   pub lib : now.lib ≡ system.lib
   pub count : taken + left ≡ limit
 
+-- it begins with an empty block
 pub run_starts :
-    (output : RunOutput) (limit : ℕ) (system : SuperFields) (s : SinkState)
-    → system.coming ≡ Step → IsUnderWay output limit 0 limit system system s s
-run_starts output limit system s is = record {
-  made = made_none output 0 system.lib (booted_of system) s;
-  next = is;
-  lib = refl;
-  count = zero-add limit;
-}
+    (output : RunOutput) (limit : ℕ) (system : SuperFields) (s : SinkState) (gathered : List (List ℕ))
+    → system.coming ≡ Step → gathered ≡ []
+    → IsUnderWay output limit 0 limit system system (block_of [] s) (block_of gathered s)
+run_starts output limit system s gathered is none =
+    subst (λ l. IsUnderWay output limit 0 limit system system (block_of [] s) (block_of l s)) (sym none)
+    (record {
+      made = made_none output 0 system.lib (booted_of system) (block_of [] s);
+      next = is;
+      lib = refl;
+      count = zero-add limit;
+    })
 
 -- what was made, and one step more
 with_step :
-    (answer : Put) (output : RunOutput) (taken : ℕ) (system now : SuperFields) (last : Booted) (old mid new : SinkState)
+    (answer : Put) (output : RunOutput) (taken : ℕ) (system now : SuperFields) (last : Booted) (old mid new : BlockState)
     → AreMade put.Done output 0 taken system.lib (booted_of system) (booted_of now) old mid → now.lib ≡ system.lib
     → AreMade answer output taken 1 now.lib (booted_of now) last mid new
     → AreMade answer output 0 (taken + 1) system.lib (booted_of system) last old new
@@ -55,7 +60,7 @@ with_step answer output taken system now last old mid new one same two =
     (subst (λ l. AreMade answer output taken 1 l (booted_of now) last mid new) same two))
 
 pub run_goes_on :
-    (output : RunOutput) (limit taken left : ℕ) (system now after : SuperFields) (old mid new : SinkState)
+    (output : RunOutput) (limit taken left : ℕ) (system now after : SuperFields) (old mid new : BlockState)
     → IsUnderWay output limit taken left system now old mid → 0 < left
     → Progresses progress.On output taken 1 now after mid new
     → IsUnderWay output limit (taken + 1) (left - 1) system after old new
@@ -91,41 +96,66 @@ unfolding run_pieces
 unended denied output turns = sym (append-nil (pieces_from output 0 turns))
 
 pub run_cut :
-    (denied : List (List ℕ)) (output : RunOutput) (limit taken left : ℕ) (system now after : SuperFields) (old mid new : SinkState)
-    → IsUnderWay output limit taken left system now old mid → 0 < left
+    (denied : List (List ℕ)) (output : RunOutput) (limit taken left : ℕ) (system now after : SuperFields) (old : SinkState) (mid new : BlockState)
+    → IsUnderWay output limit taken left system now (block_of [] old) mid → 0 < left
     → Progresses progress.Cut output taken 1 now after mid new
-    → RanSays ran.Cut denied output limit system old new
+    → RanSays ran.Cut denied output limit system old new.sink
 run_cut denied output limit taken left system now after old mid new way some leaves =
-    let made = with_step put.Failed output taken system now leaves.last old mid new way.made way.lib leaves.made in (
+    let made = with_step put.Failed output taken system now leaves.last (block_of [] old) mid new way.made way.lib leaves.made in (
       None,
-      ran_so Begun None put.Failed denied output limit (taken + 1) system leaves.last made.turns old new made.turns_are made.events made.count (omega (arith, way.count, some)) tt
-          (pieces_are put.Failed (pieces_from output 0 made.turns) (run_pieces denied output made.turns None) old new (unended denied output made.turns) made.puts),
+      ran_so Begun None put.Failed denied output limit (taken + 1) system leaves.last made.turns old new.sink made.turns_are made.events made.count (omega (arith, way.count, some)) tt
+          (pieces_are put.Failed (pieces_from output 0 made.turns) (run_pieces denied output made.turns None) old new.sink (unended denied output made.turns)
+          (lost_of (pieces_from output 0 made.turns) (block_of [] old) new made.puts)),
     )
 
+-- the pieces of a run that has not come to its end were put
+put_unended :
+    (answer : Put) (denied : List (List ℕ)) (output : RunOutput) (turns : List Turn) (old : SinkState) (mid : BlockState) (new : SinkState)
+    → AddsPieces put.Done (pieces_from output 0 turns) (block_of [] old) mid → PutsPieces answer mid.pieces mid.sink new
+    → PutsPieces answer (run_pieces denied output turns None) old new
+put_unended answer denied output turns old mid new one two =
+    pieces_are answer (pieces_from output 0 turns) (run_pieces denied output turns None) old new (unended denied output turns)
+    (put_all answer (pieces_from output 0 turns) (block_of [] old) mid new one two)
+
+starved :
+    (r : Ran) (denied : List (List ℕ)) (output : RunOutput) (limit steps : ℕ) (system : SuperFields) (last : Booted) (old : SinkState) (mid : BlockState) (new : SinkState)
+    (made : AreMade put.Done output 0 steps system.lib (booted_of system) last (block_of [] old) mid) → steps ≤ limit
+    → AwaitsLink last.coming → StarvedSays r mid new
+    → RanSays r denied output limit system old new
+starved (ran.Whole told) denied output limit steps system last old mid new made few awaits says = absurd says
+starved ran.Cut denied output limit steps system last old mid new made few awaits says = (
+  None,
+  ran_so Begun None put.Failed denied output limit steps system last made.turns old new made.turns_are made.events made.count few tt
+      (put_unended put.Failed denied output made.turns old mid new made.puts says),
+)
+starved ran.Starved denied output limit steps system last old mid new made few awaits says =
+    ran_so Starved None put.Done denied output limit steps system last made.turns old new made.turns_are made.events made.count few awaits
+    (put_unended put.Done denied output made.turns old mid new made.puts says)
+
 pub run_starved :
-    (denied : List (List ℕ)) (output : RunOutput) (limit taken left : ℕ) (system now after : SuperFields) (old mid new : SinkState)
-    → IsUnderWay output limit taken left system now old mid → 0 < left
-    → Progresses progress.Starved output taken 1 now after mid new
-    → RanSays ran.Starved denied output limit system old new
-run_starved denied output limit taken left system now after old mid new way some leaves =
-    let made = with_step put.Done output taken system now leaves.last old mid new way.made way.lib leaves.made in
-    ran_so Starved None put.Done denied output limit (taken + 1) system leaves.last made.turns old new made.turns_are made.events made.count (omega (arith, way.count, some)) leaves.behind
-    (pieces_are put.Done (pieces_from output 0 made.turns) (run_pieces denied output made.turns None) old new (unended denied output made.turns) made.puts)
+    (r : Ran) (denied : List (List ℕ)) (output : RunOutput) (limit taken left : ℕ) (system now after : SuperFields) (old : SinkState) (mid next : BlockState) (new : SinkState)
+    → IsUnderWay output limit taken left system now (block_of [] old) mid → 0 < left
+    → Progresses progress.Starved output taken 1 now after mid next
+    → StarvedSays r next new
+    → RanSays r denied output limit system old new
+run_starved r denied output limit taken left system now after old mid next new way some leaves says =
+    let made = with_step put.Done output taken system now leaves.last (block_of [] old) mid next way.made way.lib leaves.made in
+    starved r denied output limit (taken + 1) system leaves.last old next new made (omega (arith, way.count, some)) leaves.behind says
 
 -- the end line behind what was made
 ended :
-    (answer : Put) (how : Finish) (denied : List (List ℕ)) (output : RunOutput) (steps : ℕ) (turns : List Turn) (old mid new : SinkState)
-    → steps_in turns ≡ steps → PutsPieces put.Done (pieces_from output 0 turns) old mid
-    → PutsPieces answer (end_pieces denied (Some how) steps) mid new
+    (answer : Put) (how : Finish) (denied : List (List ℕ)) (output : RunOutput) (steps : ℕ) (turns : List Turn) (old : SinkState) (mid : BlockState) (new : SinkState)
+    → steps_in turns ≡ steps → AddsPieces put.Done (pieces_from output 0 turns) (block_of [] old) mid
+    → PutsPieces answer (mid.pieces ++ end_pieces denied (Some how) steps) mid.sink new
     → PutsPieces answer (run_pieces denied output turns (Some how)) old new
 unfolding run_pieces
 ended answer how denied output steps turns old mid new count one two =
-    pieces_then answer (pieces_from output 0 turns) (end_pieces denied (Some how) (steps_in turns)) old mid new one
-    (subst (λ n. PutsPieces answer (end_pieces denied (Some how) n) mid new) (sym count) two)
+    put_behind answer (pieces_from output 0 turns) (end_pieces denied (Some how) (steps_in turns)) (block_of [] old) mid new one
+    (subst (λ n. PutsPieces answer (mid.pieces ++ end_pieces denied (Some how) n) mid.sink new) (sym count) two)
 
 finished :
-    (r : Ran) (how : Finish) (denied : List (List ℕ)) (output : RunOutput) (limit steps : ℕ) (system : SuperFields) (last : Booted) (old mid new : SinkState)
-    (made : AreMade put.Done output 0 steps system.lib (booted_of system) last old mid) → steps ≤ limit
+    (r : Ran) (how : Finish) (denied : List (List ℕ)) (output : RunOutput) (limit steps : ℕ) (system : SuperFields) (last : Booted) (old : SinkState) (mid : BlockState) (new : SinkState)
+    (made : AreMade put.Done output 0 steps system.lib (booted_of system) last (block_of [] old) mid) → steps ≤ limit
     → Finishes how system.lib limit made.turns last → FinishSays r denied how steps mid new
     → RanSays r denied output limit system old new
 finished (ran.Whole told) how denied output limit steps system last old mid new made few finishes says =
@@ -140,19 +170,19 @@ finished ran.Cut how denied output limit steps system last old mid new made few 
 finished ran.Starved how denied output limit steps system last old mid new made few finishes says = absurd says
 
 pub run_over :
-    (r : Ran) (e : End) (denied : List (List ℕ)) (output : RunOutput) (limit taken left : ℕ) (system now after : SuperFields) (old mid next new : SinkState)
-    → IsUnderWay output limit taken left system now old mid → 0 < left
+    (r : Ran) (e : End) (denied : List (List ℕ)) (output : RunOutput) (limit taken left : ℕ) (system now after : SuperFields) (old : SinkState) (mid next : BlockState) (new : SinkState)
+    → IsUnderWay output limit taken left system now (block_of [] old) mid → 0 < left
     → Progresses (progress.Over e) output taken 1 now after mid next
     → FinishSays r denied (Over e) (taken + 1) next new
     → RanSays r denied output limit system old new
 run_over r e denied output limit taken left system now after old mid next new way some leaves says =
-    let made = with_step put.Done output taken system now leaves.last old mid next way.made way.lib leaves.made in
+    let made = with_step put.Done output taken system now leaves.last (block_of [] old) mid next way.made way.lib leaves.made in
     finished r (Over e) denied output limit (taken + 1) system leaves.last old next new made (omega (arith, way.count, some))
     (leaves.behind.0, subst (λ l. IsTurn l leaves.last (Ended e) leaves.behind.0) way.lib leaves.behind.1) says
 
 pub run_limit :
-    (r : Ran) (denied : List (List ℕ)) (output : RunOutput) (limit taken left : ℕ) (system now : SuperFields) (old mid new : SinkState)
-    → IsUnderWay output limit taken left system now old mid → left ≡ 0
+    (r : Ran) (denied : List (List ℕ)) (output : RunOutput) (limit taken left : ℕ) (system now : SuperFields) (old : SinkState) (mid : BlockState) (new : SinkState)
+    → IsUnderWay output limit taken left system now (block_of [] old) mid → left ≡ 0
     → FinishSays r denied Limit taken mid new → RanSays r denied output limit system old new
 run_limit r denied output limit taken left system now old mid new way none says =
     let all : taken ≡ limit = omega (arith, way.count, none) in

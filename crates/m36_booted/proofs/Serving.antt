@@ -17,13 +17,12 @@ use Rattle.m36_super.specs.declared.coming.Coming.TheVariants.{Step, Link, Print
 use Rattle.m36_super.specs.BootedRun.{Booted, IsStepTurn, IsLinkTurn, IsConsoleTurn, IsTurnBy, IsTurn}
 use Rattle.m36_super.specs.SuperFields.{SuperFields, booted_of}
 use Rattle.m36_super.specs.SuperTurn.{SuperTurns}
-use Rattle.m36_reading.specs.Outside.{SinkState}
 use Rattle.m36_booted.specs.declared.command.RunOutput.{RunOutput}
 use Rattle.m36_booted.specs.declared.running.Progress.{Progress}
 use Rattle.m36_booted.specs.declared.running.Progress.TheVariants as progress
 use Rattle.m36_booted.specs.RunText.{pieces_of}
 use Rattle.m36_booted.specs.Runs.{AwaitsLink}
-use Rattle.m36_booted.specs.RunSays.{PutsPieces, AreMade, BehindLink, BehindSays, Progresses}
+use Rattle.m36_booted.specs.RunSays.{BlockState, AddsPieces, AreMade, BehindLink, BehindSays, Progresses}
 use Rattle.m36_booted.proofs.TurnsMade.{made_none, made_turn, made_on}
 
 -- ---- which turns there are
@@ -167,7 +166,7 @@ over_ends lib s e is =
 -- ---- services
 
 pub serve_none :
-    (output : RunOutput) (taken : ℕ) (s : SuperFields) (k : SinkState)
+    (output : RunOutput) (taken : ℕ) (s : SuperFields) (k : BlockState)
     → s.coming ≡ Step → Progresses progress.On output taken 0 s s k k
 serve_none output taken s k is = record {
   made = made_none output taken s.lib (booted_of s) k;
@@ -176,7 +175,7 @@ serve_none output taken s k is = record {
 }
 
 pub serve_over :
-    (output : RunOutput) (taken : ℕ) (s : SuperFields) (e : End) (k : SinkState)
+    (output : RunOutput) (taken : ℕ) (s : SuperFields) (e : End) (k : BlockState)
     → s.coming ≡ Over e → Progresses (progress.Over e) output taken 0 s s k k
 serve_over output taken s e k is = record {
   last = booted_of s;
@@ -185,7 +184,7 @@ serve_over output taken s e k is = record {
 }
 
 pub link_starves :
-    (output : RunOutput) (taken : ℕ) (before after : SuperFields) (at : AtFields) (k : SinkState)
+    (output : RunOutput) (taken : ℕ) (before after : SuperFields) (at : AtFields) (k : BlockState)
     → before.coming ≡ Link at → Progresses progress.Starved output taken 0 before after k k
 link_starves output taken before after at k is = record {
   last = booted_of before;
@@ -194,8 +193,8 @@ link_starves output taken before after at k is = record {
 }
 
 pub link_cut :
-    (output : RunOutput) (taken : ℕ) (before after : SuperFields) (note : LinkNoteFields) (old new : SinkState)
-    → SuperTurns before (Linked note) after → PutsPieces put.Failed (pieces_of output taken (Linked note)) old new
+    (output : RunOutput) (taken : ℕ) (before after : SuperFields) (note : LinkNoteFields) (old new : BlockState)
+    → SuperTurns before (Linked note) after → AddsPieces put.Failed (pieces_of output taken (Linked note)) old new
     → Progresses progress.Cut output taken 0 before after old new
 link_cut output taken before after note old new turns puts = record {
   last = booted_of after;
@@ -204,8 +203,8 @@ link_cut output taken before after note old new turns puts = record {
 }
 
 pub link_goes :
-    (p : Progress) (output : RunOutput) (taken : ℕ) (before after : SuperFields) (note : LinkNoteFields) (old new : SinkState)
-    → SuperTurns before (Linked note) after → PutsPieces put.Done (pieces_of output taken (Linked note)) old new
+    (p : Progress) (output : RunOutput) (taken : ℕ) (before after : SuperFields) (note : LinkNoteFields) (old new : BlockState)
+    → SuperTurns before (Linked note) after → AddsPieces put.Done (pieces_of output taken (Linked note)) old new
     → BehindSays p after.coming → Progresses p output taken 0 before after old new
 link_goes progress.On output taken before after note old new turns puts behind = record {
   made = made_turn put.Done output taken before.lib (booted_of before) (booted_of after) (Linked note) old new turns.0 tt puts;
@@ -221,8 +220,8 @@ link_goes progress.Cut output taken before after note old new turns puts behind 
 link_goes progress.Starved output taken before after note old new turns puts behind = absurd behind
 
 pub print_cut :
-    (output : RunOutput) (taken : ℕ) (before after : SuperFields) (told : List ℕ) (old new : SinkState)
-    → SuperTurns before (Console told) after → PutsPieces put.Failed (pieces_of output taken (Console told)) old new
+    (output : RunOutput) (taken : ℕ) (before after : SuperFields) (told : List ℕ) (old new : BlockState)
+    → SuperTurns before (Console told) after → AddsPieces put.Failed (pieces_of output taken (Console told)) old new
     → Progresses progress.Cut output taken 0 before after old new
 print_cut output taken before after told old new turns puts = record {
   last = booted_of after;
@@ -231,9 +230,9 @@ print_cut output taken before after told old new turns puts = record {
 }
 
 pub print_goes :
-    (output : RunOutput) (taken : ℕ) (before after : SuperFields) (told : List ℕ) (old new : SinkState)
+    (output : RunOutput) (taken : ℕ) (before after : SuperFields) (told : List ℕ) (old new : BlockState)
     → before.coming ≡ Print → SuperTurns before (Console told) after
-    → PutsPieces put.Done (pieces_of output taken (Console told)) old new
+    → AddsPieces put.Done (pieces_of output taken (Console told)) old new
     → Progresses progress.On output taken 0 before after old new
 print_goes output taken before after told old new is turns puts = record {
   made = made_turn put.Done output taken before.lib (booted_of before) (booted_of after) (Console told) old new turns.0 tt puts;
@@ -242,7 +241,7 @@ print_goes output taken before after told old new is turns puts = record {
 }
 
 pub print_ends :
-    (output : RunOutput) (taken : ℕ) (before after : SuperFields) (e : End) (k : SinkState)
+    (output : RunOutput) (taken : ℕ) (before after : SuperFields) (e : End) (k : BlockState)
     → SuperTurns before (Ended e) after → Progresses (progress.Over e) output taken 0 before after k k
 print_ends output taken before after e k turns = record {
   last = booted_of before;
@@ -255,8 +254,8 @@ pub ruleset services = (turn_links, turn_prints, link_behind, serve_none, serve_
 -- ---- a step, and then a service
 
 pub step_cut :
-    (output : RunOutput) (taken : ℕ) (before after : SuperFields) (told : StepRecord) (old new : SinkState)
-    → SuperTurns before (Stepped told) after → PutsPieces put.Failed (pieces_of output taken (Stepped told)) old new
+    (output : RunOutput) (taken : ℕ) (before after : SuperFields) (told : StepRecord) (old new : BlockState)
+    → SuperTurns before (Stepped told) after → AddsPieces put.Failed (pieces_of output taken (Stepped told)) old new
     → Progresses progress.Cut output taken 1 before after old new
 step_cut output taken before after told old new turns puts = record {
   last = booted_of after;
@@ -265,15 +264,15 @@ step_cut output taken before after told old new turns puts = record {
 }
 
 made_by :
-    (answer : Put) (output : RunOutput) (taken n : ℕ) (lib lib' : Library) (first last : Booted) (old new : SinkState)
+    (answer : Put) (output : RunOutput) (taken n : ℕ) (lib lib' : Library) (first last : Booted) (old new : BlockState)
     → lib ≡ lib' → AreMade answer output taken n lib first last old new
     → AreMade answer output taken n lib' first last old new
 made_by answer output taken n lib lib' first last old new is made =
     subst (λ l. AreMade answer output taken n l first last old new) is made
 
 joined_made :
-    (answer : Put) (output : RunOutput) (taken : ℕ) (before mid : SuperFields) (last : Booted) (told : StepRecord) (old now new : SinkState)
-    → SuperTurns before (Stepped told) mid → PutsPieces put.Done (pieces_of output taken (Stepped told)) old now
+    (answer : Put) (output : RunOutput) (taken : ℕ) (before mid : SuperFields) (last : Booted) (told : StepRecord) (old now new : BlockState)
+    → SuperTurns before (Stepped told) mid → AddsPieces put.Done (pieces_of output taken (Stepped told)) old now
     → AreMade answer output (taken + 1) 0 mid.lib (booted_of mid) last now new
     → AreMade answer output taken 1 before.lib (booted_of before) last old new
 joined_made answer output taken before mid last told old now new turns puts made =
@@ -282,8 +281,8 @@ joined_made answer output taken before mid last told old now new turns puts made
     (made_by answer output (taken + 1) 0 mid.lib before.lib (booted_of mid) last now new turns.1 made)
 
 pub step_goes :
-    (p : Progress) (output : RunOutput) (taken : ℕ) (before mid after : SuperFields) (told : StepRecord) (old now new : SinkState)
-    → SuperTurns before (Stepped told) mid → PutsPieces put.Done (pieces_of output taken (Stepped told)) old now
+    (p : Progress) (output : RunOutput) (taken : ℕ) (before mid after : SuperFields) (told : StepRecord) (old now new : BlockState)
+    → SuperTurns before (Stepped told) mid → AddsPieces put.Done (pieces_of output taken (Stepped told)) old now
     → Progresses p output (taken + 1) 0 mid after now new → Progresses p output taken 1 before after old new
 step_goes progress.On output taken before mid after told old now new turns puts goes = record {
   made = joined_made put.Done output taken before mid (booted_of after) told old now new turns puts goes.made;

@@ -7,12 +7,11 @@ use Rattle.m36_model.specs.StoreLaw.{Each}
 use Rattle.m36_step.specs.declared.turns.Turn.{Turn}
 use Rattle.m36_super.specs.Library.{Library}
 use Rattle.m36_super.specs.BootedRun.{Booted, IsTurn, AreTurns}
-use Rattle.m36_reading.specs.Outside.{SinkState}
 use Rattle.m36_booted.specs.declared.command.RunOutput.{RunOutput}
 use Rattle.m36_booted.specs.RunText.{steps_of, steps_in, pieces_of, pieces_from}
 use Rattle.m36_booted.specs.Runs.{IsEvent}
-use Rattle.m36_booted.specs.RunSays.{PutsPieces, AreMade}
-use Rattle.m36_booted.proofs.Pieces.{nothing_put, pieces_are, pieces_then}
+use Rattle.m36_booted.specs.RunSays.{BlockState, AddsPieces, AreMade}
+use Rattle.m36_booted.proofs.Gathering.{nothing_added, adds_are, adds_then}
 
 pub turns_on :
     (lib : Library) (turns more : List Turn) (first now last : Booted)
@@ -45,7 +44,7 @@ pieces_on output taken (turn ∷ turns) more =
 
 -- no turn
 pub made_none :
-    (output : RunOutput) (taken : ℕ) (lib : Library) (r : Booted) (s : SinkState)
+    (output : RunOutput) (taken : ℕ) (lib : Library) (r : Booted) (s : BlockState)
     → AreMade put.Done output taken 0 lib r r s s
 unfolding AreTurns pieces_from steps_in
 made_none output taken lib r s = record {
@@ -53,13 +52,13 @@ made_none output taken lib r s = record {
   turns_are = refl;
   events = tt;
   count = refl;
-  puts = nothing_put s;
+  puts = nothing_added s;
 }
 
 -- one turn
 pub made_turn :
-    (answer : Put) (output : RunOutput) (taken : ℕ) (lib : Library) (before after : Booted) (turn : Turn) (old new : SinkState)
-    → IsTurn lib before turn after → IsEvent turn → PutsPieces answer (pieces_of output taken turn) old new
+    (answer : Put) (output : RunOutput) (taken : ℕ) (lib : Library) (before after : Booted) (turn : Turn) (old new : BlockState)
+    → IsTurn lib before turn after → IsEvent turn → AddsPieces answer (pieces_of output taken turn) old new
     → AreMade answer output taken (steps_of turn) lib before after old new
 unfolding AreTurns pieces_from steps_in
 made_turn answer output taken lib before after turn old new is event puts = record {
@@ -67,12 +66,12 @@ made_turn answer output taken lib before after turn old new is event puts = reco
   turns_are = (after, is, refl);
   events = (event, tt);
   count = add-zero (steps_of turn);
-  puts = pieces_are answer (pieces_of output taken turn) (pieces_of output taken turn ++ []) old new (sym (append-nil (pieces_of output taken turn))) puts;
+  puts = adds_are answer (pieces_of output taken turn) (pieces_of output taken turn ++ []) old new (sym (append-nil (pieces_of output taken turn))) puts;
 }
 
 -- some, and then others
 pub made_on :
-    (answer : Put) (output : RunOutput) (taken n m : ℕ) (lib : Library) (first now last : Booted) (old mid new : SinkState)
+    (answer : Put) (output : RunOutput) (taken n m : ℕ) (lib : Library) (first now last : Booted) (old mid new : BlockState)
     → AreMade put.Done output taken n lib first now old mid
     → AreMade answer output (taken + n) m lib now last mid new
     → AreMade answer output taken (n + m) lib first last old new
@@ -82,9 +81,9 @@ made_on answer output taken n m lib first now last old mid new one two = record 
   events = each_on IsEvent one.turns two.turns one.events two.events;
   count = steps_on one.turns two.turns ∙ ap (λ k. k + steps_in two.turns) one.count ∙ ap (λ k. n + k) two.count;
   puts =
-      pieces_are answer
+      adds_are answer
       (pieces_from output taken one.turns ++ pieces_from output (taken + n) two.turns)
       (pieces_from output taken (one.turns ++ two.turns)) old new
       (ap (λ k. pieces_from output taken one.turns ++ pieces_from output (taken + k) two.turns) (sym one.count) ∙ sym (pieces_on output taken one.turns two.turns))
-      (pieces_then answer (pieces_from output taken one.turns) (pieces_from output (taken + n) two.turns) old mid new one.puts two.puts);
+      (adds_then answer (pieces_from output taken one.turns) (pieces_from output (taken + n) two.turns) old mid new one.puts two.puts);
 }

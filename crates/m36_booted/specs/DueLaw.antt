@@ -1,6 +1,8 @@
--- What is due to a command on a folder that is booted.
-use Rattle.std.specs.Prelude.{◌≡◌, List, length}
+-- What is due to a command on a folder that is booted, by the conditions of the audit and by runs.
+use Rattle.std.specs.Prelude.{◌≡◌, ℕ, List, [], ◌∷◌, length}
 use Rattle.m36_outside.specs.Passing.{joined}
+use Rattle.m36_model.specs.Audit.{IsAudited}
+use Rattle.m36_model.specs.BootedCore.{booted_dbr}
 use Rattle.m36_model.specs.StoreLaw.{Each}
 use Rattle.m36_step.specs.declared.turns.Turn.{Turn}
 use Rattle.m36_super.specs.Library.{Library}
@@ -11,13 +13,39 @@ use Rattle.m36_super.specs.BootSays.{IsBooted}
 use Rattle.m36_reading.specs.Answers.{Answer}
 use Rattle.m36_booted.specs.declared.command.FolderCommand.{FolderCommand}
 use Rattle.m36_booted.specs.declared.command.FolderCommand.TheVariants.{Audit}
+use Rattle.m36_booted.specs.declared.running.Finish.{Finish}
 use Rattle.m36_booted.specs.Folder.{FolderFields}
-use Rattle.m36_booted.specs.Runs.{Extent, Whole}
-use Rattle.m36_booted.specs.Booted.{IsFolderAnswer}
+use Rattle.m36_booted.specs.Runs.{Extent, Whole, Goes, Finishes}
+use Rattle.m36_booted.specs.Booted.{IsAnswerOf, IsFolderAnswer}
 
--- Segments boot to one system at most. One answer at most is due to `audit`. Runs make the same
--- turns, up to the first that executes ABSA or LDBR. The pieces of an answer, one behind the other,
--- are its text.
+-- an answer by these findings of the audit of a system
+abbrev pub IsAnswerBy :
+    FolderCommand → FolderFields → SuperFields → List (ℕ × ℕ) → Answer → Type 0
+IsAnswerBy command given system findings due =
+    IsAnswerOf command Whole given.denied given.lib (booted_of system) findings due
+
+-- an answer by some findings
+pub record IsByFindings (command : FolderCommand) (given : FolderFields) (system : SuperFields)
+    (due : Answer) : Type 0 where
+  pub first : ℕ × ℕ
+  pub others : List (ℕ × ℕ)
+  pub answer : IsAnswerBy command given system (first ∷ others) due
+
+-- the same segments, with so many pageable frames
+abbrev pub with_frames : Library → ℕ → Library
+with_frames lib frames =
+    record { catalog = record lib.catalog { frames = frames }; files = lib.files }
+
+-- two runs make the same turns, and end the same way
+pub record AreOneRun (turns same : List Turn) (how end : Finish) : Type 0 where
+  pub turns_are : turns ≡ same
+  pub end_is : how ≡ end
+
+-- Segments boot to one system at most. One answer at most is due to `audit`. Where all conditions
+-- of the audit hold of the core of the system, the answer is one without findings, and otherwise
+-- one by some findings. Whatever the counts of pageable frames, runs make the same turns, up to the
+-- first that executes ABSA or LDBR, and runs that come to their end without one are one run. The
+-- pieces of an answer, one behind the other, are its text.
 pub record FolderDueLaw : Type 0 where
   pub system :
       (lib : Library) (system same : SuperFields)
@@ -25,11 +53,30 @@ pub record FolderDueLaw : Type 0 where
   pub audit :
       (given : FolderFields) (due same : Answer) → IsFolderAnswer Whole Audit given due
       → IsFolderAnswer Whole Audit given same → due ≡ same
+  pub passed :
+      (command : FolderCommand) (given : FolderFields) (system : SuperFields) (due : Answer)
+      → IsBooted given.lib system → IsFolderAnswer Whole command given due
+      → IsAudited system.core booted_dbr → IsAnswerBy command given system [] due
+  pub failed :
+      (command : FolderCommand) (given : FolderFields) (system : SuperFields) (due : Answer)
+      → IsBooted given.lib system → IsFolderAnswer Whole command given due
+      → ¬ IsAudited system.core booted_dbr → IsByFindings command given system due
   pub turns :
-      (lib : Library) (system : SuperFields) (turns same : List Turn) (last other : Booted)
-      → IsBooted lib system → AreTurns lib (booted_of system) turns last
-      → AreTurns lib (booted_of system) same other → Each IsPlainTurn turns → Each IsPlainTurn same
-      → length turns ≡ length same → turns ≡ same
+      (lib : Library) (frames : ℕ) (system other : SuperFields) (turns same : List Turn)
+      (last end : Booted)
+      → IsBooted lib system → IsBooted (with_frames lib frames) other
+      → AreTurns lib (booted_of system) turns last
+      → AreTurns (with_frames lib frames) (booted_of other) same end
+      → Each IsPlainTurn turns → Each IsPlainTurn same → length turns ≡ length same → turns ≡ same
+  pub runs :
+      (lib : Library) (frames limit : ℕ) (system other : SuperFields) (turns same : List Turn)
+      (last end : Booted) (how how_other : Finish)
+      → IsBooted lib system → IsBooted (with_frames lib frames) other
+      → Goes lib limit (booted_of system) turns last
+      → Goes (with_frames lib frames) limit (booted_of other) same end
+      → Finishes how lib limit turns last
+      → Finishes how_other (with_frames lib frames) limit same end
+      → Each IsPlainTurn turns → Each IsPlainTurn same → AreOneRun turns same how how_other
   pub pieces :
       (extent : Extent) (command : FolderCommand) (given : FolderFields) (due : Answer)
       → IsFolderAnswer extent command given due → joined due.pieces ≡ due.text

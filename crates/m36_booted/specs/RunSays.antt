@@ -1,5 +1,6 @@
 -- What the parts of a booted run answer, and what they put.
-use Rattle.std.specs.Prelude.{ℕ, ◌≡◌, ⊤, List, [], ◌∷◌, Option, Some, None}
+use Rattle.std.specs.Prelude.{ℕ, ◌≡◌, ⊤, List, [], ◌∷◌, ◌++◌, Option, Some, None}
+use Rattle.m36_outside.specs.Gathered.{Adds}
 use Rattle.m36_outside.specs.Passing.{joined, TakesLines}
 use Rattle.m36_outside.specs.Put.{PutSays, PutHasCause}
 use Rattle.m36_outside.specs.declared.sink.Put.{Put}
@@ -28,21 +29,37 @@ pub record PutsPieces (answer : Put) (pieces : List (List ℕ)) (old new : SinkS
   pub through : TakesLines answer old.taken new.taken pieces
   pub cause : PutHasCause answer old.faults new.faults
 
+-- the pieces that are gathered in a block, and the sink to which it is handed over
+pub record BlockState : Type 0 where
+  pub pieces : List (List ℕ)
+  pub sink : SinkState
+
+abbrev pub block_of : List (List ℕ) → SinkState → BlockState
+block_of pieces sink = record { pieces = pieces; sink = sink }
+
+-- Pieces are added to those of a block, of which the sink may take some on the way; or a first part
+-- of all these is put where a put failed.
+pub record AddsPieces (answer : Put) (pieces : List (List ℕ)) (old new : BlockState) : Type 0 where
+  pub adds :
+      Adds answer old.pieces new.pieces pieces old.sink.written new.sink.written old.sink.taken
+      new.sink.taken
+  pub cause : PutHasCause answer old.sink.faults new.sink.faults
+
 -- ---- turns
 
--- Turns are made, so many of them steps, and what is told of them is put.
+-- Turns are made, so many of them steps, and what is told of them is added.
 pub record AreMade
     (answer : Put) (output : RunOutput) (taken steps : ℕ) (lib : Library) (before last : Booted)
-    (old new : SinkState) : Type 0 where
+    (old new : BlockState) : Type 0 where
   pub turns : List Turn
   pub turns_are : AreTurns lib before turns last
   pub events : Each IsEvent turns
   pub count : steps_in turns ≡ steps
-  pub puts : PutsPieces answer (pieces_from output taken turns) old new
+  pub puts : AddsPieces answer (pieces_from output taken turns) old new
 
 -- Behind them a step comes next.
 pub record GoesOn
-    (output : RunOutput) (taken steps : ℕ) (before after : SuperFields) (old new : SinkState)
+    (output : RunOutput) (taken steps : ℕ) (before after : SuperFields) (old new : BlockState)
     : Type 0 where
   pub made :
       AreMade put.Done output taken steps before.lib (booted_of before) (booted_of after) old new
@@ -52,7 +69,7 @@ pub record GoesOn
 -- The run ends behind a state, or could not be told, or waits for memory.
 pub record Leaves
     (answer : Put) (Behind : Booted → Type 0) (output : RunOutput) (taken steps : ℕ)
-    (before : SuperFields) (old new : SinkState) : Type 0 where
+    (before : SuperFields) (old new : BlockState) : Type 0 where
   pub last : Booted
   pub made : AreMade answer output taken steps before.lib (booted_of before) last old new
   pub behind : Behind last
@@ -72,7 +89,7 @@ BehindSays progress.Starved coming = ⊥
 
 -- what a step with its service, or a service alone, comes to
 abbrev pub Progresses :
-    Progress → RunOutput → ℕ → ℕ → SuperFields → SuperFields → SinkState → SinkState → Type 0
+    Progress → RunOutput → ℕ → ℕ → SuperFields → SuperFields → BlockState → BlockState → Type 0
 Progresses progress.On output taken steps before after old new =
     GoesOn output taken steps before after old new
 Progresses (progress.Over e) output taken steps before after old new =
@@ -85,14 +102,21 @@ Progresses progress.Starved output taken steps before after old new =
 
 -- ---- the run
 
--- what putting the end answers
+-- what putting the block and the end behind it answers
 abbrev pub FinishSays :
-    Ran → List (List ℕ) → Finish → ℕ → SinkState → SinkState → Type 0
+    Ran → List (List ℕ) → Finish → ℕ → BlockState → SinkState → Type 0
 FinishSays (ran.Whole how) denied due steps old new =
-    (how ≡ due) × PutsPieces put.Done (end_pieces denied (Some due) steps) old new
+    (how ≡ due)
+    × PutsPieces put.Done (old.pieces ++ end_pieces denied (Some due) steps) old.sink new
 FinishSays ran.Cut denied due steps old new =
-    PutsPieces put.Failed (end_pieces denied (Some due) steps) old new
+    PutsPieces put.Failed (old.pieces ++ end_pieces denied (Some due) steps) old.sink new
 FinishSays ran.Starved denied due steps old new = ⊥
+
+-- what putting the block answers where a link service found no memory
+abbrev pub StarvedSays : Ran → BlockState → SinkState → Type 0
+StarvedSays (ran.Whole how) old new = ⊥
+StarvedSays ran.Cut old new = PutsPieces put.Failed old.pieces old.sink new
+StarvedSays ran.Starved old new = PutsPieces put.Done old.pieces old.sink new
 
 pub record IsRan
     (extent : Extent) (how : Option Finish) (answer : Put) (denied : List (List ℕ))

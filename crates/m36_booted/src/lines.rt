@@ -1,21 +1,21 @@
-//! What is put of a turn: a line, characters as they are, or nothing.
+//! What is added to a block of a turn: a line, characters as they are, or nothing; and what stands at the end of a run.
 
-ghost use Rattle.std.specs.Prelude.{◌≡◌, ◌<◌, ◌+◌, ◌&&◌, ◌||◌, nat_eq, [], ◌∷◌, length, None, Some, MatchOption};
+ghost use Rattle.std.specs.Prelude.{◌≡◌, ◌<◌, ◌+◌, ◌&&◌, ◌||◌, nat_eq, [], ◌∷◌, ◌++◌, length, None, Some, MatchOption};
 ghost use Rattle.m36_step.specs.declared.turns.Turn.TheVariants as turn;
 ghost use Rattle.m36_reading.specs.Outside.{sink_of};
 ghost use Rattle.m36_ran.specs.Output.{as_line};
 ghost use Rattle.m36_booted.specs.RunText.{characters, pieces_of, finish_line};
 ghost use Rattle.m36_booted.specs.RunText.{denied_at, denied_by, denied_segment, line_for};
 ghost use Rattle.m36_booted.specs.RunText.{denied_pieces, end_pieces};
-ghost use Rattle.m36_booted.specs.RunSays.{PutsPieces};
+ghost use Rattle.m36_booted.specs.RunSays.{PutsPieces, AddsPieces, block_of};
 
 use crate::command::RunOutput;
 use crate::running::Finish;
 use arrayvec::{ArrayString, ArrayVec};
 use m36_acl::DeniedLines;
 use m36_model::{End, Fault, Outcome, StepRecord};
-use m36_outside::{Put, Sink};
-use m36_ran::running::put_line;
+use m36_outside::{Block, Put, Sink};
+use m36_ran::running::add_line;
 use m36_step::{ConsoleNote, LinkNote};
 use m36_trace::{end_line, line};
 use m36_turns::{console_line, link_line, run_end_line};
@@ -23,96 +23,110 @@ use m36_turns::{console_line, link_line, run_end_line};
 // The number of the first segment of a catalog.
 const FIRST_SEGMENT: u16 = 64;
 
-// Puts bytes in one piece.
-#[tactic(auto, using(crate::proofs::Pieces::putting))]
-fn put_piece<S: Sink>(piece: &[u8], out: &mut S) -> Put
-    ensures { PutsPieces result (piece.now ∷ [])
-        (sink_of S.written S.taken S.faults out.old) (sink_of S.written S.taken S.faults out.new) }
+// Adds bytes as one piece.
+#[tactic(auto, using(crate::proofs::Gathering::adding))]
+fn add_piece<S: Sink>(piece: &[u8], block: &mut Block, out: &mut S) -> Put
+    ensures { AddsPieces result (piece.now ∷ [])
+        (block_of block.old (sink_of S.written S.taken S.faults out.old))
+        (block_of block.new (sink_of S.written S.taken S.faults out.new)) }
 {
-    out.put(piece)
+    block.add(piece, out)
 }
 
-// Puts a line with its line feed, in one piece.
-#[tactic(auto, using(crate::proofs::Pieces::putting))]
-fn put_text<S: Sink>(text: ArrayString<160>, out: &mut S) -> Put
+// Adds a line with its line feed, as one piece.
+#[tactic(auto, using(crate::proofs::Gathering::adding))]
+fn add_text<S: Sink>(text: ArrayString<160>, block: &mut Block, out: &mut S) -> Put
     requires { length text.bytes < 160 }
-    ensures { PutsPieces result (as_line text.bytes ∷ [])
-        (sink_of S.written S.taken S.faults out.old) (sink_of S.written S.taken S.faults out.new) }
+    ensures { AddsPieces result (as_line text.bytes ∷ [])
+        (block_of block.old (sink_of S.written S.taken S.faults out.old))
+        (block_of block.new (sink_of S.written S.taken S.faults out.new)) }
 {
-    put_line(out, text)
+    add_line(block, text, out)
 }
 
 // The same of bytes.
-fn put_bytes<S: Sink, const N: usize>(mut text: ArrayVec<u8, N>, out: &mut S) -> Put
+fn add_bytes<S: Sink, const N: usize>(
+    mut text: ArrayVec<u8, N>,
+    block: &mut Block,
+    out: &mut S,
+) -> Put
     requires { length text.items < N }
-    ensures { PutsPieces result (as_line text.entry.items ∷ [])
-        (sink_of S.written S.taken S.faults out.old) (sink_of S.written S.taken S.faults out.new) }
+    ensures { AddsPieces result (as_line text.entry.items ∷ [])
+        (block_of block.old (sink_of S.written S.taken S.faults out.old))
+        (block_of block.new (sink_of S.written S.taken S.faults out.new)) }
 {
     text.push(b'\n');
-    put_piece(text.as_slice(), out)
+    add_piece(text.as_slice(), block, out)
 }
 
-// Puts the characters of a console service, as they are; nothing where there are none.
-#[tactic(auto, using(crate::proofs::Pieces::putting))]
-fn put_characters<S: Sink>(note: &ConsoleNote, out: &mut S) -> Put
-    ensures { PutsPieces result (characters note.now)
-        (sink_of S.written S.taken S.faults out.old) (sink_of S.written S.taken S.faults out.new) }
+// Adds the characters of a console service, as they are; nothing where there are none.
+#[tactic(auto, using(crate::proofs::Gathering::adding))]
+fn add_characters<S: Sink>(note: &ConsoleNote, block: &mut Block, out: &mut S) -> Put
+    ensures { AddsPieces result (characters note.now)
+        (block_of block.old (sink_of S.written S.taken S.faults out.old))
+        (block_of block.new (sink_of S.written S.taken S.faults out.new)) }
 {
     let bytes = note.bytes.as_slice();
     if bytes.is_empty() {
         Put::Done
     } else {
-        put_piece(bytes, out)
+        add_piece(bytes, block, out)
     }
 }
 
-/// Puts what is told of a step before which so many were taken.
-#[tactic(auto, using(crate::proofs::Pieces::putting))]
-pub(crate) fn put_step<S: Sink>(
+/// Adds what is told of a step before which so many were taken.
+#[tactic(auto, using(crate::proofs::Gathering::adding))]
+pub(crate) fn add_step<S: Sink>(
     output: RunOutput,
     taken: u32,
     told: &StepRecord,
+    block: &mut Block,
     out: &mut S,
 ) -> Put
-    ensures { PutsPieces result (pieces_of output taken (turn.Stepped told.now))
-        (sink_of S.written S.taken S.faults out.old) (sink_of S.written S.taken S.faults out.new) }
+    ensures { AddsPieces result (pieces_of output taken (turn.Stepped told.now))
+        (block_of block.old (sink_of S.written S.taken S.faults out.old))
+        (block_of block.new (sink_of S.written S.taken S.faults out.new)) }
 {
     match output {
         RunOutput::Console => Put::Done,
-        RunOutput::Trace => put_text(line(taken as u64 + 1, told), out),
+        RunOutput::Trace => add_text(line(taken as u64 + 1, told), block, out),
     }
 }
 
-/// Puts what is told of a link service.
-#[tactic(auto, using(crate::proofs::Pieces::putting))]
-pub(crate) fn put_linked<S: Sink>(
+/// Adds what is told of a link service.
+#[tactic(auto, using(crate::proofs::Gathering::adding))]
+pub(crate) fn add_linked<S: Sink>(
     output: RunOutput,
     taken: u32,
     note: &LinkNote,
+    block: &mut Block,
     out: &mut S,
 ) -> Put
-    ensures { PutsPieces result (pieces_of output taken (turn.Linked note.now))
-        (sink_of S.written S.taken S.faults out.old) (sink_of S.written S.taken S.faults out.new) }
+    ensures { AddsPieces result (pieces_of output taken (turn.Linked note.now))
+        (block_of block.old (sink_of S.written S.taken S.faults out.old))
+        (block_of block.new (sink_of S.written S.taken S.faults out.new)) }
 {
     match output {
         RunOutput::Console => Put::Done,
-        RunOutput::Trace => put_bytes(link_line(note), out),
+        RunOutput::Trace => add_bytes(link_line(note), block, out),
     }
 }
 
-/// Puts what is told of a console service.
-pub(crate) fn put_printed<S: Sink>(
+/// Adds what is told of a console service.
+pub(crate) fn add_printed<S: Sink>(
     output: RunOutput,
     taken: u32,
     note: &ConsoleNote,
+    block: &mut Block,
     out: &mut S,
 ) -> Put
-    ensures { PutsPieces result (pieces_of output taken (turn.Console note.now))
-        (sink_of S.written S.taken S.faults out.old) (sink_of S.written S.taken S.faults out.new) }
+    ensures { AddsPieces result (pieces_of output taken (turn.Console note.now))
+        (block_of block.old (sink_of S.written S.taken S.faults out.old))
+        (block_of block.new (sink_of S.written S.taken S.faults out.new)) }
 {
     match output {
-        RunOutput::Console => put_characters(note, out),
-        RunOutput::Trace => put_bytes(console_line(note), out),
+        RunOutput::Console => add_characters(note, block, out),
+        RunOutput::Trace => add_bytes(console_line(note), block, out),
     }
 }
 
@@ -183,31 +197,58 @@ fn denied_line(denied: &DeniedLines, how: Finish) -> Option<&[u8]>
     line_of_segment(denied, denied_segment(how)?)
 }
 
-// Puts what stands behind the end line.
-#[tactic(auto, using(crate::proofs::Pieces::putting), unfolding(crate::specs::RunText::denied_pieces))]
-fn put_denied<S: Sink>(denied: &DeniedLines, how: Finish, out: &mut S) -> Put
-    ensures { PutsPieces result (denied_pieces denied.now how)
-        (sink_of S.written S.taken S.faults out.old) (sink_of S.written S.taken S.faults out.new) }
+// Adds what stands behind the end line.
+#[tactic(auto, using(crate::proofs::Gathering::adding), unfolding(crate::specs::RunText::denied_pieces))]
+fn add_denied<S: Sink>(denied: &DeniedLines, how: Finish, block: &mut Block, out: &mut S) -> Put
+    ensures { AddsPieces result (denied_pieces denied.now how)
+        (block_of block.old (sink_of S.written S.taken S.faults out.old))
+        (block_of block.new (sink_of S.written S.taken S.faults out.new)) }
 {
     match denied_line(denied, how) {
-        Some(line) => put_piece(line, out),
+        Some(line) => add_piece(line, block, out),
         None => Put::Done,
     }
 }
 
-/// Puts the end line of a run of so many steps, and what stands behind it.
-#[tactic(auto, using(crate::proofs::Pieces::first_then, crate::proofs::Pieces::first_cut))]
+// Adds the end line of a run of so many steps, and what stands behind it.
+fn add_finish<S: Sink>(
+    how: &Finish,
+    steps: u32,
+    denied: &DeniedLines,
+    block: &mut Block,
+    out: &mut S,
+) -> Put
+    ensures { AddsPieces result (end_pieces denied.now (Some how.now) steps)
+        (block_of block.old (sink_of S.written S.taken S.faults out.old))
+        (block_of block.new (sink_of S.written S.taken S.faults out.new)) }
+{
+    match add_text(finish_line(*how, steps), block, out) {
+        Put::Done => add_denied(denied, *how, block, out),
+        Put::Failed => Put::Failed,
+    }
+}
+
+/// Puts what is in a block.
+pub(crate) fn put_gathered<S: Sink>(block: &mut Block, out: &mut S) -> Put
+    ensures { PutsPieces result block.old
+        (sink_of S.written S.taken S.faults out.old) (sink_of S.written S.taken S.faults out.new) }
+{
+    block.hand_over(out)
+}
+
+/// Puts what is in a block, and behind it the end line of a run of so many steps with what stands behind that.
 pub(crate) fn put_finish<S: Sink>(
     how: &Finish,
     steps: u32,
     denied: &DeniedLines,
+    block: &mut Block,
     out: &mut S,
 ) -> Put
-    ensures { PutsPieces result (end_pieces denied.now (Some how.now) steps)
+    ensures { PutsPieces result (block.old ++ end_pieces denied.now (Some how.now) steps)
         (sink_of S.written S.taken S.faults out.old) (sink_of S.written S.taken S.faults out.new) }
 {
-    match put_text(finish_line(*how, steps), out) {
-        Put::Done => put_denied(denied, *how, out),
+    match add_finish(how, steps, denied, block, out) {
+        Put::Done => put_gathered(block, out),
         Put::Failed => Put::Failed,
     }
 }

@@ -1,15 +1,16 @@
-//! A run of a booted system, written as it goes.
+//! A run of a booted system. What is written of it is gathered in a block, which is handed over when it is full and at the
+//! end, however the run ends.
 
 ghost use Rattle.std.specs.Prelude.{◌≡◌, ◌<◌, ◌+◌, ◌^◌};
 ghost use Rattle.m36_reading.specs.Outside.{sink_of};
 ghost use Rattle.m36_super.specs.declared.coming.Coming.TheVariants.{Step, Link, Print};
-ghost use Rattle.m36_booted.specs.RunSays.{BehindLink, BehindSays, Progresses, FinishSays, RanSays};
+ghost use Rattle.m36_booted.specs.RunSays.{BehindLink, BehindSays, block_of, Progresses, FinishSays, StarvedSays, RanSays};
 
 use crate::command::RunOutput;
-use crate::lines::{put_finish, put_linked, put_printed, put_step};
+use crate::lines::{add_linked, add_printed, add_step, put_finish, put_gathered};
 use m36_acl::DeniedLines;
 use m36_model::{At, End, StepRecord};
-use m36_outside::{Put, Sink};
+use m36_outside::{Block, Put, Sink};
 use m36_step::{Stepper, Turn};
 use m36_super::{Coming, Super};
 
@@ -33,7 +34,8 @@ pub enum Ran {
     Starved,
 }
 
-/// What a step with its service comes to, or a service alone. What is told of them is written but for `Cut`.
+/// What a step with its service comes to, or a service alone. What is told of them is written or in
+/// the block but for `Cut`.
 #[derive(Clone, Copy)]
 pub enum Progress {
     /// A step follows.
@@ -60,13 +62,21 @@ fn behind_link(system: &Super) -> Progress
 
 // Makes a link service.
 #[tactic(auto, using(crate::proofs::Serving::services))]
-fn link<S: Sink>(system: &mut Super, at: At, taken: u32, output: RunOutput, out: &mut S) -> Progress
+fn link<S: Sink>(
+    system: &mut Super,
+    at: At,
+    taken: u32,
+    output: RunOutput,
+    block: &mut Block,
+    out: &mut S,
+) -> Progress
     requires { system.old.coming ≡ Link at }
     ensures { Progresses result output taken 0 system.old system.new
-        (sink_of S.written S.taken S.faults out.old) (sink_of S.written S.taken S.faults out.new) }
+        (block_of block.old (sink_of S.written S.taken S.faults out.old))
+        (block_of block.new (sink_of S.written S.taken S.faults out.new)) }
 {
     match system.turn() {
-        Turn::Linked(note) => match put_linked(output, taken, &note, out) {
+        Turn::Linked(note) => match add_linked(output, taken, &note, block, out) {
             Put::Failed => Progress::Cut,
             Put::Done => behind_link(system),
         },
@@ -77,13 +87,20 @@ fn link<S: Sink>(system: &mut Super, at: At, taken: u32, output: RunOutput, out:
 
 // Makes a console service.
 #[tactic(auto, using(crate::proofs::Serving::services))]
-fn print<S: Sink>(system: &mut Super, taken: u32, output: RunOutput, out: &mut S) -> Progress
+fn print<S: Sink>(
+    system: &mut Super,
+    taken: u32,
+    output: RunOutput,
+    block: &mut Block,
+    out: &mut S,
+) -> Progress
     requires { system.old.coming ≡ Print }
     ensures { Progresses result output taken 0 system.old system.new
-        (sink_of S.written S.taken S.faults out.old) (sink_of S.written S.taken S.faults out.new) }
+        (block_of block.old (sink_of S.written S.taken S.faults out.old))
+        (block_of block.new (sink_of S.written S.taken S.faults out.new)) }
 {
     match system.turn() {
-        Turn::Console(note) => match put_printed(output, taken, &note, out) {
+        Turn::Console(note) => match add_printed(output, taken, &note, block, out) {
             Put::Failed => Progress::Cut,
             Put::Done => Progress::On,
         },
@@ -94,14 +111,21 @@ fn print<S: Sink>(system: &mut Super, taken: u32, output: RunOutput, out: &mut S
 
 // Makes the service that comes next, if one does.
 #[tactic(auto, using(crate::proofs::Serving::services))]
-fn serve<S: Sink>(system: &mut Super, taken: u32, output: RunOutput, out: &mut S) -> Progress
+fn serve<S: Sink>(
+    system: &mut Super,
+    taken: u32,
+    output: RunOutput,
+    block: &mut Block,
+    out: &mut S,
+) -> Progress
     ensures { Progresses result output taken 0 system.old system.new
-        (sink_of S.written S.taken S.faults out.old) (sink_of S.written S.taken S.faults out.new) }
+        (block_of block.old (sink_of S.written S.taken S.faults out.old))
+        (block_of block.new (sink_of S.written S.taken S.faults out.new)) }
 {
     match system.coming() {
         Coming::Step => Progress::On,
-        Coming::Link(at) => link(system, at, taken, output, out),
-        Coming::Print => print(system, taken, output, out),
+        Coming::Link(at) => link(system, at, taken, output, block, out),
+        Coming::Print => print(system, taken, output, block, out),
         Coming::Over(end) => Progress::Over(end),
     }
 }
@@ -114,28 +138,47 @@ fn take_step<S: Sink>(
     taken: u32,
     output: RunOutput,
     told: &mut StepRecord,
+    block: &mut Block,
     out: &mut S,
 ) -> Progress
     requires step { system.old.coming ≡ Step }
     requires few { taken + 1 < 2 ^ 32 }
     ensures { Progresses result output taken 1 system.old system.new
-        (sink_of S.written S.taken S.faults out.old) (sink_of S.written S.taken S.faults out.new) }
+        (block_of block.old (sink_of S.written S.taken S.faults out.old))
+        (block_of block.new (sink_of S.written S.taken S.faults out.new)) }
 {
     system.step_told(told);
-    match put_step(output, taken, told, out) {
+    match add_step(output, taken, told, block, out) {
         Put::Failed => Progress::Cut,
-        Put::Done => serve(system, taken + 1, output, out),
+        Put::Done => serve(system, taken + 1, output, block, out),
     }
 }
 
-// Puts the end of a run of so many steps.
-fn write_end<S: Sink>(how: Finish, steps: u32, denied: &DeniedLines, out: &mut S) -> Ran
+// Puts what is in the block and the end of a run of so many steps.
+fn write_end<S: Sink>(
+    how: Finish,
+    steps: u32,
+    denied: &DeniedLines,
+    block: &mut Block,
+    out: &mut S,
+) -> Ran
     ensures { FinishSays result denied.now how steps
-        (sink_of S.written S.taken S.faults out.old) (sink_of S.written S.taken S.faults out.new) }
+        (block_of block.old (sink_of S.written S.taken S.faults out.old)) (sink_of S.written S.taken S.faults out.new) }
 {
-    match put_finish(&how, steps, denied, out) {
+    match put_finish(&how, steps, denied, block, out) {
         Put::Failed => Ran::Cut,
         Put::Done => Ran::Whole(how),
+    }
+}
+
+// Puts what is in the block of a run in which a link service found no memory.
+fn write_starved<S: Sink>(block: &mut Block, out: &mut S) -> Ran
+    ensures { StarvedSays result
+        (block_of block.old (sink_of S.written S.taken S.faults out.old)) (sink_of S.written S.taken S.faults out.new) }
+{
+    match put_gathered(block, out) {
+        Put::Failed => Ran::Cut,
+        Put::Done => Ran::Starved,
     }
 }
 
@@ -152,18 +195,21 @@ pub fn run<S: Sink>(
     ensures { RanSays result denied.now output steps system.old
         (sink_of S.written S.taken S.faults out.old) (sink_of S.written S.taken S.faults out.new) }
 {
+    let mut block = Block::new();
     let mut told = system.untold();
     let mut taken: u32 = 0;
     let mut left = steps;
     'steps: while left > 0 {
-        match take_step(system, taken, output, &mut told, out) {
+        match take_step(system, taken, output, &mut told, &mut block, out) {
             Progress::On => {}
-            Progress::Over(end) => return write_end(Finish::Over(end), taken + 1, denied, out),
+            Progress::Over(end) => {
+                return write_end(Finish::Over(end), taken + 1, denied, &mut block, out);
+            }
             Progress::Cut => return Ran::Cut,
-            Progress::Starved => return Ran::Starved,
+            Progress::Starved => return write_starved(&mut block, out),
         }
         taken += 1;
         left -= 1;
     }
-    write_end(Finish::Limit, taken, denied, out)
+    write_end(Finish::Limit, taken, denied, &mut block, out)
 }

@@ -21,8 +21,8 @@ pub(crate) fn copy_out(core: &Core, frame: u32, words: &mut [Word], from: usize)
     }
 }
 
-/// Copies words from a place on into a frame.
-pub(crate) fn copy_in(core: &mut Core, frame: u32, words: &[Word], from: usize)
+// Copies the words of a page into a frame.
+fn copy_whole(core: &mut Core, frame: u32, words: &[Word], from: usize)
     requires frame { 1024 * frame + 1024 ≤ length core.old }
     requires room { from + 1024 ≤ length words.now }
     ensures { IsCopied words.now from core.old (1024 * frame) core.new }
@@ -31,5 +31,33 @@ pub(crate) fn copy_in(core: &mut Core, frame: u32, words: &[Word], from: usize)
     let page = core.page_mut(frame);
     for i in 0..PAGE {
         page[i] = words[from + i];
+    }
+}
+
+// The same of a page of which not all words may be there: zeros for those that are lacking.
+fn copy_part(core: &mut Core, frame: u32, words: &[Word], from: usize)
+    requires { 1024 * frame + 1024 ≤ length core.old }
+    ensures { IsCopied words.now from core.old (1024 * frame) core.new }
+{
+    frame_law();
+    let page = core.page_mut(frame);
+    let count = PAGE.min(words.len().saturating_sub(from));
+    for i in 0..count {
+        page[i] = words[from + i];
+    }
+    for k in count..PAGE {
+        page[k] = Word::ZERO;
+    }
+}
+
+/// Copies words from a place on into a frame, and zeros for those that are lacking.
+pub(crate) fn copy_in(core: &mut Core, frame: u32, words: &[Word], from: usize)
+    requires { 1024 * frame + 1024 ≤ length core.old }
+    ensures { IsCopied words.now from core.old (1024 * frame) core.new }
+{
+    if words.len().saturating_sub(from) >= PAGE {
+        copy_whole(core, frame, words, from);
+    } else {
+        copy_part(core, frame, words, from);
     }
 }

@@ -5,12 +5,16 @@
 //! must stay is never taken; and after `Pager::new` no memory is taken. The page that gives way is chosen by a hand that
 //! goes round the frames and passes over, once, a page whose used mark is on, which it puts off.
 //!
+//! `Pager::new` finds room for the words of all pages, and writes there only those that are given. The zeros behind them
+//! are not written until a word behind them is kept, so a large segment of few words costs no more than a small one.
+//!
 //! Source: Multics Processor Manual AL39, "Paging"; the choice is after Corbato, "A Paging Experiment with the Multics
 //! System" (1968).
 #![tactic(auto)]
 
 mod choice;
 mod copying;
+mod kept;
 pub mod pager;
 mod residence;
 mod table;

@@ -1,13 +1,13 @@
 //! Page tables.
 
-ghost use Rattle.std.specs.Prelude.{◌≡◌, ◌+◌, ◌*◌, ◌≤◌, ◌<◌, length, position, slice_index, slice_set, drop, ◌&&◌, map, replicate, ◌++◌, ◌-◌, Some, All, IsSome, IfSome, IfOk};
+ghost use Rattle.std.specs.Prelude.{◌≡◌, ◌+◌, ◌*◌, ◌≤◌, ◌<◌, length, position, slice_index, slice_set, drop, ◌&&◌, map, Some, All, IsSome, IfSome, IfOk};
 ghost use Rattle.m36_page.specs.Changes.{AreAbsent};
 ghost use Rattle.m36_page.specs.Copied.{IsCopied};
 ghost use Rattle.m36_page.specs.Given.{table_given, fits_below, is_apart, are_placed};
 ghost use Rattle.std.specs.List.{list_all};
 ghost use Rattle.m36_page.specs.Residence.{is_of, table_of};
 
-use crate::copying::{copy_in, copy_out};
+use crate::kept::KeptWords;
 use crate::residence::put_all_absent;
 use m36_core::Core;
 use m36_word::{NoMemory, Word, Words};
@@ -75,7 +75,7 @@ pub fn are_placed(first: u32, tables: &[PageTable]) -> bool
 // A page table with the words that are kept, of every page of it.
 #[derive(Debug, Drop)]
 pub(crate) struct Table {
-    pub(crate) words: Vec<Word>,
+    pub(crate) words: KeptWords,
     pub(crate) at: u32,
     pub(crate) seg: u16,
     pub(crate) pages: u16,
@@ -86,7 +86,7 @@ impl Model for Table {
 
     ghost Value = { TableFields };
 
-    ghost view = { λ t. record { seg = t.seg; at = t.at; pages = t.pages; words = t.words.items } };
+    ghost view = { λ t. record { seg = t.seg; at = t.at; pages = t.pages; words = t.words } };
 }
 
 fn is_of(seg: u16, table: &Table) -> bool
@@ -126,7 +126,7 @@ pub(crate) fn copy_page_out(table: &mut Table, page: u16, core: &Core, frame: u3
     ensures words { IsCopied core.now (1024 * frame) table.old.words (1024 * page) table.new.words }
     ensures others { table.new ≡ record table.old { words = table.new.words } }
 {
-    copy_out(core, frame, &mut table.words, PAGE * page as usize);
+    table.words.keep_page(PAGE * page as usize, core, frame);
 }
 
 /// Copies the words that are kept of a page into a frame.
@@ -135,7 +135,7 @@ pub(crate) fn copy_page_in(table: &Table, page: u16, core: &mut Core, frame: u32
     requires room { 1024 * page + 1024 ≤ length table.now.words }
     ensures { IsCopied table.now.words (1024 * page) core.old (1024 * frame) core.new }
 {
-    copy_in(core, frame, &table.words, PAGE * page as usize);
+    table.words.give_page(PAGE * page as usize, core, frame);
 }
 
 /// A table as it is given, with every word of its pages.
@@ -145,22 +145,11 @@ pub(crate) fn table_given(alloc: Global, given: &PageTable) -> Result<Table, NoM
 {
     let words = given.words.slice();
     Ok(Table {
-        words: filled(alloc, words, PAGE * given.pages as usize)?,
+        words: KeptWords::new(alloc, words, PAGE * given.pages as usize)?,
         at: given.at,
         seg: given.seg,
         pages: given.pages,
     })
-}
-
-// Words with zeros behind them, so many in all.
-fn filled(alloc: Global, words: &[Word], count: usize) -> Result<Vec<Word>, NoMemory>
-    requires { length words.now ≤ count }
-    ensures { IfOk result (λ v. v.items ≡ words.now ++ replicate (count - length words.now) 0) }
-{
-    let mut all = Vec::with_capacity(alloc, count)?;
-    all.extend_from_slice(words)?;
-    all.resize(count, Word::ZERO)?;
-    Ok(all)
 }
 
 /// Tables as they are given.
@@ -180,7 +169,7 @@ pub(crate) fn word_of(table: &Table, word: u32) -> Word
     requires { word < length table.now.words }
     ensures { result ≡ slice_index table.now.words word }
 {
-    table.words[word as usize]
+    table.words.word(word as usize)
 }
 
 /// Keeps another word for a word.
@@ -188,7 +177,7 @@ pub(crate) fn put_word(table: &mut Table, word: u32, value: Word)
     requires { word < length table.old.words }
     ensures { table.new ≡ record table.old { words = slice_set table.old.words word value } }
 {
-    table.words[word as usize] = value;
+    table.words.put(word as usize, value);
 }
 
 /// Writes the page table words of tables, all as of pages in no frame.

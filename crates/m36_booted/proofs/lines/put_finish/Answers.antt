@@ -1,32 +1,27 @@
--- The end line was put, and what stands behind it; or the end line was not.
-use Rattle.std.proofs.Common.{List, ℕ, [], ◌∷◌, subst}
+-- All was added, and the block was put; or a put failed before.
+use Rattle.std.proofs.Common.{Some, subst}
 use Rattle.m36_outside.specs.declared.sink.Put.{Put}
-use Rattle.m36_outside.specs.declared.sink.Put.TheVariants as put
 use Rattle.m36_reading.specs.Outside.{sink_of}
-use Rattle.m36_ran.specs.Output.{as_line}
-use Rattle.m36_booted.specs.RunText.{finish_line, denied_pieces}
-use Rattle.m36_booted.specs.RunSays.{PutsPieces}
-use Rattle.m36_booted.proofs.Pieces.{first_then, first_cut}
+use Rattle.m36_booted.specs.RunText.{end_pieces}
+use Rattle.m36_booted.specs.RunSays.{block_of, AddsPieces}
+use Rattle.m36_booted.proofs.Gathering.{put_all, lost_of}
 use Rattle.m36_booted.proofs.lines.put_finish.Goals as goal
 
 pub returns-in-Done : goal.returns-in-Done
 returns-in-Done g c =
     let s = g.S.Sink in
     let sink = sink_of s.written s.taken s.faults in
-    let old = sink c.args.out.now in
-    let now = sink c.put_text.new.out in
-    let line = finish_line c.args.how.now c.args.steps in
-    let told = subst (λ (t : List ℕ). PutsPieces c.put_text.result (as_line t ∷ []) old now) c.finish_line.ensures.text c.put_text.ensures in
-    first_then c.put_denied.result (as_line line) (denied_pieces c.args.denied.now c.args.how.now) old now (sink c.put_denied.new.out)
-    (subst (λ (p : Put). PutsPieces p (as_line line ∷ []) old now) c.in-Done.is told) c.put_denied.ensures
+    let old = block_of c.args.block.now (sink c.args.out.now) in
+    let now = block_of c.add_finish.new.block (sink c.add_finish.new.out) in
+    let pieces = end_pieces c.args.denied.now (Some c.args.how.now) c.args.steps in
+    put_all c.put_gathered.result pieces old now (sink c.put_gathered.new.out)
+    (subst (λ (p : Put). AddsPieces p pieces old now) c.in-Done.is c.add_finish.ensures) c.put_gathered.ensures
 
 pub returns-in-Failed : goal.returns-in-Failed
 returns-in-Failed g c =
     let s = g.S.Sink in
     let sink = sink_of s.written s.taken s.faults in
-    let old = sink c.args.out.now in
-    let now = sink c.put_text.new.out in
-    let line = finish_line c.args.how.now c.args.steps in
-    let told = subst (λ (t : List ℕ). PutsPieces c.put_text.result (as_line t ∷ []) old now) c.finish_line.ensures.text c.put_text.ensures in
-    first_cut (as_line line) (denied_pieces c.args.denied.now c.args.how.now) old now
-    (subst (λ (p : Put). PutsPieces p (as_line line ∷ []) old now) c.in-Failed.is told)
+    let old = block_of c.args.block.now (sink c.args.out.now) in
+    let now = block_of c.add_finish.new.block (sink c.add_finish.new.out) in
+    let pieces = end_pieces c.args.denied.now (Some c.args.how.now) c.args.steps in
+    lost_of pieces old now (subst (λ (p : Put). AddsPieces p pieces old now) c.in-Failed.is c.add_finish.ensures)

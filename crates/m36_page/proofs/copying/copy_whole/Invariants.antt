@@ -1,5 +1,5 @@
 use Rattle.std.proofs.Common.{ℕ, ◌≡◌, ◌+◌, ◌<◌, get_or}
-use Rattle.m36_page.proofs.copying.copy_in.Given as goal
+use Rattle.m36_page.proofs.copying.copy_whole.Given as goal
 
 -- the first i words are copied
 abbrev pub invariant-loop-i : goal.invariant-loop-i
