@@ -60,38 +60,35 @@ pub(crate) fn drop_later<M: Replay + Drop>(kept: &mut Vec<Kept<M>>, target: u64)
     }
 }
 
-/// Drops the states whose numbers are no multiples of `distance`.
+/// Drops the states whose numbers have any of these bits.
 #[tactic(auto, using(crate::proofs::KeptLaws::keeping))]
-fn thin<M: Replay + Drop>(kept: &mut Vec<Kept<M>>, distance: u64)
-    requires { 0 < distance }
+fn thin<M: Replay + Drop>(kept: &mut Vec<Kept<M>>, mask: u64)
     ensures { (first : M) → AllKept M.after first kept.old.items → AllKept M.after first kept.new.items }
 {
-    kept.retain(|k| -> bool { k.at % distance == 0 });
+    kept.retain(|k| -> bool { k.at & mask == 0 });
 }
 
-/// Keeps a copy of the state with number `taken`, where one is due: where the number is a multiple of the distance. Where
-/// eight are kept already the distance is doubled first. Answers the distance from then on. A copy that finds no memory is
-/// not kept.
+// Keeps a copy of the state with number `taken`. Where eight are kept already the distance is doubled first, and the state may
+// be due no longer.
+#[cold]
+#[inline(never)]
 #[tactic(auto, using(crate::proofs::KeptLaws::keeping))]
-pub(crate) fn keep<M: Replay + Drop>(
+fn keep_due<M: Replay + Drop>(
     alloc: Global,
     kept: &mut Vec<Kept<M>>,
     machine: &M,
     taken: u64,
-    distance: u64,
+    mask: u64,
 ) -> u64
     ensures { (first : M) → AllKept M.after first kept.old.items → machine.now ≡ state_at M.after first taken
         → AllKept M.after first kept.new.items }
 {
-    if distance == 0 || taken % distance != 0 {
-        return distance;
-    }
-    let mut distance = distance;
+    let mut mask = mask;
     if kept.len() >= MOST_KEPT {
-        distance = distance.saturating_mul(2);
-        thin(kept, distance);
-        if taken % distance != 0 {
-            return distance;
+        mask = mask.saturating_mul(2) | 1;
+        thin(kept, mask);
+        if taken & mask != 0 {
+            return mask;
         }
     }
     match machine.copy(alloc) {
@@ -100,5 +97,27 @@ pub(crate) fn keep<M: Replay + Drop>(
             let _ = kept.push(Kept { at: taken, state });
         }
     }
-    distance
+    mask
+}
+
+/// Keeps a copy of the state with number `taken`, where one is due: where the number has none of the bits of `mask`, which are
+/// those below the distance, a power of 2. Where eight are kept already the distance is doubled first. Answers the mask from
+/// then on. A copy that finds no memory is not kept.
+#[inline]
+#[tactic(auto, using(crate::proofs::KeptLaws::keeping))]
+pub(crate) fn keep<M: Replay + Drop>(
+    alloc: Global,
+    kept: &mut Vec<Kept<M>>,
+    machine: &M,
+    taken: u64,
+    mask: u64,
+) -> u64
+    ensures { (first : M) → AllKept M.after first kept.old.items → machine.now ≡ state_at M.after first taken
+        → AllKept M.after first kept.new.items }
+{
+    if taken & mask == 0 {
+        keep_due(alloc, kept, machine, taken, mask)
+    } else {
+        mask
+    }
 }

@@ -11,8 +11,8 @@ use m36_word::Word;
 use std::alloc::Global;
 use std::marker::Model;
 
-/// How many steps the states that are kept stand apart to begin with.
-const FIRST_DISTANCE: u64 = 1024;
+/// The states that are kept stand 1,024 steps apart to begin with.
+const FIRST_MASK: u64 = 1024 - 1;
 
 /// A machine that goes back. It is seen as its first state and how many steps were taken from there and not taken back.
 #[derive(Drop)]
@@ -22,7 +22,8 @@ pub struct Past<M: Replay> {
     machine: M,
     taken: u64,
     kept: Vec<Kept<M>>,
-    distance: u64,
+    // A state is kept where its number has none of these bits.
+    mask: u64,
 }
 
 impl<M: Replay> Model for Past<M> {
@@ -51,7 +52,7 @@ impl<M: Replay + Drop> Past<M> {
                 machine: m,
                 taken: 0,
                 kept: Vec::new(alloc),
-                distance: FIRST_DISTANCE,
+                mask: FIRST_MASK,
             }),
         }
     }
@@ -88,22 +89,23 @@ impl<M: Replay + Drop> Stepper for Past<M> {
     ghost content = { λ h seg word. M.content (standing_at M.after h) seg word };
 
     /// A turn of the machine inside. Full is answered exactly where 2^64 - 1 steps are counted, and then nothing changes.
-    fn turn(&mut self) -> Turn {
+    #[inline]
+    fn turn_into(&mut self, turn: &mut Turn) {
         if self.taken == u64::MAX {
-            return Turn::Full;
+            *turn = Turn::Full;
+            return;
         }
-        let turn = self.machine.turn();
-        self.taken = count(self.taken, &turn);
+        self.machine.turn_into(turn);
+        self.taken = count(self.taken, turn);
         if let Turn::Stepped(_) = turn {
-            self.distance = keep(
+            self.mask = keep(
                 self.alloc,
                 &mut self.kept,
                 &self.machine,
                 self.taken,
-                self.distance,
+                self.mask,
             );
         }
-        turn
     }
 
     /// Goes back: Before exactly where fewer steps were taken. With every answer but Done nothing has changed.

@@ -3,7 +3,7 @@
 ghost use Rattle.std.specs.Prelude.{ℕ, ◌≡◌, ◌+◌};
 ghost use Rattle.m36_back.specs.History.{state_at};
 
-use m36_step::Replay;
+use m36_step::{Replay, Turn};
 
 /// Takes so many turns of a machine.
 #[tactic(auto, unfolding(crate::specs::History::state_at))]
@@ -11,9 +11,10 @@ pub(crate) fn replay<M: Replay>(machine: &mut M, turns: u64)
     ensures { (first : M) (n : ℕ) → machine.old ≡ state_at M.after first n
         → machine.new ≡ state_at M.after first (n + turns) }
 {
+    let mut turn = Turn::Full;
     let mut left = turns;
     'turns: while left > 0 {
-        let _ = machine.turn();
+        machine.turn_into(&mut turn);
         left -= 1;
     }
 }

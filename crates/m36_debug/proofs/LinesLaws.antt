@@ -172,8 +172,8 @@ pub all_whole :
 all_whole text rest lines are unbroken =
     ap whole_lines are.is ∙ whole_lines_on lines rest are.unbroken ∙ ap (λ l. lines ++ l) (whole_last rest unbroken) ∙ append-nil lines
 
--- some of them
-pub some_open :
-    (text rest : List ℕ) (lines : List (List ℕ)) → IsLines text lines rest → IsFirstPart lines (open_lines_of text)
-some_open text rest lines are =
-    record { rest = open_lines_of rest; is = ap open_lines_of are.is ∙ open_lines_on lines rest are.unbroken }
+-- some of the whole ones
+pub some_whole :
+    (text rest : List ℕ) (lines : List (List ℕ)) → IsLines text lines rest → IsFirstPart lines (whole_lines text)
+some_whole text rest lines are =
+    record { rest = whole_lines rest; is = ap whole_lines are.is ∙ whole_lines_on lines rest are.unbroken }

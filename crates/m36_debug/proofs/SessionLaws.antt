@@ -18,10 +18,10 @@ use Rattle.m36_debug.specs.PieceSays.{AnsweredAll, AnsweredQuit, AnsweredSome, A
 use Rattle.m36_debug.specs.Putting.{SinkSeen, PutAll, PutSome}
 use Rattle.m36_debug.specs.Session.{Turning, Doing, Waiting, Over, Starved, Standing, standing, lines_said, lines_in}
 use Rattle.m36_debug.specs.SessionLines.{session_line}
-use Rattle.m36_debug.specs.SessionSays.{LinesSeen, SessionSays, TookBy, CountBy, WroteBy, ReadHasCause, answer_of, bytes_limit, HasEnded, TookAll, EndInQuit, TookQuit, TookWhole}
+use Rattle.m36_debug.specs.SessionSays.{LinesSeen, SessionSays, TookBy, CountBy, WroteBy, ReadHasCause, answer_of, bytes_limit, HasEnded, TookAll, TookOpen, EndInQuit, TookQuit, TookWhole}
 use Rattle.m36_debug.specs.Sitting.{SittingFields, new_sitting}
 use Rattle.m36_debug.specs.Taking.{GotPiece, GotEnd, GotNothing}
-use Rattle.m36_debug.proofs.LinesLaws.{lines_none, lines_on, all_open, all_whole, some_open}
+use Rattle.m36_debug.proofs.LinesLaws.{lines_none, lines_on, all_open, all_whole, some_whole}
 use Rattle.m36_debug.proofs.PartLaws.{part_none, part_on, part_cut}
 use Rattle.m36_debug.proofs.PutLaws.{joined_on}
 use Rattle.m36_debug.proofs.QuitLaws.{IsNotQuit, no_quit, quit_last}
@@ -203,14 +203,23 @@ going_too_long o m m' before now after old new count left begun buffer sitting g
     (subst (λ t. TookWhole t g.lines Waiting) (sym first) (took_whole o m m' bytes begun g.lines sitting (PutAll old new) g.is g.unbroken g.part))
     g.part
 
--- all lines are a first part of all
-all_first :
-    (text bytes begun : List ℕ) (lines : List (List ℕ))
-    → text ≡ bytes → IsLines bytes lines begun → IsUnbroken begun
-    → IsFirstPart (lines ++ open_rest begun) (open_lines_of text)
-all_first text bytes begun lines same are unbroken = record {
-  rest = [];
-  is = ap open_lines_of same ∙ all_open bytes begun lines are unbroken ∙ sym (append-nil (lines ++ open_rest begun));
+-- the input has told its end
+told_end :
+    (now after : LinesSeen) (pieces : List (List ℕ)) → GotEnd now after → HasEnded (pieces ++ [] ∷ []) after
+told_end now after pieces got =
+    record { before = pieces; last = refl; none = subst (λ l. IfSome l (λ left. left ≡ [])) (sym got.stays) got.none }
+
+-- all its lines are a first part of all
+took_open :
+    (now after : LinesSeen) (pieces lines : List (List ℕ)) (begun : List ℕ)
+    → GotEnd now after → IsLines (joined pieces) lines begun → IsUnbroken begun
+    → TookOpen (pieces ++ [] ∷ []) (lines ++ open_rest begun) after
+took_open now after pieces lines begun got are unbroken = record {
+  some = record {
+    rest = [];
+    is = ap open_lines_of (joined_end pieces) ∙ all_open (joined pieces) begun lines are unbroken ∙ sym (append-nil (lines ++ open_rest begun));
+  };
+  ended = told_end now after pieces got;
 }
 
 -- the input has ended, and the line that has begun was answered, if there is one
@@ -228,7 +237,7 @@ going_end o ends.Line m m1 m2 before now after old mid new left begun sitting si
     (inr record {
       waits = refl;
       all = sym (ap open_lines_of (joined_end g.pieces) ∙ all_open (joined g.pieces) begun g.lines g.is g.unbroken);
-      ended = record { before = g.pieces; last = refl; none = subst (λ l. IfSome l (λ left. left ≡ [])) (sym got.stays) got.none };
+      ended = told_end now after g.pieces got;
     })
     (part_on o (standing new_sitting Waiting) m g.lines (open_rest begun) (standing sitting Waiting) m1 (standing sitting' Waiting) m2 old mid new g.part said)
 going_end o ends.Quit m m1 m2 before now after old mid new left begun sitting sitting' g got said =
@@ -239,7 +248,7 @@ going_end o ends.Quit m m1 m2 before now after old mid new left begun sitting si
     (got.faults ∙ g.faults)
     (inl record {
       over = refl;
-      some = all_first (joined (g.pieces ++ [] ∷ [])) (joined g.pieces) begun g.lines (joined_end g.pieces) g.is g.unbroken;
+      some = inr (took_open now after g.pieces g.lines begun got g.is g.unbroken);
       quit = part_quit o m m2 (g.lines ++ open_rest begun) sitting' (PutAll old new) part;
     })
     part
@@ -248,7 +257,7 @@ going_end o ends.Starved m m1 m2 before now after old mid new left begun sitting
     (came_end before now after g.pieces g.came got)
     (omega (arith, g.count, ap length (joined_end g.pieces)))
     (got.faults ∙ g.faults)
-    (all_first (joined (g.pieces ++ [] ∷ [])) (joined g.pieces) begun g.lines (joined_end g.pieces) g.is g.unbroken)
+    (inr (took_open now after g.pieces g.lines begun got g.is g.unbroken))
     (part_on o (standing new_sitting Waiting) m g.lines (open_rest begun) (standing sitting Waiting) m1 (standing sitting' Starved) m2 old mid new g.part said)
 going_end o ends.Cut m m1 m2 before now after old mid new left begun sitting sitting' g got said =
     let cut = part_cut o (standing new_sitting Waiting) m g.lines (open_rest begun) (standing sitting Waiting) m1 m2 old mid new g.part said in
@@ -256,7 +265,7 @@ going_end o ends.Cut m m1 m2 before now after old mid new left begun sitting sit
     (came_end before now after g.pieces g.came got)
     (omega (arith, g.count, ap length (joined_end g.pieces)))
     (got.faults ∙ g.faults)
-    (all_first (joined (g.pieces ++ [] ∷ [])) (joined g.pieces) begun g.lines (joined_end g.pieces) g.is g.unbroken)
+    (inr (took_open now after g.pieces g.lines begun got g.is g.unbroken))
     cut.part
 
 -- ---- a piece was taken
@@ -309,7 +318,7 @@ going_quit o m m1 m2 before now after old mid new count left begun buffer sittin
     (got.faults ∙ g.faults)
     (inl record {
       over = refl;
-      some = some_open (joined pieces) said.rest (g.lines ++ said.lines) (got_lines g.pieces g.lines said.lines begun (take count buffer) said.rest g.is said.is);
+      some = inl (some_whole (joined pieces) said.rest (g.lines ++ said.lines) (got_lines g.pieces g.lines said.lines begun (take count buffer) said.rest g.is said.is));
       quit = part_quit o m m2 (g.lines ++ said.lines) sitting' (PutAll old new) part;
     })
     part
@@ -326,7 +335,7 @@ going_starved o m m1 m2 before now after old mid new count left begun buffer sit
     (came_more before now after g.pieces (take count buffer) g.came got.gave got.came)
     (omega (arith, got_count g.pieces buffer count left g.count got.within got.room))
     (got.faults ∙ g.faults)
-    (some_open (joined pieces) said.rest (g.lines ++ said.lines) (got_lines g.pieces g.lines said.lines begun (take count buffer) said.rest g.is said.is))
+    (inl (some_whole (joined pieces) said.rest (g.lines ++ said.lines) (got_lines g.pieces g.lines said.lines begun (take count buffer) said.rest g.is said.is)))
     (part_on o (standing new_sitting Waiting) m g.lines said.lines (standing sitting Waiting) m1 said.stands m2 old mid new g.part said.part)
 
 -- the output could not be written
@@ -342,5 +351,5 @@ going_cut o m m1 m2 before now after old mid new count left begun buffer sitting
     (came_more before now after g.pieces (take count buffer) g.came got.gave got.came)
     (omega (arith, got_count g.pieces buffer count left g.count got.within got.room))
     (got.faults ∙ g.faults)
-    (some_open (joined pieces) said.rest (g.lines ++ said.lines) (got_lines g.pieces g.lines said.lines begun (take count buffer) said.rest g.is said.is))
+    (inl (some_whole (joined pieces) said.rest (g.lines ++ said.lines) (got_lines g.pieces g.lines said.lines begun (take count buffer) said.rest g.is said.is)))
     cut.part

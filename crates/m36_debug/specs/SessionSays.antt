@@ -37,12 +37,22 @@ pub record HasEnded (pieces : List (List ℕ)) (new : LinesSeen) : Type 0 where
   pub last : pieces ≡ before ++ [] ∷ []
   pub none : IfSome new.left (λ left. left ≡ [])
 
--- all lines were taken, the last of which may lack its line feed
-pub record TookAll (bytes : List ℕ) (pieces : List (List ℕ)) (lines : List (List ℕ)) (doing : Doing)
-    (new : LinesSeen) : Type 0 where
+-- all lines were taken, the last of which may lack its line feed, since the input has ended
+pub record TookAll (pieces lines : List (List ℕ)) (doing : Doing) (new : LinesSeen) : Type 0 where
   pub waits : doing ≡ Waiting
-  pub all : lines ≡ open_lines_of bytes
+  pub all : lines ≡ open_lines_of (joined pieces)
   pub ended : HasEnded pieces new
+
+-- the first lines of an input that has ended: of all its lines the last may lack its line feed
+pub record TookOpen (pieces lines : List (List ℕ)) (new : LinesSeen) : Type 0 where
+  pub some : IsFirstPart lines (open_lines_of (joined pieces))
+  pub ended : HasEnded pieces new
+
+-- The first lines were taken. While more may come they are whole ones: what stands behind the last
+-- line feed is a line only once the input has ended, and else the beginning of one.
+abbrev pub TookSome : List (List ℕ) → List (List ℕ) → LinesSeen → Type 0
+TookSome pieces lines new =
+    IsFirstPart lines (whole_lines (joined pieces)) ⊎ TookOpen pieces lines new
 
 -- the last of these lines is `quit`
 pub record EndInQuit (lines : List (List ℕ)) : Type 0 where
@@ -52,9 +62,9 @@ pub record EndInQuit (lines : List (List ℕ)) : Type 0 where
   pub quits : session_line last ≡ Quit
 
 -- some were, the last of which is `quit`
-pub record TookQuit (bytes : List ℕ) (lines : List (List ℕ)) (doing : Doing) : Type 0 where
+pub record TookQuit (pieces lines : List (List ℕ)) (doing : Doing) (new : LinesSeen) : Type 0 where
   pub over : doing ≡ Over
-  pub some : IsFirstPart lines (open_lines_of bytes)
+  pub some : TookSome pieces lines new
   pub quit : EndInQuit lines
 
 -- all whole lines were taken, and none is `quit`
@@ -67,14 +77,12 @@ pub record TookWhole (bytes : List ℕ) (lines : List (List ℕ)) (doing : Doing
 abbrev pub TookBy :
     Result (Unit {0}) SessionFault → List (List ℕ) → List (List ℕ) → Doing → LinesSeen → Type 0
 TookBy (Ok done) pieces lines doing new =
-    TookQuit (joined pieces) lines doing ⊎ TookAll (joined pieces) pieces lines doing new
+    TookQuit pieces lines doing new ⊎ TookAll pieces lines doing new
 TookBy (Err fault.ReadFault) pieces lines doing new = TookWhole (joined pieces) lines doing
 TookBy (Err fault.TooLong) pieces lines doing new =
     TookWhole (take bytes_limit (joined pieces)) lines doing
-TookBy (Err fault.WriteFault) pieces lines doing new =
-    IsFirstPart lines (open_lines_of (joined pieces))
-TookBy (Err fault.NoMemory) pieces lines doing new =
-    IsFirstPart lines (open_lines_of (joined pieces))
+TookBy (Err fault.WriteFault) pieces lines doing new = TookSome pieces lines new
+TookBy (Err fault.NoMemory) pieces lines doing new = TookSome pieces lines new
 
 -- how many bytes were taken: one more than the most tells that there are too many
 abbrev pub CountBy : Result (Unit {0}) SessionFault → ℕ → Type 0

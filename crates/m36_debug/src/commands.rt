@@ -47,6 +47,7 @@ pub enum Further {
 }
 
 /// Whether the next instruction stands at one of these breaks.
+#[inline]
 pub(crate) fn is_at_break(place: Ppr, breaks: &[Break]) -> bool
     ensures { result ≡ is_at_break place breaks.now }
 {
@@ -100,6 +101,7 @@ fn after_link(
 }
 
 /// What a command does after a turn, which left the machine at a break or not.
+#[inline(always)]
 #[tactic(auto, unfolding(crate::specs::Commands::after_turn))]
 pub(crate) fn after_turn(run: Run, at_break: bool, turn: &Turn) -> Further
     ensures { result ≡ after_turn run at_break turn.now }

@@ -63,6 +63,7 @@ impl Sitting {
     }
 
     /// What a command does after a turn that left these registers.
+    #[inline(always)]
     pub(crate) fn further(&self, run: Run, regs: &Regs, turn: &Turn) -> Further
         ensures { result ≡ after_turn run (is_at_break regs.now.ppr self.now.breaks) turn.now }
     {

@@ -118,6 +118,7 @@ pub(crate) fn put_unknown<S: Sink>(out: &mut S, line: &[u8]) -> Put
 }
 
 /// Tells a turn, where so many steps were taken before it.
+#[inline(never)]
 #[tactic(auto, unfolding(crate::specs::SessionTexts::turn_lines), using(crate::proofs::PutLaws::puts_nothing))]
 pub(crate) fn put_turn<S: Sink>(out: &mut S, taken: u64, turn: &Turn) -> Put
     requires { taken < 2 ^ 64 - 1 }

@@ -39,6 +39,7 @@ pub enum Ends {
 }
 
 // Tells where `go` has come to, once it is through.
+#[inline]
 #[tactic(auto, using(crate::proofs::PutLaws::puts_nothing))]
 fn put_go<S: Sink>(out: &mut S, regs: &Regs, sitting: &Sitting, next: Further) -> Put
     ensures { PutsLines result
@@ -55,6 +56,7 @@ fn put_go<S: Sink>(out: &mut S, regs: &Regs, sitting: &Sitting, next: Further) -
 }
 
 // Tells what a turn of a command says.
+#[inline(always)]
 fn put_command<S: Sink>(
     out: &mut S,
     command: Command,
@@ -104,11 +106,12 @@ fn told_turn(put: Put, turn: &Turn, next: Further) -> Came
     }
 }
 
-/// Takes a turn of a command, and writes what it says.
+/// Takes a turn of a command, and writes what it says. It is told in a `Turn` that an earlier one may have filled.
 pub(crate) fn take_turn<M: Stepper, S: Sink>(
     m: &mut M,
     run: Run,
     sitting: &mut Sitting,
+    turn: &mut Turn,
     out: &mut S,
 ) -> Came
     requires { sitting.old.taken < 2 ^ 64 - 1 }
@@ -120,12 +123,12 @@ pub(crate) fn take_turn<M: Stepper, S: Sink>(
     ensures counts { CameCounts result run.left sitting.old.taken sitting.new.taken }
 {
     let taken = sitting.taken();
-    let turn = m.turn();
-    sitting.note(&turn);
+    m.turn_into(turn);
+    sitting.note(turn);
     let regs = m.regs();
-    let next = sitting.further(run, regs, &turn);
-    let put = put_command(out, run.command, taken, regs, sitting, &turn, next);
-    told_turn(put, &turn, next)
+    let next = sitting.further(run, regs, turn);
+    let put = put_command(out, run.command, taken, regs, sitting, turn, next);
+    told_turn(put, turn, next)
 }
 
 /// Takes the turns of a command, and writes what they say.
@@ -142,10 +145,11 @@ pub(crate) fn run_command<M: Stepper, S: Sink>(
         (seen (S.written out.new) (S.taken out.new) (S.faults out.new)) }
     ensures taken { sitting.new.taken ≤ sitting.old.taken + first.left + 1 }
 {
+    let mut turn = Turn::Full;
     let mut run = first;
     let mut served = false;
     'turns: loop {
-        match take_turn(m, run, sitting, out) {
+        match take_turn(m, run, sitting, &mut turn, out) {
             Came::Runs(next, service) => {
                 run = next;
                 served = service;

@@ -1,28 +1,30 @@
 -- Ends of a command that holds a session.
 use Rattle.std.proofs.Common.{◌≡◌, ℕ, ◌⊎◌, List, ◌++◌, Result, Ok, Err, inl, inr, refl, sym, ap, subst}
-use Rattle.std.specs.Prelude.{codes}
+use Rattle.std.specs.Prelude.{codes, None}
 use Rattle.std.proofs.lemmas.List.{append-nil}
 use Rattle.m36_model.specs.Store.{State}
 use Rattle.m36_step.specs.MachineFields.{MachineFields}
 use Rattle.m36_back.specs.History.{History}
 use Rattle.m36_super.specs.SuperFields.{SuperFields}
-use Rattle.m36_booted.specs.Folder.{FolderFields}
+use Rattle.m36_ran.specs.Ran.{state_reads}
+use Rattle.m36_booted.specs.Folder.{FolderFields, folder_reads}
 use Rattle.m36_booted.specs.Systems.{IsFresh}
 use Rattle.m36_reading.specs.declared.refusal.Refusal.{Refusal}
 use Rattle.m36_reading.specs.declared.status.Status.{Status}
 use Rattle.m36_reading.specs.declared.status.Status.TheVariants.{Done}
 use Rattle.m36_reading.specs.declared.status.Status.TheVariants as status
-use Rattle.m36_reading.specs.Asking.{Came}
+use Rattle.m36_reading.specs.Reading.{Reading, Early}
+use Rattle.m36_reading.specs.Asking.{Asked, Came}
 use Rattle.m36_reading.specs.Answers.{status_of}
 use Rattle.m36_reading.specs.Outside.{FolderState, SinkState}
 use Rattle.m36_reading.specs.Ends.{End, Answered, Cut, Unread, Starved, Unasked, end_of}
-use Rattle.m36_reading.specs.Doing.{EndsBy, Performs}
+use Rattle.m36_reading.specs.Doing.{Reads, EndsBy, Performs}
 use Rattle.m36_debug.specs.declared.fault.SessionFault.{SessionFault}
 use Rattle.m36_debug.specs.declared.fault.SessionFault.TheVariants as fault
 use Rattle.m36_debug.specs.Session.{Turning}
 use Rattle.m36_debug.specs.SessionSays.{SessionSays}
 use Rattle.m36_sessions.specs.Held.{Talk, IsHeld, new_history, past_turning, super_turning, HoldsImage, HoldsFolder}
-use Rattle.m36_sessions.specs.Sessions.{Told, too_long, stdin_name, session_answer, session_kind, folder_kind, InputStands, session_status, sink_seen, PutsSession, PutsBy}
+use Rattle.m36_sessions.specs.Sessions.{Told, too_long, stdin_name, session_answer, session_kind, folder_kind, InputStands, session_status, sink_seen, PutsSession, PutsBy, IsSessionEnd, TakesInput, ImageTakes, FolderTakes}
 
 -- ---- a session was held
 
@@ -242,8 +244,78 @@ pub performs_booted :
 performs_booted given result talk f s s' p =
     performs_put (λ (g : FolderFields). HoldsFolder talk g.lib) given result talk f s s' p
 
+-- ---- what takes input
+
+takes_answered :
+    (Holds : Told) (result : Status) (talk : Talk) (s s' : SinkState)
+    → PutsBy Holds Answered result talk s s' → IsSessionEnd Holds result
+takes_answered Holds result talk s s' (inl p) =
+    record { ended = Ok tt; lines = p.puts.lines; holds = p.puts.holds; status = p.is }
+takes_answered Holds result talk s s' (inr p) =
+    record { ended = Err fault.TooLong; lines = p.puts.lines; holds = p.puts.holds; status = p.is }
+
+UntakenOrEnd : Told → Status → Talk → Type 0
+UntakenOrEnd Holds result talk = (talk.after ≡ talk.before) ⊎ IsSessionEnd Holds result
+
+-- by what is put
+takes_by :
+    (Holds : Told) (result : Status) (talk : Talk) (s s' : SinkState)
+    → PutsBy Holds (end_of result) result talk s s' → UntakenOrEnd Holds result talk
+unfolding UntakenOrEnd
+takes_by Holds Done talk s s' p = inr (takes_answered Holds Done talk s s' p)
+takes_by Holds status.AuditNo talk s s' p = inr (takes_answered Holds status.AuditNo talk s s' p)
+takes_by Holds (status.MachineStop end) talk s s' p = inr (takes_answered Holds (status.MachineStop end) talk s s' p)
+takes_by Holds status.Steps talk s s' p = inr (takes_answered Holds status.Steps talk s s' p)
+takes_by Holds (status.BadFile bad) talk s s' p = inr (takes_answered Holds (status.BadFile bad) talk s s' p)
+takes_by Holds status.WriteFault talk s s' p =
+    inr (record { ended = Err fault.WriteFault; lines = p.lines; holds = p.holds; status = refl })
+takes_by Holds status.ReadFault talk s s' p =
+    inr (record { ended = Err fault.ReadFault; lines = p.lines; holds = p.holds; status = refl })
+takes_by Holds status.NoMemory talk s s' (inl p) = inl p.untaken
+takes_by Holds status.NoMemory talk s s' (inr p) =
+    inr (record { ended = Err fault.NoMemory; lines = p.lines; holds = p.holds; status = refl })
+takes_by Holds status.Usage talk s s' p = absurd p
+
+takes_over :
+    {D : Type 0} (Holds : D → Told) (p : Reading (Early D)) (d : D) (result : Status) (talk : Talk) (f f' : FolderState) (s s' : SinkState) (before after : List Asked)
+    → Reads p (Ok d) f f' before after → PutsBy (Holds d) (end_of result) result talk s s'
+    → TakesInput Holds p result talk before after
+unfolding UntakenOrEnd
+takes_over Holds p d result talk f f' s s' before after reads puts =
+    elim (takes_by (Holds d) result talk s s' puts) [
+      | inl same ↦ inl same
+      | inr end ↦ inr (record { asked = reads.asked; passed = reads.passed; given = d; came = reads.comes; session = end })
+    ]
+
+-- a session over the machine of an image
+pub image_takes :
+    (name : List ℕ) (state : State (List ℕ)) (result : Status) (talk : Talk) (f f' : FolderState) (s s' : SinkState) (before after : List Asked)
+    → Reads (state_reads name) (Ok state) f f' before after → PutsBy (HoldsImage talk state) (end_of result) result talk s s'
+    → ImageTakes name result talk before after
+image_takes name state result talk f f' s s' before after reads puts =
+    takes_over (HoldsImage talk) (state_reads name) state result talk f f' s s' before after reads puts
+
+-- over a booted system
+pub folder_takes :
+    (given : FolderFields) (result : Status) (talk : Talk) (f f' : FolderState) (s s' : SinkState) (before after : List Asked)
+    → Reads (folder_reads None) (Ok given) f f' before after → PutsBy (HoldsFolder talk given.lib) (end_of result) result talk s s'
+    → FolderTakes result talk before after
+folder_takes given result talk f f' s s' before after reads puts =
+    takes_over (λ (g : FolderFields). HoldsFolder talk g.lib) (folder_reads None) given result talk f f' s s' before after reads puts
+
+-- no session
+pub image_takes_nothing :
+    (name : List ℕ) (result : Status) (talk : Talk) (before after : List Asked) → talk.after ≡ talk.before
+    → ImageTakes name result talk before after
+image_takes_nothing name result talk before after same = inl same
+
+pub folder_takes_nothing :
+    (result : Status) (talk : Talk) (before after : List Asked) → talk.after ≡ talk.before
+    → FolderTakes result talk before after
+folder_takes_nothing result talk before after same = inl same
+
 -- what a session over an image, or over a system, takes by `using`
 pub ruleset over = (none_puts, input_same, image_puts, folder_puts)
 
 -- nothing was taken of the input, where a file was refused
-pub ruleset performs = (performs_put, performs_booted, input_same)
+pub ruleset performs = (performs_put, performs_booted, input_same, image_takes, folder_takes, image_takes_nothing, folder_takes_nothing)

@@ -1,5 +1,5 @@
 -- What is due to a session, and what is written of it by how it ends.
-use Rattle.std.specs.Prelude.{ℕ, ◌≡◌, ⊤, ◌⊎◌, List, [], ◌++◌, codes, Result, Ok, Err}
+use Rattle.std.specs.Prelude.{ℕ, ◌≡◌, ⊤, ◌⊎◌, List, [], ◌++◌, codes, None, Result, Ok, Err}
 use Rattle.m36_outside.specs.Passing.{joined}
 use Rattle.m36_outside.specs.Written.{Grew}
 use Rattle.m36_model.specs.Store.{State}
@@ -8,10 +8,13 @@ use Rattle.m36_reading.specs.declared.status.Status.{Status}
 use Rattle.m36_reading.specs.declared.status.Status.TheVariants.{Done, BadFile}
 use Rattle.m36_reading.specs.declared.status.Status.TheVariants as status
 use Rattle.m36_reading.specs.Answers.{Answer}
+use Rattle.m36_reading.specs.Reading.{Reading, Early}
+use Rattle.m36_reading.specs.Asking.{Asked, Came, Comes}
 use Rattle.m36_reading.specs.Outside.{SinkState, Outside, IsIdle}
 use Rattle.m36_reading.specs.Ends.{End, Answered, Cut, Unread, Starved, Unasked}
 use Rattle.m36_reading.specs.Doing.{Kind}
-use Rattle.m36_booted.specs.Folder.{FolderFields}
+use Rattle.m36_ran.specs.Ran.{state_reads}
+use Rattle.m36_booted.specs.Folder.{FolderFields, folder_reads}
 use Rattle.m36_debug.specs.declared.fault.SessionFault.{SessionFault}
 use Rattle.m36_debug.specs.declared.fault.SessionFault.TheVariants as fault
 use Rattle.m36_debug.specs.Putting.{SinkSeen, seen}
@@ -144,3 +147,38 @@ PutsBy Holds Unread result talk old new = PutsSession Holds (Err fault.ReadFault
 PutsBy Holds Starved result talk old new =
     PutsNone talk old new ⊎ PutsSession Holds (Err fault.NoMemory) old new
 PutsBy Holds Unasked result talk old new = ⊥
+
+-- ---- what takes input
+
+-- A session ended, and the call with it.
+pub record IsSessionEnd (Holds : Told) (result : Status) : Type 0 where
+  pub ended : Result (Unit {0}) SessionFault
+  pub lines : List (List ℕ)
+  pub holds : Holds ended lines
+  pub status : result ≡ session_status ended stdin_name
+
+-- one over what the reading comes to by the answers of the folder
+pub record IsSessionOver {D : Type 0} (Holds : D → Told) (p : Reading (Early D)) (result : Status)
+    (before after : List Asked) : Type 0 where
+  pub asked : List Asked
+  pub passed : after ≡ before ++ asked
+  pub given : D
+  pub came : Comes p asked (Came (Ok given))
+  pub session : IsSessionEnd (Holds given) result
+
+-- Input is taken by such a session alone: nothing of it where a file is refused or could not be
+-- read, or where memory was wanted before the session.
+abbrev pub TakesInput :
+    {D : Type 0} → (D → Told) → Reading (Early D) → Status → Talk → List Asked → List Asked
+    → Type 0
+TakesInput Holds p result talk before after =
+    (talk.after ≡ talk.before) ⊎ IsSessionOver Holds p result before after
+
+abbrev pub ImageTakes : List ℕ → Status → Talk → List Asked → List Asked → Type 0
+ImageTakes name result talk before after =
+    TakesInput (HoldsImage talk) (state_reads name) result talk before after
+
+abbrev pub FolderTakes : Status → Talk → List Asked → List Asked → Type 0
+FolderTakes result talk before after =
+    TakesInput (λ (given : FolderFields). HoldsFolder talk given.lib) (folder_reads None) result talk
+    before after

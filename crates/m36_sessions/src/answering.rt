@@ -9,7 +9,7 @@ ghost use Rattle.m36_booted.specs.Folder.{folder_reads};
 ghost use Rattle.m36_booted.specs.Systems.{IsFresh};
 ghost use Rattle.m36_debug.specs.Session.{turning};
 ghost use Rattle.m36_sessions.specs.Held.{talk_of, IsHeld, HoldsImage, HoldsFolder};
-ghost use Rattle.m36_sessions.specs.Sessions.{PutsBy, InputStands, image_kind, folder_kind};
+ghost use Rattle.m36_sessions.specs.Sessions.{PutsBy, InputStands, ImageTakes, FolderTakes, image_kind, folder_kind};
 
 use crate::ending::{session_status, stdin_name};
 use m36_back::Past;
@@ -118,6 +118,9 @@ pub fn image_session<F: Folder, L: Lines, S: Sink>(
         (F.asked folder.old) (F.asked folder.new) }
     ensures input { InputStands (end_of result)
         (talk_of L.left L.given L.faults lines.old lines.new) }
+    ensures takes { ImageTakes name.now result
+        (talk_of L.left L.given L.faults lines.old lines.new)
+        (F.asked folder.old) (F.asked folder.new) }
 {
     match read_state(alloc, name, folder) {
         Ok(image) => with_image(alloc, image, lines, out),
@@ -142,6 +145,8 @@ pub fn folder_session<F: Folder, L: Lines, S: Sink>(
         (F.asked folder.old) (F.asked folder.new) }
     ensures input { InputStands (end_of result)
         (talk_of L.left L.given L.faults lines.old lines.new) }
+    ensures takes { FolderTakes result (talk_of L.left L.given L.faults lines.old lines.new)
+        (F.asked folder.old) (F.asked folder.new) }
 {
     match read_system(alloc, &None, folder) {
         Ok(booted) => with_system(alloc, booted.system, lines, out),

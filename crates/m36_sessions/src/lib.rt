@@ -7,6 +7,9 @@
 //! line put in one piece; or that of the whole lines within the most that a session takes, and then S1 of `stdin`. Where the
 //! input could not be read, or memory is wanted, what is said until then is written.
 //!
+//! Input is taken by the session alone: nothing of it where a file is refused or could not be read, or where memory was
+//! wanted before the session (clauses `takes`).
+//!
 //! `specs/Held.antt` says what a session is held over, `specs/Sessions.antt` which answers are due. Sessions are this
 //! simulator's own; the machine is that of the Multics Processor Manual AL39.
 #![tactic(auto)]

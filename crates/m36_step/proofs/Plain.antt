@@ -20,14 +20,18 @@ use Rattle.m36_model.specs.declared.effects.Formed.{Formed}
 use Rattle.m36_model.specs.declared.effects.Tally.{Tally}
 use Rattle.m36_model.specs.declared.effects.Held.{Held}
 use Rattle.m36_model.specs.declared.effects.Held.TheVariants as held
+use Rattle.m36_model.specs.declared.outcome.Fault.{Fault}
+use Rattle.m36_model.specs.declared.outcome.Outcome.TheVariants.{Faulted}
 use Rattle.m36_model.specs.declared.outcome.Halt.{Halt}
 use Rattle.m36_model.specs.declared.outcome.Halt.TheVariants as halt
 use Rattle.m36_model.specs.declared.place.Reference.{Reference}
 use Rattle.m36_walk.specs.Memory.{Memory}
 use Rattle.m36_walk.specs.Runs.{run_from}
 use Rattle.m36_walk.specs.Served.{standing, sdw_in, request, served_by, at_target}
+use Rattle.m36_walk.specs.Words.{pair_words, run_changes}
 use Rattle.m36_walk.proofs.Claims.{changes_of_run, put_one_word}
-use Rattle.m36_xdata.specs.Frequent.{loads_address, word_read, nothing_read}
+use Rattle.m36_word.specs.declared.pair.Pair.{Pair}
+use Rattle.m36_frequent.specs.Frequent.{loads_address, is_shift, word_read, pair_read, nothing_read}
 use Rattle.m36_ea.specs.Formed.{plain}
 use Rattle.m36_step.specs.Ended.{EndsFormed, end_of}
 use Rattle.m36_step.specs.Operated.{formed_mid, claims_of, puts_of, operation_from, operated_end}
@@ -42,6 +46,11 @@ use Rattle.m36_step.proofs.Reaching.{run_ask, run_done}
 pub not_absa : (e : Effect) → IsTrue (loads_address e) → is_absa e ≡ false
 not_absa effect.Absa h = cc
 not_absa _ h = refl
+
+-- nor does a shift
+pub shift_not_absa : (e : Effect) → IsTrue (is_shift e) → is_absa e ≡ false
+shift_not_absa effect.Absa h = cc
+shift_not_absa _ h = refl
 
 module _ (e : Effect) (n w : ℕ) (g : RegsFields) (last : FinalFields) where
   abbrev f : Formed
@@ -122,6 +131,28 @@ module _ (e : Effect) (n w : ℕ) (g : RegsFields) (last : FinalFields) where
         ∙ performs nothing_read g' (word ∷ []) overflow core' (run_from place 1) refs' effect)
         stored
 
+    -- A pair is read, whatever the first ring bracket of its segment.
+    pub pair_read_ends : (got : Pair) → operand_of e ≡ kind.R2 → last.direct ≡ None → ServesRead g f 2 m refs core' refs' (Ok (pair_words got))
+        → ((ring : ℕ) → Ok (record { regs = g'; put = []; overflow = overflow }) ≡ exec e n g last (pair_read got ring))
+        → EndsFormed g (operated e n g w c) m.core f refs core' refs' g' end
+    pair_read_ends got k none served effect =
+        let ring = (sdw_in m last.at.seg).r1 in
+        ends_unwritten m.core refs core' refs' g' overflow end is
+        (ap (λ p. run core_store g p (standing m.core [] refs)) (operates_by kind.R2 k none)
+        ∙ run_ask g (request_at Read c 2) _ (standing m.core [] refs) _ served
+        ∙ performs (pair_read got ring) g' [] overflow core' [] refs' (effect ring))
+
+    -- A pair is stored.
+    pub pair_stored_ends : (place : ℕ) (put : Pair) (core'' : List ℕ) → operand_of e ≡ kind.W2 → last.direct ≡ None → ServesWrite g f 2 m refs core' refs' (Ok place)
+        → Ok (record { regs = g'; put = pair_words put; overflow = overflow }) ≡ exec e n g last nothing_read
+        → core'' ≡ core_put core' (run_changes place (pair_words put)) → EndsFormed g (operated e n g w c) m.core f refs core'' refs' g' end
+    pair_stored_ends place put core'' k none served effect stored =
+        operation_performed g e n w f m.core refs core' refs' g' (held.Two put) (operated_at place overflow) core'' end
+        (ap (λ p. run core_store g p (standing m.core [] refs)) (operates_by kind.W2 k none)
+        ∙ run_ask g (request_at Write c 2) _ (standing m.core [] refs) _ served
+        ∙ performs nothing_read g' (pair_words put) overflow core' (run_from place 2) refs' effect)
+        (stored ∙ sym (ap (core_put core') (changes_of_run [] place (pair_words put)))) is
+
     -- A word is read, and then it is written: by what the Write gave.
     module _ (m' : Memory) (core'' : List ℕ) (refs'' : List Reference) (got : ℕ) (k : operand_of e ≡ kind.Rw) (none : last.direct ≡ None) (read : ServesRead g f 1 m refs core' refs' (Ok (got ∷ []))) (same : m'.core ≡ core') where
       changes_by : run core_store g (operate e n g c) (standing m.core [] refs) ≡ run core_store g (refer (request_at Write c 1) (λ b. perform e n g c Whole b.first (word_read got))) (standing m'.core [] refs')
@@ -148,6 +179,24 @@ module _ (e : Effect) (n w : ℕ) (g : RegsFields) (last : FinalFields) where
       ∙ run_ask g (request_at Write c 1) _ (standing m'.core [] refs') _ h.serves
       ∙ run_done g (Err (halt.Fault h.fault)) (standing core'' [] refs''))
       refl h.told
+
+  -- A pair may not be read, or not be written.
+  module _ (m : Memory) (refs : List Reference) (core' : List ℕ) (refs' : List Reference) (fault : Fault) (end : Ended) (none : last.direct ≡ None) (told : end ≡ record { word = Some w; at = Some last; outcome = Faulted fault }) where
+    pub pair_read_refused : operand_of e ≡ kind.R2 → ServesRead g f 2 m refs core' refs' (Err fault) → EndsFormed g (operated e n g w c) m.core f refs core' refs' g end
+    pair_read_refused k served =
+        operation_refused g e n w f m.core refs core' refs' g held.Empty (halt.Fault fault) end
+        (ap (λ p. run core_store g p (standing m.core [] refs)) (operates_by kind.R2 k none)
+        ∙ run_ask g (request_at Read c 2) _ (standing m.core [] refs) _ served
+        ∙ run_done g (Err (halt.Fault fault)) (standing core' [] refs'))
+        refl told
+
+    pub pair_write_refused : operand_of e ≡ kind.W2 → ServesWrite g f 2 m refs core' refs' (Err fault) → EndsFormed g (operated e n g w c) m.core f refs core' refs' g end
+    pair_write_refused k served =
+        operation_refused g e n w f m.core refs core' refs' g held.Empty (halt.Fault fault) end
+        (ap (λ p. run core_store g p (standing m.core [] refs)) (operates_by kind.W2 k none)
+        ∙ run_ask g (request_at Write c 2) _ (standing m.core [] refs) _ served
+        ∙ run_done g (Err (halt.Fault fault)) (standing core' [] refs'))
+        refl told
 
   -- Nothing is referenced: the operand is direct, or the address alone is used, or a transfer is not taken, or its target is examined and not touched.
   module _ (core : List ℕ) (refs : List Reference) (g' : RegsFields) (overflow : Bool) (end : Ended) (is : end ≡ done_end g' overflow) where

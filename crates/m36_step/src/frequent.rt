@@ -1,7 +1,7 @@
 //! Frequent instructions, told in the record as they go.
 //!
-//! An instruction whose address has no tally word, and that reads one word, stores one, changes one, loads its address or
-//! transfers, is done here: its references answer words and places without a fault beside them, its effect is made in
+//! An instruction whose address has no tally word, and that reads a word or a pair, stores one, changes a word, loads its
+//! address, shifts or transfers, is done here: its references answer words and places without a fault beside them, its effect is made in
 //! the registers, and its record is filled in place. Where anything is refused, or the instruction is another, nothing
 //! has changed since its address was formed, and `operated` goes on from there; only the Write of a word that was read is
 //! asked for again by itself.
@@ -16,6 +16,7 @@ ghost use Rattle.m36_step.specs.Ended.{EndsFormed, ended_of};
 ghost use Rattle.m36_step.specs.References.{ServesWrite, HoldRefused};
 
 use crate::execute::operated;
+use crate::paired::{pair_operand, shift_operand, stored_pair};
 use crate::references::{final_at, hold_words, try_hold, try_read};
 use crate::telling::{tell, tell_done, tell_refused};
 use m36_inst::{Operand, Row};
@@ -26,7 +27,7 @@ use m36_word::Word;
 /// Any instruction whose address has no tally word.
 #[cold]
 #[inline(never)]
-fn operated_else(
+pub(crate) fn operated_else(
     walk: &mut Walk,
     regs: &mut Regs,
     word: Word,
@@ -75,18 +76,18 @@ fn read_operand(
     ensures ppr { told.new.ppr ≡ told.old.ppr }
     ensures dbr { walk.new.dbr ≡ regs.new.dbr }
 {
-    if !m36_xdata::reads_word(row.effect) || !row.direct {
+    if !m36_frequent::reads_word(row.effect) || !row.direct {
         return operated_else(walk, regs, word, row, last, told);
     }
     let place = regs.here();
     match last.direct {
         Some(operand) => {
-            let overflow = m36_xdata::read_word(row, regs, operand);
+            let overflow = m36_frequent::read_word(row, regs, operand);
             tell_done(told, place, word, last, regs, overflow);
         }
         None => match try_read(walk, regs, last, &mut told.refs) {
             Some(operand) => {
-                let overflow = m36_xdata::read_word(row, regs, operand);
+                let overflow = m36_frequent::read_word(row, regs, operand);
                 tell_done(told, place, word, last, regs, overflow);
             }
             None => operated_else(walk, regs, word, row, last, told),
@@ -115,7 +116,7 @@ fn stored_operand(
     ensures ppr { told.new.ppr ≡ told.old.ppr }
     ensures dbr { walk.new.dbr ≡ regs.new.dbr }
 {
-    if !m36_xdata::stores_word(row.effect) {
+    if !m36_frequent::stores_word(row.effect) {
         return operated_else(walk, regs, word, row, last, told);
     }
     let at = regs.here();
@@ -123,7 +124,7 @@ fn stored_operand(
         Some(_) => operated_else(walk, regs, word, row, last, told),
         None => match try_hold(walk, regs, last, &mut told.refs) {
             Some(place) => {
-                let stored = m36_xdata::store_word(row, regs);
+                let stored = m36_frequent::store_word(row, regs);
                 walk.store(place, stored);
                 tell_done(told, at, word, last, regs, false);
             }
@@ -213,7 +214,7 @@ fn changed_operand(
     ensures ppr { told.new.ppr ≡ told.old.ppr }
     ensures dbr { walk.new.dbr ≡ regs.new.dbr }
 {
-    if !m36_xdata::changes_word(row.effect) {
+    if !m36_frequent::changes_word(row.effect) {
         return operated_else(walk, regs, word, row, last, told);
     }
     let at = regs.here();
@@ -223,7 +224,7 @@ fn changed_operand(
             None => operated_else(walk, regs, word, row, last, told),
             Some(operand) => match hold(walk, regs, word, last, told) {
                 Some(place) => {
-                    let (changed, overflow) = m36_xdata::change_word(row, regs, operand);
+                    let (changed, overflow) = m36_frequent::change_word(row, regs, operand);
                     walk.store(place, changed);
                     tell_done(told, at, word, last, regs, overflow);
                 }
@@ -254,14 +255,14 @@ fn address_operand(
     ensures ppr { told.new.ppr ≡ told.old.ppr }
     ensures dbr { walk.new.dbr ≡ regs.new.dbr }
 {
-    if !m36_xdata::loads_address(row.effect) {
-        return operated_else(walk, regs, word, row, last, told);
+    if !m36_frequent::loads_address(row.effect) {
+        return shift_operand(walk, regs, word, row, last, told);
     }
     let place = regs.here();
     match last.direct {
         Some(_) => operated_else(walk, regs, word, row, last, told),
         None => {
-            let overflow = m36_xdata::load_address(row, regs, last);
+            let overflow = m36_frequent::load_address(row, regs, last);
             tell_done(told, place, word, last, regs, overflow);
         }
     }
@@ -335,6 +336,8 @@ pub(crate) fn operated_plain(
         Operand::Rw => changed_operand(walk, regs, word, row, last, told),
         Operand::A => address_operand(walk, regs, word, row, last, told),
         Operand::T => target_operand(walk, regs, word, row, last, told),
+        Operand::R2 => pair_operand(walk, regs, word, row, last, told),
+        Operand::W2 => stored_pair(walk, regs, word, row, last, told),
         _ => operated_else(walk, regs, word, row, last, told),
     }
 }

@@ -9,7 +9,7 @@
 //! are written, that of the tally first, and the registers take their new values. A refusal anywhere before leaves
 //! registers and words as they were but for the marks of the references that were completed. A step takes no memory.
 //!
-//! Frequent instructions on one word go a shorter way by the same parts: a reference answers a word or a place alone, the
+//! Frequent instructions on a word or a pair go a shorter way by the same parts: a reference answers a word or a place alone, the
 //! effect is made in the registers, and the record is filled as the step goes. Where a reference does not answer, nothing
 //! has changed, and the step goes on from there as every other does.
 //!
@@ -30,6 +30,7 @@ pub mod machine;
 mod operands;
 mod operate;
 mod operated;
+mod paired;
 mod reach;
 mod references;
 pub mod stepper;

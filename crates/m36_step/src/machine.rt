@@ -8,7 +8,7 @@ ghost use Rattle.m36_model.specs.Laws.{ExecutesLdbr};
 ghost use Rattle.m36_model.specs.Results.{moved_on};
 ghost use Rattle.m36_model.specs.Step.{record_of, state_after};
 ghost use Rattle.m36_model.specs.declared.outcome.Outcome.TheVariants.{Next};
-ghost use Rattle.m36_step.specs.MachineTurn.{ended_by};
+ghost use Rattle.m36_step.specs.MachineTurn.{MachineTurns, ended_by};
 
 use crate::execute::execute;
 use crate::stepper::{Replay, Stepper};
@@ -129,6 +129,37 @@ impl Machine {
         take_step(walk, regs, told)
     }
 
+    /// Notes the outcome of a step before which the run of turns had not ended.
+    #[inline]
+    fn note(&mut self, outcome: Outcome)
+        requires { self.old.ended ≡ None }
+        ensures state { self.new.state ≡ self.old.state }
+        ensures ended { self.new.ended ≡ ended_by outcome }
+    {
+        match outcome {
+            Outcome::Next => {}
+            Outcome::Faulted(fault) => self.ended = Some(End::Fault(fault)),
+            Outcome::Stopped(stop) => self.ended = Some(End::Stop(stop)),
+        }
+    }
+
+    /// A turn that is no step, or whose step finds no record to fill.
+    #[cold]
+    #[inline(never)]
+    #[tactic(auto, unfolding(crate::specs::MachineTurn::machine_turn, crate::specs::MachineTurn::machine_after))]
+    fn turn_anew(&mut self, turn: &mut Turn)
+        ensures { MachineTurns self.old turn.new self.new }
+    {
+        *turn = match self.ended {
+            Some(end) => Turn::Ended(end),
+            None => {
+                let told = self.step();
+                self.note(told.outcome);
+                Turn::Stepped(told)
+            }
+        };
+    }
+
     /// A record for `step_into` to fill: it has the registers as they stand, and tells of no step.
     pub fn untold(&self) -> StepRecord
         ensures { result
@@ -194,17 +225,6 @@ impl Machine {
     }
 }
 
-/// How a step ends the run of turns.
-fn ended_by(outcome: Outcome) -> Option<End>
-    ensures { result ≡ ended_by outcome }
-{
-    match outcome {
-        Outcome::Next => None,
-        Outcome::Faulted(fault) => Some(End::Fault(fault)),
-        Outcome::Stopped(stop) => Some(End::Stop(stop)),
-    }
-}
-
 impl Stepper for Machine {
     ghost use Rattle.m36_model.specs.Core.{core_store};
     ghost use Rattle.m36_model.specs.Sight.{content};
@@ -219,15 +239,17 @@ impl Stepper for Machine {
     ghost content = { λ m seg word. content core_store m.state seg word };
 
     /// A step, until one has ended the run: from then on each turn tells how, and changes nothing.
+    #[inline]
     #[tactic(auto, unfolding(crate::specs::MachineTurn::machine_turn, crate::specs::MachineTurn::machine_after))]
-    fn turn(&mut self) -> Turn {
-        let ended = self.ended;
-        if let Some(end) = ended {
-            return Turn::Ended(end);
+    fn turn_into(&mut self, turn: &mut Turn) {
+        if let None = self.ended
+            && let Turn::Stepped(told) = turn
+        {
+            self.step_into(told);
+            self.note(told.outcome);
+        } else {
+            self.turn_anew(turn);
         }
-        let told = self.step();
-        self.ended = ended_by(told.outcome);
-        Turn::Stepped(told)
     }
 
     /// A machine does not go back.

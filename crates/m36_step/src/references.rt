@@ -14,7 +14,7 @@ use m36_word::{Pair, Word};
 
 /// The segment of the instruction.
 #[inline(always)]
-fn procedure_segment(regs: &Regs) -> u16
+pub(crate) fn procedure_segment(regs: &Regs) -> u16
     ensures { result ≡ regs.now.ppr.psr }
 {
     let ppr = regs.ppr;
@@ -53,7 +53,7 @@ fn first_at(at: At, count: u8) -> At
 
 /// Adds a completed reference.
 #[inline(always)]
-fn complete(refs: &mut Refs, kind: Kind, at: At, count: u8)
+pub(crate) fn complete(refs: &mut Refs, kind: Kind, at: At, count: u8)
     requires room { length refs.old.items < 40 }
     requires count { IsCount count }
     ensures items { refs.new.items

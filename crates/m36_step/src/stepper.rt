@@ -27,9 +27,19 @@ pub trait Stepper {
     /// The word of a segment, where it has a place.
     ghost content: { Self → ℕ → ℕ → Option ℕ };
 
+    /// One turn, told in place: whatever `turn` told before goes. Where that was a step, its record is filled anew, and so
+    /// whoever takes many turns keeps one `Turn` for all of them.
+    fn turn_into(&mut self, turn: &mut Turn)
+        ensures { next self.old turn.new self.new };
+
     /// One turn.
     fn turn(&mut self) -> Turn
-        ensures { next self.old result self.new };
+        ensures { next self.old result self.new }
+    {
+        let mut turn = Turn::Full;
+        self.turn_into(&mut turn);
+        turn
+    }
 
     /// Goes back so many turns.
     fn back(&mut self, n: u32) -> BackAnswer

@@ -212,6 +212,16 @@ impl Super {
             Coming::Over(end) => Turn::Ended(end),
         }
     }
+
+    // A turn that is no step, or whose step finds no record to fill.
+    #[cold]
+    #[inline(never)]
+    fn turn_anew(&mut self, turn: &mut Turn)
+        ensures { SuperTurns self.old turn.new self.new }
+    {
+        let coming = self.coming();
+        *turn = self.turn_of(coming);
+    }
 }
 
 impl Stepper for Super {
@@ -226,9 +236,15 @@ impl Stepper for Super {
     ghost content = { super_content };
 
     /// A step, with the services of the pages that it lacks; or the service for which the step before it calls; or the end.
-    fn turn(&mut self) -> Turn {
-        let coming = self.coming();
-        self.turn_of(coming)
+    #[inline]
+    fn turn_into(&mut self, turn: &mut Turn) {
+        if let Coming::Step = self.coming
+            && let Turn::Stepped(told) = turn
+        {
+            self.step_told(told);
+        } else {
+            self.turn_anew(turn);
+        }
     }
 
     /// A booted system does not go back.

@@ -4,8 +4,7 @@
 //! fault 14, divide check, where DIV is given 0 or its quotient does not fit. [`exec_in_place`] does the same in the
 //! registers as they are. What A, Q and the indicators become is of `m36_arith`.
 //!
-//! Of the frequent instructions on one word, [`read_word`], [`store_word`], [`change_word`] and [`load_address`] do the same
-//! with the word itself in place of an operand that may hold more.
+//! The frequent instructions have a quicker form in `m36_frequent`.
 //!
 //! Source: Multics Processor Manual AL39, "Fixed-point instructions" and "Boolean instructions".
 #![tactic(auto)]
@@ -16,7 +15,6 @@ pub mod changes;
 mod compares;
 mod conditions;
 mod execute;
-mod frequent;
 mod loads;
 mod logic;
 mod numbers;
@@ -29,7 +27,5 @@ mod stores;
 mod sums;
 
 pub use execute::{exec, exec_in_place};
-pub use frequent::{
-    change_word, changes_word, load_address, loads_address, read_word, reads_word, store_word,
-    stores_word,
-};
+pub use registers::{accumulator, pair, quotient};
+pub use shifts::shift_count;

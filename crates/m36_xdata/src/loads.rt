@@ -86,6 +86,7 @@ pub fn load_and_clear(r: Register, given: &Operand36, regs: &Regs) -> Change
 }
 
 /// The computed address.
+#[inline(always)]
 pub fn address(f: &Final) -> u32
     ensures value { result ≡ f.now.at.word }
     ensures bound { result < 2 ^ 18 }

@@ -25,6 +25,7 @@ pub fn indicators(regs: &Regs) -> Ind
 }
 
 /// The accumulator.
+#[inline(always)]
 pub fn accumulator(regs: &Regs) -> Word
     ensures { result ≡ regs.now.a }
 {
@@ -32,13 +33,16 @@ pub fn accumulator(regs: &Regs) -> Word
 }
 
 /// The quotient register.
+#[inline(always)]
 pub fn quotient(regs: &Regs) -> Word
     ensures { result ≡ regs.now.q }
 {
     regs.q
 }
 
-fn pair(regs: &Regs) -> Pair
+/// The accumulator and the quotient register, as a pair.
+#[inline(always)]
+pub fn pair(regs: &Regs) -> Pair
     ensures { result ≡ record { even = regs.now.a; odd = regs.now.q } }
 {
     Pair {

@@ -35,7 +35,9 @@ fn shifted(r: Register, op: Shift, v: u128, n: u32) -> Computed
     }
 }
 
-fn count(f: &Final) -> u32
+/// By how many places: the computed address modulo 128.
+#[inline(always)]
+pub fn shift_count(f: &Final) -> u32
     ensures value { result ≡ count_of f.now.at.word }
     ensures bound { result < 128 }
 {
@@ -50,7 +52,7 @@ pub fn shift_left(r: Register, f: &Final, regs: &Regs) -> Change
     ensures value { Gives result regs.now (shift_left (working r) f.now.at.word regs.now) }
     ensures put { length (stored result.put) ≡ 0 }
 {
-    let s = shifted(r, Shift::Left, number_in(r, regs), count(f));
+    let s = shifted(r, Shift::Left, number_in(r, regs), shift_count(f));
     takes(
         r,
         s.value,
@@ -70,7 +72,7 @@ pub fn shift_right(r: Register, f: &Final, regs: &Regs) -> Change
 {
     takes_tested(
         r,
-        shifted(r, Shift::Right, number_in(r, regs), count(f)).value,
+        shifted(r, Shift::Right, number_in(r, regs), shift_count(f)).value,
         regs,
     )
 }
@@ -85,7 +87,7 @@ pub fn shift_right_logical(r: Register, f: &Final, regs: &Regs) -> Change
 {
     takes_tested(
         r,
-        shifted(r, Shift::RightZero, number_in(r, regs), count(f)).value,
+        shifted(r, Shift::RightZero, number_in(r, regs), shift_count(f)).value,
         regs,
     )
 }
@@ -100,7 +102,7 @@ pub fn rotate_left(r: Register, f: &Final, regs: &Regs) -> Change
 {
     takes_tested(
         r,
-        shifted(r, Shift::Rotate, number_in(r, regs), count(f)).value,
+        shifted(r, Shift::Rotate, number_in(r, regs), shift_count(f)).value,
         regs,
     )
 }

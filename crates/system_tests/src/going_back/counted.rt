@@ -36,9 +36,9 @@ impl Stepper for Counted<'_> {
 
     ghost content = { λ m seg word. content core_store m.state seg word };
 
-    fn turn(&mut self) -> Turn {
+    fn turn_into(&mut self, turn: &mut Turn) {
         self.turns.set(self.turns.get().wrapping_add(1));
-        self.machine.turn()
+        self.machine.turn_into(turn);
     }
 
     fn back(&mut self, n: u32) -> BackAnswer {

@@ -8,13 +8,13 @@ pub returns-clause-says : goal.returns-clause-says
 returns-clause-says g c =
     let s = g.S.Sink in
     let m = g.M.Stepper in
-    took_turn (turning m.regs m.content m.next m.went) c.put_command-put.result c.turn-turn.result c.args.run c.further-next.result c.told_turn.result c.regs-regs.result.now c.args.sitting.now c.note.new.self c.taken-taken.result c.args.m.now c.turn-turn.new.self (seen (s.written c.args.out.now) (s.taken c.args.out.now) (s.faults c.args.out.now)) (seen (s.written c.put_command-put.new.out) (s.taken c.put_command-put.new.out) (s.faults c.put_command-put.new.out)) c.taken-taken.ensures c.turn-turn.ensures c.note.ensures c.regs-regs.ensures c.further-next.ensures c.put_command-put.ensures c.told_turn.ensures
+    took_turn (turning m.regs m.content m.next m.went) c.put_command-put.result c.turn_into.new.turn c.args.run c.further-next.result c.told_turn.result c.regs-regs.result.now c.args.sitting.now c.note.new.self c.taken-taken.result c.args.m.now c.turn_into.new.self (seen (s.written c.args.out.now) (s.taken c.args.out.now) (s.faults c.args.out.now)) (seen (s.written c.put_command-put.new.out) (s.taken c.put_command-put.new.out) (s.faults c.put_command-put.new.out)) c.taken-taken.ensures c.turn_into.ensures c.note.ensures c.regs-regs.ensures c.further-next.ensures c.put_command-put.ensures c.told_turn.ensures
 
 pub returns-clause-served : goal.returns-clause-served
 returns-clause-served g c =
     let m = g.M.Stepper in
-    took_served (turning m.regs m.content m.next m.went) c.put_command-put.result c.turn-turn.result c.further-next.result c.told_turn.result c.args.m.now c.turn-turn.new.self c.turn-turn.ensures c.told_turn.ensures
+    took_served (turning m.regs m.content m.next m.went) c.put_command-put.result c.turn_into.new.turn c.further-next.result c.told_turn.result c.args.m.now c.turn_into.new.self c.turn_into.ensures c.told_turn.ensures
 
 pub returns-clause-counts : goal.returns-clause-counts
 returns-clause-counts g c =
-    took_counts c.put_command-put.result c.turn-turn.result c.args.run (is_at_break c.regs-regs.result.now.ppr c.note.new.self.breaks) c.further-next.result c.told_turn.result c.args.sitting.now c.note.new.self c.note.ensures c.further-next.ensures c.told_turn.ensures
+    took_counts c.put_command-put.result c.turn_into.new.turn c.args.run (is_at_break c.regs-regs.result.now.ppr c.note.new.self.breaks) c.further-next.result c.told_turn.result c.args.sitting.now c.note.new.self c.note.ensures c.further-next.ensures c.told_turn.ensures

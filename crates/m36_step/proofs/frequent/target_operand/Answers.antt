@@ -1,7 +1,7 @@
 use Rattle.std.proofs.Common.{ap, sym, false, [], ◌∙◌}
 use Rattle.m36_model.specs.Fields.{AtFields, FinalFields}
 use Rattle.m36_walk.specs.Served.{sdw_in}
-use Rattle.m36_xdata.specs.Frequent.{nothing_read}
+use Rattle.m36_frequent.specs.Frequent.{nothing_read}
 use Rattle.m36_step.specs.Ended.{ended_of}
 use Rattle.m36_step.proofs.Plain.{stays_ends, target_ends}
 use Rattle.m36_step.proofs.frequent.target_operand.Goals as goal

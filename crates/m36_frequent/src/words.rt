@@ -11,20 +11,20 @@ ghost use Rattle.m36_model.specs.Loads.{load};
 ghost use Rattle.m36_model.specs.Results.{A, Q, X, completes};
 ghost use Rattle.m36_model.specs.Results.{moved_on, with_indicators, zn, zn_carry_overflow, compared};
 ghost use Rattle.m36_model.specs.Sums.{into_register, into_operand};
-ghost use Rattle.m36_xdata.specs.Frequent.{reads_word, stores_word, changes_word};
-ghost use Rattle.m36_xdata.specs.Frequent.{loads_address, word_read};
-ghost use Rattle.m36_xdata.specs.Frequent.{nothing_read};
+ghost use Rattle.m36_frequent.specs.Frequent.{reads_word, stores_word, changes_word};
+ghost use Rattle.m36_frequent.specs.Frequent.{loads_address, word_read};
+ghost use Rattle.m36_frequent.specs.Frequent.{nothing_read};
 
-use crate::registers::{accumulator, quotient};
 use m36_arith::{Compare, Sum36, add36, and36, cmp36, or36, sub36, xor36};
 use m36_inst::{Effect, Row};
 use m36_model::{Final, Regs};
 use m36_word::{Field, Word};
+use m36_xdata::{accumulator, quotient};
 
 /// Moves on to the next instruction.
 #[inline(always)]
 #[tactic(auto, unfolding(m36_model::specs::Results::moved_on))]
-fn move_on(regs: &mut Regs)
+pub(crate) fn move_on(regs: &mut Regs)
     ensures value { regs.new ≡ moved_on regs.old }
     ensures dbr { regs.new.dbr ≡ regs.old.dbr }
 {
@@ -56,7 +56,7 @@ fn test_index(v: u32, regs: &mut Regs)
 /// The accumulator becomes a word.
 #[inline(always)]
 #[tactic(auto, unfolding(m36_model::specs::Loads::load, m36_model::specs::Results::with_value, m36_model::specs::Results::moved_on))]
-fn load_a(w: Word, regs: &mut Regs) -> bool
+pub(crate) fn load_a(w: Word, regs: &mut Regs) -> bool
     ensures dbr { regs.new.dbr ≡ regs.old.dbr }
     ensures value { Ok (record { regs = regs.new; put = []; overflow = result }) ≡ load A w regs.old }
 {
@@ -69,7 +69,7 @@ fn load_a(w: Word, regs: &mut Regs) -> bool
 /// The quotient register becomes a word.
 #[inline(always)]
 #[tactic(auto, unfolding(m36_model::specs::Loads::load, m36_model::specs::Results::with_value, m36_model::specs::Results::moved_on))]
-fn load_q(w: Word, regs: &mut Regs) -> bool
+pub(crate) fn load_q(w: Word, regs: &mut Regs) -> bool
     ensures dbr { regs.new.dbr ≡ regs.old.dbr }
     ensures value { Ok (record { regs = regs.new; put = []; overflow = result }) ≡ load Q w regs.old }
 {
@@ -138,7 +138,7 @@ fn sum_into_q(s: Sum36, regs: &mut Regs) -> bool
 /// Sets zero, negative and carry by a comparison.
 #[inline(always)]
 #[tactic(auto, unfolding(m36_model::specs::Results::compared))]
-fn tell_comparison(c: Compare, regs: &mut Regs) -> bool
+pub(crate) fn tell_comparison(c: Compare, regs: &mut Regs) -> bool
     ensures dbr { regs.new.dbr ≡ regs.old.dbr }
     ensures value { Ok (record { regs = regs.new; put = []; overflow = result })
         ≡ completes (with_indicators (compared c regs.old.ind) regs.old) }

@@ -1,5 +1,6 @@
--- The instructions on single words that are done field by field: they are met most often.
+-- The instructions that are done field by field: they are met most often.
 use Rattle.std.specs.Prelude.{ℕ, Bool, true, false, [], ◌∷◌}
+use Rattle.m36_word.specs.declared.pair.Pair.{Pair}
 use Rattle.m36_inst.specs.declared.effect.Effect.{Effect}
 use Rattle.m36_inst.specs.declared.effect.Effect.TheVariants as effect
 use Rattle.m36_model.specs.Results.{OperandFields}
@@ -46,9 +47,43 @@ loads_address effect.Eaq = true
 loads_address effect.EaxN = true
 loads_address _ = false
 
--- a word that is read, and no word
+-- those that read a pair, and the one that stores one
+abbrev pub reads_pair : Effect → Bool
+reads_pair effect.Ldaq = true
+reads_pair effect.Adaq = true
+reads_pair effect.Sbaq = true
+reads_pair effect.Cmpaq = true
+reads_pair effect.Anaq = true
+reads_pair effect.Oraq = true
+reads_pair effect.Eraq = true
+reads_pair _ = false
+
+abbrev pub stores_pair : Effect → Bool
+stores_pair effect.Staq = true
+stores_pair _ = false
+
+-- the shifts
+abbrev pub is_shift : Effect → Bool
+is_shift effect.Als = true
+is_shift effect.Qls = true
+is_shift effect.Lls = true
+is_shift effect.Ars = true
+is_shift effect.Qrs = true
+is_shift effect.Lrs = true
+is_shift effect.Arl = true
+is_shift effect.Qrl = true
+is_shift effect.Lrl = true
+is_shift effect.Alr = true
+is_shift effect.Qlr = true
+is_shift effect.Llr = true
+is_shift _ = false
+
+-- a word that is read, a pair with the first ring bracket of its segment, and no word
 abbrev pub word_read : ℕ → OperandFields
 word_read w = record { got = w ∷ []; ring = 0; place = 0 }
+
+abbrev pub pair_read : Pair → ℕ → OperandFields
+pair_read p ring = record { got = p.even ∷ p.odd ∷ []; ring = ring; place = 0 }
 
 abbrev pub nothing_read : OperandFields
 nothing_read = record { got = []; ring = 0; place = 0 }

@@ -1,0 +1,152 @@
+//! Frequent instructions on pairs, done in the registers field by field.
+//!
+//! They do what `exec_in_place` does, and take and give a pair in registers, as the frequent instructions on single
+//! words do.
+
+ghost use Rattle.std.specs.Prelude.{ℕ, ◌≡◌, ◌^◌, ◌<◌, false, [], ◌∷◌, Ok, IsTrue};
+ghost use Rattle.m36_word.specs.Pairs.{number_of};
+ghost use Rattle.m36_model.specs.Effect.{exec};
+ghost use Rattle.m36_model.specs.Fields.{FinalFields};
+ghost use Rattle.m36_model.specs.Loads.{load};
+ghost use Rattle.m36_model.specs.Results.{AQ, with_indicators, with_value};
+ghost use Rattle.m36_model.specs.Results.{zn, zn_carry_overflow};
+ghost use Rattle.m36_model.specs.Sums.{into_register};
+ghost use Rattle.m36_frequent.specs.Frequent.{reads_pair, stores_pair, pair_read, nothing_read};
+
+use crate::words::{move_on, tell_comparison};
+use m36_arith::{Sum72, add72, and72, cmp72, or72, sub72, xor72};
+use m36_inst::{Effect, Row};
+use m36_model::Regs;
+use m36_word::Pair;
+use m36_xdata::pair;
+
+/// The accumulator and the quotient register become a pair, whose words have 36 bits each.
+#[inline(always)]
+#[tactic(auto, unfolding(m36_model::specs::Results::with_value))]
+fn take_pair(p: &Pair, regs: &mut Regs)
+    ensures { regs.new ≡ with_value AQ (number_of p.now) regs.old }
+{
+    let _bits = p.odd.value();
+    regs.a = p.even;
+    regs.q = p.odd;
+}
+
+/// Sets zero and negative by a pair.
+#[inline(always)]
+#[tactic(auto, unfolding(m36_model::specs::Results::zn))]
+fn test_pair(p: &Pair, regs: &mut Regs)
+    ensures { regs.new ≡ with_indicators (zn (2 ^ 71) (number_of p.now) regs.old.ind) regs.old }
+{
+    let v = p.value();
+    regs.ind.zero = v == 0;
+    regs.ind.negative = v >= 1 << 71;
+}
+
+/// The accumulator and the quotient register become a pair, which sets zero and negative.
+#[inline(always)]
+#[tactic(auto, unfolding(m36_model::specs::Loads::load, m36_model::specs::Results::with_value, m36_model::specs::Results::moved_on))]
+pub(crate) fn load_pair(p: Pair, regs: &mut Regs) -> bool
+    ensures dbr { regs.new.dbr ≡ regs.old.dbr }
+    ensures value { Ok (record { regs = regs.new; put = []; overflow = result })
+        ≡ load AQ (number_of p) regs.old }
+{
+    take_pair(&p, regs);
+    test_pair(&p, regs);
+    move_on(regs);
+    false
+}
+
+/// Sets zero, negative and carry by a sum, and puts overflow on where it overflows.
+#[inline(always)]
+#[tactic(auto, unfolding(m36_model::specs::Results::zn_carry_overflow))]
+fn tell_sum(s: &Sum72, regs: &mut Regs)
+    ensures { regs.new ≡ with_indicators (zn_carry_overflow s.now regs.old.ind) regs.old }
+{
+    let before = regs.ind.overflow;
+    regs.ind.zero = s.zero;
+    regs.ind.negative = s.negative;
+    regs.ind.carry = s.carry;
+    regs.ind.overflow = before || s.overflow;
+}
+
+/// The accumulator and the quotient register become a sum. The answer is whether overflow is to be reported.
+#[inline(always)]
+#[tactic(auto, unfolding(m36_model::specs::Sums::into_register, m36_model::specs::Results::with_value, m36_model::specs::Results::moved_on))]
+fn sum_into_pair(s: Sum72, regs: &mut Regs) -> bool
+    ensures dbr { regs.new.dbr ≡ regs.old.dbr }
+    ensures value { Ok (record { regs = regs.new; put = []; overflow = result })
+        ≡ into_register AQ s regs.old }
+{
+    take_pair(&s.value, regs);
+    tell_sum(&s, regs);
+    move_on(regs);
+    s.overflow
+}
+
+/// Whether `read_pair` does an instruction.
+#[inline(always)]
+pub fn reads_pair(effect: Effect) -> bool
+    ensures { result ≡ reads_pair effect }
+{
+    matches!(
+        effect,
+        Effect::Ldaq
+            | Effect::Adaq
+            | Effect::Sbaq
+            | Effect::Cmpaq
+            | Effect::Anaq
+            | Effect::Oraq
+            | Effect::Eraq
+    )
+}
+
+/// A frequent instruction that reads a pair, done in the registers. The answer is whether overflow is to be reported. The
+/// first ring bracket of the pair's segment does not matter.
+#[inline(always)]
+#[tactic(auto, unfolding(m36_model::specs::Effect::exec, m36_model::specs::Sums::add, m36_model::specs::Sums::subtract, m36_model::specs::Compares::compare, m36_model::specs::Logic::and_register, m36_model::specs::Logic::or_register, m36_model::specs::Logic::xor_register, m36_model::specs::Loads::load))]
+pub fn read_pair(row: &Row, regs: &mut Regs, p: Pair) -> bool
+    requires { IsTrue (reads_pair row.now.effect) }
+    ensures value { (f : FinalFields) (ring : ℕ)
+        → Ok (record { regs = regs.new; put = []; overflow = result })
+        ≡ exec row.now.effect row.now.reg regs.old f (pair_read p ring) }
+    ensures dbr { regs.new.dbr ≡ regs.old.dbr }
+{
+    match row.effect {
+        Effect::Ldaq => load_pair(p, regs),
+        Effect::Adaq => sum_into_pair(add72(pair(regs), p, false), regs),
+        Effect::Sbaq => sum_into_pair(sub72(pair(regs), p, false), regs),
+        Effect::Cmpaq => tell_comparison(cmp72(pair(regs), p), regs),
+        Effect::Anaq => load_pair(and72(pair(regs), p), regs),
+        Effect::Oraq => load_pair(or72(pair(regs), p), regs),
+        Effect::Eraq => load_pair(xor72(pair(regs), p), regs),
+        _ => unreachable!(),
+    }
+}
+
+/// Whether `store_pair` does an instruction: STAQ.
+#[inline(always)]
+pub fn stores_pair(effect: Effect) -> bool
+    ensures { result ≡ stores_pair effect }
+{
+    matches!(effect, Effect::Staq)
+}
+
+/// The pair that STAQ writes.
+#[inline(always)]
+#[tactic(auto, unfolding(m36_model::specs::Effect::exec, m36_model::specs::Stores::store))]
+pub fn store_pair(row: &Row, regs: &mut Regs) -> Pair
+    requires { IsTrue (stores_pair row.now.effect) }
+    ensures value { (f : FinalFields)
+        → Ok (record { regs = regs.new; put = result.even ∷ result.odd ∷ []; overflow = false })
+        ≡ exec row.now.effect row.now.reg regs.old f nothing_read }
+    ensures dbr { regs.new.dbr ≡ regs.old.dbr }
+{
+    match row.effect {
+        Effect::Staq => {
+            let stored = pair(regs);
+            move_on(regs);
+            stored
+        }
+        _ => unreachable!(),
+    }
+}

@@ -1,0 +1,137 @@
+//! Shifts, done in the registers field by field, as the frequent instructions on words and pairs are.
+
+ghost use Rattle.std.specs.Prelude.{◌≡◌, ◌^◌, ◌<◌, false, [], Ok, IsTrue};
+ghost use Rattle.m36_word.specs.Pairs.{number_of};
+ghost use Rattle.m36_arith.specs.ShiftResult.{shifted};
+ghost use Rattle.m36_model.specs.Effect.{exec};
+ghost use Rattle.m36_model.specs.Shifts.{count_of};
+ghost use Rattle.m36_model.specs.ShiftEffects.{shift_left};
+ghost use Rattle.m36_model.specs.Results.{A, Q, AQ};
+ghost use Rattle.m36_frequent.specs.Frequent.{is_shift, nothing_read};
+
+use crate::pairs::load_pair;
+use crate::words::{load_a, load_q};
+use m36_arith::{Shift, shift36, shift72};
+use m36_inst::{Effect, Row};
+use m36_model::{Final, Regs};
+use m36_word::{Pair, Word};
+use m36_xdata::{accumulator, pair, quotient, shift_count};
+
+/// A word shifted by a count.
+#[inline(always)]
+#[tactic(auto, unfolding(m36_arith::specs::ShiftResult::shift_result))]
+fn moved_word(op: Shift, w: Word, n: u32) -> Word
+    requires { n < 128 }
+    ensures { result ≡ shifted op 36 w n }
+{
+    shift36(op, w, n).value
+}
+
+/// A pair shifted by a count.
+#[inline(always)]
+#[tactic(auto, unfolding(m36_arith::specs::ShiftResult::shift_result))]
+fn moved_pair(op: Shift, p: Pair, n: u32) -> Pair
+    requires { n < 128 }
+    ensures { number_of result ≡ shifted op 72 (number_of p) n }
+{
+    shift72(op, p, n).value
+}
+
+/// Puts carry on or off.
+#[inline(always)]
+fn tell_carry(carry: bool, regs: &mut Regs)
+    ensures { regs.new ≡ record regs.old { ind = record regs.old.ind { carry = carry } } }
+{
+    regs.ind.carry = carry;
+}
+
+/// ALS: the accumulator to the left.
+#[inline(always)]
+#[tactic(auto, unfolding(m36_arith::specs::ShiftResult::shift_result, m36_model::specs::ShiftEffects::shift_left, m36_model::specs::Loads::load, m36_model::specs::Results::with_value, m36_model::specs::Results::zn, m36_model::specs::Results::moved_on))]
+fn a_left(f: &Final, regs: &mut Regs) -> bool
+    ensures dbr { regs.new.dbr ≡ regs.old.dbr }
+    ensures value { Ok (record { regs = regs.new; put = []; overflow = result })
+        ≡ shift_left A f.now.at.word regs.old }
+{
+    let s = shift36(Shift::Left, accumulator(regs), shift_count(f));
+    load_a(s.value, regs);
+    tell_carry(s.carry, regs);
+    false
+}
+
+/// QLS: the quotient register to the left.
+#[inline(always)]
+#[tactic(auto, unfolding(m36_arith::specs::ShiftResult::shift_result, m36_model::specs::ShiftEffects::shift_left, m36_model::specs::Loads::load, m36_model::specs::Results::with_value, m36_model::specs::Results::zn, m36_model::specs::Results::moved_on))]
+fn q_left(f: &Final, regs: &mut Regs) -> bool
+    ensures dbr { regs.new.dbr ≡ regs.old.dbr }
+    ensures value { Ok (record { regs = regs.new; put = []; overflow = result })
+        ≡ shift_left Q f.now.at.word regs.old }
+{
+    let s = shift36(Shift::Left, quotient(regs), shift_count(f));
+    load_q(s.value, regs);
+    tell_carry(s.carry, regs);
+    false
+}
+
+/// LLS: both registers to the left, as one number.
+#[inline(always)]
+#[tactic(auto, unfolding(m36_arith::specs::ShiftResult::shift_result, m36_model::specs::ShiftEffects::shift_left, m36_model::specs::Loads::load, m36_model::specs::Results::with_value, m36_model::specs::Results::zn, m36_model::specs::Results::moved_on))]
+fn pair_left(f: &Final, regs: &mut Regs) -> bool
+    ensures dbr { regs.new.dbr ≡ regs.old.dbr }
+    ensures value { Ok (record { regs = regs.new; put = []; overflow = result })
+        ≡ shift_left AQ f.now.at.word regs.old }
+{
+    let s = shift72(Shift::Left, pair(regs), shift_count(f));
+    load_pair(s.value, regs);
+    tell_carry(s.carry, regs);
+    false
+}
+
+/// Whether `shift` does an instruction.
+#[inline(always)]
+pub fn is_shift(effect: Effect) -> bool
+    ensures { result ≡ is_shift effect }
+{
+    matches!(
+        effect,
+        Effect::Als
+            | Effect::Qls
+            | Effect::Lls
+            | Effect::Ars
+            | Effect::Qrs
+            | Effect::Lrs
+            | Effect::Arl
+            | Effect::Qrl
+            | Effect::Lrl
+            | Effect::Alr
+            | Effect::Qlr
+            | Effect::Llr
+    )
+}
+
+/// A shift, done in the registers. It never overflows.
+#[inline(always)]
+#[tactic(auto, unfolding(m36_model::specs::Effect::exec, m36_model::specs::ShiftEffects::shift_right, m36_model::specs::ShiftEffects::shift_right_logical, m36_model::specs::ShiftEffects::rotate_left, m36_model::specs::Loads::load))]
+pub fn shift(row: &Row, regs: &mut Regs, f: &Final) -> bool
+    requires { IsTrue (is_shift row.now.effect) }
+    ensures value { Ok (record { regs = regs.new; put = []; overflow = result })
+        ≡ exec row.now.effect row.now.reg regs.old f.now nothing_read }
+    ensures dbr { regs.new.dbr ≡ regs.old.dbr }
+{
+    let n = shift_count(f);
+    match row.effect {
+        Effect::Als => a_left(f, regs),
+        Effect::Qls => q_left(f, regs),
+        Effect::Lls => pair_left(f, regs),
+        Effect::Ars => load_a(moved_word(Shift::Right, accumulator(regs), n), regs),
+        Effect::Qrs => load_q(moved_word(Shift::Right, quotient(regs), n), regs),
+        Effect::Lrs => load_pair(moved_pair(Shift::Right, pair(regs), n), regs),
+        Effect::Arl => load_a(moved_word(Shift::RightZero, accumulator(regs), n), regs),
+        Effect::Qrl => load_q(moved_word(Shift::RightZero, quotient(regs), n), regs),
+        Effect::Lrl => load_pair(moved_pair(Shift::RightZero, pair(regs), n), regs),
+        Effect::Alr => load_a(moved_word(Shift::Rotate, accumulator(regs), n), regs),
+        Effect::Qlr => load_q(moved_word(Shift::Rotate, quotient(regs), n), regs),
+        Effect::Llr => load_pair(moved_pair(Shift::Rotate, pair(regs), n), regs),
+        _ => unreachable!(),
+    }
+}
