@@ -11,6 +11,7 @@ _m36_commands="
     alm
     print
     bind
+    make
 "
 
 _m36_names() {

@@ -6,7 +6,11 @@ mod calls;
 #[cfg(test)]
 mod folders;
 #[cfg(test)]
+mod help;
+#[cfg(test)]
 mod lists;
+#[cfg(test)]
+mod makes;
 #[cfg(test)]
 mod reports;
 #[cfg(test)]

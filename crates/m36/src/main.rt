@@ -2,17 +2,20 @@
 //!
 //! It takes the words of the command line, calls the simulator, prints one line to standard error unless the call
 //! answered Done, and ends with the number of the status. The line is `m36: ` and the name of the status; behind BadFile
-//! stand the name of the file, the code, the place and the column.
+//! stand the name of the file, the code, the place and the column. Behind Usage stands the help.
 //!
 //! What the call does, the line and the number are said by clauses of `m36`, `report` and `Status::number`, all of
-//! `m36_top`. That these are called, on the words as they are and on the real folder, input and output, is to be read here.
+//! `m36_top`. That these are called, on the words as they are and on the real folder, input and output, is to be read here;
+//! and that where no memory is found for the line, the same is printed in pieces, which need none.
 #![tactic(auto)]
 
+use m36_help::help;
 use m36_outside::{DirFolder, StdLines, StdSink, Text};
+use m36_text::decimal;
 use m36_top::{Status, m36, report};
 use m36_word::NoMemory;
 use std::env;
-use std::io::{ErrorKind, Write};
+use std::io::{self, ErrorKind, Write};
 use std::process::ExitCode;
 
 /// Does what the words behind the name of the program ask for. Words that are not UTF-8 are no command.
@@ -38,11 +41,43 @@ fn answer(rt: &HostRuntime) -> Result<Status, NoMemory> {
     ))
 }
 
+/// Prints the help to standard error; nothing where no memory is found for it.
+fn print_help(rt: &HostRuntime) {
+    if let Ok(text) = help(rt.alloc()) {
+        let _ = rt.stderr().write_all(text.bytes());
+    }
+}
+
+/// Prints the line of a status, or where no memory is found for it the same in pieces, which take none.
+fn tell(rt: &HostRuntime, status: &Status) -> io::Result<()> {
+    match report(rt.alloc(), status) {
+        Ok(line) => rt.stderr().write_all(line.bytes()),
+        Err(_) => tell_in_pieces(rt, status),
+    }
+}
+
+fn tell_in_pieces(rt: &HostRuntime, status: &Status) -> io::Result<()> {
+    let mut to = rt.stderr();
+    to.write_all(b"m36: ")?;
+    to.write_all(status.name().as_bytes())?;
+    if let Status::BadFile(bad) = status {
+        to.write_all(b" ")?;
+        to.write_all(bad.name.bytes())?;
+        to.write_all(b" ")?;
+        to.write_all(bad.code.name().as_bytes())?;
+        for number in [bad.at, bad.column] {
+            to.write_all(b" ")?;
+            to.write_all(decimal(number as u64).as_str().as_bytes())?;
+        }
+    }
+    to.write_all(b"\n")
+}
+
 fn main(rt: HostRuntime) -> ExitCode {
     let status = answer(&rt).unwrap_or(Status::NoMemory);
-    let _ = match report(rt.alloc(), &status) {
-        Ok(line) => rt.stderr().write_all(line.bytes()),
-        Err(_) => rt.stderr().write_all(b"m36: NoMemory\n"),
-    };
+    let _ = tell(&rt, &status);
+    if let Status::Usage = status {
+        print_help(&rt);
+    }
     ExitCode::from(status.number())
 }

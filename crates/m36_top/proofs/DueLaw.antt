@@ -1,5 +1,5 @@
 -- One answer is due.
-use Rattle.std.proofs.Common.{◌≡◌, ℕ, ◌⊎◌, List, Option, Some, None, Result, Ok, Err, inl, inr, refl, sym, subst, ◌∙◌}
+use Rattle.std.proofs.Common.{◌≡◌, Option, Some, None, Ok, Err, inl, inr, refl, sym, subst, ◌∙◌}
 use Rattle.m36_outside.specs.Files.{Files}
 use Rattle.m36_outside.specs.Passing.{joined}
 use Rattle.m36_reading.specs.declared.status.Status.TheVariants.{Usage}
@@ -13,11 +13,12 @@ use Rattle.m36_scheduled.proofs.DueLaws.{procs_due_law}
 use Rattle.m36_scheduled.proofs.PiecesJoined.{procs_joined}
 use Rattle.m36_booted.specs.Runs.{Whole}
 use Rattle.m36_booted.proofs.DueLaws.{folder_due_law, folder_joined}
+use Rattle.m36_made.proofs.MadeLaws.{made_joined}
 use Rattle.m36_top.specs.declared.command.Command.{Command}
 use Rattle.m36_top.specs.Words.{command_of}
 use Rattle.m36_sessions.specs.Held.{Talk, HoldsImage, HoldsFolder}
 use Rattle.m36_sessions.specs.Sessions.{Told as Holding, IsSessionDue}
-use Rattle.m36_top.specs.Dues.{Due, Told, Image, Folder, Schedule, ImageSession, FolderSession, IsDueOf}
+use Rattle.m36_top.specs.Dues.{Due, Told, Image, Folder, Schedule, ImageSession, FolderSession, Made, IsDueOf}
 use Rattle.m36_top.specs.Commands.{reads}
 use Rattle.m36_top.specs.DueLaw.{IsCommandDue, IsUnbooted, BootsNone, DueLaw}
 
@@ -28,6 +29,7 @@ by_one talk (Ok (Folder folder)) due same un is is_same = absurd un
 by_one talk (Ok (Schedule s)) due same un is is_same = procs_due_law.one s.unaudited s.procs due same is is_same
 by_one talk (Ok (ImageSession state)) due same un is is_same = absurd un
 by_one talk (Ok (FolderSession given)) due same un is is_same = absurd un
+by_one talk (Ok (Made sets)) due same un is is_same = absurd un
 by_one talk (Err r) due same un is is_same = is ∙ sym is_same
 
 by_some : (talk : Talk) (given : Early Due) → IsUnbooted given → ¬ ((due : Answer) → ¬ IsDueBy (IsDueOf talk) given due)
@@ -37,6 +39,7 @@ by_some talk (Ok (Folder folder)) un none = absurd un
 by_some talk (Ok (Schedule s)) un none = procs_due_law.some s.unaudited s.procs none
 by_some talk (Ok (ImageSession state)) un none = absurd un
 by_some talk (Ok (FolderSession given)) un none = absurd un
+by_some talk (Ok (Made sets)) un none = absurd un
 by_some talk (Err r) un none = none (unwritten (status_of r)) refl
 
 command_one : (command : Option Command) (files : Files) (talk : Talk) (due same : Answer) → BootsNone command files → IsCommandDue command files talk due → IsCommandDue command files talk same → due ≡ same
@@ -65,6 +68,7 @@ by_joined talk (Ok (Schedule s)) due is =
     subst AreJoined (sym is.answer) (procs_joined s.unaudited s.procs is.findings)
 by_joined talk (Ok (ImageSession state)) due is = session_joined (HoldsImage talk state) due is
 by_joined talk (Ok (FolderSession given)) due is = session_joined (HoldsFolder talk given.lib) due is
+by_joined talk (Ok (Made sets)) due is = made_joined sets due is
 by_joined talk (Err r) due is = subst AreJoined (sym is) refl
 
 command_joined : (command : Option Command) (files : Files) (talk : Talk) (due : Answer) → IsCommandDue command files talk due → AreJoined due

@@ -1,7 +1,6 @@
 -- The commands that take no input, and why a file or the input could not be read.
-use Rattle.std.proofs.Common.{◌≡◌, ℕ, Bool, true, false, ◌⊎◌, List, Option, Result, Ok, Err, inl, inr, refl}
+use Rattle.std.proofs.Common.{◌≡◌, ℕ, Bool, true, false, List, Option, Ok, Err, inl, inr, refl}
 use Rattle.m36_outside.specs.Counts.{Rose}
-use Rattle.m36_reading.specs.declared.refusal.Refusal.{Refusal}
 use Rattle.m36_reading.specs.declared.status.Status.{Status}
 use Rattle.m36_reading.specs.Reading.{Early, decided, mapped}
 use Rattle.m36_reading.specs.Asking.{Asked, Came, Comes}
@@ -19,10 +18,11 @@ use Rattle.m36_ran.specs.Ran.{state_reads}
 use Rattle.m36_scheduled.specs.Scheduled.{procs_reads}
 use Rattle.m36_booted.specs.declared.command.FolderCommand.{FolderCommand}
 use Rattle.m36_booted.specs.Folder.{folder_reads}
+use Rattle.m36_made.specs.Making.{make_reads}
 use Rattle.m36_sessions.specs.Held.{Talk}
 use Rattle.m36_top.specs.declared.command.Command.{Command}
-use Rattle.m36_top.specs.declared.command.Command.TheVariants.{Bare, Audit, Booted, Procs, Access, Print, Alm, Bind, DebugFolder, DebugImage}
-use Rattle.m36_top.specs.Dues.{Due, Told, Image, Folder, Schedule, ImageSession, FolderSession, on_image, on_folder, on_procs, FailsOf, due_kind}
+use Rattle.m36_top.specs.declared.command.Command.TheVariants.{Bare, Audit, Booted, Procs, Access, Print, Alm, Bind, DebugFolder, DebugImage, Make}
+use Rattle.m36_top.specs.Dues.{Due, Told, Image, Folder, Schedule, ImageSession, FolderSession, Made, on_image, on_folder, on_procs, FailsOf, due_kind}
 use Rattle.m36_top.specs.Commands.{reads, takes_input}
 use Rattle.m36_top.specs.TopCall.{ReadRose, ReadCauseBy}
 use Rattle.m36_top.proofs.NoSets.{Always, comes_always, always_then}
@@ -73,6 +73,11 @@ unfolding reads mapped
 bind_none talk files =
     always_then (NoFails talk) (bind_reads files) (λ told. decided (Ok (Told told))) (λ told. λ old new f. f) (λ r. tt)
 
+make_none : (talk : Talk) (seed : ℕ) → Always (NoFails talk) (reads (Make seed))
+unfolding reads mapped
+make_none talk seed =
+    always_then (NoFails talk) (make_reads seed) (λ sets. decided (Ok (Made sets))) (λ sets. λ old new f. f) (λ r. tt)
+
 reads_none : (talk : Talk) (command : Command) → takes_input command ≡ false → Always (NoFails talk) (reads command)
 reads_none talk (Bare file run) none = bare_none talk file run
 reads_none talk (Audit file) none = audit_none talk file
@@ -84,6 +89,7 @@ reads_none talk (Alm files) none = alm_none talk files
 reads_none talk (Bind files) none = bind_none talk files
 reads_none talk DebugFolder none = absurd (cc)
 reads_none talk (DebugImage file) none = absurd (cc)
+reads_none talk (Make seed) none = make_none talk seed
 
 no_fails : (talk : Talk) (command : Command) (asked : List Asked) (given : Early Due) → takes_input command ≡ false → Comes (reads command) asked (Came given) → NoFails talk given
 no_fails talk command asked given none came = comes_always (NoFails talk) (reads command) asked given (reads_none talk command none) came
@@ -98,6 +104,7 @@ fails_rose talk (Folder folder) old new f = absurd f
 fails_rose talk (Schedule s) old new f = absurd f
 fails_rose talk (ImageSession state) old new f = f.holds.session.read_cause
 fails_rose talk (FolderSession given) old new f = f.holds.held.session.read_cause
+fails_rose talk (Made sets) old new f = absurd f
 
 folder_rose : (takes : Bool) (talk : Talk) (old new : Outside) → Rose old.folder.read_faults new.folder.read_faults → ReadRose takes talk old new
 folder_rose true talk old new rose = inl rose

@@ -4,4 +4,5 @@ pub mod NoSets
 pub mod Inputs
 pub mod YesPasses
 pub mod TopEnds
+pub mod ComesDone
 pub mod DueLaw

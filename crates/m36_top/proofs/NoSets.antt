@@ -1,6 +1,5 @@
 -- The commands that write no file.
-use Rattle.std.proofs.Common.{◌≡◌, ℕ, Bool, true, false, ◌⊎◌, List, [], ◌∷◌, ◌++◌, Option, Some, None, Result, Ok, Err, refl, sym, ap, subst, ◌∙◌, inl, inr}
-use Rattle.m36_outside.specs.Counts.{Rose}
+use Rattle.std.proofs.Common.{◌≡◌, ℕ, Bool, true, false, ◌⊎◌, List, [], ◌∷◌, ◌++◌, Option, None, Ok, Err, refl, sym, ap, subst, ◌∙◌, inl, inr}
 use Rattle.m36_outside.specs.declared.folder.ReadAnswer.{ReadAnswer}
 use Rattle.m36_outside.specs.declared.folder.ReadAnswer.TheVariants as read
 use Rattle.m36_model.specs.Store.{State}
@@ -31,10 +30,11 @@ use Rattle.m36_booted.specs.Runs.{Whole, Begun}
 use Rattle.m36_booted.proofs.DueLaws.{folder_sets}
 use Rattle.m36_scheduled.proofs.YesAnswers.{procs_sets}
 use Rattle.m36_top.specs.declared.command.Command.{Command}
-use Rattle.m36_top.specs.declared.command.Command.TheVariants.{Bare, Audit, Booted, Procs, Access, Print, Alm, Bind, DebugFolder, DebugImage}
+use Rattle.m36_top.specs.declared.command.Command.TheVariants.{Bare, Audit, Booted, Procs, Access, Print, Alm, Bind, DebugFolder, DebugImage, Make}
+use Rattle.m36_made.specs.Made.{files_alone}
 use Rattle.m36_sessions.specs.Held.{Talk, HoldsImage, HoldsFolder}
 use Rattle.m36_sessions.specs.Sessions.{Told as Holding, IsSessionDue, SessionWants}
-use Rattle.m36_top.specs.Dues.{Due, Told, Image, Folder, Schedule, ImageSession, FolderSession, on_image, on_folder, on_procs, IsDueOf, IsBegunOf, WantsOf, FailsOf, due_kind}
+use Rattle.m36_top.specs.Dues.{Due, Told, Image, Folder, Schedule, ImageSession, FolderSession, Made, on_image, on_folder, on_procs, IsDueOf, IsBegunOf, WantsOf, FailsOf, due_kind}
 use Rattle.m36_top.specs.Commands.{reads, writes_files}
 use Rattle.m36_top.specs.TopCall.{WriteRose, WritesStand, WriteCauseBy, IsKept, KeepsBy}
 
@@ -172,6 +172,7 @@ reads_none talk (Alm files) none = absurd (cc)
 reads_none talk (Bind files) none = absurd (cc)
 reads_none talk DebugFolder none = debug_folder_none talk
 reads_none talk (DebugImage file) none = debug_image_none talk file
+reads_none talk (Make seed) none = absurd (cc)
 
 pub no_sets : (talk : Talk) (command : Command) (asked : List Asked) (given : Early Due) → writes_files command ≡ false → Comes (reads command) asked (Came given) → NoSets talk given
 no_sets talk command asked given none came = comes_always (NoSets talk) (reads command) asked given (reads_none talk command none) came
@@ -205,6 +206,9 @@ wants_stand talk (Folder folder) old new (inr w) = (w.put_faults, w.write_faults
 wants_stand talk (Schedule s) old new w = (w.put_faults, w.write_faults)
 wants_stand talk (ImageSession state) old new w = session_stands (HoldsImage talk state) talk old new w
 wants_stand talk (FolderSession given) old new w = session_stands (HoldsFolder talk given.lib) talk old new w
+wants_stand talk (Made sets) old new (inl w) = (w.put_faults, w.write_faults)
+wants_stand talk (Made sets) old new (inr (inl w)) = (w.put_faults, w.write_faults)
+wants_stand talk (Made sets) old new (inr (inr w)) = (w.so_far.put_faults, w.so_far.write_faults)
 
 fails_stand : (talk : Talk) (d : Due) (old new : Outside) → FailsOf talk d old new → WritesStand old new
 fails_stand talk (Told told) old new f = absurd f
@@ -213,6 +217,7 @@ fails_stand talk (Folder folder) old new f = absurd f
 fails_stand talk (Schedule s) old new f = absurd f
 fails_stand talk (ImageSession state) old new f = (f.put_faults, f.write_faults)
 fails_stand talk (FolderSession given) old new f = (f.put_faults, f.write_faults)
+fails_stand talk (Made sets) old new f = absurd f
 
 cause_by :
     (talk : Talk) (command : Command) (asked : List Asked) (end : End) (result : Status) (old new : Outside)
@@ -267,6 +272,11 @@ wants_keeps talk (Folder folder) old new none (inr w) = record { files = w.files
 wants_keeps talk (Schedule s) old new none w = idle_keeps old new w
 wants_keeps talk (ImageSession state) old new none w = session_keeps (HoldsImage talk state) talk old new w
 wants_keeps talk (FolderSession given) old new none w = session_keeps (HoldsFolder talk given.lib) talk old new w
+wants_keeps talk (Made sets) old new none (inl w) =
+    absurd (empty_parts w.before w.next w.others (sym (none.1 (files_alone sets) (inr refl)) ∙ w.sets))
+wants_keeps talk (Made sets) old new none (inr (inl w)) = unset_keeps sets old new (none.1 (files_alone sets) (inr refl)) w.files w.wrote
+wants_keeps talk (Made sets) old new none (inr (inr w)) =
+    unset_keeps sets old new (none.1 (files_alone sets) (inr refl)) w.so_far.files w.so_far.wrote
 
 fails_keeps : (talk : Talk) (d : Due) (old new : Outside) → FailsOf talk d old new → IsKept old new
 fails_keeps talk (Told told) old new f = absurd f
@@ -275,6 +285,7 @@ fails_keeps talk (Folder folder) old new f = absurd f
 fails_keeps talk (Schedule s) old new f = absurd f
 fails_keeps talk (ImageSession state) old new f = record { files = f.files; wrote = f.wrote }
 fails_keeps talk (FolderSession given) old new f = record { files = f.files; wrote = f.wrote }
+fails_keeps talk (Made sets) old new f = absurd f
 
 keeps_by :
     (talk : Talk) (command : Command) (asked : List Asked) (end : End) (result : Status) (old new : Outside) → writes_files command ≡ false

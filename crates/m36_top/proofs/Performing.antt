@@ -1,7 +1,6 @@
 -- A command is performed by what performs its kind.
 use Rattle.std.proofs.Common.{◌≡◌, ℕ, Bool, List, Option, Some, None, refl, sym, subst, ◌∙◌}
 use Rattle.std.specs.Prelude.{◌↔◌}
-use Rattle.m36_model.specs.Store.{State}
 use Rattle.m36_reading.specs.declared.status.Status.{Status}
 use Rattle.m36_reading.specs.declared.status.Status.TheVariants.{Usage}
 use Rattle.m36_reading.specs.Reading.{Reading, Early, mapped}
@@ -12,7 +11,7 @@ use Rattle.m36_reading.specs.Doing.{EndsBy, Does}
 use Rattle.m36_reading.proofs.EndLaws.{IsKindOf, does_mapped}
 use Rattle.m36_told.specs.declared.assembling.AlmFiles.{AlmFiles}
 use Rattle.m36_told.specs.declared.binding.BindFiles.{BindFiles}
-use Rattle.m36_told.specs.Told.{ToldFields, told_kind}
+use Rattle.m36_told.specs.Told.{told_kind}
 use Rattle.m36_told.specs.Telling.{print_reads, alm_reads}
 use Rattle.m36_told.specs.Binding.{bind_reads}
 use Rattle.m36_told.specs.Accesses.{user_reads}
@@ -25,12 +24,14 @@ use Rattle.m36_booted.specs.declared.command.FolderCommand.{FolderCommand}
 use Rattle.m36_booted.specs.Folder.{folder_reads}
 use Rattle.m36_booted.specs.Booted.{folder_kind}
 use Rattle.m36_top.specs.declared.command.Command.{Command}
-use Rattle.m36_top.specs.declared.command.Command.TheVariants.{Bare, Audit, Booted, Procs, Access, Print, Alm, Bind, DebugFolder, DebugImage}
+use Rattle.m36_top.specs.declared.command.Command.TheVariants.{Bare, Audit, Booted, Procs, Access, Print, Alm, Bind, DebugFolder, DebugImage, Make}
+use Rattle.m36_made.specs.Making.{make_reads}
+use Rattle.m36_made.specs.Made.{made_kind}
 use Rattle.m36_sessions.specs.Held.{Talk}
-use Rattle.m36_sessions.specs.Sessions.{image_kind, folder_kind as session_folder_kind}
-use Rattle.m36_top.specs.Dues.{Due, Told, ImageSession, FolderSession, on_image, on_folder, on_procs, due_kind}
+use Rattle.m36_sessions.specs.Sessions.{ImageTakes, FolderTakes, image_kind, folder_kind as session_folder_kind}
+use Rattle.m36_top.specs.Dues.{Due, Told, ImageSession, FolderSession, Made, on_image, on_folder, on_procs, due_kind}
 use Rattle.m36_top.specs.Commands.{reads, takes_input}
-use Rattle.m36_top.specs.TopCall.{Through, IsUnasked, InputBy, InputSays}
+use Rattle.m36_top.specs.TopCall.{Through, IsUnasked, InputBy, InputSays, CommandTakes, TopTakes}
 
 -- ---- the kinds
 
@@ -142,7 +143,18 @@ unfolding reads
 performs_debug_folder talk result old new before after does =
     does_mapped (session_folder_kind talk) (due_kind talk) FolderSession (folder_reads None) result old new before after (folder_session_is talk) does
 
-pub ruleset performing = (performs_bare, performs_audit, performs_booted, performs_procs, performs_access, performs_print, performs_alm, performs_bind, performs_debug_image, performs_debug_folder)
+made_is : (talk : Talk) → IsKindOf made_kind (due_kind talk) Made
+made_is talk = record { due = λ sets due is. is; begun = λ sets due is. is; wants = λ sets old new wants. wants; fails = λ sets old new fails. fails }
+
+pub performs_make :
+    (talk : Talk) (seed : ℕ) (result : Status) (old new : Outside) (before after : List Asked)
+    → Does made_kind (make_reads seed) result old new before after
+    → Does (due_kind talk) (reads (Make seed)) result old new before after
+unfolding reads
+performs_make talk seed result old new before after does =
+    does_mapped made_kind (due_kind talk) Made (make_reads seed) result old new before after (made_is talk) does
+
+pub ruleset performing = (performs_bare, performs_audit, performs_booted, performs_procs, performs_access, performs_print, performs_alm, performs_bind, performs_debug_image, performs_debug_folder, performs_make)
 
 -- by the name of the command
 pub as_command :
@@ -151,6 +163,21 @@ pub as_command :
     → Does (due_kind talk) (reads command) result old new before after
 as_command talk command same result old new before after is does =
     subst (λ c. Does (due_kind talk) (reads c) result old new before after) (sym is) does
+
+-- what is taken of the input
+pub takes_debug_image :
+    (talk : Talk) (command : Command) (name lent : List ℕ) (result : Status) (before after : List Asked)
+    → command ≡ DebugImage name → lent ≡ name → ImageTakes lent result talk before after
+    → CommandTakes command result talk before after
+takes_debug_image talk command name lent result before after is same takes =
+    subst (λ c. CommandTakes c result talk before after) (sym is)
+    (subst (λ n. ImageTakes n result talk before after) same takes)
+
+pub takes_debug_folder :
+    (talk : Talk) (command : Command) (result : Status) (before after : List Asked)
+    → command ≡ DebugFolder → FolderTakes result talk before after → CommandTakes command result talk before after
+takes_debug_folder talk command result before after is takes =
+    subst (λ c. CommandTakes c result talk before after) (sym is) takes
 
 -- ---- whether the words are a command
 
@@ -191,4 +218,14 @@ some_input talk asked command result is input = subst (λ a. InputSays a result 
 pub none_input : (talk : Talk) (asked : Option Command) → None ≡ asked → talk.after ≡ talk.before → InputSays asked Usage talk
 none_input talk asked is same = subst (λ a. InputSays a Usage talk) is same
 
-pub ruleset asking = (some_usage, some_through, none_through, some_input, none_input)
+pub some_takes :
+    (talk : Talk) (asked : Option Command) (command : Command) (result : Status) (before after : List Asked)
+    → Some command ≡ asked → CommandTakes command result talk before after → TopTakes asked result talk before after
+some_takes talk asked command result before after is takes = subst (λ a. TopTakes a result talk before after) is takes
+
+pub none_takes :
+    (talk : Talk) (asked : Option Command) (result : Status) (before after : List Asked)
+    → None ≡ asked → talk.after ≡ talk.before → TopTakes asked result talk before after
+none_takes talk asked result before after is same = subst (λ a. TopTakes a result talk before after) is same
+
+pub ruleset asking = (some_usage, some_through, none_through, some_input, none_input, some_takes, none_takes)

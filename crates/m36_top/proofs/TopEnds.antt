@@ -1,21 +1,20 @@
 -- What follows of the top call from how its command ends.
-use Rattle.std.proofs.Common.{◌≡◌, ℕ, Bool, ◌⊎◌, List, Option, Some, None, Result, Ok, Err, refl, sym, ap, subst, ◌∙◌, inl, inr}
+use Rattle.std.proofs.Common.{◌≡◌, Bool, ◌⊎◌, List, Option, Some, None, refl, sym, subst, inl, inr}
 use Rattle.std.specs.Prelude.{IfSome}
-use Rattle.m36_outside.specs.Counts.{Rose}
 use Rattle.m36_outside.specs.Files.{Files}
 use Rattle.m36_reading.specs.declared.status.Status.{Status}
 use Rattle.m36_reading.specs.declared.status.Status.TheVariants.{Done, Usage, ReadFault, WriteFault, BadFile, AuditNo, MachineStop, Steps, NoMemory}
 use Rattle.m36_reading.specs.Reading.{Early}
-use Rattle.m36_reading.specs.Asking.{Asked, Coming, Comes, ComesIn}
-use Rattle.m36_reading.specs.Outside.{Outside, NoneUnread}
+use Rattle.m36_reading.specs.Asking.{Asked, Coming, ComesIn}
+use Rattle.m36_reading.specs.Outside.{Outside}
 use Rattle.m36_reading.specs.Ends.{End, Answered, Cut, Unread, Starved, Unasked, end_of}
-use Rattle.m36_reading.specs.Doing.{IsUnset, IsUnput, IsAnswered, EndsBy, Does}
+use Rattle.m36_reading.specs.Doing.{IsAnswered, EndsBy}
 use Rattle.m36_reading.proofs.EndLaws.{ends_in}
 use Rattle.m36_top.specs.declared.command.Command.{Command}
 use Rattle.m36_sessions.specs.Held.{Talk}
 use Rattle.m36_top.specs.Dues.{Due, due_kind}
 use Rattle.m36_top.specs.Commands.{reads, writes_files, takes_input}
-use Rattle.m36_top.specs.TopCall.{IsUnasked, Through, TopOutput, ReadRose, ReadCauseBy, ReadCause, WriteRose, WriteCauseBy, WriteCause, may_write, Completes, KeepsFiles, TopPasses, TopAnswersPass}
+use Rattle.m36_top.specs.TopCall.{Through, TopOutput, ReadRose, ReadCauseBy, ReadCause, WriteRose, WriteCauseBy, WriteCause, Completes, KeepsFiles, TopPasses, TopAnswersPass}
 use Rattle.m36_top.proofs.NoSets.{does_cause, does_keep}
 use Rattle.m36_top.proofs.Inputs.{does_read}
 use Rattle.m36_top.proofs.YesPasses.{yes_nothing, ends_pass, does_pass}

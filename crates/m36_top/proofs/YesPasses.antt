@@ -1,6 +1,5 @@
 -- Where `audit yes` is written, the image passes its audit.
-use Rattle.std.proofs.Common.{◌≡◌, ℕ, ◌+◌, ◌⊎◌, List, [], ◌∷◌, ◌++◌, length, Option, Some, None, Result, Ok, Err, refl, sym, ap, subst, ◌∙◌, arith, append_assoc, length-append, inl, inr}
-use Rattle.std.specs.Prelude.{IfSome}
+use Rattle.std.proofs.Common.{◌≡◌, ℕ, ◌<◌, ◌⊎◌, List, [], ◌∷◌, ◌++◌, length, Option, Some, Ok, Err, refl, sym, ap, subst, ◌∙◌, arith, append_assoc, length-append, inl, inr}
 use Rattle.m36_outside.specs.Files.{Files}
 use Rattle.m36_outside.specs.Written.{appended, Grew, GrewWithin}
 use Rattle.m36_outside.specs.declared.folder.ReadAnswer.{ReadAnswer}
@@ -18,15 +17,17 @@ use Rattle.m36_scheduled.proofs.YesAnswers.{yes_passes as procs_pass}
 use Rattle.m36_booted.specs.Runs.{Whole, Begun}
 use Rattle.m36_booted.specs.Runs as runs
 use Rattle.m36_booted.proofs.YesAnswers.{yes_passes as folder_passes}
+use Rattle.m36_made.specs.Made.{files_alone}
+use Rattle.m36_made.proofs.MadeLaws.{yes_told, yes_made, yes_begun, yes_some}
 use Rattle.m36_top.specs.declared.command.Command.{Command}
 use Rattle.m36_sessions.specs.Held.{Talk}
-use Rattle.m36_top.specs.Dues.{Due, Told, Image, Folder, Schedule, ImageSession, FolderSession, IsDueOf, IsBegunOf, WantsOf, FailsOf, due_kind, Promises}
+use Rattle.m36_top.specs.Dues.{Due, Told, Image, Folder, Schedule, ImageSession, FolderSession, Made, IsDueOf, IsBegunOf, WantsOf, FailsOf, due_kind, Promises, yes_of}
 use Rattle.m36_top.specs.Commands.{reads}
 use Rattle.m36_top.specs.TopCall.{SaysYes, YesPasses, AnswersPass}
 
--- a text begins with the line `audit yes`
-abbrev Begins : List ℕ → Type 0
-Begins text = (rest : List ℕ) × (text ≡ yes_line ++ rest)
+-- a text begins with another
+abbrev Begins : List ℕ → List ℕ → Type 0
+Begins opening text = (rest : List ℕ) × (text ≡ opening ++ rest)
 
 cancel : (xs ys zs : List ℕ) → xs ++ ys ≡ xs ++ zs → ys ≡ zs
 cancel [] ys zs e = e
@@ -35,26 +36,38 @@ cancel (x ∷ xs) ys zs e = cancel xs ys zs (cc)
 some_same : (xs ys : List ℕ) → Some xs ≡ Some ys → xs ≡ ys
 some_same xs ys e = cc
 
--- nothing written is no line
-pub yes_nothing : (old new : Option (List ℕ)) → new ≡ old → SaysYes old new → ⊥
-yes_nothing old new same told_yes =
-    let e : told_yes.before ≡ told_yes.before ++ (yes_line ++ told_yes.rest) = some_same _ _ (sym told_yes.was ∙ sym same ∙ told_yes.is) in
-    let l : length (yes_line ++ told_yes.rest) ≡ 10 + length told_yes.rest = length-append yes_line told_yes.rest in
-    absurd (omega (arith, ap length e, length-append told_yes.before (yes_line ++ told_yes.rest), l))
+-- what is written first where something is promised is some text
+yes_is_some : (d : Due) → 0 < length (yes_of d)
+yes_is_some (Told told) = omega arith
+yes_is_some (Image image) = omega arith
+yes_is_some (Folder folder) = omega arith
+yes_is_some (Schedule s) = omega arith
+yes_is_some (ImageSession state) = omega arith
+yes_is_some (FolderSession given) = omega arith
+yes_is_some (Made sets) = yes_some sets
+
+-- nothing written is no text
+says_nothing : (opening : List ℕ) (old new : Option (List ℕ)) → 0 < length opening → new ≡ old → SaysYes opening old new → ⊥
+says_nothing opening old new some same told_yes =
+    let e : told_yes.before ≡ told_yes.before ++ (opening ++ told_yes.rest) = some_same _ _ (sym told_yes.was ∙ sym same ∙ told_yes.is) in
+    absurd (omega (arith, ap length e, length-append told_yes.before (opening ++ told_yes.rest), length-append opening told_yes.rest, some))
+
+pub yes_nothing : (old new : Option (List ℕ)) → new ≡ old → SaysYes yes_line old new → ⊥
+yes_nothing old new same told_yes = says_nothing yes_line old new (omega arith) same told_yes
 
 -- what was written begins with it
-yes_grew : (old new : Option (List ℕ)) (text : List ℕ) → Grew old new text → SaysYes old new → Begins text
-yes_grew old new text grew told_yes =
-    let e : Some (told_yes.before ++ text) ≡ Some (told_yes.before ++ (yes_line ++ told_yes.rest)) = sym (ap (appended text) told_yes.was) ∙ sym grew ∙ told_yes.is in
-    (told_yes.rest, cancel told_yes.before text (yes_line ++ told_yes.rest) (some_same _ _ e))
+yes_grew : (opening : List ℕ) (old new : Option (List ℕ)) (text : List ℕ) → Grew old new text → SaysYes opening old new → Begins opening text
+yes_grew opening old new text grew told_yes =
+    let e : Some (told_yes.before ++ text) ≡ Some (told_yes.before ++ (opening ++ told_yes.rest)) = sym (ap (appended text) told_yes.was) ∙ sym grew ∙ told_yes.is in
+    (told_yes.rest, cancel told_yes.before text (opening ++ told_yes.rest) (some_same _ _ e))
 
-yes_grew_within : (old new : Option (List ℕ)) (text : List ℕ) → GrewWithin old new text → SaysYes old new → Begins text
-yes_grew_within old new text cut told_yes =
-    let b = yes_grew old new cut.part cut.grew told_yes in
-    (b.0 ++ cut.rest, cut.whole ∙ ap (λ t. t ++ cut.rest) b.1 ∙ append_assoc yes_line b.0 cut.rest)
+yes_grew_within : (opening : List ℕ) (old new : Option (List ℕ)) (text : List ℕ) → GrewWithin old new text → SaysYes opening old new → Begins opening text
+yes_grew_within opening old new text cut told_yes =
+    let b = yes_grew opening old new cut.part cut.grew told_yes in
+    (b.0 ++ cut.rest, cut.whole ∙ ap (λ t. t ++ cut.rest) b.1 ∙ append_assoc opening b.0 cut.rest)
 
 -- an answer is due that begins so
-due_passes : (talk : Talk) (d : Due) (due : Answer) → IsDueOf talk d due → Begins due.text → Promises d
+due_passes : (talk : Talk) (d : Due) (due : Answer) → IsDueOf talk d due → Begins (yes_of d) due.text → Promises d
 due_passes talk (Told told) due is begins = tt
 due_passes talk (Image image) due is begins = yes_passes image.command image.state due begins.0 is begins.1
 due_passes talk (Folder folder) due is begins =
@@ -62,9 +75,10 @@ due_passes talk (Folder folder) due is begins =
 due_passes talk (Schedule s) due is begins = procs_pass s.unaudited s.procs due begins.0 is begins.1
 due_passes talk (ImageSession state) due is begins = tt
 due_passes talk (FolderSession given) due is begins = tt
+due_passes talk (Made sets) due is begins = yes_made Whole sets due begins.0 is begins.1
 
 -- one was begun
-begun_passes : (talk : Talk) (d : Due) (due : Answer) → IsBegunOf talk d due → Begins due.text → Promises d
+begun_passes : (talk : Talk) (d : Due) (due : Answer) → IsBegunOf talk d due → Begins (yes_of d) due.text → Promises d
 begun_passes talk (Told told) due is begins = tt
 begun_passes talk (Image image) due is begins = yes_passes image.command image.state due begins.0 is begins.1
 begun_passes talk (Folder folder) due is begins =
@@ -72,38 +86,48 @@ begun_passes talk (Folder folder) due is begins =
 begun_passes talk (Schedule s) due is begins = procs_pass s.unaudited s.procs due begins.0 is begins.1
 begun_passes talk (ImageSession state) due is begins = tt
 begun_passes talk (FolderSession given) due is begins = tt
+begun_passes talk (Made sets) due is begins = yes_begun sets due begins.0 is begins.1
 
 nothing_begins : (rest : List ℕ) → [] ≡ yes_line ++ rest → ⊥
 nothing_begins rest e = cc
 
 idle_passes : (given : Early Due) (old new : Outside) → new.sink.written ≡ old.sink.written → YesPasses given old new
-idle_passes (Ok d) old new same = λ told_yes. absurd (yes_nothing old.sink.written new.sink.written same told_yes)
+idle_passes (Ok d) old new same = λ told_yes. absurd (says_nothing (yes_of d) old.sink.written new.sink.written (yes_is_some d) same told_yes)
 idle_passes (Err r) old new same = yes_nothing old.sink.written new.sink.written same
 
 made_passes :
     (talk : Talk) (given : Early Due) (due : Answer) (old new : Outside)
     → IsDueBy (IsDueOf talk) given due → Grew old.sink.written new.sink.written due.text → YesPasses given old new
-made_passes talk (Ok d) due old new is grew = λ told_yes. due_passes talk d due is (yes_grew old.sink.written new.sink.written due.text grew told_yes)
+made_passes talk (Ok d) due old new is grew = λ told_yes.
+    due_passes talk d due is (yes_grew (yes_of d) old.sink.written new.sink.written due.text grew told_yes)
 made_passes talk (Err r) due old new is grew = λ told_yes.
-    let b = yes_grew old.sink.written new.sink.written due.text grew told_yes in
+    let b = yes_grew yes_line old.sink.written new.sink.written due.text grew told_yes in
     nothing_begins b.0 (sym (ap (λ (d : Answer). d.text) is) ∙ b.1)
 
 cut_passes :
     (talk : Talk) (d : Due) (due : Answer) (old new : Outside)
     → IsBegunOf talk d due → IsUnset due old new ⊎ IsUnput due old new → YesPasses (Ok d) old new
 cut_passes talk d due old new is (inl unset) = idle_passes (Ok d) old new unset.written
-cut_passes talk d due old new is (inr unput) = λ told_yes. begun_passes talk d due is (yes_grew_within old.sink.written new.sink.written due.text unput.text told_yes)
+cut_passes talk d due old new is (inr unput) = λ told_yes.
+    begun_passes talk d due is (yes_grew_within (yes_of d) old.sink.written new.sink.written due.text unput.text told_yes)
 
 wants_passes : (talk : Talk) (d : Due) (old new : Outside) → WantsOf talk d old new → YesPasses (Ok d) old new
 wants_passes talk (Told told) old new w = idle_passes (Ok (Told told)) old new w.written
 wants_passes talk (Image image) old new w = idle_passes (Ok (Image image)) old new w.written
 wants_passes talk (Folder folder) old new (inl w) = idle_passes (Ok (Folder folder)) old new w.written
 wants_passes talk (Folder folder) old new (inr w) = λ told_yes.
-    let b = yes_grew old.sink.written new.sink.written w.due.text w.text told_yes in
+    let b = yes_grew yes_line old.sink.written new.sink.written w.due.text w.text told_yes in
     folder_passes runs.Starved folder.command folder.given w.due b.0 w.is b.1
 wants_passes talk (Schedule s) old new w = idle_passes (Ok (Schedule s)) old new w.written
 wants_passes talk (ImageSession state) old new w = λ told_yes. tt
 wants_passes talk (FolderSession given) old new w = λ told_yes. tt
+wants_passes talk (Made sets) old new (inl w) = idle_passes (Ok (Made sets)) old new w.written
+wants_passes talk (Made sets) old new (inr (inl w)) = λ told_yes.
+    let b = yes_grew (yes_of (Made sets)) old.sink.written new.sink.written [] w.text told_yes in
+    yes_begun sets (files_alone sets) b.0 (inr refl) b.1
+wants_passes talk (Made sets) old new (inr (inr w)) = λ told_yes.
+    let b = yes_grew (yes_of (Made sets)) old.sink.written new.sink.written w.told.text w.so_far.text told_yes in
+    yes_told runs.Starved sets w.told b.0 w.is b.1
 
 fails_passes : (talk : Talk) (d : Due) (old new : Outside) → FailsOf talk d old new → YesPasses (Ok d) old new
 fails_passes talk (Told told) old new f = absurd f
@@ -112,6 +136,7 @@ fails_passes talk (Folder folder) old new f = absurd f
 fails_passes talk (Schedule s) old new f = absurd f
 fails_passes talk (ImageSession state) old new f = λ told_yes. tt
 fails_passes talk (FolderSession given) old new f = λ told_yes. tt
+fails_passes talk (Made sets) old new f = absurd f
 
 -- by what a reading came to
 pub ends_pass_by :

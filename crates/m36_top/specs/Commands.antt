@@ -7,12 +7,13 @@ use Rattle.m36_told.specs.Accesses.{user_reads}
 use Rattle.m36_ran.specs.Ran.{state_reads}
 use Rattle.m36_scheduled.specs.Scheduled.{procs_reads}
 use Rattle.m36_booted.specs.Folder.{folder_reads}
+use Rattle.m36_made.specs.Making.{make_reads}
 use Rattle.m36_ran.specs.declared.command.ImageCommand.TheVariants as image
 use Rattle.m36_top.specs.declared.command.Command.{Command}
 use Rattle.m36_top.specs.declared.command.Command.TheVariants.{Bare, Audit, Booted, Procs}
 use Rattle.m36_top.specs.declared.command.Command.TheVariants.{Access, Print, Alm, Bind}
-use Rattle.m36_top.specs.declared.command.Command.TheVariants.{DebugFolder, DebugImage}
-use Rattle.m36_top.specs.Dues.{Due, Told, ImageSession, FolderSession}
+use Rattle.m36_top.specs.declared.command.Command.TheVariants.{DebugFolder, DebugImage, Make}
+use Rattle.m36_top.specs.Dues.{Due, Told, ImageSession, FolderSession, Made}
 use Rattle.m36_top.specs.Dues.{on_image, on_folder, on_procs}
 
 unfoldable pub reads : Command → Reading (Early Due)
@@ -26,6 +27,7 @@ reads (Alm files) = mapped Told (alm_reads files)
 reads (Bind files) = mapped Told (bind_reads files)
 reads DebugFolder = mapped FolderSession (folder_reads None)
 reads (DebugImage file) = mapped ImageSession (state_reads file)
+reads (Make seed) = mapped Made (make_reads seed)
 
 -- which commands write a file
 abbrev pub writes_files : Command → Bool
@@ -39,6 +41,7 @@ writes_files (Alm files) = true
 writes_files (Bind files) = true
 writes_files DebugFolder = false
 writes_files (DebugImage file) = false
+writes_files (Make seed) = true
 
 -- which commands take input beside the folder
 abbrev pub takes_input : Command → Bool
@@ -52,3 +55,4 @@ takes_input (Alm files) = false
 takes_input (Bind files) = false
 takes_input DebugFolder = true
 takes_input (DebugImage file) = true
+takes_input (Make seed) = false

@@ -1,6 +1,6 @@
 -- That one answer is due to words and files, but to those that boot a folder, and which by the
 -- conditions of the audit.
-use Rattle.std.specs.Prelude.{ℕ, ◌≡◌, ⊤, List, Option, Some, None, Result, Ok, Err}
+use Rattle.std.specs.Prelude.{ℕ, ◌≡◌, ⊤, List, Option, Some, None, Ok, Err}
 use Rattle.m36_outside.specs.Files.{Files}
 use Rattle.m36_outside.specs.Passing.{joined}
 use Rattle.m36_reading.specs.declared.status.Status.TheVariants.{Usage}
@@ -12,7 +12,7 @@ use Rattle.m36_booted.specs.DueLaw.{FolderDueLaw}
 use Rattle.m36_top.specs.declared.command.Command.{Command}
 use Rattle.m36_top.specs.Words.{command_of}
 use Rattle.m36_sessions.specs.Held.{Talk}
-use Rattle.m36_top.specs.Dues.{Due, Told, Image, Folder, Schedule, ImageSession, FolderSession}
+use Rattle.m36_top.specs.Dues.{Due, Told, Image, Folder, Schedule, ImageSession, FolderSession, Made}
 use Rattle.m36_top.specs.Dues.{IsDueOf}
 use Rattle.m36_top.specs.Commands.{reads}
 
@@ -21,7 +21,7 @@ IsCommandDue None files talk due = due ≡ unwritten Usage
 IsCommandDue (Some command) files talk due =
     IsDueBy (IsDueOf talk) (outcome_in files (reads command)) due
 
--- no folder is booted, and no session held
+-- no folder is booted or made, and no session held
 abbrev pub IsUnbooted : Early Due → Type 0
 IsUnbooted (Ok (Told told)) = ⊤
 IsUnbooted (Ok (Image image)) = ⊤
@@ -29,6 +29,7 @@ IsUnbooted (Ok (Folder folder)) = ⊥
 IsUnbooted (Ok (Schedule schedule)) = ⊤
 IsUnbooted (Ok (ImageSession state)) = ⊥
 IsUnbooted (Ok (FolderSession given)) = ⊥
+IsUnbooted (Ok (Made sets)) = ⊥
 IsUnbooted (Err refusal) = ⊤
 
 abbrev pub BootsNone : Option Command → Files → Type 0

@@ -2,5 +2,6 @@ pub mod Words
 pub mod Dues
 pub mod Commands
 pub mod TopCall
+pub mod Done
 pub mod DueLaw
 pub mod StatusLine

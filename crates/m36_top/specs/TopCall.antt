@@ -1,6 +1,6 @@
 -- What the top call says, by the command that its words are.
 use Rattle.std.specs.Prelude.{ℕ, ◌≡◌, ◌⊎◌, ⊤, Bool, true, false, ◌++◌, List, Option, Some, None}
-use Rattle.std.specs.Prelude.{IfSome, Ok, Err}
+use Rattle.std.specs.Prelude.{Ok, Err}
 use Rattle.m36_outside.specs.Counts.{Rose}
 use Rattle.m36_outside.specs.Files.{Files}
 use Rattle.m36_outside.specs.FolderCalls.{Asked}
@@ -13,9 +13,10 @@ use Rattle.m36_reading.specs.Ends.{End, Answered, Cut, Unread, Starved, Unasked,
 use Rattle.m36_reading.specs.Doing.{IsAnswered, EndsBy, Does}
 use Rattle.m36_ran.specs.AuditText.{yes_line}
 use Rattle.m36_sessions.specs.Held.{Talk}
-use Rattle.m36_sessions.specs.Sessions.{InputStands}
+use Rattle.m36_sessions.specs.Sessions.{InputStands, ImageTakes, FolderTakes}
 use Rattle.m36_top.specs.declared.command.Command.{Command}
-use Rattle.m36_top.specs.Dues.{Due, due_kind, Promises}
+use Rattle.m36_top.specs.declared.command.Command.TheVariants.{DebugFolder, DebugImage}
+use Rattle.m36_top.specs.Dues.{Due, due_kind, Promises, yes_of}
 use Rattle.m36_top.specs.Commands.{reads, writes_files, takes_input}
 
 -- no command
@@ -56,6 +57,16 @@ InputBy false end talk = talk.after ≡ talk.before
 
 abbrev pub InputSays : Option Command → Status → Talk → Type 0
 InputSays command result talk = InputBy (may_take command) (end_of result) talk
+
+-- Input is taken by a session alone, which is held over what the command's reading comes to.
+abbrev pub CommandTakes : Command → Status → Talk → List Asked → List Asked → Type 0
+CommandTakes DebugFolder result talk before after = FolderTakes result talk before after
+CommandTakes (DebugImage file) result talk before after = ImageTakes file result talk before after
+CommandTakes command result talk before after = talk.after ≡ talk.before
+
+abbrev pub TopTakes : Option Command → Status → Talk → List Asked → List Asked → Type 0
+TopTakes None result talk before after = talk.after ≡ talk.before
+TopTakes (Some command) result talk before after = CommandTakes command result talk before after
 
 -- ---- causes
 
@@ -135,21 +146,22 @@ KeepsFiles command old new = KeepsBy (may_write command) old new
 
 -- ---- what `audit yes` promises
 
--- What is written begins with the line `audit yes`.
-pub record SaysYes (old new : Option (List ℕ)) : Type 0 where
+-- What is written begins with this text, which ends with the line `audit yes`.
+pub record SaysYes (yes : List ℕ) (old new : Option (List ℕ)) : Type 0 where
   pub before : List ℕ
   pub rest : List ℕ
   pub was : old ≡ Some before
-  pub is : new ≡ Some (before ++ (yes_line ++ rest))
+  pub is : new ≡ Some (before ++ (yes ++ rest))
 
--- Then the image or the processes that the command audits pass. Nothing is owed for a command that
+-- Then the image, the folder or the processes that the command audits pass. Nothing is owed for a command that
 -- audits none.
 abbrev pub YesPasses : Early Due → Outside → Outside → Type 0
-YesPasses (Ok due) old new = SaysYes old.sink.written new.sink.written → Promises due
-YesPasses (Err refusal) old new = ¬ SaysYes old.sink.written new.sink.written
+YesPasses (Ok due) old new =
+    SaysYes (yes_of due) old.sink.written new.sink.written → Promises due
+YesPasses (Err refusal) old new = ¬ SaysYes yes_line old.sink.written new.sink.written
 
 abbrev pub TopPasses : Option Command → Files → Outside → Outside → Type 0
-TopPasses None files old new = ¬ SaysYes old.sink.written new.sink.written
+TopPasses None files old new = ¬ SaysYes yes_line old.sink.written new.sink.written
 TopPasses (Some command) files old new = YesPasses (outcome_in files (reads command)) old new
 
 -- The same by what the folder answered, whether it tells its files or not.
@@ -161,5 +173,6 @@ pub record AnswersPass (command : Command) (old new : Outside)
       → YesPasses given old new
 
 abbrev pub TopAnswersPass : Option Command → Outside → Outside → List Asked → List Asked → Type 0
-TopAnswersPass None old new before after = ¬ SaysYes old.sink.written new.sink.written
+TopAnswersPass None old new before after =
+    ¬ SaysYes yes_line old.sink.written new.sink.written
 TopAnswersPass (Some command) old new before after = AnswersPass command old new before after

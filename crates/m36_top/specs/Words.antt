@@ -12,6 +12,7 @@
 --     bind NAME
 --     debug
 --     debug FILE
+--     make SEED
 --
 -- The first word is the command. Operands and options follow it in any order, and an option stands
 -- at most once. Behind `--`, which may stand once, each word is an operand. `--steps N` may be
@@ -21,6 +22,7 @@
 --     FILE, NAME   1 to 32 of `A-Z a-z 0-9 _ .`, not beginning with `.`; of `alm` and `bind` at
 --                  most 27, since they read NAME.alm and NAME.bind
 --     N            1 to 8 decimal digits, at most 10,000,000; without `--steps` 100,000
+--     SEED         1 to 18 decimal digits
 --     USER         Person.Project.tag: two times 1 to 32 of `A-Z a-z 0-9 _`, and one of `a-z`
 use Rattle.std.specs.Prelude.{ℕ, Bool, true, false, not, ◌&&◌, nat_le, List, [], ◌∷◌, ◌++◌, length}
 use Rattle.std.specs.Prelude.{take, drop, codes, Option, Some, None, unwrap_or, if◌then◌else◌}
@@ -37,9 +39,10 @@ use Rattle.m36_top.specs.declared.words.Expects.TheVariants as expects
 use Rattle.m36_top.specs.declared.command.Command.{Command}
 use Rattle.m36_top.specs.declared.command.Command.TheVariants.{Bare, Audit, Booted, Procs}
 use Rattle.m36_top.specs.declared.command.Command.TheVariants.{Access, Print, Alm, Bind}
-use Rattle.m36_top.specs.declared.command.Command.TheVariants.{DebugFolder, DebugImage}
+use Rattle.m36_top.specs.declared.command.Command.TheVariants.{DebugFolder, DebugImage, Make}
 
--- operands: the files of all commands but `access`, which has a user; some texts are both
+-- operands: the files of all commands but `access`, which has a user; some texts are both, and each
+-- seed is of the form of a file
 abbrev pub file_of : List ℕ → Option (List ℕ)
 file_of word = if is_file_name word then Some word else None
 
@@ -203,6 +206,13 @@ debug_of (Some o) = option_map DebugImage o.file
 abbrev pub debug : Given → Option Command
 debug g = if has_no_option g then debug_of g.operand else None
 
+abbrev pub seed_of : List ℕ → Option ℕ
+seed_of text = short_decimal_in 18 0 999999999999999999 text
+
+abbrev pub make : Given → Option Command
+make g =
+    if has_no_option g then option_map Make (option_and_then seed_of (file_given g)) else None
+
 abbrev pub Entry : Type 0
 Entry = List ℕ × (Given → Option Command)
 
@@ -210,7 +220,8 @@ abbrev pub commands : List Entry
 commands =
     (codes "bare", bare) ∷ (codes "audit", audit) ∷ (codes "run", run) ∷ (codes "trace", trace)
     ∷ (codes "procs", procs) ∷ (codes "access", access) ∷ (codes "print", print)
-    ∷ (codes "alm", alm) ∷ (codes "bind", bind) ∷ (codes "debug", debug) ∷ []
+    ∷ (codes "alm", alm) ∷ (codes "bind", bind) ∷ (codes "debug", debug)
+    ∷ (codes "make", make) ∷ []
 
 -- the command of a word
 abbrev pub command_in : List Entry → List ℕ → Given → Option Command

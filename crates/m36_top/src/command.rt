@@ -29,4 +29,6 @@ pub enum Command {
     DebugFolder,
     /// `debug FILE`: holds a session over the machine of a bare image.
     DebugImage(Name),
+    /// `make SEED`: makes a folder from a seed, writes it, boots it, audits its core, and runs it.
+    Make(u64),
 }

@@ -13,6 +13,7 @@
 //! `print NAME` unpacks an object and writes its print.
 //! `alm NAME` assembles the source NAME.alm, writes the object as the file NAME, and then the listing.
 //! `bind NAME` binds the objects that NAME.bind names, writes the bound object as the file NAME, and then its print.
+//! `make SEED` makes a folder from a seed and writes it; boots it, audits its core, and runs it where the audit passes.
 //!
 //! What [`m36`] promises, whatever its arguments:
 //!
@@ -29,6 +30,9 @@
 //!   MachineStop or Steps. Each answer comes exactly where it is due, in the order words, file, image, audit, run; a fault
 //!   has its cause outside; and want of memory alone may stand in the place of an answer, with nothing written, or with all
 //!   that goes before a link service that found none.
+//! - Where the files are accepted and so is what the command needs beside them, as an audit that passes and a run that comes
+//!   to DIS, the call answers Done, or no memory was found; over objects that never fail no fault comes. `specs/Done.antt`
+//!   has what each command needs.
 //! - No file is read but those that the command asks for, one after another, and each line is put as one piece: whatever the
 //!   folder and the sink are, those of the system too (clause `through`).
 //!

@@ -1,7 +1,7 @@
 //! The commands by their words.
 
 ghost use Rattle.std.specs.Prelude.{◌≡◌};
-ghost use Rattle.m36_top.specs.Words.{file_given, user_given, bare, runs_nothing, has_no_option, audit_of, audit, folder_run, run, trace, procs, access, print, alm_of, alm, bind_of, bind, debug_of, debug, commands, command_in};
+ghost use Rattle.m36_top.specs.Words.{file_given, user_given, bare, runs_nothing, has_no_option, audit_of, audit, folder_run, run, trace, procs, access, print, alm_of, alm, bind_of, bind, debug_of, debug, seed_of, make, commands, command_in};
 
 use crate::command::Command;
 use crate::names::{Operand, bindfile_of, source_of};
@@ -9,7 +9,7 @@ use crate::words::Given;
 use m36_acl::User;
 use m36_booted::{FolderCommand, FolderRun};
 use m36_ran::BareRun;
-use m36_text::Name;
+use m36_text::{Name, short_decimal_in};
 use m36_told::{AlmFiles, BindFiles};
 
 /// The most steps of a run where no number is given.
@@ -17,6 +17,12 @@ const DEFAULT_STEPS: u32 = 100000;
 
 /// The most characters of an object's name that `alm` or `bind` is given.
 const LONGEST_MADE_NAME: usize = 27;
+
+/// The most digits of a seed.
+const MOST_SEED_DIGITS: usize = 18;
+
+/// The greatest seed.
+const MOST_SEED: u64 = 999_999_999_999_999_999;
 
 fn file_given(given: Given) -> Option<Name>
     ensures { result ≡ file_given given }
@@ -212,6 +218,25 @@ fn debug(given: Given) -> Option<Command>
     }
 }
 
+// The seed that a text writes; none where it is not of its form.
+fn seed_of(text: &[u8]) -> Option<u64>
+    ensures { result ≡ seed_of text.now }
+{
+    short_decimal_in(text, MOST_SEED_DIGITS, 0, MOST_SEED)
+}
+
+// `make SEED`
+fn make(given: Given) -> Option<Command>
+    ensures { result ≡ make given }
+{
+    if has_no_option(&given) {
+        let seed = file_given(given)?;
+        Some(Command::Make(seed_of(seed.bytes())?))
+    } else {
+        None
+    }
+}
+
 /// The command of a word.
 pub(crate) fn command_in(word: &[u8], given: Given) -> Option<Command>
     ensures { result ≡ command_in commands word.now given }
@@ -245,6 +270,9 @@ pub(crate) fn command_in(word: &[u8], given: Given) -> Option<Command>
     }
     if word == b"debug".as_slice() {
         return debug(given);
+    }
+    if word == b"make".as_slice() {
+        return make(given);
     }
     None
 }

@@ -8,11 +8,13 @@ ghost use Rattle.m36_sessions.specs.Held.{talk_of};
 ghost use Rattle.m36_top.specs.Words.{command_of};
 ghost use Rattle.m36_top.specs.Dues.{due_kind};
 ghost use Rattle.m36_top.specs.Commands.{reads, takes_input};
-ghost use Rattle.m36_top.specs.TopCall.{Through, TopOutput, InputBy, InputSays, ReadCause, WriteCause, Completes, KeepsFiles, TopPasses, TopAnswersPass};
+ghost use Rattle.m36_top.specs.Done.{ComesDone, NeverFail, IsNoFault};
+ghost use Rattle.m36_top.specs.TopCall.{Through, TopOutput, InputBy, InputSays, CommandTakes, TopTakes, ReadCause, WriteCause, Completes, KeepsFiles, TopPasses, TopAnswersPass};
 
 use crate::command::Command;
 use crate::words::command_of;
 use m36_booted::folder_booted;
+use m36_made::make_folder;
 use m36_outside::{Folder, Lines, Sink, Text};
 use m36_ran::{ImageCommand, image_file};
 use m36_reading::Status;
@@ -39,6 +41,9 @@ pub fn perform<F: Folder, L: Lines, S: Sink>(
         (F.asked folder.old) (F.asked folder.new) }
     ensures input { InputBy (takes_input command.now) (end_of result)
         (talk_of L.left L.given L.faults lines.old lines.new) }
+    ensures takes { CommandTakes command.now result
+        (talk_of L.left L.given L.faults lines.old lines.new)
+        (F.asked folder.old) (F.asked folder.new) }
 {
     match command {
         Command::Bare(file, run) => {
@@ -57,6 +62,7 @@ pub fn perform<F: Folder, L: Lines, S: Sink>(
         Command::Bind(files) => bind_file(alloc, files, folder, out),
         Command::DebugFolder => folder_session(alloc, folder, lines, out),
         Command::DebugImage(file) => image_session(alloc, file.bytes(), folder, lines, out),
+        Command::Make(seed) => make_folder(alloc, *seed, folder, out),
     }
 }
 
@@ -78,6 +84,9 @@ fn answer<F: Folder, L: Lines, S: Sink>(
         (F.asked folder.old) (F.asked folder.new) }
     ensures input { InputSays (command_of words.now) result
         (talk_of L.left L.given L.faults lines.old lines.new) }
+    ensures takes { TopTakes (command_of words.now) result
+        (talk_of L.left L.given L.faults lines.old lines.new)
+        (F.asked folder.old) (F.asked folder.new) }
     ensures usage { (result ≡ Status.Usage) ↔ (command_of words.now ≡ None) }
     ensures folder_untouched { command_of words.now ≡ None → folder.new ≡ folder.old }
     ensures sink_untouched { command_of words.now ≡ None → out.new ≡ out.old }
@@ -105,7 +114,9 @@ fn answer<F: Folder, L: Lines, S: Sink>(
 /// NAME` assembles the source NAME.alm, writes the words of the object, packed, as the file NAME, and then the listing.
 /// `bind NAME` reads NAME.bind and the objects that it names, writes the words of the bound object, packed, as the file
 /// NAME, and then its print. `debug FILE` reads the file as a bare image, and `debug` boots the folder; a session is then
-/// held over the machine by the lines of the input.
+/// held over the machine by the lines of the input. `make SEED` writes the folder that the seed makes, and boots it; it
+/// writes how many segments that has, and audits its core; where the audit passes, it runs the system, and writes how that
+/// ended and what it left in X1.
 #[tactic(auto, using(crate::proofs::TopEnds::tops))]
 pub fn m36<F: Folder, L: Lines, S: Sink>(
     alloc: Global,
@@ -139,6 +150,18 @@ pub fn m36<F: Folder, L: Lines, S: Sink>(
         (outside_of F.files F.wrote F.read_faults F.write_faults S.written S.taken S.faults
         folder.new out.new)) }
 
+    // Where the files are accepted, and so is what the command needs beside them, the answer is then Done, or no memory was
+    // found.
+    ensures done { IfSome (F.files folder.old) (λ f. ComesDone (command_of words.now) f result
+        (talk_of L.left L.given L.faults lines.old lines.new)
+        (outside_of F.files F.wrote F.read_faults F.write_faults S.written S.taken S.faults
+        folder.old out.old)
+        (outside_of F.files F.wrote F.read_faults F.write_faults S.written S.taken S.faults
+        folder.new out.new)) }
+
+    // Over objects that never fail, ReadFault and WriteFault never come.
+    ensures sure { NeverFail F.read_faults F.write_faults L.faults S.faults → IsNoFault result }
+
     // Where `audit yes` is written all conditions of the audit hold, and the tables of the image isolate each ring; of a
     // booted folder the same holds in every state of its run, until an LDBR is executed; of processes all conditions of the
     // joint audit hold, and every schedule of them is isolated.
@@ -156,7 +179,7 @@ pub fn m36<F: Folder, L: Lines, S: Sink>(
         folder.new out.new)
         (F.asked folder.old) (F.asked folder.new) }
 
-    // No command but `alm` and `bind` changes a file, or writes one, also where the folder does not tell its
+    // No command but `alm`, `bind` and `make` changes a file, or writes one, also where the folder does not tell its
     // files.
     ensures files { KeepsFiles (command_of words.now)
         (outside_of F.files F.wrote F.read_faults F.write_faults S.written S.taken S.faults
@@ -181,6 +204,12 @@ pub fn m36<F: Folder, L: Lines, S: Sink>(
     // input could not be read.
     ensures input { InputSays (command_of words.now) result
         (talk_of L.left L.given L.faults lines.old lines.new) }
+
+    // Of the input of `debug` nothing is taken but by a session over the image, or over the system, that its reading comes
+    // to: nothing where a file is refused or could not be read, or memory is wanted before the session.
+    ensures takes { TopTakes (command_of words.now) result
+        (talk_of L.left L.given L.faults lines.old lines.new)
+        (F.asked folder.old) (F.asked folder.new) }
 
     // Where the words are no command, nothing is touched.
     ensures usage { (result ≡ Status.Usage) ↔ (command_of words.now ≡ None) }

@@ -1,7 +1,7 @@
 -- Each command does what its kind does.
 use Rattle.m36_reading.specs.Outside.{outside_of}
 use Rattle.m36_sessions.specs.Held.{talk_of}
-use Rattle.m36_top.proofs.Performing.{as_command, performs_bare, performs_audit, performs_booted, performs_procs, performs_access, performs_print, performs_alm, performs_bind, performs_debug_folder, performs_debug_image}
+use Rattle.m36_top.proofs.Performing.{as_command, performs_bare, performs_audit, performs_booted, performs_procs, performs_access, performs_print, performs_alm, performs_bind, performs_debug_folder, performs_debug_image, takes_debug_folder, takes_debug_image, performs_make}
 use Rattle.m36_top.proofs.top.perform.Goals as goal
 
 pub returns-in-Bare-clause-does : goal.returns-in-Bare-clause-does
@@ -143,3 +143,31 @@ returns-in-DebugImage-clause-does g c =
     let after = f.asked c.image_session.new.folder in
     as_command talk c.args.command.now _ c.image_session.result old new before after c.in-DebugImage.is
     (performs_debug_image talk c.in-DebugImage.file c.bytes-in-DebugImage.result.now c.image_session.result old new before after c.bytes-in-DebugImage.ensures.value c.image_session.ensures.does)
+
+pub returns-in-Make-clause-does : goal.returns-in-Make-clause-does
+returns-in-Make-clause-does g c =
+    let f = g.F.Folder in
+    let s = g.S.Sink in
+    let i = g.L.Lines in
+    let at = outside_of f.files f.wrote f.read_faults f.write_faults s.written s.taken s.faults in
+    let talk = talk_of i.left i.given i.faults c.args.lines.now c.args.lines.now in
+    let old = at c.args.folder.now c.args.out.now in
+    let new = at c.make_folder.new.folder c.make_folder.new.out in
+    let before = f.asked c.args.folder.now in
+    let after = f.asked c.make_folder.new.folder in
+    as_command talk c.args.command.now _ c.make_folder.result old new before after c.in-Make.is
+    (performs_make talk c.in-Make.seed c.make_folder.result old new before after c.make_folder.ensures)
+
+pub returns-in-DebugFolder-clause-takes : goal.returns-in-DebugFolder-clause-takes
+returns-in-DebugFolder-clause-takes g c =
+    let f = g.F.Folder in
+    let i = g.L.Lines in
+    let talk = talk_of i.left i.given i.faults c.args.lines.now c.folder_session.new.lines in
+    takes_debug_folder talk c.args.command.now c.folder_session.result (f.asked c.args.folder.now) (f.asked c.folder_session.new.folder) c.in-DebugFolder.is c.folder_session.ensures.takes
+
+pub returns-in-DebugImage-clause-takes : goal.returns-in-DebugImage-clause-takes
+returns-in-DebugImage-clause-takes g c =
+    let f = g.F.Folder in
+    let i = g.L.Lines in
+    let talk = talk_of i.left i.given i.faults c.args.lines.now c.image_session.new.lines in
+    takes_debug_image talk c.args.command.now c.in-DebugImage.file c.bytes-in-DebugImage.result.now c.image_session.result (f.asked c.args.folder.now) (f.asked c.image_session.new.folder) c.in-DebugImage.is c.bytes-in-DebugImage.ensures.value c.image_session.ensures.takes

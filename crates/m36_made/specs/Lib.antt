@@ -1,0 +1,5 @@
+pub mod Making
+pub mod Turning
+pub mod Summary
+pub mod Putting
+pub mod Made

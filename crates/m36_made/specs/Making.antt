@@ -1,0 +1,83 @@
+-- The files that are made from a seed: the sources, the object of each of them, the data and the
+-- boot text, in this order.
+use Rattle.std.specs.Prelude.{ℕ, ◌≡◌, ◌-◌, nat_lt, if◌then◌else◌, List, [], ◌∷◌, ◌++◌, length, map, take}
+use Rattle.std.specs.Prelude.{Some, None, Result, Ok, Err}
+use Rattle.m36_outside.specs.Files.{Files, with_file}
+use Rattle.m36_outside.specs.ReadAnswer.{file_limit}
+use Rattle.alm_parse.specs.Sources.{Refuses}
+use Rattle.alm_parse.specs.declared.fault.AlmFault.{AlmFault}
+use Rattle.m36_gen.specs.declared.files.File.{File}
+use Rattle.m36_gen.specs.Folder.{sources_of, other_files}
+use Rattle.m36_reading.specs.declared.setting.Set.{Set}
+use Rattle.m36_reading.specs.declared.status.Code.TheVariants as code
+use Rattle.m36_reading.specs.Reading.{Reading, decided, Early}
+use Rattle.m36_reading.specs.Readers.{refused}
+use Rattle.m36_told.specs.Assemblies.{Assembly, assembly_of, object_bytes}
+use Rattle.m36_told.specs.Telling.{source_refused}
+
+abbrev pub set_of : File → Set
+set_of file = record { name = file.name; content = file.content }
+
+-- ---- objects
+
+-- An object has the name of its source without `.alm`.
+unfoldable pub object_name : List ℕ → List ℕ
+object_name source = take (length source - 4) source
+
+abbrev pub object_by : List ℕ → Result Assembly AlmFault → Early Set
+object_by source (Ok a) =
+    Ok (record { name = object_name source; content = object_bytes a.parts })
+object_by source (Err fault) = Err (source_refused source fault)
+
+-- what `alm` makes of a source, or why the source is refused
+unfoldable pub object_of : File → Early Set
+object_of source =
+    if nat_lt file_limit (length source.content) then Err (refused source.name code.F2 0)
+    else object_by source.name (assembly_of source.content)
+
+abbrev pub then_early : {A B : Type 0} → Early A → (A → Early B) → Early B
+then_early (Ok a) next = next a
+then_early (Err refusal) next = Err refusal
+
+-- the objects of sources behind these files
+unfoldable pub with_objects : List Set → List File → Early (List Set)
+with_objects sets [] = Ok sets
+with_objects sets (source ∷ sources) =
+    then_early (object_of source) (λ object. with_objects (sets ++ object ∷ []) sources)
+
+-- ---- all files
+
+abbrev pub and_others : List Set → Early (List Set)
+and_others sets = Ok (sets ++ map set_of other_files)
+
+unfoldable pub sets_of : ℕ → Early (List Set)
+sets_of seed =
+    then_early (with_objects (map set_of (sources_of seed)) (sources_of seed)) and_others
+
+-- The command asks the folder for nothing.
+unfoldable pub make_reads : ℕ → Reading (Early (List Set))
+make_reads seed = decided (sets_of seed)
+
+-- ---- the folder that these files are
+
+abbrev pub no_files : Files
+no_files name = None
+
+unfoldable pub with_files : List Set → Files → Files
+with_files [] files = files
+with_files (set ∷ sets) files = with_files sets (with_file set.name (Some set.content) files)
+
+unfoldable pub files_in : List Set → Files
+files_in sets = with_files sets no_files
+
+-- ---- what the making of an object says
+
+-- the packed words of the object that is meant
+pub record IsObject (content : List ℕ) (given : Result Assembly AlmFault) : Type 0 where
+  pub assembly : Assembly
+  pub is : given ≡ Ok assembly
+  pub content_is : content ≡ object_bytes assembly.parts
+
+abbrev pub ObjectSays : Result (List ℕ) AlmFault → Result Assembly AlmFault → Type 0
+ObjectSays (Ok content) given = IsObject content given
+ObjectSays (Err fault) given = Refuses fault given

@@ -1,0 +1,44 @@
+//! How a run has ended: its line and its status.
+
+ghost use Rattle.std.specs.Prelude.{◌≡◌, ◌<◌, length, Some};
+ghost use Rattle.m36_booted.specs.RunText.{finish_line, end_status, finish_status};
+
+use arrayvec::ArrayString;
+use m36_booted::running::Finish;
+use m36_model::{End, Outcome, Stop};
+use m36_reading::Status;
+use m36_trace::end_line;
+use m36_turns::run_end_line;
+
+/// The end line of a run of so many steps.
+pub fn finish_line(how: Finish, steps: u32) -> ArrayString<160>
+    ensures text { result.bytes ≡ finish_line how steps }
+    ensures len { length result.bytes < 160 }
+{
+    match how {
+        Finish::Over(end) => run_end_line(end, steps as u64),
+        Finish::Limit => end_line(Outcome::Next, steps as u64),
+    }
+}
+
+fn end_status(end: End) -> Status
+    ensures { result ≡ end_status end }
+{
+    match end {
+        End::Fault(fault) => Status::MachineStop(End::Fault(fault)),
+        End::Stop(Stop::Dis) => Status::Done,
+        End::Stop(stop) => Status::MachineStop(End::Stop(stop)),
+        End::Link(code) => Status::MachineStop(End::Link(code)),
+        End::Console => Status::MachineStop(End::Console),
+    }
+}
+
+/// The status of a run that has come to its end.
+pub fn finish_status(how: Finish) -> Status
+    ensures { result ≡ finish_status (Some how) }
+{
+    match how {
+        Finish::Over(end) => end_status(end),
+        Finish::Limit => Status::Steps,
+    }
+}

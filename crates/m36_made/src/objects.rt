@@ -1,0 +1,112 @@
+//! The objects of sources that the generator draws.
+
+ghost use Rattle.std.specs.Prelude.{◌≡◌, ◌-◌, ◌<◌, ◌≤◌, ◌^◌, nat_lt, length, Ok, IfOk};
+ghost use Rattle.alm_asm.specs.Assembly.{assembled};
+ghost use Rattle.m36_outside.specs.ReadAnswer.{file_limit};
+ghost use Rattle.m36_reading.specs.Asking.{Gives, Refuses};
+ghost use Rattle.m36_told.specs.Assemblies.{with_parts, assembly_of};
+ghost use Rattle.m36_told.specs.Telling.{source_refused};
+ghost use Rattle.m36_made.specs.Making.{object_name, object_by, object_of, with_objects, ObjectSays};
+
+use crate::sets::Sets;
+use alm_asm::assemble;
+use alm_parse::{AlmFault, Lines36, parse};
+use m36_gen::File;
+use m36_outside::{FILE_LIMIT, Text};
+use m36_reading::{Code, Refusal, Set, refuse, refuse_at};
+use m36_text::{Name, pack};
+use std::alloc::Global;
+
+// The name of the object of a source.
+#[tactic(auto, unfolding(crate::specs::Making::object_name))]
+fn object_name(source: &[u8]) -> Name
+    requires { length source.now ≤ 32 }
+    ensures { result ≡ object_name source.now }
+{
+    match Name::new(&source[..source.len().saturating_sub(4)]) {
+        Some(name) => name,
+        None => unreachable!(),
+    }
+}
+
+// The packed words of the object of lines.
+#[tactic(auto, using(crate::proofs::ObjectLaws::made))]
+fn content_with(alloc: Global, lines: &Lines36) -> Result<Text, AlmFault>
+    ensures { ObjectSays result (with_parts lines.now (assembled lines.now)) }
+{
+    let object = match assemble(alloc, lines) {
+        Ok(object) => object,
+        Err(fault) => return Err(fault),
+    };
+    let words = object.write(alloc)?;
+    let packed = pack(alloc, words.slice())?;
+    Ok(packed)
+}
+
+// The packed words of the object of a source.
+#[tactic(auto, using(crate::proofs::ObjectLaws::parsing))]
+fn content_of(alloc: Global, source: &[u8]) -> Result<Text, AlmFault>
+    requires { length source.now < 2 ^ 32 }
+    ensures { ObjectSays result (assembly_of source.now) }
+{
+    match parse(alloc, source) {
+        Ok(lines) => content_with(alloc, &lines),
+        Err(fault) => Err(fault),
+    }
+}
+
+// E1 to E8: a source that is refused, at a line and a column.
+fn refuse_source(alloc: Global, name: &[u8], fault: AlmFault) -> Refusal
+    ensures { Refuses result (source_refused name.now fault) }
+{
+    match fault {
+        AlmFault::E1(line, column) => refuse_at(alloc, name, Code::E1, line, column),
+        AlmFault::E2(line, column) => refuse_at(alloc, name, Code::E2, line, column),
+        AlmFault::E3(line, column) => refuse_at(alloc, name, Code::E3, line, column),
+        AlmFault::E4(line, column) => refuse_at(alloc, name, Code::E4, line, column),
+        AlmFault::E5(line, column) => refuse_at(alloc, name, Code::E5, line, column),
+        AlmFault::E6(line, column) => refuse_at(alloc, name, Code::E6, line, column),
+        AlmFault::E7(line, column) => refuse_at(alloc, name, Code::E7, line, column),
+        AlmFault::E8(line, column) => refuse_at(alloc, name, Code::E8, line, column),
+        AlmFault::NoMemory => Refusal::NoMemory,
+    }
+}
+
+// The object of a source of at most 16 MiB.
+#[tactic(auto, using(crate::proofs::ObjectLaws::giving))]
+fn object_of_bytes(alloc: Global, name: &[u8], source: &[u8]) -> Result<Set, Refusal>
+    requires name { length name.now ≤ 32 }
+    requires source { length source.now ≤ file_limit }
+    ensures { Gives result (object_by name.now (assembly_of source.now)) }
+{
+    match content_of(alloc, source) {
+        Ok(content) => Ok(Set {
+            name: object_name(name),
+            content,
+        }),
+        Err(fault) => Err(refuse_source(alloc, name, fault)),
+    }
+}
+
+/// The object that `alm` makes of a source.
+#[tactic(auto, unfolding(crate::specs::Making::object_of), using(m36_reading::proofs::ReadLaws::gives_refusal))]
+pub fn object_of(alloc: Global, source: &File) -> Result<Set, Refusal>
+    ensures { Gives result (object_of source.now) }
+{
+    let bytes = source.content.bytes();
+    if bytes.len() > FILE_LIMIT {
+        return Err(refuse(alloc, source.name.bytes(), Code::F2, 0));
+    }
+    object_of_bytes(alloc, source.name.bytes(), bytes)
+}
+
+/// Files, and the objects of sources behind them. The first source that is refused ends it.
+#[tactic(auto, using(crate::proofs::ObjectLaws::objects_in_turn))]
+pub fn with_objects(alloc: Global, mut sets: Sets, sources: &[File]) -> Result<Sets, Refusal>
+    ensures { Gives result (with_objects sets sources.now) }
+{
+    for source in sources {
+        sets.push(object_of(alloc, source)?)?;
+    }
+    Ok(sets)
+}

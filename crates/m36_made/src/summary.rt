@@ -1,0 +1,190 @@
+//! What is told of the folder that was made.
+
+ghost use Rattle.std.specs.Prelude.{ℕ, ◌≡◌, ◌≤◌, ◌<◌, [], ◌∷◌, Some, length, slice_index, IfOk};
+ghost use Rattle.m36_model.specs.Audit.{AreFindings};
+ghost use Rattle.m36_super.specs.declared.coming.Coming.TheVariants.{Step};
+ghost use Rattle.m36_super.specs.SuperFields.{booted_of};
+ghost use Rattle.m36_audit.specs.Findings.{pairs};
+ghost use Rattle.m36_reading.specs.Ends.{end_of};
+ghost use Rattle.m36_reading.specs.Outside.{sink_of};
+ghost use Rattle.m36_ran.specs.Output.{as_line};
+ghost use Rattle.m36_ran.specs.AuditText.{audit_pieces};
+ghost use Rattle.m36_ran.specs.Ran.{passes};
+ghost use Rattle.m36_booted.specs.Putting.{Puts};
+ghost use Rattle.m36_booted.specs.Systems.{IsFresh};
+ghost use Rattle.m36_made.specs.Putting.{PutsAll, EndSays};
+ghost use Rattle.m36_made.specs.Summary.{run_limit, segments_line, sum_line, head_pieces, end_pieces};
+ghost use Rattle.m36_made.specs.Summary.{IsRunAnswer, IsUnrunAnswer, IsFoundAnswer, IsSummary};
+
+use crate::ending::{finish_line, finish_status};
+use crate::running::{Ran, run};
+use arrayvec::ArrayString;
+use m36_audit::{Finding, Verdict, audit};
+use m36_booted::running::Finish;
+use m36_model::Regs;
+use m36_outside::{Put, Sink};
+use m36_ran::findings::put_audit;
+use m36_ran::running::put_line;
+use m36_reading::Status;
+use m36_step::Stepper;
+use m36_super::Super;
+use m36_text::{decimal, octal};
+use m36_word::NoMemory;
+use std::alloc::Global;
+
+/// The most steps of the run.
+const RUN_LIMIT: u32 = 100000;
+
+// ---- lines
+
+// The line of the count of segments.
+#[tactic(auto, unfolding(crate::specs::Summary::segments_line))]
+fn segments_line(count: u64) -> ArrayString<160>
+    ensures text { result.bytes ≡ segments_line count }
+    ensures len { length result.bytes < 160 }
+{
+    let mut line = ArrayString::new();
+    line.push_str("segments ");
+    line.push_str(decimal(count).as_str());
+    line
+}
+
+// The line of what the programs have summed.
+#[tactic(auto, unfolding(crate::specs::Summary::sum_line))]
+fn sum_line(regs: &Regs) -> ArrayString<160>
+    ensures text { result.bytes ≡ sum_line regs.now }
+    ensures len { length result.bytes < 160 }
+{
+    let mut line = ArrayString::new();
+    line.push_str("x1 ");
+    line.push_str(octal(regs.x[1] as u64, 6).as_str());
+    line
+}
+
+// Puts a line with its line feed, in one piece.
+#[tactic(auto, using(crate::proofs::Pieces::line_put))]
+fn put_text<S: Sink>(text: ArrayString<160>, out: &mut S) -> Put
+    requires { length text.bytes < 160 }
+    ensures { PutsAll result (as_line text.bytes ∷ [])
+        (sink_of S.written S.taken S.faults out.old) (sink_of S.written S.taken S.faults out.new) }
+{
+    put_line(out, text)
+}
+
+// Puts the text of an audit.
+fn put_findings<S: Sink>(findings: &[Finding], out: &mut S) -> Put
+    ensures { PutsAll result (audit_pieces (pairs findings.now))
+        (sink_of S.written S.taken S.faults out.old) (sink_of S.written S.taken S.faults out.new) }
+{
+    put_audit(findings, out)
+}
+
+// Puts the lines before the run.
+fn put_head<S: Sink>(count: u64, findings: &[Finding], out: &mut S) -> Put
+    ensures { PutsAll result (head_pieces count (pairs findings.now))
+        (sink_of S.written S.taken S.faults out.old) (sink_of S.written S.taken S.faults out.new) }
+{
+    match put_text(segments_line(count), out) {
+        Put::Done => put_findings(findings, out),
+        Put::Failed => Put::Failed,
+    }
+}
+
+// Puts the lines behind a run of so many steps that left these registers.
+fn put_end<S: Sink>(how: &Finish, steps: u32, regs: &Regs, out: &mut S) -> Put
+    ensures { PutsAll result (end_pieces (Some how.now) steps regs.now)
+        (sink_of S.written S.taken S.faults out.old) (sink_of S.written S.taken S.faults out.new) }
+{
+    match put_text(finish_line(*how, steps), out) {
+        Put::Done => put_text(sum_line(regs), out),
+        Put::Failed => Put::Failed,
+    }
+}
+
+// ---- answers
+
+// Puts the lines behind a run, and gives its status.
+#[tactic(auto, using(crate::proofs::Summaries::end_whole))]
+fn answer_end<S: Sink>(how: Finish, steps: u32, regs: &Regs, out: &mut S) -> Status
+    ensures { EndSays (end_of result) result how steps regs.now
+        (sink_of S.written S.taken S.faults out.old) (sink_of S.written S.taken S.faults out.new) }
+{
+    match put_end(&how, steps, regs, out) {
+        Put::Done => finish_status(how),
+        Put::Failed => Status::WriteFault,
+    }
+}
+
+// Puts the lines before the run, runs the system, and puts those behind.
+fn answer_run<S: Sink>(system: &mut Super, count: u64, findings: &[Finding], out: &mut S) -> Status
+    requires { system.old.coming ≡ Step }
+    ensures { Puts
+        (λ extent. IsRunAnswer extent count system.old.lib (booted_of system.old) (pairs findings.now))
+        (end_of result) result
+        (sink_of S.written S.taken S.faults out.old) (sink_of S.written S.taken S.faults out.new) }
+{
+    match put_head(count, findings, out) {
+        Put::Failed => Status::WriteFault,
+        Put::Done => match run(system, RUN_LIMIT) {
+            Ran::Whole(how, steps) => answer_end(how, steps, system.regs(), out),
+            Ran::Starved => Status::NoMemory,
+        },
+    }
+}
+
+// Puts the lines of a system that is not run.
+#[tactic(auto, using(crate::proofs::Summaries::unruns))]
+fn answer_unrun<S: Sink>(count: u64, findings: &[Finding], out: &mut S) -> Status
+    requires { 0 < length findings.now }
+    ensures { Puts (λ extent. IsUnrunAnswer extent count (pairs findings.now)) (end_of result) result
+        (sink_of S.written S.taken S.faults out.old) (sink_of S.written S.taken S.faults out.new) }
+{
+    match put_head(count, findings, out) {
+        Put::Done => Status::AuditNo,
+        Put::Failed => Status::WriteFault,
+    }
+}
+
+// Tells of a system by what the audit of its core has found.
+#[tactic(auto, using(crate::proofs::Summaries::founds))]
+fn answer_found<S: Sink>(
+    system: &mut Super,
+    count: u64,
+    findings: &[Finding],
+    out: &mut S,
+) -> Status
+    requires { system.old.coming ≡ Step }
+    ensures { Puts
+        (λ extent. IsFoundAnswer (passes (pairs findings.now)) extent count system.old.lib
+        (booted_of system.old) (pairs findings.now)) (end_of result) result
+        (sink_of S.written S.taken S.faults out.old) (sink_of S.written S.taken S.faults out.new) }
+{
+    if findings.is_empty() {
+        answer_run(system, count, findings, out)
+    } else {
+        answer_unrun(count, findings, out)
+    }
+}
+
+// The audit of the core of a booted system.
+fn audited(alloc: Global, system: &Super) -> Result<Verdict, NoMemory>
+    ensures { IfOk result
+        (λ v. AreFindings system.now.core system.now.regs.dbr (pairs v.findings.items)) }
+{
+    let regs = system.regs();
+    audit(alloc, system.core(), regs.dbr)
+}
+
+/// Audits a booted system, runs it where nothing is found, and tells of it.
+#[tactic(auto, using(crate::proofs::Summaries::dues))]
+pub fn summarise<S: Sink>(alloc: Global, mut system: Super, out: &mut S) -> Status
+    requires { IsFresh system }
+    ensures { Puts (λ extent. IsSummary extent system.lib) (end_of result) result
+        (sink_of S.written S.taken S.faults out.old) (sink_of S.written S.taken S.faults out.new) }
+{
+    let count = system.catalog().count() as u64;
+    match audited(alloc, &system) {
+        Ok(verdict) => answer_found(&mut system, count, verdict.findings.as_slice(), out),
+        Err(_) => Status::NoMemory,
+    }
+}

@@ -1,0 +1,140 @@
+-- What each command needs beside its words and its files to answer Done, and that then it does, or
+-- wants memory. And objects of which no call ever fails.
+use Rattle.std.specs.Prelude.{ℕ, ◌≡◌, ◌≢◌, ◌<◌, ◌⊎◌, ⊤, Bool, true, List, All, length, take}
+use Rattle.std.specs.Prelude.{Option, Some, None, Ok}
+use Rattle.m36_outside.specs.Files.{Files}
+use Rattle.m36_model.specs.Store.{State}
+use Rattle.m36_model.specs.Audit.{IsAudited}
+use Rattle.m36_model.specs.BootedCore.{booted_dbr}
+use Rattle.m36_model.specs.JointAudit.{IsJointlyAudited}
+use Rattle.m36_model.specs.declared.endings.End.TheVariants as end
+use Rattle.m36_model.specs.declared.outcome.Outcome.TheVariants.{Stopped}
+use Rattle.m36_model.specs.declared.outcome.Stop.TheVariants.{Dis}
+use Rattle.m36_step.specs.declared.turns.Turn.{Turn}
+use Rattle.m36_super.specs.Library.{Library}
+use Rattle.m36_super.specs.BootedRun.{Booted}
+use Rattle.m36_super.specs.SuperFields.{SuperFields, booted_of}
+use Rattle.m36_super.specs.BootSays.{IsBooted}
+use Rattle.m36_reading.specs.declared.status.Status.{Status}
+use Rattle.m36_reading.specs.declared.status.Status.TheVariants.{Done, ReadFault, WriteFault}
+use Rattle.m36_reading.specs.declared.status.Status.TheVariants.{NoMemory}
+use Rattle.m36_reading.specs.declared.setting.Set.{Set}
+use Rattle.m36_reading.specs.Reading.{outcome_in}
+use Rattle.m36_reading.specs.Outside.{Outside}
+use Rattle.m36_ran.specs.declared.command.ImageCommand.{ImageCommand}
+use Rattle.m36_ran.specs.declared.command.ImageCommand.TheVariants as image
+use Rattle.m36_ran.specs.Run.{run, last_outcome}
+use Rattle.m36_booted.specs.declared.command.FolderCommand.{FolderCommand}
+use Rattle.m36_booted.specs.declared.command.FolderCommand.TheVariants as folder
+use Rattle.m36_booted.specs.declared.command.FolderRun.{FolderRun}
+use Rattle.m36_booted.specs.declared.running.Finish.{Finish}
+use Rattle.m36_booted.specs.declared.running.Finish.TheVariants.{Over}
+use Rattle.m36_booted.specs.Folder.{FolderFields}
+use Rattle.m36_booted.specs.Runs.{Goes, Finishes}
+use Rattle.m36_procs.specs.ProcsFields.{ProcsFields}
+use Rattle.m36_scheduled.specs.Scheduled.{dbrs_of}
+use Rattle.m36_made.specs.Made.{boots_from}
+use Rattle.m36_made.specs.Summary.{run_limit}
+use Rattle.m36_debug.specs.declared.session_line.SessionLine.TheVariants.{Quit}
+use Rattle.m36_debug.specs.LinesTaken.{whole_lines}
+use Rattle.m36_debug.specs.SessionLines.{session_line}
+use Rattle.m36_debug.specs.SessionSays.{bytes_limit}
+use Rattle.m36_sessions.specs.Held.{Talk}
+use Rattle.m36_top.specs.declared.command.Command.{Command}
+use Rattle.m36_top.specs.Dues.{Due, Told, Image, Folder, Schedule, ImageSession, FolderSession, Made}
+use Rattle.m36_top.specs.Commands.{reads, writes_files, takes_input}
+use Rattle.m36_top.specs.TopCall.{ReadRose, WriteRose}
+
+-- ---- an image: its audit passes, or it is run all the same, and its run comes to DIS
+
+abbrev pub ImageNeeds : ImageCommand → State (List ℕ) → Type 0
+ImageNeeds (image.Bare bare) state =
+    (IsAudited state.store state.regs.dbr ⊎ (bare.unaudited ≡ true))
+    × (last_outcome (run bare.steps state) ≡ Stopped Dis)
+ImageNeeds image.Audit state = IsAudited state.store state.regs.dbr
+
+-- ---- a folder: the same of each system to which it boots, and of each of its runs
+
+-- Each run of at most so many steps comes to DIS.
+abbrev pub ComesToDis : Library → ℕ → Booted → Type 0
+ComesToDis lib limit first =
+    (turns : List Turn) (last : Booted) (how : Finish)
+    → Goes lib limit first turns last → Finishes how lib limit turns last
+    → how ≡ Over (end.Stop Dis)
+
+abbrev pub RunNeeds : FolderRun → Library → SuperFields → Type 0
+RunNeeds run lib system =
+    (IsAudited system.core booted_dbr ⊎ (run.unaudited ≡ true))
+    × ComesToDis lib run.steps (booted_of system)
+
+abbrev pub SystemNeeds : FolderCommand → Library → SuperFields → Type 0
+SystemNeeds folder.Audit lib system = IsAudited system.core booted_dbr
+SystemNeeds (folder.Run run) lib system = RunNeeds run lib system
+SystemNeeds (folder.Trace run) lib system = RunNeeds run lib system
+
+abbrev pub FolderNeeds : FolderCommand → FolderFields → Type 0
+FolderNeeds command given =
+    (system : SuperFields) → IsBooted given.lib system → SystemNeeds command given.lib system
+
+-- ---- processes: their joint audit passes, or the schedule is run all the same
+
+abbrev pub ScheduleNeeds : Bool → ProcsFields → Type 0
+ScheduleNeeds unaudited procs =
+    IsJointlyAudited procs.state.store (dbrs_of procs.state) ⊎ (unaudited ≡ true)
+
+-- ---- a session: its input is told, and is not too long
+
+-- There are more bytes than a session takes, and none of the whole lines among so many is `quit`.
+pub record IsTooLong (left : List ℕ) : Type 0 where
+  pub more : bytes_limit < length left
+  pub none : All (λ line. session_line line ≢ Quit) (whole_lines (take bytes_limit left))
+
+pub record SessionNeeds (talk : Talk) : Type 0 where
+  pub left : List ℕ
+  pub told : talk.before.left ≡ Some left
+  pub short : ¬ IsTooLong left
+
+-- ---- a folder that is made: it boots, and its audit passes, and its run comes to DIS
+
+abbrev pub MadeSystemNeeds : Library → SuperFields → Type 0
+MadeSystemNeeds lib system =
+    IsAudited system.core booted_dbr × ComesToDis lib run_limit (booted_of system)
+
+pub record MadeNeeds (sets : List Set) : Type 0 where
+  pub given : FolderFields
+  pub boots : boots_from sets ≡ Ok given
+  pub needs :
+      (system : SuperFields) → IsBooted given.lib system → MadeSystemNeeds given.lib system
+
+-- ---- all commands; those that are told need nothing
+
+abbrev pub Needs : Talk → Due → Type 0
+Needs talk (Told told) = ⊤
+Needs talk (Image image) = ImageNeeds image.command image.state
+Needs talk (Folder folder) = FolderNeeds folder.command folder.given
+Needs talk (Schedule schedule) = ScheduleNeeds schedule.unaudited schedule.procs
+Needs talk (ImageSession state) = SessionNeeds talk
+Needs talk (FolderSession given) = SessionNeeds talk
+Needs talk (Made sets) = MadeNeeds sets
+
+-- Where the files are accepted, what the command needs is so, and nothing fails outside, it is done
+-- or memory is wanted.
+abbrev pub ComesDone : Option Command → Files → Status → Talk → Outside → Outside → Type 0
+ComesDone None files result talk old new = ⊤
+ComesDone (Some command) files result talk old new =
+    (due : Due) → outcome_in files (reads command) ≡ Ok due → Needs talk due
+    → ¬ ReadRose (takes_input command) talk old new → ¬ WriteRose (writes_files command) old new
+    → (result ≡ Done) ⊎ (result ≡ NoMemory)
+
+-- ---- objects that never fail
+
+-- Of a folder, an input and a sink each count of faults is 0, whatever was called.
+pub record NeverFail {F L S : Type 0} (reads writes : F → ℕ) (lines : L → ℕ) (puts : S → ℕ)
+    : Type 0 where
+  pub read_faults : (f : F) → reads f ≡ 0
+  pub write_faults : (f : F) → writes f ≡ 0
+  pub input_faults : (l : L) → lines l ≡ 0
+  pub put_faults : (s : S) → puts s ≡ 0
+
+abbrev pub IsNoFault : Status → Type 0
+IsNoFault result = (result ≢ ReadFault) × (result ≢ WriteFault)
