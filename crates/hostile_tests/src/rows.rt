@@ -1,0 +1,315 @@
+//! Commands over files in memory, with all that each of them reads, writes and puts. It was worked out by hand.
+
+use m36_outside::{Folder, ReadAnswer, Sink, SureFolder, SureLines, SureSink, Text};
+use m36_reading::Status;
+use m36_top::top::m36;
+use m36_word::NoMemory;
+use std::alloc::Global;
+
+/// A name and what the file has.
+pub(crate) type File<'a> = (&'a [u8], &'a [u8]);
+
+/// A command and what it comes to.
+pub(crate) struct Row<'a> {
+    pub words: &'a [&'a [u8]],
+    /// The sources that stand assembled in the folder, each by its name.
+    pub sources: &'a [&'a [u8]],
+    /// The other files of the folder.
+    pub files: &'a [File<'a>],
+    /// How many files it reads.
+    pub reads: u32,
+    /// The files that it writes.
+    pub writes: &'a [File<'a>],
+    /// What it puts, each line one piece.
+    pub lines: &'a [&'a [u8]],
+    /// The number of its status.
+    pub status: u8,
+}
+
+/// Writes `hello` through a gate, and stops through it; the gate; and two sources without a line.
+const SOURCES: [File; 4] = [
+    (
+        b"main.alm",
+        b" entry start
+start: epaq 0,ic
+ lprp4 pr7|22,*au
+ epp2 msg
+ lda 6,dl
+ stcd pr6|20
+ call6 con_$write
+ call6 con_$stop
+msg: aci \"hell\"
+ oct 157012000000
+",
+    ),
+    (
+        b"con_.alm",
+        b" entry write,stop
+write: tra wr
+stop: dis 0
+ entrybound
+wr: mme 0
+ rtcd pr6|20
+",
+    ),
+    (b"e.alm", b""),
+    (b"f.alm", b""),
+];
+
+/// The object of a source without a line: 18 words, of which two fill nine bytes.
+const EMPTY: &[u8] = &[
+    0, 0, 0, 0, 0, 0, 0, 0, 0, // two words of the definition section
+    0, 0, 0, 0, 0, 0, 0x20, 0, 0, // the linkage section: 000000000000 000010000000
+    0, 0, 0, 0, 0, 0, 0, 0, 0, //
+    0, 0, 0, 0, 0, 0, 0, 0, 0, //
+    0, 0, 0, 0, 0, 0, 0, 0, 0, //
+    0, 0, 0, 0, 0, 0, 0, 0, 1, // the symbol section, and the version
+    0, 0, 0, 0, 0, 0, 0, 0, 2, // text and definition: 000000000000 000000000002
+    0, 0, 0x80, 0, 0x80, 0, 0x28, 0, 1, // linkage and symbol: 000002000010 000012000001
+    0, 0, 0, 0, 0, 0, 0x2c, 0, 0, // the entry bound and the map: 000000000000 000013000000
+];
+
+pub(crate) const LEAST: File = (
+    b"least",
+    b"core 1
+dbr 000000000000 000000200000
+start 00001 0 000000
+at 00000002 000000400004 000006700000
+at 00000040 000002235000 000000616000 000000000005
+",
+);
+
+const HELLO: File = (
+    b"boot",
+    b"frames 24
+work >udd>demo
+library >sss
+segment >udd>demo main main object re 4 4 4
+segment >sss con_ con_ gate rep 0 0 5
+start 4 main$start
+",
+);
+
+/// The gate as an object, whose call limiter is not used.
+const OPEN: File = (
+    b"boot",
+    b"frames 24
+work >udd>demo
+library >sss
+segment >udd>demo main main object re 4 4 4
+segment >sss con_ con_ object rep 0 0 5
+start 4 main$start
+",
+);
+
+const LISTS: File = (
+    b"acl",
+    b"segment >udd>demo main
+term Jones.Demo.* null
+term *.Demo.* re
+segment >sss con_
+term *.*.* re
+",
+);
+
+/// Two processes that take a lock: one has it.
+const LOCK: File = (
+    b"lock",
+    b"core 1
+process 000000000000 000000200000 00001 4 000000
+process 000000200000 000000200000 00001 4 000000
+at 00000002 000000404444 000006300000 000000604444 000005300000
+at 00000022 000000404444 000006300000 000000604444 000005300000
+at 00000040 000004761000 000004235000 100000354100 000002710000 000002000000
+turns 3 0 1
+",
+);
+
+/// The commands.
+pub(crate) const ROWS: [Row; 9] = [
+    Row {
+        words: &[b"bare", b"least"],
+        sources: &[],
+        files: &[LEAST],
+        reads: 1,
+        writes: &[],
+        lines: &[
+            b"audit yes\n",
+            b"1 0 00001|000000 000002235000 0:00001|000002 000000000005 000000000000 ...... next\n",
+            b"2 0 00001|000001 000000616000 - 000000000005 000000000000 ...... dis\n",
+            b"end dis 2\n",
+        ],
+        status: 0,
+    },
+    Row {
+        words: &[b"run"],
+        sources: &[b"main", b"con_"],
+        files: &[HELLO],
+        reads: 3,
+        writes: &[],
+        lines: &[b"audit yes\n", b"hello\n", b"end dis 13\n"],
+        status: 0,
+    },
+    Row {
+        words: &[b"trace"],
+        sources: &[b"main", b"con_"],
+        files: &[HELLO],
+        reads: 3,
+        writes: &[],
+        lines: &[
+            b"audit yes\n",
+            b"1 4 00100|000000 000000213004 4:00100|000000 000100000004 000000000000 ...... next\n",
+            b"2 4 00100|000001 700026764161 4:00024|000100 000100000004 000000000000 ...... next\n",
+            b"3 4 00100|000002 000007352000 4:00100|000007 000100000004 000000000000 ...... next\n",
+            b"4 4 00100|000003 000006235007 =000000000006 000000000006 000000000000 ...... next\n",
+            b"5 4 00100|000004 600024357100 4:00014|000124 000000000006 000000000000 ...... next\n",
+            b"6 4 00100|000005 400010713120 - 000000000006 000000000000 ...... fault 24\n",
+            b"link 4 00024|002010 con_$write 000101400043 000000000000\n",
+            b"7 4 00100|000005 400010713120 4:00101|000000 000000000006 000000000000 ...... next\n",
+            b"8 0 00101|000000 000002710000 0:00101|000002 000000000006 000000000000 ...... next\n",
+            b"9 0 00101|000002 000000001000 - 000000000006 000000000000 ...... fault 2\n",
+            b"console hello\\012\n",
+            b"10 0 00101|000003 600024610100 4:00014|000124 000000000006 000000000000 ...... next\n",
+            b"11 4 00100|000006 400012713120 - 000000000006 000000000000 ...... fault 24\n",
+            b"link 4 00024|002012 con_$stop 000101400043 000001000000\n",
+            b"12 4 00100|000006 400012713120 4:00101|000001 000000000006 000000000000 ...... next\n",
+            b"13 0 00101|000001 000000616000 - 000000000006 000000000000 ...... dis\n",
+            b"end dis 13\n",
+        ],
+        status: 0,
+    },
+    Row {
+        words: &[b"audit"],
+        sources: &[b"main", b"con_"],
+        files: &[OPEN],
+        reads: 3,
+        writes: &[],
+        lines: &[b"audit no A5 00101\n"],
+        status: 5,
+    },
+    Row {
+        words: &[b"access", b"Jones.Demo.a"],
+        sources: &[],
+        files: &[HELLO, LISTS],
+        reads: 2,
+        writes: &[],
+        lines: &[
+            b">udd>demo main null Jones.Demo.*\n",
+            b">sss con_ re *.*.*\n",
+        ],
+        status: 0,
+    },
+    Row {
+        words: &[b"procs", b"lock"],
+        sources: &[],
+        files: &[LOCK],
+        reads: 1,
+        writes: &[],
+        lines: &[
+            b"audit yes\n",
+            b"0 1 4 00001|000000 000004761000 4:00001|000004 000000000000 000000000000 ...... next\n",
+            b"1 2 4 00001|000000 000004761000 4:00001|000004 000000000000 000000000000 ...... next\n",
+            b"0 3 4 00001|000001 000004235000 4:00001|000004 000002000000 000000000000 ...... next\n",
+            b"1 4 4 00001|000001 000004235000 4:00001|000004 000002000000 000000000000 ...... next\n",
+            b"0 5 4 00001|000002 100000354100 4:00002|000000 000002000000 000000000000 z..... next\n",
+            b"1 6 4 00001|000002 100000354100 4:00002|000000 000002000000 000000000000 ...... next\n",
+            b"end schedule 6\n",
+        ],
+        status: 0,
+    },
+    Row {
+        words: &[b"alm", b"e"],
+        sources: &[],
+        files: &[(b"e.alm", b""), (b"e", b"old")],
+        reads: 1,
+        writes: &[(b"e", EMPTY)],
+        lines: &[
+            b"object e 18\n",
+            b"text 000000 000000\n",
+            b"definition 000000 000002\n",
+            b"linkage 000002 000010\n",
+            b"symbol 000012 000001\n",
+            b"entrybound 000000\n",
+        ],
+        status: 0,
+    },
+    Row {
+        words: &[b"bind", b"b"],
+        sources: &[b"e", b"f"],
+        files: &[(b"b.bind", b"object e\nobject f\n"), (b"b", b"old")],
+        reads: 3,
+        writes: &[(b"b", EMPTY)],
+        lines: &[
+            b"object b 18\n",
+            b"text 000000 000000\n",
+            b"definition 000000 000002\n",
+            b"linkage 000002 000010\n",
+            b"symbol 000012 000001\n",
+            b"entrybound 000000\n",
+        ],
+        status: 0,
+    },
+    Row {
+        words: &[b"print", b"e"],
+        sources: &[],
+        files: &[(b"e", EMPTY)],
+        reads: 1,
+        writes: &[],
+        lines: &[
+            b"object e 18\n",
+            b"text 000000 000000\n",
+            b"definition 000000 000002\n",
+            b"linkage 000002 000010\n",
+            b"symbol 000012 000001\n",
+            b"entrybound 000000\n",
+        ],
+        status: 0,
+    },
+];
+
+/// The words of a command line.
+pub(crate) fn words_of(alloc: Global, list: &[&[u8]]) -> Result<Vec<Text>, NoMemory> {
+    let mut words = Vec::new(alloc);
+    for word in list {
+        words.push(Text::from_bytes(alloc, word)?)?;
+    }
+    Ok(words)
+}
+
+/// Whether a folder has a file of this name and content.
+pub(crate) fn is_there<F: Folder>(
+    alloc: Global,
+    folder: &mut F,
+    name: &[u8],
+    content: &[u8],
+) -> Result<bool, NoMemory> {
+    match folder.read(alloc, name) {
+        ReadAnswer::Read(text) => Ok(text.bytes() == content),
+        ReadAnswer::NoMemory => Err(NoMemory),
+        ReadAnswer::Absent | ReadAnswer::TooLarge | ReadAnswer::Failed => Ok(false),
+    }
+}
+
+/// Calls the simulator over a folder, without input.
+pub(crate) fn called<F: Folder, S: Sink>(
+    alloc: Global,
+    list: &[&[u8]],
+    folder: &mut F,
+    out: &mut S,
+) -> Result<Status, NoMemory> {
+    let words = words_of(alloc, list)?;
+    let mut lines = SureLines::new(alloc, &[])?;
+    Ok(m36(alloc, words.as_slice(), folder, &mut lines, out))
+}
+
+/// The sources, each with its object beside it.
+pub(crate) fn assembled(alloc: Global) -> Result<SureFolder, NoMemory> {
+    let mut folder = SureFolder::new(alloc)?;
+    for (name, content) in SOURCES {
+        folder.add(name, content)?;
+    }
+    for name in [b"main".as_slice(), b"con_", b"e", b"f"] {
+        let _ = called(alloc, &[b"alm", name], &mut folder, &mut SureSink::new())?;
+    }
+    Ok(folder)
+}
