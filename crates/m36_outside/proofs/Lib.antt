@@ -8,6 +8,7 @@ mod FilesNamed
 pub mod Gathered
 pub mod Grown
 pub mod LinesTaken
+mod MemoryBlocks
 pub mod Risen
 mod Taken
 mod Takes

@@ -1,7 +1,7 @@
 -- A place for output in memory: what it holds, in which pieces, how much it may hold, and which of
 -- its calls fail.
 use Rattle.std.specs.Prelude.{ℕ, Bool, List, [], ◌∷◌, ◌++◌, ◌-◌, ◌||◌, length, take, nat_lt}
-use Rattle.std.specs.Prelude.{if◌then◌else◌}
+use Rattle.std.specs.Prelude.{if◌then◌else◌, false}
 use Rattle.m36_outside.specs.Counts.{raised}
 use Rattle.m36_outside.specs.CallPlan.{CallPlan, new_plan, next_fails, after_call}
 
@@ -39,3 +39,16 @@ after_put sink piece = record {
   puts = after_call sink.puts;
   faults = if put_fails sink piece then raised sink.faults else sink.faults;
 }
+
+-- The pieces of a block are put one after another, up to the first whose put fails: whether one
+-- does, and the place then.
+unfoldable pub block_fails : MemSinkFields → List (List ℕ) → Bool
+block_fails sink [] = false
+block_fails sink (piece ∷ pieces) =
+    put_fails sink piece || block_fails (after_put sink piece) pieces
+
+unfoldable pub after_block : MemSinkFields → List (List ℕ) → MemSinkFields
+after_block sink [] = sink
+after_block sink (piece ∷ pieces) =
+    if put_fails sink piece then after_put sink piece
+    else after_block (after_put sink piece) pieces

@@ -1,9 +1,10 @@
 //! A place for output in memory, whose calls fail where a test wants it.
 
-ghost use Rattle.std.specs.Prelude.{◌≡◌, ◌+◌, ◌≤◌, ◌<◌, ◌^◌, ◌++◌, ◌↔◌, Some, IsTrue, IfOk, length, vec_len, vec_capacity};
-ghost use Rattle.m36_outside.specs.Passing.{PutTakes};
+ghost use Rattle.std.specs.Prelude.{◌≡◌, ◌+◌, ◌≤◌, ◌<◌, ◌^◌, ◌++◌, ◌↔◌, ◌⊎◌, Some, IsTrue, IfOk, length, vec_len, vec_capacity};
+ghost use Rattle.m36_outside.specs.Passing.{PutTakes, TakesLines, joined};
 ghost use Rattle.m36_outside.specs.Put.{PutSays, PutHasCause};
 
+use crate::block::Block;
 use crate::calls::Calls;
 use crate::faults::raise;
 use crate::passed::Passed;
@@ -16,7 +17,8 @@ use std::marker::Model;
 /// Output in memory. It tells what is written.
 ///
 /// Its puts are numbered from 1 to 2^32 - 1, which every later put has too. A put whose number was listed fails and
-/// takes nothing. A piece that goes past the room fails too, and as much of it is taken as there is room for.
+/// takes nothing. A piece that goes past the room fails too, and as much of it is taken as there is room for. Each piece of
+/// a block is a put, up to the first that fails.
 #[derive(Drop)]
 pub struct MemSink {
     bytes: Vec<u8>,
@@ -69,7 +71,7 @@ impl MemSink {
 }
 
 impl Sink for MemSink {
-    ghost use Rattle.m36_outside.specs.MemSink.{put_fails, after_put};
+    ghost use Rattle.m36_outside.specs.MemSink.{put_fails, after_put, block_fails, after_block};
 
     ghost written = { λ s. Some s.bytes };
 
@@ -103,6 +105,29 @@ impl Sink for MemSink {
         }
         add_within(&mut self.bytes, piece);
         self.pieces.note(&piece);
+        Put::Done
+    }
+
+    #[tactic(auto, using(crate::proofs::Blocks::putting, crate::proofs::MemoryBlocks::in_memory))]
+    fn put_block(&mut self, block: &Block) -> Put
+        ensures says { PutSays result (Some self.old.bytes) (Some self.new.bytes) (joined block.now) }
+        ensures took { TakesLines result self.old.pieces self.new.pieces block.now }
+        ensures cause { PutHasCause result self.old.faults self.new.faults }
+        ensures count { self.old.faults ≤ self.new.faults }
+        ensures count_bound { (self.old.faults < 2 ^ 64) ⊎ (1 ≤ length block.now)
+            → self.new.faults < 2 ^ 64 }
+
+        ensures fails { (result ≡ Put.Failed) ↔ IsTrue (block_fails self.old block.now) }
+        ensures after { self.new ≡ after_block self.old block.now }
+    {
+        let mut place = 0;
+        while place < block.len() {
+            match self.put(block.piece(place)) {
+                Put::Done => {}
+                Put::Failed => return Put::Failed,
+            }
+            place += 1;
+        }
         Put::Done
     }
 }

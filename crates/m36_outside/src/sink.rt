@@ -1,6 +1,6 @@
 //! A place for the output.
 
-ghost use Rattle.std.specs.Prelude.{ℕ, ◌≡◌, ◌≤◌, ◌<◌, ◌^◌, List, Option};
+ghost use Rattle.std.specs.Prelude.{ℕ, ◌≡◌, ◌≤◌, ◌<◌, ◌^◌, ◌⊎◌, List, length, Option};
 ghost use Rattle.m36_outside.specs.Passing.{PutTakes, TakesLines, joined};
 ghost use Rattle.m36_outside.specs.Put.{PutSays, PutHasCause};
 
@@ -49,7 +49,8 @@ pub trait Sink {
 
         ensures cause { PutHasCause result (faults self.old) (faults self.new) }
         ensures count { faults self.old ≤ faults self.new }
-        ensures count_bound { faults self.old < 2 ^ 64 → faults self.new < 2 ^ 64 }
+        ensures count_bound { (faults self.old < 2 ^ 64) ⊎ (1 ≤ length block.now)
+            → faults self.new < 2 ^ 64 }
     {
         let mut place = 0;
         while place < block.len() {

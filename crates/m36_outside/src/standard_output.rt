@@ -1,6 +1,6 @@
 //! The standard output.
 
-ghost use Rattle.std.specs.Prelude.{[], ◌≡◌, ◌≤◌, ◌<◌, ◌^◌, Some};
+ghost use Rattle.std.specs.Prelude.{[], ◌≡◌, ◌≤◌, ◌<◌, ◌^◌, ◌⊎◌, Some, length};
 ghost use Rattle.m36_outside.specs.Passing.{PutTakes, TakesLines, joined};
 ghost use Rattle.m36_outside.specs.Put.{PutSays, PutHasCause};
 ghost use Rattle.m36_outside.specs.System.{PutHasError};
@@ -90,7 +90,8 @@ impl<R: Print + Drop> Sink for StdSink<R> {
         ensures took { TakesLines result self.old.taken self.new.taken block.now }
         ensures cause { PutHasCause result self.old.faults self.new.faults }
         ensures count { self.old.faults ≤ self.new.faults }
-        ensures count_bound { self.old.faults < 2 ^ 64 → self.new.faults < 2 ^ 64 }
+        ensures count_bound { (self.old.faults < 2 ^ 64) ⊎ (1 ≤ length block.now)
+            → self.new.faults < 2 ^ 64 }
 
         ensures error { PutHasError result self.old.errors self.new.errors }
     {

@@ -14,4 +14,5 @@ loop-place-preserved g c =
       took = block_took (taken c.args.self.now) (taken c.loop-place.self) (taken c.put.new.self) pieces c.loop-place.place c.piece.result.now c.loop-place.invariant.took c.in-Done.ensures.took inside c.piece.ensures;
       faults = c.in-Done.ensures.cause ∙ c.loop-place.invariant.faults;
       place = omega arith;
+      bound = λ _. c.in-Done.ensures.count_bound;
     }

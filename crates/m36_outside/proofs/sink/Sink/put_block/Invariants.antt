@@ -1,4 +1,4 @@
-use Rattle.std.proofs.Common.{◌≡◌, ◌++◌, ◌-◌, ◌≤◌, length, take}
+use Rattle.std.proofs.Common.{◌≡◌, ◌++◌, ◌-◌, ◌≤◌, ◌<◌, ◌^◌, length, take}
 use Rattle.m36_outside.specs.Passing.{joined}
 use Rattle.m36_outside.specs.Written.{Grew}
 use Rattle.m36_outside.proofs.sink.Sink.put_block.Given as goal
@@ -10,6 +10,7 @@ invariant-loop-place g l = record {
   took : g.Self.Sink.taken l.self ≡ g.Self.Sink.taken l.fn.self ++ take l.place l.block;
   faults : g.Self.Sink.faults l.self ≡ g.Self.Sink.faults l.fn.self;
   place : l.place ≤ length l.block;
+  bound : 1 ≤ l.place → g.Self.Sink.faults l.self < 2 ^ 64;
 }
 
 abbrev pub decreases-loop-place : goal.decreases-loop-place
