@@ -107,10 +107,10 @@ pub struct Bad {
     /// The file's name.
     pub name: Text,
     pub code: Code,
-    /// The place that the code speaks of: for an image its line, counted from 1; for T3 the count of the bytes, and for
-    /// T4 the place of the last one; for an object the place of a word, counted from 0, and for O1 the count of the
-    /// words; for a source, a bind file, a boot text or access lists the line, counted from 1; for U2 and U4 the number
-    /// of the segment; for B4, U1 and U3, and for a file as a whole, 0.
+    /// The place that the code speaks of: for an image or a text of processes its line, counted from 1; for T3 the count
+    /// of the bytes, and for T4 the place of the last one; for an object the place of a word, counted from 0, and for O1
+    /// the count of the words; for a source, a bind file, a boot text or access lists the line, counted from 1; for U2
+    /// and U4 the number of the segment; for B4, U1 and U3, for the standard input, and for a file as a whole, 0.
     pub at: u32,
     /// The column of a source, in bytes counted from 1; 0 for every other file.
     pub column: u32,
