@@ -11,6 +11,7 @@ use crate::sdw::Sdw;
 pub struct Acv(pub u8);
 
 /// Whether a word may be read in ring `trr`. `same` says that the segment is the one that executes.
+#[inline(always)]
 pub fn may_read(s: &Sdw, trr: u8, same: bool) -> Result<(), Acv>
     ensures { result ≡ allowed tt (first_of (read_rows s.now trr same)) }
 {
@@ -25,6 +26,7 @@ pub fn may_read(s: &Sdw, trr: u8, same: bool) -> Result<(), Acv>
 }
 
 /// Whether a word may be written in ring `trr`.
+#[inline(always)]
 pub fn may_write(s: &Sdw, trr: u8) -> Result<(), Acv>
     ensures { result ≡ allowed tt (first_of (write_rows s.now trr)) }
 {
@@ -39,6 +41,7 @@ pub fn may_write(s: &Sdw, trr: u8) -> Result<(), Acv>
 }
 
 /// Whether an instruction may be fetched in ring `prr`.
+#[inline(always)]
 pub fn may_fetch(s: &Sdw, prr: u8) -> Result<(), Acv>
     ensures { result ≡ allowed tt (first_of (fetch_rows s.now prr)) }
 {
@@ -53,6 +56,7 @@ pub fn may_fetch(s: &Sdw, prr: u8) -> Result<(), Acv>
 }
 
 /// Whether a transfer may go there in ring `trr` from ring `prr`.
+#[inline(always)]
 pub fn may_transfer(s: &Sdw, trr: u8, prr: u8) -> Result<(), Acv>
     ensures { result ≡ allowed tt (first_of (transfer_rows s.now trr prr)) }
 {
@@ -65,6 +69,7 @@ pub fn may_transfer(s: &Sdw, trr: u8, prr: u8) -> Result<(), Acv>
 
 /// The ring in which a call to a word goes on, where it is allowed in ring `trr` from ring `prr`. `same` says that
 /// the segment is the one that executes.
+#[inline]
 pub fn call_ring(s: &Sdw, trr: u8, prr: u8, same: bool, word: u32) -> Result<u8, Acv>
     ensures answer { result
         ≡ allowed (ring_called s.now trr) (first_of (call_rows s.now trr prr same word)) }
@@ -89,6 +94,7 @@ pub fn call_ring(s: &Sdw, trr: u8, prr: u8, same: bool, word: u32) -> Result<u8,
     Ok(trr.min(s.r2))
 }
 
+#[inline(always)]
 fn brackets_in_order(s: &Sdw) -> Result<(), Acv>
     ensures { result ≡ allowed tt (first_of ((not (in_order s.now), 0) ∷ [])) }
 {

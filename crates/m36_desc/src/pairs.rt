@@ -68,6 +68,7 @@ pub const ITP_TAG: u8 = 0o41;
 
 impl Its {
     /// The fields of a pair, whatever its even word's tag is.
+    #[inline(always)]
     pub fn of_words(p: Pair) -> Its
         ensures { result ≡ its_of p.even p.odd }
     {
@@ -98,6 +99,7 @@ impl Its {
 
 impl Itp {
     /// The fields of a pair, whatever its even word's tag is.
+    #[inline(always)]
     pub fn of_words(p: Pair) -> Itp
         ensures { result ≡ itp_of p.even p.odd }
     {

@@ -35,6 +35,7 @@ impl Model for Ptr {
 
 impl Ptr {
     /// The pointer that an ITS pair holds; the pair's tags are not looked at.
+    #[inline(always)]
     pub fn of_words(p: Pair) -> Ptr
         ensures { result ≡ ptr_of p.even p.odd }
     {

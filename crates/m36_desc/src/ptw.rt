@@ -36,6 +36,7 @@ impl Model for Ptw {
 
 impl Ptw {
     /// The descriptor that a word holds.
+    #[inline(always)]
     pub fn of_words(w: Word) -> Ptw
         ensures { result ≡ ptw_of w }
     {

@@ -53,6 +53,7 @@ impl Model for Sdw {
 
 impl Sdw {
     /// The descriptor that a pair of words holds.
+    #[inline(always)]
     pub fn of_words(p: Pair) -> Sdw
         ensures { result ≡ sdw_of p.even p.odd }
     {

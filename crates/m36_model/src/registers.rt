@@ -80,18 +80,19 @@ impl Regs {
     ghost use Rattle.m36_model.specs.Results.{X, with_value};
 
     /// Where the instruction that is executed stands, in the ring of execution.
+    #[inline(always)]
     pub fn here(&self) -> At
         ensures { result ≡ here self.now }
     {
-        let ppr = self.ppr;
         At {
-            word: ppr.ic,
-            seg: ppr.psr,
-            ring: ppr.prr,
+            word: self.ppr.ic,
+            seg: self.ppr.psr,
+            ring: self.ppr.prr,
         }
     }
 
     /// Pointer register `n`.
+    #[inline(always)]
     pub fn pointer(&self, n: u8) -> Ptr
         requires { n < 8 }
         ensures { result ≡ ptr self.now n }
