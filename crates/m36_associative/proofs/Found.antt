@@ -1,0 +1,114 @@
+-- What the memories and the pages in front find.
+use Rattle.std.proofs.Common.{ℕ, ◌≡◌, ◌+◌, ◌*◌, ◌/◌, ◌%◌, ◌<◌, ◌^◌, ◌++◌, Bool, true, false, if◌then◌else◌, List, [], ◌∷◌, length, Option, Some, None, IfSome, OnSome, option_map, Ok, slice_get, slice_set, slice_index, get_or, nat_eq, refl, sym, ap, ◌∙◌, arith}
+use Rattle.std.proofs.lemmas.List.{set-get_or}
+use Rattle.std.proofs.lemmas.Option.{slice_get_within}
+use Rattle.std.specs.Map.{lookup}
+use Rattle.m36_desc.specs.Fields.{SdwFields, PtwFields, DbrFields}
+use Rattle.m36_desc.specs.Descriptors.{ptw_of}
+use Rattle.m36_model.specs.Place.{wrapped, frame_at, in_frame, in_frame_by, ptw_at, directory_at, page_at, in_bounds, sdw_place_by, sdw_at, core_sdw, marked_word, with_mark, with_marks, directory_marks, page_marks}
+use Rattle.m36_tables.specs.Tables.{TableIn}
+use Rattle.m36_associative.specs.Right.{IsMarked, IsPage, AreRight}
+use Rattle.m36_associative.specs.declared.front.Page.{Page}
+use Rattle.m36_associative.specs.declared.memories.Memories.{Memories}
+use Rattle.m36_associative.proofs.Keeping.{found_descriptor, found_table_word}
+
+-- A segment that has a descriptor has passed a word of core in a paged descriptor segment.
+passes_by : (core : List ℕ) (dbr : DbrFields) (seg a : ℕ) (d : SdwFields) (b u : Bool) (found : Option ℕ) → slice_get core a ≡ found → sdw_at core (sdw_place_by b u dbr seg (option_map ptw_of found)) ≡ Ok d → TableIn (length core) u a
+passes_by core dbr seg a d b true found e h = tt
+passes_by core dbr seg a d false false found e h = absurd (cc)
+passes_by core dbr seg a d true false None e h = absurd (cc)
+passes_by core dbr seg a d true false (Some x) e h = slice_get_within core a x e
+
+pub passes : (core : List ℕ) (dbr : DbrFields) (seg : ℕ) (d : SdwFields) → core_sdw core dbr seg ≡ Ok d → TableIn (length core) dbr.unpaged (directory_at dbr seg)
+unfolding core_sdw
+passes core dbr seg d h = passes_by core dbr seg (directory_at dbr seg) d (in_bounds dbr seg) dbr.unpaged (slice_get core (directory_at dbr seg)) refl h
+
+-- marks that stand change nothing
+no_change : (core : List ℕ) (a : ℕ) (m : Bool) → IsMarked core a m → with_mark core (record { address = a; modified = m }) ≡ core
+no_change core a m h = ap (slice_set core a) h ∙ set-get_or core a 0
+
+marks_stand : (core : List ℕ) (a b : ℕ) (write t u : Bool) → (t ≡ false → IsMarked core a false) → (u ≡ false → IsMarked core b write)
+    → with_marks core ((if t then [] else record { address = a; modified = false } ∷ []) ++ (if u then [] else record { address = b; modified = write } ∷ [])) ≡ core
+unfolding with_marks
+marks_stand core a b write true true h k = refl
+marks_stand core a b write true false h k = no_change core b write (k refl)
+marks_stand core a b write false true h k = no_change core a false (h refl)
+marks_stand core a b write false false h k =
+    ap (λ (l : List ℕ). with_mark l (record { address = b; modified = write })) (no_change core a false (h refl)) ∙ no_change core b write (k refl)
+
+module _ (core : List ℕ) (dbr : DbrFields) (m : Memories) (p : Page) (seg word : ℕ) where
+  -- a page with this key
+  pub page_of : (i : ℕ) → AreRight core dbr m → i < length m.pages → get_or m.pages i p ≡ p → p.key ≡ seg * 256 + word / 1024 + 1 → word < 2 ^ 18 → IsPage core dbr m.words m.tables p seg (word / 1024)
+  page_of i h b e k l = h.pages p (i, b, e) seg (word / 1024) (omega arith) k
+
+  -- its marks stand
+  pub marks_of : (write : Bool) → (write ≡ true → p.modified ≡ true) → IsPage core dbr m.words m.tables p seg (word / 1024) → with_marks core (directory_marks dbr seg ++ page_marks write word (Ok p.sdw)) ≡ core
+  marks_of write h k = marks_stand core (directory_at dbr seg) (page_at p.sdw (word / 1024)) write dbr.unpaged p.sdw.unpaged k.passed (stands write h)
+    where
+      stands : (write : Bool) → (write ≡ true → p.modified ≡ true) → p.sdw.unpaged ≡ false → IsMarked core (page_at p.sdw (word / 1024)) write
+      stands true h u = k.modified (h refl) u
+      stands false h u = k.used u
+
+  -- a page of a segment that lies in one piece
+  whole_place : (w : ℕ) → w / 1024 ≡ word / 1024 → p.base ≡ wrapped (p.sdw.addr + word / 1024 * 1024) → wrapped (p.sdw.addr + w) ≡ wrapped (p.base + w % 1024)
+  whole_place w e b = omega arith
+
+  pub page_unpaged : AreRight core dbr m → lookup (nat_eq seg) m.sdws.entries ≡ Some p.sdw → p.sdw.unpaged ≡ true → (dbr.unpaged ≡ false → IsMarked core (directory_at dbr seg) false) → p.base ≡ wrapped (p.sdw.addr + word / 1024 * 1024) → p.base < 2 ^ 24 → IsPage core dbr m.words m.tables p seg (word / 1024)
+  page_unpaged h e u q b l =
+      let d = found_descriptor core dbr m seg p.sdw h e in
+      record {
+        found = d.found;
+        watches = d.watches;
+        low = l;
+        place = λ w f. rw u (ap Ok (whole_place w f b));
+        table = λ v. let wrong : true ≡ false = sym u ∙ v in absurd (cc);
+        passed = q;
+        used = λ v. let wrong : true ≡ false = sym u ∙ v in absurd (cc);
+        modified = λ x v. let wrong : true ≡ false = sym u ∙ v in absurd (cc);
+      }
+
+  -- a page of a segment in pages
+  frame_place : (t : PtwFields) (w : ℕ) → p.base ≡ wrapped (t.addr / 16 * 1024) → wrapped (frame_at t + w % 1024) ≡ wrapped (p.base + w % 1024)
+  frame_place t w b = omega arith
+
+  in_frame_on : (t : PtwFields) (w : ℕ) → t.f ≡ true → p.base ≡ wrapped (t.addr / 16 * 1024) → in_frame (Some t) (w % 1024) ≡ Ok (wrapped (p.base + w % 1024))
+  in_frame_on t w f b = ap (λ (x : Bool). in_frame_by x t (w % 1024)) f ∙ ap Ok (frame_place t w b)
+
+  pub page_paged : (t : PtwFields) → AreRight core dbr m → lookup (nat_eq seg) m.sdws.entries ≡ Some p.sdw → p.sdw.unpaged ≡ false → (dbr.unpaged ≡ false → IsMarked core (directory_at dbr seg) false) → lookup (nat_eq (page_at p.sdw (word / 1024))) m.ptws.entries ≡ Some t → t.f ≡ true → p.base ≡ wrapped (t.addr / 16 * 1024) → p.base < 2 ^ 24
+      → IsMarked core (page_at p.sdw (word / 1024)) false → (p.modified ≡ true → IsMarked core (page_at p.sdw (word / 1024)) true) → IsPage core dbr m.words m.tables p seg (word / 1024)
+  page_paged t h e u q g f b l i j =
+      let d = found_descriptor core dbr m seg p.sdw h e in
+      let x = found_table_word core dbr m (page_at p.sdw (word / 1024)) t h g in
+      record {
+        found = d.found;
+        watches = d.watches;
+        low = l;
+        place = λ w k. rw u (x.finds (w % 1024) ∙ in_frame_on t w f b);
+        table = λ v. x.watches;
+        passed = q;
+        used = λ v. i;
+        modified = λ y v. j y;
+      }
+
+-- what a look-up finds in the memories
+pub recalled : (r : Option SdwFields) (core : List ℕ) (dbr : DbrFields) (m : Memories) (seg : ℕ) → AreRight core dbr m → r ≡ lookup (nat_eq seg) m.sdws.entries → IfSome r (λ d. core_sdw core dbr seg ≡ Ok d)
+recalled None core dbr m seg h e = tt
+recalled (Some d) core dbr m seg h e = (found_descriptor core dbr m seg d h (sym e)).found
+
+pub recalled_passes : (r : Option SdwFields) (core : List ℕ) (dbr : DbrFields) (m : Memories) (seg : ℕ) → AreRight core dbr m → r ≡ lookup (nat_eq seg) m.sdws.entries → OnSome r (TableIn (length core) dbr.unpaged (directory_at dbr seg))
+recalled_passes None core dbr m seg h e = tt
+recalled_passes (Some d) core dbr m seg h e = passes core dbr seg d (found_descriptor core dbr m seg d h (sym e)).found
+
+pub recalled_finds : (r : Option PtwFields) (core : List ℕ) (dbr : DbrFields) (m : Memories) (a : ℕ) → AreRight core dbr m → r ≡ lookup (nat_eq a) m.ptws.entries → IfSome r (λ p. (offset : ℕ) → in_frame (ptw_at core a) offset ≡ in_frame (Some p) offset)
+recalled_finds None core dbr m a h e = tt
+recalled_finds (Some p) core dbr m a h e = (found_table_word core dbr m a p h (sym e)).finds
+
+pub recalled_inside : (r : Option PtwFields) (core : List ℕ) (dbr : DbrFields) (m : Memories) (a : ℕ) → AreRight core dbr m → r ≡ lookup (nat_eq a) m.ptws.entries → OnSome r (a < length core)
+recalled_inside None core dbr m a h e = tt
+recalled_inside (Some p) core dbr m a h e = (found_table_word core dbr m a p h (sym e)).inside
+
+-- a mark that stands already
+pub unchanged : (core : List ℕ) (a w v : ℕ) (m : Bool) → w ≡ slice_index core a → v ≡ marked_word m w → v ≡ w → core ≡ with_mark core (record { address = a; modified = m })
+unchanged core a w v m e f g =
+    let same : marked_word m (slice_index core a) ≡ slice_index core a = rw (← e) (sym f ∙ g) in
+    sym (no_change core a m same)

@@ -1,0 +1,170 @@
+-- What is kept stays right as the memories change and core does not.
+use Rattle.std.proofs.Common.{ℕ, zero, suc, ◌≡◌, ◌+◌, ◌*◌, ◌<◌, ◌⊎◌, true, List, [], ◌∷◌, length, Contains, Some, Result, Ok, Err, OnOk, OnErr, refl, sym, subst, inl, inr, arith, nat_eq, eqb-true, set, get_or}
+use Rattle.std.specs.Map.{lookup}
+use Rattle.lru.specs.LruCache.{LruCache, lru_cache, promoted, put_entries}
+use Rattle.lru.proofs.CallerLemmas.{Contains-lookup, Contains-promoted, Contains-put_entries}
+use Rattle.m36_desc.specs.Fields.{SdwFields, PtwFields, DbrFields}
+use Rattle.m36_associative.specs.Watched.{watched}
+use Rattle.m36_associative.specs.Right.{IsWatched, IsDescriptor, IsTableWord, IsPage, IsPageInFront, AreRight}
+use Rattle.m36_associative.specs.declared.front.Page.{Page}
+use Rattle.m36_associative.specs.declared.memories.Memories.{Memories}
+
+-- more places are watched
+abbrev pub WatchesMore : List ℕ → List ℕ → Type 0
+WatchesMore old new = (b : ℕ) → watched old b ≡ true → watched new b ≡ true
+
+module _ (core : List ℕ) (dbr : DbrFields) (words tables words' tables' : List ℕ) (w : WatchesMore words words') (t : WatchesMore tables tables') where
+  watches_on : (seg : ℕ) → IsWatched core dbr words tables seg → IsWatched core dbr words' tables' seg
+  watches_on seg h = record { even = λ a e. w a (h.even a e); odd = λ a e. w _ (h.odd a e); directory = λ e. t _ (h.directory e) }
+
+  descriptor_on : (seg : ℕ) (d : SdwFields) → IsDescriptor core dbr words tables seg d → IsDescriptor core dbr words' tables' seg d
+  descriptor_on seg d h = record { found = h.found; watches = watches_on seg h.watches }
+
+  table_word_on : (a : ℕ) (p : PtwFields) → IsTableWord core dbr words tables a p → IsTableWord core dbr words' tables' a p
+  table_word_on a p h = record { inside = h.inside; finds = h.finds; watches = t a h.watches }
+
+  page_on : (p : Page) → IsPageInFront core dbr words tables p → IsPageInFront core dbr words' tables' p
+  page_on p h seg page b e =
+      let k = h seg page b e in
+      record { found = k.found; watches = watches_on seg k.watches; low = k.low; place = k.place; table = λ u. t _ (k.table u); passed = k.passed; used = k.used; modified = k.modified }
+
+-- each thing that is kept was kept before, or is right
+pub kept_on : (core : List ℕ) (dbr : DbrFields) (m m' : Memories) → AreRight core dbr m → WatchesMore m.words m'.words → WatchesMore m.tables m'.tables
+    → ((seg : ℕ) (d : SdwFields) → Contains m'.sdws.entries (seg, d) → Contains m.sdws.entries (seg, d) ⊎ IsDescriptor core dbr m'.words m'.tables seg d)
+    → ((a : ℕ) (p : PtwFields) → Contains m'.ptws.entries (a, p) → Contains m.ptws.entries (a, p) ⊎ IsTableWord core dbr m'.words m'.tables a p)
+    → ((p : Page) → Contains m'.pages p → Contains m.pages p ⊎ IsPageInFront core dbr m'.words m'.tables p)
+    → AreRight core dbr m'
+kept_on core dbr m m' h w t s q f =
+    record {
+      descriptors = λ seg d c. elim (s seg d c) [ inl k ↦ descriptor_on core dbr m.words m.tables m'.words m'.tables w t seg d (h.descriptors seg d k) | inr k ↦ k ];
+      table_words = λ a p c. elim (q a p c) [ inl k ↦ table_word_on core dbr m.words m.tables m'.words m'.tables w t a p (h.table_words a p k) | inr k ↦ k ];
+      pages = λ p c. elim (f p c) [ inl k ↦ page_on core dbr m.words m.tables m'.words m'.tables w t p (h.pages p k) | inr k ↦ k ];
+    }
+
+-- the same with other pages in front
+pub with_pages : (core : List ℕ) (dbr : DbrFields) (m m' : Memories) → AreRight core dbr m → m'.words ≡ m.words → m'.tables ≡ m.tables → m'.sdws ≡ m.sdws → m'.ptws ≡ m.ptws
+    → ((p : Page) → Contains m'.pages p → Contains m.pages p ⊎ IsPageInFront core dbr m.words m.tables p)
+    → AreRight core dbr m'
+with_pages core dbr m m' h e f g i k =
+    kept_on core dbr m m' h (λ b c. rw e c) (λ b c. rw f c)
+    (λ seg d c. inl (subst (λ (x : LruCache ℕ SdwFields). Contains x.entries (seg, d)) g c))
+    (λ a p c. inl (subst (λ (x : LruCache ℕ PtwFields). Contains x.entries (a, p)) i c))
+    (λ p c. elim (k p c) [ inl j ↦ inl j | inr j ↦ inr (rw (e, f) j) ])
+
+-- the key of no page
+pub no_key : (core : List ℕ) (dbr : DbrFields) (words tables : List ℕ) (p : Page) → p.key ≡ 0 → IsPageInFront core dbr words tables p
+no_key core dbr words tables p e seg page b k = absurd (omega arith)
+
+-- nothing is kept
+nothing_in : {X : Type 0} (x : X) → Contains [] x → ⊥
+nothing_in x c = let within = c.1 in omega arith
+
+pub nothing_kept : (core : List ℕ) (dbr : DbrFields) (m : Memories) → m.sdws.entries ≡ [] → m.ptws.entries ≡ [] → ((p : Page) → Contains m.pages p → p.key ≡ 0) → AreRight core dbr m
+nothing_kept core dbr m e f g =
+    record {
+      descriptors = λ seg d c. absurd (nothing_in _ (subst (λ (x : List (ℕ × SdwFields)). Contains x (seg, d)) e c));
+      table_words = λ a p c. absurd (nothing_in _ (subst (λ (x : List (ℕ × PtwFields)). Contains x (a, p)) f c));
+      pages = λ p c. no_key core dbr m.words m.tables p (g p c);
+    }
+
+-- A look-up that finds something finds what is right.
+pub found_descriptor : (core : List ℕ) (dbr : DbrFields) (m : Memories) (seg : ℕ) (d : SdwFields) → AreRight core dbr m → lookup (nat_eq seg) m.sdws.entries ≡ Some d → IsDescriptor core dbr m.words m.tables seg d
+found_descriptor core dbr m seg d h e =
+    let k = Contains-lookup (nat_eq seg) m.sdws.entries d e in
+    let same : k.0 ≡ seg = sym (eqb-true seg k.0 k.2) in
+    h.descriptors seg d (subst (λ (s : ℕ). Contains m.sdws.entries (s, d)) same k.1)
+
+pub found_table_word : (core : List ℕ) (dbr : DbrFields) (m : Memories) (a : ℕ) (p : PtwFields) → AreRight core dbr m → lookup (nat_eq a) m.ptws.entries ≡ Some p → IsTableWord core dbr m.words m.tables a p
+found_table_word core dbr m a p h e =
+    let k = Contains-lookup (nat_eq a) m.ptws.entries p e in
+    let same : k.0 ≡ a = sym (eqb-true a k.0 k.2) in
+    h.table_words a p (subst (λ (s : ℕ). Contains m.ptws.entries (s, p)) same k.1)
+
+-- a use of an entry changes its order alone
+pub with_sdws_used : (core : List ℕ) (dbr : DbrFields) (m m' : Memories) (seg : ℕ) → AreRight core dbr m → m'.words ≡ m.words → m'.tables ≡ m.tables → m'.sdws ≡ lru_cache (promoted (nat_eq seg) m.sdws.entries) m.sdws.cap → m'.ptws ≡ m.ptws → m'.pages ≡ m.pages → AreRight core dbr m'
+with_sdws_used core dbr m m' seg h e f g i j =
+    kept_on core dbr m m' h (λ b c. rw e c) (λ b c. rw f c)
+    (λ s d c. inl (Contains-promoted (nat_eq seg) m.sdws.entries (s, d) (subst (λ (x : LruCache ℕ SdwFields). Contains x.entries (s, d)) g c)))
+    (λ a p c. inl (subst (λ (x : LruCache ℕ PtwFields). Contains x.entries (a, p)) i c))
+    (λ p c. inl (subst (λ (x : List Page). Contains x p) j c))
+
+pub with_ptws_used : (core : List ℕ) (dbr : DbrFields) (m m' : Memories) (a : ℕ) → AreRight core dbr m → m'.words ≡ m.words → m'.tables ≡ m.tables → m'.sdws ≡ m.sdws → m'.ptws ≡ lru_cache (promoted (nat_eq a) m.ptws.entries) m.ptws.cap → m'.pages ≡ m.pages → AreRight core dbr m'
+with_ptws_used core dbr m m' a h e f g i j =
+    kept_on core dbr m m' h (λ b c. rw e c) (λ b c. rw f c)
+    (λ s d c. inl (subst (λ (x : LruCache ℕ SdwFields). Contains x.entries (s, d)) g c))
+    (λ b p c. inl (Contains-promoted (nat_eq a) m.ptws.entries (b, p) (subst (λ (x : LruCache ℕ PtwFields). Contains x.entries (b, p)) i c)))
+    (λ p c. inl (subst (λ (x : List Page). Contains x p) j c))
+
+-- a descriptor is put
+put_descriptor : (core : List ℕ) (dbr : DbrFields) (m m' : Memories) (seg s : ℕ) (v d : SdwFields) → IsDescriptor core dbr m'.words m'.tables seg v → (d ≡ v) × ((s ≡ seg) ⊎ ((x : SdwFields) × Contains m.sdws.entries (s, x) × (nat_eq seg s ≡ true))) → IsDescriptor core dbr m'.words m'.tables s d
+put_descriptor core dbr m m' seg s v d h k =
+    let same : seg ≡ s = elim k.1 [ inl e ↦ sym e | inr e ↦ eqb-true seg s e.2 ] in
+    subst (λ (x : ℕ). IsDescriptor core dbr m'.words m'.tables x d) same (subst (λ (x : SdwFields). IsDescriptor core dbr m'.words m'.tables seg x) (sym k.0) h)
+
+pub with_descriptor : (core : List ℕ) (dbr : DbrFields) (m m' : Memories) (seg : ℕ) (v : SdwFields) → AreRight core dbr m → IsDescriptor core dbr m.words m.tables seg v → m'.words ≡ m.words → m'.tables ≡ m.tables → m'.sdws ≡ lru_cache (put_entries nat_eq m.sdws seg v) m.sdws.cap → m'.ptws ≡ m.ptws → m'.pages ≡ m.pages → AreRight core dbr m'
+with_descriptor core dbr m m' seg v h r e f g i j =
+    let r' : IsDescriptor core dbr m'.words m'.tables seg v = rw (e, f) r in
+    kept_on core dbr m m' h (λ b c. rw e c) (λ b c. rw f c)
+    (λ s d c. elim (Contains-put_entries nat_eq m.sdws seg v (s, d) (subst (λ (x : LruCache ℕ SdwFields). Contains x.entries (s, d)) g c)) [ inl k ↦ inl k | inr k ↦ inr (put_descriptor core dbr m m' seg s v d r' k) ])
+    (λ a p c. inl (subst (λ (x : LruCache ℕ PtwFields). Contains x.entries (a, p)) i c))
+    (λ p c. inl (subst (λ (x : List Page). Contains x p) j c))
+
+-- a page table word is put
+put_table_word : (core : List ℕ) (dbr : DbrFields) (m m' : Memories) (a b : ℕ) (v p : PtwFields) → IsTableWord core dbr m'.words m'.tables a v → (p ≡ v) × ((b ≡ a) ⊎ ((x : PtwFields) × Contains m.ptws.entries (b, x) × (nat_eq a b ≡ true))) → IsTableWord core dbr m'.words m'.tables b p
+put_table_word core dbr m m' a b v p h k =
+    let same : a ≡ b = elim k.1 [ inl e ↦ sym e | inr e ↦ eqb-true a b e.2 ] in
+    subst (λ (x : ℕ). IsTableWord core dbr m'.words m'.tables x p) same (subst (λ (x : PtwFields). IsTableWord core dbr m'.words m'.tables a x) (sym k.0) h)
+
+pub with_table_word : (core : List ℕ) (dbr : DbrFields) (m m' : Memories) (a : ℕ) (v : PtwFields) → AreRight core dbr m → IsTableWord core dbr m.words m.tables a v → m'.words ≡ m.words → m'.tables ≡ m.tables → m'.sdws ≡ m.sdws → m'.ptws ≡ lru_cache (put_entries nat_eq m.ptws a v) m.ptws.cap → m'.pages ≡ m.pages → AreRight core dbr m'
+with_table_word core dbr m m' a v h r e f g i j =
+    let r' : IsTableWord core dbr m'.words m'.tables a v = rw (e, f) r in
+    kept_on core dbr m m' h (λ b c. rw e c) (λ b c. rw f c)
+    (λ s d c. inl (subst (λ (x : LruCache ℕ SdwFields). Contains x.entries (s, d)) g c))
+    (λ b p c. elim (Contains-put_entries nat_eq m.ptws a v (b, p) (subst (λ (x : LruCache ℕ PtwFields). Contains x.entries (b, p)) i c)) [ inl k ↦ inl k | inr k ↦ inr (put_table_word core dbr m m' a b v p r' k) ])
+    (λ p c. inl (subst (λ (x : List Page). Contains x p) j c))
+
+-- the watches grow
+pub with_watches : (core : List ℕ) (dbr : DbrFields) (m m' : Memories) → AreRight core dbr m → WatchesMore m.words m'.words → WatchesMore m.tables m'.tables → m'.sdws ≡ m.sdws → m'.ptws ≡ m.ptws → m'.pages ≡ m.pages → AreRight core dbr m'
+with_watches core dbr m m' h w t g i j =
+    kept_on core dbr m m' h w t
+    (λ s d c. inl (subst (λ (x : LruCache ℕ SdwFields). Contains x.entries (s, d)) g c))
+    (λ a p c. inl (subst (λ (x : LruCache ℕ PtwFields). Contains x.entries (a, p)) i c))
+    (λ p c. inl (subst (λ (x : List Page). Contains x p) j c))
+
+-- a page is put in front, or one there was used
+contains_at : (ps : List Page) (i : ℕ) (y p : Page) (k : ℕ) → k < length (set ps i y) → get_or (set ps i y) k p ≡ p → Contains ps p ⊎ (p ≡ y)
+contains_at [] i y p k b e = inl (k, b, e)
+contains_at (x ∷ ps) zero y p zero b e = inr (sym e)
+contains_at (x ∷ ps) zero y p (suc k) b e = inl (suc k, b, e)
+contains_at (x ∷ ps) (suc i) y p zero b e = inl (0, omega arith, e)
+contains_at (x ∷ ps) (suc i) y p (suc k) b e = elim (contains_at ps i y p k (omega arith) e) [ inl c ↦ inl (suc c.0, (let within = c.1 in omega arith), c.2) | inr s ↦ inr s ]
+
+contains_set : (ps : List Page) (i : ℕ) (y p : Page) → Contains (set ps i y) p → Contains ps p ⊎ (p ≡ y)
+contains_set ps i y p c = contains_at ps i y p c.0 c.1 c.2
+
+pub with_page : (core : List ℕ) (dbr : DbrFields) (m m' : Memories) (i : ℕ) (y : Page) → AreRight core dbr m → IsPageInFront core dbr m.words m.tables y → m'.pages ≡ set m.pages i y → m'.words ≡ m.words → m'.tables ≡ m.tables → m'.sdws ≡ m.sdws → m'.ptws ≡ m.ptws → AreRight core dbr m'
+with_page core dbr m m' i y h r j e f g k =
+    with_pages core dbr m m' h e f g k
+    (λ p c. elim (contains_set m.pages i y p (subst (λ (x : List Page). Contains x p) j c)) [ inl d ↦ inl d | inr s ↦ inr (subst (λ (q : Page). IsPageInFront core dbr m.words m.tables q) (sym s) r) ])
+
+-- a put that has memory, or that has none
+pub descriptor_put : {A B : Type 0} (r : Result A B) (core : List ℕ) (dbr : DbrFields) (m : Memories) (new : LruCache ℕ SdwFields) (seg : ℕ) (v : SdwFields) → AreRight core dbr m → IsDescriptor core dbr m.words m.tables seg v → OnOk r (new ≡ lru_cache (put_entries nat_eq m.sdws seg v) m.sdws.cap) → OnErr r (new ≡ m.sdws) → AreRight core dbr (record m { sdws = new })
+descriptor_put (Ok x) core dbr m new seg v h d e f = with_descriptor core dbr m (record m { sdws = new }) seg v h d refl refl e refl refl
+descriptor_put (Err x) core dbr m new seg v h d e f = with_watches core dbr m (record m { sdws = new }) h (λ b k. k) (λ b k. k) f refl refl
+
+pub table_word_put : {A B : Type 0} (r : Result A B) (core : List ℕ) (dbr : DbrFields) (m : Memories) (new : LruCache ℕ PtwFields) (a : ℕ) (v : PtwFields) → AreRight core dbr m → IsTableWord core dbr m.words m.tables a v → OnOk r (new ≡ lru_cache (put_entries nat_eq m.ptws a v) m.ptws.cap) → OnErr r (new ≡ m.ptws) → AreRight core dbr (record m { ptws = new })
+table_word_put (Ok x) core dbr m new a v h d e f = with_table_word core dbr m (record m { ptws = new }) a v h d refl refl refl e refl
+table_word_put (Err x) core dbr m new a v h d e f = with_watches core dbr m (record m { ptws = new }) h (λ b k. k) (λ b k. k) refl f refl
+
+-- a page in front is used
+pub hit_again : (core : List ℕ) (dbr : DbrFields) (words tables : List ℕ) (p : Page) (h : ℕ) → IsPageInFront core dbr words tables p → IsPageInFront core dbr words tables (record p { hit = h })
+hit_again core dbr words tables p h f seg page b e =
+    let k = f seg page b e in
+    record { found = k.found; watches = k.watches; low = k.low; place = k.place; table = k.table; passed = k.passed; used = k.used; modified = k.modified }
+
+-- a key is of one page alone
+pub only_page : (core : List ℕ) (dbr : DbrFields) (words tables : List ℕ) (p : Page) (seg page : ℕ) → page < 256 → p.key ≡ seg * 256 + page + 1 → IsPage core dbr words tables p seg page → IsPageInFront core dbr words tables p
+only_page core dbr words tables p seg page b e h s q c f =
+    let same_seg : seg ≡ s = omega arith in
+    let same_page : page ≡ q = omega arith in
+    subst (λ (x : ℕ). IsPage core dbr words tables p s x) same_page (subst (λ (x : ℕ). IsPage core dbr words tables p x page) same_seg h)

@@ -1,0 +1,4 @@
+pub mod Watching
+pub mod Keeping
+pub mod Written
+pub mod Found

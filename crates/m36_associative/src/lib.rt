@@ -1,0 +1,29 @@
+//! The associative memories: what the descriptor walk keeps of the tables that it has read.
+//!
+//! Two memories of 16 entries each hold segment descriptor words, by segment number, and page table words, by their
+//! address in core. An entry that was used last stands first, and the one that was used longest ago makes room for a new
+//! one. In front of both stand pages: where a page begins, with the descriptor by which it was found.
+//!
+//! What is kept is what the tables in core say, a page table word but for its marks: `AreRight` says so of all that is
+//! kept, and each call here keeps it. So nobody can tell the memories from core, but by time:
+//!
+//! - `descriptor` and `word_place` answer as the reader of tables (`m36_tables`) does, and keep what they have read;
+//! - `page` gives the page of a word, where it is in front and the marks of a reference to it stand already;
+//! - `enter` puts a page in front;
+//! - `store` and `mark` are how core is written where something may be kept. A word from which an entry was read, or that
+//!   was passed to find one, empties all when it is written; a mark does so where a descriptor was read from its word.
+//!
+//! A page in front answers without asking the memories behind it. So it is told there later that it was used: `settle`
+//! does so, oldest first, before the memories are asked, and whoever looks at their order calls it first.
+#![tactic(auto)]
+
+pub mod front;
+pub mod memories;
+pub mod reading;
+pub mod watch;
+pub mod writing;
+
+pub use front::Page;
+pub use memories::Memories;
+pub use reading::{descriptor, enter, page, page_seen, word_place};
+pub use writing::{mark, store};

@@ -1,0 +1,100 @@
+//! Places of core that are watched, since something that is kept rests on their words.
+
+ghost use Rattle.std.specs.Prelude.{ℕ, ◌≡◌, ◌≤◌, [], true, IsTrue, IsFalse};
+ghost use Rattle.m36_associative.specs.Watched.{watched};
+
+use arrayvec::ArrayVec;
+use std::marker::Model;
+
+/// How many places are watched at most.
+const ROOM: usize = 96;
+
+/// Watched places. It is seen as their list.
+#[derive(Drop)]
+pub struct Watch {
+    places: ArrayVec<u32, 96>,
+    low: u32,
+    high: u32,
+}
+
+impl Model for Watch {
+    ghost use Rattle.std.specs.Prelude.{List, ℕ};
+    ghost use Rattle.m36_associative.specs.Watched.{AreWithin};
+
+    ghost Value = { List ℕ };
+
+    ghost view = { λ w. w.places.items };
+
+    ghost invariant = { λ w. AreWithin w.places.items w.low w.high };
+}
+
+/// The lower of two places.
+fn lower(a: u32, b: u32) -> u32
+    ensures first { result ≤ a }
+    ensures second { result ≤ b }
+{
+    if a < b { a } else { b }
+}
+
+/// The higher of two places.
+fn higher(a: u32, b: u32) -> u32
+    ensures first { a ≤ result }
+    ensures second { b ≤ result }
+{
+    if a < b { b } else { a }
+}
+
+impl Watch {
+    /// No place.
+    pub fn new() -> Watch
+        ensures { result ≡ [] }
+    {
+        Watch {
+            places: ArrayVec::new(),
+            low: u32::MAX,
+            high: 0,
+        }
+    }
+
+    /// Whether a place is watched.
+    #[inline(always)]
+    #[tactic(auto, using(crate::proofs::Watching::not_below, crate::proofs::Watching::not_above))]
+    pub fn has(&self, a: u32) -> bool
+        ensures { result ≡ watched self.now a }
+    {
+        if a < self.low {
+            return false;
+        }
+        if self.high < a {
+            return false;
+        }
+        self.listed(a)
+    }
+
+    /// As `has`, place by place.
+    #[inline(never)]
+    #[tactic(auto, unfolding(crate::specs::Watched::watched))]
+    fn listed(&self, a: u32) -> bool
+        ensures { result ≡ watched self.now a }
+    {
+        self.places.as_slice().contains(&a)
+    }
+
+    /// Watches a place too. False says that there is no room for it, and then nothing has changed.
+    pub fn add(&mut self, a: u32) -> bool
+        ensures added { IsTrue result → watched self.new a ≡ true }
+        ensures more { (b : ℕ) → watched self.old b ≡ true → watched self.new b ≡ true }
+        ensures full { IsFalse result → self.new ≡ self.old }
+    {
+        if self.listed(a) {
+            return true;
+        }
+        if self.places.len() >= ROOM {
+            return false;
+        }
+        self.places.push(a);
+        self.low = lower(self.low, a);
+        self.high = higher(self.high, a);
+        true
+    }
+}
