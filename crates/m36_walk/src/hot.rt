@@ -32,7 +32,7 @@ impl Walk {
         ensures dbr { self.new.dbr ≡ self.old.dbr }
         ensures len { length self.new.core ≡ length self.old.core }
     {
-        let found = match refer_fetch(&mut self.core, self.dbr, at) {
+        let found = match refer_fetch(&mut self.core, self.dbr, &mut self.memories, at) {
             Ok(found) => found,
             Err(_fault) => return None,
         };
@@ -52,7 +52,7 @@ impl Walk {
         ensures dbr { self.new.dbr ≡ self.old.dbr }
         ensures len { length self.new.core ≡ length self.old.core }
     {
-        let found = match refer_read(&mut self.core, self.dbr, at, psr, 1) {
+        let found = match refer_read(&mut self.core, self.dbr, &mut self.memories, at, psr, 1) {
             Ok(found) => found,
             Err(_fault) => return None,
         };
@@ -72,7 +72,7 @@ impl Walk {
         ensures dbr { self.new.dbr ≡ self.old.dbr }
         ensures len { length self.new.core ≡ length self.old.core }
     {
-        let words = match refer_write(&mut self.core, self.dbr, at, 1) {
+        let words = match refer_write(&mut self.core, self.dbr, &mut self.memories, at, 1) {
             Ok(words) => words,
             Err(_fault) => return None,
         };
@@ -88,7 +88,7 @@ impl Walk {
         ensures refused { IsFalse result
             → (f : Fault) × ServesAsked (λ g. g.ppr.prr ≡ prr) Transfer self.now at (Err f) }
     {
-        match find_transfer(&self.core, self.dbr, at, prr) {
+        match find_transfer(&self.core, self.dbr, &self.memories, at, prr) {
             Ok(()) => true,
             Err(_fault) => false,
         }

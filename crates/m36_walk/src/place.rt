@@ -3,14 +3,16 @@
 ghost use Rattle.std.specs.Prelude.{ℕ, ◌≡◌, ◌+◌, ◌/◌, ◌%◌, ◌<◌, ◌≤◌, ◌^◌, Ok, Err, IfOk, IfErr, OnOk, length};
 ghost use Rattle.m36_desc.specs.Fields.{DbrFields};
 ghost use Rattle.m36_model.specs.Core.{core_store};
-ghost use Rattle.m36_model.specs.Place.{page_at, store_fault};
+ghost use Rattle.m36_associative.specs.Right.{AreRight};
+ghost use Rattle.m36_model.specs.Place.{page_at, ptw_at, word_place_by, store_fault};
 ghost use Rattle.m36_model.specs.Store.{spots_of};
 ghost use Rattle.m36_walk.specs.Runs.{run_from, examined, LiesIn, run_by};
 ghost use Rattle.m36_tables.specs.Tables.{TableIn};
 
 use crate::refusal::Refused;
+use m36_associative::Memories;
 use m36_core::Core;
-use m36_desc::Sdw;
+use m36_desc::{Dbr, Sdw};
 use m36_tables::{store_fault, violation, within, word_place, wrapped};
 
 /// How many words of a run lie in core before the first that does not.
@@ -99,6 +101,71 @@ pub(crate) fn places(core: &Core, sdw: &Sdw, word: u32, count: u32) -> Result<u3
         });
     }
     match word_place(core, sdw, word) {
+        Ok(place) => run_in_core(core.len(), place, count),
+        Err(why) => Err(Refused { why, further: 0 }),
+    }
+}
+
+/// As `places`, where the place of the first word is known already.
+#[inline(always)]
+#[tactic(auto, using(crate::proofs::Spots::by_first))]
+pub(crate) fn places_from(
+    core: &Core,
+    sdw: &Sdw,
+    word: u32,
+    count: u32,
+    first: u32,
+) -> Result<u32, Refused>
+    requires some { 1 ≤ count }
+    requires block { word % 16 + count ≤ 16 }
+    requires low { first < 2 ^ 24 }
+    requires first { word_place_by sdw.now.unpaged sdw.now word
+        (ptw_at core.now (page_at sdw.now (word / 1024))) ≡ Ok first }
+    ensures value { (dbr : DbrFields) (seg : ℕ)
+        → spots_of core_store core.now dbr sdw.now seg word count ≡ run_by word count result }
+    ensures inside { IfOk result (λ a. LiesIn (length core.now) a count) }
+    ensures bound { IfOk result (λ a. a < 2 ^ 24) }
+    ensures further { IfErr result (λ r. r.further < count) }
+{
+    if !within(sdw, word) {
+        return Err(Refused {
+            why: violation(15),
+            further: 0,
+        });
+    }
+    run_in_core(core.len(), first, count)
+}
+
+/// As `places`, where the memories may have the page table word.
+#[tactic(auto, using(crate::proofs::Spots::by_first))]
+pub(crate) fn places_kept(
+    core: &Core,
+    dbr: Dbr,
+    memories: &mut Memories,
+    sdw: &Sdw,
+    word: u32,
+    count: u32,
+) -> Result<u32, Refused>
+    requires word { word < 2 ^ 18 }
+    requires some { 1 ≤ count }
+    requires block { word % 16 + count ≤ 16 }
+    requires right { AreRight core.now dbr memories.old }
+    ensures value { (other : DbrFields) (seg : ℕ)
+        → spots_of core_store core.now other sdw.now seg word count ≡ run_by word count result }
+    ensures inside { IfOk result (λ a. LiesIn (length core.now) a count) }
+    ensures bound { IfOk result (λ a. a < 2 ^ 24) }
+    ensures further { IfErr result (λ r. r.further < count) }
+    ensures page { OnOk result (TableIn (length core.now) sdw.now.unpaged
+        (page_at sdw.now (word / 1024))) }
+    ensures right { AreRight core.now dbr memories.new }
+{
+    if !within(sdw, word) {
+        return Err(Refused {
+            why: violation(15),
+            further: 0,
+        });
+    }
+    match m36_associative::word_place(core, dbr, memories, sdw, word) {
         Ok(place) => run_in_core(core.len(), place, count),
         Err(why) => Err(Refused { why, further: 0 }),
     }

@@ -44,7 +44,7 @@ impl Walk {
         ensures dbr { self.new.dbr ≡ self.old.dbr }
         ensures len { length self.new.core ≡ length self.old.core }
     {
-        let found = refer_fetch(&mut self.core, self.dbr, at)?;
+        let found = refer_fetch(&mut self.core, self.dbr, &mut self.memories, at)?;
         let word = self.core.peek(found.place);
         Ok((word, found.privileged && at.ring == 0))
     }
@@ -60,7 +60,7 @@ impl Walk {
         ensures dbr { self.new.dbr ≡ self.old.dbr }
         ensures len { length self.new.core ≡ length self.old.core }
     {
-        let found = refer_read(&mut self.core, self.dbr, at, psr, 1)?;
+        let found = refer_read(&mut self.core, self.dbr, &mut self.memories, at, psr, 1)?;
         Ok((self.core.peek(found.place), found.ring))
     }
 
@@ -71,7 +71,7 @@ impl Walk {
         ensures dbr { self.new.dbr ≡ self.old.dbr }
         ensures len { length self.new.core ≡ length self.old.core }
     {
-        let found = refer_read(&mut self.core, self.dbr, at, psr, 1)?;
+        let found = refer_read(&mut self.core, self.dbr, &mut self.memories, at, psr, 1)?;
         Ok(self.core.peek(found.place))
     }
 
@@ -83,7 +83,7 @@ impl Walk {
         ensures dbr { self.new.dbr ≡ self.old.dbr }
         ensures len { length self.new.core ≡ length self.old.core }
     {
-        let found = refer_read(&mut self.core, self.dbr, at, psr, 1)?;
+        let found = refer_read(&mut self.core, self.dbr, &mut self.memories, at, psr, 1)?;
         Ok(seen(&self.core, pending, found.place))
     }
 
@@ -101,7 +101,14 @@ impl Walk {
         ensures dbr { self.new.dbr ≡ self.old.dbr }
         ensures len { length self.new.core ≡ length self.old.core }
     {
-        let found = refer_read(&mut self.core, self.dbr, pair_at(at), psr, 2)?;
+        let found = refer_read(
+            &mut self.core,
+            self.dbr,
+            &mut self.memories,
+            pair_at(at),
+            psr,
+            2,
+        )?;
         Ok((seen_pair(&self.core, pending, found.place), found.ring))
     }
 
@@ -119,7 +126,14 @@ impl Walk {
         ensures dbr { self.new.dbr ≡ self.old.dbr }
         ensures len { length self.new.core ≡ length self.old.core }
     {
-        let found = refer_read(&mut self.core, self.dbr, block_at(at), psr, 16)?;
+        let found = refer_read(
+            &mut self.core,
+            self.dbr,
+            &mut self.memories,
+            block_at(at),
+            psr,
+            16,
+        )?;
         Ok((seen_block(&self.core, pending, found.place), found.ring))
     }
 
@@ -152,7 +166,14 @@ impl Walk {
         ensures dbr { self.new.dbr ≡ self.old.dbr }
         ensures len { length self.new.core ≡ length self.old.core }
     {
-        let found = refer_read(&mut self.core, self.dbr, block_at(at), psr, 16)?;
+        let found = refer_read(
+            &mut self.core,
+            self.dbr,
+            &mut self.memories,
+            block_at(at),
+            psr,
+            16,
+        )?;
         Ok(seen_block(&self.core, &None, found.place))
     }
 }

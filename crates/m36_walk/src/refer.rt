@@ -1,12 +1,14 @@
 //! One reference, and how it serves a request of a step.
 
 ghost use Rattle.std.specs.Prelude.{ℕ, ◌≡◌, ◌+◌, ◌%◌, ◌<◌, ◌≤◌, ◌^◌, IfOk, IfErr, length};
+ghost use Rattle.m36_associative.specs.Right.{AreRight};
 ghost use Rattle.m36_model.specs.Act.{Fetch, Indirect, Odd, Read};
 ghost use Rattle.m36_walk.specs.Runs.{LiesIn};
 ghost use Rattle.m36_walk.specs.Served.{sdw_in, ok_map, ServesRun, ServesClaim};
 
 use crate::reference::{Found, find_fetch, find_read, find_write};
 use crate::words::Run;
+use m36_associative::Memories;
 use m36_core::Core;
 use m36_desc::Dbr;
 use m36_model::{At, Fault};
@@ -39,12 +41,14 @@ fn reach_of(found: &Found) -> Reach
 pub(crate) fn refer_read(
     core: &mut Core,
     dbr: Dbr,
+    memories: &mut Memories,
     at: At,
     psr: u16,
     count: u32,
 ) -> Result<Reach, Fault>
     requires some { 1 ≤ count }
     requires block { at.word % 16 + count ≤ 16 }
+    requires right { AreRight core.old dbr memories.old }
     ensures read { ServesRun (λ g. g.ppr.psr ≡ psr) Read (record { core = core.old; dbr = dbr })
         core.new at count (ok_map (λ r. r.place) result) }
     ensures indirect { ServesRun (λ g. g.ppr.psr ≡ psr) Indirect
@@ -58,8 +62,9 @@ pub(crate) fn refer_read(
     ensures bound { IfOk result (λ r. r.place < 2 ^ 24) }
     ensures stays { IfErr result (λ e. core.new ≡ core.old) }
     ensures len { length core.new ≡ length core.old }
+    ensures right { AreRight core.new dbr memories.new }
 {
-    match find_read(core, dbr, at, psr, count) {
+    match find_read(core, dbr, memories, at, psr, count) {
         Ok(found) => Ok(reach_of(&found)),
         Err(fault) => Err(fault),
     }
@@ -67,9 +72,16 @@ pub(crate) fn refer_read(
 
 /// Examines so many words that are to be written, in the ring of `at`.
 #[inline(always)]
-pub(crate) fn refer_write(core: &mut Core, dbr: Dbr, at: At, count: u32) -> Result<Run, Fault>
+pub(crate) fn refer_write(
+    core: &mut Core,
+    dbr: Dbr,
+    memories: &mut Memories,
+    at: At,
+    count: u32,
+) -> Result<Run, Fault>
     requires some { 1 ≤ count }
     requires block { at.word % 16 + count ≤ 16 }
+    requires right { AreRight core.old dbr memories.old }
     ensures write { ServesClaim (record { core = core.old; dbr = dbr }) core.new at count
         (ok_map (λ r. r.place) result) }
     ensures count { IfOk result (λ r. r.count ≡ count) }
@@ -77,8 +89,9 @@ pub(crate) fn refer_write(core: &mut Core, dbr: Dbr, at: At, count: u32) -> Resu
     ensures bound { IfOk result (λ r. r.place < 2 ^ 24) }
     ensures stays { IfErr result (λ e. core.new ≡ core.old) }
     ensures len { length core.new ≡ length core.old }
+    ensures right { AreRight core.new dbr memories.new }
 {
-    match find_write(core, dbr, at, count) {
+    match find_write(core, dbr, memories, at, count) {
         Ok(found) => Ok(Run {
             place: found.place,
             count,
@@ -89,7 +102,13 @@ pub(crate) fn refer_write(core: &mut Core, dbr: Dbr, at: At, count: u32) -> Resu
 
 /// Fetches an instruction in the ring of `at`.
 #[inline(always)]
-pub(crate) fn refer_fetch(core: &mut Core, dbr: Dbr, at: At) -> Result<Reach, Fault>
+pub(crate) fn refer_fetch(
+    core: &mut Core,
+    dbr: Dbr,
+    memories: &mut Memories,
+    at: At,
+) -> Result<Reach, Fault>
+    requires right { AreRight core.old dbr memories.old }
     ensures fetch { ServesRun (λ g. g.ppr.prr ≡ at.ring) Fetch
         (record { core = core.old; dbr = dbr }) core.new at 1 (ok_map (λ r. r.place) result) }
     ensures privileged { IfOk result (λ r. r.privileged
@@ -98,8 +117,9 @@ pub(crate) fn refer_fetch(core: &mut Core, dbr: Dbr, at: At) -> Result<Reach, Fa
     ensures bound { IfOk result (λ r. r.place < 2 ^ 24) }
     ensures stays { IfErr result (λ e. core.new ≡ core.old) }
     ensures len { length core.new ≡ length core.old }
+    ensures right { AreRight core.new dbr memories.new }
 {
-    match find_fetch(core, dbr, at) {
+    match find_fetch(core, dbr, memories, at) {
         Ok(found) => Ok(reach_of(&found)),
         Err(fault) => Err(fault),
     }

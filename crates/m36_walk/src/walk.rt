@@ -3,36 +3,49 @@
 ghost use Rattle.std.specs.Prelude.{ℕ, ◌≡◌, IfOk, IfErr};
 ghost use Rattle.std.specs.Borrow.{sem};
 
+use m36_associative::Memories;
 use m36_core::Core;
 use m36_desc::Dbr;
 use m36_word::NoMemory;
 use std::alloc::Global;
 use std::marker::Model;
 
-/// Core memory with the descriptor segment base register by which its segments are found. It is seen as both.
+/// Core memory with the descriptor segment base register by which its segments are found. It is seen as both. The
+/// memories of what was read of the tables are not seen: all that is kept is what the tables say at every moment.
 #[derive(Drop)]
 pub struct Walk {
     pub(crate) core: Core,
     pub(crate) dbr: Dbr,
+    pub(crate) memories: Memories,
 }
 
 impl Model for Walk {
+    ghost use Rattle.m36_associative.specs.Right.{AreRight};
     ghost use Rattle.m36_walk.specs.Memory.{Memory};
 
     ghost Value = { Memory };
 
     ghost view = { λ w. record { core = w.core; dbr = w.dbr } };
+
+    ghost invariant = { λ w. AreRight w.core w.dbr w.memories };
 }
 
 impl Walk {
     ghost use Rattle.m36_walk.specs.Lending.{LendsCore};
 
     /// A walk over core. The error hands core back, and is want of memory alone.
-    pub fn new(_alloc: Global, core: Core, dbr: Dbr) -> Result<Walk, Core>
+    pub fn new(alloc: Global, core: Core, dbr: Dbr) -> Result<Walk, Core>
         ensures ok { IfOk result (λ walk. (walk.core ≡ core) × (walk.dbr ≡ dbr)) }
         ensures err { IfErr result (λ back. back ≡ core) }
     {
-        Ok(Walk { core, dbr })
+        match Memories::new(alloc) {
+            Ok(memories) => Ok(Walk {
+                core,
+                dbr,
+                memories,
+            }),
+            Err(NoMemory) => Err(core),
+        }
     }
 
     /// A second walk over a copy of core, by the same register. The error is want of memory alone.
@@ -42,6 +55,7 @@ impl Walk {
         Ok(Walk {
             core: self.core.copy(alloc)?,
             dbr: self.dbr,
+            memories: Memories::new(alloc)?,
         })
     }
 
@@ -57,6 +71,7 @@ impl Walk {
         ensures* lends { sem 𝓛 (LendsCore self.entry result) }
         ensures value { result.now ≡ self.old.core }
     {
+        self.memories.forget();
         &mut self.core
     }
 
@@ -72,6 +87,7 @@ impl Walk {
         ensures core { self.new.core ≡ self.old.core }
         ensures dbr { self.new.dbr ≡ d }
     {
+        self.memories.forget(); // what was found by the register before
         self.dbr = d;
     }
 }

@@ -1,11 +1,14 @@
 //! The words at places that were found: one, a pair, or a block of 16.
 
 ghost use Rattle.std.specs.Prelude.{ℕ, ◌≡◌, ◌+◌, ◌<◌, ◌^◌, length, slice_index};
+ghost use Rattle.m36_associative.specs.Right.{AreRight};
+ghost use Rattle.m36_desc.specs.Fields.{DbrFields};
 ghost use Rattle.m36_model.specs.Core.{core_put};
 ghost use Rattle.m36_model.specs.Place.{wrapped};
 ghost use Rattle.m36_walk.specs.Runs.{LiesIn, words_from};
 ghost use Rattle.m36_walk.specs.Words.{seen, run_changes, pair_words, block_words};
 
+use m36_associative::{Memories, store};
 use m36_core::Core;
 use m36_tables::wrapped;
 use m36_word::{Pair, Word};
@@ -71,27 +74,31 @@ pub(crate) fn seen_block(core: &Core, pending: &Option<Pending>, a: u32) -> [Pai
 
 /// Writes a pair from a place on.
 #[tactic(auto, unfolding(m36_model::specs::Core::core_put, crate::specs::Runs::LiesIn))]
-pub(crate) fn put_pair(core: &mut Core, a: u32, pair: Pair)
+pub(crate) fn put_pair(core: &mut Core, memories: &mut Memories, a: u32, pair: Pair)
     requires place { a < 2 ^ 24 }
     requires inside { LiesIn (length core.old) a 2 }
     ensures put { core.new ≡ core_put core.old (run_changes a (pair_words pair)) }
     ensures len { length core.new ≡ length core.old }
+    ensures right { (dbr : DbrFields) → AreRight core.old dbr memories.old
+        → AreRight core.new dbr memories.new }
 {
-    core.poke(a, pair.even);
-    core.poke(wrapped(a + 1), pair.odd);
+    store(core, memories, a, pair.even);
+    store(core, memories, wrapped(a + 1), pair.odd);
 }
 
 /// Writes a block of 16 words from a place on.
-pub(crate) fn put_block(core: &mut Core, a: u32, block: &[Pair; 8])
+pub(crate) fn put_block(core: &mut Core, memories: &mut Memories, a: u32, block: &[Pair; 8])
     requires place { a < 2 ^ 24 }
     requires inside { LiesIn (length core.old) a 16 }
     ensures put { core.new ≡ core_put core.old (run_changes a (block_words block.now)) }
     ensures words { length (block_words block.now) ≡ 16 }
     ensures len { length core.new ≡ length core.old }
+    ensures right { (dbr : DbrFields) → AreRight core.old dbr memories.old
+        → AreRight core.new dbr memories.new }
 {
     let mut next = a;
     for pair in block {
-        put_pair(core, next, *pair);
+        put_pair(core, memories, next, *pair);
         next = wrapped(wrapped(next + 1) + 1);
     }
 }

@@ -10,6 +10,7 @@ use crate::reads::{block_at, pair_at};
 use crate::refer::refer_write;
 use crate::walk::Walk;
 use crate::words::{Run, put_block, put_pair};
+use m36_associative::store;
 use m36_model::{At, Fault};
 use m36_word::{Pair, Word};
 
@@ -42,7 +43,13 @@ impl Walk {
         ensures dbr { self.new.dbr ≡ self.old.dbr }
         ensures len { length self.new.core ≡ length self.old.core }
     {
-        refer_write(&mut self.core, self.dbr, first_at(at, count), count as u32)
+        refer_write(
+            &mut self.core,
+            self.dbr,
+            &mut self.memories,
+            first_at(at, count),
+            count as u32,
+        )
     }
 
     /// As `claim`. The answer is the place of the first word; the others follow it modulo 2^24.
@@ -66,7 +73,7 @@ impl Walk {
         ensures core { self.new.core ≡ slice_set self.old.core place w }
         ensures dbr { self.new.dbr ≡ self.old.dbr }
     {
-        self.core.poke(place, w);
+        store(&mut self.core, &mut self.memories, place, w);
     }
 
     /// Writes a pair from a place on.
@@ -78,7 +85,7 @@ impl Walk {
         ensures dbr { self.new.dbr ≡ self.old.dbr }
         ensures len { length self.new.core ≡ length self.old.core }
     {
-        put_pair(&mut self.core, place, pair);
+        put_pair(&mut self.core, &mut self.memories, place, pair);
     }
 
     /// Writes a block from a place on.
@@ -91,7 +98,7 @@ impl Walk {
         ensures dbr { self.new.dbr ≡ self.old.dbr }
         ensures len { length self.new.core ≡ length self.old.core }
     {
-        put_block(&mut self.core, place, block);
+        put_block(&mut self.core, &mut self.memories, place, block);
     }
 
     /// Writes a word in the ring of `at`.
