@@ -27,7 +27,7 @@ use m36_walk::Walk;
 use m36_word::Word;
 
 /// The end of a step whose effect the registers have taken; `place` is where its instruction stands. LDBR may have changed the
-/// descriptor segment base register, and the walk goes on by it.
+/// descriptor segment base register, and then the walk goes on by it and keeps nothing of what was found by the one before.
 fn completed(
     walk: &mut Walk,
     regs: &Regs,
@@ -47,7 +47,9 @@ fn completed(
     ensures dbr { walk.new.dbr ≡ regs.now.dbr }
 {
     let dbr = regs.dbr;
-    walk.set_dbr(dbr);
+    if walk.dbr() != dbr {
+        walk.set_dbr(dbr);
+    }
     let ind = regs.ind;
     Ended {
         word: Some(word),
