@@ -32,6 +32,10 @@ is_of given segment = is_entry given (entry segment.dir segment.name)
 abbrev pub has_segment : Lists → Entry → Bool
 has_segment lists given = list_any (is_of given) lists
 
+-- the segments of lists, by their directories and names
+abbrev pub places_of : Lists → List Entry
+places_of lists = map (λ s. entry s.dir s.name) lists
+
 abbrev pub begun : ℕ → Entry → AclSegmentFields
 begun line given = record { line = line; dir = given.dir; name = given.name; terms = [] }
 

@@ -1,6 +1,6 @@
 //! What stands behind the first word of a line of access lists; None where it is not of its form.
 
-ghost use Rattle.std.specs.Prelude.{◌≡◌, None, Some, MatchOption, option_and_then};
+ghost use Rattle.std.specs.Prelude.{◌≡◌, ◌≤◌, true, length, None, Some, IfSome, MatchOption, option_and_then};
 ghost use Rattle.std.specs.List.{list_all};
 ghost use Rattle.m36_text.specs.Texts.{is_run_of};
 ghost use Rattle.m36_text.specs.Lines.{words_of};
@@ -29,7 +29,8 @@ fn has_directory_characters(word: &[u8]) -> bool
 }
 
 fn is_directory(word: &[u8]) -> bool
-    ensures { result ≡ is_run_of is_directory_character 64 word.now }
+    ensures value { result ≡ is_run_of is_directory_character 64 word.now }
+    ensures fits { result ≡ true → length word.now ≤ 64 }
 {
     if word.is_empty() || word.len() > LONGEST_DIRECTORY {
         return false;
@@ -49,7 +50,9 @@ fn name_of(word: &[u8]) -> Option<Name>
 
 /// `DIR NAME`
 pub(crate) fn entry_of(given: &[u8]) -> Option<(&[u8], Name)>
-    ensures { MatchOption result (entry_of (words_of given.now) ≡ None) (λ e. entry_of (words_of given.now) ≡ Some (entry e.0.now e.1)) }
+    ensures value { MatchOption result (entry_of (words_of given.now) ≡ None)
+        (λ e. entry_of (words_of given.now) ≡ Some (entry e.0.now e.1)) }
+    ensures fits { IfSome result (λ e. length e.0.now ≤ 64) }
 {
     let (dir, rest) = first_word(given);
     let name = name_of(only_word(rest?)?)?;

@@ -21,6 +21,7 @@
 //! control); the text that writes them out is this project's own.
 #![tactic(auto)]
 
+mod above;
 pub mod acl;
 pub mod denied;
 pub mod fault;

@@ -8,7 +8,6 @@ ghost use Rattle.m36_acl.specs.AccessLists.{is_of};
 ghost use Rattle.m36_acl.specs.Policy.{terms_of, nothing, rights_by, decided};
 
 use crate::matching::matches;
-use crate::reading::is_of;
 use crate::segment::{AclSegment, Term};
 use crate::user::User;
 
@@ -20,6 +19,13 @@ pub struct Decision {
     pub readable: bool,
     pub executable: bool,
     pub writable: bool,
+}
+
+// Whether a `segment` line is that of a name in a directory.
+fn is_of(segment: &AclSegment, dir: &[u8], name: &[u8]) -> bool
+    ensures { result ≡ is_of (entry dir.now name.now) segment.now }
+{
+    segment.dir.bytes() == dir && segment.name.bytes() == name
 }
 
 // The `segment` line of a name in a directory among some.

@@ -111,7 +111,9 @@ impl AclSegment {
 
     // Adds a term behind the others.
     pub(crate) fn push(&mut self, term: Term) -> Result<(), NoMemory>
-        ensures { OnOk result (self.new ≡ with_term self.old term) }
+        ensures ok { OnOk result (self.new ≡ with_term self.old term) }
+        ensures dir { self.new.dir ≡ self.old.dir }
+        ensures name { self.new.name ≡ self.old.name }
     {
         self.terms.push(term)?;
         Ok(())

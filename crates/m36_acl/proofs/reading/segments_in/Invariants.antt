@@ -5,7 +5,7 @@ use Rattle.m36_acl.proofs.reading.segments_in.Given as goal
 -- the rest completes the whole, and each line above took a byte at least
 abbrev pub invariant-loop-line : goal.invariant-loop-line
 invariant-loop-line l = record {
-  told : lists_from l.number l.above.items (lines_given l.rest) ≡ lists_of l.text;
+  told : lists_from l.number l.above (lines_given l.rest) ≡ lists_of l.text;
   few : l.number + length l.rest ≤ length l.text + 1;
 }
 

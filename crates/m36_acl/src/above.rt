@@ -1,0 +1,143 @@
+//! The `segment` lines above a line, each with the terms behind it.
+
+ghost use Rattle.std.specs.Prelude.{[], ◌∷◌, ◌++◌, ◌≡◌, ◌≤◌, ◌<◌, ◌-◌, false, length, slice_set, IfSome, OnOk, option_map};
+ghost use Rattle.std.specs.Vec.{vec_len, vec_capacity};
+ghost use Rattle.m36_dir.specs.BootOrder.{entry};
+ghost use Rattle.m36_acl.specs.AccessLists.{places_of, has_segment, last_of, with_term};
+
+use crate::segment::{AclSegment, Term};
+use arrayvec::ArrayVec;
+use indexmap::IndexSet;
+use m36_text::Name;
+use m36_word::NoMemory;
+use std::alloc::Global;
+use std::marker::Model;
+
+/// A segment by its directory and its name. It is seen as these two.
+#[derive(PartialEq, Eq, Hash, Drop)]
+pub(crate) struct Place {
+    dir: ArrayVec<u8, 64>,
+    name: Name,
+}
+
+impl Model for Place {
+    ghost use Rattle.m36_dir.specs.BootOrder.{Entry};
+
+    ghost Value = { Entry };
+
+    ghost view = { λ p. record { dir = p.dir.items; name = p.name } };
+
+    ghost inverse = { λ e. record { dir = record { items = e.dir }; name = e.name } };
+}
+
+/// Segments in the order of their lines, each with its terms, and a table of their directories and names. They are seen
+/// as the segments.
+#[derive(Drop)]
+pub(crate) struct Above {
+    segments: Vec<AclSegment>,
+    places: IndexSet<Place>,
+}
+
+impl Model for Above {
+    ghost use Rattle.std.specs.Prelude.{◌≡◌, List};
+    ghost use Rattle.m36_acl.specs.Fields.{AclSegmentFields};
+    ghost use Rattle.m36_acl.specs.AccessLists.{places_of};
+
+    ghost Value = { List AclSegmentFields };
+
+    ghost view = { λ a. a.segments.items };
+
+    ghost invariant = { λ a. a.places.keys ≡ places_of a.segments.items };
+}
+
+impl Place {
+    /// The segment of a name in a directory.
+    pub(crate) fn new(dir: &[u8], name: Name) -> Place
+        requires { length dir.now ≤ 64 }
+        ensures { result ≡ entry dir.now name }
+    {
+        let mut items = ArrayVec::new();
+        match items.try_extend_from_slice(dir) {
+            Ok(()) => Place { dir: items, name },
+            Err(_) => unreachable!(),
+        }
+    }
+}
+
+// Adds a segment where there is room for it.
+fn put(segments: &mut Vec<AclSegment>, segment: AclSegment)
+    requires { vec_len segments.old < vec_capacity segments.old }
+    ensures { segments.new.items ≡ segments.old.items ++ segment ∷ [] }
+{
+    match segments.push(segment) {
+        Ok(()) => {}
+        Err(_) => unreachable!(),
+    }
+}
+
+// Adds a term to the last segment.
+fn push_to_last(segments: &mut Vec<AclSegment>, term: Term) -> Result<(), NoMemory>
+    requires { 1 ≤ length segments.old.items }
+    ensures added { OnOk result (IfSome (last_of segments.old.items) (λ last. segments.new.items
+        ≡ slice_set segments.old.items (length segments.old.items - 1) (with_term last term))) }
+    ensures places { places_of segments.new.items ≡ places_of segments.old.items }
+{
+    let place = segments.len() - 1;
+    let last = &mut segments[place];
+    last.push(term)?;
+    Ok(())
+}
+
+impl Above {
+    /// No segments.
+    pub(crate) fn new(alloc: Global) -> Above
+        ensures { result ≡ [] }
+    {
+        Above {
+            segments: Vec::new(alloc),
+            places: IndexSet::new(alloc),
+        }
+    }
+
+    /// Whether a segment is among them.
+    pub(crate) fn has(&self, place: &Place) -> bool
+        ensures { result ≡ has_segment self.now place.now }
+    {
+        self.places.contains(place)
+    }
+
+    /// Adds a segment that is not among them.
+    pub(crate) fn add(&mut self, place: Place, segment: AclSegment) -> Result<(), NoMemory>
+        requires place { place ≡ entry segment.dir segment.name }
+        requires fresh { has_segment self.old place ≡ false }
+        ensures { OnOk result (self.new ≡ self.old ++ segment ∷ []) }
+    {
+        self.segments.reserve(1)?;
+        self.places.insert(place)?;
+        put(&mut self.segments, segment);
+        Ok(())
+    }
+
+    /// The terms of the last one; None where there is none.
+    pub(crate) fn last_terms(&self) -> Option<&[Term]>
+        ensures { option_map (λ t. t.now) result ≡ option_map (λ s. s.terms) (last_of self.now) }
+    {
+        Some(self.segments.last()?.terms())
+    }
+
+    /// Adds a term to the last one.
+    pub(crate) fn add_to_last(&mut self, term: Term) -> Result<(), NoMemory>
+        requires { 1 ≤ length self.old }
+        ensures { OnOk result (IfSome (last_of self.old) (λ last.
+            self.new ≡ slice_set self.old (length self.old - 1) (with_term last term))) }
+    {
+        push_to_last(&mut self.segments, term)
+    }
+
+    /// The segments.
+    pub(crate) fn into_segments(self) -> Vec<AclSegment>
+        ensures { result.items ≡ self }
+    {
+        self.segments
+    }
+}
