@@ -7,7 +7,7 @@ use Rattle.std.proofs.lemmas.List.Elements.{All-get_or}
 use Rattle.m36_page.specs.Fields.{TableFields, PagerFields}
 use Rattle.m36_page.specs.Copied.{IsCopied}
 use Rattle.m36_page.specs.Residence.{is_of, table_of, has_page_in, spot_in, kept_in, has_page, spot_of, kept_word, absent_ptw, resident_ptw, frame_of, Holds, IsPager, Reads, IsSettled, IsInside}
-use Rattle.m36_page.specs.Changes.{IsSameShape, IsKept}
+use Rattle.m36_page.specs.Changes.{IsSameShape, IsKept, OthersStay}
 use Rattle.m36_page.proofs.Frames.{held_inside, bounded}
 use Rattle.m36_page.proofs.Tables.{found, words_pages, words_spots, words_kept, words_were, words_others, words_whole}
 use Rattle.m36_page.specs.Moved.{HasWords, IsAway, IsTaken, IsEmptied}
@@ -183,12 +183,33 @@ holder_gone : (new : PagerFields) (k seg page : ℕ) (p : PagerFields) → ((x q
 holder_gone new k seg page p never None e = e
 holder_gone new k seg page p never (Some h) e = absurd (never h.0 h.1 e)
 
+-- of a frame that holds the same pages before and after, the holder is the same
+same_holder : (p new : PagerFields) (j : ℕ) → ((x q : ℕ) → Holds new j x q → Holds p j x q) → ((x q : ℕ) → Holds p j x q → Holds new j x q)
+    → (o o' : Option (ℕ × ℕ)) → get_or p.holders j None ≡ o → get_or new.holders j None ≡ o' → get_or new.holders j None ≡ get_or p.holders j None
+same_holder p new j left stay None None e f = f ∙ sym e
+same_holder p new j left stay None (Some h) e f = let held : get_or p.holders j None ≡ Some h = left h.0 h.1 f in absurd (cc)
+same_holder p new j left stay (Some h) o' e f = stay h.0 h.1 e ∙ sym e
+
+away_stay : (p : PagerFields) (core : List ℕ) (new : PagerFields) (now : List ℕ) (k seg page : ℕ)
+    → IsAway p core new now k seg page → OthersStay p core new now k
+away_stay p core new now k seg page away = record {
+  holders = λ j other.
+      same_holder p new j (λ x q h. (away.left j x q h).0) (λ x q h. away.stay j x q h other)
+      (get_or p.holders j None) (get_or new.holders j None) refl refl;
+  words = λ a out. away.others a (out seg page away.held);
+}
+
+held_some : (p : PagerFields) (k seg page : ℕ) → Holds p k seg page → get_or p.holders k None ≡ None → ⊥
+held_some p k seg page held none = cc
+
 pub emptied : (p : PagerFields) (core : List ℕ) (new : PagerFields) (now : List ℕ) (k seg page : ℕ)
     → IsSettled p core → IsAway p core new now k seg page → IsEmptied p core new now k
 emptied p core new now k seg page s away = record {
   kept = away_kept p core new now k seg page s away;
   settled = away_settled p core new now k seg page s away;
   empty = holder_gone new k seg page p (λ x q h. (away.left k x q h).1 refl) (get_or new.holders k None) refl;
+  same = λ none. absurd (held_some p k seg page away.held none);
+  others = away_stay p core new now k seg page away;
   stays = λ x q frame has e apart.
       let other : (x ≡ seg) × (q ≡ page) → ⊥ = λ same.
       let is : frame_of p core x q ≡ Some (p.first + k) =
@@ -214,6 +235,8 @@ emptied_none p core k s none = record {
   };
   settled = s;
   empty = none;
+  same = λ still. (refl, refl);
+  others = record { holders = λ j other. refl; words = λ a out. refl };
   stays = λ x q frame has e apart. e;
   out = λ x q has e. e;
 }

@@ -1,7 +1,7 @@
 -- What the calls of a pager change, and what they keep.
-use Rattle.std.specs.Prelude.{ℕ, ◌≡◌, ◌+◌, ◌*◌, ◌/◌, ◌<◌, ◌≤◌, ◌⊎◌, Bool, true, false, ◌&&◌, nat_eq}
-use Rattle.std.specs.Prelude.{if◌then◌else◌, List, length, slice_get, slice_index, All, Option}
-use Rattle.std.specs.Prelude.{Some, None, IsSome}
+use Rattle.std.specs.Prelude.{ℕ, ◌≡◌, ◌≢◌, ◌+◌, ◌*◌, ◌/◌, ◌<◌, ◌≤◌, ◌⊎◌, Bool, true, false, ◌&&◌}
+use Rattle.std.specs.Prelude.{nat_eq, if◌then◌else◌, List, length, slice_get, slice_index}
+use Rattle.std.specs.Prelude.{slice_index_or, All, Option, Some, None, IsSome}
 use Rattle.std.specs.List.{list_any}
 use Rattle.m36_model.specs.declared.place.Reference.{Reference}
 use Rattle.m36_page.specs.Fields.{TableFields, PagerFields}
@@ -33,6 +33,15 @@ pub record IsKept (old : PagerFields) (core : List ℕ) (new : PagerFields)
   pub size : length now ≡ length core
   pub content : (seg w : ℕ) → content_of new now seg w ≡ content_of old core seg w
   pub others : (a : ℕ) → (IsPaged old a → ⊥) → slice_index now a ≡ slice_index core a
+
+-- Frames other than frame k hold the pages that they held, and of core no word has changed but the
+-- page table word of the page that frame k held.
+pub record OthersStay (old : PagerFields) (core : List ℕ) (new : PagerFields) (now : List ℕ)
+    (k : ℕ) : Type 0 where
+  pub holders : (j : ℕ) → j ≢ k
+      → slice_index_or new.holders j None ≡ slice_index_or old.holders j None
+  pub words : (a : ℕ) → ((seg page : ℕ) → Holds old k seg page → a ≢ spot_of old seg page)
+      → slice_index now a ≡ slice_index core a
 
 -- a core word of a table, counted from 0
 abbrev pub IsTableWord : List TableFields → ℕ → Type 0

@@ -4,7 +4,7 @@ use Rattle.std.specs.Prelude.{slice_index, slice_index_or, slice_set, position, 
 use Rattle.m36_page.specs.Fields.{TableFields, PagerFields}
 use Rattle.m36_page.specs.Residence.{is_of, has_page, spot_of, kept_word, absent_ptw, resident_ptw}
 use Rattle.m36_page.specs.Residence.{frame_of, Holds, IsPager, IsSettled}
-use Rattle.m36_page.specs.Changes.{IsSameShape, IsKept}
+use Rattle.m36_page.specs.Changes.{IsSameShape, IsKept, OthersStay}
 
 -- The table of a segment, at place i, has these words now.
 pub record HasWords (p new : PagerFields) (seg i : ℕ) (d : TableFields)
@@ -57,6 +57,8 @@ pub record IsEmptied (p : PagerFields) (core : List ℕ) (new : PagerFields) (no
   pub kept : IsKept p core new now
   pub settled : IsSettled new now
   pub empty : slice_index_or new.holders k None ≡ None
+  pub same : slice_index_or p.holders k None ≡ None → (new ≡ p) × (now ≡ core)
+  pub others : OthersStay p core new now k
   pub stays : (s q frame : ℕ) → has_page p s q ≡ true → frame_of p core s q ≡ Some frame
       → frame ≢ p.first + k
       → frame_of new now s q ≡ Some frame

@@ -3,7 +3,7 @@
 ghost use Rattle.std.specs.Prelude.{ℕ, ◌≡◌, ◌≢◌, ◌+◌, ◌-◌, ◌^◌, ◌*◌, ◌/◌, ◌<◌, ◌≤◌, ◌⊎◌, Bool, true, false, ◌&&◌, nat_eq, if◌then◌else◌, length, slice_index_or, replicate, All, IfOk, Some, None, IsSome, IfSome, IfNone, OnOk, OnErr};
 ghost use Rattle.m36_model.specs.Core.{unmarked};
 ghost use Rattle.m36_page.specs.Residence.{has_page, spot_of, kept_word, frame_of, content_of, Holds, IsPager, Reads, HasFrames, IsSettled};
-ghost use Rattle.m36_page.specs.Changes.{IsBrought, IsKept, IsSet, IsSpot, AllPinned, AllEmpty, AreAbsent};
+ghost use Rattle.m36_page.specs.Changes.{IsBrought, IsKept, IsSet, IsSpot, OthersStay, AllPinned, AllEmpty, AreAbsent};
 ghost use Rattle.m36_page.specs.Choice.{IsFree, IsMarked, AreInCore};
 ghost use Rattle.m36_page.specs.Given.{are_placed, pager_given};
 ghost use Rattle.m36_page.specs.Moved.{IsAway, IsTaken, IsEmptied, IsKeptWord};
@@ -184,8 +184,9 @@ impl Pager {
         choose(core, references, &self.holders, &self.spots, self.hand)
     }
 
-    /// Brings a page into a frame; one that is in a frame is left as it is. The error says that every frame holds a page of
-    /// the references, and then nothing has changed; with more frames than references it never comes.
+    /// Brings a page into a frame. One that is in a frame is left as it is, and nothing changes. The error says that the page
+    /// is in no frame and every frame holds a page of the references, and then nothing has changed; with more frames than
+    /// references it never comes.
     pub fn bring(
         &mut self,
         core: &mut Core,
@@ -198,6 +199,8 @@ impl Pager {
         requires page { has_page self.old seg page ≡ true }
         ensures ok { OnOk result (IsBrought self.old core.old self.new core.new seg page pinned.now.items) }
         ensures err { OnErr result ((self.new ≡ self.old) × (core.new ≡ core.old) × AllPinned self.old pinned.now.items) }
+        ensures absent { OnErr result (frame_of self.old core.old seg page ≡ None) }
+        ensures same { IsSome (frame_of self.old core.old seg page) → (self.new ≡ self.old) × (core.new ≡ core.old) }
         ensures room { OnErr result (length self.old.holders ≤ length pinned.now.items) }
         ensures free { OnOk result (IsSome (frame_of self.old core.old seg page) ⊎ (AllPinned self.old pinned.now.items → ⊥)) }
         ensures reads { Reads self.new core.new }
@@ -217,7 +220,7 @@ impl Pager {
         Ok(())
     }
 
-    /// Puts the page of a pageable frame away, if it holds one.
+    /// Puts the page of a pageable frame away. Where it holds none nothing changes, and the other frames stay as they are.
     pub fn evict(&mut self, core: &mut Core, frame: u32)
         requires frames { HasFrames self.old core.old }
         requires reads { Reads self.old core.old }
@@ -225,6 +228,8 @@ impl Pager {
         requires last { frame < self.old.first + length self.old.holders }
         ensures kept { IsKept self.old core.old self.new core.new }
         ensures empty { slice_index_or self.new.holders (frame - self.old.first) None ≡ None }
+        ensures same { slice_index_or self.old.holders (frame - self.old.first) None ≡ None → (self.new ≡ self.old) × (core.new ≡ core.old) }
+        ensures others { OthersStay self.old core.old self.new core.new (frame - self.old.first) }
         ensures reads { Reads self.new core.new }
         ensures frames { HasFrames self.new core.new }
     {

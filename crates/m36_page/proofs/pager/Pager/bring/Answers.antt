@@ -1,11 +1,16 @@
-use Rattle.std.proofs.Common.{List, length, inl, inr, sym, ap, subst, ◌∙◌, arith}
+use Rattle.std.proofs.Common.{ℕ, ◌≡◌, List, length, Option, Some, None, inl, inr, sym, ap, subst, ◌∙◌, arith}
+use Rattle.std.specs.Prelude.{IsSome}
 use Rattle.m36_model.specs.declared.place.Reference.{Reference}
-use Rattle.m36_page.specs.Residence.{IsSettled}
+use Rattle.m36_page.specs.Residence.{frame_of, IsSettled}
 use Rattle.m36_page.specs.Changes.{IsBrought, AllPinned}
 use Rattle.m36_page.proofs.Moves.{marks_frame, taken_settled}
 use Rattle.m36_page.proofs.Room.{few_frames}
 use Rattle.m36_page.proofs.Parts.{settled_by, marks_of, resident_from, out_from, brought_same, brought, not_pinned}
 use Rattle.m36_page.proofs.pager.Pager.bring.Goals as goal
+
+was_out : (frame : Option ℕ) → frame ≡ None → IsSome frame → ⊥
+was_out None out resident = absurd (cc)
+was_out (Some f) out resident = absurd (cc)
 
 pub returns-then-is_some-clause-ok : goal.returns-then-is_some-clause-ok
 returns-then-is_some-clause-ok c =
@@ -28,6 +33,11 @@ take_in-requires-clause-out c =
     ∙ out_from c.args.self.now c.args.core.now c.args.seg c.args.page c.spot-spot.result c.frame_at.result c.is_some.result
     c.spot-spot.ensures.value c.frame_at.ensures c.is_some.ensures c.if-is_some.false)
 
+pub returns-in_default-clause-absent : goal.returns-in_default-clause-absent
+returns-in_default-clause-absent c =
+    out_from c.args.self.now c.args.core.now c.args.seg c.args.page c.spot-spot.result c.frame_at.result c.is_some.result
+    c.spot-spot.ensures.value c.frame_at.ensures c.is_some.ensures c.if-is_some.false
+
 pub returns-in_default-clause-room : goal.returns-in_default-clause-room
 returns-in_default-clause-room c =
     let few = few_frames c.args.self.now c.args.core.now c.as_slice.result.now c.requires.reads c.in_default.ensures.none in
@@ -41,6 +51,12 @@ returns-clause-ok c =
     subst P c.as_slice.ensures.value
     (brought c.args.self.now c.args.core.now c.choose.new.core c.empty.new.self c.empty.new.core c.take_in.new.self c.take_in.new.core
     c.in-Some.k c.args.seg c.args.page c.as_slice.result.now settled c.choose.ensures.marks c.empty.ensures c.take_in.ensures c.in-Some.ensures.found)
+
+pub returns-clause-same : goal.returns-clause-same
+returns-clause-same c = λ resident.
+    absurd (was_out (frame_of c.args.self.now c.args.core.now c.args.seg c.args.page)
+    (out_from c.args.self.now c.args.core.now c.args.seg c.args.page c.spot-spot.result c.frame_at.result c.is_some.result
+    c.spot-spot.ensures.value c.frame_at.ensures c.is_some.ensures c.if-is_some.false) resident)
 
 pub returns-clause-free : goal.returns-clause-free
 returns-clause-free c =
