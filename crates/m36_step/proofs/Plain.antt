@@ -1,24 +1,24 @@
 -- How an instruction ends whose address has no tally word, by what its references and its effect gave.
-use Rattle.std.proofs.Common.{ℕ, ◌≡◌, ◌∙◌, refl, sym, ap, Bool, true, false, not, ◌&&◌, IsTrue, List, [], ◌∷◌, ◌++◌, Option, Some, None, Result, Ok, Err, slice_set}
+use Rattle.std.proofs.Common.{ℕ, ◌≡◌, ◌∙◌, refl, sym, ap, Bool, true, false, not, ◌&&◌, IsTrue, List, [], ◌∷◌, Option, Some, None, Result, Ok, Err, slice_set}
 use Rattle.m36_inst.specs.Operands.{operand_of, takes_direct, is_privileged}
 use Rattle.m36_inst.specs.declared.effect.Effect.{Effect}
 use Rattle.m36_inst.specs.declared.effect.Effect.TheVariants as effect
 use Rattle.m36_inst.specs.declared.operand.Operand.{Operand}
 use Rattle.m36_inst.specs.declared.operand.Operand.TheVariants as kind
+use Rattle.m36_desc.specs.Access.{ring_called}
 use Rattle.m36_desc.specs.Fields.{SdwFields}
-use Rattle.m36_model.specs.Act.{Whole, Read, Write, Transfer, refer}
+use Rattle.m36_model.specs.Act.{Whole, Read, Write, Transfer, Call, refer}
 use Rattle.m36_model.specs.Chain.{ChainEnd, chain_end_fields, claimed_by, pending_of, runout_of}
 use Rattle.m36_model.specs.Core.{core_store, core_put}
 use Rattle.m36_model.specs.Effect.{exec, is_absa}
 use Rattle.m36_model.specs.Fields.{FinalFields}
 use Rattle.m36_model.specs.Registers.{RegsFields}
-use Rattle.m36_model.specs.Results.{OperandFields, EffectFields, words_of_held}
+use Rattle.m36_model.specs.Results.{OperandFields}
 use Rattle.m36_model.specs.Step.{Performed, puts_from, performed, perform, tallied, operate, operate_on, operated, addressed, started, admitted, by_kind, by_direct, direct_word, addressing, transferring, request_at, outcome_by}
-use Rattle.m36_model.specs.Store.{Spot, Ran, serve, run, changes}
+use Rattle.m36_model.specs.Store.{Spot, serve, run, changes}
 use Rattle.m36_model.specs.Transfers.{is_taken}
 use Rattle.m36_model.specs.declared.effects.Formed.{Formed}
 use Rattle.m36_model.specs.declared.effects.Tally.{Tally}
-use Rattle.m36_model.specs.declared.effects.Held.{Held}
 use Rattle.m36_model.specs.declared.effects.Held.TheVariants as held
 use Rattle.m36_model.specs.declared.outcome.Fault.{Fault}
 use Rattle.m36_model.specs.declared.outcome.Outcome.TheVariants.{Faulted}
@@ -34,7 +34,7 @@ use Rattle.m36_word.specs.declared.pair.Pair.{Pair}
 use Rattle.m36_frequent.specs.Frequent.{loads_address, is_shift, word_read, pair_read, nothing_read}
 use Rattle.m36_ea.specs.Formed.{plain}
 use Rattle.m36_step.specs.Ended.{EndsFormed, end_of}
-use Rattle.m36_step.specs.Operated.{formed_mid, claims_of, puts_of, operation_from, operated_end}
+use Rattle.m36_step.specs.Operated.{claims_of, puts_of, operated_end}
 use Rattle.m36_step.specs.References.{ServesRead, ServesWrite, HoldRefused}
 use Rattle.m36_step.specs.declared.ended.Ended.{Ended}
 use Rattle.m36_step.specs.declared.operated.Operated.{Operated}
@@ -51,6 +51,10 @@ not_absa _ h = refl
 pub shift_not_absa : (e : Effect) → IsTrue (is_shift e) → is_absa e ≡ false
 shift_not_absa effect.Absa h = cc
 shift_not_absa _ h = refl
+
+-- what a call is given: the ring in which it goes on
+abbrev called_in : ℕ → OperandFields
+called_in ring = record { got = []; ring = ring; place = 0 }
 
 module _ (e : Effect) (n w : ℕ) (g : RegsFields) (last : FinalFields) where
   abbrev f : Formed
@@ -131,16 +135,16 @@ module _ (e : Effect) (n w : ℕ) (g : RegsFields) (last : FinalFields) where
         ∙ performs nothing_read g' (word ∷ []) overflow core' (run_from place 1) refs' effect)
         stored
 
-    -- A pair is read, whatever the first ring bracket of its segment.
-    pub pair_read_ends : (got : Pair) → operand_of e ≡ kind.R2 → last.direct ≡ None → ServesRead g f 2 m refs core' refs' (Ok (pair_words got))
-        → ((ring : ℕ) → Ok (record { regs = g'; put = []; overflow = overflow }) ≡ exec e n g last (pair_read got ring))
+    -- A pair is read, with the first ring bracket of its segment.
+    pub pair_read_ends : (got : Pair) (ring : ℕ) → operand_of e ≡ kind.R2 → last.direct ≡ None → ServesRead g f 2 m refs core' refs' (Ok (pair_words got)) → ring ≡ (sdw_in m last.at.seg).r1
+        → Ok (record { regs = g'; put = []; overflow = overflow }) ≡ exec e n g last (pair_read got ring)
         → EndsFormed g (operated e n g w c) m.core f refs core' refs' g' end
-    pair_read_ends got k none served effect =
-        let ring = (sdw_in m last.at.seg).r1 in
+    pair_read_ends got ring k none served first effect =
         ends_unwritten m.core refs core' refs' g' overflow end is
         (ap (λ p. run core_store g p (standing m.core [] refs)) (operates_by kind.R2 k none)
         ∙ run_ask g (request_at Read c 2) _ (standing m.core [] refs) _ served
-        ∙ performs (pair_read got ring) g' [] overflow core' [] refs' (effect ring))
+        ∙ ap (λ (x : ℕ). run core_store g (perform e n g c Whole 0 (pair_read got x)) (standing core' [] refs')) (sym first)
+        ∙ performs (pair_read got ring) g' [] overflow core' [] refs' effect)
 
     -- A pair is stored.
     pub pair_stored_ends : (place : ℕ) (put : Pair) (core'' : List ℕ) → operand_of e ≡ kind.W2 → last.direct ≡ None → ServesWrite g f 2 m refs core' refs' (Ok place)
@@ -240,6 +244,29 @@ module _ (e : Effect) (n w : ℕ) (g : RegsFields) (last : FinalFields) where
         (ap (λ p. run core_store g p (standing core [] refs)) (transfers_by true k none t)
         ∙ run_ask g (request_at Transfer c 1) _ (standing core [] refs) _ served
         ∙ performs nothing_read g' [] overflow core [] refs effect)
+
+    -- A call is allowed, in the ring that its target gives.
+    pub call_ends : (d : SdwFields) (ring : ℕ) → operand_of e ≡ kind.Call6 → last.direct ≡ None
+        → serve core_store g (standing core [] refs) (request Call last.at 1 []) ≡ served_by (request Call last.at 1 []) core [] refs (at_target d (Ok ring)) → ring ≡ ring_called d last.at.ring
+        → Ok (record { regs = g'; put = []; overflow = overflow }) ≡ exec e n g last (called_in ring)
+        → EndsFormed g (operated e n g w c) core f refs core refs g' end
+    call_ends d ring k none served is_ring effect =
+        ends_unwritten core refs core refs g' overflow end is
+        (ap (λ p. run core_store g p (standing core [] refs)) (operates_by kind.Call6 k none)
+        ∙ run_ask g (request_at Call c 1) _ (standing core [] refs) _ served
+        ∙ ap (λ (x : ℕ). run core_store g (perform e n g c Whole 0 (called_in x)) (standing core [] refs)) (sym is_ring)
+        ∙ performs (called_in ring) g' [] overflow core [] refs effect)
+
+  -- A target may not be called.
+  pub call_refused : (d : SdwFields) (core : List ℕ) (refs : List Reference) (fault : Fault) (end : Ended) → operand_of e ≡ kind.Call6 → last.direct ≡ None
+      → serve core_store g (standing core [] refs) (request Call last.at 1 []) ≡ served_by (request Call last.at 1 []) core [] refs (Err fault)
+      → end ≡ record { word = Some w; at = Some last; outcome = Faulted fault } → EndsFormed g (operated e n g w c) core f refs core refs g end
+  call_refused d core refs fault end k none served told =
+      operation_refused g e n w f core refs core refs g held.Empty (halt.Fault fault) end
+      (ap (λ p. run core_store g p (standing core [] refs)) (operates_by kind.Call6 k none)
+      ∙ run_ask g (request_at Call c 1) _ (standing core [] refs) _ served
+      ∙ run_done g (Err (halt.Fault fault)) (standing core [] refs))
+      refl told
 
 module _ (e : Effect) (n w : ℕ) (g : RegsFields) where
   -- An address without a tally word has claimed none.

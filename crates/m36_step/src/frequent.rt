@@ -16,7 +16,7 @@ ghost use Rattle.m36_step.specs.Ended.{EndsFormed, ended_of};
 ghost use Rattle.m36_step.specs.References.{ServesWrite, HoldRefused};
 
 use crate::execute::operated;
-use crate::paired::{pair_operand, shift_operand, stored_pair};
+use crate::paired::{called, pair_operand, shift_operand, stored_pair};
 use crate::references::{final_at, hold_words, try_hold, try_read};
 use crate::telling::{tell, tell_done, tell_refused};
 use m36_inst::{Operand, Row};
@@ -338,6 +338,7 @@ pub(crate) fn operated_plain(
         Operand::T => target_operand(walk, regs, word, row, last, told),
         Operand::R2 => pair_operand(walk, regs, word, row, last, told),
         Operand::W2 => stored_pair(walk, regs, word, row, last, told),
+        Operand::Call6 => called(walk, regs, word, row, last, told),
         _ => operated_else(walk, regs, word, row, last, told),
     }
 }

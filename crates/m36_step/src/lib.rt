@@ -9,9 +9,10 @@
 //! are written, that of the tally first, and the registers take their new values. A refusal anywhere before leaves
 //! registers and words as they were but for the marks of the references that were completed. A step takes no memory.
 //!
-//! Frequent instructions on a word or a pair go a shorter way by the same parts: a reference answers a word or a place alone, the
-//! effect is made in the registers, and the record is filled as the step goes. Where a reference does not answer, nothing
-//! has changed, and the step goes on from there as every other does.
+//! Frequent instructions on a word or a pair, shifts, transfers, CALL6 and RTCD go a shorter way by the same parts: a
+//! reference answers a word or a place alone, the effect is made in the registers, and the record is filled as the step
+//! goes. Where the reference to a word, or to the target of a transfer, does not answer, nothing has changed, and the step
+//! goes on from there as every other does; the fault of a pair or of a call is told at once.
 //!
 //! Whatever answers turns is a [`Stepper`]: a [`Turn`] is a step, a service that the step before it calls for, or says how the
 //! run has ended. The traits' relations are the contracts of their methods. A `Machine` is one, and a [`Replay`], whose turns

@@ -1,7 +1,7 @@
-//! Frequent instructions on pairs, and shifts, told in the record as they go.
+//! Frequent instructions on pairs, shifts, calls and returns, told in the record as they go.
 //!
 //! As the frequent instructions on words, they are done in the registers, and their record is filled in place. A pair that may
-//! not be read or written is told with its fault at once.
+//! not be read or written, and a target that may not be called, is told with its fault at once.
 
 ghost use Rattle.std.specs.Prelude.{ℕ, ◌≡◌, ◌+◌, ◌<◌, ◌≤◌, ◌^◌, IfOk, length};
 ghost use Rattle.m36_inst.specs.Lookup.{IsRow};
@@ -10,7 +10,7 @@ ghost use Rattle.m36_ea.specs.Formed.{plain};
 ghost use Rattle.m36_model.specs.Chain.{chain_end_fields};
 ghost use Rattle.m36_model.specs.Step.{operated};
 ghost use Rattle.m36_walk.specs.Runs.{LiesIn};
-ghost use Rattle.m36_walk.specs.Served.{ok_map};
+ghost use Rattle.m36_walk.specs.Served.{ok_map, sdw_in};
 ghost use Rattle.m36_walk.specs.Words.{pair_words};
 ghost use Rattle.m36_step.specs.Ended.{EndsFormed, ended_of};
 ghost use Rattle.m36_step.specs.References.{ServesRead, ServesWrite};
@@ -18,27 +18,35 @@ ghost use Rattle.m36_step.specs.References.{ServesRead, ServesWrite};
 use crate::frequent::operated_else;
 use crate::references::{complete, final_at, procedure_segment};
 use crate::telling::{tell_done, tell_refused};
-use m36_inst::Row;
+use m36_inst::{Effect, Row};
 use m36_model::{Fault, Final, Kind, Refs, Regs, StepRecord};
 use m36_walk::Walk;
 use m36_word::{Pair, Word};
 
-/// Reads the pair that holds the word at the end of an address without a tally word.
+/// Reads the pair that holds the word at the end of an address without a tally word. With it goes the first ring bracket
+/// of its segment.
 #[inline(always)]
 #[tactic(auto, unfolding(m36_model::specs::Store::changes))]
-fn pair_read(walk: &mut Walk, regs: &Regs, last: &Final, refs: &mut Refs) -> Result<Pair, Fault>
+fn pair_read(
+    walk: &mut Walk,
+    regs: &Regs,
+    last: &Final,
+    refs: &mut Refs,
+) -> Result<(Pair, u8), Fault>
     requires dbr { walk.old.dbr ≡ regs.now.dbr }
     requires room { length refs.old.items < 40 }
     ensures serves { ServesRead regs.now (plain last.now) 2 walk.old refs.old.items walk.new.core
-        refs.new.items (ok_map pair_words result) }
+        refs.new.items (ok_map (λ r. pair_words r.0) result) }
+    ensures ring { IfOk result (λ r. r.1 ≡ (sdw_in walk.old last.now.at.seg).r1) }
+    ensures bound { IfOk result (λ r. r.1 < 2 ^ 3) }
     ensures dbr { walk.new.dbr ≡ walk.old.dbr }
     ensures len { length walk.new.core ≡ length walk.old.core }
 {
     let at = final_at(last);
     match walk.operand_pair(at, procedure_segment(regs), &None) {
-        Ok((pair, _)) => {
+        Ok(read) => {
             complete(refs, Kind::Read, at, 2);
-            Ok(pair)
+            Ok(read)
         }
         Err(fault) => Err(fault),
     }
@@ -67,6 +75,80 @@ fn pair_held(walk: &mut Walk, regs: &Regs, last: &Final, refs: &mut Refs) -> Res
     }
 }
 
+/// RTCD, or another instruction that reads a pair.
+#[inline(always)]
+fn returned(
+    walk: &mut Walk,
+    regs: &mut Regs,
+    word: Word,
+    row: &Row,
+    last: &Final,
+    told: &mut StepRecord,
+)
+    requires dbr { walk.old.dbr ≡ regs.old.dbr }
+    requires row { IsRow row.now }
+    requires kind { row.now.operand ≡ kind.R2 }
+    requires room { length told.old.refs.items ≤ 38 }
+    ensures ends { EndsFormed regs.old
+        (operated row.now.effect row.now.reg regs.old word (chain_end_fields (plain last.now)))
+        walk.old.core (plain last.now) told.old.refs.items walk.new.core told.new.refs.items
+        regs.new (ended_of told.new) }
+    ensures ppr { told.new.ppr ≡ told.old.ppr }
+    ensures dbr { walk.new.dbr ≡ regs.new.dbr }
+{
+    let place = regs.here();
+    match row.effect {
+        Effect::Rtcd => match last.direct {
+            Some(_) => operated_else(walk, regs, word, row, last, told),
+            None => match pair_read(walk, regs, last, &mut told.refs) {
+                Ok((pair, ring)) => {
+                    m36_xfer::leave(regs, last, pair, ring);
+                    tell_done(told, place, word, last, regs, false);
+                }
+                Err(fault) => tell_refused(told, word, last, fault),
+            },
+        },
+        _ => operated_else(walk, regs, word, row, last, told),
+    }
+}
+
+/// CALL6.
+#[inline(always)]
+pub(crate) fn called(
+    walk: &mut Walk,
+    regs: &mut Regs,
+    word: Word,
+    row: &Row,
+    last: &Final,
+    told: &mut StepRecord,
+)
+    requires dbr { walk.old.dbr ≡ regs.old.dbr }
+    requires row { IsRow row.now }
+    requires kind { row.now.operand ≡ kind.Call6 }
+    requires room { length told.old.refs.items ≤ 38 }
+    ensures ends { EndsFormed regs.old
+        (operated row.now.effect row.now.reg regs.old word (chain_end_fields (plain last.now)))
+        walk.old.core (plain last.now) told.old.refs.items walk.new.core told.new.refs.items
+        regs.new (ended_of told.new) }
+    ensures ppr { told.new.ppr ≡ told.old.ppr }
+    ensures dbr { walk.new.dbr ≡ regs.new.dbr }
+{
+    let place = regs.here();
+    match row.effect {
+        Effect::Call6 => match last.direct {
+            Some(_) => operated_else(walk, regs, word, row, last, told),
+            None => match walk.call(final_at(last), regs.ppr) {
+                Ok(ring) => {
+                    m36_xfer::enter(regs, last, ring);
+                    tell_done(told, place, word, last, regs, false);
+                }
+                Err(fault) => tell_refused(told, word, last, fault),
+            },
+        },
+        _ => operated_else(walk, regs, word, row, last, told),
+    }
+}
+
 /// An instruction that reads a pair.
 #[inline(always)]
 pub(crate) fn pair_operand(
@@ -89,13 +171,13 @@ pub(crate) fn pair_operand(
     ensures dbr { walk.new.dbr ≡ regs.new.dbr }
 {
     if !m36_frequent::reads_pair(row.effect) {
-        return operated_else(walk, regs, word, row, last, told);
+        return returned(walk, regs, word, row, last, told);
     }
     let place = regs.here();
     match last.direct {
         Some(_) => operated_else(walk, regs, word, row, last, told),
         None => match pair_read(walk, regs, last, &mut told.refs) {
-            Ok(operand) => {
+            Ok((operand, _)) => {
                 let overflow = m36_frequent::read_pair(row, regs, operand);
                 tell_done(told, place, word, last, regs, overflow);
             }

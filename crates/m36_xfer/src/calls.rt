@@ -1,6 +1,6 @@
 //! Call and return, which alone change the ring of execution.
 
-ghost use Rattle.std.specs.Prelude.{◌≡◌, ◌<◌, ◌^◌, Ok, IsTrue, map};
+ghost use Rattle.std.specs.Prelude.{◌≡◌, ◌<◌, ◌^◌, Ok, IsTrue, map, max};
 ghost use Rattle.m36_model.specs.OperandHeld.{is_pair};
 ghost use Rattle.m36_model.specs.Results.{effect_fields, operand_fields};
 ghost use Rattle.m36_model.specs.CallReturn.{call, return_to, stack_segment, stack_pointer};
@@ -30,7 +30,8 @@ pub fn call(regs: &Regs, f: &Final, ring: u8) -> Effect36
 }
 
 /// The base of the stack for a call into a ring.
-fn stack_pointer(regs: &Regs, ring: u8) -> Ptr
+#[inline(always)]
+pub(crate) fn stack_pointer(regs: &Regs, ring: u8) -> Ptr
     requires { ring < 2 ^ 3 }
     ensures { result ≡ stack_pointer regs.now ring }
 {
@@ -43,6 +44,7 @@ fn stack_pointer(regs: &Regs, ring: u8) -> Ptr
 }
 
 /// Where the ring stays, the caller's stack goes on; else it is the stack that the DBR gives to the new ring.
+#[inline(always)]
 fn stack_segment(regs: &Regs, ring: u8) -> u16
     requires { ring < 2 ^ 3 }
     ensures value { result ≡ stack_segment regs.now ring }
@@ -82,12 +84,23 @@ fn return_ring(its: &Its, f: &Final, operand: &Operand36) -> u8
     ensures value { result ≡ return_ring its.now f.now (operand_fields operand.now) }
     ensures bound { result < 2 ^ 3 }
 {
+    greatest_ring(its, f, operand.ring)
+}
+
+/// The same, by the first bracket of the pair's segment.
+#[inline(always)]
+pub(crate) fn greatest_ring(its: &Its, f: &Final, segment_ring: u8) -> u8
+    requires { segment_ring < 2 ^ 3 }
+    ensures value { result ≡ max (max f.now.at.ring segment_ring) its.now.ring }
+    ensures bound { result < 2 ^ 3 }
+{
     let at = f.at;
-    at.ring.max(operand.ring).max(its.ring)
+    at.ring.max(segment_ring).max(its.ring)
 }
 
 /// The pointers in another ring.
-fn all_in_ring(pointers: &[Ptr; 8], ring: u8) -> [Ptr; 8]
+#[inline(always)]
+pub(crate) fn all_in_ring(pointers: &[Ptr; 8], ring: u8) -> [Ptr; 8]
     requires { ring < 2 ^ 3 }
     ensures { result ≡ map (pointer_in_ring ring) pointers.now }
 {

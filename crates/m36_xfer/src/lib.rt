@@ -7,8 +7,8 @@
 //! the descriptor segment base register, ABSA puts a place in core into A, and CAMS and CAMP do nothing that can be
 //! seen.
 //!
-//! [`exec`] gives exactly the effect that the instruction's equations say; [`transfer`] does the commonest in the registers as they
-//! are.
+//! [`exec`] gives exactly the effect that the instruction's equations say; [`transfer`], [`enter`] (CALL6) and [`leave`]
+//! (RTCD) do the commonest in the registers as they are.
 //!
 //! Source: Multics Processor Manual AL39, "Transfer of control instructions", "Call (using PR6 and PR7)", "Return
 //! control double", "No operation" and "Privileged instructions"; for calls and returns, Schroeder and Saltzer (1972).
@@ -17,8 +17,10 @@
 mod calls;
 mod execute;
 mod privileged;
+mod rings;
 mod transfers;
 
 pub use execute::exec;
 pub use privileged::is_absa;
+pub use rings::{enter, leave};
 pub use transfers::{is_taken, is_transfer, transfer};

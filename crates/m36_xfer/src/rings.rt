@@ -1,0 +1,48 @@
+//! Call and return, done in the registers as they are.
+
+ghost use Rattle.std.specs.Prelude.{ℕ, ◌≡◌, ◌<◌, ◌^◌, [], ◌∷◌, false, Ok};
+ghost use Rattle.m36_inst.specs.declared.effect.Effect.TheVariants as effect;
+ghost use Rattle.m36_model.specs.Effect.{exec};
+
+use crate::calls::{all_in_ring, greatest_ring, stack_pointer};
+use m36_desc::Its;
+use m36_model::{Final, Regs};
+use m36_word::Pair;
+
+/// CALL6, done in the registers: control goes to the final address in the new ring, with the base of a stack of that
+/// ring in PR7.
+#[inline(always)]
+#[tactic(auto, unfolding(m36_model::specs::Effect::exec, m36_model::specs::CallReturn::call, m36_model::specs::Pointers::with_pr))]
+pub fn enter(regs: &mut Regs, f: &Final, ring: u8)
+    requires { ring < 2 ^ 3 }
+    ensures value { (n : ℕ)
+        → Ok (record { regs = regs.new; put = []; overflow = false })
+        ≡ exec effect.Call6 n regs.old f.now (record { got = []; ring = ring; place = 0 }) }
+    ensures dbr { regs.new.dbr ≡ regs.old.dbr }
+{
+    let at = f.at;
+    regs.pr[7] = stack_pointer(regs, ring);
+    regs.ppr.ic = at.word;
+    regs.ppr.psr = at.seg;
+    regs.ppr.prr = ring;
+}
+
+/// RTCD, done in the registers: control goes to the pointer of a pair, and no pointer register keeps another ring than
+/// the new one. `segment_ring` is the first ring bracket of the pair's segment.
+#[inline(always)]
+#[tactic(auto, unfolding(m36_model::specs::Effect::exec, m36_model::specs::CallReturn::return_to))]
+pub fn leave(regs: &mut Regs, f: &Final, pair: Pair, segment_ring: u8)
+    requires { segment_ring < 2 ^ 3 }
+    ensures value { (n : ℕ)
+        → Ok (record { regs = regs.new; put = []; overflow = false })
+        ≡ exec effect.Rtcd n regs.old f.now
+        (record { got = pair.even ∷ pair.odd ∷ []; ring = segment_ring; place = 0 }) }
+    ensures dbr { regs.new.dbr ≡ regs.old.dbr }
+{
+    let its = Its::of_words(pair);
+    let ring = greatest_ring(&its, f, segment_ring);
+    regs.pr = all_in_ring(&regs.pr, ring);
+    regs.ppr.ic = its.word;
+    regs.ppr.psr = its.seg;
+    regs.ppr.prr = ring;
+}
