@@ -1,6 +1,6 @@
 //! The audit of a booted system, and its run.
 
-ghost use Rattle.std.specs.Prelude.{◌≡◌, ◌||◌, Some, IfOk};
+ghost use Rattle.std.specs.Prelude.{◌≡◌, ◌||◌, IfOk};
 ghost use Rattle.m36_model.specs.Audit.{AreFindings};
 ghost use Rattle.m36_audit.specs.Findings.{pairs};
 ghost use Rattle.m36_super.specs.declared.coming.Coming.TheVariants.{Step};
@@ -9,7 +9,6 @@ ghost use Rattle.m36_ran.specs.Ran.{passes};
 ghost use Rattle.m36_reading.specs.Ends.{end_of};
 ghost use Rattle.m36_reading.specs.Outside.{sink_of, outside_of};
 ghost use Rattle.m36_reading.specs.Doing.{Does};
-ghost use Rattle.m36_booted.specs.RunText.{end_status, finish_status};
 ghost use Rattle.m36_booted.specs.Folder.{folder_reads};
 ghost use Rattle.m36_booted.specs.Booted.{IsRunAnswer, IsAuditAnswer, IsRunBy, IsAnswerOf};
 ghost use Rattle.m36_booted.specs.Booted.{IsFolderAnswer, folder_kind};
@@ -17,11 +16,11 @@ ghost use Rattle.m36_booted.specs.Putting.{Puts};
 ghost use Rattle.m36_booted.specs.Systems.{IsFresh};
 
 use crate::command::{FolderCommand, FolderRun, RunOutput};
+use crate::ending::finish_status;
 use crate::reading::read_system;
-use crate::running::{Finish, Ran, run};
+use crate::running::{Ran, run};
 use m36_acl::{DeniedLines, User};
 use m36_audit::{Finding, Verdict, audit};
-use m36_model::{End, Stop};
 use m36_outside::{Folder, Put, Sink};
 use m36_ran::answering::answer_audit;
 use m36_ran::findings::put_audit;
@@ -30,29 +29,6 @@ use m36_step::Stepper;
 use m36_super::Super;
 use m36_word::NoMemory;
 use std::alloc::Global;
-
-// The status by how a run has ended.
-fn end_status(end: End) -> Status
-    ensures { result ≡ end_status end }
-{
-    match end {
-        End::Fault(fault) => Status::MachineStop(End::Fault(fault)),
-        End::Stop(Stop::Dis) => Status::Done,
-        End::Stop(stop) => Status::MachineStop(End::Stop(stop)),
-        End::Link(code) => Status::MachineStop(End::Link(code)),
-        End::Console => Status::MachineStop(End::Console),
-    }
-}
-
-// The status of a run that has come to its end.
-fn finish_status(how: Finish) -> Status
-    ensures { result ≡ finish_status (Some how) }
-{
-    match how {
-        Finish::Over(end) => end_status(end),
-        Finish::Limit => Status::Steps,
-    }
-}
 
 // Puts the audit text, and then runs the system.
 #[tactic(auto, using(crate::proofs::FolderAnswers::runs))]
@@ -147,8 +123,8 @@ fn answer_found<S: Sink>(
     }
 }
 
-// The audit of the core of a booted system.
-fn audited(alloc: Global, system: &Super) -> Result<Verdict, NoMemory>
+/// The audit of the core of a booted system.
+pub fn audited(alloc: Global, system: &Super) -> Result<Verdict, NoMemory>
     ensures { IfOk result
         (λ v. AreFindings system.now.core system.now.regs.dbr (pairs v.findings.items)) }
 {

@@ -10,15 +10,16 @@ ghost use Rattle.m36_booted.specs.RunText.{denied_pieces, end_pieces};
 ghost use Rattle.m36_booted.specs.RunSays.{PutsPieces, AddsPieces, block_of};
 
 use crate::command::RunOutput;
+use crate::ending::finish_line;
 use crate::running::Finish;
 use arrayvec::{ArrayString, ArrayVec};
 use m36_acl::DeniedLines;
-use m36_model::{End, Fault, Outcome, StepRecord};
+use m36_model::{End, Fault, StepRecord};
 use m36_outside::{Block, Put, Sink};
 use m36_ran::running::add_line;
 use m36_step::{ConsoleNote, LinkNote};
-use m36_trace::{end_line, line};
-use m36_turns::{console_line, link_line, run_end_line};
+use m36_trace::line;
+use m36_turns::{console_line, link_line};
 
 // The number of the first segment of a catalog.
 const FIRST_SEGMENT: u16 = 64;
@@ -127,17 +128,6 @@ pub(crate) fn add_printed<S: Sink>(
     match output {
         RunOutput::Console => add_characters(note, block, out),
         RunOutput::Trace => add_bytes(console_line(note), block, out),
-    }
-}
-
-// The end line of a run of so many steps.
-fn finish_line(how: Finish, steps: u32) -> ArrayString<160>
-    ensures text { result.bytes ≡ finish_line how steps }
-    ensures len { length result.bytes < 160 }
-{
-    match how {
-        Finish::Over(end) => run_end_line(end, steps as u64),
-        Finish::Limit => end_line(Outcome::Next, steps as u64),
     }
 }
 

@@ -13,7 +13,6 @@
 //! that of the Multics Processor Manual AL39; sources, files and lines are this simulator's own.
 #![tactic(auto)]
 
-pub mod ending;
 pub mod folder;
 pub mod making;
 pub mod objects;

@@ -3,9 +3,8 @@
 ghost use Rattle.std.specs.Prelude.{◌≡◌, ◌-◌, ◌<◌, ◌≤◌, ◌^◌, nat_lt, length, Ok, IfOk};
 ghost use Rattle.alm_asm.specs.Assembly.{assembled};
 ghost use Rattle.m36_outside.specs.ReadAnswer.{file_limit};
-ghost use Rattle.m36_reading.specs.Asking.{Gives, Refuses};
+ghost use Rattle.m36_reading.specs.Asking.{Gives};
 ghost use Rattle.m36_told.specs.Assemblies.{with_parts, assembly_of};
-ghost use Rattle.m36_told.specs.Telling.{source_refused};
 ghost use Rattle.m36_made.specs.Making.{object_name, object_by, object_of, with_objects, ObjectSays};
 
 use crate::sets::Sets;
@@ -13,8 +12,9 @@ use alm_asm::assemble;
 use alm_parse::{AlmFault, Lines36, parse};
 use m36_gen::File;
 use m36_outside::{FILE_LIMIT, Text};
-use m36_reading::{Code, Refusal, Set, refuse, refuse_at};
+use m36_reading::{Code, Refusal, Set, refuse};
 use m36_text::{Name, pack};
+use m36_told::refuse_source;
 use std::alloc::Global;
 
 // The name of the object of a source.
@@ -52,23 +52,6 @@ fn content_of(alloc: Global, source: &[u8]) -> Result<Text, AlmFault>
     match parse(alloc, source) {
         Ok(lines) => content_with(alloc, &lines),
         Err(fault) => Err(fault),
-    }
-}
-
-// E1 to E8: a source that is refused, at a line and a column.
-fn refuse_source(alloc: Global, name: &[u8], fault: AlmFault) -> Refusal
-    ensures { Refuses result (source_refused name.now fault) }
-{
-    match fault {
-        AlmFault::E1(line, column) => refuse_at(alloc, name, Code::E1, line, column),
-        AlmFault::E2(line, column) => refuse_at(alloc, name, Code::E2, line, column),
-        AlmFault::E3(line, column) => refuse_at(alloc, name, Code::E3, line, column),
-        AlmFault::E4(line, column) => refuse_at(alloc, name, Code::E4, line, column),
-        AlmFault::E5(line, column) => refuse_at(alloc, name, Code::E5, line, column),
-        AlmFault::E6(line, column) => refuse_at(alloc, name, Code::E6, line, column),
-        AlmFault::E7(line, column) => refuse_at(alloc, name, Code::E7, line, column),
-        AlmFault::E8(line, column) => refuse_at(alloc, name, Code::E8, line, column),
-        AlmFault::NoMemory => Refusal::NoMemory,
     }
 }
 

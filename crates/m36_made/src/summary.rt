@@ -1,7 +1,6 @@
 //! What is told of the folder that was made.
 
-ghost use Rattle.std.specs.Prelude.{ℕ, ◌≡◌, ◌≤◌, ◌<◌, [], ◌∷◌, Some, length, slice_index, IfOk};
-ghost use Rattle.m36_model.specs.Audit.{AreFindings};
+ghost use Rattle.std.specs.Prelude.{ℕ, ◌≡◌, ◌≤◌, ◌<◌, [], ◌∷◌, Some, length, slice_index};
 ghost use Rattle.m36_super.specs.declared.coming.Coming.TheVariants.{Step};
 ghost use Rattle.m36_super.specs.SuperFields.{booted_of};
 ghost use Rattle.m36_audit.specs.Findings.{pairs};
@@ -16,11 +15,11 @@ ghost use Rattle.m36_made.specs.Putting.{PutsAll, EndSays};
 ghost use Rattle.m36_made.specs.Summary.{run_limit, segments_line, sum_line, head_pieces, end_pieces};
 ghost use Rattle.m36_made.specs.Summary.{IsRunAnswer, IsUnrunAnswer, IsFoundAnswer, IsSummary};
 
-use crate::ending::{finish_line, finish_status};
 use crate::running::{Ran, run};
 use arrayvec::ArrayString;
-use m36_audit::{Finding, Verdict, audit};
+use m36_audit::Finding;
 use m36_booted::running::Finish;
+use m36_booted::{audited, finish_line, finish_status};
 use m36_model::Regs;
 use m36_outside::{Put, Sink};
 use m36_ran::findings::put_audit;
@@ -29,7 +28,6 @@ use m36_reading::Status;
 use m36_step::Stepper;
 use m36_super::Super;
 use m36_text::{decimal, octal};
-use m36_word::NoMemory;
 use std::alloc::Global;
 
 /// The most steps of the run.
@@ -164,15 +162,6 @@ fn answer_found<S: Sink>(
     } else {
         answer_unrun(count, findings, out)
     }
-}
-
-// The audit of the core of a booted system.
-fn audited(alloc: Global, system: &Super) -> Result<Verdict, NoMemory>
-    ensures { IfOk result
-        (λ v. AreFindings system.now.core system.now.regs.dbr (pairs v.findings.items)) }
-{
-    let regs = system.regs();
-    audit(alloc, system.core(), regs.dbr)
 }
 
 /// Audits a booted system, runs it where nothing is found, and tells of it.

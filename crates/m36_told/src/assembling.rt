@@ -28,8 +28,8 @@ pub struct AlmFiles {
     pub object: Name,
 }
 
-// E1 to E8: a source that is refused, at a line and a column.
-fn refuse_source(alloc: Global, name: &[u8], fault: AlmFault) -> Refusal
+/// E1 to E8: a source that is refused, at a line and a column.
+pub fn refuse_source(alloc: Global, name: &[u8], fault: AlmFault) -> Refusal
     ensures { Refuses result (source_refused name.now fault) }
 {
     match fault {

@@ -18,7 +18,7 @@ pub mod printing;
 pub mod telling;
 
 pub use accesses::access_user;
-pub use assembling::{AlmFiles, alm_file};
+pub use assembling::{AlmFiles, alm_file, refuse_source};
 pub use binding::{BindFiles, bind_file};
 pub use printing::print_file;
 pub use telling::{Told, tell};

@@ -3,8 +3,8 @@
 ghost use Rattle.std.specs.Prelude.{◌≡◌, ◌<◌, length, Some};
 ghost use Rattle.m36_booted.specs.RunText.{finish_line, end_status, finish_status};
 
+use crate::running::Finish;
 use arrayvec::ArrayString;
-use m36_booted::running::Finish;
 use m36_model::{End, Outcome, Stop};
 use m36_reading::Status;
 use m36_trace::end_line;
@@ -21,6 +21,7 @@ pub fn finish_line(how: Finish, steps: u32) -> ArrayString<160>
     }
 }
 
+// The status by how a run has ended.
 fn end_status(end: End) -> Status
     ensures { result ≡ end_status end }
 {
