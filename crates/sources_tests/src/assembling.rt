@@ -3,7 +3,7 @@
 use alm_asm::assemble;
 use alm_parse::{AlmFault, parse};
 use m36_word::Word;
-use obj36::Object;
+use obj36::{Named, Object, Reloc};
 use std::alloc::{AllocError, Global};
 use std::test::Fail;
 
@@ -17,22 +17,12 @@ fn object_of(alloc: Global, source: &[u8]) -> Result<Object, AlmFault> {
 }
 
 fn are(words: &[Word], expected: &[u64]) -> bool {
-    if words.len() != expected.len() {
-        return false;
-    }
-    let mut rest = expected;
-    for word in words {
-        match rest {
-            [first, others @ ..] => {
-                if word.value() != *first {
-                    return false;
-                }
-                rest = others;
-            }
-            [] => return false,
+    for (word, number) in words.iter().zip(expected) {
+        if word.value() != *number {
+            return false;
         }
     }
-    true
+    words.len() == expected.len()
 }
 
 // Whether the text of a source's object is this.
@@ -50,78 +40,91 @@ fn makes(alloc: Global, source: &[u8], expected: &[u64]) -> Result<bool, Fail> {
     Ok(are(words.slice(), expected))
 }
 
+/// Sources, and the whole object of each.
+const OBJECTS: &[(&[u8], &[u64])] = &[
+    (
+        b"",
+        &[
+            0, 0, 0, 0o10000000, 0, 0, 0, 0, 0, 0, 0, 1, 0, 2, 0o2000010, 0o12000001, 0, 0o13000000,
+        ],
+    ),
+    (
+        b" use static\ncnt: dec 5\n",
+        &[
+            0, 0, 0, 0o10000000, 0, 0, 0, 0, 0, 0, 5, 0, 2, 0, 2, 0o2000010, 0o12000001,
+            0o13000001, 0, 0o14000000,
+        ],
+    ),
+];
+
 #[test]
 fn objects(rt: HostRuntime) -> Result<(), Fail> {
-    let empty = [
-        0, 0, 0, 0o10000000, 0, 0, 0, 0, 0, 0, 0, 1, 0, 2, 0o2000010, 0o12000001, 0, 0o13000000,
-    ];
-    assert!(rt; makes(rt.alloc(), b"", &empty)?);
-    let newer = [
-        0, 0, 0, 0o10000000, 0, 0, 0, 0, 0, 0, 5, 0, 2, 0, 2, 0o2000010, 0o12000001, 0o13000001, 0,
-        0o14000000,
-    ];
-    assert!(rt; makes(rt.alloc(), b" use static\ncnt: dec 5\n", &newer)?);
+    for (source, expected) in OBJECTS {
+        assert!(rt; makes(rt.alloc(), source, expected)?, "{source:?}");
+    }
     Ok(())
 }
 
+/// Sources, and the text of the object of each.
+const TEXTS: &[(&[u8], &[u64])] = &[
+    (
+        b" entry start\nstart: epaq 0,ic\n lprp4 pr7|22,*au\n epp2 msg\n lda 6,dl\n stcd pr6|20\n call6 con_$write\n call6 con_$stop\nmsg: aci \"hell\"\n oct 157012000000\n",
+        &[
+            0o000000213004,
+            0o700026764161,
+            0o000007352000,
+            0o000006235007,
+            0o600024357100,
+            0o400010713120,
+            0o400012713120,
+            0o150145154154,
+            0o157012000000,
+        ],
+    ),
+    (
+        b" entry write,stop\nwrite: tra wr\nstop: dis 0\n entrybound\nwr: mme 0\n rtcd pr6|20\n",
+        &[
+            0o000002710000,
+            0o000000616000,
+            0o000000001000,
+            0o600024610100,
+        ],
+    ),
+    (
+        b" use link\ncnt: dec 5\n use text\n entry go\ngo: aos pr4|cnt\n lda b$x\n",
+        &[0o400010054100, 0o400012235120],
+    ),
+    (b" lda pr6|5,*\n", &[0o600005235120]),
+    (b" equ top,262143\n lda top\n", &[0o777777235000]),
+    (
+        b" lda a$b\n lda a$b\n ldq *text$+5,x1\n lda a$b+1\n",
+        &[
+            0o400010235120,
+            0o400010235120,
+            0o400012236120,
+            0o400014235120,
+        ],
+    ),
+    (
+        b" lda\na: even\n bss b,2\n zero b-a,-1\n lda -1,dl\n lda pr0|-1\n lda *\n",
+        &[
+            0o000000235000,
+            0,
+            0,
+            0,
+            0o000001777777,
+            0o777777235007,
+            0o077777235100,
+            0o000007235000,
+        ],
+    ),
+    (b" epp1 d_$+9\n", &[0o400010351520]),
+    (b" lda x\nx: end\n lda x\n", &[0o000001235000]),
+];
+
 #[test]
 fn texts(rt: HostRuntime) -> Result<(), Fail> {
-    let cases: [(&[u8], &[u64]); 9] = [
-        (
-            b" entry start\nstart: epaq 0,ic\n lprp4 pr7|22,*au\n epp2 msg\n lda 6,dl\n stcd pr6|20\n call6 con_$write\n call6 con_$stop\nmsg: aci \"hell\"\n oct 157012000000\n",
-            &[
-                0o000000213004,
-                0o700026764161,
-                0o000007352000,
-                0o000006235007,
-                0o600024357100,
-                0o400010713120,
-                0o400012713120,
-                0o150145154154,
-                0o157012000000,
-            ],
-        ),
-        (
-            b" entry write,stop\nwrite: tra wr\nstop: dis 0\n entrybound\nwr: mme 0\n rtcd pr6|20\n",
-            &[
-                0o000002710000,
-                0o000000616000,
-                0o000000001000,
-                0o600024610100,
-            ],
-        ),
-        (
-            b" use link\ncnt: dec 5\n use text\n entry go\ngo: aos pr4|cnt\n lda b$x\n",
-            &[0o400010054100, 0o400012235120],
-        ),
-        (b" lda pr6|5,*\n", &[0o600005235120]),
-        (b" equ top,262143\n lda top\n", &[0o777777235000]),
-        (
-            b" lda a$b\n lda a$b\n ldq *text$+5,x1\n lda a$b+1\n",
-            &[
-                0o400010235120,
-                0o400010235120,
-                0o400012236120,
-                0o400014235120,
-            ],
-        ),
-        (
-            b" lda\na: even\n bss b,2\n zero b-a,-1\n lda -1,dl\n lda pr0|-1\n lda *\n",
-            &[
-                0o000000235000,
-                0,
-                0,
-                0,
-                0o000001777777,
-                0o777777235007,
-                0o077777235100,
-                0o000007235000,
-            ],
-        ),
-        (b" epp1 d_$+9\n", &[0o400010351520]),
-        (b" lda x\nx: end\n lda x\n", &[0o000001235000]),
-    ];
-    for (source, expected) in cases {
+    for (source, expected) in TEXTS {
         assert!(rt; places(rt.alloc(), source, expected)?, "{source:?}");
     }
     Ok(())
@@ -135,78 +138,80 @@ fn refuses(alloc: Global, source: &[u8], fault: AlmFault) -> bool {
     }
 }
 
+/// Sources that are refused, and the fault of each.
+const REFUSED: &[(&[u8], AlmFault)] = &[
+    (b"a: nop 0\na: nop 0\n", AlmFault::E5(2, 1)),
+    (b" entry a,a\na: nop 0\n", AlmFault::E5(1, 10)),
+    (b"a: bss a,2\n", AlmFault::E5(1, 8)),
+    (b" equ a,1\na: nop 0\n", AlmFault::E5(2, 1)),
+    (b" entry a\n segdef a\na: nop 0\n", AlmFault::E5(2, 9)),
+    (b" lda b\n", AlmFault::E6(1, 6)),
+    (b" equ a,b\nb: nop 0\n", AlmFault::E6(1, 8)),
+    (b" lda 1+b-c\n", AlmFault::E6(1, 8)),
+    (b" lda pr0|big-20000\n equ big,b\n", AlmFault::E6(2, 10)),
+    (
+        b" equ big,b\n equ a,big-200000\n lda pr0|a+20000\n",
+        AlmFault::E6(1, 10),
+    ),
+    (
+        b" lda a$b+big-200000\n equ big,200000+100000\n",
+        AlmFault::E7(2, 10),
+    ),
+    (
+        b" zero big-200000,0-200000\n equ big,b\n",
+        AlmFault::E7(1, 18),
+    ),
+    (b" entry x\n", AlmFault::E6(1, 8)),
+    (b" zero 0,b\n", AlmFault::E6(1, 9)),
+    (b" lda a$b-5+x\n", AlmFault::E6(1, 12)),
+    (b" lda b\na: nop 0\na: nop 0\n", AlmFault::E6(1, 6)),
+    (b" lda -131072-1\n", AlmFault::E7(1, 6)),
+    (b" lda 262143+1\n", AlmFault::E7(1, 6)),
+    (b" lda pr1|16384\n", AlmFault::E7(1, 10)),
+    (b" lda pr1|-16385\n", AlmFault::E7(1, 10)),
+    (b"a: nop 0\nb: nop 0\n lda a+b\n", AlmFault::E7(3, 6)),
+    (b"a: nop 0\n lda -a\n", AlmFault::E7(2, 6)),
+    (b" use link\n lda 5\n", AlmFault::E7(2, 2)),
+    (b" use static\n lda 5\n", AlmFault::E7(2, 2)),
+    (b" use link\n use static\n", AlmFault::E7(2, 2)),
+    (b" use static\n use text\n use link\n", AlmFault::E7(3, 2)),
+    (b" lda *static$\n", AlmFault::E7(1, 6)),
+    (b" equ a,5\n entry a\n", AlmFault::E7(2, 8)),
+    (b" use link\na: dec 1\n entry a\n", AlmFault::E7(3, 8)),
+    (b" segdef a\n equ a,1\n", AlmFault::E7(1, 9)),
+    (b" lda b$+lab\nlab: nop 0\n", AlmFault::E7(1, 9)),
+    (b"lab: nop 0\n equ a,lab\n", AlmFault::E7(2, 8)),
+    (b" equ a,131072+131072\n lda a\n", AlmFault::E7(1, 8)),
+    (b" lda a$b-262143-1\n", AlmFault::E7(1, 10)),
+    (b" bss a,258048\n nop 0\n", AlmFault::E8(2, 1)),
+    (b" use link\n bss a,258041\n", AlmFault::E8(2, 1)),
+    (b" use static\n bss a,258049\n", AlmFault::E8(2, 1)),
+    (
+        b" use link\n bss a,258040\n use text\n lda b$c\n",
+        AlmFault::E8(4, 1),
+    ),
+    (
+        b" use link\n bss a,258040\n use text\n lda b$c+q\n",
+        AlmFault::E6(4, 10),
+    ),
+    (
+        b" use link\n bss a,20000\n use text\n lda b$c\n",
+        AlmFault::E7(4, 6),
+    ),
+    (
+        b" use link\n bss a,20000\n use text\n lda b$c-262143\n",
+        AlmFault::E7(4, 10),
+    ),
+    (
+        b" bss a,258048\n use link\n bss b,258048\n",
+        AlmFault::E8(3, 1),
+    ),
+];
+
 #[test]
 fn refusals(rt: HostRuntime) {
-    let cases: [(&[u8], AlmFault); 42] = [
-        (b"a: nop 0\na: nop 0\n", AlmFault::E5(2, 1)),
-        (b" entry a,a\na: nop 0\n", AlmFault::E5(1, 10)),
-        (b"a: bss a,2\n", AlmFault::E5(1, 8)),
-        (b" equ a,1\na: nop 0\n", AlmFault::E5(2, 1)),
-        (b" entry a\n segdef a\na: nop 0\n", AlmFault::E5(2, 9)),
-        (b" lda b\n", AlmFault::E6(1, 6)),
-        (b" equ a,b\nb: nop 0\n", AlmFault::E6(1, 8)),
-        (b" lda 1+b-c\n", AlmFault::E6(1, 8)),
-        (b" lda pr0|big-20000\n equ big,b\n", AlmFault::E6(2, 10)),
-        (
-            b" equ big,b\n equ a,big-200000\n lda pr0|a+20000\n",
-            AlmFault::E6(1, 10),
-        ),
-        (
-            b" lda a$b+big-200000\n equ big,200000+100000\n",
-            AlmFault::E7(2, 10),
-        ),
-        (
-            b" zero big-200000,0-200000\n equ big,b\n",
-            AlmFault::E7(1, 18),
-        ),
-        (b" entry x\n", AlmFault::E6(1, 8)),
-        (b" zero 0,b\n", AlmFault::E6(1, 9)),
-        (b" lda a$b-5+x\n", AlmFault::E6(1, 12)),
-        (b" lda b\na: nop 0\na: nop 0\n", AlmFault::E6(1, 6)),
-        (b" lda -131072-1\n", AlmFault::E7(1, 6)),
-        (b" lda 262143+1\n", AlmFault::E7(1, 6)),
-        (b" lda pr1|16384\n", AlmFault::E7(1, 10)),
-        (b" lda pr1|-16385\n", AlmFault::E7(1, 10)),
-        (b"a: nop 0\nb: nop 0\n lda a+b\n", AlmFault::E7(3, 6)),
-        (b"a: nop 0\n lda -a\n", AlmFault::E7(2, 6)),
-        (b" use link\n lda 5\n", AlmFault::E7(2, 2)),
-        (b" use static\n lda 5\n", AlmFault::E7(2, 2)),
-        (b" use link\n use static\n", AlmFault::E7(2, 2)),
-        (b" use static\n use text\n use link\n", AlmFault::E7(3, 2)),
-        (b" lda *static$\n", AlmFault::E7(1, 6)),
-        (b" equ a,5\n entry a\n", AlmFault::E7(2, 8)),
-        (b" use link\na: dec 1\n entry a\n", AlmFault::E7(3, 8)),
-        (b" segdef a\n equ a,1\n", AlmFault::E7(1, 9)),
-        (b" lda b$+lab\nlab: nop 0\n", AlmFault::E7(1, 9)),
-        (b"lab: nop 0\n equ a,lab\n", AlmFault::E7(2, 8)),
-        (b" equ a,131072+131072\n lda a\n", AlmFault::E7(1, 8)),
-        (b" lda a$b-262143-1\n", AlmFault::E7(1, 10)),
-        (b" bss a,258048\n nop 0\n", AlmFault::E8(2, 1)),
-        (b" use link\n bss a,258041\n", AlmFault::E8(2, 1)),
-        (b" use static\n bss a,258049\n", AlmFault::E8(2, 1)),
-        (
-            b" use link\n bss a,258040\n use text\n lda b$c\n",
-            AlmFault::E8(4, 1),
-        ),
-        (
-            b" use link\n bss a,258040\n use text\n lda b$c+q\n",
-            AlmFault::E6(4, 10),
-        ),
-        (
-            b" use link\n bss a,20000\n use text\n lda b$c\n",
-            AlmFault::E7(4, 6),
-        ),
-        (
-            b" use link\n bss a,20000\n use text\n lda b$c-262143\n",
-            AlmFault::E7(4, 10),
-        ),
-        (
-            b" bss a,258048\n use link\n bss b,258048\n",
-            AlmFault::E8(3, 1),
-        ),
-    ];
-    for (source, fault) in cases {
-        assert!(rt; refuses(rt.alloc(), source, fault), "{source:?}");
+    for (source, fault) in REFUSED {
+        assert!(rt; refuses(rt.alloc(), source, *fault), "{source:?}");
     }
 }
 
@@ -227,34 +232,43 @@ fn sums_on_a_refused_one(rt: HostRuntime) -> Result<(), Fail> {
     Ok(())
 }
 
+const PARTS: &[u8] =
+    b" segdef c,b\n entry a\na: zero a,c+5\nb: lda pr1|a\n entrybound\n lda x$y\n use link\nc: zero 0,b-a\n zero c,0\n dec -1\n";
+
+/// The static words of these parts.
+const STATICS: &[u64] = &[1, 0o10000000, 0o777777777777, 0];
+
+/// The value of each definition, and whether it is an entry.
+const DEFINITIONS: &[(u32, bool)] = &[(8, false), (1, false), (0, true)];
+
+/// The offset of each relocation, and its part.
+const RELOCATIONS: &[(u32, u8)] = &[(0, 0), (0, 1), (1, 2), (2, 2), (9, 0)];
+
+fn are_defined(found: &[Named], expected: &[(u32, bool)]) -> bool {
+    for (Named { def, .. }, (value, is_entry)) in found.iter().zip(expected) {
+        if def.value != *value || def.is_entry != *is_entry {
+            return false;
+        }
+    }
+    found.len() == expected.len()
+}
+
+fn are_marked(found: &[Reloc], expected: &[(u32, u8)]) -> bool {
+    for (mark, (offset, part)) in found.iter().zip(expected) {
+        if mark.offset != *offset || mark.part != *part {
+            return false;
+        }
+    }
+    found.len() == expected.len()
+}
+
 #[test]
 fn parts(rt: HostRuntime) -> Result<(), Fail> {
-    let source =
-        b" segdef c,b\n entry a\na: zero a,c+5\nb: lda pr1|a\n entrybound\n lda x$y\n use link\nc: zero 0,b-a\n zero c,0\n dec -1\n";
-    let object = object_of(rt.alloc(), source)?;
+    let object = object_of(rt.alloc(), PARTS)?;
     let parts = object.parts();
-    assert_eq!(rt; parts.entry_bound, 2);
-    assert_eq!(rt; parts.version, 1);
-    assert!(rt; are(parts.statics.slice(), &[1, 0o10000000, 0o777777777777, 0]));
-    let mut defined = parts.definitions.items();
-    for (value, is_entry) in [(8, false), (1, false), (0, true)] {
-        let [definition, more @ ..] = defined else {
-            return Ok(assert!(rt; false, "too few definitions"));
-        };
-        assert_eq!(rt; definition.def.value, value);
-        assert_eq!(rt; definition.def.is_entry, is_entry);
-        defined = more;
-    }
-    assert_eq!(rt; defined.len(), 0);
-    let mut marks = parts.relocations.items();
-    for (offset, part) in [(0, 0), (0, 1), (1, 2), (2, 2), (9, 0)] {
-        let [mark, more @ ..] = marks else {
-            return Ok(assert!(rt; false, "too few relocations"));
-        };
-        assert_eq!(rt; mark.offset, offset);
-        assert_eq!(rt; mark.part, part);
-        marks = more;
-    }
-    assert_eq!(rt; marks.len(), 0);
+    assert_eq!(rt; (parts.entry_bound, parts.version), (2, 1));
+    assert!(rt; are(parts.statics.slice(), STATICS));
+    assert!(rt; are_defined(parts.definitions.items(), DEFINITIONS));
+    assert!(rt; are_marked(parts.relocations.items(), RELOCATIONS));
     Ok(())
 }

@@ -6,19 +6,21 @@ use alm_tokens::{Parter, Piece, Span};
 use m36_word::NoMemory;
 use std::alloc::Global;
 
+/// Modifiers, and the tag of each.
+const MODIFIERS: &[(&[u8], Option<u8>)] = &[
+    (b"n", Some(0)),
+    (b"7", Some(0o17)),
+    (b"x7*", Some(0o37)),
+    (b"*n", Some(0o60)),
+    (b"id", Some(0o56)),
+    (b"x8", None),
+    (b"", None),
+];
+
 #[test]
 fn modifiers(rt: HostRuntime) {
-    let cases: [(&[u8], Option<u8>); 7] = [
-        (b"n", Some(0)),
-        (b"7", Some(0o17)),
-        (b"x7*", Some(0o37)),
-        (b"*n", Some(0o60)),
-        (b"id", Some(0o56)),
-        (b"x8", None),
-        (b"", None),
-    ];
-    for (text, tag) in cases {
-        assert!(rt; tag_of(text) == tag, "{text:?}");
+    for (text, tag) in MODIFIERS {
+        assert!(rt; tag_of(text) == *tag, "{text:?}");
     }
 }
 
@@ -35,16 +37,18 @@ fn count(alloc: Global, parter: Parter, text: &[u8]) -> Result<usize, NoMemory> 
     Ok(pieces.items().len())
 }
 
+/// Texts, and how many pieces each has.
+const PIECES: &[(Parter, &[u8], usize)] = &[
+    (Parter::Comma, b"a,b", 2),
+    (Parter::Comma, b"", 1),
+    (Parter::Sign, b"a+5-x", 3),
+    (Parter::Sign, b"a,b", 1),
+];
+
 #[test]
 fn pieces(rt: HostRuntime) -> Result<(), NoMemory> {
-    let cases: [(Parter, &[u8], usize); 4] = [
-        (Parter::Comma, b"a,b", 2),
-        (Parter::Comma, b"", 1),
-        (Parter::Sign, b"a+5-x", 3),
-        (Parter::Sign, b"a,b", 1),
-    ];
-    for (parter, text, expected) in cases {
-        assert!(rt; count(rt.alloc(), parter, text)? == expected, "{text:?}");
+    for (parter, text, expected) in PIECES {
+        assert!(rt; count(rt.alloc(), *parter, text)? == *expected, "{text:?}");
     }
     Ok(())
 }
