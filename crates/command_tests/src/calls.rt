@@ -1,8 +1,8 @@
 //! Calls over files and output in memory. What is expected was worked out by hand.
 
-use m36_outside::{Folder, MemFolder, MemSink, ReadAnswer, SureLines, Text};
+use crate::memory::{File, folder_of, has_file, run};
+use m36_outside::{MemFolder, MemSink};
 use m36_reading::{Code, Status};
-use m36_top::top::m36;
 use m36_word::NoMemory;
 use std::alloc::Global;
 
@@ -122,7 +122,7 @@ turns 3 0 2
 ";
 
 /// The object of an empty source: 18 words, of which two fill nine bytes.
-const EMPTY: [u8; 81] = [
+const EMPTY: &[u8] = &[
     0, 0, 0, 0, 0, 0, 0, 0, 0, // two words of the definition section
     0, 0, 0, 0, 0, 0, 0x20, 0, 0, // the linkage section: 000000000000 000010000000
     0, 0, 0, 0, 0, 0, 0, 0, 0, //
@@ -142,81 +142,58 @@ symbol 000012 000001
 entrybound 000000
 ";
 
-/// The words of a command.
-type List<'a> = &'a [&'a [u8]];
+/// Commands over a folder with the file `f`: what that has, the number of the status, and what is written.
+const IMAGES: &[(&[u8], &[u8], u8, &[u8])] = &[
+    (b"bare f", LEAST, 0, LEAST_OUTPUT),
+    (b"bare f", PAGED, 0, PAGED_OUTPUT),
+    (b"bare f", LAID, 5, b"audit no A3 00000100\n"),
+    (b"bare f --unaudited", LAID, 6, LAID_OUTPUT),
+    (b"audit f", LEAST, 0, b"audit yes\n"),
+    (b"audit f", LAID, 5, b"audit no A3 00000100\n"),
+    (b"audit f", SHARED_TABLE, 5, b"audit no A2 00000010\n"),
+    (b"audit f", SHARED_PAGE, 5, b"audit no A4 00004000\n"),
+    (b"audit f", SEGMENTS, 5, SEGMENTS_OUTPUT),
+    (b"procs f", LOCK, 0, LOCK_OUTPUT),
+    (b"procs f", LOOSE, 5, b"audit no J3 00000060\n"),
+];
 
-const BARE: List = &[b"bare", b"f"];
-
-const UNAUDITED: List = &[b"bare", b"f", b"--unaudited"];
-
-const AUDIT: List = &[b"audit", b"f"];
-
-const PROCS: List = &[b"procs", b"f"];
-
-const PRINT: List = &[b"print", b"e"];
-
-const ALM: List = &[b"alm", b"e"];
-
-const BIND: List = &[b"bind", b"e"];
-
-/// The numbers of the reads, writes and puts that fail.
-type Failing<'a> = (&'a [u32], &'a [u32], &'a [u32]);
-
-const NO: &[u32] = &[];
-
-const FIRST: &[u32] = &[1];
-
-pub(crate) fn words(alloc: Global, list: &[&[u8]]) -> Result<Vec<Text>, NoMemory> {
-    let mut words = Vec::new(alloc);
-    for word in list {
-        words.push(Text::from_bytes(alloc, word)?)?;
-    }
-    Ok(words)
-}
-
-// What these words come to over a folder with one file.
-fn called(
+// Whether a command comes to this over a folder with one file.
+fn writes(
     alloc: Global,
-    list: List,
-    file: (&[u8], &[u8]),
-    failing: Failing,
-) -> Result<(Status, MemFolder, MemSink), NoMemory> {
-    let mut folder = MemFolder::new(alloc, failing.0, failing.1)?;
-    folder.add(file.0, file.1)?;
-    let mut out = MemSink::new(alloc, 10_000_000, failing.2)?;
-    let words = words(alloc, list)?;
-    let mut lines = SureLines::new(alloc, &[])?;
-    let status = m36(alloc, words.as_slice(), &mut folder, &mut lines, &mut out);
-    Ok((status, folder, out))
+    command: &[u8],
+    file: File,
+    number: u8,
+    output: &[u8],
+) -> Result<bool, NoMemory> {
+    let mut folder = folder_of(alloc, &[file], &[], &[])?;
+    let mut out = MemSink::new(alloc, 10_000_000, &[])?;
+    let status = run(alloc, command, &mut folder, &mut out)?;
+    Ok(status.number() == number && out.bytes() == output)
 }
 
 #[test]
 fn writes_outputs(rt: HostRuntime) -> Result<(), NoMemory> {
-    for (list, file, number, output) in [
-        (BARE, (b"f".as_slice(), LEAST), 0, LEAST_OUTPUT),
-        (BARE, (b"f", PAGED), 0, PAGED_OUTPUT),
-        (BARE, (b"f", LAID), 5, b"audit no A3 00000100\n"),
-        (UNAUDITED, (b"f", LAID), 6, LAID_OUTPUT),
-        (AUDIT, (b"f", LEAST), 0, b"audit yes\n"),
-        (AUDIT, (b"f", LAID), 5, b"audit no A3 00000100\n"),
-        (AUDIT, (b"f", SHARED_TABLE), 5, b"audit no A2 00000010\n"),
-        (AUDIT, (b"f", SHARED_PAGE), 5, b"audit no A4 00004000\n"),
-        (AUDIT, (b"f", SEGMENTS), 5, SEGMENTS_OUTPUT),
-        (PROCS, (b"f", LOCK), 0, LOCK_OUTPUT),
-        (PROCS, (b"f", LOOSE), 5, b"audit no J3 00000060\n"),
-        (PRINT, (b"e", EMPTY.as_slice()), 0, EMPTY_PRINT),
-        (ALM, (b"e.alm", b""), 0, EMPTY_PRINT),
-    ] {
-        let (status, _, out) = called(rt.alloc(), list, file, (NO, NO, NO))?;
-        assert_eq!(rt; status.number(), number);
-        assert!(rt; out.bytes() == output, "{list:?}");
+    for (command, image, number, output) in IMAGES {
+        assert!(rt;
+            writes(rt.alloc(), command, (b"f", image), *number, output)?,
+            "{command:?}"
+        );
     }
     Ok(())
 }
 
 #[test]
+fn writes_prints(rt: HostRuntime) -> Result<(), NoMemory> {
+    assert!(rt; writes(rt.alloc(), b"print e", (b"e", EMPTY), 0, EMPTY_PRINT)?);
+    assert!(rt; writes(rt.alloc(), b"alm e", (b"e.alm", b""), 0, EMPTY_PRINT)?);
+    Ok(())
+}
+
+#[test]
 fn ends_at_the_limit(rt: HostRuntime) -> Result<(), NoMemory> {
-    let (status, _, out) = called(rt.alloc(), BARE, (b"f", ENDLESS), (NO, NO, NO))?;
+    let mut folder = folder_of(rt.alloc(), &[(b"f", ENDLESS)], &[], &[])?;
+    let mut out = MemSink::new(rt.alloc(), 10_000_000, &[])?;
+    let status = run(rt.alloc(), b"bare f", &mut folder, &mut out)?;
     assert_eq!(rt; status.number(), 7);
     assert!(rt; out.bytes().ends_with(b"\nend limit 100000\n"));
     assert!(rt;
@@ -225,94 +202,169 @@ fn ends_at_the_limit(rt: HostRuntime) -> Result<(), NoMemory> {
     Ok(())
 }
 
-#[test]
-fn refuses_files(rt: HostRuntime) -> Result<(), NoMemory> {
-    let alloc = rt.alloc();
-    let large = vec![in alloc; b'0'; 16777217]?;
-    let long = vec![in alloc; 0; 1179653]?;
-    for (list, file, name, refusal) in [
-        (
-            BARE,
-            (b"f".as_slice(), large.as_slice()),
-            b"f".as_slice(),
-            (Code::F2, 0, 0),
-        ),
-        (BARE, (b"e", LEAST), b"f", (Code::F1, 0, 0)),
-        (AUDIT, (b"f", b"core 0\n"), b"f", (Code::I2, 1, 0)),
-        (BARE, (b"f", b"core 1\n"), b"f", (Code::I1, 2, 0)),
-        (PROCS, (b"f", NO_PROCESS), b"f", (Code::P2, 7, 0)),
-        (PROCS, (b"f", b"core 1\n"), b"f", (Code::P1, 2, 0)),
-        (PRINT, (b"e", b""), b"e", (Code::O1, 0, 0)),
-        (PRINT, (b"e", b"\0\0\0\0\x10"), b"e", (Code::O1, 1, 0)),
-        (PRINT, (b"e", b"\0\0\0\0\x11"), b"e", (Code::T4, 4, 0)),
-        (PRINT, (b"e", b"\0\0\0\0\0\0"), b"e", (Code::T3, 6, 0)),
-        (PRINT, (b"e", long.as_slice()), b"e", (Code::F3, 0, 0)),
-        (
-            ALM,
-            (b"e.alm", b"a: nop 0\na: nop 0\n"),
-            b"e.alm",
-            (Code::E5, 2, 1),
-        ),
-        (ALM, (b"e.alm", b" lda b\n"), b"e.alm", (Code::E6, 1, 6)),
-        (
-            ALM,
-            (b"e.alm", b" nop 0\n nup 0\n"),
-            b"e.alm",
-            (Code::E3, 2, 2),
-        ),
-        (ALM, (b"e", b""), b"e.alm", (Code::F1, 0, 0)),
-        (BIND, (b"e", b""), b"e.bind", (Code::F1, 0, 0)),
-        (
-            BIND,
-            (b"e.bind", b"object e\nobject e\n"),
-            b"e",
-            (Code::F1, 0, 0),
-        ),
-        (
-            BIND,
-            (b"e.bind", b"object e\nversion 2\n"),
-            b"e.bind",
-            (Code::B1, 2, 0),
-        ),
-    ] {
-        let (status, _, out) = called(alloc, list, file, (NO, NO, NO))?;
-        assert!(rt; out.bytes().is_empty());
-        match status {
-            Status::BadFile(bad) => {
-                assert!(rt; bad.name.bytes() == name);
-                assert!(rt; (bad.code, bad.at, bad.column) == refusal, "{list:?}");
-            }
-            _ => assert!(rt; false, "{list:?}"),
+/// The code of a file that is refused, and its place and column.
+type Place = (Code, u32, u32);
+
+/// Commands that refuse the file `f`: the one file that is there, and why.
+const IMAGES_REFUSED: &[(&[u8], File, Place)] = &[
+    (b"bare f", (b"e", LEAST), (Code::F1, 0, 0)),
+    (b"audit f", (b"f", b"core 0\n"), (Code::I2, 1, 0)),
+    (b"bare f", (b"f", b"core 1\n"), (Code::I1, 2, 0)),
+    (b"procs f", (b"f", NO_PROCESS), (Code::P2, 7, 0)),
+    (b"procs f", (b"f", b"core 1\n"), (Code::P1, 2, 0)),
+];
+
+/// What `e` has where `print e` refuses it, and why.
+const PRINTS_REFUSED: &[(&[u8], Place)] = &[
+    (b"", (Code::O1, 0, 0)),
+    (b"\0\0\0\0\x10", (Code::O1, 1, 0)),
+    (b"\0\0\0\0\x11", (Code::T4, 4, 0)),
+    (b"\0\0\0\0\0\0", (Code::T3, 6, 0)),
+];
+
+/// The one file that is there where `alm e` refuses `e.alm`, and why.
+const SOURCES_REFUSED: &[(File, Place)] = &[
+    ((b"e.alm", b"a: nop 0\na: nop 0\n"), (Code::E5, 2, 1)),
+    ((b"e.alm", b" lda b\n"), (Code::E6, 1, 6)),
+    ((b"e.alm", b" nop 0\n nup 0\n"), (Code::E3, 2, 2)),
+    ((b"e", b""), (Code::F1, 0, 0)),
+];
+
+/// The one file that is there where `bind e` refuses a file, which that is, and why.
+const BINDS_REFUSED: &[(File, &[u8], Place)] = &[
+    ((b"e", b""), b"e.bind", (Code::F1, 0, 0)),
+    ((b"e.bind", b"object e\nobject e\n"), b"e", (Code::F1, 0, 0)),
+    (
+        (b"e.bind", b"object e\nversion 2\n"),
+        b"e.bind",
+        (Code::B1, 2, 0),
+    ),
+];
+
+fn is_refusal(status: &Status, name: &[u8], place: Place) -> bool {
+    match status {
+        Status::BadFile(bad) => {
+            bad.name.bytes() == name && (bad.code, bad.at, bad.column) == place
         }
+        _ => false,
+    }
+}
+
+// Whether a command refuses a file so, over a folder with one file, and writes nothing.
+fn refuses(
+    alloc: Global,
+    command: &[u8],
+    file: File,
+    name: &[u8],
+    place: Place,
+) -> Result<bool, NoMemory> {
+    let mut folder = folder_of(alloc, &[file], &[], &[])?;
+    let mut out = MemSink::new(alloc, 10_000, &[])?;
+    let status = run(alloc, command, &mut folder, &mut out)?;
+    Ok(out.bytes().is_empty() && is_refusal(&status, name, place))
+}
+
+#[test]
+fn refuses_images(rt: HostRuntime) -> Result<(), NoMemory> {
+    for (command, file, place) in IMAGES_REFUSED {
+        assert!(rt;
+            refuses(rt.alloc(), command, *file, b"f", *place)?,
+            "{command:?}"
+        );
     }
     Ok(())
 }
 
-// Reads, writes and puts that fail: the status, how much is written, and whether the object is there.
+#[test]
+fn refuses_prints(rt: HostRuntime) -> Result<(), NoMemory> {
+    for (content, place) in PRINTS_REFUSED {
+        let file = (b"e".as_slice(), *content);
+        assert!(rt;
+            refuses(rt.alloc(), b"print e", file, b"e", *place)?,
+            "{content:?}"
+        );
+    }
+    Ok(())
+}
+
+#[test]
+fn refuses_sources(rt: HostRuntime) -> Result<(), NoMemory> {
+    for (file, place) in SOURCES_REFUSED {
+        assert!(rt;
+            refuses(rt.alloc(), b"alm e", *file, b"e.alm", *place)?,
+            "{:?}",
+            file.1
+        );
+    }
+    Ok(())
+}
+
+#[test]
+fn refuses_binds(rt: HostRuntime) -> Result<(), NoMemory> {
+    for (file, name, place) in BINDS_REFUSED {
+        assert!(rt;
+            refuses(rt.alloc(), b"bind e", *file, name, *place)?,
+            "{:?}",
+            file.1
+        );
+    }
+    Ok(())
+}
+
+#[test]
+fn refuses_large_files(rt: HostRuntime) -> Result<(), NoMemory> {
+    let large = vec![in rt.alloc(); b'0'; 16777217]?;
+    let file = (b"f".as_slice(), large.as_slice());
+    assert!(rt; refuses(rt.alloc(), b"bare f", file, b"f", (Code::F2, 0, 0))?);
+    Ok(())
+}
+
+#[test]
+fn refuses_long_objects(rt: HostRuntime) -> Result<(), NoMemory> {
+    let long = vec![in rt.alloc(); 0; 1179653]?;
+    let file = (b"e".as_slice(), long.as_slice());
+    assert!(rt; refuses(rt.alloc(), b"print e", file, b"e", (Code::F3, 0, 0))?);
+    Ok(())
+}
+
+/// Commands over a folder with one file: the read, the write and the put that fails, 0 for none; the number of the status, how
+/// much is written, and whether the object is there.
+const FAULTS: &[(&[u8], File, (u32, u32, u32), u8, usize, bool)] = &[
+    (b"bare f", (b"f", LEAST), (1, 0, 0), 2, 0, false),
+    (b"print e", (b"e", EMPTY), (1, 0, 0), 2, 0, false),
+    (b"alm e", (b"e.alm", b""), (1, 0, 0), 2, 0, false),
+    (b"alm e", (b"e.alm", b""), (0, 1, 0), 3, 0, false),
+    (b"alm e", (b"e.alm", b""), (0, 0, 1), 3, 0, true),
+    (b"alm e", (b"e.alm", b""), (0, 0, 3), 3, 31, true),
+    (b"print e", (b"e", EMPTY), (0, 0, 6), 3, 99, true),
+    (b"bare f", (b"f", LEAST), (0, 0, 1), 3, 0, false),
+    (b"bare f", (b"f", LEAST), (0, 0, 2), 3, 10, false),
+    (b"bare f", (b"f", LEAST), (0, 0, 3), 3, 93, false),
+    (b"bare f", (b"f", LEAST), (0, 0, 4), 3, 162, false),
+    (b"audit f", (b"f", SEGMENTS), (0, 0, 2), 3, 18, false),
+];
+
+// What a command came to: the number of the status, how much is written, and the folder then.
+fn failed(
+    alloc: Global,
+    command: &[u8],
+    file: File,
+    (read, write, put): (u32, u32, u32),
+) -> Result<(u8, usize, MemFolder), NoMemory> {
+    let mut folder = folder_of(alloc, &[file], &[read], &[write])?;
+    let mut out = MemSink::new(alloc, 10_000_000, &[put])?;
+    let status = run(alloc, command, &mut folder, &mut out)?;
+    Ok((status.number(), out.bytes().len(), folder))
+}
+
 #[test]
 fn tells_faults(rt: HostRuntime) -> Result<(), NoMemory> {
-    for (list, file, reads, writes, puts, number, whole, is_there) in [
-        (BARE, (b"f".as_slice(), LEAST), FIRST, NO, NO, 2, 0, false),
-        (PRINT, (b"e", EMPTY.as_slice()), FIRST, NO, NO, 2, 0, false),
-        (ALM, (b"e.alm", b""), FIRST, NO, NO, 2, 0, false),
-        (ALM, (b"e.alm", b""), NO, FIRST, NO, 3, 0, false),
-        (ALM, (b"e.alm", b""), NO, NO, FIRST, 3, 0, true),
-        (ALM, (b"e.alm", b""), NO, NO, &[3], 3, 31, true),
-        (PRINT, (b"e", EMPTY.as_slice()), NO, NO, &[6], 3, 99, true),
-        (BARE, (b"f", LEAST), NO, NO, FIRST, 3, 0, false),
-        (BARE, (b"f", LEAST), NO, NO, &[2], 3, 10, false),
-        (BARE, (b"f", LEAST), NO, NO, &[3], 3, 93, false),
-        (BARE, (b"f", LEAST), NO, NO, &[4], 3, 162, false),
-        (AUDIT, (b"f", SEGMENTS), NO, NO, &[2], 3, 18, false),
-    ] {
-        let (status, mut folder, out) = called(rt.alloc(), list, file, (reads, writes, puts))?;
-        assert_eq!(rt; status.number(), number);
-        assert_eq!(rt; out.bytes().len(), whole);
-        let is_object = match folder.read(rt.alloc(), b"e") {
-            ReadAnswer::Read(text) => text.bytes() == EMPTY.as_slice(),
-            _ => false,
-        };
-        assert!(rt; number == 2 || is_object == is_there, "{list:?}");
+    let alloc = rt.alloc();
+    for (command, file, failing, number, whole, is_there) in FAULTS {
+        let (status, written, mut folder) = failed(alloc, command, *file, *failing)?;
+        assert!(rt; status == *number && written == *whole, "{command:?}");
+        let is_object = has_file(alloc, &mut folder, b"e", EMPTY);
+        assert!(rt; *number == 2 || is_object == *is_there, "{command:?}");
     }
     Ok(())
 }

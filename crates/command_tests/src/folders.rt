@@ -1,9 +1,7 @@
 //! Folders that boot. What is expected was worked out by hand.
 
-use crate::calls::words;
-use m36_outside::{MemFolder, MemSink, SureLines};
-use m36_reading::Status;
-use m36_top::top::m36;
+use crate::memory::{File, assemble, folder_of, run};
+use m36_outside::MemSink;
 use m36_word::NoMemory;
 use std::alloc::Global;
 
@@ -113,97 +111,80 @@ link 4 00100|000003 ? L1
 end link L1 4
 ";
 
-const RUN: &[&[u8]] = &[b"run"];
-
-const NO: &[u32] = &[];
-
-const FIRST: &[u32] = &[1];
-
-/// The second file that a run reads.
-const SECOND: &[u32] = &[5];
-
-// What words come to over a folder of these sources, assembled, and a boot text, where some reads and puts fail. The sources
-// are read first, so the boot text is the fourth file.
+// What a command comes to over a folder of these sources, assembled, and a boot text, where a read and a put fail: the number
+// of the status, and what is written. The sources are read first, so the boot text is the fourth file.
 fn booted(
     alloc: Global,
     boot: &[u8],
-    list: &[&[u8]],
-    reads: &[u32],
-    puts: &[u32],
-) -> Result<(Status, MemSink), NoMemory> {
-    let mut folder = MemFolder::new(alloc, reads, &[])?;
-    folder.add(b"boot", boot)?;
-    folder.add(b"main.alm", MAIN)?;
-    folder.add(b"con_.alm", CON)?;
-    folder.add(b"changes.alm", CHANGES)?;
-    for name in [b"main".as_slice(), b"con_", b"changes"] {
-        let mut out = MemSink::new(alloc, 10_000, &[])?;
-        let assembly = words(alloc, &[b"alm", name])?;
-        let mut lines = SureLines::new(alloc, &[])?;
-        let _ = m36(
-            alloc,
-            assembly.as_slice(),
-            &mut folder,
-            &mut lines,
-            &mut out,
-        );
-    }
-    let mut out = MemSink::new(alloc, 10_000, puts)?;
-    let words = words(alloc, list)?;
-    let mut lines = SureLines::new(alloc, &[])?;
-    let status = m36(alloc, words.as_slice(), &mut folder, &mut lines, &mut out);
-    Ok((status, out))
+    command: &[u8],
+    read: u32,
+    put: u32,
+) -> Result<(u8, MemSink), NoMemory> {
+    let files: [File; 4] = [
+        (b"boot", boot),
+        (b"main.alm", MAIN),
+        (b"con_.alm", CON),
+        (b"changes.alm", CHANGES),
+    ];
+    let mut folder = folder_of(alloc, &files, &[read], &[])?;
+    assemble(alloc, ASSEMBLIES, &mut folder)?;
+    let mut out = MemSink::new(alloc, 10_000, &[put])?;
+    let status = run(alloc, command, &mut folder, &mut out)?;
+    Ok((status.number(), out))
 }
+
+const ASSEMBLIES: &[&[u8]] = &[b"alm main", b"alm con_", b"alm changes"];
+
+/// The boot text, the command, the number of the status, and what is written.
+const BOOTS: &[(&[u8], &[u8], u8, &[u8])] = &[
+    (HELLO, b"run", 0, b"audit yes\nhello\nend dis 13\n"),
+    (HELLO, b"trace", 0, TRACE),
+    (HELLO, b"audit", 0, b"audit yes\n"),
+    (HELLO, b"run --steps 0", 7, b"audit yes\nend limit 0\n"),
+    (
+        HELLO,
+        b"run --steps=9",
+        7,
+        b"audit yes\nhello\nend limit 9\n",
+    ),
+    (OPEN, b"run", 5, b"audit no A5 00101\n"),
+    (FEW, b"run", 4, b""),
+    (OTHER, b"run", 6, b"audit yes\nend link L3 6\n"),
+    (NONE, b"run", 6, b"audit yes\nend link L2 6\n"),
+    (
+        OPEN,
+        b"run --unaudited",
+        0,
+        b"audit no A5 00101\nhello\nend dis 13\n",
+    ),
+    (CHANGED, b"trace", 6, CHANGED_TRACE),
+];
 
 #[test]
 fn boots_folders(rt: HostRuntime) -> Result<(), NoMemory> {
-    for (boot, list, number, output) in [
-        (HELLO, RUN, 0, b"audit yes\nhello\nend dis 13\n".as_slice()),
-        (HELLO, &[b"trace"], 0, TRACE),
-        (HELLO, &[b"audit"], 0, b"audit yes\n"),
-        (
-            HELLO,
-            &[b"run", b"--steps", b"0"],
-            7,
-            b"audit yes\nend limit 0\n",
-        ),
-        (
-            HELLO,
-            &[b"run", b"--steps=9"],
-            7,
-            b"audit yes\nhello\nend limit 9\n",
-        ),
-        (OPEN, RUN, 5, b"audit no A5 00101\n"),
-        (FEW, RUN, 4, b""),
-        (OTHER, RUN, 6, b"audit yes\nend link L3 6\n"),
-        (NONE, RUN, 6, b"audit yes\nend link L2 6\n"),
-        (
-            OPEN,
-            &[b"run", b"--unaudited"],
-            0,
-            b"audit no A5 00101\nhello\nend dis 13\n",
-        ),
-        (CHANGED, &[b"trace"], 6, CHANGED_TRACE),
-    ] {
-        let (status, out) = booted(rt.alloc(), boot, list, NO, NO)?;
-        assert_eq!(rt; status.number(), number);
-        assert!(rt; out.bytes() == output, "{list:?}");
+    for (boot, command, number, output) in BOOTS {
+        let (status, out) = booted(rt.alloc(), boot, command, 0, 0)?;
+        assert!(rt; status == *number && out.bytes() == *output, "{command:?}");
     }
     Ok(())
 }
 
-// The second read of a run fails, or a put: the status, and how much is written.
+/// A run whose second read fails, or a put, 0 for none: the number of the status, and how much is written.
+const FAULTS: &[(u32, u32, u8, usize)] = &[
+    (5, 0, 2, 0),
+    (0, 1, 3, 0),
+    (0, 2, 3, 10),
+    (0, 3, 3, 16),
+];
+
 #[test]
 fn tells_faults_of_folders(rt: HostRuntime) -> Result<(), NoMemory> {
-    for (reads, puts, number, written) in [
-        (SECOND, NO, 2, 0),
-        (NO, FIRST, 3, 0),
-        (NO, &[2], 3, 10),
-        (NO, &[3], 3, 16),
-    ] {
-        let (status, out) = booted(rt.alloc(), HELLO, RUN, reads, puts)?;
-        assert_eq!(rt; status.number(), number);
-        assert_eq!(rt; out.bytes().len(), written);
+    for (read, put, number, written) in FAULTS {
+        let (status, out) = booted(rt.alloc(), HELLO, b"run", *read, *put)?;
+        assert!(rt;
+            status == *number && out.bytes().len() == *written,
+            "at {read} {put}"
+        );
     }
     Ok(())
 }

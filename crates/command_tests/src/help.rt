@@ -1,24 +1,25 @@
 //! The help, and the commands that are read.
 
-use crate::calls::words;
+use crate::memory::words;
 use m36_help::help;
 use m36_text::place_of;
 use m36_top::command_of;
 use m36_word::NoMemory;
+use std::alloc::Global;
 
 /// Each command that is read, in words.
-const READ: [&[&[u8]]; 11] = [
-    &[b"bare", b"f"],
-    &[b"audit", b"f"],
-    &[b"run"],
-    &[b"trace"],
-    &[b"access", b"A.B.c"],
-    &[b"procs", b"f"],
-    &[b"debug", b"f"],
-    &[b"alm", b"f"],
-    &[b"bind", b"f"],
-    &[b"print", b"f"],
-    &[b"make", b"1"],
+const READ: &[&[u8]] = &[
+    b"bare f",
+    b"audit f",
+    b"run",
+    b"trace",
+    b"access A.B.c",
+    b"procs f",
+    b"debug f",
+    b"alm f",
+    b"bind f",
+    b"print f",
+    b"make 1",
 ];
 
 // The command that a line of the list of commands names, behind two blanks.
@@ -48,15 +49,24 @@ fn lines_of(text: &[u8], name: &[u8]) -> (usize, usize) {
     (all, named)
 }
 
+// Whether a command is read, and the list of commands has a line of its name among as many as are read.
+fn is_listed(alloc: Global, text: &[u8], command: &[u8]) -> Result<bool, NoMemory> {
+    let words = words(alloc, command)?;
+    let [name, ..] = words.as_slice() else {
+        return Ok(false);
+    };
+    let is_read = command_of(words.as_slice()).is_some();
+    Ok(is_read && lines_of(text, name.bytes()) == (READ.len(), 1))
+}
+
 #[test]
 fn names_each_command_and_no_other(rt: HostRuntime) -> Result<(), NoMemory> {
-    let alloc = rt.alloc();
-    let text = help(alloc)?;
-    for list in READ {
-        let words = words(alloc, list)?;
-        assert!(rt; command_of(words.as_slice()).is_some(), "{list:?}");
-        let name = list.first().copied().unwrap_or(b"".as_slice());
-        assert_eq!(rt; lines_of(text.bytes(), name), (READ.len(), 1), "{list:?}");
+    let text = help(rt.alloc())?;
+    for command in READ {
+        assert!(rt;
+            is_listed(rt.alloc(), text.bytes(), command)?,
+            "{command:?}"
+        );
     }
     Ok(())
 }

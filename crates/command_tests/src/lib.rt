@@ -12,6 +12,8 @@ mod lists;
 #[cfg(test)]
 mod makes;
 #[cfg(test)]
+mod memory;
+#[cfg(test)]
 mod reports;
 #[cfg(test)]
 mod sessions;

@@ -1,9 +1,7 @@
 //! Folders with access lists. What is expected was worked out by hand.
 
-use crate::calls::words;
-use m36_outside::{MemFolder, MemSink, SureLines};
-use m36_reading::Status;
-use m36_top::top::m36;
+use crate::memory::{File, assemble, folder_of, run};
+use m36_outside::MemSink;
 use m36_word::NoMemory;
 use std::alloc::Global;
 
@@ -54,76 +52,68 @@ const WRONG: &[u8] = b"segment >t other
 segment
 ";
 
-// What words come to over a folder of these sources, assembled, a boot text and access lists.
-fn listed(
+const ASSEMBLIES: &[&[u8]] = &[b"alm main", b"alm go"];
+
+// Whether a command comes to this over a folder of these sources, assembled, a boot text and access lists.
+fn says(
     alloc: Global,
-    boot: &[u8],
-    lists: &[u8],
-    list: &[&[u8]],
-) -> Result<(Status, MemSink), NoMemory> {
-    let mut folder = MemFolder::new(alloc, &[], &[])?;
-    folder.add(b"boot", boot)?;
-    folder.add(b"acl", lists)?;
-    folder.add(b"main.alm", MAIN)?;
-    folder.add(b"go.alm", GO)?;
-    folder.add(b"dat", &[0; 9])?;
-    for name in [b"main".as_slice(), b"go"] {
-        let mut out = MemSink::new(alloc, 10_000, &[])?;
-        let assembly = words(alloc, &[b"alm", name])?;
-        let mut lines = SureLines::new(alloc, &[])?;
-        let _ = m36(
-            alloc,
-            assembly.as_slice(),
-            &mut folder,
-            &mut lines,
-            &mut out,
-        );
-    }
+    texts: (&[u8], &[u8]),
+    command: &[u8],
+    number: u8,
+    output: &[u8],
+) -> Result<bool, NoMemory> {
+    let files: [File; 5] = [
+        (b"boot", texts.0),
+        (b"acl", texts.1),
+        (b"main.alm", MAIN),
+        (b"go.alm", GO),
+        (b"dat", &[0; 9]),
+    ];
+    let mut folder = folder_of(alloc, &files, &[], &[])?;
+    assemble(alloc, ASSEMBLIES, &mut folder)?;
     let mut out = MemSink::new(alloc, 10_000, &[])?;
-    let words = words(alloc, list)?;
-    let mut lines = SureLines::new(alloc, &[])?;
-    let status = m36(alloc, words.as_slice(), &mut folder, &mut lines, &mut out);
-    Ok((status, out))
+    let status = run(alloc, command, &mut folder, &mut out)?;
+    Ok(status.number() == number && out.bytes() == output)
 }
+
+/// The boot text and the access lists, the command, the number of the status, and what is written.
+const RIGHTS: &[((&[u8], &[u8]), &[u8], u8, &[u8])] = &[
+    (
+        (BOOT, LISTS),
+        b"access Jones.Demo.a",
+        0,
+        b">udd>demo main null Jones.Demo.*\n>sss dat rw *.*.*\n",
+    ),
+    (
+        (BOOT, LISTS),
+        b"access Ann.Other.a",
+        0,
+        b">udd>demo main null none\n>sss dat rw *.*.*\n",
+    ),
+    (
+        (BOOT, LISTS),
+        b"audit --user=Smith.Demo.a",
+        0,
+        b"audit yes\n",
+    ),
+    ((BOOT, LISTS), b"run --user Jones.Demo.a", 4, b""),
+    (
+        (TWO, READ_ONLY),
+        b"run --user A.B.c",
+        6,
+        b"audit yes\nend fault 20.6 2\ndenied >t dat *.*.*\n",
+    ),
+    ((TWO, UNKNOWN), b"access A.B.c", 4, b""),
+    ((TWO, WRONG), b"run --user=A.B.c", 4, b""),
+];
 
 #[test]
 fn gives_rights_by_lists(rt: HostRuntime) -> Result<(), NoMemory> {
-    for (boot, lists, list, number, output) in [
-        (
-            BOOT,
-            LISTS,
-            [b"access".as_slice(), b"Jones.Demo.a"].as_slice(),
-            0,
-            b">udd>demo main null Jones.Demo.*\n>sss dat rw *.*.*\n".as_slice(),
-        ),
-        (
-            BOOT,
-            LISTS,
-            &[b"access", b"Ann.Other.a"],
-            0,
-            b">udd>demo main null none\n>sss dat rw *.*.*\n",
-        ),
-        (
-            BOOT,
-            LISTS,
-            &[b"audit", b"--user=Smith.Demo.a"],
-            0,
-            b"audit yes\n",
-        ),
-        (BOOT, LISTS, &[b"run", b"--user", b"Jones.Demo.a"], 4, b""),
-        (
-            TWO,
-            READ_ONLY,
-            &[b"run", b"--user", b"A.B.c"],
-            6,
-            b"audit yes\nend fault 20.6 2\ndenied >t dat *.*.*\n",
-        ),
-        (TWO, UNKNOWN, &[b"access", b"A.B.c"], 4, b""),
-        (TWO, WRONG, &[b"run", b"--user=A.B.c"], 4, b""),
-    ] {
-        let (status, out) = listed(rt.alloc(), boot, lists, list)?;
-        assert_eq!(rt; status.number(), number);
-        assert!(rt; out.bytes() == output, "{list:?}");
+    for (texts, command, number, output) in RIGHTS {
+        assert!(rt;
+            says(rt.alloc(), *texts, command, *number, output)?,
+            "{command:?}"
+        );
     }
     Ok(())
 }

@@ -1,10 +1,10 @@
 //! Sessions by the words of the command line. What is expected was worked out by hand.
 
-use crate::calls::{LEAST, words};
-use m36_outside::{MemFolder, MemLines, MemSink, Text};
+use crate::calls::LEAST;
+use crate::memory::{folder_of, hold};
+use m36_outside::{MemLines, MemSink, Text};
 use m36_reading::Status;
 use m36_top::report;
-use m36_top::top::m36;
 use m36_word::NoMemory;
 use std::alloc::Global;
 
@@ -14,46 +14,52 @@ const SESSION: &[u8] = b"step 1\nwhere\nfly\nquit\n";
 const WRITTEN: &[u8] =
     b"1 0 00001|000000 000002235000 0:00001|000002 000000000005 000000000000 ...... next\n0 00001|000001\n? fly\n";
 
-// What a session over the least image as the file `f` comes to, where some pieces and puts fail.
+// What a session over the least image as the file `f` comes to, where a piece and a put fail, 0 for none.
 fn held(
     alloc: Global,
     content: &[u8],
-    fail_pieces: &[u32],
-    fail_puts: &[u32],
+    piece: u32,
+    put: u32,
 ) -> Result<(Status, MemSink), NoMemory> {
-    let mut folder = MemFolder::new(alloc, &[], &[])?;
-    folder.add(b"f", LEAST)?;
-    let mut lines = MemLines::new(alloc, content, fail_pieces)?;
-    let mut out = MemSink::new(alloc, 10_000, fail_puts)?;
-    let words = words(alloc, &[b"debug", b"f"])?;
-    let status = m36(alloc, words.as_slice(), &mut folder, &mut lines, &mut out);
+    let mut folder = folder_of(alloc, &[(b"f", LEAST)], &[], &[])?;
+    let mut lines = MemLines::new(alloc, content, &[piece])?;
+    let mut out = MemSink::new(alloc, 10_000, &[put])?;
+    let status = hold(alloc, b"debug f", &mut folder, &mut lines, &mut out)?;
     Ok((status, out))
 }
 
+/// The lines, the piece and the put that fails, 0 for none, the number of the status, and what is written.
+const SESSIONS: &[(&[u8], u32, u32, u8, &[u8])] = &[
+    (SESSION, 0, 0, 0, WRITTEN),
+    (b"", 0, 0, 0, b""),
+    (b"fly", 0, 0, 0, b"? fly\n"),
+    (b"fly\n", 1, 0, 2, b""),
+    (b"fly\n", 2, 0, 2, b"? fly\n"),
+    (b"fly\nfly\n", 0, 2, 3, b"? fly\n"),
+];
+
 #[test]
 fn holds_sessions(rt: HostRuntime) -> Result<(), NoMemory> {
-    for (content, fail_pieces, fail_puts, number, written) in [
-        (SESSION, [].as_slice(), [].as_slice(), 0, WRITTEN),
-        (b"", &[], &[], 0, b""),
-        (b"fly", &[], &[], 0, b"? fly\n"),
-        (b"fly\n", &[1], &[], 2, b""),
-        (b"fly\n", &[2], &[], 2, b"? fly\n"),
-        (b"fly\nfly\n", &[], &[2], 3, b"? fly\n"),
-    ] {
-        let (status, out) = held(rt.alloc(), content, fail_pieces, fail_puts)?;
-        assert!(rt; status.number() == number);
-        assert!(rt; out.bytes() == written);
+    for (content, piece, put, number, written) in SESSIONS {
+        let (status, out) = held(rt.alloc(), content, *piece, *put)?;
+        assert!(rt; status.number() == *number && out.bytes() == *written);
     }
     Ok(())
 }
 
-#[test]
-fn refuses_long_input(rt: HostRuntime) -> Result<(), NoMemory> {
-    let mut content = Text::from_bytes(rt.alloc(), b"where\n")?;
+// Lines that are longer than a session takes.
+fn long_input(alloc: Global) -> Result<Text, NoMemory> {
+    let mut content = Text::from_bytes(alloc, b"where\n")?;
     for _ in 0..1025 {
         content.append(&[b' '; 1024])?;
     }
-    let (status, out) = held(rt.alloc(), content.bytes(), &[], &[])?;
+    Ok(content)
+}
+
+#[test]
+fn refuses_long_input(rt: HostRuntime) -> Result<(), NoMemory> {
+    let content = long_input(rt.alloc())?;
+    let (status, out) = held(rt.alloc(), content.bytes(), 0, 0)?;
     assert!(rt; status.number() == 4);
     assert!(rt; report(rt.alloc(), &status)?.bytes() == b"m36: BadFile stdin S1 0 0\n".as_slice());
     assert!(rt; out.bytes() == b"0 00001|000000\n".as_slice());
