@@ -1,13 +1,12 @@
 //! Objects worked out by hand.
 
-use m36_word::{Word, Words};
+use m36_word::{NoMemory, Word, Words};
 use obj36::{Object, ObjectFault, Section, object_laws};
 use std::alloc::Global;
 use std::process::Abort;
-use std::test::Fail;
 
 /// The object of an empty source.
-const EMPTY: [u64; 18] = [
+const EMPTY: &[u64] = &[
     0o000000000000,
     0o000000000000,
     0o000000000000,
@@ -29,7 +28,7 @@ const EMPTY: [u64; 18] = [
 ];
 
 /// One static word in a section of its own.
-const COUNTER: [u64; 20] = [
+const COUNTER: &[u64] = &[
     0o000000000000,
     0o000000000000,
     0o000000000000,
@@ -53,7 +52,7 @@ const COUNTER: [u64; 20] = [
 ];
 
 /// Version 1: the entry `go`, the static word `cnt`, and links to `b$x` and to the own entry `go`.
-const CALLER: [u64; 42] = [
+const CALLER: &[u64] = &[
     0o400010054100,
     0o400012235120,
     0o400014235120,
@@ -99,7 +98,7 @@ const CALLER: [u64; 42] = [
 ];
 
 /// Version 2: the same with other links, to `b$` and to the own static section.
-const NEWER: [u64; 41] = [
+const NEWER: &[u64] = &[
     0o400000054100,
     0o400010235120,
     0o400012235120,
@@ -146,7 +145,7 @@ const NEWER: [u64; 41] = [
 /// A word that is changed: its place, what it becomes, and the fault that is told.
 type Change = (usize, u64, ObjectFault);
 
-const OF_EMPTY: [Change; 12] = [
+const OF_EMPTY: &[Change] = &[
     (17, 0o000012000000, ObjectFault::O2(10)),
     (17, 0o000013000001, ObjectFault::O2(17)),
     (17, 0o000014000000, ObjectFault::O2(17)),
@@ -161,7 +160,7 @@ const OF_EMPTY: [Change; 12] = [
     (10, 0o000000000001, ObjectFault::O8(0)),
 ];
 
-const OF_CALLER: [Change; 19] = [
+const OF_CALLER: &[Change] = &[
     // The chain goes round, and the count is one short.
     (7, 0o000002000001, ObjectFault::O5(3)),
     (3, 0o000002000001, ObjectFault::O5(3)),
@@ -192,7 +191,7 @@ const OF_CALLER: [Change; 19] = [
     (34, 0o000003021000, ObjectFault::O8(0)),
 ];
 
-const OF_NEWER: [Change; 4] = [
+const OF_NEWER: &[Change] = &[
     // The class past static, the section past static, a linkage section with other words than links, and an unused
     // field that is not empty.
     (7, 0o000000000004, ObjectFault::O5(7)),
@@ -209,7 +208,7 @@ fn are_words(words: &[Word], values: &[u64]) -> bool {
             .all(|(word, value)| word.value() == *value)
 }
 
-fn words_of(alloc: Global, values: &[u64]) -> Result<Words, Fail> {
+fn words_of(alloc: Global, values: &[u64]) -> Result<Words, NoMemory> {
     let mut words = Words::new(alloc);
     for value in values {
         words.push(Word::low(*value))?;
@@ -218,21 +217,83 @@ fn words_of(alloc: Global, values: &[u64]) -> Result<Words, Fail> {
 }
 
 /// The object that words are read as, or the fault.
-fn read_as(alloc: Global, words: &Words) -> Result<Result<Object, ObjectFault>, Fail> {
-    let slice = words.slice();
-    if slice.len() > 1000 {
-        return Err(Fail::from("there are few words"));
+fn read_as(alloc: Global, words: &[Word]) -> Result<Object, ObjectFault> {
+    if words.len() > 1000 {
+        return Err(ObjectFault::NoMemory);
     }
-    Ok(Object::read(alloc, slice))
+    Object::read(alloc, words)
 }
 
-fn object_of(alloc: Global, values: &[u64]) -> Result<Object, Fail> {
-    let words = words_of(alloc, values)?;
-    Ok(read_as(alloc, &words)?.ok().ok_or("it is an object")?)
+/// What is asked of an object.
+#[derive(Clone, Copy)]
+enum Due<'a> {
+    /// That these are its words.
+    Words(&'a [u64]),
+    /// That it is the caller above.
+    Caller,
+}
+
+fn is_written_as(alloc: Global, object: &Object, values: &[u64]) -> bool {
+    match object.write(alloc) {
+        Ok(words) => are_words(words.slice(), values),
+        Err(_) => false,
+    }
+}
+
+fn has_numbers_of_caller(object: &Object) -> bool {
+    object.definition_length() == 14
+        && object.entry_bound() == 1
+        && object.parts().relocations.items().len() == 3
+        && object.links().len() == 2
+}
+
+fn has_sections_of_caller(object: &Object) -> bool {
+    let linkage = CALLER.get(17..31).unwrap_or_default();
+    are_words(object.section(Section::Linkage), linkage)
+        && object.section(Section::Static).is_empty()
+}
+
+fn has_names_of_caller(object: &Object) -> bool {
+    matches!(object.find(b"cnt"), Some(def) if def.value == 8) && object.find(b"co").is_none()
+}
+
+fn is_so(alloc: Global, object: &Object, due: Due) -> bool {
+    match due {
+        Due::Words(values) => is_written_as(alloc, object, values),
+        Due::Caller => {
+            has_numbers_of_caller(object)
+                && has_sections_of_caller(object)
+                && has_names_of_caller(object)
+        }
+    }
+}
+
+fn reads(alloc: Global, words: &[Word], due: Due) -> bool {
+    match read_as(alloc, words) {
+        Ok(object) => is_so(alloc, &object, due),
+        Err(_) => false,
+    }
+}
+
+#[test]
+fn values_of_a_caller(rt: HostRuntime) -> Result<(), NoMemory> {
+    let words = words_of(rt.alloc(), CALLER)?;
+    assert!(rt; reads(rt.alloc(), words.slice(), Due::Caller));
+    object_laws();
+    Ok(())
+}
+
+#[test]
+fn objects_are_read(rt: HostRuntime) -> Result<(), NoMemory> {
+    for values in [EMPTY, COUNTER, CALLER, NEWER] {
+        let words = words_of(rt.alloc(), values)?;
+        assert!(rt; reads(rt.alloc(), words.slice(), Due::Words(values)));
+    }
+    Ok(())
 }
 
 /// The words with one of them changed.
-fn changed(alloc: Global, values: &[u64], place: usize, value: u64) -> Result<Words, Fail> {
+fn changed(alloc: Global, values: &[u64], place: usize, value: u64) -> Result<Words, NoMemory> {
     let mut words = Words::new(alloc);
     for (i, old) in values.iter().enumerate() {
         words.push(Word::low(if i == place { value } else { *old }))?;
@@ -240,48 +301,35 @@ fn changed(alloc: Global, values: &[u64], place: usize, value: u64) -> Result<Wo
     Ok(words)
 }
 
-fn refuses(rt: &impl Abort, alloc: Global, values: &[u64], changes: &[Change]) -> Result<(), Fail> {
-    for (place, value, fault) in changes {
-        let words = changed(alloc, values, *place, *value)?;
-        assert_eq!(rt; read_as(alloc, &words)?.err(), Some(*fault));
+/// Whether words are refused with a change.
+fn refuses(alloc: Global, values: &[u64], change: Change) -> Result<bool, NoMemory> {
+    let (place, value, fault) = change;
+    let words = changed(alloc, values, place, value)?;
+    Ok(read_as(alloc, words.slice()).err() == Some(fault))
+}
+
+fn all_refused(
+    rt: &impl Abort,
+    alloc: Global,
+    values: &[u64],
+    changes: &[Change],
+) -> Result<(), NoMemory> {
+    for change in changes {
+        assert!(rt; refuses(alloc, values, *change)?, "at {}", change.0);
     }
     Ok(())
 }
 
-fn reads_back(rt: &impl Abort, alloc: Global, values: &[u64]) -> Result<(), Fail> {
-    let object = object_of(alloc, values)?;
-    assert!(rt; are_words(object.write(alloc)?.slice(), values));
+#[test]
+fn changes_are_refused(rt: HostRuntime) -> Result<(), NoMemory> {
+    all_refused(&rt, rt.alloc(), EMPTY, OF_EMPTY)?;
+    all_refused(&rt, rt.alloc(), CALLER, OF_CALLER)?;
+    all_refused(&rt, rt.alloc(), NEWER, OF_NEWER)
+}
+
+#[test]
+fn few_words_are_refused(rt: HostRuntime) -> Result<(), NoMemory> {
+    let few = words_of(rt.alloc(), EMPTY.get(..6).unwrap_or_default())?;
+    assert!(rt; read_as(rt.alloc(), few.slice()).err() == Some(ObjectFault::O1(6)));
     Ok(())
-}
-
-#[test]
-fn values_of_a_caller(rt: HostRuntime) -> Result<(), Fail> {
-    let object = object_of(rt.alloc(), &CALLER)?;
-    assert_eq!(rt; object.definition_length(), 14);
-    assert_eq!(rt; object.entry_bound(), 1);
-    assert_eq!(rt; object.parts().relocations.items().len(), 3);
-    assert_eq!(rt; object.links().len(), 2);
-    assert!(rt; are_words(object.section(Section::Linkage), &CALLER[17..31]));
-    assert!(rt; object.section(Section::Static).is_empty());
-    assert_eq!(rt; object.find(b"cnt").map(|def| def.value), Some(8));
-    assert_eq!(rt; object.find(b"co"), None);
-    object_laws();
-    Ok(())
-}
-
-#[test]
-fn objects_are_read(rt: HostRuntime) -> Result<(), Fail> {
-    reads_back(&rt, rt.alloc(), &EMPTY)?;
-    reads_back(&rt, rt.alloc(), &COUNTER)?;
-    reads_back(&rt, rt.alloc(), &CALLER)?;
-    reads_back(&rt, rt.alloc(), &NEWER)
-}
-
-#[test]
-fn changes_are_refused(rt: HostRuntime) -> Result<(), Fail> {
-    let few = words_of(rt.alloc(), &EMPTY[..6])?;
-    assert_eq!(rt; read_as(rt.alloc(), &few)?.err(), Some(ObjectFault::O1(6)));
-    refuses(&rt, rt.alloc(), &EMPTY, &OF_EMPTY)?;
-    refuses(&rt, rt.alloc(), &CALLER, &OF_CALLER)?;
-    refuses(&rt, rt.alloc(), &NEWER, &OF_NEWER)
 }
