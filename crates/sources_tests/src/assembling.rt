@@ -3,9 +3,8 @@
 use alm_asm::assemble;
 use alm_parse::{AlmFault, parse};
 use m36_word::Word;
-use obj36::{Named, Object, Reloc};
+use obj36::{Named, Object, Parts, Reloc};
 use std::alloc::{AllocError, Global};
-use std::test::Fail;
 
 // The object of a source.
 fn object_of(alloc: Global, source: &[u8]) -> Result<Object, AlmFault> {
@@ -25,19 +24,37 @@ fn are(words: &[Word], expected: &[u64]) -> bool {
     words.len() == expected.len()
 }
 
-// Whether the text of a source's object is this.
-fn places(alloc: Global, source: &[u8], expected: &[u64]) -> Result<bool, Fail> {
-    let object = object_of(alloc, source)?;
-    Ok(are(object.parts().text.slice(), expected))
+/// What is asked of an object.
+#[derive(Clone, Copy)]
+enum Due<'a> {
+    /// That these are its words.
+    Words(&'a [u64]),
+    /// That this is its text.
+    Text(&'a [u64]),
+    /// That it has the parts below.
+    Parts,
 }
 
-// Whether a source's object is this list of words.
-fn makes(alloc: Global, source: &[u8], expected: &[u64]) -> Result<bool, Fail> {
-    let object = object_of(alloc, source)?;
-    let Ok(words) = object.write(alloc) else {
-        return Ok(false);
-    };
-    Ok(are(words.slice(), expected))
+fn is_written_as(alloc: Global, object: &Object, expected: &[u64]) -> bool {
+    match object.write(alloc) {
+        Ok(words) => are(words.slice(), expected),
+        Err(_) => false,
+    }
+}
+
+fn is_so(alloc: Global, object: &Object, due: Due) -> bool {
+    match due {
+        Due::Words(expected) => is_written_as(alloc, object, expected),
+        Due::Text(expected) => are(object.parts().text.slice(), expected),
+        Due::Parts => are_right(object.parts()),
+    }
+}
+
+fn makes(alloc: Global, source: &[u8], due: Due) -> bool {
+    match object_of(alloc, source) {
+        Ok(object) => is_so(alloc, &object, due),
+        Err(_) => false,
+    }
 }
 
 /// Sources, and the whole object of each.
@@ -58,11 +75,13 @@ const OBJECTS: &[(&[u8], &[u64])] = &[
 ];
 
 #[test]
-fn objects(rt: HostRuntime) -> Result<(), Fail> {
+fn objects(rt: HostRuntime) {
     for (source, expected) in OBJECTS {
-        assert!(rt; makes(rt.alloc(), source, expected)?, "{source:?}");
+        assert!(rt;
+            makes(rt.alloc(), source, Due::Words(expected)),
+            "{source:?}"
+        );
     }
-    Ok(())
 }
 
 /// Sources, and the text of the object of each.
@@ -123,19 +142,18 @@ const TEXTS: &[(&[u8], &[u64])] = &[
 ];
 
 #[test]
-fn texts(rt: HostRuntime) -> Result<(), Fail> {
+fn texts(rt: HostRuntime) {
     for (source, expected) in TEXTS {
-        assert!(rt; places(rt.alloc(), source, expected)?, "{source:?}");
+        assert!(rt;
+            makes(rt.alloc(), source, Due::Text(expected)),
+            "{source:?}"
+        );
     }
-    Ok(())
 }
 
 // Whether a source is refused with this fault.
 fn refuses(alloc: Global, source: &[u8], fault: AlmFault) -> bool {
-    match object_of(alloc, source) {
-        Ok(_) => false,
-        Err(found) => found == fault,
-    }
+    object_of(alloc, source).err() == Some(fault)
 }
 
 /// Sources that are refused, and the fault of each.
@@ -226,7 +244,7 @@ fn doublings(alloc: Global) -> Result<String, AllocError> {
 }
 
 #[test]
-fn sums_on_a_refused_one(rt: HostRuntime) -> Result<(), Fail> {
+fn sums_on_a_refused_one(rt: HostRuntime) -> Result<(), AllocError> {
     let source = doublings(rt.alloc())?;
     assert!(rt; refuses(rt.alloc(), source.as_bytes(), AlmFault::E6(1, 9)));
     Ok(())
@@ -262,13 +280,15 @@ fn are_marked(found: &[Reloc], expected: &[(u32, u8)]) -> bool {
     found.len() == expected.len()
 }
 
+fn are_right(parts: &Parts) -> bool {
+    parts.entry_bound == 2
+        && parts.version == 1
+        && are(parts.statics.slice(), STATICS)
+        && are_defined(parts.definitions.items(), DEFINITIONS)
+        && are_marked(parts.relocations.items(), RELOCATIONS)
+}
+
 #[test]
-fn parts(rt: HostRuntime) -> Result<(), Fail> {
-    let object = object_of(rt.alloc(), PARTS)?;
-    let parts = object.parts();
-    assert_eq!(rt; (parts.entry_bound, parts.version), (2, 1));
-    assert!(rt; are(parts.statics.slice(), STATICS));
-    assert!(rt; are_defined(parts.definitions.items(), DEFINITIONS));
-    assert!(rt; are_marked(parts.relocations.items(), RELOCATIONS));
-    Ok(())
+fn parts(rt: HostRuntime) {
+    assert!(rt; makes(rt.alloc(), PARTS, Due::Parts));
 }

@@ -2,7 +2,7 @@
 
 use m36_gen::draws::{Draws, Sequence};
 use m36_gen::{File, make};
-use std::test::Fail;
+use m36_word::NoMemory;
 
 /// Seeds, and the first three draws of each.
 const DRAWS: &[(u64, Draws)] = &[
@@ -69,7 +69,7 @@ fn content_of<'a>(files: &'a [File], at: usize, name: &[u8]) -> Option<&'a [u8]>
 }
 
 #[test]
-fn files_of_a_seed(rt: HostRuntime) -> Result<(), Fail> {
+fn files_of_a_seed(rt: HostRuntime) -> Result<(), NoMemory> {
     let made = make(rt.alloc(), 1)?;
     assert_eq!(rt; made.items().len(), 67);
     for (at, name, content) in FILES {
@@ -87,7 +87,7 @@ fn are_zero(bytes: &[u8]) -> bool {
 
 // The data are 65,792 words of 36 bits, all zero.
 #[test]
-fn data(rt: HostRuntime) -> Result<(), Fail> {
+fn data(rt: HostRuntime) -> Result<(), NoMemory> {
     let made = make(rt.alloc(), 7)?;
     assert_eq!(rt; made.items().len(), 67);
     let data = content_of(made.items(), 65, b"d_").unwrap_or_default();
@@ -103,7 +103,7 @@ const LAST_LINES: &[u8] =
     b"segment >gen g63 g63 object re 4 4 4\nsegment >gen d_ d_ data rw 4 4 4\nsegment >gen stop_ stop_ gate rep 0 0 4\nstart 4 g0$start\n";
 
 #[test]
-fn boot_text(rt: HostRuntime) -> Result<(), Fail> {
+fn boot_text(rt: HostRuntime) -> Result<(), NoMemory> {
     let made = make(rt.alloc(), 7)?;
     let text = content_of(made.items(), 66, b"boot").unwrap_or_default();
     assert!(rt; text.starts_with(FIRST_LINES));

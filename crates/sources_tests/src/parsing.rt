@@ -5,7 +5,6 @@ use m36_outside::Text;
 use m36_text::{decimal, octal};
 use m36_word::NoMemory;
 use std::alloc::Global;
-use std::test::Fail;
 
 // A source shown as text: for each line its number, its labels, its operation and its arguments, and a line feed.
 //
@@ -99,14 +98,26 @@ fn show_expr(text: &[u8], expr: &Expr, shown: &mut Text) -> Result<(), NoMemory>
     Ok(())
 }
 
-// Whether a source is read, and shown so.
-fn reads(alloc: Global, source: &[u8], expected: &[u8]) -> Result<bool, Fail> {
-    if source.len() > 4000 {
-        return Ok(false);
+fn are_shown_as(alloc: Global, lines: &Lines36, expected: &[u8]) -> bool {
+    match shown(alloc, lines) {
+        Ok(text) => text.bytes() == expected,
+        Err(_) => false,
     }
-    let lines = parse(alloc, source)?;
-    let text = shown(alloc, &lines)?;
-    Ok(text.bytes() == expected)
+}
+
+fn read(alloc: Global, source: &[u8]) -> Result<Lines36, AlmFault> {
+    if source.len() > 4000 {
+        return Err(AlmFault::NoMemory);
+    }
+    parse(alloc, source)
+}
+
+// Whether a source is read, and shown so.
+fn reads(alloc: Global, source: &[u8], expected: &[u8]) -> bool {
+    match read(alloc, source) {
+        Ok(lines) => are_shown_as(alloc, &lines, expected),
+        Err(_) => false,
+    }
 }
 
 /// Lines with an operand, and how each is shown.
@@ -134,11 +145,10 @@ const OPERANDS: &[(&[u8], &[u8])] = &[
 ];
 
 #[test]
-fn operands(rt: HostRuntime) -> Result<(), Fail> {
+fn operands(rt: HostRuntime) {
     for (source, expected) in OPERANDS {
-        assert!(rt; reads(rt.alloc(), source, expected)?, "{source:?}");
+        assert!(rt; reads(rt.alloc(), source, expected), "{source:?}");
     }
-    Ok(())
 }
 
 /// Sources, and how each is shown.
@@ -169,22 +179,15 @@ const DIRECTIVES: &[(&[u8], &[u8])] = &[
 ];
 
 #[test]
-fn directives(rt: HostRuntime) -> Result<(), Fail> {
+fn directives(rt: HostRuntime) {
     for (source, expected) in DIRECTIVES {
-        assert!(rt; reads(rt.alloc(), source, expected)?, "{source:?}");
+        assert!(rt; reads(rt.alloc(), source, expected), "{source:?}");
     }
-    Ok(())
 }
 
 // Whether a source is refused with this fault.
 fn refuses(alloc: Global, source: &[u8], fault: AlmFault) -> bool {
-    if source.len() > 4000 {
-        return false;
-    }
-    match parse(alloc, source) {
-        Ok(_) => false,
-        Err(found) => found == fault,
-    }
+    read(alloc, source).err() == Some(fault)
 }
 
 /// Sources with a byte that may not stand there.
