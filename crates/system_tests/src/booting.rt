@@ -251,29 +251,37 @@ fn files(alloc: Global, second: Second) -> Result<Vec<File>, NoMemory> {
     Ok(files)
 }
 
-fn add_line(text: &mut Text, line: &str) -> Result<(), NoMemory> {
-    text.append(line.as_bytes())?;
-    text.push(b'\n')?;
-    Ok(())
+fn text_of(alloc: Global, lines: &[&str]) -> Result<Text, NoMemory> {
+    let mut text = Text::new(alloc);
+    for line in lines {
+        text.append(line.as_bytes())?;
+        text.push(b'\n')?;
+    }
+    Ok(text)
+}
+
+fn read(alloc: Global, text: &[u8]) -> Result<Catalog, BootFault> {
+    if text.len() > 1000 {
+        return Err(BootFault::NoMemory);
+    }
+    match Catalog::read(alloc, text) {
+        Ok(catalog) => Ok(catalog),
+        Err(_) => Err(BootFault::NoMemory),
+    }
 }
 
 // The catalog of a boot text of two segments, of which the second is a gate of a library.
 fn catalog(alloc: Global, frames: &str, main: &str, start: &str) -> Result<Catalog, BootFault> {
-    let mut text = Text::new(alloc);
-    add_line(&mut text, frames)?;
-    add_line(&mut text, "work >udd>demo")?;
-    add_line(&mut text, "library >sss")?;
-    add_line(&mut text, main)?;
-    add_line(&mut text, "segment >sss con_ con_ gate re 0 0 5")?;
-    add_line(&mut text, start)?;
-    let bytes = text.bytes();
-    if bytes.len() > 1000 {
-        return Err(BootFault::NoMemory);
-    }
-    match Catalog::read(alloc, bytes) {
-        Ok(catalog) => Ok(catalog),
-        Err(_) => Err(BootFault::NoMemory),
-    }
+    let lines = [
+        frames,
+        "work >udd>demo",
+        "library >sss",
+        main,
+        "segment >sss con_ con_ gate re 0 0 5",
+        start,
+    ];
+    let text = text_of(alloc, &lines)?;
+    read(alloc, text.bytes())
 }
 
 // The image of such a text.
@@ -319,20 +327,47 @@ fn core_number(image: &Image, a: usize) -> Option<u64> {
     Some(word.value())
 }
 
-#[test]
-fn words_of_an_image(rt: HostRuntime) {
-    let alloc = rt.alloc();
-    let Ok(image) = laid(alloc, "frames 24", MAIN, "start 4 main$cnt", Second::Same) else {
-        assert!(rt; false);
-        return;
-    };
+fn has_core_words(image: &Image) -> bool {
     for (a, number) in core_words() {
-        assert!(rt; core_number(&image, *a) == Some(*number));
+        if core_number(image, *a) != Some(*number) {
+            return false;
+        }
     }
+    true
+}
+
+fn has_segment_words(image: &Image) -> bool
+    requires frames { HasFrames image.now.pager image.now.core }
+    requires reads { Reads image.now.pager image.now.core }
+{
     for (seg, word, number) in segment_words() {
-        assert!(rt; number_at(&image, *seg, *word) == *number);
+        if number_at(image, *seg, *word) != *number {
+            return false;
+        }
     }
+    true
+}
+
+fn has_start(image: &Image) -> bool {
     let regs = &image.regs;
     let entry = regs.ppr;
-    assert!(rt; (entry.psr, entry.prr, entry.ic) == (20, 4, 1032));
+    entry.psr == 20 && entry.prr == 4 && entry.ic == 1032
+}
+
+#[test]
+fn words_of_an_image(rt: HostRuntime) {
+    match laid(
+        rt.alloc(),
+        "frames 24",
+        MAIN,
+        "start 4 main$cnt",
+        Second::Same,
+    ) {
+        Ok(image) => {
+            assert!(rt; has_core_words(&image));
+            assert!(rt; has_segment_words(&image));
+            assert!(rt; has_start(&image));
+        }
+        Err(_) => assert!(rt; false),
+    }
 }

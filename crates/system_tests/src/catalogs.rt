@@ -1,6 +1,6 @@
 //! Boot texts and look-ups worked out by hand.
 
-use m36_dir::{Catalog, CatalogFault, Mode, SegKind};
+use m36_dir::{Catalog, CatalogFault, Mode, SegKind, Segment};
 use m36_outside::Text;
 use m36_word::NoMemory;
 use std::alloc::Global;
@@ -18,6 +18,8 @@ const MAIN: &str = "segment >udd>demo main main object re 4 4 4";
 const CONSOLE: &str = "segment >sss con_ con_ gate rep 0 0 5";
 
 const START: &str = "start 4 main$start";
+
+const LINES: &[&str] = &[FRAMES, WORK, LIBRARY, MAIN, CONSOLE, START];
 
 // The lines, each with its line feed; a line that ends with `%` lacks its line feed and what stands for it.
 fn text_of(alloc: Global, lines: &[&str]) -> Result<Text, NoMemory> {
@@ -48,246 +50,250 @@ fn told(alloc: Global, lines: &[&str]) -> Option<CatalogFault> {
     read(alloc, lines).err()
 }
 
-#[test]
-fn texts_with_one_line_changed(rt: HostRuntime) {
-    let alloc = rt.alloc();
-    for (line, code) in [
-        ("frames 0024", None),
-        ("frames 00000000000000000000000024", None),
-        ("frames 8192", None),
-        ("frames 0", Some(CatalogFault::D1(1))),
-        ("frames 8193", Some(CatalogFault::D1(1))),
-        ("frames +24", Some(CatalogFault::D1(1))),
-        ("frames 24\r", Some(CatalogFault::D1(1))),
-        ("frames  24", Some(CatalogFault::D1(1))),
-    ] {
-        assert_eq!(rt;
-            told(alloc, &[line, WORK, LIBRARY, MAIN, CONSOLE, START]),
-            code
-        );
-    }
-    for (line, code) in [
-        (
-            "segment >udd>demo main main object re 5 4 4",
-            Some(CatalogFault::D4(4)),
-        ),
-        (
-            "segment >udd>demo main main object er 4 4 4",
-            Some(CatalogFault::D3(2)),
-        ),
-        (
-            "segment >udd>demo .x main object re 4 4 4",
-            Some(CatalogFault::D3(2)),
-        ),
-        ("junk", Some(CatalogFault::D3(2))),
-        (
-            "segment >udd>demo main x gate null 4 4 5",
-            Some(CatalogFault::D4(4)),
-        ),
-        ("segment >udd>demo main x data null 4 4 4", None),
-    ] {
-        assert_eq!(rt;
-            told(alloc, &[FRAMES, WORK, LIBRARY, line, CONSOLE, START]),
-            code
-        );
-    }
-    for (line, code) in [
-        (
-            "segment >sss con_ con_ gate rp 0 0 5",
-            Some(CatalogFault::D4(5)),
-        ),
-        (
-            "segment >sss con_ con_ gate rep 0 5 5",
-            Some(CatalogFault::D4(5)),
-        ),
-        ("segment >sss con_ con_ object p 0 5 5", None),
-        (
-            "segment >sss con_ con_ object rep 0 0 8",
-            Some(CatalogFault::D3(3)),
-        ),
-    ] {
-        assert_eq!(rt;
-            told(alloc, &[FRAMES, WORK, LIBRARY, MAIN, line, START]),
-            code
-        );
-    }
-    for line in [
-        "start 4 main$",
-        "start 4 main$a$b",
-        "start 8 main$start",
-        "start 04 main$start",
-        "start 4  main$start",
-        "start 4 main$start ",
-        "start 4 main$start%",
-    ] {
-        assert_eq!(rt;
-            told(alloc, &[FRAMES, WORK, LIBRARY, MAIN, CONSOLE, line]),
-            Some(CatalogFault::D1(6))
-        );
-    }
-}
+/// A line of the text that is changed, counted from 0; what it becomes, and what is told then.
+const CHANGED: &[(usize, &str, Option<CatalogFault>)] = &[
+    (0, "frames 0024", None),
+    (0, "frames 00000000000000000000000024", None),
+    (0, "frames 8192", None),
+    (0, "frames 0", Some(CatalogFault::D1(1))),
+    (0, "frames 8193", Some(CatalogFault::D1(1))),
+    (0, "frames +24", Some(CatalogFault::D1(1))),
+    (0, "frames 24\r", Some(CatalogFault::D1(1))),
+    (0, "frames  24", Some(CatalogFault::D1(1))),
+    (
+        3,
+        "segment >udd>demo main main object re 5 4 4",
+        Some(CatalogFault::D4(4)),
+    ),
+    (
+        3,
+        "segment >udd>demo main main object er 4 4 4",
+        Some(CatalogFault::D3(2)),
+    ),
+    (
+        3,
+        "segment >udd>demo .x main object re 4 4 4",
+        Some(CatalogFault::D3(2)),
+    ),
+    (3, "junk", Some(CatalogFault::D3(2))),
+    (
+        3,
+        "segment >udd>demo main x gate null 4 4 5",
+        Some(CatalogFault::D4(4)),
+    ),
+    (3, "segment >udd>demo main x data null 4 4 4", None),
+    (
+        4,
+        "segment >sss con_ con_ gate rp 0 0 5",
+        Some(CatalogFault::D4(5)),
+    ),
+    (
+        4,
+        "segment >sss con_ con_ gate rep 0 5 5",
+        Some(CatalogFault::D4(5)),
+    ),
+    (4, "segment >sss con_ con_ object p 0 5 5", None),
+    (
+        4,
+        "segment >sss con_ con_ object rep 0 0 8",
+        Some(CatalogFault::D3(3)),
+    ),
+    (5, "start 4 main$", Some(CatalogFault::D1(6))),
+    (5, "start 4 main$a$b", Some(CatalogFault::D1(6))),
+    (5, "start 8 main$start", Some(CatalogFault::D1(6))),
+    (5, "start 04 main$start", Some(CatalogFault::D1(6))),
+    (5, "start 4  main$start", Some(CatalogFault::D1(6))),
+    (5, "start 4 main$start ", Some(CatalogFault::D1(6))),
+    (5, "start 4 main$start%", Some(CatalogFault::D1(6))),
+];
 
-#[test]
-fn texts_with_other_lines(rt: HostRuntime) {
-    let alloc = rt.alloc();
-    let long =
-        "segment >abcdefghi>abcdefghi>abcdefghi>abcdefghi>abcdefghi>abcdefghi>abc x x data r 4 4 4";
-    let longer =
-        "segment >abcdefghi>abcdefghi>abcdefghi>abcdefghi>abcdefghi>abcdefghi>abcd x x data r 4 4 4";
-    let behind = "segment >udd>demo x x data r 4 4 4";
-    let elsewhere = "segment >udd>other main main object re 4 4 4";
-    for (lines, code) in [
-        ([""; 0].as_slice(), Some(CatalogFault::D6(1))),
-        (&[FRAMES], Some(CatalogFault::D6(2))),
-        (&[FRAMES, WORK], Some(CatalogFault::D3(2))),
-        (
-            &[FRAMES, LIBRARY, WORK, MAIN, CONSOLE, START],
-            Some(CatalogFault::D1(2)),
-        ),
-        (
-            &[FRAMES, WORK, WORK, MAIN, START],
-            Some(CatalogFault::D1(3)),
-        ),
-        (
-            &[FRAMES, WORK, MAIN, LIBRARY, CONSOLE, START],
-            Some(CatalogFault::D1(4)),
-        ),
-        (
-            &[FRAMES, WORK, "segment >udd>demo main main object re 4 4 4%"],
-            Some(CatalogFault::D3(2)),
-        ),
-        (
-            &[
-                FRAMES,
-                WORK,
-                "segment >a main main object re 4 4 4",
-                "start 4 main$start",
-                behind,
-            ],
-            Some(CatalogFault::D1(5)),
-        ),
-        (
-            &[FRAMES, WORK, LIBRARY, MAIN, CONSOLE],
-            Some(CatalogFault::D6(6)),
-        ),
-        (
-            &[FRAMES, WORK, LIBRARY, MAIN, MAIN, CONSOLE, START],
-            Some(CatalogFault::D2(5)),
-        ),
-        (
-            &[FRAMES, WORK, LIBRARY, MAIN, "name main", CONSOLE, START],
-            Some(CatalogFault::D2(5)),
-        ),
-        (
-            &[FRAMES, WORK, LIBRARY, MAIN, elsewhere, CONSOLE, START],
-            None,
-        ),
-        (
-            &[FRAMES, WORK, LIBRARY, "name x", MAIN, CONSOLE, START],
-            Some(CatalogFault::D1(4)),
-        ),
-        (
-            &[FRAMES, WORK, LIBRARY, MAIN, CONSOLE, START, ""],
-            Some(CatalogFault::D1(7)),
-        ),
-        (&[FRAMES, WORK, LIBRARY, MAIN, CONSOLE, long, START], None),
-        (
-            &[FRAMES, WORK, LIBRARY, MAIN, CONSOLE, longer, START],
-            Some(CatalogFault::D1(6)),
-        ),
-        (
-            &[
-                FRAMES, WORK, LIBRARY, MAIN, "name a", "name b", "name c", "name d", "name e",
-                "name f", "name g", CONSOLE, START,
-            ],
-            None,
-        ),
-        (
-            &[
-                FRAMES, WORK, LIBRARY, MAIN, "name a", "name b", "name c", "name d", "name e",
-                "name f", "name g", "name h", CONSOLE, START,
-            ],
-            Some(CatalogFault::D5(12)),
-        ),
-        (
-            &[
-                FRAMES, WORK, LIBRARY, MAIN, "name a", "name b", "name c", "name d", "name e",
-                "name f", "name g", "name a", CONSOLE, START,
-            ],
-            Some(CatalogFault::D2(12)),
-        ),
-    ] {
-        assert_eq!(rt; told(alloc, lines), code);
-    }
-}
-
-// A text with so many libraries, and then a line.
-fn with_libraries(alloc: Global, count: u32, line: &str) -> Result<Option<CatalogFault>, NoMemory> {
+// The text with one line changed.
+fn changed(alloc: Global, place: usize, line: &'static str) -> Result<Vec<&'static str>, NoMemory> {
     let mut lines = Vec::new(alloc);
-    lines.push(FRAMES)?;
-    lines.push(WORK)?;
-    for _ in 0..count {
-        lines.push(LIBRARY)?;
+    for (i, old) in LINES.iter().enumerate() {
+        lines.push(if i == place { line } else { *old })?;
     }
-    for last in [line, MAIN, CONSOLE, START] {
-        lines.push(last)?;
-    }
-    Ok(told(alloc, &lines))
+    Ok(lines)
 }
 
 #[test]
-fn libraries(rt: HostRuntime) -> Result<(), Fail> {
-    let alloc = rt.alloc();
-    assert_eq!(rt; with_libraries(alloc, 15, LIBRARY)?, None);
-    assert_eq!(rt;
-        with_libraries(alloc, 16, LIBRARY)?,
-        Some(CatalogFault::D5(19))
-    );
-    assert_eq!(rt;
-        with_libraries(alloc, 16, "library >none")?,
-        Some(CatalogFault::D3(19))
-    );
+fn texts_with_one_line_changed(rt: HostRuntime) -> Result<(), NoMemory> {
+    for (place, line, code) in CHANGED {
+        let lines = changed(rt.alloc(), *place, line)?;
+        assert!(rt; told(rt.alloc(), &lines) == *code, "{line}");
+    }
     Ok(())
 }
 
+/// The line that a letter stands for.
+fn line_of(letter: u8) -> &'static str {
+    match letter {
+        b'F' => FRAMES,
+        b'W' => WORK,
+        b'L' => LIBRARY,
+        b'M' => MAIN,
+        b'C' => CONSOLE,
+        b'S' => START,
+        b'a' => "name a",
+        b'b' => "name b",
+        b'c' => "name c",
+        b'd' => "name d",
+        b'e' => "name e",
+        b'f' => "name f",
+        b'g' => "name g",
+        b'h' => "name h",
+        b'm' => "name main",
+        b's' => "name start",
+        b'x' => "name x",
+        b'A' => "segment >a main main object re 4 4 4",
+        b'B' => "segment >udd>demo x x data r 4 4 4",
+        b'E' => "segment >udd>other main main object re 4 4 4",
+        b'K' => "segment >udd>demo main main object re 4 4 4%",
+        b'N' => "library >none",
+        b'P' => {
+            "segment >abcdefghi>abcdefghi>abcdefghi>abcdefghi>abcdefghi>abcdefghi>abc x x data r 4 4 4"
+        }
+        b'Q' => {
+            "segment >abcdefghi>abcdefghi>abcdefghi>abcdefghi>abcdefghi>abcdefghi>abcd x x data r 4 4 4"
+        }
+        _ => "",
+    }
+}
+
+fn lines_of(alloc: Global, letters: &str) -> Result<Vec<&'static str>, NoMemory> {
+    let mut lines = Vec::new(alloc);
+    for letter in letters.as_bytes() {
+        lines.push(line_of(*letter))?;
+    }
+    Ok(lines)
+}
+
+/// Texts by the letters of their lines, where `.` is an empty line; and what is told of each.
+const OTHERS: &[(&str, Option<CatalogFault>)] = &[
+    ("", Some(CatalogFault::D6(1))),
+    ("F", Some(CatalogFault::D6(2))),
+    ("FW", Some(CatalogFault::D3(2))),
+    ("FLWMCS", Some(CatalogFault::D1(2))),
+    ("FWWMS", Some(CatalogFault::D1(3))),
+    ("FWMLCS", Some(CatalogFault::D1(4))),
+    ("FWK", Some(CatalogFault::D3(2))),
+    ("FWASB", Some(CatalogFault::D1(5))),
+    ("FWLMC", Some(CatalogFault::D6(6))),
+    ("FWLMMCS", Some(CatalogFault::D2(5))),
+    ("FWLMmCS", Some(CatalogFault::D2(5))),
+    ("FWLMECS", None),
+    ("FWLxMCS", Some(CatalogFault::D1(4))),
+    ("FWLMCS.", Some(CatalogFault::D1(7))),
+    ("FWLMCPS", None),
+    ("FWLMCQS", Some(CatalogFault::D1(6))),
+    ("FWLMabcdefgCS", None),
+    ("FWLMabcdefghCS", Some(CatalogFault::D5(12))),
+    ("FWLMabcdefgaCS", Some(CatalogFault::D2(12))),
+];
+
+#[test]
+fn texts_with_other_lines(rt: HostRuntime) -> Result<(), NoMemory> {
+    for (letters, code) in OTHERS {
+        let lines = lines_of(rt.alloc(), letters)?;
+        assert!(rt; told(rt.alloc(), &lines) == *code, "{letters}");
+    }
+    Ok(())
+}
+
+/// How many libraries a text has, the letter of the line behind them, and what is told of it.
+const LIBRARIES: &[(u32, u8, Option<CatalogFault>)] = &[
+    (15, b'L', None),
+    (16, b'L', Some(CatalogFault::D5(19))),
+    (16, b'N', Some(CatalogFault::D3(19))),
+];
+
+// A text with so many libraries, and then a line.
+fn with_libraries(alloc: Global, count: u32, letter: u8) -> Result<Vec<&'static str>, NoMemory> {
+    let mut lines = lines_of(alloc, "FW")?;
+    for _ in 0..count {
+        lines.push(LIBRARY)?;
+    }
+    for last in [line_of(letter), MAIN, CONSOLE, START] {
+        lines.push(last)?;
+    }
+    Ok(lines)
+}
+
+#[test]
+fn libraries(rt: HostRuntime) -> Result<(), NoMemory> {
+    for (count, letter, code) in LIBRARIES {
+        let lines = with_libraries(rt.alloc(), *count, *letter)?;
+        assert!(rt; told(rt.alloc(), &lines) == *code, "{count}");
+    }
+    Ok(())
+}
+
+// The catalog in which is looked.
+fn sought(alloc: Global) -> Result<Catalog, Fail> {
+    let lines = lines_of(alloc, "FWLCMsS")?;
+    Ok(read(alloc, &lines)?)
+}
+
+fn is_headed(catalog: &Catalog) -> bool {
+    catalog.frames() == 24
+        && catalog.work() == 1
+        && catalog.directory(catalog.work()) == b">udd>demo".as_slice()
+        && catalog.libraries() == [0u16].as_slice()
+}
+
+fn is_started(catalog: &Catalog) -> bool {
+    let start = catalog.start();
+    start.ring == 4
+        && start.name.bytes() == b"main".as_slice()
+        && start.entry.bytes() == b"start".as_slice()
+}
+
+#[test]
+fn heads(rt: HostRuntime) -> Result<(), Fail> {
+    let catalog = sought(rt.alloc())?;
+    assert!(rt; is_headed(&catalog));
+    assert!(rt; is_started(&catalog));
+    Ok(())
+}
+
+/// Directories, names, and the segment that is found.
+const FOUND: &[(u16, &[u8], Option<usize>)] = &[
+    (0, b"con_", Some(0)),
+    (1, b"main", Some(1)),
+    (1, b"start", Some(1)),
+    (0, b"main", None),
+    (2, b"main", None),
+];
+
 #[test]
 fn look_ups(rt: HostRuntime) -> Result<(), Fail> {
-    let mut catalog = read(
-        rt.alloc(),
-        &[FRAMES, WORK, LIBRARY, CONSOLE, MAIN, "name start", START],
-    )?;
-    assert_eq!(rt; catalog.frames(), 24);
-    let work = catalog.work();
-    assert_eq!(rt; work, 1);
-    assert!(rt; catalog.directory(work) == b">udd>demo".as_slice());
-    assert_eq!(rt; catalog.libraries(), [0u16].as_slice());
-    assert_eq!(rt; catalog.start().ring, 4);
-    assert!(rt; catalog.start().name.bytes() == b"main".as_slice());
-    assert!(rt; catalog.start().entry.bytes() == b"start".as_slice());
-    for (dir, name, found) in [
-        (0, b"con_".as_slice(), Some(0)),
-        (1, b"main", Some(1)),
-        (1, b"start", Some(1)),
-        (0, b"main", None),
-        (2, b"main", None),
-    ] {
-        assert_eq!(rt; catalog.find(dir, name), found);
+    let catalog = sought(rt.alloc())?;
+    for (dir, name, found) in FOUND {
+        assert!(rt; catalog.find(*dir, name) == *found, "{dir} {name:?}");
     }
+    Ok(())
+}
+
+const EXECUTED_AND_WRITTEN: Mode = Mode {
+    readable: false,
+    executable: true,
+    writable: true,
+    privileged: false,
+};
+
+fn is_main(segment: &Segment) -> bool {
+    segment.dir == 1
+        && segment.kind == SegKind::Object
+        && segment.mode == EXECUTED_AND_WRITTEN
+        && segment.r3 == 4
+        && segment.names.items().len() == 2
+}
+
+#[test]
+fn rights_that_are_set(rt: HostRuntime) -> Result<(), Fail> {
+    let mut catalog = sought(rt.alloc())?;
     assert_eq!(rt; catalog.count(), 2);
     catalog.set_rights(1, false, true, true);
-    let main = catalog.segment(1);
-    assert_eq!(rt; main.dir, 1);
-    assert_eq!(rt; main.kind, SegKind::Object);
-    assert_eq!(rt;
-        main.mode,
-        Mode {
-            readable: false,
-            executable: true,
-            writable: true,
-            privileged: false
-        }
-    );
-    assert_eq!(rt; main.r3, 4);
-    assert_eq!(rt; main.names.items().len(), 2);
+    assert!(rt; is_main(catalog.segment(1)));
     Ok(())
 }

@@ -1,7 +1,7 @@
 //! Links of small objects, worked out by hand.
 
-use m36_dir::Catalog;
-use m36_link::{File, Known, Laid, LinkFault, Snap, link_laws};
+use m36_dir::{Catalog, CatalogFault};
+use m36_link::{File, Known, Laid, LinkFault, link_laws};
 use m36_model::{At, LinkCode};
 use m36_outside::Text;
 use m36_text::Name;
@@ -154,10 +154,12 @@ const PAIRS: [(u32, u64, u64); 7] = [
     (0o2022, 0o000101400043, 0o000001000000),
 ];
 
-/// What the file of q is.
+/// What a file is.
 #[derive(Clone, Copy)]
 enum Kind {
-    /// As above.
+    /// That of m.
+    Caller,
+    /// That of q, as above.
     Small,
     /// No object.
     Plain,
@@ -278,8 +280,9 @@ fn long_file(alloc: Global) -> Result<File, NoMemory> {
     read(alloc, words)
 }
 
-fn file_of_q(alloc: Global, kind: Kind) -> Result<File, NoMemory> {
+fn file_of(alloc: Global, kind: Kind) -> Result<File, NoMemory> {
     match kind {
+        Kind::Caller => file(alloc, words_of_m()),
         Kind::Small => file(alloc, words_of_q()),
         Kind::Plain => file(alloc, no_object()),
         Kind::Long => long_file(alloc),
@@ -287,99 +290,80 @@ fn file_of_q(alloc: Global, kind: Kind) -> Result<File, NoMemory> {
 }
 
 // The files of m, q and d.
-fn files(alloc: Global, kind: Kind) -> Result<Vec<File>, Fail> {
+fn files(alloc: Global, kind: Kind) -> Result<Vec<File>, NoMemory> {
     let mut files = Vec::new(alloc);
-    files.push(file(alloc, words_of_m())?)?;
-    files.push(file_of_q(alloc, kind)?)?;
-    files.push(file(alloc, no_object())?)?;
+    for kind in [Kind::Caller, kind, Kind::Plain] {
+        files.push(file_of(alloc, kind)?)?;
+    }
     Ok(files)
 }
 
 // Segments m, q and d, where q has a line of its own.
-fn catalog(alloc: Global, line: &[u8]) -> Result<Catalog, Fail> {
-    let mut text = Text::new(alloc);
-    text.append(b"frames 24\nwork a\nsegment a m m object re 4 4 4\n")?;
-    text.append(line)?;
-    text.append(b"segment a d d data r 4 4 4\nstart 4 m$go\n")?;
+fn catalog(alloc: Global, line: &[u8]) -> Result<Catalog, CatalogFault> {
+    let text = text_of(alloc, line)?;
     if text.bytes().len() > 1000 {
-        return Err(Fail::from("the text is long"));
+        return Err(CatalogFault::NoMemory);
     }
-    Ok(Catalog::read(alloc, text.bytes())?)
+    Catalog::read(alloc, text.bytes())
 }
 
-// m is started in ring 4, so its section of 28 words is laid at word 2000 octal.
-fn started(alloc: Global, catalog: &Catalog, files: &[File]) -> Result<Known, LinkFault> {
-    link_laws();
-    let link = Link {
+fn text_of(alloc: Global, line: &[u8]) -> Result<Text, NoMemory> {
+    let mut text = Text::new(alloc);
+    for part in [
+        b"frames 24\nwork a\nsegment a m m object re 4 4 4\n".as_slice(),
+        line,
+        b"segment a d d data r 4 4 4\nstart 4 m$go\n",
+    ] {
+        text.append(part)?;
+    }
+    Ok(text)
+}
+
+fn entry_of_m() -> Link {
+    Link {
         name: Name::new(b"m").unwrap_or_default(),
         entry: Name::new(b"go").unwrap_or_default(),
         expr: 0,
         kind: 4,
         section: Section::Text,
         modifier: 0,
-    };
+    }
+}
+
+// m is started in ring 4, so its section of 28 words is laid at word 2000 octal.
+fn started(alloc: Global, catalog: &Catalog, files: &[File]) -> Result<Known, LinkFault> {
+    link_laws();
+    let link = entry_of_m();
     let mut known = Known::new(alloc)?;
     let snap = known.resolve_from(alloc, catalog, files, 4, &link, catalog.work())?;
     known.accept(&snap)?;
     Ok(known)
 }
 
-// Serves the link at a word of the linkage segment of ring 4.
-fn served(
-    alloc: Global,
-    known: &mut Known,
-    catalog: &Catalog,
-    files: &[File],
-    word: u32,
-) -> Result<Snap, LinkFault> {
-    link_laws();
-    let at = At {
-        word: word % 0o10000,
-        seg: 0o24,
-        ring: 4,
-    };
-    let snap = known.resolve(alloc, catalog, files, at)?;
-    known.accept(&snap)?;
-    Ok(snap)
-}
-
-fn pair_of(snap: &Snap) -> (u64, u64) {
-    let pair = snap.pair;
-    (pair.even.value(), pair.odd.value())
-}
-
-// The code with which a link is refused, once m is started.
-fn code_of(
-    alloc: Global,
-    line: &[u8],
-    kind: Kind,
-    word: u32,
-    ring: u8,
-) -> Result<Option<LinkCode>, Fail> {
-    let catalog = catalog(alloc, line)?;
-    let files = files(alloc, kind)?;
-    let known = started(alloc, &catalog, &files)?;
-    let at = At {
+// A word of the linkage segment of ring 4.
+fn place(word: u32, ring: u8) -> At {
+    At {
         word: word % 0o10000,
         seg: 0o24,
         ring: ring % 8,
-    };
-    match known.resolve(alloc, &catalog, &files, at) {
-        Err(LinkFault::Refused(code, _)) => Ok(Some(code)),
-        _ => Ok(None),
     }
 }
 
-#[test]
-fn links_lead_to_their_words(rt: HostRuntime) -> Result<(), Fail> {
-    let alloc = rt.alloc();
-    let catalog = catalog(alloc, OWN)?;
-    let files = files(alloc, Kind::Small)?;
-    let mut known = started(alloc, &catalog, &files)?;
-    for (word, even, odd) in pairs() {
-        let snap = served(alloc, &mut known, &catalog, &files, *word)?;
-        assert!(rt; pair_of(&snap) == (*even, *odd));
-    }
+// Whether a link is served, and becomes this pair.
+fn leads(
+    alloc: Global,
+    known: &mut Known,
+    (catalog, files): (&Catalog, &[File]),
+    (word, even, odd): (u32, u64, u64),
+) -> Result<bool, LinkFault> {
+    let snap = known.resolve(alloc, catalog, files, place(word, 4))?;
+    known.accept(&snap)?;
+    let pair = snap.pair;
+    Ok(pair.even.value() == even && pair.odd.value() == odd)
+}
+
+// Whether the sections of m and q are laid, and no others.
+fn are_laid(laid: &[Laid]) -> bool {
     let m = Laid {
         base: 0o2000,
         size: 28,
@@ -392,15 +376,55 @@ fn links_lead_to_their_words(rt: HostRuntime) -> Result<(), Fail> {
         seg: 0o101,
         ring: 4,
     };
-    assert!(rt; known.laid() == [m, q].as_slice());
+    laid == [m, q].as_slice()
+}
+
+// Whether all links are served, and the sections are laid then.
+fn lead(alloc: Global, catalog: &Catalog, files: &[File]) -> Result<bool, LinkFault> {
+    let mut known = started(alloc, catalog, files)?;
+    for row in pairs() {
+        if !leads(alloc, &mut known, (catalog, files), *row)? {
+            return Ok(false);
+        }
+    }
+    Ok(are_laid(known.laid()))
+}
+
+// The code with which a link is refused, once m is started.
+fn code_over(alloc: Global, catalog: &Catalog, files: &[File], at: At) -> Option<LinkCode> {
+    let Ok(known) = started(alloc, catalog, files) else {
+        return None;
+    };
+    match known.resolve(alloc, catalog, files, at) {
+        Err(LinkFault::Refused(code, _)) => Some(code),
+        _ => None,
+    }
+}
+
+// The same, where q has this line and this file.
+fn code_of(alloc: Global, line: &[u8], kind: Kind, at: At) -> Option<LinkCode> {
+    let Ok(catalog) = catalog(alloc, line) else {
+        return None;
+    };
+    match files(alloc, kind) {
+        Ok(files) => code_over(alloc, &catalog, &files, at),
+        Err(_) => None,
+    }
+}
+
+#[test]
+fn links_lead_to_their_words(rt: HostRuntime) -> Result<(), Fail> {
+    let alloc = rt.alloc();
+    let catalog = catalog(alloc, OWN)?;
+    let files = files(alloc, Kind::Small)?;
+    assert!(rt; lead(alloc, &catalog, &files)?);
     Ok(())
 }
 
 #[test]
-fn links_are_refused_by_their_first_code(rt: HostRuntime) -> Result<(), Fail> {
+fn links_are_refused_by_their_first_code(rt: HostRuntime) {
     for (line, kind, word, ring, expected) in refused() {
-        let code = code_of(rt.alloc(), line, *kind, *word, *ring)?;
+        let code = code_of(rt.alloc(), line, *kind, place(*word, *ring));
         assert!(rt; code == Some(*expected));
     }
-    Ok(())
 }

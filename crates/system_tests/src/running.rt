@@ -174,12 +174,24 @@ fn turns(rt: &impl Abort, system: &mut Super) -> bool {
     true
 }
 
+/// Places in segments, and the word that stands there behind them.
+const BEHIND: &[(u16, u32, Option<u64>)] = &[
+    (16, 65, Some(0o000020002000)),
+    (20, 65, Some(0)),
+    (66, 0, None),
+];
+
+fn number_at(system: &Super, seg: u16, word: u32) -> Option<u64> {
+    let word = system.content(seg % 0o100000, word % 0o1000000)?;
+    Some(word.value())
+}
+
 // What stands behind them.
 fn behind(rt: &impl Abort, system: &mut Super) {
     assert!(rt; system.regs().ppr.ic == 1);
-    assert!(rt; system.content(16, 65) == Some(Word::low(0o000020002000)));
-    assert!(rt; system.content(20, 65) == Some(Word::ZERO));
-    assert!(rt; system.content(66, 0) == None);
+    for (seg, word, number) in BEHIND {
+        assert!(rt; number_at(system, *seg, *word) == *number);
+    }
     assert!(rt; system.back(1) == BackAnswer::Unable);
 }
 

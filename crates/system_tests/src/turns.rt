@@ -5,7 +5,6 @@ use m36_model::{At, End, Fault, LinkCode, Stop};
 use m36_step::{ConsoleNote, LinkNote};
 use m36_turns::{console_line, link_line, run_end_line};
 use m36_word::{Pair, Word};
-use std::test::Fail;
 
 const PLACE: At = At {
     word: 0o2010,
@@ -14,7 +13,7 @@ const PLACE: At = At {
 };
 
 /// The link, the code, and the line.
-const REFUSED: [(&[u8], LinkCode, &[u8]); 3] = [
+const REFUSED: &[(&[u8], LinkCode, &[u8])] = &[
     (b"?", LinkCode::L1, b"link 4 00024|002010 ? L1"),
     (b"d$", LinkCode::L5(1), b"link 4 00024|002010 d$ L5"),
     (
@@ -24,10 +23,11 @@ const REFUSED: [(&[u8], LinkCode, &[u8]); 3] = [
     ),
 ];
 
-fn note(name: &[u8], answer: Result<Pair, LinkCode>) -> Result<LinkNote, Fail> {
+// The line of a link by its name and what was answered; None where the name is too long.
+fn link(name: &[u8], answer: Result<Pair, LinkCode>) -> Option<LinkNote> {
     let mut text = ArrayVec::new();
-    text.try_extend_from_slice(name)?;
-    Ok(LinkNote {
+    text.try_extend_from_slice(name).ok()?;
+    Some(LinkNote {
         name: text,
         answer,
         at: PLACE,
@@ -35,45 +35,57 @@ fn note(name: &[u8], answer: Result<Pair, LinkCode>) -> Result<LinkNote, Fail> {
     })
 }
 
+fn has_line(name: &[u8], answer: Result<Pair, LinkCode>, line: &[u8]) -> bool {
+    match link(name, answer) {
+        Some(note) => link_line(&note).as_slice() == line,
+        None => false,
+    }
+}
+
 #[test]
-fn services_have_their_lines(rt: HostRuntime) -> Result<(), Fail> {
+fn links_have_their_lines(rt: HostRuntime) {
     let pair = Pair {
         even: Word::low(0o000101400043),
         odd: Word::low(0),
     };
-    let snapped = note(b"con_$write", Ok(pair))?;
-    let line = b"link 4 00024|002010 con_$write 000101400043 000000000000".as_slice();
-    assert!(rt; link_line(&snapped).as_slice() == line);
+    let line = b"link 4 00024|002010 con_$write 000101400043 000000000000";
+    assert!(rt; has_line(b"con_$write", Ok(pair), line));
     for (name, code, line) in REFUSED {
-        let refused = note(name, Err(code))?;
-        assert!(rt; link_line(&refused).as_slice() == line);
+        assert!(rt; has_line(name, Err(*code), line), "{name:?}");
     }
-    let mut bytes = ArrayVec::new();
-    bytes.try_extend_from_slice(b" hello~\\\n\x7f\xff".as_slice())?;
-    let written = console_line(&ConsoleNote { bytes });
-    assert!(rt; written.as_slice() == b"console  hello~\\134\\012\\177\\377".as_slice());
-    Ok(())
+}
+
+const WRITTEN: &[u8] = b" hello~\\\n\x7f\xff";
+
+const CONSOLE: &[u8] = b"console  hello~\\134\\012\\177\\377";
+
+fn console(bytes: &[u8]) -> Option<ConsoleNote> {
+    let mut text = ArrayVec::new();
+    text.try_extend_from_slice(bytes).ok()?;
+    Some(ConsoleNote { bytes: text })
 }
 
 #[test]
-fn runs_end_with_their_lines(rt: HostRuntime) -> Result<(), Fail> {
+fn console_has_its_line(rt: HostRuntime) {
+    match console(WRITTEN) {
+        Some(note) => assert!(rt; console_line(&note).as_slice() == CONSOLE),
+        None => assert!(rt; false),
+    }
+}
+
+#[test]
+fn runs_end_with_their_lines(rt: HostRuntime) {
     let fault = Fault {
         number: 20,
         acv: 3,
         at: PLACE,
     };
-    assert_eq!(rt;
-        run_end_line(End::Fault(fault), 7).as_str(),
-        "end fault 20.3 7"
-    );
-    assert_eq!(rt;
-        run_end_line(End::Stop(Stop::Tag), 7).as_str(),
-        "end stop tag 7"
-    );
-    assert_eq!(rt;
-        run_end_line(End::Link(LinkCode::L2), 13).as_str(),
-        "end link L2 13"
-    );
-    assert_eq!(rt; run_end_line(End::Console, 0).as_str(), "end console 0");
-    Ok(())
+    for (end, turns, line) in [
+        (End::Fault(fault), 7, "end fault 20.3 7"),
+        (End::Stop(Stop::Tag), 7, "end stop tag 7"),
+        (End::Link(LinkCode::L2), 13, "end link L2 13"),
+        (End::Console, 0, "end console 0"),
+    ] {
+        assert!(rt; run_end_line(end, turns).as_str() == line, "{line}");
+    }
 }
