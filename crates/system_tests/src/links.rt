@@ -356,6 +356,7 @@ fn leads(
     (catalog, files): (&Catalog, &[File]),
     (word, even, odd): (u32, u64, u64),
 ) -> Result<bool, LinkFault> {
+    link_laws();
     let snap = known.resolve(alloc, catalog, files, place(word, 4))?;
     known.accept(&snap)?;
     let pair = snap.pair;
