@@ -1,7 +1,7 @@
 //! Folders with access lists. What is expected was worked out by hand.
 
 use crate::memory::{File, assemble, folder_of, run};
-use m36_outside::MemSink;
+use m36_outside::{MemFolder, MemSink};
 use m36_word::NoMemory;
 use std::alloc::Global;
 
@@ -54,23 +54,26 @@ segment
 
 const ASSEMBLIES: &[&[u8]] = &[b"alm main", b"alm go"];
 
-// Whether a command comes to this over a folder of these sources, assembled, a boot text and access lists.
+const FILES: &[File] = &[(b"main.alm", MAIN), (b"go.alm", GO), (b"dat", &[0; 9])];
+
+// A folder of the sources, assembled, with a boot text and access lists.
+fn listed(alloc: Global, boot: &[u8], lists: &[u8]) -> Result<MemFolder, NoMemory> {
+    let mut folder = folder_of(alloc, FILES, &[], &[])?;
+    folder.add(b"boot", boot)?;
+    folder.add(b"acl", lists)?;
+    assemble(alloc, ASSEMBLIES, &mut folder)?;
+    Ok(folder)
+}
+
+// Whether a command comes to this over such a folder.
 fn says(
     alloc: Global,
-    texts: (&[u8], &[u8]),
+    (boot, lists): (&[u8], &[u8]),
     command: &[u8],
     number: u8,
     output: &[u8],
 ) -> Result<bool, NoMemory> {
-    let files: [File; 5] = [
-        (b"boot", texts.0),
-        (b"acl", texts.1),
-        (b"main.alm", MAIN),
-        (b"go.alm", GO),
-        (b"dat", &[0; 9]),
-    ];
-    let mut folder = folder_of(alloc, &files, &[], &[])?;
-    assemble(alloc, ASSEMBLIES, &mut folder)?;
+    let mut folder = listed(alloc, boot, lists)?;
     let mut out = MemSink::new(alloc, 10_000, &[])?;
     let status = run(alloc, command, &mut folder, &mut out)?;
     Ok(status.number() == number && out.bytes() == output)
