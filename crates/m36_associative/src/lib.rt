@@ -11,7 +11,8 @@
 //! - `page` gives the page of a word, where it is in front and the marks of a reference to it stand already;
 //! - `enter` puts a page in front;
 //! - `store` and `mark` are how core is written where something may be kept. A word from which an entry was read, or that
-//!   was passed to find one, empties all when it is written; a mark does so where a descriptor was read from its word.
+//!   was passed to find one, empties all when it is written. A mark that changes a word does so where a descriptor was read
+//!   from it, and else takes the pages out of the front.
 //!
 //! A page in front answers without asking the memories behind it. So it is told there later that it was used: `settle`
 //! does so, oldest first, before the memories are asked, and whoever looks at their order calls it first.

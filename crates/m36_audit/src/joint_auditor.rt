@@ -181,7 +181,7 @@ fn jointly_judged(
 /// with equal descriptors, nor a segment word of one on one of another, but for the same word of such segments. The
 /// findings are those of each process in order, and then for each condition between processes that fails the least core
 /// word that breaks it. Where there is none, every schedule of the processes is isolated in each ring from 1 to 7. The
-/// error is want of memory alone, and that is taken before anything is looked at.
+/// error is want of memory alone, and that is taken before any finding is made.
 pub fn joint(alloc: Global, core: &Core, dbrs: &[Dbr]) -> Result<Joint, NoMemory>
     requires some { 1 ≤ length dbrs.now }
     requires few { length dbrs.now ≤ 8 }

@@ -34,7 +34,8 @@
 //! there, which have a word of a segment, and which tables these are; each descriptor has the number of the first one with
 //! its words, so the page tables of equal descriptors are one table. Runs are counted once more, over all processes, of the
 //! first segments alone. So the work grows with the words of core, of the descriptors and of the page tables, and not with
-//! pairs of them. All memory is taken before anything is looked at.
+//! pairs of them. The numbers of the descriptors are told by a map, with an entry for each different descriptor of the processes.
+//! All memory is taken before any finding is made.
 //!
 //! Source: Multics Processor Manual AL39, "Addressing -- segmentation and paging", "Access control"; Schroeder and Saltzer,
 //! "A hardware architecture for implementing protection rings" (1972). The six conditions are this project's choice.

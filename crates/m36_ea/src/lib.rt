@@ -6,7 +6,7 @@
 //! falls: each pair raises it to the ring that it names and to the first bracket of the segment that holds it.
 //!
 //! The contract of [`effective`] is that its answer, core, and the completed references are those of the address chain
-//! over core as it stands. It takes no memory. A tally word is counted, and its Write is examined and marked; its new
+//! over core as it stands. It never ends for want of memory. A tally word is counted, and its Write is examined and marked; its new
 //! value is written by the instruction, together with all else that it writes, and until then [`pending`] tells it to the
 //! references of the operand.
 //!

@@ -7,7 +7,8 @@
 //! The code is ordinary emulator code. It fetches the instruction, looks up its row, asks for the right to it, forms the
 //! address, references the operand by its kind, and computes the effect; nothing is written before. Then the words
 //! are written, that of the tally first, and the registers take their new values. A refusal anywhere before leaves
-//! registers and words as they were but for the marks of the references that were completed. A step takes no memory.
+//! registers and words as they were but for the marks of the references that were completed. No step ends for want of
+//! memory.
 //!
 //! Frequent instructions on a word or a pair, shifts, transfers, CALL6 and RTCD go a shorter way by the same parts: a
 //! reference answers a word or a place alone, the effect is made in the registers, and the record is filled as the step

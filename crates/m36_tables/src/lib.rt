@@ -2,8 +2,8 @@
 //!
 //! A segment is found in core by tables: the descriptor segment base register says where the descriptors lie, a
 //! descriptor where the words of its segment lie or its page table, and a page table word which frame holds a page.
-//! No other crate takes these words apart. The walk of a reference, the audit, and whoever asks where a word lies or
-//! what it holds, read through the calls of this crate:
+//! The walk of a reference, the audit, and whoever asks where a word lies or what it holds, read through the calls of this
+//! crate; `m36_associative` alone takes apart, beside it, words that it has read by these calls and keeps:
 //!
 //! - `descriptor` gives the descriptor of a live segment, or why there is none; `descriptor_place` where its two words
 //!   lie, and `directory_at` the page table word of the descriptor segment by which they are found;

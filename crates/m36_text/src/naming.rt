@@ -1,4 +1,4 @@
-//! Names of segments, directories, symbols and users.
+//! Names of segments, files, entries and symbols.
 
 ghost use Rattle.std.specs.Prelude.{ℕ, List, [], ◌∷◌, ◌++◌, ◌≡◌, ◌≤◌, length, OnOk, OnErr};
 ghost use Rattle.std.specs.Option.{SomeIff};

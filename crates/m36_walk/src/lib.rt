@@ -7,7 +7,8 @@
 //!
 //! The contract of each call that a step makes is that the store of core words serves the request so: `serves` says,
 //! whatever the step has claimed and referred to before, what the reply is and how core stands afterwards. A refused
-//! reference changes nothing. No call takes memory, and each finds its descriptors in core as it stands.
+//! reference changes nothing. Each call answers by the descriptors of core as it stands. What the tables have told is kept,
+//! where there is memory for it; no call but `new` and `copy` ends for want of memory.
 //!
 //! Source: Multics Processor Manual AL39, "Address appending", "Segment descriptor word", "Page table word", "Access
 //! control".
