@@ -7,7 +7,7 @@
 //! of either. What core and pager of an image stand for is the flat memory of the catalog and the files; the core is laid as
 //! the laws of flat memory ask, and the pager has the pages of the image's segments and no others. Every page is put away at
 //! first, so no more of core is taken than the frames of the catalog. The work grows with the words of the segments and of
-//! core. No command calls it yet.
+//! core.
 //!
 //! Source: the layout is this project's own; descriptors, page tables, pointers and rings are those of the Multics
 //! Processor Manual AL39, stacks, linkage sections and the LOT after the Multics Programmers' Manual AG91.

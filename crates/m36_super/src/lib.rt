@@ -11,7 +11,7 @@
 //! flat run, the core stays that of the booted image, and the audit conditions are kept, services included.
 //!
 //! `specs/` says what the next turn of a run may be (`BootedRun`), what a service does (`Services`), and what the flat
-//! run is (`FlatRun`); the booted image is that of `m36_boot`. No command calls it yet.
+//! run is (`FlatRun`); the booted image is that of `m36_boot`.
 //!
 //! The layout, the services and their rules are this simulator's own; descriptors, page tables and faults are those of
 //! the Multics Processor Manual AL39.

@@ -29,7 +29,7 @@
 //! - What is written is a first part of the stated output, and the whole of it where the call answers Done, AuditNo,
 //!   MachineStop or Steps. Each answer comes exactly where it is due, in the order words, file, image, audit, run; a fault
 //!   has its cause outside; and want of memory alone may stand in the place of an answer, with nothing written, or with all
-//!   that goes before a link service that found none.
+//!   that goes before a link service or a line of a session that found none; of `make` with none of its files, or all of them.
 //! - Where the files are accepted and so is what the command needs beside them, as an audit that passes and a run that comes
 //!   to DIS, the call answers Done, or no memory was found; over objects that never fail no fault comes. `specs/Done.antt`
 //!   has what each command needs.
