@@ -267,7 +267,8 @@ fn meaning(alloc: Global, lines: &Lines36) -> Result<Object, AlmFault>
 }
 
 /// The object of lines. It is refused exactly where a line is, with the first of the codes E5 to E8 in the order of the
-/// text, and the least of them at one place; or where no memory is found.
+/// text, and the least of them at one place; or else where it has more than 2^18 words, with E8 at the last line; or where
+/// no memory is found.
 #[tactic(auto, using(crate::proofs::Assembling::says_assembles))]
 pub fn assemble(alloc: Global, lines: &Lines36) -> Result<Object, AlmFault>
     ensures says { ParseSays result (assembled lines.now) }

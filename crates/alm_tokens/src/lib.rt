@@ -9,7 +9,7 @@
 //! What is promised, for every text of fewer than 2^32 bytes: each call gives exactly what `specs/` has under its name. A
 //! text is parted into exactly its lines, a line into its labels, its operation and its operand, and an operand into its
 //! members or its terms, each told by its place; and what is a symbol, a number, a register or a modifier is decided as
-//! defined. Each place that is told lies in the text, and each number has its width. Errors are want of memory alone.
+//! defined. Each place that is told of what lies in the text lies in it, and each number has its width. Errors are want of memory alone.
 //!
 //! Source: Multics Processor Manual AL39, "Address modification" for the names of registers and modifiers. The rest is this
 //! project's own profile of the assembler of Multics.

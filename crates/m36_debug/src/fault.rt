@@ -14,7 +14,7 @@ pub enum SessionFault {
     /// There are more than 1,048,576 bytes, and none of the whole lines in so many is `quit`.
     #[error("the input is too long")]
     TooLong,
-    /// No memory was found: by a turn of the machine, in going back, or for a line that is not whole yet.
+    /// No memory was found: by a turn of the machine, in going back, or for a line of the input.
     #[error("no memory")]
     NoMemory,
 }

@@ -1,10 +1,10 @@
 -- The lines of a boot text, each read by itself.
 --
---     frames N                                     N decimal, 1 to 8192
+--     frames N                                  N decimal, 1 to 8192
 --     work DIR
 --     library DIR
---     segment DIR NAME FILE KIND MODE R1 R2 R3      KIND object, gate or data; each ring one octal
---     digit name NAME
+--     segment DIR NAME FILE KIND MODE R1 R2 R3  KIND object, gate or data; a ring one octal digit
+--     name NAME
 --     start RING NAME$ENTRY
 --
 -- The words of a line are parted by single spaces. MODE is one or more of the letters r, e, w and p

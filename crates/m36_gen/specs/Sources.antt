@@ -1,4 +1,5 @@
--- The sources of a seed: 64 programs, each of which calls the next, and the gate that stops.
+-- The sources of a seed: 64 programs, of which each goes on to the next and the last calls
+-- the gate, and the gate, which stops.
 use Rattle.std.specs.Prelude.{ℕ, ◌+◌, nat_eq, if◌then◌else◌, List, ◌++◌, codes}
 use Rattle.m36_gen.specs.declared.draws.Draws.{Draws}
 use Rattle.m36_gen.specs.Lines.{line, numbered}

@@ -10,7 +10,7 @@ pub struct Draws {
     pub add: u64,
     /// How often it goes round: 1 to 200.
     pub count: u64,
-    /// Where in the data its words stand: below 2^16.
+    /// Where in the data its words stand, from the word behind it on: below 2^16.
     pub offset: u64,
 }
 

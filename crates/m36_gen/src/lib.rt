@@ -1,7 +1,7 @@
 //! The generator: a folder with a system to boot, made from a seed.
 //!
 //! [`make`] gives the files of a seed: the sources of 64 programs, each of which adds to an index register in a loop, leaves
-//! the sums in a data segment, and calls the next; a gate of ring 0 that stops; the words of the data, all zero; and the boot
+//! the sums in a data segment, and goes on to the next; a gate of ring 0 that stops; the words of the data, all zero; and the boot
 //! text. The seed draws what each program adds, how often, and where its words stand. The same seed makes the same files.
 //!
 //! What is proved: the files are exactly those that `specs/Folder.antt` defines, with each byte a function of the seed, and the

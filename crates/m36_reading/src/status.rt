@@ -119,16 +119,17 @@ pub struct Bad {
 /// How the top call ended.
 #[derive(Drop)]
 pub enum Status {
-    /// The output is written whole. The machine executed DIS, or the audit alone was asked for and passes, or a print
-    /// or an assembly was asked for, or a session has come to `quit` or to the end of its input.
+    /// The files and the output are written whole. What was run came to DIS, or to the end of its schedule; what was audited
+    /// alone passes; or nothing was to be run or audited; or a session has come to `quit` or to the end of its input.
     Done,
     /// The words are no command. Nothing was read or written.
     Usage,
     /// The file could not be read; or the input of a session could not, and what is said of it is written up to there.
     ReadFault,
-    /// The output could not be written, of which a first part is; or the object could not, and nothing of the output is.
+    /// The output could not be written, of which a first part is; or a file could not, and nothing of the output is.
     WriteFault,
-    /// The file is refused.
+    /// The file is refused, and nothing is written; but behind S1 the answers of the session are, and the files of `make`
+    /// where the folder that they are is refused.
     BadFile(Bad),
     /// The audit fails, and the machine was not to be run all the same. What it finds is written whole.
     AuditNo,
@@ -136,8 +137,8 @@ pub enum Status {
     MachineStop(End),
     /// All steps that are allowed were taken, and none ended the run.
     Steps,
-    /// No memory was found. Nothing was written; or a link service of a booted run, or a session, found none, and it is
-    /// written up to there.
+    /// No memory was found. Nothing was written; or it was wanted to write a file, behind the files of `make`, in a link service
+    /// of a booted run, or in a session, and then it is written up to there.
     NoMemory,
 }
 

@@ -212,7 +212,7 @@ fn decoded_else(
     tell(told, &ended);
 }
 
-/// An instruction whose address reads indirect words, told in the record.
+/// An instruction whose tag is more than a register, as one that reads indirect words, told in the record.
 #[inline(never)]
 fn chained(
     walk: &mut Walk,

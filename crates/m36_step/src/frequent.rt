@@ -1,10 +1,11 @@
 //! Frequent instructions, told in the record as they go.
 //!
 //! An instruction whose address has no tally word, and that reads a word or a pair, stores one, changes a word, loads its
-//! address, shifts or transfers, is done here: its references answer words and places without a fault beside them, its effect is made in
-//! the registers, and its record is filled in place. Where anything is refused, or the instruction is another, nothing
-//! has changed since its address was formed, and `operated` goes on from there; only the Write of a word that was read is
-//! asked for again by itself.
+//! address, shifts or transfers, is done here: its effect is made in the registers, and its record is filled in place. The
+//! reference to a word or to the target of a transfer answers the word or the place without a fault beside it; where it is
+//! refused, or the instruction is another, nothing has changed since the address was formed, and `operated` goes on from
+//! there; only the Write of a word that was read is asked for again by itself. Pairs, CALL6 and RTCD are those of `paired`,
+//! which tells a refusal at once.
 
 ghost use Rattle.std.specs.Prelude.{◌≡◌, ◌≢◌, ◌<◌, ◌≤◌, Ok, IfSome, IfNone, length};
 ghost use Rattle.m36_inst.specs.Lookup.{IsRow};

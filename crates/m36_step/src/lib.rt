@@ -13,7 +13,8 @@
 //! Frequent instructions on a word or a pair, shifts, transfers, CALL6 and RTCD go a shorter way by the same parts: a
 //! reference answers a word or a place alone, the effect is made in the registers, and the record is filled as the step
 //! goes. Where the reference to a word, or to the target of a transfer, does not answer, nothing has changed, and the step
-//! goes on from there as every other does; the fault of a pair or of a call is told at once.
+//! goes on from there as every other does; the fault of a pair, of a call, or of the Write of a word that was read, is told at
+//! once.
 //!
 //! Whatever answers turns is a [`Stepper`]: a [`Turn`] is a step, a service that the step before it calls for, or says how the
 //! run has ended. The traits' relations are the contracts of their methods. A `Machine` is one, and a [`Replay`], whose turns

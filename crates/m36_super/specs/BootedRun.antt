@@ -75,7 +75,8 @@ IsStepTurn true frames before turn after = IsLoadedStep before turn after
 
 -- ---- services
 
--- words of segments are written, wherever their pages are, and no page table word and no other word
+-- Words of segments are written, wherever their pages are, and no other word of a segment changes.
+-- What else lies in core, as the marks of page table words, this does not say.
 pub record IsWritten (frames : ℕ) (old new : Paged) (changes : List Change) : Type 0 where
   pub laid : IsLaid new.core frames
   pub flat : flat_of new ≡ flat_put (flat_of old) changes

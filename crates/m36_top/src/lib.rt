@@ -26,10 +26,10 @@
 //!   1: whatever stands in it and above, until a fault, a stop or a gate call, no word outside its write brackets changes,
 //!   and none outside its read brackets affects a step. Of processes all conditions of the joint audit hold, and the same is
 //!   so over every schedule of them.
-//! - What is written is a first part of the stated output, and the whole of it where the call answers Done, AuditNo,
+//! - What is written is a first part of the stated output, and the whole of it where the call answers Done, BadFile, AuditNo,
 //!   MachineStop or Steps. Each answer comes exactly where it is due, in the order words, file, image, audit, run; a fault
 //!   has its cause outside; and want of memory alone may stand in the place of an answer, with nothing written, or with all
-//!   that goes before a link service or a line of a session that found none; of `make` with none of its files, or all of them.
+//!   that goes before a link service or a line of a session that found none, and with the files that were written before.
 //! - Where the files are accepted and so is what the command needs beside them, as an audit that passes and a run that comes
 //!   to DIS, the call answers Done, or no memory was found; over objects that never fail no fault comes. `specs/Done.antt`
 //!   has what each command needs.

@@ -1,5 +1,4 @@
-//! What a data instruction changes. It is small: the registers, which are many, are copied once a call, when the change is made
-//! to them.
+//! What a data instruction changes. It is small, and is made in the registers in place, which are many.
 
 ghost use Rattle.std.specs.Prelude.{◌<◌, ◌^◌};
 
