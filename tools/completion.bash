@@ -30,7 +30,8 @@ _m36() {
             bare) choices="--steps --unaudited $(_m36_names '')" ;;
             run | trace) choices="--steps --unaudited --user" ;;
             procs) choices="--unaudited $(_m36_names '')" ;;
-            audit | print | debug) choices=$(_m36_names '') ;;
+            audit) choices="--user $(_m36_names '')" ;;
+            print | debug) choices=$(_m36_names '') ;;
             alm) choices=$(_m36_names .alm) ;;
             bind) choices=$(_m36_names .bind) ;;
         esac

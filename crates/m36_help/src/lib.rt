@@ -58,12 +58,12 @@ const USAGE: &str = "m36 COMMAND [FILE | NAME | USER | SEED] [OPTIONS]";
 
 /// How a call ends, and examples.
 const BEHIND: &str = "Statuses:
-  0  Done         written whole; what is audited passes, and a run ends by DIS
+  0  Done         written whole; a run came to DIS, an audit alone passes
   1  Usage        the words are no command
   2  ReadFault    a file or the input can't be read
   3  WriteFault   the output or a file can't be written
   4  BadFile      a file is absent or refused, with its code and place
-  5  AuditNo      the audit fails
+  5  AuditNo      the audit fails, so nothing is run
   6  MachineStop  the run ends by a fault, a stop, or a refused service
   7  Steps        the limit of steps is met
   8  NoMemory     no memory is found
