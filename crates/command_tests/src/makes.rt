@@ -1,7 +1,8 @@
 //! Folders that are made. The lines, counts and words are those that another program gave.
 
 use crate::memory::{folder_of, has_file, run};
-use m36_outside::{Folder, MemFolder, MemSink, ReadAnswer};
+use m36_outside::{Folder, MemFolder, MemSink, ReadAnswer, Text};
+use m36_text::decimal;
 use m36_word::NoMemory;
 use std::alloc::Global;
 
@@ -64,31 +65,113 @@ fn makes_a_folder(rt: HostRuntime) -> Result<(), NoMemory> {
     Ok(())
 }
 
-/// The write and the put that fails, 0 for none; how much is written, the last file that is there, and one that is not.
-const FAULTS: &[(u32, u32, usize, &[u8], &[u8])] = &[
-    (1, 0, 0, b"", b"g0.alm"),
-    (2, 0, 0, b"g0.alm", b"g1.alm"),
-    (65, 0, 0, b"g63.alm", b"stop_.alm"),
-    (66, 0, 0, b"stop_.alm", b"g0"),
-    (67, 0, 0, b"g0", b"g1"),
-    (130, 0, 0, b"g63", b"stop_"),
-    (131, 0, 0, b"stop_", b"d_"),
-    (132, 0, 0, b"d_", b"boot"),
-    (0, 1, 0, b"boot", b""),
-    (0, 2, 12, b"boot", b""),
-    (0, 3, 22, b"boot", b""),
-    (0, 4, 36, b"boot", b""),
+/// How many files are made: 65 sources, the object of each, the data and the boot text.
+const FILES: u32 = 132;
+
+// The name of a program, or of the gate behind the 64 programs, with this end.
+fn name_with(alloc: Global, number: u32, end: &[u8]) -> Result<Text, NoMemory> {
+    let mut name = Text::new(alloc);
+    if number < 64 {
+        name.append(b"g")?;
+        name.append(decimal(number as u64).as_str().as_bytes())?;
+    } else {
+        name.append(b"stop_")?;
+    }
+    name.append(end)?;
+    Ok(name)
+}
+
+// The name of the file that is written behind so many others.
+fn name_behind(alloc: Global, written: u32) -> Result<Text, NoMemory> {
+    if written < 65 {
+        name_with(alloc, written, b".alm")
+    } else if written < 130 {
+        name_with(alloc, written - 65, b"")
+    } else if written < 131 {
+        Text::from_bytes(alloc, b"d_")
+    } else {
+        Text::from_bytes(alloc, b"boot")
+    }
+}
+
+// Whether a file is there, and has what it has in the whole folder.
+fn is_whole(alloc: Global, folder: &mut MemFolder, whole: &mut MemFolder, name: &[u8]) -> bool {
+    match whole.read(alloc, name) {
+        ReadAnswer::Read(text) => has_file(alloc, folder, name, text.bytes()),
+        _ => false,
+    }
+}
+
+fn is_absent(alloc: Global, folder: &mut MemFolder, name: &[u8]) -> bool {
+    matches!(folder.read(alloc, name), ReadAnswer::Absent)
+}
+
+// Whether the file behind so many others is there as in the whole folder, or is not there.
+fn is_due(
+    alloc: Global,
+    folder: &mut MemFolder,
+    whole: &mut MemFolder,
+    place: u32,
+    is_there: bool,
+) -> Result<bool, NoMemory> {
+    let name = name_behind(alloc, place)?;
+    if is_there {
+        Ok(is_whole(alloc, folder, whole, name.bytes()))
+    } else {
+        Ok(is_absent(alloc, folder, name.bytes()))
+    }
+}
+
+// Whether the first so many files are there as in the whole folder, and none of the others.
+fn has_first(
+    alloc: Global,
+    folder: &mut MemFolder,
+    whole: &mut MemFolder,
+    count: u32,
+) -> Result<bool, NoMemory> {
+    for place in 0..FILES {
+        if !is_due(alloc, folder, whole, place, place < count)? {
+            return Ok(false);
+        }
+    }
+    Ok(true)
+}
+
+// Whether a write that fails behind so many others ends the making: the status is WriteFault, nothing is put, and the
+// files before it are there and no others.
+fn ends_behind(alloc: Global, whole: &mut MemFolder, written: u32) -> Result<bool, NoMemory> {
+    let (number, mut folder, out) = made(alloc, written.saturating_add(1), 0)?;
+    let is_right = has_first(alloc, &mut folder, whole, written)?;
+    Ok(is_right && number == 3 && out.bytes().is_empty())
+}
+
+#[test]
+fn writes_fail_in_turn(rt: HostRuntime) -> Result<(), NoMemory> {
+    let alloc = rt.alloc();
+    let (number, mut whole, out) = made(alloc, 133, 0)?;
+    assert!(rt; number == 0 && out.bytes() == SUMMARY);
+    for written in 0..FILES {
+        assert!(rt; ends_behind(alloc, &mut whole, written)?, "{written}");
+    }
+    Ok(())
+}
+
+/// The put that fails, and what is written by then.
+const PUTS: &[(u32, &[u8])] = &[
+    (1, b""),
+    (2, b"segments 66\n"),
+    (3, b"segments 66\naudit yes\n"),
+    (4, b"segments 66\naudit yes\nend dis 24873\n"),
 ];
 
 #[test]
-fn tells_faults_of_making(rt: HostRuntime) -> Result<(), NoMemory> {
+fn puts_fail_in_turn(rt: HostRuntime) -> Result<(), NoMemory> {
     let alloc = rt.alloc();
-    for (write, put, written, last, next) in FAULTS {
-        let (number, mut folder, out) = made(alloc, *write, *put)?;
-        assert!(rt; (number, out.bytes().len()) == (3, *written));
-        let is_last = last.is_empty() || length_of(alloc, &mut folder, last).is_some();
-        assert!(rt; is_last, "{last:?}");
-        assert!(rt; length_of(alloc, &mut folder, next).is_none(), "{next:?}");
+    let (_, mut whole, _) = made(alloc, 0, 0)?;
+    for (put, written) in PUTS {
+        let (number, mut folder, out) = made(alloc, 0, *put)?;
+        assert!(rt; number == 3 && out.bytes() == *written, "{put}");
+        assert!(rt; has_first(alloc, &mut folder, &mut whole, FILES)?, "{put}");
     }
     Ok(())
 }
