@@ -190,6 +190,15 @@ same_holder p new j left stay None None e f = f ∙ sym e
 same_holder p new j left stay None (Some h) e f = let held : get_or p.holders j None ≡ Some h = left h.0 h.1 f in absurd (cc)
 same_holder p new j left stay (Some h) o' e f = stay h.0 h.1 e ∙ sym e
 
+-- frames beside the one that a page was taken into hold what they held
+pub taken_holders : (p : PagerFields) (core : List ℕ) (new : PagerFields) (now : List ℕ) (k seg page : ℕ)
+    → IsTaken p core new now k seg page → (j : ℕ) → j ≢ k → get_or new.holders j None ≡ get_or p.holders j None
+taken_holders p core new now k seg page taken j other =
+    same_holder p new j
+    (λ x q h. elim (taken.left j x q h) [ inl here ↦ absurd (other here.0) | inr from ↦ from ])
+    (λ x q h. taken.stay j x q h)
+    (get_or p.holders j None) (get_or new.holders j None) refl refl
+
 away_stay : (p : PagerFields) (core : List ℕ) (new : PagerFields) (now : List ℕ) (k seg page : ℕ)
     → IsAway p core new now k seg page → OthersStay p core new now k
 away_stay p core new now k seg page away = record {

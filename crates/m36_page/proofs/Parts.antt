@@ -17,7 +17,7 @@ use Rattle.m36_page.specs.Moved.{HasWords, IsAway, IsTaken, IsEmptied}
 use Rattle.m36_page.proofs.Frames.{held_inside}
 use Rattle.m36_page.proofs.Tables.{found, words_were}
 use Rattle.m36_page.proofs.Moves.{kept_then, marks_kept, marks_settled, marks_frame, AreMarks, frame_range, taken_kept, taken_settled, taken_in, taken_frame, taken_other}
-use Rattle.m36_page.proofs.Built.{has_table, spot_by, page_room, away_from, taken_from}
+use Rattle.m36_page.proofs.Built.{has_table, spot_by, page_room, away_from, taken_from, taken_holders}
 
 abbrev pub parts : ℕ → List (Option (ℕ × ℕ)) → List TableFields → PagerFields
 parts first holders tables = record { first = first; holders = holders; tables = tables }
@@ -166,6 +166,8 @@ brought_same p core seg page refs resident = record {
   kept = kept_same p core;
   resident = resident;
   stays = all_stay p core p core refs (λ i d below frame has e. e);
+  k = 0;
+  holders = λ j other. refl;
 }
 
 pub settled_by : (p : PagerFields) (core : List ℕ) → IsPager p → Reads p core → HasFrames p core → length core ≤ 2 ^ 24 → IsSettled p core
@@ -209,6 +211,8 @@ brought p core mid gone left new now k seg page refs s marks emptied taken free 
           let there : frame_of gone left x q ≡ Some frame = emptied.stays x q frame has marked apart in
           let has' : has_page gone x q ≡ true = emptied.kept.shape.pages x q ∙ has in
           taken_frame gone left new now k seg page x q emptied.settled taken has' (taken_other gone left new now k seg page x q frame taken there) ∙ there);
+      k = k;
+      holders = λ j other. taken_holders gone left new now k seg page taken j other ∙ emptied.others.holders j other;
     }
 
 -- where a frame is free not all are pinned

@@ -94,9 +94,13 @@ Stays old core new now e =
     → frame_of old core e.at.seg (e.at.word / 1024) ≡ Some frame
     → frame_of new now e.at.seg (e.at.word / 1024) ≡ Some frame
 
--- a page was brought in
+-- A page was brought in. Frames other than frame k hold the pages that they held, so at most one page
+-- was put away.
 pub record IsBrought (old : PagerFields) (core : List ℕ) (new : PagerFields) (now : List ℕ)
     (seg page : ℕ) (refs : List Reference) : Type 0 where
   pub kept : IsKept old core new now
   pub resident : IsSome (frame_of new now seg page)
   pub stays : All (Stays old core new now) refs
+  pub k : ℕ
+  pub holders : (j : ℕ) → j ≢ k
+      → slice_index_or new.holders j None ≡ slice_index_or old.holders j None

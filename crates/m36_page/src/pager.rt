@@ -184,9 +184,9 @@ impl Pager {
         choose(core, references, &self.holders, &self.spots, self.hand)
     }
 
-    /// Brings a page into a frame. One that is in a frame is left as it is, and nothing changes. The error says that the page
-    /// is in no frame and every frame holds a page of the references, and then nothing has changed; with more frames than
-    /// references it never comes.
+    /// Brings a page into a frame, for which at most one page is put away. One that is in a frame is left as it is, and nothing
+    /// changes. The error says that the page is in no frame and every frame holds a page of the references, and then nothing
+    /// has changed; with more frames than references it never comes.
     pub fn bring(
         &mut self,
         core: &mut Core,
