@@ -1,11 +1,12 @@
 -- What the calls of a pager change, and what they keep.
-use Rattle.std.specs.Prelude.{ℕ, ◌≡◌, ◌≢◌, ◌+◌, ◌*◌, ◌/◌, ◌<◌, ◌≤◌, ◌⊎◌, Bool, true, false, ◌&&◌}
-use Rattle.std.specs.Prelude.{nat_eq, if◌then◌else◌, List, length, slice_get, slice_index}
-use Rattle.std.specs.Prelude.{slice_index_or, All, Option, Some, None, IsSome}
+use Rattle.std.specs.Prelude.{ℕ, ◌≡◌, ◌≢◌, ◌+◌, ◌*◌, ◌/◌, ◌%◌, ◌<◌, ◌≤◌, ◌⊎◌, Bool, true, false}
+use Rattle.std.specs.Prelude.{◌&&◌, nat_eq, if◌then◌else◌, List, length, slice_get, slice_index}
+use Rattle.std.specs.Prelude.{slice_index_or, slice_set, All, Option, Some, None, IsSome}
 use Rattle.std.specs.List.{list_any}
 use Rattle.m36_model.specs.declared.place.Reference.{Reference}
 use Rattle.m36_page.specs.Fields.{TableFields, PagerFields}
-use Rattle.m36_page.specs.Residence.{has_page, spot_of, absent_ptw, frame_of, content_of, Holds}
+use Rattle.m36_page.specs.Residence.{has_page, spot_of, kept_word, absent_ptw, frame_of, content_of}
+use Rattle.m36_page.specs.Residence.{Holds}
 
 -- the same frames, and the same pages at the same places
 pub record IsSameShape (old new : PagerFields) : Type 0 where
@@ -61,7 +62,8 @@ pub record AreAbsent (tables : List TableFields) (count : ℕ) (core now : List 
 abbrev pub AllEmpty : PagerFields → Type 0
 AllEmpty p = (k seg page : ℕ) → Holds p k seg page → ⊥
 
--- A word of a segment was set: the content of no other has changed, nor where any page is.
+-- A word of a segment was set: in its frame where its page is in one, and else where it is kept. No
+-- other word has changed, nor where any page is.
 pub record IsSet (old : PagerFields) (core : List ℕ) (new : PagerFields) (now : List ℕ)
     (seg word v : ℕ) : Type 0 where
   pub shape : IsSameShape old new
@@ -71,6 +73,10 @@ pub record IsSet (old : PagerFields) (core : List ℕ) (new : PagerFields) (now 
   pub content : (s w : ℕ) → ((s ≡ seg) × (w ≡ word) → ⊥)
       → content_of new now s w ≡ content_of old core s w
   pub others : (a : ℕ) → (IsPaged old a → ⊥) → slice_index now a ≡ slice_index core a
+  pub in_frame : (frame : ℕ) → frame_of old core seg (word / 1024) ≡ Some frame
+      → (new ≡ old) × (now ≡ slice_set core (1024 * frame + word % 1024) v)
+  pub in_none : frame_of old core seg (word / 1024) ≡ None → now ≡ core
+  pub kept : (s w : ℕ) → ((s ≡ seg) × (w ≡ word) → ⊥) → kept_word new s w ≡ kept_word old s w
 
 -- ---- references that stay
 

@@ -2,8 +2,9 @@
 //!
 //! What is promised: the content of every word of every segment is the same wherever its page is. Bringing a page in or
 //! putting one away changes no content and no core word but page table words and those of pageable frames; bringing one
-//! in puts at most one away, and none that must stay; and after `Pager::new` no memory is taken. The page that gives way
-//! is chosen by a hand that goes round the frames and passes over, once, a page whose used mark is on, which it puts off.
+//! in puts at most one away, and none that must stay. Setting a word changes it in its frame, or where it is kept, and
+//! nothing else. After `Pager::new` no memory is taken. The page that gives way is chosen by a hand that goes round the
+//! frames and passes over, once, a page whose used mark is on, which it puts off.
 //!
 //! `Pager::new` finds room for the words of all pages, and writes there only those that are given. The zeros behind them
 //! are not written until a word behind them is kept, so a large segment of few words costs no more than a small one.

@@ -291,7 +291,7 @@ impl Pager {
         put_word(&mut self.tables[i], word, value);
     }
 
-    /// Sets a word of a segment, wherever its page is.
+    /// Sets a word of a segment: in its frame where its page is in one, and else where it is kept. Nothing else changes.
     pub fn set(&mut self, core: &mut Core, seg: u16, word: u32, w: Word)
         requires frames { HasFrames self.old core.old }
         requires reads { Reads self.old core.old }
