@@ -217,6 +217,9 @@ emptied p core new now k seg page s away = record {
   kept = away_kept p core new now k seg page s away;
   settled = away_settled p core new now k seg page s away;
   empty = holder_gone new k seg page p (λ x q h. (away.left k x q h).1 refl) (get_or new.holders k None) refl;
+  spot = λ x q h.
+      let both : (x, q) ≡ (seg, page) = same_some (x, q) (seg, page) (sym h ∙ away.held) in
+      ap (λ (y : ℕ × ℕ). get_or now (spot_of p y.0 y.1) 0) both ∙ away.spot;
   same = λ none. absurd (held_some p k seg page away.held none);
   others = away_stay p core new now k seg page away;
   stays = λ x q frame has e apart.
@@ -244,6 +247,7 @@ emptied_none p core k s none = record {
   };
   settled = s;
   empty = none;
+  spot = λ x q h. absurd (held_some p k x q h none);
   same = λ still. (refl, refl);
   others = record { holders = λ j other. refl; words = λ a out. refl };
   stays = λ x q frame has e apart. e;

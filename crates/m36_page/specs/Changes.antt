@@ -5,8 +5,8 @@ use Rattle.std.specs.Prelude.{slice_index_or, slice_set, All, Option, Some, None
 use Rattle.std.specs.List.{list_any}
 use Rattle.m36_model.specs.declared.place.Reference.{Reference}
 use Rattle.m36_page.specs.Fields.{TableFields, PagerFields}
-use Rattle.m36_page.specs.Residence.{has_page, spot_of, kept_word, absent_ptw, frame_of, content_of}
-use Rattle.m36_page.specs.Residence.{Holds}
+use Rattle.m36_page.specs.Residence.{has_page, spot_of, kept_word, absent_ptw, resident_ptw}
+use Rattle.m36_page.specs.Residence.{without_used, frame_of, content_of, Holds}
 
 -- the same frames, and the same pages at the same places
 pub record IsSameShape (old new : PagerFields) : Type 0 where
@@ -100,8 +100,25 @@ Stays old core new now e =
     → frame_of old core e.at.seg (e.at.word / 1024) ≡ Some frame
     → frame_of new now e.at.seg (e.at.word / 1024) ≡ Some frame
 
+-- a core word that holds the page table word of a page in a frame which the references do not pin
+pub record IsFreeSpot (p : PagerFields) (refs : List Reference) (a : ℕ) : Type 0 where
+  pub k : ℕ
+  pub seg : ℕ
+  pub page : ℕ
+  pub holds : Holds p k seg page
+  pub free : is_pinned refs (Some (seg, page)) ≡ false
+  pub is : spot_of p seg page ≡ a
+
+-- a core word is what it was, or it is at one of these places and its used mark was put off
+abbrev pub IsPassed : (ℕ → Type 0) → List ℕ → List ℕ → ℕ → Type 0
+IsPassed at core now a =
+    (slice_index now a ≡ slice_index core a)
+    ⊎ (at a × (slice_index now a ≡ without_used (slice_index core a)))
+
 -- A page was brought in. Frames other than frame k hold the pages that they held, so at most one page
--- was put away.
+-- was put away. Of core no words have changed but those of frame k, the page table words of the two
+-- pages, in which no mark is on, and used marks, which were put off, of pages that the references do
+-- not pin.
 pub record IsBrought (old : PagerFields) (core : List ℕ) (new : PagerFields) (now : List ℕ)
     (seg page : ℕ) (refs : List Reference) : Type 0 where
   pub kept : IsKept old core new now
@@ -110,3 +127,11 @@ pub record IsBrought (old : PagerFields) (core : List ℕ) (new : PagerFields) (
   pub k : ℕ
   pub holders : (j : ℕ) → j ≢ k
       → slice_index_or new.holders j None ≡ slice_index_or old.holders j None
+  pub spot : frame_of old core seg page ≡ None
+      → slice_index now (spot_of old seg page) ≡ resident_ptw (old.first + k)
+  pub away : (s q : ℕ) → frame_of old core seg page ≡ None → Holds old k s q
+      → slice_index now (spot_of old s q) ≡ absent_ptw
+  pub words : (a : ℕ) → a ≢ spot_of old seg page
+      → ((s q : ℕ) → Holds old k s q → a ≢ spot_of old s q)
+      → (a < 1024 * (old.first + k)) ⊎ (1024 * (old.first + k) + 1024 ≤ a)
+      → IsPassed (IsFreeSpot old refs) core now a

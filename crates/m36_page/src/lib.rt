@@ -1,8 +1,9 @@
 //! Demand paging: the pages of segments are in the pageable frames of core, or their words are kept here.
 //!
 //! What is promised: the content of every word of every segment is the same wherever its page is. Bringing a page in or
-//! putting one away changes no content and no core word but page table words and those of pageable frames; bringing one
-//! in puts at most one away, and none that must stay. Setting a word changes it in its frame, or where it is kept, and
+//! putting one away changes no content and no core word but page table words and those of pageable frames. Bringing one
+//! in puts at most one away, and none that must stay; of the pages that stay where they are it changes used marks alone,
+//! which it puts off, and none of a page that must stay. Setting a word changes it in its frame, or where it is kept, and
 //! nothing else. After `Pager::new` no memory is taken. The page that gives way is chosen by a hand that goes round the
 //! frames and passes over, once, a page whose used mark is on, which it puts off.
 //!

@@ -3,7 +3,7 @@
 ghost use Rattle.std.specs.Prelude.{ℕ, ◌≡◌, ◌≢◌, ◌+◌, ◌-◌, ◌^◌, ◌*◌, ◌/◌, ◌<◌, ◌≤◌, ◌⊎◌, Bool, true, false, ◌&&◌, nat_eq, if◌then◌else◌, length, slice_index_or, replicate, All, IfOk, Some, None, IsSome, IfSome, IfNone, OnOk, OnErr};
 ghost use Rattle.m36_model.specs.Core.{unmarked};
 ghost use Rattle.m36_page.specs.Residence.{has_page, spot_of, kept_word, frame_of, content_of, Holds, IsPager, Reads, HasFrames, IsSettled};
-ghost use Rattle.m36_page.specs.Changes.{IsBrought, IsKept, IsSet, IsSpot, OthersStay, AllPinned, AllEmpty, AreAbsent};
+ghost use Rattle.m36_page.specs.Changes.{IsBrought, IsKept, IsSet, IsFreeSpot, OthersStay, AllPinned, AllEmpty, AreAbsent};
 ghost use Rattle.m36_page.specs.Choice.{IsFree, IsMarked, AreInCore};
 ghost use Rattle.m36_page.specs.Given.{are_placed, pager_given};
 ghost use Rattle.m36_page.specs.Moved.{IsAway, IsTaken, IsEmptied, IsKeptWord};
@@ -179,7 +179,7 @@ impl Pager {
         ensures found { IfSome result (IsFree references.now self.now.holders) }
         ensures none { IfNone result (AllPinned self.now references.now) }
         ensures same { IfNone result (core.new ≡ core.old) }
-        ensures marks { IsMarked core.old core.new (IsSpot self.now) }
+        ensures marks { IsMarked core.old core.new (IsFreeSpot self.now references.now) }
     {
         choose(core, references, &self.holders, &self.spots, self.hand)
     }
