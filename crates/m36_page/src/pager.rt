@@ -30,8 +30,9 @@ pub struct Pinned;
 /// The pages of segments: which pageable frame holds which page, and the words of the pages that are in none. It is seen as
 /// the number of the first pageable frame, the page that each of them holds, and the tables with the words that are kept.
 ///
-/// Each call that takes a core wants the pageable frames in it, and each page table word of the tables as the last call left
-/// it, but for its marks; before the first call every page is in no frame.
+/// Each call that takes a core wants the pageable frames in it, and each but `lay` wants each page table word of the tables,
+/// but for its marks, as the last call left it; before the first call every page is in no frame. `lay` writes these words,
+/// as of pages in no frame, and wants that no frame holds a page yet.
 #[derive(Debug, Drop)]
 pub struct Pager {
     holders: Vec<Option<(u16, u16)>>,
@@ -82,7 +83,8 @@ fn next_of(place: usize, count: usize) -> usize
 
 impl Pager {
     /// A pager over so many frames of core from one on, of which none holds a page yet. Pages are at places of core words that
-    /// no two share, all below the first of these frames. The error is want of memory; later calls take none.
+    /// no two share, all below the first of these frames. The error is want of memory; later calls take none, which is in
+    /// no clause.
     pub fn new(
         alloc: Global,
         first: u32,
