@@ -190,6 +190,15 @@ same_holder p new j left stay None None e f = f ∙ sym e
 same_holder p new j left stay None (Some h) e f = let held : get_or p.holders j None ≡ Some h = left h.0 h.1 f in absurd (cc)
 same_holder p new j left stay (Some h) o' e f = stay h.0 h.1 e ∙ sym e
 
+-- frames beside the one that a page was taken into hold what they held
+pub taken_holders : (p : PagerFields) (core : List ℕ) (new : PagerFields) (now : List ℕ) (k seg page : ℕ)
+    → IsTaken p core new now k seg page → (j : ℕ) → j ≢ k → get_or new.holders j None ≡ get_or p.holders j None
+taken_holders p core new now k seg page taken j other =
+    same_holder p new j
+    (λ x q h. elim (taken.left j x q h) [ inl here ↦ absurd (other here.0) | inr from ↦ from ])
+    (λ x q h. taken.stay j x q h)
+    (get_or p.holders j None) (get_or new.holders j None) refl refl
+
 away_stay : (p : PagerFields) (core : List ℕ) (new : PagerFields) (now : List ℕ) (k seg page : ℕ)
     → IsAway p core new now k seg page → OthersStay p core new now k
 away_stay p core new now k seg page away = record {
@@ -208,6 +217,9 @@ emptied p core new now k seg page s away = record {
   kept = away_kept p core new now k seg page s away;
   settled = away_settled p core new now k seg page s away;
   empty = holder_gone new k seg page p (λ x q h. (away.left k x q h).1 refl) (get_or new.holders k None) refl;
+  spot = λ x q h.
+      let both : (x, q) ≡ (seg, page) = same_some (x, q) (seg, page) (sym h ∙ away.held) in
+      ap (λ (y : ℕ × ℕ). get_or now (spot_of p y.0 y.1) 0) both ∙ away.spot;
   same = λ none. absurd (held_some p k seg page away.held none);
   others = away_stay p core new now k seg page away;
   stays = λ x q frame has e apart.
@@ -235,6 +247,7 @@ emptied_none p core k s none = record {
   };
   settled = s;
   empty = none;
+  spot = λ x q h. absurd (held_some p k x q h none);
   same = λ still. (refl, refl);
   others = record { holders = λ j other. refl; words = λ a out. refl };
   stays = λ x q frame has e apart. e;

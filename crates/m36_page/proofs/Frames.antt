@@ -4,9 +4,11 @@ use Rattle.std.specs.Prelude.{nat_eq, IsSome}
 use Rattle.std.proofs.lemmas.Bool.{eq-eqb, eqb-true, ne_eqb, cases_Bool, cases_eq, cases_lt}
 use Rattle.std.proofs.lemmas.List.{get_or_past, get_or-set_same, get_or-set_other, length-set}
 use Rattle.m36_model.specs.Core.{unmarked}
+use Rattle.m36_model.specs.declared.place.Reference.{Reference}
 use Rattle.m36_page.specs.Fields.{TableFields, PagerFields}
+use Rattle.m36_page.specs.Changes.{is_pinned, IsPassed}
 use Rattle.m36_page.specs.Choice.{IsMarked, IsHeldSpot, AreInCore}
-use Rattle.m36_page.specs.Residence.{has_page, spot_of, kept_word, absent_ptw, resident_ptw, frame_in, frame_of, word_in, page_word, content_by, content_of, Holds, IsPager, TellsPage, Reads, HasFrames, IsSettled}
+use Rattle.m36_page.specs.Residence.{has_page, spot_of, kept_word, absent_ptw, resident_ptw, frame_in, without_used, frame_of, word_in, page_word, content_by, content_of, Holds, IsPager, TellsPage, Reads, HasFrames, IsSettled}
 
 -- ---- page table words
 
@@ -114,22 +116,32 @@ word_stays old core new now seg w frame none some =
 
 -- ---- marks
 
-unused_word : (w v : ℕ) → w / 2 ^ 9 % 2 ^ 1 ≡ 1 → v ≡ w - 512 → unmarked v ≡ unmarked w
-unfolding unmarked
+pub unused_unmarked : (w : ℕ) → unmarked (without_used w) ≡ unmarked w
+unfolding unmarked without_used
+unused_unmarked w = omega arith
+
+unused_twice : (w : ℕ) → without_used (without_used w) ≡ without_used w
+unfolding without_used
+unused_twice w = omega arith
+
+unused_word : (w v : ℕ) → w / 2 ^ 9 % 2 ^ 1 ≡ 1 → v ≡ w - 512 → v ≡ without_used w
+unfolding without_used
 unused_word w v on is = omega (arith, on, is)
 
-unused_set : (core : List ℕ) (spot v : ℕ) → spot < length core → (get_or core spot 0 / 2 ^ 9 % 2 ^ 1) ≡ 1 → v ≡ get_or core spot 0 - 512
+unused_set : (core : List ℕ) (spot v : ℕ) → spot < length core → v ≡ without_used (get_or core spot 0)
     → IsMarked core (set core spot v) (λ a. a ≡ spot)
-unused_set core spot v inside on is = record {
+unused_set core spot v inside is = record {
   size = length-set core spot v;
-  unmarks = λ a.
+  each = λ a.
       elim (cases_eq a spot) [
         | inl same ↦
-            ap (λ x. unmarked (get_or (set core spot v) x 0)) same ∙ ap unmarked (get_or-set_same core spot v 0 inside)
-            ∙ unused_word (get_or core spot 0) v on is ∙ ap (λ x. unmarked (get_or core x 0)) (sym same)
-        | inr other ↦ ap unmarked (get_or-set_other core spot a v 0 other)
+            inr (
+              same,
+              ap (λ x. get_or (set core spot v) x 0) same ∙ get_or-set_same core spot v 0 inside ∙ is
+                  ∙ ap (λ x. without_used (get_or core x 0)) (sym same),
+            )
+        | inr other ↦ inl (get_or-set_other core spot a v 0 other)
       ];
-  others = λ a out. get_or-set_other core spot a v 0 out;
 }
 
 pub unused : (core now : List ℕ) (spot w v : ℕ) → spot < length core → w ≡ get_or core spot 0 → w < 2 ^ 36
@@ -138,7 +150,8 @@ pub unused : (core now : List ℕ) (spot w v : ℕ) → spot < length core → w
 unused core now spot w v inside is few on value e =
     let P : List ℕ → Type 0 = λ n. IsMarked core n (λ a. a ≡ spot) in
     let bit = eqb-true (get_or core spot 0 / 2 ^ 9 % 2 ^ 1) 1 on in
-    subst P (sym e) (unused_set core spot v inside bit (omega (arith, is, few, value)))
+    let less : v ≡ get_or core spot 0 - 512 = omega (arith, is, few, value) in
+    subst P (sym e) (unused_set core spot v inside (unused_word (get_or core spot 0) v bit less))
 
 some_held : (o : Option (ℕ × ℕ)) → IsSome o → (h : ℕ × ℕ) × (o ≡ Some h)
 some_held None none = absurd (cc)
@@ -152,36 +165,48 @@ held_in_core holders spots first core k inside size some =
     omega (arith, below, size)
 
 pub marked_none : (core : List ℕ) (at : ℕ → Type 0) → IsMarked core core at
-marked_none core at = record { size = refl; unmarks = λ a. refl; others = λ a out. refl }
+marked_none core at = record { size = refl; each = λ a. inl refl }
 
-pub marked_then : (core mid now : List ℕ) (one two at : ℕ → Type 0) → ((a : ℕ) → one a → at a) → ((a : ℕ) → two a → at a)
-    → IsMarked core mid one → IsMarked mid now two → IsMarked core now at
-marked_then core mid now one two at first second a b = record {
-  size = b.size ∙ a.size;
-  unmarks = λ x. b.unmarks x ∙ a.unmarks x;
-  others = λ x out. b.others x (λ h. out (second x h)) ∙ a.others x (λ h. out (first x h));
+-- marked at places of one kind, where those are of another
+pub marked_as : (core now : List ℕ) (one at : ℕ → Type 0) → ((a : ℕ) → one a → at a) → IsMarked core now one → IsMarked core now at
+marked_as core now one at all m = record {
+  size = m.size;
+  each = λ a. elim (m.each a) [ inl e ↦ inl e | inr e ↦ inr (all a e.0, e.1) ];
 }
 
-pub passed_then : (holders : List (Option (ℕ × ℕ))) (spots core mid now : List ℕ) (k : ℕ)
-    → IsMarked core mid (IsHeldSpot holders spots) → IsMarked mid now (λ a. IsSome (get_or holders k None) × (a ≡ get_or spots k 0))
-    → IsMarked core now (IsHeldSpot holders spots)
-passed_then holders spots core mid now k one two =
-    marked_then core mid now (IsHeldSpot holders spots) (λ a. IsSome (get_or holders k None) × (a ≡ get_or spots k 0)) (IsHeldSpot holders spots)
-    (λ a h. h)
+passed_on : (core mid now : List ℕ) (at : ℕ → Type 0) (a : ℕ) → IsPassed at core mid a → IsPassed at mid now a → IsPassed at core now a
+passed_on core mid now at a one two =
+    elim one [
+      | inl e ↦ elim two [ inl f ↦ inl (f ∙ e) | inr f ↦ inr (f.0, f.1 ∙ ap without_used e) ]
+      | inr e ↦
+          elim two [
+            | inl f ↦ inr (e.0, f ∙ e.1)
+            | inr f ↦ inr (f.0, f.1 ∙ ap without_used e.1 ∙ unused_twice (get_or core a 0))
+          ]
+    ]
+
+-- marked first, and then
+pub marked_then : (core mid now : List ℕ) (at : ℕ → Type 0) → IsMarked core mid at → IsMarked mid now at → IsMarked core now at
+marked_then core mid now at a b = record {
+  size = b.size ∙ a.size;
+  each = λ x. passed_on core mid now at x (a.each x) (b.each x);
+}
+
+-- the mark of a page that the references do not pin
+pub marked_free : (refs : List Reference) (holder : Option (ℕ × ℕ)) (core now : List ℕ) (spot : ℕ) → IsSome holder → is_pinned refs holder ≡ false
+    → IsMarked core now (λ a. a ≡ spot) → IsMarked core now (λ a. IsSome holder × (is_pinned refs holder ≡ false) × (a ≡ spot))
+marked_free refs holder core now spot some free m =
+    marked_as core now (λ a. a ≡ spot) (λ a. IsSome holder × (is_pinned refs holder ≡ false) × (a ≡ spot)) (λ a at. (some, free, at)) m
+
+pub passed_then : (refs : List Reference) (holders : List (Option (ℕ × ℕ))) (spots core mid now : List ℕ) (k : ℕ)
+    → IsMarked core mid (IsHeldSpot refs holders spots)
+    → IsMarked mid now (λ a. IsSome (get_or holders k None) × (is_pinned refs (get_or holders k None) ≡ false) × (a ≡ get_or spots k 0))
+    → IsMarked core now (IsHeldSpot refs holders spots)
+passed_then refs holders spots core mid now k one two =
+    marked_then core mid now (IsHeldSpot refs holders spots) one
+    (marked_as mid now (λ a. IsSome (get_or holders k None) × (is_pinned refs (get_or holders k None) ≡ false) × (a ≡ get_or spots k 0))
+    (IsHeldSpot refs holders spots)
     (λ a h.
     let held = some_held (get_or holders k None) h.0 in
-    record { k = k; held = held.0; holds = held.1; is = sym h.1 })
-    one two
-
--- what was passed over first, and then
-pub passed_both : (holders : List (Option (ℕ × ℕ))) (spots core mid now : List ℕ)
-    → IsMarked core mid (IsHeldSpot holders spots) → IsMarked mid now (IsHeldSpot holders spots) → IsMarked core now (IsHeldSpot holders spots)
-passed_both holders spots core mid now one two =
-    marked_then core mid now (IsHeldSpot holders spots) (IsHeldSpot holders spots) (IsHeldSpot holders spots) (λ a h. h) (λ a h. h) one two
-
-pub still_in_core : (holders : List (Option (ℕ × ℕ))) (spots core mid : List ℕ) → AreInCore holders spots core
-    → IsMarked core mid (IsHeldSpot holders spots) → AreInCore holders spots mid
-still_in_core holders spots core mid inside marks k held h =
-    let below = inside k held h in
-    let size = marks.size in
-    omega (arith, below, size)
+    record { k = k; held = held.0; holds = held.1; free = sym (ap (λ o. is_pinned refs o) held.1) ∙ h.1; is = sym h.2 })
+    two)

@@ -7,17 +7,18 @@ use Rattle.std.proofs.lemmas.List.{get_or-set_same, get_or-set_other, length-set
 use Rattle.std.proofs.lemmas.Option.{slice_get-get_or, get_or_from_slice_get}
 use Rattle.std.proofs.lemmas.List.Elements.{All-from_get_or, All-get_or}
 use Rattle.std.proofs.lemmas.List.Folds.{list_any_at}
+use Rattle.m36_model.specs.Core.{unmarked}
 use Rattle.m36_model.specs.declared.place.Reference.{Reference}
 use Rattle.m36_page.specs.Fields.{TableFields, PagerFields}
 use Rattle.m36_page.specs.Copied.{IsCopied}
 use Rattle.m36_page.specs.Choice.{IsFree, ArePinned, IsHeldSpot, IsMarked, AreInCore}
 use Rattle.m36_page.specs.Residence.{is_of, table_of, has_page_in, has_page, spot_of, kept_word, word_in, page_word, content_by, content_of, absent_ptw, resident_ptw, frame_in, frame_of, Holds, IsPager, Reads, HasFrames, IsSettled, IsInside}
-use Rattle.m36_page.specs.Changes.{IsSpot, IsKept, is_to, is_pinned, AllPinned, Stays, IsBrought}
+use Rattle.m36_page.specs.Changes.{IsSpot, IsKept, is_to, is_pinned, AllPinned, Stays, IsFreeSpot, IsPassed, IsBrought}
 use Rattle.m36_page.specs.Moved.{HasWords, IsAway, IsTaken, IsEmptied}
-use Rattle.m36_page.proofs.Frames.{held_inside}
+use Rattle.m36_page.proofs.Frames.{held_inside, unused_unmarked, marked_as}
 use Rattle.m36_page.proofs.Tables.{found, words_were}
-use Rattle.m36_page.proofs.Moves.{kept_then, marks_kept, marks_settled, marks_frame, AreMarks, frame_range, taken_kept, taken_settled, taken_in, taken_frame, taken_other}
-use Rattle.m36_page.proofs.Built.{has_table, spot_by, page_room, away_from, taken_from}
+use Rattle.m36_page.proofs.Moves.{kept_then, marks_kept, marks_settled, marks_frame, AreMarks, resident_frame, frame_range, taken_kept, taken_settled, taken_in, taken_frame, taken_other}
+use Rattle.m36_page.proofs.Built.{has_table, spot_by, page_room, away_from, taken_from, taken_holders}
 
 abbrev pub parts : ℕ → List (Option (ℕ × ℕ)) → List TableFields → PagerFields
 parts first holders tables = record { first = first; holders = holders; tables = tables }
@@ -39,24 +40,25 @@ held_spots first holders hs spots sp tables p core e same same' inside s k held 
     let room = settled.frames in
     omega (arith, is, below, room)
 
-pub marks_parts : (first : ℕ) (holders hs : List (Option (ℕ × ℕ))) (spots sp : List ℕ) (tables : List TableFields) (p : PagerFields) (core now : List ℕ)
+pub marks_parts : (refs : List Reference) (first : ℕ) (holders hs : List (Option (ℕ × ℕ))) (spots sp : List ℕ) (tables : List TableFields) (p : PagerFields) (core now : List ℕ)
     → parts first holders tables ≡ p → hs ≡ holders → sp ≡ spots → IsInside (parts first holders tables) spots
-    → IsMarked core now (IsHeldSpot hs sp) → IsMarked core now (IsSpot p)
-marks_parts first holders hs spots sp tables p core now e same same' inside marks =
+    → IsMarked core now (IsHeldSpot refs hs sp) → IsMarked core now (IsFreeSpot p refs)
+marks_parts refs first holders hs spots sp tables p core now e same same' inside marks =
     let q : PagerFields = parts first holders tables in
-    let P : PagerFields → Type 0 = λ x. IsMarked core now (IsSpot x) in
-    subst P e (record {
-      size = marks.size;
-      unmarks = marks.unmarks;
-      others = λ a out. marks.others a (λ h.
-          let holds : Holds q h.k h.held.0 h.held.1 = sym (ap (λ x. get_or x h.k None) same) ∙ h.holds in
-          out (record {
-            seg = h.held.0;
-            page = h.held.1;
-            has = inside.pager.held h.k h.held.0 h.held.1 holds;
-            is = sym (inside.spots h.k h.held.0 h.held.1 holds) ∙ sym (ap (λ x. get_or x h.k 0) same') ∙ h.is;
-          }));
+    let P : PagerFields → Type 0 = λ x. IsMarked core now (IsFreeSpot x refs) in
+    subst P e
+    (marked_as core now (IsHeldSpot refs hs sp) (IsFreeSpot q refs)
+    (λ a h.
+    let holds : Holds q h.k h.held.0 h.held.1 = sym (ap (λ x. get_or x h.k None) same) ∙ h.holds in
+    record {
+      k = h.k;
+      seg = h.held.0;
+      page = h.held.1;
+      holds = holds;
+      free = h.free;
+      is = sym (inside.spots h.k h.held.0 h.held.1 holds) ∙ sym (ap (λ x. get_or x h.k 0) same') ∙ h.is;
     })
+    marks)
 
 pub all_pinned : (o : Option ℕ) (refs : List Reference) (hs : List (Option (ℕ × ℕ))) (p : PagerFields) → hs ≡ p.holders
     → IfNone o (ArePinned refs hs 0 (length hs)) → IfNone o (AllPinned p refs)
@@ -160,19 +162,36 @@ all_stay : (p : PagerFields) (core : List ℕ) (new : PagerFields) (now : List �
     → ((i : ℕ) (d : Reference) → i < length refs → Stays p core new now (get_or refs i d)) → All (Stays p core new now) refs
 all_stay p core new now refs each = λ k d below. each k d below
 
+-- a page that is in no frame is not in one
+pub was_out : (frame : Option ℕ) → frame ≡ None → IsSome frame → ⊥
+was_out None out resident = absurd (cc)
+was_out (Some f) out resident = absurd (cc)
+
 pub brought_same : (p : PagerFields) (core : List ℕ) (seg page : ℕ) (refs : List Reference) → IsSome (frame_of p core seg page)
     → IsBrought p core p core seg page refs
 brought_same p core seg page refs resident = record {
   kept = kept_same p core;
   resident = resident;
   stays = all_stay p core p core refs (λ i d below frame has e. e);
+  k = 0;
+  holders = λ j other. refl;
+  spot = λ out. absurd (was_out (frame_of p core seg page) out resident);
+  away = λ x q out holds. absurd (was_out (frame_of p core seg page) out resident);
+  words = λ a other others range. inl refl;
 }
 
 pub settled_by : (p : PagerFields) (core : List ℕ) → IsPager p → Reads p core → HasFrames p core → length core ≤ 2 ^ 24 → IsSettled p core
 settled_by p core pager reads frames most = record { pager = pager; reads = reads; frames = frames; most = most }
 
-pub marks_of : (p : PagerFields) (core now : List ℕ) → IsMarked core now (IsSpot p) → AreMarks p core now
-marks_of p core now m = record { size = m.size; unmarks = m.unmarks; others = m.others }
+free_spot : (p : PagerFields) (refs : List Reference) (a : ℕ) → IsPager p → IsFreeSpot p refs a → IsSpot p a
+free_spot p refs a pager f = record { seg = f.seg; page = f.page; has = pager.held f.k f.seg f.page f.holds; is = f.is }
+
+pub marks_of : (p : PagerFields) (refs : List Reference) (core now : List ℕ) → IsPager p → IsMarked core now (IsFreeSpot p refs) → AreMarks p core now
+marks_of p refs core now pager m = record {
+  size = m.size;
+  unmarks = λ a. elim (m.each a) [ inl e ↦ ap unmarked e | inr e ↦ ap unmarked e.1 ∙ unused_unmarked (get_or core a 0) ];
+  others = λ a out. elim (m.each a) [ inl e ↦ e | inr e ↦ absurd (out (free_spot p refs a pager e.0)) ];
+}
 
 -- a page of a reference is in no frame that may be taken
 unpinned : (p : PagerFields) (refs : List Reference) (k i : ℕ) (d : Reference) → i < length refs → IsFree refs p.holders k
@@ -185,12 +204,47 @@ unpinned p refs k i d below free holds =
     let none = free.free in
     absurd (cc)
 
+-- a page that a frame holds is not one that is in none
+held_other : (p : PagerFields) (core : List ℕ) (k s q seg page : ℕ) → IsSettled p core → Holds p k s q → frame_of p core seg page ≡ None
+    → (s ≡ seg) × (q ≡ page) → ⊥
+held_other p core k s q seg page settled holds out same =
+    let is : frame_of p core seg page ≡ Some (p.first + k) =
+    sym (ap (λ y. frame_of p core y q) same.0 ∙ ap (λ y. frame_of p core seg y) same.1) ∙ resident_frame p core k s q settled holds in
+    absurd (cc)
+
+-- the page table word of the page that was put away
+brought_away : (p : PagerFields) (core mid : List ℕ) (gone : PagerFields) (left : List ℕ) (new : PagerFields) (now : List ℕ) (k seg page s q : ℕ)
+    → IsSettled p core → IsEmptied p mid gone left k → IsTaken gone left new now k seg page
+    → frame_of p core seg page ≡ None → Holds p k s q → get_or now (spot_of p s q) 0 ≡ absent_ptw
+brought_away p core mid gone left new now k seg page s q settled emptied taken out holds =
+    let shape = emptied.kept.shape in
+    let has : has_page p s q ≡ true = settled.pager.held k s q holds in
+    let has' : has_page p seg page ≡ true = sym (shape.pages seg page) ∙ taken.has in
+    let below = settled.pager.below s q has in
+    let first = shape.first in
+    let apart : spot_of p s q ≢ spot_of gone seg page = λ at.
+    held_other p core k s q seg page settled holds out (settled.pager.apart s q seg page has has' (at ∙ shape.spots seg page)) in
+    taken.others (spot_of p s q) apart (inl (omega (arith, below, first))) ∙ emptied.spot s q holds
+
+-- a word beside those of the frame and of the two pages
+brought_word : (p : PagerFields) (core mid : List ℕ) (gone : PagerFields) (left : List ℕ) (new : PagerFields) (now : List ℕ) (k seg page : ℕ) (refs : List Reference) (a : ℕ)
+    → IsMarked core mid (IsFreeSpot p refs) → IsEmptied p mid gone left k → IsTaken gone left new now k seg page
+    → a ≢ spot_of p seg page → ((s q : ℕ) → Holds p k s q → a ≢ spot_of p s q)
+    → (a < 1024 * (p.first + k)) ⊎ (1024 * (p.first + k) + 1024 ≤ a)
+    → IsPassed (IsFreeSpot p refs) core now a
+brought_word p core mid gone left new now k seg page refs a marks emptied taken other others range =
+    let shape = emptied.kept.shape in
+    let R : ℕ → Type 0 = λ n. (a < 1024 * (n + k)) ⊎ (1024 * (n + k) + 1024 ≤ a) in
+    let still : get_or now a 0 ≡ get_or mid a 0 =
+    taken.others a (λ at. other (at ∙ shape.spots seg page)) (subst R (sym shape.first) range) ∙ emptied.others.words a others in
+    elim (marks.each a) [ inl e ↦ inl (still ∙ e) | inr e ↦ inr (e.0, still ∙ e.1) ]
+
 pub brought : (p : PagerFields) (core mid : List ℕ) (gone : PagerFields) (left : List ℕ) (new : PagerFields) (now : List ℕ) (k seg page : ℕ) (refs : List Reference)
-    → IsSettled p core → IsMarked core mid (IsSpot p) → IsEmptied p mid gone left k → IsTaken gone left new now k seg page
+    → IsSettled p core → IsMarked core mid (IsFreeSpot p refs) → IsEmptied p mid gone left k → IsTaken gone left new now k seg page
     → IsFree refs p.holders k
     → IsBrought p core new now seg page refs
 brought p core mid gone left new now k seg page refs s marks emptied taken free =
-    let m = marks_of p core mid marks in
+    let m = marks_of p refs core mid s.pager marks in
     let s1 = marks_settled p core mid s m in
     record {
       kept = kept_then p core p mid new now (marks_kept p core mid s m)
@@ -209,6 +263,12 @@ brought p core mid gone left new now k seg page refs s marks emptied taken free 
           let there : frame_of gone left x q ≡ Some frame = emptied.stays x q frame has marked apart in
           let has' : has_page gone x q ≡ true = emptied.kept.shape.pages x q ∙ has in
           taken_frame gone left new now k seg page x q emptied.settled taken has' (taken_other gone left new now k seg page x q frame taken there) ∙ there);
+      k = k;
+      holders = λ j other. taken_holders gone left new now k seg page taken j other ∙ emptied.others.holders j other;
+      spot = λ out.
+          ap (λ a. get_or now a 0) (sym (emptied.kept.shape.spots seg page)) ∙ taken.spot ∙ ap (λ n. resident_ptw (n + k)) emptied.kept.shape.first;
+      away = λ x q out holds. brought_away p core mid gone left new now k seg page x q s emptied taken out holds;
+      words = λ a other others range. brought_word p core mid gone left new now k seg page refs a marks emptied taken other others range;
     }
 
 -- where a frame is free not all are pinned

@@ -76,6 +76,12 @@ same_reads p core a v settled above = record {
       ∙ settled.reads.frames k s q h;
 }
 
+some_same : (a b : ℕ) → Some a ≡ Some b → a ≡ b
+some_same a b e = cc
+
+some_none : (o : Option ℕ) (f : ℕ) → o ≡ Some f → o ≡ None → ⊥
+some_none o f e none = cc
+
 pub set_in_frame : (p : PagerFields) (core now : List ℕ) (seg word frame v : ℕ) → IsSettled p core → has_page p seg (word / 1024) ≡ true
     → frame_of p core seg (word / 1024) ≡ Some frame → now ≡ set core (1024 * frame + word % 1024) v
     → IsSet p core p now seg word v × Reads p now
@@ -107,6 +113,9 @@ set_in_frame p core now seg word frame v s has e written =
         others = λ b out.
             get_or-set_other core (1024 * frame + word % 1024) b v 0
             (λ same. out (inr (omega (arith, same, above), omega (arith, same, is, inside))));
+        in_frame = λ f e'. (refl, ap (λ x. set core (1024 * x + word % 1024) v) (some_same frame f (sym e ∙ e')));
+        in_none = λ none. absurd (some_none (frame_of p core seg (word / 1024)) frame e none);
+        kept = λ x w other. refl;
       },
       same_reads p core (1024 * frame + word % 1024) v s above,
     )
@@ -132,6 +141,9 @@ set_kept p new core seg word v s has e kept = (
         content_other p core new core x w (kept.shape.pages x (w / 1024))
         (λ has'. word_stays p core new core x w (kept_frame p new core x (w / 1024) kept.shape) (λ none. kept.others x w other) (λ f e'. refl));
     others = λ a out. refl;
+    in_frame = λ f e'. absurd (some_none (frame_of p core seg (word / 1024)) f e' e);
+    in_none = λ none. refl;
+    kept = kept.others;
   },
   record {
     pages = λ x q has'.

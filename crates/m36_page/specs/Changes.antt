@@ -1,11 +1,12 @@
 -- What the calls of a pager change, and what they keep.
-use Rattle.std.specs.Prelude.{ℕ, ◌≡◌, ◌≢◌, ◌+◌, ◌*◌, ◌/◌, ◌<◌, ◌≤◌, ◌⊎◌, Bool, true, false, ◌&&◌}
-use Rattle.std.specs.Prelude.{nat_eq, if◌then◌else◌, List, length, slice_get, slice_index}
-use Rattle.std.specs.Prelude.{slice_index_or, All, Option, Some, None, IsSome}
+use Rattle.std.specs.Prelude.{ℕ, ◌≡◌, ◌≢◌, ◌+◌, ◌*◌, ◌/◌, ◌%◌, ◌<◌, ◌≤◌, ◌⊎◌, Bool, true, false}
+use Rattle.std.specs.Prelude.{◌&&◌, nat_eq, if◌then◌else◌, List, length, slice_get, slice_index}
+use Rattle.std.specs.Prelude.{slice_index_or, slice_set, All, Option, Some, None, IsSome}
 use Rattle.std.specs.List.{list_any}
 use Rattle.m36_model.specs.declared.place.Reference.{Reference}
 use Rattle.m36_page.specs.Fields.{TableFields, PagerFields}
-use Rattle.m36_page.specs.Residence.{has_page, spot_of, absent_ptw, frame_of, content_of, Holds}
+use Rattle.m36_page.specs.Residence.{has_page, spot_of, kept_word, absent_ptw, resident_ptw}
+use Rattle.m36_page.specs.Residence.{without_used, frame_of, content_of, Holds}
 
 -- the same frames, and the same pages at the same places
 pub record IsSameShape (old new : PagerFields) : Type 0 where
@@ -61,7 +62,8 @@ pub record AreAbsent (tables : List TableFields) (count : ℕ) (core now : List 
 abbrev pub AllEmpty : PagerFields → Type 0
 AllEmpty p = (k seg page : ℕ) → Holds p k seg page → ⊥
 
--- A word of a segment was set: the content of no other has changed, nor where any page is.
+-- A word of a segment was set: in its frame where its page is in one, and else where it is kept. No
+-- other word has changed, nor where any page is.
 pub record IsSet (old : PagerFields) (core : List ℕ) (new : PagerFields) (now : List ℕ)
     (seg word v : ℕ) : Type 0 where
   pub shape : IsSameShape old new
@@ -71,6 +73,10 @@ pub record IsSet (old : PagerFields) (core : List ℕ) (new : PagerFields) (now 
   pub content : (s w : ℕ) → ((s ≡ seg) × (w ≡ word) → ⊥)
       → content_of new now s w ≡ content_of old core s w
   pub others : (a : ℕ) → (IsPaged old a → ⊥) → slice_index now a ≡ slice_index core a
+  pub in_frame : (frame : ℕ) → frame_of old core seg (word / 1024) ≡ Some frame
+      → (new ≡ old) × (now ≡ slice_set core (1024 * frame + word % 1024) v)
+  pub in_none : frame_of old core seg (word / 1024) ≡ None → now ≡ core
+  pub kept : (s w : ℕ) → ((s ≡ seg) × (w ≡ word) → ⊥) → kept_word new s w ≡ kept_word old s w
 
 -- ---- references that stay
 
@@ -94,9 +100,38 @@ Stays old core new now e =
     → frame_of old core e.at.seg (e.at.word / 1024) ≡ Some frame
     → frame_of new now e.at.seg (e.at.word / 1024) ≡ Some frame
 
--- a page was brought in
+-- a core word that holds the page table word of a page in a frame which the references do not pin
+pub record IsFreeSpot (p : PagerFields) (refs : List Reference) (a : ℕ) : Type 0 where
+  pub k : ℕ
+  pub seg : ℕ
+  pub page : ℕ
+  pub holds : Holds p k seg page
+  pub free : is_pinned refs (Some (seg, page)) ≡ false
+  pub is : spot_of p seg page ≡ a
+
+-- a core word is what it was, or it is at one of these places and its used mark was put off
+abbrev pub IsPassed : (ℕ → Type 0) → List ℕ → List ℕ → ℕ → Type 0
+IsPassed at core now a =
+    (slice_index now a ≡ slice_index core a)
+    ⊎ (at a × (slice_index now a ≡ without_used (slice_index core a)))
+
+-- A page was brought in. Frames other than frame k hold the pages that they held, so at most one page
+-- was put away. Of core no words have changed but those of frame k, the page table words of the two
+-- pages, in which no mark is on, and used marks, which were put off, of pages that the references do
+-- not pin.
 pub record IsBrought (old : PagerFields) (core : List ℕ) (new : PagerFields) (now : List ℕ)
     (seg page : ℕ) (refs : List Reference) : Type 0 where
   pub kept : IsKept old core new now
   pub resident : IsSome (frame_of new now seg page)
   pub stays : All (Stays old core new now) refs
+  pub k : ℕ
+  pub holders : (j : ℕ) → j ≢ k
+      → slice_index_or new.holders j None ≡ slice_index_or old.holders j None
+  pub spot : frame_of old core seg page ≡ None
+      → slice_index now (spot_of old seg page) ≡ resident_ptw (old.first + k)
+  pub away : (s q : ℕ) → frame_of old core seg page ≡ None → Holds old k s q
+      → slice_index now (spot_of old s q) ≡ absent_ptw
+  pub words : (a : ℕ) → a ≢ spot_of old seg page
+      → ((s q : ℕ) → Holds old k s q → a ≢ spot_of old s q)
+      → (a < 1024 * (old.first + k)) ⊎ (1024 * (old.first + k) + 1024 ≤ a)
+      → IsPassed (IsFreeSpot old refs) core now a

@@ -1,9 +1,8 @@
 -- Frames that may be taken.
 use Rattle.std.specs.Prelude.{ℕ, ◌≡◌, ◌≤◌, ◌<◌, true, false, List, length, slice_index}
 use Rattle.std.specs.Prelude.{slice_index_or, Option, Some, None}
-use Rattle.m36_model.specs.Core.{unmarked}
 use Rattle.m36_model.specs.declared.place.Reference.{Reference}
-use Rattle.m36_page.specs.Changes.{is_pinned}
+use Rattle.m36_page.specs.Changes.{is_pinned, IsPassed}
 
 -- a frame that holds no page of the references
 pub record IsFree (refs : List Reference) (holders : List (Option (ℕ × ℕ))) (k : ℕ) : Type 0 where
@@ -15,18 +14,19 @@ pub record ArePinned (refs : List Reference) (holders : List (Option (ℕ × ℕ
     (from to : ℕ) : Type 0 where
   pub each : (k : ℕ) → from ≤ k → k < to → is_pinned refs (slice_index_or holders k None) ≡ true
 
--- a core word that holds the page table word of a page in a frame
-pub record IsHeldSpot (holders : List (Option (ℕ × ℕ))) (spots : List ℕ) (a : ℕ) : Type 0 where
+-- a core word that holds the page table word of a page in a frame which the references do not pin
+pub record IsHeldSpot (refs : List Reference) (holders : List (Option (ℕ × ℕ))) (spots : List ℕ)
+    (a : ℕ) : Type 0 where
   pub k : ℕ
   pub held : ℕ × ℕ
   pub holds : slice_index_or holders k None ≡ Some held
+  pub free : is_pinned refs (Some held) ≡ false
   pub is : slice_index spots k ≡ a
 
--- no word has changed but in its marks, and none but at a spot
+-- no word has changed but at a spot, and there at most the used mark, which was put off
 pub record IsMarked (core now : List ℕ) (at : ℕ → Type 0) : Type 0 where
   pub size : length now ≡ length core
-  pub unmarks : (a : ℕ) → unmarked (slice_index now a) ≡ unmarked (slice_index core a)
-  pub others : (a : ℕ) → (at a → ⊥) → slice_index now a ≡ slice_index core a
+  pub each : (a : ℕ) → IsPassed at core now a
 
 -- each spot of a frame that holds a page is a word of core
 abbrev pub AreInCore : List (Option (ℕ × ℕ)) → List ℕ → List ℕ → Type 0

@@ -57,6 +57,7 @@ pub record IsEmptied (p : PagerFields) (core : List ℕ) (new : PagerFields) (no
   pub kept : IsKept p core new now
   pub settled : IsSettled new now
   pub empty : slice_index_or new.holders k None ≡ None
+  pub spot : (s q : ℕ) → Holds p k s q → slice_index now (spot_of p s q) ≡ absent_ptw
   pub same : slice_index_or p.holders k None ≡ None → (new ≡ p) × (now ≡ core)
   pub others : OthersStay p core new now k
   pub stays : (s q frame : ℕ) → has_page p s q ≡ true → frame_of p core s q ≡ Some frame

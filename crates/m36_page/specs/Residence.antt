@@ -49,6 +49,10 @@ frame_by ptw = if ptw.f then Some (ptw.addr / 16) else None
 unfoldable pub frame_in : ℕ → Option ℕ
 frame_in w = frame_by (ptw_of w)
 
+-- a page table word with its used mark off
+unfoldable pub without_used : ℕ → ℕ
+without_used w = w / 1024 * 1024 + w % 512
+
 -- the frame of core that a page is in, if any
 unfoldable pub frame_of : PagerFields → List ℕ → ℕ → ℕ → Option ℕ
 frame_of p core seg page = frame_in (slice_index core (spot_of p seg page))

@@ -100,6 +100,7 @@ fn put_off(core: &mut Core, spot: u32) -> bool
 }
 
 // Whether the hand passes over a frame: its page must stay, or was used. The mark of a page that was used is put off.
+#[tactic(auto, using(crate::proofs::Frames::marked_none))]
 fn is_passed(
     core: &mut Core,
     references: &[Reference],
@@ -108,7 +109,8 @@ fn is_passed(
 ) -> bool
     requires { IsSome holder → spot < length core.old }
     ensures free { result ≡ false → is_pinned references.now holder ≡ false }
-    ensures marks { IsMarked core.old core.new (λ a. IsSome holder × (a ≡ spot)) }
+    ensures marks { IsMarked core.old core.new
+        (λ a. IsSome holder × (is_pinned references.now holder ≡ false) × (a ≡ spot)) }
 {
     if is_pinned(references, holder) {
         return true;
@@ -120,6 +122,7 @@ fn is_passed(
 }
 
 // The first frame of some, from one up to another, that the hand does not pass over.
+#[tactic(auto, using(crate::proofs::Frames::marked_none))]
 fn unused_between(
     core: &mut Core,
     references: &[Reference],
@@ -132,7 +135,7 @@ fn unused_between(
     requires count { length spots.now ≡ length holders.now }
     requires inside { AreInCore holders.now spots.now core.old }
     ensures found { IfSome result (IsFree references.now holders.now) }
-    ensures marks { IsMarked core.old core.new (IsHeldSpot holders.now spots.now) }
+    ensures marks { IsMarked core.old core.new (IsHeldSpot references.now holders.now spots.now) }
 {
     for k in from..to {
         if !is_passed(core, references, holders[k], spots[k]) {
@@ -154,7 +157,7 @@ fn unused_from(
     requires count { length spots.now ≡ length holders.now }
     requires inside { AreInCore holders.now spots.now core.old }
     ensures found { IfSome result (IsFree references.now holders.now) }
-    ensures marks { IsMarked core.old core.new (IsHeldSpot holders.now spots.now) }
+    ensures marks { IsMarked core.old core.new (IsHeldSpot references.now holders.now spots.now) }
 {
     let ahead = MOST_PASSED.min(holders.len() - hand);
     if let Some(k) = unused_between(core, references, holders, spots, hand, hand + ahead) {
@@ -166,6 +169,7 @@ fn unused_from(
 
 /// A frame to be taken: one that holds no page of the references, by the hand, which passes over pages that were used and
 /// puts their marks off. None exactly where each frame holds a page of the references.
+#[tactic(auto, using(crate::proofs::Frames::marked_none))]
 pub(crate) fn choose(
     core: &mut Core,
     references: &[Reference],
@@ -179,7 +183,7 @@ pub(crate) fn choose(
     ensures found { IfSome result (IsFree references.now holders.now) }
     ensures none { IfNone result (ArePinned references.now holders.now 0 (length holders.now)) }
     ensures same { IfNone result (core.new ≡ core.old) }
-    ensures marks { IsMarked core.old core.new (IsHeldSpot holders.now spots.now) }
+    ensures marks { IsMarked core.old core.new (IsHeldSpot references.now holders.now spots.now) }
 {
     let Some(free) = free_from(holders, references, hand) else {
         return None;

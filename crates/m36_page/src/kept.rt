@@ -55,7 +55,8 @@ fn write_page(written: &mut Vec<Word>, from: usize, core: &Core, frame: u32)
 }
 
 impl KeptWords {
-    /// Words with zeros behind them, so many in all. The error is want of memory; later calls take none.
+    /// Words with zeros behind them, so many in all. The error is want of memory; later calls take none, which is to be read:
+    /// a clause says only that there is room.
     pub(crate) fn new(alloc: Global, words: &[Word], count: usize) -> Result<KeptWords, NoMemory>
         requires { length words.now ≤ count }
         ensures { IfOk result (λ k. k ≡ words.now ++ replicate (count - length words.now) 0) }

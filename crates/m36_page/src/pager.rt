@@ -3,7 +3,7 @@
 ghost use Rattle.std.specs.Prelude.{ℕ, ◌≡◌, ◌≢◌, ◌+◌, ◌-◌, ◌^◌, ◌*◌, ◌/◌, ◌<◌, ◌≤◌, ◌⊎◌, Bool, true, false, ◌&&◌, nat_eq, if◌then◌else◌, length, slice_index_or, replicate, All, IfOk, Some, None, IsSome, IfSome, IfNone, OnOk, OnErr};
 ghost use Rattle.m36_model.specs.Core.{unmarked};
 ghost use Rattle.m36_page.specs.Residence.{has_page, spot_of, kept_word, frame_of, content_of, Holds, IsPager, Reads, HasFrames, IsSettled};
-ghost use Rattle.m36_page.specs.Changes.{IsBrought, IsKept, IsSet, IsSpot, OthersStay, AllPinned, AllEmpty, AreAbsent};
+ghost use Rattle.m36_page.specs.Changes.{IsBrought, IsKept, IsSet, IsFreeSpot, OthersStay, AllPinned, AllEmpty, AreAbsent};
 ghost use Rattle.m36_page.specs.Choice.{IsFree, IsMarked, AreInCore};
 ghost use Rattle.m36_page.specs.Given.{are_placed, pager_given};
 ghost use Rattle.m36_page.specs.Moved.{IsAway, IsTaken, IsEmptied, IsKeptWord};
@@ -30,8 +30,9 @@ pub struct Pinned;
 /// The pages of segments: which pageable frame holds which page, and the words of the pages that are in none. It is seen as
 /// the number of the first pageable frame, the page that each of them holds, and the tables with the words that are kept.
 ///
-/// Each call that takes a core wants the pageable frames in it, and each page table word of the tables as the last call left
-/// it, but for its marks; before the first call every page is in no frame.
+/// Each call that takes a core wants the pageable frames in it, and each but `lay` wants each page table word of the tables,
+/// but for its marks, as the last call left it; before the first call every page is in no frame. `lay` writes these words,
+/// as of pages in no frame, and wants that no frame holds a page yet.
 #[derive(Debug, Drop)]
 pub struct Pager {
     holders: Vec<Option<(u16, u16)>>,
@@ -82,7 +83,8 @@ fn next_of(place: usize, count: usize) -> usize
 
 impl Pager {
     /// A pager over so many frames of core from one on, of which none holds a page yet. Pages are at places of core words that
-    /// no two share, all below the first of these frames. The error is want of memory; later calls take none.
+    /// no two share, all below the first of these frames. The error is want of memory; later calls take none, which is in
+    /// no clause.
     pub fn new(
         alloc: Global,
         first: u32,
@@ -179,14 +181,14 @@ impl Pager {
         ensures found { IfSome result (IsFree references.now self.now.holders) }
         ensures none { IfNone result (AllPinned self.now references.now) }
         ensures same { IfNone result (core.new ≡ core.old) }
-        ensures marks { IsMarked core.old core.new (IsSpot self.now) }
+        ensures marks { IsMarked core.old core.new (IsFreeSpot self.now references.now) }
     {
         choose(core, references, &self.holders, &self.spots, self.hand)
     }
 
-    /// Brings a page into a frame. One that is in a frame is left as it is, and nothing changes. The error says that the page
-    /// is in no frame and every frame holds a page of the references, and then nothing has changed; with more frames than
-    /// references it never comes.
+    /// Brings a page into a frame, for which at most one page is put away. One that is in a frame is left as it is, and nothing
+    /// changes. The error says that the page is in no frame and every frame holds a page of the references, and then nothing
+    /// has changed; with more frames than references it never comes.
     pub fn bring(
         &mut self,
         core: &mut Core,
@@ -291,7 +293,7 @@ impl Pager {
         put_word(&mut self.tables[i], word, value);
     }
 
-    /// Sets a word of a segment, wherever its page is.
+    /// Sets a word of a segment: in its frame where its page is in one, and else where it is kept. Nothing else changes.
     pub fn set(&mut self, core: &mut Core, seg: u16, word: u32, w: Word)
         requires frames { HasFrames self.old core.old }
         requires reads { Reads self.old core.old }

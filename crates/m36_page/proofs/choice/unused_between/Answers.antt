@@ -7,10 +7,10 @@ is_passed-requires c =
 
 pub returns-then-not-is_passed-clause-marks : goal.returns-then-not-is_passed-clause-marks
 returns-then-not-is_passed-clause-marks c =
-    passed_then c.args.holders.now c.args.spots.now c.args.core.now c.loop-k.core c.is_passed.new.core c.loop-k.k
+    passed_then c.args.references.now c.args.holders.now c.args.spots.now c.args.core.now c.loop-k.core c.is_passed.new.core c.loop-k.k
     c.loop-k.invariant c.is_passed.ensures.marks
 
 pub loop-k-preserved : goal.loop-k-preserved
 loop-k-preserved c =
-    passed_then c.args.holders.now c.args.spots.now c.args.core.now c.loop-k.core c.is_passed.new.core c.loop-k.k
+    passed_then c.args.references.now c.args.holders.now c.args.spots.now c.args.core.now c.loop-k.core c.is_passed.new.core c.loop-k.k
     c.loop-k.invariant c.is_passed.ensures.marks

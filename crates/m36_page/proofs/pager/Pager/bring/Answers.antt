@@ -1,16 +1,11 @@
-use Rattle.std.proofs.Common.{ℕ, ◌≡◌, List, length, Option, Some, None, inl, inr, sym, ap, subst, ◌∙◌, arith}
-use Rattle.std.specs.Prelude.{IsSome}
+use Rattle.std.proofs.Common.{List, length, inl, inr, sym, ap, subst, ◌∙◌, arith}
 use Rattle.m36_model.specs.declared.place.Reference.{Reference}
 use Rattle.m36_page.specs.Residence.{frame_of, IsSettled}
 use Rattle.m36_page.specs.Changes.{IsBrought, AllPinned}
-use Rattle.m36_page.proofs.Moves.{marks_frame, taken_settled}
+use Rattle.m36_page.proofs.Moves.{marks_settled, marks_frame, taken_settled}
 use Rattle.m36_page.proofs.Room.{few_frames}
-use Rattle.m36_page.proofs.Parts.{settled_by, marks_of, resident_from, out_from, brought_same, brought, not_pinned}
+use Rattle.m36_page.proofs.Parts.{settled_by, marks_of, resident_from, out_from, brought_same, was_out, brought, not_pinned}
 use Rattle.m36_page.proofs.pager.Pager.bring.Goals as goal
-
-was_out : (frame : Option ℕ) → frame ≡ None → IsSome frame → ⊥
-was_out None out resident = absurd (cc)
-was_out (Some f) out resident = absurd (cc)
 
 pub returns-then-is_some-clause-ok : goal.returns-then-is_some-clause-ok
 returns-then-is_some-clause-ok c =
@@ -23,13 +18,20 @@ returns-then-is_some-clause-free c =
     inl (resident_from c.args.self.now c.args.core.now c.args.seg c.args.page c.spot-spot.result c.frame_at.result c.is_some.result
     c.spot-spot.ensures.value c.frame_at.ensures c.is_some.ensures c.if-is_some.true)
 
+pub empty-requires-clause-settled : goal.empty-requires-clause-settled
+empty-requires-clause-settled c =
+    let settled : IsSettled c.args.self.now c.args.core.now =
+    settled_by c.args.self.now c.args.core.now c.spot-spot.ensures.pager c.requires.reads c.requires.frames c.len.ensures.most in
+    marks_settled c.args.self.now c.args.core.now c.choose.new.core settled
+    (marks_of c.args.self.now c.as_slice.result.now c.args.core.now c.choose.new.core c.spot-spot.ensures.pager c.choose.ensures.marks)
+
 pub take_in-requires-clause-out : goal.take_in-requires-clause-out
 take_in-requires-clause-out c =
     let settled : IsSettled c.args.self.now c.args.core.now =
     settled_by c.args.self.now c.args.core.now c.spot-spot.ensures.pager c.requires.reads c.requires.frames c.len.ensures.most in
     c.empty.ensures.out c.args.seg c.args.page c.requires.page
     (marks_frame c.args.self.now c.args.core.now c.choose.new.core c.args.seg c.args.page settled
-    (marks_of c.args.self.now c.args.core.now c.choose.new.core c.choose.ensures.marks) c.requires.page
+    (marks_of c.args.self.now c.as_slice.result.now c.args.core.now c.choose.new.core c.spot-spot.ensures.pager c.choose.ensures.marks) c.requires.page
     ∙ out_from c.args.self.now c.args.core.now c.args.seg c.args.page c.spot-spot.result c.frame_at.result c.is_some.result
     c.spot-spot.ensures.value c.frame_at.ensures c.is_some.ensures c.if-is_some.false)
 

@@ -15,6 +15,6 @@ returns-clause-none c =
 
 pub returns-clause-marks : goal.returns-clause-marks
 returns-clause-marks c =
-    marks_parts c.self.inside.first c.self.inside.holders.items c.deref.result.now c.self.inside.spots.items c.deref-2.result.now c.self.inside.tables.items
+    marks_parts c.args.references.now c.self.inside.first c.self.inside.holders.items c.deref.result.now c.self.inside.spots.items c.deref-2.result.now c.self.inside.tables.items
     c.args.self.now c.args.core.now c.choose.new.core c.self.view_is c.deref.ensures.value c.deref-2.ensures.value c.self.invariant.0
     c.choose.ensures.marks
