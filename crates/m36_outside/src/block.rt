@@ -183,7 +183,7 @@ impl Entries<Text> for Block {
     ghost entries = { λ block. block };
 }
 
-/// What a system took of a block before it failed.
+/// What a system took of a block, from the beginning on: its pieces, and a first part of the next.
 #[derive(Drop)]
 pub(crate) struct Begun<'a> {
     pub(crate) block: &'a Block,
@@ -191,8 +191,7 @@ pub(crate) struct Begun<'a> {
 }
 
 impl<'a> Entries<Text> for Begun<'a> {
-    ghost use Rattle.std.specs.Prelude.{length};
-    ghost use Rattle.m36_outside.specs.Block.{cut};
+    ghost use Rattle.m36_outside.specs.Block.{parts};
 
-    ghost entries = { λ begun. cut (length begun.taken.now.entries) begun.block.now };
+    ghost entries = { λ begun. parts begun.taken.now.entries begun.block.now };
 }

@@ -100,17 +100,14 @@ impl<R: Print + Drop> Sink for StdSink<R> {
         }
         let mut to = NotedWriter::new(io::writer(&self.rt));
         let answer = write_whole(&mut to, block.bytes());
+        self.taken.note(&Begun {
+            block,
+            taken: &to.taken,
+        });
         self.errors.note(&to.errors);
         match answer {
-            Put::Done => {
-                self.taken.note(block);
-                Put::Done
-            }
+            Put::Done => Put::Done,
             Put::Failed => {
-                self.taken.note(&Begun {
-                    block,
-                    taken: &to.taken,
-                });
                 self.faults = raise(self.faults);
                 Put::Failed
             }
