@@ -9,6 +9,7 @@ pub mod Gathered
 pub mod Grown
 pub mod LinesTaken
 mod MemoryBlocks
+mod Names
 pub mod Risen
 mod Taken
 mod Takes

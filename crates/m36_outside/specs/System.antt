@@ -44,6 +44,11 @@ OpenHasError read.NoMemory old new = ⊤
 abbrev pub NamesNoFile : List ℕ → Type 0
 NamesNoFile name = IsUtf8 name → Contains name slash
 
+-- Every other name may be that of a file.
+pub record NamesFile (name : List ℕ) : Type 0 where
+  pub text : IsUtf8 name
+  pub no_slash : ¬ (Contains name slash)
+
 -- Absent was answered to a name of no file, or behind the one error that there is no such file;
 -- Failed behind an error.
 abbrev pub ReadHasError : ReadAnswer → List ℕ → List ErrorKind → List ErrorKind → Type 0

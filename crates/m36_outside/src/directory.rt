@@ -1,8 +1,8 @@
 //! The files of the current directory.
 
-ghost use Rattle.std.specs.Prelude.{[], ◌∷◌, ◌++◌, ◌≡◌, ◌≤◌, ◌<◌, ◌^◌, None, MatchOption, Contains};
+ghost use Rattle.std.specs.Prelude.{[], ◌∷◌, ◌++◌, ◌≡◌, ◌≤◌, ◌<◌, ◌^◌, None, MatchOption};
 ghost use Rattle.m36_outside.specs.ReadAnswer.{IsWithinLimit, ReadHasCause};
-ghost use Rattle.m36_outside.specs.System.{ReadHasError, WriteHasError, WriteTakes, FileHasError, FileTakes, NamesNoFile, refusal_of};
+ghost use Rattle.m36_outside.specs.System.{ReadHasError, WriteHasError, WriteTakes, FileHasError, FileTakes, NamesFile, NamesNoFile, refusal_of};
 ghost use Rattle.m36_outside.specs.WriteAnswer.{WriteSays, WriteHasCause};
 
 use crate::faults::raise;
@@ -102,6 +102,7 @@ impl<R: Files + Drop> Folder for DirFolder<R> {
         ensures count_bound { self.new.reads < 2 ^ 64 }
         ensures other_count { self.new.writes ≡ self.old.writes }
 
+        ensures outside { NamesNoFile name.now → result ≡ ReadAnswer.Absent }
         ensures error { ReadHasError result name.now self.old.errors self.new.errors }
     {
         let answer = read_file(&self.rt, alloc, name, &mut self.notes.errors);
@@ -124,6 +125,8 @@ impl<R: Files + Drop> Folder for DirFolder<R> {
         ensures count_bound { self.new.writes < 2 ^ 64 }
         ensures other_count { self.new.reads ≡ self.old.reads }
 
+        ensures outside { NamesNoFile name.now
+            → (result ≡ WriteAnswer.Failed) × (self.new.taken ≡ self.old.taken) }
         ensures took { WriteTakes result self.old.taken self.new.taken content.now }
         ensures error { WriteHasError result name.now self.old.errors self.new.errors }
     {
@@ -142,6 +145,7 @@ impl<R: Files + Drop> Folder for DirFolder<R> {
 }
 
 /// Reads a file of the current directory.
+#[tactic(auto, using(crate::proofs::Names::names))]
 fn read_file<R: Files>(
     rt: &R,
     alloc: Global,
@@ -149,6 +153,7 @@ fn read_file<R: Files>(
     errors: &mut Passed<ErrorKind>,
 ) -> ReadAnswer
     ensures limit { IsWithinLimit result }
+    ensures outside { NamesNoFile name.now → result ≡ ReadAnswer.Absent }
     ensures error { ReadHasError result name.now errors.old.entries errors.new.entries }
 {
     let Some(name) = name_of_file(name) else {
@@ -180,8 +185,10 @@ fn refusal(kind: ErrorKind) -> ReadAnswer
 }
 
 /// Makes a file of the current directory anew.
-#[tactic(auto, using(crate::proofs::Takes::takes))]
+#[tactic(auto, using(crate::proofs::Names::names, crate::proofs::Takes::takes))]
 fn write_file<R: Files>(rt: &R, name: &[u8], content: &[u8], notes: &mut FileNotes) -> Put
+    ensures outside { NamesNoFile name.now
+        → (result ≡ Put.Failed) × (notes.new.taken.entries ≡ notes.old.taken.entries) }
     ensures took { FileTakes result notes.old.taken.entries notes.new.taken.entries content.now }
     ensures error { FileHasError result name.now notes.old.errors.entries notes.new.errors.entries }
 {
@@ -207,7 +214,7 @@ fn write_file<R: Files>(rt: &R, name: &[u8], content: &[u8], notes: &mut FileNot
 fn name_of_file(name: &[u8]) -> Option<&str>
     ensures { MatchOption result
         (NamesNoFile name.now)
-        (λ text. (text.now ≡ name.now) × ¬ (Contains name.now SLASH)) }
+        (λ text. (text.now ≡ name.now) × NamesFile name.now) }
 {
     if name.contains(&SLASH) {
         return None;
