@@ -1,14 +1,13 @@
 -- Laws of blocks of pieces: how a block grows and where its pieces lie, what putting them in turn has put, and what a
 -- system took of one that it could not take whole.
 use Rattle.std.proofs.Common.{◌≡◌, ℕ, zero, suc, ◌+◌, ◌-◌, ◌<◌, ◌≤◌, List, [], ◌∷◌, ◌++◌, length, get_or, take, drop, nat_le, slice_range, Option, Some, None, inl, inr, refl, sym, ap, subst, ◌∙◌, arith, length-append}
-use Rattle.std.proofs.lemmas.List.{append-nil, append_assoc, take_at, drop_at, take_all, take-append-drop, take-append-le, take_more, drop_more}
-use Rattle.std.proofs.Math.Seq.{take-append-add}
+use Rattle.std.proofs.lemmas.List.{append_assoc, take_at, drop_at, take_all, take-append-drop, take-append-le, drop-append-le, take_more, drop_more}
 use Rattle.std.proofs.lemmas.Bool.{cases_Bool, leb-true, leb-false}
-use Rattle.m36_outside.specs.Block.{marks_of, cut}
+use Rattle.m36_outside.specs.Block.{marks_of, parts}
 use Rattle.m36_outside.specs.Passing.{TakesPart, TakesSome, joined}
 use Rattle.m36_outside.specs.Written.{Grew, GrewWithin}
-use Rattle.m36_outside.proofs.Grown.{grew_on, grew_more, grew_longer, within_front}
-use Rattle.m36_outside.proofs.LinesTaken.{takes_lines_on, takes_lines_more, takes_lines_longer, takes_some_of_line, takes_some_of_lines}
+use Rattle.m36_outside.proofs.Grown.{grew_on, grew_more, grew_longer}
+use Rattle.m36_outside.proofs.LinesTaken.{takes_lines_on, takes_lines_more, takes_some_of_lines, takes_line_more}
 use Rattle.m36_outside.proofs.Takes.{joined_more, taken_is}
 
 -- ---- pieces, one behind the other
@@ -195,6 +194,51 @@ pub ruleset putting = (block_grew, block_took, block_cut, block_took_some, block
 
 -- ---- what a system took
 
+-- one piece more, or what is left of the bytes
+parts_whole :
+    (bytes piece : List ℕ) (pieces : List (List ℕ))
+    → length piece ≤ length bytes
+    → parts bytes (piece ∷ pieces) ≡ take (length piece) bytes ∷ parts (drop (length piece) bytes) pieces
+parts_whole bytes piece pieces all = elim (cases_Bool (nat_le (length piece) (length bytes))) [
+  | inl e ↦ rw e refl
+  | inr e ↦ let few : length bytes < length piece = leb-false (length piece) (length bytes) e in absurd (omega arith)
+]
+
+parts_rest :
+    (bytes piece : List ℕ) (pieces : List (List ℕ))
+    → length bytes < length piece → parts bytes (piece ∷ pieces) ≡ bytes ∷ []
+parts_rest bytes piece pieces few = elim (cases_Bool (nat_le (length piece) (length bytes))) [
+  | inl e ↦ let all : length piece ≤ length bytes = leb-true (length piece) (length bytes) e in absurd (omega arith)
+  | inr e ↦ rw e refl
+]
+
+-- all bytes of pieces, parted by them, are the pieces
+parts_all : (pieces : List (List ℕ)) → parts (joined pieces) pieces ≡ pieces
+parts_all [] = refl
+parts_all (piece ∷ pieces) =
+    let all : length piece ≤ length (piece ++ joined pieces) = omega (arith, length-append piece (joined pieces)) in
+    parts_whole (piece ++ joined pieces) piece pieces all
+    ∙ ap (λ l. l ∷ parts (drop (length piece) (piece ++ joined pieces)) pieces) (take_at piece (joined pieces) (length piece) refl)
+    ∙ ap (λ l. piece ∷ parts l pieces) (drop_at piece (joined pieces) (length piece) refl)
+    ∙ ap (λ l. piece ∷ l) (parts_all pieces)
+
+-- of two texts that begin alike, the shorter begins the longer
+begins_short :
+    (long others short rest : List ℕ)
+    → long ++ others ≡ short ++ rest → length short ≤ length long → take (length short) long ≡ short
+begins_short long others short rest alike few =
+    sym (take-append-le (length short) long others few)
+    ∙ ap (take (length short)) alike
+    ∙ take_at short rest (length short) refl
+
+begins_left :
+    (piece others taken rest : List ℕ)
+    → piece ++ others ≡ taken ++ rest → length piece ≤ length taken → others ≡ drop (length piece) taken ++ rest
+begins_left piece others taken rest alike all =
+    sym (drop_at piece others (length piece) refl)
+    ∙ ap (drop (length piece)) alike
+    ∙ drop-append-le (length piece) taken rest all
+
 -- a first part of one piece
 front :
     (old : List (List ℕ)) (count : ℕ) (piece : List ℕ)
@@ -207,57 +251,102 @@ front old count piece = record {
   grew = refl;
 }
 
--- the pieces of so many bytes come to these bytes
-cut_joined : (count : ℕ) (pieces : List (List ℕ)) → joined (cut count pieces) ≡ take count (joined pieces)
-cut_joined count [] = sym (take_all count [] (omega arith))
-cut_joined count (piece ∷ pieces) = elim (cases_Bool (nat_le count (length piece))) [
-  | inl e ↦ let few : count ≤ length piece = leb-true count (length piece) e in
-      rw e (append-nil (take count piece) ∙ sym (take-append-le count piece (joined pieces) few))
-  | inr e ↦ let more : length piece < count = leb-false count (length piece) e in
-      let size : length piece + (count - length piece) ≡ count = omega arith in
-      rw e (ap (λ l. piece ++ l) (cut_joined (count - length piece) pieces)
-      ∙ sym (take-append-add piece (joined pieces) (count - length piece))
-      ∙ ap (λ n. take n (piece ++ joined pieces)) size)
+takes_front_of :
+    (old pieces : List (List ℕ)) (piece taken rest : List ℕ)
+    → piece ++ joined pieces ≡ taken ++ rest → length taken ≤ length piece
+    → TakesSome old (old ++ taken ∷ []) (piece ∷ pieces)
+takes_front_of old pieces piece taken rest alike few =
+    subst (λ l. TakesSome old (old ++ l ∷ []) (piece ∷ pieces)) (begins_short piece (joined pieces) taken rest alike few)
+    (takes_some_of_lines None None old (old ++ take (length taken) piece ∷ []) pieces piece (front old (length taken) piece))
+
+-- bytes with which the bytes of pieces begin, parted by them, are some pieces whole, and a part of the next
+parts_take :
+    (old : List (List ℕ)) (piece : List ℕ) (pieces : List (List ℕ)) (taken rest : List ℕ)
+    → piece ++ joined pieces ≡ taken ++ rest
+    → TakesSome old (old ++ parts taken (piece ∷ pieces)) (piece ∷ pieces)
+parts_take old piece [] taken rest alike = elim (cases_Bool (nat_le (length piece) (length taken))) [
+  | inl e ↦ let all : length piece ≤ length taken = leb-true (length piece) (length taken) e in
+      let same : parts taken (piece ∷ []) ≡ piece ∷ [] =
+      parts_whole taken piece [] all ∙ ap (λ l. l ∷ []) (begins_short taken rest piece (joined []) (sym alike) all) in
+      subst (λ l. TakesSome old (old ++ l) (piece ∷ [])) (sym same)
+      (takes_front_of old [] piece piece [] refl (omega arith))
+  | inr e ↦ let few : length taken < length piece = leb-false (length piece) (length taken) e in
+      subst (λ l. TakesSome old (old ++ l) (piece ∷ [])) (sym (parts_rest taken piece [] few))
+      (takes_front_of old [] piece taken rest alike (omega arith))
+]
+parts_take old piece (next ∷ pieces) taken rest alike = elim (cases_Bool (nat_le (length piece) (length taken))) [
+  | inl e ↦ let all : length piece ≤ length taken = leb-true (length piece) (length taken) e in
+      let left = drop (length piece) taken in
+      let more = parts left (next ∷ pieces) in
+      let same : parts taken (piece ∷ (next ∷ pieces)) ≡ piece ∷ more =
+      parts_whole taken piece (next ∷ pieces) all
+      ∙ ap (λ l. l ∷ more) (begins_short taken rest piece (joined (next ∷ pieces)) (sym alike) all) in
+      let later = parts_take (old ++ piece ∷ []) next pieces left rest (begins_left piece (joined (next ∷ pieces)) taken rest alike all) in
+      subst (λ l. TakesSome old l (piece ∷ (next ∷ pieces))) (append_assoc old (piece ∷ []) more ∙ ap (λ l. old ++ l) (sym same))
+      (takes_line_more old (old ++ piece ∷ []) ((old ++ piece ∷ []) ++ more) (next ∷ pieces) piece refl later)
+  | inr e ↦ let few : length taken < length piece = leb-false (length piece) (length taken) e in
+      subst (λ l. TakesSome old (old ++ l) (piece ∷ (next ∷ pieces))) (sym (parts_rest taken piece (next ∷ pieces) few))
+      (takes_front_of old (next ∷ pieces) piece taken rest alike (omega arith))
 ]
 
-some_left : (pieces : List (List ℕ)) (count : ℕ) → 0 < count → count ≤ length (joined pieces) → 0 < length pieces
-some_left [] count more within = absurd (omega arith)
-some_left (piece ∷ pieces) count more within = omega arith
+-- what was taken of pieces comes to a first part of what all come to
+some_written :
+    (old new due : List (List ℕ))
+    → TakesSome old new due → GrewWithin (Some (joined old)) (Some (joined new)) (joined due)
+some_written old new due some =
+    let lines = joined some.lines in
+    let left = joined some.left in
+    record {
+      part = lines ++ some.part;
+      rest = some.rest ++ left;
+      whole = ap joined some.is
+          ∙ joined_both some.lines (some.line ∷ some.left)
+          ∙ ap (λ l. lines ++ (l ++ left)) some.line_is
+          ∙ ap (λ l. lines ++ l) (append_assoc some.part some.rest left)
+          ∙ sym (append_assoc lines some.part (some.rest ++ left));
+      grew = ap (λ l. Some l) (ap joined some.took
+          ∙ joined_more (old ++ some.lines) some.part
+          ∙ ap (λ l. l ++ some.part) (joined_both old some.lines)
+          ∙ append_assoc (joined old) lines some.part);
+    }
 
--- they are some pieces whole, and a part of the next
-cut_takes :
-    (old : List (List ℕ)) (count : ℕ) (pieces : List (List ℕ))
-    → 0 < length pieces → count ≤ length (joined pieces) → TakesSome old (old ++ cut count pieces) pieces
-cut_takes old count [] some within = absurd (omega arith)
-cut_takes old count (piece ∷ pieces) some within = elim (cases_Bool (nat_le count (length piece))) [
-  | inl e ↦ rw e (takes_lines_longer old (old ++ take count piece ∷ []) (piece ∷ []) pieces (takes_some_of_line None None old (old ++ take count piece ∷ []) piece (front old count piece)))
-  | inr e ↦ let more : length piece < count = leb-false count (length piece) e in
-      let left : count - length piece ≤ length (joined pieces) = omega (arith, length-append piece (joined pieces)) in
-      let begun = cut_takes (old ++ piece ∷ []) (count - length piece) pieces (some_left pieces (count - length piece) (omega arith) left) left in
-      let rest = cut (count - length piece) pieces in
-      rw e (subst (λ l. TakesSome old l (piece ∷ pieces)) (append_assoc old (piece ∷ []) rest)
-      (takes_lines_more old (old ++ piece ∷ []) ((old ++ piece ∷ []) ++ rest) (piece ∷ []) pieces refl begun))
-]
+-- a writer of which nothing was noted before took all bytes
+pub block_taken :
+    (old new pieces : List (List ℕ)) (before taken : List ℕ)
+    → Grew (Some before) (Some taken) (joined pieces) → before ≡ []
+    → new ≡ old ++ parts taken pieces → new ≡ old ++ pieces
+block_taken old new pieces before taken grown none took =
+    let same : taken ≡ joined pieces = taken_is before taken (joined pieces) grown none in
+    took ∙ ap (λ l. old ++ parts l pieces) same ∙ ap (λ l. old ++ l) (parts_all pieces)
 
 pub block_written :
     (old new pieces : List (List ℕ)) → new ≡ old ++ pieces → Grew (Some (joined old)) (Some (joined new)) (joined pieces)
 block_written old new pieces took = ap (λ l. Some l) (ap joined took ∙ joined_both old pieces)
 
-pub begun_written :
-    (old new pieces : List (List ℕ)) (count : ℕ)
-    → new ≡ old ++ cut count pieces → GrewWithin (Some (joined old)) (Some (joined new)) (joined pieces)
-begun_written old new pieces count took =
-    within_front (joined old) (joined new) (joined pieces) count
-    (ap joined took ∙ joined_both old (cut count pieces) ∙ ap (λ l. joined old ++ l) (cut_joined count pieces))
+pub block_all_written :
+    (old new pieces : List (List ℕ)) (before taken : List ℕ)
+    → Grew (Some before) (Some taken) (joined pieces) → before ≡ []
+    → new ≡ old ++ parts taken pieces → Grew (Some (joined old)) (Some (joined new)) (joined pieces)
+block_all_written old new pieces before taken grown none took =
+    block_written old new pieces (block_taken old new pieces before taken grown none took)
 
+-- it took a first part of them
 pub begun_taken :
     (old new pieces : List (List ℕ)) (before taken : List ℕ)
     → GrewWithin (Some before) (Some taken) (joined pieces) → before ≡ [] → 0 < length pieces
-    → new ≡ old ++ cut (length taken) pieces → TakesSome old new pieces
-begun_taken old new pieces before taken within none some took =
+    → new ≡ old ++ parts taken pieces → TakesSome old new pieces
+begun_taken old new [] before taken within none some took = absurd (omega arith)
+begun_taken old new (piece ∷ pieces) before taken within none some took =
     let same : taken ≡ within.part = taken_is before taken within.part within.grew none in
-    let bound : length taken ≤ length (joined pieces) =
-    omega (arith, ap length same, ap length within.whole, length-append within.part within.rest) in
-    subst (λ l. TakesSome old l pieces) (sym took) (cut_takes old (length taken) pieces some bound)
+    let alike : piece ++ joined pieces ≡ taken ++ within.rest =
+    within.whole ∙ ap (λ l. l ++ within.rest) (sym same) in
+    subst (λ l. TakesSome old l (piece ∷ pieces)) (sym took) (parts_take old piece pieces taken within.rest alike)
 
-pub ruleset written_at_once = (block_written, begun_written, begun_taken)
+pub begun_written :
+    (old new pieces : List (List ℕ)) (before taken : List ℕ)
+    → GrewWithin (Some before) (Some taken) (joined pieces) → before ≡ [] → 0 < length pieces
+    → new ≡ old ++ parts taken pieces → GrewWithin (Some (joined old)) (Some (joined new)) (joined pieces)
+begun_written old new pieces before taken within none some took =
+    some_written old new pieces (begun_taken old new pieces before taken within none some took)
+
+pub ruleset written_at_once = (block_taken, block_written, block_all_written, begun_taken, begun_written)

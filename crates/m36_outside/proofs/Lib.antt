@@ -3,12 +3,15 @@ mod Blocks
 mod Causes
 pub mod Completes
 mod Consumed
+mod FilesGiven
 pub mod FilesKept
 mod FilesNamed
 pub mod Gathered
 pub mod Grown
 pub mod LinesTaken
 mod MemoryBlocks
+mod Names
 pub mod Risen
+mod Signalled
 mod Taken
 mod Takes

@@ -1,5 +1,5 @@
 -- A block of pieces, which lie one behind the other in one list of bytes.
-use Rattle.std.specs.Prelude.{ℕ, Bool, List, [], ◌∷◌, ◌+◌, ◌-◌, ◌&&◌, length, take, nat_le}
+use Rattle.std.specs.Prelude.{ℕ, Bool, List, [], ◌∷◌, ◌+◌, ◌&&◌, length, take, drop, nat_le}
 use Rattle.std.specs.Prelude.{nat_lt, if◌then◌else◌}
 use Rattle.m36_outside.specs.Passing.{joined}
 
@@ -21,11 +21,11 @@ abbrev pub marks_of : ℕ → List (List ℕ) → List ℕ
 marks_of from [] = from ∷ []
 marks_of from (piece ∷ pieces) = from ∷ marks_of (from + length piece) pieces
 
--- What so many bytes from the beginning on are of pieces: those that are whole, and then a first
--- part of the next, which may be all of it.
-abbrev pub cut : ℕ → List (List ℕ) → List (List ℕ)
-cut count [] = []
-cut count (piece ∷ pieces) =
-    if nat_le count (length piece)
-    then take count piece ∷ []
-    else piece ∷ cut (count - length piece) pieces
+-- Bytes parted by pieces: those pieces that are whole in them, and where a piece is left the rest
+-- of the bytes, which may be none, as a first part of it.
+abbrev pub parts : List ℕ → List (List ℕ) → List (List ℕ)
+parts bytes [] = []
+parts bytes (piece ∷ pieces) =
+    if nat_le (length piece) (length bytes)
+    then take (length piece) bytes ∷ parts (drop (length piece) bytes) pieces
+    else bytes ∷ []

@@ -6,6 +6,7 @@ pub mod FileList
 pub mod Files
 pub mod FolderCalls
 pub mod Gathered
+pub mod Given
 pub mod MemFolder
 pub mod MemLines
 pub mod MemSink
@@ -13,6 +14,7 @@ pub mod Passing
 pub mod Piece
 pub mod Put
 pub mod ReadAnswer
+pub mod Signals
 pub mod SureFields
 pub mod System
 pub mod Told

@@ -1,5 +1,5 @@
 -- What the answers of a put say.
-use Rattle.std.specs.Prelude.{ℕ, ◌≡◌, List, Option}
+use Rattle.std.specs.Prelude.{ℕ, ◌≡◌, List, Option, ⊤}
 use Rattle.m36_outside.specs.Counts.{Rose}
 use Rattle.m36_outside.specs.Written.{Grew, GrewWithin}
 use Rattle.m36_outside.specs.declared.sink.Put.{Put}
@@ -14,3 +14,8 @@ PutSays Failed old new piece = GrewWithin old new piece
 abbrev pub PutHasCause : Put → ℕ → ℕ → Type 0
 PutHasCause Done old new = new ≡ old
 PutHasCause Failed old new = Rose old new
+
+-- this holds where the put failed
+abbrev pub OnFailed : Put → Type 0 → Type 0
+OnFailed Done fact = ⊤
+OnFailed Failed fact = fact

@@ -5,7 +5,7 @@ ghost use Rattle.std.specs.Bool.{OnTrue, OnFalse};
 ghost use Rattle.m36_outside.specs.Block.{has_room};
 ghost use Rattle.m36_outside.specs.Gathered.{Adds};
 ghost use Rattle.m36_outside.specs.Passing.{joined, TakesLines};
-ghost use Rattle.m36_outside.specs.Put.{PutSays, PutHasCause};
+ghost use Rattle.m36_outside.specs.Put.{PutSays, PutHasCause, OnFailed};
 
 use crate::passed::{Entries, Passed};
 use crate::sink::{Put, Sink};
@@ -123,12 +123,14 @@ impl Block {
         answer
     }
 
-    /// Adds a piece at the end, and where there is no room for it hands over what is there before.
+    /// Adds a piece at the end, and where there is no room for it hands over what is there before. Where that failed, no
+    /// piece is left.
     #[tactic(auto, using(crate::proofs::Gathered::gathering))]
     pub fn add<S: Sink>(&mut self, piece: &[u8], out: &mut S) -> Put
         ensures adds { Adds result self.old self.new (piece.now ∷ [])
             (S.written out.old) (S.written out.new) (S.taken out.old) (S.taken out.new) }
         ensures cause { PutHasCause result (S.faults out.old) (S.faults out.new) }
+        ensures lost { OnFailed result (self.new ≡ []) }
     {
         if self.push(piece) {
             return Put::Done;
@@ -139,7 +141,7 @@ impl Block {
         }
     }
 
-    /// Adds the last piece, and hands over all that is there.
+    /// Adds the last piece, and hands over all that is there. No piece is left, whether that was done or failed.
     #[tactic(auto, using(crate::proofs::Gathered::finishing))]
     pub fn finish<S: Sink>(&mut self, piece: &[u8], out: &mut S) -> Put
         ensures says { PutSays result
@@ -147,6 +149,7 @@ impl Block {
         ensures through { TakesLines result
             (S.taken out.old) (S.taken out.new) (self.old ++ piece.now ∷ []) }
         ensures cause { PutHasCause result (S.faults out.old) (S.faults out.new) }
+        ensures empty { self.new ≡ [] }
     {
         match self.add(piece, out) {
             Put::Done => self.hand_over(out),
@@ -161,6 +164,7 @@ impl Block {
         ensures adds { Adds result self.old self.new (piece.now ∷ [])
             (S.written out.old) (S.written out.new) (S.taken out.old) (S.taken out.new) }
         ensures cause { PutHasCause result (S.faults out.old) (S.faults out.new) }
+        ensures lost { OnFailed result (self.new ≡ []) }
     {
         if self.push(piece) {
             Put::Done
@@ -183,7 +187,7 @@ impl Entries<Text> for Block {
     ghost entries = { λ block. block };
 }
 
-/// What a system took of a block before it failed.
+/// What a system took of a block, from the beginning on: its pieces, and a first part of the next.
 #[derive(Drop)]
 pub(crate) struct Begun<'a> {
     pub(crate) block: &'a Block,
@@ -191,8 +195,7 @@ pub(crate) struct Begun<'a> {
 }
 
 impl<'a> Entries<Text> for Begun<'a> {
-    ghost use Rattle.std.specs.Prelude.{length};
-    ghost use Rattle.m36_outside.specs.Block.{cut};
+    ghost use Rattle.m36_outside.specs.Block.{parts};
 
-    ghost entries = { λ begun. cut (length begun.taken.now.entries) begun.block.now };
+    ghost entries = { λ begun. parts begun.taken.now.entries begun.block.now };
 }

@@ -1,0 +1,20 @@
+-- A name of no file is not one that may be that of a file.
+use Rattle.std.proofs.Common.{◌≡◌, ℕ, List}
+use Rattle.m36_outside.specs.System.{NamesFile, NamesNoFile}
+use Rattle.m36_outside.specs.declared.folder.ReadAnswer.{ReadAnswer}
+use Rattle.m36_outside.specs.declared.folder.ReadAnswer.TheVariants as read
+use Rattle.m36_outside.specs.declared.sink.Put.{Put}
+use Rattle.m36_outside.specs.declared.sink.Put.TheVariants as put
+
+pub never_both : (name : List ℕ) → NamesFile name → NamesNoFile name → ⊥
+never_both name file none = file.no_slash (none file.text)
+
+pub not_read : (name : List ℕ) (answer : ReadAnswer) → NamesFile name → NamesNoFile name → answer ≡ read.Absent
+not_read name answer file none = absurd (never_both name file none)
+
+pub not_written :
+    (name : List ℕ) (answer : Put) (old new : List (List ℕ))
+    → NamesFile name → NamesNoFile name → (answer ≡ put.Failed) × (new ≡ old)
+not_written name answer old new file none = absurd (never_both name file none)
+
+pub ruleset names = (never_both, not_read, not_written)
