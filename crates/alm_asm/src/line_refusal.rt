@@ -275,7 +275,7 @@ fn refusal_of_deed(
     }
 }
 
-// What is refused of a line, whose link stands among the links then.
+// What is refused of a line, whose link stands among the links then, if it has one.
 #[tactic(auto, unfolding(crate::specs::LineRefusals::line_refusal))]
 fn take_line(
     text: &[u8],
