@@ -22,7 +22,8 @@ use Rattle.alm_asm.proofs.Unrefused.{no_layout_refusal, no_lines_refusal}
 use Rattle.alm_asm.proofs.PlaceLaws.{places_count, grows_to_end}
 use Rattle.alm_asm.proofs.Placed.{stands, evened_stands, evened_behind, evened_length, end_outer, unbound, bound_is}
 use Rattle.alm_asm.proofs.LinksApart.{links_apart}
-use Rattle.alm_asm.proofs.LinksStanding.{link_stands}
+use Rattle.alm_asm.proofs.Valued.{symbols_known}
+use Rattle.alm_asm.proofs.ExternalsStand.{external_stands}
 use Rattle.alm_asm.proofs.SectionsStand.{section_stands, end_follows}
 use Rattle.alm_asm.proofs.TooLong.{static_holds, fixed}
 use Rattle.alm_asm.proofs.SymbolsMean.{labels_mean, own_mean}
@@ -64,7 +65,7 @@ parts_assemble source none formed =
       evening = evened_behind newer (words_from text tables section [] start lines) (count_in section (end_of text start lines)) (sym (places_count text tables section lines (static_holds newer)));
       labels = λ above line others split. labels_mean text lines above line others split free;
       own = λ above line others split. own_mean text lines above line others split free;
-      links = λ above line others split link given. link_stands text (symbols_from text [] start lines) lines above line others link split given;
+      links = λ above line others split external. external_stands text tables lines above line others split (symbols_known text lines free) (no_lines_refusal source none) external;
       links_in_order = refl;
       links_apart = links_apart text (symbols_from text [] start lines) start lines;
       definitions = refl;

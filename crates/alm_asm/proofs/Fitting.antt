@@ -1,6 +1,5 @@
 -- Where no line enters static words of their own, no expression comes to a place among them.
-use Rattle.std.proofs.Common.{◌≡◌, ℕ, ◌+◌, ◌≤◌, Bool, true, false, cond, ◌&&◌, List, [], ◌∷◌, ◌++◌, Option, Some, None, is_some, unwrap_or, refl, sym, ap, ◌∙◌, subst, true≢false, arith}
-use Rattle.std.specs.Map.{lookup}
+use Rattle.std.proofs.Common.{◌≡◌, ℕ, ◌+◌, ◌≤◌, Bool, true, false, cond, ◌&&◌, List, [], ◌∷◌, Option, Some, None, unwrap_or, refl, sym, ap, ◌∙◌, true≢false, arith}
 use Rattle.std.proofs.lemmas.Bool.{and_left, and_right, le-ltb}
 use Rattle.alm_tokens.specs.declared.span.Span.{Span}
 use Rattle.alm_tokens.specs.declared.expression.Atom.{Atom}
@@ -11,12 +10,12 @@ use Rattle.alm_parse.specs.declared.line.Line36.{Line36}
 use Rattle.obj36_parts.specs.declared.section.Section.{Section}
 use Rattle.obj36_parts.specs.declared.section.Section.TheVariants.{Text, Linkage, Symbol, Static}
 use Rattle.alm_lines.specs.Sums.{no_sum, sum_plus, sum_turned, kind_of, is_even, is_one}
-use Rattle.alm_lines.specs.Symbols.{same_name, sum_named, with_symbol}
+use Rattle.alm_lines.specs.Symbols.{sum_named}
 use Rattle.alm_lines.specs.Arguments.{name_at, first_arg, second_arg, symbol_in, terms_in, section_in}
 use Rattle.alm_lines.specs.Spots.{start, here_in, here, place, grown_in, entered, size_of, moved_by, below, end_of}
 use Rattle.alm_lines.specs.Expressions.{symbol_sum, atom_sum, term_sum, added, sum_of}
 use Rattle.alm_lines.specs.Refusals.{has_value}
-use Rattle.alm_lines.specs.Layout.{with_labels, value_by, value_of, own_symbol, own_sum, with_own, symbols_with, labelled, symbols_after, symbols_from}
+use Rattle.alm_lines.specs.Layout.{value_by, value_of, own_symbol, own_sum, symbols_with, labelled, symbols_after, symbols_from}
 use Rattle.alm_lines.specs.declared.sum.Sum.{Sum}
 use Rattle.alm_lines.specs.declared.sum.Kind.{Kind}
 use Rattle.alm_lines.specs.declared.sum.Kind.TheVariants.{Absolute, Moved, Unsaid}
@@ -24,12 +23,13 @@ use Rattle.alm_lines.specs.SpotFields.{Spot}
 use Rattle.alm_parse.specs.declared.deed.Deed.{Deed}
 use Rattle.alm_parse.specs.declared.deed.Deed.TheVariants as deed
 use Rattle.alm_lines.specs.declared.refusal.Room.TheVariants.{Half}
+use Rattle.alm_asm.proofs.EachSymbol.{Each, each_of_none, each_with_labels, each_with_own}
 
 abbrev pub Fits : Bool → Sum → Type 0
 Fits outer sum = outer ≡ false → sum.outer.up ≡ sum.outer.down
 
 abbrev pub AllFit : Bool → List (List ℕ × Sum) → Type 0
-AllFit outer symbols = (name : List ℕ) (sum : Sum) → sum_named name symbols ≡ Some sum → Fits outer sum
+AllFit outer symbols = Each (Fits outer) symbols
 
 abbrev pub is_static : Section → Bool
 is_static Text = false
@@ -165,43 +165,6 @@ sum_fits outer text symbols spot terms all h = added_fits outer text symbols spo
 
 -- ---- symbols
 
-later : (outer b : Bool) (first : Sum) (rest more : Option Sum) → ((sum : Sum) → cond b (Some first) rest ≡ Some sum → Fits outer sum)
-    → (((sum : Sum) → rest ≡ Some sum → Fits outer sum) → (sum : Sum) → more ≡ Some sum → Fits outer sum)
-    → (sum : Sum) → cond b (Some first) more ≡ Some sum → Fits outer sum
-later outer true first rest more all next sum e = all sum e
-later outer false first rest more all next sum e = next all sum e
-
-only : (outer b : Bool) (its sum : Sum) → Fits outer its → cond b (Some its) None ≡ Some sum → Fits outer sum
-only outer true its sum fits e = subst (Fits outer) (ap (λ r. unwrap_or r its) e) fits
-only outer false its sum fits e = absurd (true≢false (sym (ap is_some e)))
-
-pushed_fits : (outer : Bool) (name : List ℕ) (symbols : List (List ℕ × Sum)) (other : List ℕ) (its : Sum)
-    → ((sum : Sum) → lookup (same_name name) symbols ≡ Some sum → Fits outer sum) → Fits outer its
-    → (sum : Sum) → lookup (same_name name) (symbols ++ (other, its) ∷ []) ≡ Some sum → Fits outer sum
-pushed_fits outer name [] other its all fits sum e = only outer (same_name name other) its sum fits e
-pushed_fits outer name (symbol ∷ symbols) other its all fits sum e =
-    later outer (same_name name symbol.0) symbol.1 (lookup (same_name name) symbols) (lookup (same_name name) (symbols ++ (other, its) ∷ [])) all
-    (λ rest. pushed_fits outer name symbols other its rest fits) sum e
-
-with_by : (outer b : Bool) (symbols : List (List ℕ × Sum)) (other : List ℕ) (its : Sum) → AllFit outer symbols → Fits outer its → AllFit outer (cond b symbols (symbols ++ (other, its) ∷ []))
-unfolding sum_named
-with_by outer true symbols other its all fits name sum e = all name sum e
-with_by outer false symbols other its all fits name sum e = pushed_fits outer name symbols other its (all name) fits sum e
-
-with_fits : (outer : Bool) (symbols : List (List ℕ × Sum)) (other : List ℕ) (its : Sum) → AllFit outer symbols → Fits outer its → AllFit outer (with_symbol symbols other its)
-unfolding with_symbol
-with_fits outer symbols other its all fits = with_by outer (is_some (sum_named other symbols)) symbols other its all fits
-
-labels_fit : (outer : Bool) (text : List ℕ) (its : Sum) (symbols : List (List ℕ × Sum)) (spans : List Span) → AllFit outer symbols → Fits outer its → AllFit outer (with_labels text its symbols spans)
-unfolding with_labels
-labels_fit outer text its symbols [] all fits = all
-labels_fit outer text its symbols (span ∷ spans) all fits =
-    labels_fit outer text its (with_symbol symbols (name_at text span) its) spans (with_fits outer symbols (name_at text span) its all fits) fits
-
-own_fit : (outer : Bool) (text : List ℕ) (its : Sum) (symbols : List (List ℕ × Sum)) (own : Option Span) → AllFit outer symbols → Fits outer its → AllFit outer (with_own text symbols own its)
-own_fit outer text its symbols None all fits = all
-own_fit outer text its symbols (Some span) all fits = with_fits outer symbols (name_at text span) its all fits
-
 value_fits : (outer valued : Bool) (sum : Sum) → Fits outer (value_by valued sum)
 value_fits outer true sum none = refl
 value_fits outer false sum none = refl
@@ -229,8 +192,8 @@ line_fits : (outer : Bool) (text : List ℕ) (symbols : List (List ℕ × Sum)) 
     → AllFit outer (symbols_after text symbols spot line)
 unfolding symbols_after symbols_with
 line_fits outer text symbols spot line all h =
-    own_fit outer text (own_sum text (labelled text symbols spot line) spot line line.deed) (labelled text symbols spot line) (own_symbol line.deed line.args)
-    (labels_fit outer text (here spot) symbols line.labels all (here_fits outer spot.section spot h))
+    each_with_own (Fits outer) text (own_sum text (labelled text symbols spot line) spot line line.deed) (labelled text symbols spot line) (own_symbol line.deed line.args)
+    (each_with_labels (Fits outer) text (here spot) symbols line.labels all (here_fits outer spot.section spot h))
     (own_sum_fits outer text (labelled text symbols spot line) spot line line.deed h)
 
 lines_fit : (outer : Bool) (text : List ℕ) (symbols : List (List ℕ × Sum)) (spot : Spot) (lines : List Line36) → AllFit outer symbols → StandAt text outer spot lines
@@ -240,15 +203,11 @@ lines_fit outer text symbols spot [] all at = all
 lines_fit outer text symbols spot (line ∷ lines) all at =
     lines_fit outer text (symbols_after text symbols spot line) (below text spot line) lines (line_fits outer text symbols spot line all (no_static text outer spot (line ∷ lines) at)) (others_stand text outer spot line lines at)
 
-none_fit : (outer : Bool) → AllFit outer []
-unfolding sum_named
-none_fit outer name sum e = absurd (true≢false (sym (ap is_some e)))
-
 pub start_stands : (text : List ℕ) (lines : List Line36) → StandAt text (end_of text start lines).uses_outer start lines
 start_stands text lines = record { kept = λ e. absurd (true≢false (sym e)); ends = refl }
 
 pub symbols_fit : (text : List ℕ) (lines : List Line36) → AllFit (end_of text start lines).uses_outer (symbols_from text [] start lines)
-symbols_fit text lines = lines_fit (end_of text start lines).uses_outer text [] start lines (none_fit (end_of text start lines).uses_outer) (start_stands text lines)
+symbols_fit text lines = lines_fit (end_of text start lines).uses_outer text [] start lines (each_of_none (Fits (end_of text start lines).uses_outer)) (start_stands text lines)
 
 -- ---- kinds
 

@@ -20,7 +20,7 @@ use Rattle.alm_lines.specs.Sums.{half_of}
 use Rattle.alm_lines.specs.Arguments.{name_at, first_arg}
 use Rattle.alm_lines.specs.Spots.{below}
 use Rattle.alm_lines.specs.Expressions.{sum_of}
-use Rattle.alm_lines.specs.Refusals.{sooner, refusal_at}
+use Rattle.alm_lines.specs.Refusals.{sooner, refusal_at, has_value}
 use Rattle.alm_asm.specs.Links.{own_section, link_kind, link_section, link_name, entry_name, link_of, operand_args, link_by, link_in, with_link, links_after, links_from}
 use Rattle.obj36_parts.specs.Indexes.{same_link}
 use Rattle.alm_asm.specs.Definitions.{definitions_after}
@@ -32,6 +32,7 @@ use Rattle.alm_asm.specs.declared.tables.Tables.{Tables}
 use Rattle.alm_parse.specs.declared.deed.Deed.{Deed}
 use Rattle.alm_parse.specs.declared.deed.Deed.TheVariants as deed
 use Rattle.alm_lines.specs.declared.refusal.Code.TheVariants.{E7}
+use Rattle.alm_lines.specs.declared.refusal.Room.TheVariants.{Half}
 use Rattle.alm_asm.proofs.Unrefused.{sooner_none, unless_none, line_parts, head_line, other_lines}
 use Rattle.alm_asm.proofs.GoodDefinitions.{half_small}
 
@@ -93,6 +94,11 @@ pushed_by version links link true all good = all
 pushed_by version links link false all good =
     list_all-append (is_link version) links (link ∷ []) ∙ and_from (list_all (is_link version) links) (list_all (is_link version) (link ∷ [])) all (and_from (is_link version link) true good refl)
 
+valued_by : (version : ℕ) (links : List LinkFields) (link : LinkFields) (valued : Bool) → list_all (is_link version) links ≡ true → is_link version link ≡ true
+    → list_all (is_link version) (with_link links (cond valued (Some link) None)) ≡ true
+valued_by version links link true all good = pushed_by version links link (list_any (same_link link) links) all good
+valued_by version links link false all good = all
+
 -- what the operand of an instruction that is not refused adds
 operand_good : (text : List ℕ) (tables : Tables) (links : List LinkFields) (spot : Spot) (line : Line36) (pr : Option ℕ) (segment entry : Option Span) (terms : List Term) (tag : ℕ)
     → operand_refusal text tables spot line (Some (arg.Operand pr segment entry terms tag)) ≡ None → (segment_is_named text segment && entry_is_named text entry) ≡ true
@@ -104,8 +110,7 @@ operand_good text tables links spot line pr (Some segment) entry terms tag e nam
     let reached = sooner (link_expression text tables.symbols spot line segment entry terms) (unless (reaches text tables spot segment entry terms tag) at) in
     let none = (sooner_none reached (unless (may_name tables (own_section (slice_of text segment))) at) e).1 in
     let named = unless_none (may_name tables (own_section (slice_of text segment))) at none in
-    let link = link_of text tables.symbols spot segment entry terms tag in
-    pushed_by (version_of tables.uses_outer) links (link_of text tables.symbols spot segment entry terms tag) (list_any (same_link link) links) all
+    valued_by (version_of tables.uses_outer) links (link_of text tables.symbols spot segment entry terms tag) (has_value text tables.symbols spot terms Half false) all
     (link_good text tables spot segment entry terms tag named parts.0 parts.1)
 
 given_good : (text : List ℕ) (tables : Tables) (links : List LinkFields) (spot : Spot) (line : Line36) (arguments : List Arg)

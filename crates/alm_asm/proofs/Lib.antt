@@ -17,3 +17,6 @@ pub mod ReadNames
 pub mod SectionsStand
 pub mod LinksApart
 pub mod LinksSoFar
+pub mod EachSymbol
+pub mod Valued
+pub mod ExternalsStand

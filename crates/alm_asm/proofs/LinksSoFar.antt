@@ -21,7 +21,7 @@ use Rattle.alm_lines.specs.Refusals.{sooner, refusal_at, has_value}
 use Rattle.alm_lines.specs.declared.sum.Sum.{Sum}
 use Rattle.alm_lines.specs.declared.refusal.Code.TheVariants.{E7}
 use Rattle.alm_lines.specs.declared.refusal.Room.TheVariants.{Half}
-use Rattle.alm_asm.specs.Links.{own_section, link_of, operand_args, link_in, with_link, links_after, links_from, link_place}
+use Rattle.alm_asm.specs.Links.{own_section, link_of, operand_args, link_by, link_in, with_link, links_after, links_from, link_place}
 use Rattle.alm_asm.specs.Definitions.{gives_entries, definitions_after, definitions_refused}
 use Rattle.alm_asm.specs.LineRefusals.{unless, op_place, may_name, is_in_reach, link_expression, reaches, external_refusal}
 use Rattle.alm_asm.specs.LineRefusals.{operand_refusal, is_text_section, refusal_of_deed, line_refusal, with_links, otherwise, lines_refusal}
@@ -97,14 +97,21 @@ same_place text symbols first l links spot line lines given =
 
 -- ---- what is refused
 
+-- The reach is judged only of a link, and an operand without a value is none.
+same_by_value : (text : List ℕ) (symbols : List (List ℕ × Sum)) (first : ℕ) (l : LinkFields) (links : List LinkFields) (spot : Spot) (line : Line36) (lines : List Line36) (valued : Bool)
+    → link_in text symbols spot (first_arg (operand_args line.deed line.args)) ≡ cond valued (Some l) None
+    → (not valued || nat_lt (link_place (links_after text symbols links spot line) first l) 16384)
+    ≡ (not valued || nat_lt (link_place (links_from text symbols links spot (line ∷ lines)) first l) 16384)
+same_by_value text symbols first l links spot line lines true given = ap (λ place. nat_lt place 16384) (same_place text symbols first l links spot line lines given)
+same_by_value text symbols first l links spot line lines false given = refl
+
 same_reach : (text : List ℕ) (tables : Tables) (links : List LinkFields) (spot : Spot) (line : Line36) (lines : List Line36) (segment : Span) (entry : Option Span) (terms : List Term) (tag : ℕ)
-    → link_in text tables.symbols spot (first_arg (operand_args line.deed line.args)) ≡ Some (link_of text tables.symbols spot segment entry terms tag)
+    → link_in text tables.symbols spot (first_arg (operand_args line.deed line.args)) ≡ link_by text tables.symbols spot (Some segment) entry terms tag
     → reaches text (with_links tables (links_after text tables.symbols links spot line)) spot segment entry terms tag
     ≡ reaches text (with_links tables (links_from text tables.symbols links spot (line ∷ lines))) spot segment entry terms tag
 unfolding reaches is_in_reach
 same_reach text tables links spot line lines segment entry terms tag given =
-    ap (λ place. not (has_value text tables.symbols spot terms Half false) || nat_lt place 16384)
-    (same_place text tables.symbols tables.first_link (link_of text tables.symbols spot segment entry terms tag) links spot line lines given)
+    same_by_value text tables.symbols tables.first_link (link_of text tables.symbols spot segment entry terms tag) links spot line lines (has_value text tables.symbols spot terms Half false) given
 
 same_operand : (text : List ℕ) (tables : Tables) (links : List LinkFields) (spot : Spot) (line : Line36) (lines : List Line36) (given : Option Arg)
     → link_in text tables.symbols spot (first_arg (operand_args line.deed line.args)) ≡ link_in text tables.symbols spot given

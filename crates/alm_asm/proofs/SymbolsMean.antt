@@ -32,14 +32,14 @@ labels_first text line its symbols first [] e = e
 labels_first text line its symbols first (span ∷ spans) e =
     (sooner_none first (again text line symbols span) (labels_first text line its (with_symbol symbols (name_at text span) its) (sooner first (again text line symbols span)) spans e)).0
 
-after_parts : (text : List ℕ) (first : Option Refusal) (symbols : List (List ℕ × Sum)) (spot : Spot) (line : Line36) → refused_after text first symbols spot line ≡ None
+pub after_parts : (text : List ℕ) (first : Option Refusal) (symbols : List (List ℕ × Sum)) (spot : Spot) (line : Line36) → refused_after text first symbols spot line ≡ None
     → (labels_refused text line (here spot) symbols first line.labels ≡ None) × (refused_with text (labelled text symbols spot line) spot line line.deed ≡ None)
 unfolding refused_after
 after_parts text first symbols spot line e =
     sooner_none (labels_refused text line (here spot) symbols first line.labels) (refused_with text (labelled text symbols spot line) spot line line.deed)
     (sooner_none (sooner (labels_refused text line (here spot) symbols first line.labels) (refused_with text (labelled text symbols spot line) spot line line.deed)) (over line (below text spot line)) e).0
 
-layout_first : (text : List ℕ) (first : Option Refusal) (symbols : List (List ℕ × Sum)) (spot : Spot) (lines : List Line36) → layout_refusal text first symbols spot lines ≡ None → first ≡ None
+pub layout_first : (text : List ℕ) (first : Option Refusal) (symbols : List (List ℕ × Sum)) (spot : Spot) (lines : List Line36) → layout_refusal text first symbols spot lines ≡ None → first ≡ None
 unfolding layout_refusal
 layout_first text first symbols spot [] e = e
 layout_first text first symbols spot (line ∷ lines) e =

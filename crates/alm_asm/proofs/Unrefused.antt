@@ -7,7 +7,7 @@ use Rattle.alm_lines.specs.Refusals.{sooner}
 use Rattle.alm_asm.specs.Definitions.{named_by, gives_entries, definitions_after, arg_refusal, names_refused, definitions_refused}
 use Rattle.alm_asm.specs.LineRefusals.{unless, otherwise, refusal_of_deed, line_refusal, lines_refusal}
 use Rattle.alm_parse.specs.SourceFields.{Source}
-use Rattle.alm_lines.specs.Spots.{start, below}
+use Rattle.alm_lines.specs.Spots.{start, below, end_of}
 use Rattle.alm_lines.specs.Layout.{layout_refusal}
 use Rattle.alm_asm.specs.Growth.{at_first, growth_refusal}
 use Rattle.alm_asm.specs.Assembly.{tables_of, refusal_of}
@@ -68,6 +68,14 @@ lines_above text tables done spot (line ∷ above) lines e =
     let parts = both_none text tables done spot line (above ++ lines) e in
     let rest : lines_refusal text tables (definitions_after text tables.symbols done line) (below text spot line) above ≡ None = lines_above text tables (definitions_after text tables.symbols done line) (below text spot line) above lines parts.1 in
     ap (λ r. otherwise r (lines_refusal text tables (definitions_after text tables.symbols done line) (below text spot line) above)) parts.0 ∙ rest
+
+-- nor the line below those
+pub line_below : (text : List ℕ) (tables : Tables) (done : List Named) (spot : Spot) (above : List Line36) (line : Line36) (others : List Line36)
+    → lines_refusal text tables done spot (above ++ line ∷ others) ≡ None → refusal_of_deed text tables (end_of text spot above) line line.deed ≡ None
+unfolding end_of
+line_below text tables done spot [] line others e = (line_parts text tables done spot line (head_line text tables done spot line others e)).1
+line_below text tables done spot (first ∷ above) line others e =
+    line_below text tables (definitions_after text tables.symbols done first) (below text spot first) above line others (other_lines text tables done spot first (above ++ line ∷ others) e)
 
 -- Where a source is not refused, neither are its symbols nor its lines by themselves.
 parts_none :

@@ -2,10 +2,12 @@
 -- at the spot that these end at, in the section that the last `use` line among them names, behind
 -- the words that they place there.
 use Rattle.std.specs.Prelude.{ℕ, ◌≡◌, ◌+◌, ◌%◌, Bool, true, false, not, ◌&&◌, ◌⊎◌, List, [], ◌∷◌}
-use Rattle.std.specs.Prelude.{◌++◌, length, replicate, Some}
+use Rattle.std.specs.Prelude.{◌++◌, length, replicate, Option, Some, None, is_some}
 use Rattle.std.specs.List.{list_any}
 use Rattle.alm_parse.specs.SourceFields.{Source}
 use Rattle.alm_tokens.specs.declared.span.Span.{Span}
+use Rattle.alm_parse.specs.declared.args.Arg.{Arg}
+use Rattle.alm_parse.specs.declared.args.Arg.TheVariants as arg
 use Rattle.alm_parse.specs.declared.line.Line36.{Line36}
 use Rattle.obj36_parts.specs.declared.section.Section.{Section}
 use Rattle.obj36_parts.specs.declared.section.Section.TheVariants.{Text, Linkage, Symbol, Static}
@@ -156,15 +158,25 @@ OwnMean source =
     ≡ Some
     (own_sum source.text (above_line source above line) (spot_below source above) line line.deed)
 
--- The link of each external operand stands among the links.
+-- whether an operand is external
+abbrev pub is_external : Option Arg → Bool
+is_external (Some (arg.Symbol span)) = false
+is_external (Some (arg.Number word)) = false
+is_external (Some (arg.Chars words)) = false
+is_external (Some (arg.Plain terms)) = false
+is_external (Some (arg.Operand pr segment entry terms tag)) = is_some segment
+is_external None = false
+
+-- Each external operand is a link, which stands among the links.
 abbrev pub LinksStand : Source → PartsFields → Type 0
 LinksStand source parts =
     (above : List Line36) (line : Line36) (others : List Line36) → IsSplit source above line others
+    → is_external (first_arg (operand_args line.deed line.args)) ≡ true
     → (link : LinkFields)
-    → link_in source.text (meaning_of source).symbols (spot_below source above)
+    × (link_in source.text (meaning_of source).symbols (spot_below source above)
     (first_arg (operand_args line.deed line.args))
-    ≡ Some link
-    → list_any (same_link link) parts.links ≡ true
+    ≡ Some link)
+    × (list_any (same_link link) parts.links ≡ true)
 
 -- No two links are the same; each stands in the order of its first use.
 unfoldable pub are_apart : List LinkFields → Bool

@@ -1,6 +1,6 @@
 -- Links: the external operands of instructions, each once, in the order of their first use.
-use Rattle.std.specs.Prelude.{ℕ, ◌+◌, ◌*◌, ◌%◌, ◌^◌, List, [], ◌∷◌, ◌++◌, codes, Option, Some}
-use Rattle.std.specs.Prelude.{None, unwrap_or, if◌then◌else◌}
+use Rattle.std.specs.Prelude.{ℕ, ◌+◌, ◌*◌, ◌%◌, ◌^◌, false, List, [], ◌∷◌, ◌++◌, codes, Option}
+use Rattle.std.specs.Prelude.{Some, None, unwrap_or, if◌then◌else◌}
 use Rattle.std.specs.List.{list_any, position}
 use Rattle.alm_tokens.specs.Tokens.{slice_of, is_text}
 use Rattle.alm_tokens.specs.declared.span.Span.{Span}
@@ -16,6 +16,8 @@ use Rattle.alm_lines.specs.Sums.{half_of}
 use Rattle.alm_lines.specs.Arguments.{name_at, first_arg}
 use Rattle.alm_lines.specs.Spots.{below}
 use Rattle.alm_lines.specs.Expressions.{sum_of}
+use Rattle.alm_lines.specs.Refusals.{has_value}
+use Rattle.alm_lines.specs.declared.refusal.Room.TheVariants.{Half}
 use Rattle.alm_lines.specs.declared.sum.Sum.{Sum}
 use Rattle.alm_lines.specs.SpotFields.{Spot}
 use Rattle.alm_parse.specs.declared.deed.Deed.{Deed}
@@ -78,10 +80,13 @@ operand_args deed.Block arguments = []
 operand_args deed.Even arguments = []
 operand_args deed.Bound arguments = []
 
+-- An external operand whose expression gives no value is no link.
 abbrev pub link_by : List ℕ → List (List ℕ × Sum) → Spot → Option Span → Option Span → List Term → ℕ
     → Option LinkFields
 link_by text symbols spot (Some segment) entry terms tag =
-    Some (link_of text symbols spot segment entry terms tag)
+    if has_value text symbols spot terms Half false
+    then Some (link_of text symbols spot segment entry terms tag)
+    else None
 link_by text symbols spot None entry terms tag = None
 
 abbrev pub link_in : List ℕ → List (List ℕ × Sum) → Spot → Option Arg → Option LinkFields

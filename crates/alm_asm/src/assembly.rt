@@ -41,8 +41,8 @@ fn first_link(ending: Spot) -> Count
     Count::of(8 + ending.inner + ending.inner % 2)
 }
 
-/// The tables of lines: of all where no line is refused, or else with the links of those up to the one that is; and
-/// the first refusal of a symbol's definition, of a section's length or of a line.
+/// The tables of lines, of which only the symbols are said where something is refused; and the first refusal of a
+/// symbol's definition, of a section's length or of a line.
 #[derive(Drop)]
 struct Found {
     tables: Tables,

@@ -275,7 +275,7 @@ fn refusal_of_deed(
     }
 }
 
-// What is refused of a line, whose link stands among the links then.
+// What is refused of a line, whose link stands among the links then, if it has one.
 #[tactic(auto, unfolding(crate::specs::LineRefusals::line_refusal))]
 fn take_line(
     text: &[u8],
@@ -299,8 +299,8 @@ fn take_line(
     Ok(sooner(names, own))
 }
 
-/// The refusal of the first of the lines that is refused, and the links of the lines: of all where none is refused, or
-/// else of those up to it. The error is want of memory alone.
+/// The refusal of the first of the lines that is refused, and the links of the lines where none is. The error is want of
+/// memory alone.
 #[tactic(auto, using(alm_lines::proofs::Rooms::rooms, crate::proofs::LinksSoFar::later_same), unfolding(crate::specs::LineRefusals::lines_refusal, crate::specs::Links::links_from))]
 pub fn lines_refusal(
     alloc: Global,

@@ -16,6 +16,7 @@ ghost use Rattle.obj36_parts.specs.Indexes.{same_link};
 use alm_lines::arguments::name_at;
 use alm_lines::count::Count;
 use alm_lines::expression::sum_of;
+use alm_lines::refusal::{Room, has_value};
 use alm_lines::spot::{Spot, below};
 use alm_lines::symbols::Symbols;
 use alm_parse::span::bytes_of;
@@ -132,6 +133,26 @@ pub fn operand_args(deed: Deed, args: &[Arg]) -> &[Arg]
     }
 }
 
+// The link of an external operand, which is none where its expression gives no value.
+fn external_link(
+    text: &[u8],
+    symbols: &Symbols,
+    spot: Spot,
+    segment: Span,
+    entry: Option<Span>,
+    terms: &[Term],
+    tag: u8,
+) -> Option<Link>
+    requires { length terms.now ≤ 2 ^ 32 }
+    ensures { result
+        ≡ link_by text.now symbols.now spot (Option.Some segment) entry terms.now tag }
+{
+    if !has_value(text, symbols, spot, terms, Room::Half, false) {
+        return None;
+    }
+    Some(link_of(text, symbols, spot, segment, entry, terms, tag))
+}
+
 fn link_in(text: &[u8], symbols: &Symbols, spot: Spot, args: &[Arg]) -> Option<Link>
     ensures { result ≡ link_in text.now symbols.now spot (first_arg args.now) }
 {
@@ -147,7 +168,7 @@ fn link_in(text: &[u8], symbols: &Symbols, spot: Spot, args: &[Arg]) -> Option<L
             ..
         ] => {
             let terms = expr.items();
-            Some(link_of(text, symbols, spot, *segment, *entry, terms, *tag))
+            external_link(text, symbols, spot, *segment, *entry, terms, *tag)
         }
         _ => None,
     }
