@@ -1,5 +1,4 @@
 pub mod Parts
-pub mod Modes
 pub mod AclLines
 pub mod AclLoops
 pub mod Places

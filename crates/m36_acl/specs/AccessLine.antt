@@ -5,12 +5,12 @@
 --
 -- The words of a line are parted by single spaces. DIR and NAME are as in a boot text. MODE is so
 -- too, but without the letter p: one or more of r, e and w in this order, or `null`.
-use Rattle.std.specs.Prelude.{ℕ, Bool, if◌then◌else◌, List, [], ◌∷◌, codes, Option, Some, None}
+use Rattle.std.specs.Prelude.{ℕ, if◌then◌else◌, List, [], ◌∷◌, codes, Option, Some, None}
 use Rattle.std.specs.Prelude.{option_map, option_and_then}
 use Rattle.m36_text.specs.Texts.{is_text}
 use Rattle.m36_text.specs.Lines.{words_of}
 use Rattle.m36_dir.specs.declared.segment.Mode.{Mode}
-use Rattle.m36_dir.specs.BootLine.{directory_of, name_of, taken, whole, mode_of}
+use Rattle.m36_dir.specs.BootLine.{directory_of, name_of, mode_of}
 use Rattle.m36_dir.specs.BootOrder.{Entry, entry}
 use Rattle.m36_acl.specs.Fields.{TermFields}
 use Rattle.m36_acl.specs.Users.{is_term}
@@ -23,18 +23,6 @@ pub data Line : Type 0 where
 
 abbrev pub unprivileged : Mode → Option Mode
 unprivileged mode = if mode.privileged then None else Some mode
-
--- the rights of letters r, e and w, with what stands behind them
-abbrev pub rights_before : Bool → Bool → Bool → List ℕ → Option Mode
-rights_before readable executable writable rest =
-    let p = taken 112 rest in
-    option_and_then unprivileged
-    (whole (record {
-      readable = readable;
-      executable = executable;
-      writable = writable;
-      privileged = p.stands;
-    }) p.rest)
 
 unfoldable pub rights_of : List ℕ → Option Mode
 rights_of word = option_and_then unprivileged (mode_of word)

@@ -28,8 +28,11 @@ use Rattle.m36_dir.specs.declared.boot_line.Brackets.{Brackets}
 abbrev pub is_directory_character : ℕ → Bool
 is_directory_character c = is_name_character c || (c == 62)
 
+abbrev pub is_directory : List ℕ → Bool
+is_directory word = is_run_of is_directory_character 64 word
+
 abbrev pub directory_of : List ℕ → Option (List ℕ)
-directory_of word = if is_run_of is_directory_character 64 word then Some word else None
+directory_of word = if is_directory word then Some word else None
 
 abbrev pub name_of : List ℕ → Option (List ℕ)
 name_of word = if is_file_name word then Some word else None

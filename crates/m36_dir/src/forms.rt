@@ -1,117 +1,18 @@
 //! The lines of a boot text, each read by its form. A line is given without its line feed; None is a line that is not of
 //! its form.
 
-ghost use Rattle.std.specs.Prelude.{ℕ, ◌≡◌, ◌+◌, ◌<◌, ◌≤◌, true, length, drop, Some, IfSome};
-ghost use Rattle.std.specs.List.{list_all};
+ghost use Rattle.std.specs.Prelude.{ℕ, ◌≡◌, ◌+◌, ◌<◌, length, drop, Some, IfSome};
 ghost use Rattle.m36_text.specs.Lines.{words_of};
 ghost use Rattle.m36_text.specs.Numbers.{octal_in};
-ghost use Rattle.m36_dir.specs.BootLine.{is_directory_character, directory_of, name_of, kind_of, taken, mode_of_letters, mode_of, frames_line, work_line, library_line, name_line, start_line, brackets_of, segment_line, line_named, line_given};
+ghost use Rattle.m36_dir.specs.BootLine.{frames_line, work_line, library_line, name_line, start_line, brackets_of, segment_line, line_named, line_given};
 
 use crate::boot_line::{BootLine, Brackets, SegmentLine};
-use crate::directory::Directory;
-use crate::segment::{Mode, SegKind, Start};
-use m36_text::{
-    Name, decimal_in, first_word, is_file_name, is_name_character, octal_in, only_word, place_of,
-};
-
-// The most characters of a directory.
-const LONGEST_DIRECTORY: usize = 64;
+use crate::segment::Start;
+use crate::words::{directory_of, kind_of, mode_of, name_of};
+use m36_text::{decimal_in, first_word, octal_in, only_word, place_of};
 
 // The most pageable frames.
 const MOST_FRAMES: u64 = 8192;
-
-fn is_directory_character(c: u8) -> bool
-    ensures { result ≡ is_directory_character c }
-{
-    is_name_character(c) || c == b'>'
-}
-
-fn has_directory_characters(word: &[u8]) -> bool
-    ensures { result ≡ list_all is_directory_character word.now }
-{
-    word.iter().all(|c| is_directory_character(*c))
-}
-
-fn directory_of(word: &[u8]) -> Option<Directory>
-    ensures { result ≡ directory_of word.now }
-{
-    if word.is_empty() || word.len() > LONGEST_DIRECTORY || !has_directory_characters(word) {
-        return None;
-    }
-    Directory::new(word)
-}
-
-fn name_of(word: &[u8]) -> Option<Name>
-    ensures { result ≡ name_of word.now }
-{
-    if is_file_name(word) {
-        Name::new(word)
-    } else {
-        None
-    }
-}
-
-fn kind_of(word: &[u8]) -> Option<SegKind>
-    ensures { result ≡ kind_of word.now }
-{
-    if word == b"object".as_slice() {
-        return Some(SegKind::Object);
-    }
-    if word == b"gate".as_slice() {
-        return Some(SegKind::Gate);
-    }
-    if word == b"data".as_slice() {
-        return Some(SegKind::Plain);
-    }
-    None
-}
-
-// Whether letters begin with this one, and those behind it.
-fn taken(letter: u8, letters: &[u8]) -> (bool, &[u8])
-    ensures stands { result.0 ≡ (taken letter letters.now).stands }
-    ensures rest { result.1.now ≡ (taken letter letters.now).rest }
-{
-    match letters {
-        [first, rest @ ..] if *first == letter => (true, rest),
-        _ => (false, letters),
-    }
-}
-
-fn mode_of_letters(letters: &[u8]) -> Option<Mode>
-    ensures { result ≡ mode_of_letters letters.now }
-{
-    let (readable, rest) = taken(b'r', letters);
-    let (executable, rest) = taken(b'e', rest);
-    let (writable, rest) = taken(b'w', rest);
-    let (privileged, rest) = taken(b'p', rest);
-    if !rest.is_empty() {
-        return None;
-    }
-    Some(Mode {
-        readable,
-        executable,
-        writable,
-        privileged,
-    })
-}
-
-#[tactic(auto, unfolding(crate::specs::BootLine::mode_of))]
-fn mode_of(word: &[u8]) -> Option<Mode>
-    ensures { result ≡ mode_of word.now }
-{
-    if word.is_empty() {
-        return None;
-    }
-    if word == b"null".as_slice() {
-        return Some(Mode {
-            readable: false,
-            executable: false,
-            writable: false,
-            privileged: false,
-        });
-    }
-    mode_of_letters(word)
-}
 
 // A ring is one octal digit.
 fn ring_of(word: &[u8]) -> Option<u8>

@@ -1,0 +1,122 @@
+//! The words of a line of a boot text. None is a word that is not of its form.
+
+ghost use Rattle.std.specs.Prelude.{◌≡◌, ◌≤◌, true, length};
+ghost use Rattle.std.specs.List.{list_all};
+ghost use Rattle.m36_dir.specs.BootLine.{is_directory_character, is_directory, directory_of, name_of, kind_of, taken, mode_of_letters, mode_of};
+
+use crate::directory::Directory;
+use crate::segment::{Mode, SegKind};
+use m36_text::{Name, is_file_name, is_name_character};
+
+// The most characters of a directory.
+const LONGEST_DIRECTORY: usize = 64;
+
+fn is_directory_character(c: u8) -> bool
+    ensures { result ≡ is_directory_character c }
+{
+    is_name_character(c) || c == b'>'
+}
+
+fn has_directory_characters(word: &[u8]) -> bool
+    ensures { result ≡ list_all is_directory_character word.now }
+{
+    word.iter().all(|c| is_directory_character(*c))
+}
+
+/// Whether a word is of the form of a directory: 1 to 64 letters, digits, `_`, `.` and `>`.
+pub fn is_directory(word: &[u8]) -> bool
+    ensures value { result ≡ is_directory word.now }
+    ensures fits { result ≡ true → length word.now ≤ 64 }
+{
+    if word.is_empty() || word.len() > LONGEST_DIRECTORY {
+        return false;
+    }
+    has_directory_characters(word)
+}
+
+// A directory.
+pub(crate) fn directory_of(word: &[u8]) -> Option<Directory>
+    ensures { result ≡ directory_of word.now }
+{
+    if is_directory(word) {
+        Directory::new(word)
+    } else {
+        None
+    }
+}
+
+/// The name of a segment, an entry or a file; None where the word is none.
+pub fn name_of(word: &[u8]) -> Option<Name>
+    ensures { result ≡ name_of word.now }
+{
+    if is_file_name(word) {
+        Name::new(word)
+    } else {
+        None
+    }
+}
+
+// The kind of a segment.
+pub(crate) fn kind_of(word: &[u8]) -> Option<SegKind>
+    ensures { result ≡ kind_of word.now }
+{
+    if word == b"object".as_slice() {
+        return Some(SegKind::Object);
+    }
+    if word == b"gate".as_slice() {
+        return Some(SegKind::Gate);
+    }
+    if word == b"data".as_slice() {
+        return Some(SegKind::Plain);
+    }
+    None
+}
+
+// Whether letters begin with this one, and those behind it.
+fn taken(letter: u8, letters: &[u8]) -> (bool, &[u8])
+    ensures stands { result.0 ≡ (taken letter letters.now).stands }
+    ensures rest { result.1.now ≡ (taken letter letters.now).rest }
+{
+    match letters {
+        [first, rest @ ..] if *first == letter => (true, rest),
+        _ => (false, letters),
+    }
+}
+
+fn mode_of_letters(letters: &[u8]) -> Option<Mode>
+    ensures { result ≡ mode_of_letters letters.now }
+{
+    let (readable, rest) = taken(b'r', letters);
+    let (executable, rest) = taken(b'e', rest);
+    let (writable, rest) = taken(b'w', rest);
+    let (privileged, rest) = taken(b'p', rest);
+    if !rest.is_empty() {
+        return None;
+    }
+    Some(Mode {
+        readable,
+        executable,
+        writable,
+        privileged,
+    })
+}
+
+/// The mode of a segment: one or more of the letters r, e, w and p in this order, or `null`; None where the word is
+/// neither.
+#[tactic(auto, unfolding(crate::specs::BootLine::mode_of))]
+pub fn mode_of(word: &[u8]) -> Option<Mode>
+    ensures { result ≡ mode_of word.now }
+{
+    if word.is_empty() {
+        return None;
+    }
+    if word == b"null".as_slice() {
+        return Some(Mode {
+            readable: false,
+            executable: false,
+            writable: false,
+            privileged: false,
+        });
+    }
+    mode_of_letters(word)
+}
