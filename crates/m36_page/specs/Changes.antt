@@ -115,10 +115,10 @@ IsPassed at core now a =
     (slice_index now a ≡ slice_index core a)
     ⊎ (at a × (slice_index now a ≡ without_used (slice_index core a)))
 
--- A page was brought in. Frames other than frame k hold the pages that they held, so at most one page
--- was put away. Of core no words have changed but those of frame k, the page table words of the two
--- pages, in which no mark is on, and used marks, which were put off, of pages that the references do
--- not pin.
+-- A page was brought in. Frames other than frame k hold the pages that they held, so at most one
+-- page was put away. Of core no words have changed but those of frame k, the page table words of
+-- the two pages, in which no mark is on, and used marks, which were put off, of pages that the
+-- references do not pin.
 pub record IsBrought (old : PagerFields) (core : List ℕ) (new : PagerFields) (now : List ℕ)
     (seg page : ℕ) (refs : List Reference) : Type 0 where
   pub kept : IsKept old core new now
