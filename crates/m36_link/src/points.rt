@@ -1,7 +1,6 @@
 //! The place in an object that a link names, and the pair to it.
 
 ghost use Rattle.std.specs.Prelude.{◌≡◌, ◌+◌, ◌<◌, ◌≤◌, ◌^◌, length, IfOk};
-ghost use Rattle.obj36_parts.specs.ObjectSegment.{has_name, has_entry, linkage_section};
 ghost use Rattle.m36_link.specs.Known.{laid_words};
 ghost use Rattle.m36_link.specs.Landing.{section_of, rank, later_section, point_of, pair_to, pair_of};
 
@@ -10,6 +9,7 @@ use m36_desc::Its;
 use m36_model::LinkCode;
 use m36_word::Pair;
 use obj36::{Link, Object, Section};
+use obj36_parts::names::{has_its_entry, has_its_name};
 
 /// The number of the linkage segment of ring 0.
 const LINKAGE_SEGMENTS: u16 = 16;
@@ -21,24 +21,10 @@ pub(crate) struct Point {
     pub(crate) section: Section,
 }
 
-/// Whether a link has the name of a segment.
-pub(crate) fn has_its_name(kind: u8) -> bool
-    ensures { result ≡ has_name kind }
-{
-    kind == 3 || kind == 4
-}
-
-/// Whether a link has the name of an entry.
-pub(crate) fn has_its_entry(kind: u8) -> bool
-    ensures { result ≡ has_entry kind }
-{
-    kind == 4 || kind == 5
-}
-
 fn section_of(link: &Link) -> Section
     ensures { result ≡ section_of link.now }
 {
-    if has_its_name(link.kind) {
+    if has_its_name(link.kind as u64) {
         Section::Text
     } else {
         link.section
@@ -68,7 +54,7 @@ pub(crate) fn point_of(link: &Link, object: &Object) -> Result<Point, LinkCode>
     ensures bound { IfOk result (λ point. point.value < 2 ^ 18) }
 {
     let section = section_of(link);
-    if !has_its_entry(link.kind) {
+    if !has_its_entry(link.kind as u64) {
         return Ok(Point { value: 0, section });
     }
     match object.find(link.entry.bytes()) {

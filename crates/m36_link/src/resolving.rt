@@ -10,12 +10,12 @@ use crate::file::{File, file_of, object_in, place_of};
 use crate::known::Known;
 use crate::laid::{Laid, Lay};
 use crate::landing::{Landing, own_landing, target_landing};
-use crate::points::has_its_name;
 use crate::snap::{LinkFault, Snap};
 use m36_dir::{Catalog, Segment};
 use m36_model::{At, LinkCode};
 use m36_word::{NoMemory, Words};
 use obj36::{Link, Object, Section};
+use obj36_parts::names::has_its_name;
 use obj36_parts::sections::push_all;
 use std::alloc::Global;
 
@@ -151,7 +151,7 @@ fn landing_of(
     requires size { length (laid_words object.now) ≤ 2 ^ 18 }
     ensures { result ≡ landing_of known.now catalog.now files.now ring section object.now link.now }
 {
-    if has_its_name(link.kind) {
+    if has_its_name(link.kind as u64) {
         let from = directory_of(catalog, section.seg);
         outer_landing(known, catalog, files, ring, link, from)
     } else {
