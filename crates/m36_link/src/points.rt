@@ -4,15 +4,12 @@ ghost use Rattle.std.specs.Prelude.{◌≡◌, ◌+◌, ◌<◌, ◌≤◌, ◌^
 ghost use Rattle.m36_link.specs.Known.{laid_words};
 ghost use Rattle.m36_link.specs.Landing.{section_of, rank, later_section, point_of, pair_to, pair_of};
 
-use crate::laid::Laid;
+use crate::laid::{FIRST_LINKAGE, Laid};
 use m36_desc::Its;
 use m36_model::LinkCode;
 use m36_word::Pair;
 use obj36::{Link, Object, Section};
 use obj36_parts::names::{has_its_entry, has_its_name};
-
-/// The number of the linkage segment of ring 0.
-const LINKAGE_SEGMENTS: u16 = 16;
 
 /// A place of an object: a word that counts in a section.
 #[derive(Clone, Copy, Debug)]
@@ -92,7 +89,7 @@ pub(crate) fn pair_of(point: Point, ring: u8, laid: Laid, linkage: u32, link: &L
     ensures { result ≡ pair_of point ring laid linkage link.now }
 {
     let value = point.value + link.expr;
-    let segment = LINKAGE_SEGMENTS + laid.ring as u16;
+    let segment = FIRST_LINKAGE + laid.ring as u16;
     match point.section {
         Section::Text | Section::Symbol => pair_to(laid.seg, ring, value, link),
         Section::Linkage => pair_to(segment, ring, laid.base + value, link),

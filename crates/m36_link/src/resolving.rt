@@ -8,7 +8,7 @@ ghost use Rattle.m36_link.specs.Snap.{outer_landing, directory_of, landing_of, w
 
 use crate::file::{File, file_of, object_in, place_of};
 use crate::known::Known;
-use crate::laid::{Laid, Lay};
+use crate::laid::{FIRST_LINKAGE, Laid, Lay};
 use crate::landing::{Landing, own_landing, target_landing};
 use crate::snap::{LinkFault, Snap};
 use m36_dir::{Catalog, Segment};
@@ -81,7 +81,7 @@ fn section_with(laid: &[Laid], files: &[File], ring: u8, word: u32) -> Option<La
 fn section_at(laid: &[Laid], files: &[File], at: At) -> Option<Laid>
     ensures { result ≡ section_at laid.now files.now at }
 {
-    if at.seg == 16 + at.ring as u16 {
+    if at.seg == FIRST_LINKAGE + at.ring as u16 {
         section_with(laid, files, at.ring, at.word)
     } else {
         None
