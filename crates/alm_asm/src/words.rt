@@ -12,7 +12,7 @@ ghost use Rattle.alm_asm.specs.Words.{words_from};
 
 use crate::links::{link_of, link_place, same_section};
 use crate::tables::Tables;
-use alm_lines::arguments::{first_terms, push_all, second_number, second_terms, words_of_args};
+use alm_lines::arguments::{first_terms, second_number, second_terms, words_of_args};
 use alm_lines::expression::sum_of;
 use alm_lines::spot::{Spot, below};
 use alm_lines::sum::{Balance, Sum};
@@ -20,6 +20,7 @@ use alm_parse::{Arg, Deed, Line36, Span, Term};
 use m36_inst::Inst;
 use m36_word::{NoMemory, Word, Words};
 use obj36::Section;
+use obj36_parts::sections::push_all;
 use std::alloc::Global;
 
 /// An operation code and its bit 27.

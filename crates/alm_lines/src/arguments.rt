@@ -9,8 +9,9 @@ ghost use Rattle.alm_lines.specs.Arguments.{section_in};
 use alm_parse::span::bytes_of;
 use alm_parse::{Arg, Span, Term};
 use m36_text::Name;
-use m36_word::{NoMemory, Word, Words};
+use m36_word::{NoMemory, Words};
 use obj36_parts::Section;
+use obj36_parts::sections::push_all;
 use std::alloc::Global;
 
 // The first bytes, at most so many.
@@ -76,16 +77,6 @@ pub fn second_number(args: &[Arg]) -> u64
         [_, Arg::Number(word), ..] => word.value(),
         _ => 0,
     }
-}
-
-/// Adds words at the end.
-pub fn push_all(words: &mut Words, more: &[Word]) -> Result<(), NoMemory>
-    ensures { OnOk result (words.new ≡ words.old ++ more.now) }
-{
-    for word in more {
-        words.push(*word)?;
-    }
-    Ok(())
 }
 
 fn push_arg(words: &mut Words, arg: &Arg) -> Result<(), NoMemory>

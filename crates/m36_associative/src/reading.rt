@@ -13,7 +13,7 @@ use crate::writing::with_mark;
 use m36_core::Core;
 use m36_desc::{Dbr, Ptw, Sdw};
 use m36_model::Refusal;
-use m36_tables::{directed, directory_at, page_at, page_table_word, wrapped};
+use m36_tables::{directory_at, in_frame, page_at, page_table_word, wrapped};
 
 /// The descriptor that is kept of a segment, which becomes the one used last.
 fn recalled_descriptor(_core: &Core, _dbr: Dbr, memories: &mut Memories, seg: u16) -> Option<Sdw>
@@ -93,19 +93,6 @@ pub fn descriptor(core: &Core, dbr: Dbr, memories: &mut Memories, seg: u16) -> R
     Ok(sdw)
 }
 
-/// The place of a word of a page, by its page table word.
-fn in_frame(ptw: &Ptw, offset: u32) -> Result<u32, Refusal>
-    requires { offset < 1024 }
-    ensures value { result ≡ in_frame (Some ptw.now) offset }
-    ensures bound { IfOk result (λ a. a < 2 ^ 24) }
-{
-    if ptw.f {
-        Ok(ptw.addr / 16 * 1024 + offset)
-    } else {
-        Err(directed(ptw.fc))
-    }
-}
-
 /// The page table word that is kept of an address, which becomes the one used last.
 fn recalled_table_word(_core: &Core, _dbr: Dbr, memories: &mut Memories, a: u32) -> Option<Ptw>
     requires { AreRight _core.now _dbr memories.old }
@@ -176,7 +163,7 @@ pub fn word_place(
     }
     let a = page_at(sdw, word / 1024);
     if let Some(ptw) = recalled_table_word(core, dbr, memories, a) {
-        return in_frame(&ptw, word % 1024);
+        return in_frame(Some(ptw), word % 1024);
     }
     let place = m36_tables::word_place(core, sdw, word)?;
     keep_table_word(core, dbr, memories, a);

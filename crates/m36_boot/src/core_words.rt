@@ -5,12 +5,11 @@ ghost use Rattle.m36_desc.specs.Descriptors.{sdw_of, sdw_even, sdw_odd};
 ghost use Rattle.m36_boot.specs.Refusals.{AreLimits};
 ghost use Rattle.m36_boot.specs.Image.{descriptor_word, AreDescribed};
 
-use crate::limits::FIRST_SEGMENT;
 use crate::segments::descriptor;
 use m36_core::Core;
 use m36_desc::Sdw;
 use m36_dir::Catalog;
-use m36_link::File;
+use m36_link::{FIRST_SEGMENT, File};
 use m36_word::{Pair, Word};
 
 // The pair of words of a descriptor; zeros for that of no segment.

@@ -6,15 +6,12 @@ ghost use Rattle.m36_boot.specs.Refusals.{GateSays, LimitSays, AreLimits, ToldOf
 use crate::fault::BootFault;
 use crate::objects::{file, object_of};
 use m36_dir::{Catalog, SegKind, Segment};
-use m36_link::File;
+use m36_link::{FIRST_SEGMENT, File};
 use m36_word::NoMemory;
 use std::alloc::Global;
 
 // The greatest number that the call limiter of a descriptor holds.
 const MOST_ENTRIES: u32 = 16383;
-
-/// The number of the first segment of the catalog.
-pub(crate) const FIRST_SEGMENT: u16 = 64;
 
 // Whether a gate may have so many entries.
 fn is_limit(bound: u32) -> bool

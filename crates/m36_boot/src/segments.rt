@@ -6,11 +6,10 @@ ghost use Rattle.m36_model.specs.BootedCore.{table_at};
 ghost use Rattle.m36_boot.specs.Segments.{paged_segment, ring_segment, limited_segment, booted_sdw, stack_words, lot_of, linkage_words, booted_words};
 ghost use Rattle.m36_boot.specs.Refusals.{AreLimits};
 
-use crate::limits::FIRST_SEGMENT;
 use crate::objects::file;
 use m36_desc::Sdw;
 use m36_dir::{Catalog, SegKind, Segment};
-use m36_link::{File, Lay};
+use m36_link::{FIRST_LINKAGE, FIRST_SEGMENT, File, LOT_WORDS, Lay};
 use m36_word::{NoMemory, Word, Words};
 use obj36_parts::sections::push_all;
 use std::alloc::Global;
@@ -18,14 +17,8 @@ use std::alloc::Global;
 /// The number of the stack of ring 0.
 pub(crate) const FIRST_STACK: u16 = 8;
 
-/// The number of the linkage segment of ring 0.
-pub(crate) const FIRST_LINKAGE: u16 = 16;
-
 // Behind the linkage segments.
 const BEHIND_RINGS: u16 = 24;
-
-// Words in the LOT.
-const LOT_WORDS: usize = 1024;
 
 // The place of the page table of a segment.
 pub(crate) fn table_at(seg: u16) -> u32
@@ -175,7 +168,10 @@ fn lot_of(alloc: Global, lay: &Lay) -> Result<Words, NoMemory>
     let mut words = Words::new(alloc);
     push_zeros(&mut words, lay.seg as usize)?;
     words.push(lay.lot_word())?;
-    push_zeros(&mut words, (LOT_WORDS - 1).saturating_sub(lay.seg as usize))?;
+    push_zeros(
+        &mut words,
+        (LOT_WORDS - 1).saturating_sub(lay.seg as u32) as usize,
+    )?;
     Ok(words)
 }
 

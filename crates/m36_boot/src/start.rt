@@ -6,10 +6,10 @@ ghost use Rattle.m36_boot.specs.Refusals.{is_object, answer_if, start_of, StartS
 ghost use Rattle.m36_link.specs.Known.{nothing_known};
 
 use crate::fault::BootFault;
-use crate::segments::{FIRST_LINKAGE, FIRST_STACK};
+use crate::segments::FIRST_STACK;
 use m36_desc::{Dbr, Its, Ptr};
 use m36_dir::{Catalog, SegKind, Segment, Start};
-use m36_link::{File, Known, Lay, LinkFault, Snap, object_in, segment_of};
+use m36_link::{FIRST_LINKAGE, File, Known, Lay, LinkFault, Snap, object_in, segment_of};
 use m36_model::{Ind, Ppr, Regs};
 use m36_word::Word;
 use obj36::{Link, Object, Section};

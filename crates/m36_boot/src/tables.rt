@@ -6,10 +6,9 @@ ghost use Rattle.m36_boot.specs.Segments.{booted_sdw, booted_words};
 ghost use Rattle.m36_boot.specs.Refusals.{AreLimits};
 ghost use Rattle.m36_boot.specs.Image.{table_of_segment, tables_from, booted_tables};
 
-use crate::limits::FIRST_SEGMENT;
 use crate::segments::{descriptor, table_at, words_of};
 use m36_dir::Catalog;
-use m36_link::{File, Lay};
+use m36_link::{FIRST_SEGMENT, File, Lay};
 use m36_page::PageTable;
 use m36_word::NoMemory;
 use std::alloc::Global;

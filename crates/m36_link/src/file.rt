@@ -12,7 +12,7 @@ use std::alloc::Global;
 use std::marker::Model;
 
 /// The number of the first segment of a catalog.
-pub(crate) const FIRST_SEGMENT: u16 = 64;
+pub const FIRST_SEGMENT: u16 = 64;
 
 /// The words of a segment's file, with the object that they are, or why they are none. It is seen as its words.
 #[derive(Debug, Drop)]

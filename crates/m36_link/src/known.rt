@@ -9,13 +9,13 @@ ghost use Rattle.m36_link.specs.Accepted.{accepted, with_initiated, with_laid, M
 
 use crate::laid::{Laid, Lay};
 use crate::names::RingName;
-use crate::points::has_its_name;
 use crate::search::{initiated, searched_in_directories};
 use crate::snap::Snap;
 use indexmap::IndexMap;
 use m36_dir::Catalog;
 use m36_word::NoMemory;
 use obj36::Link;
+use obj36_parts::names::has_its_name;
 use std::alloc::Global;
 use std::marker::Model;
 
@@ -71,7 +71,7 @@ fn add_name(
     ensures err { OnErr result (names.new.entries ≡ names.old.entries) }
     ensures names { AreNames names.new.entries }
 {
-    if !has_its_name(link.kind) {
+    if !has_its_name(link.kind as u64) {
         return Ok(());
     }
     let name = &link.name;

@@ -6,6 +6,12 @@ ghost use Rattle.m36_link.specs.Known.{lot_word};
 use m36_word::{Word, Words};
 use std::marker::Model;
 
+/// The number of the linkage segment of ring 0.
+pub const FIRST_LINKAGE: u16 = 16;
+
+/// How many words a linkage offset table has.
+pub const LOT_WORDS: u32 = 1024;
+
 /// A section that is laid in the linkage segment of a ring. It is seen as its fields.
 #[derive(Clone, Copy, Debug, PartialEq, Eq)]
 pub struct Laid {
@@ -62,6 +68,6 @@ impl Lay {
     pub fn lot_word(&self) -> Word
         ensures { result ≡ lot_word self.now }
     {
-        Word::low(((16 + self.ring as u64) << 18) + self.base as u64)
+        Word::low(((FIRST_LINKAGE as u64 + self.ring as u64) << 18) + self.base as u64)
     }
 }

@@ -6,12 +6,13 @@ ghost use Rattle.m36_link.specs.Landing.{own_landing, may_not_use, is_plain, fau
 
 use crate::file::File;
 use crate::laid::Laid;
-use crate::points::{has_its_entry, pair_of, pair_to, point_of};
+use crate::points::{pair_of, pair_to, point_of};
 use crate::sections::{home_of, linkage_size};
 use m36_dir::{SegKind, Segment};
 use m36_model::LinkCode;
 use m36_word::Pair;
 use obj36::{Link, Object, ObjectFault};
+use obj36_parts::names::has_its_entry;
 use std::marker::Model;
 
 /// Where a link leads: the pair, the number of the segment, and the section that has to be laid, if one has.
@@ -92,7 +93,7 @@ fn plain_landing(ring: u8, seg: u16, link: &Link) -> Result<Landing, LinkCode>
     requires seg { seg < 2 ^ 15 }
     ensures { result ≡ plain_landing ring seg link.now }
 {
-    if has_its_entry(link.kind) {
+    if has_its_entry(link.kind as u64) {
         return Err(LinkCode::L3);
     }
     Ok(Landing {

@@ -22,9 +22,9 @@ mod search;
 mod sections;
 pub mod snap;
 
-pub use file::{File, object_in};
+pub use file::{FIRST_SEGMENT, File, object_in};
 pub use known::Known;
-pub use laid::{Laid, Lay};
+pub use laid::{FIRST_LINKAGE, LOT_WORDS, Laid, Lay};
 pub use laws::link_laws;
 pub use resolving::segment_of;
 pub use snap::{LinkFault, Snap};

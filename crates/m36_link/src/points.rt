@@ -1,18 +1,15 @@
 //! The place in an object that a link names, and the pair to it.
 
 ghost use Rattle.std.specs.Prelude.{◌≡◌, ◌+◌, ◌<◌, ◌≤◌, ◌^◌, length, IfOk};
-ghost use Rattle.obj36_parts.specs.ObjectSegment.{has_name, has_entry, linkage_section};
 ghost use Rattle.m36_link.specs.Known.{laid_words};
 ghost use Rattle.m36_link.specs.Landing.{section_of, rank, later_section, point_of, pair_to, pair_of};
 
-use crate::laid::Laid;
+use crate::laid::{FIRST_LINKAGE, Laid};
 use m36_desc::Its;
 use m36_model::LinkCode;
 use m36_word::Pair;
 use obj36::{Link, Object, Section};
-
-/// The number of the linkage segment of ring 0.
-const LINKAGE_SEGMENTS: u16 = 16;
+use obj36_parts::names::{has_its_entry, has_its_name};
 
 /// A place of an object: a word that counts in a section.
 #[derive(Clone, Copy, Debug)]
@@ -21,24 +18,10 @@ pub(crate) struct Point {
     pub(crate) section: Section,
 }
 
-/// Whether a link has the name of a segment.
-pub(crate) fn has_its_name(kind: u8) -> bool
-    ensures { result ≡ has_name kind }
-{
-    kind == 3 || kind == 4
-}
-
-/// Whether a link has the name of an entry.
-pub(crate) fn has_its_entry(kind: u8) -> bool
-    ensures { result ≡ has_entry kind }
-{
-    kind == 4 || kind == 5
-}
-
 fn section_of(link: &Link) -> Section
     ensures { result ≡ section_of link.now }
 {
-    if has_its_name(link.kind) {
+    if has_its_name(link.kind as u64) {
         Section::Text
     } else {
         link.section
@@ -68,7 +51,7 @@ pub(crate) fn point_of(link: &Link, object: &Object) -> Result<Point, LinkCode>
     ensures bound { IfOk result (λ point. point.value < 2 ^ 18) }
 {
     let section = section_of(link);
-    if !has_its_entry(link.kind) {
+    if !has_its_entry(link.kind as u64) {
         return Ok(Point { value: 0, section });
     }
     match object.find(link.entry.bytes()) {
@@ -106,7 +89,7 @@ pub(crate) fn pair_of(point: Point, ring: u8, laid: Laid, linkage: u32, link: &L
     ensures { result ≡ pair_of point ring laid linkage link.now }
 {
     let value = point.value + link.expr;
-    let segment = LINKAGE_SEGMENTS + laid.ring as u16;
+    let segment = FIRST_LINKAGE + laid.ring as u16;
     match point.section {
         Section::Text | Section::Symbol => pair_to(laid.seg, ring, value, link),
         Section::Linkage => pair_to(segment, ring, laid.base + value, link),

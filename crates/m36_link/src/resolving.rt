@@ -8,14 +8,14 @@ ghost use Rattle.m36_link.specs.Snap.{outer_landing, directory_of, landing_of, w
 
 use crate::file::{File, file_of, object_in, place_of};
 use crate::known::Known;
-use crate::laid::{Laid, Lay};
+use crate::laid::{FIRST_LINKAGE, Laid, Lay};
 use crate::landing::{Landing, own_landing, target_landing};
-use crate::points::has_its_name;
 use crate::snap::{LinkFault, Snap};
 use m36_dir::{Catalog, Segment};
 use m36_model::{At, LinkCode};
 use m36_word::{NoMemory, Words};
 use obj36::{Link, Object, Section};
+use obj36_parts::names::has_its_name;
 use obj36_parts::sections::push_all;
 use std::alloc::Global;
 
@@ -81,7 +81,7 @@ fn section_with(laid: &[Laid], files: &[File], ring: u8, word: u32) -> Option<La
 fn section_at(laid: &[Laid], files: &[File], at: At) -> Option<Laid>
     ensures { result ≡ section_at laid.now files.now at }
 {
-    if at.seg == 16 + at.ring as u16 {
+    if at.seg == FIRST_LINKAGE + at.ring as u16 {
         section_with(laid, files, at.ring, at.word)
     } else {
         None
@@ -151,7 +151,7 @@ fn landing_of(
     requires size { length (laid_words object.now) ≤ 2 ^ 18 }
     ensures { result ≡ landing_of known.now catalog.now files.now ring section object.now link.now }
 {
-    if has_its_name(link.kind) {
+    if has_its_name(link.kind as u64) {
         let from = directory_of(catalog, section.seg);
         outer_landing(known, catalog, files, ring, link, from)
     } else {

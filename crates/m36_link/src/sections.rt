@@ -5,12 +5,9 @@ ghost use Rattle.obj36_parts.specs.ObjectSegment.{linkage_section};
 ghost use Rattle.m36_link.specs.Known.{laid_in, behind, base_behind, base_of, laid_words};
 ghost use Rattle.m36_link.specs.Landing.{home_of};
 
-use crate::laid::Laid;
+use crate::laid::{LOT_WORDS, Laid};
 use m36_model::LinkCode;
 use obj36::{Object, Section};
-
-/// How many words a linkage offset table has.
-const LOT_WORDS: u32 = 1024;
 
 /// How many words a linkage segment may have.
 const SEGMENT_WORDS: u32 = 1 << 18;

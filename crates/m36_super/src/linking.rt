@@ -16,16 +16,13 @@ use crate::coming::Coming;
 use crate::naming::link_text;
 use m36_core::Core;
 use m36_dir::Catalog;
-use m36_link::{File, Known, Lay, LinkFault, Snap, link_laws};
+use m36_link::{FIRST_LINKAGE, File, Known, Lay, LinkFault, Snap, link_laws};
 use m36_model::{At, End, LinkCode};
 use m36_page::Pager;
 use m36_step::{LinkNote, Machine, Turn};
 use m36_word::{NoMemory, Word};
 use obj36::Link;
 use std::alloc::Global;
-
-// The number of the linkage segment of ring 0.
-const FIRST_LINKAGE: u16 = 16;
 
 // Writes a word of the linkage segment of a ring.
 #[tactic(auto, using(crate::proofs::PagedContents::words_put))]

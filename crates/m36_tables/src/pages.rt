@@ -24,7 +24,7 @@ pub fn page_table_word(core: &Core, a: u32) -> Option<Ptw>
 
 /// The place of a word of a page, by its page table word.
 #[inline(always)]
-pub(crate) fn in_frame(ptw: Option<Ptw>, offset: u32) -> Result<u32, Refusal>
+pub fn in_frame(ptw: Option<Ptw>, offset: u32) -> Result<u32, Refusal>
     requires { offset < 1024 }
     ensures value { result ≡ in_frame ptw offset }
     ensures known { OnOk result (IsSome ptw) }
