@@ -3,6 +3,7 @@ mod Blocks
 mod Causes
 pub mod Completes
 mod Consumed
+mod FilesGiven
 pub mod FilesKept
 mod FilesNamed
 pub mod Gathered

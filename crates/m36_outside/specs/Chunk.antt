@@ -1,7 +1,8 @@
 -- What one read of a file adds to what was read of it.
-use Rattle.std.specs.Prelude.{ℕ, ◌≡◌, ◌≤◌, ◌<◌, List, ◌++◌, length, Option, ⊤}
+use Rattle.std.specs.Prelude.{ℕ, ◌≡◌, ◌≤◌, ◌<◌, List, [], ◌∷◌, ◌++◌, length, Option, ⊤}
 use Rattle.std.specs.declared.io.ErrorKind.{ErrorKind}
 use Rattle.std.specs.Io.KnownBytes.{Consumes, IsAtEnd}
+use Rattle.m36_outside.specs.Given.{GivesSome}
 use Rattle.m36_outside.specs.Passing.{HasMore}
 use Rattle.m36_outside.specs.ReadAnswer.{file_limit}
 use Rattle.m36_outside.specs.declared.reading.Chunk.{Chunk}
@@ -31,6 +32,21 @@ AddSays End before after got = ⊥
 AddSays TooLarge before after got = (after ≡ before ++ got) × (file_limit < length after)
 AddSays Failed before after got = ⊥
 AddSays NoMemory before after got = after ≡ before
+
+-- A piece was given, and moved to the end of the text.
+pub record GivesPiece (old new : List (List ℕ)) (before after : List ℕ) : Type 0 where
+  pub got : List ℕ
+  pub gave : new ≡ old ++ got ∷ []
+  pub added : after ≡ before ++ got
+
+-- what the answer says of what was given, and of what was read, before and after
+abbrev pub ChunkGives :
+    Chunk → List (List ℕ) → List (List ℕ) → List ℕ → List ℕ → Type 0
+ChunkGives More old new before after = GivesPiece old new before after
+ChunkGives End old new before after = (new ≡ old ++ [] ∷ []) × (after ≡ before)
+ChunkGives TooLarge old new before after = GivesPiece old new before after
+ChunkGives Failed old new before after = new ≡ old
+ChunkGives NoMemory old new before after = GivesSome old new
 
 -- Failed was answered behind an error.
 abbrev pub ChunkHasError : Chunk → List ErrorKind → List ErrorKind → Type 0

@@ -6,6 +6,7 @@ pub mod FileList
 pub mod Files
 pub mod FolderCalls
 pub mod Gathered
+pub mod Given
 pub mod MemFolder
 pub mod MemLines
 pub mod MemSink

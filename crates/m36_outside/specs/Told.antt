@@ -4,12 +4,14 @@ use Rattle.std.specs.Prelude.{ℕ, List}
 use Rattle.std.specs.declared.io.ErrorKind.{ErrorKind}
 use Rattle.m36_outside.specs.FolderCalls.{Asked, Wrote}
 
--- a folder: its calls, the bytes that each file which was made took, and the errors of the system
+-- a folder: its calls, the pieces that its files gave, the bytes that each file which was made
+-- took, and the errors of the system
 pub record FolderTold : Type 0 where
   pub reads : ℕ
   pub writes : ℕ
   pub asked : List Asked
   pub wrote : List Wrote
+  pub given : List (List ℕ)
   pub taken : List (List ℕ)
   pub errors : List ErrorKind
 

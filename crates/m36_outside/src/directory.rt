@@ -1,6 +1,7 @@
 //! The files of the current directory.
 
 ghost use Rattle.std.specs.Prelude.{[], ◌∷◌, ◌++◌, ◌≡◌, ◌≤◌, ◌<◌, ◌^◌, None, MatchOption};
+ghost use Rattle.m36_outside.specs.Given.{ReadGives};
 ghost use Rattle.m36_outside.specs.ReadAnswer.{IsWithinLimit, ReadHasCause};
 ghost use Rattle.m36_outside.specs.System.{ReadHasError, WriteHasError, WriteTakes, FileHasError, FileTakes, NamesFile, NamesNoFile, refusal_of};
 ghost use Rattle.m36_outside.specs.WriteAnswer.{WriteSays, WriteHasCause};
@@ -24,7 +25,8 @@ use std::rt::Files;
 const SLASH: u8 = b'/';
 
 /// The files of the current directory. It does not tell them. Contracts see its two counts of faults, its calls, the
-/// bytes that each file which it made took, and the errors that the system answered.
+/// pieces that the files which it read gave, the bytes that each file which it made took, and the errors that the system
+/// answered.
 ///
 /// A name that is not UTF-8, or that has a slash, is that of no file of the directory: a read of it answers Absent, and a
 /// write of it Failed. A file that the system reports as not found is Absent. Every other refusal and error of the system
@@ -38,9 +40,11 @@ pub struct DirFolder<R> {
     rt: R,
 }
 
-/// Notes of the files: the bytes that each one which was made took, and the errors that the system answered.
+/// Notes of the files: the pieces that those which were read gave, of which an empty one is the end, the bytes that each
+/// one which was made took, and the errors that the system answered.
 #[derive(Drop)]
 pub struct FileNotes {
+    pub given: Passed<Text>,
     pub taken: Passed<Text>,
     pub errors: Passed<ErrorKind>,
 }
@@ -56,6 +60,7 @@ impl<R> Model for DirFolder<R> {
       writes = f.write_faults;
       asked = f.calls.asked.entries;
       wrote = f.calls.wrote.entries;
+      given = f.notes.given.entries;
       taken = f.notes.taken.entries;
       errors = f.notes.errors.entries;
     } };
@@ -66,13 +71,22 @@ impl<R> Model for DirFolder<R> {
 impl<R: Files + Drop> DirFolder<R> {
     /// The current directory, as this runtime reaches it.
     pub fn new(rt: R) -> DirFolder<R>
-        ensures { result ≡ record { reads = 0; writes = 0; asked = []; wrote = []; taken = []; errors = [] } }
+        ensures { result ≡ record {
+          reads = 0;
+          writes = 0;
+          asked = [];
+          wrote = [];
+          given = [];
+          taken = [];
+          errors = [];
+        } }
     {
         DirFolder {
             read_faults: 0,
             write_faults: 0,
             calls: FolderCalls::new(),
             notes: FileNotes {
+                given: Passed::new(),
                 taken: Passed::new(),
                 errors: Passed::new(),
             },
@@ -103,9 +117,11 @@ impl<R: Files + Drop> Folder for DirFolder<R> {
         ensures other_count { self.new.writes ≡ self.old.writes }
 
         ensures outside { NamesNoFile name.now → result ≡ ReadAnswer.Absent }
+        ensures gives { ReadGives result self.old.given self.new.given }
+        ensures taken { self.new.taken ≡ self.old.taken }
         ensures error { ReadHasError result name.now self.old.errors self.new.errors }
     {
-        let answer = read_file(&self.rt, alloc, name, &mut self.notes.errors);
+        let answer = read_file(&self.rt, alloc, name, &mut self.notes);
         self.calls.note_read(name, &answer);
         match answer {
             ReadAnswer::Failed => {
@@ -128,6 +144,7 @@ impl<R: Files + Drop> Folder for DirFolder<R> {
         ensures outside { NamesNoFile name.now
             → (result ≡ WriteAnswer.Failed) × (self.new.taken ≡ self.old.taken) }
         ensures took { WriteTakes result self.old.taken self.new.taken content.now }
+        ensures given { self.new.given ≡ self.old.given }
         ensures error { WriteHasError result name.now self.old.errors self.new.errors }
     {
         match write_file(&self.rt, name, content, &mut self.notes) {
@@ -145,16 +162,13 @@ impl<R: Files + Drop> Folder for DirFolder<R> {
 }
 
 /// Reads a file of the current directory.
-#[tactic(auto, using(crate::proofs::Names::names))]
-fn read_file<R: Files>(
-    rt: &R,
-    alloc: Global,
-    name: &[u8],
-    errors: &mut Passed<ErrorKind>,
-) -> ReadAnswer
+#[tactic(auto, using(crate::proofs::Names::names, crate::proofs::FilesGiven::opening))]
+fn read_file<R: Files>(rt: &R, alloc: Global, name: &[u8], notes: &mut FileNotes) -> ReadAnswer
     ensures limit { IsWithinLimit result }
     ensures outside { NamesNoFile name.now → result ≡ ReadAnswer.Absent }
-    ensures error { ReadHasError result name.now errors.old.entries errors.new.entries }
+    ensures gives { ReadGives result notes.old.given.entries notes.new.given.entries }
+    ensures taken { notes.new.taken.entries ≡ notes.old.taken.entries }
+    ensures error { ReadHasError result name.now notes.old.errors.entries notes.new.errors.entries }
 {
     let Some(name) = name_of_file(name) else {
         return ReadAnswer::Absent;
@@ -163,12 +177,13 @@ fn read_file<R: Files>(
         Ok(file) => {
             let mut from = NotedReader::new(file);
             let answer = read_whole(&mut from, alloc);
-            errors.note(&from.errors);
+            notes.given.note(&from.given);
+            notes.errors.note(&from.errors);
             answer
         }
         Err(e) => {
             let kind = e.kind();
-            errors.note(&kind);
+            notes.errors.note(&kind);
             refusal(kind)
         }
     }
@@ -190,6 +205,7 @@ fn write_file<R: Files>(rt: &R, name: &[u8], content: &[u8], notes: &mut FileNot
     ensures outside { NamesNoFile name.now
         → (result ≡ Put.Failed) × (notes.new.taken.entries ≡ notes.old.taken.entries) }
     ensures took { FileTakes result notes.old.taken.entries notes.new.taken.entries content.now }
+    ensures given { notes.new.given.entries ≡ notes.old.given.entries }
     ensures error { FileHasError result name.now notes.old.errors.entries notes.new.errors.entries }
 {
     let Some(name) = name_of_file(name) else {

@@ -28,6 +28,10 @@ impl Entries<Text> for Passed<u8> {
     ghost entries = { λ bytes. bytes.entries ∷ [] };
 }
 
+impl Entries<Text> for Passed<Text> {
+    ghost entries = { λ pieces. pieces.entries };
+}
+
 impl Entries<ErrorKind> for ErrorKind {
     ghost use Rattle.std.specs.Prelude.{[], ◌∷◌};
 

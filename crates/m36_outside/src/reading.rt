@@ -3,7 +3,8 @@
 ghost use Rattle.std.specs.Prelude.{◌≡◌, ◌+◌, ◌≤◌, ◌<◌, Some, None, IfSome, length};
 ghost use Rattle.m36_outside.specs.Piece.{PieceSays};
 ghost use Rattle.m36_outside.specs.ReadAnswer.{ReadSays, IsWithinLimit, file_limit};
-ghost use Rattle.m36_outside.specs.Chunk.{ChunkSays, AddSays, ChunkHasError};
+ghost use Rattle.m36_outside.specs.Chunk.{ChunkSays, ChunkGives, AddSays, ChunkHasError};
+ghost use Rattle.m36_outside.specs.Given.{ReadGives};
 ghost use Rattle.m36_outside.specs.Passing.{PieceGives};
 ghost use Rattle.m36_outside.specs.System.{OpenHasError, PieceHasError};
 
@@ -34,10 +35,11 @@ pub enum Chunk {
 }
 
 /// Reads to the end, and takes at most one byte past the limit. The answer is never Absent.
-#[tactic(auto, using(crate::proofs::Consumed::consumed))]
+#[tactic(auto, using(crate::proofs::Consumed::consumed, crate::proofs::FilesGiven::giving))]
 pub fn read_whole<R: Read>(from: &mut NotedReader<R>, alloc: Global) -> ReadAnswer
     ensures told { IfSome (R.remaining from.old.inner) (λ bytes. ReadSays result (Some bytes)) }
     ensures limit { IsWithinLimit result }
+    ensures gives { ReadGives result from.old.given.entries from.new.given.entries }
     ensures error { OpenHasError result from.old.errors.entries from.new.errors.entries }
 {
     let mut text = Text::new(alloc);
@@ -57,6 +59,8 @@ fn read_chunk<R: Read>(from: &mut NotedReader<R>, text: &mut Text) -> Chunk
     requires { length text.old ≤ file_limit }
     ensures says { ChunkSays result
         (R.remaining from.old.inner) (R.remaining from.new.inner) text.old text.new }
+    ensures gives { ChunkGives result
+        from.old.given.entries from.new.given.entries text.old text.new }
     ensures errors { length from.old.errors.entries ≤ length from.new.errors.entries }
     ensures error { ChunkHasError result from.old.errors.entries from.new.errors.entries }
 {

@@ -1,5 +1,6 @@
 use Rattle.std.proofs.Common.{◌+◌, ◌-◌, ◌≤◌, length}
 use Rattle.std.specs.Io.KnownBytes.{Consumes}
+use Rattle.m36_outside.specs.Given.{Gives}
 use Rattle.m36_outside.specs.ReadAnswer.{file_limit}
 use Rattle.m36_outside.proofs.reading.read_whole.Given as goal
 
@@ -7,6 +8,7 @@ use Rattle.m36_outside.proofs.reading.read_whole.Given as goal
 abbrev pub invariant-loop-text : goal.invariant-loop-text
 invariant-loop-text g l = record {
   told : Consumes (g.R.Read.remaining l.fn.from.inner) (g.R.Read.remaining l.from.inner) l.text;
+  given : Gives l.fn.from.given.entries l.from.given.entries l.text;
   limit : length l.text ≤ file_limit;
   errors : length l.fn.from.errors.entries ≤ length l.from.errors.entries;
 }
