@@ -1,5 +1,5 @@
 -- Laws of a writer whose bytes are known: what it holds grew by what was written, from the beginning on.
-use Rattle.std.proofs.Common.{◌≡◌, ℕ, ◌+◌, ◌≤◌, List, ◌++◌, length, take, drop, Option, Some, None, IfSome, refl, sym, ap, ◌∙◌, take-add}
+use Rattle.std.proofs.Common.{◌≡◌, ℕ, ◌+◌, ◌≤◌, List, [], ◌++◌, length, take, drop, Option, Some, None, IfSome, refl, sym, ap, ◌∙◌, take-add}
 use Rattle.std.proofs.lemmas.List.{append-nil, append_assoc, take-append-drop, take_all}
 use Rattle.std.specs.Io.KnownBytes.{Appends, Keeps}
 use Rattle.m36_outside.specs.Written.{Grew, GrewWithin}
@@ -20,6 +20,14 @@ appends_more (Some held) (Some part) None bytes done count first more = absurd m
 appends_more (Some held) (Some part) (Some whole) bytes done count first more =
     more ∙ ap (λ l. l ++ take count (drop done bytes)) first ∙ append_assoc held (take done bytes) (take count (drop done bytes))
     ∙ ap (λ l. held ++ l) (sym (take-add done count bytes))
+
+-- a write that took nothing, behind others that took nothing
+pub keeps_by_nothing :
+    (start now next : Option (List ℕ)) → Keeps start now → Appends now next [] → Keeps start next
+keeps_by_nothing None now next first more = tt
+keeps_by_nothing (Some held) None next first more = absurd first
+keeps_by_nothing (Some held) (Some same) None first more = absurd more
+keeps_by_nothing (Some held) (Some same) (Some rest) first more = more ∙ append-nil same ∙ first
 
 -- a write that took nothing, or a flush
 pub appends_kept :

@@ -12,5 +12,6 @@ pub mod LinesTaken
 mod MemoryBlocks
 mod Names
 pub mod Risen
+mod Signalled
 mod Taken
 mod Takes

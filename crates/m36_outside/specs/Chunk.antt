@@ -3,8 +3,8 @@ use Rattle.std.specs.Prelude.{ℕ, ◌≡◌, ◌≤◌, ◌<◌, List, [], ◌�
 use Rattle.std.specs.declared.io.ErrorKind.{ErrorKind}
 use Rattle.std.specs.Io.KnownBytes.{Consumes, IsAtEnd}
 use Rattle.m36_outside.specs.Given.{GivesSome}
-use Rattle.m36_outside.specs.Passing.{HasMore}
 use Rattle.m36_outside.specs.ReadAnswer.{file_limit}
+use Rattle.m36_outside.specs.Signals.{Signals, GivesUp}
 use Rattle.m36_outside.specs.declared.reading.Chunk.{Chunk}
 use Rattle.m36_outside.specs.declared.reading.Chunk.TheVariants.{More, End, TooLarge, Failed}
 use Rattle.m36_outside.specs.declared.reading.Chunk.TheVariants.{NoMemory}
@@ -48,10 +48,10 @@ ChunkGives TooLarge old new before after = GivesPiece old new before after
 ChunkGives Failed old new before after = new ≡ old
 ChunkGives NoMemory old new before after = GivesSome old new
 
--- Failed was answered behind an error.
+-- Failed was answered where the read gave up, and every other answer behind signals alone.
 abbrev pub ChunkHasError : Chunk → List ErrorKind → List ErrorKind → Type 0
-ChunkHasError More old new = ⊤
-ChunkHasError End old new = ⊤
-ChunkHasError TooLarge old new = ⊤
-ChunkHasError Failed old new = HasMore old new
-ChunkHasError NoMemory old new = ⊤
+ChunkHasError More old new = Signals old new
+ChunkHasError End old new = Signals old new
+ChunkHasError TooLarge old new = Signals old new
+ChunkHasError Failed old new = GivesUp old new
+ChunkHasError NoMemory old new = Signals old new

@@ -14,6 +14,7 @@ pub mod Passing
 pub mod Piece
 pub mod Put
 pub mod ReadAnswer
+pub mod Signals
 pub mod SureFields
 pub mod System
 pub mod Told

@@ -1,15 +1,11 @@
 -- What passed through an object, in order: the pieces that a sink took and those that an input
 -- gave.
-use Rattle.std.specs.Prelude.{ℕ, ◌≡◌, ◌<◌, List, [], ◌∷◌, ◌++◌, length, take, Option}
+use Rattle.std.specs.Prelude.{ℕ, ◌≡◌, List, [], ◌∷◌, ◌++◌, take, Option}
 use Rattle.m36_outside.specs.Written.{Grew}
 use Rattle.m36_outside.specs.declared.lines.Piece.{Piece}
 use Rattle.m36_outside.specs.declared.lines.Piece.TheVariants as piece
 use Rattle.m36_outside.specs.declared.sink.Put.{Put}
 use Rattle.m36_outside.specs.declared.sink.Put.TheVariants as put
-
--- more entries are noted than before
-abbrev pub HasMore : {E : Type 0} → List E → List E → Type 0
-HasMore old new = length old < length new
 
 -- pieces, one behind the other
 abbrev pub joined : List (List ℕ) → List ℕ

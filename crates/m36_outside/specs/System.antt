@@ -2,7 +2,7 @@
 use Rattle.std.specs.Prelude.{ℕ, ◌≡◌, List, [], ◌∷◌, ◌++◌, ◌⊎◌, ⊤, Contains, IsUtf8}
 use Rattle.std.specs.declared.io.ErrorKind.{ErrorKind}
 use Rattle.std.specs.declared.io.ErrorKind.TheVariants.{NotFound}
-use Rattle.m36_outside.specs.Passing.{HasMore}
+use Rattle.m36_outside.specs.Signals.{Signals, GivesUp}
 use Rattle.m36_outside.specs.declared.folder.ReadAnswer.{ReadAnswer}
 use Rattle.m36_outside.specs.declared.folder.ReadAnswer.TheVariants as read
 use Rattle.m36_outside.specs.declared.folder.WriteAnswer.{WriteAnswer}
@@ -21,24 +21,24 @@ abbrev pub PutFlushes : Put → List (List ℕ) → List (List ℕ) → List ℕ
 PutFlushes Done old new taken = new ≡ old ++ taken ∷ []
 PutFlushes Failed old new taken = ⊤
 
--- Failed was answered behind an error.
+-- Failed was answered where the system's call gave up, and Done behind signals alone.
 abbrev pub PutHasError : Put → List ErrorKind → List ErrorKind → Type 0
-PutHasError Done old new = ⊤
-PutHasError Failed old new = HasMore old new
+PutHasError Done old new = Signals old new
+PutHasError Failed old new = GivesUp old new
 
--- Failed was answered behind an error.
+-- the same of the answers of an input
 abbrev pub PieceHasError : Piece → List ErrorKind → List ErrorKind → Type 0
-PieceHasError (piece.Got count) old new = ⊤
-PieceHasError piece.End old new = ⊤
-PieceHasError piece.Failed old new = HasMore old new
+PieceHasError (piece.Got count) old new = Signals old new
+PieceHasError piece.End old new = Signals old new
+PieceHasError piece.Failed old new = GivesUp old new
 
--- A file that was opened is not absent, and Failed was answered behind an error.
+-- the same of an opened file, which is not absent
 abbrev pub OpenHasError : ReadAnswer → List ErrorKind → List ErrorKind → Type 0
-OpenHasError (read.Read bytes) old new = ⊤
+OpenHasError (read.Read bytes) old new = Signals old new
 OpenHasError read.Absent old new = ⊥
-OpenHasError read.TooLarge old new = ⊤
-OpenHasError read.Failed old new = HasMore old new
-OpenHasError read.NoMemory old new = ⊤
+OpenHasError read.TooLarge old new = Signals old new
+OpenHasError read.Failed old new = GivesUp old new
+OpenHasError read.NoMemory old new = Signals old new
 
 -- A name that is not UTF-8, or that has a slash, names no file of a directory.
 abbrev pub NamesNoFile : List ℕ → Type 0
@@ -49,29 +49,39 @@ pub record NamesFile (name : List ℕ) : Type 0 where
   pub text : IsUtf8 name
   pub no_slash : ¬ (Contains name slash)
 
--- Absent was answered to a name of no file, or behind the one error that there is no such file;
--- Failed behind an error.
-abbrev pub ReadHasError : ReadAnswer → List ℕ → List ErrorKind → List ErrorKind → Type 0
-ReadHasError (read.Read bytes) name old new = ⊤
-ReadHasError read.Absent name old new = NamesNoFile name ⊎ (new ≡ old ++ NotFound ∷ [])
-ReadHasError read.TooLarge name old new = ⊤
-ReadHasError read.Failed name old new = HasMore old new
-ReadHasError read.NoMemory name old new = ⊤
-
 -- the answer to a file that could not be opened
 abbrev pub refusal_of : ErrorKind → ReadAnswer
 refusal_of NotFound = read.Absent
 refusal_of _ = read.Failed
+
+-- No file was read: a read gave up, or one error came by which no file was opened.
+pub record ReadsNot (old new : List ErrorKind) : Type 0 where
+  pub why : GivesUp old new ⊎
+      ((kind : ErrorKind) × (refusal_of kind ≡ read.Failed) × (new ≡ old ++ kind ∷ []))
+
+-- Absent was answered to a name of no file, or behind the one error that there is no such file;
+-- Failed where no file was read, and the other answers behind signals alone.
+abbrev pub ReadHasError : ReadAnswer → List ℕ → List ErrorKind → List ErrorKind → Type 0
+ReadHasError (read.Read bytes) name old new = Signals old new
+ReadHasError read.Absent name old new = NamesNoFile name ⊎ (new ≡ old ++ NotFound ∷ [])
+ReadHasError read.TooLarge name old new = Signals old new
+ReadHasError read.Failed name old new = ReadsNot old new
+ReadHasError read.NoMemory name old new = Signals old new
 
 -- Done was answered where a file took the content.
 abbrev pub FileTakes : Put → List (List ℕ) → List (List ℕ) → List ℕ → Type 0
 FileTakes Done old new content = new ≡ old ++ content ∷ []
 FileTakes Failed old new content = ⊤
 
--- Failed was answered to a name of no file, or behind an error.
+-- No file was written: it has the name of none, or a write gave up, or one error came by which no
+-- file was made.
+pub record WritesNot (name : List ℕ) (old new : List ErrorKind) : Type 0 where
+  pub why : NamesNoFile name ⊎ (GivesUp old new ⊎ ((kind : ErrorKind) × (new ≡ old ++ kind ∷ [])))
+
+-- Failed was answered where no file was written, and Done behind signals alone.
 abbrev pub FileHasError : Put → List ℕ → List ErrorKind → List ErrorKind → Type 0
-FileHasError Done name old new = ⊤
-FileHasError Failed name old new = NamesNoFile name ⊎ HasMore old new
+FileHasError Done name old new = Signals old new
+FileHasError Failed name old new = WritesNot name old new
 
 -- the same of the answers of a folder
 abbrev pub WriteTakes : WriteAnswer → List (List ℕ) → List (List ℕ) → List ℕ → Type 0
@@ -80,6 +90,6 @@ WriteTakes write.Failed old new content = ⊤
 WriteTakes write.NoMemory old new content = ⊤
 
 abbrev pub WriteHasError : WriteAnswer → List ℕ → List ErrorKind → List ErrorKind → Type 0
-WriteHasError write.Written name old new = ⊤
-WriteHasError write.Failed name old new = NamesNoFile name ⊎ HasMore old new
+WriteHasError write.Written name old new = Signals old new
+WriteHasError write.Failed name old new = WritesNot name old new
 WriteHasError write.NoMemory name old new = ⊤

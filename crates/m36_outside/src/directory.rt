@@ -162,7 +162,7 @@ impl<R: Files + Drop> Folder for DirFolder<R> {
 }
 
 /// Reads a file of the current directory.
-#[tactic(auto, using(crate::proofs::Names::names, crate::proofs::FilesGiven::opening))]
+#[tactic(auto, using(crate::proofs::Names::names, crate::proofs::FilesGiven::opening, crate::proofs::Signalled::reads))]
 fn read_file<R: Files>(rt: &R, alloc: Global, name: &[u8], notes: &mut FileNotes) -> ReadAnswer
     ensures limit { IsWithinLimit result }
     ensures outside { NamesNoFile name.now → result ≡ ReadAnswer.Absent }
@@ -200,7 +200,7 @@ fn refusal(kind: ErrorKind) -> ReadAnswer
 }
 
 /// Makes a file of the current directory anew.
-#[tactic(auto, using(crate::proofs::Names::names, crate::proofs::Takes::takes))]
+#[tactic(auto, using(crate::proofs::Names::names, crate::proofs::Takes::takes, crate::proofs::Signalled::writes))]
 fn write_file<R: Files>(rt: &R, name: &[u8], content: &[u8], notes: &mut FileNotes) -> Put
     ensures outside { NamesNoFile name.now
         → (result ≡ Put.Failed) × (notes.new.taken.entries ≡ notes.old.taken.entries) }

@@ -3,10 +3,10 @@
 //! These are the calls of the system, and what is noted beside each is what it answered. Each is proved over every
 //! reader and writer, and tells of one that tells its bytes that they moved as noted.
 
-ghost use Rattle.std.specs.Prelude.{[], ◌∷◌, ◌++◌, ◌≡◌, ◌≤◌, ◌<◌, Some, IfSome, IfNone, MatchOption, length, take};
+ghost use Rattle.std.specs.Prelude.{[], ◌∷◌, ◌++◌, ◌≡◌, ◌≤◌, ◌↔◌, Some, IfSome, IfNone, IsTrue, MatchOption, length, take};
 ghost use Rattle.std.specs.Bool.{OnTrue, OnFalse};
 ghost use Rattle.std.specs.Io.KnownBytes.{Appends, Consumes, IsAtEnd, Keeps};
-ghost use Rattle.m36_outside.specs.Passing.{HasMore};
+ghost use Rattle.m36_outside.specs.Signals.{Signals, IsFault, GivesUp};
 
 use crate::passed::{Entries, Passed};
 use crate::text::Text;
@@ -68,7 +68,8 @@ impl<W: Write> NotedWriter<W> {
     }
 
     /// Writes once. None says that the writer answered an error, or took nothing of bytes that are some; Some(0) that a
-    /// signal broke in. In both an error was noted.
+    /// signal broke in. In both one error was noted.
+    #[tactic(auto, using(crate::proofs::Signalled::trying))]
     pub fn write(&mut self, bytes: &[u8]) -> Option<usize>
         requires some { 1 ≤ length bytes.now }
         ensures bound { IfSome result (λ count. count ≤ length bytes.now) }
@@ -79,10 +80,11 @@ impl<W: Write> NotedWriter<W> {
             (Keeps (W.contents self.old.inner) (W.contents self.new.inner))
             (λ count. Appends (W.contents self.old.inner) (W.contents self.new.inner) (take count bytes.now)) }
         ensures flushed { self.new.flushed.entries ≡ self.old.flushed.entries }
-        ensures errors { length self.old.errors.entries ≤ length self.new.errors.entries }
-        ensures failed { IfNone result (HasMore self.old.errors.entries self.new.errors.entries) }
+        ensures failed { IfNone result (IsFault self.old.errors.entries self.new.errors.entries) }
         ensures signal { IfSome result (λ count. count ≡ 0 →
-            HasMore self.old.errors.entries self.new.errors.entries) }
+            self.new.errors.entries ≡ self.old.errors.entries ++ ErrorKind.Interrupted ∷ []) }
+        ensures sure { IfSome result (λ count. 1 ≤ count →
+            self.new.errors.entries ≡ self.old.errors.entries) }
     {
         match self.inner.write(bytes) {
             Ok(0) => {
@@ -96,34 +98,37 @@ impl<W: Write> NotedWriter<W> {
             Err(e) => {
                 let kind = e.kind();
                 self.errors.note(&kind);
-                if kind == ErrorKind::Interrupted {
-                    Some(0)
-                } else {
-                    None
-                }
+                if is_signal(kind) { Some(0) } else { None }
             }
         }
     }
 
-    /// Flushes what was written, and tells whether that was done.
+    /// Flushes what was written, once and again where a signal broke in, and tells whether that was done.
+    #[tactic(auto, using(crate::proofs::Consumed::pieces, crate::proofs::Signalled::trying))]
     pub fn flush(&mut self) -> bool
         ensures taken { self.new.taken.entries ≡ self.old.taken.entries }
         ensures inner { Keeps (W.contents self.old.inner) (W.contents self.new.inner) }
-        ensures errors { length self.old.errors.entries ≤ length self.new.errors.entries }
         ensures done { OnTrue result
             (self.new.flushed.entries ≡ self.old.flushed.entries ++ self.old.taken.entries ∷ []) }
-        ensures failed { OnFalse result (HasMore self.old.errors.entries self.new.errors.entries) }
+        ensures sure { OnTrue result (Signals self.old.errors.entries self.new.errors.entries) }
+        ensures failed { OnFalse result (GivesUp self.old.errors.entries self.new.errors.entries) }
     {
-        match self.inner.flush() {
-            Ok(()) => {
-                self.flushed.note(&self.taken);
-                true
-            }
-            Err(e) => {
-                self.errors.note(&e.kind());
-                false
+        for _turn in 0..u64::MAX {
+            match self.inner.flush() {
+                Ok(()) => {
+                    self.flushed.note(&self.taken);
+                    return true;
+                }
+                Err(e) => {
+                    let kind = e.kind();
+                    self.errors.note(&kind);
+                    if !is_signal(kind) {
+                        return false;
+                    }
+                }
             }
         }
+        false
     }
 }
 
@@ -150,7 +155,7 @@ impl<R: Read> NotedReader<R> {
     }
 
     /// Reads, once and again where a signal broke in. Some(0) is the end.
-    #[tactic(auto, using(crate::proofs::Consumed::pieces))]
+    #[tactic(auto, using(crate::proofs::Consumed::pieces, crate::proofs::Signalled::trying))]
     pub fn read(&mut self, into: &mut [u8]) -> Option<usize>
         requires room { 1 ≤ length into.old }
         ensures bound { IfSome result (λ count. count ≤ length into.new) }
@@ -161,8 +166,8 @@ impl<R: Read> NotedReader<R> {
             (Keeps (R.remaining self.old.inner) (R.remaining self.new.inner))
             (λ count. Consumes (R.remaining self.old.inner) (R.remaining self.new.inner) (take count into.new)) }
         ensures end { IfSome result (λ count. count ≡ 0 → IsAtEnd (R.remaining self.new.inner)) }
-        ensures errors { length self.old.errors.entries ≤ length self.new.errors.entries }
-        ensures failed { IfNone result (HasMore self.old.errors.entries self.new.errors.entries) }
+        ensures sure { IfSome result (λ _. Signals self.old.errors.entries self.new.errors.entries) }
+        ensures failed { IfNone result (GivesUp self.old.errors.entries self.new.errors.entries) }
     {
         for _turn in 0..u64::MAX {
             match self.inner.read(into) {
@@ -173,7 +178,7 @@ impl<R: Read> NotedReader<R> {
                 Err(e) => {
                     let kind = e.kind();
                     self.errors.note(&kind);
-                    if kind != ErrorKind::Interrupted {
+                    if !is_signal(kind) {
                         return None;
                     }
                 }
@@ -181,4 +186,11 @@ impl<R: Read> NotedReader<R> {
         }
         None
     }
+}
+
+/// Whether the error is that a signal broke in.
+fn is_signal(kind: ErrorKind) -> bool
+    ensures { IsTrue result ↔ (kind ≡ ErrorKind.Interrupted) }
+{
+    kind == ErrorKind::Interrupted
 }

@@ -35,7 +35,7 @@ pub enum Chunk {
 }
 
 /// Reads to the end, and takes at most one byte past the limit. The answer is never Absent.
-#[tactic(auto, using(crate::proofs::Consumed::consumed, crate::proofs::FilesGiven::giving))]
+#[tactic(auto, using(crate::proofs::Consumed::consumed, crate::proofs::FilesGiven::giving, crate::proofs::Signalled::in_turn))]
 pub fn read_whole<R: Read>(from: &mut NotedReader<R>, alloc: Global) -> ReadAnswer
     ensures told { IfSome (R.remaining from.old.inner) (λ bytes. ReadSays result (Some bytes)) }
     ensures limit { IsWithinLimit result }
@@ -55,13 +55,13 @@ pub fn read_whole<R: Read>(from: &mut NotedReader<R>, alloc: Global) -> ReadAnsw
 }
 
 /// Reads once, and adds what was read.
+#[tactic(auto, using(crate::proofs::Signalled::chunk_has_error))]
 fn read_chunk<R: Read>(from: &mut NotedReader<R>, text: &mut Text) -> Chunk
     requires { length text.old ≤ file_limit }
     ensures says { ChunkSays result
         (R.remaining from.old.inner) (R.remaining from.new.inner) text.old text.new }
     ensures gives { ChunkGives result
         from.old.given.entries from.new.given.entries text.old text.new }
-    ensures errors { length from.old.errors.entries ≤ length from.new.errors.entries }
     ensures error { ChunkHasError result from.old.errors.entries from.new.errors.entries }
 {
     let mut buffer = [0; CHUNK];

@@ -58,7 +58,7 @@ impl<R: Print + Drop> Sink for StdSink<R> {
 
     ghost faults = { λ s. s.faults };
 
-    #[tactic(auto, using(crate::proofs::Takes::takes))]
+    #[tactic(auto, using(crate::proofs::Takes::takes, crate::proofs::Signalled::behind))]
     fn put(&mut self, piece: &[u8]) -> Put
         ensures says { PutSays result (Some (joined self.old.taken)) (Some (joined self.new.taken)) piece.now }
         ensures took { PutTakes result
@@ -83,7 +83,7 @@ impl<R: Print + Drop> Sink for StdSink<R> {
     }
 
     /// The pieces go in one call of the system, or in as many as it needs.
-    #[tactic(auto, using(crate::proofs::Blocks::written_at_once))]
+    #[tactic(auto, using(crate::proofs::Blocks::written_at_once, crate::proofs::Signalled::behind))]
     fn put_block(&mut self, block: &Block) -> Put
         ensures says { PutSays result
             (Some (joined self.old.taken)) (Some (joined self.new.taken)) (joined block.now) }

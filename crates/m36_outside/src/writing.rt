@@ -2,8 +2,8 @@
 
 ghost use Rattle.std.specs.Prelude.{◌≡◌, ◌≤◌, ◌<◌, ◌-◌, ◌++◌, Some, IfSome, IfNone, MatchOption, length, take, drop};
 ghost use Rattle.std.specs.Io.KnownBytes.{Appends, Keeps};
-ghost use Rattle.m36_outside.specs.Passing.{HasMore};
 ghost use Rattle.m36_outside.specs.Put.{PutSays};
+ghost use Rattle.m36_outside.specs.Signals.{Signals, GivesUp};
 ghost use Rattle.m36_outside.specs.System.{PutFlushes, PutHasError};
 
 use crate::noted::NotedWriter;
@@ -11,7 +11,7 @@ use crate::sink::Put;
 use std::io::Write;
 
 /// Writes all of these bytes, and flushes them. A writer that takes nothing has failed.
-#[tactic(auto, using(crate::proofs::Appended::appending))]
+#[tactic(auto, using(crate::proofs::Appended::appending, crate::proofs::Signalled::in_turn))]
 pub fn write_whole<W: Write>(to: &mut NotedWriter<W>, bytes: &[u8]) -> Put
     ensures taken { PutSays result (Some to.old.taken.entries) (Some to.new.taken.entries) bytes.now }
     ensures inner { IfSome (W.contents to.old.inner)
@@ -42,14 +42,14 @@ fn write_from<W: Write>(to: &mut NotedWriter<W>, bytes: &[u8], place: usize) -> 
         (λ count. Appends (W.contents to.old.inner) (W.contents to.new.inner)
         (take count (drop place bytes.now))) }
     ensures flushed { to.new.flushed.entries ≡ to.old.flushed.entries }
-    ensures errors { length to.old.errors.entries ≤ length to.new.errors.entries }
-    ensures failed { IfNone result (HasMore to.old.errors.entries to.new.errors.entries) }
+    ensures sure { IfSome result (λ _. Signals to.old.errors.entries to.new.errors.entries) }
+    ensures failed { IfNone result (GivesUp to.old.errors.entries to.new.errors.entries) }
 {
     write_some(to, &bytes[place..])
 }
 
 /// Writes some of these bytes: once, and again where a signal broke in.
-#[tactic(auto, using(crate::proofs::Appended::appending))]
+#[tactic(auto, using(crate::proofs::Appended::appending, crate::proofs::Signalled::trying))]
 fn write_some<W: Write>(to: &mut NotedWriter<W>, bytes: &[u8]) -> Option<usize>
     requires some { 1 ≤ length bytes.now }
     ensures bound { IfSome result (λ count. count ≤ length bytes.now) }
@@ -61,8 +61,8 @@ fn write_some<W: Write>(to: &mut NotedWriter<W>, bytes: &[u8]) -> Option<usize>
         (Keeps (W.contents to.old.inner) (W.contents to.new.inner))
         (λ count. Appends (W.contents to.old.inner) (W.contents to.new.inner) (take count bytes.now)) }
     ensures flushed { to.new.flushed.entries ≡ to.old.flushed.entries }
-    ensures errors { length to.old.errors.entries ≤ length to.new.errors.entries }
-    ensures failed { IfNone result (HasMore to.old.errors.entries to.new.errors.entries) }
+    ensures sure { IfSome result (λ _. Signals to.old.errors.entries to.new.errors.entries) }
+    ensures failed { IfNone result (GivesUp to.old.errors.entries to.new.errors.entries) }
 {
     for _turn in 0..u64::MAX {
         match to.write(bytes) {
