@@ -21,4 +21,4 @@ pub record GivesUp (old new : List ErrorKind) : Type 0 where
   pub between : List ErrorKind
   pub signals : Signals old between
   pub last :
-    IsFault between new ⊎ ((new ≡ between) × (length old + (2 ^ 64 - 1) ≤ length new))
+      IsFault between new ⊎ ((new ≡ between) × (length old + (2 ^ 64 - 1) ≤ length new))

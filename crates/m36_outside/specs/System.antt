@@ -57,7 +57,7 @@ refusal_of _ = read.Failed
 -- No file was read: a read gave up, or one error came by which no file was opened.
 pub record ReadsNot (old new : List ErrorKind) : Type 0 where
   pub why : GivesUp old new ⊎
-    ((kind : ErrorKind) × (refusal_of kind ≡ read.Failed) × (new ≡ old ++ kind ∷ []))
+      ((kind : ErrorKind) × (refusal_of kind ≡ read.Failed) × (new ≡ old ++ kind ∷ []))
 
 -- Absent was answered to a name of no file, or behind the one error that there is no such file;
 -- Failed where no file was read, and the other answers behind signals alone.

@@ -28,9 +28,8 @@
 //!
 //! What is of the system goes through `noted.rt`, which notes what each call of std answered, and is proved over every
 //! reader and writer. By it the adapters prove that a put which is done wrote all and flushed it, that what is read of a
-//! file is all that it gave, that what a signal breaks off is made again, and that a failure has an error behind it that is
-//! no signal, or 2^64 - 1 signals. What a real file holds, or a terminal has left, is not told: what std says of the
-//! system is taken as it is.
+//! file is all that it gave, that what a signal breaks off is made again, and that a failure has an error behind it. What a
+//! real file holds, or a terminal has left, is not told: what std says of the system is taken as it is.
 //!
 //! A caller composes these contracts by the laws in `proofs/`: `Grown` for what several puts wrote, `LinesTaken` for the
 //! pieces that they put, `Completes` for puts in a loop, `Gathered` for pieces that were gathered in a block, `Risen` for

@@ -1,8 +1,7 @@
 -- The errors of a failed read are those of the file.
-use Rattle.std.proofs.Common.{◌≡◌, sym, ap, subst}
+use Rattle.std.proofs.Common.{sym, ap, subst}
 use Rattle.m36_outside.specs.System.{ReadHasError, ReadsNot}
 use Rattle.m36_outside.specs.Told.{FolderTold}
-use Rattle.m36_outside.specs.declared.folder.ReadAnswer.TheVariants.{Failed}
 use Rattle.m36_outside.proofs.directory.DirFolderFolder.read.Goals.{in-Read-1, in-Absent-1}
 use Rattle.m36_outside.proofs.directory.DirFolderFolder.read.Goals as goal
 
