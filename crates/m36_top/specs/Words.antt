@@ -27,10 +27,11 @@
 use Rattle.std.specs.Prelude.{ℕ, Bool, true, false, not, ◌&&◌, nat_le, List, [], ◌∷◌, ◌++◌, length}
 use Rattle.std.specs.Prelude.{take, drop, codes, Option, Some, None, unwrap_or, if◌then◌else◌}
 use Rattle.std.specs.Option.{is_none, option_map, option_and_then}
-use Rattle.m36_text.specs.Texts.{is_text, is_file_name}
+use Rattle.m36_text.specs.Texts.{is_text}
 use Rattle.m36_text.specs.Numbers.{short_decimal_in}
 use Rattle.m36_booted.specs.declared.command.FolderRun.{FolderRun}
 use Rattle.m36_booted.specs.declared.command.FolderCommand.TheVariants as folder
+use Rattle.m36_dir.specs.BootLine.{name_of}
 use Rattle.m36_acl.specs.Users.{user_of}
 use Rattle.m36_top.specs.declared.names.Operand.{Operand}
 use Rattle.m36_top.specs.declared.words.Given.{Given}
@@ -43,15 +44,12 @@ use Rattle.m36_top.specs.declared.command.Command.TheVariants.{DebugFolder, Debu
 
 -- operands: the files of all commands but `access`, which has a user; some texts are both, and each
 -- seed is of the form of a file
-abbrev pub file_of : List ℕ → Option (List ℕ)
-file_of word = if is_file_name word then Some word else None
-
 abbrev pub operand_by : Option (List ℕ) → Option (List ℕ) → Option Operand
 operand_by file user =
     if is_none file && is_none user then None else Some (record { file = file; user = user })
 
 abbrev pub operand_of : List ℕ → Option Operand
-operand_of word = operand_by (file_of word) (user_of word)
+operand_of word = operand_by (name_of word) (user_of word)
 
 -- N: one to eight digits
 abbrev pub steps_of : List ℕ → Option ℕ

@@ -1,7 +1,8 @@
 //! Operands, and names of files.
 
 ghost use Rattle.std.specs.Prelude.{ℕ, ◌≡◌, ◌≤◌, ◌++◌, length, codes, Some};
-ghost use Rattle.m36_top.specs.Words.{file_of, operand_by, operand_of};
+ghost use Rattle.m36_dir.specs.BootLine.{name_of};
+ghost use Rattle.m36_top.specs.Words.{operand_by, operand_of};
 
 use arrayvec::ArrayVec;
 use m36_acl::User;
@@ -16,7 +17,7 @@ pub struct Operand {
 
 // The file that an operand names; none where it names none.
 fn file_of(word: &[u8]) -> Option<Name>
-    ensures { result ≡ file_of word.now }
+    ensures { result ≡ name_of word.now }
 {
     if is_file_name(word) {
         Name::new(word)
