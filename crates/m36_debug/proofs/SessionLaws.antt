@@ -18,7 +18,7 @@ use Rattle.m36_debug.specs.PieceSays.{AnsweredAll, AnsweredQuit, AnsweredSome, A
 use Rattle.m36_debug.specs.Putting.{SinkSeen, PutAll, PutSome}
 use Rattle.m36_debug.specs.Session.{Turning, Doing, Waiting, Over, Starved, Standing, standing, lines_said, lines_in}
 use Rattle.m36_debug.specs.SessionLines.{session_line}
-use Rattle.m36_debug.specs.SessionSays.{LinesSeen, SessionSays, TookBy, CountBy, WroteBy, ReadHasCause, answer_of, bytes_limit, HasEnded, TookAll, TookOpen, EndInQuit, TookQuit, TookWhole}
+use Rattle.m36_debug.specs.SessionSays.{LinesSeen, SessionSays, TookBy, CountBy, WroteBy, ReadHasCause, answer_of, bytes_limit, HasEnded, StopsAtEnd, TookAll, TookOpen, EndInQuit, TookQuit, TookWhole}
 use Rattle.m36_debug.specs.Sitting.{SittingFields, new_sitting}
 use Rattle.m36_debug.specs.Taking.{GotPiece, GotEnd, GotNothing}
 use Rattle.m36_debug.proofs.LinesLaws.{lines_none, lines_on, all_open, all_whole, some_whole}
@@ -78,6 +78,32 @@ came_still :
 came_still before now after pieces came gave left =
     record { gave = gave ∙ came.gave; left = came.left ∙ ap (λ l. preceded (joined pieces) l) (sym left) }
 
+-- ---- the end of the input
+
+-- no piece is empty
+abbrev pub AreSome : List (List ℕ) → Type 0
+AreSome [] = Unit {0}
+AreSome ([] ∷ pieces) = ⊥
+AreSome ((byte ∷ piece) ∷ pieces) = AreSome pieces
+
+some_more : (pieces : List (List ℕ)) (piece : List ℕ) → AreSome pieces → 1 ≤ length piece → AreSome (pieces ++ piece ∷ [])
+some_more [] [] all some = absurd (omega (arith, some))
+some_more [] (byte ∷ piece) all some = tt
+some_more ([] ∷ pieces) piece all some = absurd all
+some_more ((byte ∷ first) ∷ pieces) piece all some = some_more pieces piece all some
+
+-- the input has not ended
+stops_going : (pieces : List (List ℕ)) (old new : ℕ) → AreSome pieces → StopsAtEnd pieces old new
+stops_going [] old new all = tt
+stops_going ([] ∷ pieces) old new all = absurd all
+stops_going ((byte ∷ piece) ∷ pieces) old new all = stops_going pieces old new all
+
+-- it has, by the last piece
+stops_ended : (pieces : List (List ℕ)) (old new : ℕ) → AreSome pieces → new ≡ old → StopsAtEnd (pieces ++ [] ∷ []) old new
+stops_ended [] old new all stands = (refl, stands)
+stops_ended ([] ∷ pieces) old new all stands = absurd all
+stops_ended ((byte ∷ piece) ∷ pieces) old new all stands = stops_ended pieces old new all stands
+
 -- ---- a session that goes on
 
 -- All whole lines so far were answered, what stands behind them has begun the next one, and so many
@@ -85,6 +111,7 @@ came_still before now after pieces came gave left =
 pub record Going {M : Type 0} (o : Turning M) (m m' : M) (before after : LinesSeen) (old new : SinkSeen) (left : ℕ) (begun : List ℕ) (sitting : SittingFields) : Type 0 where
   pub pieces : List (List ℕ)
   pub came : Came before after pieces
+  pub some : AreSome pieces
   pub faults : after.faults ≡ before.faults
   pub count : length (joined pieces) + left ≡ bytes_limit
   pub lines : List (List ℕ)
@@ -99,6 +126,7 @@ pub going_start :
 going_start o m before old begun sitting empty is unbroken = record {
   pieces = [];
   came = came_none before;
+  some = tt;
   faults = refl;
   count = refl;
   lines = [];
@@ -113,10 +141,11 @@ going_start o m before old begun sitting empty is unbroken = record {
 says :
     {M : Type 0} (o : Turning M) (result : Result (Unit {0}) SessionFault) (m m' : M) (before after : LinesSeen) (old new : SinkSeen) (pieces lines : List (List ℕ)) (stands : Standing)
     → Came before after pieces → CountBy result (length (joined pieces)) → ReadHasCause result before.faults after.faults
+    → StopsAtEnd pieces before.faults after.faults
     → TookBy result pieces lines stands.doing after
     → Part o (standing new_sitting Waiting) m lines stands m' (WroteBy result old new)
     → SessionSays o result m m' before after old new
-says o result m m' before after old new pieces lines stands came count cause took part = record {
+says o result m m' before after old new pieces lines stands came count cause stops took part = record {
   lines = lines_said o (standing new_sitting Waiting) part.events;
   session = record {
     pieces = pieces;
@@ -124,6 +153,7 @@ says o result m m' before after old new pieces lines stands came count cause too
     came = came.left;
     count = count;
     read_cause = cause;
+    stops = stops;
     events = part.events;
     stands = stands;
     follow = part.follow;
@@ -176,6 +206,7 @@ going_unread o m m' before now after old new left begun sitting g got =
     (came_still before now after g.pieces g.came got.gave got.stays)
     (omega (arith, g.count))
     (subst (λ n. Rose n after.faults) g.faults got.cause)
+    (stops_going g.pieces before.faults after.faults g.some)
     (took_whole o m m' (joined g.pieces) begun g.lines sitting (PutAll old new) g.is g.unbroken g.part)
     g.part
 
@@ -200,6 +231,7 @@ going_too_long o m m' before now after old new count left begun buffer sitting g
     (came_more before now after g.pieces piece g.came got.gave got.came)
     (omega (arith, size), omega (arith, size))
     (got.faults ∙ g.faults)
+    (stops_going (g.pieces ++ piece ∷ []) before.faults after.faults (some_more g.pieces piece g.some (omega (arith, one))))
     (subst (λ t. TookWhole t g.lines Waiting) (sym first) (took_whole o m m' bytes begun g.lines sitting (PutAll old new) g.is g.unbroken g.part))
     g.part
 
@@ -234,6 +266,7 @@ going_end o ends.Line m m1 m2 before now after old mid new left begun sitting si
     (came_end before now after g.pieces g.came got)
     (omega (arith, g.count, ap length (joined_end g.pieces)))
     (got.faults ∙ g.faults)
+    (stops_ended g.pieces before.faults after.faults g.some (got.faults ∙ g.faults))
     (inr record {
       waits = refl;
       all = sym (ap open_lines_of (joined_end g.pieces) ∙ all_open (joined g.pieces) begun g.lines g.is g.unbroken);
@@ -246,6 +279,7 @@ going_end o ends.Quit m m1 m2 before now after old mid new left begun sitting si
     (came_end before now after g.pieces g.came got)
     (omega (arith, g.count, ap length (joined_end g.pieces)))
     (got.faults ∙ g.faults)
+    (stops_ended g.pieces before.faults after.faults g.some (got.faults ∙ g.faults))
     (inl record {
       over = refl;
       some = inr (took_open now after g.pieces g.lines begun got g.is g.unbroken);
@@ -257,6 +291,7 @@ going_end o ends.Starved m m1 m2 before now after old mid new left begun sitting
     (came_end before now after g.pieces g.came got)
     (omega (arith, g.count, ap length (joined_end g.pieces)))
     (got.faults ∙ g.faults)
+    (stops_ended g.pieces before.faults after.faults g.some (got.faults ∙ g.faults))
     (inr (took_open now after g.pieces g.lines begun got g.is g.unbroken))
     (part_on o (standing new_sitting Waiting) m g.lines (open_rest begun) (standing sitting Waiting) m1 (standing sitting' Starved) m2 old mid new g.part said)
 going_end o ends.Cut m m1 m2 before now after old mid new left begun sitting sitting' g got said =
@@ -265,6 +300,7 @@ going_end o ends.Cut m m1 m2 before now after old mid new left begun sitting sit
     (came_end before now after g.pieces g.came got)
     (omega (arith, g.count, ap length (joined_end g.pieces)))
     (got.faults ∙ g.faults)
+    (stops_ended g.pieces before.faults after.faults g.some (got.faults ∙ g.faults))
     (inr (took_open now after g.pieces g.lines begun got g.is g.unbroken))
     cut.part
 
@@ -286,6 +322,12 @@ got_count :
 got_count pieces buffer count left is within room =
     omega (arith, ap length (joined_last pieces (take count buffer)), length-append (joined pieces) (take count buffer), length-take count buffer)
 
+got_some :
+    (pieces : List (List ℕ)) (buffer : List ℕ) (count : ℕ)
+    → AreSome pieces → 1 ≤ count → count ≤ length buffer → AreSome (pieces ++ take count buffer ∷ [])
+got_some pieces buffer count all some room =
+    some_more pieces (take count buffer) all (omega (arith, length-take count buffer, some, room))
+
 -- all its whole lines were answered
 pub going_on :
     {M : Type 0} (o : Turning M) (m m1 m2 : M) (before now after : LinesSeen) (old mid new : SinkSeen) (count left : ℕ) (begun begun' buffer : List ℕ) (sitting sitting' : SittingFields)
@@ -295,6 +337,7 @@ pub going_on :
 going_on o m m1 m2 before now after old mid new count left begun begun' buffer sitting sitting' g got said = record {
   pieces = g.pieces ++ take count buffer ∷ [];
   came = came_more before now after g.pieces (take count buffer) g.came got.gave got.came;
+  some = got_some g.pieces buffer count g.some got.some got.room;
   faults = got.faults ∙ g.faults;
   count = got_count g.pieces buffer count left g.count got.within got.room;
   lines = g.lines ++ said.lines;
@@ -316,6 +359,7 @@ going_quit o m m1 m2 before now after old mid new count left begun buffer sittin
     (came_more before now after g.pieces (take count buffer) g.came got.gave got.came)
     (omega (arith, got_count g.pieces buffer count left g.count got.within got.room))
     (got.faults ∙ g.faults)
+    (stops_going pieces before.faults after.faults (got_some g.pieces buffer count g.some got.some got.room))
     (inl record {
       over = refl;
       some = inl (some_whole (joined pieces) said.rest (g.lines ++ said.lines) (got_lines g.pieces g.lines said.lines begun (take count buffer) said.rest g.is said.is));
@@ -335,6 +379,7 @@ going_starved o m m1 m2 before now after old mid new count left begun buffer sit
     (came_more before now after g.pieces (take count buffer) g.came got.gave got.came)
     (omega (arith, got_count g.pieces buffer count left g.count got.within got.room))
     (got.faults ∙ g.faults)
+    (stops_going pieces before.faults after.faults (got_some g.pieces buffer count g.some got.some got.room))
     (inl (some_whole (joined pieces) said.rest (g.lines ++ said.lines) (got_lines g.pieces g.lines said.lines begun (take count buffer) said.rest g.is said.is)))
     (part_on o (standing new_sitting Waiting) m g.lines said.lines (standing sitting Waiting) m1 said.stands m2 old mid new g.part said.part)
 
@@ -351,5 +396,6 @@ going_cut o m m1 m2 before now after old mid new count left begun buffer sitting
     (came_more before now after g.pieces (take count buffer) g.came got.gave got.came)
     (omega (arith, got_count g.pieces buffer count left g.count got.within got.room))
     (got.faults ∙ g.faults)
+    (stops_going pieces before.faults after.faults (got_some g.pieces buffer count g.some got.some got.room))
     (inl (some_whole (joined pieces) said.rest (g.lines ++ said.lines) (got_lines g.pieces g.lines said.lines begun (take count buffer) said.rest g.is said.is)))
     cut.part

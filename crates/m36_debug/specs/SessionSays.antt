@@ -37,6 +37,13 @@ pub record HasEnded (pieces : List (List ℕ)) (new : LinesSeen) : Type 0 where
   pub last : pieces ≡ before ++ [] ∷ []
   pub none : IfSome new.left (λ left. left ≡ [])
 
+-- Nothing is asked of the input behind its end, which an empty piece tells: no piece follows that
+-- one, and the count of faults stands.
+abbrev pub StopsAtEnd : List (List ℕ) → ℕ → ℕ → Type 0
+StopsAtEnd [] old new = Unit {0}
+StopsAtEnd ([] ∷ pieces) old new = (pieces ≡ []) × (new ≡ old)
+StopsAtEnd ((byte ∷ piece) ∷ pieces) old new = StopsAtEnd pieces old new
+
 -- all lines were taken, the last of which may lack its line feed, since the input has ended
 pub record TookAll (pieces lines : List (List ℕ)) (doing : Doing) (new : LinesSeen) : Type 0 where
   pub waits : doing ≡ Waiting
@@ -126,6 +133,7 @@ pub record IsSession {M : Type 0} (o : Turning M) (result : Result (Unit {0}) Se
   pub came : before.left ≡ preceded (joined pieces) after.left
   pub count : CountBy result (length (joined pieces))
   pub read_cause : ReadHasCause result before.faults after.faults
+  pub stops : StopsAtEnd pieces before.faults after.faults
   pub events : List (Event M)
   pub stands : Standing
   pub follow : Follow o (standing new_sitting Waiting) m events stands m'

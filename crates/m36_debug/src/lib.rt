@@ -18,9 +18,9 @@
 //! waited for, a turn is made where a command runs, and the machine goes back where it is to; each turn and each going back
 //! is one that the machine may answer. The lines that the events take are those of the bytes that came in: whole lines while
 //! more may come, so that no `quit` is taken of `quitx` wherever its pieces are cut; what stands behind the last line feed
-//! is a line only once the input has told its end. What was written is what is said of the events, each line put in one
-//! piece. Where the output fails, a first part of it was written; where the input fails or is too long, the text of all
-//! whole lines; where memory is wanted, what was said until then.
+//! is a line only once the input has told its end, and nothing is asked of it behind that. What was written is what is said
+//! of the events, each line put in one piece. Where the output fails, a first part of it was written; where the input fails
+//! or is too long, the text of all whole lines; where memory is wanted, what was said until then.
 //!
 //! `specs/SessionLines.antt` has the grammar of the lines, `specs/SessionTexts.antt` what is written, `specs/Session.antt`
 //! what may happen and what is said of it, and `specs/SessionSays.antt` what the answers say.

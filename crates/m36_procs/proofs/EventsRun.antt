@@ -2,6 +2,7 @@
 use Rattle.std.proofs.Common.{◌≡◌, ℕ, zero, suc, ◌+◌, ◌<◌, Bool, true, false, ◌&&◌, List, [], ◌∷◌, ◌++◌, length, Option, Some, refl, sym, ap, subst, ◌∙◌, arith, append_assoc}
 use Rattle.std.specs.Prelude.{slice_get, nat_lt}
 use Rattle.std.proofs.lemmas.Bool.{ltb-true}
+use Rattle.std.proofs.lemmas.List.{append-nil}
 use Rattle.m36_outside.specs.Gathered.{Gathers, Loses}
 use Rattle.m36_outside.specs.Passing.{joined}
 use Rattle.m36_outside.specs.Written.{Grew, GrewWithin}
@@ -14,7 +15,7 @@ use Rattle.m36_model.specs.Step.{record_of}
 use Rattle.m36_model.specs.declared.record.StepRecord.{StepRecord}
 use Rattle.m36_procs.specs.EventSays.{EventSays, IsEvent}
 use Rattle.m36_procs.specs.ProcsFile.{are_named}
-use Rattle.m36_procs.specs.RunSays.{IsRun}
+use Rattle.m36_procs.specs.RunSays.{IsRun, IsPartRun}
 use Rattle.m36_procs.specs.ScheduleText.{event_line, event_lines, end_line, text_from, schedule_text, last_by, last_state}
 
 -- the events of a schedule that begins with a process
@@ -54,10 +55,13 @@ unfolding last_state
 last_last s = refl
 
 -- A run that began in state `first` with the schedule `all` has made n events, has the schedule `left`, stands in a
--- state, has gathered some lines, and has written what is written now.
+-- state from which further events are those behind the ones that were made, has gathered some lines, and has written
+-- what is written now.
 pub record Runs (all : List ℕ) (first : Processes (List ℕ)) (start now : Option (List ℕ)) (gathered : List (List ℕ)) (n : ℕ) (left : List ℕ) (s : Processes (List ℕ)) : Type 0 where
   pub text : Completes now start (joined gathered ++ text_from (length all) (n + 1) left s) (schedule_text all first)
-  pub last : last_state left s ≡ last_state all first
+  pub made : List ℕ
+  pub all_is : all ≡ made ++ left
+  pub further : (rest : List ℕ) → last_state (made ++ rest) first ≡ last_state rest s
   pub count : n + length left ≡ length all
   pub named : are_named (length s.regs) left ≡ true
   pub regs : length s.regs ≡ length first.regs
@@ -68,7 +72,9 @@ pub runs_start :
 unfolding schedule_text
 runs_start all first start gathered named none = subst (λ l. Runs all first start start l 0 all first) (sym none) (record {
   text = completes_all start (text_from (length all) 1 all first);
-  last = refl;
+  made = [];
+  all_is = refl;
+  further = λ rest. refl;
   count = omega arith;
   named = named;
   regs = refl;
@@ -92,7 +98,27 @@ get_of [] i within = absurd (omega arith)
 get_of (x ∷ xs) zero within = (x, refl)
 get_of (x ∷ xs) (suc i) within = get_of xs i (omega arith)
 
--- an event was made, and its line is added
+-- an event was made: the processes stand behind one number more of the schedule
+made_more :
+    (made : List ℕ) (i : ℕ) (first s new : Processes (List ℕ)) (told : StepRecord) (g : RegsFields)
+    → ((rest : List ℕ) → last_state (made ++ rest) first ≡ last_state rest s)
+    → slice_get s.regs i ≡ Some g
+    → IsEvent i s new told g
+    → (rest : List ℕ)
+    → last_state ((made ++ i ∷ []) ++ rest) first ≡ last_state rest new
+made_more made i first s new told g further there is rest =
+    ap (λ l. last_state l first) (append_assoc made (i ∷ []) rest) ∙ further (i ∷ rest) ∙ last_first i rest s g there ∙ ap (last_state rest) (sym is.state)
+
+all_more : (all made : List ℕ) (i : ℕ) (left more : List ℕ) → all ≡ made ++ left → left ≡ i ∷ more → all ≡ (made ++ i ∷ []) ++ more
+all_more all made i left more is begins = is ∙ ap (λ l. made ++ l) begins ∙ sym (append_assoc made (i ∷ []) more)
+
+-- where they stand, by what leads on from there
+stand_behind :
+    (made : List ℕ) (first s : Processes (List ℕ))
+    → ((rest : List ℕ) → last_state (made ++ rest) first ≡ last_state rest s) → s ≡ last_state made first
+stand_behind made first s further = sym (last_last s) ∙ sym (further []) ∙ ap (λ l. last_state l first) (append-nil made)
+
+-- its line is added
 pub runs_more :
     (all : List ℕ) (first : Processes (List ℕ)) (start now next : Option (List ℕ)) (pieces pieces' gathered gathered' : List (List ℕ)) (n i : ℕ) (left more : List ℕ) (s new : Processes (List ℕ)) (told : StepRecord)
     → Runs all first start now gathered n left s
@@ -108,7 +134,9 @@ runs_more all first start now next pieces pieces' gathered gathered' n i left mo
     let here : text_from (length all) (n + 1) left s ≡ event_line (n + 1) i told ++ text_from (length all) (n + 1 + 1) more new = ap (λ l. text_from (length all) (n + 1) l s) begins ∙ text_first (length all) (n + 1) i more s own.0 own.1 ∙ ap (λ l. l ++ text_from (length all) (n + 1 + 1) more (stepped core_store s i own.0)) (sym line) ∙ ap (λ p. event_line (n + 1) i told ++ text_from (length all) (n + 1 + 1) more p) (sym is.state) in
     record {
       text = completes_added now next start pieces pieces' gathered gathered' (event_line (n + 1) i told) (text_from (length all) (n + 1) left s) (text_from (length all) (n + 1 + 1) more new) (schedule_text all first) so_far.text here added;
-      last = ap (last_state more) is.state ∙ sym (last_first i more s own.0 own.1) ∙ ap (λ l. last_state l s) (sym begins) ∙ so_far.last;
+      made = so_far.made ++ i ∷ [];
+      all_is = all_more all so_far.made i left more so_far.all_is begins;
+      further = made_more so_far.made i first s new told own.0 so_far.further own.1 is;
       count = omega (arith, so_far.count, ap length begins);
       named = ap (λ k. are_named k more) count ∙ both_right (nat_lt i (length s.regs)) (are_named (length s.regs) more) (ap (are_named (length s.regs)) (sym begins) ∙ so_far.named);
       regs = count ∙ so_far.regs;
@@ -121,13 +149,19 @@ pub runs_cut :
     → left ≡ i ∷ more
     → EventSays i s new told
     → Loses (gathered ++ event_line (n + 1) i told ∷ []) now next pieces pieces'
-    → GrewWithin start next (schedule_text all first)
+    → IsPartRun all first new start next
 runs_cut all first start now next pieces pieces' gathered n i left more s new told so_far begins says lost =
     let own = get_of s.regs i (next_named (length s.regs) i left more so_far.named begins) in
     let is : IsEvent i s new told own.0 = says own.0 own.1 in
     let line : event_line (n + 1) i told ≡ event_line (n + 1) i (record_of core_store (process_of s own.0)) = ap (event_line (n + 1) i) is.told_is in
     let here : text_from (length all) (n + 1) left s ≡ event_line (n + 1) i told ++ text_from (length all) (n + 1 + 1) more (stepped core_store s i own.0) = ap (λ l. text_from (length all) (n + 1) l s) begins ∙ text_first (length all) (n + 1) i more s own.0 own.1 ∙ ap (λ l. l ++ text_from (length all) (n + 1 + 1) more (stepped core_store s i own.0)) (sym line) in
-    completes_lost now next start pieces pieces' gathered (event_line (n + 1) i told) (text_from (length all) (n + 1) left s) (text_from (length all) (n + 1 + 1) more (stepped core_store s i own.0)) (schedule_text all first) so_far.text here lost
+    record {
+      made = so_far.made ++ i ∷ [];
+      rest = more;
+      schedule_is = all_more all so_far.made i left more so_far.all_is begins;
+      state = stand_behind (so_far.made ++ i ∷ []) first new (made_more so_far.made i first s new told own.0 so_far.further own.1 is);
+      grew = completes_lost now next start pieces pieces' gathered (event_line (n + 1) i told) (text_from (length all) (n + 1) left s) (text_from (length all) (n + 1 + 1) more (stepped core_store s i own.0)) (schedule_text all first) so_far.text here lost;
+    }
 
 pub none_left : {A : Type 0} (xs : List A) → length xs ≡ 0 → xs ≡ []
 none_left [] e = refl
@@ -148,14 +182,19 @@ pub runs_done :
 runs_done all first start now next gathered n left s so_far empty grew =
     let none : left ≡ [] = none_left left empty in
     record {
-      state = sym (last_last s) ∙ ap (λ l. last_state l s) (sym none) ∙ so_far.last;
+      state = sym (last_last s) ∙ ap (λ l. last_state l s) (sym none) ∙ sym (so_far.further left) ∙ ap (λ l. last_state l first) (sym so_far.all_is);
       grew = completes_finished now next start gathered (end_line n) (schedule_text all first) (ended_text all first start now gathered n left s so_far none) grew;
     }
 
 pub runs_cut_last :
     (all : List ℕ) (first : Processes (List ℕ)) (start now next : Option (List ℕ)) (gathered : List (List ℕ)) (n : ℕ) (left : List ℕ) (s : Processes (List ℕ))
-    → Runs all first start now gathered n left s → length left ≡ 0 → GrewWithin now next (joined (gathered ++ end_line n ∷ [])) → GrewWithin start next (schedule_text all first)
-runs_cut_last all first start now next gathered n left s so_far empty cut =
-    completes_finished_cut now next start gathered (end_line n) (schedule_text all first) (ended_text all first start now gathered n left s so_far (none_left left empty)) cut
+    → Runs all first start now gathered n left s → length left ≡ 0 → GrewWithin now next (joined (gathered ++ end_line n ∷ [])) → IsPartRun all first s start next
+runs_cut_last all first start now next gathered n left s so_far empty cut = record {
+  made = so_far.made;
+  rest = left;
+  schedule_is = so_far.all_is;
+  state = stand_behind so_far.made first s so_far.further;
+  grew = completes_finished_cut now next start gathered (end_line n) (schedule_text all first) (ended_text all first start now gathered n left s so_far (none_left left empty)) cut;
+}
 
 pub ruleset running = (runs_start, next_named, runs_more, runs_cut, runs_done, runs_cut_last)

@@ -14,12 +14,21 @@ pub record IsRun
   pub state : new ≡ last_state schedule old
   pub grew : Grew before now (schedule_text schedule old)
 
--- or else a first part of it
+-- or else the events of a first part of the schedule, and a first part of the text is written
+pub record IsPartRun
+    (schedule : List ℕ) (old new : Processes (List ℕ)) (before now : Option (List ℕ))
+    : Type 0 where
+  pub made : List ℕ
+  pub rest : List ℕ
+  pub schedule_is : schedule ≡ made ++ rest
+  pub state : new ≡ last_state made old
+  pub grew : GrewWithin before now (schedule_text schedule old)
+
 abbrev pub RunSays :
     Result (Unit {0}) WriteFault → List ℕ → Processes (List ℕ) → Processes (List ℕ)
     → Option (List ℕ) → Option (List ℕ) → Type 0
 RunSays (Ok done) schedule old new before now = IsRun schedule old new before now
-RunSays (Err cut) schedule old new before now = GrewWithin before now (schedule_text schedule old)
+RunSays (Err cut) schedule old new before now = IsPartRun schedule old new before now
 
 -- which pieces the sink took by it: a line in each
 abbrev pub RunTakes :

@@ -7,7 +7,8 @@
 //! The contract: [`Procs::read`] gives exactly the processes and the schedule that a text writes out, or the first line
 //! of it that has a code, with the least code of that line, or want of memory; all memory is taken there.
 //! [`Procs::event`] makes one event, and [`Procs::run`] those of the whole schedule with a line for each and a last line;
-//! what it writes is exactly the text of these events, or a first part of it where the sink fails.
+//! what it writes is exactly the text of these events. Where the sink fails it is a first part of the text, and the
+//! processes stand behind a first part of the schedule.
 //!
 //! `specs/ProcsFile.antt` has the grammar of the text, and `specs/ScheduleText.antt` what a run writes. What events are is
 //! `m36_model:Schedule`. The processor is that of the Multics Processor Manual AL39; the text and the lines are this

@@ -107,7 +107,8 @@ impl Procs {
     }
 
     /// Makes the events of the whole schedule, and writes a line for each and the last line. The error comes only where a
-    /// line could not be written; then a first part of the text is written. Each line is put in one piece.
+    /// line could not be written; then a first part of the text is written, and the events of a first part of the schedule
+    /// were made. Each line is put in one piece.
     pub fn run<S: Sink>(&mut self, out: &mut S) -> Result<(), WriteFault>
         ensures says { RunSays result self.old.schedule
             self.old.state self.new.state (S.written out.old) (S.written out.new) }

@@ -64,7 +64,8 @@ fn put_end<S: Sink>(events: u64, block: &mut Block, out: &mut S) -> Put
     block.finish(end_line(events).as_str().as_bytes(), out)
 }
 
-/// Makes the events of a schedule, and writes a line for each and the last line.
+/// Makes the events of a schedule, and writes a line for each and the last line. Where a line could not be written the
+/// events of a first part of the schedule were made.
 #[tactic(auto, using(crate::proofs::EventsRun::running, crate::proofs::EventPieces::running))]
 pub(crate) fn run_schedule<S: Sink>(
     processes: &mut ProcessSet,

@@ -1,5 +1,6 @@
 pub mod RunLaws
 pub mod RunPieces
+pub mod RunStates
 pub mod PiecesJoined
 pub mod AuditTexts
 pub mod AuditAnswers

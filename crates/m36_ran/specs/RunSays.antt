@@ -1,5 +1,5 @@
 -- What the parts of a run answer.
-use Rattle.std.specs.Prelude.{ℕ, ◌≡◌, false, List, [], ◌∷◌, ◌++◌, Option}
+use Rattle.std.specs.Prelude.{ℕ, ◌≡◌, ◌≤◌, false, List, [], ◌∷◌, ◌++◌, Option}
 use Rattle.m36_outside.specs.Counts.{Rose}
 use Rattle.m36_outside.specs.Gathered.{Gathers, Loses}
 use Rattle.m36_outside.specs.Passing.{joined, TakesSome}
@@ -13,16 +13,15 @@ use Rattle.m36_ran.specs.declared.running.Turn.{Turn}
 use Rattle.m36_ran.specs.declared.running.Turn.TheVariants as turn
 use Rattle.m36_ran.specs.declared.running.Ended.{Ended}
 use Rattle.m36_ran.specs.declared.running.Ended.TheVariants.{Whole, Cut}
-use Rattle.m36_ran.specs.Machine.{told, after}
-use Rattle.m36_ran.specs.Run.{run, last_outcome}
+use Rattle.m36_ran.specs.Machine.{told}
+use Rattle.m36_ran.specs.Run.{run, last_outcome, last_state}
 use Rattle.m36_ran.specs.Output.{as_line, run_text, run_pieces}
 
 -- A step was taken, and its line added to those that are gathered; whether another follows.
-pub record Stepped (n : ℕ) (outcome : Outcome) (old new : State (List ℕ))
+pub record Stepped (n : ℕ) (outcome : Outcome) (old : State (List ℕ))
     (gathered gathered' : List (List ℕ)) (before now : Option (List ℕ))
     (taken taken' : List (List ℕ)) : Type 0 where
   pub outcome_is : (told old).outcome ≡ outcome
-  pub state : new ≡ after old
   pub added :
       Gathers gathered gathered' (as_line (line_of n (told old)) ∷ []) before now taken taken'
 
@@ -34,16 +33,16 @@ pub record Ending (n : ℕ) (outcome : Outcome) (old : State (List ℕ))
   pub added :
       Gathers gathered gathered' (as_line (line_of n (told old)) ∷ []) before now taken taken'
 
--- what step n of a run answers, of the states, of the lines that are gathered, of what is written,
--- and of the pieces that the sink took, a line in each
-abbrev pub TurnSays : Turn → ℕ → State (List ℕ) → State (List ℕ)
+-- what step n of a run answers, of the state before it, of the lines that are gathered, of what is
+-- written, and of the pieces that the sink took, a line in each
+abbrev pub TurnSays : Turn → ℕ → State (List ℕ)
     → List (List ℕ) → List (List ℕ) → Option (List ℕ) → Option (List ℕ)
     → List (List ℕ) → List (List ℕ) → Type 0
-TurnSays turn.Next n old new gathered gathered' before now taken taken' =
-    Stepped n Next old new gathered gathered' before now taken taken'
-TurnSays (turn.Last outcome) n old new gathered gathered' before now taken taken' =
+TurnSays turn.Next n old gathered gathered' before now taken taken' =
+    Stepped n Next old gathered gathered' before now taken taken'
+TurnSays (turn.Last outcome) n old gathered gathered' before now taken taken' =
     Ending n outcome old gathered gathered' before now taken taken'
-TurnSays turn.Cut n old new gathered gathered' before now taken taken' =
+TurnSays turn.Cut n old gathered gathered' before now taken taken' =
     Loses (gathered ++ as_line (line_of n (told old)) ∷ []) before now taken taken'
 
 abbrev pub TurnHasCause : Turn → ℕ → ℕ → Type 0
@@ -71,6 +70,17 @@ RunSays Cut steps state before now = GrewWithin before now (run_text steps state
 abbrev pub RunTakes : Ended → ℕ → State (List ℕ) → List (List ℕ) → List (List ℕ) → Type 0
 RunTakes (Whole last) steps state before now = now ≡ before ++ run_pieces steps state
 RunTakes Cut steps state before now = TakesSome before now (run_pieces steps state)
+
+-- The machine stands behind the first steps of a run, or behind all of them.
+pub record IsPartRun (steps : ℕ) (old new : State (List ℕ)) : Type 0 where
+  pub taken : ℕ
+  pub few : taken ≤ steps
+  pub state : new ≡ last_state taken old
+
+-- where a run leaves the machine: behind its last step, or, once a put failed, behind some of them
+abbrev pub RunLeaves : Ended → ℕ → State (List ℕ) → State (List ℕ) → Type 0
+RunLeaves (Whole last) steps old new = new ≡ last_state steps old
+RunLeaves Cut steps old new = IsPartRun steps old new
 
 abbrev pub EndedHasCause : Ended → ℕ → ℕ → Type 0
 EndedHasCause (Whole last) old new = new ≡ old

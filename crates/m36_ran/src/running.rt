@@ -6,8 +6,9 @@ ghost use Rattle.m36_outside.specs.Gathered.{Adds};
 ghost use Rattle.m36_outside.specs.Passing.{TakesLines, joined};
 ghost use Rattle.m36_outside.specs.Put.{PutSays, PutHasCause};
 ghost use Rattle.m36_trace.specs.EndLine.{end_line_of};
+ghost use Rattle.m36_ran.specs.Machine.{after};
 ghost use Rattle.m36_ran.specs.Output.{as_line};
-ghost use Rattle.m36_ran.specs.RunSays.{TurnSays, TurnHasCause, EndSays, EndTakes, RunSays, RunTakes, EndedHasCause};
+ghost use Rattle.m36_ran.specs.RunSays.{TurnSays, TurnHasCause, EndSays, EndTakes, RunSays, RunTakes, RunLeaves, EndedHasCause};
 
 use arrayvec::ArrayString;
 use m36_model::{Outcome, StepRecord};
@@ -79,8 +80,10 @@ pub fn take_turn<S: Sink>(
     block: &mut Block,
     out: &mut S,
 ) -> Turn
-    ensures says { TurnSays result n machine.old.state machine.new.state block.old block.new
+    ensures says { TurnSays result n machine.old.state block.old block.new
         (S.written out.old) (S.written out.new) (S.taken out.old) (S.taken out.new) }
+    ensures state { machine.new.state ≡ after machine.old.state }
+    ensures ended { machine.new.ended ≡ machine.old.ended }
     ensures cause { TurnHasCause result (S.faults out.old) (S.faults out.new) }
 {
     machine.step_into(told);
@@ -108,11 +111,14 @@ pub fn put_end<S: Sink>(block: &mut Block, outcome: &Outcome, steps: u64, out: &
     }
 }
 
-/// Runs a machine for at most so many steps, and writes a trace line for each and the end line.
-#[tactic(auto, using(crate::proofs::RunLaws::running, crate::proofs::RunPieces::running))]
+/// Runs a machine for at most so many steps, and writes a trace line for each and the end line. Where the output fails the
+/// machine stands behind some of the steps.
+#[tactic(auto, using(crate::proofs::RunLaws::running, crate::proofs::RunPieces::running, crate::proofs::RunStates::running))]
 pub fn run<S: Sink>(machine: &mut Machine, steps: u32, out: &mut S) -> Ended
     ensures says { RunSays result steps machine.old.state (S.written out.old) (S.written out.new) }
     ensures through { RunTakes result steps machine.old.state (S.taken out.old) (S.taken out.new) }
+    ensures state { RunLeaves result steps machine.old.state machine.new.state }
+    ensures ended { machine.new.ended ≡ machine.old.ended }
     ensures cause { EndedHasCause result (S.faults out.old) (S.faults out.new) }
 {
     let mut block = Block::new();

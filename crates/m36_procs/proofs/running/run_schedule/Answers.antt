@@ -1,8 +1,18 @@
--- An event was made, and then perhaps the last line was put.
-use Rattle.std.proofs.Common.{◌∙◌}
-use Rattle.m36_procs.proofs.EventsRun.{runs_more, runs_cut, runs_done, runs_cut_last}
-use Rattle.m36_procs.proofs.EventPieces.{pieces_more, pieces_cut, pieces_done, pieces_cut_last}
+-- None was made yet; or an event was made, and then perhaps the last line was put.
+use Rattle.std.proofs.Common.{refl, ◌∙◌}
+use Rattle.m36_procs.proofs.EventsRun.{runs_start, runs_more, runs_cut, runs_done, runs_cut_last}
+use Rattle.m36_procs.proofs.EventPieces.{pieces_start, pieces_more, pieces_cut, pieces_done, pieces_cut_last}
 use Rattle.m36_procs.proofs.running.run_schedule.Goals as goal
+
+pub events-init : goal.events-init
+events-init g c =
+    let written = g.S.Sink.written in
+    let taken = g.S.Sink.taken in
+    record {
+      runs = runs_start c.args.schedule.now c.args.processes.now (written c.args.out.now) c.new-block.result c.requires.named c.new-block.ensures;
+      pieces = pieces_start c.args.schedule.now c.args.processes.now (taken c.args.out.now) c.new-block.result c.new-block.ensures;
+      faults = refl;
+    }
 
 pub returns-in-Failed-clause-says : goal.returns-in-Failed-clause-says
 returns-in-Failed-clause-says g c =

@@ -16,4 +16,4 @@ returns-in-Ok g c =
 pub returns-in-Err : goal.returns-in-Err
 returns-in-Err g c =
     let sink = sink_of g.S.Sink.written g.S.Sink.taken g.S.Sink.faults in
-    run_cut (all_found c.args.findings.now) c.args.procs.now (sink c.args.out.now) (sink c.put_joint.new.out) (sink c.run.new.out) c.in-Done.ensures.says c.in-Done.ensures.through c.in-Done.ensures.cause c.in-Err.ensures.says c.in-Err.ensures.through c.in-Err.ensures.cause
+    run_cut (all_found c.args.findings.now) c.args.procs.now (sink c.args.out.now) (sink c.put_joint.new.out) (sink c.run.new.out) c.in-Done.ensures.says c.in-Done.ensures.through c.in-Done.ensures.cause c.in-Err.ensures.says.grew c.in-Err.ensures.through c.in-Err.ensures.cause
