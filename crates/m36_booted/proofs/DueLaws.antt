@@ -1,5 +1,5 @@
 -- What is due to a command on a folder.
-use Rattle.std.proofs.Common.{◌≡◌, ℕ, ◌+◌, ◌≤◌, Bool, true, false, List, [], ◌∷◌, ◌++◌, length, sym, ap, subst, ◌∙◌, arith}
+use Rattle.std.proofs.Common.{◌≡◌, ℕ, ◌+◌, ◌≤◌, Bool, true, false, ◌||◌, List, [], ◌∷◌, ◌++◌, length, Some, refl, sym, ap, subst, ◌∙◌, arith}
 use Rattle.m36_outside.specs.Passing.{joined}
 use Rattle.m36_model.specs.Audit.{AreFindings, IsAudited}
 use Rattle.m36_model.specs.BootedCore.{booted_dbr}
@@ -15,18 +15,20 @@ use Rattle.m36_super.specs.BootSays.{IsBooted}
 use Rattle.m36_super.proofs.Audited.{function_law}
 use Rattle.m36_reading.specs.Answers.{Answer}
 use Rattle.m36_ran.specs.AuditText.{audit_pieces}
-use Rattle.m36_ran.specs.Ran.{audit_answer}
+use Rattle.m36_ran.specs.Ran.{passes, behind, audit_answer}
+use Rattle.m36_ran.proofs.DueLaws.{some_findings}
 use Rattle.m36_ran.proofs.PiecesJoined.{joined_on, audit_joined}
 use Rattle.m36_booted.specs.declared.command.FolderCommand.{FolderCommand}
 use Rattle.m36_booted.specs.declared.command.FolderCommand.TheVariants.{Audit, Run, Trace}
 use Rattle.m36_booted.specs.declared.command.RunOutput.{RunOutput}
+use Rattle.m36_booted.specs.declared.command.RunOutput.TheVariants as output
 use Rattle.m36_booted.specs.Folder.{FolderFields}
 use Rattle.m36_booted.specs.RunText.{steps_in, run_pieces, run_answer}
 use Rattle.m36_booted.specs.Runs.{Extent, Whole, Begun, Starved, Goes, Finishes}
 use Rattle.m36_booted.specs.Booted.{IsAuditAnswer, IsRunBy, IsAnswerOf, IsFolderAnswer}
 use Rattle.m36_booted.specs.declared.running.Finish.{Finish}
 use Rattle.m36_booted.specs.declared.running.Finish.TheVariants as finish
-use Rattle.m36_booted.specs.DueLaw.{IsAnswerBy, IsByFindings, with_frames, AreOneRun, FolderDueLaw}
+use Rattle.m36_booted.specs.DueLaw.{IsAnswerBy, IsByFindings, is_unaudited, HasLimit, with_frames, AreOneRun, FolderDueLaw}
 use Rattle.m36_booted.proofs.OneSystem.{one_system}
 use Rattle.m36_booted.proofs.OneRun.{Ends, IsFresh, one_run}
 use Rattle.m36_booted.proofs.FramesAlike.{frames_alike, turns_alike, booted_alike}
@@ -77,6 +79,81 @@ failed_by command given system due booted is fails =
     some_found command given system due is.findings
     (subst (λ (s : SuperFields). AreFindings s.core booted_dbr is.findings) same is.found)
     (subst (λ (s : SuperFields). IsAnswerBy command given s is.findings due) same is.answer) fails
+
+-- ---- some answer
+
+-- There is a list of findings: so an answer by each list will do.
+due_by :
+    (command : FolderCommand) (given : FolderFields) (system : SuperFields) → IsBooted given.lib system
+    → ((findings : List (ℕ × ℕ)) → AreFindings system.core booted_dbr findings → (due : Answer) × IsAnswerBy command given system findings due)
+    → ¬ ((due : Answer) → ¬ IsFolderAnswer Whole command given due)
+due_by command given system booted answers none =
+    some_findings system.core booted_dbr (λ findings found.
+    let a = answers findings found in
+    none a.0 (record { system = system; booted = booted; findings = findings; found = found; answer = a.1 }))
+
+audit_due :
+    (given : FolderFields) (system : SuperFields) → IsBooted given.lib system → ¬ ((due : Answer) → ¬ IsFolderAnswer Whole Audit given due)
+audit_due given system booted = due_by Audit given system booted (λ findings found. (audit_answer findings, refl))
+
+-- where some condition fails something is found
+fails_with :
+    (system : SuperFields) (findings : List (ℕ × ℕ))
+    → AreFindings system.core booted_dbr findings → ¬ IsAudited system.core booted_dbr → passes findings ≡ false
+fails_with system [] found fails = absurd (fails (findings_law.sound system.core booted_dbr found))
+fails_with system (f ∷ findings) found fails = refl
+
+unrun :
+    (b : Bool) (denied : List (List ℕ)) (to : RunOutput) (limit : ℕ) (lib : Library) (first : Booted) (findings : List (ℕ × ℕ))
+    → b ≡ false → (due : Answer) × IsRunBy b Whole denied to limit lib first findings due
+unrun true denied to limit lib first findings is = absurd (cc)
+unrun false denied to limit lib first findings is = (audit_answer findings, refl)
+
+unrun_of :
+    (command : FolderCommand) (given : FolderFields) (system : SuperFields) (findings : List (ℕ × ℕ))
+    → passes findings ≡ false → is_unaudited command ≡ false → (due : Answer) × IsAnswerBy command given system findings due
+unrun_of Audit given system findings fails is = (audit_answer findings, refl)
+unrun_of (Run run) given system findings fails is =
+    unrun (passes findings || run.unaudited) given.denied output.Console run.steps given.lib (booted_of system) findings (ap (λ (b : Bool). b || run.unaudited) fails ∙ is)
+unrun_of (Trace run) given system findings fails is =
+    unrun (passes findings || run.unaudited) given.denied output.Trace run.steps given.lib (booted_of system) findings (ap (λ (b : Bool). b || run.unaudited) fails ∙ is)
+
+failed_due :
+    (command : FolderCommand) (given : FolderFields) (system : SuperFields) → IsBooted given.lib system
+    → ¬ IsAudited system.core booted_dbr → is_unaudited command ≡ false → ¬ ((due : Answer) → ¬ IsFolderAnswer Whole command given due)
+failed_due command given system booted fails is =
+    due_by command given system booted (λ findings found. unrun_of command given system findings (fails_with system findings found fails) is)
+
+-- a run that comes to its end
+ran_by :
+    (b : Bool) (denied : List (List ℕ)) (to : RunOutput) (limit : ℕ) (lib : Library) (first : Booted) (findings : List (ℕ × ℕ))
+    (turns : List Turn) (last : Booted) (how : Finish)
+    → Goes lib limit first turns last → Finishes how lib limit turns last → (due : Answer) × IsRunBy b Whole denied to limit lib first findings due
+ran_by true denied to limit lib first findings turns last how goes ends = (
+  behind findings (run_answer denied to turns (Some how)),
+  record { turns = turns; last = last; how = Some how; goes = goes; reaches = ends; answer = refl },
+)
+ran_by false denied to limit lib first findings turns last how goes ends = (audit_answer findings, refl)
+
+ran_of :
+    (command : FolderCommand) (given : FolderFields) (system : SuperFields) (limit : ℕ) (findings : List (ℕ × ℕ))
+    (turns : List Turn) (last : Booted) (how : Finish)
+    → HasLimit command limit → Goes given.lib limit (booted_of system) turns last → Finishes how given.lib limit turns last
+    → (due : Answer) × IsAnswerBy command given system findings due
+ran_of Audit given system limit findings turns last how has goes ends = absurd has
+ran_of (Run run) given system limit findings turns last how has goes ends =
+    ran_by (passes findings || run.unaudited) given.denied output.Console run.steps given.lib (booted_of system) findings turns last how
+    (subst (λ n. Goes given.lib n (booted_of system) turns last) has goes) (subst (λ n. Finishes how given.lib n turns last) has ends)
+ran_of (Trace run) given system limit findings turns last how has goes ends =
+    ran_by (passes findings || run.unaudited) given.denied output.Trace run.steps given.lib (booted_of system) findings turns last how
+    (subst (λ n. Goes given.lib n (booted_of system) turns last) has goes) (subst (λ n. Finishes how given.lib n turns last) has ends)
+
+run_due :
+    (command : FolderCommand) (given : FolderFields) (system : SuperFields) (limit : ℕ) (turns : List Turn) (last : Booted) (how : Finish)
+    → IsBooted given.lib system → HasLimit command limit → Goes given.lib limit (booted_of system) turns last
+    → Finishes how given.lib limit turns last → ¬ ((due : Answer) → ¬ IsFolderAnswer Whole command given due)
+run_due command given system limit turns last how booted has goes ends =
+    due_by command given system booted (λ findings found. ran_of command given system limit findings turns last how has goes ends)
 
 -- ---- the same turns
 
@@ -152,6 +229,9 @@ folder_due_law = record {
   audit = one_audit;
   passed = passed_by;
   failed = failed_by;
+  some_audit = audit_due;
+  some_failed = failed_due;
+  some_run = run_due;
   turns = same_turns;
   runs = one_run_of;
   pieces = λ extent command given due is.

@@ -1,5 +1,5 @@
 -- What is due to a command on a folder that is booted, by the conditions of the audit and by runs.
-use Rattle.std.specs.Prelude.{◌≡◌, ℕ, List, [], ◌∷◌, length}
+use Rattle.std.specs.Prelude.{◌≡◌, ℕ, Bool, false, List, [], ◌∷◌, length}
 use Rattle.m36_outside.specs.Passing.{joined}
 use Rattle.m36_model.specs.Audit.{IsAudited}
 use Rattle.m36_model.specs.BootedCore.{booted_dbr}
@@ -12,7 +12,7 @@ use Rattle.m36_super.specs.TurnLaws.{IsPlainTurn}
 use Rattle.m36_super.specs.BootSays.{IsBooted}
 use Rattle.m36_reading.specs.Answers.{Answer}
 use Rattle.m36_booted.specs.declared.command.FolderCommand.{FolderCommand}
-use Rattle.m36_booted.specs.declared.command.FolderCommand.TheVariants.{Audit}
+use Rattle.m36_booted.specs.declared.command.FolderCommand.TheVariants.{Audit, Run, Trace}
 use Rattle.m36_booted.specs.declared.running.Finish.{Finish}
 use Rattle.m36_booted.specs.Folder.{FolderFields}
 use Rattle.m36_booted.specs.Runs.{Extent, Whole, Goes, Finishes}
@@ -36,6 +36,18 @@ abbrev pub with_frames : Library → ℕ → Library
 with_frames lib frames =
     record { catalog = record lib.catalog { frames = frames }; files = lib.files }
 
+-- whether the system is run though its audit fails
+abbrev pub is_unaudited : FolderCommand → Bool
+is_unaudited Audit = false
+is_unaudited (Run run) = run.unaudited
+is_unaudited (Trace run) = run.unaudited
+
+-- the most steps of a command that may run the system
+abbrev pub HasLimit : FolderCommand → ℕ → Type 0
+HasLimit Audit limit = ⊥
+HasLimit (Run run) limit = limit ≡ run.steps
+HasLimit (Trace run) limit = limit ≡ run.steps
+
 -- two runs make the same turns, and end the same way
 pub record AreOneRun (turns same : List Turn) (how end : Finish) : Type 0 where
   pub turns_are : turns ≡ same
@@ -43,9 +55,11 @@ pub record AreOneRun (turns same : List Turn) (how end : Finish) : Type 0 where
 
 -- Segments boot to one system at most. One answer at most is due to `audit`. Where all conditions
 -- of the audit hold of the core of the system, the answer is one without findings, and otherwise
--- one by some findings. Whatever the counts of pageable frames, runs make the same turns, up to the
--- first that executes ABSA or LDBR, and runs that come to their end without one are one run. The
--- pieces of an answer, one behind the other, are its text.
+-- one by some findings. It can't be that none is due to `audit`, nor to `run` and `trace` where
+-- some condition fails and `--unaudited` is not given, nor where some turns are a run that comes
+-- to its end. Whatever the counts of pageable frames, runs make the same turns, up to the first
+-- that executes ABSA or LDBR, and runs that come to their end without one are one run. The pieces
+-- of an answer, one behind the other, are its text.
 pub record FolderDueLaw : Type 0 where
   pub system :
       (lib : Library) (system same : SuperFields)
@@ -61,6 +75,21 @@ pub record FolderDueLaw : Type 0 where
       (command : FolderCommand) (given : FolderFields) (system : SuperFields) (due : Answer)
       → IsBooted given.lib system → IsFolderAnswer Whole command given due
       → ¬ IsAudited system.core booted_dbr → IsByFindings command given system due
+  pub some_audit :
+      (given : FolderFields) (system : SuperFields) → IsBooted given.lib system
+      → ¬ ((due : Answer) → ¬ IsFolderAnswer Whole Audit given due)
+  pub some_failed :
+      (command : FolderCommand) (given : FolderFields) (system : SuperFields)
+      → IsBooted given.lib system → ¬ IsAudited system.core booted_dbr
+      → is_unaudited command ≡ false
+      → ¬ ((due : Answer) → ¬ IsFolderAnswer Whole command given due)
+  pub some_run :
+      (command : FolderCommand) (given : FolderFields) (system : SuperFields) (limit : ℕ)
+      (turns : List Turn) (last : Booted) (how : Finish)
+      → IsBooted given.lib system → HasLimit command limit
+      → Goes given.lib limit (booted_of system) turns last
+      → Finishes how given.lib limit turns last
+      → ¬ ((due : Answer) → ¬ IsFolderAnswer Whole command given due)
   pub turns :
       (lib : Library) (frames : ℕ) (system other : SuperFields) (turns same : List Turn)
       (last end : Booted)

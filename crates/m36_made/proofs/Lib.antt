@@ -8,3 +8,4 @@ pub mod Pieces
 pub mod Summaries
 pub mod Telling
 pub mod MadeLaws
+pub mod DueLaws

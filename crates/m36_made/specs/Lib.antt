@@ -3,3 +3,4 @@ pub mod Turning
 pub mod Summary
 pub mod Putting
 pub mod Made
+pub mod DueLaw

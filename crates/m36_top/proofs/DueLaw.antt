@@ -13,6 +13,7 @@ use Rattle.m36_scheduled.proofs.DueLaws.{procs_due_law}
 use Rattle.m36_scheduled.proofs.PiecesJoined.{procs_joined}
 use Rattle.m36_booted.specs.Runs.{Whole}
 use Rattle.m36_booted.proofs.DueLaws.{folder_due_law, folder_joined}
+use Rattle.m36_made.proofs.DueLaws.{made_due_law}
 use Rattle.m36_made.proofs.MadeLaws.{made_joined}
 use Rattle.m36_top.specs.declared.command.Command.{Command}
 use Rattle.m36_top.specs.Words.{command_of}
@@ -83,4 +84,5 @@ due_law = record {
   on_images = state_due_law;
   on_processes = procs_due_law;
   on_folders = folder_due_law;
+  on_made = made_due_law;
 }

@@ -1,5 +1,5 @@
--- That one answer is due to words and files, but to those that boot a folder, and which by the
--- conditions of the audit.
+-- That one answer is due to words and files, but to those that boot or make a folder or hold a
+-- session, and which by the conditions of the audit.
 use Rattle.std.specs.Prelude.{ℕ, ◌≡◌, ⊤, List, Option, Some, None, Ok, Err}
 use Rattle.m36_outside.specs.Files.{Files}
 use Rattle.m36_outside.specs.Passing.{joined}
@@ -9,6 +9,7 @@ use Rattle.m36_reading.specs.Answers.{Answer, unwritten, IsDueBy}
 use Rattle.m36_ran.specs.DueLaw.{StateDueLaw}
 use Rattle.m36_scheduled.specs.DueLaw.{ProcsDueLaw}
 use Rattle.m36_booted.specs.DueLaw.{FolderDueLaw}
+use Rattle.m36_made.specs.DueLaw.{MadeDueLaw}
 use Rattle.m36_top.specs.declared.command.Command.{Command}
 use Rattle.m36_top.specs.Words.{command_of}
 use Rattle.m36_sessions.specs.Held.{Talk}
@@ -36,11 +37,11 @@ abbrev pub BootsNone : Option Command → Files → Type 0
 BootsNone None files = ⊤
 BootsNone (Some command) files = IsUnbooted (outcome_in files (reads command))
 
--- One answer at most is due to words and files that boot no folder and hold no session, and it
--- can't be that none is.
+-- One answer at most is due to words and files that boot or make no folder and hold no session,
+-- and it can't be that none is.
 -- The pieces of an answer, one behind the other, are its text. To a command on an image, or on
--- processes, it is the one that the findings of the audit give, and of those to a command on a
--- folder the law of folders speaks.
+-- processes, it is the one that the findings of the audit give; of those to a command on a folder,
+-- and of those to `make`, laws of their own speak.
 pub record DueLaw : Type 0 where
   pub one :
       (words : List (List ℕ)) (files : Files) (talk : Talk) (due same : Answer)
@@ -56,3 +57,4 @@ pub record DueLaw : Type 0 where
   pub on_images : StateDueLaw
   pub on_processes : ProcsDueLaw
   pub on_folders : FolderDueLaw
+  pub on_made : MadeDueLaw
