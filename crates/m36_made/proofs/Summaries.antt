@@ -24,13 +24,14 @@ use Rattle.m36_booted.specs.declared.running.Finish.{Finish}
 use Rattle.m36_booted.specs.declared.running.Finish.TheVariants.{Over, Limit}
 use Rattle.m36_booted.specs.RunText.{steps_in, finish_status}
 use Rattle.m36_booted.specs.Runs.{Goes, Extent, Whole, Begun, Starved}
+use Rattle.m36_booted.specs.RunSays.{PutsPieces}
 use Rattle.m36_booted.specs.Putting.{Puts}
 use Rattle.m36_booted.specs.Systems.{IsFresh}
+use Rattle.m36_booted.proofs.Pieces.{pieces_then, pieces_longer}
 use Rattle.m36_made.specs.declared.running.Ran.TheVariants as ran
 use Rattle.m36_made.specs.Turning.{RanSays}
-use Rattle.m36_made.specs.Putting.{PutsAll, EndSays}
+use Rattle.m36_made.specs.Putting.{EndSays}
 use Rattle.m36_made.specs.Summary.{run_limit, head_pieces, end_pieces, run_answer, unrun_answer, IsRunAnswer, IsUnrunAnswer, IsFoundAnswer, IsSummary}
-use Rattle.m36_made.proofs.Pieces.{pieces_then, pieces_longer}
 
 -- more answers may be due
 pub puts_more :
@@ -53,7 +54,7 @@ RunAnswers count system findings extent due = IsRunAnswer extent count system.li
 -- how it ends is a status with which all is answered
 pub end_whole :
     (how : Finish) (steps : ℕ) (regs : RegsFields) (old new : SinkState)
-    → PutsAll put.Done (end_pieces (Some how) steps regs) old new
+    → PutsPieces put.Done (end_pieces (Some how) steps regs) old new
     → EndSays (end_of (finish_status (Some how))) (finish_status (Some how)) how steps regs old new
 end_whole (Over (end.Fault fault)) steps regs old new puts = record { status = refl; puts = puts }
 end_whole (Over (end.Stop Dis)) steps regs old new puts = record { status = refl; puts = puts }
@@ -71,15 +72,15 @@ ended_so how steps steps' regs regs' same left =
 pub run_ended :
     (ending : Ending) (result : Status) (count : ℕ) (system after : SuperFields) (findings : List (ℕ × ℕ)) (how : Finish) (steps : ℕ) (regs : RegsFields)
     (old now new : SinkState)
-    → PutsAll put.Done (head_pieces count findings) old now → RanSays (ran.Whole how steps) run_limit system after → regs ≡ after.regs
+    → PutsPieces put.Done (head_pieces count findings) old now → RanSays (ran.Whole how steps) run_limit system after → regs ≡ after.regs
     → EndSays ending result how steps regs now new
     → Puts (RunAnswers count system findings) ending result old new
 unfolding run_answer
 run_ended Answered result count system after findings how steps regs old now new head ran left ends =
     let at_end : List (List ℕ) = end_pieces (Some how) (steps_in ran.turns) ran.last.state.regs in
-    let all : PutsAll put.Done (head_pieces count findings ++ at_end) old new =
+    let all : PutsPieces put.Done (head_pieces count findings ++ at_end) old new =
     pieces_then put.Done (head_pieces count findings) at_end old now new head
-    (subst (λ p. PutsAll put.Done p now new) (ended_so how steps (steps_in ran.turns) regs ran.last.state.regs (sym ran.count) (left ∙ ran.regs_are)) ends.puts) in
+    (subst (λ p. PutsPieces put.Done p now new) (ended_so how steps (steps_in ran.turns) regs ran.last.state.regs (sym ran.count) (left ∙ ran.regs_are)) ends.puts) in
     record {
       due = run_answer count findings (Some how) (steps_in ran.turns) ran.last.state.regs;
       is = record { turns = ran.turns; last = ran.last; how = Some how; goes = ran.goes; reaches = ran.finishes; answer = refl };
@@ -87,9 +88,9 @@ run_ended Answered result count system after findings how steps regs old now new
     }
 run_ended Cut result count system after findings how steps regs old now new head ran left ends =
     let at_end : List (List ℕ) = end_pieces (Some how) (steps_in ran.turns) ran.last.state.regs in
-    let some : PutsAll put.Failed (head_pieces count findings ++ at_end) old new =
+    let some : PutsPieces put.Failed (head_pieces count findings ++ at_end) old new =
     pieces_then put.Failed (head_pieces count findings) at_end old now new head
-    (subst (λ p. PutsAll put.Failed p now new) (ended_so how steps (steps_in ran.turns) regs ran.last.state.regs (sym ran.count) (left ∙ ran.regs_are)) ends) in
+    (subst (λ p. PutsPieces put.Failed p now new) (ended_so how steps (steps_in ran.turns) regs ran.last.state.regs (sym ran.count) (left ∙ ran.regs_are)) ends) in
     record {
       due = run_answer count findings (Some how) (steps_in ran.turns) ran.last.state.regs;
       is = record { turns = ran.turns; last = ran.last; how = Some how; goes = ran.goes; reaches = ran.finishes; answer = refl };
@@ -101,12 +102,12 @@ run_ended Unasked result count system after findings how steps regs old now new 
 
 pub run_starved :
     (count : ℕ) (system after : SuperFields) (findings : List (ℕ × ℕ)) (old new : SinkState)
-    → PutsAll put.Done (head_pieces count findings) old new → RanSays ran.Starved run_limit system after
+    → PutsPieces put.Done (head_pieces count findings) old new → RanSays ran.Starved run_limit system after
     → Puts (RunAnswers count system findings) (end_of status.NoMemory) status.NoMemory old new
 unfolding run_answer
 run_starved count system after findings old new head ran =
-    let all : PutsAll put.Done (head_pieces count findings ++ []) old new =
-    subst (λ p. PutsAll put.Done p old new) (sym (append-nil (head_pieces count findings))) head in
+    let all : PutsPieces put.Done (head_pieces count findings ++ []) old new =
+    subst (λ p. PutsPieces put.Done p old new) (sym (append-nil (head_pieces count findings))) head in
     inr (record {
       due = run_answer count findings None (steps_in ran.turns) ran.last.state.regs;
       is = record { turns = ran.turns; last = ran.last; how = None; goes = ran.goes; reaches = ran.waits; answer = refl };
@@ -122,11 +123,11 @@ no_turns lib limit first = record { turns_are = refl; events = tt; few = omega a
 -- the lines before the run were cut off
 pub head_part :
     (count : ℕ) (system : SuperFields) (findings : List (ℕ × ℕ)) (old new : SinkState)
-    → PutsAll put.Failed (head_pieces count findings) old new
+    → PutsPieces put.Failed (head_pieces count findings) old new
     → Puts (RunAnswers count system findings) (end_of status.WriteFault) status.WriteFault old new
 unfolding run_answer
 head_part count system findings old new head =
-    let some : PutsAll put.Failed (head_pieces count findings ++ []) old new = pieces_longer (head_pieces count findings) [] old new head in
+    let some : PutsPieces put.Failed (head_pieces count findings ++ []) old new = pieces_longer (head_pieces count findings) [] old new head in
     record {
       due = run_answer count findings None (steps_in []) system.regs;
       is = record {
@@ -144,7 +145,7 @@ head_part count system findings old new head =
 
 pub unrun_whole :
     (count : ℕ) (findings : List Finding) (old new : SinkState)
-    → 0 < length findings → PutsAll put.Done (head_pieces count (pairs findings)) old new
+    → 0 < length findings → PutsPieces put.Done (head_pieces count (pairs findings)) old new
     → Puts (λ extent. IsUnrunAnswer extent count (pairs findings)) (end_of status.AuditNo) status.AuditNo old new
 unfolding unrun_answer
 unrun_whole count findings old new some head = record {
@@ -161,7 +162,7 @@ unrun_whole count findings old new some head = record {
 
 pub unrun_part :
     (count : ℕ) (findings : List (ℕ × ℕ)) (old new : SinkState)
-    → PutsAll put.Failed (head_pieces count findings) old new
+    → PutsPieces put.Failed (head_pieces count findings) old new
     → Puts (λ extent. IsUnrunAnswer extent count findings) (end_of status.WriteFault) status.WriteFault old new
 unfolding unrun_answer
 unrun_part count findings old new head = record {
@@ -209,10 +210,3 @@ summary_puts count system findings result old new fresh counts found puts =
       found = subst (λ (d : DbrFields). AreFindings system.core d findings) fresh.stands.dbr found;
       answer = subst (λ n. FoundAnswers (passes findings) n system findings extent due) counts is;
     }) puts
-
--- no memory was found for the audit
-pub nothing_put :
-    (IsAnswer : Extent → Answer → Type 0) (s : SinkState) → Puts IsAnswer (end_of status.NoMemory) status.NoMemory s s
-nothing_put IsAnswer s = inl (record { written = refl; taken = refl; faults = refl })
-
-pub ruleset dues = (nothing_put)

@@ -1,8 +1,5 @@
--- What is said of a sink to which pieces are put.
-use Rattle.std.specs.Prelude.{ℕ, ◌≡◌, List, Some}
-use Rattle.m36_outside.specs.Passing.{joined, TakesLines}
-use Rattle.m36_outside.specs.Put.{PutSays, PutHasCause}
-use Rattle.m36_outside.specs.declared.sink.Put.{Put}
+-- What is said of a sink to which the lines behind a run are put.
+use Rattle.std.specs.Prelude.{ℕ, ◌≡◌, Some}
 use Rattle.m36_outside.specs.declared.sink.Put.TheVariants as put
 use Rattle.m36_model.specs.Registers.{RegsFields}
 use Rattle.m36_reading.specs.declared.status.Status.{Status}
@@ -10,26 +7,21 @@ use Rattle.m36_reading.specs.Ends.{End, Answered, Cut, Unread, Starved, Unasked}
 use Rattle.m36_reading.specs.Outside.{SinkState}
 use Rattle.m36_booted.specs.declared.running.Finish.{Finish}
 use Rattle.m36_booted.specs.RunText.{finish_status}
+use Rattle.m36_booted.specs.RunSays.{PutsPieces}
 use Rattle.m36_made.specs.Summary.{end_pieces}
-
--- They are put, or a first part of them where a put failed.
-pub record PutsAll (answer : Put) (pieces : List (List ℕ)) (old new : SinkState) : Type 0 where
-  pub says : PutSays answer old.written new.written (joined pieces)
-  pub through : TakesLines answer old.taken new.taken pieces
-  pub cause : PutHasCause answer old.faults new.faults
 
 -- The lines behind a run that left these registers are put, and its status is answered.
 pub record EndIsPut
     (result : Status) (how : Finish) (steps : ℕ) (regs : RegsFields) (old new : SinkState)
     : Type 0 where
   pub status : finish_status (Some how) ≡ result
-  pub puts : PutsAll put.Done (end_pieces (Some how) steps regs) old new
+  pub puts : PutsPieces put.Done (end_pieces (Some how) steps regs) old new
 
 abbrev pub EndSays :
     End → Status → Finish → ℕ → RegsFields → SinkState → SinkState → Type 0
 EndSays Answered result how steps regs old new = EndIsPut result how steps regs old new
 EndSays Cut result how steps regs old new =
-    PutsAll put.Failed (end_pieces (Some how) steps regs) old new
+    PutsPieces put.Failed (end_pieces (Some how) steps regs) old new
 EndSays Unread result how steps regs old new = ⊥
 EndSays Starved result how steps regs old new = ⊥
 EndSays Unasked result how steps regs old new = ⊥

@@ -10,8 +10,9 @@ ghost use Rattle.m36_ran.specs.Output.{as_line};
 ghost use Rattle.m36_ran.specs.AuditText.{audit_pieces};
 ghost use Rattle.m36_ran.specs.Ran.{passes};
 ghost use Rattle.m36_booted.specs.Putting.{Puts};
+ghost use Rattle.m36_booted.specs.RunSays.{PutsPieces};
 ghost use Rattle.m36_booted.specs.Systems.{IsFresh};
-ghost use Rattle.m36_made.specs.Putting.{PutsAll, EndSays};
+ghost use Rattle.m36_made.specs.Putting.{EndSays};
 ghost use Rattle.m36_made.specs.Summary.{run_limit, segments_line, sum_line, head_pieces, end_pieces};
 ghost use Rattle.m36_made.specs.Summary.{IsRunAnswer, IsUnrunAnswer, IsFoundAnswer, IsSummary};
 
@@ -63,7 +64,7 @@ fn sum_line(regs: &Regs) -> ArrayString<160>
 #[tactic(auto, using(crate::proofs::Pieces::line_put))]
 fn put_text<S: Sink>(text: ArrayString<160>, out: &mut S) -> Put
     requires { length text.bytes < 160 }
-    ensures { PutsAll result (as_line text.bytes ∷ [])
+    ensures { PutsPieces result (as_line text.bytes ∷ [])
         (sink_of S.written S.taken S.faults out.old) (sink_of S.written S.taken S.faults out.new) }
 {
     put_line(out, text)
@@ -71,7 +72,7 @@ fn put_text<S: Sink>(text: ArrayString<160>, out: &mut S) -> Put
 
 // Puts the text of an audit.
 fn put_findings<S: Sink>(findings: &[Finding], out: &mut S) -> Put
-    ensures { PutsAll result (audit_pieces (pairs findings.now))
+    ensures { PutsPieces result (audit_pieces (pairs findings.now))
         (sink_of S.written S.taken S.faults out.old) (sink_of S.written S.taken S.faults out.new) }
 {
     put_audit(findings, out)
@@ -79,7 +80,7 @@ fn put_findings<S: Sink>(findings: &[Finding], out: &mut S) -> Put
 
 // Puts the lines before the run.
 fn put_head<S: Sink>(count: u64, findings: &[Finding], out: &mut S) -> Put
-    ensures { PutsAll result (head_pieces count (pairs findings.now))
+    ensures { PutsPieces result (head_pieces count (pairs findings.now))
         (sink_of S.written S.taken S.faults out.old) (sink_of S.written S.taken S.faults out.new) }
 {
     match put_text(segments_line(count), out) {
@@ -90,7 +91,7 @@ fn put_head<S: Sink>(count: u64, findings: &[Finding], out: &mut S) -> Put
 
 // Puts the lines behind a run of so many steps that left these registers.
 fn put_end<S: Sink>(how: &Finish, steps: u32, regs: &Regs, out: &mut S) -> Put
-    ensures { PutsAll result (end_pieces (Some how.now) steps regs.now)
+    ensures { PutsPieces result (end_pieces (Some how.now) steps regs.now)
         (sink_of S.written S.taken S.faults out.old) (sink_of S.written S.taken S.faults out.new) }
 {
     match put_text(finish_line(*how, steps), out) {
@@ -165,7 +166,7 @@ fn answer_found<S: Sink>(
 }
 
 /// Audits a booted system, runs it where nothing is found, and tells of it.
-#[tactic(auto, using(crate::proofs::Summaries::dues))]
+#[tactic(auto, using(m36_booted::proofs::FolderAnswers::nothing_put))]
 pub fn summarise<S: Sink>(alloc: Global, mut system: Super, out: &mut S) -> Status
     requires { IsFresh system }
     ensures { Puts (λ extent. IsSummary extent system.lib) (end_of result) result

@@ -17,7 +17,8 @@ use Rattle.m36_reading.specs.Ends.{End, Answered, Cut, Unread, Starved, Unasked,
 use Rattle.m36_reading.specs.Doing.{EndsBy, Performs}
 use Rattle.m36_reading.proofs.ReadLaws.{gives_by}
 use Rattle.m36_reading.proofs.WriteLaws.{writes_none}
-use Rattle.m36_ran.specs.Putting.{PutsBy, PutsDue, PutsSome}
+use Rattle.m36_ran.specs.Putting.{PutsBy, PutsSome}
+use Rattle.m36_ran.proofs.StateLaws.{put_some}
 use Rattle.m36_scheduled.specs.Scheduled.{code_of, procs_by, procs_answer, dbrs_of, AreIsolated, IsProcsDue, procs_kind}
 
 -- ---- the processes of a file
@@ -36,13 +37,6 @@ procs_refused name given line c r is refuses =
 pub ruleset given = (procs_given_is, procs_refused)
 
 -- ---- the answer that is due
-
-put_some : (IsDue : Answer → Type 0) (end : End) (due : Answer) (result : Status) (old new : SinkState) → IsDue due → PutsBy end result due old new → PutsSome IsDue end result old new
-put_some IsDue Answered due result old new is puts = record { due = due; is_due = is; puts = puts }
-put_some IsDue Cut due result old new is puts = record { due = due; is_due = is; puts = puts }
-put_some IsDue Starved due result old new is puts = puts
-put_some IsDue Unread due result old new is puts = absurd puts
-put_some IsDue Unasked due result old new is puts = absurd puts
 
 -- the one by what the audit has found
 pub procs_put :

@@ -1,6 +1,5 @@
 -- What `bind` tells, from its parts.
-use Rattle.std.proofs.Common.{◌≡◌, ℕ, List, [], ◌∷◌, ◌++◌, Result, Ok, Err, refl, sym, ap, subst, ◌∙◌, ◌+◌, ◌<◌, ◌≤◌, length, get_or, drop}
-use Rattle.std.proofs.lemmas.List.{drop_more, at_drop_all}
+use Rattle.std.proofs.Common.{◌≡◌, ℕ, List, [], ◌∷◌, ◌++◌, Result, Ok, Err, refl, sym, ap, subst, ◌∙◌}
 use Rattle.m36_text.specs.Packing.{packed}
 use Rattle.obj36_parts.specs.PartsFields.{PartsFields}
 use Rattle.obj36_parts.specs.ObjectSegment.{Stands}
@@ -128,14 +127,6 @@ pub objects_begin : (done : List PartsFields) (names : List (List ℕ)) (old : F
 objects_begin done names old before none = record {
   by = λ result new after reads. subst (λ (d : List PartsFields). Reads (objects_onto d names) result old new before after) none reads;
 }
-
--- what is left of names
-
-pub name_left : (names : List (List ℕ)) (i : ℕ) (name : List ℕ) → i < length names → name ≡ get_or names i name → drop i names ≡ name ∷ drop (i + 1) names
-name_left names i name lt is = drop_more names i name lt ∙ ap (λ (x : List ℕ). x ∷ drop (i + 1) names) (sym is)
-
-pub no_name_left : (names : List (List ℕ)) (i : ℕ) → length names ≤ i → drop i names ≡ []
-no_name_left names i le = at_drop_all (λ (ns : List (List ℕ)). ns) names i le
 
 -- ---- the whole
 

@@ -1,7 +1,8 @@
 -- The objects are read in turn.
 use Rattle.std.proofs.Common.{[], drop, ◌+◌}
+use Rattle.m36_bind.proofs.GivenLaws.{name_left, no_name_left}
 use Rattle.m36_told.specs.Binding.{objects_onto}
-use Rattle.m36_told.proofs.BindLaws.{objects_begin, object_read, object_stopped, objects_read, name_left, no_name_left}
+use Rattle.m36_told.proofs.BindLaws.{objects_begin, object_read, object_stopped, objects_read}
 use Rattle.m36_told.proofs.binding.read_objects.Goals as goal
 
 pub loop-name-init : goal.loop-name-init
