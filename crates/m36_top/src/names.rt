@@ -1,29 +1,18 @@
 //! Operands, and names of files.
 
 ghost use Rattle.std.specs.Prelude.{ℕ, ◌≡◌, ◌≤◌, ◌++◌, length, codes, Some};
-ghost use Rattle.m36_dir.specs.BootLine.{name_of};
 ghost use Rattle.m36_top.specs.Words.{operand_by, operand_of};
 
 use arrayvec::ArrayVec;
 use m36_acl::User;
-use m36_text::{Name, is_file_name};
+use m36_dir::words::name_of;
+use m36_text::Name;
 
 /// An operand: the file that it names, and the user that it is. Some texts are both.
 #[derive(Drop)]
 pub struct Operand {
     pub file: Option<Name>,
     pub user: Option<User>,
-}
-
-// The file that an operand names; none where it names none.
-fn file_of(word: &[u8]) -> Option<Name>
-    ensures { result ≡ name_of word.now }
-{
-    if is_file_name(word) {
-        Name::new(word)
-    } else {
-        None
-    }
 }
 
 fn operand_by(file: Option<Name>, user: Option<User>) -> Option<Operand>
@@ -39,7 +28,7 @@ fn operand_by(file: Option<Name>, user: Option<User>) -> Option<Operand>
 pub fn operand_of(word: &[u8]) -> Option<Operand>
     ensures { result ≡ operand_of word.now }
 {
-    operand_by(file_of(word), User::read(word))
+    operand_by(name_of(word), User::read(word))
 }
 
 /// The name of the source of an object: NAME.alm.
