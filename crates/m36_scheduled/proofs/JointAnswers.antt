@@ -17,8 +17,9 @@ use Rattle.m36_reading.specs.declared.status.Status.TheVariants.{Done, WriteFaul
 use Rattle.m36_reading.specs.Outside.{SinkState}
 use Rattle.m36_reading.specs.Ends.{end_of}
 use Rattle.m36_ran.specs.Putting.{PutsBy}
+use Rattle.m36_ran.specs.Ran.{passes}
 use Rattle.m36_scheduled.specs.JointText.{joint_text, joint_pieces}
-use Rattle.m36_scheduled.specs.Scheduled.{run_answer, passes, refused_answer}
+use Rattle.m36_scheduled.specs.Scheduled.{run_answer, refused_answer}
 
 -- a schedule that was run and written whole
 pub run_whole :

@@ -10,9 +10,10 @@ use Rattle.m36_procs.specs.ProcsFields.{ProcsFields}
 use Rattle.m36_procs.specs.ScheduleText.{event_line, event_lines, event_pieces, end_line, schedule_text, schedule_pieces}
 use Rattle.m36_ran.specs.Output.{as_line}
 use Rattle.m36_ran.specs.AuditText.{yes_line}
+use Rattle.m36_ran.specs.Ran.{passes}
 use Rattle.m36_ran.proofs.PiecesJoined.{joined_on}
 use Rattle.m36_scheduled.specs.JointText.{found_line, found_lines, found_pieces, joint_text, joint_pieces}
-use Rattle.m36_scheduled.specs.Scheduled.{run_answer, refused_answer, answer_by, passes, procs_answer}
+use Rattle.m36_scheduled.specs.Scheduled.{run_answer, refused_answer, answer_by, procs_answer}
 
 events_joined : (n : ℕ) (events : List (Event (List ℕ))) → joined (event_pieces n events) ≡ event_lines n events
 unfolding event_pieces event_lines

@@ -9,8 +9,9 @@ use Rattle.m36_procs.specs.ProcsFields.{ProcsFields}
 use Rattle.m36_procs.specs.ScheduleText.{schedule_text}
 use Rattle.m36_reading.specs.Answers.{Answer}
 use Rattle.m36_ran.specs.AuditText.{yes_line}
+use Rattle.m36_ran.specs.Ran.{passes}
 use Rattle.m36_scheduled.specs.JointText.{process_line, between_line, line_by, found_lines, joint_text}
-use Rattle.m36_scheduled.specs.Scheduled.{run_answer, refused_answer, answer_by, passes, procs_answer, dbrs_of, IsProcsDue, PassesJoint}
+use Rattle.m36_scheduled.specs.Scheduled.{run_answer, refused_answer, answer_by, procs_answer, dbrs_of, IsProcsDue, PassesJoint}
 
 -- every output begins with the audit text
 answer_begins : (b : Bool) (p : ProcsFields) (findings : List JointFound) → (more : List ℕ) × ((answer_by b findings p).text ≡ joint_text findings ++ more)

@@ -21,6 +21,7 @@ use Rattle.m36_reading.specs.Readers.{refused, file_bytes}
 use Rattle.m36_reading.specs.Answers.{Answer}
 use Rattle.m36_reading.specs.Outside.{IsIdle}
 use Rattle.m36_reading.specs.Doing.{Kind, fails_never}
+use Rattle.m36_ran.specs.Ran.{passes}
 use Rattle.m36_scheduled.specs.JointText.{joint_text, joint_pieces}
 
 -- ---- reading
@@ -40,10 +41,6 @@ procs_reads name =
     then_with (file_bytes name) (λ bytes. decided (procs_by name (procs_given bytes)))
 
 -- ---- answers
-
-abbrev pub passes : List JointFound → Bool
-passes [] = true
-passes (f ∷ findings) = false
 
 -- The audit text, and the lines of the schedule behind it: the whole schedule is run.
 unfoldable pub run_answer : List JointFound → ProcsFields → Answer

@@ -7,7 +7,8 @@ ghost use Rattle.m36_reading.specs.Ends.{end_of};
 ghost use Rattle.m36_reading.specs.Outside.{sink_of, outside_of};
 ghost use Rattle.m36_reading.specs.Doing.{Does};
 ghost use Rattle.m36_ran.specs.Putting.{PutsBy, PutsSome};
-ghost use Rattle.m36_scheduled.specs.Scheduled.{procs_reads, run_answer, passes, refused_answer, answer_by, procs_answer, dbrs_of, AreIsolated, IsProcsDue, procs_kind};
+ghost use Rattle.m36_ran.specs.Ran.{passes};
+ghost use Rattle.m36_scheduled.specs.Scheduled.{procs_reads, run_answer, refused_answer, answer_by, procs_answer, dbrs_of, AreIsolated, IsProcsDue, procs_kind};
 
 use crate::findings::put_joint;
 use crate::reading::read_procs;
