@@ -36,7 +36,7 @@ use Rattle.m36_booted.specs.declared.running.Finish.{Finish}
 use Rattle.m36_booted.specs.declared.running.Finish.TheVariants.{Over, Limit}
 use Rattle.m36_booted.specs.declared.running.Ran.TheVariants as ran
 use Rattle.m36_booted.specs.Folder.{FolderFields}
-use Rattle.m36_booted.specs.RunText.{steps_in, end_status, finish_status, run_pieces, run_answer}
+use Rattle.m36_booted.specs.RunText.{steps_in, finish_status, run_pieces, run_answer}
 use Rattle.m36_booted.specs.Runs.{Goes, Extent, Whole, Begun, Starved, Reaches}
 use Rattle.m36_booted.specs.RunSays.{PutsPieces, IsRan, RanSays}
 use Rattle.m36_booted.specs.Booted.{IsRunAnswer, IsAuditAnswer, IsRunBy, IsAnswerOf, IsFolderAnswer, folder_kind}

@@ -9,7 +9,6 @@ use Rattle.m36_model.specs.declared.outcome.Fault.{Fault}
 use Rattle.m36_model.specs.declared.endings.End.{End}
 use Rattle.m36_model.specs.declared.endings.End.TheVariants as end
 use Rattle.m36_model.specs.declared.outcome.Outcome.TheVariants.{Next}
-use Rattle.m36_model.specs.declared.outcome.Stop.TheVariants.{Dis, Operation, Tag}
 use Rattle.m36_step.specs.declared.turns.Turn.{Turn}
 use Rattle.m36_step.specs.declared.turns.Turn.TheVariants.{Stepped, Linked, Console, Ended}
 use Rattle.m36_step.specs.declared.turns.Turn.TheVariants.{Full, NoMemory}
@@ -19,7 +18,7 @@ use Rattle.m36_turns.specs.TurnLines.{link_line_of, console_line_of, run_end_lin
 use Rattle.m36_reading.specs.declared.status.Status.{Status}
 use Rattle.m36_reading.specs.declared.status.Status.TheVariants as status
 use Rattle.m36_reading.specs.Answers.{Answer}
-use Rattle.m36_ran.specs.Output.{as_line}
+use Rattle.m36_ran.specs.Output.{as_line, end_status}
 use Rattle.m36_booted.specs.declared.command.RunOutput.{RunOutput}
 use Rattle.m36_booted.specs.declared.command.RunOutput.TheVariants as output
 use Rattle.m36_booted.specs.declared.running.Finish.{Finish}
@@ -110,15 +109,6 @@ denied_pieces denied how = pieces_if (line_for denied (denied_segment how))
 abbrev pub end_pieces : List (List ℕ) → Option Finish → ℕ → List (List ℕ)
 end_pieces denied None steps = []
 end_pieces denied (Some how) steps = as_line (finish_line how steps) ∷ denied_pieces denied how
-
--- DIS is the one end without a fault, a refused service or another stop.
-abbrev pub end_status : End → Status
-end_status (end.Fault fault) = status.MachineStop (end.Fault fault)
-end_status (end.Stop Dis) = status.Done
-end_status (end.Stop Operation) = status.MachineStop (end.Stop Operation)
-end_status (end.Stop Tag) = status.MachineStop (end.Stop Tag)
-end_status (end.Link code) = status.MachineStop (end.Link code)
-end_status end.Console = status.MachineStop end.Console
 
 -- a run that has not come to its end wants memory, if it is told at all
 abbrev pub finish_status : Option Finish → Status

@@ -1,11 +1,12 @@
 //! How a run has ended: its line and its status.
 
 ghost use Rattle.std.specs.Prelude.{◌≡◌, ◌<◌, length, Some};
-ghost use Rattle.m36_booted.specs.RunText.{finish_line, end_status, finish_status};
+ghost use Rattle.m36_booted.specs.RunText.{finish_line, finish_status};
 
 use crate::running::Finish;
 use arrayvec::ArrayString;
-use m36_model::{End, Outcome, Stop};
+use m36_model::Outcome;
+use m36_ran::answering::end_status;
 use m36_reading::Status;
 use m36_trace::end_line;
 use m36_turns::run_end_line;
@@ -18,19 +19,6 @@ pub fn finish_line(how: Finish, steps: u32) -> ArrayString<160>
     match how {
         Finish::Over(end) => run_end_line(end, steps as u64),
         Finish::Limit => end_line(Outcome::Next, steps as u64),
-    }
-}
-
-// The status by how a run has ended.
-fn end_status(end: End) -> Status
-    ensures { result ≡ end_status end }
-{
-    match end {
-        End::Fault(fault) => Status::MachineStop(End::Fault(fault)),
-        End::Stop(Stop::Dis) => Status::Done,
-        End::Stop(stop) => Status::MachineStop(End::Stop(stop)),
-        End::Link(code) => Status::MachineStop(End::Link(code)),
-        End::Console => Status::MachineStop(End::Console),
     }
 }
 

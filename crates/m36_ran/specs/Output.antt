@@ -1,11 +1,12 @@
 -- The output of a run: its trace lines and its end line.
-use Rattle.std.specs.Prelude.{ℕ, ◌+◌, List, [], ◌∷◌, ◌++◌, length}
+use Rattle.std.specs.Prelude.{ℕ, ◌+◌, List, [], ◌∷◌, ◌++◌, Option, Some, None, length}
 use Rattle.m36_model.specs.Store.{State}
 use Rattle.m36_model.specs.declared.outcome.Outcome.{Outcome}
-use Rattle.m36_model.specs.declared.outcome.Outcome.TheVariants.{Next, Faulted, Stopped}
 use Rattle.m36_model.specs.declared.outcome.Stop.TheVariants.{Dis, Operation, Tag}
+use Rattle.m36_model.specs.declared.endings.End.{End}
 use Rattle.m36_model.specs.declared.endings.End.TheVariants as end
 use Rattle.m36_model.specs.declared.record.StepRecord.{StepRecord}
+use Rattle.m36_step.specs.MachineTurn.{ended_by}
 use Rattle.m36_trace.specs.EndLine.{end_line_of}
 use Rattle.m36_trace.specs.TraceLine.{line_of}
 use Rattle.m36_reading.specs.declared.status.Status.{Status}
@@ -44,10 +45,20 @@ run_text steps state = output_from 0 (run steps state)
 unfoldable pub run_pieces : ℕ → State (List ℕ) → List (List ℕ)
 run_pieces steps state = pieces_from 0 (run steps state)
 
--- the status by which a run ends: DIS is its one end without a fault or another stop
+-- The status of an end: DIS is the one without a fault, a refused service or another stop.
+abbrev pub end_status : End → Status
+end_status (end.Fault fault) = MachineStop (end.Fault fault)
+end_status (end.Stop Dis) = Done
+end_status (end.Stop Operation) = MachineStop (end.Stop Operation)
+end_status (end.Stop Tag) = MachineStop (end.Stop Tag)
+end_status (end.Link code) = MachineStop (end.Link code)
+end_status end.Console = MachineStop end.Console
+
+-- a run that has come to no end has taken all its steps
+abbrev pub status_by : Option End → Status
+status_by None = Steps
+status_by (Some e) = end_status e
+
+-- by the last outcome of a run
 abbrev pub status_after : Outcome → Status
-status_after Next = Steps
-status_after (Faulted fault) = MachineStop (end.Fault fault)
-status_after (Stopped Dis) = Done
-status_after (Stopped Operation) = MachineStop (end.Stop Operation)
-status_after (Stopped Tag) = MachineStop (end.Stop Tag)
+status_after last = status_by (ended_by last)

@@ -6,7 +6,7 @@ ghost use Rattle.m36_audit.specs.Findings.{pairs};
 ghost use Rattle.m36_reading.specs.Ends.{end_of};
 ghost use Rattle.m36_reading.specs.Outside.{sink_of, outside_of};
 ghost use Rattle.m36_reading.specs.Doing.{Does};
-ghost use Rattle.m36_ran.specs.Output.{status_after};
+ghost use Rattle.m36_ran.specs.Output.{end_status, status_after};
 ghost use Rattle.m36_ran.specs.Putting.{PutsBy, PutsSome};
 ghost use Rattle.m36_ran.specs.Ran.{state_reads, behind, run_answer, passes, audit_answer, bare_by, state_answer, IsIsolated, IsStateDue, state_kind};
 
@@ -26,15 +26,27 @@ use m36_walk::Walk;
 use m36_word::NoMemory;
 use std::alloc::Global;
 
+/// The status by how a run has ended.
+pub fn end_status(end: End) -> Status
+    ensures { result ≡ end_status end }
+{
+    match end {
+        End::Fault(fault) => Status::MachineStop(End::Fault(fault)),
+        End::Stop(Stop::Dis) => Status::Done,
+        End::Stop(stop) => Status::MachineStop(End::Stop(stop)),
+        End::Link(code) => Status::MachineStop(End::Link(code)),
+        End::Console => Status::MachineStop(End::Console),
+    }
+}
+
 /// The status by which a run ends, by its last outcome.
 pub fn status_after(last: Outcome) -> Status
     ensures { result ≡ status_after last }
 {
     match last {
         Outcome::Next => Status::Steps,
-        Outcome::Faulted(fault) => Status::MachineStop(End::Fault(fault)),
-        Outcome::Stopped(Stop::Dis) => Status::Done,
-        Outcome::Stopped(stop) => Status::MachineStop(End::Stop(stop)),
+        Outcome::Faulted(fault) => end_status(End::Fault(fault)),
+        Outcome::Stopped(stop) => end_status(End::Stop(stop)),
     }
 }
 
