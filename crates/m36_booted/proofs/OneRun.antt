@@ -1,72 +1,26 @@
 -- Two runs of plain turns from systems that look the same flat are one run: they make the same turns, and end the same way.
-use Rattle.std.proofs.Common.{◌≡◌, ℕ, ◌+◌, ◌≤◌, Bool, true, false, ◌⊎◌, List, [], ◌∷◌, Result, Ok, Err, refl, sym, ap, subst, ◌∙◌, arith, inl, inr}
-use Rattle.m36_model.specs.Fields.{AtFields}
+use Rattle.std.proofs.Common.{◌≡◌, ℕ, ◌+◌, ◌≤◌, Bool, false, List, [], ◌∷◌, refl, sym, ap, subst, ◌∙◌, arith}
 use Rattle.m36_model.specs.StoreLaw.{Each}
 use Rattle.m36_model.specs.Flat.{flat_store}
 use Rattle.m36_model.specs.Step.{record_of}
 use Rattle.m36_model.specs.declared.endings.End.{End}
-use Rattle.m36_model.specs.declared.outcome.Fault.{Fault}
 use Rattle.m36_model.specs.declared.record.StepRecord.{StepRecord}
-use Rattle.m36_link.specs.Fields.{SnapFields}
-use Rattle.m36_link.specs.Snap.{RefusedFields, snap_of}
 use Rattle.m36_step.specs.declared.turns.Turn.{Turn}
-use Rattle.m36_step.specs.declared.turns.Turn.TheVariants.{Stepped, Linked, Console, Ended, Full, NoMemory}
+use Rattle.m36_step.specs.declared.turns.Turn.TheVariants.{Stepped, Ended}
 use Rattle.m36_super.specs.Library.{Library}
-use Rattle.m36_super.specs.Services.{console_limit, console_text}
 use Rattle.m36_super.specs.declared.coming.Coming.{Coming}
 use Rattle.m36_super.specs.declared.coming.Coming.TheVariants.{Step, Link, Print, Over}
-use Rattle.m36_super.specs.Coming.{loaded_after}
-use Rattle.m36_super.specs.FlatRun.{FlatRun, FlatTurn, flat_stepped, flat_linked_by, flat_printed_by, flat_turn_by, flat_turn}
+use Rattle.m36_super.specs.FlatRun.{FlatRun, FlatTurn, flat_stepped, flat_turn_by, flat_turn}
 use Rattle.m36_super.specs.BootedRun.{Booted, IsTurn, AreTurns, Stands, flat_run_of}
-use Rattle.m36_super.specs.TurnLaws.{LocatesInTurn, IsFlatTurn, IsPlainTurn}
+use Rattle.m36_super.specs.TurnLaws.{IsFlatTurn, IsPlainTurn}
 use Rattle.m36_super.proofs.Turns.{turn_law}
+use Rattle.m36_super.proofs.Audited.{plain_flat, flat_loaded}
 use Rattle.m36_booted.specs.declared.running.Finish.{Finish}
 use Rattle.m36_booted.specs.declared.running.Finish.TheVariants as finish
 use Rattle.m36_booted.specs.RunText.{steps_of, steps_in}
 use Rattle.m36_booted.specs.Runs.{IsEvent}
-use Rattle.std.specs.Prelude.{nat_lt}
 
 -- ---- a plain turn is that of the flat run
-
-not_located : (turn : Turn) → LocatesInTurn turn → IsPlainTurn turn → ⊥
-not_located (Stepped e) h plain = plain.0 h
-not_located (Linked note) h plain = h
-not_located (Console text) h plain = h
-not_located (Ended e) h plain = h
-not_located Full h plain = h
-not_located NoMemory h plain = h
-
-plain_flat :
-    (lib : Library) (before : Booted) (turn : Turn) (after : Booted) → IsPlainTurn turn
-    → (IsFlatTurn lib before turn after ⊎ ((turn ≡ NoMemory) × (after ≡ before)) ⊎ LocatesInTurn turn) → IsFlatTurn lib before turn after
-plain_flat lib before turn after plain (inl h) = h
-plain_flat lib before turn after plain (inr (inl h)) = absurd (subst IsPlainTurn h.0 plain)
-plain_flat lib before turn after plain (inr (inr h)) = absurd (not_located turn h plain)
-
--- after one no LDBR has been executed
-link_loaded : (answer : Result SnapFields RefusedFields) (r : FlatRun) (at : AtFields) → (flat_linked_by answer r at).after.loaded ≡ r.loaded
-link_loaded (Ok s) r at = refl
-link_loaded (Err why) r at = refl
-
-print_loaded : (b : Bool) (text : Result (List ℕ) Fault) (r : FlatRun) → (flat_printed_by b text r).after.loaded ≡ r.loaded
-print_loaded true text r = refl
-print_loaded false (Err f) r = refl
-print_loaded false (Ok text) r = refl
-
-step_loaded : (r : FlatRun) → r.loaded ≡ false → IsPlainTurn (flat_stepped r).turn → (flat_stepped r).after.loaded ≡ false
-unfolding flat_stepped
-step_loaded r loaded plain = ap (λ (b : Bool). loaded_after b (record_of flat_store r.state)) loaded ∙ plain.1
-
-loaded_by : (coming : Coming) (lib : Library) (r : FlatRun) → r.loaded ≡ false → IsPlainTurn (flat_turn_by coming lib r).turn → (flat_turn_by coming lib r).after.loaded ≡ false
-loaded_by Step lib r loaded plain = step_loaded r loaded plain
-loaded_by (Link at) lib r loaded plain = link_loaded (snap_of r.known lib.catalog lib.files at) r at ∙ loaded
-loaded_by Print lib r loaded plain =
-    print_loaded (nat_lt console_limit r.state.regs.a) (console_text r.state.regs r.state.store) r ∙ loaded
-loaded_by (Over e) lib r loaded plain = loaded
-
-flat_loaded : (lib : Library) (r : FlatRun) → r.loaded ≡ false → IsPlainTurn (flat_turn lib r).turn → (flat_turn lib r).after.loaded ≡ false
-unfolding flat_turn
-flat_loaded lib r loaded plain = loaded_by r.coming lib r loaded plain
 
 -- a state before a plain turn, or before the end
 pub record IsFresh (lib : Library) (r : Booted) : Type 0 where

@@ -109,7 +109,7 @@ loaded_by Print lib r loaded plain =
     print_loaded (nat_lt console_limit r.state.regs.a) (console_text r.state.regs r.state.store) r ∙ loaded
 loaded_by (Over e) lib r loaded plain = loaded
 
-flat_loaded : (lib : Library) (r : FlatRun) → r.loaded ≡ false → IsPlainTurn (flat_turn lib r).turn → (flat_turn lib r).after.loaded ≡ false
+pub flat_loaded : (lib : Library) (r : FlatRun) → r.loaded ≡ false → IsPlainTurn (flat_turn lib r).turn → (flat_turn lib r).after.loaded ≡ false
 unfolding flat_turn
 flat_loaded lib r loaded plain = loaded_by r.coming lib r loaded plain
 
@@ -121,7 +121,8 @@ not_located (Ended e) h plain = h
 not_located Full h plain = h
 not_located NoMemory h plain = h
 
-plain_flat : (lib : Library) (before : Booted) (turn : Turn) (after : Booted) → IsPlainTurn turn → (IsFlatTurn lib before turn after ⊎ ((turn ≡ NoMemory) × (after ≡ before)) ⊎ LocatesInTurn turn) → IsFlatTurn lib before turn after
+-- a plain turn is that of the flat run
+pub plain_flat : (lib : Library) (before : Booted) (turn : Turn) (after : Booted) → IsPlainTurn turn → (IsFlatTurn lib before turn after ⊎ ((turn ≡ NoMemory) × (after ≡ before)) ⊎ LocatesInTurn turn) → IsFlatTurn lib before turn after
 plain_flat lib before turn after plain (inl h) = h
 plain_flat lib before turn after plain (inr (inl h)) = absurd (subst IsPlainTurn h.0 plain)
 plain_flat lib before turn after plain (inr (inr h)) = absurd (not_located turn h plain)
