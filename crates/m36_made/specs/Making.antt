@@ -12,7 +12,7 @@ use Rattle.m36_reading.specs.declared.setting.Set.{Set}
 use Rattle.m36_reading.specs.declared.status.Code.TheVariants as code
 use Rattle.m36_reading.specs.Reading.{Reading, decided, Early}
 use Rattle.m36_reading.specs.Readers.{refused}
-use Rattle.m36_told.specs.Assemblies.{Assembly, assembly_of, object_bytes}
+use Rattle.m36_told.specs.Assemblies.{Assembly, assembly_of, object_bytes, object_set}
 use Rattle.m36_told.specs.Telling.{source_refused}
 
 abbrev pub set_of : File → Set
@@ -25,8 +25,7 @@ unfoldable pub object_name : List ℕ → List ℕ
 object_name source = take (length source - 4) source
 
 abbrev pub object_by : List ℕ → Result Assembly AlmFault → Early Set
-object_by source (Ok a) =
-    Ok (record { name = object_name source; content = object_bytes a.parts })
+object_by source (Ok a) = Ok (object_set (object_name source) a.parts)
 object_by source (Err fault) = Err (source_refused source fault)
 
 -- what `alm` makes of a source, or why the source is refused

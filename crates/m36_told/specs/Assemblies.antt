@@ -7,6 +7,7 @@ use Rattle.alm_parse.specs.declared.fault.AlmFault.{AlmFault}
 use Rattle.alm_asm.specs.Assembly.{assembled}
 use Rattle.obj36_parts.specs.PartsFields.{PartsFields}
 use Rattle.obj36_parts.specs.ObjectSegment.{words_of}
+use Rattle.m36_reading.specs.declared.setting.Set.{Set}
 
 -- a source in its lines, and the parts of the object that it means
 pub record Assembly : Type 0 where
@@ -28,3 +29,7 @@ assembly_of bytes = assembly_by (parsed bytes)
 -- the bytes of an object: its words, packed
 unfoldable pub object_bytes : PartsFields → List ℕ
 object_bytes parts = packed (words_of parts)
+
+-- the file that an object is
+abbrev pub object_set : List ℕ → PartsFields → Set
+object_set name parts = record { name = name; content = object_bytes parts }

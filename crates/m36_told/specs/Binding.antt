@@ -14,7 +14,7 @@ use Rattle.m36_reading.specs.Reading.{Reading, decided, Early, then_with}
 use Rattle.m36_reading.specs.Readers.{refused, file_bytes, file_object}
 use Rattle.m36_told.specs.declared.binding.BindFiles.{BindFiles}
 use Rattle.m36_told.specs.Told.{ToldFields}
-use Rattle.m36_told.specs.Assemblies.{object_bytes}
+use Rattle.m36_told.specs.Assemblies.{object_set}
 
 -- a bind file that is refused, at a line
 abbrev pub bind_refused : List ℕ → BindFault → Refusal
@@ -42,10 +42,7 @@ objects_onto done (name ∷ names) =
 
 -- the object is written, and then its print is put
 abbrev pub bound_told : List ℕ → PartsFields → ToldFields
-bound_told name parts = record {
-  sets = record { name = name; content = object_bytes parts } ∷ [];
-  text = print_of name parts;
-}
+bound_told name parts = record { sets = object_set name parts ∷ []; text = print_of name parts }
 
 abbrev pub bind_told : BindFiles → Result PartsFields BindFault → Early ToldFields
 bind_told files (Ok parts) = Ok (bound_told files.object parts)

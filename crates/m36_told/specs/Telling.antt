@@ -13,7 +13,7 @@ use Rattle.m36_reading.specs.Reading.{Reading, decided, Early, then_with}
 use Rattle.m36_reading.specs.Readers.{refused_at, file_bytes, file_object}
 use Rattle.m36_told.specs.declared.assembling.AlmFiles.{AlmFiles}
 use Rattle.m36_told.specs.Told.{ToldFields}
-use Rattle.m36_told.specs.Assemblies.{Assembly, assembly_of, object_bytes}
+use Rattle.m36_told.specs.Assemblies.{Assembly, assembly_of, object_set}
 
 -- ---- `print NAME`
 
@@ -40,10 +40,7 @@ source_refused name alm.NoMemory = NoMemory
 -- the object is written, and then the listing is put
 abbrev pub assembly_told : List ℕ → Assembly → ToldFields
 assembly_told name a =
-    record {
-      sets = record { name = name; content = object_bytes a.parts } ∷ [];
-      text = listing_of name a.source a.parts;
-    }
+    record { sets = object_set name a.parts ∷ []; text = listing_of name a.source a.parts }
 
 abbrev pub told_by : AlmFiles → Result Assembly AlmFault → Early ToldFields
 told_by files (Ok a) = Ok (assembly_told files.object a)
