@@ -8,7 +8,7 @@ use std::alloc::{AllocError, Global};
 
 // The object of a source.
 fn object_of(alloc: Global, source: &[u8]) -> Result<Object, AlmFault> {
-    if source.len() > 4000 {
+    if source.len() > 1 << 17 {
         return Err(AlmFault::NoMemory);
     }
     let lines = parse(alloc, source)?;
@@ -247,6 +247,23 @@ fn doublings(alloc: Global) -> Result<String, AllocError> {
 fn sums_on_a_refused_one(rt: HostRuntime) -> Result<(), AllocError> {
     let source = doublings(rt.alloc())?;
     assert!(rt; refuses(rt.alloc(), source.as_bytes(), AlmFault::E6(1, 9)));
+    Ok(())
+}
+
+// As many links as are in reach, behind an operand on a symbol that is refused.
+fn links_in_reach(alloc: Global) -> Result<String, AllocError> {
+    let mut source = String::from_str(alloc, " lda s$+e\n")?;
+    for i in 1..8189u16 {
+        source.push_str(&format!(in alloc; " lda s$+{i}\n")?)?;
+    }
+    source.push_str(" equ e,nosuch\n end\n")?;
+    Ok(source)
+}
+
+#[test]
+fn no_link_on_a_refused_one(rt: HostRuntime) -> Result<(), AllocError> {
+    let source = links_in_reach(rt.alloc())?;
+    assert!(rt; refuses(rt.alloc(), source.as_bytes(), AlmFault::E6(8190, 8)));
     Ok(())
 }
 
