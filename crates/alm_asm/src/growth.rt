@@ -12,7 +12,6 @@ ghost use Rattle.alm_asm.specs.Growth.{with_unrefused, with_arg, with_args, with
 ghost use Rattle.alm_asm.specs.Growth.{with_new_link, with_link_once, with_operand, with_link};
 ghost use Rattle.alm_asm.specs.Growth.{mark_count, operand_room, is_own, operand_count, half_count};
 ghost use Rattle.alm_asm.specs.Growth.{marks_count, with_marks, grown_by, is_over, growth_refusal};
-ghost use Rattle.obj36_parts.specs.ObjectSegment.{has_name, has_entry};
 
 use crate::definitions::{gives_entries, sum_refusal};
 use crate::line_refusal::own_room;
@@ -28,6 +27,7 @@ use alm_parse::{Arg, Deed, Line36, Span, Term};
 use m36_text::Name;
 use m36_word::NoMemory;
 use obj36::{Link, Links};
+use obj36_parts::names::{has_its_entry, has_its_name};
 use std::alloc::Global;
 
 /// What the lines so far give to these sections: the names that stand, those that are defined, each once and with a number that says
@@ -100,13 +100,13 @@ impl Growth {
         ensures value { OnOk result (self.new ≡ with_new_link self.old link) }
         ensures symbol { OnOk result (self.new.symbol ≡ self.old.symbol) }
     {
-        let kind = link.kind;
+        let kind = link.kind as u64;
         let name = link.name.copied();
         let entry = link.entry.copied();
         self.links.push(link)?;
         self.definition += 2;
-        self.add_use(uses_name(kind), name)?;
-        self.add_use(uses_entry(kind), entry)
+        self.add_use(has_its_name(kind), name)?;
+        self.add_use(has_its_entry(kind), entry)
     }
 
     #[tactic(auto, unfolding(crate::specs::Growth::with_link_once))]
@@ -131,19 +131,6 @@ impl Growth {
         let linkage = 8 + spot.inner + 2 * links;
         is_over_limit(self.definition) || is_over_limit(linkage) || is_over_limit(self.symbol)
     }
-}
-
-// Whether a link of this type refers to a segment by its name, and to an entry by its name.
-fn uses_name(kind: u8) -> bool
-    ensures { result ≡ has_name kind }
-{
-    kind == 3 || kind == 4
-}
-
-fn uses_entry(kind: u8) -> bool
-    ensures { result ≡ has_entry kind }
-{
-    kind == 4 || kind == 5
 }
 
 fn take_arg(
