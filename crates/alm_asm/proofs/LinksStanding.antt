@@ -1,29 +1,16 @@
 -- The link of each external operand stands among the links.
-use Rattle.std.proofs.Common.{◌≡◌, ℕ, Bool, true, false, cond, ◌&&◌, ◌||◌, eqb, List, [], ◌∷◌, ◌++◌, Option, Some, None, refl, ap, ◌∙◌}
+use Rattle.std.proofs.Common.{◌≡◌, ℕ, Bool, true, false, cond, ◌||◌, List, [], ◌∷◌, ◌++◌, Option, Some, None, refl, ap, ◌∙◌}
 use Rattle.std.specs.List.{list_any}
-use Rattle.std.proofs.lemmas.Bool.{and_from, eq-eqb}
 use Rattle.std.proofs.lemmas.List.Folds.{list_any-append}
 use Rattle.alm_parse.specs.declared.line.Line36.{Line36}
 use Rattle.obj36_parts.specs.Fields.{LinkFields}
-use Rattle.obj36_parts.specs.ObjectSegment.{place_number}
-use Rattle.obj36_parts.proofs.SizeLaws.{same_self}
-use Rattle.alm_lines.specs.Symbols.{same_name}
+use Rattle.obj36_parts.proofs.IndexLaws.{link_self}
 use Rattle.alm_lines.specs.Arguments.{first_arg}
 use Rattle.alm_lines.specs.Spots.{start, below, end_of}
 use Rattle.alm_asm.specs.Links.{operand_args, link_in, with_link, links_after, links_from}
 use Rattle.obj36_parts.specs.Indexes.{same_link}
 use Rattle.alm_lines.specs.declared.sum.Sum.{Sum}
 use Rattle.alm_lines.specs.SpotFields.{Spot}
-
-link_self : (l : LinkFields) → same_link l l ≡ true
-unfolding same_link
-link_self l =
-    and_from ((((eqb l.kind l.kind && eqb (place_number l.section) (place_number l.section)) && same_name l.name l.name) && same_name l.entry l.entry) && eqb l.expr l.expr) (eqb l.modifier l.modifier)
-    (and_from (((eqb l.kind l.kind && eqb (place_number l.section) (place_number l.section)) && same_name l.name l.name) && same_name l.entry l.entry) (eqb l.expr l.expr)
-    (and_from ((eqb l.kind l.kind && eqb (place_number l.section) (place_number l.section)) && same_name l.name l.name) (same_name l.entry l.entry)
-    (and_from (eqb l.kind l.kind && eqb (place_number l.section) (place_number l.section)) (same_name l.name l.name)
-    (and_from (eqb l.kind l.kind) (eqb (place_number l.section) (place_number l.section)) (eq-eqb l.kind l.kind refl) (eq-eqb (place_number l.section) (place_number l.section) refl))
-    (same_self l.name)) (same_self l.entry)) (eq-eqb l.expr l.expr refl)) (eq-eqb l.modifier l.modifier refl)
 
 or_left : (a b : Bool) → a ≡ true → (a || b) ≡ true
 or_left a b e = ap (λ x. x || b) e
