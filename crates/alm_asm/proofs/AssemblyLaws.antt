@@ -1,13 +1,11 @@
 -- What the assembler answers.
-use Rattle.std.proofs.Common.{◌≡◌, ℕ, List, [], Option, Some, None, Result, Err, Bool, true, false, IsTrue, refl, sym, ap, ◌∙◌, true≢false}
+use Rattle.std.proofs.Common.{◌≡◌, ℕ, List, [], Option, Some, None, Result, Err, sym, ap, ◌∙◌}
 use Rattle.alm_parse.specs.SourceFields.{Source}
 use Rattle.alm_parse.specs.declared.fault.AlmFault.{AlmFault}
 use Rattle.alm_parse.specs.declared.fault.AlmFault.TheVariants.{E1, E2, E3, E4, E5, E6, E7, E8, NoMemory}
 use Rattle.alm_parse.specs.Sources.{Refuses}
 use Rattle.obj36_parts.specs.PartsFields.{PartsFields}
 use Rattle.obj36_parts.specs.ObjectSegment.{is_well_formed}
-use Rattle.obj36_parts.specs.Sizes.{HasShortLists}
-use Rattle.obj36_parts.proofs.LengthLaws.{short_lists}
 use Rattle.alm_parse.specs.declared.line.Line36.{Line36}
 use Rattle.alm_lines.specs.declared.sum.Sum.{Sum}
 use Rattle.alm_lines.specs.Spots.{start}
@@ -35,14 +33,6 @@ refuses NoMemory definition e = tt
 pub tells_refusal : (source : Source) (refusal : Refusal) → refusal_of source ≡ Some refusal → Refuses (fault_of refusal) (assembled source)
 unfolding assembled
 tells_refusal source refusal e = refuses (fault_of refusal) (assembled_by source (refusal_of source)) (ap (assembled_by source) e)
-
--- no list of words stands for parts with a list that is too long to be counted
-no_list : (p : PartsFields) (b : Bool) → is_well_formed p ≡ b → (HasShortLists p → ⊥) → b ≡ false
-no_list p true e long = absurd (long (short_lists p e))
-no_list p false e long = refl
-
-pub long_is_none : (p : PartsFields) (b : Bool) → (HasShortLists p → IsTrue b) → b ≡ false → false ≡ is_well_formed p
-long_is_none p b long e = sym (no_list p (is_well_formed p) refl (λ short. true≢false (sym (long short) ∙ e)))
 
 -- ---- a source that is not refused
 

@@ -227,22 +227,11 @@ fn last_line(lines: &[Line36]) -> u32
     number
 }
 
-// Whether some list of words stands for parts.
-#[tactic(auto, using(crate::proofs::AssemblyLaws::long_is_none))]
-fn is_object(parts: &Parts) -> bool
-    ensures { result ≡ is_well_formed parts.now }
-{
-    if !parts.has_short_lists() {
-        return false;
-    }
-    parts.is_well_formed()
-}
-
 // The object of parts, if they are those of one.
 fn object_of(alloc: Global, parts: Parts, number: u32) -> Result<Object, AlmFault>
     ensures { ParseSays result (made parts number (is_well_formed parts)) }
 {
-    if !is_object(&parts) {
+    if !parts.is_object() {
         return Err(AlmFault::E8(number, 1));
     }
     Ok(Object::new(alloc, parts)?)

@@ -7,7 +7,7 @@ ghost use Rattle.m36_bind.specs.Bound.{bound_parts, made, made_of, bound_of_comp
 ghost use Rattle.m36_bind.specs.Meaning.{AreObjects, BoundMeaning};
 
 use crate::bound::{bound_parts, frame_of};
-use crate::fitting::{components_fit, is_object, sections_fit};
+use crate::fitting::{components_fit, sections_fit};
 use crate::given::Given;
 use crate::kept::{exports, kept};
 use crate::placed::{Components, picked};
@@ -36,7 +36,7 @@ fn asks_newer(lines: &[BindLine]) -> bool
 fn made(alloc: Global, parts: Parts) -> Result<Object, BindFault>
     ensures { BindSays result (made parts) }
 {
-    if !is_object(&parts) {
+    if !parts.is_object() {
         return Err(BindFault::B4(0));
     }
     let object = Object::new(alloc, parts)?;

@@ -1,7 +1,7 @@
 //! Whether all parts fit where they go.
 
 ghost use Rattle.std.specs.Prelude.{◌≡◌, ◌&&◌, ◌≤◌, ◌^◌, ◌-◌, nat_le, length};
-ghost use Rattle.obj36_parts.specs.ObjectSegment.{is_well_formed, definition_section};
+ghost use Rattle.obj36_parts.specs.ObjectSegment.{definition_section};
 ghost use Rattle.m36_bind.specs.Bound.{component_fits, components_fit, sections_fit, section_fits};
 
 use crate::placed::{Placed, moving};
@@ -9,7 +9,7 @@ use m36_relocate::layout::Shape;
 use m36_relocate::words::all_fit;
 use m36_word::Word;
 use obj36::Object;
-use obj36_parts::{Parts, Section};
+use obj36_parts::Section;
 
 fn component_fits(frame: &Shape, p: &Placed<'_>) -> bool
     ensures { result ≡ component_fits frame.now p.now }
@@ -59,15 +59,4 @@ pub(crate) fn sections_fit(object: &Object) -> bool
         && section_fits(object.section(Section::Linkage))
         && section_fits(object.section(Section::Static))
         && section_fits(object.section(Section::Symbol))
-}
-
-// Whether some list of words stands for parts.
-#[tactic(auto, using(crate::proofs::Few::long_is_none))]
-pub(crate) fn is_object(parts: &Parts) -> bool
-    ensures { result ≡ is_well_formed parts.now }
-{
-    if !parts.has_short_lists() {
-        return false;
-    }
-    parts.is_well_formed()
 }

@@ -1,5 +1,5 @@
 -- How long the sections are.
-use Rattle.std.proofs.Common.{ℕ, suc, ◌≡◌, ◌+◌, ◌-◌, ◌*◌, ◌^◌, ◌≤◌, Bool, true, false, cond, eqb, List, [], ◌∷◌, ◌++◌, length, refl, ap, arith}
+use Rattle.std.proofs.Common.{ℕ, suc, ◌≡◌, ◌+◌, ◌-◌, ◌*◌, ◌^◌, ◌≤◌, Bool, true, false, cond, eqb, List, [], ◌∷◌, ◌++◌, length, IsTrue, refl, sym, ap, ◌∙◌, true≢false, arith}
 use Rattle.std.proofs.lemmas.List.{length-append}
 use Rattle.obj36_parts.specs.Fields.{LinkFields, RelocFields}
 use Rattle.obj36_parts.specs.PartsFields.{PartsFields}
@@ -105,6 +105,14 @@ short_lists p e =
       links = omega (arith, small, length-words_of p);
       relocations = omega (arith, small, length-words_of p);
     }
+
+-- no list of words stands for parts with a list that is too long to be counted
+no_list : (p : PartsFields) (b : Bool) → is_well_formed p ≡ b → (HasShortLists p → ⊥) → b ≡ false
+no_list p true e long = absurd (long (short_lists p e))
+no_list p false e long = refl
+
+pub long_is_none : (p : PartsFields) (b : Bool) → (HasShortLists p → IsTrue b) → b ≡ false → false ≡ is_well_formed p
+long_is_none p b long e = sym (no_list p (is_well_formed p) refl (λ short. true≢false (sym (long short) ∙ e)))
 
 -- ---- no section is too long for its length to be told
 

@@ -142,4 +142,15 @@ impl Parts {
             && are_good_relocations(room, relocations)
             && are_in_order(relocations)
     }
+
+    /// Whether some list of words stands for these parts, whose lists may be of any length.
+    #[tactic(auto, using(crate::proofs::LengthLaws::long_is_none))]
+    pub fn is_object(&self) -> bool
+        ensures { result ≡ is_well_formed self.now }
+    {
+        if !self.has_short_lists() {
+            return false;
+        }
+        self.is_well_formed()
+    }
 }

@@ -267,7 +267,7 @@ fn shown(
     lines: Option<&Lines36>,
     parts: Parts,
 ) -> Result<Text, NoMemory> {
-    if !parts.has_short_lists() || !parts.is_well_formed() {
+    if !parts.is_object() {
         return Ok(Text::new(alloc));
     }
     let object = Object::new(alloc, parts)?;
