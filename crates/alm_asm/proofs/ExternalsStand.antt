@@ -9,6 +9,7 @@ use Rattle.alm_parse.specs.declared.deed.Deed.TheVariants as deed
 use Rattle.alm_parse.specs.declared.line.Line36.{Line36}
 use Rattle.obj36_parts.specs.Fields.{LinkFields}
 use Rattle.obj36_parts.specs.Indexes.{same_link}
+use Rattle.obj36_parts.specs.ObjectSegment.{is_text_section}
 use Rattle.alm_lines.specs.Arguments.{first_arg}
 use Rattle.alm_lines.specs.Spots.{start, end_of}
 use Rattle.alm_lines.specs.Refusals.{sooner, refusal_at}
@@ -16,7 +17,7 @@ use Rattle.alm_lines.specs.SpotFields.{Spot}
 use Rattle.alm_lines.specs.declared.refusal.Code.TheVariants.{E7}
 use Rattle.alm_lines.specs.declared.refusal.Room.TheVariants.{Half}
 use Rattle.alm_asm.specs.Links.{own_section, link_of, operand_args, link_in, links_from}
-use Rattle.alm_asm.specs.LineRefusals.{unless, op_place, external_place, may_name, link_expression, reaches, operand_refusal, is_text_section, refusal_of_deed, lines_refusal}
+use Rattle.alm_asm.specs.LineRefusals.{unless, op_place, external_place, may_name, link_expression, reaches, operand_refusal, refusal_of_deed, lines_refusal}
 use Rattle.alm_asm.specs.Assembles.{is_external}
 use Rattle.alm_asm.specs.declared.tables.Tables.{Tables}
 use Rattle.alm_asm.proofs.LinksStanding.{link_stands}

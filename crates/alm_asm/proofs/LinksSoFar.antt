@@ -14,6 +14,7 @@ use Rattle.alm_parse.specs.declared.line.Line36.{Line36}
 use Rattle.obj36_parts.specs.Fields.{LinkFields}
 use Rattle.obj36_parts.specs.declared.definition.Named.{Named}
 use Rattle.obj36_parts.specs.Indexes.{same_link}
+use Rattle.obj36_parts.specs.ObjectSegment.{is_text_section}
 use Rattle.alm_lines.specs.Arguments.{first_arg}
 use Rattle.alm_lines.specs.Spots.{below}
 use Rattle.alm_lines.specs.SpotFields.{Spot}
@@ -24,7 +25,7 @@ use Rattle.alm_lines.specs.declared.refusal.Room.TheVariants.{Half}
 use Rattle.alm_asm.specs.Links.{own_section, link_of, operand_args, link_by, link_in, with_link, links_after, links_from, link_place}
 use Rattle.alm_asm.specs.Definitions.{gives_entries, definitions_after, definitions_refused}
 use Rattle.alm_asm.specs.LineRefusals.{unless, op_place, may_name, is_in_reach, link_expression, reaches, external_refusal}
-use Rattle.alm_asm.specs.LineRefusals.{operand_refusal, is_text_section, refusal_of_deed, line_refusal, with_links, otherwise, lines_refusal}
+use Rattle.alm_asm.specs.LineRefusals.{operand_refusal, refusal_of_deed, line_refusal, with_links, otherwise, lines_refusal}
 use Rattle.alm_lines.specs.declared.refusal.Refusal.{Refusal}
 use Rattle.alm_asm.specs.declared.tables.Tables.{Tables}
 use Rattle.alm_asm.proofs.LinksStanding.{stays_with, added_with}

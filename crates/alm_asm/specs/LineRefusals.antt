@@ -7,6 +7,7 @@ use Rattle.alm_tokens.specs.declared.expression.Term.{Term}
 use Rattle.alm_parse.specs.declared.args.Arg.{Arg}
 use Rattle.alm_parse.specs.declared.args.Arg.TheVariants as arg
 use Rattle.alm_parse.specs.declared.line.Line36.{Line36}
+use Rattle.obj36_parts.specs.ObjectSegment.{is_text_section}
 use Rattle.obj36_parts.specs.declared.section.Section.{Section}
 use Rattle.obj36_parts.specs.declared.section.Section.TheVariants.{Text, Linkage, Symbol, Static}
 use Rattle.obj36_parts.specs.declared.definition.Named.{Named}
@@ -107,12 +108,6 @@ operand_refusal text tables spot line (Some (arg.Operand pr segment entry terms 
 operand_refusal text tables spot line None = None
 
 -- ---- operations
-
-abbrev pub is_text_section : Section → Bool
-is_text_section Text = true
-is_text_section Linkage = false
-is_text_section Symbol = false
-is_text_section Static = false
 
 -- The static words of a source are of one kind.
 abbrev pub may_enter : Spot → Section → Bool

@@ -8,7 +8,7 @@ ghost use Rattle.alm_asm.specs.Definitions.{definitions_after};
 ghost use Rattle.alm_asm.specs.LineRefusals.{unless, op_place, external_place, needs_static};
 ghost use Rattle.alm_asm.specs.LineRefusals.{may_name, is_in_reach, own_room, link_expression};
 ghost use Rattle.alm_asm.specs.LineRefusals.{reaches, external_refusal, own_operand};
-ghost use Rattle.alm_asm.specs.LineRefusals.{operand_refusal, is_text_section, may_enter};
+ghost use Rattle.alm_asm.specs.LineRefusals.{operand_refusal, may_enter};
 ghost use Rattle.alm_asm.specs.LineRefusals.{instruction_refusal, use_refusal, halves_refusal};
 ghost use Rattle.alm_asm.specs.LineRefusals.{refusal_of_deed, line_refusal, lines_refusal};
 ghost use Rattle.alm_asm.specs.LineRefusals.{with_links};
@@ -27,6 +27,7 @@ use alm_lines::symbols::Symbols;
 use alm_parse::{Arg, Deed, Line36, Span, Term};
 use m36_word::NoMemory;
 use obj36::{Defs, Section};
+use obj36_parts::sections::is_text_section;
 use std::alloc::Global;
 
 fn unless(holds: bool, refusal: Refusal) -> Option<Refusal>
@@ -204,15 +205,6 @@ fn operand_refusal(text: &[u8], tables: &Tables, spot: Spot, line: &Line36) -> O
             None => own_operand_refusal(text, tables, spot, line, own_room(*pr), expr.items()),
         },
         _ => None,
-    }
-}
-
-fn is_text_section(section: Section) -> bool
-    ensures { result ≡ is_text_section section }
-{
-    match section {
-        Section::Text => true,
-        Section::Linkage | Section::Symbol | Section::Static => false,
     }
 }
 

@@ -7,12 +7,13 @@ use Rattle.std.proofs.lemmas.Bool.{eq-eqb}
 use Rattle.obj36_parts.specs.Fields.{LinkFields}
 use Rattle.obj36_parts.specs.PartsFields.{PartsFields}
 use Rattle.obj36_parts.specs.Names.{same}
+use Rattle.obj36_parts.specs.ObjectSegment.{later_section}
 use Rattle.obj36_parts.specs.declared.section.Section.TheVariants.{Text}
 use Rattle.m36_relocate.specs.Fields.{ShapeFields, BasesFields}
 use Rattle.m36_relocate.specs.Layout.{shape_of, bases_behind, spot, spot_moved}
 use Rattle.m36_relocate.specs.Exports.{export_named}
 use Rattle.m36_bind.specs.Components.{PlacedFields, moving, names_of, placed_at, component_named}
-use Rattle.m36_bind.specs.Links.{own_link, farther, counting_section, segment_link, entry_link, outer_link, inner_link, link_moved, links_onto, links_from}
+use Rattle.m36_bind.specs.Links.{own_link, farther, segment_link, entry_link, outer_link, inner_link, link_moved, links_onto, links_from}
 use Rattle.m36_bind.specs.Bound.{links_end}
 use Rattle.m36_bind.specs.Meaning.{AreInOrder, LinksTo, LinksAt, IsUndefined, IsMovedLink, LinksStand}
 use Rattle.m36_relocate.specs.declared.exports.Export.{Export}
@@ -59,8 +60,8 @@ link_means bound all p old within there =
         is = moved_by_kind frame all p old 4 kind ∙ ap (outer_link frame old) found ∙ ap (entry_link frame old q) defined;
       };
       inner = λ e kind defined. record {
-        place = spot_moved (moving frame p) (counting_section old.section e.def.section) e.def.value;
-        names = spot_names bound p (within p there) (counting_section old.section e.def.section) e.def.value;
+        place = spot_moved (moving frame p) (later_section old.section e.def.section) e.def.value;
+        names = spot_names bound p (within p there) (later_section old.section e.def.section) e.def.value;
         is = moved_by_kind frame all p old 5 kind ∙ ap (inner_link frame p old) defined;
       };
       far_segment = λ kind none. moved_by_kind frame all p old 3 kind ∙ ap (segment_link old) none;

@@ -5,9 +5,10 @@ use Rattle.std.specs.List.{Contains}
 use Rattle.std.proofs.lemmas.List.{length-append, get_or_append_left, get_or_at, get_or-append_right}
 use Rattle.obj36_parts.specs.Fields.{RelocFields}
 use Rattle.obj36_parts.specs.PartsFields.{PartsFields}
+use Rattle.obj36_parts.specs.ObjectSegment.{is_text_section}
 use Rattle.m36_relocate.specs.Fields.{ShapeFields}
 use Rattle.m36_relocate.specs.Layout.{shape_of, spot_moved}
-use Rattle.m36_relocate.specs.Words.{is_text_section, stands_in}
+use Rattle.m36_relocate.specs.Words.{stands_in}
 use Rattle.m36_bind.specs.Components.{PlacedFields, moving}
 use Rattle.m36_bind.specs.Bound.{relocation_moved, with_relocation, relocations_onto, relocations_from}
 use Rattle.m36_bind.specs.Meaning.{NamesImage, IsMovedRelocation, MovedRelocation, RelocationSource}

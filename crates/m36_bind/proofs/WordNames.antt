@@ -5,13 +5,13 @@ use Rattle.std.specs.List.{list_all, Contains}
 use Rattle.std.proofs.lemmas.Bool.{and_parts, eqb-true, ltb-true, leb-true, eq-eqb, lt-ltb, le-ltb, cond-true, cond-false}
 use Rattle.obj36_parts.specs.Fields.{RelocFields}
 use Rattle.obj36_parts.specs.PartsFields.{PartsFields}
-use Rattle.obj36_parts.specs.ObjectSegment.{is_newer, inner_statics, outer_statics, place_number, last_place, is_place, is_relocation, order_of, is_well_formed}
+use Rattle.obj36_parts.specs.ObjectSegment.{is_text_section, is_newer, inner_statics, outer_statics, place_number, last_place, is_place, is_relocation, order_of, is_well_formed}
 use Rattle.obj36_parts.specs.declared.section.Section.{Section}
 use Rattle.obj36_parts.specs.declared.section.Section.TheVariants.{Text, Linkage, Symbol, Static}
 use Rattle.obj36_parts.proofs.Formed.{is_formed}
 use Rattle.m36_relocate.specs.Fields.{ShapeFields}
 use Rattle.m36_relocate.specs.Layout.{shape_of, meant, number_moved}
-use Rattle.m36_relocate.specs.Words.{is_text_section, stands_in, start_of, place_in, words_in, words_moved, offset_in, offset_raised, below_zero, part_fits, one_fits, all_fit}
+use Rattle.m36_relocate.specs.Words.{stands_in, start_of, place_in, words_in, words_moved, offset_in, offset_raised, below_zero, part_fits, one_fits, all_fit}
 use Rattle.m36_bind.specs.Components.{PlacedFields, moving}
 use Rattle.m36_bind.specs.Meaning.{part_of, overlap, Moves, NamesImage, IsMovedWord}
 use Rattle.m36_relocate.specs.declared.layout.Moving.{Moving}

@@ -1,10 +1,10 @@
 -- The links of the bound object: those of the components in their order, each as many times as it
 -- stands.
-use Rattle.std.specs.Prelude.{ℕ, ◌+◌, ◌%◌, ◌^◌, nat_eq, nat_le, if◌then◌else◌, List, [], ◌∷◌, ◌++◌}
+use Rattle.std.specs.Prelude.{ℕ, ◌+◌, ◌%◌, ◌^◌, nat_eq, if◌then◌else◌, List, [], ◌∷◌, ◌++◌}
 use Rattle.std.specs.Prelude.{Option, Some, None}
 use Rattle.obj36_parts.specs.Fields.{LinkFields}
-use Rattle.obj36_parts.specs.declared.section.Section.{Section}
-use Rattle.obj36_parts.specs.declared.section.Section.TheVariants.{Text, Linkage, Symbol, Static}
+use Rattle.obj36_parts.specs.ObjectSegment.{later_section}
+use Rattle.obj36_parts.specs.declared.section.Section.TheVariants.{Text}
 use Rattle.m36_relocate.specs.Fields.{ShapeFields}
 use Rattle.m36_relocate.specs.Layout.{spot, spot_moved}
 use Rattle.m36_relocate.specs.Exports.{export_named}
@@ -27,17 +27,6 @@ own_link l s =
 abbrev pub farther : Spot → ℕ → Spot
 farther s n = record { section = s.section; offset = (s.offset + n) % 2 ^ 18 }
 
--- The section in which a link of type 5 counts, by its own and by that of the definition: static
--- before linkage, and linkage before text.
-abbrev pub rank : Section → ℕ
-rank Text = 0
-rank Symbol = 0
-rank Linkage = 1
-rank Static = 2
-
-abbrev pub counting_section : Section → Section → Section
-counting_section a b = if nat_le (rank a) (rank b) then b else a
-
 -- type 3: word 0 of the component's text, and the number of the link
 abbrev pub segment_link : LinkFields → Option PlacedFields → LinkFields
 segment_link l None = l
@@ -53,12 +42,12 @@ abbrev pub outer_link : ShapeFields → LinkFields → Option PlacedFields → L
 outer_link frame l None = l
 outer_link frame l (Some p) = entry_link frame l p (export_named l.entry p.entries)
 
--- type 5: the definition's value counts in the section
+-- type 5: the definition's value counts in the later of its section and that of the link
 abbrev pub inner_link : ShapeFields → PlacedFields → LinkFields → Option Export → LinkFields
 inner_link frame p l None = l
 inner_link frame p l (Some e) =
     own_link l (farther
-    (spot_moved (moving frame p) (counting_section l.section e.def.section) e.def.value) l.expr)
+    (spot_moved (moving frame p) (later_section l.section e.def.section) e.def.value) l.expr)
 
 -- a link of a component
 unfoldable pub link_moved : ShapeFields → List PlacedFields → PlacedFields → LinkFields → LinkFields

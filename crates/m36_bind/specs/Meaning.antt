@@ -10,7 +10,7 @@ use Rattle.std.specs.Prelude.{length, slice_index, slice_get, Option, Some, None
 use Rattle.std.specs.List.{Contains, list_any}
 use Rattle.obj36_parts.specs.Fields.{DefFields, RelocFields, LinkFields}
 use Rattle.obj36_parts.specs.PartsFields.{PartsFields}
-use Rattle.obj36_parts.specs.ObjectSegment.{is_well_formed, definition_names}
+use Rattle.obj36_parts.specs.ObjectSegment.{later_section, is_well_formed, definition_names}
 use Rattle.obj36_parts.specs.declared.definition.Named.{Named}
 use Rattle.obj36_parts.specs.Halves.{left, right}
 use Rattle.obj36_parts.specs.declared.section.Section.{Section}
@@ -25,7 +25,7 @@ use Rattle.m36_relocate.specs.declared.layout.Meant.TheVariants.{HeadWord}
 use Rattle.m36_relocate.specs.Words.{offset_in, below_zero, stands_in, start_of, words_in}
 use Rattle.m36_relocate.specs.Exports.{export_named, is_symbol}
 use Rattle.m36_bind.specs.Components.{PlacedFields, component_named, picked_of}
-use Rattle.m36_bind.specs.Links.{own_link, farther, counting_section}
+use Rattle.m36_bind.specs.Links.{own_link, farther}
 use Rattle.m36_bind.specs.Bound.{is_newer_component, links_end, first_bound}
 use Rattle.m36_relocate.specs.declared.layout.Spot.{Spot}
 use Rattle.m36_relocate.specs.declared.exports.Export.{Export}
@@ -174,7 +174,7 @@ pub record IsMovedLink (bound : PartsFields) (all : List PlacedFields) (p : Plac
       → export_named old.entry q.entries ≡ Some e
       → LinksTo bound q e.def.section e.def.value old new
   pub inner : (e : Export) → old.kind ≡ 5 → export_named old.entry p.entries ≡ Some e
-      → LinksTo bound p (counting_section old.section e.def.section) e.def.value old new
+      → LinksTo bound p (later_section old.section e.def.section) e.def.value old new
   pub far_segment : old.kind ≡ 3 → component_named old.name all ≡ None → new ≡ old
   pub far_entry : old.kind ≡ 4 → IsUndefined all old → new ≡ old
   pub no_entry : old.kind ≡ 5 → export_named old.entry p.entries ≡ None → new ≡ old

@@ -3,13 +3,14 @@
 ghost use Rattle.std.specs.Prelude.{ℕ, ◌≡◌, ◌+◌, ◌%◌, ◌^◌, ◌<◌, [], ◌∷◌, ◌++◌, OnOk, IfOk, option_map};
 ghost use Rattle.m36_bind.specs.Components.{PlacedFields, moving};
 ghost use Rattle.m36_relocate.specs.Layout.{spot_moved};
-ghost use Rattle.m36_bind.specs.Links.{own_link, farther, rank, counting_section, segment_link, entry_link, outer_link, inner_link, link_moved, links_onto, links_from};
+ghost use Rattle.m36_bind.specs.Links.{own_link, farther, segment_link, entry_link, outer_link, inner_link, link_moved, links_onto, links_from};
 
 use crate::placed::{Components, Placed, moving};
 use m36_relocate::exports::Export;
 use m36_relocate::layout::{Shape, Spot, spot_at, spot_moved};
 use m36_text::Name;
 use m36_word::NoMemory;
+use obj36_parts::sections::later_section;
 use obj36_parts::{Link, Links, Section};
 use std::alloc::Global;
 
@@ -47,24 +48,6 @@ fn farther(s: Spot, n: u32) -> Spot
         offset: (s.offset + n) % (1 << 18),
         section: s.section,
     }
-}
-
-fn rank(section: Section) -> u8
-    ensures { result ≡ rank section }
-{
-    match section {
-        Section::Text => 0,
-        Section::Symbol => 0,
-        Section::Linkage => 1,
-        Section::Static => 2,
-    }
-}
-
-// The section in which a link of type 5 counts.
-fn counting_section(a: Section, b: Section) -> Section
-    ensures { result ≡ counting_section a b }
-{
-    if rank(a) <= rank(b) { b } else { a }
 }
 
 fn segment_link(l: &Link, p: Option<&Placed<'_>>) -> Link
@@ -105,7 +88,7 @@ fn inner_link(frame: &Shape, p: &Placed<'_>, l: &Link, export: Option<Export>) -
         None => l.copied(),
         Some(e) => {
             let m = moving(frame, p);
-            let section = counting_section(l.section, e.def.section);
+            let section = later_section(l.section, e.def.section);
             own_link(
                 l,
                 farther(spot_moved(&m, section, e.def.value as u64), l.expr),

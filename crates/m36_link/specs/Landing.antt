@@ -12,7 +12,8 @@ use Rattle.m36_dir.specs.declared.segment.SegKind.{SegKind}
 use Rattle.m36_dir.specs.declared.segment.SegKind.TheVariants.{Object, Gate, Plain}
 use Rattle.obj36_parts.specs.Fields.{DefFields, LinkFields}
 use Rattle.obj36_parts.specs.PartsFields.{PartsFields}
-use Rattle.obj36_parts.specs.ObjectSegment.{has_name, has_entry, linkage_section, definition_named}
+use Rattle.obj36_parts.specs.ObjectSegment.{later_section, has_name, has_entry, linkage_section}
+use Rattle.obj36_parts.specs.ObjectSegment.{definition_named}
 use Rattle.obj36_parts.specs.declared.section.Section.{Section}
 use Rattle.obj36_parts.specs.declared.section.Section.TheVariants.{Text, Linkage, Symbol, Static}
 use Rattle.obj36.specs.ObjectOf.{object_of}
@@ -29,16 +30,6 @@ use Rattle.m36_link.specs.declared.sections.Home.{Home}
 -- the section in which a link's value counts where its entry does not say
 abbrev pub section_of : LinkFields → Section
 section_of link = if has_name link.kind then Text else link.section
-
--- of two sections the later one counts: text and symbol, linkage, static
-abbrev pub rank : Section → ℕ
-rank Text = 0
-rank Symbol = 0
-rank Linkage = 1
-rank Static = 2
-
-abbrev pub later_section : Section → Section → Section
-later_section a b = if nat_le (rank a) (rank b) then b else a
 
 -- L3: the entry has no definition
 abbrev pub point_by : Section → Option DefFields → Result Point LinkCode

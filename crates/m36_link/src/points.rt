@@ -2,7 +2,7 @@
 
 ghost use Rattle.std.specs.Prelude.{◌≡◌, ◌+◌, ◌<◌, ◌≤◌, ◌^◌, length, IfOk};
 ghost use Rattle.m36_link.specs.Known.{laid_words};
-ghost use Rattle.m36_link.specs.Landing.{section_of, rank, later_section, point_of, pair_to, pair_of};
+ghost use Rattle.m36_link.specs.Landing.{section_of, point_of, pair_to, pair_of};
 
 use crate::laid::{FIRST_LINKAGE, Laid};
 use m36_desc::Its;
@@ -10,6 +10,7 @@ use m36_model::LinkCode;
 use m36_word::Pair;
 use obj36::{Link, Object, Section};
 use obj36_parts::names::{has_its_entry, has_its_name};
+use obj36_parts::sections::later_section;
 
 /// A place of an object: a word that counts in a section.
 #[derive(Clone, Copy, Debug)]
@@ -26,22 +27,6 @@ fn section_of(link: &Link) -> Section
     } else {
         link.section
     }
-}
-
-fn rank(section: Section) -> u8
-    ensures { result ≡ rank section }
-{
-    match section {
-        Section::Text | Section::Symbol => 0,
-        Section::Linkage => 1,
-        Section::Static => 2,
-    }
-}
-
-fn later_section(a: Section, b: Section) -> Section
-    ensures { result ≡ later_section a b }
-{
-    if rank(a) <= rank(b) { b } else { a }
 }
 
 /// The place that a link names in the object that it leads to; L3 where the object does not define its entry.

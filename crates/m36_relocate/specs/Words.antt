@@ -6,6 +6,7 @@ use Rattle.std.specs.Prelude.{slice_set}
 use Rattle.obj36_parts.specs.Fields.{RelocFields}
 use Rattle.obj36_parts.specs.PartsFields.{PartsFields}
 use Rattle.obj36_parts.specs.Halves.{left, right, joined}
+use Rattle.obj36_parts.specs.ObjectSegment.{is_text_section}
 use Rattle.obj36_parts.specs.declared.section.Section.{Section}
 use Rattle.obj36_parts.specs.declared.section.Section.TheVariants.{Text, Linkage, Symbol, Static}
 use Rattle.m36_relocate.specs.Fields.{ShapeFields, BasesFields}
@@ -49,12 +50,6 @@ part_fits m r w =
     else nat_lt (offset_raised m r.target (offset_in w)) (2 ^ 15 + 2 ^ 14)
 
 -- ---- the words of a component: those of its text, or its static words
-
-abbrev pub is_text_section : Section → Bool
-is_text_section Text = true
-is_text_section Linkage = false
-is_text_section Symbol = false
-is_text_section Static = false
 
 -- whether a relocation's place is among static words, or in the text
 abbrev pub stands_in : Bool → RelocFields → Bool

@@ -1,11 +1,12 @@
 //! Parts of words that move: halves, and bits 3 to 17.
 
 ghost use Rattle.std.specs.Prelude.{ℕ, ◌≡◌, ◌+◌, ◌-◌, ◌*◌, ◌/◌, ◌%◌, ◌^◌, ◌<◌, ◌≤◌, length, slice_index, slice_set};
-ghost use Rattle.m36_relocate.specs.Words.{offset_in, with_offset, below_zero, offset_raised, word_moved, part_fits, is_text_section, stands_in, start_of, place_in, moved_at, one_moved, words_moved, one_fits, all_fit};
+ghost use Rattle.m36_relocate.specs.Words.{offset_in, with_offset, below_zero, offset_raised, word_moved, part_fits, stands_in, start_of, place_in, moved_at, one_moved, words_moved, one_fits, all_fit};
 
 use crate::layout::{Bases, Moving, Shape, number_moved};
 use m36_word::Word;
 use obj36_parts::halves::{left_of, right_of, word_of};
+use obj36_parts::sections::is_text_section;
 use obj36_parts::{Reloc, Section};
 
 // Bits 3 to 17 of a word.
@@ -79,12 +80,6 @@ fn part_fits(m: &Moving, r: &Reloc, w: Word) -> bool
         return true;
     }
     offset_raised(m, r.target, offset_in(w)) < (1 << 15) + (1 << 14)
-}
-
-fn is_text_section(section: Section) -> bool
-    ensures { result ≡ is_text_section section }
-{
-    matches!(section, Section::Text)
 }
 
 /// Whether a relocation's place is among static words, or in the text.

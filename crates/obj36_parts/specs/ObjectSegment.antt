@@ -28,6 +28,24 @@ place_number Linkage = 1
 place_number Static = 2
 place_number Symbol = 3
 
+-- whether a section is the text
+abbrev pub is_text_section : Section → Bool
+is_text_section Text = true
+is_text_section Linkage = false
+is_text_section Symbol = false
+is_text_section Static = false
+
+-- the order of sections, as values count in them: text and symbol, then linkage, then static
+abbrev pub rank : Section → ℕ
+rank Text = 0
+rank Symbol = 0
+rank Linkage = 1
+rank Static = 2
+
+-- Of the section of a link and that of the definition that it names, a value counts in the later.
+abbrev pub later_section : Section → Section → Section
+later_section a b = if nat_le (rank a) (rank b) then b else a
+
 -- ---- what is written where
 
 -- whether the parts have a static section of their own

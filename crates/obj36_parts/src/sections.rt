@@ -4,7 +4,8 @@ ghost use Rattle.std.specs.Prelude.{ℕ, List, [], ◌∷◌, ◌++◌, ◌≡�
 ghost use Rattle.std.specs.Prelude.{length, drop, OnOk, IfOk};
 ghost use Rattle.obj36_parts.specs.Halves.{joined};
 ghost use Rattle.obj36_parts.specs.Names.{with_names, place_of, all_name_words};
-ghost use Rattle.obj36_parts.specs.ObjectSegment.{class_number, place_number, place_if_any};
+ghost use Rattle.obj36_parts.specs.ObjectSegment.{class_number, place_number, is_text_section};
+ghost use Rattle.obj36_parts.specs.ObjectSegment.{rank, later_section, place_if_any};
 ghost use Rattle.obj36_parts.specs.ObjectSegment.{class_of, definition_names, all_link_names};
 ghost use Rattle.obj36_parts.specs.ObjectSegment.{definition_words, subject_of, entry_place};
 ghost use Rattle.obj36_parts.specs.ObjectSegment.{expression_words, definition_part, link_words};
@@ -47,6 +48,33 @@ pub fn number(section: Section) -> u64
         Section::Static => 2,
         Section::Symbol => 3,
     }
+}
+
+/// Whether a section is the text.
+pub fn is_text_section(section: Section) -> bool
+    ensures { result ≡ is_text_section section }
+{
+    match section {
+        Section::Text => true,
+        Section::Linkage | Section::Symbol | Section::Static => false,
+    }
+}
+
+fn rank(section: Section) -> u8
+    ensures { result ≡ rank section }
+{
+    match section {
+        Section::Text | Section::Symbol => 0,
+        Section::Linkage => 1,
+        Section::Static => 2,
+    }
+}
+
+/// The later of the section of a link and that of the definition that it names: a value counts in it.
+pub fn later_section(a: Section, b: Section) -> Section
+    ensures { result ≡ later_section a b }
+{
+    if rank(a) <= rank(b) { b } else { a }
 }
 
 #[tactic(auto, unfolding(crate::specs::ObjectSegment::place_if_any))]
