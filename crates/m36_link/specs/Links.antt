@@ -1,18 +1,12 @@
 -- The link that a place names. What is looked at is the object as it was booted, never the words
 -- that were laid, which the program may have changed.
 use Rattle.std.specs.Prelude.{ℕ, ◌+◌, ◌-◌, ◌/◌, ◌%◌, Bool, ◌&&◌, nat_eq, nat_le, if◌then◌else◌}
-use Rattle.std.specs.Prelude.{List, length, find, slice_get, Option, Some, None, is_some}
-use Rattle.std.specs.Prelude.{option_and_then}
+use Rattle.std.specs.Prelude.{List, find, slice_get, Option, Some, None, is_some, option_and_then}
 use Rattle.m36_model.specs.Fields.{AtFields}
 use Rattle.obj36_parts.specs.Fields.{LinkFields}
-use Rattle.obj36_parts.specs.PartsFields.{PartsFields}
-use Rattle.obj36_parts.specs.ObjectSegment.{inner_statics}
+use Rattle.obj36_parts.specs.ObjectSegment.{first_link}
 use Rattle.m36_link.specs.Fields.{LaidFields}
 use Rattle.m36_link.specs.Known.{linkage_segment, object_in}
-
--- where the first link stands in the linkage section: behind its eight words and static words
-abbrev pub first_link : PartsFields → ℕ
-first_link o = 8 + length (inner_statics o)
 
 -- the link whose even word a word is, where the first link stands at another
 unfoldable pub link_from : ℕ → ℕ → List LinkFields → Option LinkFields

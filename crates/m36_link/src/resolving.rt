@@ -1,9 +1,8 @@
 //! The answer to a link.
 
-ghost use Rattle.std.specs.Prelude.{ℕ, ◌≡◌, ◌+◌, ◌<◌, ◌≤◌, ◌^◌, find, length, option_copied, IfOk, IfSome};
-ghost use Rattle.obj36_parts.specs.ObjectSegment.{inner_statics};
+ghost use Rattle.std.specs.Prelude.{ℕ, ◌≡◌, ◌<◌, ◌≤◌, ◌^◌, find, length, option_copied, IfOk, IfSome};
 ghost use Rattle.m36_link.specs.Known.{segment_of, object_in, laid_words};
-ghost use Rattle.m36_link.specs.Links.{first_link, link_from, link_in, holds_link, section_at};
+ghost use Rattle.m36_link.specs.Links.{link_from, link_in, holds_link, section_at};
 ghost use Rattle.m36_link.specs.Snap.{outer_landing, directory_of, landing_of, words_laid, lay_of, snap_by, outer_snap, snap_of, SnapSays};
 
 use crate::file::{File, file_of, object_in, place_of};
@@ -20,19 +19,6 @@ use obj36_parts::sections::push_all;
 use std::alloc::Global;
 
 // ---- the link that a place names
-
-// Where the first link of an object stands in its linkage section.
-fn first_link(object: &Object) -> u64
-    ensures value { result ≡ first_link object.now }
-    ensures bound { result ≤ 2 ^ 63 + 8 }
-{
-    let parts = object.parts();
-    if parts.version == 2 {
-        8
-    } else {
-        8 + parts.statics.slice().len() as u64
-    }
-}
 
 // The link whose even word a word is, where the first link stands at another.
 #[tactic(auto, unfolding(crate::specs::Links::link_from))]
@@ -53,7 +39,7 @@ fn link_in(files: &[File], word: u32, section: Laid) -> Option<&Link>
 {
     match object_in(files, section.seg) {
         Some(object) => link_from(
-            section.base as u64 + first_link(object),
+            section.base as u64 + object.parts().first_link(),
             word as u64,
             object.links(),
         ),

@@ -1,10 +1,9 @@
 -- Where the sections of an object are.
 use Rattle.std.proofs.Common.{ℕ, ◌≡◌, ◌+◌, ◌*◌, ◌^◌, ◌≤◌, Bool, true, false, cond, List, ◌++◌, length, append_assoc, length-append, arith}
 use Rattle.obj36_parts.specs.PartsFields.{PartsFields}
-use Rattle.obj36_parts.specs.ObjectSegment.{is_newer, inner_statics, outer_statics, definition_section, linkage_section, symbol_section, map_words, words_of, is_well_formed}
+use Rattle.obj36_parts.specs.ObjectSegment.{is_newer, inner_statics, outer_statics, definition_section, linkage_section, first_link, symbol_section, map_words, words_of, is_well_formed}
 use Rattle.obj36_parts.proofs.Formed.{is_formed}
 use Rattle.obj36_parts.proofs.LengthLaws.{length-map_part, length-linkage_part}
-use Rattle.m36_list.specs.Print.{first_link}
 
 map_long : (b : Bool) → 7 ≤ cond b 8 7
 map_long true = omega arith

@@ -5,9 +5,8 @@ use Rattle.std.specs.List.{join_with_byte, flat_map}
 use Rattle.m36_text.specs.Digits.{octal_text, decimal_text}
 use Rattle.obj36_parts.specs.Fields.{LinkFields}
 use Rattle.obj36_parts.specs.PartsFields.{PartsFields}
-use Rattle.obj36_parts.specs.ObjectSegment.{is_newer, inner_statics, outer_statics}
+use Rattle.obj36_parts.specs.ObjectSegment.{is_newer, outer_statics, first_link, words_of}
 use Rattle.obj36_parts.specs.ObjectSegment.{definition_section, linkage_section, symbol_section}
-use Rattle.obj36_parts.specs.ObjectSegment.{words_of}
 use Rattle.obj36_parts.specs.declared.section.Section.{Section}
 use Rattle.obj36_parts.specs.declared.section.Section.TheVariants.{Text, Linkage, Symbol, Static}
 use Rattle.obj36_parts.specs.declared.definition.Named.{Named}
@@ -75,10 +74,6 @@ link_line at l =
     line
     (codes "link" ∷ octal_text 6 at ∷ reference_text l ∷ octal_text 6 l.expr
     ∷ octal_text 2 l.modifier ∷ [])
-
--- the first link stands behind eight words of the header and the static words there
-abbrev pub first_link : PartsFields → ℕ
-first_link p = 8 + length (inner_statics p)
 
 -- links from an offset on, of two words each
 unfoldable pub link_lines : ℕ → List LinkFields → List ℕ

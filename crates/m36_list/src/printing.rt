@@ -1,8 +1,9 @@
 //! The print of an object.
 
 ghost use Rattle.std.specs.Prelude.{◌+◌, ◌*◌, ◌++◌, ◌≡◌, ◌^◌, ◌≤◌, length, IfOk, OnOk};
+ghost use Rattle.obj36_parts.specs.ObjectSegment.{first_link};
 ghost use Rattle.m36_list.specs.Counts.{IsCount};
-ghost use Rattle.m36_list.specs.Print.{first_link, object_line, print_of};
+ghost use Rattle.m36_list.specs.Print.{object_line, print_of};
 
 use crate::counts::{Counts, counted};
 use crate::definitions::put_definitions;
@@ -51,12 +52,13 @@ fn put_object(text: &mut Text, name: &[u8], count: Counts, o: &Object) -> Result
     put_last(text, decimal(count.whole).as_str().as_bytes())
 }
 
-// The offset of the first link in the linkage section, at whose end the links stand.
+// Where the first link stands; all links lie in the first 2^18 words of the linkage section.
 #[tactic(auto, using(crate::proofs::SectionPlaces::links_behind))]
 fn first_link(count: Counts, o: &Object) -> u64
     requires { IsCount count o.now }
     ensures value { result ≡ first_link o.now }
     ensures fits { result + 2 * length o.now.links ≤ 2 ^ 18 }
 {
-    count.linkage - 2 * o.links().len() as u64
+    let _count = count.linkage;
+    o.parts().first_link()
 }

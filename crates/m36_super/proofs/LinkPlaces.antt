@@ -7,11 +7,11 @@ use Rattle.m36_model.specs.Fields.{AtFields}
 use Rattle.m36_dir.specs.Catalog.{CatalogFields}
 use Rattle.obj36_parts.specs.Fields.{LinkFields}
 use Rattle.obj36_parts.specs.PartsFields.{PartsFields}
-use Rattle.obj36_parts.specs.ObjectSegment.{inner_statics, outer_statics, linkage_section}
+use Rattle.obj36_parts.specs.ObjectSegment.{inner_statics, outer_statics, linkage_section, first_link}
 use Rattle.obj36_parts.proofs.LengthLaws.{length-linkage_part}
 use Rattle.m36_link.specs.Fields.{LaidFields, KnownFields, SnapFields}
 use Rattle.m36_link.specs.Known.{linkage_segment, object_in, laid_words}
-use Rattle.m36_link.specs.Links.{first_link, link_from, link_in, holds_link, section_at}
+use Rattle.m36_link.specs.Links.{link_from, link_in, holds_link, section_at}
 use Rattle.m36_link.specs.Snap.{RefusedFields, snap_of, snap_in}
 use Rattle.m36_link.specs.Laws.{IsWhole, IsMade}
 

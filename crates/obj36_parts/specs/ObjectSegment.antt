@@ -153,6 +153,10 @@ linkage_part statics ls expressions =
 unfoldable pub linkage_section : PartsFields → List ℕ
 linkage_section p = linkage_part (inner_statics p) p.links (2 + 2 * length p.definitions)
 
+-- where the first link stands in it: behind its eight header words and the static words there
+abbrev pub first_link : PartsFields → ℕ
+first_link p = 8 + length (inner_statics p)
+
 -- ---- the symbol section
 
 unfoldable pub relocation_word : RelocFields → ℕ

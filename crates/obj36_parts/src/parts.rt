@@ -1,9 +1,9 @@
 //! The parts of an object.
 
-ghost use Rattle.std.specs.Prelude.{ℕ, ◌≡◌, ◌+◌, ◌*◌, ◌<◌, ◌^◌, length, [], nat_eq, if◌then◌else◌};
-ghost use Rattle.std.specs.Prelude.{IsTrue};
-ghost use Rattle.obj36_parts.specs.ObjectSegment.{inner_statics, outer_statics, words_of};
-ghost use Rattle.obj36_parts.specs.ObjectSegment.{is_well_formed};
+ghost use Rattle.std.specs.Prelude.{ℕ, ◌≡◌, ◌+◌, ◌*◌, ◌<◌, ◌≤◌, ◌^◌, length, [], nat_eq};
+ghost use Rattle.std.specs.Prelude.{if◌then◌else◌, IsTrue};
+ghost use Rattle.obj36_parts.specs.ObjectSegment.{inner_statics, outer_statics, first_link};
+ghost use Rattle.obj36_parts.specs.ObjectSegment.{words_of, is_well_formed};
 ghost use Rattle.obj36_parts.specs.Sizes.{HasShortLists};
 
 use crate::checks::{
@@ -83,6 +83,14 @@ impl Parts {
         } else {
             &[]
         }
+    }
+
+    /// Where the first link stands in the linkage section: behind its eight header words and the static words there.
+    pub fn first_link(&self) -> u64
+        ensures value { result ≡ first_link self.now }
+        ensures bound { result ≤ 2 ^ 63 + 8 }
+    {
+        8 + self.inner_statics().len() as u64
     }
 
     /// Whether each list has fewer than 2^32 members, as those of each object have.
