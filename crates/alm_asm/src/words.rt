@@ -1,7 +1,7 @@
 //! The words that lines place.
 
 ghost use Rattle.std.specs.Prelude.{ℕ, Bool, List, [], ◌∷◌, ◌++◌, ◌≡◌, ◌+◌, ◌*◌, ◌%◌, ◌^◌, ◌<◌};
-ghost use Rattle.std.specs.Prelude.{◌≤◌, length, replicate, Option, OnOk, IfOk};
+ghost use Rattle.std.specs.Prelude.{◌≤◌, length, Option, OnOk, IfOk};
 ghost use Rattle.alm_lines.specs.Arguments.{first_arg, second_arg, terms_in};
 ghost use Rattle.alm_lines.specs.Spots.{start};
 ghost use Rattle.alm_lines.specs.Sums.{half_of, offset_of};
@@ -20,7 +20,7 @@ use alm_parse::{Arg, Deed, Line36, Span, Term};
 use m36_inst::Inst;
 use m36_word::{NoMemory, Word, Words};
 use obj36::Section;
-use obj36_parts::sections::push_all;
+use obj36_parts::sections::{push_all, push_zeros};
 use std::alloc::Global;
 
 /// An operation code and its bit 27.
@@ -152,15 +152,6 @@ fn halves_word(text: &[u8], tables: &Tables, spot: Spot, args: &[Arg]) -> Word
     let left = sum_of(text, &tables.symbols, spot, first_terms(args));
     let right = sum_of(text, &tables.symbols, spot, second_terms(args));
     word_of(left.value, right.value)
-}
-
-fn push_zeros(words: &mut Words, count: u64) -> Result<(), NoMemory>
-    ensures { OnOk result (words.new ≡ words.old ++ replicate count 0) }
-{
-    for _ in 0..count {
-        words.push(Word::ZERO)?;
-    }
-    Ok(())
 }
 
 fn push_words(

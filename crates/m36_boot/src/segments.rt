@@ -1,6 +1,6 @@
 //! The descriptors and the words of segments.
 
-ghost use Rattle.std.specs.Prelude.{ℕ, ◌≡◌, ◌+◌, ◌*◌, ◌/◌, ◌<◌, ◌≤◌, ◌^◌, ◌++◌, ◌⊎◌, length, replicate, All, OnOk, IfOk, IfSome, true};
+ghost use Rattle.std.specs.Prelude.{ℕ, ◌≡◌, ◌+◌, ◌*◌, ◌/◌, ◌<◌, ◌≤◌, ◌^◌, ◌⊎◌, length, All, IfOk, IfSome, true};
 ghost use Rattle.m36_desc.specs.Access.{in_order};
 ghost use Rattle.m36_model.specs.BootedCore.{table_at};
 ghost use Rattle.m36_boot.specs.Segments.{paged_segment, ring_segment, limited_segment, booted_sdw, stack_words, lot_of, linkage_words, booted_words};
@@ -11,7 +11,7 @@ use m36_desc::Sdw;
 use m36_dir::{Catalog, SegKind, Segment};
 use m36_link::{FIRST_LINKAGE, FIRST_SEGMENT, File, LOT_WORDS, Lay};
 use m36_word::{NoMemory, Word, Words};
-use obj36_parts::sections::push_all;
+use obj36_parts::sections::{push_all, push_zeros};
 use std::alloc::Global;
 
 /// The number of the stack of ring 0.
@@ -126,16 +126,6 @@ pub(crate) fn descriptor(catalog: &Catalog, files: &[File], limits: &[u16], seg:
 
 // ---- words
 
-// Zeros at the end.
-fn push_zeros(words: &mut Words, count: usize) -> Result<(), NoMemory>
-    ensures { OnOk result (words.new ≡ words.old ++ replicate count 0) }
-{
-    for i in 0..count {
-        words.push(Word::ZERO)?;
-    }
-    Ok(())
-}
-
 // A word of two halves.
 fn joined(left: u32, right: u32) -> Word
     requires left { left < 2 ^ 18 }
@@ -166,11 +156,11 @@ fn lot_of(alloc: Global, lay: &Lay) -> Result<Words, NoMemory>
     ensures { IfOk result (λ words. words ≡ lot_of lay.now) }
 {
     let mut words = Words::new(alloc);
-    push_zeros(&mut words, lay.seg as usize)?;
+    push_zeros(&mut words, lay.seg as u64)?;
     words.push(lay.lot_word())?;
     push_zeros(
         &mut words,
-        (LOT_WORDS - 1).saturating_sub(lay.seg as u32) as usize,
+        (LOT_WORDS - 1).saturating_sub(lay.seg as u32) as u64,
     )?;
     Ok(words)
 }

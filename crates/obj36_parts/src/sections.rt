@@ -1,7 +1,7 @@
 //! The sections of an object, made from its parts.
 
 ghost use Rattle.std.specs.Prelude.{ℕ, List, [], ◌∷◌, ◌++◌, ◌≡◌, ◌+◌, ◌-◌, ◌*◌, ◌^◌, ◌<◌, ◌≤◌};
-ghost use Rattle.std.specs.Prelude.{length, drop, OnOk, IfOk};
+ghost use Rattle.std.specs.Prelude.{length, drop, replicate, OnOk, IfOk};
 ghost use Rattle.obj36_parts.specs.Halves.{joined};
 ghost use Rattle.obj36_parts.specs.Names.{with_names, place_of, all_name_words};
 ghost use Rattle.obj36_parts.specs.ObjectSegment.{class_number, place_number, is_text_section};
@@ -96,6 +96,16 @@ pub fn push_all(out: &mut Words, words: &[Word]) -> Result<(), NoMemory>
 {
     for word in words {
         out.push(*word)?;
+    }
+    Ok(())
+}
+
+/// Adds so many zeros at the end.
+pub fn push_zeros(out: &mut Words, count: u64) -> Result<(), NoMemory>
+    ensures { OnOk result (out.new ≡ out.old ++ replicate count 0) }
+{
+    for _ in 0..count {
+        out.push(Word::ZERO)?;
     }
     Ok(())
 }
