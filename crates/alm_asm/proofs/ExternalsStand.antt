@@ -7,6 +7,7 @@ use Rattle.alm_parse.specs.declared.args.Arg.TheVariants as arg
 use Rattle.alm_parse.specs.declared.deed.Deed.{Deed}
 use Rattle.alm_parse.specs.declared.deed.Deed.TheVariants as deed
 use Rattle.alm_parse.specs.declared.line.Line36.{Line36}
+use Rattle.alm_parse.specs.Bodies.{own_section}
 use Rattle.obj36_parts.specs.Fields.{LinkFields}
 use Rattle.obj36_parts.specs.Indexes.{same_link}
 use Rattle.obj36_parts.specs.ObjectSegment.{is_text_section}
@@ -16,7 +17,7 @@ use Rattle.alm_lines.specs.Refusals.{sooner, refusal_at}
 use Rattle.alm_lines.specs.SpotFields.{Spot}
 use Rattle.alm_lines.specs.declared.refusal.Code.TheVariants.{E7}
 use Rattle.alm_lines.specs.declared.refusal.Room.TheVariants.{Half}
-use Rattle.alm_asm.specs.Links.{own_section, link_of, operand_args, link_in, links_from}
+use Rattle.alm_asm.specs.Links.{link_of, operand_args, link_in, links_from}
 use Rattle.alm_asm.specs.LineRefusals.{unless, op_place, external_place, may_name, link_expression, reaches, operand_refusal, refusal_of_deed, lines_refusal}
 use Rattle.alm_asm.specs.Assembles.{is_external}
 use Rattle.alm_asm.specs.declared.tables.Tables.{Tables}

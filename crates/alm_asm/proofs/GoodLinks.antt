@@ -9,6 +9,7 @@ use Rattle.alm_tokens.specs.declared.expression.Term.{Term}
 use Rattle.alm_parse.specs.declared.args.Arg.{Arg}
 use Rattle.alm_parse.specs.declared.args.Arg.TheVariants as arg
 use Rattle.alm_parse.specs.declared.line.Line36.{Line36}
+use Rattle.alm_parse.specs.Bodies.{own_section}
 use Rattle.obj36_parts.specs.declared.section.Section.{Section}
 use Rattle.obj36_parts.specs.declared.section.Section.TheVariants.{Text, Linkage, Symbol, Static}
 use Rattle.obj36_parts.specs.declared.definition.Named.{Named}
@@ -21,7 +22,7 @@ use Rattle.alm_lines.specs.Arguments.{name_at, first_arg}
 use Rattle.alm_lines.specs.Spots.{below}
 use Rattle.alm_lines.specs.Expressions.{sum_of}
 use Rattle.alm_lines.specs.Refusals.{sooner, refusal_at, has_value}
-use Rattle.alm_asm.specs.Links.{own_section, link_kind, link_section, link_name, entry_name, link_of, operand_args, link_by, link_in, with_link, links_after, links_from}
+use Rattle.alm_asm.specs.Links.{link_kind, link_section, link_name, entry_name, link_of, operand_args, link_by, link_in, with_link, links_after, links_from}
 use Rattle.obj36_parts.specs.Indexes.{same_link}
 use Rattle.alm_asm.specs.Definitions.{definitions_after}
 use Rattle.alm_asm.specs.LineRefusals.{unless, op_place, needs_static, may_name, link_expression, reaches, operand_refusal, refusal_of_deed, lines_refusal}

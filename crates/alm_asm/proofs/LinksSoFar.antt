@@ -11,6 +11,7 @@ use Rattle.alm_parse.specs.declared.args.Arg.TheVariants as arg
 use Rattle.alm_parse.specs.declared.deed.Deed.{Deed}
 use Rattle.alm_parse.specs.declared.deed.Deed.TheVariants as deed
 use Rattle.alm_parse.specs.declared.line.Line36.{Line36}
+use Rattle.alm_parse.specs.Bodies.{own_section}
 use Rattle.obj36_parts.specs.Fields.{LinkFields}
 use Rattle.obj36_parts.specs.declared.definition.Named.{Named}
 use Rattle.obj36_parts.specs.Indexes.{same_link}
@@ -22,7 +23,7 @@ use Rattle.alm_lines.specs.Refusals.{sooner, refusal_at, has_value}
 use Rattle.alm_lines.specs.declared.sum.Sum.{Sum}
 use Rattle.alm_lines.specs.declared.refusal.Code.TheVariants.{E7}
 use Rattle.alm_lines.specs.declared.refusal.Room.TheVariants.{Half}
-use Rattle.alm_asm.specs.Links.{own_section, link_of, operand_args, link_by, link_in, with_link, links_after, links_from, link_place}
+use Rattle.alm_asm.specs.Links.{link_of, operand_args, link_by, link_in, with_link, links_after, links_from, link_place}
 use Rattle.alm_asm.specs.Definitions.{gives_entries, definitions_after, definitions_refused}
 use Rattle.alm_asm.specs.LineRefusals.{unless, op_place, may_name, is_in_reach, link_expression, reaches, external_refusal}
 use Rattle.alm_asm.specs.LineRefusals.{operand_refusal, refusal_of_deed, line_refusal, with_links, otherwise, lines_refusal}

@@ -26,7 +26,7 @@ use Rattle.alm_tokens.specs.Bytes.{begins_symbol, is_character}
 use Rattle.alm_tokens.specs.Tokens.{slice_of, is_text, is_symbol, span_at}
 use Rattle.alm_parse.specs.Refusals.{refused, unless}
 use Rattle.alm_tokens.specs.Expressions.{is_term_at, expression_pieces, place_over, term_of}
-use Rattle.alm_parse.specs.Bodies.{place_of, body_of, is_segment, is_entry, is_tail, is_body, body_pieces}
+use Rattle.alm_parse.specs.Bodies.{place_of, body_of, own_section, is_segment, is_entry, is_tail, is_body, body_pieces}
 use Rattle.alm_parse.specs.Operands.{body_span, tag_given, entry_given, operand_of, is_operand, operand_given}
 use Rattle.alm_parse.specs.Members.{symbol_arg, symbols_given, number_arg, numbers_given}
 use Rattle.alm_tokens.specs.Lists.{members, is_symbol_at, is_written_at, place_out}
@@ -37,11 +37,9 @@ use Rattle.alm_parse.specs.Operations.{operation_of}
 use Rattle.alm_parse.specs.Lines.{missing, args_with, operand_for, args_by, args_of, label_refusal, line_of, line_with, line_by, line_from, line_unless, line_given}
 use Rattle.alm_tokens.specs.Rows.{rows_of}
 use Rattle.alm_parse.specs.Sources.{names_end, continued, read_lines, with_text, parsed}
-use Rattle.obj36_parts.specs.declared.section.Section.TheVariants.{Text, Linkage, Static}
 use Rattle.obj36_parts.specs.Names.{is_name_character, is_name}
 use Rattle.obj36_parts.proofs.SizeLaws.{same_is}
 use Rattle.alm_lines.specs.Arguments.{name_at}
-use Rattle.alm_asm.specs.Links.{own_section}
 use Rattle.alm_asm.specs.Laws.{segment_is_named, entry_is_named, arg_is_named, args_are_named, lines_are_named}
 
 -- ---- symbols are names
@@ -216,19 +214,14 @@ placed text operand arguments e =
 
 -- ---- operands
 
-segment_by : (y t l s n : Bool) → (((y || t) || l) || s) ≡ true → (y ≡ true → n ≡ true)
-    → (is_some (cond t (Some Text) (cond l (Some Linkage) (cond s (Some Static) None))) || n) ≡ true
-segment_by y true l s n e h = refl
-segment_by y false true s n e h = refl
-segment_by y false false true n e h = refl
-segment_by true false false false n e h = h refl
-segment_by false false false false n e h = absurd (true≢false (sym e))
+segment_by : (y s n : Bool) → (y || s) ≡ true → (y ≡ true → n ≡ true) → (s || n) ≡ true
+segment_by y true n e h = refl
+segment_by true false n e h = h refl
+segment_by false false n e h = absurd (true≢false (sym e))
 
 segment_named : (text : List ℕ) (span : Span) → is_segment (slice_of text span) ≡ true → segment_is_named text (Some span) ≡ true
-unfolding own_section
 segment_named text span e =
-    let bytes = slice_of text span in
-    segment_by (is_symbol (slice_of text span)) (is_text (codes "*text") (slice_of text span)) (is_text (codes "*link") (slice_of text span)) (is_text (codes "*static") (slice_of text span)) (is_name (name_at text span)) e (symbol_named text span)
+    segment_by (is_symbol (slice_of text span)) (is_some (own_section (slice_of text span))) (is_name (name_at text span)) e (symbol_named text span)
 
 entry_by : (text : List ℕ) (span : Span) (b y : Bool) → (b || y) ≡ true → (y ≡ true → is_name (name_at text span) ≡ true) → entry_is_named text (cond b None (Some span)) ≡ true
 entry_by text span true y e h = refl

@@ -8,12 +8,12 @@ use Rattle.alm_tokens.specs.declared.span.Span.{Span}
 use Rattle.alm_parse.specs.declared.args.Arg.{Arg}
 use Rattle.alm_parse.specs.declared.args.Arg.TheVariants as arg
 use Rattle.alm_parse.specs.declared.line.Line36.{Line36}
+use Rattle.alm_parse.specs.Bodies.{own_section}
 use Rattle.obj36_parts.specs.declared.section.Section.{Section}
 use Rattle.obj36_parts.specs.declared.section.Section.TheVariants.{Text, Linkage, Symbol, Static}
 use Rattle.obj36_parts.specs.Names.{is_name}
 use Rattle.obj36_parts.specs.ObjectSegment.{words_of, is_well_formed}
 use Rattle.alm_lines.specs.Arguments.{name_at}
-use Rattle.alm_asm.specs.Links.{own_section}
 use Rattle.alm_asm.specs.Assembly.{parts_of, refusal_of}
 use Rattle.alm_lines.specs.Symbols.{sum_named}
 use Rattle.alm_lines.specs.Spots.{start, count_in, end_of}

@@ -1,15 +1,16 @@
 -- Links: the external operands of instructions, each once, in the order of their first use.
-use Rattle.std.specs.Prelude.{ℕ, ◌+◌, ◌*◌, ◌%◌, ◌^◌, false, List, [], ◌∷◌, ◌++◌, codes, Option}
+use Rattle.std.specs.Prelude.{ℕ, ◌+◌, ◌*◌, ◌%◌, ◌^◌, false, List, [], ◌∷◌, ◌++◌, Option}
 use Rattle.std.specs.Prelude.{Some, None, unwrap_or, if◌then◌else◌}
 use Rattle.std.specs.List.{list_any, position}
-use Rattle.alm_tokens.specs.Tokens.{slice_of, is_text}
+use Rattle.alm_tokens.specs.Tokens.{slice_of}
 use Rattle.alm_tokens.specs.declared.span.Span.{Span}
 use Rattle.alm_tokens.specs.declared.expression.Term.{Term}
 use Rattle.alm_parse.specs.declared.args.Arg.{Arg}
 use Rattle.alm_parse.specs.declared.args.Arg.TheVariants as arg
 use Rattle.alm_parse.specs.declared.line.Line36.{Line36}
+use Rattle.alm_parse.specs.Bodies.{own_section}
 use Rattle.obj36_parts.specs.declared.section.Section.{Section}
-use Rattle.obj36_parts.specs.declared.section.Section.TheVariants.{Text, Linkage, Static}
+use Rattle.obj36_parts.specs.declared.section.Section.TheVariants.{Text}
 use Rattle.obj36_parts.specs.Fields.{LinkFields}
 use Rattle.obj36_parts.specs.Indexes.{same_link}
 use Rattle.alm_lines.specs.Sums.{half_of}
@@ -24,15 +25,6 @@ use Rattle.alm_parse.specs.declared.deed.Deed.{Deed}
 use Rattle.alm_parse.specs.declared.deed.Deed.TheVariants as deed
 
 -- ---- a link
-
--- the own section that a segment names
-unfoldable pub own_section : List ℕ → Option Section
-own_section name =
-    if is_text (codes "*text") name
-    then Some Text
-    else (if is_text (codes "*link") name
-    then Some Linkage
-    else (if is_text (codes "*static") name then Some Static else None))
 
 abbrev pub link_kind : Option Section → Option Span → ℕ
 link_kind (Some section) None = 1

@@ -15,7 +15,7 @@ ghost use Rattle.alm_asm.specs.LineRefusals.{with_links};
 ghost use Rattle.alm_asm.specs.Links.{links_after, links_from};
 
 use crate::definitions::push_definitions;
-use crate::links::{link_of, link_place, note_link, own_section};
+use crate::links::{link_of, link_place, note_link};
 use crate::tables::Tables;
 use alm_lines::arguments::{first_symbol, first_terms, second_terms, section_in};
 use alm_lines::expression::expression_place;
@@ -24,7 +24,7 @@ use alm_lines::refusal::{
 };
 use alm_lines::spot::{Spot, below};
 use alm_lines::symbols::Symbols;
-use alm_parse::{Arg, Deed, Line36, Span, Term};
+use alm_parse::{Arg, Deed, Line36, Span, Term, own_section};
 use m36_word::NoMemory;
 use obj36::{Defs, Section};
 use obj36_parts::sections::is_text_section;

@@ -5,10 +5,9 @@ ghost use Rattle.std.specs.Prelude.{OnOk, IfOk};
 ghost use Rattle.std.specs.List.{list_any, position};
 ghost use Rattle.alm_lines.specs.Arguments.{first_arg};
 ghost use Rattle.alm_lines.specs.Spots.{start};
-ghost use Rattle.alm_tokens.specs.Tokens.{slice_of};
 ghost use Rattle.alm_lines.specs.Arguments.{name_at};
 ghost use Rattle.alm_asm.specs.Words.{same_section};
-ghost use Rattle.alm_asm.specs.Links.{own_section, link_kind, link_section, link_name, entry_name};
+ghost use Rattle.alm_asm.specs.Links.{link_kind, link_section, link_name, entry_name};
 ghost use Rattle.alm_asm.specs.Links.{link_of, operand_args, link_by, link_in, with_link};
 ghost use Rattle.alm_asm.specs.Links.{links_after, links_from, link_place};
 ghost use Rattle.obj36_parts.specs.Indexes.{same_link};
@@ -19,36 +18,12 @@ use alm_lines::expression::sum_of;
 use alm_lines::refusal::{Room, has_value};
 use alm_lines::spot::{Spot, below};
 use alm_lines::symbols::Symbols;
-use alm_parse::span::bytes_of;
-use alm_parse::{Arg, Deed, Line36, Span, Term};
+use alm_parse::{Arg, Deed, Line36, Span, Term, own_section};
 use m36_text::Name;
 use m36_word::NoMemory;
 use obj36::{Link, Links, Section};
 use obj36_parts::sections::number;
 use std::alloc::Global;
-
-#[tactic(auto, unfolding(crate::specs::Links::own_section))]
-fn section_named(bytes: &[u8]) -> Option<Section>
-    ensures { result ≡ own_section bytes.now }
-{
-    if bytes == b"*text".as_slice() {
-        return Some(Section::Text);
-    }
-    if bytes == b"*link".as_slice() {
-        return Some(Section::Linkage);
-    }
-    if bytes == b"*static".as_slice() {
-        return Some(Section::Static);
-    }
-    None
-}
-
-/// The own section that a segment names.
-pub fn own_section(text: &[u8], segment: Span) -> Option<Section>
-    ensures { result ≡ own_section (slice_of text.now segment) }
-{
-    section_named(bytes_of(text, segment))
-}
 
 fn link_kind(own: Option<Section>, entry: Option<Span>) -> u8
     ensures { result ≡ link_kind own entry }

@@ -9,6 +9,8 @@ use Rattle.alm_tokens.specs.declared.span.Span.{Span}
 use Rattle.alm_tokens.specs.declared.pieces.Piece.{Piece}
 use Rattle.alm_parse.specs.declared.body.Body.{Body}
 use Rattle.alm_parse.specs.declared.body.Body.TheVariants.{Through, External, Plain}
+use Rattle.obj36_parts.specs.declared.section.Section.{Section}
+use Rattle.obj36_parts.specs.declared.section.Section.TheVariants.{Text, Linkage, Static}
 use Rattle.m36_text.specs.Texts.{is_name_character}
 use Rattle.alm_tokens.specs.Bytes.{is_sign}
 use Rattle.alm_tokens.specs.Tokens.{span_at, slice_of, is_text, is_symbol}
@@ -51,11 +53,18 @@ body_by text whole None = body_without_bar text whole (place_of text whole 36)
 unfoldable pub body_of : List ℕ → Span → Body
 body_of text whole = body_by text whole (place_of text whole 124)
 
+-- the own section that a segment names
+unfoldable pub own_section : List ℕ → Option Section
+own_section name =
+    if is_text (codes "*text") name
+    then Some Text
+    else (if is_text (codes "*link") name
+    then Some Linkage
+    else (if is_text (codes "*static") name then Some Static else None))
+
 -- the forms of the parts
 abbrev pub is_segment : List ℕ → Bool
-is_segment bytes =
-    is_symbol bytes || is_text (codes "*text") bytes || is_text (codes "*link") bytes
-    || is_text (codes "*static") bytes
+is_segment bytes = is_symbol bytes || is_some (own_section bytes)
 
 abbrev pub is_entry : List ℕ → Bool
 is_entry bytes = (length bytes == 0) || is_symbol bytes

@@ -3,7 +3,8 @@
 ghost use Rattle.std.specs.Prelude.{ℕ, ◌≡◌, ◌^◌, ◌<◌, ◌≤◌, ◌+◌, not, length, IfOk, IfSome};
 ghost use Rattle.std.specs.List.{position};
 ghost use Rattle.m36_text.specs.Texts.{is_name_character};
-ghost use Rattle.alm_parse.specs.Bodies.{place_of, symbol_end, external, body_of, is_segment, is_entry, is_tail, is_body, tail_pieces, body_pieces};
+ghost use Rattle.alm_tokens.specs.Tokens.{slice_of};
+ghost use Rattle.alm_parse.specs.Bodies.{place_of, symbol_end, external, body_of, own_section, is_segment, is_entry, is_tail, is_body, tail_pieces, body_pieces};
 
 use alm_tokens::bytes::is_sign;
 use alm_tokens::expression::expression_pieces;
@@ -13,6 +14,7 @@ use alm_tokens::span::{Span, bytes_of, first_byte};
 use alm_tokens::tokens::is_symbol;
 use m36_text::{is_name_character, lines};
 use m36_word::NoMemory;
+use obj36_parts::Section;
 use std::alloc::Global;
 
 /// What the bytes before the modifier are parted into.
@@ -107,13 +109,33 @@ pub fn body_of(text: &[u8], whole: Span) -> Body
     }
 }
 
+#[tactic(auto, unfolding(crate::specs::Bodies::own_section))]
+fn section_named(bytes: &[u8]) -> Option<Section>
+    ensures { result ≡ own_section bytes.now }
+{
+    if bytes == b"*text".as_slice() {
+        return Some(Section::Text);
+    }
+    if bytes == b"*link".as_slice() {
+        return Some(Section::Linkage);
+    }
+    if bytes == b"*static".as_slice() {
+        return Some(Section::Static);
+    }
+    None
+}
+
+/// The own section that a segment names.
+pub fn own_section(text: &[u8], segment: Span) -> Option<Section>
+    ensures { result ≡ own_section (slice_of text.now segment) }
+{
+    section_named(bytes_of(text, segment))
+}
+
 fn is_segment(bytes: &[u8]) -> bool
     ensures { result ≡ is_segment bytes.now }
 {
-    is_symbol(bytes)
-        || bytes == b"*text".as_slice()
-        || bytes == b"*link".as_slice()
-        || bytes == b"*static".as_slice()
+    is_symbol(bytes) || section_named(bytes).is_some()
 }
 
 fn is_entry(bytes: &[u8]) -> bool

@@ -44,6 +44,7 @@ pub mod source;
 
 pub use alm_tokens::{Atom, Expr, Span, Spans, Term, bytes_of, expression, span};
 pub use args::{Arg, Args};
+pub use body::own_section;
 pub use deed::Deed;
 pub use fault::AlmFault;
 pub use line::Line36;
