@@ -94,21 +94,21 @@ RunAnswers denied output limit system findings extent due =
     IsRunAnswer extent denied output limit system.lib (booted_of system) findings due
 
 pub run_whole :
-    (findings : List (ℕ × ℕ)) (denied : List (List ℕ)) (output : RunOutput) (limit : ℕ) (system : SuperFields) (how : Finish) (old now new : SinkState)
+    (findings : List (ℕ × ℕ)) (denied : List (List ℕ)) (output : RunOutput) (limit : ℕ) (system after : SuperFields) (how : Finish) (old now new : SinkState)
     → Grew old.written now.written (audit_text findings) → now.taken ≡ old.taken ++ audit_pieces findings → now.faults ≡ old.faults
-    → RanSays (ran.Whole how) denied output limit system now new
+    → RanSays (ran.Whole how) denied output limit system after now new
     → Puts (RunAnswers denied output limit system findings) (end_of (finish_status (Some how))) (finish_status (Some how)) old new
-run_whole findings denied output limit system how old now new grew took stood is =
+run_whole findings denied output limit system after how old now new grew took stood is =
     answered how (RunAnswers denied output limit system findings) (Told findings denied output is.turns (Some how)) old new
     (record { turns = is.turns; last = is.last; how = Some how; goes = is.goes; reaches = is.reaches; answer = refl })
     (told_whole findings denied output is.turns how old now new grew took stood is.puts)
 
 pub run_part :
-    (findings : List (ℕ × ℕ)) (denied : List (List ℕ)) (output : RunOutput) (limit : ℕ) (system : SuperFields) (old now new : SinkState)
+    (findings : List (ℕ × ℕ)) (denied : List (List ℕ)) (output : RunOutput) (limit : ℕ) (system after : SuperFields) (old now new : SinkState)
     → Grew old.written now.written (audit_text findings) → now.taken ≡ old.taken ++ audit_pieces findings → now.faults ≡ old.faults
-    → RanSays ran.Cut denied output limit system now new
+    → RanSays ran.Cut denied output limit system after now new
     → Puts (RunAnswers denied output limit system findings) (end_of status.WriteFault) status.WriteFault old new
-run_part findings denied output limit system old now new grew took stood says =
+run_part findings denied output limit system after old now new grew took stood says =
     let is = says.1 in
     record {
       due = Told findings denied output is.turns says.0;
@@ -117,12 +117,12 @@ run_part findings denied output limit system old now new grew took stood says =
     }
 
 pub run_starved :
-    (findings : List (ℕ × ℕ)) (denied : List (List ℕ)) (output : RunOutput) (limit : ℕ) (system : SuperFields) (old now new : SinkState)
+    (findings : List (ℕ × ℕ)) (denied : List (List ℕ)) (output : RunOutput) (limit : ℕ) (system after : SuperFields) (old now new : SinkState)
     → Grew old.written now.written (audit_text findings) → now.taken ≡ old.taken ++ audit_pieces findings → now.faults ≡ old.faults
-    → RanSays ran.Starved denied output limit system now new
+    → RanSays ran.Starved denied output limit system after now new
     → Puts (RunAnswers denied output limit system findings) (end_of status.NoMemory) status.NoMemory old new
 unfolding run_answer
-run_starved findings denied output limit system old now new grew took stood is =
+run_starved findings denied output limit system after old now new grew took stood is =
     inr (record {
       due = Told findings denied output is.turns None;
       is = record { turns = is.turns; last = is.last; how = None; goes = is.goes; reaches = is.reaches; answer = refl };

@@ -19,8 +19,8 @@ use Rattle.m36_booted.specs.declared.running.Progress.TheVariants as progress
 use Rattle.m36_booted.specs.declared.running.Ran.{Ran}
 use Rattle.m36_booted.specs.declared.running.Ran.TheVariants as ran
 use Rattle.m36_booted.specs.RunText.{steps_in, pieces_from, end_pieces, run_pieces}
-use Rattle.m36_booted.specs.Runs.{IsEvent, AwaitsLink, Extent, Whole, Begun, Starved, Reaches, Finishes}
-use Rattle.m36_booted.specs.RunSays.{PutsPieces, BlockState, block_of, AddsPieces, AreMade, Progresses, IsRan, FinishSays, StarvedSays, RanSays}
+use Rattle.m36_booted.specs.Runs.{IsEvent, StandsBehind, Extent, Whole, Begun, Starved, Reaches, Finishes}
+use Rattle.m36_booted.specs.RunSays.{PutsPieces, BlockState, block_of, AddsPieces, AreMade, Waits, Progresses, IsRan, FinishSays, StarvedSays, RanSays}
 use Rattle.m36_booted.proofs.Pieces.{pieces_are}
 use Rattle.m36_booted.proofs.Gathering.{lost_of, put_behind, put_all}
 use Rattle.m36_booted.proofs.TurnsMade.{made_none, made_on}
@@ -73,12 +73,13 @@ run_goes_on output limit taken left system now after old mid new way some goes =
 
 -- a run that is told so far
 ran_so :
-    (extent : Extent) (how : Option Finish) (answer : Put) (denied : List (List ℕ)) (output : RunOutput) (limit steps : ℕ) (system : SuperFields) (last : Booted) (turns : List Turn) (old new : SinkState)
+    (extent : Extent) (how : Option Finish) (answer : Put) (denied : List (List ℕ)) (output : RunOutput) (limit steps : ℕ) (system after : SuperFields) (last : Booted) (turns : List Turn) (old new : SinkState)
     → AreTurns system.lib (booted_of system) turns last → Each IsEvent turns → steps_in turns ≡ steps → steps ≤ limit
     → Reaches extent how system.lib limit turns last
+    → StandsBehind how system.lib last (booted_of after)
     → PutsPieces answer (run_pieces denied output turns how) old new
-    → IsRan extent how answer denied output limit system old new
-ran_so extent how answer denied output limit steps system last turns old new turns_are events count few reaches puts = record {
+    → IsRan extent how answer denied output limit system after old new
+ran_so extent how answer denied output limit steps system after last turns old new turns_are events count few reaches stands puts = record {
   turns = turns;
   last = last;
   goes = record {
@@ -87,6 +88,7 @@ ran_so extent how answer denied output limit steps system last turns old new tur
     few = subst (λ n. n ≤ limit) (sym count) few;
   };
   reaches = reaches;
+  stands = stands;
   puts = puts;
 }
 
@@ -99,11 +101,11 @@ pub run_cut :
     (denied : List (List ℕ)) (output : RunOutput) (limit taken left : ℕ) (system now after : SuperFields) (old : SinkState) (mid new : BlockState)
     → IsUnderWay output limit taken left system now (block_of [] old) mid → 0 < left
     → Progresses progress.Cut output taken 1 now after mid new
-    → RanSays ran.Cut denied output limit system old new.sink
+    → RanSays ran.Cut denied output limit system after old new.sink
 run_cut denied output limit taken left system now after old mid new way some leaves =
     let made = with_step put.Failed output taken system now leaves.last (block_of [] old) mid new way.made way.lib leaves.made in (
       None,
-      ran_so Begun None put.Failed denied output limit (taken + 1) system leaves.last made.turns old new.sink made.turns_are made.events made.count (omega (arith, way.count, some)) tt
+      ran_so Begun None put.Failed denied output limit (taken + 1) system after leaves.last made.turns old new.sink made.turns_are made.events made.count (omega (arith, way.count, some)) tt leaves.behind
           (pieces_are put.Failed (pieces_from output 0 made.turns) (run_pieces denied output made.turns None) old new.sink (unended denied output made.turns)
           (lost_of (pieces_from output 0 made.turns) (block_of [] old) new made.puts)),
     )
@@ -118,18 +120,18 @@ put_unended answer denied output turns old mid new one two =
     (put_all answer (pieces_from output 0 turns) (block_of [] old) mid new one two)
 
 starved :
-    (r : Ran) (denied : List (List ℕ)) (output : RunOutput) (limit steps : ℕ) (system : SuperFields) (last : Booted) (old : SinkState) (mid : BlockState) (new : SinkState)
+    (r : Ran) (denied : List (List ℕ)) (output : RunOutput) (limit steps : ℕ) (system after : SuperFields) (last : Booted) (old : SinkState) (mid : BlockState) (new : SinkState)
     (made : AreMade put.Done output 0 steps system.lib (booted_of system) last (block_of [] old) mid) → steps ≤ limit
-    → AwaitsLink last.coming → StarvedSays r mid new
-    → RanSays r denied output limit system old new
-starved (ran.Whole told) denied output limit steps system last old mid new made few awaits says = absurd says
-starved ran.Cut denied output limit steps system last old mid new made few awaits says = (
+    → Waits last (booted_of after) → StarvedSays r mid new
+    → RanSays r denied output limit system after old new
+starved (ran.Whole told) denied output limit steps system after last old mid new made few waits says = absurd says
+starved ran.Cut denied output limit steps system after last old mid new made few waits says = (
   None,
-  ran_so Begun None put.Failed denied output limit steps system last made.turns old new made.turns_are made.events made.count few tt
+  ran_so Begun None put.Failed denied output limit steps system after last made.turns old new made.turns_are made.events made.count few tt waits.stands
       (put_unended put.Failed denied output made.turns old mid new made.puts says),
 )
-starved ran.Starved denied output limit steps system last old mid new made few awaits says =
-    ran_so Starved None put.Done denied output limit steps system last made.turns old new made.turns_are made.events made.count few awaits
+starved ran.Starved denied output limit steps system after last old mid new made few waits says =
+    ran_so Starved None put.Done denied output limit steps system after last made.turns old new made.turns_are made.events made.count few waits.link waits.stands
     (put_unended put.Done denied output made.turns old mid new made.puts says)
 
 pub run_starved :
@@ -137,10 +139,10 @@ pub run_starved :
     → IsUnderWay output limit taken left system now (block_of [] old) mid → 0 < left
     → Progresses progress.Starved output taken 1 now after mid next
     → StarvedSays r next new
-    → RanSays r denied output limit system old new
+    → RanSays r denied output limit system after old new
 run_starved r denied output limit taken left system now after old mid next new way some leaves says =
     let made = with_step put.Done output taken system now leaves.last (block_of [] old) mid next way.made way.lib leaves.made in
-    starved r denied output limit (taken + 1) system leaves.last old next new made (omega (arith, way.count, some)) leaves.behind says
+    starved r denied output limit (taken + 1) system after leaves.last old next new made (omega (arith, way.count, some)) leaves.behind says
 
 -- the end line behind what was made
 ended :
@@ -154,37 +156,39 @@ ended answer how denied output steps turns old mid new count one two =
     (subst (λ n. PutsPieces answer (mid.pieces ++ end_pieces denied (Some how) n) mid.sink new) (sym count) two)
 
 finished :
-    (r : Ran) (how : Finish) (denied : List (List ℕ)) (output : RunOutput) (limit steps : ℕ) (system : SuperFields) (last : Booted) (old : SinkState) (mid : BlockState) (new : SinkState)
+    (r : Ran) (how : Finish) (denied : List (List ℕ)) (output : RunOutput) (limit steps : ℕ) (system after : SuperFields) (last : Booted) (old : SinkState) (mid : BlockState) (new : SinkState)
     (made : AreMade put.Done output 0 steps system.lib (booted_of system) last (block_of [] old) mid) → steps ≤ limit
-    → Finishes how system.lib limit made.turns last → FinishSays r denied how steps mid new
-    → RanSays r denied output limit system old new
-finished (ran.Whole told) how denied output limit steps system last old mid new made few finishes says =
-    subst (λ h. IsRan Whole (Some h) put.Done denied output limit system old new) (sym says.0)
-    (ran_so Whole (Some how) put.Done denied output limit steps system last made.turns old new made.turns_are made.events made.count few finishes
+    → Finishes how system.lib limit made.turns last → StandsBehind (Some how) system.lib last (booted_of after)
+    → FinishSays r denied how steps mid new
+    → RanSays r denied output limit system after old new
+finished (ran.Whole told) how denied output limit steps system after last old mid new made few finishes stands says =
+    subst (λ h. IsRan Whole (Some h) put.Done denied output limit system after old new) (sym says.0)
+    (ran_so Whole (Some how) put.Done denied output limit steps system after last made.turns old new made.turns_are made.events made.count few finishes stands
     (ended put.Done how denied output steps made.turns old mid new made.count made.puts says.1))
-finished ran.Cut how denied output limit steps system last old mid new made few finishes says = (
+finished ran.Cut how denied output limit steps system after last old mid new made few finishes stands says = (
   Some how,
-  ran_so Begun (Some how) put.Failed denied output limit steps system last made.turns old new made.turns_are made.events made.count few finishes
+  ran_so Begun (Some how) put.Failed denied output limit steps system after last made.turns old new made.turns_are made.events made.count few finishes stands
       (ended put.Failed how denied output steps made.turns old mid new made.count made.puts says),
 )
-finished ran.Starved how denied output limit steps system last old mid new made few finishes says = absurd says
+finished ran.Starved how denied output limit steps system after last old mid new made few finishes stands says = absurd says
 
 pub run_over :
     (r : Ran) (e : End) (denied : List (List ℕ)) (output : RunOutput) (limit taken left : ℕ) (system now after : SuperFields) (old : SinkState) (mid next : BlockState) (new : SinkState)
     → IsUnderWay output limit taken left system now (block_of [] old) mid → 0 < left
     → Progresses (progress.Over e) output taken 1 now after mid next
     → FinishSays r denied (Over e) (taken + 1) next new
-    → RanSays r denied output limit system old new
+    → RanSays r denied output limit system after old new
 run_over r e denied output limit taken left system now after old mid next new way some leaves says =
     let made = with_step put.Done output taken system now leaves.last (block_of [] old) mid next way.made way.lib leaves.made in
-    finished r (Over e) denied output limit (taken + 1) system leaves.last old next new made (omega (arith, way.count, some))
-    (leaves.behind.0, subst (λ l. IsTurn l leaves.last (Ended e) leaves.behind.0) way.lib leaves.behind.1) says
+    let ends : IsTurn system.lib leaves.last (Ended e) (booted_of after) = subst (λ l. IsTurn l leaves.last (Ended e) (booted_of after)) way.lib leaves.behind in
+    finished r (Over e) denied output limit (taken + 1) system after leaves.last old next new made (omega (arith, way.count, some))
+    (booted_of after, ends) ends says
 
 pub run_limit :
     (r : Ran) (denied : List (List ℕ)) (output : RunOutput) (limit taken left : ℕ) (system now : SuperFields) (old : SinkState) (mid : BlockState) (new : SinkState)
     → IsUnderWay output limit taken left system now (block_of [] old) mid → left ≡ 0
-    → FinishSays r denied Limit taken mid new → RanSays r denied output limit system old new
+    → FinishSays r denied Limit taken mid new → RanSays r denied output limit system now old new
 run_limit r denied output limit taken left system now old mid new way none says =
     let all : taken ≡ limit = omega (arith, way.count, none) in
-    finished r Limit denied output limit taken system (booted_of now) old mid new way.made (omega (arith, all))
-    (way.made.count ∙ all, way.next) says
+    finished r Limit denied output limit taken system now (booted_of now) old mid new way.made (omega (arith, all))
+    (way.made.count ∙ all, way.next) refl says

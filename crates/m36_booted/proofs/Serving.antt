@@ -7,7 +7,7 @@ use Rattle.m36_model.specs.declared.endings.End.{End}
 use Rattle.m36_model.specs.declared.outcome.Fault.{Fault}
 use Rattle.m36_model.specs.declared.record.StepRecord.{StepRecord}
 use Rattle.m36_link.specs.Fields.{SnapFields}
-use Rattle.m36_link.specs.Snap.{RefusedFields}
+use Rattle.m36_link.specs.Snap.{RefusedFields, snap_of}
 use Rattle.m36_step.specs.LinkNoteFields.{LinkNoteFields}
 use Rattle.m36_step.specs.declared.turns.Turn.{Turn}
 use Rattle.m36_step.specs.declared.turns.Turn.TheVariants.{Stepped, Linked, Console, Ended, Full, NoMemory}
@@ -22,7 +22,7 @@ use Rattle.m36_booted.specs.declared.running.Progress.{Progress}
 use Rattle.m36_booted.specs.declared.running.Progress.TheVariants as progress
 use Rattle.m36_booted.specs.RunText.{pieces_of}
 use Rattle.m36_booted.specs.Runs.{AwaitsLink}
-use Rattle.m36_booted.specs.RunSays.{BlockState, AddsPieces, AreMade, BehindLink, BehindSays, Progresses}
+use Rattle.m36_booted.specs.RunSays.{BlockState, AddsPieces, AreMade, BehindLink, BehindSays, Waits, Progresses}
 use Rattle.m36_booted.proofs.TurnsMade.{made_none, made_turn, made_on}
 
 -- ---- which turns there are
@@ -134,6 +134,23 @@ link_behind before after note at is turns =
     behind_link _ before.lib.catalog.frames at (booted_of before) note (booted_of after)
     (by_coming before.lib before after (Linked note) (Link at) is turns.0)
 
+stays_starved :
+    (answer : Result SnapFields RefusedFields) (frames : ℕ) (at : AtFields) (before after : Booted)
+    → IsLinkTurn answer frames at before NoMemory after → after ≡ before
+stays_starved (Ok s) frames at before after is = is
+stays_starved (Err why) frames at before after is = is
+
+-- a link service that found no memory changes nothing
+pub link_waits :
+    (before after : SuperFields) (at : AtFields)
+    → before.coming ≡ Link at → SuperTurns before NoMemory after → Waits (booted_of before) (booted_of after)
+link_waits before after at is turns = record {
+  stands =
+      stays_starved (snap_of before.known before.lib.catalog before.lib.files at) before.lib.catalog.frames at (booted_of before) (booted_of after)
+      (by_coming before.lib before after NoMemory (Link at) is turns.0);
+  link = subst AwaitsLink (sym is) tt;
+}
+
 abbrev IsUnended : Turn → Type 0
 IsUnended (Stepped told) = Unit {0}
 IsUnended (Linked note) = Unit {0}
@@ -180,16 +197,16 @@ pub serve_over :
 serve_over output taken s e k is = record {
   last = booted_of s;
   made = made_none output taken s.lib (booted_of s) k;
-  behind = (booted_of s, over_ends s.lib s e is);
+  behind = over_ends s.lib s e is;
 }
 
 pub link_starves :
     (output : RunOutput) (taken : ℕ) (before after : SuperFields) (at : AtFields) (k : BlockState)
-    → before.coming ≡ Link at → Progresses progress.Starved output taken 0 before after k k
-link_starves output taken before after at k is = record {
+    → before.coming ≡ Link at → SuperTurns before NoMemory after → Progresses progress.Starved output taken 0 before after k k
+link_starves output taken before after at k is turns = record {
   last = booted_of before;
   made = made_none output taken before.lib (booted_of before) k;
-  behind = subst AwaitsLink (sym is) tt;
+  behind = link_waits before after at is turns;
 }
 
 pub link_cut :
@@ -199,7 +216,7 @@ pub link_cut :
 link_cut output taken before after note old new turns puts = record {
   last = booted_of after;
   made = made_turn put.Failed output taken before.lib (booted_of before) (booted_of after) (Linked note) old new turns.0 tt puts;
-  behind = tt;
+  behind = refl;
 }
 
 pub link_goes :
@@ -214,7 +231,7 @@ link_goes progress.On output taken before after note old new turns puts behind =
 link_goes (progress.Over e) output taken before after note old new turns puts behind = record {
   last = booted_of after;
   made = made_turn put.Done output taken before.lib (booted_of before) (booted_of after) (Linked note) old new turns.0 tt puts;
-  behind = (booted_of after, over_ends before.lib after e behind);
+  behind = over_ends before.lib after e behind;
 }
 link_goes progress.Cut output taken before after note old new turns puts behind = absurd behind
 link_goes progress.Starved output taken before after note old new turns puts behind = absurd behind
@@ -226,7 +243,7 @@ pub print_cut :
 print_cut output taken before after told old new turns puts = record {
   last = booted_of after;
   made = made_turn put.Failed output taken before.lib (booted_of before) (booted_of after) (Console told) old new turns.0 tt puts;
-  behind = tt;
+  behind = refl;
 }
 
 pub print_goes :
@@ -246,7 +263,7 @@ pub print_ends :
 print_ends output taken before after e k turns = record {
   last = booted_of before;
   made = made_none output taken before.lib (booted_of before) k;
-  behind = (booted_of after, turns.0);
+  behind = turns.0;
 }
 
 pub ruleset services = (turn_links, turn_prints, link_behind, serve_none, serve_over, link_starves, link_cut, link_goes, print_cut, print_goes, print_ends)
@@ -260,7 +277,7 @@ pub step_cut :
 step_cut output taken before after told old new turns puts = record {
   last = booted_of after;
   made = made_turn put.Failed output taken before.lib (booted_of before) (booted_of after) (Stepped told) old new turns.0 tt puts;
-  behind = tt;
+  behind = refl;
 }
 
 made_by :
@@ -292,13 +309,12 @@ step_goes progress.On output taken before mid after told old now new turns puts 
 step_goes (progress.Over e) output taken before mid after told old now new turns puts leaves = record {
   last = leaves.last;
   made = joined_made put.Done output taken before mid leaves.last told old now new turns puts leaves.made;
-  behind =
-      (leaves.behind.0, subst (λ l. IsTurn l leaves.last (Ended e) leaves.behind.0) turns.1 leaves.behind.1);
+  behind = subst (λ l. IsTurn l leaves.last (Ended e) (booted_of after)) turns.1 leaves.behind;
 }
 step_goes progress.Cut output taken before mid after told old now new turns puts leaves = record {
   last = leaves.last;
   made = joined_made put.Failed output taken before mid leaves.last told old now new turns puts leaves.made;
-  behind = tt;
+  behind = leaves.behind;
 }
 step_goes progress.Starved output taken before mid after told old now new turns puts leaves = record {
   last = leaves.last;

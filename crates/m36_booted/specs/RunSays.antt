@@ -22,6 +22,7 @@ use Rattle.m36_booted.specs.declared.running.Ran.{Ran}
 use Rattle.m36_booted.specs.declared.running.Ran.TheVariants as ran
 use Rattle.m36_booted.specs.RunText.{steps_in, pieces_from, end_pieces, run_pieces}
 use Rattle.m36_booted.specs.Runs.{IsEvent, Goes, AwaitsLink, Extent, Whole, Begun, Starved, Reaches}
+use Rattle.m36_booted.specs.Runs.{StandsBehind}
 
 -- pieces are put, or a first part of them where a put failed
 pub record PutsPieces (answer : Put) (pieces : List (List ℕ)) (old new : SinkState) : Type 0 where
@@ -68,11 +69,11 @@ pub record GoesOn
 
 -- The run ends behind a state, or could not be told, or waits for memory.
 pub record Leaves
-    (answer : Put) (Behind : Booted → Type 0) (output : RunOutput) (taken steps : ℕ)
-    (before : SuperFields) (old new : BlockState) : Type 0 where
+    (answer : Put) (Behind : Booted → Booted → Type 0) (output : RunOutput) (taken steps : ℕ)
+    (before after : SuperFields) (old new : BlockState) : Type 0 where
   pub last : Booted
   pub made : AreMade answer output taken steps before.lib (booted_of before) last old new
-  pub behind : Behind last
+  pub behind : Behind last (booted_of after)
 
 -- a link was answered: a step comes next, or the end of the run
 abbrev pub BehindLink : Coming → Type 0
@@ -87,18 +88,23 @@ BehindSays (progress.Over e) coming = coming ≡ Over e
 BehindSays progress.Cut coming = ⊥
 BehindSays progress.Starved coming = ⊥
 
+-- It waits for memory behind a state.
+pub record Waits (last after : Booted) : Type 0 where
+  pub stands : after ≡ last
+  pub link : AwaitsLink last.coming
+
 -- what a step with its service, or a service alone, comes to
 abbrev pub Progresses :
     Progress → RunOutput → ℕ → ℕ → SuperFields → SuperFields → BlockState → BlockState → Type 0
 Progresses progress.On output taken steps before after old new =
     GoesOn output taken steps before after old new
 Progresses (progress.Over e) output taken steps before after old new =
-    Leaves put.Done (λ last. (later : Booted) × IsTurn before.lib last (Ended e) later) output taken
-    steps before old new
+    Leaves put.Done (λ last later. IsTurn before.lib last (Ended e) later) output taken steps
+    before after old new
 Progresses progress.Cut output taken steps before after old new =
-    Leaves put.Failed (λ last. ⊤) output taken steps before old new
+    Leaves put.Failed (λ last later. later ≡ last) output taken steps before after old new
 Progresses progress.Starved output taken steps before after old new =
-    Leaves put.Done (λ last. AwaitsLink last.coming) output taken steps before old new
+    Leaves put.Done Waits output taken steps before after old new
 
 -- ---- the run
 
@@ -120,18 +126,20 @@ StarvedSays ran.Starved old new = PutsPieces put.Done old.pieces old.sink new
 
 pub record IsRan
     (extent : Extent) (how : Option Finish) (answer : Put) (denied : List (List ℕ))
-    (output : RunOutput) (limit : ℕ) (system : SuperFields) (old new : SinkState) : Type 0 where
+    (output : RunOutput) (limit : ℕ) (system after : SuperFields) (old new : SinkState)
+    : Type 0 where
   pub turns : List Turn
   pub last : Booted
   pub goes : Goes system.lib limit (booted_of system) turns last
   pub reaches : Reaches extent how system.lib limit turns last
+  pub stands : StandsBehind how system.lib last (booted_of after)
   pub puts : PutsPieces answer (run_pieces denied output turns how) old new
 
 abbrev pub RanSays :
-    Ran → List (List ℕ) → RunOutput → ℕ → SuperFields → SinkState → SinkState → Type 0
-RanSays (ran.Whole how) denied output limit system old new =
-    IsRan Whole (Some how) put.Done denied output limit system old new
-RanSays ran.Cut denied output limit system old new =
-    (how : Option Finish) × IsRan Begun how put.Failed denied output limit system old new
-RanSays ran.Starved denied output limit system old new =
-    IsRan Starved None put.Done denied output limit system old new
+    Ran → List (List ℕ) → RunOutput → ℕ → SuperFields → SuperFields → SinkState → SinkState → Type 0
+RanSays (ran.Whole how) denied output limit system after old new =
+    IsRan Whole (Some how) put.Done denied output limit system after old new
+RanSays ran.Cut denied output limit system after old new =
+    (how : Option Finish) × IsRan Begun how put.Failed denied output limit system after old new
+RanSays ran.Starved denied output limit system after old new =
+    IsRan Starved None put.Done denied output limit system after old new

@@ -37,6 +37,12 @@ abbrev pub Finishes : Finish → Library → ℕ → List Turn → Booted → Ty
 Finishes (Over e) lib limit turns last = (after : Booted) × IsTurn lib last (Ended e) after
 Finishes Limit lib limit turns last = (steps_in turns ≡ limit) × (last.coming ≡ Step)
 
+-- where a run that has come to this end, or to none, leaves the system behind its last turn
+abbrev pub StandsBehind : Option Finish → Library → Booted → Booted → Type 0
+StandsBehind (Some (Over e)) lib last after = IsTurn lib last (Ended e) after
+StandsBehind (Some Limit) lib last after = after ≡ last
+StandsBehind None lib last after = after ≡ last
+
 abbrev pub AwaitsLink : Coming → Type 0
 AwaitsLink (Link at) = ⊤
 AwaitsLink Step = ⊥

@@ -183,7 +183,8 @@ fn write_starved<S: Sink>(block: &mut Block, out: &mut S) -> Ran
 }
 
 /// Runs a system for at most so many steps, and writes what is told of each turn, and the end line, with the line of a
-/// segment behind it to which a right was wanted.
+/// segment behind it to which a right was wanted. The system then stands behind the turns that were made, also where the
+/// output fails.
 pub fn run<S: Sink>(
     system: &mut Super,
     steps: u32,
@@ -192,7 +193,7 @@ pub fn run<S: Sink>(
     out: &mut S,
 ) -> Ran
     requires { system.old.coming ≡ Step }
-    ensures { RanSays result denied.now output steps system.old
+    ensures { RanSays result denied.now output steps system.old system.new
         (sink_of S.written S.taken S.faults out.old) (sink_of S.written S.taken S.faults out.new) }
 {
     let mut block = Block::new();

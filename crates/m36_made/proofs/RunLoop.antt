@@ -55,12 +55,14 @@ pub run_over :
     → RanSays (ran.Whole (Over e) (taken + 1)) limit system after
 run_over e limit taken left system now after way some goes =
     let made = with_step taken system now goes.last way.made way.lib goes.made in
+    let ends : IsTurn system.lib goes.last (Ended e) (booted_of after) = subst (λ l. IsTurn l goes.last (Ended e) (booted_of after)) way.lib goes.ends in
     record {
       turns = made.turns;
       last = goes.last;
       goes = goes_so limit (taken + 1) system.lib (booted_of system) goes.last made (omega (arith, way.count, some));
-      finishes = (goes.later, subst (λ l. IsTurn l goes.last (Ended e) goes.later) way.lib goes.ends);
+      finishes = (booted_of after, ends);
       count = made.count;
+      stands = ends;
       regs_are = goes.regs;
     }
 
@@ -69,12 +71,13 @@ pub run_starved :
     → IsUnderWay limit taken left system now → 0 < left → GoingSays going.Starved 1 now after
     → RanSays ran.Starved limit system after
 run_starved limit taken left system now after way some goes =
-    let made = with_step taken system now goes.last way.made way.lib goes.made in
+    let made = with_step taken system now (booted_of after) way.made way.lib goes.made in
     record {
       turns = made.turns;
-      last = goes.last;
-      goes = goes_so limit (taken + 1) system.lib (booted_of system) goes.last made (omega (arith, way.count, some));
+      last = booted_of after;
+      goes = goes_so limit (taken + 1) system.lib (booted_of system) (booted_of after) made (omega (arith, way.count, some));
       waits = goes.waits;
+      stands = refl;
     }
 
 pub run_limit :
@@ -89,5 +92,6 @@ run_limit limit taken left system now way none =
       goes = goes_so limit taken system.lib (booted_of system) (booted_of now) way.made (omega (arith, all));
       finishes = (way.made.count ∙ all, way.next);
       count = way.made.count;
+      stands = refl;
       regs_are = refl;
     }

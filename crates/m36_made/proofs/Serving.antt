@@ -6,14 +6,14 @@ use Rattle.m36_model.specs.declared.outcome.Fault.{Fault}
 use Rattle.m36_model.specs.declared.record.StepRecord.{StepRecord}
 use Rattle.m36_step.specs.LinkNoteFields.{LinkNoteFields}
 use Rattle.m36_step.specs.declared.turns.Turn.{Turn}
-use Rattle.m36_step.specs.declared.turns.Turn.TheVariants.{Stepped, Linked, Console, Ended}
+use Rattle.m36_step.specs.declared.turns.Turn.TheVariants.{Stepped, Linked, Console, Ended, NoMemory}
 use Rattle.m36_super.specs.Library.{Library}
 use Rattle.m36_super.specs.declared.coming.Coming.TheVariants.{Step, Link, Print, Over}
 use Rattle.m36_super.specs.BootedRun.{Booted, IsConsoleTurn, IsTurnBy, IsTurn}
 use Rattle.m36_super.specs.SuperFields.{SuperFields, booted_of}
 use Rattle.m36_super.specs.SuperTurn.{SuperTurns}
 use Rattle.m36_booted.specs.Runs.{AwaitsLink}
-use Rattle.m36_booted.proofs.Serving.{turn_links, turn_prints, link_behind, print_behind}
+use Rattle.m36_booted.proofs.Serving.{turn_links, turn_prints, link_behind, link_waits, print_behind}
 use Rattle.m36_made.specs.declared.running.Going.{Going}
 use Rattle.m36_made.specs.declared.running.Going.TheVariants as going
 use Rattle.m36_made.specs.Turning.{AreMade, BehindSays, GoingSays}
@@ -33,17 +33,19 @@ pub serve_over : (s : SuperFields) (e : End) → s.coming ≡ Over e → GoingSa
 serve_over s e is = record {
   last = booted_of s;
   made = made_none s.lib (booted_of s);
-  later = booted_of s;
   ends = over_ends s.lib s e is;
   regs = refl;
 }
 
-pub link_starves : (before after : SuperFields) (at : AtFields) → before.coming ≡ Link at → GoingSays going.Starved 0 before after
-link_starves before after at is = record {
-  last = booted_of before;
-  made = made_none before.lib (booted_of before);
-  waits = subst AwaitsLink (sym is) tt;
-}
+pub link_starves :
+    (before after : SuperFields) (at : AtFields)
+    → before.coming ≡ Link at → SuperTurns before NoMemory after → GoingSays going.Starved 0 before after
+link_starves before after at is turns =
+    let waits = link_waits before after at is turns in
+    record {
+      made = subst (λ (r : Booted). AreMade 0 before.lib (booted_of before) r) (sym waits.stands) (made_none before.lib (booted_of before));
+      waits = subst (λ (r : Booted). AwaitsLink r.coming) (sym waits.stands) waits.link;
+    }
 
 pub link_goes :
     (g : Going) (before after : SuperFields) (note : LinkNoteFields)
@@ -56,7 +58,6 @@ link_goes going.On before after note turns behind = record {
 link_goes (going.Over e) before after note turns behind = record {
   last = booted_of after;
   made = made_turn before.lib (booted_of before) (booted_of after) (Linked note) turns.0 tt;
-  later = booted_of after;
   ends = over_ends before.lib after e behind;
   regs = refl;
 }
@@ -100,7 +101,6 @@ pub print_ends :
 print_ends before after e is turns = record {
   last = booted_of before;
   made = made_none before.lib (booted_of before);
-  later = booted_of after;
   ends = turns.0;
   regs = regs_left before after e is turns.0;
 }
@@ -129,12 +129,10 @@ step_goes going.On before mid after told turns goes = record {
 step_goes (going.Over e) before mid after told turns goes = record {
   last = goes.last;
   made = joined_made before mid goes.last told turns goes.made;
-  later = goes.later;
-  ends = subst (λ l. IsTurn l goes.last (Ended e) goes.later) turns.1 goes.ends;
+  ends = subst (λ l. IsTurn l goes.last (Ended e) (booted_of after)) turns.1 goes.ends;
   regs = goes.regs;
 }
 step_goes going.Starved before mid after told turns goes = record {
-  last = goes.last;
-  made = joined_made before mid goes.last told turns goes.made;
+  made = joined_made before mid (booted_of after) told turns goes.made;
   waits = goes.waits;
 }

@@ -17,14 +17,14 @@ returns-in-Whole g c =
     let sink = sink_of g.S.Sink.written g.S.Sink.taken g.S.Sink.faults in
     let findings = pairs c.args.findings.now in
     subst (λ (r : Status). Puts (RunAnswers c.args.denied.now c.args.output c.args.steps c.args.system.now findings) (end_of r) r (sink c.args.out.now) (sink c.run.new.out)) (sym c.finish_status.ensures)
-    (run_whole findings c.args.denied.now c.args.output c.args.steps c.args.system.now c.in-Whole.how (sink c.args.out.now) (sink c.put_audit.new.out) (sink c.run.new.out) c.in-Done.ensures.says c.in-Done.ensures.through c.in-Done.ensures.cause c.in-Whole.ensures)
+    (run_whole findings c.args.denied.now c.args.output c.args.steps c.args.system.now c.run.new.system c.in-Whole.how (sink c.args.out.now) (sink c.put_audit.new.out) (sink c.run.new.out) c.in-Done.ensures.says c.in-Done.ensures.through c.in-Done.ensures.cause c.in-Whole.ensures)
 
 pub returns-in-Cut : goal.returns-in-Cut
 returns-in-Cut g c =
     let sink = sink_of g.S.Sink.written g.S.Sink.taken g.S.Sink.faults in
-    run_part (pairs c.args.findings.now) c.args.denied.now c.args.output c.args.steps c.args.system.now (sink c.args.out.now) (sink c.put_audit.new.out) (sink c.run.new.out) c.in-Done.ensures.says c.in-Done.ensures.through c.in-Done.ensures.cause c.in-Cut.ensures
+    run_part (pairs c.args.findings.now) c.args.denied.now c.args.output c.args.steps c.args.system.now c.run.new.system (sink c.args.out.now) (sink c.put_audit.new.out) (sink c.run.new.out) c.in-Done.ensures.says c.in-Done.ensures.through c.in-Done.ensures.cause c.in-Cut.ensures
 
 pub returns-in-Starved : goal.returns-in-Starved
 returns-in-Starved g c =
     let sink = sink_of g.S.Sink.written g.S.Sink.taken g.S.Sink.faults in
-    run_starved (pairs c.args.findings.now) c.args.denied.now c.args.output c.args.steps c.args.system.now (sink c.args.out.now) (sink c.put_audit.new.out) (sink c.run.new.out) c.in-Done.ensures.says c.in-Done.ensures.through c.in-Done.ensures.cause c.in-Starved.ensures
+    run_starved (pairs c.args.findings.now) c.args.denied.now c.args.output c.args.steps c.args.system.now c.run.new.system (sink c.args.out.now) (sink c.put_audit.new.out) (sink c.run.new.out) c.in-Done.ensures.says c.in-Done.ensures.through c.in-Done.ensures.cause c.in-Starved.ensures
