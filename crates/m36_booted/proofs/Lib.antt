@@ -3,6 +3,7 @@ pub mod Gathering
 pub mod TurnsMade
 pub mod Serving
 pub mod RunLoop
+pub mod EndAlone
 pub mod FolderReads
 pub mod FolderAnswers
 pub mod OneSystem

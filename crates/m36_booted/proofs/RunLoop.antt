@@ -24,6 +24,7 @@ use Rattle.m36_booted.specs.RunSays.{PutsPieces, BlockState, block_of, AddsPiece
 use Rattle.m36_booted.proofs.Pieces.{pieces_are}
 use Rattle.m36_booted.proofs.Gathering.{lost_of, put_behind, put_all}
 use Rattle.m36_booted.proofs.TurnsMade.{made_none, made_on}
+use Rattle.m36_booted.proofs.Serving.{ended_leaves}
 
 -- A run of a system has taken some steps, has some left, and stands before a step.
 pub record IsUnderWay
@@ -192,3 +193,10 @@ run_limit r denied output limit taken left system now old mid new way none says 
     let all : taken ≡ limit = omega (arith, way.count, none) in
     finished r Limit denied output limit taken system now (booted_of now) old mid new way.made (omega (arith, all))
     (way.made.count ∙ all, way.next) refl says
+
+-- a run that has come to its end leaves the registers of the state behind its last turn
+pub regs_left :
+    (how : Finish) (lib : Library) (last after : Booted)
+    → StandsBehind (Some how) lib last after → after.state.regs ≡ last.state.regs
+regs_left (Over e) lib last after is = ended_leaves lib last e after is
+regs_left Limit lib last after is = ap (λ (r : Booted). r.state.regs) is

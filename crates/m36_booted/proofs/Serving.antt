@@ -180,6 +180,30 @@ unfolding IsTurn
 over_ends lib s e is =
     subst (λ c. IsTurnBy c lib (booted_of s) (Ended e) (booted_of s)) (sym is) (refl, refl)
 
+-- ---- which registers stand behind a turn that ends the run
+
+print_leaves :
+    (many : Bool) (text : Result (List ℕ) Fault) (before : Booted) (e : End) (after : Booted)
+    → IsConsoleTurn many text before (Ended e) after → after.state.regs ≡ before.state.regs
+print_leaves true text before e after is = ap (λ (r : Booted). r.state.regs) is.1
+print_leaves false (Err f) before e after is = ap (λ (r : Booted). r.state.regs) is.1
+print_leaves false (Ok text) before e after is = absurd (subst IsUnended (sym is.0) tt)
+
+end_leaves :
+    (coming : Coming) (lib : Library) (before : Booted) (e : End) (after : Booted)
+    → IsTurnBy coming lib before (Ended e) after → after.state.regs ≡ before.state.regs
+end_leaves Step lib before e after is = absurd (step_is before.loaded lib.catalog.frames before (Ended e) after is)
+end_leaves (Link at) lib before e after is =
+    absurd (link_is (snap_of before.known lib.catalog lib.files at) lib.catalog.frames at before (Ended e) after is)
+end_leaves Print lib before e after is = print_leaves _ _ before e after is
+end_leaves (Over told) lib before e after is = ap (λ (r : Booted). r.state.regs) is.1
+
+pub ended_leaves :
+    (lib : Library) (before : Booted) (e : End) (after : Booted)
+    → IsTurn lib before (Ended e) after → after.state.regs ≡ before.state.regs
+unfolding IsTurn
+ended_leaves lib before e after is = end_leaves before.coming lib before e after is
+
 -- ---- services
 
 pub serve_none :

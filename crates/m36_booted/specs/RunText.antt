@@ -1,6 +1,6 @@
--- What is written of a booted run, in pieces: its trace or the characters of its console, and then
--- its end line. Behind a run for a user that ended for want of a right to a segment of the catalog
--- stands the line of that segment.
+-- What is written of a booted run, in pieces: its trace, or the characters of its console, or
+-- nothing, and then its end line. Behind a run for a user that ended for want of a right to a
+-- segment of the catalog stands the line of that segment.
 use Rattle.std.specs.Prelude.{ℕ, ◌+◌, ◌&&◌, ◌||◌, nat_eq, if◌then◌else◌, List, [], ◌∷◌, ◌++◌}
 use Rattle.std.specs.Prelude.{Option, Some, None, slice_get, option_and_then}
 use Rattle.m36_outside.specs.Passing.{joined}
@@ -65,6 +65,7 @@ printed NoMemory = []
 abbrev pub pieces_of : RunOutput → ℕ → Turn → List (List ℕ)
 pieces_of output.Trace taken turn = traced taken turn
 pieces_of output.Console taken turn = printed turn
+pieces_of output.Nothing taken turn = []
 
 unfoldable pub pieces_from : RunOutput → ℕ → List Turn → List (List ℕ)
 pieces_from output taken [] = []

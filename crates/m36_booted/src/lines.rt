@@ -91,6 +91,7 @@ pub(crate) fn add_step<S: Sink>(
     match output {
         RunOutput::Console => Put::Done,
         RunOutput::Trace => add_text(line(taken as u64 + 1, told), block, out),
+        RunOutput::Nothing => Put::Done,
     }
 }
 
@@ -110,10 +111,12 @@ pub(crate) fn add_linked<S: Sink>(
     match output {
         RunOutput::Console => Put::Done,
         RunOutput::Trace => add_bytes(link_line(note), block, out),
+        RunOutput::Nothing => Put::Done,
     }
 }
 
 /// Adds what is told of a console service.
+#[tactic(auto, using(crate::proofs::Gathering::nothing_added))]
 pub(crate) fn add_printed<S: Sink>(
     output: RunOutput,
     taken: u32,
@@ -128,6 +131,7 @@ pub(crate) fn add_printed<S: Sink>(
     match output {
         RunOutput::Console => add_characters(note, block, out),
         RunOutput::Trace => add_bytes(console_line(note), block, out),
+        RunOutput::Nothing => Put::Done,
     }
 }
 

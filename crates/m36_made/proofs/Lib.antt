@@ -1,9 +1,6 @@
 pub mod Files
 pub mod ObjectLaws
 pub mod AllFiles
-pub mod Turns
-pub mod Serving
-pub mod RunLoop
 pub mod Pieces
 pub mod Summaries
 pub mod Telling

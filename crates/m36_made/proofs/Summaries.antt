@@ -1,6 +1,6 @@
 -- What is told of a booted system, by what is found and by how its run ends.
-use Rattle.std.proofs.Common.{◌≡◌, ℕ, ◌<◌, Bool, List, [], ◌++◌, length, Some, None, refl, sym, ap, subst, ◌∙◌, arith, inl, inr}
-use Rattle.std.proofs.lemmas.List.{append-nil}
+use Rattle.std.proofs.Common.{◌≡◌, ℕ, ◌<◌, Bool, List, [], ◌∷◌, ◌++◌, length, Option, Some, None, refl, sym, ap, subst, ◌∙◌, arith, inl, inr}
+use Rattle.m36_outside.specs.declared.sink.Put.{Put}
 use Rattle.m36_outside.specs.declared.sink.Put.TheVariants as put
 use Rattle.m36_desc.specs.Fields.{DbrFields}
 use Rattle.m36_model.specs.Audit.{AreFindings}
@@ -9,6 +9,7 @@ use Rattle.m36_model.specs.declared.endings.End.TheVariants as end
 use Rattle.m36_model.specs.declared.outcome.Stop.TheVariants.{Dis, Operation, Tag}
 use Rattle.m36_audit.specs.Findings.{pairs}
 use Rattle.m36_audit.specs.declared.verdict.Finding.{Finding}
+use Rattle.m36_step.specs.declared.turns.Turn.{Turn}
 use Rattle.m36_super.specs.Library.{Library}
 use Rattle.m36_super.specs.BootedRun.{Booted, AreTurns}
 use Rattle.m36_super.specs.SuperFields.{SuperFields, booted_of}
@@ -18,20 +19,23 @@ use Rattle.m36_reading.specs.Answers.{Answer}
 use Rattle.m36_reading.specs.Outside.{SinkState}
 use Rattle.m36_reading.specs.Ends.{End as Ending, Answered, Cut, Unread, Unasked, end_of}
 use Rattle.m36_reading.specs.Ends as ends
+use Rattle.m36_ran.specs.Output.{as_line}
 use Rattle.m36_ran.specs.Ran.{passes, audit_status}
 use Rattle.m36_ran.proofs.AuditAnswers.{passes_none, passes_some}
+use Rattle.m36_booted.specs.declared.command.RunOutput.TheVariants as output
 use Rattle.m36_booted.specs.declared.running.Finish.{Finish}
 use Rattle.m36_booted.specs.declared.running.Finish.TheVariants.{Over, Limit}
-use Rattle.m36_booted.specs.RunText.{steps_in, finish_status}
+use Rattle.m36_booted.specs.declared.running.Ran.TheVariants as ran
+use Rattle.m36_booted.specs.RunText.{steps_in, finish_status, run_pieces}
 use Rattle.m36_booted.specs.Runs.{Goes, Extent, Whole, Begun, Starved}
-use Rattle.m36_booted.specs.RunSays.{PutsPieces}
+use Rattle.m36_booted.specs.RunSays.{PutsPieces, RanSays}
 use Rattle.m36_booted.specs.Putting.{Puts}
 use Rattle.m36_booted.specs.Systems.{IsFresh}
-use Rattle.m36_booted.proofs.Pieces.{pieces_then, pieces_longer}
-use Rattle.m36_made.specs.declared.running.Ran.TheVariants as ran
-use Rattle.m36_made.specs.Turning.{RanSays}
-use Rattle.m36_made.specs.Putting.{EndSays}
-use Rattle.m36_made.specs.Summary.{run_limit, head_pieces, end_pieces, run_answer, unrun_answer, IsRunAnswer, IsUnrunAnswer, IsFoundAnswer, IsSummary}
+use Rattle.m36_booted.proofs.Pieces.{pieces_are, pieces_then, pieces_longer}
+use Rattle.m36_booted.proofs.RunLoop.{regs_left}
+use Rattle.m36_booted.proofs.EndAlone.{end_alone, none_alone}
+use Rattle.m36_made.specs.Putting.{SumSays}
+use Rattle.m36_made.specs.Summary.{run_limit, sum_line, head_pieces, end_pieces, run_answer, unrun_answer, IsRunAnswer, IsUnrunAnswer, IsFoundAnswer, IsSummary}
 
 -- more answers may be due
 pub puts_more :
@@ -52,65 +56,106 @@ abbrev pub RunAnswers : ℕ → SuperFields → List (ℕ × ℕ) → Extent →
 RunAnswers count system findings extent due = IsRunAnswer extent count system.lib (booted_of system) findings due
 
 -- how it ends is a status with which all is answered
-pub end_whole :
-    (how : Finish) (steps : ℕ) (regs : RegsFields) (old new : SinkState)
-    → PutsPieces put.Done (end_pieces (Some how) steps regs) old new
-    → EndSays (end_of (finish_status (Some how))) (finish_status (Some how)) how steps regs old new
-end_whole (Over (end.Fault fault)) steps regs old new puts = record { status = refl; puts = puts }
-end_whole (Over (end.Stop Dis)) steps regs old new puts = record { status = refl; puts = puts }
-end_whole (Over (end.Stop Operation)) steps regs old new puts = record { status = refl; puts = puts }
-end_whole (Over (end.Stop Tag)) steps regs old new puts = record { status = refl; puts = puts }
-end_whole (Over (end.Link code)) steps regs old new puts = record { status = refl; puts = puts }
-end_whole (Over end.Console) steps regs old new puts = record { status = refl; puts = puts }
-end_whole Limit steps regs old new puts = record { status = refl; puts = puts }
+pub sum_whole :
+    (how : Finish) (regs : RegsFields) (old new : SinkState)
+    → PutsPieces put.Done (as_line (sum_line regs) ∷ []) old new
+    → SumSays (end_of (finish_status (Some how))) (finish_status (Some how)) how regs old new
+sum_whole (Over (end.Fault fault)) regs old new puts = record { status = refl; puts = puts }
+sum_whole (Over (end.Stop Dis)) regs old new puts = record { status = refl; puts = puts }
+sum_whole (Over (end.Stop Operation)) regs old new puts = record { status = refl; puts = puts }
+sum_whole (Over (end.Stop Tag)) regs old new puts = record { status = refl; puts = puts }
+sum_whole (Over (end.Link code)) regs old new puts = record { status = refl; puts = puts }
+sum_whole (Over end.Console) regs old new puts = record { status = refl; puts = puts }
+sum_whole Limit regs old new puts = record { status = refl; puts = puts }
 
 -- the lines behind a run, by its turns
-ended_so : (how : Finish) (steps steps' : ℕ) (regs regs' : RegsFields) → steps ≡ steps' → regs ≡ regs' → end_pieces (Some how) steps regs ≡ end_pieces (Some how) steps' regs'
-ended_so how steps steps' regs regs' same left =
-    ap (λ n. end_pieces (Some how) n regs) same ∙ ap (λ r. end_pieces (Some how) steps' r) left
+lines_behind :
+    (how : Finish) (turns : List Turn) (regs regs' : RegsFields) → regs ≡ regs'
+    → run_pieces [] output.Nothing turns (Some how) ++ as_line (sum_line regs) ∷ [] ≡ end_pieces (Some how) (steps_in turns) regs'
+lines_behind how turns regs regs' left =
+    ap (λ (l : List (List ℕ)). l ++ as_line (sum_line regs) ∷ []) (end_alone turns how)
+    ∙ ap (λ (r : RegsFields). end_pieces (Some how) (steps_in turns) r) left
+
+-- the lines before a run, its end line, and the line behind that, or a first part of it
+run_told :
+    (answer : Put) (count : ℕ) (system after : SuperFields) (findings : List (ℕ × ℕ)) (how : Finish) (regs : RegsFields) (old now mid new : SinkState)
+    → PutsPieces put.Done (head_pieces count findings) old now
+    → (is : RanSays (ran.Whole how) [] output.Nothing run_limit system after now mid) → regs ≡ after.regs
+    → PutsPieces answer (as_line (sum_line regs) ∷ []) mid new
+    → PutsPieces answer (head_pieces count findings ++ end_pieces (Some how) (steps_in is.turns) is.last.state.regs) old new
+run_told answer count system after findings how regs old now mid new head is left sum =
+    pieces_then answer (head_pieces count findings) (end_pieces (Some how) (steps_in is.turns) is.last.state.regs) old now new head
+    (pieces_are answer (run_pieces [] output.Nothing is.turns (Some how) ++ as_line (sum_line regs) ∷ []) (end_pieces (Some how) (steps_in is.turns) is.last.state.regs) now new
+    (lines_behind how is.turns regs is.last.state.regs (left ∙ regs_left how system.lib is.last (booted_of after) is.stands))
+    (pieces_then answer (run_pieces [] output.Nothing is.turns (Some how)) (as_line (sum_line regs) ∷ []) now mid new is.puts sum))
 
 pub run_ended :
-    (ending : Ending) (result : Status) (count : ℕ) (system after : SuperFields) (findings : List (ℕ × ℕ)) (how : Finish) (steps : ℕ) (regs : RegsFields)
-    (old now new : SinkState)
-    → PutsPieces put.Done (head_pieces count findings) old now → RanSays (ran.Whole how steps) run_limit system after → regs ≡ after.regs
-    → EndSays ending result how steps regs now new
+    (ending : Ending) (result : Status) (count : ℕ) (system after : SuperFields) (findings : List (ℕ × ℕ)) (how : Finish) (regs : RegsFields)
+    (old now mid new : SinkState)
+    → PutsPieces put.Done (head_pieces count findings) old now
+    → RanSays (ran.Whole how) [] output.Nothing run_limit system after now mid → regs ≡ after.regs
+    → SumSays ending result how regs mid new
     → Puts (RunAnswers count system findings) ending result old new
 unfolding run_answer
-run_ended Answered result count system after findings how steps regs old now new head ran left ends =
-    let at_end : List (List ℕ) = end_pieces (Some how) (steps_in ran.turns) ran.last.state.regs in
-    let all : PutsPieces put.Done (head_pieces count findings ++ at_end) old new =
-    pieces_then put.Done (head_pieces count findings) at_end old now new head
-    (subst (λ p. PutsPieces put.Done p now new) (ended_so how steps (steps_in ran.turns) regs ran.last.state.regs (sym ran.count) (left ∙ ran.regs_are)) ends.puts) in
+run_ended Answered result count system after findings how regs old now mid new head is left sum =
+    let all = run_told put.Done count system after findings how regs old now mid new head is left sum.puts in
     record {
-      due = run_answer count findings (Some how) (steps_in ran.turns) ran.last.state.regs;
-      is = record { turns = ran.turns; last = ran.last; how = Some how; goes = ran.goes; reaches = ran.finishes; answer = refl };
-      puts = record { sets = refl; status = ends.status; text = all.says; pieces = all.through; faults = all.cause };
+      due = run_answer count findings (Some how) (steps_in is.turns) is.last.state.regs;
+      is = record { turns = is.turns; last = is.last; how = Some how; goes = is.goes; reaches = is.reaches; answer = refl };
+      puts = record { sets = refl; status = sum.status; text = all.says; pieces = all.through; faults = all.cause };
     }
-run_ended Cut result count system after findings how steps regs old now new head ran left ends =
-    let at_end : List (List ℕ) = end_pieces (Some how) (steps_in ran.turns) ran.last.state.regs in
-    let some : PutsPieces put.Failed (head_pieces count findings ++ at_end) old new =
-    pieces_then put.Failed (head_pieces count findings) at_end old now new head
-    (subst (λ p. PutsPieces put.Failed p now new) (ended_so how steps (steps_in ran.turns) regs ran.last.state.regs (sym ran.count) (left ∙ ran.regs_are)) ends) in
+run_ended Cut result count system after findings how regs old now mid new head is left sum =
+    let some = run_told put.Failed count system after findings how regs old now mid new head is left sum in
     record {
-      due = run_answer count findings (Some how) (steps_in ran.turns) ran.last.state.regs;
-      is = record { turns = ran.turns; last = ran.last; how = Some how; goes = ran.goes; reaches = ran.finishes; answer = refl };
+      due = run_answer count findings (Some how) (steps_in is.turns) is.last.state.regs;
+      is = record { turns = is.turns; last = is.last; how = Some how; goes = is.goes; reaches = is.reaches; answer = refl };
       puts = record { sets = refl; text = some.says; pieces = some.through; cause = some.cause };
     }
-run_ended Unread result count system after findings how steps regs old now new head ran left ends = absurd ends
-run_ended ends.Starved result count system after findings how steps regs old now new head ran left ended = absurd ended
-run_ended Unasked result count system after findings how steps regs old now new head ran left ends = absurd ends
+run_ended Unread result count system after findings how regs old now mid new head is left sum = absurd sum
+run_ended ends.Starved result count system after findings how regs old now mid new head is left sum = absurd sum
+run_ended Unasked result count system after findings how regs old now mid new head is left sum = absurd sum
+
+-- its end line was cut off, or could not be put
+end_cut :
+    (how : Option Finish) (turns : List Turn) (regs : RegsFields) (old new : SinkState)
+    → PutsPieces put.Failed (run_pieces [] output.Nothing turns how) old new
+    → PutsPieces put.Failed (end_pieces how (steps_in turns) regs) old new
+end_cut None turns regs old new cut = pieces_are put.Failed (run_pieces [] output.Nothing turns None) [] old new (none_alone turns) cut
+end_cut (Some how) turns regs old new cut =
+    pieces_are put.Failed (run_pieces [] output.Nothing turns (Some how) ++ as_line (sum_line regs) ∷ []) (end_pieces (Some how) (steps_in turns) regs) old new
+    (lines_behind how turns regs regs refl)
+    (pieces_longer (run_pieces [] output.Nothing turns (Some how)) (as_line (sum_line regs) ∷ []) old new cut)
+
+pub run_cut :
+    (count : ℕ) (system after : SuperFields) (findings : List (ℕ × ℕ)) (old now new : SinkState)
+    → PutsPieces put.Done (head_pieces count findings) old now
+    → RanSays ran.Cut [] output.Nothing run_limit system after now new
+    → Puts (RunAnswers count system findings) (end_of status.WriteFault) status.WriteFault old new
+unfolding run_answer
+run_cut count system after findings old now new head says =
+    let is = says.1 in
+    let at_end : List (List ℕ) = end_pieces says.0 (steps_in is.turns) is.last.state.regs in
+    let some : PutsPieces put.Failed (head_pieces count findings ++ at_end) old new =
+    pieces_then put.Failed (head_pieces count findings) at_end old now new head (end_cut says.0 is.turns is.last.state.regs now new is.puts) in
+    record {
+      due = run_answer count findings says.0 (steps_in is.turns) is.last.state.regs;
+      is = record { turns = is.turns; last = is.last; how = says.0; goes = is.goes; reaches = is.reaches; answer = refl };
+      puts = record { sets = refl; text = some.says; pieces = some.through; cause = some.cause };
+    }
 
 pub run_starved :
-    (count : ℕ) (system after : SuperFields) (findings : List (ℕ × ℕ)) (old new : SinkState)
-    → PutsPieces put.Done (head_pieces count findings) old new → RanSays ran.Starved run_limit system after
+    (count : ℕ) (system after : SuperFields) (findings : List (ℕ × ℕ)) (old now new : SinkState)
+    → PutsPieces put.Done (head_pieces count findings) old now
+    → RanSays ran.Starved [] output.Nothing run_limit system after now new
     → Puts (RunAnswers count system findings) (end_of status.NoMemory) status.NoMemory old new
 unfolding run_answer
-run_starved count system after findings old new head ran =
+run_starved count system after findings old now new head is =
     let all : PutsPieces put.Done (head_pieces count findings ++ []) old new =
-    subst (λ p. PutsPieces put.Done p old new) (sym (append-nil (head_pieces count findings))) head in
+    pieces_then put.Done (head_pieces count findings) [] old now new head
+    (pieces_are put.Done (run_pieces [] output.Nothing is.turns None) [] now new (none_alone is.turns) is.puts) in
     inr (record {
-      due = run_answer count findings None (steps_in ran.turns) ran.last.state.regs;
-      is = record { turns = ran.turns; last = ran.last; how = None; goes = ran.goes; reaches = ran.waits; answer = refl };
+      due = run_answer count findings None (steps_in is.turns) is.last.state.regs;
+      is = record { turns = is.turns; last = is.last; how = None; goes = is.goes; reaches = is.reaches; answer = refl };
       text = all.says;
       pieces = all.through;
       faults = all.cause;

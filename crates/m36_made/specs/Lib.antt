@@ -1,5 +1,4 @@
 pub mod Making
-pub mod Turning
 pub mod Summary
 pub mod Putting
 pub mod Made

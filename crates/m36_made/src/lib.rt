@@ -9,14 +9,14 @@
 //! `specs/Made.antt` what is due to the command. It asks the folder for nothing. A file that could not be written ends it:
 //! then those before it are written, and nothing is told.
 //!
-//! The generator is that of `m36_gen`, an object that of `alm`, and the folder is booted as `run` boots one. The machine is
-//! that of the Multics Processor Manual AL39; sources, files and lines are this simulator's own.
+//! The generator is that of `m36_gen`, an object that of `alm`, and the folder is booted and run as `run` does it, of whose
+//! turns nothing is told. The machine is that of the Multics Processor Manual AL39; sources, files and lines are this
+//! simulator's own.
 #![tactic(auto)]
 
 pub mod folder;
 pub mod making;
 pub mod objects;
-pub mod running;
 pub mod sets;
 pub mod summary;
 

@@ -1,6 +1,6 @@
 //! What is told of the folder that was made.
 
-ghost use Rattle.std.specs.Prelude.{ℕ, ◌≡◌, ◌≤◌, ◌<◌, [], ◌∷◌, Some, length, slice_index};
+ghost use Rattle.std.specs.Prelude.{ℕ, ◌≡◌, ◌≤◌, ◌<◌, [], ◌∷◌, length, slice_index};
 ghost use Rattle.m36_super.specs.declared.coming.Coming.TheVariants.{Step};
 ghost use Rattle.m36_super.specs.SuperFields.{booted_of};
 ghost use Rattle.m36_audit.specs.Findings.{pairs};
@@ -9,18 +9,19 @@ ghost use Rattle.m36_reading.specs.Outside.{sink_of};
 ghost use Rattle.m36_ran.specs.Output.{as_line};
 ghost use Rattle.m36_ran.specs.AuditText.{audit_pieces};
 ghost use Rattle.m36_ran.specs.Ran.{passes};
+ghost use Rattle.m36_booted.specs.declared.command.RunOutput.TheVariants as output;
 ghost use Rattle.m36_booted.specs.Putting.{Puts};
-ghost use Rattle.m36_booted.specs.RunSays.{PutsPieces};
+ghost use Rattle.m36_booted.specs.RunSays.{PutsPieces, RanSays};
 ghost use Rattle.m36_booted.specs.Systems.{IsFresh};
-ghost use Rattle.m36_made.specs.Putting.{EndSays};
-ghost use Rattle.m36_made.specs.Summary.{run_limit, segments_line, sum_line, head_pieces, end_pieces};
+ghost use Rattle.m36_made.specs.Putting.{SumSays};
+ghost use Rattle.m36_made.specs.Summary.{run_limit, segments_line, sum_line, head_pieces};
 ghost use Rattle.m36_made.specs.Summary.{IsRunAnswer, IsUnrunAnswer, IsFoundAnswer, IsSummary};
 
-use crate::running::{Ran, run};
 use arrayvec::ArrayString;
+use m36_acl::DeniedLines;
 use m36_audit::Finding;
-use m36_booted::running::Finish;
-use m36_booted::{audited, finish_line, finish_status};
+use m36_booted::running::{Finish, Ran, run};
+use m36_booted::{RunOutput, audited, finish_status};
 use m36_model::Regs;
 use m36_outside::{Put, Sink};
 use m36_ran::findings::put_audit;
@@ -89,33 +90,46 @@ fn put_head<S: Sink>(count: u64, findings: &[Finding], out: &mut S) -> Put
     }
 }
 
-// Puts the lines behind a run of so many steps that left these registers.
-fn put_end<S: Sink>(how: &Finish, steps: u32, regs: &Regs, out: &mut S) -> Put
-    ensures { PutsPieces result (end_pieces (Some how.now) steps regs.now)
+// Puts the line of the registers that a run has left.
+fn put_sum<S: Sink>(regs: &Regs, out: &mut S) -> Put
+    ensures { PutsPieces result (as_line (sum_line regs.now) ∷ [])
         (sink_of S.written S.taken S.faults out.old) (sink_of S.written S.taken S.faults out.new) }
 {
-    match put_text(finish_line(*how, steps), out) {
-        Put::Done => put_text(sum_line(regs), out),
-        Put::Failed => Put::Failed,
-    }
+    put_text(sum_line(regs), out)
 }
 
 // ---- answers
 
-// Puts the lines behind a run, and gives its status.
-#[tactic(auto, using(crate::proofs::Summaries::end_whole))]
-fn answer_end<S: Sink>(how: Finish, steps: u32, regs: &Regs, out: &mut S) -> Status
-    ensures { EndSays (end_of result) result how steps regs.now
+// Runs the system, and puts its end line alone.
+fn run_quietly<S: Sink>(alloc: Global, system: &mut Super, out: &mut S) -> Ran
+    requires { system.old.coming ≡ Step }
+    ensures { RanSays result [] output.Nothing run_limit system.old system.new
         (sink_of S.written S.taken S.faults out.old) (sink_of S.written S.taken S.faults out.new) }
 {
-    match put_end(&how, steps, regs, out) {
+    let denied = DeniedLines::new(alloc);
+    run(system, RUN_LIMIT, RunOutput::Nothing, &denied, out)
+}
+
+// Puts the line behind the end line of a run, and gives the status of the run.
+#[tactic(auto, using(crate::proofs::Summaries::sum_whole))]
+fn answer_sum<S: Sink>(how: Finish, regs: &Regs, out: &mut S) -> Status
+    ensures { SumSays (end_of result) result how regs.now
+        (sink_of S.written S.taken S.faults out.old) (sink_of S.written S.taken S.faults out.new) }
+{
+    match put_sum(regs, out) {
         Put::Done => finish_status(how),
         Put::Failed => Status::WriteFault,
     }
 }
 
 // Puts the lines before the run, runs the system, and puts those behind.
-fn answer_run<S: Sink>(system: &mut Super, count: u64, findings: &[Finding], out: &mut S) -> Status
+fn answer_run<S: Sink>(
+    alloc: Global,
+    system: &mut Super,
+    count: u64,
+    findings: &[Finding],
+    out: &mut S,
+) -> Status
     requires { system.old.coming ≡ Step }
     ensures { Puts
         (λ extent. IsRunAnswer extent count system.old.lib (booted_of system.old) (pairs findings.now))
@@ -124,8 +138,9 @@ fn answer_run<S: Sink>(system: &mut Super, count: u64, findings: &[Finding], out
 {
     match put_head(count, findings, out) {
         Put::Failed => Status::WriteFault,
-        Put::Done => match run(system, RUN_LIMIT) {
-            Ran::Whole(how, steps) => answer_end(how, steps, system.regs(), out),
+        Put::Done => match run_quietly(alloc, system, out) {
+            Ran::Whole(how) => answer_sum(how, system.regs(), out),
+            Ran::Cut => Status::WriteFault,
             Ran::Starved => Status::NoMemory,
         },
     }
@@ -147,6 +162,7 @@ fn answer_unrun<S: Sink>(count: u64, findings: &[Finding], out: &mut S) -> Statu
 // Tells of a system by what the audit of its core has found.
 #[tactic(auto, using(crate::proofs::Summaries::founds))]
 fn answer_found<S: Sink>(
+    alloc: Global,
     system: &mut Super,
     count: u64,
     findings: &[Finding],
@@ -159,7 +175,7 @@ fn answer_found<S: Sink>(
         (sink_of S.written S.taken S.faults out.old) (sink_of S.written S.taken S.faults out.new) }
 {
     if findings.is_empty() {
-        answer_run(system, count, findings, out)
+        answer_run(alloc, system, count, findings, out)
     } else {
         answer_unrun(count, findings, out)
     }
@@ -174,7 +190,7 @@ pub fn summarise<S: Sink>(alloc: Global, mut system: Super, out: &mut S) -> Stat
 {
     let count = system.catalog().count() as u64;
     match audited(alloc, &system) {
-        Ok(verdict) => answer_found(&mut system, count, verdict.findings.as_slice(), out),
+        Ok(verdict) => answer_found(alloc, &mut system, count, verdict.findings.as_slice(), out),
         Err(_) => Status::NoMemory,
     }
 }
