@@ -131,7 +131,7 @@ run_starved findings denied output limit system after old now new grew took stoo
       faults = is.puts.cause ∙ stood;
     })
 
-no_turns : (lib : Library) (limit : ℕ) (first : Booted) → Goes lib limit first [] first
+pub no_turns : (lib : Library) (limit : ℕ) (first : Booted) → Goes lib limit first [] first
 unfolding AreTurns steps_in
 no_turns lib limit first = record { turns_are = refl; events = tt; few = omega arith }
 
@@ -183,7 +183,8 @@ pub ruleset audits = (audit_alone)
 
 -- ---- by the system of a folder
 
-puts_more :
+-- more answers may be due
+pub puts_more :
     (A B : Extent → Answer → Type 0) (ending : Ending) (result : Status) (old new : SinkState)
     → ((extent : Extent) (due : Answer) → A extent due → B extent due)
     → Puts A ending result old new → Puts B ending result old new

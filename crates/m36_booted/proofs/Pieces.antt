@@ -11,7 +11,7 @@ use Rattle.m36_reading.specs.Outside.{SinkState}
 use Rattle.m36_ran.proofs.PiecesJoined.{joined_on}
 use Rattle.m36_booted.specs.RunSays.{PutsPieces}
 
-says_of :
+pub says_of :
     (answer : Put) (written written' : Option (List ℕ)) (x y : List ℕ)
     → x ≡ y → PutSays answer written written' x → PutSays answer written written' y
 says_of answer written written' x y is says = subst (λ t. PutSays answer written written' t) is says

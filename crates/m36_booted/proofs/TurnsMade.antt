@@ -3,7 +3,7 @@ use Rattle.std.proofs.Common.{◌≡◌, ℕ, ◌+◌, List, [], ◌∷◌, ◌+
 use Rattle.std.proofs.lemmas.List.{append-nil}
 use Rattle.m36_outside.specs.declared.sink.Put.{Put}
 use Rattle.m36_outside.specs.declared.sink.Put.TheVariants as put
-use Rattle.m36_model.specs.StoreLaw.{Each}
+use Rattle.m36_isol.proofs.Spots.{each_append}
 use Rattle.m36_step.specs.declared.turns.Turn.{Turn}
 use Rattle.m36_super.specs.Library.{Library}
 use Rattle.m36_super.specs.BootedRun.{Booted, IsTurn, AreTurns}
@@ -20,10 +20,6 @@ unfolding AreTurns
 turns_on lib [] more first now last are others = subst (λ r. AreTurns lib r more last) are others
 turns_on lib (turn ∷ turns) more first now last are others =
     (are.0, are.1, turns_on lib turns more are.0 now last are.2 others)
-
-each_on : (P : Turn → Type 0) (turns more : List Turn) → Each P turns → Each P more → Each P (turns ++ more)
-each_on P [] more each others = others
-each_on P (turn ∷ turns) more each others = (each.0, each_on P turns more each.1 others)
 
 pub steps_on : (turns more : List Turn) → steps_in (turns ++ more) ≡ steps_in turns + steps_in more
 unfolding steps_in
@@ -78,7 +74,7 @@ pub made_on :
 made_on answer output taken n m lib first now last old mid new one two = record {
   turns = one.turns ++ two.turns;
   turns_are = turns_on lib one.turns two.turns first now last one.turns_are two.turns_are;
-  events = each_on IsEvent one.turns two.turns one.events two.events;
+  events = each_append IsEvent one.turns two.turns one.events two.events;
   count = steps_on one.turns two.turns ∙ ap (λ k. k + steps_in two.turns) one.count ∙ ap (λ k. n + k) two.count;
   puts =
       adds_are answer

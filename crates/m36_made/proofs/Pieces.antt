@@ -1,5 +1,5 @@
 -- Pieces that are put, one after another.
-use Rattle.std.proofs.Common.{◌≡◌, ℕ, List, [], ◌∷◌, Option, sym, subst}
+use Rattle.std.proofs.Common.{◌≡◌, ℕ, List, [], ◌∷◌, sym, subst}
 use Rattle.std.proofs.lemmas.List.{append-nil}
 use Rattle.m36_outside.specs.Passing.{joined, TakesLines}
 use Rattle.m36_outside.specs.Put.{PutSays, PutHasCause}
@@ -10,12 +10,7 @@ use Rattle.m36_ran.specs.Output.{as_line}
 use Rattle.m36_ran.specs.AuditText.{audit_text, audit_pieces}
 use Rattle.m36_ran.proofs.PiecesJoined.{audit_joined}
 use Rattle.m36_booted.specs.RunSays.{PutsPieces}
-use Rattle.m36_booted.proofs.Pieces.{pieces_then, pieces_longer}
-
-says_of :
-    (answer : Put) (written written' : Option (List ℕ)) (x y : List ℕ)
-    → x ≡ y → PutSays answer written written' x → PutSays answer written written' y
-says_of answer written written' x y is says = subst (λ t. PutSays answer written written' t) is says
+use Rattle.m36_booted.proofs.Pieces.{says_of, pieces_then, pieces_longer}
 
 -- a line was put
 pub line_put :

@@ -1,5 +1,5 @@
 -- What is told of a booted system, by what is found and by how its run ends.
-use Rattle.std.proofs.Common.{◌≡◌, ℕ, ◌<◌, Bool, List, [], ◌∷◌, ◌++◌, length, Option, Some, None, refl, sym, ap, subst, ◌∙◌, arith, inl, inr}
+use Rattle.std.proofs.Common.{◌≡◌, ℕ, ◌<◌, Bool, List, [], ◌∷◌, ◌++◌, length, Option, Some, None, refl, sym, ap, subst, ◌∙◌, inr}
 use Rattle.m36_outside.specs.declared.sink.Put.{Put}
 use Rattle.m36_outside.specs.declared.sink.Put.TheVariants as put
 use Rattle.m36_desc.specs.Fields.{DbrFields}
@@ -10,8 +10,6 @@ use Rattle.m36_model.specs.declared.outcome.Stop.TheVariants.{Dis, Operation, Ta
 use Rattle.m36_audit.specs.Findings.{pairs}
 use Rattle.m36_audit.specs.declared.verdict.Finding.{Finding}
 use Rattle.m36_step.specs.declared.turns.Turn.{Turn}
-use Rattle.m36_super.specs.Library.{Library}
-use Rattle.m36_super.specs.BootedRun.{Booted, AreTurns}
 use Rattle.m36_super.specs.SuperFields.{SuperFields, booted_of}
 use Rattle.m36_reading.specs.declared.status.Status.{Status}
 use Rattle.m36_reading.specs.declared.status.Status.TheVariants as status
@@ -27,28 +25,16 @@ use Rattle.m36_booted.specs.declared.running.Finish.{Finish}
 use Rattle.m36_booted.specs.declared.running.Finish.TheVariants.{Over, Limit}
 use Rattle.m36_booted.specs.declared.running.Ran.TheVariants as ran
 use Rattle.m36_booted.specs.RunText.{steps_in, finish_status, run_pieces}
-use Rattle.m36_booted.specs.Runs.{Goes, Extent, Whole, Begun, Starved}
+use Rattle.m36_booted.specs.Runs.{Extent}
 use Rattle.m36_booted.specs.RunSays.{PutsPieces, RanSays}
 use Rattle.m36_booted.specs.Putting.{Puts}
 use Rattle.m36_booted.specs.Systems.{IsFresh}
 use Rattle.m36_booted.proofs.Pieces.{pieces_are, pieces_then, pieces_longer}
 use Rattle.m36_booted.proofs.RunLoop.{regs_left}
 use Rattle.m36_booted.proofs.EndAlone.{end_alone, none_alone}
+use Rattle.m36_booted.proofs.FolderAnswers.{no_turns, puts_more}
 use Rattle.m36_made.specs.Putting.{SumSays}
 use Rattle.m36_made.specs.Summary.{run_limit, sum_line, head_pieces, end_pieces, run_answer, unrun_answer, IsRunAnswer, IsUnrunAnswer, IsFoundAnswer, IsSummary}
-
--- more answers may be due
-pub puts_more :
-    (A B : Extent → Answer → Type 0) (ending : Ending) (result : Status) (old new : SinkState)
-    → ((extent : Extent) (due : Answer) → A extent due → B extent due)
-    → Puts A ending result old new → Puts B ending result old new
-puts_more A B Answered result old new more puts = record { due = puts.due; is = more Whole puts.due puts.is; puts = puts.puts }
-puts_more A B Cut result old new more puts = record { due = puts.due; is = more Begun puts.due puts.is; puts = puts.puts }
-puts_more A B ends.Starved result old new more (inl puts) = inl puts
-puts_more A B ends.Starved result old new more (inr puts) =
-    inr (record { due = puts.due; is = more Starved puts.due puts.is; text = puts.text; pieces = puts.pieces; faults = puts.faults })
-puts_more A B Unread result old new more puts = absurd puts
-puts_more A B Unasked result old new more puts = absurd puts
 
 -- ---- a run
 
@@ -160,10 +146,6 @@ run_starved count system after findings old now new head is =
       pieces = all.through;
       faults = all.cause;
     })
-
-no_turns : (lib : Library) (limit : ℕ) (first : Booted) → Goes lib limit first [] first
-unfolding AreTurns steps_in
-no_turns lib limit first = record { turns_are = refl; events = tt; few = omega arith }
 
 -- the lines before the run were cut off
 pub head_part :

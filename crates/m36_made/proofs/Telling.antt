@@ -22,10 +22,10 @@ use Rattle.m36_booted.specs.Folder.{FolderFields}
 use Rattle.m36_booted.specs.Runs.{Extent, Whole, Begun, Starved}
 use Rattle.m36_booted.specs.Putting.{Puts}
 use Rattle.m36_booted.specs.Systems.{given_by}
+use Rattle.m36_booted.proofs.FolderAnswers.{puts_more}
 use Rattle.m36_made.specs.Making.{sets_of, make_reads}
 use Rattle.m36_made.specs.Summary.{IsSummary}
 use Rattle.m36_made.specs.Made.{boots_from, IsToldIn, with_files, files_alone, made_kind}
-use Rattle.m36_made.proofs.Summaries.{puts_more}
 
 -- ---- what is told of the files
 
