@@ -1,6 +1,6 @@
 //! The audit of an image, and its run.
 
-ghost use Rattle.std.specs.Prelude.{ℕ, ◌≡◌, ◌||◌, [], Ok, IfOk};
+ghost use Rattle.std.specs.Prelude.{ℕ, ◌≡◌, ◌||◌, [], None, Ok, IfOk};
 ghost use Rattle.m36_model.specs.Audit.{AreFindings};
 ghost use Rattle.m36_audit.specs.Findings.{pairs};
 ghost use Rattle.m36_reading.specs.Ends.{end_of};
@@ -50,9 +50,10 @@ pub fn status_after(last: Outcome) -> Status
     }
 }
 
-// The machine of an image. Core is handed on, and not copied.
-fn machine_of(alloc: Global, image: Image) -> Result<Machine, NoMemory>
-    ensures { IfOk result (λ machine. machine.state ≡ image) }
+/// The machine of an image. Core is handed on, and not copied. The error is want of memory alone.
+pub fn machine_of(alloc: Global, image: Image) -> Result<Machine, NoMemory>
+    ensures state { IfOk result (λ machine. machine.state ≡ image) }
+    ensures ended { IfOk result (λ machine. machine.ended ≡ None) }
 {
     let Image { core, regs } = image;
     match Walk::new(alloc, core, regs.dbr) {

@@ -17,11 +17,11 @@ use m36_booted::reading::read_system;
 use m36_debug::debug;
 use m36_image::Image;
 use m36_outside::{Folder, Lines, Sink, Text};
+use m36_ran::answering::machine_of;
 use m36_ran::reading::read_state;
 use m36_reading::Status;
 use m36_step::{Machine, Stepper};
 use m36_super::Super;
-use m36_walk::Walk;
 use m36_word::NoMemory;
 use std::alloc::Global;
 
@@ -49,13 +49,10 @@ fn past_of(alloc: Global, image: Image) -> Result<Past<Machine>, NoMemory>
     ensures { IfOk result
         (λ past. past ≡ record { first = record { state = image; ended = None }; taken = 0 }) }
 {
-    let Image { core, regs } = image;
-    match Walk::new(alloc, core, regs.dbr) {
-        Ok(walk) => match Past::new(alloc, Machine::new(walk, regs)) {
-            Ok(past) => Ok(past),
-            Err(_) => Err(NoMemory),
-        },
-        Err(_core) => Err(NoMemory),
+    let machine = machine_of(alloc, image)?;
+    match Past::new(alloc, machine) {
+        Ok(past) => Ok(past),
+        Err(_) => Err(NoMemory),
     }
 }
 

@@ -19,8 +19,8 @@ returns g c =
     let last = c.in-Whole.last in
     subst (λ r. PutsBy (end_of r) r (behind findings (run_answer c.args.steps c.args.image)) (sink c.args.out.now) (sink c.run.new.out)) (sym c.status_after.ensures)
     (run_whole findings c.args.steps c.args.image last (sink c.args.out.now) (sink c.put_audit.new.out) (sink c.run.new.out) c.in-Done.ensures.says c.in-Done.ensures.through c.in-Done.ensures.cause
-    (subst (λ s. RunSays (Whole last) c.args.steps s (written c.put_audit.new.out) (written c.run.new.out)) c.in-Ok.ensures c.in-Whole.ensures.says)
-    (subst (λ s. RunTakes (Whole last) c.args.steps s (taken c.put_audit.new.out) (taken c.run.new.out)) c.in-Ok.ensures c.in-Whole.ensures.through) c.in-Whole.ensures.cause)
+    (subst (λ s. RunSays (Whole last) c.args.steps s (written c.put_audit.new.out) (written c.run.new.out)) c.in-Ok.ensures.state c.in-Whole.ensures.says)
+    (subst (λ s. RunTakes (Whole last) c.args.steps s (taken c.put_audit.new.out) (taken c.run.new.out)) c.in-Ok.ensures.state c.in-Whole.ensures.through) c.in-Whole.ensures.cause)
 
 pub returns-in-Failed : goal.returns-in-Failed
 returns-in-Failed g c =
@@ -32,5 +32,5 @@ returns-in-Cut g c =
     let taken = g.S.Sink.taken in
     let sink = sink_of written taken g.S.Sink.faults in
     run_cut (pairs c.args.findings.now) c.args.steps c.args.image _ (sink c.put_audit.new.out) _ c.in-Done.ensures.says c.in-Done.ensures.through c.in-Done.ensures.cause
-    (subst (λ s. RunSays Cut c.args.steps s (written c.put_audit.new.out) (written c.run.new.out)) c.in-Ok.ensures c.in-Cut.ensures.says)
-    (subst (λ s. RunTakes Cut c.args.steps s (taken c.put_audit.new.out) (taken c.run.new.out)) c.in-Ok.ensures c.in-Cut.ensures.through) c.in-Cut.ensures.cause
+    (subst (λ s. RunSays Cut c.args.steps s (written c.put_audit.new.out) (written c.run.new.out)) c.in-Ok.ensures.state c.in-Cut.ensures.says)
+    (subst (λ s. RunTakes Cut c.args.steps s (taken c.put_audit.new.out) (taken c.run.new.out)) c.in-Ok.ensures.state c.in-Cut.ensures.through) c.in-Cut.ensures.cause
