@@ -17,11 +17,10 @@ mod core_words;
 pub mod fault;
 pub mod image;
 mod limits;
-pub mod objects;
+mod objects;
 mod segments;
 pub mod start;
 mod tables;
 
 pub use fault::BootFault;
 pub use image::{Image, lay};
-pub use objects::are_short;

@@ -1,32 +1,11 @@
 //! The files of segments, and the objects that they are.
 
-ghost use Rattle.std.specs.Prelude.{◌≡◌, ◌<◌, ◌≤◌, ◌^◌, length, All, option_copied, true};
-ghost use Rattle.std.specs.List.{list_all};
+ghost use Rattle.std.specs.Prelude.{◌≡◌, ◌<◌, ◌≤◌, ◌^◌, length, All, option_copied};
 ghost use Rattle.obj36.specs.ObjectOf.{value_of};
-ghost use Rattle.m36_boot.specs.Segments.{is_short, file_at};
+ghost use Rattle.m36_boot.specs.Segments.{file_at};
 
 use m36_link::File;
 use obj36::Object;
-
-fn is_short(file: &File) -> bool
-    ensures { result ≡ is_short file.now }
-{
-    file.words().len() <= 1 << 18
-}
-
-fn all_short(files: &[File]) -> bool
-    ensures { result ≡ list_all is_short files.now }
-{
-    files.iter().all(|file| is_short(file))
-}
-
-/// Whether each file has at most 2^18 words, as many as a segment.
-pub fn are_short(files: &[File]) -> bool
-    ensures value { result ≡ list_all is_short files.now }
-    ensures short { result ≡ true → All (λ w. length w ≤ 2 ^ 18) files.now }
-{
-    all_short(files)
-}
 
 /// The file of a segment of the catalog, both counted from 0.
 #[tactic(auto, using(crate::proofs::Files::file_is), unfolding(crate::specs::Segments::file_at))]

@@ -36,8 +36,8 @@ pub fn are_short(files: &[Words]) -> bool
     files.iter().all(|file| is_short(file))
 }
 
-// The files, each read once.
-fn files_of(alloc: Global, words: Vec<Words>) -> Result<Vec<File>, NoMemory>
+/// The files, each read once. The error is want of memory alone.
+pub fn files_of(alloc: Global, words: Vec<Words>) -> Result<Vec<File>, NoMemory>
     requires { All (λ w. length w ≤ 2 ^ 18) words.items }
     ensures { IfOk result (λ files. files.items ≡ words.items) }
 {

@@ -30,7 +30,7 @@ ghost use Rattle.m36_super.specs.TurnLaws.{TurnLaw, TurnAuditLaw, FunctionLaw};
 ghost use Rattle.m36_super.specs.SuperFields.{PagingLaw, StepManagedLaw};
 
 pub use booted::Super;
-pub use booting::are_short;
+pub use booting::{are_short, files_of};
 pub use coming::Coming;
 
 /// Until an LDBR is executed a turn of a booted run is that of the flat run, or wants memory, or executes ABSA, and the

@@ -3,11 +3,12 @@
 ghost use Rattle.std.specs.Prelude.{IfOk};
 ghost use Rattle.m36_page.specs.Residence.{HasFrames, Reads};
 
-use m36_boot::{BootFault, Image, are_short, lay};
+use crate::running::words_of;
+use m36_boot::{BootFault, Image, lay};
 use m36_dir::Catalog;
-use m36_link::File;
 use m36_outside::Text;
-use m36_word::{NoMemory, Word, Words};
+use m36_super::{are_short, files_of};
+use m36_word::{NoMemory, Words};
 use std::alloc::Global;
 
 // The object of an empty source.
@@ -225,30 +226,20 @@ fn segment_words() -> &'static [(u16, u32, Option<u64>)] {
     &WORDS
 }
 
-fn file(alloc: Global, numbers: &[u64]) -> Result<File, NoMemory> {
-    let mut words = Words::new(alloc);
-    for number in numbers {
-        words.push(Word::low(*number))?;
-    }
-    if words.slice().len() > 100 {
-        return Err(NoMemory);
-    }
-    File::read(alloc, words)
-}
-
-fn file_of(alloc: Global, second: Second) -> Result<File, NoMemory> {
+fn second_of(alloc: Global, second: Second) -> Result<Words, NoMemory> {
     match second {
-        Second::Same => file(alloc, caller()),
-        Second::Empty => file(alloc, empty()),
-        Second::Nothing => file(alloc, &[]),
+        Second::Same => words_of(alloc, caller()),
+        Second::Empty => words_of(alloc, empty()),
+        Second::Nothing => words_of(alloc, &[]),
     }
 }
 
-fn files(alloc: Global, second: Second) -> Result<Vec<File>, NoMemory> {
-    let mut files = Vec::new(alloc);
-    files.push(file(alloc, caller())?)?;
-    files.push(file_of(alloc, second)?)?;
-    Ok(files)
+// The words of the two files.
+fn words_of_both(alloc: Global, second: Second) -> Result<Vec<Words>, NoMemory> {
+    let mut words = Vec::new(alloc);
+    words.push(words_of(alloc, caller())?)?;
+    words.push(second_of(alloc, second)?)?;
+    Ok(words)
 }
 
 fn text_of(alloc: Global, lines: &[&str]) -> Result<Text, NoMemory> {
@@ -296,10 +287,11 @@ fn laid(
     ensures frames { IfOk result (λ image. HasFrames image.pager image.core) }
 {
     let catalog = catalog(alloc, frames, main, start)?;
-    let files = files(alloc, second)?;
-    if files.len() != catalog.count() || !are_short(files.as_slice()) {
+    let words = words_of_both(alloc, second)?;
+    if words.len() != catalog.count() || !are_short(&words) {
         return Err(BootFault::NoMemory);
     }
+    let files = files_of(alloc, words)?;
     lay(alloc, &catalog, files.as_slice())
 }
 

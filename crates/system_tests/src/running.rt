@@ -95,7 +95,7 @@ const CON: [u64; 31] = [
     0o000030000000,
 ];
 
-fn words_of(alloc: Global, numbers: &[u64]) -> Result<Words, NoMemory> {
+pub(crate) fn words_of(alloc: Global, numbers: &[u64]) -> Result<Words, NoMemory> {
     let mut words = Words::new(alloc);
     for number in numbers {
         words.push(Word::low(*number))?;
