@@ -11,7 +11,6 @@ use m36_core::Core;
 use m36_desc::{Dbr, Ptr};
 use m36_model::{Ind, Ppr, Regs};
 use m36_step::Machine;
-use m36_walk::Walk;
 use m36_word::{NoMemory, Word};
 use std::alloc::Global;
 
@@ -144,11 +143,7 @@ fn regs(dbr: Dbr, ic: u32) -> Regs
 
 /// The machine before its first step.
 pub fn machine(alloc: Global, paged: bool, chosen: Loop) -> Result<Machine, NoMemory> {
-    let dbr = DBR;
-    match Walk::new(alloc, core(alloc, paged)?, dbr) {
-        Ok(walk) => Ok(Machine::new(walk, regs(dbr, begin(chosen)))),
-        Err(_core) => Err(NoMemory),
-    }
+    Machine::start(alloc, core(alloc, paged)?, regs(DBR, begin(chosen)))
 }
 
 /// How often the loop has counted.

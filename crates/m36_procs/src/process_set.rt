@@ -6,7 +6,6 @@ ghost use Rattle.m36_procs.specs.EventSays.{EventSays};
 use m36_core::Core;
 use m36_model::{Regs, StepRecord};
 use m36_step::Machine;
-use m36_walk::Walk;
 use m36_word::NoMemory;
 use std::alloc::Global;
 use std::marker::Model;
@@ -61,14 +60,12 @@ impl ProcessSet {
         ensures { IfOk result (λ p. p ≡ record { regs = regs.items; store = core }) }
     {
         let first = regs[0];
-        match Walk::new(alloc, core, first.dbr) {
-            Ok(walk) => Ok(ProcessSet {
-                machine: Machine::new(walk, first),
-                regs,
-                inside: 0,
-            }),
-            Err(_) => Err(NoMemory),
-        }
+        let machine = Machine::start(alloc, core, first)?;
+        Ok(ProcessSet {
+            machine,
+            regs,
+            inside: 0,
+        })
     }
 
     /// How many there are.

@@ -22,7 +22,6 @@ use m36_model::{End, Outcome, Stop};
 use m36_outside::{Folder, Put, Sink};
 use m36_reading::Status;
 use m36_step::Machine;
-use m36_walk::Walk;
 use m36_word::NoMemory;
 use std::alloc::Global;
 
@@ -56,10 +55,8 @@ pub fn machine_of(alloc: Global, image: Image) -> Result<Machine, NoMemory>
     ensures ended { IfOk result (λ machine. machine.ended ≡ None) }
 {
     let Image { core, regs } = image;
-    match Walk::new(alloc, core, regs.dbr) {
-        Ok(walk) => Ok(Machine::new(walk, regs)),
-        Err(_core) => Err(NoMemory),
-    }
+    let machine = Machine::start(alloc, core, regs)?;
+    Ok(machine)
 }
 
 /// Puts the audit text, and then runs the machine of an image for at most so many steps. Nothing is put before memory is

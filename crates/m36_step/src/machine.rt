@@ -98,6 +98,17 @@ impl Machine {
         }
     }
 
+    /// A machine with this core, which is handed on and not copied, and these registers. The error is want of memory alone.
+    pub fn start(alloc: Global, core: Core, regs: Regs) -> Result<Machine, NoMemory>
+        ensures state { IfOk result (λ m. m.state ≡ record { regs = regs; store = core }) }
+        ensures ended { IfOk result (λ m. m.ended ≡ None) }
+    {
+        match Walk::new(alloc, core, regs.dbr) {
+            Ok(walk) => Ok(Machine::new(walk, regs)),
+            Err(_) => Err(NoMemory),
+        }
+    }
+
     /// One step. The record is that of the written step, and the machine is left in the state after it. Where the audit
     /// conditions hold before a step that executes no LDBR, they hold after it.
     pub fn step(&mut self) -> StepRecord

@@ -13,12 +13,9 @@ ghost use Rattle.m36_super.specs.BootSays.{BootSays, at_start};
 
 use crate::booted::Super;
 use m36_boot::{BootFault, Image, lay};
-use m36_core::Core;
 use m36_dir::Catalog;
 use m36_link::{File, Known, Snap, link_laws};
-use m36_model::Regs;
 use m36_step::Machine;
-use m36_walk::Walk;
 use m36_word::{NoMemory, Words};
 use std::alloc::Global;
 
@@ -46,16 +43,6 @@ pub fn files_of(alloc: Global, words: Vec<Words>) -> Result<Vec<File>, NoMemory>
         files.push(File::read(alloc, file)?)?;
     }
     Ok(files)
-}
-
-// A machine that starts with core and these registers.
-fn machine_of(alloc: Global, core: Core, regs: Regs) -> Result<Machine, NoMemory>
-    ensures { IfOk result (λ m. m.state ≡ record { regs = regs; store = core }) }
-{
-    match Walk::new(alloc, core, regs.dbr) {
-        Ok(walk) => Ok(Machine::new(walk, regs)),
-        Err(_) => Err(NoMemory),
-    }
 }
 
 // What the answer to the start makes known.
@@ -97,7 +84,7 @@ fn started(
         regs,
         ..
     } = image;
-    let machine = machine_of(alloc, core, regs)?;
+    let machine = Machine::start(alloc, core, regs)?;
     Ok(Super::at_start(alloc, machine, pager, known, catalog, files))
 }
 

@@ -15,7 +15,6 @@ use m36_model::{
 use m36_step::machine::Machine;
 use m36_step::stepper::{Replay, Stepper};
 use m36_step::turns::{BackAnswer, Turn};
-use m36_walk::Walk;
 use m36_word::{NoMemory, Word};
 use std::alloc::Global;
 
@@ -89,10 +88,7 @@ fn put(core: &mut Core, words: &[(u32, u64)]) {
 fn machine(alloc: Global, regs: &Regs, words: &[(u32, u64)]) -> Result<Machine, NoMemory> {
     let mut core = Core::new(alloc, 2)?;
     put(&mut core, words);
-    match Walk::new(alloc, core, regs.dbr) {
-        Ok(walk) => Ok(Machine::new(walk, *regs)),
-        Err(_core) => Err(NoMemory),
-    }
+    Machine::start(alloc, core, *regs)
 }
 
 fn word_at(machine: &Machine, place: u32) -> u64 {

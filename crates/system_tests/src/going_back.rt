@@ -10,7 +10,6 @@ use m36_core::Core;
 use m36_desc::{Dbr, Ptr};
 use m36_model::{Ind, Ppr, Regs};
 use m36_step::{BackAnswer, Machine, Stepper, Turn};
-use m36_walk::Walk;
 use m36_word::{NoMemory, Word};
 use std::alloc::Global;
 use std::cell::Cell;
@@ -60,11 +59,7 @@ fn machine(alloc: Global, words: &[(u32, u64)]) -> Result<Machine, NoMemory> {
             core.poke(*place, Word::low(*word));
         }
     }
-    let regs = regs();
-    match Walk::new(alloc, core, regs.dbr) {
-        Ok(walk) => Ok(Machine::new(walk, regs)),
-        Err(_core) => Err(NoMemory),
-    }
+    Machine::start(alloc, core, regs())
 }
 
 fn past<M: m36_step::Replay + Drop>(alloc: Global, machine: M) -> Result<Past<M>, NoMemory> {

@@ -5,7 +5,6 @@ use m36_debug::{SessionFault, debug};
 use m36_image::{Image, read_image};
 use m36_outside::{MemLines, MemSink, Text};
 use m36_step::Machine;
-use m36_walk::Walk;
 use m36_word::NoMemory;
 use std::alloc::Global;
 
@@ -133,12 +132,10 @@ fn past(alloc: Global, image: &[u8]) -> Result<Past<Machine>, NoMemory> {
         return Err(NoMemory);
     };
     let Image { core, regs } = image;
-    match Walk::new(alloc, core, regs.dbr) {
+    let machine = Machine::start(alloc, core, regs)?;
+    match Past::new(alloc, machine) {
+        Ok(past) => Ok(past),
         Err(_) => Err(NoMemory),
-        Ok(walk) => match Past::new(alloc, Machine::new(walk, regs)) {
-            Ok(past) => Ok(past),
-            Err(_) => Err(NoMemory),
-        },
     }
 }
 

@@ -11,7 +11,6 @@ use m36_desc::{Dbr, Ptr};
 use m36_inst::{name_of, row};
 use m36_model::{Ind, Outcome, Ppr, Regs, Stop};
 use m36_step::machine::Machine;
-use m36_walk::Walk;
 use m36_word::{NoMemory, Pair, Word};
 use std::alloc::Global;
 use std::process::Abort;
@@ -126,10 +125,7 @@ fn core(alloc: Global, line: &Line) -> Result<Core, NoMemory> {
 
 fn machine(alloc: Global, line: &Line) -> Result<Machine, NoMemory> {
     let dbr = dbr(&line.before);
-    match Walk::new(alloc, core(alloc, line)?, dbr) {
-        Ok(walk) => Ok(Machine::new(walk, regs(&line.before, dbr))),
-        Err(_core) => Err(NoMemory),
-    }
+    Machine::start(alloc, core(alloc, line)?, regs(&line.before, dbr))
 }
 
 fn end_of(outcome: Outcome, before: &Seen) -> u64 {
