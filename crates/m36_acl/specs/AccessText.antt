@@ -6,6 +6,7 @@
 -- MODE has the letters r, e and w, or is `null`. TERM is the term that decides, or `none`.
 use Rattle.std.specs.Prelude.{ℕ, Bool, true, false, List, [], ◌∷◌, ◌++◌, map, codes, slice_get}
 use Rattle.std.specs.Prelude.{Option, Some, None}
+use Rattle.m36_text.specs.Lines.{as_line}
 use Rattle.m36_dir.specs.Fields.{SegmentFields}
 use Rattle.m36_dir.specs.Catalog.{CatalogFields}
 use Rattle.m36_acl.specs.declared.policy.Decision.{Decision}
@@ -53,16 +54,16 @@ and_then text word = (text ++ codes " ") ++ word
 
 unfoldable pub access_line : Lists → List ℕ → List (List ℕ) → SegmentFields → List ℕ
 access_line lists user directories s =
-    and_then (and_then (and_then (directory_of directories s) (name_of s))
+    as_line
+    (and_then (and_then (and_then (directory_of directories s) (name_of s))
     (mode_of (decision_on lists user directories s)))
-    (deciding lists user directories s)
-    ++ 10 ∷ []
+    (deciding lists user directories s))
 
 unfoldable pub denied_line : Lists → List ℕ → List (List ℕ) → SegmentFields → List ℕ
 denied_line lists user directories s =
-    and_then (and_then (and_then (codes "denied") (directory_of directories s)) (name_of s))
-    (deciding lists user directories s)
-    ++ 10 ∷ []
+    as_line
+    (and_then (and_then (and_then (codes "denied") (directory_of directories s)) (name_of s))
+    (deciding lists user directories s))
 
 -- ---- of all segments, in their order
 

@@ -4,6 +4,7 @@
 use Rattle.std.specs.Prelude.{ℕ, ◌+◌, ◌&&◌, ◌||◌, nat_eq, if◌then◌else◌, List, [], ◌∷◌, ◌++◌}
 use Rattle.std.specs.Prelude.{Option, Some, None, slice_get, option_and_then}
 use Rattle.m36_outside.specs.Passing.{joined}
+use Rattle.m36_text.specs.Lines.{as_line}
 use Rattle.m36_link.specs.Known.{place_of}
 use Rattle.m36_model.specs.declared.outcome.Fault.{Fault}
 use Rattle.m36_model.specs.declared.endings.End.{End}
@@ -18,7 +19,7 @@ use Rattle.m36_turns.specs.TurnLines.{link_line_of, console_line_of, run_end_lin
 use Rattle.m36_reading.specs.declared.status.Status.{Status}
 use Rattle.m36_reading.specs.declared.status.Status.TheVariants as status
 use Rattle.m36_reading.specs.Answers.{Answer}
-use Rattle.m36_ran.specs.Output.{as_line, end_status}
+use Rattle.m36_ran.specs.Output.{end_status}
 use Rattle.m36_booted.specs.declared.command.RunOutput.{RunOutput}
 use Rattle.m36_booted.specs.declared.command.RunOutput.TheVariants as output
 use Rattle.m36_booted.specs.declared.running.Finish.{Finish}

@@ -1,9 +1,9 @@
 //! What is added to a block of a turn: a line, characters as they are, or nothing; and what stands at the end of a run.
 
 ghost use Rattle.std.specs.Prelude.{◌≡◌, ◌<◌, ◌+◌, ◌&&◌, ◌||◌, nat_eq, [], ◌∷◌, ◌++◌, length, None, Some, MatchOption};
+ghost use Rattle.m36_text.specs.Lines.{as_line};
 ghost use Rattle.m36_step.specs.declared.turns.Turn.TheVariants as turn;
 ghost use Rattle.m36_reading.specs.Outside.{sink_of};
-ghost use Rattle.m36_ran.specs.Output.{as_line};
 ghost use Rattle.m36_booted.specs.RunText.{characters, pieces_of, finish_line};
 ghost use Rattle.m36_booted.specs.RunText.{denied_at, denied_by, denied_segment, line_for};
 ghost use Rattle.m36_booted.specs.RunText.{denied_pieces, end_pieces};

@@ -10,9 +10,8 @@ use Rattle.std.proofs.lemmas.List.Sums.{split_at_first, fails_before_first, pass
 use Rattle.std.proofs.Math.Dec.{ltb}
 use Rattle.m36_text.proofs.Splitting.{rest_whole}
 use Rattle.m36_outside.specs.Passing.{joined}
-use Rattle.m36_text.specs.Lines.{cut_line, ended, lines_of, open_rest, open_ended, open_lines_of}
+use Rattle.m36_text.specs.Lines.{as_line, cut_line, ended, lines_of, open_rest, open_ended, open_lines_of}
 use Rattle.m36_debug.specs.LinesTaken.{whole, whole_lines, IsUnbroken, IsLines, IsFirstPart}
-use Rattle.m36_debug.specs.SessionTexts.{as_line}
 use Rattle.m36_debug.proofs.PutLaws.{joined_on}
 
 -- ---- a line feed in a text

@@ -1,6 +1,6 @@
 -- Laws of pieces of input that are answered line by line.
 use Rattle.std.proofs.Common.{◌≡◌, ◌+◌, ◌-◌, ◌<◌, ℕ, List, [], ◌∷◌, ◌++◌, length, take, drop, Option, refl, sym, ap, subst, ◌∙◌, arith}
-use Rattle.m36_text.specs.Lines.{open_rest}
+use Rattle.m36_text.specs.Lines.{as_line, open_rest}
 use Rattle.m36_debug.specs.declared.turning.Ends.{Ends}
 use Rattle.m36_debug.specs.declared.turning.Ends.TheVariants as ends
 use Rattle.m36_debug.specs.LinesTaken.{IsLines, IsUnbroken}
@@ -8,7 +8,6 @@ use Rattle.m36_debug.specs.Parts.{Part, CutPart, EndSays}
 use Rattle.m36_debug.specs.PieceSays.{AnsweredAll, AnsweredQuit, AnsweredSome, AnsweredCut}
 use Rattle.m36_debug.specs.Putting.{SinkSeen, PutAll}
 use Rattle.m36_debug.specs.Session.{Turning, Waiting, Over, Starved, Standing, standing}
-use Rattle.m36_debug.specs.SessionTexts.{as_line}
 use Rattle.m36_debug.specs.Sitting.{SittingFields}
 use Rattle.m36_debug.proofs.LinesLaws.{lines_none, lines_line}
 use Rattle.m36_debug.proofs.PartLaws.{part_none, part_on, part_cut}

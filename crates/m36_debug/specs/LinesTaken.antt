@@ -2,8 +2,7 @@
 use Rattle.std.specs.Prelude.{ℕ, ◌≡◌, ◌==◌, ◌++◌, false, List, [], ◌∷◌, map, Option, Some}
 use Rattle.std.specs.Prelude.{None, All}
 use Rattle.m36_outside.specs.Passing.{joined}
-use Rattle.m36_text.specs.Lines.{lines_of}
-use Rattle.m36_debug.specs.SessionTexts.{as_line}
+use Rattle.m36_text.specs.Lines.{as_line, lines_of}
 
 -- the whole lines: those that have their line feeds
 abbrev pub whole : List (Option (List ℕ)) → List (List ℕ)

@@ -2,6 +2,7 @@
 use Rattle.std.specs.Prelude.{ℕ, ◌+◌, List, [], ◌∷◌, ◌++◌, codes, take, Option, Some, None}
 use Rattle.std.specs.List.{flat_map}
 use Rattle.m36_text.specs.Digits.{octal_text}
+use Rattle.m36_text.specs.Lines.{as_line}
 use Rattle.m36_desc.specs.Fields.{PtrFields}
 use Rattle.m36_model.specs.Fields.{PprFields}
 use Rattle.m36_model.specs.Registers.{RegsFields}
@@ -11,10 +12,6 @@ use Rattle.m36_step.specs.declared.turns.Turn.TheVariants.{Stepped, Linked, Cons
 use Rattle.m36_step.specs.declared.turns.Turn.TheVariants.{NoMemory}
 use Rattle.m36_trace.specs.TraceLine.{line_of, word_of_segment, indicators_text}
 use Rattle.m36_turns.specs.TurnLines.{link_line_of, console_line_of, run_end_line_of}
-
--- a text as a line
-abbrev pub as_line : List ℕ → List ℕ
-as_line text = text ++ 10 ∷ []
 
 -- an unknown line is shown up to its 64th byte
 unfoldable pub unknown_line : List ℕ → List ℕ

@@ -1,8 +1,8 @@
 //! Pieces of input, and the lines that they cut.
 
 ghost use Rattle.std.specs.Prelude.{ℕ, ◌≡◌, ◌≤◌, ◌<◌, ◌++◌, MatchOption, IfSome, length};
+ghost use Rattle.m36_text.specs.Lines.{as_line};
 ghost use Rattle.m36_debug.specs.LinesTaken.{IsUnbroken};
-ghost use Rattle.m36_debug.specs.SessionTexts.{as_line};
 
 use m36_text::place_of;
 

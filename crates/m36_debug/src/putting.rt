@@ -1,8 +1,8 @@
 //! Lines put to the output, each with its line feed in one piece.
 
 ghost use Rattle.std.specs.Prelude.{ℕ, ◌≡◌, ◌<◌, [], ◌∷◌, length};
+ghost use Rattle.m36_text.specs.Lines.{as_line};
 ghost use Rattle.m36_debug.specs.Putting.{PutsLines, seen};
-ghost use Rattle.m36_debug.specs.SessionTexts.{as_line};
 
 use arrayvec::{ArrayString, ArrayVec};
 use m36_outside::{Put, Sink};

@@ -1,9 +1,11 @@
 -- Lines, and the names of the segments whose programs follow one another.
-use Rattle.std.specs.Prelude.{ℕ, List, [], ◌∷◌, ◌++◌, codes}
+use Rattle.std.specs.Prelude.{ℕ, List, ◌++◌, codes}
 use Rattle.m36_text.specs.Digits.{decimal_text}
+use Rattle.m36_text.specs.Lines.{as_line}
 
+-- a text as a line, by a word that stays closed where many lines stand in a row
 unfoldable pub line : List ℕ → List ℕ
-line text = text ++ 10 ∷ []
+line text = as_line text
 
 -- a line with a number in it
 unfoldable pub numbered : List ℕ → ℕ → List ℕ → List ℕ

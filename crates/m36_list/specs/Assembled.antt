@@ -1,6 +1,7 @@
 -- What the assembler makes of the text of a word.
 use Rattle.std.specs.Prelude.{ℕ, ◌+◌, ◌^◌, ◌<◌, ◌≡◌, List, [], ◌∷◌, ◌++◌, length, Option, Some}
 use Rattle.std.specs.Prelude.{None, Result, Ok, Err}
+use Rattle.m36_text.specs.Lines.{as_line}
 use Rattle.alm_parse.specs.declared.line.Line36.{Line36}
 use Rattle.alm_parse.specs.declared.refusal.Refusal.{Refusal}
 use Rattle.alm_parse.specs.declared.fault.AlmFault.{AlmFault}
@@ -62,4 +63,4 @@ object_of_word w =
 -- has that word as its text and nothing else.
 abbrev pub AssemblesToItself : Type 0
 AssemblesToItself =
-    (w : ℕ) → w < 2 ^ 36 → object_of (parsed (disassembly w ++ 10 ∷ [])) ≡ Ok (object_of_word w)
+    (w : ℕ) → w < 2 ^ 36 → object_of (parsed (as_line (disassembly w))) ≡ Ok (object_of_word w)

@@ -3,6 +3,7 @@
 use Rattle.std.specs.Prelude.{ℕ, ◌+◌, List, [], ◌∷◌, ◌++◌, length, codes, if◌then◌else◌}
 use Rattle.std.specs.List.{join_with_byte, flat_map}
 use Rattle.m36_text.specs.Digits.{octal_text, decimal_text}
+use Rattle.m36_text.specs.Lines.{as_line}
 use Rattle.obj36_parts.specs.Fields.{LinkFields}
 use Rattle.obj36_parts.specs.PartsFields.{PartsFields}
 use Rattle.obj36_parts.specs.ObjectSegment.{is_newer, outer_statics, first_link, words_of}
@@ -15,7 +16,7 @@ use Rattle.m36_list.specs.Disassembly.{disassembly}
 
 -- a line of fields
 unfoldable pub line : List (List ℕ) → List ℕ
-line fields = join_with_byte 32 fields ++ 10 ∷ []
+line fields = as_line (join_with_byte 32 fields)
 
 -- the name and the count of the words, in decimal
 abbrev pub object_line : List ℕ → PartsFields → List ℕ

@@ -2,6 +2,7 @@
 
 ghost use Rattle.std.specs.Prelude.{[], ◌∷◌, ◌++◌, ◌≡◌, ◌^◌, ◌<◌, ◌≤◌, OnOk};
 ghost use Rattle.m36_text.specs.Digits.{octal_text};
+ghost use Rattle.m36_text.specs.Lines.{as_line};
 ghost use Rattle.m36_list.specs.Print.{line};
 
 use m36_outside::Text;
@@ -18,7 +19,7 @@ pub fn put_field(text: &mut Text, field: &[u8]) -> Result<(), NoMemory>
 
 /// Puts the last field of a line.
 pub fn put_last(text: &mut Text, field: &[u8]) -> Result<(), NoMemory>
-    ensures { OnOk result (text.new ≡ text.old ++ (field.now ++ 10 ∷ [])) }
+    ensures { OnOk result (text.new ≡ text.old ++ as_line field.now) }
 {
     text.append(field)?;
     text.push(b'\n')
@@ -35,7 +36,7 @@ pub fn put_number(text: &mut Text, v: u64) -> Result<(), NoMemory>
 /// Puts a number of six octal digits as the last field of a line.
 pub fn put_last_number(text: &mut Text, v: u64) -> Result<(), NoMemory>
     requires { v < 2 ^ 18 }
-    ensures { OnOk result (text.new ≡ text.old ++ (octal_text 6 v ++ 10 ∷ [])) }
+    ensures { OnOk result (text.new ≡ text.old ++ as_line (octal_text 6 v)) }
 {
     put_last(text, octal(v, 6).as_str().as_bytes())
 }

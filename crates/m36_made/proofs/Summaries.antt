@@ -17,7 +17,7 @@ use Rattle.m36_reading.specs.Answers.{Answer}
 use Rattle.m36_reading.specs.Outside.{SinkState}
 use Rattle.m36_reading.specs.Ends.{End as Ending, Answered, Cut, Unread, Unasked, end_of}
 use Rattle.m36_reading.specs.Ends as ends
-use Rattle.m36_ran.specs.Output.{as_line}
+use Rattle.m36_text.specs.Lines.{as_line}
 use Rattle.m36_ran.specs.Ran.{passes, audit_status}
 use Rattle.m36_ran.proofs.AuditAnswers.{passes_none, passes_some}
 use Rattle.m36_booted.specs.declared.command.RunOutput.TheVariants as output

@@ -2,6 +2,7 @@
 -- the folder that they are comes to where it is booted.
 use Rattle.std.specs.Prelude.{ℕ, ◌≡◌, ◌⊎◌, List, [], ◌++◌, length, None, Ok, Err}
 use Rattle.m36_outside.specs.Written.{Grew}
+use Rattle.m36_text.specs.Lines.{as_line}
 use Rattle.m36_reading.specs.declared.setting.Set.{Set}
 use Rattle.m36_reading.specs.declared.status.Status.TheVariants as status
 use Rattle.m36_reading.specs.Reading.{Early, outcome_in}
@@ -13,7 +14,6 @@ use Rattle.m36_booted.specs.Folder.{FolderFields, folder_reads}
 use Rattle.m36_booted.specs.Promise.{PassesBooted}
 use Rattle.m36_booted.specs.Runs.{Extent, Whole, Begun, Starved}
 use Rattle.m36_made.specs.Making.{files_in}
-use Rattle.m36_ran.specs.Output.{as_line}
 use Rattle.m36_made.specs.Summary.{segments_line, IsSummary}
 
 -- what the files boot to, as `run` would boot a folder that has these and no others

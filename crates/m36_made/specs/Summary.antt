@@ -4,6 +4,7 @@ use Rattle.std.specs.Prelude.{ℕ, ◌≡◌, Bool, true, false, List, [], ◌�
 use Rattle.std.specs.Prelude.{Option, Some, None, length}
 use Rattle.m36_outside.specs.Passing.{joined}
 use Rattle.m36_text.specs.Digits.{octal_text, decimal_text}
+use Rattle.m36_text.specs.Lines.{as_line}
 use Rattle.m36_model.specs.Audit.{AreFindings}
 use Rattle.m36_model.specs.BootedCore.{booted_dbr}
 use Rattle.m36_model.specs.Registers.{RegsFields}
@@ -14,7 +15,6 @@ use Rattle.m36_super.specs.SuperFields.{SuperFields, booted_of}
 use Rattle.m36_super.specs.BootSays.{IsBooted}
 use Rattle.m36_reading.specs.declared.status.Status.{Status}
 use Rattle.m36_reading.specs.Answers.{Answer}
-use Rattle.m36_ran.specs.Output.{as_line}
 use Rattle.m36_ran.specs.AuditText.{audit_pieces}
 use Rattle.m36_ran.specs.Ran.{passes, audit_status}
 use Rattle.m36_booted.specs.declared.running.Finish.{Finish}

@@ -1,12 +1,12 @@
 //! What is told of the folder that was made.
 
 ghost use Rattle.std.specs.Prelude.{ℕ, ◌≡◌, ◌≤◌, ◌<◌, [], ◌∷◌, length, slice_index};
+ghost use Rattle.m36_text.specs.Lines.{as_line};
 ghost use Rattle.m36_super.specs.declared.coming.Coming.TheVariants.{Step};
 ghost use Rattle.m36_super.specs.SuperFields.{booted_of};
 ghost use Rattle.m36_audit.specs.Findings.{pairs};
 ghost use Rattle.m36_reading.specs.Ends.{end_of};
 ghost use Rattle.m36_reading.specs.Outside.{sink_of};
-ghost use Rattle.m36_ran.specs.Output.{as_line};
 ghost use Rattle.m36_ran.specs.AuditText.{audit_pieces};
 ghost use Rattle.m36_ran.specs.Ran.{passes};
 ghost use Rattle.m36_booted.specs.declared.command.RunOutput.TheVariants as output;

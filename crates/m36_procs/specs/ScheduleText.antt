@@ -2,6 +2,7 @@
 use Rattle.std.specs.Prelude.{ℕ, ◌+◌, List, [], ◌∷◌, ◌++◌, length, slice_get, codes, Option, Some}
 use Rattle.std.specs.Prelude.{None}
 use Rattle.m36_text.specs.Digits.{decimal_text}
+use Rattle.m36_text.specs.Lines.{as_line}
 use Rattle.m36_model.specs.Core.{core_store}
 use Rattle.m36_model.specs.Registers.{RegsFields}
 use Rattle.m36_model.specs.Schedule.{Processes, Event, events, stepped}
@@ -10,7 +11,7 @@ use Rattle.m36_trace.specs.TraceLine.{line_of}
 
 -- the line of event n: the process, and the trace line of its step
 unfoldable pub event_line : ℕ → ℕ → StepRecord → List ℕ
-event_line n process told = ((decimal_text process ++ codes " ") ++ line_of n told) ++ 10 ∷ []
+event_line n process told = as_line ((decimal_text process ++ codes " ") ++ line_of n told)
 
 -- the lines of events, of which the first has number n
 unfoldable pub event_lines : ℕ → List (Event (List ℕ)) → List ℕ
@@ -23,7 +24,7 @@ event_pieces n [] = []
 event_pieces n (e ∷ more) = event_line n e.process e.told ∷ event_pieces (n + 1) more
 
 unfoldable pub end_line : ℕ → List ℕ
-end_line events = (codes "end schedule " ++ decimal_text events) ++ 10 ∷ []
+end_line events = as_line (codes "end schedule " ++ decimal_text events)
 
 -- what is written from event n on, where there are so many events
 abbrev pub text_from : ℕ → ℕ → List ℕ → Processes (List ℕ) → List ℕ

@@ -2,13 +2,13 @@
 use Rattle.std.proofs.Common.{◌≡◌, ℕ, ◌+◌, ◌/◌, ◌%◌, ◌<◌, ◌≤◌, List, [], ◌∷◌, ◌++◌, length, drop, get_or, Option, refl, subst, ◌∙◌, arith}
 use Rattle.std.proofs.lemmas.List.{at_drop_more, at_drop_all}
 use Rattle.m36_text.specs.Digits.{octal_text, digits}
+use Rattle.m36_text.specs.Lines.{as_line}
 use Rattle.m36_outside.specs.Written.{Grew, GrewWithin}
 use Rattle.m36_outside.specs.Passing.{TakesSome}
 use Rattle.m36_outside.proofs.LinesTaken.{CompletesLines, completes_lines_all, completes_lines_rest, completes_lines_cut, completes_no_lines}
 use Rattle.m36_outside.proofs.Completes.{Completes, completes_all, completes_rest, completes_cut, completes_none}
 use Rattle.m36_audit.specs.Findings.{pairs}
 use Rattle.m36_audit.specs.declared.verdict.Finding.{Finding}
-use Rattle.m36_ran.specs.Output.{as_line}
 use Rattle.m36_ran.specs.AuditText.{finding_line, finding_lines, finding_pieces, yes_line, audit_text, audit_pieces}
 
 -- digits are those of the number without what stands before them

@@ -2,6 +2,7 @@
 use Rattle.std.proofs.Common.{◌≡◌, ℕ, ◌+◌, Bool, true, false, List, [], ◌∷◌, ◌++◌, length, refl, sym, ap, ◌∙◌}
 use Rattle.std.proofs.lemmas.List.{append-nil, append_assoc}
 use Rattle.m36_outside.specs.Passing.{joined}
+use Rattle.m36_text.specs.Lines.{as_line}
 use Rattle.m36_model.specs.Store.{State}
 use Rattle.m36_model.specs.declared.record.StepRecord.{StepRecord}
 use Rattle.m36_trace.specs.EndLine.{end_line_of}
@@ -10,7 +11,7 @@ use Rattle.m36_reading.specs.Answers.{Answer}
 use Rattle.m36_ran.specs.declared.command.ImageCommand.{ImageCommand}
 use Rattle.m36_ran.specs.declared.command.ImageCommand.TheVariants.{Bare, Audit}
 use Rattle.m36_ran.specs.Run.{run, last_outcome}
-use Rattle.m36_ran.specs.Output.{as_line, trace_text, trace_pieces, output_from, pieces_from, run_text, run_pieces}
+use Rattle.m36_ran.specs.Output.{trace_text, trace_pieces, output_from, pieces_from, run_text, run_pieces}
 use Rattle.m36_ran.specs.AuditText.{finding_line, finding_lines, finding_pieces, yes_line, audit_text, audit_pieces}
 use Rattle.m36_ran.specs.Ran.{run_answer, audit_answer, bare_by, state_answer}
 

@@ -5,6 +5,7 @@ use Rattle.m36_outside.specs.Passing.{joined}
 use Rattle.m36_outside.specs.Written.{GrewWithin}
 use Rattle.m36_outside.proofs.Completes.{Completes, completes_all}
 use Rattle.m36_outside.proofs.Gathered.{completes_added, completes_lost, completes_finished, completes_finished_cut}
+use Rattle.m36_text.specs.Lines.{as_line}
 use Rattle.m36_model.specs.Store.{State}
 use Rattle.m36_model.specs.Core.{core_store}
 use Rattle.m36_model.specs.Run.{Visited, visits, is_next, only_if}
@@ -15,7 +16,7 @@ use Rattle.m36_trace.specs.EndLine.{end_line_of}
 use Rattle.m36_trace.specs.TraceLine.{line_of}
 use Rattle.m36_ran.specs.Machine.{told, after}
 use Rattle.m36_ran.specs.Run.{run, last_outcome}
-use Rattle.m36_ran.specs.Output.{as_line, trace_text, output_from, run_text}
+use Rattle.m36_ran.specs.Output.{trace_text, output_from, run_text}
 use Rattle.m36_ran.specs.RunSays.{EndSays, RunSays}
 use Rattle.m36_ran.specs.declared.running.Ended.{Ended}
 use Rattle.m36_ran.specs.declared.running.Ended.TheVariants.{Whole, Cut}

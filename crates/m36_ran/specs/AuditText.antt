@@ -2,7 +2,7 @@
 -- place in octal.
 use Rattle.std.specs.Prelude.{ℕ, ◌||◌, ◌==◌, List, [], ◌∷◌, ◌++◌, codes, if◌then◌else◌}
 use Rattle.m36_text.specs.Digits.{octal_text, decimal_text}
-use Rattle.m36_ran.specs.Output.{as_line}
+use Rattle.m36_text.specs.Lines.{as_line}
 
 -- The first, the fifth and the sixth condition are broken by a segment, which is written in five
 -- digits. The others are broken by a core word, which is written in eight.

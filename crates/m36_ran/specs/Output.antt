@@ -1,5 +1,6 @@
 -- The output of a run: its trace lines and its end line.
 use Rattle.std.specs.Prelude.{ℕ, ◌+◌, List, [], ◌∷◌, ◌++◌, Option, Some, None, length}
+use Rattle.m36_text.specs.Lines.{as_line}
 use Rattle.m36_model.specs.Store.{State}
 use Rattle.m36_model.specs.declared.outcome.Outcome.{Outcome}
 use Rattle.m36_model.specs.declared.outcome.Stop.TheVariants.{Dis, Operation, Tag}
@@ -12,10 +13,6 @@ use Rattle.m36_trace.specs.TraceLine.{line_of}
 use Rattle.m36_reading.specs.declared.status.Status.{Status}
 use Rattle.m36_reading.specs.declared.status.Status.TheVariants.{Done, MachineStop, Steps}
 use Rattle.m36_ran.specs.Run.{run, last_outcome}
-
--- a text as a line
-abbrev pub as_line : List ℕ → List ℕ
-as_line text = text ++ 10 ∷ []
 
 -- a trace line for each record, with the number of its step, of which the first is step n
 unfoldable pub trace_text : ℕ → List StepRecord → List ℕ

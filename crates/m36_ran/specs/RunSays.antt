@@ -4,6 +4,7 @@ use Rattle.m36_outside.specs.Counts.{Rose}
 use Rattle.m36_outside.specs.Gathered.{Gathers, Loses}
 use Rattle.m36_outside.specs.Passing.{joined, TakesSome}
 use Rattle.m36_outside.specs.Written.{Grew, GrewWithin}
+use Rattle.m36_text.specs.Lines.{as_line}
 use Rattle.m36_model.specs.Store.{State}
 use Rattle.m36_model.specs.Run.{is_next}
 use Rattle.m36_model.specs.declared.outcome.Outcome.{Outcome}
@@ -15,7 +16,7 @@ use Rattle.m36_ran.specs.declared.running.Ended.{Ended}
 use Rattle.m36_ran.specs.declared.running.Ended.TheVariants.{Whole, Cut}
 use Rattle.m36_ran.specs.Machine.{told}
 use Rattle.m36_ran.specs.Run.{run, last_outcome, last_state}
-use Rattle.m36_ran.specs.Output.{as_line, run_text, run_pieces}
+use Rattle.m36_ran.specs.Output.{run_text, run_pieces}
 
 -- A step was taken, and its line added to those that are gathered; whether another follows.
 pub record Stepped (n : ℕ) (outcome : Outcome) (old : State (List ℕ))

@@ -2,10 +2,10 @@
 
 ghost use Rattle.std.specs.Prelude.{ℕ, ◌≡◌, ◌≤◌, ◌<◌, ◌||◌, ◌==◌, [], ◌∷◌, length, if◌then◌else◌};
 ghost use Rattle.m36_text.specs.Digits.{octal_text};
+ghost use Rattle.m36_text.specs.Lines.{as_line};
 ghost use Rattle.m36_outside.specs.Passing.{TakesLines};
 ghost use Rattle.m36_outside.specs.Put.{PutSays, PutHasCause};
 ghost use Rattle.m36_audit.specs.Findings.{pairs};
-ghost use Rattle.m36_ran.specs.Output.{as_line};
 ghost use Rattle.m36_ran.specs.AuditText.{place_digits, finding_line, finding_lines, finding_pieces, yes_line, audit_text, audit_pieces};
 
 use crate::running::put_line;

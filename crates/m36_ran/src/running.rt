@@ -5,9 +5,9 @@ ghost use Rattle.std.specs.Prelude.{ℕ, ◌≡◌, ◌≤◌, ◌<◌, ◌+◌,
 ghost use Rattle.m36_outside.specs.Gathered.{Adds};
 ghost use Rattle.m36_outside.specs.Passing.{TakesLines, joined};
 ghost use Rattle.m36_outside.specs.Put.{PutSays, PutHasCause};
+ghost use Rattle.m36_text.specs.Lines.{as_line};
 ghost use Rattle.m36_trace.specs.EndLine.{end_line_of};
 ghost use Rattle.m36_ran.specs.Machine.{after};
-ghost use Rattle.m36_ran.specs.Output.{as_line};
 ghost use Rattle.m36_ran.specs.RunSays.{TurnSays, TurnHasCause, EndSays, EndTakes, RunSays, RunTakes, RunLeaves, EndedHasCause};
 
 use arrayvec::ArrayString;

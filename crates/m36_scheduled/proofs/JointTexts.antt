@@ -5,9 +5,9 @@ use Rattle.m36_outside.specs.Written.{Grew, GrewWithin}
 use Rattle.m36_outside.specs.Passing.{TakesSome}
 use Rattle.m36_outside.proofs.LinesTaken.{CompletesLines, completes_lines_all, completes_lines_rest, completes_lines_cut, completes_no_lines}
 use Rattle.m36_outside.proofs.Completes.{Completes, completes_all, completes_rest, completes_cut, completes_none}
+use Rattle.m36_text.specs.Lines.{as_line}
 use Rattle.m36_audit.specs.declared.joint_verdict.JointFinding.{JointFinding}
 use Rattle.m36_audit.specs.Joints.{found_of, all_found}
-use Rattle.m36_ran.specs.Output.{as_line}
 use Rattle.m36_ran.specs.AuditText.{yes_line}
 use Rattle.m36_scheduled.specs.JointText.{found_line, found_lines, found_pieces, joint_text, joint_pieces}
 

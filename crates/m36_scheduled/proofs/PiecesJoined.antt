@@ -3,12 +3,12 @@ use Rattle.std.proofs.Common.{◌≡◌, ℕ, ◌+◌, Bool, true, false, List, 
 use Rattle.std.specs.Prelude.{◌||◌}
 use Rattle.std.proofs.lemmas.List.{append-nil}
 use Rattle.m36_outside.specs.Passing.{joined}
+use Rattle.m36_text.specs.Lines.{as_line}
 use Rattle.m36_model.specs.Core.{core_store}
 use Rattle.m36_model.specs.JointAudit.{JointFound}
 use Rattle.m36_model.specs.Schedule.{Processes, Event, events}
 use Rattle.m36_procs.specs.ProcsFields.{ProcsFields}
 use Rattle.m36_procs.specs.ScheduleText.{event_line, event_lines, event_pieces, end_line, schedule_text, schedule_pieces}
-use Rattle.m36_ran.specs.Output.{as_line}
 use Rattle.m36_ran.specs.AuditText.{yes_line}
 use Rattle.m36_ran.specs.Ran.{passes}
 use Rattle.m36_ran.proofs.PiecesJoined.{joined_on}

@@ -3,8 +3,8 @@
 -- one between processes has its condition and the core word, as in `audit no J2 00000060`.
 use Rattle.std.specs.Prelude.{ℕ, List, [], ◌∷◌, ◌++◌, codes, Option, Some, None}
 use Rattle.m36_text.specs.Digits.{octal_text, decimal_text}
+use Rattle.m36_text.specs.Lines.{as_line}
 use Rattle.m36_model.specs.JointAudit.{JointFound}
-use Rattle.m36_ran.specs.Output.{as_line}
 use Rattle.m36_ran.specs.AuditText.{place_digits, yes_line}
 
 -- of a process

@@ -3,8 +3,8 @@
 ghost use Rattle.std.specs.Prelude.{ℕ, ◌≡◌, ◌≤◌, ◌<◌, [], ◌∷◌, length};
 ghost use Rattle.m36_outside.specs.Passing.{TakesLines};
 ghost use Rattle.m36_outside.specs.Put.{PutSays, PutHasCause};
+ghost use Rattle.m36_text.specs.Lines.{as_line};
 ghost use Rattle.m36_audit.specs.Joints.{found_of, all_found};
-ghost use Rattle.m36_ran.specs.Output.{as_line};
 ghost use Rattle.m36_scheduled.specs.JointText.{process_line, between_line, found_line, found_lines, found_pieces, joint_text, joint_pieces};
 
 use arrayvec::ArrayString;

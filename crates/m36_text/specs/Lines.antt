@@ -1,7 +1,12 @@
--- The lines of a text, the words of a line, and the first line of which something is told.
-use Rattle.std.specs.Prelude.{ℕ, ◌≡◌, ◌+◌, ◌-◌, ◌==◌, Bool, if◌then◌else◌, List, [], ◌∷◌, Option}
-use Rattle.std.specs.Prelude.{Some, None, slice_get, unwrap_or}
+-- The lines of a text, the words of a line, and the first line of which something is told; and a
+-- text as a line.
+use Rattle.std.specs.Prelude.{ℕ, ◌≡◌, ◌+◌, ◌-◌, ◌==◌, Bool, if◌then◌else◌, List, [], ◌∷◌, ◌++◌}
+use Rattle.std.specs.Prelude.{Option, Some, None, slice_get, unwrap_or}
 use Rattle.std.specs.List.{slice_split}
+
+-- a text as a line
+abbrev pub as_line : List ℕ → List ℕ
+as_line text = text ++ 10 ∷ []
 
 -- A line ends with its line feed. What stands behind the last line feed is a line too, if it is
 -- anything, but one without its line feed: none stands for it, since it is of no form.

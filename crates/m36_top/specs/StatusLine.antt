@@ -1,6 +1,7 @@
 -- The line that tells how a call ended.
-use Rattle.std.specs.Prelude.{ℕ, List, [], ◌∷◌, ◌++◌, codes}
+use Rattle.std.specs.Prelude.{ℕ, List, [], ◌++◌, codes}
 use Rattle.m36_text.specs.Digits.{decimal_text}
+use Rattle.m36_text.specs.Lines.{as_line}
 use Rattle.m36_reading.specs.Names.{status_name, code_name}
 use Rattle.m36_reading.specs.declared.status.Bad.{Bad}
 use Rattle.m36_reading.specs.declared.status.Status.{Status}
@@ -28,7 +29,7 @@ details NoMemory = []
 
 -- `m36: `, the name of the status, and behind BadFile its details
 abbrev pub status_line : Status → List ℕ
-status_line status = ((codes "m36: " ++ status_name status) ++ details status) ++ 10 ∷ []
+status_line status = as_line ((codes "m36: " ++ status_name status) ++ details status)
 
 -- what the program prints to standard error: nothing where the call answered Done
 abbrev pub report_of : Status → List ℕ

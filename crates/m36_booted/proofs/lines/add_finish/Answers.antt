@@ -1,8 +1,8 @@
 -- The end line was added, and what stands behind it; or the end line was not.
 use Rattle.std.proofs.Common.{List, ℕ, [], ◌∷◌, subst}
 use Rattle.m36_outside.specs.declared.sink.Put.{Put}
+use Rattle.m36_text.specs.Lines.{as_line}
 use Rattle.m36_reading.specs.Outside.{sink_of}
-use Rattle.m36_ran.specs.Output.{as_line}
 use Rattle.m36_booted.specs.RunText.{finish_line, denied_pieces}
 use Rattle.m36_booted.specs.RunSays.{block_of, AddsPieces}
 use Rattle.m36_booted.proofs.Gathering.{first_then, first_cut}

@@ -1,7 +1,7 @@
 -- The line was put.
 use Rattle.std.proofs.Common.{ℕ, List, [], ◌∷◌, subst}
 use Rattle.m36_reading.specs.Outside.{sink_of}
-use Rattle.m36_ran.specs.Output.{as_line}
+use Rattle.m36_text.specs.Lines.{as_line}
 use Rattle.m36_booted.specs.RunSays.{PutsPieces}
 use Rattle.m36_made.proofs.summary.put_sum.Goals as goal
 
