@@ -1,9 +1,9 @@
 -- The history of a machine whose turns are a function of its state: the first state, the state
 -- after the one turn from it, the state after the one turn from that, and so on.
-use Rattle.std.specs.Prelude.{ℕ, zero, suc, ◌≡◌, ◌+◌, ◌-◌, ◌<◌, ◌≤◌, ◌^◌, ◌==◌, if◌then◌else◌}
+use Rattle.std.specs.Prelude.{ℕ, zero, suc, ◌≡◌, ◌-◌, ◌<◌, ◌≤◌, ◌^◌, ◌==◌, if◌then◌else◌}
+use Rattle.m36_step.specs.Counting.{counted}
 use Rattle.m36_step.specs.declared.turns.Turn.{Turn}
-use Rattle.m36_step.specs.declared.turns.Turn.TheVariants.{Stepped, Linked, Console, Ended, Full}
-use Rattle.m36_step.specs.declared.turns.Turn.TheVariants.{NoMemory}
+use Rattle.m36_step.specs.declared.turns.Turn.TheVariants.{Full}
 use Rattle.m36_step.specs.declared.turns.BackAnswer.{BackAnswer}
 use Rattle.m36_step.specs.declared.turns.BackAnswer.TheVariants as back
 
@@ -27,15 +27,6 @@ standing_at after h = state_at after h.first h.taken
 abbrev pub past_answer : {M : Type 0} → (M → Turn) → (M → M) → History M → Turn
 past_answer answer after h =
     if h.taken == 2 ^ 64 - 1 then Full else answer (standing_at after h)
-
--- the count of steps after a turn
-abbrev pub counted : ℕ → Turn → ℕ
-counted taken (Stepped told) = taken + 1
-counted taken (Linked note) = taken
-counted taken (Console text) = taken
-counted taken (Ended end) = taken
-counted taken Full = taken
-counted taken NoMemory = taken
 
 abbrev pub past_after : {M : Type 0} → (M → Turn) → (M → M) → History M → History M
 past_after answer after h =

@@ -1,7 +1,7 @@
 //! A machine that goes back.
 
 ghost use Rattle.std.specs.Prelude.{ℕ, ◌≡◌, ◌-◌, ◌<◌, ◌^◌, MatchResult};
-ghost use Rattle.m36_back.specs.History.{counted};
+ghost use Rattle.m36_step.specs.Counting.{counted};
 
 use crate::kept::{Kept, drop_later, keep, nearest};
 use crate::replaying::replay;

@@ -10,12 +10,12 @@ use Rattle.m36_model.specs.declared.outcome.Fault.{Fault}
 use Rattle.m36_model.specs.declared.endings.End.{End}
 use Rattle.m36_model.specs.declared.endings.End.TheVariants as end
 use Rattle.m36_model.specs.declared.outcome.Outcome.TheVariants.{Next}
+use Rattle.m36_step.specs.Counting.{counted}
 use Rattle.m36_step.specs.declared.turns.Turn.{Turn}
 use Rattle.m36_step.specs.declared.turns.Turn.TheVariants.{Stepped, Linked, Console, Ended}
 use Rattle.m36_step.specs.declared.turns.Turn.TheVariants.{Full, NoMemory}
-use Rattle.m36_trace.specs.TraceLine.{line_of}
 use Rattle.m36_trace.specs.EndLine.{end_line_of}
-use Rattle.m36_turns.specs.TurnLines.{link_line_of, console_line_of, run_end_line_of}
+use Rattle.m36_turns.specs.TurnLines.{run_end_line_of, turn_pieces}
 use Rattle.m36_reading.specs.declared.status.Status.{Status}
 use Rattle.m36_reading.specs.declared.status.Status.TheVariants as status
 use Rattle.m36_reading.specs.Answers.{Answer}
@@ -27,27 +27,13 @@ use Rattle.m36_booted.specs.declared.running.Finish.TheVariants.{Over, Limit}
 
 -- ---- turns
 
--- a step counts for one, and a service for none
+-- for how many steps a turn counts
 abbrev pub steps_of : Turn → ℕ
-steps_of (Stepped told) = 1
-steps_of (Linked note) = 0
-steps_of (Console text) = 0
-steps_of (Ended e) = 0
-steps_of Full = 0
-steps_of NoMemory = 0
+steps_of turn = counted 0 turn
 
 unfoldable pub steps_in : List Turn → ℕ
 steps_in [] = 0
 steps_in (turn ∷ turns) = steps_of turn + steps_in turns
-
--- In a trace each step and each service has a line, a step with its number.
-abbrev pub traced : ℕ → Turn → List (List ℕ)
-traced taken (Stepped told) = as_line (line_of (taken + 1) told) ∷ []
-traced taken (Linked note) = as_line (link_line_of note) ∷ []
-traced taken (Console text) = as_line (console_line_of text) ∷ []
-traced taken (Ended e) = []
-traced taken Full = []
-traced taken NoMemory = []
 
 -- The console's characters are put as they are, and nothing where there are none.
 abbrev pub characters : List ℕ → List (List ℕ)
@@ -62,9 +48,9 @@ printed (Ended e) = []
 printed Full = []
 printed NoMemory = []
 
--- the pieces of a turn, before which so many steps were taken
+-- The pieces of a turn, before which so many steps were taken: in a trace its line.
 abbrev pub pieces_of : RunOutput → ℕ → Turn → List (List ℕ)
-pieces_of output.Trace taken turn = traced taken turn
+pieces_of output.Trace taken turn = turn_pieces taken turn
 pieces_of output.Console taken turn = printed turn
 pieces_of output.Nothing taken turn = []
 

@@ -8,10 +8,9 @@ use Rattle.m36_model.specs.Fields.{PprFields}
 use Rattle.m36_model.specs.Registers.{RegsFields}
 use Rattle.m36_model.specs.declared.endings.End.{End}
 use Rattle.m36_step.specs.declared.turns.Turn.{Turn}
-use Rattle.m36_step.specs.declared.turns.Turn.TheVariants.{Stepped, Linked, Console, Ended, Full}
-use Rattle.m36_step.specs.declared.turns.Turn.TheVariants.{NoMemory}
-use Rattle.m36_trace.specs.TraceLine.{line_of, word_of_segment, indicators_text}
-use Rattle.m36_turns.specs.TurnLines.{link_line_of, console_line_of, run_end_line_of}
+use Rattle.m36_step.specs.declared.turns.Turn.TheVariants.{Ended}
+use Rattle.m36_trace.specs.TraceLine.{word_of_segment, indicators_text}
+use Rattle.m36_turns.specs.TurnLines.{run_end_line_of, turn_pieces}
 
 -- an unknown line is shown up to its 64th byte
 unfoldable pub unknown_line : List ℕ → List ℕ
@@ -79,10 +78,7 @@ abbrev pub end_or_where : Option End → ℕ → PprFields → List ℕ
 end_or_where (Some end) taken p = end_line end taken
 end_or_where None taken p = where_line p
 
+-- the line of a turn, and of an end its end line
 unfoldable pub turn_lines : ℕ → Turn → List (List ℕ)
-turn_lines taken (Stepped told) = as_line (line_of (taken + 1) told) ∷ []
-turn_lines taken (Linked note) = as_line (link_line_of note) ∷ []
-turn_lines taken (Console text) = as_line (console_line_of text) ∷ []
 turn_lines taken (Ended end) = end_line end taken ∷ []
-turn_lines taken Full = []
-turn_lines taken NoMemory = []
+turn_lines taken turn = turn_pieces taken turn

@@ -1,7 +1,8 @@
 -- What a session remembers.
-use Rattle.std.specs.Prelude.{ℕ, ◌+◌, ◌-◌, nat_lt, if◌then◌else◌, List, [], ◌∷◌, ◌++◌, length}
+use Rattle.std.specs.Prelude.{ℕ, ◌-◌, nat_lt, if◌then◌else◌, List, [], ◌∷◌, ◌++◌, length}
 use Rattle.std.specs.Prelude.{Option, Some, None}
 use Rattle.m36_model.specs.declared.endings.End.{End}
+use Rattle.m36_step.specs.Counting.{counted}
 use Rattle.m36_step.specs.declared.turns.Turn.{Turn}
 use Rattle.m36_step.specs.declared.turns.Turn.TheVariants.{Stepped, Linked, Console, Ended, Full}
 use Rattle.m36_step.specs.declared.turns.Turn.TheVariants.{NoMemory}
@@ -19,7 +20,8 @@ new_sitting = record { taken = 0; ended = None; breaks = [] }
 
 -- after a turn
 unfoldable pub sitting_after : SittingFields → Turn → SittingFields
-sitting_after s (Stepped told) = record { taken = s.taken + 1; ended = s.ended; breaks = s.breaks }
+sitting_after s (Stepped told) =
+    record { taken = counted s.taken (Stepped told); ended = s.ended; breaks = s.breaks }
 sitting_after s (Linked note) = s
 sitting_after s (Console text) = s
 sitting_after s (Ended end) =

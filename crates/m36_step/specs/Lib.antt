@@ -5,5 +5,6 @@ pub mod References
 pub mod Reached
 pub mod LinkNoteFields
 pub mod Answers
+pub mod Counting
 pub mod MachineFields
 pub mod MachineTurn

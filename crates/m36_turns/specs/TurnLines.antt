@@ -1,15 +1,20 @@
--- The lines of services and of the end of a run, without their line feeds.
-use Rattle.std.specs.Prelude.{ℕ, Bool, ◌||◌, nat_le, nat_eq, if◌then◌else◌, List, [], ◌∷◌, ◌++◌}
-use Rattle.std.specs.Prelude.{codes, Result, Ok, Err}
+-- The lines of services and of the end of a run, without their line feeds; and what is written of a
+-- turn: its line, with its line feed.
+use Rattle.std.specs.Prelude.{ℕ, ◌+◌, Bool, ◌||◌, nat_le, nat_eq, if◌then◌else◌, List, [], ◌∷◌}
+use Rattle.std.specs.Prelude.{◌++◌, codes, Result, Ok, Err}
 use Rattle.std.specs.List.{join_with_byte, flat_map}
 use Rattle.m36_word.specs.declared.pair.Pair.{Pair}
 use Rattle.m36_text.specs.Digits.{octal_text, decimal_text}
+use Rattle.m36_text.specs.Lines.{as_line}
 use Rattle.m36_model.specs.declared.endings.End.{End}
 use Rattle.m36_model.specs.declared.endings.End.TheVariants as end
 use Rattle.m36_model.specs.declared.endings.LinkCode.{LinkCode}
 use Rattle.m36_model.specs.declared.endings.LinkCode.TheVariants.{L1, L2, L3, L4, L5, L6}
 use Rattle.m36_step.specs.LinkNoteFields.{LinkNoteFields}
-use Rattle.m36_trace.specs.TraceLine.{word_of_segment, fault_text, stop_text}
+use Rattle.m36_step.specs.declared.turns.Turn.{Turn}
+use Rattle.m36_step.specs.declared.turns.Turn.TheVariants.{Stepped, Linked, Console, Ended, Full}
+use Rattle.m36_step.specs.declared.turns.Turn.TheVariants.{NoMemory}
+use Rattle.m36_trace.specs.TraceLine.{line_of, word_of_segment, fault_text, stop_text}
 
 -- ---- a link service: the ring, the word of the link, the link, and the pair or the code
 
@@ -57,3 +62,14 @@ end_text end.Console = codes "console"
 
 unfoldable pub run_end_line_of : End → ℕ → List ℕ
 run_end_line_of how steps = join_with_byte 32 (codes "end" ∷ end_text how ∷ decimal_text steps ∷ [])
+
+-- ---- what is written of a turn before which so many steps were taken
+
+-- A step and a service have a line each, in one piece; that of a step has its number.
+abbrev pub turn_pieces : ℕ → Turn → List (List ℕ)
+turn_pieces taken (Stepped told) = as_line (line_of (taken + 1) told) ∷ []
+turn_pieces taken (Linked note) = as_line (link_line_of note) ∷ []
+turn_pieces taken (Console text) = as_line (console_line_of text) ∷ []
+turn_pieces taken (Ended e) = []
+turn_pieces taken Full = []
+turn_pieces taken NoMemory = []
