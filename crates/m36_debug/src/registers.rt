@@ -1,42 +1,17 @@
 //! The lines of the registers.
 
-ghost use Rattle.std.specs.Prelude.{ℕ, ◌≡◌, ◌≤◌, ◌<◌, ◌+◌, ◌*◌, ◌^◌, ◌++◌, [], ◌∷◌, length, slice_index, codes, if◌then◌else◌};
+ghost use Rattle.std.specs.Prelude.{ℕ, ◌≡◌, ◌≤◌, ◌<◌, ◌+◌, ◌*◌, ◌^◌, ◌++◌, [], ◌∷◌, length, slice_index};
 ghost use Rattle.std.specs.List.{flat_map};
-ghost use Rattle.m36_trace.specs.TraceLine.{indicators_text};
 ghost use Rattle.m36_debug.specs.Putting.{PutsLines, seen};
 ghost use Rattle.m36_debug.specs.SessionTexts.{a_line, index_text, x_line, pointer_line, pointer_lines, regs_lines};
 
 use crate::putting::put_text;
-use crate::texts::push_place;
 use arrayvec::ArrayString;
 use m36_desc::Ptr;
-use m36_model::{Ind, Regs};
+use m36_model::Regs;
 use m36_outside::{Put, Sink};
 use m36_text::octal;
-
-// Adds the letter of an indicator that is on, and a point for one that is off.
-fn push_indicator(text: &mut ArrayString<80>, name: &str, on: bool)
-    requires letter { length name.now ≡ 1 }
-    requires room { length text.old.bytes + 1 ≤ 80 }
-    ensures text { text.new.bytes ≡ text.old.bytes ++ (if on then name.now else codes ".") }
-    ensures len { length text.new.bytes ≡ length text.old.bytes + 1 }
-{
-    text.push_str(if on { name } else { "." });
-}
-
-// Adds the six indicators.
-fn push_indicators(text: &mut ArrayString<80>, ind: &Ind)
-    requires room { length text.old.bytes + 6 ≤ 80 }
-    ensures text { text.new.bytes ≡ text.old.bytes ++ indicators_text ind.now }
-    ensures len { length text.new.bytes ≡ length text.old.bytes + 6 }
-{
-    push_indicator(text, "z", ind.zero);
-    push_indicator(text, "n", ind.negative);
-    push_indicator(text, "c", ind.carry);
-    push_indicator(text, "o", ind.overflow);
-    push_indicator(text, "m", ind.mask);
-    push_indicator(text, "t", ind.tally);
-}
+use m36_trace::{put_indicators, put_place};
 
 // Tells A, Q and the indicators.
 #[tactic(auto, unfolding(crate::specs::SessionTexts::a_line))]
@@ -45,13 +20,13 @@ fn put_a<S: Sink>(out: &mut S, regs: &Regs) -> Put
         (seen (S.written out.old) (S.taken out.old) (S.faults out.old))
         (seen (S.written out.new) (S.taken out.new) (S.faults out.new)) (a_line regs.now ∷ []) }
 {
-    let mut text = ArrayString::new();
+    let mut text: ArrayString<80> = ArrayString::new();
     text.push_str("a ");
     text.push_str(octal(regs.a.value(), 12).as_str());
     text.push_str(" q ");
     text.push_str(octal(regs.q.value(), 12).as_str());
     text.push_str(" ind ");
-    push_indicators(&mut text, &regs.ind);
+    put_indicators(&mut text, &regs.ind);
     put_text(out, text)
 }
 
@@ -89,13 +64,13 @@ fn put_pointer<S: Sink>(out: &mut S, n: u32, pointer: &Ptr) -> Put
         (seen (S.written out.old) (S.taken out.old) (S.faults out.old))
         (seen (S.written out.new) (S.taken out.new) (S.faults out.new)) (pointer_line n pointer.now ∷ []) }
 {
-    let mut text = ArrayString::new();
+    let mut text: ArrayString<80> = ArrayString::new();
     text.push_str("pr");
     text.push_str(octal(n as u64, 1).as_str());
     text.push_str(" ");
     text.push_str(octal(pointer.ring as u64, 1).as_str());
     text.push_str(":");
-    push_place(&mut text, pointer.seg, pointer.word);
+    put_place(&mut text, pointer.seg, pointer.word);
     text.push_str(" ");
     text.push_str(octal(pointer.bit as u64, 2).as_str());
     put_text(out, text)

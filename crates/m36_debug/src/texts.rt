@@ -1,7 +1,6 @@
 //! Lines that tell one thing, each put to the output.
 
-ghost use Rattle.std.specs.Prelude.{ℕ, ◌≡◌, ◌≤◌, ◌<◌, ◌+◌, ◌-◌, ◌^◌, ◌++◌, [], ◌∷◌, length, take};
-ghost use Rattle.m36_trace.specs.TraceLine.{word_of_segment};
+ghost use Rattle.std.specs.Prelude.{ℕ, ◌≡◌, ◌≤◌, ◌<◌, ◌-◌, ◌^◌, [], ◌∷◌, length, take};
 ghost use Rattle.m36_debug.specs.Putting.{PutsLines, seen};
 ghost use Rattle.m36_debug.specs.SessionTexts.{where_line, break_line, seg_line, end_line, unknown_line, turn_lines};
 
@@ -11,26 +10,13 @@ use m36_model::{End, Regs};
 use m36_outside::{Put, Sink};
 use m36_step::Turn;
 use m36_text::octal;
-use m36_trace::line;
+use m36_trace::{line, put_place};
 use m36_turns::put::put;
 use m36_turns::{console_line, link_line, run_end_line};
 use m36_word::Word;
 
 /// How many bytes of an unknown line are shown.
 const SHOWN: usize = 64;
-
-/// Adds a segment and a word of it.
-pub(crate) fn push_place(text: &mut ArrayString<80>, seg: u16, word: u32)
-    requires seg { seg < 2 ^ 15 }
-    requires word { word < 2 ^ 18 }
-    requires room { length text.old.bytes + 12 ≤ 80 }
-    ensures text { text.new.bytes ≡ text.old.bytes ++ word_of_segment seg word }
-    ensures len { length text.new.bytes ≡ length text.old.bytes + 12 }
-{
-    text.push_str(octal(seg as u64, 5).as_str());
-    text.push_str("|");
-    text.push_str(octal(word as u64, 6).as_str());
-}
 
 /// Tells where a machine stands.
 #[tactic(auto, unfolding(crate::specs::SessionTexts::where_line))]
@@ -40,10 +26,10 @@ pub(crate) fn put_where<S: Sink>(out: &mut S, regs: &Regs) -> Put
         (seen (S.written out.new) (S.taken out.new) (S.faults out.new)) (where_line regs.now.ppr ∷ []) }
 {
     let place = regs.ppr;
-    let mut text = ArrayString::new();
+    let mut text: ArrayString<80> = ArrayString::new();
     text.push_str(octal(place.prr as u64, 1).as_str());
     text.push_str(" ");
-    push_place(&mut text, place.psr, place.ic);
+    put_place(&mut text, place.psr, place.ic);
     put_text(out, text)
 }
 
@@ -56,9 +42,9 @@ pub(crate) fn put_break<S: Sink>(out: &mut S, seg: u16, word: u32) -> Put
         (seen (S.written out.old) (S.taken out.old) (S.faults out.old))
         (seen (S.written out.new) (S.taken out.new) (S.faults out.new)) (break_line seg word ∷ []) }
 {
-    let mut text = ArrayString::new();
+    let mut text: ArrayString<80> = ArrayString::new();
     text.push_str("break ");
-    push_place(&mut text, seg, word);
+    put_place(&mut text, seg, word);
     put_text(out, text)
 }
 
@@ -71,8 +57,8 @@ pub(crate) fn put_seg<S: Sink>(out: &mut S, seg: u16, word: u32, content: Option
         (seen (S.written out.old) (S.taken out.old) (S.faults out.old))
         (seen (S.written out.new) (S.taken out.new) (S.faults out.new)) (seg_line seg word content ∷ []) }
 {
-    let mut text = ArrayString::new();
-    push_place(&mut text, seg, word);
+    let mut text: ArrayString<80> = ArrayString::new();
+    put_place(&mut text, seg, word);
     text.push_str(" ");
     match content {
         Some(word) => text.push_str(octal(word.value(), 12).as_str()),

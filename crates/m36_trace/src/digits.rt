@@ -73,9 +73,12 @@ pub fn place_digits(seg: u16, word: u32) -> [u8; 12]
 }
 
 /// Puts characters at the end of a line that has room for them.
-pub fn put_characters<const N: usize>(line: &mut ArrayString<160>, characters: &[u8; N])
+pub fn put_characters<const CAP: usize, const N: usize>(
+    line: &mut ArrayString<CAP>,
+    characters: &[u8; N],
+)
     requires ascii { IsAscii characters.now }
-    requires room { length line.old.bytes + N ≤ 160 }
+    requires room { length line.old.bytes + N ≤ CAP }
     ensures text { line.new.bytes ≡ line.old.bytes ++ characters.now }
     ensures len { length line.new.bytes ≡ length line.old.bytes + N }
 {

@@ -33,12 +33,12 @@ pub fn put_word(line: &mut ArrayString<160>, word: Word)
     put_characters(line, &word_digits(word));
 }
 
-/// Puts a segment and a word of it.
+/// Puts a segment and a word of it, at the end of any text that has room for them.
 #[tactic(auto, using(crate::proofs::Ascii::place_is_ascii))]
-pub fn put_place(line: &mut ArrayString<160>, seg: u16, word: u32)
+pub fn put_place<const CAP: usize>(line: &mut ArrayString<CAP>, seg: u16, word: u32)
     requires seg { seg < 2 ^ 15 }
     requires word { word < 2 ^ 18 }
-    requires room { length line.old.bytes + 12 ≤ 160 }
+    requires room { length line.old.bytes + 12 ≤ CAP }
     ensures text { line.new.bytes ≡ line.old.bytes ++ word_of_segment seg word }
     ensures len { length line.new.bytes ≡ length line.old.bytes + 12 }
 {
@@ -96,18 +96,18 @@ pub fn put_operand(line: &mut ArrayString<160>, at: At, direct: Option<Word>)
 }
 
 /// Puts the letter of an indicator that is on, and a point for one that is off.
-pub fn put_indicator(line: &mut ArrayString<160>, name: &str, on: bool)
+pub fn put_indicator<const CAP: usize>(line: &mut ArrayString<CAP>, name: &str, on: bool)
     requires letter { length name.now ≡ 1 }
-    requires room { length line.old.bytes < 160 }
+    requires room { length line.old.bytes < CAP }
     ensures text { line.new.bytes ≡ line.old.bytes ++ (if on then name.now else codes ".") }
     ensures len { length line.new.bytes ≡ length line.old.bytes + 1 }
 {
     line.push_str(if on { name } else { "." });
 }
 
-/// Puts the six indicators.
-pub fn put_indicators(line: &mut ArrayString<160>, ind: &Ind)
-    requires room { length line.old.bytes + 6 ≤ 160 }
+/// Puts the six indicators, at the end of any text that has room for them.
+pub fn put_indicators<const CAP: usize>(line: &mut ArrayString<CAP>, ind: &Ind)
+    requires room { length line.old.bytes + 6 ≤ CAP }
     ensures text { line.new.bytes ≡ line.old.bytes ++ indicators_text ind.now }
     ensures len { length line.new.bytes ≡ length line.old.bytes + 6 }
 {

@@ -10,6 +10,7 @@ use arrayvec::ArrayVec;
 use m36_model::{At, LinkCode};
 use m36_step::LinkNote;
 use m36_text::octal;
+use m36_trace::place_digits;
 use m36_word::{Pair, Word};
 
 /// The name of a code.
@@ -33,9 +34,8 @@ fn put_place(line: &mut ArrayVec<u8, 160>, at: At)
     ensures text { line.new.items ≡ line.old.items ++ word_of_segment at.seg at.word }
     ensures len { length line.new.items ≡ length line.old.items + 12 }
 {
-    put(line, octal(at.seg as u64, 5).as_str().as_bytes());
-    put(line, b"|");
-    put(line, octal(at.word as u64, 6).as_str().as_bytes());
+    let digits = place_digits(at.seg, at.word);
+    put(line, &digits);
 }
 
 fn put_word(line: &mut ArrayVec<u8, 160>, word: Word)
