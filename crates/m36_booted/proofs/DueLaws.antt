@@ -1,5 +1,5 @@
 -- What is due to a command on a folder.
-use Rattle.std.proofs.Common.{◌≡◌, ℕ, ◌+◌, ◌≤◌, Bool, true, false, ◌||◌, List, [], ◌∷◌, ◌++◌, length, Some, refl, sym, ap, subst, ◌∙◌, arith}
+use Rattle.std.proofs.Common.{◌≡◌, ℕ, ◌+◌, ◌≤◌, Bool, true, false, ◌||◌, List, [], ◌∷◌, length, Some, refl, sym, ap, subst, ◌∙◌, arith}
 use Rattle.m36_outside.specs.Passing.{joined}
 use Rattle.m36_model.specs.Audit.{AreFindings, IsAudited}
 use Rattle.m36_model.specs.BootedCore.{booted_dbr}
@@ -14,16 +14,14 @@ use Rattle.m36_super.specs.TurnLaws.{IsPlainTurn}
 use Rattle.m36_super.specs.BootSays.{IsBooted}
 use Rattle.m36_super.proofs.Audited.{function_law}
 use Rattle.m36_reading.specs.Answers.{Answer}
-use Rattle.m36_ran.specs.AuditText.{audit_pieces}
 use Rattle.m36_ran.specs.Ran.{passes, behind, audit_answer}
 use Rattle.m36_ran.proofs.DueLaws.{some_findings}
-use Rattle.m36_ran.proofs.PiecesJoined.{joined_on, audit_joined}
 use Rattle.m36_booted.specs.declared.command.FolderCommand.{FolderCommand}
 use Rattle.m36_booted.specs.declared.command.FolderCommand.TheVariants.{Audit, Run, Trace}
 use Rattle.m36_booted.specs.declared.command.RunOutput.{RunOutput}
 use Rattle.m36_booted.specs.declared.command.RunOutput.TheVariants as output
 use Rattle.m36_booted.specs.Folder.{FolderFields}
-use Rattle.m36_booted.specs.RunText.{steps_in, run_pieces, run_answer}
+use Rattle.m36_booted.specs.RunText.{steps_in, run_answer}
 use Rattle.m36_booted.specs.Runs.{Extent, Whole, Begun, Starved, Goes, Finishes}
 use Rattle.m36_booted.specs.Booted.{IsAuditAnswer, IsRunBy, IsAnswerOf, IsFolderAnswer}
 use Rattle.m36_booted.specs.declared.running.Finish.{Finish}
@@ -197,23 +195,16 @@ one_run_of lib frames limit system other turns same last end how how' booted boo
 abbrev AreJoined : Answer → Type 0
 AreJoined due = joined due.pieces ≡ due.text
 
-audit_pieces_joined : (findings : List (ℕ × ℕ)) → AreJoined (audit_answer findings)
-unfolding audit_answer
-audit_pieces_joined findings = audit_joined findings
-
 audit_are : (extent : Extent) (findings : List (ℕ × ℕ)) (due : Answer) → IsAuditAnswer extent findings due → AreJoined due
-audit_are Whole findings due is = subst AreJoined (sym is) (audit_pieces_joined findings)
-audit_are Begun findings due is = subst AreJoined (sym is) (audit_pieces_joined findings)
+unfolding audit_answer
+audit_are Whole findings due is = subst AreJoined (sym is) refl
+audit_are Begun findings due is = subst AreJoined (sym is) refl
 audit_are Starved findings due is = absurd is
 
 run_are :
     (b : Bool) (extent : Extent) (denied : List (List ℕ)) (output : RunOutput) (limit : ℕ) (lib : Library) (first : Booted) (findings : List (ℕ × ℕ)) (due : Answer)
     → IsRunBy b extent denied output limit lib first findings due → AreJoined due
-unfolding run_answer
-run_are true extent denied output limit lib first findings due is =
-    let pieces = run_pieces denied output is.turns is.how in
-    subst AreJoined (sym is.answer)
-    (joined_on (audit_pieces findings) pieces ∙ ap (λ (t : List ℕ). t ++ joined pieces) (audit_joined findings))
+run_are true extent denied output limit lib first findings due is = subst AreJoined (sym is.answer) refl
 run_are false extent denied output limit lib first findings due is = audit_are extent findings due is
 
 answer_are :

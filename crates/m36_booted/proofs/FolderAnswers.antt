@@ -1,11 +1,10 @@
 -- Answers by what an audit has found: the audit text, and a booted run behind it.
 use Rattle.std.proofs.Common.{◌≡◌, ℕ, ◌≤◌, Bool, true, false, ◌⊎◌, List, [], ◌∷◌, ◌++◌, Option, Some, None, Result, Ok, Err, refl, sym, ap, subst, ◌∙◌, arith, inl, inr}
 use Rattle.m36_outside.specs.Counts.{Rose}
-use Rattle.m36_outside.specs.Passing.{joined, TakesSome}
+use Rattle.m36_outside.specs.Passing.{TakesSome}
 use Rattle.m36_outside.specs.Written.{Grew, GrewWithin}
 use Rattle.m36_outside.specs.declared.sink.Put.{Put}
 use Rattle.m36_outside.specs.declared.sink.Put.TheVariants as put
-use Rattle.m36_outside.proofs.Grown.{grew_on, grew_more, grew_longer}
 use Rattle.m36_outside.proofs.LinesTaken.{takes_lines_on, takes_lines_more, takes_lines_longer}
 use Rattle.m36_model.specs.Audit.{AreFindings}
 use Rattle.m36_model.specs.BootedCore.{booted_dbr}
@@ -30,6 +29,7 @@ use Rattle.m36_reading.proofs.WriteLaws.{writes_none}
 use Rattle.m36_ran.specs.AuditText.{audit_text, audit_pieces}
 use Rattle.m36_ran.specs.Putting.{PutsBy, IsPut, IsPartPut, IsNotPut}
 use Rattle.m36_ran.specs.Ran.{behind, audit_answer}
+use Rattle.m36_ran.proofs.PiecesJoined.{grew_both, grew_both_more, grew_both_longer}
 use Rattle.m36_booted.specs.declared.command.FolderCommand.{FolderCommand}
 use Rattle.m36_booted.specs.declared.command.RunOutput.{RunOutput}
 use Rattle.m36_booted.specs.declared.running.Finish.{Finish}
@@ -58,7 +58,7 @@ unfolding run_answer
 told_whole findings denied output turns how old now new grew took stood puts = record {
   sets = refl;
   status = refl;
-  text = grew_on old.written now.written new.written (audit_text findings) (joined (run_pieces denied output turns (Some how))) grew puts.says;
+  text = grew_both old.written now.written new.written (audit_pieces findings) (run_pieces denied output turns (Some how)) grew puts.says;
   pieces = takes_lines_on old.taken now.taken new.taken (audit_pieces findings) (run_pieces denied output turns (Some how)) took puts.through;
   faults = puts.cause ∙ stood;
 }
@@ -71,7 +71,7 @@ told_part :
 unfolding run_answer
 told_part findings denied output turns how old now new grew took stood puts = record {
   sets = refl;
-  text = grew_more old.written now.written new.written (audit_text findings) (joined (run_pieces denied output turns how)) grew puts.says;
+  text = grew_both_more old.written now.written new.written (audit_pieces findings) (run_pieces denied output turns how) grew puts.says;
   pieces = takes_lines_more old.taken now.taken new.taken (audit_pieces findings) (run_pieces denied output turns how) took puts.through;
   cause = let P : ℕ → Type 0 = λ n. Rose n new.faults in subst P stood puts.cause;
 }
@@ -126,7 +126,7 @@ run_starved findings denied output limit system after old now new grew took stoo
     inr (record {
       due = Told findings denied output is.turns None;
       is = record { turns = is.turns; last = is.last; how = None; goes = is.goes; reaches = is.reaches; answer = refl };
-      text = grew_on old.written now.written new.written (audit_text findings) (joined (run_pieces denied output is.turns None)) grew is.puts.says;
+      text = grew_both old.written now.written new.written (audit_pieces findings) (run_pieces denied output is.turns None) grew is.puts.says;
       pieces = takes_lines_on old.taken now.taken new.taken (audit_pieces findings) (run_pieces denied output is.turns None) took is.puts.through;
       faults = is.puts.cause ∙ stood;
     })
@@ -153,7 +153,7 @@ text_part findings denied output limit system old new grew took rose = record {
   };
   puts = record {
     sets = refl;
-    text = grew_longer old.written new.written (audit_text findings) (joined (run_pieces denied output [] None)) grew;
+    text = grew_both_longer old.written new.written (audit_pieces findings) (run_pieces denied output [] None) grew;
     pieces = takes_lines_longer old.taken new.taken (audit_pieces findings) (run_pieces denied output [] None) took;
     cause = rose;
   };

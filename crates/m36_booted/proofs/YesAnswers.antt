@@ -25,8 +25,9 @@ use Rattle.m36_super.specs.BootSays.{IsBooted}
 use Rattle.m36_super.proofs.Turns.{turn_law}
 use Rattle.m36_super.proofs.Audited.{turn_audit}
 use Rattle.m36_reading.specs.Answers.{Answer}
-use Rattle.m36_ran.specs.AuditText.{yes_line, audit_text}
+use Rattle.m36_ran.specs.AuditText.{yes_line, audit_pieces, audit_text}
 use Rattle.m36_ran.specs.Ran.{passes, audit_answer}
+use Rattle.m36_ran.proofs.PiecesJoined.{joined_on}
 use Rattle.m36_ran.proofs.YesAnswers.{none_found}
 use Rattle.m36_booted.specs.declared.command.FolderCommand.{FolderCommand}
 use Rattle.m36_booted.specs.declared.command.FolderCommand.TheVariants.{Audit, Run, Trace}
@@ -53,8 +54,10 @@ run_begins :
     (b : Bool) (extent : Extent) (denied : List (List ℕ)) (output : RunOutput) (limit : ℕ) (lib : Library) (first : Booted) (findings : List (ℕ × ℕ)) (due : Answer)
     → IsRunBy b extent denied output limit lib first findings due → Begins findings due
 unfolding run_answer
-run_begins true extent denied output limit lib first findings due is =
-    (joined (run_pieces denied output is.turns is.how), ap (λ (d : Answer). d.text) is.answer)
+run_begins true extent denied output limit lib first findings due is = (
+  joined (run_pieces denied output is.turns is.how),
+  ap (λ (d : Answer). d.text) is.answer ∙ joined_on (audit_pieces findings) (run_pieces denied output is.turns is.how),
+)
 run_begins false extent denied output limit lib first findings due is = audit_begins extent findings due is
 
 answer_begins :

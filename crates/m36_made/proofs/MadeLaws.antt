@@ -14,7 +14,7 @@ use Rattle.m36_reading.specs.Reading.{Early}
 use Rattle.m36_reading.specs.Answers.{Answer, IsDueBy}
 use Rattle.m36_ran.specs.AuditText.{yes_line, audit_text, audit_pieces}
 use Rattle.m36_ran.specs.Ran.{audit_answer}
-use Rattle.m36_ran.proofs.PiecesJoined.{joined_on, audit_joined}
+use Rattle.m36_ran.proofs.PiecesJoined.{joined_on}
 use Rattle.m36_ran.proofs.YesAnswers.{none_found}
 use Rattle.m36_booted.specs.declared.command.FolderCommand.TheVariants.{Audit}
 use Rattle.m36_booted.specs.Folder.{FolderFields}
@@ -58,7 +58,7 @@ head_joined :
     (count : ℕ) (findings : List (ℕ × ℕ)) (more : List (List ℕ))
     → joined (head_pieces count findings ++ more) ≡ as_line (segments_line count) ++ (audit_text findings ++ joined more)
 head_joined count findings more =
-    ap (λ t. as_line (segments_line count) ++ t) (joined_on (audit_pieces findings) more ∙ ap (λ t. t ++ joined more) (audit_joined findings))
+    ap (λ t. as_line (segments_line count) ++ t) (joined_on (audit_pieces findings) more)
 
 unrun_begins :
     (count : ℕ) (findings : List (ℕ × ℕ)) (told : Answer) → told ≡ unrun_answer count findings → Begins count findings told
@@ -66,7 +66,7 @@ unfolding unrun_answer
 unrun_begins count findings told is = (
   [],
   ap (λ (d : Answer). d.text) is
-      ∙ ap (λ t. as_line (segments_line count) ++ t) (audit_joined findings ∙ sym (append-nil (audit_text findings))),
+      ∙ ap (λ t. as_line (segments_line count) ++ t) (sym (append-nil (audit_text findings))),
 )
 
 found_begins :
@@ -88,7 +88,7 @@ audit_passes :
 unfolding audit_answer
 audit_passes given system booted found =
     yes_passes Whole Audit given (audit_answer []) []
-    (record { system = system; booted = booted; findings = []; found = found; answer = refl }) (sym (append-nil yes_line))
+    (record { system = system; booted = booted; findings = []; found = found; answer = refl }) refl
 
 summary_passes :
     (extent : Extent) (given : FolderFields) (told : Answer) (rest : List ℕ)

@@ -8,7 +8,6 @@ use Rattle.m36_outside.specs.declared.sink.Put.TheVariants as put
 use Rattle.m36_text.specs.Lines.{as_line}
 use Rattle.m36_reading.specs.Outside.{SinkState}
 use Rattle.m36_ran.specs.AuditText.{audit_text, audit_pieces}
-use Rattle.m36_ran.proofs.PiecesJoined.{audit_joined}
 use Rattle.m36_booted.specs.RunSays.{PutsPieces}
 use Rattle.m36_booted.proofs.Pieces.{says_of, pieces_then, pieces_longer}
 
@@ -30,7 +29,7 @@ pub audit_put :
     → TakesLines answer old.taken new.taken (audit_pieces findings)
     → PutHasCause answer old.faults new.faults → PutsPieces answer (audit_pieces findings) old new
 audit_put answer findings old new says through cause = record {
-  says = says_of answer old.written new.written (audit_text findings) (joined (audit_pieces findings)) (sym (audit_joined findings)) says;
+  says = says;
   through = through;
   cause = cause;
 }

@@ -1,6 +1,5 @@
 -- The pieces of a run of a schedule, event by event: what is left of them.
-use Rattle.std.proofs.Common.{◌≡◌, ℕ, ◌+◌, List, [], ◌∷◌, ◌++◌, length, Option, Some, refl, sym, ap, subst, ◌∙◌, arith}
-use Rattle.std.specs.Prelude.{slice_get}
+use Rattle.std.proofs.Common.{◌≡◌, ℕ, ◌+◌, List, [], ◌∷◌, ◌++◌, length, Option, sym, ap, subst, ◌∙◌, arith}
 use Rattle.m36_outside.specs.Gathered.{Gathers, Loses, Adds}
 use Rattle.m36_outside.specs.Passing.{joined, TakesSome, TakesLines}
 use Rattle.m36_outside.specs.Put.{PutSays}
@@ -8,13 +7,12 @@ use Rattle.m36_outside.specs.declared.sink.Put.{Put}
 use Rattle.m36_outside.proofs.Gathered.{lines_added, lines_lost}
 use Rattle.m36_outside.proofs.LinesTaken.{CompletesLines, completes_lines_all, completes_lines_whole, completes_lines_cut_last}
 use Rattle.m36_model.specs.Core.{core_store}
-use Rattle.m36_model.specs.Registers.{RegsFields}
-use Rattle.m36_model.specs.Schedule.{Processes, Event, process_of, stepped, event, events}
+use Rattle.m36_model.specs.Schedule.{Processes, process_of, stepped}
 use Rattle.m36_model.specs.Step.{record_of}
 use Rattle.m36_model.specs.declared.record.StepRecord.{StepRecord}
 use Rattle.m36_procs.specs.EventSays.{EventSays, IsEvent}
-use Rattle.m36_procs.specs.ScheduleText.{event_line, event_pieces, end_line, pieces_from, schedule_pieces}
-use Rattle.m36_procs.proofs.EventsRun.{events_first, get_of, none_left, next_named, Runs}
+use Rattle.m36_procs.specs.ScheduleText.{event_line, end_line, pieces_from, schedule_pieces}
+use Rattle.m36_procs.proofs.EventsRun.{pieces_first, pieces_last, get_of, none_left, next_named, Runs}
 
 -- one line was added to a block
 pub line_adds :
@@ -39,26 +37,6 @@ last_takes answer taken taken' old line lent is took =
     subst (λ l. TakesLines answer taken taken' (old ++ l ∷ [])) is took
 
 pub ruleset one_line = (line_adds, last_says, last_takes)
-
--- the pieces of a schedule that begins with a process
-piece_first :
-    (n : ℕ) (e : Event (List ℕ)) (more : List (Event (List ℕ)))
-    → event_pieces n (e ∷ more) ≡ event_line n e.process e.told ∷ event_pieces (n + 1) more
-unfolding event_pieces
-piece_first n e more = refl
-
-pieces_first :
-    (total n i : ℕ) (schedule : List ℕ) (s : Processes (List ℕ)) (g : RegsFields)
-    → slice_get s.regs i ≡ Some g
-    → pieces_from total n (i ∷ schedule) s
-    ≡ event_line n i (record_of core_store (process_of s g)) ∷ pieces_from total (n + 1) schedule (stepped core_store s i g)
-pieces_first total n i schedule s g there =
-    ap (λ e. event_pieces n e ++ end_line total ∷ []) (events_first i schedule s g there)
-    ∙ ap (λ t. t ++ end_line total ∷ []) (piece_first n (event core_store s i g) (events core_store schedule (stepped core_store s i g)))
-
-pieces_last : (total n : ℕ) (s : Processes (List ℕ)) → pieces_from total n [] s ≡ end_line total ∷ []
-unfolding events event_pieces
-pieces_last total n s = refl
 
 -- at the beginning all pieces are left
 pub pieces_start :

@@ -16,7 +16,7 @@ use Rattle.m36_model.specs.declared.record.StepRecord.{StepRecord}
 use Rattle.m36_procs.specs.EventSays.{EventSays, IsEvent}
 use Rattle.m36_procs.specs.ProcsFile.{are_named}
 use Rattle.m36_procs.specs.RunSays.{IsRun, IsPartRun}
-use Rattle.m36_procs.specs.ScheduleText.{event_line, event_lines, end_line, text_from, schedule_text, last_by, last_state}
+use Rattle.m36_procs.specs.ScheduleText.{event_line, event_pieces, end_line, pieces_from, schedule_pieces, schedule_text, last_by, last_state}
 
 -- the events of a schedule that begins with a process
 pub events_first :
@@ -32,23 +32,39 @@ last_first :
 unfolding last_state
 last_first i schedule s g there = ap (λ o. last_by s i o (last_state schedule)) there
 
-lines_first :
+-- the pieces of a schedule that begins with a process
+piece_first :
     (n : ℕ) (e : Event (List ℕ)) (more : List (Event (List ℕ)))
-    → event_lines n (e ∷ more) ≡ event_line n e.process e.told ++ event_lines (n + 1) more
-unfolding event_lines
-lines_first n e more = refl
+    → event_pieces n (e ∷ more) ≡ event_line n e.process e.told ∷ event_pieces (n + 1) more
+unfolding event_pieces
+piece_first n e more = refl
+
+pub pieces_first :
+    (total n i : ℕ) (schedule : List ℕ) (s : Processes (List ℕ)) (g : RegsFields)
+    → slice_get s.regs i ≡ Some g
+    → pieces_from total n (i ∷ schedule) s
+    ≡ event_line n i (record_of core_store (process_of s g)) ∷ pieces_from total (n + 1) schedule (stepped core_store s i g)
+pieces_first total n i schedule s g there =
+    ap (λ e. event_pieces n e ++ end_line total ∷ []) (events_first i schedule s g there)
+    ∙ ap (λ t. t ++ end_line total ∷ []) (piece_first n (event core_store s i g) (events core_store schedule (stepped core_store s i g)))
+
+pub pieces_last : (total n : ℕ) (s : Processes (List ℕ)) → pieces_from total n [] s ≡ end_line total ∷ []
+unfolding events event_pieces
+pieces_last total n s = refl
+
+-- the text of the pieces that are left
+abbrev pub text_from : ℕ → ℕ → List ℕ → Processes (List ℕ) → List ℕ
+text_from total n schedule s = joined (pieces_from total n schedule s)
 
 text_first :
     (total n i : ℕ) (schedule : List ℕ) (s : Processes (List ℕ)) (g : RegsFields)
     → slice_get s.regs i ≡ Some g
     → text_from total n (i ∷ schedule) s
     ≡ event_line n i (record_of core_store (process_of s g)) ++ text_from total (n + 1) schedule (stepped core_store s i g)
-text_first total n i schedule s g there =
-    ap (λ e. event_lines n e ++ end_line total) (events_first i schedule s g there) ∙ ap (λ t. t ++ end_line total) (lines_first n (event core_store s i g) (events core_store schedule (stepped core_store s i g))) ∙ append_assoc (event_line n i (record_of core_store (process_of s g))) _ (end_line total)
+text_first total n i schedule s g there = ap joined (pieces_first total n i schedule s g there)
 
 text_last : (total n : ℕ) (s : Processes (List ℕ)) → text_from total n [] s ≡ end_line total
-unfolding events event_lines
-text_last total n s = refl
+text_last total n s = ap joined (pieces_last total n s) ∙ append-nil (end_line total)
 
 last_last : (s : Processes (List ℕ)) → last_state [] s ≡ s
 unfolding last_state
@@ -69,7 +85,7 @@ pub record Runs (all : List ℕ) (first : Processes (List ℕ)) (start now : Opt
 pub runs_start :
     (all : List ℕ) (first : Processes (List ℕ)) (start : Option (List ℕ)) (gathered : List (List ℕ))
     → are_named (length first.regs) all ≡ true → gathered ≡ [] → Runs all first start start gathered 0 all first
-unfolding schedule_text
+unfolding schedule_text schedule_pieces
 runs_start all first start gathered named none = subst (λ l. Runs all first start start l 0 all first) (sym none) (record {
   text = completes_all start (text_from (length all) 1 all first);
   made = [];

@@ -1,6 +1,8 @@
--- What a run of a schedule writes: a line for each event, and the last line.
+-- What a run of a schedule writes, in pieces, each line one: a line for each event, and the last
+-- line.
 use Rattle.std.specs.Prelude.{ℕ, ◌+◌, List, [], ◌∷◌, ◌++◌, length, slice_get, codes, Option, Some}
 use Rattle.std.specs.Prelude.{None}
+use Rattle.m36_outside.specs.Passing.{joined}
 use Rattle.m36_text.specs.Digits.{decimal_text}
 use Rattle.m36_text.specs.Lines.{as_line}
 use Rattle.m36_model.specs.Core.{core_store}
@@ -14,11 +16,6 @@ unfoldable pub event_line : ℕ → ℕ → StepRecord → List ℕ
 event_line n process told = as_line ((decimal_text process ++ codes " ") ++ line_of n told)
 
 -- the lines of events, of which the first has number n
-unfoldable pub event_lines : ℕ → List (Event (List ℕ)) → List ℕ
-event_lines n [] = []
-event_lines n (e ∷ more) = event_line n e.process e.told ++ event_lines (n + 1) more
-
--- the same in pieces, each line one
 unfoldable pub event_pieces : ℕ → List (Event (List ℕ)) → List (List ℕ)
 event_pieces n [] = []
 event_pieces n (e ∷ more) = event_line n e.process e.told ∷ event_pieces (n + 1) more
@@ -27,18 +24,15 @@ unfoldable pub end_line : ℕ → List ℕ
 end_line events = as_line (codes "end schedule " ++ decimal_text events)
 
 -- what is written from event n on, where there are so many events
-abbrev pub text_from : ℕ → ℕ → List ℕ → Processes (List ℕ) → List ℕ
-text_from total n schedule s = event_lines n (events core_store schedule s) ++ end_line total
-
 abbrev pub pieces_from : ℕ → ℕ → List ℕ → Processes (List ℕ) → List (List ℕ)
 pieces_from total n schedule s =
     event_pieces n (events core_store schedule s) ++ end_line total ∷ []
 
-unfoldable pub schedule_text : List ℕ → Processes (List ℕ) → List ℕ
-schedule_text schedule s = text_from (length schedule) 1 schedule s
-
 unfoldable pub schedule_pieces : List ℕ → Processes (List ℕ) → List (List ℕ)
 schedule_pieces schedule s = pieces_from (length schedule) 1 schedule s
+
+unfoldable pub schedule_text : List ℕ → Processes (List ℕ) → List ℕ
+schedule_text schedule s = joined (schedule_pieces schedule s)
 
 -- the state that a schedule leaves
 abbrev pub last_by :

@@ -4,7 +4,6 @@ use Rattle.m36_outside.specs.Counts.{Rose}
 use Rattle.m36_outside.specs.Written.{Grew, GrewWithin}
 use Rattle.m36_outside.specs.Passing.{TakesSome}
 use Rattle.m36_outside.proofs.LinesTaken.{takes_lines_on, takes_lines_more, takes_lines_longer}
-use Rattle.m36_outside.proofs.Grown.{grew_on, grew_more, grew_longer}
 use Rattle.m36_model.specs.Store.{State}
 use Rattle.m36_model.specs.declared.outcome.Outcome.{Outcome}
 use Rattle.m36_model.specs.declared.outcome.Outcome.TheVariants.{Next, Faulted, Stopped}
@@ -22,6 +21,7 @@ use Rattle.m36_ran.specs.AuditText.{audit_text, audit_pieces}
 use Rattle.m36_ran.specs.Putting.{IsPut, PutsBy}
 use Rattle.m36_ran.specs.Ran.{behind, run_answer, passes, audit_answer}
 use Rattle.m36_ran.specs.declared.running.Ended.TheVariants.{Whole, Cut}
+use Rattle.m36_ran.proofs.PiecesJoined.{grew_both, grew_both_more, grew_both_longer}
 
 -- a run that was written whole
 put_whole : (last : Outcome) (due : Answer) (old new : SinkState) → IsPut due (status_after last) old new → PutsBy (end_of (status_after last)) (status_after last) due old new
@@ -36,12 +36,12 @@ pub run_whole :
     → Grew old.written now.written (audit_text findings) → now.taken ≡ old.taken ++ audit_pieces findings → now.faults ≡ old.faults
     → RunSays (Whole last) steps state now.written new.written → RunTakes (Whole last) steps state now.taken new.taken → new.faults ≡ now.faults
     → PutsBy (end_of (status_after last)) (status_after last) (behind findings (run_answer steps state)) old new
-unfolding run_answer
+unfolding run_answer run_text
 run_whole findings steps state last old now new before took stood says takes stands =
     put_whole last (behind findings (run_answer steps state)) old new (record {
       sets = refl;
       status = ap status_after says.0;
-      text = grew_on old.written now.written new.written (audit_text findings) (run_text steps state) before says.1;
+      text = grew_both old.written now.written new.written (audit_pieces findings) (run_pieces steps state) before says.1;
       pieces = takes_lines_on old.taken now.taken new.taken (audit_pieces findings) (run_pieces steps state) took takes;
       faults = stands ∙ stood;
     })
@@ -52,10 +52,10 @@ pub run_cut :
     → Grew old.written now.written (audit_text findings) → now.taken ≡ old.taken ++ audit_pieces findings → now.faults ≡ old.faults
     → GrewWithin now.written new.written (run_text steps state) → TakesSome now.taken new.taken (run_pieces steps state) → Rose now.faults new.faults
     → PutsBy (end_of WriteFault) WriteFault (behind findings (run_answer steps state)) old new
-unfolding run_answer
+unfolding run_answer run_text
 run_cut findings steps state old now new before took stood says takes rose = record {
   sets = refl;
-  text = grew_more old.written now.written new.written (audit_text findings) (run_text steps state) before says;
+  text = grew_both_more old.written now.written new.written (audit_pieces findings) (run_pieces steps state) before says;
   pieces = takes_lines_more old.taken now.taken new.taken (audit_pieces findings) (run_pieces steps state) took takes;
   cause = let P : ℕ → Type 0 = λ n. Rose n new.faults in subst P stood rose;
 }
@@ -65,10 +65,10 @@ pub text_cut :
     (findings : List (ℕ × ℕ)) (steps : ℕ) (state : State (List ℕ)) (old new : SinkState)
     → GrewWithin old.written new.written (audit_text findings) → TakesSome old.taken new.taken (audit_pieces findings) → Rose old.faults new.faults
     → PutsBy (end_of WriteFault) WriteFault (behind findings (run_answer steps state)) old new
-unfolding run_answer
+unfolding run_answer run_text
 text_cut findings steps state old new cut takes rose = record {
   sets = refl;
-  text = grew_longer old.written new.written (audit_text findings) (run_text steps state) cut;
+  text = grew_both_longer old.written new.written (audit_pieces findings) (run_pieces steps state) cut;
   pieces = takes_lines_longer old.taken new.taken (audit_pieces findings) (run_pieces steps state) takes;
   cause = rose;
 }

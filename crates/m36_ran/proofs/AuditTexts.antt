@@ -1,15 +1,15 @@
 -- Texts of audits, put line by line.
 use Rattle.std.proofs.Common.{◌≡◌, ℕ, ◌+◌, ◌/◌, ◌%◌, ◌<◌, ◌≤◌, List, [], ◌∷◌, ◌++◌, length, drop, get_or, Option, refl, subst, ◌∙◌, arith}
-use Rattle.std.proofs.lemmas.List.{at_drop_more, at_drop_all}
+use Rattle.std.proofs.lemmas.List.{append-nil, at_drop_more, at_drop_all}
 use Rattle.m36_text.specs.Digits.{octal_text, digits}
 use Rattle.m36_text.specs.Lines.{as_line}
 use Rattle.m36_outside.specs.Written.{Grew, GrewWithin}
-use Rattle.m36_outside.specs.Passing.{TakesSome}
+use Rattle.m36_outside.specs.Passing.{joined, TakesSome}
 use Rattle.m36_outside.proofs.LinesTaken.{CompletesLines, completes_lines_all, completes_lines_rest, completes_lines_cut, completes_no_lines}
 use Rattle.m36_outside.proofs.Completes.{Completes, completes_all, completes_rest, completes_cut, completes_none}
 use Rattle.m36_audit.specs.Findings.{pairs}
 use Rattle.m36_audit.specs.declared.verdict.Finding.{Finding}
-use Rattle.m36_ran.specs.AuditText.{finding_line, finding_lines, finding_pieces, yes_line, audit_text, audit_pieces}
+use Rattle.m36_ran.specs.AuditText.{finding_line, finding_pieces, yes_line, audit_text, audit_pieces}
 
 -- digits are those of the number without what stands before them
 pub segment_digits : (v : ℕ) → octal_text 5 (v % 32768) ≡ octal_text 5 v
@@ -38,16 +38,16 @@ word_digits v =
 pub ruleset digits_alone = (segment_digits, word_digits)
 
 abbrev pub lines_of_findings : List Finding → List ℕ
-lines_of_findings findings = finding_lines (pairs findings)
+lines_of_findings findings = joined (finding_pieces (pairs findings))
 
 line_first :
     (f : Finding) (findings : List Finding)
     → lines_of_findings (f ∷ findings) ≡ as_line (finding_line (f.condition, f.place)) ++ lines_of_findings findings
-unfolding finding_lines
+unfolding finding_pieces
 line_first f findings = refl
 
 line_none : lines_of_findings [] ≡ []
-unfolding finding_lines
+unfolding finding_pieces
 line_none = refl
 
 line_at :
@@ -142,7 +142,7 @@ pub ruleset findings_in_turn = (findings_start, finding_put, finding_cut, findin
 
 -- the text by whether there are findings
 pub text_of_none : (findings : List Finding) → length findings ≡ 0 → audit_text (pairs findings) ≡ yes_line
-text_of_none [] none = refl
+text_of_none [] none = append-nil yes_line
 text_of_none (f ∷ findings) none = absurd (omega (arith, none))
 
 pub text_of_some : (findings : List Finding) → 0 < length findings → audit_text (pairs findings) ≡ lines_of_findings findings

@@ -1,5 +1,6 @@
 -- A run, step by step: what is left of its output, and how it will have ended.
-use Rattle.std.proofs.Common.{◌≡◌, ℕ, zero, suc, ◌+◌, ◌-◌, ◌<◌, Bool, true, false, List, [], ◌∷◌, ◌++◌, map, length, Option, refl, sym, ap, subst, ◌∙◌, arith, append_assoc, add-zero}
+use Rattle.std.proofs.Common.{◌≡◌, ℕ, zero, suc, ◌+◌, ◌-◌, ◌<◌, Bool, true, false, List, [], ◌∷◌, ◌++◌, map, length, Option, refl, sym, ap, subst, ◌∙◌, arith, add-zero}
+use Rattle.std.proofs.lemmas.List.{append-nil}
 use Rattle.m36_outside.specs.Gathered.{Gathers, Loses}
 use Rattle.m36_outside.specs.Passing.{joined}
 use Rattle.m36_outside.specs.Written.{GrewWithin}
@@ -16,7 +17,7 @@ use Rattle.m36_trace.specs.EndLine.{end_line_of}
 use Rattle.m36_trace.specs.TraceLine.{line_of}
 use Rattle.m36_ran.specs.Machine.{told, after}
 use Rattle.m36_ran.specs.Run.{run, last_outcome}
-use Rattle.m36_ran.specs.Output.{trace_text, output_from, run_text}
+use Rattle.m36_ran.specs.Output.{trace_pieces, pieces_from, run_pieces, run_text}
 use Rattle.m36_ran.specs.RunSays.{EndSays, RunSays}
 use Rattle.m36_ran.specs.declared.running.Ended.{Ended}
 use Rattle.m36_ran.specs.declared.running.Ended.TheVariants.{Whole, Cut}
@@ -58,7 +59,7 @@ pub run_last :
     (left : ℕ) (s : State (List ℕ)) → 0 < left → is_next (told s).outcome ≡ false → run left s ≡ told s ∷ []
 run_last left s some last = run_begins left s some ∙ ap (λ b. told s ∷ only_if b (run (left - 1) (after s))) last
 
--- what the first of some steps puts before the output of the others
+-- what the first of some steps puts before the pieces of the others
 pub last_after_next : (step : StepRecord) (steps : List StepRecord) → step.outcome ≡ Next → last_outcome (step ∷ steps) ≡ last_outcome steps
 last_after_next step [] next = next
 last_after_next step (other ∷ steps) next = refl
@@ -66,30 +67,57 @@ last_after_next step (other ∷ steps) next = refl
 pub counted : (taken n : ℕ) → taken + suc n ≡ taken + 1 + n
 counted taken n = omega arith
 
+pub pieces_begin :
+    (taken : ℕ) (step : StepRecord) (steps : List StepRecord)
+    → pieces_from taken (step ∷ steps)
+    ≡ as_line (line_of (taken + 1) step) ∷ (trace_pieces (taken + 1 + 1) steps ++ as_line (end_line_of (last_outcome (step ∷ steps)) (taken + length (step ∷ steps))) ∷ [])
+unfolding trace_pieces
+pieces_begin taken step steps = refl
+
+pub pieces_next :
+    (taken : ℕ) (step : StepRecord) (steps : List StepRecord)
+    → step.outcome ≡ Next
+    → pieces_from taken (step ∷ steps) ≡ as_line (line_of (taken + 1) step) ∷ pieces_from (taken + 1) steps
+pieces_next taken step steps next =
+    pieces_begin taken step steps
+    ∙ ap (λ o. as_line (line_of (taken + 1) step) ∷ (trace_pieces (taken + 1 + 1) steps ++ as_line (end_line_of o (taken + length (step ∷ steps))) ∷ [])) (last_after_next step steps next)
+    ∙ ap (λ n. as_line (line_of (taken + 1) step) ∷ (trace_pieces (taken + 1 + 1) steps ++ as_line (end_line_of (last_outcome steps) n) ∷ [])) (counted taken (length steps))
+
+pub pieces_last :
+    (taken : ℕ) (step : StepRecord)
+    → pieces_from taken (step ∷ []) ≡ as_line (line_of (taken + 1) step) ∷ as_line (end_line_of step.outcome (taken + 1)) ∷ []
+unfolding trace_pieces
+pieces_last taken step = refl
+
+pub pieces_none : (taken : ℕ) → pieces_from taken [] ≡ as_line (end_line_of Next taken) ∷ []
+unfolding trace_pieces
+pieces_none taken = ap (λ n. as_line (end_line_of Next n) ∷ []) (add-zero taken)
+
+-- the text of the pieces that are left
+abbrev pub output_from : ℕ → List StepRecord → List ℕ
+output_from taken steps = joined (pieces_from taken steps)
+
 output_begins :
     (taken : ℕ) (step : StepRecord) (steps : List StepRecord)
     → output_from taken (step ∷ steps)
-    ≡ as_line (line_of (taken + 1) step) ++ (trace_text (taken + 1 + 1) steps ++ as_line (end_line_of (last_outcome (step ∷ steps)) (taken + length (step ∷ steps))))
-unfolding trace_text
-output_begins taken step steps =
-    append_assoc (as_line (line_of (taken + 1) step)) (trace_text (taken + 1 + 1) steps) (as_line (end_line_of (last_outcome (step ∷ steps)) (taken + length (step ∷ steps))))
+    ≡ as_line (line_of (taken + 1) step) ++ joined (trace_pieces (taken + 1 + 1) steps ++ as_line (end_line_of (last_outcome (step ∷ steps)) (taken + length (step ∷ steps))) ∷ [])
+output_begins taken step steps = ap joined (pieces_begin taken step steps)
 
 output_next :
     (taken : ℕ) (step : StepRecord) (steps : List StepRecord)
     → step.outcome ≡ Next
     → output_from taken (step ∷ steps) ≡ as_line (line_of (taken + 1) step) ++ output_from (taken + 1) steps
-output_next taken step steps next =
-    output_begins taken step steps ∙ ap (λ o. as_line (line_of (taken + 1) step) ++ (trace_text (taken + 1 + 1) steps ++ as_line (end_line_of o (taken + length (step ∷ steps))))) (last_after_next step steps next) ∙ ap (λ n. as_line (line_of (taken + 1) step) ++ (trace_text (taken + 1 + 1) steps ++ as_line (end_line_of (last_outcome steps) n))) (counted taken (length steps))
+output_next taken step steps next = ap joined (pieces_next taken step steps next)
 
 output_last :
     (taken : ℕ) (step : StepRecord)
     → output_from taken (step ∷ []) ≡ as_line (line_of (taken + 1) step) ++ as_line (end_line_of step.outcome (taken + 1))
-unfolding trace_text
-output_last taken step = output_begins taken step []
+output_last taken step =
+    ap joined (pieces_last taken step)
+    ∙ ap (λ t. as_line (line_of (taken + 1) step) ++ t) (append-nil (as_line (end_line_of step.outcome (taken + 1))))
 
 output_none : (taken : ℕ) → output_from taken [] ≡ as_line (end_line_of Next taken)
-unfolding trace_text
-output_none taken = ap (λ n. as_line (end_line_of Next n)) (add-zero taken)
+output_none taken = ap joined (pieces_none taken) ∙ append-nil (as_line (end_line_of Next taken))
 
 -- A run that began in state `first` with so many steps has taken some, has some left, stands in a state, has gathered some
 -- lines, and has written what is written now.
@@ -100,7 +128,7 @@ pub record Running (steps : ℕ) (first : State (List ℕ)) (start now : Option 
 pub running_starts :
     (steps : ℕ) (first : State (List ℕ)) (start : Option (List ℕ)) (gathered : List (List ℕ))
     → gathered ≡ [] → Running steps first start start gathered 0 steps first
-unfolding run_text
+unfolding run_text run_pieces
 running_starts steps first start gathered none =
     subst (λ l. Running steps first start start l 0 steps first) (sym none)
     (record { text = completes_all start (run_text steps first); last = refl })
@@ -130,7 +158,7 @@ pub running_cut :
     → GrewWithin start new (run_text steps first)
 running_cut steps first start now new pieces pieces' gathered taken left state so_far some lost =
     let others : List StepRecord = only_if (is_next (told state).outcome) (run (left - 1) (after state)) in
-    completes_lost now new start pieces pieces' gathered (as_line (line_of (taken + 1) (told state))) (output_from taken (run left state)) (trace_text (taken + 1 + 1) others ++ as_line (end_line_of (last_outcome (told state ∷ others)) (taken + length (told state ∷ others)))) (run_text steps first) so_far.text (ap (output_from taken) (run_begins left state some) ∙ output_begins taken (told state) others) lost
+    completes_lost now new start pieces pieces' gathered (as_line (line_of (taken + 1) (told state))) (output_from taken (run left state)) (joined (trace_pieces (taken + 1 + 1) others ++ as_line (end_line_of (last_outcome (told state ∷ others)) (taken + length (told state ∷ others))) ∷ [])) (run_text steps first) so_far.text (ap (output_from taken) (run_begins left state some) ∙ output_begins taken (told state) others) lost
 
 last_text :
     (taken left : ℕ) (state : State (List ℕ)) (outcome : Outcome)

@@ -1,5 +1,5 @@
 -- The pieces of a run, step by step: what is left of them.
-use Rattle.std.proofs.Common.{◌≡◌, ℕ, ◌+◌, ◌-◌, ◌<◌, false, add-zero, List, [], ◌∷◌, ◌++◌, length, Option, refl, sym, ap, subst, ◌∙◌}
+use Rattle.std.proofs.Common.{◌≡◌, ℕ, ◌+◌, ◌-◌, ◌<◌, false, List, [], ◌∷◌, ◌++◌, length, Option, sym, ap, subst, ◌∙◌}
 use Rattle.m36_outside.specs.Gathered.{Gathers, Loses, Adds}
 use Rattle.m36_outside.specs.Passing.{joined, TakesSome, PutTakes, TakesLines}
 use Rattle.m36_outside.specs.Put.{PutSays}
@@ -21,7 +21,7 @@ use Rattle.m36_ran.specs.Output.{trace_pieces, pieces_from, run_pieces}
 use Rattle.m36_ran.specs.RunSays.{EndTakes, RunTakes}
 use Rattle.m36_ran.specs.declared.running.Ended.{Ended}
 use Rattle.m36_ran.specs.declared.running.Ended.TheVariants.{Whole, Cut}
-use Rattle.m36_ran.proofs.RunLaws.{run_begins, run_none, run_next, run_last, last_after_next, counted}
+use Rattle.m36_ran.proofs.RunLaws.{run_begins, run_none, run_next, run_last, pieces_begin, pieces_next, pieces_last, pieces_none}
 
 -- one line was put
 pub put_takes :
@@ -54,33 +54,6 @@ last_takes answer taken taken' old line lent is took =
     subst (λ l. TakesLines answer taken taken' (old ++ l ∷ [])) is took
 
 pub ruleset one_line = (put_takes, line_adds, last_says, last_takes)
-
--- what the first of some steps puts before the pieces of the others
-pieces_begin :
-    (taken : ℕ) (step : StepRecord) (steps : List StepRecord)
-    → pieces_from taken (step ∷ steps)
-    ≡ as_line (line_of (taken + 1) step) ∷ (trace_pieces (taken + 1 + 1) steps ++ as_line (end_line_of (last_outcome (step ∷ steps)) (taken + length (step ∷ steps))) ∷ [])
-unfolding trace_pieces
-pieces_begin taken step steps = refl
-
-pieces_next :
-    (taken : ℕ) (step : StepRecord) (steps : List StepRecord)
-    → step.outcome ≡ Next
-    → pieces_from taken (step ∷ steps) ≡ as_line (line_of (taken + 1) step) ∷ pieces_from (taken + 1) steps
-pieces_next taken step steps next =
-    pieces_begin taken step steps
-    ∙ ap (λ o. as_line (line_of (taken + 1) step) ∷ (trace_pieces (taken + 1 + 1) steps ++ as_line (end_line_of o (taken + length (step ∷ steps))) ∷ [])) (last_after_next step steps next)
-    ∙ ap (λ n. as_line (line_of (taken + 1) step) ∷ (trace_pieces (taken + 1 + 1) steps ++ as_line (end_line_of (last_outcome steps) n) ∷ [])) (counted taken (length steps))
-
-pieces_last :
-    (taken : ℕ) (step : StepRecord)
-    → pieces_from taken (step ∷ []) ≡ as_line (line_of (taken + 1) step) ∷ as_line (end_line_of step.outcome (taken + 1)) ∷ []
-unfolding trace_pieces
-pieces_last taken step = refl
-
-pieces_none : (taken : ℕ) → pieces_from taken [] ≡ as_line (end_line_of Next taken) ∷ []
-unfolding trace_pieces
-pieces_none taken = ap (λ n. as_line (end_line_of Next n) ∷ []) (add-zero taken)
 
 -- at the beginning all pieces are left
 pub pieces_start :

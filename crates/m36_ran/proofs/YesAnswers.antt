@@ -1,22 +1,24 @@
 -- Where an output begins with `audit yes`, nothing was found.
 use Rattle.std.proofs.Common.{◌≡◌, ℕ, Bool, true, false, List, [], ◌∷◌, ◌++◌, refl, sym, ap, subst, ◌∙◌, arith, get_or}
 use Rattle.std.proofs.lemmas.List.{append-nil}
+use Rattle.m36_outside.specs.Passing.{joined}
 use Rattle.m36_model.specs.Store.{State}
 use Rattle.m36_model.specs.Audit.{AreFindings}
 use Rattle.m36_isol.proofs.Findings.{findings_law}
 use Rattle.m36_reading.specs.Answers.{Answer}
 use Rattle.m36_ran.specs.declared.command.ImageCommand.{ImageCommand}
 use Rattle.m36_ran.specs.declared.command.ImageCommand.TheVariants.{Bare, Audit}
-use Rattle.m36_ran.specs.Output.{run_text}
-use Rattle.m36_ran.specs.AuditText.{yes_line, finding_line, finding_lines, audit_text}
+use Rattle.m36_ran.specs.Output.{run_pieces}
+use Rattle.m36_ran.specs.AuditText.{yes_line, finding_line, finding_pieces, audit_pieces, audit_text}
 use Rattle.m36_ran.specs.Ran.{run_answer, audit_answer, bare_by, state_answer, IsStateDue, PassesAudit}
+use Rattle.m36_ran.proofs.PiecesJoined.{joined_on}
 
 -- every output on a state begins with the audit text
 bare_begins :
     (run : Bool) (steps : ℕ) (state : State (List ℕ)) (findings : List (ℕ × ℕ))
     → (more : List ℕ) × ((bare_by run steps state findings).text ≡ audit_text findings ++ more)
 unfolding run_answer audit_answer
-bare_begins true steps state findings = (run_text steps state, refl)
+bare_begins true steps state findings = (joined (run_pieces steps state), joined_on (audit_pieces findings) (run_pieces steps state))
 bare_begins false steps state findings = ([], sym (append-nil (audit_text findings)))
 
 answer_begins :
@@ -29,7 +31,7 @@ answer_begins Audit state findings = ([], sym (append-nil (audit_text findings))
 -- and that with a finding does not begin with `audit yes`
 found_no :
     (f : ℕ × ℕ) (findings : List (ℕ × ℕ)) (more rest : List ℕ) → audit_text (f ∷ findings) ++ more ≡ yes_line ++ rest → ⊥
-unfolding finding_lines finding_line
+unfolding finding_pieces finding_line
 found_no f findings more rest e =
     let n : 110 ≡ 121 = ap (λ (t : List ℕ). get_or t 6 0) e in
     absurd (omega (arith, n))

@@ -1,6 +1,7 @@
--- The text of an audit: the line `audit yes`, or a line for each finding with its condition and its
--- place in octal.
+-- The text of an audit, in pieces, each line one: the line `audit yes`, or a line for each finding
+-- with its condition and its place in octal.
 use Rattle.std.specs.Prelude.{ℕ, ◌||◌, ◌==◌, List, [], ◌∷◌, ◌++◌, codes, if◌then◌else◌}
+use Rattle.m36_outside.specs.Passing.{joined}
 use Rattle.m36_text.specs.Digits.{octal_text, decimal_text}
 use Rattle.m36_text.specs.Lines.{as_line}
 
@@ -14,11 +15,6 @@ unfoldable pub finding_line : ℕ × ℕ → List ℕ
 finding_line f =
     codes "audit no A" ++ decimal_text f.0 ++ codes " " ++ octal_text (place_digits f.0) f.1
 
-unfoldable pub finding_lines : List (ℕ × ℕ) → List ℕ
-finding_lines [] = []
-finding_lines (f ∷ findings) = as_line (finding_line f) ++ finding_lines findings
-
--- the same in pieces, each line one
 unfoldable pub finding_pieces : List (ℕ × ℕ) → List (List ℕ)
 finding_pieces [] = []
 finding_pieces (f ∷ findings) = as_line (finding_line f) ∷ finding_pieces findings
@@ -26,10 +22,9 @@ finding_pieces (f ∷ findings) = as_line (finding_line f) ∷ finding_pieces fi
 abbrev pub yes_line : List ℕ
 yes_line = as_line (codes "audit yes")
 
-abbrev pub audit_text : List (ℕ × ℕ) → List ℕ
-audit_text [] = yes_line
-audit_text (f ∷ findings) = finding_lines (f ∷ findings)
-
 abbrev pub audit_pieces : List (ℕ × ℕ) → List (List ℕ)
 audit_pieces [] = yes_line ∷ []
 audit_pieces (f ∷ findings) = finding_pieces (f ∷ findings)
+
+abbrev pub audit_text : List (ℕ × ℕ) → List ℕ
+audit_text findings = joined (audit_pieces findings)

@@ -1,5 +1,6 @@
--- The output of a run: its trace lines and its end line.
+-- The output of a run, in pieces, each line one: its trace lines and its end line.
 use Rattle.std.specs.Prelude.{ℕ, ◌+◌, List, [], ◌∷◌, ◌++◌, Option, Some, None, length}
+use Rattle.m36_outside.specs.Passing.{joined}
 use Rattle.m36_text.specs.Lines.{as_line}
 use Rattle.m36_model.specs.Store.{State}
 use Rattle.m36_model.specs.declared.outcome.Outcome.{Outcome}
@@ -15,32 +16,22 @@ use Rattle.m36_reading.specs.declared.status.Status.TheVariants.{Done, MachineSt
 use Rattle.m36_ran.specs.Run.{run, last_outcome}
 
 -- a trace line for each record, with the number of its step, of which the first is step n
-unfoldable pub trace_text : ℕ → List StepRecord → List ℕ
-trace_text n [] = []
-trace_text n (step ∷ steps) = as_line (line_of n step) ++ trace_text (n + 1) steps
-
--- the same in pieces, each line one
 unfoldable pub trace_pieces : ℕ → List StepRecord → List (List ℕ)
 trace_pieces n [] = []
 trace_pieces n (step ∷ steps) = as_line (line_of n step) ∷ trace_pieces (n + 1) steps
 
 -- what is written from there on where so many steps were taken before these
-abbrev pub output_from : ℕ → List StepRecord → List ℕ
-output_from taken steps =
-    trace_text (taken + 1) steps
-    ++ as_line (end_line_of (last_outcome steps) (taken + length steps))
-
 abbrev pub pieces_from : ℕ → List StepRecord → List (List ℕ)
 pieces_from taken steps =
     trace_pieces (taken + 1) steps
     ++ as_line (end_line_of (last_outcome steps) (taken + length steps)) ∷ []
 
 -- what a run of at most so many steps writes
-unfoldable pub run_text : ℕ → State (List ℕ) → List ℕ
-run_text steps state = output_from 0 (run steps state)
-
 unfoldable pub run_pieces : ℕ → State (List ℕ) → List (List ℕ)
 run_pieces steps state = pieces_from 0 (run steps state)
+
+unfoldable pub run_text : ℕ → State (List ℕ) → List ℕ
+run_text steps state = joined (run_pieces steps state)
 
 -- The status of an end: DIS is the one without a fault, a refused service or another stop.
 abbrev pub end_status : End → Status

@@ -1,6 +1,7 @@
 -- What is due to a command on a bare image: the text of what its audit finds, and, where it is run,
 -- the output of the run, both line by line.
 use Rattle.std.specs.Prelude.{◌≡◌, ℕ, Bool, true, false, ◌||◌, List, [], ◌∷◌, ◌++◌, Result, Ok, Err}
+use Rattle.m36_outside.specs.Passing.{joined}
 use Rattle.m36_desc.specs.Fields.{DbrFields}
 use Rattle.m36_model.specs.Store.{State}
 use Rattle.m36_model.specs.Core.{core_store, core_tables}
@@ -75,7 +76,7 @@ audit_answer findings = record {
 abbrev pub behind : List (ℕ × ℕ) → Answer → Answer
 behind findings answer = record {
   sets = answer.sets;
-  text = audit_text findings ++ answer.text;
+  text = joined (audit_pieces findings ++ answer.pieces);
   pieces = audit_pieces findings ++ answer.pieces;
   status = answer.status;
 }

@@ -3,10 +3,10 @@
 ghost use Rattle.std.specs.Prelude.{ℕ, ◌≡◌, ◌≤◌, ◌<◌, ◌||◌, ◌==◌, [], ◌∷◌, length, if◌then◌else◌};
 ghost use Rattle.m36_text.specs.Digits.{octal_text};
 ghost use Rattle.m36_text.specs.Lines.{as_line};
-ghost use Rattle.m36_outside.specs.Passing.{TakesLines};
+ghost use Rattle.m36_outside.specs.Passing.{TakesLines, joined};
 ghost use Rattle.m36_outside.specs.Put.{PutSays, PutHasCause};
 ghost use Rattle.m36_audit.specs.Findings.{pairs};
-ghost use Rattle.m36_ran.specs.AuditText.{place_digits, finding_line, finding_lines, finding_pieces, yes_line, audit_text, audit_pieces};
+ghost use Rattle.m36_ran.specs.AuditText.{place_digits, finding_line, finding_pieces, yes_line, audit_text, audit_pieces};
 
 use crate::running::put_line;
 use arrayvec::ArrayString;
@@ -60,7 +60,8 @@ fn put_finding<S: Sink>(finding: &Finding, out: &mut S) -> Put
 /// Puts a line for each finding.
 #[tactic(auto, using(crate::proofs::AuditTexts::findings_in_turn))]
 fn put_findings<S: Sink>(findings: &[Finding], out: &mut S) -> Put
-    ensures says { PutSays result (S.written out.old) (S.written out.new) (finding_lines (pairs findings.now)) }
+    ensures says { PutSays result (S.written out.old) (S.written out.new)
+        (joined (finding_pieces (pairs findings.now))) }
     ensures through { TakesLines result (S.taken out.old) (S.taken out.new) (finding_pieces (pairs findings.now)) }
     ensures cause { PutHasCause result (S.faults out.old) (S.faults out.new) }
 {

@@ -5,7 +5,6 @@ use Rattle.m36_outside.specs.Counts.{Rose}
 use Rattle.m36_outside.specs.Written.{Grew, GrewWithin}
 use Rattle.m36_outside.specs.Passing.{TakesSome}
 use Rattle.m36_outside.proofs.LinesTaken.{takes_lines_on, takes_lines_more, takes_lines_longer}
-use Rattle.m36_outside.proofs.Grown.{grew_on, grew_more, grew_longer}
 use Rattle.m36_model.specs.JointAudit.{JointFound}
 use Rattle.m36_model.specs.Schedule.{Processes}
 use Rattle.m36_audit.specs.Joints.{all_found}
@@ -18,6 +17,7 @@ use Rattle.m36_reading.specs.Outside.{SinkState}
 use Rattle.m36_reading.specs.Ends.{end_of}
 use Rattle.m36_ran.specs.Putting.{PutsBy}
 use Rattle.m36_ran.specs.Ran.{passes}
+use Rattle.m36_ran.proofs.PiecesJoined.{grew_both, grew_both_more, grew_both_longer}
 use Rattle.m36_scheduled.specs.JointText.{joint_text, joint_pieces}
 use Rattle.m36_scheduled.specs.Scheduled.{run_answer, refused_answer}
 
@@ -27,11 +27,11 @@ pub run_whole :
     → Grew old.written now.written (joint_text findings) → now.taken ≡ old.taken ++ joint_pieces findings → now.faults ≡ old.faults
     → IsRun p.schedule p.state after now.written new.written → new.taken ≡ now.taken ++ schedule_pieces p.schedule p.state → new.faults ≡ now.faults
     → PutsBy (end_of Done) Done (run_answer findings p) old new
-unfolding run_answer
+unfolding run_answer schedule_text
 run_whole findings p after old now new before took stood says takes stands = record {
   sets = refl;
   status = refl;
-  text = grew_on old.written now.written new.written (joint_text findings) (schedule_text p.schedule p.state) before says.grew;
+  text = grew_both old.written now.written new.written (joint_pieces findings) (schedule_pieces p.schedule p.state) before says.grew;
   pieces = takes_lines_on old.taken now.taken new.taken (joint_pieces findings) (schedule_pieces p.schedule p.state) took takes;
   faults = stands ∙ stood;
 }
@@ -42,10 +42,10 @@ pub run_cut :
     → Grew old.written now.written (joint_text findings) → now.taken ≡ old.taken ++ joint_pieces findings → now.faults ≡ old.faults
     → GrewWithin now.written new.written (schedule_text p.schedule p.state) → TakesSome now.taken new.taken (schedule_pieces p.schedule p.state) → Rose now.faults new.faults
     → PutsBy (end_of WriteFault) WriteFault (run_answer findings p) old new
-unfolding run_answer
+unfolding run_answer schedule_text
 run_cut findings p old now new before took stood says takes rose = record {
   sets = refl;
-  text = grew_more old.written now.written new.written (joint_text findings) (schedule_text p.schedule p.state) before says;
+  text = grew_both_more old.written now.written new.written (joint_pieces findings) (schedule_pieces p.schedule p.state) before says;
   pieces = takes_lines_more old.taken now.taken new.taken (joint_pieces findings) (schedule_pieces p.schedule p.state) took takes;
   cause = let P : ℕ → Type 0 = λ n. Rose n new.faults in subst P stood rose;
 }
@@ -55,10 +55,10 @@ pub text_cut :
     (findings : List JointFound) (p : ProcsFields) (old new : SinkState)
     → GrewWithin old.written new.written (joint_text findings) → TakesSome old.taken new.taken (joint_pieces findings) → Rose old.faults new.faults
     → PutsBy (end_of WriteFault) WriteFault (run_answer findings p) old new
-unfolding run_answer
+unfolding run_answer schedule_text
 text_cut findings p old new cut takes rose = record {
   sets = refl;
-  text = grew_longer old.written new.written (joint_text findings) (schedule_text p.schedule p.state) cut;
+  text = grew_both_longer old.written new.written (joint_pieces findings) (schedule_pieces p.schedule p.state) cut;
   pieces = takes_lines_longer old.taken new.taken (joint_pieces findings) (schedule_pieces p.schedule p.state) takes;
   cause = rose;
 }

@@ -1,27 +1,27 @@
 -- Texts of joint audits, put line by line.
 use Rattle.std.proofs.Common.{◌≡◌, ℕ, ◌+◌, ◌<◌, ◌≤◌, List, [], ◌∷◌, ◌++◌, length, drop, get_or, Option, refl, subst, ◌∙◌, arith}
-use Rattle.std.proofs.lemmas.List.{at_drop_more, at_drop_all}
+use Rattle.std.proofs.lemmas.List.{append-nil, at_drop_more, at_drop_all}
 use Rattle.m36_outside.specs.Written.{Grew, GrewWithin}
-use Rattle.m36_outside.specs.Passing.{TakesSome}
+use Rattle.m36_outside.specs.Passing.{joined, TakesSome}
 use Rattle.m36_outside.proofs.LinesTaken.{CompletesLines, completes_lines_all, completes_lines_rest, completes_lines_cut, completes_no_lines}
 use Rattle.m36_outside.proofs.Completes.{Completes, completes_all, completes_rest, completes_cut, completes_none}
 use Rattle.m36_text.specs.Lines.{as_line}
 use Rattle.m36_audit.specs.declared.joint_verdict.JointFinding.{JointFinding}
 use Rattle.m36_audit.specs.Joints.{found_of, all_found}
 use Rattle.m36_ran.specs.AuditText.{yes_line}
-use Rattle.m36_scheduled.specs.JointText.{found_line, found_lines, found_pieces, joint_text, joint_pieces}
+use Rattle.m36_scheduled.specs.JointText.{found_line, found_pieces, joint_text, joint_pieces}
 
 abbrev pub lines_of_findings : List JointFinding → List ℕ
-lines_of_findings findings = found_lines (all_found findings)
+lines_of_findings findings = joined (found_pieces (all_found findings))
 
 line_first :
     (f : JointFinding) (findings : List JointFinding)
     → lines_of_findings (f ∷ findings) ≡ as_line (found_line (found_of f)) ++ lines_of_findings findings
-unfolding found_lines
+unfolding found_pieces
 line_first f findings = refl
 
 line_none : lines_of_findings [] ≡ []
-unfolding found_lines
+unfolding found_pieces
 line_none = refl
 
 line_at :
@@ -116,7 +116,7 @@ pub ruleset findings_in_turn = (findings_start, finding_put, finding_cut, findin
 
 -- the text by whether there are findings
 pub text_of_none : (findings : List JointFinding) → length findings ≡ 0 → joint_text (all_found findings) ≡ yes_line
-text_of_none [] none = refl
+text_of_none [] none = append-nil yes_line
 text_of_none (f ∷ findings) none = absurd (omega (arith, none))
 
 pub text_of_some : (findings : List JointFinding) → 0 < length findings → joint_text (all_found findings) ≡ lines_of_findings findings

@@ -2,29 +2,32 @@
 use Rattle.std.proofs.Common.{◌≡◌, ℕ, Bool, true, false, List, [], ◌∷◌, ◌++◌, Option, Some, None, refl, sym, ap, subst, ◌∙◌, arith, get_or}
 use Rattle.std.specs.Prelude.{◌||◌}
 use Rattle.std.proofs.lemmas.List.{append-nil}
+use Rattle.m36_outside.specs.Passing.{joined}
 use Rattle.m36_model.specs.JointAudit.{JointFound, AreJointFindings}
 use Rattle.m36_isol.proofs.JointFindings.{joint_findings_law}
 use Rattle.m36_text.specs.Digits.{decimal_text}
+use Rattle.m36_text.specs.Lines.{as_line}
 use Rattle.m36_procs.specs.ProcsFields.{ProcsFields}
-use Rattle.m36_procs.specs.ScheduleText.{schedule_text}
+use Rattle.m36_procs.specs.ScheduleText.{schedule_pieces}
 use Rattle.m36_reading.specs.Answers.{Answer}
 use Rattle.m36_ran.specs.AuditText.{yes_line}
 use Rattle.m36_ran.specs.Ran.{passes}
-use Rattle.m36_scheduled.specs.JointText.{process_line, between_line, line_by, found_lines, joint_text}
+use Rattle.m36_ran.proofs.PiecesJoined.{joined_on}
+use Rattle.m36_scheduled.specs.JointText.{process_line, between_line, line_by, found_pieces, joint_pieces, joint_text}
 use Rattle.m36_scheduled.specs.Scheduled.{run_answer, refused_answer, answer_by, procs_answer, dbrs_of, IsProcsDue, PassesJoint}
 
 -- every output begins with the audit text
 answer_begins : (b : Bool) (p : ProcsFields) (findings : List JointFound) → (more : List ℕ) × ((answer_by b findings p).text ≡ joint_text findings ++ more)
 unfolding run_answer refused_answer
-answer_begins true p findings = (schedule_text p.schedule p.state, refl)
+answer_begins true p findings = (joined (schedule_pieces p.schedule p.state), joined_on (joint_pieces findings) (schedule_pieces p.schedule p.state))
 answer_begins false p findings = ([], sym (append-nil (joint_text findings)))
 
 -- and that with a finding does not begin with `audit yes`
 found_no : (f : JointFound) (findings : List JointFound) (more rest : List ℕ) → joint_text (f ∷ findings) ++ more ≡ yes_line ++ rest → ⊥
-unfolding found_lines process_line between_line
+unfolding found_pieces process_line between_line
 found_no f findings more rest e = by f.process e
   where
-    by : (process : Option ℕ) → ((line_by process f.condition f.place ++ 10 ∷ []) ++ found_lines findings) ++ more ≡ yes_line ++ rest → ⊥
+    by : (process : Option ℕ) → (as_line (line_by process f.condition f.place) ++ joined (found_pieces findings)) ++ more ≡ yes_line ++ rest → ⊥
     by (Some process) g =
         let n : 110 ≡ 121 = ap (λ (t : List ℕ). get_or t 6 0) g in
         absurd (omega (arith, n))

@@ -1,7 +1,9 @@
--- The text of a joint audit: the line `audit yes`, or a line for each finding. One of a process has
--- the number of the process, its condition and its place in octal, as in `audit no 1 A3 00000100`;
--- one between processes has its condition and the core word, as in `audit no J2 00000060`.
+-- The text of a joint audit, in pieces, each line one: the line `audit yes`, or a line for each
+-- finding. One of a process has the number of the process, its condition and its place in octal, as
+-- in `audit no 1 A3 00000100`; one between processes has its condition and the core word, as in
+-- `audit no J2 00000060`.
 use Rattle.std.specs.Prelude.{ℕ, List, [], ◌∷◌, ◌++◌, codes, Option, Some, None}
+use Rattle.m36_outside.specs.Passing.{joined}
 use Rattle.m36_text.specs.Digits.{octal_text, decimal_text}
 use Rattle.m36_text.specs.Lines.{as_line}
 use Rattle.m36_model.specs.JointAudit.{JointFound}
@@ -25,19 +27,13 @@ line_by None condition place = between_line condition place
 abbrev pub found_line : JointFound → List ℕ
 found_line f = line_by f.process f.condition f.place
 
-unfoldable pub found_lines : List JointFound → List ℕ
-found_lines [] = []
-found_lines (f ∷ findings) = as_line (found_line f) ++ found_lines findings
-
--- the same in pieces, each line one
 unfoldable pub found_pieces : List JointFound → List (List ℕ)
 found_pieces [] = []
 found_pieces (f ∷ findings) = as_line (found_line f) ∷ found_pieces findings
 
-abbrev pub joint_text : List JointFound → List ℕ
-joint_text [] = yes_line
-joint_text (f ∷ findings) = found_lines (f ∷ findings)
-
 abbrev pub joint_pieces : List JointFound → List (List ℕ)
 joint_pieces [] = yes_line ∷ []
 joint_pieces (f ∷ findings) = found_pieces (f ∷ findings)
+
+abbrev pub joint_text : List JointFound → List ℕ
+joint_text findings = joined (joint_pieces findings)

@@ -2,6 +2,7 @@
 -- are run, the lines of the schedule, both line by line.
 use Rattle.std.specs.Prelude.{◌≡◌, ℕ, Bool, true, false, ◌||◌, List, [], ◌∷◌, ◌++◌, map, Result, Ok}
 use Rattle.std.specs.Prelude.{Err}
+use Rattle.m36_outside.specs.Passing.{joined}
 use Rattle.m36_desc.specs.Fields.{DbrFields}
 use Rattle.m36_model.specs.Core.{core_store, core_tables}
 use Rattle.m36_model.specs.Schedule.{Processes}
@@ -9,7 +10,7 @@ use Rattle.m36_model.specs.JointAudit.{JointFound, AreJointFindings, IsJointlyAu
 use Rattle.m36_model.specs.JointIsolation.{JointlyIsolated}
 use Rattle.m36_procs.specs.ProcsFields.{ProcsFields}
 use Rattle.m36_procs.specs.ProcsFile.{procs_given}
-use Rattle.m36_procs.specs.ScheduleText.{schedule_text, schedule_pieces}
+use Rattle.m36_procs.specs.ScheduleText.{schedule_pieces}
 use Rattle.m36_procs.specs.declared.fault.Code.{Code as ProcsCode}
 use Rattle.m36_procs.specs.declared.fault.Code.TheVariants as procs
 use Rattle.m36_reading.specs.declared.status.Code.{Code}
@@ -46,7 +47,7 @@ procs_reads name =
 unfoldable pub run_answer : List JointFound → ProcsFields → Answer
 run_answer findings p = record {
   sets = [];
-  text = joint_text findings ++ schedule_text p.schedule p.state;
+  text = joined (joint_pieces findings ++ schedule_pieces p.schedule p.state);
   pieces = joint_pieces findings ++ schedule_pieces p.schedule p.state;
   status = Done;
 }

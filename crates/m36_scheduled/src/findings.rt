@@ -1,11 +1,11 @@
 //! The text of a joint audit.
 
 ghost use Rattle.std.specs.Prelude.{ℕ, ◌≡◌, ◌≤◌, ◌<◌, [], ◌∷◌, length};
-ghost use Rattle.m36_outside.specs.Passing.{TakesLines};
+ghost use Rattle.m36_outside.specs.Passing.{TakesLines, joined};
 ghost use Rattle.m36_outside.specs.Put.{PutSays, PutHasCause};
 ghost use Rattle.m36_text.specs.Lines.{as_line};
 ghost use Rattle.m36_audit.specs.Joints.{found_of, all_found};
-ghost use Rattle.m36_scheduled.specs.JointText.{process_line, between_line, found_line, found_lines, found_pieces, joint_text, joint_pieces};
+ghost use Rattle.m36_scheduled.specs.JointText.{process_line, between_line, found_line, found_pieces, joint_text, joint_pieces};
 
 use arrayvec::ArrayString;
 use m36_audit::JointFinding;
@@ -70,7 +70,7 @@ fn put_found<S: Sink>(finding: &JointFinding, out: &mut S) -> Put
 #[tactic(auto, using(crate::proofs::JointTexts::findings_in_turn))]
 fn put_all<S: Sink>(findings: &[JointFinding], out: &mut S) -> Put
     ensures says { PutSays result (S.written out.old) (S.written out.new)
-        (found_lines (all_found findings.now)) }
+        (joined (found_pieces (all_found findings.now))) }
     ensures through { TakesLines result (S.taken out.old) (S.taken out.new)
         (found_pieces (all_found findings.now)) }
     ensures cause { PutHasCause result (S.faults out.old) (S.faults out.new) }
