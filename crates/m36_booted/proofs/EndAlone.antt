@@ -2,7 +2,7 @@
 use Rattle.std.proofs.Common.{◌≡◌, ℕ, ◌+◌, List, [], ◌∷◌, ◌++◌, slice_get, Option, Some, None, option_and_then, refl, ap, ◌∙◌}
 use Rattle.m36_step.specs.declared.turns.Turn.{Turn}
 use Rattle.m36_link.specs.Known.{place_of}
-use Rattle.m36_ran.specs.Output.{as_line}
+use Rattle.m36_text.specs.Lines.{as_line}
 use Rattle.m36_booted.specs.declared.command.RunOutput.TheVariants as output
 use Rattle.m36_booted.specs.declared.running.Finish.{Finish}
 use Rattle.m36_booted.specs.RunText.{steps_of, steps_in, pieces_from, finish_line, denied_segment, pieces_if, denied_pieces, run_pieces}

@@ -5,7 +5,7 @@ use Rattle.m36_model.specs.Registers.{RegsFields}
 use Rattle.m36_reading.specs.declared.status.Status.{Status}
 use Rattle.m36_reading.specs.Ends.{End, Answered, Cut, Unread, Starved, Unasked}
 use Rattle.m36_reading.specs.Outside.{SinkState}
-use Rattle.m36_ran.specs.Output.{as_line}
+use Rattle.m36_text.specs.Lines.{as_line}
 use Rattle.m36_booted.specs.declared.running.Finish.{Finish}
 use Rattle.m36_booted.specs.RunText.{finish_status}
 use Rattle.m36_booted.specs.RunSays.{PutsPieces}
