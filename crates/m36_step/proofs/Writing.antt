@@ -13,7 +13,7 @@ use Rattle.m36_model.specs.declared.effects.Held.{Held}
 use Rattle.m36_model.specs.declared.effects.Tally.{Tally}
 use Rattle.m36_model.proofs.PutLaw.{IsTallied, no_tally, tallied_at, all_changes}
 use Rattle.m36_walk.specs.Runs.{run_from, LiesIn}
-use Rattle.m36_walk.specs.Words.{run_changes, block_words}
+use Rattle.m36_walk.specs.Words.{run_changes}
 use Rattle.m36_step.specs.Operated.{part_of, claims_of, puts_of, PartFits}
 use Rattle.m36_step.specs.declared.operated.Part as code
 use Rattle.m36_step.specs.declared.operated.Part.TheVariants as part
@@ -56,13 +56,9 @@ unfolding run_from
 whole_run a [] = refl
 whole_run a (w ∷ words) = ap (λ (more : List Change). record { spot = Core_word a; part = Whole; value = w } ∷ more) (whole_run (wrapped (a + 1)) words)
 
-block_as_pairs : (pairs : List Pair) → words_of_pairs pairs ≡ block_words pairs
-block_as_pairs [] = refl
-block_as_pairs (p ∷ pairs) = ap (λ (ws : List ℕ). p.even ∷ (p.odd ∷ ws)) (block_as_pairs pairs)
-
-pub block_written : (core core' : List ℕ) (a : ℕ) (pairs : List Pair) → core' ≡ core_put core (run_changes a (block_words pairs)) → core' ≡ core_put core (at_spots Whole (run_from a (length (words_of_pairs pairs))) (words_of_pairs pairs))
+pub block_written : (core core' : List ℕ) (a : ℕ) (pairs : List Pair) → core' ≡ core_put core (run_changes a (words_of_pairs pairs)) → core' ≡ core_put core (at_spots Whole (run_from a (length (words_of_pairs pairs))) (words_of_pairs pairs))
 block_written core core' a pairs h =
-    h ∙ ap (λ (ws : List ℕ). core_put core (run_changes a ws)) (sym (block_as_pairs pairs)) ∙ ap (core_put core) (sym (whole_run a (words_of_pairs pairs)))
+    h ∙ ap (core_put core) (sym (whole_run a (words_of_pairs pairs)))
 
 pub block_length : (pairs : List Pair) → length (words_of_pairs pairs) ≡ 2 * length pairs
 block_length [] = refl

@@ -2,9 +2,10 @@
 
 ghost use Rattle.std.specs.Prelude.{ℕ, ◌≡◌, ◌+◌, ◌<◌, ◌≤◌, ◌^◌, [], ◌∷◌, ◌++◌, Ok, IfOk, IfSome, IfNone, length};
 ghost use Rattle.m36_ea.specs.Formed.{plain};
+ghost use Rattle.m36_model.specs.Results.{words_of_pairs};
 ghost use Rattle.m36_walk.specs.Runs.{LiesIn};
 ghost use Rattle.m36_walk.specs.Served.{IsCount, aligned_at, sdw_in, ok_map};
-ghost use Rattle.m36_walk.specs.Words.{pair_words, block_words};
+ghost use Rattle.m36_walk.specs.Words.{pair_words};
 ghost use Rattle.m36_step.specs.References.{ServesRead, ServesWrite};
 
 use m36_ea::pending;
@@ -130,7 +131,7 @@ pub(crate) fn read_block(
     requires dbr { walk.old.dbr ≡ regs.now.dbr }
     requires room { length refs.old.items < 40 }
     ensures serves { ServesRead regs.now formed.now 16 walk.old refs.old.items walk.new.core
-        refs.new.items (ok_map (λ r. block_words r.0) result) }
+        refs.new.items (ok_map (λ r. words_of_pairs r.0) result) }
     ensures ring { IfOk result (λ r. r.1 ≡ (sdw_in walk.old formed.now.last.at.seg).r1) }
     ensures bound { IfOk result (λ r. r.1 < 2 ^ 3) }
     ensures dbr { walk.new.dbr ≡ walk.old.dbr }

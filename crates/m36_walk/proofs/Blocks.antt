@@ -6,8 +6,9 @@ use Rattle.std.proofs.Math.Seq.{drop-cons}
 use Rattle.m36_word.specs.declared.pair.Pair.{Pair}
 use Rattle.m36_model.specs.Core.{core_put}
 use Rattle.m36_model.specs.Place.{wrapped}
+use Rattle.m36_model.specs.Results.{words_of_pairs}
 use Rattle.m36_walk.specs.Runs.{LiesIn, words_from}
-use Rattle.m36_walk.specs.Words.{run_changes, pair_words, block_words}
+use Rattle.m36_walk.specs.Words.{run_changes, pair_words}
 
 -- the place of the next pair
 abbrev pub pair_after : ℕ → ℕ
@@ -32,18 +33,18 @@ words_step : (X : List ℕ) (a m : ℕ) (p : Pair) → words_from X a 2 ≡ pair
 unfolding words_from
 words_step X a m p e = ap (λ ws. ws ++ words_from X (pair_after a) m) e
 
-block_words-append : (pairs : List Pair) (p : Pair) → block_words (pairs ++ p ∷ []) ≡ block_words pairs ++ pair_words p
-block_words-append [] p = refl
-block_words-append (q ∷ pairs) p = ap (λ ws. q.even ∷ (q.odd ∷ ws)) (block_words-append pairs p)
+words_of_pairs-append : (pairs : List Pair) (p : Pair) → words_of_pairs (pairs ++ p ∷ []) ≡ words_of_pairs pairs ++ pair_words p
+words_of_pairs-append [] p = refl
+words_of_pairs-append (q ∷ pairs) p = ap (λ ws. q.even ∷ (q.odd ∷ ws)) (words_of_pairs-append pairs p)
 
 -- a pair more of a block that is read
 pub block_read_on : (X whole : List ℕ) (a n m i : ℕ) (pairs : List Pair) (p : Pair) → i < length pairs → n ≡ m + 2 → words_from X a 2 ≡ pair_words p
-    → whole ≡ block_words (take i pairs) ++ words_from X a n → whole ≡ block_words (take (i + 1) (set pairs i p)) ++ words_from X (pair_after a) m
+    → whole ≡ words_of_pairs (take i pairs) ++ words_from X a n → whole ≡ words_of_pairs (take (i + 1) (set pairs i p)) ++ words_from X (pair_after a) m
 block_read_on X whole a n m i pairs p h e w k =
     let f : n ≡ suc (suc m) = omega arith in
     let two : words_from X a n ≡ pair_words p ++ words_from X (pair_after a) m = rw f (words_step X a m p w) in
-    let more : block_words (take (i + 1) (set pairs i p)) ≡ block_words (take i pairs) ++ pair_words p = rw (take_more_set pairs i p h) (block_words-append (take i pairs) p) in
-    k ∙ rw (two, more) (sym (append_assoc (block_words (take i pairs)) (pair_words p) (words_from X (pair_after a) m)))
+    let more : words_of_pairs (take (i + 1) (set pairs i p)) ≡ words_of_pairs (take i pairs) ++ pair_words p = rw (take_more_set pairs i p h) (words_of_pairs-append (take i pairs) p) in
+    k ∙ rw (two, more) (sym (append_assoc (words_of_pairs (take i pairs)) (pair_words p) (words_from X (pair_after a) m)))
 
 -- a pair more of a block that is written
 put_on : (core words : List ℕ) (a : ℕ) (p : Pair) → core_put core (run_changes a (p.even ∷ (p.odd ∷ words))) ≡ core_put (core_put core (run_changes a (pair_words p))) (run_changes (pair_after a) words)
@@ -51,19 +52,19 @@ unfolding core_put
 put_on core words a p = refl
 
 pub block_put_on : (whole core new : List ℕ) (a i : ℕ) (pairs : List Pair) (p d : Pair) → i < length pairs → p ≡ get_or pairs i d → new ≡ core_put core (run_changes a (pair_words p))
-    → whole ≡ core_put core (run_changes a (block_words (drop i pairs))) → whole ≡ core_put new (run_changes (pair_after a) (block_words (drop (i + 1) pairs)))
+    → whole ≡ core_put core (run_changes a (words_of_pairs (drop i pairs))) → whole ≡ core_put new (run_changes (pair_after a) (words_of_pairs (drop (i + 1) pairs)))
 block_put_on whole core new a i pairs p d h e f k =
     let one : i + 1 ≡ suc i = add-one i in
     let cons : drop i pairs ≡ get_or pairs i d ∷ drop (suc i) pairs = drop-cons pairs i d h in
     let rest : drop i pairs ≡ p ∷ drop (i + 1) pairs = cc in
-    k ∙ rw (rest, f) (put_on core (block_words (drop (i + 1) pairs)) a p)
+    k ∙ rw (rest, f) (put_on core (words_of_pairs (drop (i + 1) pairs)) a p)
 
 -- a block that is written whole
 put_nothing : (core : List ℕ) → core_put core [] ≡ core
 unfolding core_put
 put_nothing core = refl
 
-pub block_put_whole : (core : List ℕ) (a i : ℕ) (pairs : List Pair) → length pairs ≤ i → core_put core (run_changes a (block_words (drop i pairs))) ≡ core
+pub block_put_whole : (core : List ℕ) (a i : ℕ) (pairs : List Pair) → length pairs ≤ i → core_put core (run_changes a (words_of_pairs (drop i pairs))) ≡ core
 block_put_whole core a i pairs h = rw (drop_of_length-le pairs h) (put_nothing core)
 
 -- a block that is read whole
@@ -72,10 +73,10 @@ unfolding words_from
 no_words X a zero h = refl
 no_words X a (suc n) h = absurd (omega arith)
 
-pub block_read_whole : (X whole : List ℕ) (a n i : ℕ) (pairs : List Pair) → length pairs ≤ i → n ≤ 0 → whole ≡ block_words (take i pairs) ++ words_from X a n → whole ≡ block_words pairs
-block_read_whole X whole a n i pairs h k e = e ∙ rw (no_words X a n k, take_all i pairs h) (append-nil (block_words pairs))
+pub block_read_whole : (X whole : List ℕ) (a n i : ℕ) (pairs : List Pair) → length pairs ≤ i → n ≤ 0 → whole ≡ words_of_pairs (take i pairs) ++ words_from X a n → whole ≡ words_of_pairs pairs
+block_read_whole X whole a n i pairs h k e = e ∙ rw (no_words X a n k, take_all i pairs h) (append-nil (words_of_pairs pairs))
 
-pub length-block_words : (pairs : List Pair) (n : ℕ) → length pairs ≡ n → length (block_words pairs) ≡ n + n
-length-block_words [] n h = omega arith
-length-block_words (p ∷ pairs) zero h = absurd (omega arith)
-length-block_words (p ∷ pairs) (suc n) h = omega (arith, length-block_words pairs n (omega arith))
+pub length-words_of_pairs : (pairs : List Pair) (n : ℕ) → length pairs ≡ n → length (words_of_pairs pairs) ≡ n + n
+length-words_of_pairs [] n h = omega arith
+length-words_of_pairs (p ∷ pairs) zero h = absurd (omega arith)
+length-words_of_pairs (p ∷ pairs) (suc n) h = omega (arith, length-words_of_pairs pairs n (omega arith))

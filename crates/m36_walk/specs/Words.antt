@@ -22,10 +22,6 @@ run_changes a [] = []
 run_changes a (w ∷ words) = record { spot = Core_word a; part = Whole; value = w }
     ∷ run_changes (wrapped (a + 1)) words
 
--- the words of pairs in order
+-- the words of a pair in order
 abbrev pub pair_words : Pair → List ℕ
 pair_words p = p.even ∷ p.odd ∷ []
-
-abbrev pub block_words : List Pair → List ℕ
-block_words [] = []
-block_words (p ∷ pairs) = p.even ∷ p.odd ∷ block_words pairs

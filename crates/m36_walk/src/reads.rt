@@ -2,8 +2,9 @@
 
 ghost use Rattle.std.specs.Prelude.{ℕ, ◌≡◌, ◌+◌, ◌%◌, ◌<◌, ◌≤◌, ◌^◌, [], ◌∷◌, None, IfOk, ◌&&◌, ◌==◌, length};
 ghost use Rattle.m36_model.specs.Act.{Fetch, Indirect, Odd};
+ghost use Rattle.m36_model.specs.Results.{words_of_pairs};
 ghost use Rattle.m36_walk.specs.Served.{aligned_at, sdw_in, ok_map, ServesWord, Reads};
-ghost use Rattle.m36_walk.specs.Words.{pair_words, block_words};
+ghost use Rattle.m36_walk.specs.Words.{pair_words};
 
 use crate::refer::{refer_fetch, refer_read};
 use crate::walk::Walk;
@@ -120,7 +121,7 @@ impl Walk {
         pending: &Option<Pending>,
     ) -> Result<([Pair; 8], u8), Fault>
         ensures serves { Reads self.old self.new.core psr (aligned_at 16 at) 16 pending.now
-            (ok_map (λ r. block_words r.0) result) }
+            (ok_map (λ r. words_of_pairs r.0) result) }
         ensures ring { IfOk result (λ r. r.1 ≡ (sdw_in self.old at.seg).r1) }
         ensures bound { IfOk result (λ r. r.1 < 2 ^ 3) }
         ensures dbr { self.new.dbr ≡ self.old.dbr }
@@ -162,7 +163,7 @@ impl Walk {
     /// Reads the block that holds a word. The low four bits of the word number are not looked at.
     pub fn read_block(&mut self, at: At, psr: u16) -> Result<[Pair; 8], Fault>
         ensures serves { Reads self.old self.new.core psr (aligned_at 16 at) 16 None
-            (ok_map block_words result) }
+            (ok_map words_of_pairs result) }
         ensures dbr { self.new.dbr ≡ self.old.dbr }
         ensures len { length self.new.core ≡ length self.old.core }
     {

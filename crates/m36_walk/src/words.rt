@@ -5,8 +5,9 @@ ghost use Rattle.m36_associative.specs.Right.{AreRight};
 ghost use Rattle.m36_desc.specs.Fields.{DbrFields};
 ghost use Rattle.m36_model.specs.Core.{core_put};
 ghost use Rattle.m36_model.specs.Place.{wrapped};
+ghost use Rattle.m36_model.specs.Results.{words_of_pairs};
 ghost use Rattle.m36_walk.specs.Runs.{LiesIn, words_from};
-ghost use Rattle.m36_walk.specs.Words.{seen, run_changes, pair_words, block_words};
+ghost use Rattle.m36_walk.specs.Words.{seen, run_changes, pair_words};
 
 use m36_associative::{Memories, store};
 use m36_core::Core;
@@ -58,7 +59,7 @@ pub(crate) fn seen_pair(core: &Core, pending: &Option<Pending>, a: u32) -> Pair
 pub(crate) fn seen_block(core: &Core, pending: &Option<Pending>, a: u32) -> [Pair; 8]
     requires place { a < 2 ^ 24 }
     requires inside { LiesIn (length core.now) a 16 }
-    ensures { words_from (seen core.now pending.now) a 16 ≡ block_words result }
+    ensures { words_from (seen core.now pending.now) a 16 ≡ words_of_pairs result }
 {
     let mut pairs = [Pair {
         even: Word::ZERO,
@@ -90,8 +91,8 @@ pub(crate) fn put_pair(core: &mut Core, memories: &mut Memories, a: u32, pair: P
 pub(crate) fn put_block(core: &mut Core, memories: &mut Memories, a: u32, block: &[Pair; 8])
     requires place { a < 2 ^ 24 }
     requires inside { LiesIn (length core.old) a 16 }
-    ensures put { core.new ≡ core_put core.old (run_changes a (block_words block.now)) }
-    ensures words { length (block_words block.now) ≡ 16 }
+    ensures put { core.new ≡ core_put core.old (run_changes a (words_of_pairs block.now)) }
+    ensures words { length (words_of_pairs block.now) ≡ 16 }
     ensures len { length core.new ≡ length core.old }
     ensures right { (dbr : DbrFields) → AreRight core.old dbr memories.old
         → AreRight core.new dbr memories.new }

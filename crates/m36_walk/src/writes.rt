@@ -2,9 +2,10 @@
 
 ghost use Rattle.std.specs.Prelude.{ℕ, ◌≡◌, ◌+◌, ◌%◌, ◌<◌, ◌≤◌, ◌^◌, [], ◌∷◌, IfOk, length, slice_set};
 ghost use Rattle.m36_model.specs.Core.{core_put};
+ghost use Rattle.m36_model.specs.Results.{words_of_pairs};
 ghost use Rattle.m36_walk.specs.Runs.{LiesIn};
 ghost use Rattle.m36_walk.specs.Served.{aligned_at, IsCount, ok_map, ServesClaim, Writes};
-ghost use Rattle.m36_walk.specs.Words.{run_changes, pair_words, block_words};
+ghost use Rattle.m36_walk.specs.Words.{run_changes, pair_words};
 
 use crate::reads::{block_at, pair_at};
 use crate::refer::refer_write;
@@ -93,8 +94,8 @@ impl Walk {
         requires place { place < 2 ^ 24 }
         requires inside { LiesIn (length self.old.core) place 16 }
         ensures core { self.new.core
-            ≡ core_put self.old.core (run_changes place (block_words block.now)) }
-        ensures words { length (block_words block.now) ≡ 16 }
+            ≡ core_put self.old.core (run_changes place (words_of_pairs block.now)) }
+        ensures words { length (words_of_pairs block.now) ≡ 16 }
         ensures dbr { self.new.dbr ≡ self.old.dbr }
         ensures len { length self.new.core ≡ length self.old.core }
     {
@@ -134,7 +135,7 @@ impl Walk {
 
     /// Writes the block that holds a word. The low four bits of the word number are not looked at.
     pub fn write_block(&mut self, at: At, b: [Pair; 8]) -> Result<(), Fault>
-        ensures writes { Writes self.old self.new.core (aligned_at 16 at) 16 (block_words b)
+        ensures writes { Writes self.old self.new.core (aligned_at 16 at) 16 (words_of_pairs b)
             result }
         ensures dbr { self.new.dbr ≡ self.old.dbr }
         ensures len { length self.new.core ≡ length self.old.core }

@@ -1,5 +1,5 @@
 use Rattle.std.proofs.Common.{◌≡◌, ◌-◌, ◌*◌, ◌+◌, ◌<◌, length, get_or, refl, sym, ◌∙◌, arith}
-use Rattle.m36_walk.proofs.Blocks.{pair_after, first_pair_lies, rest_lies, block_put_on, block_put_whole, length-block_words}
+use Rattle.m36_walk.proofs.Blocks.{pair_after, first_pair_lies, rest_lies, block_put_on, block_put_whole, length-words_of_pairs}
 use Rattle.m36_walk.proofs.words.put_block.Goals as goal
 
 pub put_pair-requires-clause-inside : goal.put_pair-requires-clause-inside
@@ -23,4 +23,4 @@ pub returns-clause-put : goal.returns-clause-put
 returns-clause-put c = sym (c.loop-pair.invariant.put ∙ block_put_whole c.loop-pair.core c.loop-pair.next c.loop-pair.pair-index c.args.block.now (omega arith))
 
 pub returns-clause-words : goal.returns-clause-words
-returns-clause-words c = length-block_words c.args.block.now 8 c.loop-pair.invariant.count
+returns-clause-words c = length-words_of_pairs c.args.block.now 8 c.loop-pair.invariant.count
