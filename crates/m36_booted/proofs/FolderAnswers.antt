@@ -6,6 +6,7 @@ use Rattle.m36_outside.specs.Written.{Grew, GrewWithin}
 use Rattle.m36_outside.specs.declared.sink.Put.{Put}
 use Rattle.m36_outside.specs.declared.sink.Put.TheVariants as put
 use Rattle.m36_outside.proofs.LinesTaken.{takes_lines_on, takes_lines_more, takes_lines_longer}
+use Rattle.m36_outside.specs.SinkState.{SinkState}
 use Rattle.m36_model.specs.Audit.{AreFindings}
 use Rattle.m36_model.specs.BootedCore.{booted_dbr}
 use Rattle.m36_model.specs.declared.endings.End.{End}
@@ -21,7 +22,7 @@ use Rattle.m36_reading.specs.declared.status.Status.{Status}
 use Rattle.m36_reading.specs.declared.status.Status.TheVariants as status
 use Rattle.m36_reading.specs.Answers.{Answer, with_sets}
 use Rattle.m36_reading.specs.Asking.{Came}
-use Rattle.m36_reading.specs.Outside.{FolderState, SinkState}
+use Rattle.m36_reading.specs.Outside.{FolderState}
 use Rattle.m36_reading.specs.Ends.{End as Ending, Answered, Cut, Unread, Unasked, end_of}
 use Rattle.m36_reading.specs.Ends as ends
 use Rattle.m36_reading.specs.Doing.{EndsBy, Performs}

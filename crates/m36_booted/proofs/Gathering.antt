@@ -7,7 +7,7 @@ use Rattle.m36_outside.specs.Put.{PutSays, PutHasCause}
 use Rattle.m36_outside.specs.declared.sink.Put.{Put}
 use Rattle.m36_outside.specs.declared.sink.Put.TheVariants as put
 use Rattle.m36_outside.proofs.Gathered.{gathers_here}
-use Rattle.m36_reading.specs.Outside.{SinkState}
+use Rattle.m36_outside.specs.SinkState.{SinkState}
 use Rattle.m36_booted.specs.RunText.{characters}
 use Rattle.m36_booted.specs.RunSays.{PutsPieces, BlockState, AddsPieces}
 use Rattle.m36_booted.proofs.Pieces.{pieces_are, pieces_then, pieces_longer}

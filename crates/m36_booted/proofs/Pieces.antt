@@ -7,7 +7,7 @@ use Rattle.m36_outside.specs.declared.sink.Put.{Put}
 use Rattle.m36_outside.specs.declared.sink.Put.TheVariants as put
 use Rattle.m36_outside.proofs.Grown.{grew_on, grew_more, grew_longer}
 use Rattle.m36_outside.proofs.LinesTaken.{takes_lines_on, takes_lines_more, takes_lines_longer}
-use Rattle.m36_reading.specs.Outside.{SinkState}
+use Rattle.m36_outside.specs.SinkState.{SinkState}
 use Rattle.m36_ran.proofs.PiecesJoined.{joined_on}
 use Rattle.m36_booted.specs.RunSays.{PutsPieces}
 

@@ -3,6 +3,7 @@ use Rattle.std.proofs.Common.{◌≡◌, ℕ, ◌+◌, ◌-◌, ◌<◌, ◌≤�
 use Rattle.std.proofs.lemmas.List.{append-nil}
 use Rattle.m36_outside.specs.declared.sink.Put.{Put}
 use Rattle.m36_outside.specs.declared.sink.Put.TheVariants as put
+use Rattle.m36_outside.specs.SinkState.{SinkState}
 use Rattle.m36_model.specs.StoreLaw.{Each}
 use Rattle.m36_model.specs.declared.endings.End.{End}
 use Rattle.m36_step.specs.declared.turns.Turn.{Turn}
@@ -11,7 +12,6 @@ use Rattle.m36_super.specs.Library.{Library}
 use Rattle.m36_super.specs.declared.coming.Coming.TheVariants.{Step}
 use Rattle.m36_super.specs.BootedRun.{Booted, IsTurn, AreTurns}
 use Rattle.m36_super.specs.SuperFields.{SuperFields, booted_of}
-use Rattle.m36_reading.specs.Outside.{SinkState}
 use Rattle.m36_booted.specs.declared.command.RunOutput.{RunOutput}
 use Rattle.m36_booted.specs.declared.running.Finish.{Finish}
 use Rattle.m36_booted.specs.declared.running.Finish.TheVariants.{Over, Limit}

@@ -1,9 +1,9 @@
 -- What is said of a sink where a booted system is audited and run.
 use Rattle.std.specs.Prelude.{◌≡◌, ◌⊎◌, ◌++◌}
 use Rattle.m36_outside.specs.Written.{Grew}
+use Rattle.m36_outside.specs.SinkState.{SinkState}
 use Rattle.m36_reading.specs.declared.status.Status.{Status}
 use Rattle.m36_reading.specs.Answers.{Answer}
-use Rattle.m36_reading.specs.Outside.{SinkState}
 use Rattle.m36_reading.specs.Ends.{End, Answered, Cut, Unread, Starved, Unasked}
 use Rattle.m36_ran.specs.Putting.{IsPut, IsPartPut, IsNotPut}
 use Rattle.m36_booted.specs.Runs.{Extent}

@@ -5,6 +5,7 @@ use Rattle.m36_outside.specs.Passing.{joined, TakesLines}
 use Rattle.m36_outside.specs.Put.{PutSays, PutHasCause}
 use Rattle.m36_outside.specs.declared.sink.Put.{Put}
 use Rattle.m36_outside.specs.declared.sink.Put.TheVariants as put
+use Rattle.m36_outside.specs.SinkState.{SinkState}
 use Rattle.m36_model.specs.StoreLaw.{Each}
 use Rattle.m36_step.specs.declared.turns.Turn.{Turn}
 use Rattle.m36_step.specs.declared.turns.Turn.TheVariants.{Ended}
@@ -13,7 +14,6 @@ use Rattle.m36_super.specs.declared.coming.Coming.{Coming}
 use Rattle.m36_super.specs.declared.coming.Coming.TheVariants.{Step, Link, Print, Over}
 use Rattle.m36_super.specs.BootedRun.{Booted, IsTurn, AreTurns}
 use Rattle.m36_super.specs.SuperFields.{SuperFields, booted_of}
-use Rattle.m36_reading.specs.Outside.{SinkState}
 use Rattle.m36_booted.specs.declared.command.RunOutput.{RunOutput}
 use Rattle.m36_booted.specs.declared.running.Finish.{Finish}
 use Rattle.m36_booted.specs.declared.running.Progress.{Progress}

@@ -10,7 +10,8 @@ use Rattle.m36_outside.specs.declared.sink.Put.{Put}
 use Rattle.m36_outside.specs.declared.sink.Put.TheVariants.{Done, Failed}
 use Rattle.m36_outside.proofs.Grown.{grew_by_nothing, grew_on, grew_more, grew_longer}
 use Rattle.m36_outside.proofs.LinesTaken.{takes_no_lines, takes_lines_on, takes_some_of_line, takes_lines_more, takes_lines_longer}
-use Rattle.m36_debug.specs.Putting.{SinkSeen, seen, PutAll, PutSome, PutsLines}
+use Rattle.m36_outside.specs.SinkState.{SinkState}
+use Rattle.m36_debug.specs.Putting.{seen, PutAll, PutSome, PutsLines}
 use Rattle.m36_debug.specs.SessionTexts.{pointer_line, pointer_lines}
 
 pub joined_on : (first second : List (List ℕ)) → joined (first ++ second) ≡ joined first ++ joined second
@@ -19,13 +20,13 @@ joined_on (piece ∷ first) second =
     ap (λ t. piece ++ t) (joined_on first second) ∙ sym (append_assoc piece (joined first) (joined second))
 
 -- nothing is to be put
-pub puts_nothing : (now : SinkSeen) → PutAll now now []
+pub puts_nothing : (now : SinkState) → PutAll now now []
 puts_nothing now =
     record { text = grew_by_nothing now.written; pieces = takes_no_lines now.taken; faults = refl }
 
 -- some lines, and then others
 pub puts_on :
-    (old now new : SinkSeen) (first second : List (List ℕ))
+    (old now new : SinkState) (first second : List (List ℕ))
     → PutAll old now first → PutAll now new second → PutAll old new (first ++ second)
 puts_on old now new first second one two = record {
   text = subst (Grew old.written new.written) (sym (joined_on first second)) (grew_on old.written now.written new.written (joined first) (joined second) one.text two.text);
@@ -35,7 +36,7 @@ puts_on old now new first second one two = record {
 
 -- some lines, and then a part of others
 pub puts_more :
-    (old now new : SinkSeen) (first second : List (List ℕ))
+    (old now new : SinkState) (first second : List (List ℕ))
     → PutAll old now first → PutSome now new second → PutSome old new (first ++ second)
 puts_more old now new first second one two = record {
   text = subst (GrewWithin old.written new.written) (sym (joined_on first second)) (grew_more old.written now.written new.written (joined first) (joined second) one.text two.text);
@@ -45,7 +46,7 @@ puts_more old now new first second one two = record {
 
 -- a part of some lines is a part of more
 pub puts_longer :
-    (old new : SinkSeen) (first second : List (List ℕ))
+    (old new : SinkState) (first second : List (List ℕ))
     → PutSome old new first → PutSome old new (first ++ second)
 puts_longer old new first second cut = record {
   text = subst (GrewWithin old.written new.written) (sym (joined_on first second)) (grew_longer old.written new.written (joined first) (joined second) cut.text);
@@ -71,29 +72,29 @@ puts_line Failed written written' taken taken' faults faults' line says took cau
 
 -- what was put is this line
 pub puts_same :
-    (answer : Put) (old new : SinkSeen) (lines others : List (List ℕ))
+    (answer : Put) (old new : SinkState) (lines others : List (List ℕ))
     → lines ≡ others → PutsLines answer old new lines → PutsLines answer old new others
 puts_same answer old new lines others is puts = subst (PutsLines answer old new) is puts
 
 -- some lines, and then what an answer says of others
 pub puts_then :
-    (answer : Put) (old now new : SinkSeen) (first second : List (List ℕ))
+    (answer : Put) (old now new : SinkState) (first second : List (List ℕ))
     → PutAll old now first → PutsLines answer now new second → PutsLines answer old new (first ++ second)
 puts_then Done old now new first second one two = puts_on old now new first second one two
 puts_then Failed old now new first second one two = puts_more old now new first second one two
 
 -- Of the lines `all`, put from `start` on, `left` are left to put behind `now`.
-pub record Putting (now start : SinkSeen) (left all : List (List ℕ)) : Type 0 where
-  pub whole : (new : SinkSeen) → PutAll now new left → PutAll start new all
-  pub cut : (new : SinkSeen) → PutSome now new left → PutSome start new all
+pub record Putting (now start : SinkState) (left all : List (List ℕ)) : Type 0 where
+  pub whole : (new : SinkState) → PutAll now new left → PutAll start new all
+  pub cut : (new : SinkState) → PutSome now new left → PutSome start new all
 
 -- at the beginning all are left
-pub putting_all : (start : SinkSeen) (all : List (List ℕ)) → Putting start start all all
+pub putting_all : (start : SinkState) (all : List (List ℕ)) → Putting start start all all
 putting_all start all = record { whole = λ new puts. puts; cut = λ new puts. puts }
 
 -- the first of those that were left was put
 pub putting_next :
-    (now next start : SinkSeen) (line : List ℕ) (left all : List (List ℕ))
+    (now next start : SinkState) (line : List ℕ) (left all : List (List ℕ))
     → Putting now start (line ∷ left) all → PutAll now next (line ∷ []) → Putting next start left all
 putting_next now next start line left all before puts = record {
   whole = λ new rest. before.whole new (puts_on now next new (line ∷ []) left puts rest);
@@ -102,13 +103,13 @@ putting_next now next start line left all before puts = record {
 
 -- it was not put whole
 pub putting_cut :
-    (now new start : SinkSeen) (line : List ℕ) (left all : List (List ℕ))
+    (now new start : SinkState) (line : List ℕ) (left all : List (List ℕ))
     → Putting now start (line ∷ left) all → PutSome now new (line ∷ []) → PutSome start new all
 putting_cut now new start line left all before cut =
     before.cut new (puts_longer now new (line ∷ []) left cut)
 
 -- none is left
-pub putting_none : (now start : SinkSeen) (all : List (List ℕ)) → Putting now start [] all → PutAll start now all
+pub putting_none : (now start : SinkState) (all : List (List ℕ)) → Putting now start [] all → PutAll start now all
 putting_none now start all before = before.whole now (puts_nothing now)
 
 -- ---- pointer registers, one after another
@@ -132,12 +133,12 @@ pointers_at n pointers i p inside is =
     ∙ pointers_first n (get_or pointers i p) (drop (i + 1) pointers)
     ∙ ap (λ (q : PtrFields). pointer_line n q ∷ pointer_lines (n + 1) (drop (i + 1) pointers)) (sym is)
 
-pub pointers_start : (now : SinkSeen) (pointers : List PtrFields) → Putting now now (pointer_lines 0 pointers) (pointer_lines 0 pointers)
+pub pointers_start : (now : SinkState) (pointers : List PtrFields) → Putting now now (pointer_lines 0 pointers) (pointer_lines 0 pointers)
 pointers_start now pointers = putting_all now (pointer_lines 0 pointers)
 
 -- the line of the next one was put
 pub pointer_put :
-    (now next start : SinkSeen) (n : ℕ) (pointers : List PtrFields) (i : ℕ) (p : PtrFields) (all : List (List ℕ))
+    (now next start : SinkState) (n : ℕ) (pointers : List PtrFields) (i : ℕ) (p : PtrFields) (all : List (List ℕ))
     → i < length pointers → p ≡ get_or pointers i p
     → Putting now start (pointer_lines n (drop i pointers)) all → PutAll now next (pointer_line n p ∷ [])
     → Putting next start (pointer_lines (n + 1) (drop (i + 1) pointers)) all
@@ -147,7 +148,7 @@ pointer_put now next start n pointers i p all inside is before puts =
 
 -- it was not put whole
 pub pointer_cut :
-    (now new start : SinkSeen) (n : ℕ) (pointers : List PtrFields) (i : ℕ) (p : PtrFields) (all : List (List ℕ))
+    (now new start : SinkState) (n : ℕ) (pointers : List PtrFields) (i : ℕ) (p : PtrFields) (all : List (List ℕ))
     → i < length pointers → p ≡ get_or pointers i p
     → Putting now start (pointer_lines n (drop i pointers)) all → PutSome now new (pointer_line n p ∷ [])
     → PutSome start new all
@@ -157,7 +158,7 @@ pointer_cut now new start n pointers i p all inside is before cut =
 
 -- all were put
 pub pointers_end :
-    (now start : SinkSeen) (n : ℕ) (pointers : List PtrFields) (i : ℕ) (all : List (List ℕ))
+    (now start : SinkState) (n : ℕ) (pointers : List PtrFields) (i : ℕ) (all : List (List ℕ))
     → length pointers ≤ i → Putting now start (pointer_lines n (drop i pointers)) all → PutAll start now all
 pointers_end now start n pointers i all past before =
     putting_none now start all (subst (λ l. Putting now start l all) (at_drop_all (pointer_lines n) pointers i past ∙ pointers_none n) before)
@@ -171,19 +172,19 @@ shown_whole line within = sym (take_all 64 line within)
 
 -- one line, and then what an answer says of others
 pub puts_behind :
-    (answer : Put) (old now new : SinkSeen) (line : List ℕ) (lines : List (List ℕ))
+    (answer : Put) (old now new : SinkState) (line : List ℕ) (lines : List (List ℕ))
     → PutAll old now (line ∷ []) → PutsLines answer now new lines → PutsLines answer old new (line ∷ lines)
 puts_behind answer old now new line lines one two = puts_then answer old now new (line ∷ []) lines one two
 
 -- one line, and then a part of others
 pub puts_behind_cut :
-    (old now new : SinkSeen) (line : List ℕ) (lines : List (List ℕ))
+    (old now new : SinkState) (line : List ℕ) (lines : List (List ℕ))
     → PutAll old now (line ∷ []) → PutSome now new lines → PutSome old new (line ∷ lines)
 puts_behind_cut old now new line lines one two = puts_more old now new (line ∷ []) lines one two
 
 -- a part of the first of several lines
 pub puts_first_cut :
-    (old new : SinkSeen) (line : List ℕ) (lines : List (List ℕ))
+    (old new : SinkState) (line : List ℕ) (lines : List (List ℕ))
     → PutSome old new (line ∷ []) → PutSome old new (line ∷ lines)
 puts_first_cut old new line lines cut = puts_longer old new (line ∷ []) lines cut
 

@@ -6,6 +6,7 @@ use Rattle.std.proofs.lemmas.List.{append-nil, append_assoc, take-append-le}
 use Rattle.m36_outside.specs.Counts.{Rose}
 use Rattle.m36_outside.specs.Passing.{joined}
 use Rattle.m36_outside.specs.Piece.{preceded}
+use Rattle.m36_outside.specs.SinkState.{SinkState}
 use Rattle.m36_text.specs.Lines.{open_rest, open_lines_of}
 use Rattle.m36_debug.specs.declared.fault.SessionFault.{SessionFault}
 use Rattle.m36_debug.specs.declared.fault.SessionFault.TheVariants as fault
@@ -15,7 +16,7 @@ use Rattle.m36_debug.specs.declared.turning.Ends.TheVariants as ends
 use Rattle.m36_debug.specs.LinesTaken.{whole_lines, IsLines, IsFirstPart, IsUnbroken}
 use Rattle.m36_debug.specs.Parts.{Part, CutPart, EndSays}
 use Rattle.m36_debug.specs.PieceSays.{AnsweredAll, AnsweredQuit, AnsweredSome, AnsweredCut}
-use Rattle.m36_debug.specs.Putting.{SinkSeen, PutAll, PutSome}
+use Rattle.m36_debug.specs.Putting.{PutAll, PutSome}
 use Rattle.m36_debug.specs.Session.{Turning, Doing, Waiting, Over, Starved, Standing, standing, lines_said, lines_in}
 use Rattle.m36_debug.specs.SessionLines.{session_line}
 use Rattle.m36_debug.specs.SessionSays.{LinesSeen, SessionSays, TookBy, CountBy, WroteBy, ReadHasCause, answer_of, bytes_limit, HasEnded, StopsAtEnd, TookAll, TookOpen, EndInQuit, TookQuit, TookWhole}
@@ -108,7 +109,7 @@ stops_ended ((byte ∷ piece) ∷ pieces) old new all stands = stops_ended piece
 
 -- All whole lines so far were answered, what stands behind them has begun the next one, and so many
 -- more bytes may come.
-pub record Going {M : Type 0} (o : Turning M) (m m' : M) (before after : LinesSeen) (old new : SinkSeen) (left : ℕ) (begun : List ℕ) (sitting : SittingFields) : Type 0 where
+pub record Going {M : Type 0} (o : Turning M) (m m' : M) (before after : LinesSeen) (old new : SinkState) (left : ℕ) (begun : List ℕ) (sitting : SittingFields) : Type 0 where
   pub pieces : List (List ℕ)
   pub came : Came before after pieces
   pub some : AreSome pieces
@@ -121,7 +122,7 @@ pub record Going {M : Type 0} (o : Turning M) (m m' : M) (before after : LinesSe
 
 -- at the beginning
 pub going_start :
-    {M : Type 0} (o : Turning M) (m : M) (before : LinesSeen) (old : SinkSeen) (begun : List ℕ) (sitting : SittingFields)
+    {M : Type 0} (o : Turning M) (m : M) (before : LinesSeen) (old : SinkState) (begun : List ℕ) (sitting : SittingFields)
     → begun ≡ [] → sitting ≡ new_sitting → IsUnbroken [] → Going o m m before before old old bytes_limit begun sitting
 going_start o m before old begun sitting empty is unbroken = record {
   pieces = [];
@@ -139,7 +140,7 @@ going_start o m before old begun sitting empty is unbroken = record {
 
 -- what a session says of a part of itself
 says :
-    {M : Type 0} (o : Turning M) (result : Result (Unit {0}) SessionFault) (m m' : M) (before after : LinesSeen) (old new : SinkSeen) (pieces lines : List (List ℕ)) (stands : Standing)
+    {M : Type 0} (o : Turning M) (result : Result (Unit {0}) SessionFault) (m m' : M) (before after : LinesSeen) (old new : SinkState) (pieces lines : List (List ℕ)) (stands : Standing)
     → Came before after pieces → CountBy result (length (joined pieces)) → ReadHasCause result before.faults after.faults
     → StopsAtEnd pieces before.faults after.faults
     → TookBy result pieces lines stands.doing after
@@ -198,7 +199,7 @@ took_whole o m m' text begun lines sitting Wrote are unbroken part = record {
 
 -- the input could not be read
 pub going_unread :
-    {M : Type 0} (o : Turning M) (m m' : M) (before now after : LinesSeen) (old new : SinkSeen) (left : ℕ) (begun : List ℕ) (sitting : SittingFields)
+    {M : Type 0} (o : Turning M) (m m' : M) (before now after : LinesSeen) (old new : SinkState) (left : ℕ) (begun : List ℕ) (sitting : SittingFields)
     → Going o m m' before now old new left begun sitting → GotNothing now after
     → SessionSays o (Err fault.ReadFault) m m' before after old new
 going_unread o m m' before now after old new left begun sitting g got =
@@ -212,7 +213,7 @@ going_unread o m m' before now after old new left begun sitting g got =
 
 -- one byte more than the most was taken
 pub going_too_long :
-    {M : Type 0} (o : Turning M) (m m' : M) (before now after : LinesSeen) (old new : SinkSeen) (count left : ℕ) (begun buffer : List ℕ) (sitting : SittingFields)
+    {M : Type 0} (o : Turning M) (m m' : M) (before now after : LinesSeen) (old new : SinkState) (count left : ℕ) (begun buffer : List ℕ) (sitting : SittingFields)
     → Going o m m' before now old new left begun sitting → left ≡ 0 → GotPiece count 1 now after buffer
     → SessionSays o (Err fault.TooLong) m m' before after old new
 going_too_long o m m' before now after old new count left begun buffer sitting g full got =
@@ -256,7 +257,7 @@ took_open now after pieces lines begun got are unbroken = record {
 
 -- the input has ended, and the line that has begun was answered, if there is one
 pub going_end :
-    {M : Type 0} (o : Turning M) (end : Ends) (m m1 m2 : M) (before now after : LinesSeen) (old mid new : SinkSeen) (left : ℕ) (begun : List ℕ) (sitting sitting' : SittingFields)
+    {M : Type 0} (o : Turning M) (end : Ends) (m m1 m2 : M) (before now after : LinesSeen) (old mid new : SinkState) (left : ℕ) (begun : List ℕ) (sitting sitting' : SittingFields)
     → Going o m m1 before now old mid left begun sitting → GotEnd now after
     → EndSays o end (standing sitting Waiting) m1 (open_rest begun) sitting' m2 mid new
     → SessionSays o (answer_of end) m m2 before after old new
@@ -330,7 +331,7 @@ got_some pieces buffer count all some room =
 
 -- all its whole lines were answered
 pub going_on :
-    {M : Type 0} (o : Turning M) (m m1 m2 : M) (before now after : LinesSeen) (old mid new : SinkSeen) (count left : ℕ) (begun begun' buffer : List ℕ) (sitting sitting' : SittingFields)
+    {M : Type 0} (o : Turning M) (m m1 m2 : M) (before now after : LinesSeen) (old mid new : SinkState) (count left : ℕ) (begun begun' buffer : List ℕ) (sitting sitting' : SittingFields)
     → Going o m m1 before now old mid left begun sitting → GotPiece count left now after buffer
     → AnsweredAll o (standing sitting Waiting) m1 (begun ++ take count buffer) begun' sitting' m2 mid new
     → Going o m m2 before after old new (left - count) begun' sitting'
@@ -348,7 +349,7 @@ going_on o m m1 m2 before now after old mid new count left begun begun' buffer s
 
 -- `quit` was taken
 pub going_quit :
-    {M : Type 0} (o : Turning M) (m m1 m2 : M) (before now after : LinesSeen) (old mid new : SinkSeen) (count left : ℕ) (begun buffer : List ℕ) (sitting sitting' : SittingFields)
+    {M : Type 0} (o : Turning M) (m m1 m2 : M) (before now after : LinesSeen) (old mid new : SinkState) (count left : ℕ) (begun buffer : List ℕ) (sitting sitting' : SittingFields)
     → Going o m m1 before now old mid left begun sitting → GotPiece count left now after buffer
     → AnsweredQuit o (standing sitting Waiting) m1 (begun ++ take count buffer) sitting' m2 mid new
     → SessionSays o (Ok tt) m m2 before after old new
@@ -369,7 +370,7 @@ going_quit o m m1 m2 before now after old mid new count left begun buffer sittin
 
 -- no memory was found
 pub going_starved :
-    {M : Type 0} (o : Turning M) (m m1 m2 : M) (before now after : LinesSeen) (old mid new : SinkSeen) (count left : ℕ) (begun buffer : List ℕ) (sitting : SittingFields)
+    {M : Type 0} (o : Turning M) (m m1 m2 : M) (before now after : LinesSeen) (old mid new : SinkState) (count left : ℕ) (begun buffer : List ℕ) (sitting : SittingFields)
     → Going o m m1 before now old mid left begun sitting → GotPiece count left now after buffer
     → AnsweredSome o (standing sitting Waiting) m1 (begun ++ take count buffer) m2 mid new
     → SessionSays o (Err fault.NoMemory) m m2 before after old new
@@ -385,7 +386,7 @@ going_starved o m m1 m2 before now after old mid new count left begun buffer sit
 
 -- the output could not be written
 pub going_cut :
-    {M : Type 0} (o : Turning M) (m m1 m2 : M) (before now after : LinesSeen) (old mid new : SinkSeen) (count left : ℕ) (begun buffer : List ℕ) (sitting : SittingFields)
+    {M : Type 0} (o : Turning M) (m m1 m2 : M) (before now after : LinesSeen) (old mid new : SinkState) (count left : ℕ) (begun buffer : List ℕ) (sitting : SittingFields)
     → Going o m m1 before now old mid left begun sitting → GotPiece count left now after buffer
     → AnsweredCut o (standing sitting Waiting) m1 (begun ++ take count buffer) m2 mid new
     → SessionSays o (Err fault.WriteFault) m m2 before after old new

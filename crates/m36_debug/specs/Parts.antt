@@ -5,6 +5,7 @@ use Rattle.m36_step.specs.Answers.{IsService}
 use Rattle.m36_model.specs.declared.endings.End.{End}
 use Rattle.m36_outside.specs.declared.sink.Put.{Put}
 use Rattle.m36_outside.specs.declared.sink.Put.TheVariants.{Done, Failed}
+use Rattle.m36_outside.specs.SinkState.{SinkState}
 use Rattle.m36_step.specs.declared.turns.Turn.{Turn}
 use Rattle.m36_step.specs.declared.turns.Turn.TheVariants as turns
 use Rattle.m36_debug.specs.declared.commands.Run.{Run}
@@ -14,7 +15,7 @@ use Rattle.m36_debug.specs.declared.turning.Came.{Came}
 use Rattle.m36_debug.specs.declared.turning.Came.TheVariants as comes
 use Rattle.m36_debug.specs.declared.turning.Ends.{Ends}
 use Rattle.m36_debug.specs.declared.turning.Ends.TheVariants as ends
-use Rattle.m36_debug.specs.Putting.{SinkSeen, PutAll, PutSome}
+use Rattle.m36_debug.specs.Putting.{PutAll, PutSome}
 use Rattle.m36_debug.specs.Session.{Turning, Doing, Waiting, Running, Backing, Over, Starved}
 use Rattle.m36_debug.specs.Session.{Standing, Event, standing, Follow, lines_said, lines_in}
 use Rattle.m36_debug.specs.SessionTexts.{unknown_line, end_line}
@@ -30,7 +31,7 @@ pub record Part {M : Type 0} (o : Turning M) (s : Standing) (m : M) (lines : Lis
 
 -- One whose output was cut: the session stood somewhere.
 pub record CutPart {M : Type 0} (o : Turning M) (s : Standing) (m : M) (lines : List (List ℕ))
-    (m' : M) (old new : SinkSeen) : Type 0 where
+    (m' : M) (old new : SinkState) : Type 0 where
   pub stands : Standing
   pub part : Part o s m lines stands m' (PutSome old new)
 
@@ -87,7 +88,7 @@ CameServed o comes.Cut m m' = Unit {0}
 
 -- what a turn that a command takes came to
 abbrev pub CameSays :
-    {M : Type 0} → Turning M → Came → Standing → M → SittingFields → M → SinkSeen → SinkSeen
+    {M : Type 0} → Turning M → Came → Standing → M → SittingFields → M → SinkState → SinkState
     → Type 0
 CameSays o comes.Cut s m sitting m' old new = CutPart o s m [] m' old new
 CameSays o came s m sitting m' old new =
@@ -102,8 +103,8 @@ doing_at ends.Starved = Starved
 doing_at ends.Cut = Waiting
 
 abbrev pub EndSays :
-    {M : Type 0} → Turning M → Ends → Standing → M → List (List ℕ) → SittingFields → M → SinkSeen
-    → SinkSeen → Type 0
+    {M : Type 0} → Turning M → Ends → Standing → M → List (List ℕ) → SittingFields → M → SinkState
+    → SinkState → Type 0
 EndSays o ends.Cut s m lines sitting m' old new = CutPart o s m lines m' old new
 EndSays o end s m lines sitting m' old new =
     Part o s m lines (standing sitting (doing_at end)) m' (PutAll old new)
@@ -114,14 +115,14 @@ told Done = ends.Line
 told Failed = ends.Cut
 
 -- A line was told at once: nothing has changed but for what was put.
-abbrev pub EndPuts : Ends → SinkSeen → SinkSeen → List (List ℕ) → Type 0
+abbrev pub EndPuts : Ends → SinkState → SinkState → List (List ℕ) → Type 0
 EndPuts ends.Line old new lines = PutAll old new lines
 EndPuts ends.Quit old new lines = ⊥
 EndPuts ends.Starved old new lines = ⊥
 EndPuts ends.Cut old new lines = PutSome old new lines
 
 pub record IsTold {M : Type 0} (end : Ends) (lines : List (List ℕ)) (s : SittingFields) (m : M)
-    (sitting : SittingFields) (m' : M) (old new : SinkSeen) : Type 0 where
+    (sitting : SittingFields) (m' : M) (old new : SinkState) : Type 0 where
   pub puts : EndPuts end old new lines
   pub sitting_stays : sitting ≡ s
   pub machine_stays : m' ≡ m
@@ -129,7 +130,7 @@ pub record IsTold {M : Type 0} (end : Ends) (lines : List (List ℕ)) (s : Sitti
 -- A command whose run has ended tells the end again, and any other takes its turns.
 abbrev pub CommandSays :
     {M : Type 0} → Turning M → Ends → Option End → Run → SittingFields → M → SittingFields → M
-    → SinkSeen → SinkSeen → Type 0
+    → SinkState → SinkState → Type 0
 CommandSays o answer (Some end) run s m sitting m' old new =
     IsTold answer (end_line end s.taken ∷ []) s m sitting m' old new
 CommandSays o answer None run s m sitting m' old new =
@@ -138,7 +139,7 @@ CommandSays o answer None run s m sitting m' old new =
 -- The machine goes back where so many steps were taken, and else the line is not known.
 abbrev pub BackSays :
     {M : Type 0} → Turning M → Ends → Bool → List ℕ → ℕ → SittingFields → M → SittingFields → M
-    → SinkSeen → SinkSeen → Type 0
+    → SinkState → SinkState → Type 0
 BackSays o answer true line n s m sitting m' old new =
     EndSays o answer (standing s (Backing n line)) m [] sitting m' old new
 BackSays o answer false line n s m sitting m' old new =

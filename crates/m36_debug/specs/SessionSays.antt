@@ -5,6 +5,7 @@ use Rattle.std.specs.Prelude.{IfSome, Result, Ok, Err}
 use Rattle.m36_outside.specs.Counts.{Rose}
 use Rattle.m36_outside.specs.Passing.{joined}
 use Rattle.m36_outside.specs.Piece.{preceded}
+use Rattle.m36_outside.specs.SinkState.{SinkState}
 use Rattle.m36_text.specs.Lines.{open_lines_of}
 use Rattle.m36_debug.specs.declared.fault.SessionFault.{SessionFault}
 use Rattle.m36_debug.specs.declared.fault.SessionFault.TheVariants as fault
@@ -12,7 +13,7 @@ use Rattle.m36_debug.specs.declared.session_line.SessionLine.TheVariants.{Quit}
 use Rattle.m36_debug.specs.declared.turning.Ends.{Ends}
 use Rattle.m36_debug.specs.declared.turning.Ends.TheVariants as ends
 use Rattle.m36_debug.specs.LinesTaken.{whole_lines, IsFirstPart}
-use Rattle.m36_debug.specs.Putting.{SinkSeen, PutAll, PutSome}
+use Rattle.m36_debug.specs.Putting.{PutAll, PutSome}
 use Rattle.m36_debug.specs.Session.{Turning, Doing, Waiting, Over, Standing, Event, standing}
 use Rattle.m36_debug.specs.Session.{Follow, lines_said, lines_in}
 use Rattle.m36_debug.specs.SessionLines.{session_line}
@@ -101,7 +102,7 @@ CountBy (Err fault.NoMemory) count = count ≤ bytes_limit
 
 -- what was written of it
 abbrev pub WroteBy :
-    Result (Unit {0}) SessionFault → SinkSeen → SinkSeen → List (List ℕ) → Type 0
+    Result (Unit {0}) SessionFault → SinkState → SinkState → List (List ℕ) → Type 0
 WroteBy (Ok done) old new lines = PutAll old new lines
 WroteBy (Err fault.ReadFault) old new lines = PutAll old new lines
 WroteBy (Err fault.TooLong) old new lines = PutAll old new lines
@@ -142,7 +143,7 @@ pub record IsSession {M : Type 0} (o : Turning M) (result : Result (Unit {0}) Se
 
 -- A session was held, and what is said of it was written, or some of it.
 pub record SessionSays {M : Type 0} (o : Turning M) (result : Result (Unit {0}) SessionFault)
-    (m m' : M) (before after : LinesSeen) (old new : SinkSeen) : Type 0 where
+    (m m' : M) (before after : LinesSeen) (old new : SinkState) : Type 0 where
   pub lines : List (List ℕ)
   pub session : IsSession o result m m' before after lines
   pub wrote : WroteBy result old new lines

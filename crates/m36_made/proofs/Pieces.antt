@@ -5,8 +5,8 @@ use Rattle.m36_outside.specs.Passing.{joined, TakesLines}
 use Rattle.m36_outside.specs.Put.{PutSays, PutHasCause}
 use Rattle.m36_outside.specs.declared.sink.Put.{Put}
 use Rattle.m36_outside.specs.declared.sink.Put.TheVariants as put
+use Rattle.m36_outside.specs.SinkState.{SinkState}
 use Rattle.m36_text.specs.Lines.{as_line}
-use Rattle.m36_reading.specs.Outside.{SinkState}
 use Rattle.m36_ran.specs.AuditText.{audit_text, audit_pieces}
 use Rattle.m36_booted.specs.RunSays.{PutsPieces}
 use Rattle.m36_booted.proofs.Pieces.{says_of, pieces_then, pieces_longer}

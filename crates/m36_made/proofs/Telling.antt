@@ -3,6 +3,7 @@ use Rattle.std.proofs.Common.{◌≡◌, ℕ, List, [], Option, Ok, Err, refl, s
 use Rattle.std.proofs.lemmas.List.{append-nil}
 use Rattle.m36_outside.specs.Written.{Grew}
 use Rattle.m36_outside.proofs.Grown.{grew_by_nothing}
+use Rattle.m36_outside.specs.SinkState.{SinkState}
 use Rattle.m36_reading.specs.declared.refusal.Refusal.{Refusal}
 use Rattle.m36_reading.specs.declared.refusal.Refusal.TheVariants.{BadFile, ReadFault, NoMemory}
 use Rattle.m36_reading.specs.declared.setting.Set.{Set}
@@ -10,7 +11,7 @@ use Rattle.m36_reading.specs.declared.status.Status.{Status}
 use Rattle.m36_reading.specs.declared.status.Status.TheVariants as status
 use Rattle.m36_reading.specs.Asking.{Asked, Came, Gives}
 use Rattle.m36_reading.specs.Answers.{Answer, unwritten, status_of, IsDueBy}
-use Rattle.m36_reading.specs.Outside.{FolderState, SinkState, Outside}
+use Rattle.m36_reading.specs.Outside.{FolderState, Outside}
 use Rattle.m36_reading.specs.Ends.{End, Answered, Cut, Unread, Unasked, end_of}
 use Rattle.m36_reading.specs.Ends as ends
 use Rattle.m36_reading.specs.Doing.{EndsBy, Does, Performs}

@@ -1,10 +1,10 @@
 -- What is said of a sink to which the line behind the end line of a run is put.
 use Rattle.std.specs.Prelude.{◌≡◌, [], ◌∷◌, Some}
 use Rattle.m36_outside.specs.declared.sink.Put.TheVariants as put
+use Rattle.m36_outside.specs.SinkState.{SinkState}
 use Rattle.m36_model.specs.Registers.{RegsFields}
 use Rattle.m36_reading.specs.declared.status.Status.{Status}
 use Rattle.m36_reading.specs.Ends.{End, Answered, Cut, Unread, Starved, Unasked}
-use Rattle.m36_reading.specs.Outside.{SinkState}
 use Rattle.m36_text.specs.Lines.{as_line}
 use Rattle.m36_booted.specs.declared.running.Finish.{Finish}
 use Rattle.m36_booted.specs.RunText.{finish_status}

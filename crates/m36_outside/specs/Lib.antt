@@ -15,6 +15,7 @@ pub mod Piece
 pub mod Put
 pub mod ReadAnswer
 pub mod Signals
+pub mod SinkState
 pub mod SureFields
 pub mod System
 pub mod Told

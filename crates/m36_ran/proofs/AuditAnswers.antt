@@ -4,6 +4,7 @@ use Rattle.m36_outside.specs.Counts.{Rose}
 use Rattle.m36_outside.specs.Written.{Grew, GrewWithin}
 use Rattle.m36_outside.specs.Passing.{TakesSome}
 use Rattle.m36_outside.proofs.LinesTaken.{takes_lines_on, takes_lines_more, takes_lines_longer}
+use Rattle.m36_outside.specs.SinkState.{SinkState}
 use Rattle.m36_model.specs.Store.{State}
 use Rattle.m36_model.specs.declared.outcome.Outcome.{Outcome}
 use Rattle.m36_model.specs.declared.outcome.Outcome.TheVariants.{Next, Faulted, Stopped}
@@ -12,7 +13,6 @@ use Rattle.m36_audit.specs.Findings.{pairs}
 use Rattle.m36_audit.specs.declared.verdict.Finding.{Finding}
 use Rattle.m36_reading.specs.declared.status.Status.TheVariants.{Done, WriteFault, AuditNo}
 use Rattle.m36_reading.specs.Answers.{Answer}
-use Rattle.m36_reading.specs.Outside.{SinkState}
 use Rattle.m36_reading.specs.Ends.{Answered, end_of}
 use Rattle.m36_ran.specs.Run.{run, last_outcome}
 use Rattle.m36_ran.specs.Output.{status_after, run_text, run_pieces}

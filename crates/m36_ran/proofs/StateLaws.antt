@@ -3,6 +3,7 @@ use Rattle.std.proofs.Common.{◌≡◌, ℕ, List, [], Option, Result, Ok, Err,
 use Rattle.m36_model.specs.Store.{State}
 use Rattle.m36_model.specs.Audit.{AreFindings}
 use Rattle.m36_outside.specs.Files.{Files}
+use Rattle.m36_outside.specs.SinkState.{SinkState}
 use Rattle.m36_image.specs.declared.refusal.Refusal as refusal
 use Rattle.m36_reading.specs.declared.refusal.Refusal.{Refusal}
 use Rattle.m36_reading.specs.declared.setting.Set.{Set}
@@ -10,7 +11,7 @@ use Rattle.m36_reading.specs.declared.status.Status.{Status}
 use Rattle.m36_reading.specs.Asking.{Came, Gives, Refuses}
 use Rattle.m36_reading.specs.Readers.{refused}
 use Rattle.m36_reading.specs.Answers.{Answer, with_sets}
-use Rattle.m36_reading.specs.Outside.{FolderState, SinkState}
+use Rattle.m36_reading.specs.Outside.{FolderState}
 use Rattle.m36_reading.specs.Ends.{End, Answered, Cut, Unread, Starved, Unasked, end_of}
 use Rattle.m36_reading.specs.Doing.{EndsBy, Performs}
 use Rattle.m36_reading.proofs.ReadLaws.{gives_by}

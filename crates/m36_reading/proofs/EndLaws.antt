@@ -6,13 +6,14 @@ use Rattle.m36_outside.specs.Files.{Files}
 use Rattle.m36_outside.specs.declared.folder.ReadAnswer.{ReadAnswer}
 use Rattle.m36_outside.specs.declared.folder.ReadAnswer.TheVariants as read
 use Rattle.m36_outside.proofs.Grown.{grew_by_nothing}
+use Rattle.m36_outside.specs.SinkState.{SinkState}
 use Rattle.m36_reading.specs.declared.status.Status.{Status}
 use Rattle.m36_reading.specs.declared.refusal.Refusal.{Refusal}
 use Rattle.m36_reading.specs.declared.refusal.Refusal.TheVariants.{BadFile, ReadFault, NoMemory}
 use Rattle.m36_reading.specs.Reading.{Found, Content, Absent, TooLarge, Reading, decided, asks, Early, then_with, mapped}
 use Rattle.m36_reading.specs.Asking.{Asked, AreTold, Coming, Came, Failed, Wanting, IsDecided, IsWanting, HasFailed, GoesOn, Comes, ComesIn, coming}
 use Rattle.m36_reading.specs.Answers.{Answer, unwritten, status_of, IsDueBy}
-use Rattle.m36_reading.specs.Outside.{FolderState, SinkState, Outside, IsIdle}
+use Rattle.m36_reading.specs.Outside.{FolderState, Outside, IsIdle}
 use Rattle.m36_reading.specs.Ends.{End, Answered, Cut, Unread, Starved, Unasked, end_of}
 use Rattle.m36_reading.specs.Doing.{Kind, ReadCause, Reads, IsMade, IsAnswered, IsCut, IsUnread, IsFailed, IsUnmade, IsStarved, EndsBy, Does, Performs}
 use Rattle.m36_reading.proofs.Comings.{comes_in}

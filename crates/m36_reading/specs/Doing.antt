@@ -12,7 +12,7 @@ use Rattle.m36_reading.specs.declared.setting.Set.{Set}
 use Rattle.m36_reading.specs.Reading.{Reading, Early}
 use Rattle.m36_reading.specs.Asking.{Asked, AreTold, Coming, Came, Failed, Wanting, Comes, coming}
 use Rattle.m36_reading.specs.Answers.{Answer, IsDueBy, with_sets, write_of, writes_of}
-use Rattle.m36_reading.specs.Outside.{FolderState, SinkState, Outside, IsIdle, NoneUnread}
+use Rattle.m36_reading.specs.Outside.{FolderState, Outside, IsIdle, NoneUnread}
 use Rattle.m36_reading.specs.Ends.{End, Answered, Cut, Unread, Starved, Unasked, end_of}
 
 -- A kind of what is due: which answers are; of which a first part may be put where the output

@@ -2,17 +2,13 @@
 use Rattle.std.specs.Prelude.{ℕ, ◌≡◌, List, Option}
 use Rattle.m36_outside.specs.Files.{Files}
 use Rattle.m36_outside.specs.FolderCalls.{Wrote}
+use Rattle.m36_outside.specs.SinkState.{SinkState}
 
 pub record FolderState : Type 0 where
   pub files : Option Files
   pub wrote : List Wrote
   pub read_faults : ℕ
   pub write_faults : ℕ
-
-pub record SinkState : Type 0 where
-  pub written : Option (List ℕ)
-  pub taken : List (List ℕ)
-  pub faults : ℕ
 
 pub record Outside : Type 0 where
   pub folder : FolderState

@@ -5,6 +5,7 @@ use Rattle.m36_outside.specs.Counts.{Rose}
 use Rattle.m36_outside.specs.Written.{Grew, GrewWithin}
 use Rattle.m36_outside.specs.Passing.{TakesSome}
 use Rattle.m36_outside.proofs.LinesTaken.{takes_lines_on, takes_lines_more, takes_lines_longer}
+use Rattle.m36_outside.specs.SinkState.{SinkState}
 use Rattle.m36_model.specs.JointAudit.{JointFound}
 use Rattle.m36_model.specs.Schedule.{Processes}
 use Rattle.m36_audit.specs.Joints.{all_found}
@@ -13,7 +14,6 @@ use Rattle.m36_procs.specs.ProcsFields.{ProcsFields}
 use Rattle.m36_procs.specs.RunSays.{IsRun}
 use Rattle.m36_procs.specs.ScheduleText.{schedule_text, schedule_pieces}
 use Rattle.m36_reading.specs.declared.status.Status.TheVariants.{Done, WriteFault, AuditNo}
-use Rattle.m36_reading.specs.Outside.{SinkState}
 use Rattle.m36_reading.specs.Ends.{end_of}
 use Rattle.m36_ran.specs.Putting.{PutsBy}
 use Rattle.m36_ran.specs.Ran.{passes}

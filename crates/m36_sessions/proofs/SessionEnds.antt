@@ -2,6 +2,7 @@
 use Rattle.std.proofs.Common.{◌≡◌, ℕ, ◌⊎◌, List, ◌++◌, Result, Ok, Err, inl, inr, refl, sym, ap, subst}
 use Rattle.std.specs.Prelude.{codes, None}
 use Rattle.std.proofs.lemmas.List.{append-nil}
+use Rattle.m36_outside.specs.SinkState.{SinkState}
 use Rattle.m36_model.specs.Store.{State}
 use Rattle.m36_step.specs.MachineFields.{MachineFields}
 use Rattle.m36_back.specs.History.{History}
@@ -16,7 +17,7 @@ use Rattle.m36_reading.specs.declared.status.Status.TheVariants as status
 use Rattle.m36_reading.specs.Reading.{Reading, Early}
 use Rattle.m36_reading.specs.Asking.{Asked, Came}
 use Rattle.m36_reading.specs.Answers.{status_of}
-use Rattle.m36_reading.specs.Outside.{FolderState, SinkState}
+use Rattle.m36_reading.specs.Outside.{FolderState}
 use Rattle.m36_reading.specs.Ends.{End, Answered, Cut, Unread, Starved, Unasked, end_of}
 use Rattle.m36_reading.specs.Doing.{Reads, EndsBy, Performs}
 use Rattle.m36_debug.specs.declared.fault.SessionFault.{SessionFault}
@@ -24,20 +25,20 @@ use Rattle.m36_debug.specs.declared.fault.SessionFault.TheVariants as fault
 use Rattle.m36_debug.specs.Session.{Turning}
 use Rattle.m36_debug.specs.SessionSays.{SessionSays}
 use Rattle.m36_sessions.specs.Held.{Talk, IsHeld, new_history, past_turning, super_turning, HoldsImage, HoldsFolder}
-use Rattle.m36_sessions.specs.Sessions.{Told, too_long, stdin_name, session_answer, session_kind, folder_kind, InputStands, session_status, sink_seen, PutsSession, PutsBy, IsSessionEnd, TakesInput, ImageTakes, FolderTakes}
+use Rattle.m36_sessions.specs.Sessions.{Told, too_long, stdin_name, session_answer, session_kind, folder_kind, InputStands, session_status, PutsSession, PutsBy, IsSessionEnd, TakesInput, ImageTakes, FolderTakes}
 
 -- ---- a session was held
 
 put_of :
     {M : Type 0} (o : Turning M) (ended : Result (Unit {0}) SessionFault) (m m' : M) (talk : Talk) (old new : SinkState)
-    → SessionSays o ended m m' talk.before talk.after (sink_seen old) (sink_seen new)
+    → SessionSays o ended m m' talk.before talk.after old new
     → PutsSession (IsHeld o m talk) ended old new
 put_of o ended m m' talk old new says =
     record { lines = says.lines; holds = record { later = m'; session = says.session }; puts = says.wrote }
 
 puts_by :
     {M : Type 0} (o : Turning M) (ended : Result (Unit {0}) SessionFault) (m m' : M) (talk : Talk) (old new : SinkState)
-    → SessionSays o ended m m' talk.before talk.after (sink_seen old) (sink_seen new)
+    → SessionSays o ended m m' talk.before talk.after old new
     → PutsBy (IsHeld o m talk) (end_of (session_status ended stdin_name)) (session_status ended stdin_name) talk old new
 puts_by o (Ok done) m m' talk old new says = inl (record { is = refl; puts = put_of o (Ok done) m m' talk old new says })
 puts_by o (Err fault.ReadFault) m m' talk old new says = put_of o (Err fault.ReadFault) m m' talk old new says
@@ -49,7 +50,7 @@ puts_by o (Err fault.NoMemory) m m' talk old new says = inr (put_of o (Err fault
 pub held_puts :
     {M : Type 0} (o : Turning M) (result : Status) (name : List ℕ) (ended : Result (Unit {0}) SessionFault) (m m' : M) (talk : Talk) (old new : SinkState)
     → name ≡ codes "stdin" → result ≡ session_status ended name
-    → SessionSays o ended m m' talk.before talk.after (sink_seen old) (sink_seen new)
+    → SessionSays o ended m m' talk.before talk.after old new
     → PutsBy (IsHeld o m talk) (end_of result) result talk old new
 held_puts o result name ended m m' talk old new named is says =
     subst (λ (r : Status). PutsBy (IsHeld o m talk) (end_of r) r talk old new) (sym is)
@@ -57,7 +58,7 @@ held_puts o result name ended m m' talk old new named is says =
 
 input_by :
     {M : Type 0} (o : Turning M) (ended : Result (Unit {0}) SessionFault) (name : List ℕ) (m m' : M) (talk : Talk) (old new : SinkState)
-    → SessionSays o ended m m' talk.before talk.after (sink_seen old) (sink_seen new)
+    → SessionSays o ended m m' talk.before talk.after old new
     → InputStands (end_of (session_status ended name)) talk
 input_by o (Ok done) name m m' talk old new says = says.session.read_cause
 input_by o (Err fault.ReadFault) name m m' talk old new says = tt
@@ -68,7 +69,7 @@ input_by o (Err fault.NoMemory) name m m' talk old new says = says.session.read_
 pub held_input :
     {M : Type 0} (o : Turning M) (result : Status) (name : List ℕ) (ended : Result (Unit {0}) SessionFault) (m m' : M) (talk : Talk) (old new : SinkState)
     → result ≡ session_status ended name
-    → SessionSays o ended m m' talk.before talk.after (sink_seen old) (sink_seen new)
+    → SessionSays o ended m m' talk.before talk.after old new
     → InputStands (end_of result) talk
 held_input o result name ended m m' talk old new is says =
     subst (λ (r : Status). InputStands (end_of r) talk) (sym is) (input_by o ended name m m' talk old new says)

@@ -2,6 +2,7 @@
 use Rattle.std.specs.Prelude.{ℕ, ◌≡◌, ⊤, ◌⊎◌, List, [], ◌++◌, codes, None, Result, Ok, Err}
 use Rattle.m36_outside.specs.Passing.{joined}
 use Rattle.m36_outside.specs.Written.{Grew}
+use Rattle.m36_outside.specs.SinkState.{SinkState}
 use Rattle.m36_model.specs.Store.{State}
 use Rattle.m36_reading.specs.declared.status.Code.TheVariants.{S1}
 use Rattle.m36_reading.specs.declared.status.Status.{Status}
@@ -10,14 +11,13 @@ use Rattle.m36_reading.specs.declared.status.Status.TheVariants as status
 use Rattle.m36_reading.specs.Answers.{Answer}
 use Rattle.m36_reading.specs.Reading.{Reading, Early}
 use Rattle.m36_reading.specs.Asking.{Asked, Came, Comes}
-use Rattle.m36_reading.specs.Outside.{SinkState, Outside, IsIdle}
+use Rattle.m36_reading.specs.Outside.{Outside, IsIdle}
 use Rattle.m36_reading.specs.Ends.{End, Answered, Cut, Unread, Starved, Unasked}
 use Rattle.m36_reading.specs.Doing.{Kind}
 use Rattle.m36_ran.specs.Ran.{state_reads}
 use Rattle.m36_booted.specs.Folder.{FolderFields, folder_reads}
 use Rattle.m36_debug.specs.declared.fault.SessionFault.{SessionFault}
 use Rattle.m36_debug.specs.declared.fault.SessionFault.TheVariants as fault
-use Rattle.m36_debug.specs.Putting.{SinkSeen, seen}
 use Rattle.m36_debug.specs.SessionSays.{WroteBy}
 use Rattle.m36_sessions.specs.Held.{Talk, HoldsImage, HoldsFolder}
 
@@ -117,15 +117,12 @@ session_status (Err fault.NoMemory) name = status.NoMemory
 
 -- ---- what is put
 
-abbrev pub sink_seen : SinkState → SinkSeen
-sink_seen s = seen s.written s.taken s.faults
-
 -- what is said of a session that ended so is put, or some of it
 pub record PutsSession (Holds : Told) (ended : Result (Unit {0}) SessionFault) (old new : SinkState)
     : Type 0 where
   pub lines : List (List ℕ)
   pub holds : Holds ended lines
-  pub puts : WroteBy ended (sink_seen old) (sink_seen new) lines
+  pub puts : WroteBy ended old new lines
 
 -- with this status
 pub record PutsWith (Holds : Told) (ended : Result (Unit {0}) SessionFault) (status : Status)

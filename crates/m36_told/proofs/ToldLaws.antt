@@ -3,8 +3,9 @@ use Rattle.std.proofs.Common.{◌≡◌, ℕ, List, ◌++◌, Option, Some, Ok, 
 use Rattle.m36_outside.specs.Counts.{Rose}
 use Rattle.m36_outside.specs.Passing.{TakesSome}
 use Rattle.m36_outside.specs.Written.{Grew, GrewWithin}
+use Rattle.m36_outside.specs.SinkState.{SinkState}
 use Rattle.m36_reading.specs.declared.status.Status.TheVariants.{Done, WriteFault, NoMemory}
-use Rattle.m36_reading.specs.Outside.{FolderState, SinkState}
+use Rattle.m36_reading.specs.Outside.{FolderState}
 use Rattle.m36_reading.specs.Doing.{Performs}
 use Rattle.m36_told.specs.LinesIn.{lines_in}
 use Rattle.m36_told.specs.Told.{ToldFields, told_answer, told_kind}
