@@ -4,7 +4,8 @@ use Rattle.m36_text.specs.Lines.{lines_of, cut_line}
 use Rattle.m36_acl.specs.declared.fault.AclFault.{AclFault}
 use Rattle.m36_acl.specs.declared.fault.AclFault.TheVariants as fault
 use Rattle.m36_acl.specs.AccessLine.{Line, line_given}
-use Rattle.m36_acl.specs.AccessLists.{Lists, Read, Told, line_behind, read_on, lists_from, lines_given}
+use Rattle.m36_text.specs.Results.{and_then}
+use Rattle.m36_acl.specs.AccessLists.{Lists, Read, Told, line_behind, lists_from, lines_given}
 
 given_more : (rest line behind : List ℕ) → lines_of rest ≡ Some line ∷ lines_of behind
     → lines_given rest ≡ line_given (Some line) ∷ lines_given behind
@@ -13,7 +14,7 @@ given_more rest line behind e = ap (map line_given) e
 
 from_first : (n : ℕ) (above : Lists) (rest line behind : List ℕ) → lines_of rest ≡ Some line ∷ lines_of behind
     → lists_from n above (lines_given rest)
-    ≡ read_on (line_behind n above (line_given (Some line))) (λ next. lists_from (n + 1) next (lines_given behind))
+    ≡ and_then (line_behind n above (line_given (Some line))) (λ next. lists_from (n + 1) next (lines_given behind))
 unfolding lists_from
 from_first n above rest line behind e = ap (λ (ls : List (Option Line)). lists_from n above ls) (given_more rest line behind e)
 
@@ -22,12 +23,12 @@ pub line_read : (n : ℕ) (above next : Lists) (rest line behind : List ℕ) (to
     → lines_of rest ≡ Some line ∷ lines_of behind → line_behind n above (line_given (Some line)) ≡ Ok next
     → lists_from n above (lines_given rest) ≡ total → lists_from (n + 1) next (lines_given behind) ≡ total
 line_read n above next rest line behind total e here so_far =
-    ap (λ (r : Read). read_on r (λ l. lists_from (n + 1) l (lines_given behind))) (sym here)
+    ap (λ (r : Read). and_then r (λ l. lists_from (n + 1) l (lines_given behind))) (sym here)
     ∙ sym (from_first n above rest line behind e) ∙ so_far
 
-told_on : (told : AclFault) (r : Read) (next : Lists → Read) → Told told r → Told told (read_on r next)
-told_on (fault.C1 n) r next e = ap (λ (s : Read). read_on s next) e
-told_on (fault.C2 n) r next e = ap (λ (s : Read). read_on s next) e
+told_on : (told : AclFault) (r : Read) (next : Lists → Read) → Told told r → Told told (and_then r next)
+told_on (fault.C1 n) r next e = ap (λ (s : Read). and_then s next) e
+told_on (fault.C2 n) r next e = ap (λ (s : Read). and_then s next) e
 told_on fault.NoMemory r next e = tt
 
 -- a line that has one

@@ -11,6 +11,7 @@ use Rattle.std.specs.Prelude.{Option, Some, None, Result, Ok, Err}
 use Rattle.std.specs.List.{list_any}
 use Rattle.m36_text.specs.Texts.{is_text}
 use Rattle.m36_text.specs.Lines.{lines_of}
+use Rattle.m36_text.specs.Results.{and_then}
 use Rattle.m36_dir.specs.BootOrder.{Entry, entry, is_entry}
 use Rattle.m36_acl.specs.declared.fault.AclFault.{AclFault}
 use Rattle.m36_acl.specs.declared.fault.AclFault.TheVariants as fault
@@ -68,15 +69,11 @@ line_behind line above None = Err (fault.C1 line)
 line_behind line above (Some (Segment given)) = segment_behind line above given
 line_behind line above (Some (Term term)) = term_behind line above (last_of above) term
 
-abbrev pub read_on : Read → (Lists → Read) → Read
-read_on (Err told) next = Err told
-read_on (Ok above) next = next above
-
 -- lines behind some others, of which the first has this number
 unfoldable pub lists_from : ℕ → Lists → List (Option Line) → Read
 lists_from line above [] = Ok above
 lists_from line above (given ∷ lines) =
-    read_on (line_behind line above given) (λ next. lists_from (line + 1) next lines)
+    and_then (line_behind line above given) (λ next. lists_from (line + 1) next lines)
 
 unfoldable pub lines_given : List ℕ → List (Option Line)
 lines_given text = map line_given (lines_of text)

@@ -9,7 +9,8 @@ use Rattle.m36_bindfile.specs.BindFile.{bind_lines, asks_newer, Refuses, BindSay
 use Rattle.m36_relocate.specs.Fields.{ShapeFields}
 use Rattle.m36_bind.specs.Given.{GivenFields}
 use Rattle.m36_relocate.specs.declared.exports.Export.{Export}
-use Rattle.m36_bind.specs.Components.{PlacedFields, and_then, picked_of}
+use Rattle.m36_text.specs.Results.{and_then}
+use Rattle.m36_bind.specs.Components.{PlacedFields, picked_of}
 use Rattle.m36_bind.specs.Kept.{exports_from, kept_from}
 use Rattle.m36_bind.specs.Links.{links_from}
 use Rattle.m36_bind.specs.Bound.{frame_of, laid_from, relocations_from, first_bound, bound_parts, made_of, bound_of_components, bound_of_lines, bound_of}

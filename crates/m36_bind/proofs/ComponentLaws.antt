@@ -6,7 +6,8 @@ use Rattle.obj36_parts.specs.Names.{same}
 use Rattle.m36_bindfile.specs.declared.fault.BindFault.{BindFault}
 use Rattle.m36_bindfile.specs.declared.fault.BindFault.TheVariants as fault
 use Rattle.m36_bindfile.specs.BindFile.{Refuses}
-use Rattle.m36_bind.specs.Components.{PlacedFields, names_of, and_then}
+use Rattle.m36_text.specs.Results.{and_then}
+use Rattle.m36_bind.specs.Components.{PlacedFields, names_of}
 
 -- the names with one more behind them
 

@@ -8,7 +8,7 @@ use Rattle.m36_bindfile.specs.declared.fault.BindFault.TheVariants as fault
 use Rattle.m36_bindfile.specs.declared.line.BindLine.{BindLine}
 use Rattle.m36_bindfile.specs.BindFile.{Refuses}
 use Rattle.m36_relocate.specs.declared.exports.Export.{Export}
-use Rattle.m36_bind.specs.Components.{and_then}
+use Rattle.m36_text.specs.Results.{and_then}
 use Rattle.m36_bind.specs.Kept.{kept_one, kept_line, kept_from}
 use Rattle.m36_bind.proofs.ComponentLaws.{refused_whole}
 

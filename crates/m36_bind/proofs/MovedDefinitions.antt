@@ -19,7 +19,8 @@ use Rattle.m36_bindfile.specs.BindFile.{retained_names}
 use Rattle.m36_relocate.specs.Fields.{ShapeFields}
 use Rattle.m36_relocate.specs.Layout.{shape_of}
 use Rattle.m36_relocate.specs.Exports.{export_named, export_behind, with_export, is_symbol, def_moved, with_moved, moved_from}
-use Rattle.m36_bind.specs.Components.{PlacedFields, moving, and_then}
+use Rattle.m36_text.specs.Results.{and_then}
+use Rattle.m36_bind.specs.Components.{PlacedFields, moving}
 use Rattle.m36_bind.specs.Kept.{exports_from, kept_one, kept_line, kept_from}
 use Rattle.m36_bind.specs.Meaning.{DefinitionSource}
 use Rattle.m36_relocate.specs.declared.exports.Export.{Export}

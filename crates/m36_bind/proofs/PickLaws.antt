@@ -13,7 +13,8 @@ use Rattle.m36_bind.specs.Given.{GivenFields}
 use Rattle.m36_relocate.specs.Layout.{bases_behind}
 use Rattle.m36_relocate.specs.Exports.{own_from}
 use Rattle.m36_relocate.specs.declared.exports.Export.{Export}
-use Rattle.m36_bind.specs.Components.{PlacedFields, AllFields, component, with_component, no_components, names_of, placed_in, and_then, picked_one, picked_line, picked_from, picked_of, Picks}
+use Rattle.m36_text.specs.Results.{and_then}
+use Rattle.m36_bind.specs.Components.{PlacedFields, AllFields, component, with_component, no_components, names_of, placed_in, picked_one, picked_line, picked_from, picked_of, Picks}
 use Rattle.m36_bind.proofs.ComponentLaws.{refused_on, refused_whole}
 
 -- ---- one component

@@ -13,7 +13,8 @@ use Rattle.m36_relocate.specs.Fields.{ShapeFields, BasesFields}
 use Rattle.m36_bind.specs.Given.{GivenFields, object_at, object_named}
 use Rattle.m36_relocate.specs.Layout.{shape_of, bases_behind, first_bases}
 use Rattle.m36_relocate.specs.Exports.{own_from}
-use Rattle.m36_bind.specs.Components.{PlacedFields, AllFields, component, with_component, no_components, names_of, placed_in, and_then, picked_one, picked_line, picked_from, picked_of}
+use Rattle.m36_text.specs.Results.{and_then}
+use Rattle.m36_bind.specs.Components.{PlacedFields, AllFields, component, with_component, no_components, names_of, placed_in, picked_one, picked_line, picked_from, picked_of}
 use Rattle.m36_bind.specs.Meaning.{AreInOrder}
 
 pub went : {A B : Type 0} (d : Result A BindFault) (f : A → Result B BindFault) (o : B) → and_then d f ≡ Ok o → (a : A) × (d ≡ Ok a) × (f a ≡ Ok o)

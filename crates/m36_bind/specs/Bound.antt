@@ -20,7 +20,8 @@ use Rattle.m36_relocate.specs.Fields.{ShapeFields}
 use Rattle.m36_bind.specs.Given.{GivenFields}
 use Rattle.m36_relocate.specs.Layout.{spot_moved}
 use Rattle.m36_relocate.specs.Words.{stands_in, words_in, words_moved, all_fit, evened_words}
-use Rattle.m36_bind.specs.Components.{PlacedFields, moving, picked_of, and_then}
+use Rattle.m36_text.specs.Results.{and_then}
+use Rattle.m36_bind.specs.Components.{PlacedFields, moving, picked_of}
 use Rattle.m36_bind.specs.Kept.{exports_from, kept_from}
 use Rattle.m36_bind.specs.Links.{links_from}
 use Rattle.m36_relocate.specs.declared.layout.Moving.{Moving}

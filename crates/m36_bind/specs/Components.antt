@@ -6,6 +6,7 @@ use Rattle.std.specs.Prelude.{ℕ, ◌≡◌, ◌+◌, ◌*◌, ◌^◌, ◌≤�
 use Rattle.std.specs.Prelude.{◌++◌, length, map, position, slice_get, Option, Some, None, Result}
 use Rattle.std.specs.Prelude.{Ok, Err}
 use Rattle.std.specs.List.{list_any}
+use Rattle.m36_text.specs.Results.{and_then}
 use Rattle.obj36_parts.specs.PartsFields.{PartsFields}
 use Rattle.obj36_parts.specs.Names.{same}
 use Rattle.m36_bindfile.specs.declared.fault.BindFault.{BindFault}
@@ -62,11 +63,6 @@ unfoldable pub component_named : List ℕ → List PlacedFields → Option Place
 component_named name all = placed_at all (position (same name) (names_of all))
 
 -- ---- the lines in turn
-
-abbrev pub and_then : {A B : Type 0} → Result A BindFault → (A → Result B BindFault)
-    → Result B BindFault
-and_then (Ok a) next = next a
-and_then (Err told) next = Err told
 
 abbrev pub picked_one : AllFields → ℕ → List ℕ → Option PartsFields → Result AllFields BindFault
 picked_one all n name None = Err (fault.B2 n)

@@ -13,7 +13,8 @@ use Rattle.m36_bindfile.specs.declared.line.BindLine.{BindLine}
 use Rattle.m36_bindfile.specs.declared.line.BindLine.TheVariants as line
 use Rattle.m36_relocate.specs.Fields.{ShapeFields}
 use Rattle.m36_relocate.specs.Exports.{export_named, moved_from}
-use Rattle.m36_bind.specs.Components.{PlacedFields, moving, and_then}
+use Rattle.m36_text.specs.Results.{and_then}
+use Rattle.m36_bind.specs.Components.{PlacedFields, moving}
 use Rattle.m36_relocate.specs.declared.exports.Export.{Export}
 
 -- what all components define, where it goes

@@ -7,27 +7,28 @@ use Rattle.m36_reading.specs.declared.refusal.Refusal.TheVariants.{BadFile, Read
 use Rattle.m36_reading.specs.declared.setting.Set.{Set}
 use Rattle.m36_reading.specs.Reading.{Early}
 use Rattle.m36_reading.specs.Asking.{Gives}
-use Rattle.m36_made.specs.Making.{set_of, with_objects, then_early, and_others, sets_of}
+use Rattle.m36_text.specs.Results.{and_then}
+use Rattle.m36_made.specs.Making.{set_of, with_objects, and_others, sets_of}
 
 -- the objects behind the sources
 objects_so :
     (seed : ℕ) (sources : List File) (first : List Set)
     → sources ≡ sources_of seed → first ≡ map set_of sources
-    → sets_of seed ≡ then_early (with_objects first sources) and_others
+    → sets_of seed ≡ and_then (with_objects first sources) and_others
 unfolding sets_of
 objects_so seed sources first drawn copied =
-    ap (λ s. then_early (with_objects (map set_of s) s) and_others) (sym drawn)
-    ∙ ap (λ f. then_early (with_objects f sources) and_others) (sym copied)
+    ap (λ s. and_then (with_objects (map set_of s) s) and_others) (sym drawn)
+    ∙ ap (λ f. and_then (with_objects f sources) and_others) (sym copied)
 
 pub made_all :
     (seed : ℕ) (sources : List File) (first objects all : List Set)
     → sources ≡ sources_of seed → first ≡ map set_of sources → with_objects first sources ≡ Ok objects
     → all ≡ objects ++ map set_of other_files → Gives (Ok all) (sets_of seed)
 made_all seed sources first objects all drawn copied is others =
-    objects_so seed sources first drawn copied ∙ ap (λ o. then_early o and_others) is ∙ ap (λ (l : List Set). Ok l) (sym others)
+    objects_so seed sources first drawn copied ∙ ap (λ o. and_then o and_others) is ∙ ap (λ (l : List Set). Ok l) (sym others)
 
-refused_all : (r : Refusal) (objects : Early (List Set)) → Gives {A = List Set} (Err r) objects → Gives {A = List Set} (Err r) (then_early objects and_others)
-refused_all (BadFile bad) objects gives = ap (λ o. then_early o and_others) gives
+refused_all : (r : Refusal) (objects : Early (List Set)) → Gives {A = List Set} (Err r) objects → Gives {A = List Set} (Err r) (and_then objects and_others)
+refused_all (BadFile bad) objects gives = ap (λ o. and_then o and_others) gives
 refused_all ReadFault objects gives = absurd gives
 refused_all NoMemory objects gives = tt
 

@@ -19,7 +19,8 @@ use Rattle.m36_reading.proofs.ReadLaws.{gives_by, memory_given}
 use Rattle.m36_told.specs.Assemblies.{Assembly, with_parts, assembly_by, assembly_of, object_bytes}
 use Rattle.m36_told.specs.Telling.{source_refused}
 use Rattle.m36_told.proofs.AlmLaws.{made_refused, read_refused}
-use Rattle.m36_made.specs.Making.{object_name, object_by, object_of, then_early, with_objects, IsObject, ObjectSays}
+use Rattle.m36_text.specs.Results.{and_then}
+use Rattle.m36_made.specs.Making.{object_name, object_by, object_of, with_objects, IsObject, ObjectSays}
 
 -- ---- one object
 
@@ -77,7 +78,7 @@ pub ruleset giving = (object_given, object_refused)
 
 first_object :
     (sets : List Set) (source : File) (sources : List File)
-    → with_objects sets (source ∷ sources) ≡ then_early (object_of source) (λ object. with_objects (sets ++ object ∷ []) sources)
+    → with_objects sets (source ∷ sources) ≡ and_then (object_of source) (λ object. with_objects (sets ++ object ∷ []) sources)
 unfolding with_objects
 first_object sets source sources = refl
 
@@ -88,7 +89,7 @@ no_object sets = refl
 left_objects :
     (sources : List File) (i : ℕ) (source : File) (now : List Set)
     → i < length sources → source ≡ get_or sources i source
-    → with_objects now (drop i sources) ≡ then_early (object_of source) (λ object. with_objects (now ++ object ∷ []) (drop (i + 1) sources))
+    → with_objects now (drop i sources) ≡ and_then (object_of source) (λ object. with_objects (now ++ object ∷ []) (drop (i + 1) sources))
 left_objects sources i source now inside at =
     ap (with_objects now) (drop_more sources i source inside)
     ∙ ap (λ s. with_objects now (s ∷ drop (i + 1) sources)) (sym at) ∙ first_object now source (drop (i + 1) sources)
@@ -99,11 +100,11 @@ pub object_more :
     → with_objects now (drop i sources) ≡ whole → with_objects next (drop (i + 1) sources) ≡ whole
 object_more sources i source object now next whole inside at is added so_far =
     ap (λ n. with_objects n (drop (i + 1) sources)) added
-    ∙ sym (ap (λ o. then_early o (λ object. with_objects (now ++ object ∷ []) (drop (i + 1) sources))) is)
+    ∙ sym (ap (λ o. and_then o (λ object. with_objects (now ++ object ∷ []) (drop (i + 1) sources))) is)
     ∙ sym (left_objects sources i source now inside at) ∙ so_far
 
-stopped : (r : Refusal) (given : Early Set) (next : Set → Early (List Set)) → asking.Gives {A = Set} (Err r) given → asking.Gives {A = List Set} (Err r) (then_early given next)
-stopped (BadFile bad) given next gives = ap (λ g. then_early g next) gives
+stopped : (r : Refusal) (given : Early Set) (next : Set → Early (List Set)) → asking.Gives {A = Set} (Err r) given → asking.Gives {A = List Set} (Err r) (and_then given next)
+stopped (BadFile bad) given next gives = ap (λ g. and_then g next) gives
 stopped ReadFault given next gives = absurd gives
 stopped NoMemory given next gives = tt
 

@@ -4,6 +4,7 @@ use Rattle.std.specs.Prelude.{ℕ, ◌≡◌, ◌-◌, nat_lt, if◌then◌else�
 use Rattle.std.specs.Prelude.{Some, None, Result, Ok, Err}
 use Rattle.m36_outside.specs.Files.{Files, with_file}
 use Rattle.m36_outside.specs.ReadAnswer.{file_limit}
+use Rattle.m36_text.specs.Results.{and_then}
 use Rattle.alm_parse.specs.Sources.{Refuses}
 use Rattle.alm_parse.specs.declared.fault.AlmFault.{AlmFault}
 use Rattle.m36_gen.specs.declared.files.File.{File}
@@ -34,15 +35,11 @@ object_of source =
     if nat_lt file_limit (length source.content) then Err (refused source.name code.F2 0)
     else object_by source.name (assembly_of source.content)
 
-abbrev pub then_early : {A B : Type 0} → Early A → (A → Early B) → Early B
-then_early (Ok a) next = next a
-then_early (Err refusal) next = Err refusal
-
 -- the objects of sources behind these files
 unfoldable pub with_objects : List Set → List File → Early (List Set)
 with_objects sets [] = Ok sets
 with_objects sets (source ∷ sources) =
-    then_early (object_of source) (λ object. with_objects (sets ++ object ∷ []) sources)
+    and_then (object_of source) (λ object. with_objects (sets ++ object ∷ []) sources)
 
 -- ---- all files
 
@@ -51,7 +48,7 @@ and_others sets = Ok (sets ++ map set_of other_files)
 
 unfoldable pub sets_of : ℕ → Early (List Set)
 sets_of seed =
-    then_early (with_objects (map set_of (sources_of seed)) (sources_of seed)) and_others
+    and_then (with_objects (map set_of (sources_of seed)) (sources_of seed)) and_others
 
 -- The command asks the folder for nothing.
 unfoldable pub make_reads : ℕ → Reading (Early (List Set))

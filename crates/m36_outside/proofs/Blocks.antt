@@ -6,16 +6,10 @@ use Rattle.std.proofs.lemmas.Bool.{cases_Bool, leb-true, leb-false}
 use Rattle.m36_outside.specs.Block.{marks_of, parts}
 use Rattle.m36_outside.specs.Passing.{TakesPart, TakesSome, joined}
 use Rattle.m36_outside.specs.Written.{Grew, GrewWithin}
+pub use Rattle.std.proofs.lemmas.List.Folds.{concat-append as joined_both}
 use Rattle.m36_outside.proofs.Grown.{grew_on, grew_more, grew_longer}
 use Rattle.m36_outside.proofs.LinesTaken.{takes_lines_on, takes_lines_more, takes_some_of_lines, takes_line_more}
 use Rattle.m36_outside.proofs.Takes.{joined_more, taken_is}
-
--- ---- pieces, one behind the other
-
-pub joined_both : (first second : List (List ℕ)) → joined (first ++ second) ≡ joined first ++ joined second
-joined_both [] second = refl
-joined_both (piece ∷ first) second =
-    ap (λ l. piece ++ l) (joined_both first second) ∙ sym (append_assoc piece (joined first) (joined second))
 
 -- ---- the places where pieces begin
 

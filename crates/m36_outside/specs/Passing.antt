@@ -1,16 +1,13 @@
 -- What passed through an object, in order: the pieces that a sink took and those that an input
 -- gave.
 use Rattle.std.specs.Prelude.{ℕ, ◌≡◌, List, [], ◌∷◌, ◌++◌, take, Option}
+-- pieces, one behind the other
+pub use Rattle.std.specs.List.{concat as joined}
 use Rattle.m36_outside.specs.Written.{Grew}
 use Rattle.m36_outside.specs.declared.lines.Piece.{Piece}
 use Rattle.m36_outside.specs.declared.lines.Piece.TheVariants as piece
 use Rattle.m36_outside.specs.declared.sink.Put.{Put}
 use Rattle.m36_outside.specs.declared.sink.Put.TheVariants as put
-
--- pieces, one behind the other
-abbrev pub joined : List (List ℕ) → List ℕ
-joined [] = []
-joined (piece ∷ pieces) = piece ++ joined pieces
 
 -- A sink took a first part of a piece, by which what is written grew.
 pub record TakesPart (written written' : Option (List ℕ)) (old new : List (List ℕ))

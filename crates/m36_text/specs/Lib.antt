@@ -4,3 +4,4 @@ pub mod Reading
 pub mod Texts
 pub mod Lines
 pub mod Numbers
+pub mod Results
