@@ -1,7 +1,7 @@
 //! Whether parts are those of an object.
 
-ghost use Rattle.std.specs.Prelude.{ℕ, Bool, List, true, ◌∷◌, ◌++◌, ◌≡◌, ◌+◌, ◌*◌, ◌^◌, ◌<◌, ◌≤◌};
-ghost use Rattle.std.specs.Prelude.{◌&&◌, ◌||◌, not, nat_eq, nat_lt, nat_le, length, if◌then◌else◌};
+ghost use Rattle.std.specs.Prelude.{ℕ, true, ◌≡◌, ◌+◌, ◌*◌, ◌^◌, ◌<◌};
+ghost use Rattle.std.specs.Prelude.{◌&&◌, ◌||◌, not, nat_eq, nat_le, length, if◌then◌else◌};
 ghost use Rattle.std.specs.List.{list_all};
 ghost use Rattle.obj36_parts.specs.Names.{is_name};
 ghost use Rattle.obj36_parts.specs.ObjectSegment.{has_section, last_class, last_place};

@@ -137,8 +137,8 @@ fn note_first(firsts: &mut IndexMap<Name, Def>, definition: &Named) -> Result<()
     Ok(())
 }
 
-// Adds an item where there is room for it.
-pub(crate) fn put<T: Drop>(items: &mut Vec<T>, x: T)
+/// Adds an item where there is room for it.
+pub fn put<T: Drop>(items: &mut Vec<T>, x: T)
     requires { vec_len items.old < vec_capacity items.old }
     ensures { items.new.items ≡ items.old.items ++ x ∷ [] }
 {

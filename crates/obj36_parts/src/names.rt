@@ -1,6 +1,6 @@
 //! The names of a definition section: each stands there once.
 
-ghost use Rattle.std.specs.Prelude.{ℕ, List, [], ◌++◌, ◌≡◌, ◌+◌, ◌-◌, ◌*◌, ◌^◌, ◌<◌, ◌≤◌, length};
+ghost use Rattle.std.specs.Prelude.{ℕ, [], ◌++◌, ◌≡◌, ◌+◌, ◌-◌, ◌*◌, ◌^◌, ◌<◌, ◌≤◌, length};
 ghost use Rattle.std.specs.Prelude.{OnOk, IfOk};
 ghost use Rattle.obj36_parts.specs.Names.{with_name, with_names, place_of, name_length, unit_of};
 ghost use Rattle.obj36_parts.specs.Names.{name_word, name_words, all_name_words};

@@ -1,15 +1,15 @@
 //! The sections of an object, made from its parts.
 
-ghost use Rattle.std.specs.Prelude.{ℕ, List, [], ◌∷◌, ◌++◌, ◌≡◌, ◌+◌, ◌-◌, ◌*◌, ◌^◌, ◌<◌, ◌≤◌};
-ghost use Rattle.std.specs.Prelude.{length, drop, replicate, OnOk, IfOk};
+ghost use Rattle.std.specs.Prelude.{ℕ, [], ◌∷◌, ◌++◌, ◌≡◌, ◌+◌, ◌-◌, ◌*◌, ◌^◌, ◌<◌, ◌≤◌};
+ghost use Rattle.std.specs.Prelude.{length, replicate, OnOk, IfOk};
 ghost use Rattle.obj36_parts.specs.Halves.{joined};
-ghost use Rattle.obj36_parts.specs.Names.{with_names, place_of, all_name_words};
+ghost use Rattle.obj36_parts.specs.Names.{place_of};
 ghost use Rattle.obj36_parts.specs.ObjectSegment.{class_number, place_number, is_text_section};
 ghost use Rattle.obj36_parts.specs.ObjectSegment.{rank, later_section, place_if_any};
-ghost use Rattle.obj36_parts.specs.ObjectSegment.{class_of, definition_names, all_link_names};
+ghost use Rattle.obj36_parts.specs.ObjectSegment.{class_of};
 ghost use Rattle.obj36_parts.specs.ObjectSegment.{definition_words, subject_of, entry_place};
 ghost use Rattle.obj36_parts.specs.ObjectSegment.{expression_words, definition_part, link_words};
-ghost use Rattle.obj36_parts.specs.ObjectSegment.{linkage_part, relocation_word, relocation_words};
+ghost use Rattle.obj36_parts.specs.ObjectSegment.{linkage_part, relocation_word};
 ghost use Rattle.obj36_parts.specs.ObjectSegment.{symbol_part};
 
 use crate::definition::{Def, Named};
