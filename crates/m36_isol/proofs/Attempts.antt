@@ -1,22 +1,21 @@
 -- A step that reaches as many new pages as it references meets no absent page; and where it meets one that is then in a
 -- frame, with the pages that it has referenced, the next attempt reaches one more.
 use Rattle.std.proofs.Common.{◌≡◌, refl, sym, ◌∙◌, ap, subst, arith}
-use Rattle.std.specs.Prelude.{ℕ, zero, suc, ◌/◌, ◌≤◌, ◌≢◌, Bool, true, false, List, Option, Some, None, Result, Ok, Err}
+use Rattle.std.specs.Prelude.{ℕ, zero, suc, ◌/◌, ◌≤◌, ◌≢◌, Bool, true, false, List, Option, Result, Ok, Err}
 use Rattle.m36_model.specs.Fields.{AtFields}
 use Rattle.m36_model.specs.Registers.{RegsFields}
 use Rattle.m36_model.specs.Act.{Request, Answer, Act, done, ask}
-use Rattle.m36_model.specs.Store.{Mid, Served, touches, with_reference, serve, run}
+use Rattle.m36_model.specs.Store.{Mid, Served, touches, serve, run}
 use Rattle.m36_model.specs.StoreLaw.{Each}
 use Rattle.m36_model.specs.Core.{core_store}
 use Rattle.m36_model.specs.Flat.{Flat, flat_store}
 use Rattle.m36_model.specs.BootedCore.{booted_dbr, IsLaid}
 use Rattle.m36_model.specs.declared.outcome.Fault.{Fault}
-use Rattle.m36_model.specs.declared.place.Reference.{Reference}
 use Rattle.m36_isol.proofs.Mirror.{Asks}
 use Rattle.m36_isol.proofs.Plan.{has_page, fresh, last_by, InPage, Follows, cost, Plan}
 use Rattle.m36_isol.proofs.Pages.{IsReplied, is_refused, is_answered, serve_replied, cost_least, On, EndsAt, was_known, all_known}
-use Rattle.m36_isol.proofs.Retry.{Holds, HoldsAt, HoldsLast, IsThere, IsOver, last_holds, touched_page, page_target, Stand, IsCutHere, IsOn, goes_on, is_over, is_away, one_request, target_there, was_read, stale}
-use Rattle.m36_isol.proofs.Tries.{left, CutBy, Reaches, IsCut, over_reaches, over_not_cut, there_not_cut, over_run, ends_served, kept_back}
+use Rattle.m36_isol.proofs.Retry.{Holds, HoldsAt, HoldsLast, IsThere, last_holds, touched_page, page_target, Stand, IsCutHere, IsOn, goes_on, is_over, is_away, one_request, target_there, was_read, stale}
+use Rattle.m36_isol.proofs.Tries.{left, CutBy, Reaches, IsCut, over_reaches, there_not_cut, over_run, ends_served, kept_back}
 
 not_both : (v : Result Answer Fault) (f : Fault) → v ≡ Err f → f.number ≡ 17 → IsThere v → ⊥
 not_both v f e number there = subst IsThere e there number

@@ -2,7 +2,7 @@
 -- doing so through marks and writes.
 use Rattle.std.proofs.Common.{◌≡◌, refl, sym, ◌∙◌, ap, subst, inl, inr, ⊎_elim, arith, eqb-true}
 use Rattle.std.specs.Prelude.{ℕ, zero, suc, ◌+◌, ◌*◌, ◌/◌, ◌%◌, ◌<◌, ◌≤◌, ◌⊎◌, Bool, true, false, ◌&&◌, ◌==◌, if◌then◌else◌, List, [], ◌∷◌, length, take, slice_get, Option, Some, option_map, Result, Ok, Err}
-use Rattle.std.proofs.lemmas.Bool.{eqb-false, ltb-true}
+use Rattle.std.proofs.lemmas.Bool.{eqb-false, ltb-true, and_parts, eq-eqb}
 use Rattle.std.proofs.lemmas.List.{take-set-le}
 use Rattle.m36_desc.specs.Fields.{SdwFields}
 use Rattle.m36_desc.specs.Access.{in_order}
@@ -18,6 +18,7 @@ use Rattle.m36_model.specs.Flat.{Flat, flat_sdw_by, flat_sdw, flat_word, flat_pu
 use Rattle.m36_model.specs.BootedCore.{descriptor_words, booted_dbr, table_at, absent_ptw, IsPage, page_word, IsInFrame, IsLaid}
 use Rattle.m36_model.specs.Residence.{Paged, word_at, paged_content, flat_of, Lacks}
 use Rattle.m36_model.specs.declared.outcome.Refusal.{Refusal}
+use Rattle.m36_isol.proofs.Spots.{each_map}
 use Rattle.m36_isol.proofs.Places.{place_parts, core_spot_inside}
 use Rattle.m36_isol.proofs.Contents.{place_tables}
 use Rattle.m36_isol.proofs.CoreTables.{Matches, matches, has_tables, same_sdw, same_spot_of}
@@ -56,15 +57,6 @@ take_marks xs n [] h = refl
 take_marks xs n (m ∷ list) h =
     take_marks (with_mark xs m) n list h.1 ∙ take-set-le n xs m.address _ h.0
 
--- each of a list, by another fact
-each_by : {A : Type 0} (P Q : A → Type 0) → ((x : A) → P x → Q x) → (xs : List A) → Each P xs → Each Q xs
-each_by P Q f [] h = tt
-each_by P Q f (x ∷ xs) h = (f x h.0, each_by P Q f xs h.1)
-
-and_parts : (a b : Bool) → (a && b) ≡ true → (a ≡ true) × (b ≡ true)
-and_parts true b h = (refl, h)
-and_parts false b h = cc
-
 -- the descriptors of a booted core and of the flat memory whose descriptors are its first words
 low_place : (seg : ℕ) → in_bounds booted_dbr seg ≡ true → (2 * seg < 2047) × (wrapped (0 + 2 * seg) ≡ 2 * seg)
 low_place seg bounds =
@@ -91,14 +83,10 @@ unfolding core_sdw flat_sdw
 flat_descriptor core f same seg =
     sdw_by core seg (in_bounds booted_dbr seg) refl ∙ ap (λ (l : List ℕ). flat_sdw_by (in_bounds booted_dbr seg) l seg) (sym same)
 
-eqb_same : (a b : ℕ) → a ≡ b → (t : Bool) → (a == b) ≡ t → t ≡ true
-eqb_same a b e true h = refl
-eqb_same a b e false h = absurd (eqb-false a b h e)
-
 both_equal : (a b c d : ℕ) → a ≡ b → c ≡ d → ((a == b) && (c == d)) ≡ false → ⊥
 both_equal a b c d e f h =
-    let x = eqb_same a b e (a == b) refl in
-    let y = eqb_same c d f (c == d) refl in
+    let x = eq-eqb a b e in
+    let y = eq-eqb c d f in
     let z : ((a == b) && (c == d)) ≡ true = λ i. x i && y i in
     cc
 
@@ -325,7 +313,7 @@ module _ (core : List ℕ) (frames : ℕ) (laid : IsLaid core frames) where
         let near = marks_near core booted_dbr now list ptws in
         record {
           matching = marks_match core booted_dbr apart now list h.matching ptws;
-          low = take_marks now descriptor_words list (each_by (λ (m : Mark). IsPtwWord core booted_dbr m.address) (λ (m : Mark). descriptor_words ≤ m.address) past_mark list ptws) ∙ h.low;
+          low = take_marks now descriptor_words list (each_map (λ (m : Mark). IsPtwWord core booted_dbr m.address) (λ (m : Mark). descriptor_words ≤ m.address) past_mark list ptws) ∙ h.low;
           descriptors = h.descriptors;
           content = λ s x. content_marked now (with_marks now list) near s x (place core_store core booted_dbr s x) refl ∙ h.content s x;
         }

@@ -1,6 +1,7 @@
 -- The laws over the list of core words.
 use Rattle.std.proofs.Common.{◌≡◌, refl, sym, ◌∙◌, ap, subst}
-use Rattle.std.specs.Prelude.{ℕ, ◌+◌, ◌*◌, ◌<◌, Bool, true, false, List, Ok}
+use Rattle.std.specs.Prelude.{ℕ, ◌+◌, ◌*◌, ◌<◌, true, false, List, Ok}
+use Rattle.std.proofs.lemmas.Bool.{false_from_ne_true, true_from_ne_false}
 use Rattle.m36_desc.specs.Fields.{SdwFields, DbrFields}
 use Rattle.m36_model.specs.Store.{State}
 use Rattle.m36_model.specs.Place.{core_sdw}
@@ -18,23 +19,15 @@ use Rattle.m36_isol.proofs.StepLaws.{Backed, sight_law, depends_law, reach_law, 
 use Rattle.m36_isol.proofs.AuditedBy.{same_dbr}
 use Rattle.m36_isol.proofs.Windows.{windows_kept}
 
-not_true : (b : Bool) → (b ≡ true → ⊥) → b ≡ false
-not_true true h = absurd (h refl)
-not_true false h = refl
-
-not_false : (b : Bool) → (b ≡ false → ⊥) → b ≡ true
-not_false true h = refl
-not_false false h = absurd (h refl)
-
 module _ (core : List ℕ) (dbr : DbrFields) (audited : IsAudited core dbr) where
   -- gates and stacks
   gate_by : (seg : ℕ) (d : SdwFields) → core_sdw core dbr seg ≡ Ok d → d.executable ≡ true → d.r2 < d.r3 → d.no_gate ≡ false
   gate_by seg d live executable outer =
-      not_true d.no_gate (λ e. audited.fifth seg (record { sdw = d; callable = record { live = live; executable = executable; outer = outer }; open_everywhere = e }))
+      false_from_ne_true d.no_gate (λ e. audited.fifth seg (record { sdw = d; callable = record { live = live; executable = executable; outer = outer }; open_everywhere = e }))
 
   stack_by : (seg : ℕ) (d : SdwFields) → core_sdw core dbr seg ≡ Ok d → d.executable ≡ true → d.r2 < d.r3 → is_stack_of d.r2 (core_sdw core dbr (8 * dbr.stack + d.r2)) ≡ true
   stack_by seg d live executable outer =
-      not_false _ (λ e. audited.sixth seg (record { sdw = d; callable = record { live = live; executable = executable; outer = outer }; missing = e }))
+      true_from_ne_false _ (λ e. audited.sixth seg (record { sdw = d; callable = record { live = live; executable = executable; outer = outer }; missing = e }))
 
   pub core_gates : IsGuarded dbr (core_sdw core dbr)
   core_gates =

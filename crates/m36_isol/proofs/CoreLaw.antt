@@ -1,7 +1,7 @@
 -- The list of core words as a store owes what the laws want, where the audit conditions hold of its tables.
 use Rattle.std.proofs.Common.{◌≡◌, refl, sym, ◌∙◌, ap, subst, inl, inr, ⊎_elim, length-set, eqb-true}
-use Rattle.std.specs.Prelude.{ℕ, ◌<◌, Bool, true, false, ◌&&◌, ◌==◌, if◌then◌else◌, List, [], ◌∷◌, length, slice_index, slice_set, Some, Result, Ok}
-use Rattle.std.proofs.lemmas.Bool.{eqb-false}
+use Rattle.std.specs.Prelude.{ℕ, ◌<◌, Bool, true, false, ◌==◌, if◌then◌else◌, List, [], ◌∷◌, length, slice_index, slice_set, Some, Result, Ok}
+use Rattle.std.proofs.lemmas.Bool.{eqb-false, and_parts}
 use Rattle.std.proofs.lemmas.List.{get_or-set_same, get_or-set_other}
 use Rattle.m36_desc.specs.Fields.{SdwFields, DbrFields}
 use Rattle.m36_desc.specs.Access.{in_order}
@@ -19,15 +19,11 @@ use Rattle.m36_isol.proofs.Places.{place_is, place_parts, content_placed, core_s
 use Rattle.m36_isol.proofs.CoreTables.{Matches, matches, has_tables, same_sdw, same_spot_of}
 use Rattle.m36_isol.proofs.CoreMarks.{IsHarmless, set_matches, marks_match, marks_near, marks_are_ptws, marked_self, marked_then}
 
-both_parts : (a b : Bool) → (a && b) ≡ true → (a ≡ true) × (b ≡ true)
-both_parts true b h = (refl, h)
-both_parts false b h = cc
-
 pub placed_order : (d : SdwFields) (w : ℕ) → placed d w ≡ true → in_order d ≡ true
-placed_order d w h = (both_parts (in_order d) (within d w) h).0
+placed_order d w h = (and_parts (in_order d) (within d w) h).0
 
 pub placed_within : (d : SdwFields) (w : ℕ) → placed d w ≡ true → within d w ≡ true
-placed_within d w h = (both_parts (in_order d) (within d w) h).1
+placed_within d w h = (and_parts (in_order d) (within d w) h).1
 
 -- one word put, read at an address
 word_put : (now : List ℕ) (spot : Spot) (part : Part) (v a : ℕ) → a < length now → core_word (put_one now spot part v) (Core_word a) ≡ (if same_spot spot (Core_word a) then written part (core_word now (Core_word a)) v else core_word now (Core_word a))

@@ -3,6 +3,7 @@ use Rattle.std.proofs.Common.{◌≡◌, refl, sym, ◌∙◌, ap, subst, inl, i
 use Rattle.std.specs.Prelude.{ℕ, ◌/◌, ◌<◌, ◌≤◌, Bool, true, false, ◌==◌, if◌then◌else◌, List, [], ◌∷◌, length, slice_get, slice_index, slice_set, Option, Some, None, option_map, Result, Ok}
 use Rattle.std.proofs.lemmas.Bool.{eqb-false, leb-true}
 use Rattle.std.proofs.lemmas.List.{get_or-set_same, get_or-set_other}
+use Rattle.std.proofs.lemmas.Option.{slice_get_within}
 use Rattle.m36_isol.proofs.Spots.{each_append}
 use Rattle.m36_desc.specs.Fields.{SdwFields, DbrFields}
 use Rattle.m36_model.specs.Act.{RequestKind}
@@ -14,7 +15,7 @@ use Rattle.m36_model.specs.StoreLaw.{Each}
 use Rattle.m36_model.specs.CoreLaw.{IsPtwWord, IsMarked, IsButMarked, IsMarkedFrom}
 use Rattle.m36_model.specs.declared.outcome.Refusal.{Refusal}
 use Rattle.m36_isol.specs.MarkBits.{MarksKeepBits}
-use Rattle.m36_isol.proofs.Lists.{get_set_other, get_set_same, get_set_past, index_of_get, inside_of_get}
+use Rattle.m36_isol.proofs.Lists.{set_other, set_same, get_set_past, index_of_get}
 use Rattle.m36_isol.proofs.CoreTables.{Matches, same_sdw}
 
 -- marks put on a word twice
@@ -87,14 +88,14 @@ module _ (core : List ℕ) (dbr : DbrFields) where
       descriptor : (seg b : ℕ) → IsSdwWord core dbr seg b → (t : Bool) → (b == a) ≡ t → slice_get (slice_set now a v) b ≡ slice_get core b
       descriptor seg b k true e =
           absurd (h.descriptor x here seg (subst (λ (c : ℕ). IsSdwWord core dbr seg c) (eqb-true b a e) k))
-      descriptor seg b k false e = get_set_other now a b v (eqb-false b a e) ∙ m.descriptors seg b k
+      descriptor seg b k false e = set_other now a b v (eqb-false b a e) ∙ m.descriptors seg b k
 
       ptw : (b : ℕ) → IsPtwWord core dbr b → (t : Bool) → (b == a) ≡ t → option_map unmarked (slice_get (slice_set now a v) b) ≡ option_map unmarked (slice_get core b)
       ptw b k true e =
           let same = eqb-true b a e in
           let new = h.ptw x here (subst (λ (c : ℕ). IsPtwWord core dbr c) same k) in
-          subst (λ (c : ℕ). option_map unmarked (slice_get (slice_set now a v) c) ≡ option_map unmarked (slice_get core c)) (sym same) (ap (option_map unmarked) (get_set_same now a v x here) ∙ ap Some new ∙ sym (ap (option_map unmarked) here) ∙ m.ptws a (subst (λ (c : ℕ). IsPtwWord core dbr c) same k))
-      ptw b k false e = ap (option_map unmarked) (get_set_other now a b v (eqb-false b a e)) ∙ m.ptws b k
+          subst (λ (c : ℕ). option_map unmarked (slice_get (slice_set now a v) c) ≡ option_map unmarked (slice_get core c)) (sym same) (ap (option_map unmarked) (set_same now a v x here) ∙ ap Some new ∙ sym (ap (option_map unmarked) here) ∙ m.ptws a (subst (λ (c : ℕ). IsPtwWord core dbr c) same k))
+      ptw b k false e = ap (option_map unmarked) (set_other now a b v (eqb-false b a e)) ∙ m.ptws b k
 
   set_by : (now : List ℕ) (a v : ℕ) (found : Option ℕ) → slice_get now a ≡ found → Matches core dbr now → IsHarmless now a v → Matches core dbr (slice_set now a v)
   set_by now a v None e m h = subst (λ (l : List ℕ). Matches core dbr l) (sym (get_set_past now a v e)) m
@@ -114,7 +115,7 @@ module _ (core : List ℕ) (dbr : DbrFields) where
     mark_harmless : (now : List ℕ) (m : Mark) → Matches core dbr now → IsPtwWord core dbr m.address → IsHarmless now m.address (marked_word m.modified (slice_index now m.address))
     mark_harmless now m k ptw =
         record {
-          descriptor = λ x here seg h. ptw_apart m.address seg (subst (λ (n : ℕ). m.address < n) k.size (inside_of_get now m.address x here)) ptw h;
+          descriptor = λ x here seg h. ptw_apart m.address seg (subst (λ (n : ℕ). m.address < n) k.size (slice_get_within now m.address x here)) ptw h;
           ptw = λ x here h. unmarked_word m.modified _ ∙ ap unmarked (index_of_get now m.address x here);
         }
 
@@ -136,7 +137,7 @@ module _ (core : List ℕ) (dbr : DbrFields) where
       mark_here : (found : Option ℕ) → slice_get now m.address ≡ found → IsButMarked core dbr m.address (slice_index now m.address) (slice_index (with_mark now m) m.address)
       mark_here None k = inl (ap (λ (l : List ℕ). slice_index l m.address) (get_set_past now m.address _ k))
       mark_here (Some x) k =
-          inr (ptw, subst (λ (v : ℕ). IsMarked (slice_index now m.address) v) (sym (get_or-set_same now m.address _ 0 (inside_of_get now m.address x k))) (is_marked m.modified (slice_index now m.address)))
+          inr (ptw, subst (λ (v : ℕ). IsMarked (slice_index now m.address) v) (sym (get_or-set_same now m.address _ 0 (slice_get_within now m.address x k))) (is_marked m.modified (slice_index now m.address)))
 
   mark_near : (now : List ℕ) (m : Mark) → IsPtwWord core dbr m.address → IsMarkedFrom core dbr now (with_mark now m)
   mark_near now m ptw =

@@ -1,6 +1,7 @@
 -- A flat memory as a store owes what the laws want, and is isolated where its descriptors pass the audit.
 use Rattle.std.proofs.Common.{◌≡◌, refl, sym, ◌∙◌, ap, subst, eqb-true}
-use Rattle.std.specs.Prelude.{ℕ, ◌+◌, ◌*◌, Bool, true, false, ◌&&◌, ◌==◌, if◌then◌else◌, List, [], ◌∷◌, slice_get, Option, Some, None, Result, Ok}
+use Rattle.std.specs.Prelude.{ℕ, ◌+◌, ◌*◌, Bool, true, false, ◌==◌, if◌then◌else◌, List, [], ◌∷◌, slice_get, Option, Some, None, Result, Ok}
+use Rattle.std.proofs.lemmas.Bool.{and_parts}
 use Rattle.m36_desc.specs.Fields.{SdwFields, DbrFields}
 use Rattle.m36_model.specs.Act.{Part}
 use Rattle.m36_model.specs.Store.{Spot, Core_word, Segment_word, Change, SegTable, Tables, State, written}
@@ -73,14 +74,10 @@ put_at : (now : Flat) (puts : List Change) (p : Spot) → IsFlatSpot p → flat_
 put_at now puts (Core_word a) lies = absurd lies
 put_at now puts (Segment_word seg w) lies = words_put now puts seg w
 
-both : (a b : Bool) → (a && b) ≡ true → (a ≡ true) × (b ≡ true)
-both true b h = (refl, h)
-both false b h = cc
-
 same_words : (seg w seg' w' : ℕ) (p p' : Spot) → p ≡ Segment_word seg w → p' ≡ Segment_word seg' w' → same_spot p p' ≡ true → (seg ≡ seg') × (w ≡ w')
 same_words seg w seg' w' p p' e f h =
     let k : same_spot (Segment_word seg w) (Segment_word seg' w') ≡ true = sym (ap (λ (x : Spot). same_spot x (Segment_word seg' w')) e) ∙ sym (ap (same_spot p) f) ∙ h in
-    let parts = both (seg == seg') (w == w') k in
+    let parts = and_parts (seg == seg') (w == w') k in
     (eqb-true seg seg' parts.0, eqb-true w w' parts.1)
 
 module _ (s : Flat) (dbr : DbrFields) where

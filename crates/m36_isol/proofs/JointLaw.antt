@@ -3,6 +3,7 @@
 use Rattle.std.proofs.Common.{◌≡◌, refl, sym, ◌∙◌, ap, subst, inl, inr, eqb-true}
 use Rattle.std.specs.Prelude.{ℕ, ◌<◌, ◌⊎◌, Bool, true, false, ◌==◌, List, [], ◌∷◌, length, slice_get, slice_index, Some, Result}
 use Rattle.std.proofs.lemmas.Bool.{eqb-false}
+use Rattle.std.proofs.lemmas.Option.{slice_get_within}
 use Rattle.m36_desc.specs.Fields.{SdwFields, DbrFields}
 use Rattle.m36_model.specs.Act.{RequestKind, Part}
 use Rattle.m36_model.specs.Store.{Spot, Core_word, Segment_word, Change}
@@ -14,7 +15,7 @@ use Rattle.m36_model.specs.CoreLaw.{HasTables, IsSegmentSpot, IsPtwWord, IsMarke
 use Rattle.m36_model.specs.JointAudit.{IsJointlyAudited}
 use Rattle.m36_model.specs.declared.outcome.Refusal.{Refusal}
 use Rattle.m36_isol.proofs.Spots.{each_map}
-use Rattle.m36_isol.proofs.Lists.{index_of_get, inside_of_get}
+use Rattle.m36_isol.proofs.Lists.{index_of_get}
 use Rattle.m36_isol.proofs.Places.{core_spot_inside}
 use Rattle.m36_isol.proofs.CoreTables.{Matches, matches, has_tables, same_sdw, same_spot_of}
 use Rattle.m36_isol.proofs.CoreMarks.{IsHarmless, ptw_apart, set_matches, unmarked_word, marks_are_ptws, marked_self, marked_then}
@@ -122,7 +123,7 @@ module _ (core : List ℕ) (dbrs : List DbrFields) where
     mark_matches : (i j : ℕ) (dbr other : DbrFields) → slice_get dbrs i ≡ Some dbr → slice_get dbrs j ≡ Some other → (now : List ℕ) (m : Mark) → Matches core other now → IsPtwWord core dbr m.address → Matches core other (with_mark now m)
     mark_matches i j dbr other at there now m k ptw =
         set_matches core other now m.address _ k (record {
-          descriptor = λ x here seg h. ptw_and_sdw i j dbr other at there m.address seg (subst (λ (n : ℕ). m.address < n) k.size (inside_of_get now m.address x here)) ptw h;
+          descriptor = λ x here seg h. ptw_and_sdw i j dbr other at there m.address seg (subst (λ (n : ℕ). m.address < n) k.size (slice_get_within now m.address x here)) ptw h;
           ptw = λ x here h. unmarked_word m.modified _ ∙ ap unmarked (index_of_get now m.address x here);
         })
 

@@ -1,7 +1,7 @@
 -- The core of a booted image: where its words lie, and that table words and words of segments are apart.
 use Rattle.std.proofs.Common.{◌≡◌, refl, sym, ◌∙◌, ap, inl, inr, ⊎_elim, arith}
-use Rattle.std.specs.Prelude.{ℕ, zero, suc, ◌+◌, ◌*◌, ◌/◌, ◌%◌, ◌^◌, ◌<◌, ◌≤◌, ◌⊎◌, Bool, true, false, ◌&&◌, ◌==◌, List, [], ◌∷◌, length, slice_get, slice_index, Option, Some, option_map, Result, Ok, Err}
-use Rattle.std.proofs.lemmas.Bool.{leb-true, ltb-true, lt-ltb}
+use Rattle.std.specs.Prelude.{ℕ, zero, suc, ◌+◌, ◌*◌, ◌/◌, ◌%◌, ◌^◌, ◌<◌, ◌≤◌, ◌⊎◌, Bool, true, false, ◌==◌, List, [], ◌∷◌, length, slice_get, slice_index, Option, Some, option_map, Result, Ok, Err}
+use Rattle.std.proofs.lemmas.Bool.{leb-true, ltb-true, lt-ltb, and_parts}
 use Rattle.m36_desc.specs.Fields.{SdwFields, PtwFields}
 use Rattle.m36_desc.specs.Descriptors.{ptw_of}
 use Rattle.m36_word.specs.Bits.{is_on}
@@ -21,10 +21,6 @@ pub get_inside : (xs : List ℕ) (i : ℕ) → i < length xs → slice_get xs i 
 get_inside [] i h = absurd (omega arith)
 get_inside (x ∷ xs) zero h = refl
 get_inside (x ∷ xs) (suc i) h = get_inside xs i (omega arith)
-
-both_parts : (a b : Bool) → (a && b) ≡ true → (a ≡ true) × (b ≡ true)
-both_parts true b h = (refl, h)
-both_parts false b h = cc
 
 -- the words of pages that are in a frame or in none
 absent_as : (v offset : ℕ) → unmarked v ≡ absent_ptw → in_frame (Some (ptw_of v)) offset ≡ Err absence
@@ -122,13 +118,13 @@ module _ (core : List ℕ) (frames : ℕ) (laid : IsLaid core frames) where
   pub lies_in : (seg w a : ℕ) → IsSegmentWord core booted_dbr seg w a → LiesIn seg w a
   lies_in seg w a h =
       let k = place_parts core_store core booted_dbr seg w (Core_word a) h in
-      let inside = (both_parts (in_order k.sdw) (within k.sdw w) k.inside).1 in
+      let inside = (and_parts (in_order k.sdw) (within k.sdw w) k.inside).1 in
       lies_by seg w a k.sdw k.live inside k.found (laid.pages seg (w / 1024) (page_of_word seg w k.sdw k.live inside))
 
   -- descriptor words are the first 2,048
   sdw_low : (seg even : ℕ) → in_bounds booted_dbr seg ≡ true → wrapped (0 + 2 * seg) ≡ even → even < 2047
   sdw_low seg even bounds e =
-      let k : 2 * seg < 16 * (127 + 1) = ltb-true (2 * seg) (16 * (127 + 1)) (both_parts _ _ bounds).0 in
+      let k : 2 * seg < 16 * (127 + 1) = ltb-true (2 * seg) (16 * (127 + 1)) (and_parts _ _ bounds).0 in
       omega arith
 
   sdw_found : (seg even : ℕ) (b : Bool) → in_bounds booted_dbr seg ≡ b → sdw_place_by b true booted_dbr seg (ptw_at core (directory_at booted_dbr seg)) ≡ Ok even → even < 2047

@@ -1,6 +1,7 @@
 -- The audit of a booted core is by its descriptors, whatever frames its pages are in.
 use Rattle.std.proofs.Common.{◌≡◌, refl, sym, ◌∙◌, ap}
-use Rattle.std.specs.Prelude.{ℕ, ◌+◌, ◌*◌, Bool, true, false, List, take, Ok}
+use Rattle.std.specs.Prelude.{ℕ, ◌+◌, ◌*◌, List, take, Ok}
+use Rattle.std.proofs.lemmas.Bool.{true_from_ne_false}
 use Rattle.m36_desc.specs.Fields.{SdwFields}
 use Rattle.m36_desc.specs.Access.{in_order}
 use Rattle.m36_model.specs.Place.{core_sdw}
@@ -40,10 +41,6 @@ module _ (core now : List ℕ) (low : take descriptor_words now ≡ take descrip
 pub same_audit : SameAuditLaw
 same_audit frames core now audited laid low = audited_by_descriptors core now low frames laid audited
 
-not_false : (b : Bool) → (b ≡ false → ⊥) → b ≡ true
-not_false true h = refl
-not_false false h = absurd (h refl)
-
 module _ (frames : ℕ) (m : Paged) (laid : IsLaid m.core frames) (audited : IsAudited m.core booted_dbr) where
   flat_is : (seg : ℕ) → core_sdw m.core booted_dbr seg ≡ flat_sdw (flat_of m) booted_dbr seg
   unfolding flat_of
@@ -53,7 +50,7 @@ module _ (frames : ℕ) (m : Paged) (laid : IsLaid m.core frames) (audited : IsA
   flat_audited =
       let gates = core_gates m.core booted_dbr audited in
       record {
-        ordered = λ seg d live. not_false (in_order d) (λ e. audited.first seg (record { sdw = d; live = flat_is seg ∙ live; out = e }));
+        ordered = λ seg d live. true_from_ne_false (in_order d) (λ e. audited.first seg (record { sdw = d; live = flat_is seg ∙ live; out = e }));
         gates = λ seg d live executable outer. gates.gates seg d (flat_is seg ∙ live) executable outer;
         stacks = λ seg d live executable outer. ap (is_stack_of d.r2) (sym (flat_is (8 * booted_dbr.stack + d.r2))) ∙ gates.stacks seg d (flat_is seg ∙ live) executable outer;
       }

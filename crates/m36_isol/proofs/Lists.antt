@@ -1,18 +1,6 @@
 -- Words of a list after one of them is set.
 use Rattle.std.proofs.Common.{◌≡◌, refl, ap, arith}
-use Rattle.std.specs.Prelude.{ℕ, zero, suc, ◌<◌, ◌≢◌, List, [], ◌∷◌, map, length, slice_get, slice_index, slice_set, Some, None}
-
-pub get_set_other : (xs : List ℕ) (i j v : ℕ) → j ≢ i → slice_get (slice_set xs i v) j ≡ slice_get xs j
-get_set_other [] i j v h = refl
-get_set_other (x ∷ xs) zero zero v h = absurd (h refl)
-get_set_other (x ∷ xs) zero (suc j) v h = refl
-get_set_other (x ∷ xs) (suc i) zero v h = refl
-get_set_other (x ∷ xs) (suc i) (suc j) v h = get_set_other xs i j v (λ e. h (ap suc e))
-
-pub get_set_same : (xs : List ℕ) (i v x : ℕ) → slice_get xs i ≡ Some x → slice_get (slice_set xs i v) i ≡ Some v
-get_set_same [] i v x h = cc
-get_set_same (y ∷ xs) zero v x h = refl
-get_set_same (y ∷ xs) (suc i) v x h = get_set_same xs i v x h
+use Rattle.std.specs.Prelude.{ℕ, zero, suc, ◌≢◌, List, [], ◌∷◌, map, length, slice_get, slice_index, slice_set, Some, None}
 
 pub get_set_past : (xs : List ℕ) (i v : ℕ) → slice_get xs i ≡ None → slice_set xs i v ≡ xs
 get_set_past [] i v h = refl
@@ -24,12 +12,7 @@ index_of_get [] i x h = cc
 index_of_get (y ∷ xs) zero x h = cc
 index_of_get (y ∷ xs) (suc i) x h = index_of_get xs i x h
 
-pub inside_of_get : (xs : List ℕ) (i x : ℕ) → slice_get xs i ≡ Some x → i < length xs
-inside_of_get [] i x h = cc
-inside_of_get (y ∷ xs) zero x h = omega arith
-inside_of_get (y ∷ xs) (suc i) x h = let k = inside_of_get xs i x h in omega arith
-
--- The same of a list of anything: at another place, at its own, and beside a list that is as long.
+-- A list of anything: at another place than the one that is set, at that one, and beside a list that is as long.
 pub set_other : {A : Type 0} (xs : List A) (i j : ℕ) (v : A) → j ≢ i → slice_get (slice_set xs i v) j ≡ slice_get xs j
 set_other [] i j v h = refl
 set_other (x ∷ xs) zero zero v h = absurd (h refl)
@@ -53,7 +36,3 @@ pub get_map : {A B : Type 0} (f : A → B) (xs : List A) (i : ℕ) (x : A) → s
 get_map f [] i x h = cc
 get_map f (y ∷ xs) zero x h = let same : y ≡ x = cc in ap (λ z. Some (f z)) same
 get_map f (y ∷ xs) (suc i) x h = get_map f xs i x h
-
-pub length_map : {A B : Type 0} (f : A → B) (xs : List A) → length (map f xs) ≡ length xs
-length_map f [] = refl
-length_map f (x ∷ xs) = ap suc (length_map f xs)

@@ -149,7 +149,8 @@ abbrev plain_answer : {S : Type 0} → SdwFields → ℕ → Mid S → Served S
 plain_answer d place m =
     record { reply = Ok (record { sdw = d; first = length m.claims; place = place; words = [] }); mid = m }
 
-abbrev one_more : RequestKind → AtFields → ℕ → List Put → List Reference → List Reference
+-- the list of references with one more, or with the last one made a pair
+abbrev pub one_more : RequestKind → AtFields → ℕ → List Put → List Reference → List Reference
 one_more kind at count pending refs = with_reference kind (asked kind at count pending) refs
 
 module _ {S F : Type 0} (o : Store S) (o' : Store F) (g : RegsFields) (M : S → F → Type 0) (Pair : Spot → Spot → Type 0) (Lacks : ℕ → ℕ → Type 0) (L : Mirrors o o' g.dbr M Pair Lacks) (start : F) where

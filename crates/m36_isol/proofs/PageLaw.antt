@@ -1,24 +1,20 @@
 -- Page services one after another: each attempt gets further, and after 18 services no page is absent.
 use Rattle.std.proofs.Common.{◌≡◌, refl, sym, ◌∙◌, ap, subst, arith}
-use Rattle.std.specs.Prelude.{ℕ, zero, suc, ◌+◌, ◌/◌, ◌≤◌, ◌≢◌, ◌⊎◌, List, [], ◌∷◌, Option, Some, None}
+use Rattle.std.specs.Prelude.{ℕ, zero, suc, ◌+◌, ◌/◌, ◌≢◌, ◌⊎◌, List, [], ◌∷◌, Option, Some, None}
 use Rattle.std.proofs.Common.{inl, inr}
 use Rattle.m36_model.specs.Registers.{RegsFields}
-use Rattle.m36_model.specs.Act.{Act}
 use Rattle.m36_model.specs.Store.{Mid, State, run}
 use Rattle.m36_model.specs.StoreLaw.{Each}
 use Rattle.m36_model.specs.Core.{core_store}
-use Rattle.m36_model.specs.Place.{core_sdw}
-use Rattle.m36_model.specs.Step.{Ending, program, start, record_of, state_after}
+use Rattle.m36_model.specs.Step.{Ending, program, record_of}
 use Rattle.m36_model.specs.Flat.{Flat}
-use Rattle.m36_model.specs.BootedCore.{descriptor_words, booted_dbr, resident_ptw, absent_ptw, IsPage, page_word, IsLaid}
+use Rattle.m36_model.specs.BootedCore.{booted_dbr, resident_ptw, absent_ptw, IsPage, IsLaid}
 use Rattle.m36_model.specs.Residence.{Paged, flat_of, ptw_of_page, IsMoved}
-use Rattle.m36_model.specs.PagedStep.{IsPresent, IsPageFault, IsPagedStep}
+use Rattle.m36_model.specs.PagedStep.{IsPresent}
 use Rattle.m36_model.specs.declared.outcome.Fault.{Fault}
 use Rattle.m36_model.specs.declared.outcome.Outcome.{Outcome}
 use Rattle.m36_model.specs.declared.outcome.Outcome.TheVariants.{Faulted}
-use Rattle.m36_model.specs.declared.place.Reference.{Reference}
-use Rattle.m36_isol.specs.PageServices.{StaysIn, IsPageService, PagedState, core_state, stepped_memory, IsServed, AreServed, pages_of_an_instruction, PagesLaw}
-use Rattle.m36_isol.proofs.Mirror.{AreMids}
+use Rattle.m36_isol.specs.PageServices.{StaysIn, PagedState, core_state, stepped_memory, IsServed, AreServed, PagesLaw}
 use Rattle.m36_isol.proofs.MirrorStep.{EndsSo, StopsSo, EndPlaced, present_at, program_asks}
 use Rattle.m36_isol.proofs.Booted.{StandsFor, stands_first}
 use Rattle.m36_isol.proofs.PagedStep.{paged_step_law}

@@ -12,13 +12,10 @@ use Rattle.m36_model.specs.Flat.{Flat, flat_put, flat_store}
 use Rattle.m36_model.specs.BootedCore.{booted_dbr, IsLaid}
 use Rattle.m36_model.specs.Residence.{Lacks}
 use Rattle.m36_model.specs.PagedStep.{flat_state, IsFlatStep, IsPageFault, IsAbsaStep, IsPagedStep, PagedStepLaw}
+use Rattle.m36_model.proofs.StepLaw.{core_quiet}
 use Rattle.m36_isol.proofs.Mirror.{Mirrors, AreMids, AreRun, same, lacked, placed_apart, paired_changes, run_mirrors}
 use Rattle.m36_isol.proofs.MirrorStep.{EndsSo, EndsWithLdbr, StopsSo, EndPlaced, present_at, program_asks}
 use Rattle.m36_isol.proofs.Booted.{StandsFor, IsPair, flat_back, stands_first, same_page_word, still_laid, booted_mirrors}
-
-core_nothing : (core : List ℕ) → core_put core [] ≡ core
-unfolding core_put
-core_nothing core = refl
 
 no_changes : (claims : List Spot) → changes claims [] ≡ []
 unfolding changes
@@ -86,7 +83,7 @@ module _ (frames : ℕ) (kept : ℕ → ℕ → ℕ) (g : RegsFields) (core : Li
       let puts = stop.puts in
       let claims = x.mid.claims in
       let nothing : changes claims x.value.puts ≡ [] = ap (changes claims) puts ∙ no_changes claims in
-      let left : core_put x.mid.store (changes claims x.value.puts) ≡ x.mid.store = ap (core_put x.mid.store) nothing ∙ core_nothing x.mid.store in
+      let left : core_put x.mid.store (changes claims x.value.puts) ≡ x.mid.store = ap (core_put x.mid.store) nothing ∙ core_quiet x.mid.store in
       let m' : M (core_put x.mid.store (changes claims x.value.puts)) there.store = subst (λ (l : List ℕ). M l there.store) (sym left) m in
       let store = flat_back core frames laid kept _ there.store m' in
       let after = stop.after in

@@ -1,25 +1,25 @@
 -- How many pages a step references, and how many references it records: counts over the program of a step. A reference to
 -- the page of the reference just before it meets no new page.
-use Rattle.std.proofs.Common.{◌≡◌, refl, sym, ◌∙◌, ap, arith, eqb-true}
+use Rattle.std.proofs.Common.{◌≡◌, refl, arith, eqb-true}
 use Rattle.std.specs.Prelude.{ℕ, zero, suc, ◌+◌, ◌-◌, ◌/◌, ◌%◌, ◌≤◌, ◌≢◌, Bool, true, false, not, ◌&&◌, ◌==◌, if◌then◌else◌, slice_index, Option, Some, None, Result, Ok, Err}
-use Rattle.std.proofs.lemmas.Bool.{eqb-false}
+use Rattle.std.proofs.lemmas.Bool.{eq-eqb}
 use Rattle.m36_inst.specs.Instruction.{inst_of}
 use Rattle.m36_inst.specs.Operands.{operand_of, is_privileged, takes_direct}
 use Rattle.m36_inst.specs.declared.effect.Effect.{Effect}
 use Rattle.m36_inst.specs.declared.effect.Effect.TheVariants as effect
 use Rattle.m36_inst.specs.declared.operand.Operand.{Operand}
 use Rattle.m36_inst.specs.declared.operand.Operand.TheVariants as kind
-use Rattle.m36_model.specs.Fields.{AtFields, FinalFields}
+use Rattle.m36_model.specs.Fields.{AtFields}
 use Rattle.m36_model.specs.Registers.{RegsFields}
 use Rattle.m36_model.specs.Act.{RequestKind, Fetch, Indirect, Odd, Read, Write, Transfer, Call, Locate, Part, Whole, Request, Answer, Act, done, ask, and_then, answered, refer, either}
 use Rattle.m36_model.specs.Act as act
-use Rattle.m36_model.specs.Modification.{Point, Move, Ends, Fails, Reads, Counts, move_of_point, here}
+use Rattle.m36_model.specs.Modification.{Point, Move, Ends, Fails, Reads, Counts, move_of_point}
 use Rattle.m36_model.specs.FirstPoint.{first_point}
 use Rattle.m36_model.specs.Tally.{indirect_only}
 use Rattle.m36_model.specs.Chain.{at_point, indirect, ChainEnd, Formation, Found, Its, Itp, Plain, found, found_by_tag, after_word, after_tally, chain_by, chain_exhausted, chain}
 use Rattle.m36_model.specs.Transfers.{is_taken}
 use Rattle.m36_model.specs.Effect.{is_absa}
-use Rattle.m36_model.specs.Step.{Performed, Operation, aligned, request_at, tallied, reading_word, reading_words, writing, changing, addressing, transferring, calling, by_kind, by_direct, operate_on, operate, Ending, halted, completed, fetched, operated, indirect_words, addressed, no_address, started, admitted, decode, decoded, program}
+use Rattle.m36_model.specs.Step.{Performed, Operation, request_at, tallied, reading_word, changing, addressing, transferring, by_kind, by_direct, operate_on, operate, Ending, halted, completed, fetched, operated, indirect_words, addressed, no_address, started, admitted, decode, decoded, program}
 use Rattle.m36_model.specs.declared.outcome.Fault.{Fault}
 use Rattle.m36_model.specs.declared.outcome.Halt.{Halt}
 use Rattle.m36_model.specs.declared.outcome.Halt.TheVariants as halt
@@ -111,14 +111,10 @@ cost_more true n = omega arith
 cost_more false n = omega arith
 
 -- a reference to a page just referenced costs nothing
-eqb_is : (a b : ℕ) → a ≡ b → (t : Bool) → (a == b) ≡ t → t ≡ true
-eqb_is a b e true h = refl
-eqb_is a b e false h = absurd (eqb-false a b h e)
-
 same_is : (last at : AtFields) → last.seg ≡ at.seg → last.word / 1024 ≡ at.word / 1024 → fresh_by (Some last) at ≡ false
 same_is last at e f =
-    let x = eqb_is last.seg at.seg e _ refl in
-    let y = eqb_is (last.word / 1024) (at.word / 1024) f _ refl in
+    let x = eq-eqb last.seg at.seg e in
+    let y = eq-eqb (last.word / 1024) (at.word / 1024) f in
     λ i. not (x i && y i)
 
 free : (b : Bool) (n : ℕ) → b ≡ false → cost b n ≤ n

@@ -1,6 +1,7 @@
 -- The program of a step in ring r and above: it makes no reference below r, and ends there but for a gate call.
 use Rattle.std.proofs.Common.{◌≡◌, refl, ◌∙◌, ap, inl, inr, ⊎_elim, arith, le_trans, eqb-true}
 use Rattle.std.specs.Prelude.{ℕ, ◌+◌, ◌*◌, ◌<◌, ◌≤◌, ◌⊎◌, Bool, true, false, not, ◌&&◌, ◌==◌, slice_get, slice_index, Option, Some, None, Result, Ok, Err}
+use Rattle.std.proofs.lemmas.Bool.{or_right}
 use Rattle.m36_desc.specs.Fields.{SdwFields}
 use Rattle.m36_inst.specs.Fields.{InstFields}
 use Rattle.m36_inst.specs.Instruction.{inst_of}
@@ -28,7 +29,6 @@ use Rattle.m36_isol.proofs.Program.{Meets, meets_then, Either}
 use Rattle.m36_isol.proofs.Rights.{fetch_rights}
 use Rattle.m36_isol.specs.Rights.{MayFetch}
 use Rattle.m36_isol.proofs.Alike.{Sees, May, Known}
-use Rattle.m36_isol.proofs.Serve.{or_right}
 use Rattle.m36_isol.proofs.Chains.{InRing, AnyHalt, chain_meets}
 use Rattle.m36_isol.proofs.Operations.{IsFallen, IsPerformed, operate_meets}
 

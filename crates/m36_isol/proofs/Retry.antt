@@ -1,28 +1,26 @@
 -- A step over the core of a booted image: it meets a page that is in no frame, or none.
 use Rattle.std.proofs.Common.{◌≡◌, refl, sym, ◌∙◌, ap, subst, inl, inr, ⊎_elim, arith, eqb-true}
-use Rattle.std.specs.Prelude.{ℕ, zero, suc, ◌+◌, ◌/◌, ◌%◌, ◌<◌, ◌≤◌, ◌≢◌, ◌⊎◌, Bool, true, false, not, ◌&&◌, ◌==◌, List, [], ◌∷◌, Option, Some, None, Result, Ok, Err}
+use Rattle.std.specs.Prelude.{ℕ, ◌/◌, ◌≤◌, ◌≢◌, ◌⊎◌, Bool, true, false, not, ◌&&◌, ◌==◌, List, Option, Some, None, Result, Ok, Err}
+use Rattle.std.proofs.lemmas.Bool.{and_parts, not-false}
 use Rattle.m36_desc.specs.Fields.{SdwFields, DbrFields}
 use Rattle.m36_desc.specs.Access.{in_order}
 use Rattle.m36_model.specs.Fields.{AtFields}
 use Rattle.m36_model.specs.Registers.{RegsFields}
 use Rattle.m36_model.specs.Act.{RequestKind, Fetch, Indirect, Odd, Read, Write, Transfer, Call, Locate, Request, Answer, Act, done, ask}
-use Rattle.m36_model.specs.Store.{Spot, Core_word, Mid, Served, violation, fault_by, refused, within, place, place_by, place_within, place_ordered, places, is_target, touches, with_reference, serve, run}
-use Rattle.m36_model.specs.StoreLaw.{Each}
+use Rattle.m36_model.specs.Store.{Spot, Mid, Served, violation, fault_by, within, place, place_by, place_within, place_ordered, places, is_target, touches, with_reference, serve}
 use Rattle.m36_model.specs.Core.{core_store}
 use Rattle.m36_model.specs.Place.{core_sdw, core_spot}
-use Rattle.m36_model.specs.Step.{Ending}
 use Rattle.m36_model.specs.Flat.{Flat, flat_store}
 use Rattle.m36_model.specs.BootedCore.{booted_dbr, absent_ptw, IsPage, page_word, IsLaid}
 use Rattle.m36_model.specs.Residence.{absence, Lacks}
 use Rattle.m36_model.specs.declared.outcome.Fault.{Fault}
 use Rattle.m36_model.specs.declared.outcome.Refusal.{Refusal}
-use Rattle.m36_model.specs.declared.place.Reference.{Reference}
 use Rattle.m36_isol.proofs.CoreTables.{same_sdw, same_spot_of}
 use Rattle.m36_isol.proofs.Laid.{page_of_word, absent_spot, resident_spot}
 use Rattle.m36_isol.proofs.Booted.{StandsFor, IsPair, booted_mirrors}
 use Rattle.m36_isol.proofs.Mirror.{Mirrors, AreMids, IsServed, alike, cut, told_place, serve_mirrors, Stops, EndTwo, Asks}
-use Rattle.m36_isol.proofs.Plan.{has_page, adds, same_page, fresh_by, fresh, last_by, InPage, Follows, cost, Plan}
-use Rattle.m36_isol.proofs.Pages.{IsReplied, is_refused, is_answered, serve_replied, places_placed, target_number, On, all_known}
+use Rattle.m36_isol.proofs.Plan.{has_page, same_page, fresh_by, fresh, last_by, InPage}
+use Rattle.m36_isol.proofs.Pages.{IsReplied, is_refused, is_answered, serve_replied, places_placed, target_number}
 
 -- a page that begins within the bound of a segment is in a frame
 abbrev pub Holds : List ℕ → ℕ → ℕ → Type 0
@@ -255,18 +253,10 @@ module _ (core : List ℕ) (frames : ℕ) (laid : IsLaid core frames) where
     and_false true b e h = h
     and_false false b e h = cc
 
-    not_false : (b : Bool) → not b ≡ false → b ≡ true
-    not_false true h = refl
-    not_false false h = cc
-
-    and_both : (a b : Bool) → (a && b) ≡ true → (a ≡ true) × (b ≡ true)
-    and_both true b h = (refl, h)
-    and_both false b h = cc
-
     stale_by : (last : Option AtFields) (at : AtFields) → fresh_by last at ≡ false → HoldsLast core last → HoldsAt core at
     stale_by None at h holds = cc
     stale_by (Some last) at h holds =
-        let same = and_both (last.seg == at.seg) (last.word / 1024 == at.word / 1024) (not_false (same_page last at) h) in
+        let same = and_parts (last.seg == at.seg) (last.word / 1024 == at.word / 1024) (not-false (same_page last at) h) in
         subst (λ (n : ℕ). Holds core n (at.word / 1024)) (eqb-true last.seg at.seg same.0) (subst (λ (n : ℕ). Holds core last.seg n) (eqb-true (last.word / 1024) (at.word / 1024) same.1) holds)
 
     stale_page : (b : Bool) (x : Mid (List ℕ)) (y : Mid Flat) → Stand x y → (q : Request) (last : Option AtFields) → InPage q → has_page q.kind ≡ b → fresh last q ≡ false → HoldsLast core last → (f : Fault) → (serve core_store g x q).reply ≡ Err f → f.number ≡ 17 → IsCutHere q f → ⊥

@@ -1,7 +1,7 @@
 -- What an allowed reference tells of the descriptor.
 use Rattle.std.proofs.Common.{◌≡◌, refl, inl, inr, ⊎_elim, arith, eqb-true}
 use Rattle.std.specs.Prelude.{ℕ, ◌==◌, ◌<◌, ◌⊎◌, Bool, true, false, not, ◌&&◌, nat_le, List, [], ◌∷◌, None}
-use Rattle.std.proofs.lemmas.Bool.{ltb-false, leb-false, leb-true}
+use Rattle.std.proofs.lemmas.Bool.{ltb-false, leb-false, leb-true, and_parts, not-false}
 use Rattle.m36_desc.specs.Fields.{SdwFields}
 use Rattle.m36_desc.specs.Access.{first_of, in_order, read_rows}
 use Rattle.m36_model.specs.Act.{RequestKind, Fetch, Indirect, Odd, Read, Write, Transfer, Call, Locate}
@@ -21,30 +21,22 @@ none_hold : (list : List (Bool × ℕ)) → first_of list ≡ None → NoneHold 
 none_hold [] h = tt
 none_hold (row ∷ more) h = none_holds row.0 row.1 more (none_hold more) h
 
-not_false : (b : Bool) → not b ≡ false → b ≡ true
-not_false true h = refl
-not_false false h = cc
-
 -- every allowed reference finds the brackets in order
 pub denied_order : (kind : RequestKind) (d : SdwFields) (trr prr : ℕ) (same : Bool) (word : ℕ) → denied kind d trr prr same word ≡ None → in_order d ≡ true
 unfolding denied
-denied_order Fetch d trr prr same word h = not_false _ (none_hold (rows Fetch d trr prr same word) h).0
-denied_order Indirect d trr prr same word h = not_false _ (none_hold (rows Indirect d trr prr same word) h).0
-denied_order Odd d trr prr same word h = not_false _ (none_hold (rows Odd d trr prr same word) h).0
-denied_order Read d trr prr same word h = not_false _ (none_hold (rows Read d trr prr same word) h).0
-denied_order Write d trr prr same word h = not_false _ (none_hold (rows Write d trr prr same word) h).0
-denied_order Transfer d trr prr same word h = not_false _ (none_hold (rows Transfer d trr prr same word) h).0
-denied_order Call d trr prr same word h = not_false _ (none_hold (rows Call d trr prr same word) h).0
-denied_order Locate d trr prr same word h = not_false _ (none_hold (rows Locate d trr prr same word) h).0
+denied_order Fetch d trr prr same word h = not-false _ (none_hold (rows Fetch d trr prr same word) h).0
+denied_order Indirect d trr prr same word h = not-false _ (none_hold (rows Indirect d trr prr same word) h).0
+denied_order Odd d trr prr same word h = not-false _ (none_hold (rows Odd d trr prr same word) h).0
+denied_order Read d trr prr same word h = not-false _ (none_hold (rows Read d trr prr same word) h).0
+denied_order Write d trr prr same word h = not-false _ (none_hold (rows Write d trr prr same word) h).0
+denied_order Transfer d trr prr same word h = not-false _ (none_hold (rows Transfer d trr prr same word) h).0
+denied_order Call d trr prr same word h = not-false _ (none_hold (rows Call d trr prr same word) h).0
+denied_order Locate d trr prr same word h = not-false _ (none_hold (rows Locate d trr prr same word) h).0
 
 -- the order of the brackets in numbers
-order_by : (a b : Bool) → (a && b) ≡ true → (a ≡ true) × (b ≡ true)
-order_by true b h = (refl, h)
-order_by false b h = cc
-
 ordered : (d : SdwFields) → in_order d ≡ true → IsOrdered d
 ordered d h =
-    let k = order_by (nat_le d.r1 d.r2) (nat_le d.r2 d.r3) h in
+    let k = and_parts (nat_le d.r1 d.r2) (nat_le d.r2 d.r3) h in
     record { first = leb-true d.r1 d.r2 k.0; second = leb-true d.r2 d.r3 k.1 }
 
 pub order_rights : (kind : RequestKind) (d : SdwFields) (trr prr : ℕ) (same : Bool) (word : ℕ) → denied kind d trr prr same word ≡ None → IsOrdered d
@@ -57,7 +49,7 @@ fetch_rights d trr prr same word h =
     record {
       low = ltb-false prr d.r1 k.1.0;
       high = ltb-false d.r2 prr k.1.1.0;
-      executable = not_false d.executable k.1.1.1.0;
+      executable = not-false d.executable k.1.1.1.0;
     }
 
 readable_or : (readable same : Bool) → (not readable && not same) ≡ false → (readable ≡ true) ⊎ (same ≡ true)
@@ -68,7 +60,7 @@ readable_or false false h = cc
 readers : (d : SdwFields) (trr : ℕ) (same : Bool) → first_of (read_rows d trr same) ≡ None → MayRead d trr same
 readers d trr same h =
     let k = none_hold (read_rows d trr same) h in
-    let order = ordered d (not_false (in_order d) k.0) in
+    let order = ordered d (not-false (in_order d) k.0) in
     let high = ltb-false d.r2 trr k.1.0 in
     let opens = readable_or d.readable same k.1.1.0 in
     record { high = omega arith; opens = ⊎_elim (λ readable. inl readable) (λ executing. inr (cc)) opens }
@@ -89,9 +81,9 @@ pub write_rights : (d : SdwFields) (trr prr : ℕ) (same : Bool) (word : ℕ) �
 unfolding denied
 write_rights d trr prr same word h =
     let k = none_hold (rows Write d trr prr same word) h in
-    let order = ordered d (not_false (in_order d) k.0) in
+    let order = ordered d (not-false (in_order d) k.0) in
     let high = ltb-false d.r1 trr k.1.0 in
-    record { high = omega arith; writable = not_false d.writable k.1.1.0 }
+    record { high = omega arith; writable = not-false d.writable k.1.1.0 }
 
 pub transfer_rights : (d : SdwFields) (trr prr : ℕ) (same : Bool) (word : ℕ) → denied Transfer d trr prr same word ≡ None → MayTransfer d trr prr
 unfolding denied
@@ -100,8 +92,8 @@ transfer_rights d trr prr same word h =
     record {
       low = ltb-false trr d.r1 k.1.0;
       high = ltb-false d.r2 trr k.1.1.0;
-      executable = not_false d.executable k.1.1.1.0;
-      ring = eqb-true trr prr (not_false (trr == prr) k.1.1.1.1.0);
+      executable = not-false d.executable k.1.1.1.0;
+      ring = eqb-true trr prr (not-false (trr == prr) k.1.1.1.1.0);
     }
 
 entry_by : (no_gate same : Bool) (limit word : ℕ) → (not no_gate && (not same && nat_le limit word)) ≡ false → no_gate ≡ false → same ≡ false → word < limit
@@ -114,7 +106,7 @@ unfolding denied
 call_rights d trr prr same word h =
     let k = none_hold (rows Call d trr prr same word) h in
     record {
-      executable = not_false d.executable k.1.0;
+      executable = not-false d.executable k.1.0;
       entry = λ gate other. let below = entry_by d.no_gate same d.limit word k.1.1.0 gate other in omega arith;
       high = ltb-false d.r3 trr k.1.1.1.0;
       low = ltb-false trr d.r1 k.1.1.1.1.0;

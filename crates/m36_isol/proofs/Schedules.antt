@@ -2,6 +2,7 @@
 use Rattle.std.proofs.Common.{◌≡◌, refl, sym, ◌∙◌, ap, subst, leb-true, eqb-true, length-set}
 use Rattle.std.specs.Prelude.{ℕ, ◌<◌, ◌≤◌, Bool, true, false, ◌&&◌, ◌==◌, nat_le, List, [], ◌∷◌, map, length, slice_get, slice_set, Option, Some, None}
 use Rattle.std.proofs.lemmas.Bool.{eqb-false}
+use Rattle.std.proofs.lemmas.List.{length-map}
 use Rattle.m36_desc.specs.Fields.{DbrFields}
 use Rattle.m36_model.specs.Registers.{RegsFields}
 use Rattle.m36_model.specs.Store.{State, Tables}
@@ -17,7 +18,7 @@ use Rattle.m36_model.specs.Schedule.{Processes, process_of, Event, stepped, even
 use Rattle.m36_model.specs.JointAudit.{IsJointlyAudited}
 use Rattle.m36_model.specs.JointIsolation.{AgreeAll, IsEventKept, JointlyIsolated}
 use Rattle.m36_model.specs.declared.record.StepRecord.{StepRecord}
-use Rattle.m36_isol.proofs.Lists.{set_other, set_same, get_beside, get_map, length_map}
+use Rattle.m36_isol.proofs.Lists.{set_other, set_same, get_beside, get_map}
 use Rattle.m36_isol.proofs.Alike.{Sees, Reaches}
 use Rattle.m36_isol.proofs.Windows.{after_is}
 use Rattle.m36_isol.proofs.AuditedBy.{same_dbr}
@@ -352,7 +353,7 @@ module _ (core : List ℕ) (dbrs : List DbrFields) (audited : IsJointlyAudited c
 -- Where the joint audit conditions hold, every schedule is isolated.
 pub jointly_isolated : (core : List ℕ) (dbrs : List DbrFields) → IsJointlyAudited core dbrs → JointlyIsolated core_store (map (core_tables core) dbrs)
 jointly_isolated core dbrs audited r some high a b above agree schedule =
-    let sound : AreSound core dbrs audited r some a = record { count = above.count ∙ length_map (core_tables core) dbrs; each = λ i g dbr at there. above.each i g (core_tables core dbr) at (get_map (core_tables core) dbrs i dbr there) } in
+    let sound : AreSound core dbrs audited r some a = record { count = above.count ∙ length-map dbrs (core_tables core); each = λ i g dbr at there. above.each i g (core_tables core dbr) at (get_map (core_tables core) dbrs i dbr there) } in
     let sound_b = sound_other core dbrs audited r some a b sound agree in
     let k = windows core dbrs audited r some a b sound sound_b schedule a b sound agree (λ i g h at at' seg w none. let same : g ≡ h = cc in ap (λ (x : RegsFields). content_in core_store a.store x.dbr seg w) (sym same)) (λ i g h at at' seg w none. let same : g ≡ h = cc in ap (λ (x : RegsFields). content_in core_store b.store x.dbr seg w) (sym same)) in
     record { processes = k.processes; told = k.told; agree = k.agree; kept = k.kept; kept_other = k.kept_other }

@@ -1,31 +1,24 @@
 -- One request to two stores that stand alike: equal replies, and they stand alike again.
 use Rattle.std.proofs.Common.{◌≡◌, refl, sym, ◌∙◌, ap, subst, ⊎_elim}
 use Rattle.std.proofs.Math.Nat.{le_trans}
-use Rattle.std.specs.Prelude.{ℕ, ◌+◌, ◌≤◌, Bool, true, false, ◌||◌, ◌==◌, List, [], ◌∷◌, ◌++◌, map, length, Option, Some, None, Result, Ok, Err}
-use Rattle.std.proofs.lemmas.Bool.{eqb-true}
+use Rattle.std.specs.Prelude.{ℕ, ◌+◌, ◌≤◌, true, ◌==◌, List, [], ◌∷◌, ◌++◌, map, length, Option, Some, None, Result, Ok, Err}
+use Rattle.std.proofs.lemmas.Bool.{eqb-true, or_left, or_right}
 use Rattle.m36_desc.specs.Fields.{SdwFields}
 use Rattle.m36_desc.specs.Access.{in_order}
 use Rattle.m36_model.specs.Fields.{AtFields}
 use Rattle.m36_model.specs.Registers.{RegsFields}
 use Rattle.m36_model.specs.Act.{RequestKind, Fetch, Indirect, Odd, Read, Write, Transfer, Call, Locate, Put, Request, Answer}
-use Rattle.m36_model.specs.Store.{Spot, Change, Store, Mid, Served, spots_of, places, changes, denied, serve, serve_sdw, serve_rights, serve_places, with_odd, with_reference, located}
+use Rattle.m36_model.specs.Store.{Spot, Change, Store, Mid, Served, spots_of, places, changes, denied, serve, serve_sdw, serve_rights, serve_places, with_odd, located}
 use Rattle.m36_model.specs.StoreLaw.{Each, IsWord, IsSpot, Lawful, overlay}
 use Rattle.m36_model.specs.declared.outcome.Fault.{Fault}
 use Rattle.m36_model.specs.declared.outcome.Refusal.{Refusal}
 use Rattle.m36_model.specs.declared.place.Reference.{Reference}
+use Rattle.m36_isol.proofs.Mirror.{asked, one_more}
 use Rattle.m36_isol.proofs.Program.{AreServed}
 use Rattle.m36_isol.proofs.Rights.{denied_order, fetch_rights, read_rights, indirect_rights, odd_rights, write_rights}
 use Rattle.m36_isol.specs.Rights.{MayRead, MayFetch}
 use Rattle.m36_isol.proofs.Alike.{Sees, Reaches, IsReached, IsAllowedReference, May, MayRing, Known, IsKept, Alike, SeeEqual}
 use Rattle.m36_isol.proofs.Spots.{AreWords, same_spots, are_words, begins, each_append, each_change, each_map}
-
-or_left : (a b : Bool) → a ≡ true → (a || b) ≡ true
-or_left true b h = refl
-or_left false b h = cc
-
-pub or_right : (a b : Bool) → b ≡ true → (a || b) ≡ true
-or_right true b h = refl
-or_right false b h = h
 
 module _ {S : Type 0} (o : Store S) (g : RegsFields) (Has : S → Type 0) (Lies : Spot → Type 0) (Near : S → S → Type 0) (L : Lawful o g.dbr Has Lies Near) (r : ℕ) (low : r ≤ g.ppr.prr) (first other : S) (equal : SeeEqual o L.sdws L.spots r first other) where
   abbrev Stand : Mid S → Mid S → Type 0
@@ -77,10 +70,6 @@ module _ {S : Type 0} (o : Store S) (g : RegsFields) (Has : S → Type 0) (Lies 
   fetcher : (seg : ℕ) (d : SdwFields) → L.sdws seg ≡ Ok d → MayFetch d g.ppr.prr → Sees L.sdws r seg
   fetcher seg d live m =
       record { sdw = d; live = live; opens = or_right d.readable d.executable m.executable; high = le_trans low m.high }
-
-  -- a request and its parts
-  abbrev asked : RequestKind → AtFields → ℕ → List Put → Request
-  asked kind at count pending = record { kind = kind; at = at; count = count; pending = pending }
 
   abbrev Allows : RequestKind → AtFields → SdwFields → Type 0
   Allows kind at d = denied kind d at.ring g.ppr.prr (at.seg == g.ppr.psr) at.word ≡ None
@@ -158,10 +147,6 @@ module _ {S : Type 0} (o : Store S) (g : RegsFields) (Has : S → Type 0) (Lies 
   -- a refusal leaves all as it was
   served_refused : (q : Request) (f : Fault) (x y : Mid S) → Stand x y → Serves q (record { reply = Err f; mid = x }) (record { reply = Err f; mid = y })
   served_refused q f x y k = record { reply = refl; mid = k; known = λ a e. cc }
-
-  -- the list of references with one more, or with the last one made a pair
-  abbrev one_more : RequestKind → AtFields → ℕ → List Put → List Reference → List Reference
-  one_more kind at count pending refs = with_reference kind (asked kind at count pending) refs
 
   each_odd : (q : Request) → Sees L.sdws r q.at.seg → (refs : List Reference) → Each (IsAllowedReference L.sdws r) refs → Each (IsAllowedReference L.sdws r) (with_odd q refs)
   each_odd q sees [] h = tt

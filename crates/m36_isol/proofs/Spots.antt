@@ -1,6 +1,7 @@
 -- The spots of a reference, and the changes that puts mean.
 use Rattle.std.proofs.Common.{◌≡◌, refl, sym, ◌∙◌, subst, arith}
-use Rattle.std.specs.Prelude.{ℕ, zero, suc, ◌+◌, ◌≤◌, Bool, true, false, ◌&&◌, List, [], ◌∷◌, ◌++◌, slice_get, Option, Some, None, Result, Ok, Err}
+use Rattle.std.specs.Prelude.{ℕ, zero, suc, ◌+◌, ◌≤◌, Bool, true, false, List, [], ◌∷◌, ◌++◌, slice_get, Option, Some, None, Result, Ok, Err}
+use Rattle.std.proofs.lemmas.Bool.{and_from}
 use Rattle.m36_desc.specs.Fields.{SdwFields, DbrFields}
 use Rattle.m36_desc.specs.Access.{in_order}
 use Rattle.m36_model.specs.Act.{Put}
@@ -8,13 +9,8 @@ use Rattle.m36_model.specs.Store.{Spot, Change, Store, within, placed, placed_on
 use Rattle.m36_model.specs.StoreLaw.{Each, IsWord, Lawful}
 use Rattle.m36_model.specs.declared.outcome.Refusal.{Refusal}
 
-both_true : (a b : Bool) → a ≡ true → b ≡ true → (a && b) ≡ true
-both_true true true h k = refl
-both_true true false h k = k
-both_true false b h k = h
-
 pub placed_by : (d : SdwFields) (w : ℕ) → in_order d ≡ true → within d w ≡ true → placed d w ≡ true
-placed_by d w h k = both_true (in_order d) (within d w) h k
+placed_by d w h k = and_from (in_order d) (within d w) h k
 
 pub each_append : {A : Type 0} (P : A → Type 0) (xs ys : List A) → Each P xs → Each P ys → Each P (xs ++ ys)
 each_append P [] ys h k = k

@@ -1,21 +1,19 @@
 -- An instruction that is started again after each page service: how far it gets.
-use Rattle.std.proofs.Common.{◌≡◌, refl, sym, ◌∙◌, ap, subst, inl, inr, ⊎_elim, arith, eqb-true}
-use Rattle.std.specs.Prelude.{ℕ, zero, suc, ◌+◌, ◌/◌, ◌≤◌, ◌≢◌, ◌⊎◌, Bool, true, false, ◌==◌, List, [], ◌∷◌, Option, Some, None, Result, Ok, Err}
+use Rattle.std.proofs.Common.{◌≡◌, refl, sym, ap, subst, inl, inr, eqb-true}
+use Rattle.std.specs.Prelude.{ℕ, zero, suc, ◌≢◌, ◌⊎◌, Bool, true, false, ◌==◌, List, Option, Result, Ok, Err}
 use Rattle.std.proofs.lemmas.Bool.{eqb-false}
 use Rattle.m36_model.specs.Fields.{AtFields}
 use Rattle.m36_model.specs.Registers.{RegsFields}
-use Rattle.m36_model.specs.Act.{RequestKind, Request, Answer, Act, done, ask}
-use Rattle.m36_model.specs.Store.{Mid, Served, touches, with_reference, serve, run}
+use Rattle.m36_model.specs.Act.{Request, Answer, Act, done, ask}
+use Rattle.m36_model.specs.Store.{Mid, Served, serve, run}
 use Rattle.m36_model.specs.StoreLaw.{Each}
 use Rattle.m36_model.specs.Core.{core_store}
-use Rattle.m36_model.specs.Flat.{Flat, flat_store}
-use Rattle.m36_model.specs.BootedCore.{booted_dbr, IsLaid}
 use Rattle.m36_model.specs.declared.outcome.Fault.{Fault}
 use Rattle.m36_model.specs.declared.place.Reference.{Reference}
 use Rattle.m36_isol.proofs.Mirror.{Stops, Asks}
-use Rattle.m36_isol.proofs.Plan.{has_page, fresh, last_by, InPage, Follows, cost, Plan}
-use Rattle.m36_isol.proofs.Pages.{IsReplied, is_refused, is_answered, serve_replied, On, EndsAt, ends_after, WasKnown, was_known, all_known}
-use Rattle.m36_isol.proofs.Retry.{Holds, IsAbsent, HoldsAt, HoldsLast, IsThere, IsOver, stops_over, last_holds, touched_page, page_target, Stand, IsCutHere, IsOn, goes_on, is_over, is_away, one_request, target_there, IsRead, was_read, stale}
+use Rattle.m36_isol.proofs.Plan.{fresh, last_by, InPage, Follows, Plan}
+use Rattle.m36_isol.proofs.Pages.{IsReplied, is_refused, is_answered, serve_replied, On, EndsAt, ends_after, was_known}
+use Rattle.m36_isol.proofs.Retry.{IsThere, IsOver, stops_over}
 
 -- how many new pages are left to be reached
 abbrev pub left : Bool → ℕ → ℕ
