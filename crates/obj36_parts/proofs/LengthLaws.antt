@@ -106,6 +106,11 @@ short_lists p e =
       relocations = omega (arith, small, length-words_of p);
     }
 
+-- how many words an object has at least besides those of its parts
+pub least_size : (b : Bool) → 18 ≤ cond b 19 18
+least_size true = omega arith
+least_size false = omega arith
+
 -- no list of words stands for parts with a list that is too long to be counted
 no_list : (p : PartsFields) (b : Bool) → is_well_formed p ≡ b → (HasShortLists p → ⊥) → b ≡ false
 no_list p true e long = absurd (long (short_lists p e))
