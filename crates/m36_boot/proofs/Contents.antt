@@ -23,7 +23,7 @@ use Rattle.m36_boot.specs.Image.{pages_of, booted_tables, booted_content, booted
 use Rattle.m36_boot.specs.Image.{content_by as booted_by}
 use Rattle.m36_boot.proofs.Sizes.{AreFiles}
 use Rattle.m36_boot.proofs.ImageTables.{page_table, has_table, table_is}
-use Rattle.m36_boot.proofs.LaidCore.{IsMade, zeros_at, absent_at, word_here, size_of}
+use Rattle.m36_boot.proofs.LaidCore.{given_from, IsMade, zeros_at, absent_at, word_here, size_of}
 
 -- ---- the table of a segment
 
@@ -48,10 +48,6 @@ in_list (u ∷ tables) seg (suc j) t at is =
 
 eq_self : (n : ℕ) → nat_eq n n ≡ true
 eq_self n = eq-eqb n n refl
-
-given_from : (o : Option PageTable) (t : TableFields) → option_map table_given o ≡ Some t → (u : PageTable) × (o ≡ Some u) × (table_given u ≡ t)
-given_from None t e = absurd (cc)
-given_from (Some u) t e = (u, refl, cc)
 
 no_table : TableFields
 no_table = record { seg = 0; at = 0; pages = 0; words = [] }

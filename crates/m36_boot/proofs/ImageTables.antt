@@ -1,8 +1,8 @@
 -- The page tables of an image: in order, apart, and one for each segment.
-use Rattle.std.proofs.Common.{ℕ, zero, suc, ◌≡◌, ◌+◌, ◌-◌, ◌*◌, ◌<◌, ◌≤◌, Bool, true, false, List, ◌++◌, length, Option, Some, None, refl, sym, ap, subst, inl, inr, ◌∙◌, arith, append_assoc}
-use Rattle.std.specs.Prelude.{slice_get, nat_le, ◌&&◌, ◌||◌}
+use Rattle.std.proofs.Common.{ℕ, zero, suc, ◌≡◌, ◌+◌, ◌-◌, ◌*◌, ◌<◌, ◌≤◌, true, List, ◌++◌, length, Option, Some, None, refl, sym, ap, subst, inl, inr, ◌∙◌, arith, append_assoc}
+use Rattle.std.specs.Prelude.{slice_get, nat_le}
 use Rattle.std.specs.List.{list_all}
-use Rattle.std.proofs.lemmas.Bool.{le-leb, cases_eq}
+use Rattle.std.proofs.lemmas.Bool.{le-leb, cases_eq, and_from, or_left}
 use Rattle.std.proofs.lemmas.List.{append-nil}
 use Rattle.m36_desc.specs.Fields.{SdwFields}
 use Rattle.m36_model.specs.BootedCore.{table_at, wired_frames}
@@ -40,19 +40,11 @@ tables_all catalog files lay n seg tables total le so_far =
 
 -- ---- apart
 
-both : (a b : Bool) → a ≡ true → b ≡ true → (a && b) ≡ true
-both true b e f = f
-both false b e f = e
-
-either : (a b : Bool) → a ≡ true → (a || b) ≡ true
-either true b e = refl
-either false b e = absurd (cc)
-
 apart_by : (t : PageTable) (o : Option SdwFields) (seg : ℕ) (words : List ℕ) (rest : List PageTable) → t.at + t.pages ≤ table_at seg
     → list_all (is_apart t) rest ≡ true → list_all (is_apart t) (table_of_segment seg o words ++ rest) ≡ true
 apart_by t None seg words rest le e = e
 apart_by t (Some d) seg words rest le e =
-    both _ _ (either (nat_le (t.at + t.pages) (table_at seg)) _ (le-leb (t.at + t.pages) (table_at seg) le)) e
+    and_from _ _ (or_left (nat_le (t.at + t.pages) (table_at seg)) _ (le-leb (t.at + t.pages) (table_at seg) le)) e
 
 later_apart : (catalog : CatalogFields) (files : List (List ℕ)) (lay : Option LayFields) (t : PageTable) (seg n : ℕ) → t.at + t.pages ≤ table_at seg
     → list_all (is_apart t) (tables_from catalog files lay seg n) ≡ true
@@ -77,8 +69,8 @@ placed_by catalog files lay (Some d) seg n are is e lt rest =
     let room = pages_fit catalog files lay seg d is e in
     let low : table_at seg + pages_of d ≤ 1024 * wired_frames = omega (arith, bound, lt) in
     let next : table_at seg + pages_of d ≤ table_at (seg + 1) = omega (arith, bound) in
-    both _ _ (both _ _
-    (both _ _ (le-leb (table_at seg + pages_of d) (1024 * wired_frames) low) (le-leb (length (booted_words files lay seg)) (1024 * pages_of d) room))
+    and_from _ _ (and_from _ _
+    (and_from _ _ (le-leb (table_at seg + pages_of d) (1024 * wired_frames) low) (le-leb (length (booted_words files lay seg)) (1024 * pages_of d) room))
     (later_apart catalog files lay (page_table catalog files lay seg d) (seg + 1) n next)) rest
 
 placed_from : (catalog : CatalogFields) (files : List (List ℕ)) (lay : Option LayFields) (seg n : ℕ) → AreFiles catalog files → IsFirst lay → seg + n ≤ 576

@@ -111,7 +111,7 @@ record IsWordOf (catalog : CatalogFields) (files : List (List ℕ)) (a : ℕ) : 
   low : table_at seg ≤ a
   high : a < table_at seg + pages_of sdw
 
-given_from : (o : Option PageTable) (t : TableFields) → option_map table_given o ≡ Some t → (u : PageTable) × (o ≡ Some u) × (table_given u ≡ t)
+pub given_from : (o : Option PageTable) (t : TableFields) → option_map table_given o ≡ Some t → (u : PageTable) × (o ≡ Some u) × (table_given u ≡ t)
 given_from None t e = absurd (cc)
 given_from (Some u) t e = (u, refl, cc)
 

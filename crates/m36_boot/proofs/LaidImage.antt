@@ -13,6 +13,7 @@ use Rattle.m36_model.specs.Place.{wrapped, directed, in_bounds, directory_at, pt
 use Rattle.m36_model.specs.BootedCore.{booted_dbr, wired_frames, absent_ptw, resident_ptw, page_word, IsLaidSegment, IsPage, IsLaid}
 use Rattle.m36_model.specs.declared.outcome.Refusal.{Refusal}
 use Rattle.m36_dir.specs.Catalog.{CatalogFields}
+use Rattle.m36_page.proofs.Frames.{absent_unmarked}
 use Rattle.m36_link.specs.Fields.{LayFields}
 use Rattle.m36_boot.specs.Segments.{booted_sdw}
 use Rattle.m36_boot.specs.Image.{descriptor_word, IsWhole}
@@ -60,10 +61,6 @@ out_by why e = let number = ap (λ (r : Refusal). r.number) (let same : violatio
 
 never : {P : Type 0} (why : Refusal) (d : SdwFields) → err_of why ≡ Ok d → P
 never why d e = absurd (cc)
-
-unmarked_absent : unmarked absent_ptw ≡ absent_ptw
-unfolding unmarked
-unmarked_absent = refl
 
 module _ (catalog : CatalogFields) (files : List (List ℕ)) (lay : Option LayFields) (n : ℕ) (core : List ℕ) (are : AreFiles catalog files) (few : length catalog.segments ≤ 512) (made : IsMade catalog files lay n core) (room : 2048 ≤ n) where
   sound_of : (seg : ℕ) (o : Option SdwFields) → booted_sdw catalog files seg ≡ o → Sound o
@@ -120,7 +117,7 @@ module _ (catalog : CatalogFields) (files : List (List ℕ)) (lay : Option LayFi
   away seg page is =
       let has = sdw_live seg is.sdw is.live in
       let begins = is.begins in
-      ap unmarked (absent_at catalog files lay n seg page core is.sdw are made has (omega (arith, begins))) ∙ unmarked_absent
+      ap unmarked (absent_at catalog files lay n seg page core is.sdw are made has (omega (arith, begins))) ∙ absent_unmarked
 
   resident_no : (frame w : ℕ) → w ≡ absent_ptw → w ≡ resident_ptw frame → ⊥
   resident_no frame w e f = absurd (omega (arith, e, f))

@@ -1,5 +1,6 @@
 -- The limits, segment by segment.
 use Rattle.std.proofs.Common.{ℕ, suc, ◌≡◌, ◌+◌, ◌-◌, ◌^◌, ◌<◌, ◌≤◌, Bool, true, false, cond, List, [], ◌∷◌, ◌++◌, get_or, Option, Some, None, refl, sym, ap, subst, inl, inr, ◌∙◌, arith, length-append}
+use Rattle.std.specs.Option.{option_or}
 use Rattle.std.specs.Prelude.{slice_get, nat_lt, nat_le, ◌&&◌}
 use Rattle.obj36_parts.specs.PartsFields.{PartsFields}
 use Rattle.std.proofs.lemmas.Bool.{cases_lt}
@@ -9,34 +10,34 @@ use Rattle.m36_dir.specs.Fields.{SegmentFields}
 use Rattle.m36_boot.specs.declared.fault.BootFault.{BootFault}
 use Rattle.m36_boot.specs.declared.fault.BootFault.TheVariants as fault
 use Rattle.m36_boot.specs.Segments.{file_at, limit_of}
-use Rattle.m36_boot.specs.Refusals.{ToldOfGates, bound_fault, gate_fault, gate_fault_of, or_later, first_gate_fault, limit_at, AreLimits}
+use Rattle.m36_boot.specs.Refusals.{ToldOfGates, bound_fault, gate_fault, gate_fault_of, first_gate_fault, limit_at, AreLimits}
 
 gates_by : (catalog : CatalogFields) (files : List (List ℕ)) (i n left : ℕ) → n - i ≡ suc left
     → first_gate_fault catalog files i (n - i)
-    ≡ or_later (gate_fault_of (64 + i) (slice_get catalog.segments i) (file_at files i)) (first_gate_fault catalog files (i + 1) left)
+    ≡ option_or (gate_fault_of (64 + i) (slice_get catalog.segments i) (file_at files i)) (first_gate_fault catalog files (i + 1) left)
 unfolding first_gate_fault
 gates_by catalog files i n left e = ap (λ m. first_gate_fault catalog files i m) e
 
 gates_here : (catalog : CatalogFields) (files : List (List ℕ)) (i n : ℕ) → i < n
     → first_gate_fault catalog files i (n - i)
-    ≡ or_later (gate_fault_of (64 + i) (slice_get catalog.segments i) (file_at files i)) (first_gate_fault catalog files (i + 1) (n - (i + 1)))
+    ≡ option_or (gate_fault_of (64 + i) (slice_get catalog.segments i) (file_at files i)) (first_gate_fault catalog files (i + 1) (n - (i + 1)))
 gates_here catalog files i n lt = gates_by catalog files i n (n - (i + 1)) (omega (arith, lt))
 
 -- the fault of a segment of the catalog
 gates_at : (catalog : CatalogFields) (files : List (List ℕ)) (i n : ℕ) (s : SegmentFields) (words : List ℕ) → i < n
     → slice_get catalog.segments i ≡ Some s → words ≡ file_at files i
-    → first_gate_fault catalog files i (n - i) ≡ or_later (gate_fault (64 + i) s words) (first_gate_fault catalog files (i + 1) (n - (i + 1)))
+    → first_gate_fault catalog files i (n - i) ≡ option_or (gate_fault (64 + i) s words) (first_gate_fault catalog files (i + 1) (n - (i + 1)))
 gates_at catalog files i n s words lt at file =
     gates_here catalog files i n lt
-    ∙ ap (λ o. or_later (gate_fault_of (64 + i) o (file_at files i)) (first_gate_fault catalog files (i + 1) (n - (i + 1)))) at
-    ∙ ap (λ (w : List ℕ). or_later (gate_fault (64 + i) s w) (first_gate_fault catalog files (i + 1) (n - (i + 1)))) (sym file)
+    ∙ ap (λ o. option_or (gate_fault_of (64 + i) o (file_at files i)) (first_gate_fault catalog files (i + 1) (n - (i + 1)))) at
+    ∙ ap (λ (w : List ℕ). option_or (gate_fault (64 + i) s w) (first_gate_fault catalog files (i + 1) (n - (i + 1)))) (sym file)
 
-told_by : (told : BootFault) (here later total : Option BootFault) → ToldOfGates told here → or_later here later ≡ total → ToldOfGates told total
+told_by : (told : BootFault) (here later total : Option BootFault) → ToldOfGates told here → option_or here later ≡ total → ToldOfGates told total
 told_by fault.NoMemory here later total says e = tt
-told_by fault.U1 here later total says e = sym e ∙ ap (λ o. or_later o later) says
-told_by (fault.U2 n) here later total says e = sym e ∙ ap (λ o. or_later o later) says
-told_by fault.U3 here later total says e = sym e ∙ ap (λ o. or_later o later) says
-told_by (fault.U4 n) here later total says e = sym e ∙ ap (λ o. or_later o later) says
+told_by fault.U1 here later total says e = sym e ∙ ap (λ o. option_or o later) says
+told_by (fault.U2 n) here later total says e = sym e ∙ ap (λ o. option_or o later) says
+told_by fault.U3 here later total says e = sym e ∙ ap (λ o. option_or o later) says
+told_by (fault.U4 n) here later total says e = sym e ∙ ap (λ o. option_or o later) says
 
 pub limits_stop : (catalog : CatalogFields) (files : List (List ℕ)) (i n : ℕ) (s : SegmentFields) (words : List ℕ) (told : BootFault)
     → i < n → slice_get catalog.segments i ≡ Some s → words ≡ file_at files i → ToldOfGates told (gate_fault (64 + i) s words)
@@ -51,7 +52,7 @@ pub limits_on : (catalog : CatalogFields) (files : List (List ℕ)) (i n : ℕ) 
     → first_gate_fault catalog files i (n - i) ≡ first_gate_fault catalog files 0 n
     → first_gate_fault catalog files (i + 1) (n - (i + 1)) ≡ first_gate_fault catalog files 0 n
 limits_on catalog files i n s words lt at file none so_far =
-    ap (λ o. or_later o (first_gate_fault catalog files (i + 1) (n - (i + 1)))) (sym none)
+    ap (λ o. option_or o (first_gate_fault catalog files (i + 1) (n - (i + 1)))) (sym none)
     ∙ sym (gates_at catalog files i n s words lt at file) ∙ so_far
 
 pub limits_done : (catalog : CatalogFields) (files : List (List ℕ)) (i n : ℕ) → n ≤ i

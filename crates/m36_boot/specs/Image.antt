@@ -18,7 +18,7 @@ use Rattle.m36_page.specs.Residence.{content_of, kept_word, has_page, spot_of, I
 use Rattle.m36_boot.specs.declared.fault.BootFault.{BootFault}
 use Rattle.m36_boot.specs.declared.image.Image.{Image}
 use Rattle.m36_link.specs.Fields.{LayFields, SnapFields}
-use Rattle.m36_link.specs.Known.{linkage_segment}
+use Rattle.m36_link.specs.Known.{first_segment, linkage_segment}
 use Rattle.m36_boot.specs.Segments.{ring_segment, linkage_pages, booted_sdw, booted_words}
 use Rattle.m36_boot.specs.Start.{start_regs}
 use Rattle.m36_boot.specs.Refusals.{least_frames, Told, boot_answer}
@@ -82,7 +82,8 @@ tables_from catalog files lay seg (suc n) =
     ++ tables_from catalog files lay (seg + 1) n
 
 unfoldable pub booted_tables : CatalogFields → List (List ℕ) → Option LayFields → List PageTable
-booted_tables catalog files lay = tables_from catalog files lay 0 (64 + length catalog.segments)
+booted_tables catalog files lay =
+    tables_from catalog files lay 0 (first_segment + length catalog.segments)
 
 -- the content of a word of a segment: the word that is given, zero behind those in the segment's
 -- last page, and none past its pages

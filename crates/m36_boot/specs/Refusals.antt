@@ -3,6 +3,7 @@
 use Rattle.std.specs.Prelude.{ℕ, zero, suc, ◌≡◌, ◌+◌, ◌^◌, ◌<◌, Bool, true, false, not, ◌&&◌}
 use Rattle.std.specs.Prelude.{nat_lt, nat_le, if◌then◌else◌, List}
 use Rattle.std.specs.Prelude.{length, slice_get, slice_index, Option, Some, None, Result, Ok, Err}
+use Rattle.std.specs.Option.{option_or}
 use Rattle.m36_dir.specs.Fields.{SegmentFields}
 use Rattle.m36_dir.specs.Catalog.{CatalogFields}
 use Rattle.obj36_parts.specs.PartsFields.{PartsFields}
@@ -10,7 +11,7 @@ use Rattle.obj36.specs.ObjectOf.{value_of}
 use Rattle.m36_boot.specs.declared.fault.BootFault.{BootFault}
 use Rattle.m36_boot.specs.declared.fault.BootFault.TheVariants as fault
 use Rattle.m36_link.specs.Fields.{SnapFields}
-use Rattle.m36_link.specs.Known.{segment_of, object_in}
+use Rattle.m36_link.specs.Known.{first_segment, segment_of, object_in}
 use Rattle.m36_link.specs.Landing.{is_plain}
 use Rattle.m36_link.specs.Snap.{RefusedFields}
 use Rattle.m36_boot.specs.Segments.{file_at, is_gate, entry_bound_of, limit_of}
@@ -39,15 +40,11 @@ abbrev pub gate_fault_of : ℕ → Option SegmentFields → List ℕ → Option 
 gate_fault_of seg None words = None
 gate_fault_of seg (Some s) words = gate_fault seg s words
 
-abbrev pub or_later : Option BootFault → Option BootFault → Option BootFault
-or_later (Some here) later = Some here
-or_later None later = later
-
 -- of so many segments from one on, counted from 0
 unfoldable pub first_gate_fault : CatalogFields → List (List ℕ) → ℕ → ℕ → Option BootFault
 first_gate_fault catalog files i zero = None
 first_gate_fault catalog files i (suc n) =
-    or_later (gate_fault_of (64 + i) (slice_get catalog.segments i) (file_at files i))
+    option_or (gate_fault_of (first_segment + i) (slice_get catalog.segments i) (file_at files i))
     (first_gate_fault catalog files (i + 1) n)
 
 -- ---- the start: where it is not found, where it is no object, and what else forbids it

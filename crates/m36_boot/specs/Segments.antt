@@ -14,7 +14,7 @@ use Rattle.m36_dir.specs.Catalog.{CatalogFields}
 use Rattle.obj36_parts.specs.PartsFields.{PartsFields}
 use Rattle.obj36.specs.ObjectOf.{value_of}
 use Rattle.m36_link.specs.Fields.{LayFields}
-use Rattle.m36_link.specs.Known.{linkage_segment, lot_words, lot_word}
+use Rattle.m36_link.specs.Known.{first_segment, linkage_segment, lot_words, lot_word}
 
 -- Stacks are segments 8 to 15, linkage segments 16 to 23, and those of the catalog 64 and on.
 abbrev pub stack_segment : ℕ → ℕ
@@ -110,8 +110,9 @@ booted_sdw catalog files seg =
     if nat_lt seg 8 then None
     else if nat_lt seg 16 then Some (ring_segment seg (seg - 8) stack_pages)
     else if nat_lt seg 24 then Some (ring_segment seg (seg - 16) linkage_pages)
-    else if nat_lt seg 64 then None
-    else catalog_segment seg (slice_get catalog.segments (seg - 64)) (file_at files (seg - 64))
+    else if nat_lt seg first_segment then None
+    else catalog_segment seg (slice_get catalog.segments (seg - first_segment))
+    (file_at files (seg - first_segment))
 
 -- ---- words; those that are lacking up to the end of the last page are zero
 
@@ -137,4 +138,4 @@ unfoldable pub booted_words : List (List ℕ) → Option LayFields → ℕ → L
 booted_words files lay seg =
     if nat_lt seg 16 then stack_words (seg - 8)
     else if nat_lt seg 24 then linkage_words lay (seg - 16)
-    else file_at files (seg - 64)
+    else file_at files (seg - first_segment)

@@ -1,11 +1,11 @@
 -- Where a booted machine starts, and its registers there.
 use Rattle.std.specs.Prelude.{ℕ, Bool, false, ◌&&◌, nat_le, List, [], ◌∷◌}
 use Rattle.std.specs.Prelude.{Option, Some, None, Result}
-use Rattle.m36_desc.specs.Fields.{PtrFields, ItsFields}
+use Rattle.m36_desc.specs.Fields.{ItsFields}
 use Rattle.m36_desc.specs.Descriptors.{its_of}
 use Rattle.m36_model.specs.BootedCore.{booted_dbr}
 use Rattle.m36_model.specs.Registers.{RegsFields}
-use Rattle.m36_model.specs.declared.registers.Ind.{Ind}
+use Rattle.m36_model.specs.Worked.{no_indicators, pointer}
 use Rattle.m36_dir.specs.Fields.{SegmentFields}
 use Rattle.m36_dir.specs.StartFields.{StartFields}
 use Rattle.m36_dir.specs.Catalog.{CatalogFields}
@@ -48,20 +48,6 @@ may_start ring None = false
 may_start ring (Some s) = s.mode.executable && nat_le s.r1 ring && nat_le ring s.r2
 
 -- ---- registers
-
-abbrev pub pointer : ℕ → ℕ → ℕ → PtrFields
-pointer seg ring word = record { seg = seg; ring = ring; word = word; bit = 0 }
-
-abbrev pub no_indicators : Ind
-no_indicators =
-    record {
-      zero = false;
-      negative = false;
-      carry = false;
-      overflow = false;
-      mask = false;
-      tally = false;
-    }
 
 -- where the linkage section of the start is laid
 abbrev pub section_base : Option LayFields → ℕ

@@ -1,6 +1,6 @@
 //! The descriptors and the words of segments.
 
-ghost use Rattle.std.specs.Prelude.{ℕ, ◌≡◌, ◌+◌, ◌*◌, ◌/◌, ◌<◌, ◌≤◌, ◌^◌, ◌⊎◌, length, All, IfOk, IfSome, true};
+ghost use Rattle.std.specs.Prelude.{◌≡◌, ◌+◌, ◌*◌, ◌/◌, ◌<◌, ◌≤◌, ◌^◌, ◌⊎◌, length, All, IfOk, IfSome, true};
 ghost use Rattle.m36_desc.specs.Access.{in_order};
 ghost use Rattle.m36_model.specs.BootedCore.{table_at};
 ghost use Rattle.m36_boot.specs.Segments.{paged_segment, ring_segment, limited_segment, booted_sdw, stack_words, lot_of, linkage_words, booted_words};

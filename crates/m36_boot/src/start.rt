@@ -1,6 +1,6 @@
 //! Where a booted machine starts.
 
-ghost use Rattle.std.specs.Prelude.{◌≡◌, ◌+◌, ◌<◌, ◌^◌, length, All, IfOk, option_copied};
+ghost use Rattle.std.specs.Prelude.{◌≡◌, ◌+◌, ◌<◌, ◌^◌, option_copied};
 ghost use Rattle.m36_boot.specs.Start.{start_link, start_answer, start_segment, may_start, section_base, start_regs};
 ghost use Rattle.m36_boot.specs.Refusals.{is_object, answer_if, start_of, StartSays};
 ghost use Rattle.m36_link.specs.Known.{nothing_known};

@@ -1,10 +1,9 @@
 //! The page tables of the image, with the words of their segments.
 
-ghost use Rattle.std.specs.Prelude.{◌≡◌, ◌+◌, ◌/◌, ◌<◌, ◌≤◌, ◌^◌, ◌++◌, true, length, All, Some, IfOk, OnOk};
-ghost use Rattle.m36_page.specs.Given.{are_placed};
+ghost use Rattle.std.specs.Prelude.{◌≡◌, ◌+◌, ◌/◌, ◌<◌, ◌≤◌, ◌^◌, ◌++◌, length, All, Some, IfOk, OnOk};
 ghost use Rattle.m36_boot.specs.Segments.{booted_sdw, booted_words};
 ghost use Rattle.m36_boot.specs.Refusals.{AreLimits};
-ghost use Rattle.m36_boot.specs.Image.{table_of_segment, tables_from, booted_tables};
+ghost use Rattle.m36_boot.specs.Image.{table_of_segment, booted_tables};
 
 use crate::segments::{descriptor, table_at, words_of};
 use m36_dir::Catalog;

@@ -192,7 +192,7 @@ one_run_of lib frames limit system other turns same last end how how' booted boo
 
 -- ---- pieces
 
-abbrev AreJoined : Answer → Type 0
+abbrev pub AreJoined : Answer → Type 0
 AreJoined due = joined due.pieces ≡ due.text
 
 audit_are : (extent : Extent) (findings : List (ℕ × ℕ)) (due : Answer) → IsAuditAnswer extent findings due → AreJoined due
@@ -214,6 +214,12 @@ answer_are Audit extent denied lib first findings due is = audit_are extent find
 answer_are (Run run) extent denied lib first findings due is = run_are _ extent denied _ run.steps lib first findings due is
 answer_are (Trace run) extent denied lib first findings due is = run_are _ extent denied _ run.steps lib first findings due is
 
+pub folder_joined :
+    (extent : Extent) (command : FolderCommand) (given : FolderFields) (due : Answer)
+    → IsFolderAnswer extent command given due → AreJoined due
+folder_joined extent command given due is =
+    answer_are command extent given.denied given.lib (booted_of is.system) is.findings due is.answer
+
 pub folder_due_law : FolderDueLaw
 folder_due_law = record {
   system = one_system;
@@ -225,15 +231,8 @@ folder_due_law = record {
   some_run = run_due;
   turns = same_turns;
   runs = one_run_of;
-  pieces = λ extent command given due is.
-      answer_are command extent given.denied given.lib (booted_of is.system) is.findings due is.answer;
+  pieces = folder_joined;
 }
-
-pub folder_joined :
-    (extent : Extent) (command : FolderCommand) (given : FolderFields) (due : Answer)
-    → IsFolderAnswer extent command given due → joined due.pieces ≡ due.text
-folder_joined extent command given due is =
-    answer_are command extent given.denied given.lib (booted_of is.system) is.findings due is.answer
 
 -- no file is written
 run_sets :

@@ -1,18 +1,18 @@
 -- A run of whose turns nothing is told, and which has no lines of segments: its end line is put alone.
-use Rattle.std.proofs.Common.{◌≡◌, ℕ, ◌+◌, List, [], ◌∷◌, ◌++◌, slice_get, Option, Some, None, option_and_then, refl, ap, ◌∙◌}
+use Rattle.std.proofs.Common.{◌≡◌, ℕ, ◌+◌, List, [], ◌∷◌, ◌++◌, slice_get, Option, Some, None, option_and_then, option_to_list, refl, ap, ◌∙◌}
 use Rattle.m36_step.specs.declared.turns.Turn.{Turn}
 use Rattle.m36_link.specs.Known.{place_of}
 use Rattle.m36_text.specs.Lines.{as_line}
 use Rattle.m36_booted.specs.declared.command.RunOutput.TheVariants as output
 use Rattle.m36_booted.specs.declared.running.Finish.{Finish}
-use Rattle.m36_booted.specs.RunText.{steps_of, steps_in, pieces_from, finish_line, denied_segment, pieces_if, denied_pieces, run_pieces}
+use Rattle.m36_booted.specs.RunText.{steps_of, steps_in, pieces_from, finish_line, denied_segment, denied_pieces, run_pieces}
 
 turns_untold : (taken : ℕ) (turns : List Turn) → pieces_from output.Nothing taken turns ≡ []
 unfolding pieces_from
 turns_untold taken [] = refl
 turns_untold taken (turn ∷ turns) = turns_untold (taken + steps_of turn) turns
 
-line_of_none : (place : Option ℕ) → pieces_if (option_and_then (slice_get []) place) ≡ []
+line_of_none : (place : Option ℕ) → option_to_list (option_and_then (slice_get []) place) ≡ []
 line_of_none None = refl
 line_of_none (Some i) = refl
 

@@ -1,5 +1,5 @@
 -- Answers by what an audit has found: the audit text, and a booted run behind it.
-use Rattle.std.proofs.Common.{◌≡◌, ℕ, ◌≤◌, Bool, true, false, ◌⊎◌, List, [], ◌∷◌, ◌++◌, Option, Some, None, Result, Ok, Err, refl, sym, ap, subst, ◌∙◌, arith, inl, inr}
+use Rattle.std.proofs.Common.{◌≡◌, ℕ, List, [], ◌++◌, Option, Some, None, Ok, refl, sym, ap, subst, ◌∙◌, arith, inl, inr}
 use Rattle.m36_outside.specs.Counts.{Rose}
 use Rattle.m36_outside.specs.Passing.{TakesSome}
 use Rattle.m36_outside.specs.Written.{Grew, GrewWithin}
@@ -8,7 +8,6 @@ use Rattle.m36_outside.specs.declared.sink.Put.TheVariants as put
 use Rattle.m36_outside.proofs.LinesTaken.{takes_lines_on, takes_lines_more, takes_lines_longer}
 use Rattle.m36_outside.specs.SinkState.{SinkState}
 use Rattle.m36_model.specs.Audit.{AreFindings}
-use Rattle.m36_model.specs.BootedCore.{booted_dbr}
 use Rattle.m36_model.specs.declared.endings.End.{End}
 use Rattle.m36_model.specs.declared.endings.End.TheVariants as end
 use Rattle.m36_model.specs.declared.outcome.Stop.TheVariants.{Dis, Operation, Tag}
@@ -28,7 +27,7 @@ use Rattle.m36_reading.specs.Ends as ends
 use Rattle.m36_reading.specs.Doing.{EndsBy, Performs}
 use Rattle.m36_reading.proofs.WriteLaws.{writes_none}
 use Rattle.m36_ran.specs.AuditText.{audit_text, audit_pieces}
-use Rattle.m36_ran.specs.Putting.{PutsBy, IsPut, IsPartPut, IsNotPut}
+use Rattle.m36_ran.specs.Putting.{PutsBy, IsPut, IsPartPut}
 use Rattle.m36_ran.specs.Ran.{behind, audit_answer}
 use Rattle.m36_ran.proofs.PiecesJoined.{grew_both, grew_both_more, grew_both_longer}
 use Rattle.m36_booted.specs.declared.command.FolderCommand.{FolderCommand}
@@ -38,9 +37,9 @@ use Rattle.m36_booted.specs.declared.running.Finish.TheVariants.{Over, Limit}
 use Rattle.m36_booted.specs.declared.running.Ran.TheVariants as ran
 use Rattle.m36_booted.specs.Folder.{FolderFields}
 use Rattle.m36_booted.specs.RunText.{steps_in, finish_status, run_pieces, run_answer}
-use Rattle.m36_booted.specs.Runs.{Goes, Extent, Whole, Begun, Starved, Reaches}
-use Rattle.m36_booted.specs.RunSays.{PutsPieces, IsRan, RanSays}
-use Rattle.m36_booted.specs.Booted.{IsRunAnswer, IsAuditAnswer, IsRunBy, IsAnswerOf, IsFolderAnswer, folder_kind}
+use Rattle.m36_booted.specs.Runs.{Goes, Extent, Whole, Begun, Starved}
+use Rattle.m36_booted.specs.RunSays.{PutsPieces, RanSays}
+use Rattle.m36_booted.specs.Booted.{IsRunAnswer, IsAuditAnswer, IsAnswerOf, IsFolderAnswer, folder_kind}
 use Rattle.m36_booted.specs.Putting.{Puts}
 use Rattle.m36_booted.specs.Systems.{IsFresh}
 

@@ -1,5 +1,5 @@
 -- The boot text and the files of a folder, one after another.
-use Rattle.std.proofs.Common.{◌≡◌, ℕ, ◌+◌, ◌<◌, ◌≤◌, List, [], ◌∷◌, ◌++◌, length, drop, get_or, Option, Some, slice_get, Result, Ok, Err, refl, sym, ap, subst, ◌∙◌}
+use Rattle.std.proofs.Common.{◌≡◌, ℕ, ◌+◌, ◌≤◌, List, [], length, drop, Option, Some, slice_get, Result, Ok, Err, refl, sym, ap, subst, ◌∙◌}
 use Rattle.std.proofs.lemmas.List.{at_drop_more, at_drop_all}
 use Rattle.std.proofs.lemmas.Option.{slice_get_within, get_or_from_slice_get}
 use Rattle.m36_dir.specs.Fields.{SegmentFields}
@@ -7,7 +7,6 @@ use Rattle.m36_boot.specs.Refusals.{boot_answer}
 use Rattle.m36_boot.specs.Refusals as boot_refusals
 use Rattle.m36_boot.specs.declared.fault.BootFault.{BootFault}
 use Rattle.m36_boot.specs.declared.fault.BootFault.TheVariants as boot
-use Rattle.m36_link.specs.Fields.{SnapFields}
 use Rattle.m36_super.specs.Library.{Library}
 use Rattle.m36_super.specs.SuperFields.{SuperFields}
 use Rattle.m36_super.specs.BootSays.{IsBooted}

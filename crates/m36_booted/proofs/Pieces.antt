@@ -1,5 +1,6 @@
 -- Pieces that are put, one after another.
 use Rattle.std.proofs.Common.{◌≡◌, ℕ, List, ◌++◌, Option, sym, subst, ◌∙◌}
+use Rattle.std.proofs.lemmas.List.Folds.{concat-append}
 use Rattle.m36_outside.specs.Counts.{Rose}
 use Rattle.m36_outside.specs.Passing.{joined}
 use Rattle.m36_outside.specs.Put.{PutSays}
@@ -8,7 +9,6 @@ use Rattle.m36_outside.specs.declared.sink.Put.TheVariants as put
 use Rattle.m36_outside.proofs.Grown.{grew_on, grew_more, grew_longer}
 use Rattle.m36_outside.proofs.LinesTaken.{takes_lines_on, takes_lines_more, takes_lines_longer}
 use Rattle.m36_outside.specs.SinkState.{SinkState}
-use Rattle.m36_ran.proofs.PiecesJoined.{joined_on}
 use Rattle.m36_booted.specs.RunSays.{PutsPieces}
 
 pub says_of :
@@ -29,14 +29,14 @@ pub pieces_then :
     → PutsPieces answer (xs ++ ys) old new
 pieces_then put.Done xs ys old now new one two = record {
   says =
-      says_of put.Done old.written new.written (joined xs ++ joined ys) (joined (xs ++ ys)) (sym (joined_on xs ys))
+      says_of put.Done old.written new.written (joined xs ++ joined ys) (joined (xs ++ ys)) (sym (concat-append xs ys))
       (grew_on old.written now.written new.written (joined xs) (joined ys) one.says two.says);
   through = takes_lines_on old.taken now.taken new.taken xs ys one.through two.through;
   cause = two.cause ∙ one.cause;
 }
 pieces_then put.Failed xs ys old now new one two = record {
   says =
-      says_of put.Failed old.written new.written (joined xs ++ joined ys) (joined (xs ++ ys)) (sym (joined_on xs ys))
+      says_of put.Failed old.written new.written (joined xs ++ joined ys) (joined (xs ++ ys)) (sym (concat-append xs ys))
       (grew_more old.written now.written new.written (joined xs) (joined ys) one.says two.says);
   through = takes_lines_more old.taken now.taken new.taken xs ys one.through two.through;
   cause = let P : ℕ → Type 0 = λ n. Rose n new.faults in subst P one.cause two.cause;
@@ -48,7 +48,7 @@ pub pieces_longer :
     → PutsPieces put.Failed xs old new → PutsPieces put.Failed (xs ++ ys) old new
 pieces_longer xs ys old new cut = record {
   says =
-      says_of put.Failed old.written new.written (joined xs ++ joined ys) (joined (xs ++ ys)) (sym (joined_on xs ys))
+      says_of put.Failed old.written new.written (joined xs ++ joined ys) (joined (xs ++ ys)) (sym (concat-append xs ys))
       (grew_longer old.written new.written (joined xs) (joined ys) cut.says);
   through = takes_lines_longer old.taken new.taken xs ys cut.through;
   cause = cut.cause;

@@ -16,13 +16,13 @@ use Rattle.m36_super.specs.declared.coming.Coming.{Coming}
 use Rattle.m36_super.specs.declared.coming.Coming.TheVariants.{Step, Link, Print, Over}
 use Rattle.m36_super.specs.BootedRun.{Booted, IsStepTurn, IsLinkTurn, IsConsoleTurn, IsTurnBy, IsTurn}
 use Rattle.m36_super.specs.SuperFields.{SuperFields, booted_of}
-use Rattle.m36_super.specs.SuperTurn.{SuperTurns}
+use Rattle.m36_super.specs.SuperTurn.{SuperTurns, IsQuiet, link_quiet}
 use Rattle.m36_booted.specs.declared.command.RunOutput.{RunOutput}
 use Rattle.m36_booted.specs.declared.running.Progress.{Progress}
 use Rattle.m36_booted.specs.declared.running.Progress.TheVariants as progress
 use Rattle.m36_booted.specs.RunText.{pieces_of}
 use Rattle.m36_booted.specs.Runs.{AwaitsLink}
-use Rattle.m36_booted.specs.RunSays.{BlockState, AddsPieces, AreMade, BehindLink, BehindSays, Waits, Progresses}
+use Rattle.m36_booted.specs.RunSays.{BlockState, AddsPieces, AreMade, BehindSays, Waits, Progresses}
 use Rattle.m36_booted.proofs.TurnsMade.{made_none, made_turn, made_on}
 
 -- ---- which turns there are
@@ -121,18 +121,12 @@ only_linked NoMemory is untold unwanting = unwanting refl
 
 -- ---- what comes behind them
 
-behind_link :
-    (answer : Result SnapFields RefusedFields) (frames : ℕ) (at : AtFields) (before : Booted) (note : LinkNoteFields) (after : Booted)
-    → IsLinkTurn answer frames at before (Linked note) after → BehindLink after.coming
-behind_link (Ok s) frames at before note after is = subst BehindLink (sym is.coming) tt
-behind_link (Err why) frames at before note after is = subst (λ (r : Booted). BehindLink r.coming) (sym is.1) tt
-
 pub link_behind :
     (before after : SuperFields) (note : LinkNoteFields) (at : AtFields)
-    → before.coming ≡ Link at → SuperTurns before (Linked note) after → BehindLink after.coming
+    → before.coming ≡ Link at → SuperTurns before (Linked note) after → IsQuiet after.coming
 link_behind before after note at is turns =
-    behind_link _ before.lib.catalog.frames at (booted_of before) note (booted_of after)
-    (by_coming before.lib before after (Linked note) (Link at) is turns.0)
+    link_quiet _ before.lib.catalog.frames at (booted_of before) (Linked note) (booted_of after)
+    (by_coming before.lib before after (Linked note) (Link at) is turns.0) tt
 
 stays_starved :
     (answer : Result SnapFields RefusedFields) (frames : ℕ) (at : AtFields) (before after : Booted)

@@ -1,6 +1,7 @@
 -- Where an output begins with `audit yes`, the booted system passes its audit, and goes on doing so until an LDBR is executed.
-use Rattle.std.proofs.Common.{◌≡◌, ℕ, Bool, true, false, ◌||◌, List, [], ◌∷◌, ◌++◌, Result, Ok, Err, refl, sym, ap, subst, ◌∙◌}
+use Rattle.std.proofs.Common.{◌≡◌, ℕ, Bool, true, false, List, [], ◌∷◌, ◌++◌, Result, Ok, Err, refl, sym, ap, subst, ◌∙◌}
 use Rattle.std.proofs.lemmas.List.{append-nil}
+use Rattle.std.proofs.lemmas.List.Folds.{concat-append}
 use Rattle.m36_outside.specs.Passing.{joined}
 use Rattle.m36_model.specs.Audit.{AreFindings, IsAudited}
 use Rattle.m36_model.specs.BootedCore.{booted_dbr}
@@ -27,7 +28,6 @@ use Rattle.m36_super.proofs.Audited.{turn_audit}
 use Rattle.m36_reading.specs.Answers.{Answer}
 use Rattle.m36_ran.specs.AuditText.{yes_line, audit_pieces, audit_text}
 use Rattle.m36_ran.specs.Ran.{passes, audit_answer}
-use Rattle.m36_ran.proofs.PiecesJoined.{joined_on}
 use Rattle.m36_ran.proofs.YesAnswers.{none_found}
 use Rattle.m36_booted.specs.declared.command.FolderCommand.{FolderCommand}
 use Rattle.m36_booted.specs.declared.command.FolderCommand.TheVariants.{Audit, Run, Trace}
@@ -56,7 +56,7 @@ run_begins :
 unfolding run_answer
 run_begins true extent denied output limit lib first findings due is = (
   joined (run_pieces denied output is.turns is.how),
-  ap (λ (d : Answer). d.text) is.answer ∙ joined_on (audit_pieces findings) (run_pieces denied output is.turns is.how),
+  ap (λ (d : Answer). d.text) is.answer ∙ concat-append (audit_pieces findings) (run_pieces denied output is.turns is.how),
 )
 run_begins false extent denied output limit lib first findings due is = audit_begins extent findings due is
 

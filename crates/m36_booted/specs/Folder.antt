@@ -4,7 +4,6 @@
 -- the boot text.
 use Rattle.std.specs.Prelude.{ℕ, List, [], ◌∷◌, ◌++◌, Option, Result, Ok, Err}
 use Rattle.m36_dir.specs.Fields.{SegmentFields}
-use Rattle.m36_dir.specs.Catalog.{CatalogFields}
 use Rattle.m36_link.specs.Fields.{SnapFields}
 use Rattle.m36_boot.specs.Refusals.{boot_answer}
 use Rattle.m36_boot.specs.declared.fault.BootFault.{BootFault}

@@ -1,5 +1,5 @@
 -- What the parts of a booted run answer, and what they put.
-use Rattle.std.specs.Prelude.{ℕ, ◌≡◌, ⊤, List, [], ◌∷◌, ◌++◌, Option, Some, None}
+use Rattle.std.specs.Prelude.{ℕ, ◌≡◌, List, ◌++◌, Option, Some, None}
 use Rattle.m36_outside.specs.Gathered.{Adds}
 use Rattle.m36_outside.specs.Passing.{joined, TakesLines}
 use Rattle.m36_outside.specs.Put.{PutSays, PutHasCause}
@@ -11,7 +11,7 @@ use Rattle.m36_step.specs.declared.turns.Turn.{Turn}
 use Rattle.m36_step.specs.declared.turns.Turn.TheVariants.{Ended}
 use Rattle.m36_super.specs.Library.{Library}
 use Rattle.m36_super.specs.declared.coming.Coming.{Coming}
-use Rattle.m36_super.specs.declared.coming.Coming.TheVariants.{Step, Link, Print, Over}
+use Rattle.m36_super.specs.declared.coming.Coming.TheVariants.{Step, Over}
 use Rattle.m36_super.specs.BootedRun.{Booted, IsTurn, AreTurns}
 use Rattle.m36_super.specs.SuperFields.{SuperFields, booted_of}
 use Rattle.m36_booted.specs.declared.command.RunOutput.{RunOutput}
@@ -75,13 +75,7 @@ pub record Leaves
   pub made : AreMade answer output taken steps before.lib (booted_of before) last old new
   pub behind : Behind last (booted_of after)
 
--- a link was answered: a step comes next, or the end of the run
-abbrev pub BehindLink : Coming → Type 0
-BehindLink Step = ⊤
-BehindLink (Link at) = ⊥
-BehindLink Print = ⊥
-BehindLink (Over e) = ⊤
-
+-- What follows a link service that was told: a step, or the end of the run.
 abbrev pub BehindSays : Progress → Coming → Type 0
 BehindSays progress.On coming = coming ≡ Step
 BehindSays (progress.Over e) coming = coming ≡ Over e

@@ -1,11 +1,12 @@
 -- What is written of a booted run, in pieces: its trace, or the characters of its console, or
 -- nothing, and then its end line. Behind a run for a user that ended for want of a right to a
 -- segment of the catalog stands the line of that segment.
-use Rattle.std.specs.Prelude.{ℕ, ◌+◌, ◌&&◌, ◌||◌, nat_eq, if◌then◌else◌, List, [], ◌∷◌, ◌++◌}
-use Rattle.std.specs.Prelude.{Option, Some, None, slice_get, option_and_then}
-use Rattle.m36_outside.specs.Passing.{joined}
+use Rattle.std.specs.Prelude.{ℕ, ◌+◌, Bool, ◌&&◌, ◌||◌, nat_eq, if◌then◌else◌, List, [], ◌∷◌, ◌++◌}
+use Rattle.std.specs.Prelude.{Option, Some, None, slice_get, option_and_then, option_to_list}
 use Rattle.m36_text.specs.Lines.{as_line}
 use Rattle.m36_link.specs.Known.{place_of}
+use Rattle.m36_desc.specs.Violations.{no_execute_right, no_read_right, no_write_right}
+use Rattle.m36_model.specs.Faults.{access_violation}
 use Rattle.m36_model.specs.declared.outcome.Fault.{Fault}
 use Rattle.m36_model.specs.declared.endings.End.{End}
 use Rattle.m36_model.specs.declared.endings.End.TheVariants as end
@@ -18,7 +19,7 @@ use Rattle.m36_trace.specs.EndLine.{end_line_of}
 use Rattle.m36_turns.specs.TurnLines.{run_end_line_of, turn_pieces}
 use Rattle.m36_reading.specs.declared.status.Status.{Status}
 use Rattle.m36_reading.specs.declared.status.Status.TheVariants as status
-use Rattle.m36_reading.specs.Answers.{Answer}
+use Rattle.m36_reading.specs.Answers.{Answer, answer_with}
 use Rattle.m36_ran.specs.Output.{end_status}
 use Rattle.m36_booted.specs.declared.command.RunOutput.{RunOutput}
 use Rattle.m36_booted.specs.declared.command.RunOutput.TheVariants as output
@@ -65,11 +66,16 @@ abbrev pub finish_line : Finish → ℕ → List ℕ
 finish_line (Over e) steps = run_end_line_of e steps
 finish_line Limit steps = end_line_of Next steps
 
+-- the access violations for want of a right
+abbrev pub is_no_right : ℕ → Bool
+is_no_right acv =
+    nat_eq acv no_execute_right || nat_eq acv no_read_right || nat_eq acv no_write_right
+
 -- a fault for want of a right to execute, read or write: the segment
 abbrev pub denied_at : Fault → Option ℕ
 denied_at fault =
-    if nat_eq fault.number 20 && (nat_eq fault.acv 2 || nat_eq fault.acv 4 || nat_eq fault.acv 6)
-    then Some fault.at.seg else None
+    if nat_eq fault.number access_violation && is_no_right fault.acv then Some fault.at.seg
+    else None
 
 abbrev pub denied_by : End → Option ℕ
 denied_by (end.Fault fault) = denied_at fault
@@ -86,12 +92,8 @@ abbrev pub line_for : List (List ℕ) → Option ℕ → Option (List ℕ)
 line_for denied seg =
     option_and_then (slice_get denied) (option_and_then place_of seg)
 
-abbrev pub pieces_if : Option (List ℕ) → List (List ℕ)
-pieces_if None = []
-pieces_if (Some line) = line ∷ []
-
 unfoldable pub denied_pieces : List (List ℕ) → Finish → List (List ℕ)
-denied_pieces denied how = pieces_if (line_for denied (denied_segment how))
+denied_pieces denied how = option_to_list (line_for denied (denied_segment how))
 
 -- a run that has not come to its end has no end line
 abbrev pub end_pieces : List (List ℕ) → Option Finish → ℕ → List (List ℕ)
@@ -112,9 +114,5 @@ run_pieces denied output turns how =
     pieces_from output 0 turns ++ end_pieces denied how (steps_in turns)
 
 unfoldable pub run_answer : List (List ℕ) → RunOutput → List Turn → Option Finish → Answer
-run_answer denied output turns how = record {
-  sets = [];
-  text = joined (run_pieces denied output turns how);
-  pieces = run_pieces denied output turns how;
-  status = finish_status how;
-}
+run_answer denied output turns how =
+    answer_with (run_pieces denied output turns how) (finish_status how)

@@ -1,11 +1,12 @@
 //! What is added to a block of a turn: a line, characters as they are, or nothing; and what stands at the end of a run.
 
-ghost use Rattle.std.specs.Prelude.{◌≡◌, ◌<◌, ◌+◌, ◌&&◌, ◌||◌, nat_eq, [], ◌∷◌, ◌++◌, length, None, Some, MatchOption};
+ghost use Rattle.std.specs.Prelude.{◌≡◌, ◌<◌, ◌+◌, ◌&&◌, nat_eq, [], ◌∷◌, ◌++◌, length, None, Some, MatchOption};
 ghost use Rattle.m36_text.specs.Lines.{as_line};
+ghost use Rattle.m36_model.specs.Faults.{access_violation};
 ghost use Rattle.m36_step.specs.declared.turns.Turn.TheVariants as turn;
 ghost use Rattle.m36_reading.specs.Outside.{sink_of};
 ghost use Rattle.m36_booted.specs.RunText.{characters, pieces_of, finish_line};
-ghost use Rattle.m36_booted.specs.RunText.{denied_at, denied_by, denied_segment, line_for};
+ghost use Rattle.m36_booted.specs.RunText.{is_no_right, denied_at, denied_by, denied_segment, line_for};
 ghost use Rattle.m36_booted.specs.RunText.{denied_pieces, end_pieces};
 ghost use Rattle.m36_booted.specs.RunSays.{PutsPieces, AddsPieces, block_of};
 
@@ -14,6 +15,7 @@ use crate::ending::finish_line;
 use crate::running::Finish;
 use arrayvec::{ArrayString, ArrayVec};
 use m36_acl::DeniedLines;
+use m36_link::FIRST_SEGMENT;
 use m36_model::{End, Fault, StepRecord};
 use m36_outside::{Block, Put, Sink};
 use m36_ran::running::add_line;
@@ -21,8 +23,8 @@ use m36_step::{ConsoleNote, LinkNote};
 use m36_trace::line;
 use m36_turns::{console_line, link_line};
 
-// The number of the first segment of a catalog.
-const FIRST_SEGMENT: u16 = 64;
+// The fault of a reference that may not be made.
+const ACCESS_VIOLATION: u8 = 20;
 
 // Adds bytes as one piece.
 #[tactic(auto, using(crate::proofs::Gathering::adding))]
@@ -135,11 +137,18 @@ pub(crate) fn add_printed<S: Sink>(
     }
 }
 
-// Whether a fault of these numbers is one for want of a right to execute, read or write.
-fn is_want_of_right(number: u8, acv: u8) -> bool
-    ensures { result ≡ (nat_eq number 20 && (nat_eq acv 2 || nat_eq acv 4 || nat_eq acv 6)) }
+// Whether an access violation is one for want of a right to execute, read or write.
+fn is_no_right(acv: u8) -> bool
+    ensures { result ≡ is_no_right acv }
 {
-    number == 20 && matches!(acv, 2 | 4 | 6)
+    matches!(acv, 2 | 4 | 6)
+}
+
+// Whether a fault of these numbers is such an access violation.
+fn is_want_of_right(number: u8, acv: u8) -> bool
+    ensures { result ≡ (nat_eq number access_violation && is_no_right acv) }
+{
+    number == ACCESS_VIOLATION && is_no_right(acv)
 }
 
 // The segment to which a right was wanted, by a fault.

@@ -4,7 +4,8 @@
 ghost use Rattle.std.specs.Prelude.{◌≡◌, ◌<◌, ◌+◌, ◌^◌};
 ghost use Rattle.m36_reading.specs.Outside.{sink_of};
 ghost use Rattle.m36_super.specs.declared.coming.Coming.TheVariants.{Step, Link, Print};
-ghost use Rattle.m36_booted.specs.RunSays.{BehindLink, BehindSays, block_of, Progresses, FinishSays, StarvedSays, RanSays};
+ghost use Rattle.m36_super.specs.SuperTurn.{IsQuiet};
+ghost use Rattle.m36_booted.specs.RunSays.{BehindSays, block_of, Progresses, FinishSays, StarvedSays, RanSays};
 
 use crate::command::RunOutput;
 use crate::lines::{add_linked, add_printed, add_step, put_finish, put_gathered};
@@ -50,7 +51,7 @@ pub enum Progress {
 
 // What follows a link service: a step, or the end where the link was refused.
 fn behind_link(system: &Super) -> Progress
-    requires { BehindLink system.now.coming }
+    requires { IsQuiet system.now.coming }
     ensures { BehindSays result system.now.coming }
 {
     match system.coming() {

@@ -1,7 +1,8 @@
 -- What look-ups of names that are initiated give.
-use Rattle.std.proofs.Common.{ℕ, ◌≡◌, ◌<◌, ◌≤◌, ◌^◌, Bool, true, false, cond, ◌&&◌, eqb, List, [], ◌∷◌, ◌++◌, length, All, Option, Some, None, IfSome, refl, sym, ap, ◌∙◌, subst, arith}
+use Rattle.std.proofs.Common.{ℕ, ◌≡◌, ◌<◌, ◌≤◌, ◌^◌, Bool, false, cond, ◌&&◌, eqb, List, [], ◌∷◌, ◌++◌, length, Option, Some, None, IfSome, refl, sym, ap, ◌∙◌, subst, arith}
 use Rattle.std.specs.Map.{lookup}
 use Rattle.std.proofs.Math.Nat.{lt_of_not-le}
+use Rattle.std.proofs.lemmas.Bool.{false_from_ne_true}
 use Rattle.std.proofs.lemmas.List.Elements.{All-tail, All-head, All-push, All-same}
 use Rattle.std.proofs.lemmas.Map.Entries.{All-lookup}
 use Rattle.std.specs.declared.hash.FoldHasher.{FoldHasher}
@@ -14,12 +15,8 @@ use Rattle.m36_link.specs.Fields.{RingNameFields}
 use Rattle.m36_link.specs.Names.{IsInitiated, AreNames}
 use Rattle.m36_link.specs.Known.{is_same_name, initiated}
 
-no_true : (b : Bool) → (b ≡ true → ⊥) → b ≡ false
-no_true true f = absurd (f refl)
-no_true false f = refl
-
 other_length : (a b : List ℕ) → length b < length a → same a b ≡ false
-other_length a b h = no_true (same a b) (λ e. let n : length a ≡ length b = ap length (same_is a b e) in omega (arith, n))
+other_length a b h = false_from_ne_true (same a b) (λ e. let n : length a ≡ length b = ap length (same_is a b e) in omega (arith, n))
 
 -- a name that is too long is not among them
 pub long_absent : (ring : ℕ) (name : List ℕ) (names : List (RingNameFields × ℕ)) → AreNames names → ¬ (length name ≤ 32) → None ≡ initiated names ring name

@@ -1,29 +1,28 @@
 -- An answer may be accepted, and what services make they keep.
-use Rattle.std.proofs.Common.{ℕ, ◌≡◌, ◌<◌, ◌≤◌, ◌+◌, ◌-◌, ◌^◌, Bool, true, false, cond, ◌||◌, ◌&&◌, not, eqb, leb, ltb, List, [], ◌∷◌, ◌++◌, length, slice_get, option_and_then, is_some, All, Option, Some, None, Result, Ok, Err, refl, sym, ap, ◌∙◌, subst, arith}
+use Rattle.std.proofs.Common.{ℕ, ◌≡◌, ◌<◌, ◌≤◌, ◌+◌, ◌-◌, ◌^◌, Bool, true, false, cond, leb, List, [], ◌∷◌, ◌++◌, length, slice_get, option_and_then, is_some, All, Option, Some, None, Result, Ok, Err, refl, sym, ap, ◌∙◌, subst, arith}
 use Rattle.std.specs.Result.{result_ok}
 use Rattle.std.proofs.lemmas.Bool.{leb-true}
 use Rattle.std.proofs.lemmas.Option.{slice_get_within}
-use Rattle.std.proofs.lemmas.List.Elements.{All-push, All-same}
+use Rattle.std.proofs.lemmas.List.Elements.{All-push}
 use Rattle.m36_model.specs.Fields.{AtFields}
 use Rattle.m36_model.specs.declared.endings.LinkCode.{LinkCode}
-use Rattle.m36_model.specs.declared.endings.LinkCode.TheVariants.{L1, L2, L3, L4, L5, L6}
+use Rattle.m36_model.specs.declared.endings.LinkCode.TheVariants.{L3, L4, L6}
 use Rattle.m36_dir.specs.Fields.{SegmentFields}
 use Rattle.m36_dir.specs.Catalog.{CatalogFields}
 use Rattle.obj36_parts.specs.Fields.{LinkFields}
 use Rattle.obj36_parts.specs.PartsFields.{PartsFields}
-use Rattle.obj36_parts.specs.ObjectSegment.{has_name, has_entry, linkage_section}
+use Rattle.obj36_parts.specs.ObjectSegment.{has_name, has_entry}
 use Rattle.obj36.specs.ObjectOf.{object_of}
 use Rattle.obj36.specs.declared.fault.ObjectFault.{ObjectFault}
 use Rattle.m36_link.specs.Fields.{RingNameFields, LaidFields, LandingFields, LayFields, KnownFields, SnapFields}
 use Rattle.m36_link.specs.Known.{first_segment, place_of, segment_of, file_of, object_in, initiated, section_ring, laid_in, base_of, laid_words}
 use Rattle.m36_link.specs.Search.{searched}
 use Rattle.m36_link.specs.Links.{link_in, section_at}
-use Rattle.m36_link.specs.Landing.{point_of, pair_of, pair_to, new_home, home_by, home_of, own_by, own_landing, may_not_use, is_plain, plain_landing, lay_if, landing_in, landing_at, object_landing, landing_by, target_landing}
+use Rattle.m36_link.specs.Landing.{point_of, pair_to, new_home, home_by, home_of, own_by, own_landing, may_not_use, is_plain, plain_landing, landing_in, landing_at, object_landing, landing_by, target_landing}
 use Rattle.m36_link.specs.Snap.{found_landing, candidate_landing, outer_landing, directory_of, landing_of, words_laid, lay_of, snap_by, snap_for, snap_in, snap_of, outer_snap}
-use Rattle.m36_link.specs.Accepted.{laid_of, with_laid, with_initiated, accepted, IsNext, MayBeLaid}
+use Rattle.m36_link.specs.Accepted.{with_laid, with_initiated, accepted, MayBeLaid}
 use Rattle.m36_link.specs.Laws.{IsOfCatalog, IsWhole, IsMade, MayBeAccepted, MayBeAcceptedFrom, KeepsMade, KeepsMadeFrom}
 use Rattle.m36_link.specs.declared.points.Point.{Point}
-use Rattle.m36_link.specs.declared.sections.Home.{Home}
 
 -- A section that has to be laid: none is yet, it goes behind the others, and it is whole.
 record IsFresh (laid : List LaidFields) (files : List (List ℕ)) (seg : ℕ) (l : LaidFields) : Type 0 where

@@ -1,11 +1,11 @@
 -- Laws of search and of laying.
-use Rattle.std.specs.Prelude.{ℕ, ◌≡◌, ◌<◌, ◌≤◌, ◌+◌, ◌^◌, List, [], ◌∷◌, length, All, Option, Some}
-use Rattle.std.specs.Prelude.{None, Result, Ok, Err}
+use Rattle.std.specs.Prelude.{ℕ, ◌≡◌, ◌<◌, ◌≤◌, ◌+◌, ◌^◌, List, length, All, Some}
+use Rattle.std.specs.Prelude.{Ok}
 use Rattle.m36_model.specs.Fields.{AtFields}
 use Rattle.m36_dir.specs.Catalog.{CatalogFields}
 use Rattle.obj36_parts.specs.Fields.{LinkFields}
 use Rattle.obj36_parts.specs.PartsFields.{PartsFields}
-use Rattle.m36_link.specs.Fields.{RingNameFields, LaidFields, KnownFields, SnapFields}
+use Rattle.m36_link.specs.Fields.{LaidFields, KnownFields, SnapFields}
 use Rattle.m36_link.specs.Known.{first_segment, object_in, laid_words}
 use Rattle.m36_link.specs.Snap.{snap_of, outer_snap}
 use Rattle.m36_link.specs.Accepted.{accepted, MayBeLaid}

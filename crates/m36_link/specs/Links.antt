@@ -1,7 +1,7 @@
 -- The link that a place names. What is looked at is the object as it was booted, never the words
 -- that were laid, which the program may have changed.
 use Rattle.std.specs.Prelude.{ℕ, ◌+◌, ◌-◌, ◌/◌, ◌%◌, Bool, ◌&&◌, nat_eq, nat_le, if◌then◌else◌}
-use Rattle.std.specs.Prelude.{List, find, slice_get, Option, Some, None, is_some, option_and_then}
+use Rattle.std.specs.Prelude.{List, find, slice_get, Option, None, is_some, option_and_then}
 use Rattle.m36_model.specs.Fields.{AtFields}
 use Rattle.obj36_parts.specs.Fields.{LinkFields}
 use Rattle.obj36_parts.specs.ObjectSegment.{first_link}

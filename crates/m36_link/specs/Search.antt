@@ -1,6 +1,6 @@
 -- The search for a segment by a reference name.
 use Rattle.std.specs.Prelude.{ℕ, ◌+◌, List, [], ◌∷◌, ◌++◌, Option, Some, None, option_map}
-use Rattle.std.specs.Prelude.{filter_map}
+use Rattle.std.specs.Prelude.{filter_map, option_to_list}
 use Rattle.m36_dir.specs.Catalog.{CatalogFields, found}
 use Rattle.m36_link.specs.Fields.{KnownFields}
 use Rattle.m36_link.specs.Known.{initiated, first_segment}
@@ -13,15 +13,11 @@ directories_searched catalog from = from ∷ catalog.work ∷ catalog.libraries
 unfoldable pub found_in : CatalogFields → List ℕ → ℕ → Option ℕ
 found_in catalog name dir = option_map (λ i. first_segment + i) (found catalog dir name)
 
-abbrev pub some_of : Option ℕ → List ℕ
-some_of None = []
-some_of (Some seg) = seg ∷ []
-
 -- The candidates in their order: what the name is initiated as in the ring, and the segment of that
 -- name in each directory.
 unfoldable pub candidates : KnownFields → CatalogFields → ℕ → List ℕ → ℕ → List ℕ
 candidates known catalog ring name from =
-    some_of (initiated known.names ring name)
+    option_to_list (initiated known.names ring name)
     ++ filter_map (found_in catalog name) (directories_searched catalog from)
 
 abbrev pub head_of : List ℕ → Option ℕ

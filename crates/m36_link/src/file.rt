@@ -1,8 +1,6 @@
 //! The files of the segments of a catalog, each read once.
 
-ghost use Rattle.std.specs.Prelude.{ℕ, List, ◌≡◌, ◌-◌, ◌+◌, ◌<◌, ◌≤◌, ◌^◌, Option, Some, None, Ok, Err, MatchResult, length, slice_get, option_copied, option_and_then, IfOk, IfSome};
-ghost use Rattle.std.specs.Result.{result_ok};
-ghost use Rattle.obj36_parts.specs.PartsFields.{PartsFields};
+ghost use Rattle.std.specs.Prelude.{ℕ, List, ◌≡◌, ◌-◌, ◌<◌, ◌≤◌, ◌^◌, Option, Some, None, Ok, Err, MatchResult, length, option_copied, IfOk, IfSome};
 ghost use Rattle.obj36.specs.ObjectOf.{object_of};
 ghost use Rattle.m36_link.specs.Known.{place_of, file_of, object_in, laid_words};
 

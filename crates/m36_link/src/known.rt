@@ -1,6 +1,6 @@
 //! What link services have made.
 
-ghost use Rattle.std.specs.Prelude.{ℕ, List, [], ◌∷◌, ◌++◌, ◌≡◌, ◌<◌, ◌≤◌, ◌^◌, ◌+◌, Option, Some, None, IfOk, IfSome, OnOk, OnErr, length};
+ghost use Rattle.std.specs.Prelude.{[], ◌∷◌, ◌++◌, ◌≡◌, ◌<◌, ◌≤◌, ◌^◌, ◌+◌, Option, Some, None, IfOk, IfSome, OnOk, OnErr, length};
 ghost use Rattle.std.specs.Vec.{vec_len, vec_capacity};
 ghost use Rattle.m36_link.specs.Known.{nothing_known, initiated};
 ghost use Rattle.m36_link.specs.Names.{AreNames};
@@ -28,7 +28,7 @@ pub struct Known {
 }
 
 impl Model for Known {
-    ghost use Rattle.std.specs.Prelude.{◌≤◌, ◌<◌, ◌^◌, length, All};
+    ghost use Rattle.std.specs.Prelude.{◌≤◌, ◌<◌, ◌^◌, length};
     ghost use Rattle.m36_link.specs.Fields.{KnownFields};
     ghost use Rattle.m36_link.specs.Names.{AreNames};
 

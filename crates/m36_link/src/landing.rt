@@ -1,8 +1,8 @@
 //! Where a link leads.
 
-ghost use Rattle.std.specs.Prelude.{◌≡◌, ◌<◌, ◌≤◌, ◌^◌, length, if◌then◌else◌, nat_le};
+ghost use Rattle.std.specs.Prelude.{◌≡◌, ◌<◌, ◌≤◌, ◌^◌, length};
 ghost use Rattle.m36_link.specs.Known.{section_ring, laid_words};
-ghost use Rattle.m36_link.specs.Landing.{own_landing, may_not_use, is_plain, fault_number, plain_landing, lay_if, object_landing, target_landing};
+ghost use Rattle.m36_link.specs.Landing.{own_landing, may_not_use, fault_number, plain_landing, lay_if, object_landing, target_landing};
 
 use crate::file::File;
 use crate::laid::Laid;

@@ -1,7 +1,6 @@
 //! The place in an object that a link names, and the pair to it.
 
-ghost use Rattle.std.specs.Prelude.{◌≡◌, ◌+◌, ◌<◌, ◌≤◌, ◌^◌, length, IfOk};
-ghost use Rattle.m36_link.specs.Known.{laid_words};
+ghost use Rattle.std.specs.Prelude.{◌≡◌, ◌+◌, ◌<◌, ◌≤◌, ◌^◌, IfOk};
 ghost use Rattle.m36_link.specs.Landing.{section_of, point_of, pair_to, pair_of};
 
 use crate::laid::{FIRST_LINKAGE, Laid};

@@ -1,6 +1,6 @@
 //! The answer to a link.
 
-ghost use Rattle.std.specs.Prelude.{ℕ, ◌≡◌, ◌<◌, ◌≤◌, ◌^◌, find, length, option_copied, IfOk, IfSome};
+ghost use Rattle.std.specs.Prelude.{◌≡◌, ◌<◌, ◌≤◌, ◌^◌, find, length, option_copied, IfOk};
 ghost use Rattle.m36_link.specs.Known.{segment_of, object_in, laid_words};
 ghost use Rattle.m36_link.specs.Links.{link_from, link_in, holds_link, section_at};
 ghost use Rattle.m36_link.specs.Snap.{outer_landing, directory_of, landing_of, words_laid, lay_of, snap_by, outer_snap, snap_of, SnapSays};

@@ -1,6 +1,6 @@
 //! The search for a segment by a reference name.
 
-ghost use Rattle.std.specs.Prelude.{ℕ, ◌≡◌, ◌<◌, ◌^◌, ◌++◌, ◌∷◌, [], filter_map, IfSome};
+ghost use Rattle.std.specs.Prelude.{◌≡◌, ◌<◌, ◌^◌, filter_map, IfSome};
 ghost use Rattle.m36_link.specs.Names.{AreNames};
 ghost use Rattle.m36_link.specs.Known.{initiated};
 ghost use Rattle.m36_link.specs.Search.{found_in, directories_searched, head_of};

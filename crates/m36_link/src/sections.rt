@@ -1,6 +1,6 @@
 //! Where sections are laid.
 
-ghost use Rattle.std.specs.Prelude.{ℕ, ◌≡◌, ◌+◌, ◌<◌, ◌≤◌, ◌^◌, Bool, ◌&&◌, nat_eq, find, length, option_copied, IfOk};
+ghost use Rattle.std.specs.Prelude.{◌≡◌, ◌+◌, ◌<◌, ◌≤◌, ◌^◌, ◌&&◌, find, length};
 ghost use Rattle.obj36_parts.specs.ObjectSegment.{linkage_section};
 ghost use Rattle.m36_link.specs.Known.{laid_in, behind, base_behind, base_of, laid_words};
 ghost use Rattle.m36_link.specs.Landing.{home_of};

@@ -1,6 +1,7 @@
 -- What holds of the answers that are due: their pieces are their text, and where one says `audit yes` the folder passes.
 use Rattle.std.proofs.Common.{◌≡◌, ℕ, ◌<◌, Bool, true, false, List, [], ◌∷◌, ◌++◌, length, Ok, Err, refl, sym, ap, subst, ◌∙◌, inl, inr, append_assoc, length-append, arith}
 use Rattle.std.proofs.lemmas.List.{append-nil, append_cancel_left}
+use Rattle.std.proofs.lemmas.List.Folds.{concat-append}
 use Rattle.m36_outside.specs.Passing.{joined}
 use Rattle.m36_text.specs.Lines.{as_line}
 use Rattle.m36_model.specs.Audit.{AreFindings}
@@ -14,21 +15,18 @@ use Rattle.m36_reading.specs.Reading.{Early}
 use Rattle.m36_reading.specs.Answers.{Answer, IsDueBy}
 use Rattle.m36_ran.specs.AuditText.{yes_line, audit_text, audit_pieces}
 use Rattle.m36_ran.specs.Ran.{audit_answer}
-use Rattle.m36_ran.proofs.PiecesJoined.{joined_on}
 use Rattle.m36_ran.proofs.YesAnswers.{none_found}
 use Rattle.m36_booted.specs.declared.command.FolderCommand.TheVariants.{Audit}
 use Rattle.m36_booted.specs.Folder.{FolderFields}
 use Rattle.m36_booted.specs.Promise.{PassesBooted}
 use Rattle.m36_booted.specs.RunText.{steps_in}
 use Rattle.m36_booted.specs.Runs.{Extent, Whole, Begun, Starved}
+use Rattle.m36_booted.proofs.DueLaws.{AreJoined}
 use Rattle.m36_booted.proofs.YesAnswers.{yes_passes}
 use Rattle.m36_made.specs.Summary.{segments_line, head_pieces, end_pieces, run_answer, unrun_answer, IsFoundAnswer, IsSummary}
 use Rattle.m36_made.specs.Made.{boots_from, IsTold, IsToldIn, IsMadeAnswer, IsMadeDue, IsMadeBegun, PassesBy, PassesMade, head_by, head_of}
 
 -- ---- pieces
-
-abbrev AreJoined : Answer → Type 0
-AreJoined due = joined due.pieces ≡ due.text
 
 found_joined :
     (b : Bool) (count : ℕ) (lib : Library) (first : Booted) (findings : List (ℕ × ℕ)) (due : Answer)
@@ -43,7 +41,7 @@ told_joined :
 told_joined (Ok given) told is = found_joined _ _ given.lib _ is.findings told is.answer
 told_joined (Err refusal) told is = subst AreJoined (sym is) refl
 
-pub made_joined : (sets : List Set) (due : Answer) → IsMadeDue sets due → joined due.pieces ≡ due.text
+pub made_joined : (sets : List Set) (due : Answer) → IsMadeDue sets due → AreJoined due
 made_joined sets due is =
     ap (λ (d : Answer). joined d.pieces) is.answer ∙ told_joined (boots_from sets) is.told is.is ∙ sym (ap (λ (d : Answer). d.text) is.answer)
 
@@ -58,7 +56,7 @@ head_joined :
     (count : ℕ) (findings : List (ℕ × ℕ)) (more : List (List ℕ))
     → joined (head_pieces count findings ++ more) ≡ as_line (segments_line count) ++ (audit_text findings ++ joined more)
 head_joined count findings more =
-    ap (λ t. as_line (segments_line count) ++ t) (joined_on (audit_pieces findings) more)
+    ap (λ t. as_line (segments_line count) ++ t) (concat-append (audit_pieces findings) more)
 
 unrun_begins :
     (count : ℕ) (findings : List (ℕ × ℕ)) (told : Answer) → told ≡ unrun_answer count findings → Begins count findings told

@@ -2,7 +2,6 @@
 -- core finds, and, where nothing is found, how the run ended and what it left in X1.
 use Rattle.std.specs.Prelude.{ℕ, ◌≡◌, Bool, true, false, List, [], ◌∷◌, ◌++◌, codes, slice_index}
 use Rattle.std.specs.Prelude.{Option, Some, None, length}
-use Rattle.m36_outside.specs.Passing.{joined}
 use Rattle.m36_text.specs.Digits.{octal_text, decimal_text}
 use Rattle.m36_text.specs.Lines.{as_line}
 use Rattle.m36_model.specs.Audit.{AreFindings}
@@ -13,8 +12,7 @@ use Rattle.m36_super.specs.Library.{Library}
 use Rattle.m36_super.specs.BootedRun.{Booted}
 use Rattle.m36_super.specs.SuperFields.{SuperFields, booted_of}
 use Rattle.m36_super.specs.BootSays.{IsBooted}
-use Rattle.m36_reading.specs.declared.status.Status.{Status}
-use Rattle.m36_reading.specs.Answers.{Answer}
+use Rattle.m36_reading.specs.Answers.{Answer, answer_with}
 use Rattle.m36_ran.specs.AuditText.{audit_pieces}
 use Rattle.m36_ran.specs.Ran.{passes, audit_status}
 use Rattle.m36_booted.specs.declared.running.Finish.{Finish}
@@ -46,10 +44,6 @@ end_pieces (Some how) steps regs =
     as_line (finish_line how steps) ∷ as_line (sum_line regs) ∷ []
 
 -- ---- answers, beside the files
-
-abbrev pub answer_with : List (List ℕ) → Status → Answer
-answer_with pieces status =
-    record { sets = []; text = joined pieces; pieces = pieces; status = status }
 
 unfoldable pub run_answer : ℕ → List (ℕ × ℕ) → Option Finish → ℕ → RegsFields → Answer
 run_answer count findings how steps regs =

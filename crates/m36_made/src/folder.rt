@@ -1,6 +1,6 @@
 //! The folder that the files are, and what it boots to.
 
-ghost use Rattle.std.specs.Prelude.{◌≡◌, Some, IfOk};
+ghost use Rattle.std.specs.Prelude.{◌≡◌, IfOk};
 ghost use Rattle.m36_outside.specs.FileList.{file_named};
 ghost use Rattle.m36_reading.specs.Asking.{Gives};
 ghost use Rattle.m36_booted.specs.Systems.{IsFresh, given_in};

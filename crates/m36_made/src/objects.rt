@@ -1,6 +1,6 @@
 //! The objects of sources that the generator draws.
 
-ghost use Rattle.std.specs.Prelude.{◌≡◌, ◌-◌, ◌<◌, ◌≤◌, ◌^◌, nat_lt, length, Ok, IfOk};
+ghost use Rattle.std.specs.Prelude.{◌≡◌, ◌<◌, ◌≤◌, ◌^◌, length, Ok};
 ghost use Rattle.alm_asm.specs.Assembly.{assembled};
 ghost use Rattle.m36_outside.specs.ReadAnswer.{file_limit};
 ghost use Rattle.m36_reading.specs.Asking.{Gives};

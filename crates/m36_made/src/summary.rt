@@ -1,6 +1,6 @@
 //! What is told of the folder that was made.
 
-ghost use Rattle.std.specs.Prelude.{ℕ, ◌≡◌, ◌≤◌, ◌<◌, [], ◌∷◌, length, slice_index};
+ghost use Rattle.std.specs.Prelude.{◌≡◌, ◌<◌, [], ◌∷◌, length};
 ghost use Rattle.m36_text.specs.Lines.{as_line};
 ghost use Rattle.m36_super.specs.declared.coming.Coming.TheVariants.{Step};
 ghost use Rattle.m36_super.specs.SuperFields.{booted_of};

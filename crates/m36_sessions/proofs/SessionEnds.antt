@@ -1,5 +1,5 @@
 -- Ends of a command that holds a session.
-use Rattle.std.proofs.Common.{◌≡◌, ℕ, ◌⊎◌, List, ◌++◌, Result, Ok, Err, inl, inr, refl, sym, ap, subst}
+use Rattle.std.proofs.Common.{◌≡◌, ℕ, ◌⊎◌, List, Result, Ok, Err, inl, inr, refl, sym, ap, subst}
 use Rattle.std.specs.Prelude.{codes, None}
 use Rattle.std.proofs.lemmas.List.{append-nil}
 use Rattle.m36_outside.specs.SinkState.{SinkState}
@@ -10,13 +10,12 @@ use Rattle.m36_super.specs.SuperFields.{SuperFields}
 use Rattle.m36_ran.specs.Ran.{state_reads}
 use Rattle.m36_booted.specs.Folder.{FolderFields, folder_reads}
 use Rattle.m36_booted.specs.Systems.{IsFresh}
-use Rattle.m36_reading.specs.declared.refusal.Refusal.{Refusal}
 use Rattle.m36_reading.specs.declared.status.Status.{Status}
 use Rattle.m36_reading.specs.declared.status.Status.TheVariants.{Done}
 use Rattle.m36_reading.specs.declared.status.Status.TheVariants as status
 use Rattle.m36_reading.specs.Reading.{Reading, Early}
+use Rattle.m36_reading.specs.Answers.{answer_with}
 use Rattle.m36_reading.specs.Asking.{Asked, Came}
-use Rattle.m36_reading.specs.Answers.{status_of}
 use Rattle.m36_reading.specs.Outside.{FolderState}
 use Rattle.m36_reading.specs.Ends.{End, Answered, Cut, Unread, Starved, Unasked, end_of}
 use Rattle.m36_reading.specs.Doing.{Reads, EndsBy, Performs}
@@ -25,7 +24,7 @@ use Rattle.m36_debug.specs.declared.fault.SessionFault.TheVariants as fault
 use Rattle.m36_debug.specs.Session.{Turning}
 use Rattle.m36_debug.specs.SessionSays.{SessionSays}
 use Rattle.m36_sessions.specs.Held.{Talk, IsHeld, new_history, past_turning, super_turning, HoldsImage, HoldsFolder}
-use Rattle.m36_sessions.specs.Sessions.{Told, too_long, stdin_name, session_answer, session_kind, folder_kind, InputStands, session_status, PutsSession, PutsBy, IsSessionEnd, TakesInput, ImageTakes, FolderTakes}
+use Rattle.m36_sessions.specs.Sessions.{Told, too_long, stdin_name, session_kind, folder_kind, InputStands, session_status, PutsSession, PutsBy, IsSessionEnd, TakesInput, ImageTakes, FolderTakes}
 
 -- ---- a session was held
 
@@ -139,7 +138,7 @@ ends_put :
 ends_put Holds d Answered result talk f s s' (inl p) = record {
   given = Ok d;
   came = refl;
-  due = session_answer Done p.puts.lines;
+  due = answer_with p.puts.lines Done;
   is_due = inl (record { lines = p.puts.lines; holds = p.puts.holds; answer = refl });
   made = record {
     status = sym p.is;
@@ -155,7 +154,7 @@ ends_put Holds d Answered result talk f s s' (inl p) = record {
 ends_put Holds d Answered result talk f s s' (inr p) = record {
   given = Ok d;
   came = refl;
-  due = session_answer (too_long stdin_name) p.puts.lines;
+  due = answer_with p.puts.lines (too_long stdin_name);
   is_due = inr (record { lines = p.puts.lines; holds = p.puts.holds; answer = refl });
   made = record {
     status = sym p.is;
@@ -171,7 +170,7 @@ ends_put Holds d Answered result talk f s s' (inr p) = record {
 ends_put Holds d Cut result talk f s s' p = record {
   given = d;
   came = refl;
-  due = session_answer status.WriteFault p.lines;
+  due = answer_with p.lines status.WriteFault;
   begun = record { lines = p.lines; holds = p.holds; answer = refl };
   cut = inr (record {
     files = refl;

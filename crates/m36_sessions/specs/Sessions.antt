@@ -1,5 +1,5 @@
 -- What is due to a session, and what is written of it by how it ends.
-use Rattle.std.specs.Prelude.{ℕ, ◌≡◌, ⊤, ◌⊎◌, List, [], ◌++◌, codes, None, Result, Ok, Err}
+use Rattle.std.specs.Prelude.{ℕ, ◌≡◌, ⊤, ◌⊎◌, List, ◌++◌, codes, None, Result, Ok, Err}
 use Rattle.m36_outside.specs.Passing.{joined}
 use Rattle.m36_outside.specs.Written.{Grew}
 use Rattle.m36_outside.specs.SinkState.{SinkState}
@@ -8,7 +8,7 @@ use Rattle.m36_reading.specs.declared.status.Code.TheVariants.{S1}
 use Rattle.m36_reading.specs.declared.status.Status.{Status}
 use Rattle.m36_reading.specs.declared.status.Status.TheVariants.{Done, BadFile}
 use Rattle.m36_reading.specs.declared.status.Status.TheVariants as status
-use Rattle.m36_reading.specs.Answers.{Answer}
+use Rattle.m36_reading.specs.Answers.{Answer, answer_with}
 use Rattle.m36_reading.specs.Reading.{Reading, Early}
 use Rattle.m36_reading.specs.Asking.{Asked, Came, Comes}
 use Rattle.m36_reading.specs.Outside.{Outside, IsIdle}
@@ -34,17 +34,12 @@ too_long name = BadFile (record { name = name; code = S1; at = 0; column = 0 })
 abbrev pub stdin_name : List ℕ
 stdin_name = codes "stdin"
 
--- the lines that are said of a session, each in one piece
-abbrev pub session_answer : Status → List (List ℕ) → Answer
-session_answer status lines =
-    record { sets = []; text = joined lines; pieces = lines; status = status }
-
--- An answer is that of a session that ended so.
+-- An answer is that of a session that ended so: the lines that are said of it, each in one piece.
 pub record IsAnswerOf (Holds : Told) (ended : Result (Unit {0}) SessionFault) (status : Status)
     (due : Answer) : Type 0 where
   pub lines : List (List ℕ)
   pub holds : Holds ended lines
-  pub answer : due ≡ session_answer status lines
+  pub answer : due ≡ answer_with lines status
 
 -- The session has come to `quit` or to the end of its input; or the input was too long, and none of
 -- the whole lines within the most is `quit`.

@@ -1,16 +1,12 @@
 -- A turn keeps the audit conditions, and plain turns are a function of the library.
-use Rattle.std.proofs.Common.{◌≡◌, refl, sym, ◌∙◌, ap, subst, inl, inr, ⊎_elim}
-use Rattle.std.specs.Prelude.{ℕ, zero, suc, ◌⊎◌, Bool, true, false, nat_lt, List, [], ◌∷◌, length, take, Result, Ok, Err}
-use Rattle.m36_model.specs.StoreLaw.{Each}
+use Rattle.std.proofs.Common.{◌≡◌, refl, ◌∙◌, ap, subst, inl, inr}
+use Rattle.std.specs.Prelude.{ℕ, ◌⊎◌, Bool, true, false, nat_lt, List, [], ◌∷◌, length, take, Result, Ok, Err}
 use Rattle.m36_model.specs.Fields.{AtFields}
-use Rattle.m36_model.specs.Audit.{IsAudited}
-use Rattle.m36_model.specs.Core.{core_store}
-use Rattle.m36_model.specs.Flat.{Flat, flat_put, flat_store}
+use Rattle.m36_model.specs.Flat.{Flat, flat_store}
 use Rattle.m36_model.specs.Step.{record_of}
-use Rattle.m36_model.specs.BootedCore.{booted_dbr, descriptor_words, IsLaid}
+use Rattle.m36_model.specs.BootedCore.{descriptor_words}
 use Rattle.m36_model.specs.Residence.{Paged, flat_of}
 use Rattle.m36_model.specs.declared.outcome.Fault.{Fault}
-use Rattle.m36_model.specs.declared.record.StepRecord.{StepRecord}
 use Rattle.m36_isol.specs.PageServices.{PagedState, core_state}
 use Rattle.m36_isol.proofs.FlatLaw.{put_descriptors}
 use Rattle.m36_isol.proofs.LaidAudit.{same_audit}
@@ -22,9 +18,9 @@ use Rattle.m36_step.specs.declared.turns.Turn.TheVariants.{Stepped, Linked, Cons
 use Rattle.m36_super.specs.Library.{Library}
 use Rattle.m36_super.specs.Services.{console_limit, console_text, link_changes}
 use Rattle.m36_super.specs.Coming.{Coming, Step, Link, Print, Over, loaded_after}
-use Rattle.m36_super.specs.FlatRun.{FlatRun, FlatTurn, flat_stepped, flat_linked_by, flat_printed_by, flat_turn_by, flat_turn, flat_turns}
-use Rattle.m36_super.specs.BootedRun.{Booted, with_step, IsStep, IsStepTurn, IsLinkTurn, IsConsoleTurn, IsTurnBy, IsTurn, AreTurns, IsStanding, Stands, flat_run_of}
-use Rattle.m36_super.specs.TurnLaws.{LocatesInTurn, IsFlatTurn, IsTurnKept, TurnAuditLaw, IsPlainTurn, FunctionLaw}
+use Rattle.m36_super.specs.FlatRun.{FlatRun, flat_stepped, flat_linked_by, flat_printed_by, flat_turn_by, flat_turn, flat_turns}
+use Rattle.m36_super.specs.BootedRun.{Booted, IsStep, IsStepTurn, IsLinkTurn, IsConsoleTurn, IsTurnBy, IsTurn, AreTurns, IsStanding, Stands, flat_run_of}
+use Rattle.m36_super.specs.TurnLaws.{LocatesInTurn, IsFlatTurn, TurnAuditLaw, IsPlainTurn, FunctionLaw}
 use Rattle.m36_super.proofs.Served.{services_alike}
 use Rattle.m36_super.proofs.Turns.{turn_law}
 

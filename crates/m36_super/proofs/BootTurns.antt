@@ -1,6 +1,6 @@
 -- A booted image is where a run starts.
 use Rattle.std.proofs.Common.{◌≡◌, refl, sym, subst, arith}
-use Rattle.std.specs.Prelude.{ℕ, ◌<◌, false, List, length, Result, Ok, Err}
+use Rattle.std.specs.Prelude.{ℕ, List, length, Ok}
 use Rattle.m36_dir.specs.Catalog.{CatalogFields}
 use Rattle.m36_boot.specs.declared.image.Image.{Image}
 use Rattle.m36_boot.specs.Image.{IsImage, IsRunnable}
@@ -13,7 +13,6 @@ use Rattle.m36_link.specs.Accepted.{accepted, MayBeLaid}
 use Rattle.m36_link.specs.Laws.{IsMade, MayBeAcceptedFrom, KeepsMadeFrom}
 use Rattle.m36_page.specs.Residence.{Reads}
 use Rattle.m36_super.specs.Library.{Library}
-use Rattle.m36_super.specs.Coming.{Step}
 use Rattle.m36_super.specs.SuperFields.{SuperFields, IsManaged, IsRunning}
 use Rattle.m36_super.specs.BootSays.{IsBooted, at_start}
 

@@ -1,10 +1,10 @@
 -- Words that the console reads: by the rules of access, over the flat memory.
 use Rattle.std.proofs.Common.{◌≡◌, refl, sym, ◌∙◌, ap, subst, arith, append_assoc, length-append}
 use Rattle.std.proofs.lemmas.List.{append-nil}
-use Rattle.std.specs.Prelude.{ℕ, zero, suc, ◌+◌, ◌*◌, ◌-◌, ◌<◌, ◌≤◌, ◌/◌, ◌==◌, Bool, true, false, List, [], ◌∷◌, ◌++◌, take, length, slice_index, Option, Some, None, Result, Ok, Err}
+use Rattle.std.specs.Prelude.{ℕ, zero, suc, ◌+◌, ◌*◌, ◌-◌, ◌<◌, ◌≤◌, ◌==◌, Bool, true, false, List, [], ◌∷◌, ◌++◌, length, slice_index, Option, Some, None, Result, Ok, Err}
 use Rattle.m36_desc.specs.Fields.{SdwFields, DbrFields}
 use Rattle.m36_desc.specs.Access.{in_order, first_of, read_rows, allowed}
-use Rattle.m36_desc.specs.Violations.{out_of_segment_bounds, illegal_ring_order}
+use Rattle.m36_desc.specs.Violations.{out_of_segment_bounds}
 use Rattle.m36_desc.specs.declared.access.Acv.{Acv}
 use Rattle.m36_model.specs.Fields.{AtFields}
 use Rattle.m36_model.specs.Registers.{RegsFields}
@@ -14,17 +14,17 @@ use Rattle.m36_model.specs.Place.{core_sdw}
 use Rattle.m36_model.specs.Sight.{word_of, content_in}
 use Rattle.m36_model.specs.Flat.{Flat, flat_sdw, flat_put, flat_store}
 use Rattle.m36_model.specs.BootedCore.{booted_dbr}
-use Rattle.m36_model.specs.Residence.{Paged, paged_content, flat_of}
+use Rattle.m36_model.specs.Residence.{flat_of}
 use Rattle.m36_model.specs.declared.outcome.Fault.{Fault}
 use Rattle.m36_model.specs.declared.outcome.Refusal.{Refusal}
 use Rattle.m36_isol.proofs.Booted.{flat_descriptor}
 use Rattle.m36_page.specs.Fields.{PagerFields}
-use Rattle.m36_page.specs.Residence.{has_page, kept_word, content_of}
+use Rattle.m36_page.specs.Residence.{content_of}
 use Rattle.m36_super.specs.Services.{characters_of, joined, console_at, console_words}
 use Rattle.m36_super.specs.SuperFields.{IsManaged}
 use Rattle.m36_super.specs.Writing.{flat_by}
 use Rattle.m36_super.specs.Examining.{ExaminedSays, behind}
-use Rattle.m36_super.proofs.PagedContents.{content_shown, shown, shown_by, found_word}
+use Rattle.m36_super.proofs.PagedContents.{content_shown, shown, shown_by}
 
 -- ---- over any flat memory
 

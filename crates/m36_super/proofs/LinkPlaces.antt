@@ -1,7 +1,7 @@
 -- Where a link that is snapped stands: in the linkage segment of its ring, with both of its words.
 use Rattle.std.proofs.Common.{◌≡◌, refl, sym, ◌∙◌, ap, subst, arith, length-append}
-use Rattle.std.proofs.lemmas.Bool.{eqb-true, leb-true}
-use Rattle.std.specs.Prelude.{ℕ, zero, suc, ◌+◌, ◌-◌, ◌*◌, ◌/◌, ◌%◌, ◌^◌, ◌<◌, ◌≤◌, Bool, true, false, ◌&&◌, nat_eq, nat_le, if◌then◌else◌, find, List, [], ◌∷◌, length, slice_get, All, Option, Some, None, is_some, option_and_then, Result, Ok, Err}
+use Rattle.std.proofs.lemmas.Bool.{eqb-true, leb-true, and_parts}
+use Rattle.std.specs.Prelude.{ℕ, suc, ◌+◌, ◌-◌, ◌*◌, ◌/◌, ◌%◌, ◌^◌, ◌<◌, ◌≤◌, Bool, true, false, ◌&&◌, nat_eq, nat_le, if◌then◌else◌, find, List, [], ◌∷◌, length, slice_get, All, Option, Some, None, is_some, option_and_then, Ok}
 use Rattle.std.proofs.lemmas.Option.{slice_get_within}
 use Rattle.m36_model.specs.Fields.{AtFields}
 use Rattle.m36_dir.specs.Catalog.{CatalogFields}
@@ -12,7 +12,7 @@ use Rattle.obj36_parts.proofs.LengthLaws.{length-linkage_part}
 use Rattle.m36_link.specs.Fields.{LaidFields, KnownFields, SnapFields}
 use Rattle.m36_link.specs.Known.{linkage_segment, object_in, laid_words}
 use Rattle.m36_link.specs.Links.{link_from, link_in, holds_link, section_at}
-use Rattle.m36_link.specs.Snap.{RefusedFields, snap_of, snap_in}
+use Rattle.m36_link.specs.Snap.{snap_of, snap_in}
 use Rattle.m36_link.specs.Laws.{IsWhole, IsMade}
 
 -- an element that is found passes the test, and what holds of each element holds of it
@@ -41,10 +41,6 @@ some_of : (v : Option LinkFields) → is_some v ≡ true → (x : LinkFields) ×
 some_of (Some x) e = (x, refl)
 some_of None e = cc
 
-and_both : (a b : Bool) → (a && b) ≡ true → (a ≡ true) × (b ≡ true)
-and_both true b e = (refl, e)
-and_both false b e = cc
-
 section_of : (known : KnownFields) (files : List (List ℕ)) (at : AtFields) (l : LaidFields) (P : LaidFields → Type 0) → section_at known.laid files at ≡ Some l → All P known.laid → IsPlaced files at l × P l
 unfolding section_at
 section_of known files at l P e all = by_seg (nat_eq at.seg (linkage_segment at.ring)) refl e
@@ -52,7 +48,7 @@ section_of known files at l P e all = by_seg (nat_eq at.seg (linkage_segment at.
     by_seg : (b : Bool) → nat_eq at.seg (linkage_segment at.ring) ≡ b → (if b then find (holds_link files at.ring at.word) known.laid else None) ≡ Some l → IsPlaced files at l × P l
     by_seg true seg e =
         let f = found_in (holds_link files at.ring at.word) P known.laid l e all in
-        let parts = and_both _ _ f.passes in
+        let parts = and_parts _ _ f.passes in
         let link = some_of _ parts.1 in
         (record { seg = eqb-true at.seg (linkage_segment at.ring) seg; link = link.0; link_is = link.1 }, f.holds)
     by_seg false seg e = cc

@@ -1,6 +1,6 @@
 -- Steps with page services, over a processor and its pager.
 use Rattle.std.proofs.Common.{◌≡◌, refl, sym, ◌∙◌, ap, subst, inl, inr, arith}
-use Rattle.std.specs.Prelude.{ℕ, zero, suc, ◌+◌, ◌-◌, ◌/◌, ◌<◌, ◌≤◌, ◌⊎◌, Bool, true, false, List, [], ◌∷◌, length, All, Option, Some, None, IsSome, Result, Ok, Err}
+use Rattle.std.specs.Prelude.{ℕ, suc, ◌/◌, ◌≤◌, ◌⊎◌, Bool, true, false, List, [], ◌∷◌, length, All, Option, Some, None, IsSome, Result, Ok, Err}
 use Rattle.m36_desc.specs.Fields.{SdwFields}
 use Rattle.m36_desc.specs.Access.{in_order}
 use Rattle.m36_desc.specs.Violations.{out_of_segment_bounds, illegal_ring_order}
@@ -17,20 +17,19 @@ use Rattle.m36_model.specs.Residence.{Lacks, absence}
 use Rattle.m36_model.specs.PagedStep.{IsPresent, IsFlatStep, IsPageFault, IsAbsaStep}
 use Rattle.m36_model.specs.declared.outcome.Fault.{Fault}
 use Rattle.m36_model.specs.declared.outcome.Outcome.{Outcome}
-use Rattle.m36_model.specs.declared.outcome.Outcome.TheVariants.{Next, Faulted, Stopped}
+use Rattle.m36_model.specs.declared.outcome.Outcome.TheVariants.{Next, Faulted}
 use Rattle.m36_model.specs.declared.outcome.Refusal.{Refusal}
 use Rattle.m36_model.specs.declared.place.Reference.{Reference}
 use Rattle.m36_model.specs.declared.record.StepRecord.{StepRecord}
-use Rattle.m36_isol.specs.PageServices.{StaysIn, PagedState, core_state, IsServed, AreServed}
+use Rattle.m36_isol.specs.PageServices.{StaysIn}
 use Rattle.m36_isol.proofs.Laid.{page_of_word}
 use Rattle.m36_isol.proofs.PagedStep.{paged_step_law}
 use Rattle.m36_isol.proofs.Pages.{few_references}
-use Rattle.m36_isol.proofs.PageLaw.{pages_law}
 use Rattle.m36_page.specs.Fields.{PagerFields}
 use Rattle.m36_page.specs.Residence.{has_page, frame_of, kept_word, IsPager, Reads}
 use Rattle.m36_page.specs.Changes.{Stays, IsBrought}
-use Rattle.m36_super.specs.SuperFields.{IsManaged, IsRunning, frame_by, held_in, IsPaging}
-use Rattle.m36_super.specs.Stepping.{paged_of, IsLacked, IsTried, IsTaken, IsStepped}
+use Rattle.m36_super.specs.SuperFields.{IsManaged, IsRunning, frame_by, IsPaging}
+use Rattle.m36_super.specs.Stepping.{IsLacked, IsTried, IsTaken}
 use Rattle.m36_super.proofs.Paging.{frame_true, paging_law, step_managed}
 
 -- ---- the page that a step lacked

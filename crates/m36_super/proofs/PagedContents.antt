@@ -1,15 +1,13 @@
 -- What the flat memory shows of a word, by what the pager finds; and how a word that is set changes it.
 use Rattle.std.proofs.Common.{◌≡◌, refl, sym, ◌∙◌, ap, subst, inl, inr, arith}
 use Rattle.std.proofs.lemmas.Bool.{eqb-true, le-leb}
-use Rattle.std.specs.Prelude.{ℕ, ◌+◌, ◌*◌, ◌/◌, ◌%◌, ◌^◌, ◌<◌, ◌≤◌, ◌⊎◌, Bool, true, false, ◌&&◌, ◌==◌, if◌then◌else◌, List, [], ◌∷◌, length, take, slice_index, Option, Some, None, Result, Ok, Err}
+use Rattle.std.specs.Prelude.{ℕ, ◌+◌, ◌*◌, ◌/◌, ◌^◌, ◌<◌, ◌≤◌, ◌⊎◌, Bool, true, false, ◌&&◌, ◌==◌, if◌then◌else◌, List, [], ◌∷◌, length, take, Option, Some, None, Result, Ok, Err}
 use Rattle.m36_desc.specs.Fields.{SdwFields}
 use Rattle.m36_desc.specs.Access.{in_order}
-use Rattle.m36_model.specs.Act.{Whole}
-use Rattle.m36_model.specs.Store.{Spot, Segment_word, within, place, place_by, place_within, place_ordered}
-use Rattle.m36_model.specs.Core.{core_store}
+use Rattle.m36_model.specs.Store.{within, place, place_by, place_within, place_ordered}
 use Rattle.m36_model.specs.Place.{core_sdw, core_spot}
-use Rattle.m36_model.specs.Flat.{Flat, flat_put}
-use Rattle.m36_model.specs.BootedCore.{descriptor_words, booted_dbr, wired_frames, IsPage, IsLaid}
+use Rattle.m36_model.specs.Flat.{flat_put}
+use Rattle.m36_model.specs.BootedCore.{descriptor_words, booted_dbr}
 use Rattle.m36_model.specs.Residence.{ptw_of_page, Paged, word_at, paged_content, flat_of, IsResidence, resident_word}
 use Rattle.m36_model.specs.declared.outcome.Refusal.{Refusal}
 use Rattle.m36_isol.proofs.Laid.{page_of_word, absent_spot, resident_spot}

@@ -1,19 +1,17 @@
 -- A call of the pager moves pages of the booted image; and a step leaves what is managed.
-use Rattle.std.proofs.Common.{◌≡◌, refl, sym, ◌∙◌, ap, subst, inl, inr, ⊎_elim, arith}
-use Rattle.std.specs.Prelude.{ℕ, zero, suc, ◌+◌, ◌*◌, ◌/◌, ◌%◌, ◌<◌, ◌≤◌, ◌⊎◌, Bool, true, false, List, [], ◌∷◌, length, take, slice_index, slice_index_or, Option, Some, None, Ok}
-use Rattle.m36_desc.specs.Fields.{SdwFields}
+use Rattle.std.proofs.Common.{◌≡◌, refl, sym, ◌∙◌, ap, subst, inl, inr, arith}
+use Rattle.std.specs.Prelude.{ℕ, zero, suc, ◌+◌, ◌*◌, ◌/◌, ◌%◌, ◌<◌, ◌≤◌, ◌⊎◌, Bool, true, false, List, [], ◌∷◌, length, take, slice_index, slice_index_or, Option, Some, None}
 use Rattle.m36_model.specs.Core.{core_store, unmarked}
 use Rattle.m36_model.specs.Place.{core_sdw}
-use Rattle.m36_model.specs.Store.{State}
 use Rattle.m36_model.specs.Step.{state_after}
 use Rattle.m36_model.specs.BootedCore.{descriptor_words, booted_dbr, table_at, wired_frames, absent_ptw, resident_ptw, IsPage, page_word, IsLaid}
-use Rattle.m36_model.specs.Residence.{Paged, ptw_of_page, IsResidence, resident_word, IsMoved}
+use Rattle.m36_model.specs.Residence.{Paged, ptw_of_page, IsResidence, resident_word}
 use Rattle.m36_isol.proofs.PagedStep.{paged_step_law}
 use Rattle.m36_isol.proofs.Moved.{same_descriptors, laid_by}
 use Rattle.m36_page.specs.Fields.{PagerFields}
-use Rattle.m36_page.specs.Residence.{has_page, spot_of, frame_in, frame_of, kept_word, word_in, content_by, content_of, Holds, IsPager, TellsPage, Reads}
+use Rattle.m36_page.specs.Residence.{has_page, spot_of, frame_of, kept_word, word_in, content_by, content_of, Holds, IsPager, TellsPage, Reads}
 use Rattle.m36_page.specs.Residence as pages
-use Rattle.m36_page.specs.Changes.{IsSpot, IsPaged, IsSameShape, IsKept}
+use Rattle.m36_page.specs.Changes.{IsPaged, IsSameShape}
 use Rattle.m36_page.proofs.Frames.{frame_absent, frame_resident}
 use Rattle.m36_link.specs.Known.{linkage_segment}
 use Rattle.m36_super.specs.SuperFields.{IsLinkage, IsManaged, frame_by, held_in, IsPaging, PagingLaw, StepManagedLaw}

@@ -1,10 +1,10 @@
 -- Page services one after another change nothing that the flat memory shows.
 use Rattle.std.proofs.Common.{◌≡◌, refl, sym, ◌∙◌, ap, subst}
-use Rattle.std.specs.Prelude.{ℕ, zero, suc, List, take}
+use Rattle.std.specs.Prelude.{ℕ, zero, suc, take}
 use Rattle.m36_model.specs.Registers.{RegsFields}
 use Rattle.m36_model.specs.Store.{State}
 use Rattle.m36_model.specs.Flat.{Flat}
-use Rattle.m36_model.specs.BootedCore.{booted_dbr, descriptor_words, IsLaid}
+use Rattle.m36_model.specs.BootedCore.{descriptor_words}
 use Rattle.m36_model.specs.Residence.{flat_of}
 use Rattle.m36_isol.specs.PageServices.{PagedState, core_state, stepped_memory, IsServed, AreServed}
 use Rattle.m36_isol.proofs.PagedStep.{paged_step_law}

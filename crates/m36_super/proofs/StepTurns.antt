@@ -1,7 +1,6 @@
 -- A step with its page services is a turn of the booted run, and all is managed after it.
 use Rattle.std.proofs.Common.{◌≡◌, refl, sym, ◌∙◌, ap, subst, inl, inr, arith}
 use Rattle.std.specs.Prelude.{ℕ, zero, suc, ◌+◌, ◌-◌, ◌<◌, ◌≤◌, ◌⊎◌, Bool, true, false, List, length}
-use Rattle.m36_model.specs.Registers.{RegsFields}
 use Rattle.m36_model.specs.Store.{State}
 use Rattle.m36_model.specs.Core.{core_store}
 use Rattle.m36_model.specs.Laws.{ExecutesLdbr}
@@ -17,9 +16,9 @@ use Rattle.m36_page.specs.Fields.{PagerFields}
 use Rattle.m36_page.specs.Residence.{kept_word}
 use Rattle.m36_step.specs.declared.turns.Turn.TheVariants.{Stepped}
 use Rattle.m36_super.specs.Coming.{Coming, coming_after, loaded_after}
-use Rattle.m36_super.specs.BootedRun.{Booted, IsStepTurn}
-use Rattle.m36_super.specs.SuperFields.{IsManaged, IsRunning, Manages}
-use Rattle.m36_super.specs.Stepping.{paged_of, run_of, IsTried, IsTaken, IsStepped, IsBareStep, StepSays}
+use Rattle.m36_super.specs.BootedRun.{IsStepTurn}
+use Rattle.m36_super.specs.SuperFields.{IsRunning, Manages}
+use Rattle.m36_super.specs.Stepping.{paged_of, run_of, IsTried, IsTaken, IsStepped, StepSays}
 use Rattle.m36_super.proofs.Paging.{step_managed}
 use Rattle.m36_super.proofs.Turns.{not_loaded}
 use Rattle.m36_super.proofs.SystemTurns.{due_after}

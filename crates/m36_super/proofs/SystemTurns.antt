@@ -1,6 +1,6 @@
 -- The turns of a booted system, and what holds after each.
 use Rattle.std.proofs.Common.{◌≡◌, refl, sym, ◌∙◌, ap, subst}
-use Rattle.std.specs.Prelude.{ℕ, Bool, true, false, ◌&&◌, nat_eq, nat_lt, length, List, Result, Ok, Err}
+use Rattle.std.specs.Prelude.{ℕ, Bool, true, false, nat_lt, length, List, Result, Ok, Err}
 use Rattle.m36_model.specs.declared.endings.End.{End}
 use Rattle.m36_model.specs.declared.endings.End.TheVariants as end
 use Rattle.m36_model.specs.Fields.{AtFields}

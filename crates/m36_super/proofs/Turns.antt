@@ -1,33 +1,32 @@
 -- A turn of a booted run is that of the flat run.
 use Rattle.std.proofs.Common.{◌≡◌, refl, sym, ◌∙◌, ap, subst, inl, inr}
-use Rattle.std.specs.Prelude.{ℕ, ◌⊎◌, Bool, true, false, nat_lt, List, take, Option, Some, None, Result, Ok, Err}
+use Rattle.std.specs.Prelude.{ℕ, ◌⊎◌, Bool, true, false, nat_lt, List, Option, Some, Result, Ok, Err}
 use Rattle.m36_inst.specs.declared.effect.Effect.{Effect}
 use Rattle.m36_inst.specs.declared.effect.Effect.TheVariants as effect
 use Rattle.m36_model.specs.Fields.{AtFields}
 use Rattle.m36_model.specs.Registers.{RegsFields}
 use Rattle.m36_model.specs.Results.{moved_on}
-use Rattle.m36_model.specs.Store.{State}
 use Rattle.m36_model.specs.Core.{core_store}
 use Rattle.m36_model.specs.Step.{decode, record_of, state_after}
 use Rattle.m36_model.specs.Laws.{ExecutesLdbr}
-use Rattle.m36_model.specs.Flat.{Flat, flat_store}
-use Rattle.m36_model.specs.BootedCore.{booted_dbr, descriptor_words, IsLaid}
-use Rattle.m36_model.specs.Residence.{Paged, flat_of}
+use Rattle.m36_model.specs.Flat.{flat_store}
+use Rattle.m36_model.specs.BootedCore.{booted_dbr}
+use Rattle.m36_model.specs.Residence.{flat_of}
 use Rattle.m36_model.specs.PagedStep.{flat_state, IsPresent, IsFlatStep, IsPageFault, IsAbsaStep, IsPagedStep}
 use Rattle.m36_model.specs.declared.outcome.Fault.{Fault}
 use Rattle.m36_model.specs.declared.outcome.Outcome.{Outcome}
-use Rattle.m36_model.specs.declared.outcome.Outcome.TheVariants.{Next, Faulted, Stopped}
+use Rattle.m36_model.specs.declared.outcome.Outcome.TheVariants.{Next}
 use Rattle.m36_model.specs.declared.record.StepRecord.{StepRecord}
 use Rattle.m36_isol.specs.PageServices.{PagedState, core_state, stepped_memory}
 use Rattle.m36_isol.proofs.PagedStep.{paged_step_law}
 use Rattle.m36_link.specs.Fields.{KnownFields, SnapFields}
 use Rattle.m36_link.specs.Snap.{RefusedFields, snap_of}
 use Rattle.m36_step.specs.declared.turns.Turn.{Turn}
-use Rattle.m36_step.specs.declared.turns.Turn.TheVariants.{Stepped, Linked, Console, Ended, Full, NoMemory}
+use Rattle.m36_step.specs.declared.turns.Turn.TheVariants.{Stepped, NoMemory}
 use Rattle.m36_super.specs.Library.{Library}
 use Rattle.m36_super.specs.Services.{console_limit, console_text}
 use Rattle.m36_super.specs.Coming.{Coming, Step, Link, Print, Over, coming_after, is_ldbr, loads, loaded_after}
-use Rattle.m36_super.specs.FlatRun.{FlatRun, FlatTurn, flat_stepped, flat_linked_by, flat_printed_by, flat_turn_by, flat_turn}
+use Rattle.m36_super.specs.FlatRun.{FlatTurn, flat_stepped, flat_linked_by, flat_printed_by, flat_turn_by, flat_turn}
 use Rattle.m36_super.specs.BootedRun.{Booted, told_of, with_step, IsStep, IsLinkTurn, IsConsoleTurn, IsTurnBy, IsTurn, IsStanding, Stands, flat_run_of}
 use Rattle.m36_super.specs.TurnLaws.{LocatesInTurn, IsFlatTurn, IsTurnKept, TurnLaw}
 use Rattle.m36_super.proofs.Served.{IsAlike, services_alike}

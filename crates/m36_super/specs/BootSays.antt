@@ -1,5 +1,5 @@
 -- What booting answers.
-use Rattle.std.specs.Prelude.{◌≡◌, false, List, ℕ, Result, Ok, Err}
+use Rattle.std.specs.Prelude.{◌≡◌, false, Result, Ok, Err}
 use Rattle.m36_boot.specs.declared.fault.BootFault.{BootFault}
 use Rattle.m36_boot.specs.Refusals.{Told, boot_answer}
 use Rattle.m36_boot.specs.declared.image.Image.{Image}

@@ -2,7 +2,7 @@
 use Rattle.std.specs.Prelude.{ℕ, Bool, true, false, ◌&&◌, nat_eq, Option, None, Some}
 use Rattle.m36_inst.specs.declared.effect.Effect.{Effect}
 use Rattle.m36_inst.specs.declared.effect.Effect.TheVariants as effect
-use Rattle.m36_model.specs.Faults.{master_mode_entry}
+use Rattle.m36_model.specs.Faults.{master_mode_entry, fault_tag_2}
 use Rattle.m36_model.specs.Step.{decode}
 use Rattle.m36_model.specs.declared.endings.End.TheVariants as end
 use Rattle.m36_model.specs.declared.outcome.Fault.{Fault}
@@ -12,12 +12,9 @@ use Rattle.m36_model.specs.declared.record.StepRecord.{StepRecord}
 pub use Rattle.m36_super.specs.declared.coming.Coming.{Coming}
 pub use Rattle.m36_super.specs.declared.coming.Coming.TheVariants.{Step, Link, Print, Over}
 
--- the fault of a word that is a link to be snapped
-abbrev pub link_fault : ℕ
-link_fault = 24
-
--- A link fault calls for a link service, and MME in ring 0 for a console service, until an LDBR has
--- been executed. Every other fault and every stop ends the run.
+-- Fault tag 2, which is that of a link to be snapped, calls for a link service, and MME in ring 0
+-- for a console service, until an LDBR has been executed. Every other fault and every stop ends the
+-- run.
 abbrev pub coming_in : Bool → Bool → Fault → Coming
 coming_in true console f = Link f.at
 coming_in false true f = Print
@@ -26,7 +23,7 @@ coming_in false false f = Over (end.Fault f)
 abbrev pub coming_on : Bool → ℕ → Fault → Coming
 coming_on true ring f = Over (end.Fault f)
 coming_on false ring f =
-    coming_in (nat_eq f.number link_fault) (nat_eq f.number master_mode_entry && nat_eq ring 0) f
+    coming_in (nat_eq f.number fault_tag_2) (nat_eq f.number master_mode_entry && nat_eq ring 0) f
 
 abbrev pub coming_after : Bool → ℕ → Outcome → Coming
 coming_after loaded ring Next = Step

@@ -9,13 +9,13 @@ use Rattle.m36_model.specs.declared.outcome.Fault.{Fault}
 use Rattle.m36_model.specs.declared.outcome.Outcome.{Outcome}
 use Rattle.m36_model.specs.declared.outcome.Outcome.TheVariants.{Faulted}
 use Rattle.m36_model.specs.declared.record.StepRecord.{StepRecord}
-use Rattle.m36_isol.specs.PageServices.{PagedState, IsServed, AreServed}
+use Rattle.m36_isol.specs.PageServices.{PagedState, IsServed, AreServed, pages_of_an_instruction}
 use Rattle.m36_page.specs.Fields.{PagerFields}
 use Rattle.m36_page.specs.Residence.{kept_word}
 use Rattle.m36_link.specs.Fields.{KnownFields}
 use Rattle.m36_super.specs.Coming.{Coming}
 use Rattle.m36_super.specs.BootedRun.{Booted}
-use Rattle.m36_super.specs.SuperFields.{IsManaged, IsRunning}
+use Rattle.m36_super.specs.SuperFields.{IsRunning}
 
 -- the paged state of a processor and its pager
 abbrev pub paged_of : State (List ℕ) → PagerFields → PagedState
@@ -65,7 +65,7 @@ pub record IsStepped
     (told : StepRecord) : Type 0 where
   pub last : State (List ℕ)
   pub services : ℕ
-  pub few : services ≤ 18
+  pub few : services ≤ pages_of_an_instruction
   pub served : AreServed (length p.holders) services (paged_of old p) (paged_of last q)
   pub frames : length q.holders ≡ length p.holders
   pub runs : IsRunning (length q.holders) last.regs last.store q

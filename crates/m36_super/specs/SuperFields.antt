@@ -1,7 +1,6 @@
 -- What a booted system shows.
-use Rattle.std.specs.Prelude.{◌≡◌, ℕ, ◌≤◌, ◌+◌, Bool, true, false, if◌then◌else◌, List, length}
-use Rattle.std.specs.Prelude.{slice_get}
-use Rattle.std.specs.Prelude.{Option, Some, None, ◌<◌, Ok}
+use Rattle.std.specs.Prelude.{◌≡◌, ℕ, ◌≤◌, ◌+◌, Bool, true, false, List, length}
+use Rattle.std.specs.Prelude.{Option, None, ◌<◌, Ok}
 use Rattle.m36_desc.specs.Fields.{SdwFields}
 use Rattle.m36_model.specs.Place.{core_sdw}
 use Rattle.m36_model.specs.Registers.{RegsFields}
@@ -15,6 +14,7 @@ use Rattle.m36_page.specs.Residence.{has_page, spot_of, frame_of, kept_word, IsP
 use Rattle.m36_page.specs.Changes.{IsKept}
 use Rattle.m36_link.specs.Fields.{KnownFields}
 use Rattle.m36_link.specs.Known.{linkage_segment}
+use Rattle.m36_boot.specs.Refusals.{least_frames}
 use Rattle.m36_link.specs.Laws.{IsMade}
 use Rattle.m36_super.specs.Library.{Library}
 use Rattle.m36_super.specs.Coming.{Coming, Step, Link, Print, Over}
@@ -57,7 +57,7 @@ pub record IsManaged (frames : ℕ) (core : List ℕ) (p : PagerFields) : Type 0
   pub laid : IsLaid core frames
   pub first : p.first ≡ wired_frames
   pub frames_are : length p.holders ≡ frames
-  pub some : 24 ≤ frames
+  pub some : least_frames ≤ frames
   pub pager : IsPager p
   pub reads : Reads p core
   pub serves : (seg page : ℕ) → IsPage core seg page → has_page p seg page ≡ true

@@ -5,7 +5,7 @@ use Rattle.m36_model.specs.Flat.{flat_store}
 use Rattle.m36_model.specs.Residence.{flat_of}
 use Rattle.m36_model.specs.Sight.{content_in}
 use Rattle.std.specs.Prelude.{List, Result, Ok, Err}
-use Rattle.std.proofs.Common.{inr, sym, ap, subst}
+use Rattle.std.proofs.Common.{inr, sym, subst}
 use Rattle.m36_model.specs.Fields.{AtFields}
 use Rattle.m36_model.specs.declared.outcome.Fault.{Fault}
 use Rattle.m36_link.specs.Fields.{SnapFields}
@@ -48,7 +48,7 @@ pub super_stays :
 super_stays before n answer after went = inr went.1
 
 -- the next turn is no service
-abbrev IsQuiet : Coming → Type 0
+abbrev pub IsQuiet : Coming → Type 0
 IsQuiet Step = Unit {0}
 IsQuiet (Link at) = ⊥
 IsQuiet Print = ⊥
@@ -60,7 +60,7 @@ step_no_service :
 step_no_service false frames before turn after h service = subst IsService h.told service
 step_no_service true frames before turn after h service = subst IsService h.told service
 
-link_quiet :
+pub link_quiet :
     (answer : Result SnapFields RefusedFields) (frames : ℕ) (at : AtFields) (before : Booted)
     (turn : Turn) (after : Booted) → IsLinkTurn answer frames at before turn after → IsService turn
     → IsQuiet after.coming

@@ -1,6 +1,6 @@
 -- What holds of every booted run: the core stays that of the image until an LDBR is executed, and
 -- until then each turn that is no ABSA is the turn of the flat run.
-use Rattle.std.specs.Prelude.{◌≡◌, ℕ, ◌⊎◌, false, List, length}
+use Rattle.std.specs.Prelude.{◌≡◌, ◌⊎◌, false, List, length}
 use Rattle.m36_model.specs.StoreLaw.{Each}
 use Rattle.m36_model.specs.Audit.{IsAudited}
 use Rattle.m36_model.specs.BootedCore.{booted_dbr}

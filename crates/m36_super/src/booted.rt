@@ -1,6 +1,6 @@
 //! Booted systems.
 
-ghost use Rattle.std.specs.Prelude.{ℕ, ◌≡◌, ◌≤◌, ◌<◌, ◌^◌, [], None, length, false};
+ghost use Rattle.std.specs.Prelude.{◌≡◌, ◌<◌, [], None, length, false};
 ghost use Rattle.m36_link.specs.Laws.{IsMade};
 ghost use Rattle.m36_model.specs.declared.outcome.Outcome.TheVariants.{Next};
 ghost use Rattle.m36_super.specs.SuperFields.{IsRunning, IsDue};

@@ -1,6 +1,6 @@
 //! Booting.
 
-ghost use Rattle.std.specs.Prelude.{ℕ, ◌≡◌, ◌≤◌, ◌^◌, All, length, IfOk, Ok, true};
+ghost use Rattle.std.specs.Prelude.{◌≡◌, ◌≤◌, ◌^◌, All, length, IfOk, Ok, true};
 ghost use Rattle.std.specs.List.{list_all};
 ghost use Rattle.m36_boot.specs.Segments.{is_short};
 ghost use Rattle.m36_boot.specs.Image.{IsRunnable};

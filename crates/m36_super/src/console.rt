@@ -1,6 +1,6 @@
 //! Console services.
 
-ghost use Rattle.std.specs.Prelude.{ℕ, ◌≡◌, ◌≤◌, ◌<◌, ◌+◌, ◌*◌, ◌/◌, ◌^◌, ◌++◌, ◌==◌, Bool, length, nat_lt, true, Ok, Err, Some, MatchResult};
+ghost use Rattle.std.specs.Prelude.{◌≡◌, ◌≤◌, ◌<◌, ◌+◌, ◌*◌, ◌/◌, ◌++◌, ◌==◌, Bool, length, nat_lt, Ok, Err, MatchResult};
 ghost use Rattle.m36_model.specs.Flat.{flat_store};
 ghost use Rattle.m36_model.specs.Store.{fault_by, examined};
 ghost use Rattle.m36_model.specs.Place.{core_sdw};

@@ -1,6 +1,6 @@
 //! Link services.
 
-ghost use Rattle.std.specs.Prelude.{ℕ, ◌≡◌, ◌≤◌, ◌<◌, ◌+◌, ◌%◌, ◌^◌, ◌⊎◌, length, List, IfSome, option_copied, ◌∷◌, [], Bool, Ok, Err, Some};
+ghost use Rattle.std.specs.Prelude.{◌≡◌, ◌≤◌, ◌<◌, ◌+◌, ◌^◌, ◌⊎◌, length, IfSome, option_copied, ◌∷◌, [], Bool, Ok, Err, Some};
 ghost use Rattle.m36_link.specs.Known.{linkage_segment};
 ghost use Rattle.m36_link.specs.Snap.{snap_of};
 ghost use Rattle.m36_link.specs.Accepted.{accepted, MayBeLaid};

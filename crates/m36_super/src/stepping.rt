@@ -1,8 +1,6 @@
 //! Steps with their page services.
 
-ghost use Rattle.std.specs.Prelude.{ℕ, ◌≡◌, ◌≤◌, ◌<◌, ◌/◌, ◌+◌, length, true};
-ghost use Rattle.m36_model.specs.Core.{core_store};
-ghost use Rattle.m36_model.specs.Step.{record_of, state_after};
+ghost use Rattle.std.specs.Prelude.{◌≡◌, ◌≤◌, ◌<◌, ◌/◌, length, true};
 ghost use Rattle.m36_link.specs.Fields.{KnownFields};
 ghost use Rattle.m36_page.specs.Residence.{has_page, Reads, IsPager};
 ghost use Rattle.m36_page.specs.Changes.{IsBrought};
@@ -11,7 +9,6 @@ ghost use Rattle.m36_super.specs.SuperFields.{IsManaged, IsRunning, Manages, IsD
 ghost use Rattle.m36_super.specs.Stepping.{run_of, LackedSays, AttemptSays, IsStepped, StepSays};
 
 use crate::coming::{Coming, coming_after, loaded_after};
-use m36_isol::{law_paged, law_pages, law_references};
 use m36_model::{At, Fault, Outcome, Refs, StepRecord};
 use m36_page::{Pager, Pinned};
 use m36_step::{Machine, Turn};

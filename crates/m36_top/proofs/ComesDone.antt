@@ -48,7 +48,7 @@ use Rattle.m36_booted.specs.RunText.{finish_status, steps_in}
 use Rattle.m36_booted.specs.RunText as booted
 use Rattle.m36_booted.specs.Runs.{Whole, Goes, Reaches}
 use Rattle.m36_booted.specs.Booted.{IsRunBy, IsAnswerOf, IsFolderAnswer}
-use Rattle.m36_made.specs.Made.{IsMadeDue, IsToldIn, boots_from}
+use Rattle.m36_made.specs.Made.{IsMadeDue}
 use Rattle.m36_made.specs.Summary.{run_limit, IsSummary, IsFoundAnswer}
 use Rattle.m36_made.specs.Summary as made
 use Rattle.m36_debug.specs.declared.fault.SessionFault.TheVariants as fault

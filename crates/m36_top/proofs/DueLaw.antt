@@ -1,7 +1,6 @@
 -- One answer is due.
 use Rattle.std.proofs.Common.{◌≡◌, Option, Some, None, Ok, Err, inl, inr, refl, sym, subst, ◌∙◌}
 use Rattle.m36_outside.specs.Files.{Files}
-use Rattle.m36_outside.specs.Passing.{joined}
 use Rattle.m36_reading.specs.declared.status.Status.TheVariants.{Usage}
 use Rattle.m36_reading.specs.Reading.{Early, outcome_in}
 use Rattle.m36_reading.specs.Answers.{Answer, unwritten, status_of, IsDueBy}
@@ -12,7 +11,7 @@ use Rattle.m36_ran.proofs.PiecesJoined.{state_joined}
 use Rattle.m36_scheduled.proofs.DueLaws.{procs_due_law}
 use Rattle.m36_scheduled.proofs.PiecesJoined.{procs_joined}
 use Rattle.m36_booted.specs.Runs.{Whole}
-use Rattle.m36_booted.proofs.DueLaws.{folder_due_law, folder_joined}
+use Rattle.m36_booted.proofs.DueLaws.{AreJoined, folder_due_law, folder_joined}
 use Rattle.m36_made.proofs.DueLaws.{made_due_law}
 use Rattle.m36_made.proofs.MadeLaws.{made_joined}
 use Rattle.m36_top.specs.declared.command.Command.{Command}
@@ -52,9 +51,6 @@ command_some None files talk un none = none (unwritten Usage) refl
 command_some (Some command) files talk un none = by_some talk (outcome_in files (reads command)) un none
 
 -- ---- pieces
-
-abbrev AreJoined : Answer → Type 0
-AreJoined due = joined due.pieces ≡ due.text
 
 session_joined : (Holds : Holding) (due : Answer) → IsSessionDue Holds due → AreJoined due
 session_joined Holds due (inl is) = subst AreJoined (sym is.answer) refl

@@ -1,5 +1,5 @@
-//! The simulator as one call: the words of the command line, a folder of files and a place for the output in; a status
-//! out.
+//! The simulator as one call: the words of the command line, a folder of files, the lines of an input and a place for the
+//! output in; a status out.
 //!
 //! `bare FILE` and `audit FILE` read a bare image, a text that writes out the core of a machine, its descriptor segment
 //! base register and where it starts. Both audit it and write what the audit finds. `bare` then runs the machine, unless
@@ -13,6 +13,7 @@
 //! `print NAME` unpacks an object and writes its print.
 //! `alm NAME` assembles the source NAME.alm, writes the object as the file NAME, and then the listing.
 //! `bind NAME` binds the objects that NAME.bind names, writes the bound object as the file NAME, and then its print.
+//! `debug FILE` reads a bare image, and `debug` boots the folder; a session is then held by the lines of the input.
 //! `make SEED` makes a folder from a seed and writes it; boots it, audits its core, and runs it where the audit passes.
 //!
 //! What [`m36`] promises, whatever its arguments:

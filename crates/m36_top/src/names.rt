@@ -1,6 +1,6 @@
 //! Operands, and names of files.
 
-ghost use Rattle.std.specs.Prelude.{ℕ, ◌≡◌, ◌≤◌, ◌++◌, length, codes, Some};
+ghost use Rattle.std.specs.Prelude.{◌≡◌, ◌≤◌, ◌++◌, length, codes, Some};
 ghost use Rattle.m36_top.specs.Words.{operand_by, operand_of};
 
 use arrayvec::ArrayVec;

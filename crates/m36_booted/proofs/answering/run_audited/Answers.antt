@@ -1,5 +1,5 @@
 -- The text was put, and then the run was.
-use Rattle.std.proofs.Common.{◌≡◌, sym, subst}
+use Rattle.std.proofs.Common.{sym, subst}
 use Rattle.m36_audit.specs.Findings.{pairs}
 use Rattle.m36_reading.specs.declared.status.Status.{Status}
 use Rattle.m36_reading.specs.Ends.{end_of}

@@ -1,4 +1,4 @@
-use Rattle.std.proofs.Common.{◌≡◌, []}
+use Rattle.std.proofs.Common.{[]}
 use Rattle.m36_reading.specs.Outside.{sink_of}
 use Rattle.m36_booted.specs.RunSays.{block_of}
 use Rattle.m36_booted.proofs.RunLoop.{IsUnderWay}

@@ -1,4 +1,4 @@
-use Rattle.std.proofs.Common.{◌≡◌, ℕ, ◌++◌, drop, take}
+use Rattle.std.proofs.Common.{◌≡◌}
 use Rattle.m36_super.proofs.booting.files_of.Given as goal
 
 abbrev pub invariant-loop-file : goal.invariant-loop-file

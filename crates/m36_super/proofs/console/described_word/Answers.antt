@@ -1,4 +1,4 @@
-use Rattle.std.proofs.Common.{◌≡◌, ℕ, ◌==◌, ◌∙◌, sym, ap, true, false, Err, Ok}
+use Rattle.std.proofs.Common.{◌≡◌, ℕ, ◌==◌, ◌∙◌, sym, ap, true, false, Err}
 use Rattle.m36_desc.specs.Access.{first_of, read_rows, allowed}
 use Rattle.m36_model.specs.Fields.{AtFields}
 use Rattle.m36_model.specs.Store.{fault_by, within}

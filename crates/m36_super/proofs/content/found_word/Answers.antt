@@ -1,5 +1,3 @@
-use Rattle.std.proofs.Common.{◌≡◌, true}
-use Rattle.m36_page.specs.Residence.{content_of}
 use Rattle.m36_super.proofs.PagedContents.{page_there, not_none}
 use Rattle.m36_super.proofs.content.found_word.Goals as goal
 

@@ -1,4 +1,4 @@
-use Rattle.std.proofs.Common.{ℕ, ◌+◌, drop}
+use Rattle.std.proofs.Common.{drop}
 use Rattle.m36_super.proofs.LinkTurns.{IsWriting}
 use Rattle.m36_super.proofs.linking.write_words.Given as goal
 

@@ -1,4 +1,3 @@
-use Rattle.std.proofs.Common.{ℕ}
 use Rattle.m36_super.proofs.StepTurns.{IsServing}
 use Rattle.m36_super.proofs.stepping.step_with_pages.Given as goal
 
