@@ -3,10 +3,9 @@
 ghost use Rattle.std.specs.Prelude.{IfOk};
 ghost use Rattle.m36_page.specs.Residence.{HasFrames, Reads};
 
-use crate::running::words_of;
+use crate::running::{text_of, words_of};
 use m36_boot::{BootFault, Image, lay};
 use m36_dir::Catalog;
-use m36_outside::Text;
 use m36_super::{are_short, files_of};
 use m36_word::{NoMemory, Words};
 use std::alloc::Global;
@@ -240,15 +239,6 @@ fn words_of_both(alloc: Global, second: Second) -> Result<Vec<Words>, NoMemory> 
     words.push(words_of(alloc, caller())?)?;
     words.push(second_of(alloc, second)?)?;
     Ok(words)
-}
-
-fn text_of(alloc: Global, lines: &[&str]) -> Result<Text, NoMemory> {
-    let mut text = Text::new(alloc);
-    for line in lines {
-        text.append(line.as_bytes())?;
-        text.push(b'\n')?;
-    }
-    Ok(text)
 }
 
 fn read(alloc: Global, text: &[u8]) -> Result<Catalog, BootFault> {

@@ -1,7 +1,5 @@
 //! Going back over a machine. What is expected was worked out by hand.
 
-ghost use Rattle.std.specs.Prelude.{◌≡◌, ◌≤◌, IfOk};
-
 mod counted;
 
 use counted::Counted;

@@ -103,7 +103,7 @@ pub(crate) fn words_of(alloc: Global, numbers: &[u64]) -> Result<Words, NoMemory
     Ok(words)
 }
 
-fn text_of(alloc: Global, lines: &[&str]) -> Result<Text, NoMemory> {
+pub(crate) fn text_of(alloc: Global, lines: &[&str]) -> Result<Text, NoMemory> {
     let mut text = Text::new(alloc);
     for line in lines {
         text.append(line.as_bytes())?;

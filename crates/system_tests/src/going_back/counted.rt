@@ -1,7 +1,5 @@
 //! A machine whose turns are counted in a counter that all its copies share, and that is no part of its state.
 
-ghost use Rattle.std.specs.Prelude.{◌≡◌};
-
 use m36_model::Regs;
 use m36_step::{BackAnswer, Machine, Replay, Stepper, Turn};
 use m36_word::{NoMemory, Word};
