@@ -7,7 +7,7 @@ ghost use Rattle.m36_boot.specs.Segments.{paged_segment, ring_segment, limited_s
 ghost use Rattle.m36_boot.specs.Refusals.{AreLimits};
 
 use crate::objects::file;
-use m36_desc::Sdw;
+use m36_desc::{ITS_TAG, Sdw};
 use m36_dir::{Catalog, SegKind, Segment};
 use m36_link::{FIRST_LINKAGE, FIRST_SEGMENT, File, LOT_WORDS, Lay};
 use m36_word::{NoMemory, Word, Words};
@@ -145,7 +145,7 @@ fn stack_words(alloc: Global, ring: u8) -> Result<Words, NoMemory>
     push_zeros(&mut words, 22)?;
     words.push(joined(
         FIRST_LINKAGE as u32 + ring as u32,
-        ((ring as u32) << 15) + 0o43,
+        ((ring as u32) << 15) + ITS_TAG as u32,
     ))?;
     words.push(Word::ZERO)?;
     Ok(words)

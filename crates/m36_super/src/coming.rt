@@ -8,8 +8,8 @@ use m36_inst::{Effect, Inst, row};
 use m36_model::{At, End, Fault, Outcome, StepRecord};
 use m36_word::Word;
 
-// The fault of a word that is a link to be snapped.
-const LINK_FAULT: u8 = 24;
+// Fault tag 2, that of a link to be snapped.
+const FAULT_TAG_2: u8 = 24;
 
 // The fault of MME.
 const MASTER_MODE_ENTRY: u8 = 2;
@@ -69,7 +69,7 @@ pub(crate) fn loaded_after(loaded: bool, told: &StepRecord) -> bool
 fn coming_in(ring: u8, fault: Fault) -> Coming
     ensures { result ≡ coming_on false ring fault }
 {
-    if fault.number == LINK_FAULT {
+    if fault.number == FAULT_TAG_2 {
         Coming::Link(fault.at)
     } else if fault.number == MASTER_MODE_ENTRY && ring == 0 {
         Coming::Print
