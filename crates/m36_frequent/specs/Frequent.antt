@@ -78,12 +78,9 @@ is_shift effect.Qlr = true
 is_shift effect.Llr = true
 is_shift _ = false
 
--- a word that is read, a pair with the first ring bracket of its segment, and no word
+-- a word that is read, and a pair with the first ring bracket of its segment
 abbrev pub word_read : ℕ → OperandFields
 word_read w = record { got = w ∷ []; ring = 0; place = 0 }
 
 abbrev pub pair_read : Pair → ℕ → OperandFields
 pair_read p ring = record { got = p.even ∷ p.odd ∷ []; ring = ring; place = 0 }
-
-abbrev pub nothing_read : OperandFields
-nothing_read = record { got = []; ring = 0; place = 0 }

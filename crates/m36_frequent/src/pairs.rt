@@ -10,8 +10,9 @@ ghost use Rattle.m36_model.specs.Fields.{FinalFields};
 ghost use Rattle.m36_model.specs.Loads.{load};
 ghost use Rattle.m36_model.specs.Results.{AQ, with_indicators, with_value};
 ghost use Rattle.m36_model.specs.Results.{zn, zn_carry_overflow};
+ghost use Rattle.m36_model.specs.Step.{no_operand};
 ghost use Rattle.m36_model.specs.Sums.{into_register};
-ghost use Rattle.m36_frequent.specs.Frequent.{reads_pair, stores_pair, pair_read, nothing_read};
+ghost use Rattle.m36_frequent.specs.Frequent.{reads_pair, stores_pair, pair_read};
 
 use crate::words::{move_on, tell_comparison};
 use m36_arith::{Sum72, add72, and72, cmp72, or72, sub72, xor72};
@@ -138,7 +139,7 @@ pub fn store_pair(row: &Row, regs: &mut Regs) -> Pair
     requires { IsTrue (stores_pair row.now.effect) }
     ensures value { (f : FinalFields)
         → Ok (record { regs = regs.new; put = result.even ∷ result.odd ∷ []; overflow = false })
-        ≡ exec row.now.effect row.now.reg regs.old f nothing_read }
+        ≡ exec row.now.effect row.now.reg regs.old f no_operand }
     ensures dbr { regs.new.dbr ≡ regs.old.dbr }
 {
     match row.effect {

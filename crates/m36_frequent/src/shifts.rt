@@ -7,7 +7,8 @@ ghost use Rattle.m36_model.specs.Effect.{exec};
 ghost use Rattle.m36_model.specs.Shifts.{count_of};
 ghost use Rattle.m36_model.specs.ShiftEffects.{shift_left};
 ghost use Rattle.m36_model.specs.Results.{A, Q, AQ};
-ghost use Rattle.m36_frequent.specs.Frequent.{is_shift, nothing_read};
+ghost use Rattle.m36_model.specs.Step.{no_operand};
+ghost use Rattle.m36_frequent.specs.Frequent.{is_shift};
 
 use crate::pairs::load_pair;
 use crate::words::{load_a, load_q};
@@ -115,7 +116,7 @@ pub fn is_shift(effect: Effect) -> bool
 pub fn shift(row: &Row, regs: &mut Regs, f: &Final) -> bool
     requires { IsTrue (is_shift row.now.effect) }
     ensures value { Ok (record { regs = regs.new; put = []; overflow = result })
-        ≡ exec row.now.effect row.now.reg regs.old f.now nothing_read }
+        ≡ exec row.now.effect row.now.reg regs.old f.now no_operand }
     ensures dbr { regs.new.dbr ≡ regs.old.dbr }
 {
     let n = shift_count(f);

@@ -10,10 +10,10 @@ ghost use Rattle.m36_model.specs.Fields.{FinalFields};
 ghost use Rattle.m36_model.specs.Loads.{load};
 ghost use Rattle.m36_model.specs.Results.{A, Q, X, completes};
 ghost use Rattle.m36_model.specs.Results.{moved_on, with_indicators, zn, zn_carry_overflow, compared};
+ghost use Rattle.m36_model.specs.Step.{no_operand};
 ghost use Rattle.m36_model.specs.Sums.{into_register, into_operand};
 ghost use Rattle.m36_frequent.specs.Frequent.{reads_word, stores_word, changes_word};
 ghost use Rattle.m36_frequent.specs.Frequent.{loads_address, word_read};
-ghost use Rattle.m36_frequent.specs.Frequent.{nothing_read};
 
 use m36_arith::{Compare, Sum36, add36, and36, cmp36, or36, sub36, xor36};
 use m36_inst::{Effect, Row};
@@ -238,7 +238,7 @@ pub fn store_word(row: &Row, regs: &mut Regs) -> Word
     requires { IsTrue (stores_word row.now.effect) }
     ensures value { (f : FinalFields)
         → Ok (record { regs = regs.new; put = result ∷ []; overflow = false })
-        ≡ exec row.now.effect row.now.reg regs.old f nothing_read }
+        ≡ exec row.now.effect row.now.reg regs.old f no_operand }
     ensures dbr { regs.new.dbr ≡ regs.old.dbr }
 {
     let word = match row.effect {
@@ -309,7 +309,7 @@ pub fn load_address(row: &Row, regs: &mut Regs, f: &Final) -> bool
     requires frequent { IsTrue (loads_address row.now.effect) }
     requires reg { row.now.reg < 8 }
     ensures value { Ok (record { regs = regs.new; put = []; overflow = result })
-        ≡ exec row.now.effect row.now.reg regs.old f.now nothing_read }
+        ≡ exec row.now.effect row.now.reg regs.old f.now no_operand }
     ensures dbr { regs.new.dbr ≡ regs.old.dbr }
 {
     let at = f.at;
