@@ -3,18 +3,15 @@ use Rattle.std.proofs.Common.{◌≡◌, ◌≢◌, ℕ, zero, suc, ◌+◌, ◌
 use Rattle.std.specs.Prelude.{◌⊎◌, Bool, true, false}
 use Rattle.std.proofs.lemmas.Bool.{cases_eq}
 use Rattle.m36_word.specs.Bits.{of_bit}
+use Rattle.m36_desc.proofs.RoundTrips.{bit_small}
 use Rattle.m36_audit.specs.Runs.{count_below}
-
-bit_most : (b : Bool) → of_bit b ≤ 1
-bit_most true = omega arith
-bit_most false = omega arith
 
 pub count_most : (test : ℕ → Bool) (n : ℕ) → count_below test n ≤ n
 unfolding count_below
 count_most test zero = omega arith
 count_most test (suc n) =
     let before = count_most test n in
-    let one = bit_most (test n) in
+    let one = bit_small (test n) in
     omega arith
 
 pub count_more : (test : ℕ → Bool) (n : ℕ) → count_below test (n + 1) ≡ count_below test n + of_bit (test n)

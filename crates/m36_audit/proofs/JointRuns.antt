@@ -1,13 +1,13 @@
 -- The runs of first segments are counted, one segment after another.
-use Rattle.std.proofs.Common.{◌≡◌, ◌≢◌, ℕ, zero, suc, ◌+◌, ◌-◌, ◌*◌, ◌/◌, ◌%◌, ◌^◌, ◌<◌, ◌≤◌, length, refl, sym, ◌∙◌, ap, subst, inl, inr, arith}
-use Rattle.std.specs.Prelude.{◌⊎◌, if◌then◌else◌, Bool, true, false, ◌==◌, nat_lt, nat_le, List, slice_get, slice_index, Option, Some, None, Result, Ok, Err}
-use Rattle.std.proofs.lemmas.Bool.{cases_lt, lt-leb, ltb-true, ne_eqb, eq-eqb}
+use Rattle.std.proofs.Common.{◌≡◌, ◌≢◌, ℕ, zero, suc, ◌+◌, ◌-◌, ◌*◌, ◌/◌, ◌%◌, ◌^◌, ◌<◌, ◌≤◌, refl, sym, ◌∙◌, ap, subst, arith}
+use Rattle.std.specs.Prelude.{if◌then◌else◌, Bool, true, false, ◌==◌, nat_lt, List, slice_get, slice_index, Option, Some, None, Result, Ok, Err}
+use Rattle.std.proofs.lemmas.Bool.{lt-leb, ltb-true, ne_eqb, eq-eqb}
 use Rattle.m36_desc.specs.Fields.{SdwFields, DbrFields}
 use Rattle.m36_desc.specs.Access.{in_order}
 use Rattle.m36_model.specs.Place.{in_bounds, core_sdw}
 use Rattle.m36_model.specs.declared.outcome.Refusal.{Refusal}
 use Rattle.m36_audit.specs.declared.run.Run.{Run}
-use Rattle.m36_audit.specs.Runs.{whole_run, page_run_by, run_by, run_ordered, run_of, run, counted, AreCounted}
+use Rattle.m36_audit.specs.Runs.{whole_run, page_run_by, run_by, run_ordered, run_of, AreCounted}
 use Rattle.m36_audit.specs.Shares.{first_run, run_of_process, joint_run, piece_count, starts_with, stops_with}
 use Rattle.m36_audit.proofs.Bounds.{live_in_bounds}
 use Rattle.m36_audit.proofs.Covering.{counted_on}

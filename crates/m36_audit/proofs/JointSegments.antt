@@ -4,20 +4,19 @@ use Rattle.std.specs.Prelude.{◌⊎◌, Bool, true, false, ◌==◌, ◌&&◌, 
 use Rattle.std.specs.Bool.{Decides}
 use Rattle.std.proofs.lemmas.Bool.{and_parts, and_from, eq-eqb, eqb-true, ltb-true, lt-ltb, cases_eq}
 use Rattle.std.proofs.lemmas.Option.{slice_get_within}
-use Rattle.m36_desc.specs.Fields.{SdwFields, DbrFields}
+use Rattle.m36_desc.specs.Fields.{DbrFields}
 use Rattle.m36_model.specs.Audit.{IsSegmentWord}
-use Rattle.m36_model.specs.JointAudit.{AreTwo, AreSameWord, IsJointSegment}
-use Rattle.m36_model.specs.Place.{core_sdw}
+use Rattle.m36_model.specs.JointAudit.{AreSameWord, IsJointSegment}
 use Rattle.m36_audit.specs.declared.run.Run.{Run}
-use Rattle.m36_audit.specs.Runs.{run, covers, count_below, InOrder}
+use Rattle.m36_audit.specs.Runs.{run, covers, InOrder}
 use Rattle.m36_audit.specs.Classes.{AreClasses}
-use Rattle.m36_audit.specs.Told.{several, TwoOf, IsTold, AreTold}
+use Rattle.m36_audit.specs.Told.{several, IsTold, AreTold}
 use Rattle.m36_audit.specs.Shares.{SegmentOwned, Below, first_run, run_of_process, joint_run, joint_coverage}
 use Rattle.m36_audit.proofs.Clashes.{Clash, clash}
-use Rattle.m36_audit.proofs.Counting.{PassTwice, two, at_least_two}
-use Rattle.m36_audit.proofs.Conditions.{covers_is, is_covers, word_below, word_passes, few_segments, runs_in_order}
+use Rattle.m36_audit.proofs.Counting.{two, at_least_two}
+use Rattle.m36_audit.proofs.Conditions.{covers_is, word_below, word_passes, few_segments, runs_in_order}
 use Rattle.m36_audit.proofs.Bounds.{live_in_bounds}
-use Rattle.m36_audit.proofs.SegmentWords.{Word, WordOf, number_of, word_parts, word_is, word_live, word_number, word_once, covered_word, word_inside}
+use Rattle.m36_audit.proofs.SegmentWords.{number_of, word_parts, word_is, word_live, word_number, word_once, covered_word, word_inside}
 use Rattle.m36_audit.proofs.SameDescriptors.{LiveOf, live_of, same_firsts, firsts_same, FirstOf, first_of}
 
 -- a word of a segment, by the number of the first descriptor with the segment's words

@@ -6,7 +6,7 @@ use Rattle.std.proofs.lemmas.Bool.{eq-eqb, eqb-true, eqb-false, cases_eq}
 use Rattle.std.proofs.lemmas.Option.{slice_get_within}
 use Rattle.m36_desc.specs.Fields.{DbrFields}
 use Rattle.m36_model.specs.Audit.{Table, Sdws, Directory, Pages, IsOf, IsSegmentWord}
-use Rattle.m36_model.specs.JointAudit.{AreShared, AreTwo, IsTaken, IsJointTable}
+use Rattle.m36_model.specs.JointAudit.{AreShared, IsTaken, IsJointTable}
 use Rattle.m36_audit.specs.Classes.{AreClasses}
 use Rattle.m36_audit.specs.Told.{several, TwoOf, IsTold, AreTold}
 use Rattle.m36_audit.specs.Shares.{identity, Identified, TableOwned, SegmentOwned, Below, is_between}

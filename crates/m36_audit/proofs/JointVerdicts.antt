@@ -1,8 +1,8 @@
 -- The findings of processes one after another, and what is told of core words after one process more.
-use Rattle.std.proofs.Common.{◌≡◌, ℕ, zero, suc, ◌+◌, ◌≤◌, ◌<◌, ◌^◌, length, refl, sym, ◌∙◌, ap, subst, inl, inr, arith, get_or}
-use Rattle.std.specs.Prelude.{◌⊎◌, List, [], ◌∷◌, ◌++◌, ◌↔◌, map, take, drop, slice_get, slice_index, replicate, Option, Some, None}
+use Rattle.std.proofs.Common.{◌≡◌, ℕ, zero, suc, ◌+◌, ◌≤◌, ◌<◌, length, refl, sym, ◌∙◌, ap, subst, inl, inr, arith, get_or}
+use Rattle.std.specs.Prelude.{◌⊎◌, List, [], ◌∷◌, ◌++◌, ◌↔◌, drop, slice_get, slice_index, replicate, Option, Some, None}
 use Rattle.std.proofs.lemmas.Bool.{cases_lt}
-use Rattle.std.proofs.lemmas.List.{append_assoc, append-nil, map-append, length-replicate}
+use Rattle.std.proofs.lemmas.List.{append_assoc, append-nil, length-replicate}
 use Rattle.std.proofs.Math.ListN.{drop_of_length-le}
 use Rattle.std.proofs.lemmas.Option.{slice_get_cases}
 use Rattle.m36_desc.specs.Fields.{DbrFields}
@@ -12,7 +12,7 @@ use Rattle.m36_isol.specs.Findings.{JointFindingsLaw}
 use Rattle.m36_audit.specs.declared.joint_verdict.JointFinding.{JointFinding}
 use Rattle.m36_audit.specs.Told.{AreTold}
 use Rattle.m36_audit.specs.Shares.{Below, TableOwned, SegmentOwned, Identified}
-use Rattle.m36_audit.specs.Joints.{found_of, all_found, AreShares, AreFoundSo}
+use Rattle.m36_audit.specs.Joints.{all_found, AreShares, AreFoundSo}
 use Rattle.m36_audit.proofs.TableWords.{zeros}
 
 drop_at : (dbrs : List DbrFields) (n : ℕ) (dbr : DbrFields) → slice_get dbrs n ≡ Some dbr → drop n dbrs ≡ dbr ∷ drop (suc n) dbrs

@@ -1,13 +1,13 @@
 -- A process was told of every core word where it has something.
 use Rattle.std.proofs.Common.{◌≡◌, ◌≢◌, ℕ, ◌+◌, ◌^◌, ◌<◌, ◌≤◌, length, refl, sym, ◌∙◌, ap, subst, inl, inr, arith}
 use Rattle.std.specs.Prelude.{◌⊎◌, Bool, true, false, not, ◌==◌, nat_lt, List, slice_index, slice_get, Option, Some}
-use Rattle.std.proofs.lemmas.Bool.{cases_eq, cases_lt, ltb-true, lt-ltb, eqb-true, eqb-false, eq-eqb, ne_eqb}
+use Rattle.std.proofs.lemmas.Bool.{cases_eq, cases_lt, ltb-true, lt-ltb, eq-eqb, ne_eqb}
 use Rattle.std.proofs.lemmas.List.{get_or-set_same, get_or-set_other, length-set}
 use Rattle.m36_desc.specs.Fields.{DbrFields}
 use Rattle.m36_model.specs.Audit.{IsOf, IsSegmentWord}
 use Rattle.m36_audit.specs.TableMarks.{AreMarked}
 use Rattle.m36_audit.specs.Runs.{run, covers, coverage}
-use Rattle.m36_audit.specs.Told.{several, joined, IsTold, AreTold}
+use Rattle.m36_audit.specs.Told.{joined, IsTold, AreTold}
 use Rattle.m36_audit.specs.Shares.{Below, TableOwned, SegmentOwned, owned, owned_at, AreOwned}
 use Rattle.m36_audit.proofs.Counting.{one}
 use Rattle.m36_audit.proofs.Conditions.{covers_is, word_counts}

@@ -2,7 +2,7 @@
 use Rattle.std.proofs.Common.{◌≡◌, ℕ, ◌+◌, ◌*◌, ◌<◌, ◌≤◌, refl, sym, ◌∙◌, ap, inl, inr, arith}
 use Rattle.std.specs.Prelude.{◌⊎◌, Bool, true, false, not, ◌&&◌, nat_lt, List, Option, Some, None, Result, Ok, Err}
 use Rattle.std.specs.Bool.{Decides}
-use Rattle.std.proofs.lemmas.Bool.{ltb-true, lt-ltb, cases_lt}
+use Rattle.std.proofs.lemmas.Bool.{ltb-true, lt-ltb, cases_lt, not-true, not_from_false, and_parts, and_from}
 use Rattle.m36_desc.specs.Fields.{SdwFields, DbrFields}
 use Rattle.m36_desc.specs.Access.{in_order}
 use Rattle.m36_model.specs.Place.{in_bounds, core_sdw}
@@ -17,43 +17,28 @@ use Rattle.m36_audit.proofs.Bounds.{live_in_bounds}
 same_live : {E : Type 0} (r : Result SdwFields E) (d e : SdwFields) → r ≡ Ok d → r ≡ Ok e → e ≡ d
 same_live r d e h k = cc
 
-not_true : (b : Bool) → not b ≡ true → b ≡ false
-not_true true h = cc
-not_true false h = refl
-
-true_not : (b : Bool) → b ≡ false → not b ≡ true
-true_not true h = cc
-true_not false h = refl
-
 pub out_of_order : (core : List ℕ) (dbr : DbrFields) (seg : ℕ) (found : Option SdwFields) → Tells found (core_sdw core dbr seg) → Decides (disordered found) (IsOutOfOrder core dbr seg)
 out_of_order core dbr seg None t = (λ h. cc, λ k. absurd (t k.sdw k.live))
 out_of_order core dbr seg (Some d) t = (
-  λ h. record { sdw = d; live = t; out = not_true (in_order d) h },
-  λ k. true_not (in_order d) (ap in_order (same_live _ k.sdw d k.live t) ∙ k.out),
+  λ h. record { sdw = d; live = t; out = not-true (in_order d) h },
+  λ k. not_from_false (in_order d) (ap in_order (same_live _ k.sdw d k.live t) ∙ k.out),
 )
-
-both : (a b : Bool) → (a && b) ≡ true → (a ≡ true) × (b ≡ true)
-both true b h = (refl, h)
-both false b h = cc
-
-joined : (a b : Bool) → a ≡ true → b ≡ true → (a && b) ≡ true
-joined a b h k = ap (λ (v : Bool). v && b) h ∙ k
 
 callable_is : (core : List ℕ) (dbr : DbrFields) (seg : ℕ) (d : SdwFields) → core_sdw core dbr seg ≡ Ok d → callable d ≡ true → IsCallable core dbr seg d
 callable_is core dbr seg d t h =
-    let k = both d.executable (nat_lt d.r2 d.r3) h in
+    let k = and_parts d.executable (nat_lt d.r2 d.r3) h in
     record { live = t; executable = k.0; outer = ltb-true d.r2 d.r3 k.1 }
 
 is_callable : (core : List ℕ) (dbr : DbrFields) (seg : ℕ) (d e : SdwFields) → core_sdw core dbr seg ≡ Ok d → IsCallable core dbr seg e → (e ≡ d) × (callable d ≡ true)
 is_callable core dbr seg d e t k =
     let same = same_live _ e d k.live t in
-    (sym same, ap callable same ∙ joined e.executable (nat_lt e.r2 e.r3) k.executable (lt-ltb e.r2 e.r3 k.outer))
+    (sym same, ap callable same ∙ and_from e.executable (nat_lt e.r2 e.r3) k.executable (lt-ltb e.r2 e.r3 k.outer))
 
 pub no_gate : (core : List ℕ) (dbr : DbrFields) (seg : ℕ) (found : Option SdwFields) → Tells found (core_sdw core dbr seg) → Decides (enterable found) (IsNoGate core dbr seg)
 no_gate core dbr seg None t = (λ h. cc, λ k. absurd (t k.sdw k.callable.live))
 no_gate core dbr seg (Some d) t = (
-  λ h. let p = both (callable d) d.no_gate h in record { sdw = d; callable = callable_is core dbr seg d t p.0; open_everywhere = p.1 },
-  λ k. let p = is_callable core dbr seg d k.sdw t k.callable in joined (callable d) d.no_gate p.1 (ap (λ (e : SdwFields). e.no_gate) (sym p.0) ∙ k.open_everywhere),
+  λ h. let p = and_parts (callable d) d.no_gate h in record { sdw = d; callable = callable_is core dbr seg d t p.0; open_everywhere = p.1 },
+  λ k. let p = is_callable core dbr seg d k.sdw t k.callable in and_from (callable d) d.no_gate p.1 (ap (λ (e : SdwFields). e.no_gate) (sym p.0) ∙ k.open_everywhere),
 )
 
 serves_is : (ring : ℕ) (found : Option SdwFields) (r : Result SdwFields Refusal) → Tells found r → serves ring found ≡ is_stack_of ring r
@@ -64,8 +49,8 @@ serves_is ring (Some d) r t = ap (is_stack_of ring) (sym t)
 pub lacks_stack : (core : List ℕ) (dbr : DbrFields) (seg : ℕ) (d : SdwFields) (stack : Option SdwFields) → core_sdw core dbr seg ≡ Ok d → Tells stack (core_sdw core dbr (8 * dbr.stack + d.r2)) → Decides (callable d && not (serves d.r2 stack)) (HasNoStack core dbr seg)
 lacks_stack core dbr seg d stack t s =
     let same = serves_is d.r2 stack (core_sdw core dbr (8 * dbr.stack + d.r2)) s in (
-      λ h. let p = both (callable d) (not (serves d.r2 stack)) h in record { sdw = d; callable = callable_is core dbr seg d t p.0; missing = sym same ∙ not_true (serves d.r2 stack) p.1 },
-      λ k. let p = is_callable core dbr seg d k.sdw t k.callable in joined (callable d) (not (serves d.r2 stack)) p.1 (true_not (serves d.r2 stack) (same ∙ ap (λ (e : SdwFields). is_stack_of e.r2 (core_sdw core dbr (8 * dbr.stack + e.r2))) (sym p.0) ∙ k.missing)),
+      λ h. let p = and_parts (callable d) (not (serves d.r2 stack)) h in record { sdw = d; callable = callable_is core dbr seg d t p.0; missing = sym same ∙ not-true (serves d.r2 stack) p.1 },
+      λ k. let p = is_callable core dbr seg d k.sdw t k.callable in and_from (callable d) (not (serves d.r2 stack)) p.1 (not_from_false (serves d.r2 stack) (same ∙ ap (λ (e : SdwFields). is_stack_of e.r2 (core_sdw core dbr (8 * dbr.stack + e.r2))) (sym p.0) ∙ k.missing)),
     )
 
 pub no_stack_unless : (core : List ℕ) (dbr : DbrFields) (seg : ℕ) → Tells None (core_sdw core dbr seg) → Decides false (HasNoStack core dbr seg)

@@ -1,4 +1,4 @@
-use Rattle.std.proofs.Common.{◌≡◌, ◌*◌, ◌+◌, ◌^◌, ◌≤◌, ℕ, length, subst, sym, ◌∙◌, ap, refl, arith}
+use Rattle.std.proofs.Common.{◌≡◌, ◌*◌, ◌+◌, ◌≤◌, ℕ, length, subst, arith}
 use Rattle.m36_audit.specs.Runs.{run_by, AreCounted}
 use Rattle.m36_audit.specs.Shares.{joint_run, piece_count}
 use Rattle.m36_audit.proofs.SegmentRuns.{starts_room, stops_room}

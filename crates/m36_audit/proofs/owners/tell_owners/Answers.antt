@@ -1,5 +1,5 @@
-use Rattle.std.proofs.Common.{◌≡◌, ℕ, ◌+◌, ◌<◌, length, sym, ◌∙◌, ap, arith}
-use Rattle.std.specs.Prelude.{Bool, not, ◌==◌, nat_lt, slice_index}
+use Rattle.std.proofs.Common.{ℕ, ◌+◌, ap, arith}
+use Rattle.std.specs.Prelude.{not, ◌==◌, nat_lt, slice_index}
 use Rattle.m36_audit.specs.Runs.{coverage}
 use Rattle.m36_audit.proofs.ProcessOwners.{owned_next}
 use Rattle.m36_audit.proofs.owners.tell_owners.Goals as goal
