@@ -23,7 +23,7 @@ use Rattle.m36_boot.specs.Image.{pages_of, booted_tables, booted_content, booted
 use Rattle.m36_boot.specs.Image.{content_by as booted_by}
 use Rattle.m36_boot.proofs.Sizes.{AreFiles}
 use Rattle.m36_boot.proofs.ImageTables.{page_table, has_table, table_is}
-use Rattle.m36_boot.proofs.LaidCore.{given_from, IsMade, zeros_at, absent_at, word_here, size_of}
+use Rattle.m36_boot.proofs.LaidCore.{given_from, some_same, IsMade, zeros_at, absent_at, word_here, size_of}
 
 -- ---- the table of a segment
 
@@ -76,11 +76,8 @@ table_by : (catalog : CatalogFields) (files : List (List ℕ)) (lay : Option Lay
 table_by catalog files lay seg d None e some has = absurd (some refl)
 table_by catalog files lay seg d (Some i) e some has =
     let is = found_seg catalog files lay seg i e in
-    let same : is.0 ≡ d = same_sdw is.0 d (booted_sdw catalog files seg) is.1 has in
+    let same : is.0 ≡ d = some_same is.0 d (booted_sdw catalog files seg) is.1 has in
     is.2 ∙ ap (λ (s : SdwFields). Some (table_given (page_table catalog files lay seg s))) same
-  where
-    same_sdw : (a b : SdwFields) (o : Option SdwFields) → o ≡ Some a → o ≡ Some b → a ≡ b
-    same_sdw a b o f g = cc
 
 some_place : (b : Bool) (i : ℕ) → b ≡ true → cond b (Some i) None ≡ None → ⊥
 some_place true i e f = absurd (cc)

@@ -163,7 +163,7 @@ descriptor_here catalog files lay n a core are made low =
           ∙ sym (dead_by catalog files (booted_sdw catalog files (a / 2)) (a % 2) (a / 2) are refl (omega (arith, past)))
     ]
 
-some_same : (d e : SdwFields) (o : Option SdwFields) → o ≡ Some d → o ≡ Some e → d ≡ e
+pub some_same : (d e : SdwFields) (o : Option SdwFields) → o ≡ Some d → o ≡ Some e → d ≡ e
 some_same d e o f g = cc
 
 some_none : (d : SdwFields) (o : Option SdwFields) → o ≡ None → o ≡ Some d → ⊥

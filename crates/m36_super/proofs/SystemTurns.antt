@@ -17,8 +17,8 @@ use Rattle.m36_super.specs.Coming.{Coming, Step, Link, Print, Over, coming_in, c
 use Rattle.m36_super.specs.Services.{console_limit, console_text}
 use Rattle.m36_super.specs.BootedRun.{Booted, IsStepTurn, IsLinkTurn, IsConsoleTurn, IsTurnBy, IsTurn}
 use Rattle.m36_super.specs.SuperFields.{SuperFields, booted_of, IsDue, IsRunning}
+use Rattle.m36_super.proofs.Turns.{moved_dbr}
 use Rattle.m36_page.specs.Fields.{PagerFields}
-use Rattle.m36_model.specs.Registers.{RegsFields}
 use Rattle.m36_model.specs.Store.{State}
 
 -- ---- no service is due once an LDBR has been executed
@@ -87,10 +87,6 @@ console_faulted limited text before after turn f e fault told same =
 pub console_printed : (limited : Bool) (text : Result (List ℕ) Fault) (before after : Booted) (turn : Turn) (characters : List ℕ) → limited ≡ false → text ≡ Ok characters → turn ≡ Console characters → after ≡ record before { state = record { regs = moved_on before.state.regs; memory = before.state.memory }; coming = Step } → IsConsoleTurn limited text before turn after
 console_printed limited text before after turn characters e read told same =
     subst (λ (b : Bool). IsConsoleTurn b text before turn after) (sym e) (subst (λ (t : Result (List ℕ) Fault). IsConsoleTurn false t before turn after) (sym read) (told, same))
-
-moved_dbr : (g : RegsFields) → (moved_on g).dbr ≡ g.dbr
-unfolding moved_on
-moved_dbr g = refl
 
 pub running_moved : (old new : State (List ℕ)) (p : PagerFields) → IsRunning (length p.holders) old.regs old.store p → new ≡ record { regs = moved_on old.regs; store = old.store } → IsRunning (length p.holders) new.regs new.store p
 running_moved old new p runs e =

@@ -43,6 +43,11 @@ not_loaded e none k =
     let loaded = loads_ldbr e.word e.outcome k.word k.number k.fetched k.loads k.next in
     cc
 
+-- an instruction counter that moves on leaves the DBR
+pub moved_dbr : (g : RegsFields) → (moved_on g).dbr ≡ g.dbr
+unfolding moved_on
+moved_dbr g = refl
+
 -- ---- steps
 
 module _ (lib : Library) (state : PagedState) (known : KnownFields) where
@@ -130,10 +135,6 @@ module _ (lib : Library) (state : PagedState) (known : KnownFields) where
   link_kept : (at : AtFields) (turn : Turn) (after : Booted) → IsStanding frames state → IsLinkTurn (snap_of known lib.catalog lib.files at) frames at (before (Link at)) turn after → IsTurnKept lib (before (Link at)) turn after
   link_kept at turn after stands h =
       link_kept_by at turn after stands (link_cases at (snap_of known lib.catalog lib.files at) turn after stands h)
-
-  moved_dbr : (g : RegsFields) → (moved_on g).dbr ≡ g.dbr
-  unfolding moved_on
-  moved_dbr g = refl
 
   console_cases : (b : Bool) (text : Result (List ℕ) Fault) (turn : Turn) (after : Booted) → IsStanding frames state → IsConsoleTurn b text (before Print) turn after → IsBy Print (flat_printed_by b text (flat_run_of (before Print))) turn after × Stands after.loaded frames after.state
   console_cases true text turn after stands h =
