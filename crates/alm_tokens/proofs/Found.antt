@@ -1,6 +1,7 @@
 -- What is found passes, and a number over the limit has a byte in the text.
 use Rattle.std.proofs.Common.{◌≡◌, ℕ, ◌-◌, ◌<◌, ◌≤◌, Bool, true, false, cond, List, [], ◌∷◌, length, take, drop, Option, Some, refl, arith, length-drop, subst}
 use Rattle.std.specs.List.{find}
+use Rattle.std.proofs.lemmas.Bool.{false≢true}
 use Rattle.std.proofs.lemmas.List.{length-take}
 use Rattle.m36_text.specs.Reading.{number_read}
 use Rattle.alm_tokens.specs.declared.span.Span.{Span}
@@ -28,20 +29,17 @@ slice_inside text span some =
     let count : length (take (span.to - span.from) (drop span.from text)) ≤ length text - span.from = simp (length-take, length-drop) (omega arith) in
     omega (arith, some, count)
 
-false_true : false ≡ true → ⊥
-false_true e = cc
-
 -- a text without a byte is no number
 small_some : (bytes : List ℕ) → is_over (small_read bytes) ≡ true → 0 < length bytes
 unfolding number_read
-small_some [] e = absurd (false_true e)
+small_some [] e = absurd (false≢true e)
 small_some (b ∷ bytes) e = omega arith
 
 pub out_some : (numeral : Numeral) (bytes : List ℕ) → is_over (read_as numeral bytes) ≡ true → 0 < length bytes
 unfolding number_read
-out_some Decimal [] e = absurd (false_true e)
-out_some Octal [] e = absurd (false_true e)
-out_some Small [] e = absurd (false_true e)
+out_some Decimal [] e = absurd (false≢true e)
+out_some Octal [] e = absurd (false≢true e)
+out_some Small [] e = absurd (false≢true e)
 out_some numeral (b ∷ bytes) e = omega arith
 
 pub over_inside : (text : List ℕ) (pieces : List Piece) (piece : Piece) → find (is_over_at text) pieces ≡ Some piece → piece.span.from < length text

@@ -9,7 +9,8 @@ use Rattle.alm_tokens.specs.declared.expression.Atom.TheVariants.{Number, Symbol
 use Rattle.m36_text.specs.Digits.{is_digit}
 use Rattle.alm_tokens.specs.Tokens.{is_text, is_number, small_read, value_of}
 use Rattle.alm_tokens.specs.Expressions.{is_here, atom_of, IsSmall}
-use Rattle.alm_tokens.specs.Modifiers.{NumberedName, or_else, octal_digit, after_x, register_of, pr_digit, pr_name, pr_number, single_tag, indirect_first, indirect_last, tag_of, registers, pointer_registers, single_tags, number_beside}
+use Rattle.std.specs.Option.{option_or}
+use Rattle.alm_tokens.specs.Modifiers.{NumberedName, octal_digit, after_x, register_of, pr_digit, pr_name, pr_number, single_tag, indirect_first, indirect_last, tag_of, registers, pointer_registers, single_tags, number_beside}
 
 abbrev pub Below : ℕ → Option ℕ → Type 0
 Below bound o = IfSome o (λ n. n < bound)
@@ -18,7 +19,7 @@ chosen_below : (bound : ℕ) (b : Bool) (n : ℕ) (o : Option ℕ) → n < bound
 chosen_below bound true n o h k = h
 chosen_below bound false n o h k = k
 
-or_below : (bound : ℕ) (a b : Option ℕ) → Below bound a → Below bound b → Below bound (or_else a b)
+or_below : (bound : ℕ) (a b : Option ℕ) → Below bound a → Below bound b → Below bound (option_or a b)
 or_below bound (Some n) b h k = h
 or_below bound None b h k = k
 
@@ -90,7 +91,7 @@ last_below bytes =
 pub tag_below : (bytes : List ℕ) → Below 64 (tag_of bytes)
 unfolding tag_of
 tag_below bytes =
-    or_below 64 (single_tag bytes) (or_else (register_of bytes) (or_else (indirect_first bytes) (indirect_last bytes))) (single_below bytes) (or_below 64 (register_of bytes) (or_else (indirect_first bytes) (indirect_last bytes)) (wider 16 64 (register_of bytes) (omega arith) (register_below bytes)) (or_below 64 (indirect_first bytes) (indirect_last bytes) (first_below bytes) (last_below bytes)))
+    or_below 64 (single_tag bytes) (option_or (register_of bytes) (option_or (indirect_first bytes) (indirect_last bytes))) (single_below bytes) (or_below 64 (register_of bytes) (option_or (indirect_first bytes) (indirect_last bytes)) (wider 16 64 (register_of bytes) (omega arith) (register_below bytes)) (or_below 64 (indirect_first bytes) (indirect_last bytes) (first_below bytes) (last_below bytes)))
 
 -- numbers of expressions
 over_by : (b : Bool) (v max : ℕ) → leb v max ≡ b → value_of (cond b (Ok v) (Err T2)) ≤ max

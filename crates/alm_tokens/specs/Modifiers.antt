@@ -4,6 +4,7 @@
 -- indirect then tally.
 use Rattle.std.specs.Prelude.{ℕ, ◌+◌, ◌-◌, ◌&&◌, ◌==◌, List, [], ◌∷◌, length, take, slice_index}
 use Rattle.std.specs.Prelude.{codes, Option, Some, None, option_map, if◌then◌else◌}
+use Rattle.std.specs.Option.{option_or}
 use Rattle.m36_text.specs.Digits.{is_digit, digit_of}
 use Rattle.alm_tokens.specs.Tokens.{is_text}
 
@@ -20,11 +21,6 @@ abbrev pub number_beside : List NumberedName → List ℕ → Option ℕ
 number_beside [] bytes = None
 number_beside (row ∷ rows) bytes =
     if is_text row.name bytes then Some row.number else number_beside rows bytes
-
--- the first of two that is there
-abbrev pub or_else : Option ℕ → Option ℕ → Option ℕ
-or_else (Some n) other = Some n
-or_else None other = other
 
 abbrev pub octal_digit : List ℕ → Option ℕ
 octal_digit (d ∷ []) = if is_digit 8 d then Some (digit_of d) else None
@@ -49,7 +45,7 @@ registers =
 
 unfoldable pub register_of : List ℕ → Option ℕ
 register_of bytes =
-    or_else (number_beside registers bytes) (option_map (λ n. 8 + n) (octal_digit (after_x bytes)))
+    option_or (number_beside registers bytes) (option_map (λ n. 8 + n) (octal_digit (after_x bytes)))
 
 -- the pointer registers: pr0 to pr7, and their names
 abbrev pub pr_digit : List ℕ → Option ℕ
@@ -72,7 +68,7 @@ unfoldable pub pr_name : List ℕ → Option ℕ
 pr_name bytes = number_beside pointer_registers bytes
 
 unfoldable pub pr_number : List ℕ → Option ℕ
-pr_number bytes = or_else (pr_digit bytes) (pr_name bytes)
+pr_number bytes = option_or (pr_digit bytes) (pr_name bytes)
 
 -- * and the tally modifiers
 abbrev pub single_tags : List NumberedName
@@ -102,5 +98,5 @@ indirect_last bytes =
 -- the tag of a modifier
 unfoldable pub tag_of : List ℕ → Option ℕ
 tag_of bytes =
-    or_else (single_tag bytes)
-    (or_else (register_of bytes) (or_else (indirect_first bytes) (indirect_last bytes)))
+    option_or (single_tag bytes)
+    (option_or (register_of bytes) (option_or (indirect_first bytes) (indirect_last bytes)))
