@@ -3,15 +3,11 @@ use Rattle.std.specs.Prelude.{ℕ, zero, suc, ◌+◌, ◌-◌, Bool, ◌&&◌, 
 use Rattle.std.specs.Prelude.{if◌then◌else◌, List, [], ◌∷◌, length, take, drop, slice_index, Option}
 use Rattle.std.specs.Prelude.{Some, None}
 use Rattle.m36_word.specs.Bits.{of_bit}
+use Rattle.m36_text.specs.Lines.{first_met}
 use Rattle.obj36_parts.specs.Halves.{left, right}
-use Rattle.obj36_read.specs.Reading.{map_place, version_in}
+use Rattle.obj36_read.specs.Reading.{map_place, version_in, told_length, bound_index}
 use Rattle.obj36_read.specs.declared.map.Extent.{Extent}
 use Rattle.obj36_read.specs.declared.map.Extents.{Extents}
-
--- the place of the first test that is met
-abbrev pub first_of : List (Bool × ℕ) → Option ℕ
-first_of [] = None
-first_of (test ∷ tests) = if test.0 then Some test.1 else first_of tests
 
 -- ---- the map: O2
 
@@ -20,20 +16,16 @@ unfoldable pub is_told : List ℕ → Bool
 is_told words =
     nat_eq (map_place words + 7) (length words) || nat_eq (map_place words + 8) (length words)
 
--- how far behind map 0 the entry bound is
-abbrev pub bound_index : ℕ → ℕ
-bound_index version = if nat_eq version 2 then 6 else 5
-
 -- map 0 has the version alone; the entry bound has 0 beside it, and is no more than the length of
 -- the text; the last word has 0 beside the place of the map
 unfoldable pub is_bound : List ℕ → ℕ → Bool
 is_bound words bound =
     nat_eq (right bound) 0
-    && nat_le (left bound) (right (slice_index words (map_place words + 1)))
+    && nat_le (left bound) (told_length words 1)
 
 unfoldable pub fixed_fault : List ℕ → ℕ → Option ℕ
 fixed_fault words version =
-    first_of (
+    first_met (
     (not (nat_eq (slice_index words (map_place words)) version), map_place words)
     ∷ (
       not (is_bound words (slice_index words (map_place words + bound_index version))),
@@ -52,7 +44,7 @@ map_fault words =
 unfoldable pub extent_at : List ℕ → ℕ → Extent
 extent_at words i = record {
   from = left (slice_index words (map_place words + i));
-  count = right (slice_index words (map_place words + i));
+  count = told_length words i;
 }
 
 abbrev pub symbol_index : ℕ → ℕ
@@ -79,7 +71,7 @@ unfoldable pub section_fault : List ℕ → Option ℕ
 section_fault words =
     let map = map_place words in
     let e = extents_of words in
-    first_of (
+    first_met (
     (is_outside map e.text 0, map + 1)
     ∷ (is_outside map e.definition 2, map + 2)
     ∷ (is_outside map e.linkage 8, map + 3)

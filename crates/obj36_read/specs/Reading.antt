@@ -143,9 +143,12 @@ statics_in words =
     then take (told_length words 4) (from_statics words)
     else take (told_first words - 8) (drop 8 (from_linkage words))
 
+-- how far behind map 0 the entry bound is
+abbrev pub bound_index : ℕ → ℕ
+bound_index version = if nat_eq version 2 then 6 else 5
+
 unfoldable pub bound_in : List ℕ → ℕ
-bound_in words =
-    left (slice_index words (map_place words + (if nat_eq (version_in words) 2 then 6 else 5)))
+bound_in words = left (slice_index words (map_place words + bound_index (version_in words)))
 
 unfoldable pub parts_of : List ℕ → PartsFields
 parts_of words =

@@ -1,11 +1,9 @@
 //! The links of an object, as they stand in a list of words.
 
-ghost use Rattle.std.specs.Prelude.{ℕ, List, Bool, ◌≡◌, ◌+◌, ◌-◌, ◌*◌, ◌%◌, ◌^◌, ◌<◌, ◌≤◌, ◌&&◌};
-ghost use Rattle.std.specs.Prelude.{◌||◌, not, nat_eq, nat_lt, nat_le, length, Option, Some, None};
-ghost use Rattle.std.specs.Prelude.{IfSome, slice_index, if◌then◌else◌};
-ghost use Rattle.obj36_parts.specs.Halves.{left, right, joined};
-ghost use Rattle.obj36_parts.specs.ObjectSegment.{has_section};
-ghost use Rattle.obj36_read.specs.TableFaults.{earlier, where_bad, expression_count};
+ghost use Rattle.std.specs.Prelude.{ℕ, ◌≡◌, ◌+◌, ◌-◌, ◌*◌, ◌%◌, ◌^◌, ◌<◌, ◌&&◌};
+ghost use Rattle.std.specs.Prelude.{◌||◌, Option, Some, None};
+ghost use Rattle.std.specs.Prelude.{IfSome};
+ghost use Rattle.obj36_read.specs.TableFaults.{earlier, expression_count};
 ghost use Rattle.obj36_read.specs.TableFaults.{first_expression};
 ghost use Rattle.obj36_read.specs.LinkFaults.{is_type, type_faults, link_count, link_start};
 ghost use Rattle.obj36_read.specs.LinkFaults.{is_head, is_link_at, link_faults, linkage_fault};

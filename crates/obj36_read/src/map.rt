@@ -1,16 +1,15 @@
 //! The map of a list of words: where its sections are.
 
-ghost use Rattle.std.specs.Prelude.{ℕ, List, Bool, ◌≡◌, ◌+◌, ◌-◌, ◌*◌, ◌^◌, ◌<◌, ◌≤◌, ◌&&◌, ◌||◌};
-ghost use Rattle.std.specs.Prelude.{not, nat_eq, nat_lt, nat_le, length, Option, Some, None};
+ghost use Rattle.std.specs.Prelude.{ℕ, ◌≡◌, ◌+◌, ◌-◌, ◌^◌, ◌<◌, ◌≤◌, ◌&&◌, ◌||◌};
+ghost use Rattle.std.specs.Prelude.{nat_eq, length, Option, Some, None};
 ghost use Rattle.std.specs.Prelude.{IfSome, if◌then◌else◌};
-ghost use Rattle.obj36_read.specs.Reading.{map_place, version_in};
-ghost use Rattle.obj36_read.specs.MapFaults.{extent_at, is_told, is_bound, bound_index};
+ghost use Rattle.obj36_read.specs.MapFaults.{extent_at, is_told, is_bound};
 ghost use Rattle.obj36_read.specs.MapFaults.{symbol_index, nowhere, fixed_fault, map_fault};
 ghost use Rattle.obj36_read.specs.MapFaults.{is_outside, section_fault, extents_of, covers};
 ghost use Rattle.obj36_read.specs.MapFaults.{covering, first_shared, shared_fault, extent_words};
 ghost use Rattle.obj36_read.specs.Near.{AreNear};
 
-use crate::reading::{behind, front, place_of_map, version, word_at};
+use crate::reading::{behind, front, index_of_bound, length_told, place_of_map, version, word_at};
 use m36_word::Word;
 use obj36_parts::halves::{left_of, right_of};
 
@@ -34,7 +33,7 @@ pub struct Extents {
     pub symbol: Extent,
 }
 
-#[tactic(auto, unfolding(crate::specs::MapFaults::extent_at))]
+#[tactic(auto, unfolding(crate::specs::MapFaults::extent_at, crate::specs::Reading::told_length))]
 fn extent_told(words: &[Word], i: u64) -> Extent
     requires { i < 8 }
     ensures value { result ≡ extent_at words.now i }
@@ -63,17 +62,10 @@ fn is_map_told(words: &[Word]) -> bool
 fn is_good_bound(words: &[Word], bound: Word) -> bool
     ensures { result ≡ is_bound words.now bound }
 {
-    right_of(bound) == 0 && left_of(bound) <= right_of(word_at(words, place_of_map(words) + 1))
+    right_of(bound) == 0 && left_of(bound) <= length_told(words, 1)
 }
 
-fn index_of_bound(version: u8) -> u64
-    ensures value { result ≡ bound_index version }
-    ensures bound { result < 8 }
-{
-    if version == 2 { 6 } else { 5 }
-}
-
-#[tactic(auto, unfolding(crate::specs::MapFaults::fixed_fault))]
+#[tactic(auto, unfolding(crate::specs::MapFaults::fixed_fault, m36_text::specs::Lines::first_met))]
 fn fault_of_fixed(words: &[Word], version: u8) -> Option<u64>
     requires some { 1 ≤ length words.now }
     requires few { length words.now < 2 ^ 32 }
@@ -158,7 +150,7 @@ fn leaves(map: u64, e: Extent, least: u64) -> bool
 }
 
 /// The map word of the first section that ends past the map or is too short.
-#[tactic(auto, unfolding(crate::specs::MapFaults::section_fault))]
+#[tactic(auto, unfolding(crate::specs::MapFaults::section_fault, m36_text::specs::Lines::first_met))]
 pub fn fault_of_sections(words: &[Word]) -> Option<u64>
     ensures value { result ≡ section_fault words.now }
     ensures bound { IfSome result (λ p. p < 2 ^ 32) }

@@ -1,17 +1,14 @@
 //! The parts that a list of words would spell.
 
-ghost use Rattle.std.specs.Prelude.{ℕ, List, [], ◌∷◌, ◌++◌, ◌≡◌, ◌+◌, ◌-◌, ◌*◌, ◌/◌, ◌%◌, ◌^◌, ◌<◌};
+ghost use Rattle.std.specs.Prelude.{ℕ, [], ◌≡◌, ◌+◌, ◌-◌, ◌*◌, ◌/◌, ◌%◌, ◌^◌, ◌<◌};
 ghost use Rattle.std.specs.Prelude.{◌≤◌, min, length, take, drop, slice_index, if◌then◌else◌, IfOk};
-ghost use Rattle.std.specs.Prelude.{OnOk};
-ghost use Rattle.obj36_parts.specs.Halves.{left, right};
 ghost use Rattle.obj36_parts.specs.declared.section.Section.TheVariants.{Text};
-ghost use Rattle.obj36_parts.specs.ObjectSegment.{has_name, has_entry};
 ghost use Rattle.obj36_read.specs.Reading.{part_of, unit_at, characters, name_at, class_with};
 ghost use Rattle.obj36_read.specs.Reading.{section_with, definition_at, definitions_in, link_at};
 ghost use Rattle.obj36_read.specs.Reading.{links_in, relocation_in, relocations_in, map_place};
 ghost use Rattle.obj36_read.specs.Reading.{version_in, told_length, told_count, from_definition};
 ghost use Rattle.obj36_read.specs.Reading.{from_linkage, from_statics, from_symbol, told_first};
-ghost use Rattle.obj36_read.specs.Reading.{statics_in, bound_in, parts_of};
+ghost use Rattle.obj36_read.specs.Reading.{statics_in, bound_index, bound_in, parts_of};
 
 use m36_text::Name;
 use m36_word::{NoMemory, Word, Words};
@@ -287,8 +284,9 @@ pub fn version(words: &[Word]) -> u8
     }
 }
 
+/// A length that a map word tells.
 #[tactic(auto, unfolding(crate::specs::Reading::told_length))]
-fn length_told(words: &[Word], i: u64) -> u64
+pub fn length_told(words: &[Word], i: u64) -> u64
     requires { i < 8 }
     ensures value { result ≡ told_length words.now i }
     ensures bound { result < 2 ^ 18 }
@@ -356,12 +354,20 @@ fn statics(words: &[Word]) -> &[Word]
     }
 }
 
+/// How far behind map 0 the entry bound is.
+pub fn index_of_bound(version: u8) -> u64
+    ensures value { result ≡ bound_index version }
+    ensures bound { result < 8 }
+{
+    if version == 2 { 6 } else { 5 }
+}
+
 #[tactic(auto, unfolding(crate::specs::Reading::bound_in))]
 fn bound(words: &[Word]) -> u64
     ensures value { result ≡ bound_in words.now }
     ensures bound { result < 2 ^ 18 }
 {
-    let i = if version(words) == 2 { 6 } else { 5 };
+    let i = index_of_bound(version(words));
     left_of(word_at(words, place_of_map(words) + i))
 }
 

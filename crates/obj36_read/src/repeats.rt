@@ -1,11 +1,11 @@
 //! Names that two definitions have, as they stand in a list of words.
 
-ghost use Rattle.std.specs.Prelude.{ℕ, List, ◌≡◌, ◌+◌, ◌/◌, ◌%◌, ◌^◌, ◌<◌, true, min, length, take};
-ghost use Rattle.std.specs.Prelude.{drop, slice_index, Option, Some, None, IfSome, IfOk, OnOk};
+ghost use Rattle.std.specs.Prelude.{ℕ, ◌≡◌, ◌+◌, ◌/◌, ◌%◌, ◌^◌, ◌<◌, min, length};
+ghost use Rattle.std.specs.Prelude.{Option, Some, None, IfSome, IfOk, OnOk};
 ghost use Rattle.std.specs.Option.{option_map};
 ghost use Rattle.obj36_read.specs.Reading.{unit_at};
 ghost use Rattle.obj36_read.specs.TableFaults.{earlier, where_bad, definition_count};
-ghost use Rattle.obj36_read.specs.TableFaults.{first_definition, lies_within, same_name, repeats};
+ghost use Rattle.obj36_read.specs.TableFaults.{first_definition, same_name, repeats};
 ghost use Rattle.obj36_read.specs.Spelled.{whole_words, kept_parts, last_parts};
 ghost use Rattle.obj36_read.specs.Repeated.{least_with};
 

@@ -1,12 +1,10 @@
 //! The names of a definition section, as they stand in a list of words.
 
-ghost use Rattle.std.specs.Prelude.{ℕ, List, Bool, ◌≡◌, ◌+◌, ◌-◌, ◌*◌, ◌%◌, ◌^◌, ◌<◌, ◌≤◌, ◌&&◌};
-ghost use Rattle.std.specs.Prelude.{not, nat_eq, nat_le, length, Option, Some, None, IfSome};
-ghost use Rattle.std.specs.Prelude.{slice_index, if◌then◌else◌};
-ghost use Rattle.obj36_parts.specs.Halves.{left, right};
+ghost use Rattle.std.specs.Prelude.{ℕ, ◌≡◌, ◌+◌, ◌-◌, ◌%◌, ◌^◌, ◌<◌, ◌&&◌};
+ghost use Rattle.std.specs.Prelude.{length, Option, Some, None, IfSome};
+ghost use Rattle.std.specs.Prelude.{if◌then◌else◌};
 ghost use Rattle.obj36_parts.specs.Names.{is_name_character};
-ghost use Rattle.obj36_parts.specs.ObjectSegment.{has_name, has_entry};
-ghost use Rattle.obj36_read.specs.TableFaults.{earlier, where_bad, definition_count};
+ghost use Rattle.obj36_read.specs.TableFaults.{definition_count};
 ghost use Rattle.obj36_read.specs.TableFaults.{first_definition, expression_count};
 ghost use Rattle.obj36_read.specs.TableFaults.{first_expression, are_characters, are_zeros};
 ghost use Rattle.obj36_read.specs.TableFaults.{is_name_at, name_fault, defined_names_fault};

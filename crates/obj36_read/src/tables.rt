@@ -1,7 +1,7 @@
 //! The tables of a definition section, as they stand in a list of words.
 
-ghost use Rattle.std.specs.Prelude.{ℕ, List, Bool, ◌≡◌, ◌+◌, ◌-◌, ◌*◌, ◌/◌, ◌^◌, ◌<◌, ◌≤◌, ◌&&◌};
-ghost use Rattle.std.specs.Prelude.{◌||◌, not, nat_eq, nat_lt, nat_le, min, length, Option, Some};
+ghost use Rattle.std.specs.Prelude.{ℕ, ◌≡◌, ◌+◌, ◌-◌, ◌*◌, ◌/◌, ◌^◌, ◌<◌, ◌&&◌};
+ghost use Rattle.std.specs.Prelude.{◌||◌, min, length, Option, Some};
 ghost use Rattle.std.specs.Prelude.{None, IfSome, IfOk};
 ghost use Rattle.obj36_read.specs.TableFaults.{earlier, where_bad, definition_count};
 ghost use Rattle.obj36_read.specs.TableFaults.{first_definition, next_definition, is_member};
