@@ -208,7 +208,8 @@ fn are_words(words: &[Word], values: &[u64]) -> bool {
             .all(|(word, value)| word.value() == *value)
 }
 
-fn words_of(alloc: Global, values: &[u64]) -> Result<Words, NoMemory> {
+// The words of these numbers.
+pub(crate) fn words_of(alloc: Global, values: &[u64]) -> Result<Words, NoMemory> {
     let mut words = Words::new(alloc);
     for value in values {
         words.push(Word::low(*value))?;

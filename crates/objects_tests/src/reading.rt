@@ -1,6 +1,7 @@
 //! Lists of words worked out by hand.
 
-use m36_word::{NoMemory, Word, Words};
+use crate::objects::words_of;
+use m36_word::{NoMemory, Word};
 use obj36_read::linking::fault_of_links;
 use obj36_read::map::{
     extents_told, fault_of_map, fault_of_sections, fault_of_sharing, words_within,
@@ -35,14 +36,6 @@ const ENTRY: [u64; 22] = [
     0o000001000000,
     0o000017000000,
 ];
-
-fn words_of(alloc: Global, values: &[u64]) -> Result<Words, NoMemory> {
-    let mut words = Words::new(alloc);
-    for value in values {
-        words.push(Word::low(*value))?;
-    }
-    Ok(words)
-}
 
 fn has_right_map(words: &[Word]) -> bool {
     if words.is_empty() || words.len() > 100 {
