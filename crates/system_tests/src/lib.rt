@@ -2,11 +2,7 @@
 #![tactic(auto)]
 
 #[cfg(test)]
-mod access_lists;
-#[cfg(test)]
 mod booting;
-#[cfg(test)]
-mod catalogs;
 #[cfg(test)]
 mod going_back;
 #[cfg(test)]
