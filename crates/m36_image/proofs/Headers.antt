@@ -6,7 +6,7 @@ use Rattle.m36_image.specs.declared.refusal.ImageCode.TheVariants.{I1}
 use Rattle.m36_text.specs.Lines.{cut_line, words_of, line_at, first_told}
 use Rattle.m36_image.specs.BareImage.{core_words, dbr_words, start_words, header_codes}
 
-cut_none : (text : List ℕ) → line_at (cut_line text) 1 ≡ None
+pub cut_none : (text : List ℕ) → line_at (cut_line text) 1 ≡ None
 cut_none [] = refl
 cut_none (b ∷ rest) = refl
 

@@ -32,7 +32,7 @@ header_fine :
 unfolding first_told
 header_fine core dbr start more n d s e f g = rw (e, f, g)
 
-frames_are : (lines : List (Option (List ℕ))) (n : ℕ) → core_line (line_at lines 1) ≡ Ok n → frames_of lines ≡ n
+pub frames_are : (lines : List (Option (List ℕ))) (n : ℕ) → core_line (line_at lines 1) ≡ Ok n → frames_of lines ≡ n
 frames_are lines n e = ap (λ r. result_unwrap_or r 0) e
 
 size_is :

@@ -2,5 +2,5 @@ pub mod CoreWords
 pub mod Headers
 pub mod Images
 pub mod LinesInTurn
-pub mod PlacedLaws
 pub mod Placing
+pub mod SeveralLaws

@@ -11,7 +11,8 @@ use Rattle.m36_image.specs.PlacedWords.{PlacedWords}
 use Rattle.m36_text.specs.Texts.{is_text}
 use Rattle.m36_text.specs.Lines.{words_of, first_told}
 use Rattle.m36_text.specs.Numbers.{octal_in}
-use Rattle.m36_image.specs.BareImage.{with_word, octal_words, one_to_eight, at_read, at_words, at_line, at_code, at_codes, addresses, numbers_from}
+use Rattle.m36_image.specs.BareImage.{at_read, at_words, at_line, at_code, at_codes, addresses, numbers_from}
+use Rattle.m36_image.specs.Several.{with_number, numbers_by, one_to}
 use Rattle.m36_image.specs.InTurn.{at_end}
 
 -- The reading of `at` lines that remembers the address behind the last word alone.
@@ -32,7 +33,7 @@ fault_in_turn size n next (line ∷ lines) =
 abbrev pub HasWord : Option (List ℕ) → Type 0
 HasWord o = IfSome o (λ words. 0 < length words)
 
-with_word_some : (o : Option ℕ) (p : Option (List ℕ)) → HasWord (with_word o p)
+with_word_some : (o : Option ℕ) (p : Option (List ℕ)) → HasWord (with_number o p)
 with_word_some None p = tt
 with_word_some (Some w) None = tt
 with_word_some (Some w) (Some ws) = omega arith
@@ -41,10 +42,11 @@ chosen_some : (b : Bool) (o : Option (List ℕ)) → HasWord o → HasWord (cond
 chosen_some true o h = h
 chosen_some false o h = tt
 
-one_to_eight_some : (texts : List (List ℕ)) → HasWord (one_to_eight texts)
+one_to_eight_some : (texts : List (List ℕ)) → HasWord (one_to 8 (octal_in 12) texts)
+unfolding one_to
 one_to_eight_some [] = tt
 one_to_eight_some (text ∷ texts) =
-    chosen_some (nat_le (length texts) 7) (octal_words (text ∷ texts)) (with_word_some (octal_in 12 text) (octal_words texts))
+    chosen_some (nat_lt (length texts) 8) (numbers_by (octal_in 12) (text ∷ texts)) (with_word_some (octal_in 12 text) (numbers_by (octal_in 12) texts))
 
 abbrev pub HasPlace : Option PlacedWords → Type 0
 HasPlace o = IfSome o (λ p. 0 < length p.words)
@@ -62,7 +64,7 @@ at_words_some : (words : List (List ℕ)) → HasPlace (at_words words)
 at_words_some [] = tt
 at_words_some (name ∷ []) = tt
 at_words_some (name ∷ address ∷ texts) =
-    named_some (is_text (codes "at") name) (at_read (octal_in 8 address) (one_to_eight texts)) (at_read_some (octal_in 8 address) (one_to_eight texts) (one_to_eight_some texts))
+    named_some (is_text (codes "at") name) (at_read (octal_in 8 address) (one_to 8 (octal_in 12) texts)) (at_read_some (octal_in 8 address) (one_to 8 (octal_in 12) texts) (one_to_eight_some texts))
 
 at_line_some : (line : Option (List ℕ)) → HasPlace (at_line line)
 at_line_some None = tt

@@ -30,6 +30,7 @@ use Rattle.m36_image.specs.declared.refusal.ImageCode.{ImageCode}
 use Rattle.m36_image.specs.declared.refusal.ImageCode.TheVariants.{I1, I2, I3}
 use Rattle.m36_image.specs.declared.refusal.Refusal.{Refusal}
 use Rattle.m36_image.specs.PlacedWords.{PlacedWords}
+use Rattle.m36_image.specs.Several.{one_to}
 
 -- Line 1. Any count of decimal digits is of the form.
 abbrev pub frames_read : Result ℕ NumberFault → Result ℕ ImageCode
@@ -75,27 +76,15 @@ abbrev pub start_line : Option (List ℕ) → Option PprFields
 start_line (Some line) = start_words (words_of line)
 start_line None = None
 
--- Each further line: words, and the core address of the first of them.
-abbrev pub with_word : Option ℕ → Option (List ℕ) → Option (List ℕ)
-with_word (Some word) (Some words) = Some (word ∷ words)
-with_word _ _ = None
-
-abbrev pub octal_words : List (List ℕ) → Option (List ℕ)
-octal_words [] = Some []
-octal_words (text ∷ texts) = with_word (octal_in 12 text) (octal_words texts)
-
+-- Each further line: one to eight words, and the core address of the first of them.
 abbrev pub at_read : Option ℕ → Option (List ℕ) → Option PlacedWords
 at_read (Some first) (Some words) = Some (record { first = first; words = words })
 at_read _ _ = None
 
--- one to eight words
-abbrev pub one_to_eight : List (List ℕ) → Option (List ℕ)
-one_to_eight [] = None
-one_to_eight (text ∷ texts) = if nat_le (length texts) 7 then octal_words (text ∷ texts) else None
-
 abbrev pub at_words : List (List ℕ) → Option PlacedWords
 at_words (name ∷ address ∷ texts) =
-    if is_text (codes "at") name then at_read (octal_in 8 address) (one_to_eight texts) else None
+    if is_text (codes "at") name
+    then at_read (octal_in 8 address) (one_to 8 (octal_in 12) texts) else None
 at_words _ = None
 
 abbrev pub at_line : Option (List ℕ) → Option PlacedWords

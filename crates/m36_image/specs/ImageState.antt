@@ -2,9 +2,9 @@
 use Rattle.std.specs.Prelude.{ℕ, false, ◌+◌, ◌*◌, List, [], ◌∷◌, replicate, slice_set, Result, Ok}
 use Rattle.std.specs.Prelude.{Err}
 use Rattle.m36_word.specs.declared.pair.Pair.{Pair}
-use Rattle.m36_desc.specs.Fields.{PtrFields}
 use Rattle.m36_desc.specs.Descriptors.{dbr_of}
 use Rattle.m36_model.specs.Fields.{PprFields}
+use Rattle.m36_model.specs.Modification.{no_ptr}
 use Rattle.m36_model.specs.Registers.{RegsFields}
 use Rattle.m36_model.specs.Store.{State}
 use Rattle.m36_image.specs.declared.refusal.Refusal.{Refusal}
@@ -26,9 +26,6 @@ written_all core (p ∷ placed) = written_all (written_at core p.first p.words) 
 abbrev pub core_of : Image → List ℕ
 core_of image = written_all (replicate (1024 * image.frames) 0) image.placed
 
-abbrev pub no_pointer : PtrFields
-no_pointer = record { seg = 0; ring = 0; word = 0; bit = 0 }
-
 -- The words of the descriptor segment base register and the first instruction: all other registers
 -- are zero.
 abbrev pub regs_of : Pair → PprFields → RegsFields
@@ -37,7 +34,7 @@ regs_of dbr start =
       a = 0;
       q = 0;
       x = replicate 8 0;
-      pr = replicate 8 no_pointer;
+      pr = replicate 8 no_ptr;
       ind =
           record {
             zero = false;
