@@ -1,13 +1,12 @@
 -- How the program of an address chain runs over core, one point at a time.
-use Rattle.std.proofs.Common.{ℕ, zero, suc, ◌≡◌, ◌+◌, ◌-◌, ◌%◌, ◌<◌, ◌==◌, Bool, refl, ap, sym, ◌∙◌, List, [], ◌∷◌, ◌++◌, Option, Some, None, Result, Ok, Err, true, false, arith}
-use Rattle.m36_desc.specs.Fields.{SdwFields}
+use Rattle.std.proofs.Common.{ℕ, zero, suc, ◌≡◌, ◌+◌, ◌-◌, ◌%◌, ◌==◌, Bool, refl, ap, sym, ◌∙◌, List, [], ◌∷◌, ◌++◌, Option, Some, None, Result, Ok, Err, true, false, arith}
 use Rattle.m36_model.specs.Fields.{AtFields, FinalFields}
 use Rattle.m36_model.specs.Registers.{RegsFields}
-use Rattle.m36_model.specs.Act.{Indirect, Odd, Write, Request, Answer, Act, done, ask, refer}
-use Rattle.m36_model.specs.Store.{Mid, Served, Ran, Core_word, serve, run, with_odd}
+use Rattle.m36_model.specs.Act.{Indirect, Odd, Write, Request, Answer, Act, done, ask}
+use Rattle.m36_model.specs.Store.{Mid, Served, Ran, serve, run, with_odd}
 use Rattle.m36_model.specs.Core.{core_store}
 use Rattle.m36_model.specs.Modification.{Point, Move, Ends, Fails, Reads, Counts, move_of_point}
-use Rattle.m36_model.specs.Chain.{ChainEnd, Formation, Found, Plain, Its, Itp, found, indirect, at_point, plain_point, its_point, itp_point, after_word, after_tally, tally_final, tally_end, chain, chain_by, chain_exhausted, lockup}
+use Rattle.m36_model.specs.Chain.{ChainEnd, Formation, Found, Plain, Its, Itp, found, indirect, at_point, plain_point, its_point, itp_point, after_word, after_tally, chain, chain_by, chain_exhausted, lockup}
 use Rattle.m36_model.specs.Tally.{tally, tally_address, indirect_only}
 use Rattle.m36_model.specs.declared.outcome.Fault.{Fault}
 use Rattle.m36_model.specs.declared.outcome.Halt.{Halt}
@@ -17,7 +16,7 @@ use Rattle.m36_model.specs.declared.place.Kind.TheVariants as reference
 use Rattle.m36_walk.specs.Memory.{Memory}
 use Rattle.m36_walk.specs.Runs.{run_from}
 use Rattle.m36_walk.specs.Served.{standing, sdw_in, request, with_words, ServesClaim}
-use Rattle.m36_ea.specs.Points.{indirect_reference, told_word, ServesIndirect, ServesOdd, goes_on, counted_end, final_at}
+use Rattle.m36_ea.specs.Points.{indirect_reference, ServesIndirect, ServesOdd, goes_on, counted_end, final_at}
 
 -- an odd word joins the even one before it
 pub odd_joins : (q : Request) (refs : List Reference) (e : Reference) → with_odd q (refs ++ e ∷ []) ≡ refs ++ record { kind = reference.Indirect; at = record { seg = q.at.seg; word = q.at.word - 1; ring = q.at.ring }; count = 2 } ∷ []
@@ -34,7 +33,7 @@ odd_served g p word m refs refs' core w at e h joined =
     rw (e, one) at h
 
 -- a reference that is served goes on by its reply
-run_ask : {A : Type 0} (g : RegsFields) (q : Request) (next : Result Answer Fault → Act A) (m : Mid (List ℕ)) (t : Served (List ℕ)) → serve core_store g m q ≡ t → run core_store g (ask q next) m ≡ run core_store g (next t.reply) t.mid
+pub run_ask : {A : Type 0} (g : RegsFields) (q : Request) (next : Result Answer Fault → Act A) (m : Mid (List ℕ)) (t : Served (List ℕ)) → serve core_store g m q ≡ t → run core_store g (ask q next) m ≡ run core_store g (next t.reply) t.mid
 unfolding run
 run_ask g q next m t e = ap (λ (s : Served (List ℕ)). run core_store g (next s.reply) s.mid) e
 

@@ -3,7 +3,7 @@ use Rattle.std.specs.Prelude.{ℕ, ◌≡◌, ◌<◌, List, [], ◌∷◌, ◌+
 use Rattle.m36_inst.specs.Fields.{InstFields}
 use Rattle.m36_model.specs.Fields.{FinalFields}
 use Rattle.m36_model.specs.Registers.{RegsFields}
-use Rattle.m36_model.specs.Store.{Mid, Ran, run}
+use Rattle.m36_model.specs.Store.{Ran, run}
 use Rattle.m36_model.specs.Core.{core_store}
 use Rattle.m36_model.specs.Chain.{ChainEnd, Formation, chain, chain_end_fields, claimed_by}
 use Rattle.m36_model.specs.FirstPoint.{first_point}

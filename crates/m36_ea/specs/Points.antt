@@ -9,7 +9,7 @@ use Rattle.m36_model.specs.Store.{Served, Ran, serve, run}
 use Rattle.m36_model.specs.Core.{core_store}
 use Rattle.m36_model.specs.Modification.{Point, Move, Ends, Fails, Reads, Counts}
 use Rattle.m36_model.specs.Chain.{ChainEnd, Formation, Found, Plain, Its, Itp, at_point, indirect}
-use Rattle.m36_model.specs.Chain.{chain_by, chain_end_fields, claimed_by}
+use Rattle.m36_model.specs.Chain.{chain_by}
 use Rattle.m36_model.specs.declared.effects.Formed.{Formed}
 use Rattle.m36_model.specs.declared.outcome.Fault.{Fault}
 use Rattle.m36_model.specs.declared.outcome.Halt.{Halt}

@@ -43,8 +43,9 @@ fn format_of(word: u32, w: Word) -> Format
     }
 }
 
-/// Adds a completed reference.
-fn complete(refs: &mut Refs, kind: Kind, at: At, count: u8)
+/// Adds a completed reference, which begins at a word.
+#[inline(always)]
+pub fn complete(refs: &mut Refs, kind: Kind, at: At, count: u8)
     requires { length refs.old.items < 40 }
     ensures items { refs.new.items
         ≡ refs.old.items ++ record { kind = kind; at = at; count = count } ∷ [] }

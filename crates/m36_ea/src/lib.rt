@@ -22,3 +22,5 @@ mod tallies;
 mod temporary;
 
 pub use chain::{effective, pending, plain_address};
+pub use indirect::complete;
+pub use registers::procedure_segment;

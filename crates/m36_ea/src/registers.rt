@@ -8,7 +8,8 @@ use m36_model::Regs;
 use m36_word::{Field, Word};
 
 /// The segment of the instruction.
-pub(crate) fn procedure_segment(regs: &Regs) -> u16
+#[inline(always)]
+pub fn procedure_segment(regs: &Regs) -> u16
     ensures { result ≡ regs.now.ppr.psr }
 {
     regs.ppr.psr

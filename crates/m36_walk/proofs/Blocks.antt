@@ -7,6 +7,7 @@ use Rattle.m36_word.specs.declared.pair.Pair.{Pair}
 use Rattle.m36_model.specs.Core.{core_put}
 use Rattle.m36_model.specs.Place.{wrapped}
 use Rattle.m36_model.specs.Results.{words_of_pairs}
+use Rattle.m36_model.proofs.StepLaw.{core_quiet}
 use Rattle.m36_walk.specs.Runs.{LiesIn, words_from}
 use Rattle.m36_walk.specs.Words.{run_changes, pair_words}
 
@@ -60,12 +61,8 @@ block_put_on whole core new a i pairs p d h e f k =
     k ∙ rw (rest, f) (put_on core (words_of_pairs (drop (i + 1) pairs)) a p)
 
 -- a block that is written whole
-put_nothing : (core : List ℕ) → core_put core [] ≡ core
-unfolding core_put
-put_nothing core = refl
-
 pub block_put_whole : (core : List ℕ) (a i : ℕ) (pairs : List Pair) → length pairs ≤ i → core_put core (run_changes a (words_of_pairs (drop i pairs))) ≡ core
-block_put_whole core a i pairs h = rw (drop_of_length-le pairs h) (put_nothing core)
+block_put_whole core a i pairs h = rw (drop_of_length-le pairs h) (core_quiet core)
 
 -- a block that is read whole
 no_words : (X : List ℕ) (a n : ℕ) → n ≤ 0 → words_from X a n ≡ []

@@ -8,6 +8,7 @@ use Rattle.m36_model.specs.Core.{core_put}
 use Rattle.m36_model.specs.Place.{wrapped}
 use Rattle.m36_model.specs.Step.{puts_from}
 use Rattle.m36_model.specs.declared.outcome.Fault.{Fault}
+use Rattle.m36_model.proofs.StepLaw.{core_quiet}
 use Rattle.m36_walk.specs.Runs.{run_from}
 use Rattle.m36_walk.specs.Served.{request, served_by, at_place, IsWritten}
 use Rattle.m36_walk.specs.Words.{run_changes}
@@ -33,15 +34,11 @@ unfolding changes
 unclaimed first [] = refl
 unclaimed first (w ∷ words) = unclaimed (first + 1) words
 
-put_nothing : (core : List ℕ) → core_put core [] ≡ core
-unfolding core_put
-put_nothing core = refl
-
 module _ (at : AtFields) (count : ℕ) (d : SdwFields) (words : List ℕ) where
   -- a Write that was refused
   pub written_refused : (s : Served (List ℕ)) (new : List ℕ) (f : Fault) → s ≡ served_by (request Write at count []) new [] [] (at_place d count (Err f)) → IsWritten s new words (Err f)
   written_refused s new f e =
-      let nothing : core_put new (changes [] (puts_from Whole 0 words)) ≡ new = rw (unclaimed 0 words) (put_nothing new) in
+      let nothing : core_put new (changes [] (puts_from Whole 0 words)) ≡ new = rw (unclaimed 0 words) (core_quiet new) in
       subst (λ (t : Served (List ℕ)). IsWritten t new words (Err f)) (sym e) (record { told = refl; core = sym nothing })
 
   -- a Write that was answered, and whose words were put from its first place on

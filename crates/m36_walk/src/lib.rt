@@ -29,6 +29,7 @@ mod writes;
 
 pub use walk::Walk;
 pub use words::{Pending, Run};
+pub use writes::first_at;
 
 #[cfg(test)]
 mod tests;

@@ -13,6 +13,7 @@ use m36_model::{At, Fault};
 use m36_word::{Pair, Word};
 
 /// The word of a pair that has the even word number.
+#[inline(always)]
 pub(crate) fn pair_at(at: At) -> At
     ensures value { result ≡ aligned_at 2 at }
     ensures block { result.word % 16 + 2 ≤ 16 }
@@ -24,6 +25,7 @@ pub(crate) fn pair_at(at: At) -> At
 }
 
 /// The first word of a block.
+#[inline(always)]
 pub(crate) fn block_at(at: At) -> At
     ensures value { result ≡ aligned_at 16 at }
     ensures block { result.word % 16 + 16 ≤ 16 }

@@ -16,7 +16,8 @@ use m36_model::{At, Fault};
 use m36_word::{Pair, Word};
 
 /// The first of so many words that a reference has.
-fn first_at(at: At, count: u8) -> At
+#[inline(always)]
+pub fn first_at(at: At, count: u8) -> At
     requires { IsCount count }
     ensures value { result ≡ aligned_at count at }
     ensures block { result.word % 16 + count ≤ 16 }
