@@ -8,15 +8,12 @@ use Rattle.std.proofs.lemmas.List.{get_or-take, length-take-le}
 use Rattle.std.proofs.lemmas.List.Quantifiers.{position-Some}
 use Rattle.std.proofs.lemmas.List.Sums.{fails_before_first}
 use Rattle.std.proofs.lemmas.Option.{cond_some, get_or_from_slice_get}
+use Rattle.m36_text.proofs.Splitting.{cond_none}
 use Rattle.m36_acl.specs.declared.policy.Decision.{Decision}
 use Rattle.m36_acl.specs.Fields.{TermFields}
 use Rattle.m36_acl.specs.Users.{matches}
 use Rattle.m36_acl.specs.Policy.{terms_of, rights_by, decided_at, decided, policy, IsFirst, IsRight, FirstMatchDecides}
 use Rattle.m36_acl.proofs.Places.{at_place}
-
-cond_none : {A : Type 0} (b : Bool) (x : A) → cond b (Some x) None ≡ None → b ≡ false
-cond_none true x h = cc
-cond_none false x h = refl
 
 none_passes : {X : Type 0} (p : X → Bool) (xs : List X) (k : ℕ) (d : X) → position p xs ≡ None → k < length xs → p (get_or xs k d) ≡ false
 none_passes p xs k d none lt =

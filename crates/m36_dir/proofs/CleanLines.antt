@@ -1,7 +1,7 @@
 -- Lines of which none has a code.
 use Rattle.std.proofs.Common.{ℕ, ◌≡◌, ◌+◌, ◌<◌, ◌≤◌, Bool, true, false, cond, List, [], ◌∷◌, ◌++◌, length, Option, Some, None, refl, ap, ◌∙◌, arith}
 use Rattle.std.specs.Prelude.{not, count_by}
-use Rattle.std.proofs.lemmas.Bool.{leb-false}
+use Rattle.std.proofs.lemmas.Bool.{leb-false, not-false}
 use Rattle.std.proofs.lemmas.List.Sums.{sum_by-append, sum_by-cons}
 use Rattle.m36_text.specs.Lines.{first_met, first_told}
 use Rattle.m36_dir.specs.declared.boot_line.BootLine.{BootLine}
@@ -141,15 +141,11 @@ pub record Begins (lines : List BootLine) : Type 0 where
   pub are : lines ≡ line.Frames frames ∷ line.Work dir ∷ rest
   pub has : has_directory lines dir ≡ true
 
-not_false : (b : Bool) → not b ≡ false → b ≡ true
-not_false true e = refl
-not_false false e = absurd (cc)
-
 second_line : (all : List BootLine) (n : ℕ) (lines : List BootLine) → Clean all (line.Frames n ∷ []) lines
     → (dir : List ℕ) × (rest : List BootLine) × (lines ≡ line.Work dir ∷ rest) × (has_directory all dir ≡ true)
 second_line all n [] clean = absurd (cc)
 second_line all n (line.Work dir ∷ lines) clean =
-    (dir, lines, refl, not_false (has_directory all dir) (passed all (line.Frames n ∷ []) (line.Work dir) clean.0).directory)
+    (dir, lines, refl, not-false (has_directory all dir) (passed all (line.Frames n ∷ []) (line.Work dir) clean.0).directory)
 second_line all n (line.Frames m ∷ lines) clean = let h = (passed all (line.Frames n ∷ []) (line.Frames m) clean.0).order in absurd (cc)
 second_line all n (line.Library dir ∷ lines) clean = let h = (passed all (line.Frames n ∷ []) (line.Library dir) clean.0).order in absurd (cc)
 second_line all n (line.Segment given ∷ lines) clean = let h = (passed all (line.Frames n ∷ []) (line.Segment given) clean.0).order in absurd (cc)

@@ -2,7 +2,7 @@
 use Rattle.std.proofs.Common.{ℕ, ◌≡◌, ◌+◌, ◌<◌, ◌≤◌, Bool, true, false, cond, List, [], ◌∷◌, ◌++◌, length, Option, Some, None, Ok, refl, sym, ap, subst, ◌∙◌, ⊎_elim, arith, length-append}
 use Rattle.std.specs.Prelude.{not, ◌||◌, nat_le, nat_eq, count_by, slice_get, All, unwrap_or}
 use Rattle.std.specs.List.{list_any, position_or_len}
-use Rattle.std.proofs.lemmas.Bool.{lt-ltb, leb-true, eqb-true, eq-eqb, and_parts, and_from, or_cases, or_left, or_right, or_parts}
+use Rattle.std.proofs.lemmas.Bool.{not-false, lt-ltb, leb-true, eqb-true, eq-eqb, and_parts, and_from, or_cases, or_left, or_right, or_parts}
 use Rattle.std.proofs.lemmas.List.Folds.{list_any-append}
 use Rattle.std.proofs.lemmas.List.Elements.{All-nil, All-cons}
 use Rattle.m36_text.specs.Texts.{is_text}
@@ -229,10 +229,6 @@ libraries_length dirs (line.Start start ∷ lines) =
 
 -- ---- libraries
 
-not_false : (b : Bool) → not b ≡ false → b ≡ true
-not_false true e = refl
-not_false false e = absurd (cc)
-
 each_library : (all above lines : List BootLine) (dirs : List (List ℕ)) → Clean all above lines
     → ((dir : List ℕ) → has_directory all dir ≡ true → number_in dirs dir < length dirs)
     → All (λ d. d < length dirs) (libraries_in dirs lines)
@@ -240,7 +236,7 @@ unfolding libraries_in
 each_library all above [] dirs clean inside = All-nil (λ d. d < length dirs)
 each_library all above (line.Library dir ∷ lines) dirs clean inside =
     All-cons (λ d. d < length dirs) (number_in dirs dir) (libraries_in dirs lines)
-    (inside dir (not_false (has_directory all dir) (passed all above (line.Library dir) clean.0).directory))
+    (inside dir (not-false (has_directory all dir) (passed all above (line.Library dir) clean.0).directory))
     (each_library all (above ++ line.Library dir ∷ []) lines dirs clean.1 inside)
 each_library all above (line.Frames n ∷ lines) dirs clean inside = each_library all (above ++ line.Frames n ∷ []) lines dirs clean.1 inside
 each_library all above (line.Work dir ∷ lines) dirs clean inside = each_library all (above ++ line.Work dir ∷ []) lines dirs clean.1 inside
@@ -256,7 +252,7 @@ is_segment_given : (all above lines : List BootLine) (dirs : List (List ℕ)) (g
     → IsSegment (length dirs) (segment_with dirs given (names_behind lines))
 is_segment_given all above lines dirs given none clean has =
     let right = or_parts (not (are_in_order given)) (is_no_gate given.kind given) (passed all above (line.Segment given) none).brackets in
-    let order = and_parts (nat_le given.r1 given.r2) (nat_le given.r2 given.r3) (not_false (are_in_order given) right.0) in
+    let order = and_parts (nat_le given.r1 given.r2) (nat_le given.r2 given.r3) (not-false (are_in_order given) right.0) in
     let e = names_snoc 0 above (line.Segment given) in
     let few = names_few all (above ++ line.Segment given ∷ []) lines clean (omega (arith, e)) in
     record {

@@ -13,7 +13,7 @@ use Rattle.m36_text.specs.Lines.{cut_line, ended, lines_of, open_rest, open_ende
 pub rest_whole : (xs : List ℕ) (i : ℕ) → take (length xs - i) (drop i xs) ≡ drop i xs
 rest_whole xs i = ap (λ n. take n (drop i xs)) (sym (length-drop i xs)) ∙ take-length (drop i xs)
 
-cond_none : {A : Type 0} (b : Bool) (x : A) → cond b (Some x) None ≡ None → b ≡ false
+pub cond_none : {A : Type 0} (b : Bool) (x : A) → cond b (Some x) None ≡ None → b ≡ false
 cond_none true x h = cc
 cond_none false x h = refl
 
@@ -35,7 +35,7 @@ split_nowhere p xs none =
 pub ruleset splitting = (split_there, split_nowhere)
 
 -- there is a part at least
-ended_line : (line : List ℕ) (parts : List (List ℕ)) → 0 < length parts → ended (line ∷ parts) ≡ Some line ∷ ended parts
+pub ended_line : (line : List ℕ) (parts : List (List ℕ)) → 0 < length parts → ended (line ∷ parts) ≡ Some line ∷ ended parts
 ended_line line [] some = absurd (omega arith)
 ended_line line (next ∷ parts) some = refl
 
@@ -55,7 +55,7 @@ lines_cut text e = ap ended e
 
 pub ruleset lining = (lines_first, lines_cut)
 
-open_line : (line : List ℕ) (parts : List (List ℕ)) → 0 < length parts → open_ended (line ∷ parts) ≡ line ∷ open_ended parts
+pub open_line : (line : List ℕ) (parts : List (List ℕ)) → 0 < length parts → open_ended (line ∷ parts) ≡ line ∷ open_ended parts
 open_line line [] some = absurd (omega arith)
 open_line line (next ∷ parts) some = refl
 
