@@ -1,24 +1,25 @@
 -- A map that was spelled is as it must be, so nothing is told before the sections are looked at.
-use Rattle.std.proofs.Common.{ℕ, ◌≡◌, ◌+◌, ◌-◌, ◌^◌, ◌<◌, ◌≤◌, Bool, true, false, cond, ◌&&◌, ◌||◌, not, eqb, leb, ltb, List, [], ◌∷◌, ◌++◌, length, Option, Some, None, refl, sym, ap, ◌∙◌, arith}
+use Rattle.std.proofs.Common.{ℕ, ◌≡◌, ◌+◌, ◌-◌, ◌^◌, ◌<◌, ◌≤◌, Bool, true, false, cond, not, eqb, leb, List, [], ◌∷◌, ◌++◌, length, Some, None, refl, ap, ◌∙◌, arith}
 use Rattle.std.specs.Prelude.{slice_index}
 use Rattle.std.specs.Option.{option_map}
-use Rattle.std.proofs.lemmas.Bool.{and_from, eq-eqb, le-leb, le-ltb}
+use Rattle.std.proofs.lemmas.Bool.{and_from, or_left, or_right, eq-eqb, le-leb, le-ltb}
 use Rattle.std.proofs.lemmas.List.{length-append}
+use Rattle.m36_text.specs.Lines.{first_met}
 use Rattle.obj36_parts.specs.Halves.{left, right, joined}
 use Rattle.obj36_parts.specs.ObjectSegment.{map_part}
-use Rattle.obj36_read.specs.Reading.{map_place, version_in}
-use Rattle.obj36_read.specs.MapFaults.{first_of, is_told, bound_index, is_bound, fixed_fault, map_fault}
+use Rattle.obj36_read.specs.Reading.{map_place, version_in, told_length, bound_index}
+use Rattle.obj36_read.specs.MapFaults.{is_told, is_bound, fixed_fault, map_fault}
 use Rattle.obj36.specs.Faults.{outline_fault}
-use Rattle.obj36.specs.declared.fault.ObjectFault.{ObjectFault}
 use Rattle.obj36.specs.declared.fault.ObjectFault.TheVariants.{O1, O2}
 use Rattle.obj36.proofs.TableReading.{left_joined, right_joined}
 use Rattle.obj36.proofs.MapReading.{in_map, placed, mapped}
 
-none_of_three : (a b c : Bool) (x y z : ℕ) → a ≡ false → b ≡ false → c ≡ false → first_of ((a, x) ∷ (b, y) ∷ (c, z) ∷ []) ≡ None
+none_of_three : (a b c : Bool) (x y z : ℕ) → a ≡ false → b ≡ false → c ≡ false → first_met ((a, x) ∷ (b, y) ∷ (c, z) ∷ []) ≡ None
+unfolding first_met
 none_of_three a b c x y z e f g = λ i. cond (e i) (Some x) (cond (f i) (Some y) (cond (g i) (Some z) None))
 
 bound_right : (words : List ℕ) (w b t : ℕ) → w ≡ joined b 0 → slice_index words (map_place words + 1) ≡ joined 0 t → b ≤ t → t < 2 ^ 18 → is_bound words w ≡ true
-unfolding is_bound
+unfolding is_bound told_length
 bound_right words w b t e f le lt =
     let none : right w ≡ 0 = ap right e ∙ right_joined b 0 (omega arith) in
     let bound : left w ≡ b = ap left e ∙ left_joined b 0 (omega arith) in
@@ -34,14 +35,6 @@ fixed_right words version x e f g =
     none_of_three (not (eqb (slice_index words (map_place words)) version)) (not (is_bound words (slice_index words (map_place words + bound_index version)))) (not (eqb (right (slice_index words (length words - 1))) 0))
     (map_place words) (map_place words + bound_index version) (length words - 1)
     (ap not (eq-eqb (slice_index words (map_place words)) version e)) (ap not f) (ap not (eq-eqb (right (slice_index words (length words - 1))) 0 last))
-
-or_right : (a b : Bool) → b ≡ true → (a || b) ≡ true
-or_right true b e = refl
-or_right false b e = e
-
-or_left : (a b : Bool) → a ≡ true → (a || b) ≡ true
-or_left true b e = refl
-or_left false b e = absurd cc
 
 map_told : (words : List ℕ) (version : ℕ) → is_told words ≡ true → version_in words ≡ version → fixed_fault words version ≡ None → map_fault words ≡ None
 unfolding map_fault

@@ -2,7 +2,7 @@
 use Rattle.std.proofs.Common.{ℕ, ◌≡◌, ◌+◌, ◌-◌, ◌*◌, ◌^◌, ◌<◌, ◌≤◌, Bool, true, false, cond, ◌||◌, eqb, List, [], ◌∷◌, ◌++◌, length, None, refl, sym, ap, ◌∙◌, append_assoc, arith}
 use Rattle.std.specs.Prelude.{slice_index}
 use Rattle.std.specs.List.{list_any, list_all}
-use Rattle.std.proofs.lemmas.Bool.{eqb-true}
+use Rattle.std.proofs.lemmas.Bool.{or_left, or_right, eqb-true}
 use Rattle.std.proofs.lemmas.List.{length-append}
 use Rattle.std.proofs.lemmas.List.Folds.{list_any-append}
 use Rattle.obj36_parts.specs.Fields.{LinkFields, RelocFields}
@@ -69,14 +69,6 @@ used_read ds ls tail small x among g =
     let front = (head ds ls ++ definition_words (names ds ls) (base ds ls) ds 2) ++ expression_words (names ds ls) (base ds ls) ls in
     let stands : list_any (same x) (names ds ls) ≡ true = any_among x [] (definition_names ds ++ all_link_names ls) ∙ among in
     names_read (names ds ls) (definition_part ds ls ++ tail) front tail (base ds ls) (2 ^ 18) x (from_names ds ls tail) (names_place ds ls) (omega (arith, length-definition_part ds ls)) stands g
-
-or_left : (a b : Bool) → a ≡ true → (a || b) ≡ true
-or_left true b e = refl
-or_left false b e = absurd cc
-
-or_right : (a b : Bool) → b ≡ true → (a || b) ≡ true
-or_right true b e = refl
-or_right false b e = e
 
 definitions_read : (version : ℕ) (ds : List Named) (ls : List LinkFields) (tail words : List ℕ) → words ≡ definition_part ds ls ++ tail → length (definition_part ds ls) ≤ 2 ^ 18 → list_all (is_definition version) ds ≡ true
     → definitions_in words 2 (length ds) ≡ ds
@@ -160,7 +152,7 @@ seven : (b : Bool) → 7 ≤ cond b 8 7
 seven true = omega arith
 seven false = omega arith
 
-map_length : (p : PartsFields) → 7 ≤ length (map_words p)
+pub map_length : (p : PartsFields) → 7 ≤ length (map_words p)
 unfolding map_words
 map_length p =
     omega (arith, length-map_part (is_newer p) (length p.text) (length (definition_section p)) (length (linkage_section p)) (length (outer_statics p)) (length (symbol_section p)) p.entry_bound, seven (is_newer p))

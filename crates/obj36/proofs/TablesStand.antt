@@ -1,7 +1,7 @@
 -- Of well-formed parts each definition, link and relocation is one that is read again.
 use Rattle.std.proofs.Common.{ℕ, ◌≡◌, ◌^◌, ◌<◌, ◌≤◌, Bool, true, false, cond, ◌&&◌, ◌||◌, eqb, leb, ltb, List, [], ◌∷◌, length, refl, sym, ◌∙◌, arith}
 use Rattle.std.specs.List.{list_any, list_all, AllByRecursion}
-use Rattle.std.proofs.lemmas.Bool.{and_parts, leb-true, ltb-true, eqb-true}
+use Rattle.std.proofs.lemmas.Bool.{and_parts, or_left, or_right, leb-true, ltb-true, eqb-true}
 use Rattle.std.proofs.lemmas.Bool.Decides.{nat_tests}
 use Rattle.std.proofs.lemmas.List.{nil_from_length}
 use Rattle.std.proofs.lemmas.List.Folds.{list_any-append}
@@ -15,14 +15,6 @@ use Rattle.obj36_read.specs.Reading.{name_at, section_with, relocation_in}
 use Rattle.obj36_parts.proofs.SizeLaws.{same_self}
 use Rattle.obj36.proofs.NameReading.{IsGood, good_name, IsRead}
 use Rattle.obj36.proofs.TableReading.{DefinitionStands, LinkStands, section_back, small_section, relocation_back}
-
-or_left : (a b : Bool) → a ≡ true → (a || b) ≡ true
-or_left true b e = refl
-or_left false b e = absurd cc
-
-or_right : (a b : Bool) → b ≡ true → (a || b) ≡ true
-or_right true b e = refl
-or_right false b e = e
 
 -- each good name that is among some is read where the table has it
 abbrev pub AreRead : List (List ℕ) → List ℕ → List (List ℕ) → ℕ → Type 0
