@@ -1,6 +1,5 @@
 -- What a reading comes to: one behind another, by the files, and mapped.
-use Rattle.std.proofs.Common.{◌≡◌, ℕ, ◌≤◌, ◌<◌, List, [], ◌∷◌, ◌++◌, length, cond, Option, Some, None, Result, Ok, Err, refl, sym, ap, subst, ◌∙◌}
-use Rattle.std.specs.Prelude.{IfSome}
+use Rattle.std.proofs.Common.{◌≡◌, ℕ, ◌≤◌, ◌<◌, List, [], ◌∷◌, ◌++◌, length, cond, Some, Ok, Err, refl, sym, ap, subst, ◌∙◌}
 use Rattle.std.proofs.lemmas.Bool.{le-ltb, lt-ltb}
 use Rattle.m36_outside.specs.Files.{Files}
 use Rattle.m36_outside.specs.ReadAnswer.{file_limit}
@@ -8,7 +7,7 @@ use Rattle.m36_outside.specs.declared.folder.ReadAnswer.{ReadAnswer}
 use Rattle.m36_outside.specs.declared.folder.ReadAnswer.TheVariants as read
 use Rattle.m36_reading.specs.declared.refusal.Refusal.{Refusal}
 use Rattle.m36_reading.specs.declared.refusal.Refusal.TheVariants.{BadFile, ReadFault, NoMemory}
-use Rattle.m36_reading.specs.Reading.{Found, Content, Absent, TooLarge, Reading, decided, asks, Early, then_with, mapped, found_in, outcome_in}
+use Rattle.m36_reading.specs.Reading.{Found, Content, Absent, TooLarge, Reading, decided, asks, Early, then_with, found_in, outcome_in}
 use Rattle.m36_reading.specs.Asking.{Asked, IsTold, AreTold, Coming, Came, Failed, Wanting, IsDecided, IsWanting, HasFailed, GoesOn, Comes, ComesIn, coming}
 
 ok_same : {A : Type 0} (a b : A) → (let r : Early A = Ok a in r) ≡ Ok b → a ≡ b

@@ -1,7 +1,6 @@
 -- Ends of a command: from its reading, and by more that is known of it.
-use Rattle.std.proofs.Common.{◌≡◌, ℕ, ◌⊎◌, List, [], ◌∷◌, ◌++◌, Option, Some, None, Result, Ok, Err, refl, sym, ap, subst, ◌∙◌, inl, inr}
+use Rattle.std.proofs.Common.{◌≡◌, List, [], ◌∷◌, Some, Ok, Err, refl, sym, ap, subst, ◌∙◌, inl, inr}
 use Rattle.std.proofs.lemmas.List.{append-nil}
-use Rattle.m36_outside.specs.Counts.{Rose}
 use Rattle.m36_outside.specs.Files.{Files}
 use Rattle.m36_outside.specs.declared.folder.ReadAnswer.{ReadAnswer}
 use Rattle.m36_outside.specs.declared.folder.ReadAnswer.TheVariants as read
@@ -11,11 +10,11 @@ use Rattle.m36_reading.specs.declared.status.Status.{Status}
 use Rattle.m36_reading.specs.declared.refusal.Refusal.{Refusal}
 use Rattle.m36_reading.specs.declared.refusal.Refusal.TheVariants.{BadFile, ReadFault, NoMemory}
 use Rattle.m36_reading.specs.Reading.{Found, Content, Absent, TooLarge, Reading, decided, asks, Early, then_with, mapped}
-use Rattle.m36_reading.specs.Asking.{Asked, AreTold, Coming, Came, Failed, Wanting, IsDecided, IsWanting, HasFailed, GoesOn, Comes, ComesIn, coming}
+use Rattle.m36_reading.specs.Asking.{Asked, AreTold, Coming, Came, Failed, Wanting, IsDecided, IsWanting, HasFailed, GoesOn, Comes, ComesIn}
 use Rattle.m36_reading.specs.Answers.{Answer, unwritten, status_of, IsDueBy}
 use Rattle.m36_reading.specs.Outside.{FolderState, Outside, IsIdle}
 use Rattle.m36_reading.specs.Ends.{End, Answered, Cut, Unread, Starved, Unasked, end_of}
-use Rattle.m36_reading.specs.Doing.{Kind, ReadCause, Reads, IsMade, IsAnswered, IsCut, IsUnread, IsFailed, IsUnmade, IsStarved, EndsBy, Does, Performs}
+use Rattle.m36_reading.specs.Doing.{Kind, Reads, EndsBy, Does, Performs}
 use Rattle.m36_reading.proofs.Comings.{comes_in}
 
 -- More is known of what came of a reading.

@@ -1,8 +1,6 @@
 -- What is made of the bytes of a file.
-use Rattle.std.proofs.Common.{◌≡◌, ℕ, ◌≤◌, ◌<◌, Bool, cond, List, length, Result, Ok, Err, refl, sym, ap, subst, ◌∙◌}
-use Rattle.std.specs.Prelude.{nat_lt}
+use Rattle.std.proofs.Common.{◌≡◌, ℕ, ◌≤◌, ◌<◌, cond, List, length, Result, Ok, Err, sym, ap, subst}
 use Rattle.std.proofs.lemmas.Bool.{le-ltb, lt-ltb}
-use Rattle.m36_text.specs.Packing.{unpacked}
 use Rattle.m36_text.specs.declared.packing.PackFault.{PackFault}
 use Rattle.m36_text.specs.declared.packing.PackFault.TheVariants as pack
 use Rattle.obj36_parts.specs.PartsFields.{PartsFields}
@@ -10,8 +8,7 @@ use Rattle.obj36.specs.declared.fault.ObjectFault.{ObjectFault}
 use Rattle.obj36.specs.declared.fault.ObjectFault.TheVariants as fault
 use Rattle.m36_reading.specs.declared.status.Code.TheVariants as code
 use Rattle.m36_reading.specs.declared.refusal.Refusal.{Refusal}
-use Rattle.m36_reading.specs.declared.refusal.Refusal.TheVariants.{BadFile, ReadFault, NoMemory}
-use Rattle.m36_reading.specs.Reading.{Early}
+use Rattle.m36_reading.specs.declared.refusal.Refusal.TheVariants.{NoMemory}
 use Rattle.m36_reading.specs.Asking.{Gives, Refuses}
 use Rattle.obj36.specs.ObjectOf.{object_of, IsObjectOf}
 use Rattle.m36_reading.specs.Readers.{refused, sized, words_by, object_refused, object_by}

@@ -1,5 +1,6 @@
 pub mod Comings
 pub mod ReadLaws
+pub mod EachLaws
 pub mod FileLaws
 pub mod EndLaws
 pub mod WriteLaws

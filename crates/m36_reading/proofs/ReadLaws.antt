@@ -1,18 +1,17 @@
 -- A read is carried into a reading.
-use Rattle.std.proofs.Common.{◌≡◌, ℕ, ◌≤◌, List, [], ◌∷◌, ◌++◌, length, Option, Some, None, Result, Ok, Err, refl, sym, ap, subst, ◌∙◌}
+use Rattle.std.proofs.Common.{◌≡◌, ℕ, ◌≤◌, List, [], ◌∷◌, ◌++◌, length, Option, Result, Ok, Err, refl, sym, ap, subst, ◌∙◌}
 use Rattle.std.specs.Prelude.{IfSome}
 use Rattle.std.proofs.lemmas.List.{append-nil, append_assoc}
 use Rattle.m36_outside.specs.Files.{Files}
 use Rattle.m36_outside.specs.Counts.{Rose}
 use Rattle.m36_outside.specs.ReadAnswer.{file_limit, ReadSays}
-use Rattle.m36_outside.specs.declared.folder.ReadAnswer.{ReadAnswer}
 use Rattle.m36_outside.specs.declared.folder.ReadAnswer.TheVariants as read
 use Rattle.m36_reading.specs.declared.status.Code.TheVariants as code
 use Rattle.m36_reading.specs.declared.refusal.Refusal.{Refusal}
 use Rattle.m36_reading.specs.declared.refusal.Refusal.TheVariants.{BadFile, ReadFault, NoMemory}
-use Rattle.m36_reading.specs.Reading.{Found, Content, Absent, TooLarge, Reading, decided, asks, Early, then_with}
-use Rattle.m36_reading.specs.Asking.{Asked, IsTold, AreTold, Coming, Came, Failed, Wanting, GoesOn, Comes, coming, Gives, Refuses}
-use Rattle.m36_reading.specs.Readers.{refused, bytes_by, file_bytes}
+use Rattle.m36_reading.specs.Reading.{Absent, TooLarge, Reading, decided, Early, then_with}
+use Rattle.m36_reading.specs.Asking.{Asked, AreTold, Failed, coming, Gives, Refuses}
+use Rattle.m36_reading.specs.Readers.{refused, file_bytes}
 use Rattle.m36_reading.specs.Outside.{FolderState}
 use Rattle.m36_reading.specs.Doing.{ReadCause, Reads}
 use Rattle.m36_reading.proofs.Comings.{comes_then, comes_stop}

@@ -1,8 +1,9 @@
 -- What is due to a command: the files that it writes, the text that it puts, in which pieces, and
 -- its status.
-use Rattle.std.specs.Prelude.{ℕ, ◌≡◌, List, [], ◌∷◌, Option, Some, Result, Ok, Err}
+use Rattle.std.specs.Prelude.{ℕ, ◌≡◌, List, [], ◌∷◌, Option, Some, Ok, Err}
 use Rattle.m36_outside.specs.Files.{Files, with_told_file}
 use Rattle.m36_outside.specs.FolderCalls.{Wrote}
+use Rattle.m36_outside.specs.Passing.{joined}
 use Rattle.m36_outside.specs.declared.folder.WriteAnswer.{WriteAnswer}
 use Rattle.m36_outside.specs.declared.folder.WriteAnswer.TheVariants.{Written}
 use Rattle.m36_reading.specs.declared.status.Status.{Status}
@@ -20,9 +21,14 @@ pub record Answer : Type 0 where
   pub pieces : List (List ℕ)
   pub status : Status
 
+-- no file is written, and all that is put is these pieces
+abbrev pub answer_with : List (List ℕ) → Status → Answer
+answer_with pieces status =
+    record { sets = []; text = joined pieces; pieces = pieces; status = status }
+
 -- a status with which nothing is written
 abbrev pub unwritten : Status → Answer
-unwritten status = record { sets = []; text = []; pieces = []; status = status }
+unwritten status = answer_with [] status
 
 abbrev pub status_of : Refusal → Status
 status_of (BadFile bad) = status.BadFile bad

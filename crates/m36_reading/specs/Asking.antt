@@ -1,5 +1,5 @@
 -- What a reading comes to by the answers of a folder, one after another and no others.
-use Rattle.std.specs.Prelude.{ℕ, ◌≡◌, ⊤, List, [], ◌∷◌, Option, IfSome, Result, Ok, Err}
+use Rattle.std.specs.Prelude.{◌≡◌, ⊤, List, [], ◌∷◌, Option, IfSome, Result, Ok, Err}
 use Rattle.m36_outside.specs.Files.{Files}
 pub use Rattle.m36_outside.specs.FolderCalls.{Asked}
 use Rattle.m36_outside.specs.ReadAnswer.{ReadSays, IsWithinLimit}

@@ -1,5 +1,6 @@
 pub mod Names
 pub mod Reading
+pub mod EachRead
 pub mod Asking
 pub mod Readers
 pub mod Answers

@@ -7,11 +7,10 @@ use Rattle.m36_text.specs.declared.packing.PackFault.TheVariants as pack
 use Rattle.obj36_parts.specs.PartsFields.{PartsFields}
 use Rattle.obj36.specs.declared.fault.ObjectFault.{ObjectFault}
 use Rattle.obj36.specs.declared.fault.ObjectFault.TheVariants as fault
-use Rattle.m36_reading.specs.declared.status.Bad.{Bad}
 use Rattle.m36_reading.specs.declared.status.Code.{Code}
 use Rattle.m36_reading.specs.declared.status.Code.TheVariants as code
 use Rattle.m36_reading.specs.declared.refusal.Refusal.{Refusal}
-use Rattle.m36_reading.specs.declared.refusal.Refusal.TheVariants.{BadFile, ReadFault, NoMemory}
+use Rattle.m36_reading.specs.declared.refusal.Refusal.TheVariants.{BadFile, NoMemory}
 use Rattle.m36_reading.specs.Reading.{Found, Content, Absent, TooLarge, Reading, decided, asks}
 use Rattle.m36_reading.specs.Reading.{Early, then_with}
 use Rattle.obj36.specs.ObjectOf.{object_of}

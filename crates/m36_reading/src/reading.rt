@@ -1,6 +1,6 @@
 //! The readers of one file, each with all its refusals.
 
-ghost use Rattle.std.specs.Prelude.{◌≡◌, ◌≤◌, ◌<◌, ◌^◌, length, IfOk};
+ghost use Rattle.std.specs.Prelude.{◌≤◌, ◌<◌, ◌^◌, length, IfOk};
 ghost use Rattle.m36_outside.specs.ReadAnswer.{file_limit};
 ghost use Rattle.m36_text.specs.Packing.{unpacked};
 ghost use Rattle.m36_reading.specs.Asking.{Gives, Refuses};
