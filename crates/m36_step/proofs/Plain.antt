@@ -14,7 +14,7 @@ use Rattle.m36_model.specs.Effect.{exec, is_absa}
 use Rattle.m36_model.specs.Fields.{FinalFields}
 use Rattle.m36_model.specs.Registers.{RegsFields}
 use Rattle.m36_model.specs.Results.{OperandFields}
-use Rattle.m36_model.specs.Step.{Performed, puts_from, performed, perform, tallied, operate, operate_on, operated, addressed, started, admitted, by_kind, by_direct, direct_word, addressing, transferring, request_at, outcome_by}
+use Rattle.m36_model.specs.Step.{Performed, no_operand, puts_from, performed, perform, tallied, operate, operate_on, operated, addressed, started, admitted, by_kind, by_direct, direct_word, addressing, transferring, request_at, outcome_by}
 use Rattle.m36_model.specs.Store.{Spot, serve, run, changes}
 use Rattle.m36_model.specs.Transfers.{is_taken}
 use Rattle.m36_model.specs.declared.effects.Formed.{Formed}
@@ -31,8 +31,9 @@ use Rattle.m36_walk.specs.Served.{standing, sdw_in, request, served_by, at_targe
 use Rattle.m36_walk.specs.Words.{pair_words, run_changes}
 use Rattle.m36_walk.proofs.Claims.{changes_of_run, put_one_word}
 use Rattle.m36_word.specs.declared.pair.Pair.{Pair}
-use Rattle.m36_frequent.specs.Frequent.{loads_address, is_shift, word_read, pair_read, nothing_read}
+use Rattle.m36_frequent.specs.Frequent.{loads_address, is_shift, word_read, pair_read}
 use Rattle.m36_ea.specs.Formed.{plain}
+use Rattle.m36_ea.proofs.Runs.{run_ask, run_done}
 use Rattle.m36_step.specs.Ended.{EndsFormed, end_of}
 use Rattle.m36_step.specs.Operated.{claims_of, puts_of, operated_end}
 use Rattle.m36_step.specs.References.{ServesRead, ServesWrite, HoldRefused}
@@ -40,7 +41,6 @@ use Rattle.m36_step.specs.declared.ended.Ended.{Ended}
 use Rattle.m36_step.specs.declared.operated.Operated.{Operated}
 use Rattle.m36_step.specs.declared.operated.Part.TheVariants as part
 use Rattle.m36_step.proofs.Ends.{operation_performed, operation_refused}
-use Rattle.m36_step.proofs.Reaching.{run_ask, run_done}
 
 -- an instruction that loads its address does not ask for its place
 pub not_absa : (e : Effect) → IsTrue (loads_address e) → is_absa e ≡ false
@@ -126,13 +126,13 @@ module _ (e : Effect) (n w : ℕ) (g : RegsFields) (last : FinalFields) where
 
     -- A word is stored.
     pub stored_ends : (place word : ℕ) (core'' : List ℕ) → operand_of e ≡ kind.W → last.direct ≡ None → ServesWrite g f 1 m refs core' refs' (Ok place)
-        → Ok (record { regs = g'; put = word ∷ []; overflow = overflow }) ≡ exec e n g last nothing_read
+        → Ok (record { regs = g'; put = word ∷ []; overflow = overflow }) ≡ exec e n g last no_operand
         → core'' ≡ slice_set core' place word → EndsFormed g (operated e n g w c) m.core f refs core'' refs' g' end
     stored_ends place word core'' k none served effect stored =
         ends_written m.core refs core' refs' g' overflow end is place word core''
         (ap (λ p. run core_store g p (standing m.core [] refs)) (operates_by kind.W k none)
         ∙ run_ask g (request_at Write c 1) _ (standing m.core [] refs) _ served
-        ∙ performs nothing_read g' (word ∷ []) overflow core' (run_from place 1) refs' effect)
+        ∙ performs no_operand g' (word ∷ []) overflow core' (run_from place 1) refs' effect)
         stored
 
     -- A pair is read, with the first ring bracket of its segment.
@@ -148,13 +148,13 @@ module _ (e : Effect) (n w : ℕ) (g : RegsFields) (last : FinalFields) where
 
     -- A pair is stored.
     pub pair_stored_ends : (place : ℕ) (put : Pair) (core'' : List ℕ) → operand_of e ≡ kind.W2 → last.direct ≡ None → ServesWrite g f 2 m refs core' refs' (Ok place)
-        → Ok (record { regs = g'; put = pair_words put; overflow = overflow }) ≡ exec e n g last nothing_read
+        → Ok (record { regs = g'; put = pair_words put; overflow = overflow }) ≡ exec e n g last no_operand
         → core'' ≡ core_put core' (run_changes place (pair_words put)) → EndsFormed g (operated e n g w c) m.core f refs core'' refs' g' end
     pair_stored_ends place put core'' k none served effect stored =
         operation_performed g e n w f m.core refs core' refs' g' (held.Two put) (operated_at place overflow) core'' end
         (ap (λ p. run core_store g p (standing m.core [] refs)) (operates_by kind.W2 k none)
         ∙ run_ask g (request_at Write c 2) _ (standing m.core [] refs) _ served
-        ∙ performs nothing_read g' (pair_words put) overflow core' (run_from place 2) refs' effect)
+        ∙ performs no_operand g' (pair_words put) overflow core' (run_from place 2) refs' effect)
         (stored ∙ sym (ap (core_put core') (changes_of_run [] place (pair_words put)))) is
 
     -- A word is read, and then it is written: by what the Write gave.
@@ -216,34 +216,34 @@ module _ (e : Effect) (n w : ℕ) (g : RegsFields) (last : FinalFields) where
         (ap (λ p. run core_store g p (standing core [] refs)) by ∙ performs (word_read operand) g' [] overflow core [] refs effect)
 
     pub address_ends : operand_of e ≡ kind.A → last.direct ≡ None → is_absa e ≡ false
-        → Ok (record { regs = g'; put = []; overflow = overflow }) ≡ exec e n g last nothing_read
+        → Ok (record { regs = g'; put = []; overflow = overflow }) ≡ exec e n g last no_operand
         → EndsFormed g (operated e n g w c) core f refs core refs g' end
     address_ends k none other effect =
-        let by : operate e n g c ≡ perform e n g c Whole 0 nothing_read =
+        let by : operate e n g c ≡ perform e n g c Whole 0 no_operand =
         operates_by kind.A k none ∙ ap (λ (b : Bool). addressing e n g c b) other in
         ends_unwritten core refs core refs g' overflow end is
-        (ap (λ p. run core_store g p (standing core [] refs)) by ∙ performs nothing_read g' [] overflow core [] refs effect)
+        (ap (λ p. run core_store g p (standing core [] refs)) by ∙ performs no_operand g' [] overflow core [] refs effect)
 
     transfers_by : (taken : Bool) → operand_of e ≡ kind.T → last.direct ≡ None → taken ≡ is_taken e g → operate e n g c ≡ transferring e n g c taken
     transfers_by taken k none t =
         operates_by kind.T k none ∙ ap (λ (x : RegsFields). transferring e n g c (is_taken e x)) same_regs ∙ ap (transferring e n g c) (sym t)
 
     pub stays_ends : operand_of e ≡ kind.T → last.direct ≡ None → false ≡ is_taken e g
-        → Ok (record { regs = g'; put = []; overflow = overflow }) ≡ exec e n g last nothing_read
+        → Ok (record { regs = g'; put = []; overflow = overflow }) ≡ exec e n g last no_operand
         → EndsFormed g (operated e n g w c) core f refs core refs g' end
     stays_ends k none t effect =
         ends_unwritten core refs core refs g' overflow end is
-        (ap (λ p. run core_store g p (standing core [] refs)) (transfers_by false k none t) ∙ performs nothing_read g' [] overflow core [] refs effect)
+        (ap (λ p. run core_store g p (standing core [] refs)) (transfers_by false k none t) ∙ performs no_operand g' [] overflow core [] refs effect)
 
     pub target_ends : (d : SdwFields) → operand_of e ≡ kind.T → last.direct ≡ None → true ≡ is_taken e g
         → serve core_store g (standing core [] refs) (request Transfer last.at 1 []) ≡ served_by (request Transfer last.at 1 []) core [] refs (at_target d (Ok (tt {0})))
-        → Ok (record { regs = g'; put = []; overflow = overflow }) ≡ exec e n g last nothing_read
+        → Ok (record { regs = g'; put = []; overflow = overflow }) ≡ exec e n g last no_operand
         → EndsFormed g (operated e n g w c) core f refs core refs g' end
     target_ends d k none t served effect =
         ends_unwritten core refs core refs g' overflow end is
         (ap (λ p. run core_store g p (standing core [] refs)) (transfers_by true k none t)
         ∙ run_ask g (request_at Transfer c 1) _ (standing core [] refs) _ served
-        ∙ performs nothing_read g' [] overflow core [] refs effect)
+        ∙ performs no_operand g' [] overflow core [] refs effect)
 
     -- A call is allowed, in the ring that its target gives.
     pub call_ends : (d : SdwFields) (ring : ℕ) → operand_of e ≡ kind.Call6 → last.direct ≡ None

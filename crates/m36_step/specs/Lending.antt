@@ -2,7 +2,6 @@
 use Rattle.std.specs.Prelude.{ℕ, List}
 use Rattle.std.specs.Borrow.{Lends, MutBor, Fml}
 use Rattle.m36_core.specs.contracts.memory.Core as core
-use Rattle.m36_model.specs.Store.{State}
 use Rattle.m36_step.specs.MachineFields.{MachineFields}
 use Rattle.m36_step.specs.contracts.machine.Machine as machine
 

@@ -9,11 +9,11 @@ ghost use Rattle.m36_walk.specs.Words.{pair_words};
 ghost use Rattle.m36_step.specs.References.{ServesRead, ServesWrite};
 
 use m36_ea::pending;
-use m36_model::{At, Fault, Final, Formed, Kind, Reference, Refs, Regs};
-use m36_walk::Walk;
+use m36_model::{At, Fault, Final, Formed, Kind, Refs, Regs};
+use m36_walk::{Walk, first_at};
 use m36_word::{Pair, Word};
 
-/// The segment of the instruction.
+/// The segment of the instruction. By way of a copy a step takes fewer instructions than by the call of `m36_ea`.
 #[inline(always)]
 pub(crate) fn procedure_segment(regs: &Regs) -> u16
     ensures { result ≡ regs.now.ppr.psr }
@@ -30,29 +30,7 @@ pub(crate) fn end_at(formed: &Formed) -> At
     last.at
 }
 
-/// The first of so many words, in a reference.
-#[inline(always)]
-fn first_at(at: At, count: u8) -> At
-    requires { IsCount count }
-    ensures { result ≡ aligned_at count at }
-{
-    if count == 1 {
-        return at;
-    }
-    if count == 2 {
-        At {
-            word: at.word - at.word % 2,
-            ..at
-        }
-    } else {
-        At {
-            word: at.word - at.word % 16,
-            ..at
-        }
-    }
-}
-
-/// Adds a completed reference.
+/// Adds a completed reference to so many words, of which one is told.
 #[inline(always)]
 pub(crate) fn complete(refs: &mut Refs, kind: Kind, at: At, count: u8)
     requires room { length refs.old.items < 40 }
@@ -61,11 +39,7 @@ pub(crate) fn complete(refs: &mut Refs, kind: Kind, at: At, count: u8)
         ≡ refs.old.items ++ record { kind = kind; at = aligned_at count at; count = count } ∷ [] }
     ensures count { length refs.new.items ≡ length refs.old.items + 1 }
 {
-    refs.push(Reference {
-        at: first_at(at, count),
-        kind,
-        count,
-    });
+    m36_ea::complete(refs, kind, first_at(at, count), count);
 }
 
 /// Reads the word of an operand.
