@@ -9,7 +9,7 @@ use Rattle.obj36_parts.specs.declared.section.Section.TheVariants.{Text}
 use Rattle.obj36_parts.specs.PartsFields.{PartsFields}
 use Rattle.obj36_parts.specs.ObjectSegment.{is_well_formed}
 use Rattle.obj36_parts.proofs.Formed.{is_formed}
-use Rattle.obj36_parts.proofs.LengthLaws.{length-words_of}
+use Rattle.obj36_parts.proofs.LengthLaws.{length-words_of, least_size}
 use Rattle.alm_lines.specs.Spots.{start, count_in, end_of}
 use Rattle.alm_asm.specs.Words.{words_from}
 use Rattle.alm_lines.specs.Layout.{symbols_from}
@@ -25,14 +25,14 @@ use Rattle.alm_asm.proofs.LinksApart.{links_apart}
 use Rattle.alm_asm.proofs.Valued.{symbols_known}
 use Rattle.alm_asm.proofs.ExternalsStand.{external_stands}
 use Rattle.alm_asm.proofs.SectionsStand.{section_stands, end_follows}
-use Rattle.alm_asm.proofs.TooLong.{static_holds, fixed}
+use Rattle.alm_asm.proofs.TooLong.{static_holds}
 use Rattle.alm_asm.proofs.SymbolsMean.{labels_mean, own_mean}
 
 short : (p : PartsFields) → is_well_formed p ≡ true → length p.text < 2 ^ 18
 short p formed =
     let fits = (is_formed p formed).fits in
     let sum = length-words_of p in
-    let head = fixed (eqb p.version 2) in
+    let head = least_size (eqb p.version 2) in
     omega arith
 
 bound_in_text : (text : List ℕ) (tables : Tables) (lines above : List Line36) (line : Line36) (others : List Line36) → lines ≡ above ++ line ∷ others

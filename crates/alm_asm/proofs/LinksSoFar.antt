@@ -2,6 +2,7 @@
 use Rattle.std.proofs.Common.{◌≡◌, ℕ, ◌+◌, ◌*◌, ◌<◌, Bool, true, false, cond, not, ◌||◌, List, [], ◌∷◌, ◌++◌, length, Option, Some, None, refl, sym, ap, ◌∙◌, arith, length-append}
 use Rattle.std.specs.Prelude.{nat_lt, unwrap_or}
 use Rattle.std.specs.List.{list_any, position, position_or_len}
+use Rattle.std.specs.Option.{option_or}
 use Rattle.std.proofs.lemmas.Bool.{lt-ltb}
 use Rattle.alm_tokens.specs.Tokens.{slice_of}
 use Rattle.alm_tokens.specs.declared.span.Span.{Span}
@@ -25,8 +26,8 @@ use Rattle.alm_lines.specs.declared.refusal.Code.TheVariants.{E7}
 use Rattle.alm_lines.specs.declared.refusal.Room.TheVariants.{Half}
 use Rattle.alm_asm.specs.Links.{link_of, operand_args, link_by, link_in, with_link, links_after, links_from, link_place}
 use Rattle.alm_asm.specs.Definitions.{gives_entries, definitions_after, definitions_refused}
-use Rattle.alm_asm.specs.LineRefusals.{unless, op_place, may_name, is_in_reach, link_expression, reaches, external_refusal}
-use Rattle.alm_asm.specs.LineRefusals.{operand_refusal, refusal_of_deed, line_refusal, with_links, otherwise, lines_refusal}
+use Rattle.alm_asm.specs.LineRefusals.{unless, op_place, may_name, is_in_reach, link_expression, reaches}
+use Rattle.alm_asm.specs.LineRefusals.{operand_refusal, refusal_of_deed, line_refusal, with_links, lines_refusal}
 use Rattle.alm_lines.specs.declared.refusal.Refusal.{Refusal}
 use Rattle.alm_asm.specs.declared.tables.Tables.{Tables}
 use Rattle.alm_asm.proofs.LinksStanding.{stays_with, added_with}
@@ -198,11 +199,11 @@ pub first_told : (text : List ℕ) (tables : Tables) (done : List Named) (spot :
     → Some refusal ≡ line_refusal text tables done spot line → Some refusal ≡ lines_refusal text tables done spot (line ∷ lines)
 unfolding lines_refusal
 first_told text tables done spot line lines refusal e =
-    ap (λ r. otherwise r (lines_refusal text tables (definitions_after text tables.symbols done line) (below text spot line) lines)) e
+    ap (λ r. option_or r (lines_refusal text tables (definitions_after text tables.symbols done line) (below text spot line) lines)) e
 
 pub rest_told : (text : List ℕ) (tables : Tables) (done : List Named) (spot : Spot) (line : Line36) (lines : List Line36)
     → None ≡ line_refusal text tables done spot line
     → lines_refusal text tables (definitions_after text tables.symbols done line) (below text spot line) lines ≡ lines_refusal text tables done spot (line ∷ lines)
 unfolding lines_refusal
 rest_told text tables done spot line lines e =
-    ap (λ r. otherwise r (lines_refusal text tables (definitions_after text tables.symbols done line) (below text spot line) lines)) e
+    ap (λ r. option_or r (lines_refusal text tables (definitions_after text tables.symbols done line) (below text spot line) lines)) e

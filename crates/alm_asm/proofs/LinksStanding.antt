@@ -1,6 +1,7 @@
 -- The link of each external operand stands among the links.
-use Rattle.std.proofs.Common.{◌≡◌, ℕ, Bool, true, false, cond, ◌||◌, List, [], ◌∷◌, ◌++◌, Option, Some, None, refl, ap, ◌∙◌}
+use Rattle.std.proofs.Common.{◌≡◌, ℕ, Bool, true, false, cond, List, [], ◌∷◌, ◌++◌, Option, Some, None, refl, ap, ◌∙◌}
 use Rattle.std.specs.List.{list_any}
+use Rattle.std.proofs.lemmas.Bool.{or_left, or_right}
 use Rattle.std.proofs.lemmas.List.Folds.{list_any-append}
 use Rattle.alm_parse.specs.declared.line.Line36.{Line36}
 use Rattle.obj36_parts.specs.Fields.{LinkFields}
@@ -11,13 +12,6 @@ use Rattle.alm_asm.specs.Links.{operand_args, link_in, with_link, links_after, l
 use Rattle.obj36_parts.specs.Indexes.{same_link}
 use Rattle.alm_lines.specs.declared.sum.Sum.{Sum}
 use Rattle.alm_lines.specs.SpotFields.{Spot}
-
-or_left : (a b : Bool) → a ≡ true → (a || b) ≡ true
-or_left a b e = ap (λ x. x || b) e
-
-or_right : (a b : Bool) → b ≡ true → (a || b) ≡ true
-or_right true b e = refl
-or_right false b e = e
 
 stays_by : (l other : LinkFields) (links : List LinkFields) (b : Bool) → list_any (same_link l) links ≡ true → list_any (same_link l) (cond b links (links ++ other ∷ [])) ≡ true
 stays_by l other links true e = e

@@ -8,6 +8,7 @@ use Rattle.alm_parse.specs.declared.args.Arg.{Arg}
 use Rattle.alm_parse.specs.declared.line.Line36.{Line36}
 use Rattle.obj36_parts.specs.declared.section.Section.{Section}
 use Rattle.obj36_parts.specs.declared.section.Section.TheVariants.{Text, Linkage, Symbol, Static}
+use Rattle.obj36_parts.proofs.SizeLaws.{or_assoc, or_none}
 use Rattle.alm_lines.specs.Arguments.{first_arg, symbol_in, section_in}
 use Rattle.alm_lines.specs.Spots.{start, count_in, place, grown_in, entered, size_of, moved_by, below, end_of}
 use Rattle.alm_asm.specs.Words.{words_by, same_section, words_of_line, words_from}
@@ -105,47 +106,39 @@ evened_length false words = evened_length_by words (eqb (length words % 2) 0) re
 
 -- ---- the version
 
-or_false : (b : Bool) → b ≡ (b || false)
-or_false true = refl
-or_false false = refl
-
 or_true : (b : Bool) → true ≡ (b || true)
 or_true true = refl
 or_true false = refl
 
-or_assoc : (a b c : Bool) → ((a || b) || c) ≡ (a || (b || c))
-or_assoc true b c = refl
-or_assoc false b c = refl
-
 grown_outer : (section : Section) (spot : Spot) (n : ℕ) → (grown_in section spot n).uses_outer ≡ (spot.uses_outer || false)
-grown_outer Text spot n = or_false spot.uses_outer
-grown_outer Linkage spot n = or_false spot.uses_outer
-grown_outer Symbol spot n = or_false spot.uses_outer
-grown_outer Static spot n = or_false spot.uses_outer
+grown_outer Text spot n = sym (or_none spot.uses_outer)
+grown_outer Linkage spot n = sym (or_none spot.uses_outer)
+grown_outer Symbol spot n = sym (or_none spot.uses_outer)
+grown_outer Static spot n = sym (or_none spot.uses_outer)
 
 entered_outer : (spot : Spot) (named : Section) → (entered spot named).uses_outer ≡ (spot.uses_outer || is_static named)
-entered_outer spot Text = or_false spot.uses_outer
-entered_outer spot Linkage = or_false spot.uses_outer
-entered_outer spot Symbol = or_false spot.uses_outer
+entered_outer spot Text = sym (or_none spot.uses_outer)
+entered_outer spot Linkage = sym (or_none spot.uses_outer)
+entered_outer spot Symbol = sym (or_none spot.uses_outer)
 entered_outer spot Static = or_true spot.uses_outer
 
 moved_outer : (text : List ℕ) (d : Deed) (arguments : List Arg) (spot : Spot)
     → (moved_by text d arguments spot).uses_outer ≡ (spot.uses_outer || enters_static d (section_in text (symbol_in (first_arg arguments))))
-moved_outer text deed.Nothing arguments spot = or_false spot.uses_outer
+moved_outer text deed.Nothing arguments spot = sym (or_none spot.uses_outer)
 moved_outer text (deed.Instruction code bit27) arguments spot = grown_outer spot.section spot 1
-moved_outer text deed.Entry arguments spot = or_false spot.uses_outer
-moved_outer text deed.Segdef arguments spot = or_false spot.uses_outer
-moved_outer text deed.Equ arguments spot = or_false spot.uses_outer
+moved_outer text deed.Entry arguments spot = sym (or_none spot.uses_outer)
+moved_outer text deed.Segdef arguments spot = sym (or_none spot.uses_outer)
+moved_outer text deed.Equ arguments spot = sym (or_none spot.uses_outer)
 moved_outer text deed.Use arguments spot = entered_outer spot (section_in text (symbol_in (first_arg arguments)))
 moved_outer text deed.Words arguments spot = grown_outer spot.section spot (size_of deed.Words arguments (place spot))
 moved_outer text deed.Zero arguments spot = grown_outer spot.section spot 1
 moved_outer text deed.Block arguments spot = grown_outer spot.section spot (size_of deed.Block arguments (place spot))
 moved_outer text deed.Even arguments spot = grown_outer spot.section spot (size_of deed.Even arguments (place spot))
-moved_outer text deed.Bound arguments spot = or_false spot.uses_outer
+moved_outer text deed.Bound arguments spot = sym (or_none spot.uses_outer)
 
 pub end_outer : (text : List ℕ) (spot : Spot) (lines : List Line36) → (end_of text spot lines).uses_outer ≡ (spot.uses_outer || list_any (is_use_static text) lines)
 unfolding end_of below is_use_static
-end_outer text spot [] = or_false spot.uses_outer
+end_outer text spot [] = sym (or_none spot.uses_outer)
 end_outer text spot (line ∷ lines) =
     end_outer text (below text spot line) lines
     ∙ ap (λ b. b || list_any (is_use_static text) lines) (moved_outer text line.deed line.args spot)

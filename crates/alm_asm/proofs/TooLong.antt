@@ -11,7 +11,7 @@ use Rattle.obj36_parts.specs.Fields.{LinkFields, RelocFields}
 use Rattle.obj36_parts.specs.PartsFields.{PartsFields}
 use Rattle.obj36_parts.specs.ObjectSegment.{is_newer, inner_statics, outer_statics, words_of, definition_names, are_distinct, is_definition, is_link, is_relocation, are_rising, is_well_formed, place_number}
 use Rattle.obj36_parts.proofs.Formed.{is_formed}
-use Rattle.obj36_parts.proofs.LengthLaws.{length-words_of}
+use Rattle.obj36_parts.proofs.LengthLaws.{length-words_of, least_size}
 use Rattle.alm_lines.specs.Spots.{start, count_in, below, end_of}
 use Rattle.alm_asm.specs.Links.{links_from}
 use Rattle.alm_asm.specs.Words.{words_from}
@@ -135,11 +135,6 @@ pub static_holds : (newer : Bool) → holds_words (static_section newer) ≡ tru
 static_holds true = refl
 static_holds false = refl
 
--- how many words an object has besides its sections' own
-pub fixed : (b : Bool) → 18 ≤ cond b 19 18
-fixed true = omega arith
-fixed false = omega arith
-
 text_first : (newer : Bool) (n : ℕ) → n < 2 ^ 18 → place_number Text * 2 ^ 18 + n ≤ word_number (static_section newer) start
 text_first true n h = omega arith
 text_first false n h = omega arith
@@ -203,7 +198,7 @@ module _ (text : List ℕ) (tables : Tables) (lines : List Line36) (uses : (end_
   are_good size =
       let least = leb-true (length (words_of parts)) (2 ^ 18) size in
       let sum = length-words_of parts in
-      let head = fixed (eqb (version_of newer) 2) in
+      let head = least_size (eqb (version_of newer) 2) in
       let good = relocations_good (omega arith) (omega arith) in
       let in_text : count_in Text (end_of text start lines) ≡ length words = places_count text tables Text lines refl in
       let low = bound_good text tables 0 start lines (omega arith) in

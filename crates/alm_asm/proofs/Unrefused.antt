@@ -1,11 +1,12 @@
 -- Where lines are not refused, nothing of them is.
 use Rattle.std.proofs.Common.{◌≡◌, ℕ, Bool, true, false, List, [], ◌∷◌, ◌++◌, Option, Some, None, is_some, refl, ap, ◌∙◌, true≢false}
+use Rattle.std.specs.Option.{option_or}
 use Rattle.alm_parse.specs.declared.args.Arg.{Arg}
 use Rattle.alm_parse.specs.declared.line.Line36.{Line36}
 use Rattle.obj36_parts.specs.declared.definition.Named.{Named}
 use Rattle.alm_lines.specs.Refusals.{sooner}
 use Rattle.alm_asm.specs.Definitions.{named_by, gives_entries, definitions_after, arg_refusal, names_refused, definitions_refused}
-use Rattle.alm_asm.specs.LineRefusals.{unless, otherwise, refusal_of_deed, line_refusal, lines_refusal}
+use Rattle.alm_asm.specs.LineRefusals.{unless, refusal_of_deed, line_refusal, lines_refusal}
 use Rattle.alm_parse.specs.SourceFields.{Source}
 use Rattle.alm_lines.specs.Spots.{start, below, end_of}
 use Rattle.alm_lines.specs.Layout.{layout_refusal}
@@ -32,9 +33,9 @@ names_first text symbols line is_entry done first [] e = e
 names_first text symbols line is_entry done first (arg ∷ arguments) e =
     (sooner_none first (arg_refusal text symbols line is_entry done arg) (names_first text symbols line is_entry (done ++ named_by text symbols is_entry arg) (sooner first (arg_refusal text symbols line is_entry done arg)) arguments e)).0
 
-pub otherwise_none : (a b : Option Refusal) → otherwise a b ≡ None → (a ≡ None) × (b ≡ None)
-otherwise_none None b e = (refl, e)
-otherwise_none (Some a) b e = absurd (true≢false (ap is_some e))
+pub either_none : (a b : Option Refusal) → option_or a b ≡ None → (a ≡ None) × (b ≡ None)
+either_none None b e = (refl, e)
+either_none (Some a) b e = absurd (true≢false (ap is_some e))
 
 pub line_parts : (text : List ℕ) (tables : Tables) (done : List Named) (spot : Spot) (line : Line36) → line_refusal text tables done spot line ≡ None
     → (definitions_refused text tables.symbols line done None line.args (gives_entries line.deed) ≡ None) × (refusal_of_deed text tables spot line line.deed ≡ None)
@@ -48,7 +49,7 @@ both_none : (text : List ℕ) (tables : Tables) (done : List Named) (spot : Spot
     → (line_refusal text tables done spot line ≡ None) × (lines_refusal text tables (definitions_after text tables.symbols done line) (below text spot line) lines ≡ None)
 unfolding lines_refusal
 both_none text tables done spot line lines e =
-    otherwise_none (line_refusal text tables done spot line) (lines_refusal text tables (definitions_after text tables.symbols done line) (below text spot line) lines) e
+    either_none (line_refusal text tables done spot line) (lines_refusal text tables (definitions_after text tables.symbols done line) (below text spot line) lines) e
 
 pub head_line : (text : List ℕ) (tables : Tables) (done : List Named) (spot : Spot) (line : Line36) (lines : List Line36)
     → lines_refusal text tables done spot (line ∷ lines) ≡ None → line_refusal text tables done spot line ≡ None
@@ -67,7 +68,7 @@ lines_above text tables done spot [] lines e = refl
 lines_above text tables done spot (line ∷ above) lines e =
     let parts = both_none text tables done spot line (above ++ lines) e in
     let rest : lines_refusal text tables (definitions_after text tables.symbols done line) (below text spot line) above ≡ None = lines_above text tables (definitions_after text tables.symbols done line) (below text spot line) above lines parts.1 in
-    ap (λ r. otherwise r (lines_refusal text tables (definitions_after text tables.symbols done line) (below text spot line) above)) parts.0 ∙ rest
+    ap (λ r. option_or r (lines_refusal text tables (definitions_after text tables.symbols done line) (below text spot line) above)) parts.0 ∙ rest
 
 -- nor the line below those
 pub line_below : (text : List ℕ) (tables : Tables) (done : List Named) (spot : Spot) (above : List Line36) (line : Line36) (others : List Line36)

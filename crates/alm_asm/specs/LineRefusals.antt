@@ -1,6 +1,7 @@
 -- What is refused of lines whose symbols are known.
 use Rattle.std.specs.Prelude.{ℕ, ◌+◌, Bool, true, false, not, ◌||◌, nat_lt, List, [], ◌∷◌, Option}
 use Rattle.std.specs.Prelude.{Some, None}
+use Rattle.std.specs.Option.{option_or}
 use Rattle.alm_tokens.specs.Tokens.{slice_of}
 use Rattle.alm_tokens.specs.declared.span.Span.{Span}
 use Rattle.alm_tokens.specs.declared.expression.Term.{Term}
@@ -158,17 +159,12 @@ line_refusal text tables done spot line =
     (definitions_refused text tables.symbols line done None line.args (gives_entries line.deed))
     (refusal_of_deed text tables spot line line.deed)
 
--- a refusal if there is one, or else another
-abbrev pub otherwise : Option Refusal → Option Refusal → Option Refusal
-otherwise (Some refusal) other = Some refusal
-otherwise None other = other
-
 -- The refusal of the first line that is refused: what is refused of a line stands in it, before all
 -- lines below.
 unfoldable pub lines_refusal : List ℕ → Tables → List Named → Spot → List Line36 → Option Refusal
 lines_refusal text tables done spot [] = None
 lines_refusal text tables done spot (line ∷ lines) =
-    otherwise
+    option_or
     (line_refusal text tables done spot line)
     (lines_refusal text tables
     (definitions_after text tables.symbols done line) (below text spot line) lines)

@@ -1,6 +1,6 @@
 //! Objects of lines.
 
-ghost use Rattle.std.specs.Prelude.{ℕ, Bool, List, [], ◌∷◌, ◌≡◌, ◌+◌, ◌%◌, ◌^◌, ◌<◌, length};
+ghost use Rattle.std.specs.Prelude.{ℕ, [], ◌≡◌, ◌+◌, ◌%◌, ◌^◌, ◌<◌, length};
 ghost use Rattle.std.specs.Prelude.{Option, None, OnOk, IfOk};
 ghost use Rattle.alm_parse.specs.Sources.{ParseSays};
 ghost use Rattle.alm_lines.specs.Spots.{start, HasRoom};

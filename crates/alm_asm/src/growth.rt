@@ -1,14 +1,13 @@
 //! How the definition, linkage and symbol sections grow with the lines, and the line with which one has too many words.
 
-ghost use Rattle.std.specs.Prelude.{ℕ, Bool, false, List, [], ◌∷◌, ◌++◌, ◌≡◌, ◌+◌, ◌*◌, ◌^◌, ◌<◌};
+ghost use Rattle.std.specs.Prelude.{ℕ, false, [], ◌∷◌, ◌≡◌, ◌+◌, ◌*◌, ◌^◌, ◌<◌};
 ghost use Rattle.std.specs.Prelude.{◌≤◌, length, if◌then◌else◌, Option, OnOk, IfOk};
-ghost use Rattle.std.specs.List.{list_any};
 ghost use Rattle.alm_lines.specs.Arguments.{first_arg};
 ghost use Rattle.alm_lines.specs.Spots.{start};
 ghost use Rattle.alm_asm.specs.Links.{operand_args};
 ghost use Rattle.alm_asm.specs.Definitions.{gives_entries};
 ghost use Rattle.alm_asm.specs.Growth.{IsLarger, at_first, with_name, with_names, with_definition};
-ghost use Rattle.alm_asm.specs.Growth.{with_unrefused, with_arg, with_args, with_definitions};
+ghost use Rattle.alm_asm.specs.Growth.{with_arg, with_args, with_definitions};
 ghost use Rattle.alm_asm.specs.Growth.{with_new_link, with_link_once, with_operand, with_link};
 ghost use Rattle.alm_asm.specs.Growth.{mark_count, operand_room, is_own, operand_count, half_count};
 ghost use Rattle.alm_asm.specs.Growth.{marks_count, with_marks, grown_by, is_over, growth_refusal};

@@ -1,6 +1,6 @@
 //! What is refused of lines whose symbols are known.
 
-ghost use Rattle.std.specs.Prelude.{ℕ, Bool, List, [], ◌∷◌, ◌≡◌, ◌+◌, ◌^◌, ◌<◌, ◌≤◌, length};
+ghost use Rattle.std.specs.Prelude.{ℕ, [], ◌≡◌, ◌+◌, ◌^◌, ◌<◌, ◌≤◌, length};
 ghost use Rattle.std.specs.Prelude.{Option, None, OnOk, IfOk};
 ghost use Rattle.alm_lines.specs.Arguments.{first_arg};
 ghost use Rattle.alm_lines.specs.Spots.{start};

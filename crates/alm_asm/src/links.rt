@@ -1,29 +1,25 @@
 //! Links: the external operands of instructions, each once, in the order of their first use.
 
-ghost use Rattle.std.specs.Prelude.{ℕ, List, [], ◌∷◌, ◌++◌, ◌≡◌, ◌^◌, ◌<◌, ◌≤◌, length, Option};
-ghost use Rattle.std.specs.Prelude.{OnOk, IfOk};
-ghost use Rattle.std.specs.List.{list_any, position};
+ghost use Rattle.std.specs.Prelude.{ℕ, [], ◌≡◌, ◌^◌, ◌<◌, ◌≤◌, length, Option};
+ghost use Rattle.std.specs.Prelude.{OnOk};
 ghost use Rattle.alm_lines.specs.Arguments.{first_arg};
-ghost use Rattle.alm_lines.specs.Spots.{start};
 ghost use Rattle.alm_lines.specs.Arguments.{name_at};
 ghost use Rattle.alm_asm.specs.Words.{same_section};
 ghost use Rattle.alm_asm.specs.Links.{link_kind, link_section, link_name, entry_name};
 ghost use Rattle.alm_asm.specs.Links.{link_of, operand_args, link_by, link_in, with_link};
-ghost use Rattle.alm_asm.specs.Links.{links_after, links_from, link_place};
-ghost use Rattle.obj36_parts.specs.Indexes.{same_link};
+ghost use Rattle.alm_asm.specs.Links.{links_after, link_place};
 
 use alm_lines::arguments::name_at;
 use alm_lines::count::Count;
 use alm_lines::expression::sum_of;
 use alm_lines::refusal::{Room, has_value};
-use alm_lines::spot::{Spot, below};
+use alm_lines::spot::Spot;
 use alm_lines::symbols::Symbols;
 use alm_parse::{Arg, Deed, Line36, Span, Term, own_section};
 use m36_text::Name;
 use m36_word::NoMemory;
 use obj36::{Link, Links, Section};
 use obj36_parts::sections::number;
-use std::alloc::Global;
 
 fn link_kind(own: Option<Section>, entry: Option<Span>) -> u8
     ensures { result ≡ link_kind own entry }

@@ -1,12 +1,12 @@
 //! The words that lines place.
 
-ghost use Rattle.std.specs.Prelude.{ℕ, Bool, List, [], ◌∷◌, ◌++◌, ◌≡◌, ◌+◌, ◌*◌, ◌%◌, ◌^◌, ◌<◌};
+ghost use Rattle.std.specs.Prelude.{ℕ, [], ◌++◌, ◌≡◌, ◌+◌, ◌*◌, ◌%◌, ◌^◌, ◌<◌};
 ghost use Rattle.std.specs.Prelude.{◌≤◌, length, Option, OnOk, IfOk};
-ghost use Rattle.alm_lines.specs.Arguments.{first_arg, second_arg, terms_in};
+ghost use Rattle.alm_lines.specs.Arguments.{first_arg};
 ghost use Rattle.alm_lines.specs.Spots.{start};
 ghost use Rattle.alm_lines.specs.Sums.{half_of, offset_of};
 ghost use Rattle.alm_asm.specs.Links.{link_of, link_place};
-ghost use Rattle.alm_asm.specs.Words.{plain_inst, pointed_inst, own_inst, inst_by, inst_in};
+ghost use Rattle.alm_asm.specs.Words.{plain_inst, pointed_inst, own_inst, inst_in};
 ghost use Rattle.alm_asm.specs.Words.{instruction_word, halves_word, words_by, words_of_line};
 ghost use Rattle.alm_asm.specs.Words.{words_from};
 
