@@ -3,6 +3,7 @@ use Rattle.std.specs.Prelude.{ℕ, Bool, List, [], ◌∷◌, ◌++◌, Option, 
 use Rattle.std.specs.Prelude.{if◌then◌else◌, ◌==◌}
 use Rattle.std.specs.List.{join_with_byte}
 use Rattle.m36_text.specs.Digits.{octal_text, decimal_text}
+use Rattle.m36_model.specs.Faults.{access_violation}
 use Rattle.m36_model.specs.Fields.{AtFields, FinalFields}
 use Rattle.m36_model.specs.declared.registers.Ind.{Ind}
 use Rattle.m36_model.specs.declared.outcome.Fault.{Fault}
@@ -48,7 +49,7 @@ indicators_text i =
 -- a fault by its number, and an access violation by its own number too
 abbrev pub fault_text : Fault → List ℕ
 fault_text f =
-    if f.number == 20
+    if f.number == access_violation
     then codes "fault " ++ decimal_text f.number ++ codes "." ++ decimal_text f.acv
     else codes "fault " ++ decimal_text f.number
 

@@ -12,11 +12,14 @@ use m36_model::{At, Fault, Final, Ind, Outcome, Stop};
 use m36_text::decimal;
 use m36_word::Word;
 
+/// The number of an access violation.
+const ACCESS_VIOLATION: u8 = 20;
+
 /// Puts a ring, which has one digit.
 #[tactic(auto, using(m36_text::proofs::DigitLaws::octal_ascii))]
-pub fn put_ring(line: &mut ArrayString<160>, ring: u8)
+pub fn put_ring<const CAP: usize>(line: &mut ArrayString<CAP>, ring: u8)
     requires ring { ring < 2 ^ 3 }
-    requires room { length line.old.bytes < 160 }
+    requires room { length line.old.bytes < CAP }
     ensures text { line.new.bytes ≡ line.old.bytes ++ octal_text 1 ring }
     ensures len { length line.new.bytes ≡ length line.old.bytes + 1 }
 {
@@ -57,9 +60,9 @@ pub fn put_instruction(line: &mut ArrayString<160>, word: Option<Word>)
     }
 }
 
-/// Puts an address with its ring.
-pub fn put_address(line: &mut ArrayString<160>, at: At)
-    requires room { length line.old.bytes + 14 ≤ 160 }
+/// Puts an address with its ring, at the end of any text that has room for them.
+pub fn put_address<const CAP: usize>(line: &mut ArrayString<CAP>, at: At)
+    requires room { length line.old.bytes + 14 ≤ CAP }
     ensures text { line.new.bytes ≡ line.old.bytes ++ address_text at }
     ensures len { length line.new.bytes ≡ length line.old.bytes + 14 }
 {
@@ -136,7 +139,7 @@ pub fn put_fault(line: &mut ArrayString<160>, fault: Fault)
 {
     line.push_str("fault ");
     put_decimal(line, fault.number as u64);
-    if fault.number == 20 {
+    if fault.number == ACCESS_VIOLATION {
         line.push_str(".");
         put_decimal(line, fault.acv as u64);
     }
