@@ -1,8 +1,9 @@
 -- What a look for a descriptor tells, and the conditions on one segment by it.
-use Rattle.std.specs.Prelude.{◌≡◌, ℕ, Bool, false, not, ◌&&◌, ◌==◌, nat_lt, Option, Some, None}
+use Rattle.std.specs.Prelude.{◌≡◌, ℕ, Bool, false, not, ◌&&◌, nat_lt, Option, Some, None}
 use Rattle.std.specs.Prelude.{Result, Ok}
 use Rattle.m36_desc.specs.Fields.{SdwFields}
 use Rattle.m36_desc.specs.Access.{in_order}
+use Rattle.m36_model.specs.Audit.{is_stack_of}
 
 -- A value is found exactly where the definition gives one, and it is that one.
 abbrev pub Tells : {A E : Type 0} → Option A → Result A E → Type 0
@@ -26,4 +27,4 @@ enterable (Some d) = callable d && d.no_gate
 -- the segment is a stack of the ring
 abbrev pub serves : ℕ → Option SdwFields → Bool
 serves ring None = false
-serves ring (Some d) = (d.readable && d.writable) && (d.r1 == ring && d.r2 == ring)
+serves ring (Some d) = is_stack_of ring (Ok d)
