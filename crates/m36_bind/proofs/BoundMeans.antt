@@ -1,14 +1,13 @@
 -- What was bound means what its components meant.
-use Rattle.std.proofs.Common.{ℕ, zero, suc, ◌≡◌, ◌+◌, ◌*◌, ◌%◌, ◌^◌, ◌<◌, ◌≤◌, Bool, true, false, cond, ◌||◌, ◌&&◌, eqb, List, [], ◌∷◌, length, Option, Some, Result, Ok, Err, refl, sym, ap, subst, ◌∙◌, arith}
-use Rattle.std.specs.Prelude.{slice_index, slice_get, IfOk}
+use Rattle.std.proofs.Common.{ℕ, zero, suc, ◌≡◌, ◌+◌, ◌≤◌, Bool, true, false, cond, ◌||◌, eqb, List, [], ◌∷◌, length, Some, Result, Ok, Err, refl, sym, ap, subst, ◌∙◌, arith}
+use Rattle.std.specs.Prelude.{slice_index, IfOk}
 use Rattle.std.specs.List.{list_any, Contains}
 use Rattle.std.proofs.lemmas.Bool.{and_parts}
-use Rattle.obj36_parts.specs.Fields.{LinkFields, RelocFields}
 use Rattle.obj36_parts.specs.PartsFields.{PartsFields}
 use Rattle.obj36_parts.specs.ObjectSegment.{is_well_formed, definition_names}
 use Rattle.obj36_parts.specs.declared.definition.Named.{Named}
 use Rattle.obj36_parts.proofs.Formed.{is_formed}
-use Rattle.obj36_parts.proofs.LengthLaws.{length-words_of}
+use Rattle.obj36_parts.proofs.LengthLaws.{length-words_of, least_size}
 use Rattle.m36_bindfile.specs.declared.fault.BindFault.{BindFault}
 use Rattle.m36_bindfile.specs.declared.fault.BindFault.TheVariants as fault
 use Rattle.m36_bindfile.specs.declared.line.BindLine.{BindLine}
@@ -20,7 +19,7 @@ use Rattle.m36_relocate.specs.Words.{words_in, all_fit}
 use Rattle.m36_bind.specs.Components.{PlacedFields, moving, picked_of}
 use Rattle.m36_bind.specs.Kept.{exports_from, kept_from}
 use Rattle.m36_bind.specs.Links.{link_moved}
-use Rattle.m36_bind.specs.Bound.{is_newer_component, statics_end, links_end, frame_of, component_words, laid_from, relocations_from, first_bound, bound_parts, component_fits, components_fit, sections_fit, made_of, bound_of_components, bound_of_lines, bound_of}
+use Rattle.m36_bind.specs.Bound.{is_newer_component, links_end, frame_of, laid_from, relocations_from, first_bound, bound_parts, component_fits, components_fit, sections_fit, made_of, bound_of_components, bound_of_lines, bound_of}
 use Rattle.m36_bind.specs.Meaning.{AreInOrder, IsOutside, start_in, IsMovedWord, WordsStand, LinksStand, DefinitionSource, BoundMeaning, AreObjects}
 use Rattle.m36_bind.proofs.MovedWords.{word_by, word_at}
 use Rattle.m36_bind.proofs.LaidWords.{laid_at, laid_gap, laid_within, statics_long, links_within, words_count}
@@ -34,10 +33,6 @@ use Rattle.m36_bind.proofs.PickedOrder.{went, ArePicked, picked_are}
 newer_is : (b : Bool) → b ≡ eqb (cond b 2 1) 2
 newer_is true = refl
 newer_is false = refl
-
-least_size : (b : Bool) → 18 ≤ cond b 19 18
-least_size true = omega arith
-least_size false = omega arith
 
 shaped_in : (b : BasesFields) (all : List PlacedFields) (p : PlacedFields) → AreInOrder b all → Contains all p → p.shape ≡ shape_of p.parts
 unfolding AreInOrder

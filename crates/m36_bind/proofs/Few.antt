@@ -1,5 +1,5 @@
 -- The parts of an object are few.
-use Rattle.std.proofs.Common.{◌≡◌, ◌≤◌, ◌^◌, true, length, sym, subst, arith}
+use Rattle.std.proofs.Common.{◌≡◌, true, sym, subst, arith}
 use Rattle.obj36_parts.specs.PartsFields.{PartsFields}
 use Rattle.obj36_parts.specs.ObjectSegment.{is_well_formed}
 use Rattle.obj36_parts.proofs.Formed.{is_formed}

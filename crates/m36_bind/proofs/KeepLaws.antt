@@ -1,5 +1,5 @@
 -- Definitions that are kept line by line.
-use Rattle.std.proofs.Common.{ℕ, ◌≡◌, ◌+◌, Bool, true, false, cond, ◌||◌, List, [], ◌∷◌, ◌++◌, Option, Some, None, Result, Ok, Err, refl, sym, ap, ◌∙◌}
+use Rattle.std.proofs.Common.{ℕ, ◌≡◌, ◌+◌, Bool, false, cond, ◌||◌, List, [], ◌∷◌, ◌++◌, Some, Result, Ok, Err, sym, ap, ◌∙◌}
 use Rattle.std.specs.List.{list_any}
 use Rattle.obj36_parts.specs.Names.{same}
 use Rattle.obj36_parts.specs.declared.definition.Named.{Named}

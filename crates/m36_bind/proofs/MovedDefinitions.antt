@@ -1,6 +1,7 @@
 -- The definitions of the bound object are those of the retained names.
-use Rattle.std.proofs.Common.{ℕ, zero, suc, ◌≡◌, ◌+◌, ◌<◌, inl, inr, Bool, true, false, cond, ◌||◌, List, [], ◌∷◌, ◌++◌, length, Option, Some, None, Result, Ok, Err, refl, sym, ap, subst, ◌∙◌, arith, true≢false}
+use Rattle.std.proofs.Common.{ℕ, zero, suc, ◌≡◌, ◌+◌, inl, inr, Bool, true, false, cond, ◌||◌, List, [], ◌∷◌, ◌++◌, Option, Some, None, Result, Ok, Err, refl, sym, ap, subst, ◌∙◌, arith, true≢false}
 use Rattle.std.specs.Prelude.{◌⊎◌}
+use Rattle.std.proofs.lemmas.List.Elements.{Contains-push_cases}
 use Rattle.std.specs.List.{list_any, Contains}
 use Rattle.std.specs.Map.{lookup}
 use Rattle.std.proofs.lemmas.List.{append-nil, append_assoc}
@@ -21,11 +22,10 @@ use Rattle.m36_relocate.specs.Layout.{shape_of}
 use Rattle.m36_relocate.specs.Exports.{export_named, export_behind, with_export, is_symbol, def_moved, with_moved, moved_from}
 use Rattle.m36_text.specs.Results.{and_then}
 use Rattle.m36_bind.specs.Components.{PlacedFields, moving}
-use Rattle.m36_bind.specs.Kept.{exports_from, kept_one, kept_line, kept_from}
+use Rattle.m36_bind.specs.Kept.{exports_from, kept_one, kept_from}
 use Rattle.m36_bind.specs.Meaning.{DefinitionSource}
 use Rattle.m36_relocate.specs.declared.exports.Export.{Export}
 use Rattle.m36_bind.proofs.Images.{IsWithin, spot_names}
-use Rattle.m36_bind.proofs.MovedRelocations.{either_in}
 
 -- ---- tables
 
@@ -173,7 +173,7 @@ kept_sound frame all exports kept new n (line.Retain name ∷ lines) sound are e
     added x true found go e = absurd cc
     added x false found go e =
         let one : Named = record { name = name; def = x.def } in
-        go (kept ++ one ∷ []) (λ d among. either d (either_in kept one d among)) e
+        go (kept ++ one ∷ []) (λ d among. either d (Contains-push_cases kept one d among)) e
       where
         either : (d : Named) → Contains kept d ⊎ (record { name = name; def = x.def } ≡ d) → IsDefined frame all d.name d.def
         either d (inl old) = are d old

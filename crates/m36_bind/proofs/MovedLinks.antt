@@ -1,22 +1,19 @@
 -- The links of the bound object are those of its components, each in its place.
-use Rattle.std.proofs.Common.{ℕ, zero, suc, ◌≡◌, ◌+◌, ◌<◌, ◌≤◌, Bool, true, false, cond, eqb, List, [], ◌∷◌, ◌++◌, length, Option, Some, None, refl, sym, ap, subst, ◌∙◌, arith, true≢false}
+use Rattle.std.proofs.Common.{ℕ, zero, suc, ◌≡◌, ◌+◌, cond, eqb, List, [], ◌∷◌, ◌++◌, length, Option, Some, None, refl, sym, ap, ◌∙◌, arith}
 use Rattle.std.specs.Prelude.{slice_get, position}
 use Rattle.std.specs.List.{Contains}
 use Rattle.std.proofs.lemmas.List.{length-append}
-use Rattle.std.proofs.lemmas.Bool.{eq-eqb}
 use Rattle.obj36_parts.specs.Fields.{LinkFields}
 use Rattle.obj36_parts.specs.PartsFields.{PartsFields}
 use Rattle.obj36_parts.specs.Names.{same}
 use Rattle.obj36_parts.specs.ObjectSegment.{later_section}
-use Rattle.obj36_parts.specs.declared.section.Section.TheVariants.{Text}
 use Rattle.m36_relocate.specs.Fields.{ShapeFields, BasesFields}
-use Rattle.m36_relocate.specs.Layout.{shape_of, bases_behind, spot, spot_moved}
+use Rattle.m36_relocate.specs.Layout.{shape_of, bases_behind, spot_moved}
 use Rattle.m36_relocate.specs.Exports.{export_named}
 use Rattle.m36_bind.specs.Components.{PlacedFields, moving, names_of, placed_at, component_named}
-use Rattle.m36_bind.specs.Links.{own_link, farther, segment_link, entry_link, outer_link, inner_link, link_moved, links_onto, links_from}
+use Rattle.m36_bind.specs.Links.{own_link, segment_link, entry_link, outer_link, inner_link, link_moved, links_onto, links_from}
 use Rattle.m36_bind.specs.Bound.{links_end}
-use Rattle.m36_bind.specs.Meaning.{AreInOrder, LinksTo, LinksAt, IsUndefined, IsMovedLink, LinksStand}
-use Rattle.m36_relocate.specs.declared.exports.Export.{Export}
+use Rattle.m36_bind.specs.Meaning.{AreInOrder, IsMovedLink}
 use Rattle.m36_bind.proofs.Images.{IsWithin, spot_names}
 use Rattle.m36_bind.proofs.PickedOrder.{got}
 

@@ -1,38 +1,19 @@
 -- The relocations of the bound object are those of its components.
-use Rattle.std.proofs.Common.{ℕ, zero, suc, ◌≡◌, ◌+◌, ◌<◌, ◌≤◌, inl, inr, Bool, true, false, cond, not, List, [], ◌∷◌, ◌++◌, length, get_or, refl, sym, ap, subst, ◌∙◌, arith}
+use Rattle.std.proofs.Common.{ℕ, zero, suc, ◌≡◌, ◌+◌, inl, inr, Bool, true, false, cond, not, List, [], ◌∷◌, ◌++◌, refl, sym, subst, arith}
 use Rattle.std.specs.Prelude.{◌⊎◌}
 use Rattle.std.specs.List.{Contains}
-use Rattle.std.proofs.lemmas.List.{length-append, get_or_append_left, get_or_at, get_or-append_right}
+use Rattle.std.proofs.lemmas.List.Elements.{Contains-append_left, Contains-push, Contains-push_cases}
 use Rattle.obj36_parts.specs.Fields.{RelocFields}
 use Rattle.obj36_parts.specs.PartsFields.{PartsFields}
 use Rattle.obj36_parts.specs.ObjectSegment.{is_text_section}
 use Rattle.m36_relocate.specs.Fields.{ShapeFields}
-use Rattle.m36_relocate.specs.Layout.{shape_of, spot_moved}
+use Rattle.m36_relocate.specs.Layout.{shape_of}
 use Rattle.m36_relocate.specs.Words.{stands_in}
 use Rattle.m36_bind.specs.Components.{PlacedFields, moving}
 use Rattle.m36_bind.specs.Bound.{relocation_moved, with_relocation, relocations_onto, relocations_from}
-use Rattle.m36_bind.specs.Meaning.{NamesImage, IsMovedRelocation, MovedRelocation, RelocationSource}
+use Rattle.m36_bind.specs.Meaning.{IsMovedRelocation, MovedRelocation, RelocationSource}
 use Rattle.m36_relocate.specs.declared.layout.Moving.{Moving}
 use Rattle.m36_bind.proofs.Images.{IsWithin, spot_names}
-
--- ---- members of a list with one more
-
-pub kept_in : {A : Type 0} (xs : List A) (y x : A) → Contains xs x → Contains (xs ++ y ∷ []) x
-kept_in xs y x among =
-    (among.0, (let long : length (xs ++ y ∷ []) ≡ length xs + 1 = length-append xs (y ∷ []) in omega (arith, long, among.1)), get_or_append_left xs (y ∷ []) x among.0 among.1 ∙ among.2)
-
-pub last_in : {A : Type 0} (xs : List A) (x : A) → Contains (xs ++ x ∷ []) x
-last_in xs x = (length xs, (let long : length (xs ++ x ∷ []) ≡ length xs + 1 = length-append xs (x ∷ []) in omega (arith, long)), get_or_at xs x [] x (length xs) refl)
-
-pub either_in : {A : Type 0} (xs : List A) (y x : A) → Contains (xs ++ y ∷ []) x → Contains xs x ⊎ (y ≡ x)
-either_in [] y x (zero, lt, same) = inr same
-either_in [] y x (suc k, lt, same) = absurd (omega (arith, lt))
-either_in (z ∷ xs) y x (zero, lt, same) = inl (zero, omega arith, same)
-either_in {A} (z ∷ xs) y x (suc k, lt, same) = by (either_in xs y x (k, omega (arith, lt), same))
-  where
-    by : Contains xs x ⊎ (y ≡ x) → Contains (z ∷ xs) x ⊎ (y ≡ x)
-    by (inl (j, small, e)) = inl (suc j, omega (arith, small), e)
-    by (inr e) = inr e
 
 module _ (m : Moving) (statics : Bool) where
   onto_keeps : (done rs : List RelocFields) (x : RelocFields) → Contains done x → Contains (relocations_onto m statics done rs) x
@@ -41,7 +22,7 @@ module _ (m : Moving) (statics : Bool) where
   onto_keeps done (r ∷ rs) x among = onto_keeps (with_relocation m statics done r) rs x (by (stands_in statics r))
     where
       by : (b : Bool) → Contains (cond b (done ++ relocation_moved m r ∷ []) done) x
-      by true = kept_in done (relocation_moved m r) x among
+      by true = Contains-append_left done (relocation_moved m r ∷ []) x among
       by false = among
 
   onto_has : (done rs : List RelocFields) (r : RelocFields) → Contains rs r → stands_in statics r ≡ true → Contains (relocations_onto m statics done rs) (relocation_moved m r)
@@ -50,7 +31,7 @@ module _ (m : Moving) (statics : Bool) where
   onto_has done (s ∷ rs) r (zero, lt, same) stands =
       onto_keeps (with_relocation m statics done s) rs (relocation_moved m r)
       (subst (λ (x : RelocFields). Contains (with_relocation m statics done x) (relocation_moved m r)) (sym same)
-      (subst (λ b. Contains (cond b (done ++ relocation_moved m r ∷ []) done) (relocation_moved m r)) (sym stands) (last_in done (relocation_moved m r))))
+      (subst (λ b. Contains (cond b (done ++ relocation_moved m r ∷ []) done) (relocation_moved m r)) (sym stands) (Contains-push done (relocation_moved m r))))
   onto_has done (s ∷ rs) r (suc k, lt, same) stands = onto_has (with_relocation m statics done s) rs r (k, omega (arith, lt), same) stands
 
   -- a relocation that was there, or that stands for one of these
@@ -63,7 +44,7 @@ module _ (m : Moving) (statics : Bool) where
   onto_only done (r ∷ rs) x among = by (onto_only (with_relocation m statics done r) rs x among)
     where
       first : (b : Bool) → Contains (cond b (done ++ relocation_moved m r ∷ []) done) x → IsFrom done (r ∷ rs) x
-      first true there = one (either_in done (relocation_moved m r) x there)
+      first true there = one (Contains-push_cases done (relocation_moved m r) x there)
         where
           one : Contains done x ⊎ (relocation_moved m r ≡ x) → IsFrom done (r ∷ rs) x
           one (inl old) = inl old

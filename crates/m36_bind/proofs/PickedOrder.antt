@@ -1,5 +1,5 @@
 -- The components that lines name stand in order, and each is an object.
-use Rattle.std.proofs.Common.{ℕ, zero, suc, ◌≡◌, ◌+◌, ◌<◌, Bool, true, false, cond, List, [], ◌∷◌, ◌++◌, length, Option, Some, None, Result, Ok, Err, refl, sym, ap, subst, ◌∙◌, arith}
+use Rattle.std.proofs.Common.{ℕ, zero, suc, ◌≡◌, ◌+◌, Bool, true, false, cond, List, [], ◌∷◌, ◌++◌, Option, Some, None, Result, Ok, Err, refl, sym, ap, subst, ◌∙◌, arith}
 use Rattle.std.specs.Prelude.{position, slice_get}
 use Rattle.std.specs.List.{list_any, Contains}
 use Rattle.obj36_parts.specs.PartsFields.{PartsFields}
@@ -9,12 +9,12 @@ use Rattle.m36_bindfile.specs.declared.fault.BindFault.{BindFault}
 use Rattle.m36_bindfile.specs.declared.fault.BindFault.TheVariants as fault
 use Rattle.m36_bindfile.specs.declared.line.BindLine.{BindLine}
 use Rattle.m36_bindfile.specs.declared.line.BindLine.TheVariants as line
-use Rattle.m36_relocate.specs.Fields.{ShapeFields, BasesFields}
+use Rattle.m36_relocate.specs.Fields.{BasesFields}
 use Rattle.m36_bind.specs.Given.{GivenFields, object_at, object_named}
 use Rattle.m36_relocate.specs.Layout.{shape_of, bases_behind, first_bases}
 use Rattle.m36_relocate.specs.Exports.{own_from}
 use Rattle.m36_text.specs.Results.{and_then}
-use Rattle.m36_bind.specs.Components.{PlacedFields, AllFields, component, with_component, no_components, names_of, placed_in, picked_one, picked_line, picked_from, picked_of}
+use Rattle.m36_bind.specs.Components.{PlacedFields, AllFields, component, with_component, no_components, names_of, placed_in, picked_one, picked_from, picked_of}
 use Rattle.m36_bind.specs.Meaning.{AreInOrder}
 
 pub went : {A B : Type 0} (d : Result A BindFault) (f : A → Result B BindFault) (o : B) → and_then d f ≡ Ok o → (a : A) × (d ≡ Ok a) × (f a ≡ Ok o)

@@ -1,5 +1,5 @@
 -- What the moved words of components name.
-use Rattle.std.proofs.Common.{ℕ, zero, suc, ◌≡◌, ◌+◌, ◌-◌, ◌*◌, ◌%◌, ◌^◌, ◌<◌, ◌≤◌, Bool, true, false, cond, ◌&&◌, ◌||◌, eqb, ltb, leb, not, List, [], ◌∷◌, length, refl, sym, ap, subst, ◌∙◌, arith, true≢false}
+use Rattle.std.proofs.Common.{ℕ, zero, suc, ◌≡◌, ◌+◌, ◌-◌, ◌*◌, ◌%◌, ◌^◌, ◌<◌, ◌≤◌, Bool, true, false, cond, ◌&&◌, eqb, ltb, leb, not, List, [], ◌∷◌, length, refl, sym, ap, ◌∙◌, arith, true≢false}
 use Rattle.std.specs.Prelude.{slice_index}
 use Rattle.std.specs.List.{list_all, Contains}
 use Rattle.std.proofs.lemmas.Bool.{and_parts, eqb-true, ltb-true, leb-true, eq-eqb, lt-ltb, le-ltb, cond-true, cond-false}
@@ -11,9 +11,9 @@ use Rattle.obj36_parts.specs.declared.section.Section.TheVariants.{Text, Linkage
 use Rattle.obj36_parts.proofs.Formed.{is_formed}
 use Rattle.m36_relocate.specs.Fields.{ShapeFields}
 use Rattle.m36_relocate.specs.Layout.{shape_of, meant, number_moved}
-use Rattle.m36_relocate.specs.Words.{stands_in, start_of, place_in, words_in, words_moved, offset_in, offset_raised, below_zero, part_fits, one_fits, all_fit}
+use Rattle.m36_relocate.specs.Words.{stands_in, place_in, words_in, offset_in, offset_raised, below_zero, part_fits, one_fits, all_fit}
 use Rattle.m36_bind.specs.Components.{PlacedFields, moving}
-use Rattle.m36_bind.specs.Meaning.{part_of, overlap, Moves, NamesImage, IsMovedWord}
+use Rattle.m36_bind.specs.Meaning.{part_of, overlap, Moves, IsMovedWord}
 use Rattle.m36_relocate.specs.declared.layout.Moving.{Moving}
 use Rattle.m36_bind.proofs.WordParts.{cut_to, number_put}
 use Rattle.m36_bind.proofs.MovedWords.{at, word_by, word_kept, word_part, AreApart, AreOf, rising_apart}

@@ -4,9 +4,9 @@
 -- A part of a word that a relocation names, a link to a place and a definition name in the bound
 -- object the image of what they named in their component. All else is as it was, and nothing else
 -- stands there but the zero words that even.
-use Rattle.std.specs.Prelude.{ℕ, ◌≡◌, ◌+◌, ◌-◌, ◌*◌, ◌/◌, ◌%◌, ◌^◌, ◌<◌, ◌≤◌, ◌⊎◌, zero, suc, Bool}
+use Rattle.std.specs.Prelude.{ℕ, ◌≡◌, ◌+◌, ◌-◌, ◌*◌, ◌%◌, ◌^◌, ◌<◌, ◌≤◌, ◌⊎◌, zero, suc, Bool}
 use Rattle.std.specs.Prelude.{true, false, ◌||◌, nat_lt, nat_eq, if◌then◌else◌, List, [], ◌∷◌}
-use Rattle.std.specs.Prelude.{length, slice_index, slice_get, Option, Some, None, Result, Ok}
+use Rattle.std.specs.Prelude.{length, slice_index, slice_get, Some, None, Ok}
 use Rattle.std.specs.List.{Contains, list_any}
 use Rattle.obj36_parts.specs.Fields.{DefFields, RelocFields, LinkFields}
 use Rattle.obj36_parts.specs.PartsFields.{PartsFields}
@@ -17,7 +17,7 @@ use Rattle.obj36_parts.specs.declared.section.Section.{Section}
 use Rattle.obj36_parts.specs.declared.section.Section.TheVariants.{Text}
 use Rattle.m36_bindfile.specs.declared.line.BindLine.{BindLine}
 use Rattle.m36_bindfile.specs.BindFile.{bind_lines, asks_newer, retained_names}
-use Rattle.m36_relocate.specs.Fields.{ShapeFields, BasesFields}
+use Rattle.m36_relocate.specs.Fields.{BasesFields}
 use Rattle.m36_relocate.specs.Layout.{shape_of, first_bases, bases_behind, meant, spot}
 use Rattle.m36_relocate.specs.declared.layout.Meant.{Meant}
 use Rattle.m36_relocate.specs.declared.layout.Meant.TheVariants.{TextWord, StaticWord, LinkWord}

@@ -2,7 +2,6 @@
 
 ghost use Rattle.std.specs.Prelude.{◌≡◌, ◌^◌, ◌<◌, length, IfOk};
 ghost use Rattle.m36_bindfile.specs.BindFile.{asks_newer, is_version, BindSays};
-ghost use Rattle.std.specs.List.{list_any};
 ghost use Rattle.m36_bind.specs.Bound.{bound_parts, made, made_of, bound_of_components, bound_of_lines, bound_of};
 ghost use Rattle.m36_bind.specs.Meaning.{AreObjects, BoundMeaning};
 

@@ -1,6 +1,6 @@
 //! Whether all parts fit where they go.
 
-ghost use Rattle.std.specs.Prelude.{◌≡◌, ◌&&◌, ◌≤◌, ◌^◌, ◌-◌, nat_le, length};
+ghost use Rattle.std.specs.Prelude.{◌≡◌, ◌&&◌, ◌-◌};
 ghost use Rattle.obj36_parts.specs.ObjectSegment.{definition_section};
 ghost use Rattle.m36_bind.specs.Bound.{component_fits, components_fit, sections_fit, section_fits};
 

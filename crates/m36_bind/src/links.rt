@@ -1,7 +1,7 @@
 //! The links of the bound object.
 
-ghost use Rattle.std.specs.Prelude.{ℕ, ◌≡◌, ◌+◌, ◌%◌, ◌^◌, ◌<◌, [], ◌∷◌, ◌++◌, OnOk, IfOk, option_map};
-ghost use Rattle.m36_bind.specs.Components.{PlacedFields, moving};
+ghost use Rattle.std.specs.Prelude.{ℕ, ◌≡◌, ◌+◌, ◌%◌, ◌^◌, ◌<◌, [], OnOk, IfOk, option_map};
+ghost use Rattle.m36_bind.specs.Components.{moving};
 ghost use Rattle.m36_relocate.specs.Layout.{spot_moved};
 ghost use Rattle.m36_bind.specs.Links.{own_link, farther, segment_link, entry_link, outer_link, inner_link, link_moved, links_onto, links_from};
 

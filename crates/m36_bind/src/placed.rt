@@ -2,7 +2,6 @@
 
 ghost use Rattle.std.specs.Prelude.{ℕ, ◌≡◌, ◌+◌, ◌*◌, ◌^◌, ◌<◌, ◌≤◌, false, [], ◌∷◌, ◌++◌, length, Some, IfOk, OnOk, option_map};
 ghost use Rattle.std.specs.List.{list_any};
-ghost use Rattle.std.specs.Vec.{vec_len, vec_capacity};
 ghost use Rattle.obj36_parts.specs.Names.{same};
 ghost use Rattle.obj36_parts.specs.ObjectSegment.{is_newer};
 ghost use Rattle.m36_relocate.specs.Exports.{own_from};
@@ -19,6 +18,7 @@ use m36_text::Name;
 use m36_word::NoMemory;
 use obj36::Object;
 use obj36_parts::Parts;
+use obj36_parts::definition::put;
 use std::alloc::Global;
 use std::marker::Model;
 
@@ -61,17 +61,6 @@ impl<'a> Model for Components<'a> {
     ghost view = { λ c. c.items.items };
 
     ghost invariant = { λ c. c.names.keys ≡ names_of c.items.items };
-}
-
-// Adds an item where there is room for it.
-fn put<T: Drop>(items: &mut Vec<T>, x: T)
-    requires { vec_len items.old < vec_capacity items.old }
-    ensures { items.new.items ≡ items.old.items ++ x ∷ [] }
-{
-    match items.push(x) {
-        Ok(()) => {}
-        Err(_) => unreachable!(),
-    }
 }
 
 // How the places of a component go into a bound object of a shape.
