@@ -1,6 +1,6 @@
 //! Parts of words that move: halves, and bits 3 to 17.
 
-ghost use Rattle.std.specs.Prelude.{ℕ, ◌≡◌, ◌+◌, ◌-◌, ◌*◌, ◌/◌, ◌%◌, ◌^◌, ◌<◌, ◌≤◌, length, slice_index, slice_set};
+ghost use Rattle.std.specs.Prelude.{ℕ, ◌≡◌, ◌+◌, ◌-◌, ◌*◌, ◌/◌, ◌%◌, ◌^◌, ◌<◌, slice_index};
 ghost use Rattle.m36_relocate.specs.Words.{offset_in, with_offset, below_zero, offset_raised, word_moved, part_fits, stands_in, start_of, place_in, moved_at, one_moved, words_moved, one_fits, all_fit};
 
 use crate::layout::{Bases, Moving, Shape, number_moved};
