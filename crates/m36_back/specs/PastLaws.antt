@@ -7,7 +7,7 @@ use Rattle.m36_step.specs.declared.turns.Turn.TheVariants.{Stepped, Linked, Cons
 use Rattle.m36_step.specs.declared.turns.Turn.TheVariants.{NoMemory}
 use Rattle.m36_step.specs.declared.turns.BackAnswer.{BackAnswer}
 use Rattle.m36_step.specs.declared.turns.BackAnswer.TheVariants as back
-use Rattle.m36_back.specs.History.{History, standing_at, past_answer, PastTurns, PastWent}
+use Rattle.m36_back.specs.History.{History, standing_at, PastTurns, PastWent}
 
 -- whoever has not gone back stays
 pub past_stays :
