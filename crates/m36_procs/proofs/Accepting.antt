@@ -1,9 +1,9 @@
 -- A text of processes, by its first line and the lines behind it.
 use Rattle.std.proofs.Common.{◌≡◌, ℕ, ◌*◌, List, [], ◌∷◌, ◌++◌, drop, replicate, Option, Some, Result, Ok, Err, sym, ap, ◌∙◌}
-use Rattle.std.specs.Result.{result_unwrap_or}
 use Rattle.m36_model.specs.Registers.{RegsFields}
 use Rattle.m36_text.specs.Lines.{lines_of, line_at, first_told}
 use Rattle.m36_text.proofs.Telling.{told_earlier}
+use Rattle.m36_image.proofs.Images.{frames_are}
 use Rattle.m36_image.specs.BareImage.{core_line, frames_of}
 use Rattle.m36_image.specs.ImageState.{written_all}
 use Rattle.m36_image.specs.declared.refusal.ImageCode.{ImageCode}
@@ -39,9 +39,6 @@ pub first_refused :
     → FaultSays fault 1 (core_code (core_line (line_at (lines_of text) 1)) ∷ []) → ProcsSays (Err fault) (procs_given text)
 first_refused text fault told =
     says_told text fault 1 (core_code (core_line (line_at (lines_of text) 1)) ∷ []) (λ here e. told_earlier 1 (core_code (core_line (line_at (lines_of text) 1)) ∷ []) (codes_from (at_start (1024 * frames_of (lines_of text))) (drop 1 (lines_of text))) here e) told
-
-frames_are : (lines : List (Option (List ℕ))) (n : ℕ) → core_line (line_at lines 1) ≡ Ok n → frames_of lines ≡ n
-frames_are lines n e = ap (λ r. result_unwrap_or r 0) e
 
 fine_first :
     (read : Result ℕ ImageCode) (n : ℕ) (codes : List (Option Code))

@@ -1,14 +1,11 @@
 -- The first line of a text of processes.
-use Rattle.std.proofs.Common.{◌≡◌, ℕ, List, [], ◌∷◌, Option, Some, None, Err, refl}
+use Rattle.std.proofs.Common.{◌≡◌, ℕ, List, [], ◌∷◌, Option, Some, Err}
 use Rattle.m36_text.specs.Lines.{cut_line, words_of, line_at, first_told}
+use Rattle.m36_image.proofs.Headers.{cut_none}
 use Rattle.m36_image.specs.BareImage.{core_line, core_words}
 use Rattle.m36_image.specs.declared.refusal.ImageCode.{ImageCode}
 use Rattle.m36_procs.specs.ProcsFile.{core_code}
 use Rattle.m36_procs.specs.declared.fault.Code.TheVariants.{P1}
-
-cut_none : (text : List ℕ) → line_at (cut_line text) 1 ≡ None
-cut_none [] = refl
-cut_none (b ∷ rest) = refl
 
 -- it is missing
 pub missing_first : (lines : List (Option (List ℕ))) (text : List ℕ) → lines ≡ cut_line text → first_told 1 (core_code (core_line (line_at lines 1)) ∷ []) ≡ Some (1, P1)

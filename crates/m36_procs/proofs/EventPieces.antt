@@ -1,5 +1,6 @@
 -- The pieces of a run of a schedule, event by event: what is left of them.
 use Rattle.std.proofs.Common.{◌≡◌, ℕ, ◌+◌, List, [], ◌∷◌, ◌++◌, length, Option, sym, ap, subst, ◌∙◌, arith}
+use Rattle.std.proofs.lemmas.List.{nil_from_length}
 use Rattle.m36_outside.specs.Gathered.{Gathers, Loses, Adds}
 use Rattle.m36_outside.specs.Passing.{joined, TakesSome, TakesLines}
 use Rattle.m36_outside.specs.Put.{PutSays}
@@ -12,7 +13,7 @@ use Rattle.m36_model.specs.Step.{record_of}
 use Rattle.m36_model.specs.declared.record.StepRecord.{StepRecord}
 use Rattle.m36_procs.specs.EventSays.{EventSays, IsEvent}
 use Rattle.m36_procs.specs.ScheduleText.{event_line, end_line, pieces_from, schedule_pieces}
-use Rattle.m36_procs.proofs.EventsRun.{pieces_first, pieces_last, get_of, none_left, next_named, Runs}
+use Rattle.m36_procs.proofs.EventsRun.{pieces_first, pieces_last, get_of, next_named, Runs}
 
 -- one line was added to a block
 pub line_adds :
@@ -96,7 +97,7 @@ pub pieces_done :
     → CompletesLines now start (gathered ++ pieces_from (length all) (n + 1) left s) (schedule_pieces all first)
     → length left ≡ 0 → new ≡ now ++ (gathered ++ end_line n ∷ []) → new ≡ start ++ schedule_pieces all first
 pieces_done all first before after start now new gathered n left s so_far pieces empty took =
-    completes_lines_whole now new start (gathered ++ end_line n ∷ []) (schedule_pieces all first) (pieces_ended all first before after start now gathered n left s so_far pieces (none_left left empty)) took
+    completes_lines_whole now new start (gathered ++ end_line n ∷ []) (schedule_pieces all first) (pieces_ended all first before after start now gathered n left s so_far pieces (nil_from_length left empty)) took
 
 pub pieces_cut_last :
     (all : List ℕ) (first : Processes (List ℕ)) (before after : Option (List ℕ)) (start now new gathered : List (List ℕ)) (n : ℕ) (left : List ℕ) (s : Processes (List ℕ))
@@ -104,6 +105,6 @@ pub pieces_cut_last :
     → CompletesLines now start (gathered ++ pieces_from (length all) (n + 1) left s) (schedule_pieces all first)
     → length left ≡ 0 → TakesSome now new (gathered ++ end_line n ∷ []) → TakesSome start new (schedule_pieces all first)
 pieces_cut_last all first before after start now new gathered n left s so_far pieces empty cut =
-    completes_lines_cut_last now new start (gathered ++ end_line n ∷ []) (schedule_pieces all first) (pieces_ended all first before after start now gathered n left s so_far pieces (none_left left empty)) cut
+    completes_lines_cut_last now new start (gathered ++ end_line n ∷ []) (schedule_pieces all first) (pieces_ended all first before after start now gathered n left s so_far pieces (nil_from_length left empty)) cut
 
 pub ruleset running = (pieces_start, pieces_more, pieces_cut, pieces_done, pieces_cut_last)

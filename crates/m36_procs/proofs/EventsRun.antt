@@ -1,8 +1,8 @@
 -- A run of a schedule, event by event: what is left of its text, and what it leaves.
-use Rattle.std.proofs.Common.{◌≡◌, ℕ, zero, suc, ◌+◌, ◌<◌, Bool, true, false, ◌&&◌, List, [], ◌∷◌, ◌++◌, length, Option, Some, refl, sym, ap, subst, ◌∙◌, arith, append_assoc}
+use Rattle.std.proofs.Common.{◌≡◌, ℕ, zero, suc, ◌+◌, ◌<◌, true, List, [], ◌∷◌, ◌++◌, length, Option, Some, refl, sym, ap, subst, ◌∙◌, arith, append_assoc}
 use Rattle.std.specs.Prelude.{slice_get, nat_lt}
-use Rattle.std.proofs.lemmas.Bool.{ltb-true}
-use Rattle.std.proofs.lemmas.List.{append-nil}
+use Rattle.std.proofs.lemmas.Bool.{and_parts, ltb-true}
+use Rattle.std.proofs.lemmas.List.{append-nil, nil_from_length}
 use Rattle.m36_outside.specs.Gathered.{Gathers, Loses}
 use Rattle.m36_outside.specs.Passing.{joined}
 use Rattle.m36_outside.specs.Written.{Grew, GrewWithin}
@@ -96,18 +96,10 @@ runs_start all first start gathered named none = subst (λ l. Runs all first sta
   regs = refl;
 })
 
-both_left : (a b : Bool) → a && b ≡ true → a ≡ true
-both_left true b e = refl
-both_left false b e = e
-
-both_right : (a b : Bool) → a && b ≡ true → b ≡ true
-both_right true b e = e
-both_right false b e = cc
-
 -- the next number is that of a process
 pub next_named : (count i : ℕ) (left more : List ℕ) → are_named count left ≡ true → left ≡ i ∷ more → i < count
 next_named count i left more named begins =
-    ltb-true i count (both_left (nat_lt i count) (are_named count more) (ap (are_named count) (sym begins) ∙ named))
+    ltb-true i count (and_parts (nat_lt i count) (are_named count more) (ap (are_named count) (sym begins) ∙ named)).0
 
 pub get_of : {A : Type 0} (xs : List A) (i : ℕ) → i < length xs → (x : A) × (slice_get xs i ≡ Some x)
 get_of [] i within = absurd (omega arith)
@@ -154,7 +146,7 @@ runs_more all first start now next pieces pieces' gathered gathered' n i left mo
       all_is = all_more all so_far.made i left more so_far.all_is begins;
       further = made_more so_far.made i first s new told own.0 so_far.further own.1 is;
       count = omega (arith, so_far.count, ap length begins);
-      named = ap (λ k. are_named k more) count ∙ both_right (nat_lt i (length s.regs)) (are_named (length s.regs) more) (ap (are_named (length s.regs)) (sym begins) ∙ so_far.named);
+      named = ap (λ k. are_named k more) count ∙ (and_parts (nat_lt i (length s.regs)) (are_named (length s.regs) more) (ap (are_named (length s.regs)) (sym begins) ∙ so_far.named)).1;
       regs = count ∙ so_far.regs;
     }
 
@@ -179,10 +171,6 @@ runs_cut all first start now next pieces pieces' gathered n i left more s new to
       grew = completes_lost now next start pieces pieces' gathered (event_line (n + 1) i told) (text_from (length all) (n + 1) left s) (text_from (length all) (n + 1 + 1) more (stepped core_store s i own.0)) (schedule_text all first) so_far.text here lost;
     }
 
-pub none_left : {A : Type 0} (xs : List A) → length xs ≡ 0 → xs ≡ []
-none_left [] e = refl
-none_left (x ∷ xs) e = absurd (omega (arith, e))
-
 ended_text :
     (all : List ℕ) (first : Processes (List ℕ)) (start now : Option (List ℕ)) (gathered : List (List ℕ)) (n : ℕ) (left : List ℕ) (s : Processes (List ℕ))
     → Runs all first start now gathered n left s → left ≡ [] → Completes now start (joined gathered ++ end_line n) (schedule_text all first)
@@ -196,7 +184,7 @@ pub runs_done :
     (all : List ℕ) (first : Processes (List ℕ)) (start now next : Option (List ℕ)) (gathered : List (List ℕ)) (n : ℕ) (left : List ℕ) (s : Processes (List ℕ))
     → Runs all first start now gathered n left s → length left ≡ 0 → Grew now next (joined (gathered ++ end_line n ∷ [])) → IsRun all first s start next
 runs_done all first start now next gathered n left s so_far empty grew =
-    let none : left ≡ [] = none_left left empty in
+    let none : left ≡ [] = nil_from_length left empty in
     record {
       state = sym (last_last s) ∙ ap (λ l. last_state l s) (sym none) ∙ sym (so_far.further left) ∙ ap (λ l. last_state l first) (sym so_far.all_is);
       grew = completes_finished now next start gathered (end_line n) (schedule_text all first) (ended_text all first start now gathered n left s so_far none) grew;
@@ -210,7 +198,7 @@ runs_cut_last all first start now next gathered n left s so_far empty cut = reco
   rest = left;
   schedule_is = so_far.all_is;
   state = stand_behind so_far.made first s so_far.further;
-  grew = completes_finished_cut now next start gathered (end_line n) (schedule_text all first) (ended_text all first start now gathered n left s so_far (none_left left empty)) cut;
+  grew = completes_finished_cut now next start gathered (end_line n) (schedule_text all first) (ended_text all first start now gathered n left s so_far (nil_from_length left empty)) cut;
 }
 
 pub ruleset running = (runs_start, next_named, runs_more, runs_cut, runs_done, runs_cut_last)

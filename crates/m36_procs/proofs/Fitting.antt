@@ -1,7 +1,7 @@
 -- What is known of what was read stays known when a line is taken.
 use Rattle.std.proofs.Common.{◌≡◌, ℕ, zero, suc, ◌+◌, ◌<◌, ◌≤◌, Bool, true, false, cond, ◌&&◌, List, [], ◌∷◌, ◌++◌, length, Some, Result, Ok, Err, refl, sym, ap, ◌∙◌, arith}
 use Rattle.std.specs.Prelude.{nat_le, nat_lt}
-use Rattle.std.proofs.lemmas.Bool.{leb-true, ltb-true, lt-ltb}
+use Rattle.std.proofs.lemmas.Bool.{leb-true, ltb-true, lt-ltb, and_parts, and_from}
 use Rattle.std.proofs.lemmas.List.{append-nil}
 use Rattle.std.proofs.lemmas.List.Folds.{list_all-append}
 use Rattle.m36_model.specs.Registers.{RegsFields}
@@ -35,18 +35,6 @@ refused code = Err code
 ok_same : (x y : Stands) → fine x ≡ fine y → x ≡ y
 ok_same x y h = cc
 
-left_holds : (a b : Bool) → a && b ≡ true → a ≡ true
-left_holds true b e = refl
-left_holds false b e = e
-
-right_holds : (a b : Bool) → a && b ≡ true → b ≡ true
-right_holds true b e = e
-right_holds false b e = cc
-
-both_hold : (a b : Bool) → a ≡ true → b ≡ true → a && b ≡ true
-both_hold true b e f = f
-both_hold false b e f = e
-
 was_placed :
     (s y : Stands) (r : Result ℕ ImageCode)
     → placed_from s r ≡ Ok y → (end : ℕ) × (record s { stage = Placing; next = end } ≡ y)
@@ -60,11 +48,12 @@ lt_more n count e = let below = ltb-true n count e in lt-ltb n (count + 1) (omeg
 named_more : (numbers : List ℕ) (count : ℕ) → are_named count numbers ≡ true → are_named (count + 1) numbers ≡ true
 named_more [] count e = refl
 named_more (n ∷ numbers) count e =
-    both_hold (nat_lt n (count + 1)) (are_named (count + 1) numbers) (lt_more n count (left_holds (nat_lt n count) (are_named count numbers) e)) (named_more numbers count (right_holds (nat_lt n count) (are_named count numbers) e))
+    let parts = and_parts (nat_lt n count) (are_named count numbers) e in
+    and_from (nat_lt n (count + 1)) (are_named (count + 1) numbers) (lt_more n count parts.0) (named_more numbers count parts.1)
 
 named_both : (count : ℕ) (front back : List ℕ) → are_named count front ≡ true → are_named count back ≡ true → are_named count (front ++ back) ≡ true
 named_both count front back e f =
-    list_all-append (λ n. nat_lt n count) front back ∙ both_hold (are_named count front) (are_named count back) e f
+    list_all-append (λ n. nat_lt n count) front back ∙ and_from (are_named count front) (are_named count back) e f
 
 named_repeated : (times count : ℕ) (order : List ℕ) → are_named count order ≡ true → are_named count (repeated times order) ≡ true
 named_repeated zero count order e = refl
@@ -87,7 +76,7 @@ kept_process old new g fits took =
     let is : next ≡ stands_of new = ok_same next (stands_of new) (was_chosen (may_name s.stage && nat_lt s.processes 8) (Ok next) P1 (stands_of new) took.stands) in
     let counted : length new.regs.items ≡ length old.regs.items + 1 = sym (ap (λ (t : Stands). t.processes) is) in
     let events : length new.schedule.items ≡ length old.schedule.items = sym (ap (λ (t : Stands). t.events) is) in
-    let below : length old.regs.items < 8 = ltb-true (length old.regs.items) 8 (right_holds (may_name s.stage) (nat_lt s.processes 8) test) in
+    let below : length old.regs.items < 8 = ltb-true (length old.regs.items) 8 (and_parts (may_name s.stage) (nat_lt s.processes 8) test).1 in
     record {
       few = omega (arith, counted, below);
       short = omega (arith, events, fits.short);
@@ -124,8 +113,8 @@ kept_turns old new t fits took =
     let is : next ≡ stands_of new = ok_same next (stands_of new) (was_chosen (are_named s.processes t.order) (Ok next) P2 (stands_of new) inner) in
     let counted : length new.regs.items ≡ length old.regs.items = sym (ap (λ (u : Stands). u.processes) is) in
     let events : length new.schedule.items ≡ events_with s t = sym (ap (λ (u : Stands). u.events) is) in
-    let most : events_with s t ≤ 10000000 = leb-true (events_with s t) 10000000 (right_holds (nat_lt 0 s.processes) (nat_le (events_with s t) 10000000) test) in
-    let some : 0 < length old.regs.items = ltb-true 0 (length old.regs.items) (left_holds (nat_lt 0 s.processes) (nat_le (events_with s t) 10000000) test) in
+    let most : events_with s t ≤ 10000000 = leb-true (events_with s t) 10000000 (and_parts (nat_lt 0 s.processes) (nat_le (events_with s t) 10000000) test).1 in
+    let some : 0 < length old.regs.items = ltb-true 0 (length old.regs.items) (and_parts (nat_lt 0 s.processes) (nat_le (events_with s t) 10000000) test).0 in
     record {
       few = omega (arith, counted, fits.few);
       short = rw events most;

@@ -7,4 +7,3 @@ pub mod Repeating
 pub mod EventsRun
 pub mod EventPieces
 pub mod Taking
-pub mod TurnsLaws

@@ -30,6 +30,7 @@ use Rattle.m36_word.specs.declared.pair.Pair.{Pair}
 use Rattle.m36_model.specs.Fields.{PprFields}
 use Rattle.m36_model.specs.Registers.{RegsFields}
 use Rattle.m36_image.specs.PlacedWords.{PlacedWords}
+use Rattle.m36_image.specs.Several.{one_to}
 use Rattle.m36_image.specs.declared.refusal.ImageCode.{ImageCode}
 use Rattle.m36_image.specs.BareImage.{dbr_read, start_read, at_words, core_line, frames_of}
 use Rattle.m36_image.specs.ImageState.{regs_of, written_all}
@@ -54,19 +55,7 @@ process_words (name ∷ even ∷ odd ∷ seg ∷ ring ∷ word ∷ []) =
     else None
 process_words _ = None
 
--- A `turns` line.
-abbrev pub with_number : Option ℕ → Option (List ℕ) → Option (List ℕ)
-with_number (Some number) (Some numbers) = Some (number ∷ numbers)
-with_number _ _ = None
-
-abbrev pub numbers_in : List (List ℕ) → Option (List ℕ)
-numbers_in [] = Some []
-numbers_in (text ∷ texts) = with_number (short_decimal_in 1 0 9 text) (numbers_in texts)
-
-abbrev pub one_to_sixteen : List (List ℕ) → Option (List ℕ)
-one_to_sixteen [] = None
-one_to_sixteen (text ∷ texts) = if nat_le (length texts) 15 then numbers_in (text ∷ texts) else None
-
+-- A `turns` line: one to sixteen numbers of processes, and how many times.
 abbrev pub turns_read : Option ℕ → Option (List ℕ) → Option TurnsFields
 turns_read (Some times) (Some order) = Some (record { times = times; order = order })
 turns_read _ _ = None
@@ -74,7 +63,8 @@ turns_read _ _ = None
 abbrev pub turns_words : List (List ℕ) → Option TurnsFields
 turns_words (name ∷ times ∷ texts) =
     if is_text (codes "turns") name
-    then turns_read (decimal_in 1 1000000 times) (one_to_sixteen texts) else None
+    then turns_read (decimal_in 1 1000000 times) (one_to 16 (short_decimal_in 1 0 9) texts)
+    else None
 turns_words _ = None
 
 -- A line behind the first, by its form.

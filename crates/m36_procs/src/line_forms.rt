@@ -1,9 +1,11 @@
 //! The lines of a text of processes, each read by its form. A line is given without its line feed.
 
-ghost use Rattle.std.specs.Prelude.{ℕ, ◌≡◌};
+ghost use Rattle.std.specs.Prelude.{◌≡◌};
 ghost use Rattle.std.specs.Option.{option_map};
 ghost use Rattle.m36_text.specs.Lines.{words_of};
-ghost use Rattle.m36_procs.specs.ProcsFile.{process_words, turns_words, one_to_sixteen};
+ghost use Rattle.m36_text.specs.Numbers.{short_decimal_in};
+ghost use Rattle.m36_image.specs.Several.{one_to};
+ghost use Rattle.m36_procs.specs.ProcsFile.{process_words, turns_words};
 
 use arrayvec::ArrayVec;
 use m36_image::forms::word_of;
@@ -63,9 +65,9 @@ pub(crate) fn process_line(line: &[u8]) -> Option<Regs>
 }
 
 // One to sixteen numbers of one digit; none where there are more, or one is of another form.
-#[tactic(auto, using(crate::proofs::TurnsLaws::reading_numbers))]
+#[tactic(auto, using(m36_image::proofs::SeveralLaws::reading_several))]
 fn sixteen_numbers(line: &[u8]) -> Option<ArrayVec<u8, 16>>
-    ensures { option_map (λ v. v.items) result ≡ one_to_sixteen (words_of line.now) }
+    ensures { option_map (λ v. v.items) result ≡ one_to 16 (short_decimal_in 1 0 9) (words_of line.now) }
 {
     let mut order = ArrayVec::new();
     let mut rest = line;
@@ -82,6 +84,7 @@ fn sixteen_numbers(line: &[u8]) -> Option<ArrayVec<u8, 16>>
 }
 
 /// The line `turns C P ..`; none where it is not of its form.
+#[tactic(auto, unfolding(m36_image::specs::Several::one_to))]
 pub(crate) fn turns_line(line: &[u8]) -> Option<Turns>
     ensures { result ≡ turns_words (words_of line.now) }
 {

@@ -1,6 +1,6 @@
 //! Processes with their schedule.
 
-ghost use Rattle.std.specs.Prelude.{ℕ, ◌≡◌, ◌<◌, ◌≤◌, ◌^◌, length, slice_get, IfOk, Some};
+ghost use Rattle.std.specs.Prelude.{◌≡◌, ◌<◌, ◌≤◌, ◌^◌, length, slice_get, IfOk, Some};
 ghost use Rattle.m36_procs.specs.EventSays.{EventSays};
 ghost use Rattle.m36_procs.specs.ProcsFile.{procs_given};
 ghost use Rattle.m36_procs.specs.ProcsSays.{ProcsSays};

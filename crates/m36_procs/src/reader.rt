@@ -1,6 +1,6 @@
 //! What a text of processes has said so far, and what its next line adds.
 
-ghost use Rattle.std.specs.Prelude.{ℕ, ◌≡◌, ◌+◌, ◌*◌, ◌<◌, ◌≤◌, ◌^◌, [], ◌∷◌, ◌++◌, length, OnOk, OnErr};
+ghost use Rattle.std.specs.Prelude.{◌≡◌, ◌+◌, ◌*◌, ◌<◌, ◌≤◌, [], ◌∷◌, ◌++◌, length, OnOk};
 ghost use Rattle.m36_text.specs.Lines.{words_of};
 ghost use Rattle.m36_procs.specs.ProcsFile.{are_named, line_in, may_name, may_place, may_end, repeated};
 ghost use Rattle.m36_procs.specs.ProcsFile.Line.{ProcessLine, TurnsLine};

@@ -1,6 +1,6 @@
 //! A text of processes, read line by line.
 
-ghost use Rattle.std.specs.Prelude.{ℕ, ◌≡◌, ◌+◌, ◌*◌, ◌≤◌, ◌^◌, [], length, replicate, IfOk};
+ghost use Rattle.std.specs.Prelude.{◌+◌, ◌≤◌, ◌^◌, length, IfOk};
 ghost use Rattle.m36_text.specs.Lines.{lines_of};
 ghost use Rattle.m36_procs.specs.ReaderSays.{Fits};
 ghost use Rattle.m36_procs.specs.ReadingSays.{BeginSays, LinesSay};
