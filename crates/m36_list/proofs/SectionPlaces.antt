@@ -1,33 +1,15 @@
 -- Where the sections of an object are.
-use Rattle.std.proofs.Common.{ℕ, ◌≡◌, ◌+◌, ◌*◌, ◌^◌, ◌≤◌, Bool, true, false, cond, List, ◌++◌, length, append_assoc, length-append, arith}
+use Rattle.std.proofs.Common.{ℕ, ◌≡◌, ◌+◌, ◌*◌, ◌^◌, ◌≤◌, true, List, ◌++◌, length, append_assoc, arith}
 use Rattle.obj36_parts.specs.PartsFields.{PartsFields}
-use Rattle.obj36_parts.specs.ObjectSegment.{is_newer, inner_statics, outer_statics, definition_section, linkage_section, first_link, symbol_section, map_words, words_of, is_well_formed}
+use Rattle.obj36_parts.specs.ObjectSegment.{inner_statics, outer_statics, definition_section, linkage_section, first_link, symbol_section, is_well_formed}
 use Rattle.obj36_parts.proofs.Formed.{is_formed}
-use Rattle.obj36_parts.proofs.LengthLaws.{length-map_part, length-linkage_part}
-
-map_long : (b : Bool) → 7 ≤ cond b 8 7
-map_long true = omega arith
-map_long false = omega arith
+use Rattle.obj36_parts.proofs.LengthLaws.{length-linkage_part, length-sections}
+use Rattle.obj36.proofs.ReadingBack.{map_length}
 
 -- All sections of an object, and the map behind them, have at most 2^18 words.
 pub sections_fit : (p : PartsFields) → is_well_formed p ≡ true
     → length p.text + length (definition_section p) + length (linkage_section p) + length (outer_statics p) + length (symbol_section p) + 7 ≤ 2 ^ 18
-unfolding words_of map_words
-sections_fit p formed =
-    let d = definition_section p in
-    let k = linkage_section p in
-    let y = symbol_section p in
-    omega (
-      arith,
-      (is_formed p formed).fits,
-      length-append (p.text ++ d ++ k ++ outer_statics p ++ y) (map_words p),
-      length-append (p.text ++ d ++ k ++ outer_statics p) y,
-      length-append (p.text ++ d ++ k) (outer_statics p),
-      length-append (p.text ++ d) k,
-      length-append p.text d,
-      length-map_part (is_newer p) (length p.text) (length d) (length k) (length (outer_statics p)) (length y) p.entry_bound,
-      map_long (is_newer p),
-    )
+sections_fit p formed = omega (arith, (is_formed p formed).fits, length-sections p, map_length p)
 
 -- the links stand behind the header and the static words
 pub links_behind : (p : PartsFields) → length (linkage_section p) ≡ first_link p + 2 * length p.links

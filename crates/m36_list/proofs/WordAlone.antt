@@ -1,5 +1,6 @@
 -- Lines that place one word: an instruction whose address is one number, and one octal constant.
 use Rattle.std.proofs.Common.{ℕ, ◌≡◌, Bool, true, List, [], ◌∷◌, Option, Some, None, Ok, refl, ap}
+use Rattle.std.specs.Option.{option_or}
 use Rattle.alm_tokens.specs.declared.span.Span.{Span}
 use Rattle.alm_parse.specs.declared.args.Arg.{Arg}
 use Rattle.alm_parse.specs.declared.args.Arg.TheVariants.{Number, Operand}
@@ -24,7 +25,7 @@ use Rattle.alm_asm.specs.Links.{links_after, links_from}
 use Rattle.alm_asm.specs.Words.{own_inst, instruction_word, words_by, words_of_line, words_from}
 use Rattle.alm_asm.specs.Marks.{marks_after, marks_from}
 use Rattle.alm_asm.specs.Definitions.{definitions_after, definitions_from}
-use Rattle.alm_asm.specs.LineRefusals.{own_room, line_refusal, otherwise, lines_refusal}
+use Rattle.alm_asm.specs.LineRefusals.{own_room, line_refusal, lines_refusal}
 use Rattle.alm_asm.specs.Growth.{at_first, with_marks, grown_by, is_over, growth_refusal}
 use Rattle.alm_asm.specs.Assembly.{tables_of, bound_from, parts_with, parts_of, refusal_of, assembled}
 use Rattle.m36_list.specs.Assembled.{object_of_word}
@@ -118,7 +119,7 @@ instruction_lines text number at op d code bit27 pr minus v span tag does room =
     let arguments = operand_of pr minus v span tag in
     let line = line_of number at op d arguments in
     let symbols = (tables_of text (line ∷ [])).symbols in
-    rw does (ap (λ (r : Option Refusal). otherwise r None) (expression_unrefused text symbols start line pr minus v span (expression_place (number_term minus v span ∷ [])) room))
+    rw does (ap (λ (r : Option Refusal). option_or r None) (expression_unrefused text symbols start line pr minus v span (expression_place (number_term minus v span ∷ [])) room))
 
 instruction_short : (text : List ℕ) (symbols : List (List ℕ × Sum)) (number at : ℕ) (op : Span) (d : Deed) (code : ℕ) (bit27 : Bool) (pr : Option ℕ) (minus : Bool) (v : ℕ) (span : Span) (tag : ℕ) → d ≡ deed.Instruction code bit27
     → growth_refusal text symbols at_first start (line_of number at op d (operand_of pr minus v span tag) ∷ []) ≡ None

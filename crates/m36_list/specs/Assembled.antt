@@ -2,6 +2,7 @@
 use Rattle.std.specs.Prelude.{ℕ, ◌+◌, ◌^◌, ◌<◌, ◌≡◌, List, [], ◌∷◌, ◌++◌, length, Option, Some}
 use Rattle.std.specs.Prelude.{None, Result, Ok, Err}
 use Rattle.m36_text.specs.Lines.{as_line}
+use Rattle.m36_text.specs.Results.{and_then}
 use Rattle.alm_parse.specs.declared.line.Line36.{Line36}
 use Rattle.alm_parse.specs.declared.refusal.Refusal.{Refusal}
 use Rattle.alm_parse.specs.declared.fault.AlmFault.{AlmFault}
@@ -43,8 +44,7 @@ PlacesItself =
 
 -- the object of a source that has been read, or why there is none
 abbrev pub object_of : Result Source AlmFault → Result PartsFields AlmFault
-object_of (Ok source) = assembled source
-object_of (Err fault) = Err fault
+object_of read = and_then read assembled
 
 -- the object that has one word of text and nothing else
 abbrev pub object_of_word : ℕ → PartsFields

@@ -1,9 +1,8 @@
 //! Lines of fields, put at the end of a text.
 
-ghost use Rattle.std.specs.Prelude.{[], ◌∷◌, ◌++◌, ◌≡◌, ◌^◌, ◌<◌, ◌≤◌, OnOk};
+ghost use Rattle.std.specs.Prelude.{[], ◌∷◌, ◌++◌, ◌≡◌, ◌^◌, ◌<◌, OnOk};
 ghost use Rattle.m36_text.specs.Digits.{octal_text};
 ghost use Rattle.m36_text.specs.Lines.{as_line};
-ghost use Rattle.m36_list.specs.Print.{line};
 
 use m36_outside::Text;
 use m36_text::octal;
