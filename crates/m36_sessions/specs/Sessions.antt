@@ -34,6 +34,14 @@ too_long name = BadFile (record { name = name; code = S1; at = 0; column = 0 })
 abbrev pub stdin_name : List ℕ
 stdin_name = codes "stdin"
 
+-- by how a session ended; the standard input has this name
+abbrev pub session_status : Result (Unit {0}) SessionFault → List ℕ → Status
+session_status (Ok done) name = Done
+session_status (Err fault.ReadFault) name = status.ReadFault
+session_status (Err fault.WriteFault) name = status.WriteFault
+session_status (Err fault.TooLong) name = too_long name
+session_status (Err fault.NoMemory) name = status.NoMemory
+
 -- An answer is that of a session that ended so: the lines that are said of it, each in one piece.
 pub record IsAnswerOf (Holds : Told) (ended : Result (Unit {0}) SessionFault) (status : Status)
     (due : Answer) : Type 0 where
@@ -45,12 +53,13 @@ pub record IsAnswerOf (Holds : Told) (ended : Result (Unit {0}) SessionFault) (s
 -- the whole lines within the most is `quit`.
 abbrev pub IsSessionDue : Told → Answer → Type 0
 IsSessionDue Holds due =
-    IsAnswerOf Holds (Ok tt) Done due
-    ⊎ IsAnswerOf Holds (Err fault.TooLong) (too_long stdin_name) due
+    IsAnswerOf Holds (Ok tt) (session_status (Ok tt) stdin_name) due
+    ⊎ IsAnswerOf Holds (Err fault.TooLong) (session_status (Err fault.TooLong) stdin_name) due
 
 -- The output could not be written.
 abbrev pub IsSessionBegun : Told → Answer → Type 0
-IsSessionBegun Holds due = IsAnswerOf Holds (Err fault.WriteFault) status.WriteFault due
+IsSessionBegun Holds due =
+    IsAnswerOf Holds (Err fault.WriteFault) (session_status (Err fault.WriteFault) stdin_name) due
 
 -- What is said of a session that ended so is written whole.
 pub record IsWritten (Holds : Told) (ended : Result (Unit {0}) SessionFault) (old new : Outside)
@@ -100,16 +109,6 @@ InputStands Cut talk = talk.after.faults ≡ talk.before.faults
 InputStands Starved talk = talk.after.faults ≡ talk.before.faults
 InputStands Unasked talk = talk.after.faults ≡ talk.before.faults
 
--- ---- statuses
-
--- by how a session ended; the standard input has this name
-abbrev pub session_status : Result (Unit {0}) SessionFault → List ℕ → Status
-session_status (Ok done) name = Done
-session_status (Err fault.ReadFault) name = status.ReadFault
-session_status (Err fault.WriteFault) name = status.WriteFault
-session_status (Err fault.TooLong) name = too_long name
-session_status (Err fault.NoMemory) name = status.NoMemory
-
 -- ---- what is put
 
 -- what is said of a session that ended so is put, or some of it
@@ -132,8 +131,8 @@ pub record PutsNone (talk : Talk) (old new : SinkState) : Type 0 where
 
 abbrev pub PutsBy : Told → End → Status → Talk → SinkState → SinkState → Type 0
 PutsBy Holds Answered result talk old new =
-    PutsWith Holds (Ok tt) Done result old new
-    ⊎ PutsWith Holds (Err fault.TooLong) (too_long stdin_name) result old new
+    PutsWith Holds (Ok tt) (session_status (Ok tt) stdin_name) result old new
+    ⊎ PutsWith Holds (Err fault.TooLong) (session_status (Err fault.TooLong) stdin_name) result old new
 PutsBy Holds Cut result talk old new = PutsSession Holds (Err fault.WriteFault) old new
 PutsBy Holds Unread result talk old new = PutsSession Holds (Err fault.ReadFault) old new
 PutsBy Holds Starved result talk old new =

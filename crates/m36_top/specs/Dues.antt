@@ -5,22 +5,21 @@ use Rattle.std.specs.Prelude.{ℕ, ⊤, Bool, List, ◌++◌}
 use Rattle.m36_model.specs.Store.{State}
 use Rattle.m36_reading.specs.declared.setting.Set.{Set}
 use Rattle.m36_reading.specs.Answers.{Answer}
-use Rattle.m36_reading.specs.Outside.{Outside, IsIdle}
+use Rattle.m36_reading.specs.Outside.{Outside}
 use Rattle.m36_reading.specs.Doing.{Kind}
-use Rattle.m36_told.specs.Told.{ToldFields, IsToldDue, ToldWants}
-use Rattle.m36_ran.specs.Ran.{IsStateDue, PassesAudit}
+use Rattle.m36_told.specs.Told.{ToldFields, told_kind}
+use Rattle.m36_ran.specs.Ran.{PassesAudit, state_kind}
 use Rattle.m36_ran.specs.declared.command.ImageCommand.{ImageCommand}
 use Rattle.m36_ran.specs.AuditText.{yes_line}
 use Rattle.m36_booted.specs.Folder.{FolderFields}
-use Rattle.m36_booted.specs.Runs.{Whole, Begun}
-use Rattle.m36_booted.specs.Booted.{IsFolderAnswer, FolderWants}
+use Rattle.m36_booted.specs.Booted.{folder_kind}
 use Rattle.m36_booted.specs.Promise.{PassesBooted}
 use Rattle.m36_booted.specs.declared.command.FolderCommand.{FolderCommand}
 use Rattle.m36_procs.specs.ProcsFields.{ProcsFields}
-use Rattle.m36_scheduled.specs.Scheduled.{IsProcsDue, PassesJoint}
-use Rattle.m36_made.specs.Made.{IsMadeDue, IsMadeBegun, MadeWants, PassesMade, head_of}
-use Rattle.m36_sessions.specs.Held.{Talk, HoldsImage, HoldsFolder}
-use Rattle.m36_sessions.specs.Sessions.{IsSessionDue, IsSessionBegun, SessionWants, SessionFails}
+use Rattle.m36_scheduled.specs.Scheduled.{PassesJoint, procs_kind}
+use Rattle.m36_made.specs.Made.{PassesMade, head_of, made_kind}
+use Rattle.m36_sessions.specs.Held.{Talk}
+use Rattle.m36_sessions.specs.Sessions.{image_kind, folder_kind as session_kind}
 
 -- a command on an image, and the state that the image writes out
 pub record ImageDue : Type 0 where
@@ -57,43 +56,43 @@ on_procs unaudited procs = Schedule (record { unaudited = unaudited; procs = pro
 
 -- which answer is due, by the input of the call
 abbrev pub IsDueOf : Talk → Due → Answer → Type 0
-IsDueOf talk (Told told) due = IsToldDue told due
-IsDueOf talk (Image image) due = IsStateDue image.command image.state due
-IsDueOf talk (Folder folder) due = IsFolderAnswer Whole folder.command folder.given due
-IsDueOf talk (Schedule schedule) due = IsProcsDue schedule.unaudited schedule.procs due
-IsDueOf talk (ImageSession state) due = IsSessionDue (HoldsImage talk state) due
-IsDueOf talk (FolderSession given) due = IsSessionDue (HoldsFolder talk given.lib) due
-IsDueOf talk (Made sets) due = IsMadeDue sets due
+IsDueOf talk (Told told) due = told_kind.IsDue told due
+IsDueOf talk (Image image) due = (state_kind image.command).IsDue image.state due
+IsDueOf talk (Folder folder) due = (folder_kind folder.command).IsDue folder.given due
+IsDueOf talk (Schedule schedule) due = (procs_kind schedule.unaudited).IsDue schedule.procs due
+IsDueOf talk (ImageSession state) due = (image_kind talk).IsDue state due
+IsDueOf talk (FolderSession given) due = (session_kind talk).IsDue given due
+IsDueOf talk (Made sets) due = made_kind.IsDue sets due
 
 -- of which a first part may be put
 abbrev pub IsBegunOf : Talk → Due → Answer → Type 0
-IsBegunOf talk (Told told) due = IsToldDue told due
-IsBegunOf talk (Image image) due = IsStateDue image.command image.state due
-IsBegunOf talk (Folder folder) due = IsFolderAnswer Begun folder.command folder.given due
-IsBegunOf talk (Schedule schedule) due = IsProcsDue schedule.unaudited schedule.procs due
-IsBegunOf talk (ImageSession state) due = IsSessionBegun (HoldsImage talk state) due
-IsBegunOf talk (FolderSession given) due = IsSessionBegun (HoldsFolder talk given.lib) due
-IsBegunOf talk (Made sets) due = IsMadeBegun sets due
+IsBegunOf talk (Told told) due = told_kind.IsBegun told due
+IsBegunOf talk (Image image) due = (state_kind image.command).IsBegun image.state due
+IsBegunOf talk (Folder folder) due = (folder_kind folder.command).IsBegun folder.given due
+IsBegunOf talk (Schedule schedule) due = (procs_kind schedule.unaudited).IsBegun schedule.procs due
+IsBegunOf talk (ImageSession state) due = (image_kind talk).IsBegun state due
+IsBegunOf talk (FolderSession given) due = (session_kind talk).IsBegun given due
+IsBegunOf talk (Made sets) due = made_kind.IsBegun sets due
 
 -- what may be written where memory is wanted
 abbrev pub WantsOf : Talk → Due → Outside → Outside → Type 0
-WantsOf talk (Told told) old new = ToldWants told old new
-WantsOf talk (Image image) old new = IsIdle old new
-WantsOf talk (Folder folder) old new = FolderWants folder.command folder.given old new
-WantsOf talk (Schedule schedule) old new = IsIdle old new
-WantsOf talk (ImageSession state) old new = SessionWants (HoldsImage talk state) talk old new
-WantsOf talk (FolderSession given) old new = SessionWants (HoldsFolder talk given.lib) talk old new
-WantsOf talk (Made sets) old new = MadeWants sets old new
+WantsOf talk (Told told) old new = told_kind.Wants told old new
+WantsOf talk (Image image) old new = (state_kind image.command).Wants image.state old new
+WantsOf talk (Folder folder) old new = (folder_kind folder.command).Wants folder.given old new
+WantsOf talk (Schedule schedule) old new = (procs_kind schedule.unaudited).Wants schedule.procs old new
+WantsOf talk (ImageSession state) old new = (image_kind talk).Wants state old new
+WantsOf talk (FolderSession given) old new = (session_kind talk).Wants given old new
+WantsOf talk (Made sets) old new = made_kind.Wants sets old new
 
 -- and where the input could not be read
 abbrev pub FailsOf : Talk → Due → Outside → Outside → Type 0
-FailsOf talk (Told told) old new = ⊥
-FailsOf talk (Image image) old new = ⊥
-FailsOf talk (Folder folder) old new = ⊥
-FailsOf talk (Schedule schedule) old new = ⊥
-FailsOf talk (ImageSession state) old new = SessionFails (HoldsImage talk state) old new
-FailsOf talk (FolderSession given) old new = SessionFails (HoldsFolder talk given.lib) old new
-FailsOf talk (Made sets) old new = ⊥
+FailsOf talk (Told told) old new = told_kind.Fails told old new
+FailsOf talk (Image image) old new = (state_kind image.command).Fails image.state old new
+FailsOf talk (Folder folder) old new = (folder_kind folder.command).Fails folder.given old new
+FailsOf talk (Schedule schedule) old new = (procs_kind schedule.unaudited).Fails schedule.procs old new
+FailsOf talk (ImageSession state) old new = (image_kind talk).Fails state old new
+FailsOf talk (FolderSession given) old new = (session_kind talk).Fails given old new
+FailsOf talk (Made sets) old new = made_kind.Fails sets old new
 
 abbrev pub due_kind : Talk → Kind Due
 due_kind talk = record {

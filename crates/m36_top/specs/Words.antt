@@ -135,6 +135,10 @@ file_given g = option_and_then (λ (o : Operand). o.file) g.operand
 abbrev pub user_given : Given → Option (List ℕ)
 user_given g = option_and_then (λ (o : Operand). o.user) g.operand
 
+-- without `--steps` 100,000
+abbrev pub steps_given : Given → ℕ
+steps_given g = unwrap_or g.steps 100000
+
 -- The commands by their words, each with what it makes of its operands and options. All options go
 -- with `run` and `trace`, all but `--user` with `bare`, `--user` with `audit` of the folder,
 -- `--unaudited` with `procs`, and none with the others.
@@ -142,7 +146,7 @@ abbrev pub bare : Given → Option Command
 bare g =
     if is_none g.user
     then option_map
-    (λ file. Bare file (record { steps = unwrap_or g.steps 100000; unaudited = g.unaudited }))
+    (λ file. Bare file (record { steps = steps_given g; unaudited = g.unaudited }))
     (file_given g) else None
 
 abbrev pub runs_nothing : Given → Bool
@@ -161,7 +165,7 @@ abbrev pub audit : Given → Option Command
 audit g = if runs_nothing g then audit_of g.operand g.user else None
 
 abbrev pub folder_run : Given → FolderRun
-folder_run g = record { steps = unwrap_or g.steps 100000; unaudited = g.unaudited }
+folder_run g = record { steps = steps_given g; unaudited = g.unaudited }
 
 abbrev pub run : Given → Option Command
 run g = if is_none g.operand then Some (Booted (folder.Run (folder_run g)) g.user) else None
@@ -180,9 +184,13 @@ access g = if has_no_option g then option_map Access (user_given g) else None
 abbrev pub print : Given → Option Command
 print g = if has_no_option g then option_map (λ name. Print name) (file_given g) else None
 
+-- the names of which a file with a longer name is read too
+abbrev pub may_be_longer : List ℕ → Bool
+may_be_longer name = nat_le (length name) 27
+
 abbrev pub alm_of : List ℕ → Option Command
 alm_of name =
-    if nat_le (length name) 27
+    if may_be_longer name
     then Some (Alm (record { source = name ++ codes ".alm"; object = name })) else None
 
 abbrev pub alm : Given → Option Command
@@ -190,7 +198,7 @@ alm g = if has_no_option g then option_and_then alm_of (file_given g) else None
 
 abbrev pub bind_of : List ℕ → Option Command
 bind_of name =
-    if nat_le (length name) 27
+    if may_be_longer name
     then Some (Bind (record { bindfile = name ++ codes ".bind"; object = name })) else None
 
 abbrev pub bind : Given → Option Command
