@@ -1,7 +1,6 @@
 -- Laws of lines that are answered.
-use Rattle.std.proofs.Common.{◌≡◌, ◌≢◌, ℕ, Bool, true, false, nat_le, List, [], ◌∷◌, ◌++◌, Option, Some, None, refl, sym, ap, subst, ◌∙◌}
+use Rattle.std.proofs.Common.{◌≡◌, ℕ, Bool, true, false, nat_le, List, [], ◌∷◌, ◌++◌, Option, Some, None, refl, sym, ap, subst}
 use Rattle.std.specs.Prelude.{if◌then◌else◌}
-use Rattle.std.proofs.lemmas.List.{append-nil}
 use Rattle.m36_model.specs.declared.endings.End.{End}
 use Rattle.m36_outside.specs.declared.sink.Put.{Put}
 use Rattle.m36_outside.specs.declared.sink.Put.TheVariants.{Done, Failed}
@@ -13,7 +12,7 @@ use Rattle.m36_debug.specs.declared.session_line.SessionLine.{SessionLine}
 use Rattle.m36_debug.specs.declared.session_line.SessionLine.TheVariants as session
 use Rattle.m36_debug.specs.declared.turning.Ends.{Ends}
 use Rattle.m36_debug.specs.declared.turning.Ends.TheVariants as ends
-use Rattle.m36_debug.specs.Parts.{Part, CutPart, EndSays, EndPuts, IsTold, CommandSays, BackSays, told, doing_at}
+use Rattle.m36_debug.specs.Parts.{Part, CutPart, EndSays, EndPuts, IsTold, CommandSays, BackSays, told}
 use Rattle.m36_debug.specs.Putting.{PutAll, PutSome, PutsLines}
 use Rattle.m36_debug.specs.Session.{Turning, Doing, Waiting, Running, Backing, Over, Starved, Standing, standing, Took, Went, onward, said, begun, remembered, line_says, run_begun, went, back_says}
 use Rattle.m36_debug.specs.SessionLines.{session_line}

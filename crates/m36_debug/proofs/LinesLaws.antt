@@ -1,24 +1,20 @@
 -- Laws of lines that are cut from bytes.
-use Rattle.std.proofs.Common.{◌≡◌, ◌+◌, ◌-◌, ◌<◌, ◌≤◌, ◌==◌, ℕ, Bool, true, false, cond, List, [], ◌∷◌, ◌++◌, length, take, drop, map, Option, Some, None, All, refl, sym, ap, subst, ◌∙◌, arith, length-take}
+use Rattle.std.proofs.Common.{◌≡◌, ◌+◌, ◌-◌, ◌<◌, ◌≤◌, ◌==◌, ℕ, Bool, false, List, [], ◌∷◌, ◌++◌, length, take, drop, map, Some, None, All, refl, sym, ap, subst, ◌∙◌, arith, length-take}
 use Rattle.std.specs.List.{slice_split, position, position_or_len, before_first, after_first}
 use Rattle.std.proofs.lemmas.Bool.{ltb-true, ltb-false, eqb-true}
 use Rattle.std.proofs.lemmas.Option.{cond_some}
+use Rattle.std.proofs.lemmas.List.Folds.{concat-append}
 use Rattle.std.proofs.lemmas.List.{append-nil, append_assoc, map-append, get_or-take}
 use Rattle.std.proofs.lemmas.List.Elements.{All-nil, All-cons, All-head, All-tail, All-append, All-from_get_or}
 use Rattle.std.proofs.lemmas.List.Splits.{slice_split_at, slice_split_none, length-slice_split}
 use Rattle.std.proofs.lemmas.List.Sums.{split_at_first, fails_before_first, passes_at_first}
 use Rattle.std.proofs.Math.Dec.{ltb}
-use Rattle.m36_text.proofs.Splitting.{rest_whole}
+use Rattle.m36_text.proofs.Splitting.{cond_none, ended_line, open_line, rest_whole}
 use Rattle.m36_outside.specs.Passing.{joined}
 use Rattle.m36_text.specs.Lines.{as_line, cut_line, ended, lines_of, open_rest, open_ended, open_lines_of}
 use Rattle.m36_debug.specs.LinesTaken.{whole, whole_lines, IsUnbroken, IsLines, IsFirstPart}
-use Rattle.m36_debug.proofs.PutLaws.{joined_on}
 
 -- ---- a line feed in a text
-
-cond_none : {A : Type 0} (b : Bool) (x : A) → cond b (Some x) None ≡ None → b ≡ false
-cond_none true x h = cc
-cond_none false x h = refl
 
 some_place : (text : List ℕ) (i : ℕ) → position (λ b. b == 10) text ≡ Some i → (position_or_len (λ b. b == 10) text < length text) × (position_or_len (λ b. b == 10) text ≡ i)
 some_place text i found =
@@ -72,7 +68,7 @@ lines_on text front more rest lines others one two = record {
       ∙ append_assoc (joined (map as_line lines)) front more
       ∙ ap (λ t. joined (map as_line lines) ++ t) two.is
       ∙ sym (append_assoc (joined (map as_line lines)) (joined (map as_line others)) rest)
-      ∙ ap (λ t. t ++ rest) (sym (joined_on (map as_line lines) (map as_line others)))
+      ∙ ap (λ t. t ++ rest) (sym (concat-append (map as_line lines) (map as_line others)))
       ∙ ap (λ l. joined l ++ rest) (sym (map-append as_line lines others));
   unbroken = All-append IsUnbroken lines others one.unbroken two.unbroken;
 }
@@ -113,14 +109,6 @@ split_line :
 split_line line rest unbroken =
     ap (slice_split (λ b. b == 10)) (append_assoc line (10 ∷ []) rest)
     ∙ slice_split_at (λ b. b == 10) line 10 rest unbroken refl
-
-open_line : (line : List ℕ) (parts : List (List ℕ)) → 0 < length parts → open_ended (line ∷ parts) ≡ line ∷ open_ended parts
-open_line line [] some = absurd (omega arith)
-open_line line (next ∷ parts) some = refl
-
-ended_line : (line : List ℕ) (parts : List (List ℕ)) → 0 < length parts → ended (line ∷ parts) ≡ Some line ∷ ended parts
-ended_line line [] some = absurd (omega arith)
-ended_line line (next ∷ parts) some = refl
 
 pub open_lines_on :
     (lines : List (List ℕ)) (rest : List ℕ)

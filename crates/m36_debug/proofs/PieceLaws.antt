@@ -1,11 +1,11 @@
 -- Laws of pieces of input that are answered line by line.
-use Rattle.std.proofs.Common.{◌≡◌, ◌+◌, ◌-◌, ◌<◌, ℕ, List, [], ◌∷◌, ◌++◌, length, take, drop, Option, refl, sym, ap, subst, ◌∙◌, arith}
+use Rattle.std.proofs.Common.{◌≡◌, ◌+◌, ◌<◌, ℕ, List, [], ◌∷◌, ◌++◌, length, sym, subst, arith}
 use Rattle.m36_outside.specs.SinkState.{SinkState}
 use Rattle.m36_text.specs.Lines.{as_line, open_rest}
 use Rattle.m36_debug.specs.declared.turning.Ends.{Ends}
 use Rattle.m36_debug.specs.declared.turning.Ends.TheVariants as ends
 use Rattle.m36_debug.specs.LinesTaken.{IsLines, IsUnbroken}
-use Rattle.m36_debug.specs.Parts.{Part, CutPart, EndSays}
+use Rattle.m36_debug.specs.Parts.{Part, EndSays}
 use Rattle.m36_debug.specs.PieceSays.{AnsweredAll, AnsweredQuit, AnsweredSome, AnsweredCut}
 use Rattle.m36_debug.specs.Putting.{PutAll}
 use Rattle.m36_debug.specs.Session.{Turning, Waiting, Over, Starved, Standing, standing}

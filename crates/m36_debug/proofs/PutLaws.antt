@@ -1,9 +1,10 @@
 -- Laws of lines that are put one after another.
-use Rattle.std.proofs.Common.{◌≡◌, ◌≤◌, ◌<◌, ◌+◌, ℕ, List, [], ◌∷◌, ◌++◌, length, take, drop, get_or, Option, refl, sym, ap, subst, ◌∙◌, arith}
-use Rattle.std.proofs.lemmas.List.{append-nil, append_assoc, take_all, at_drop_more, at_drop_all}
+use Rattle.std.proofs.Common.{◌≡◌, ◌≤◌, ◌<◌, ◌+◌, ℕ, List, [], ◌∷◌, ◌++◌, length, take, drop, get_or, Option, refl, sym, ap, subst, ◌∙◌}
+use Rattle.std.proofs.lemmas.List.Folds.{concat-append}
+use Rattle.std.proofs.lemmas.List.{append-nil, take_all, at_drop_more, at_drop_all}
 use Rattle.m36_desc.specs.Fields.{PtrFields}
 use Rattle.m36_outside.specs.Counts.{Rose}
-use Rattle.m36_outside.specs.Passing.{joined, PutTakes, TakesLines}
+use Rattle.m36_outside.specs.Passing.{joined, PutTakes}
 use Rattle.m36_outside.specs.Put.{PutSays, PutHasCause}
 use Rattle.m36_outside.specs.Written.{Grew, GrewWithin}
 use Rattle.m36_outside.specs.declared.sink.Put.{Put}
@@ -13,11 +14,6 @@ use Rattle.m36_outside.proofs.LinesTaken.{takes_no_lines, takes_lines_on, takes_
 use Rattle.m36_outside.specs.SinkState.{SinkState}
 use Rattle.m36_debug.specs.Putting.{seen, PutAll, PutSome, PutsLines}
 use Rattle.m36_debug.specs.SessionTexts.{pointer_line, pointer_lines}
-
-pub joined_on : (first second : List (List ℕ)) → joined (first ++ second) ≡ joined first ++ joined second
-joined_on [] second = refl
-joined_on (piece ∷ first) second =
-    ap (λ t. piece ++ t) (joined_on first second) ∙ sym (append_assoc piece (joined first) (joined second))
 
 -- nothing is to be put
 pub puts_nothing : (now : SinkState) → PutAll now now []
@@ -29,7 +25,7 @@ pub puts_on :
     (old now new : SinkState) (first second : List (List ℕ))
     → PutAll old now first → PutAll now new second → PutAll old new (first ++ second)
 puts_on old now new first second one two = record {
-  text = subst (Grew old.written new.written) (sym (joined_on first second)) (grew_on old.written now.written new.written (joined first) (joined second) one.text two.text);
+  text = subst (Grew old.written new.written) (sym (concat-append first second)) (grew_on old.written now.written new.written (joined first) (joined second) one.text two.text);
   pieces = takes_lines_on old.taken now.taken new.taken first second one.pieces two.pieces;
   faults = two.faults ∙ one.faults;
 }
@@ -39,7 +35,7 @@ pub puts_more :
     (old now new : SinkState) (first second : List (List ℕ))
     → PutAll old now first → PutSome now new second → PutSome old new (first ++ second)
 puts_more old now new first second one two = record {
-  text = subst (GrewWithin old.written new.written) (sym (joined_on first second)) (grew_more old.written now.written new.written (joined first) (joined second) one.text two.text);
+  text = subst (GrewWithin old.written new.written) (sym (concat-append first second)) (grew_more old.written now.written new.written (joined first) (joined second) one.text two.text);
   pieces = takes_lines_more old.taken now.taken new.taken first second one.pieces two.pieces;
   cause = subst (λ n. Rose n new.faults) one.faults two.cause;
 }
@@ -49,7 +45,7 @@ pub puts_longer :
     (old new : SinkState) (first second : List (List ℕ))
     → PutSome old new first → PutSome old new (first ++ second)
 puts_longer old new first second cut = record {
-  text = subst (GrewWithin old.written new.written) (sym (joined_on first second)) (grew_longer old.written new.written (joined first) (joined second) cut.text);
+  text = subst (GrewWithin old.written new.written) (sym (concat-append first second)) (grew_longer old.written new.written (joined first) (joined second) cut.text);
   pieces = takes_lines_longer old.taken new.taken first second cut.pieces;
   cause = cut.cause;
 }

@@ -1,7 +1,8 @@
 -- Laws of a session that goes on piece by piece.
-use Rattle.std.proofs.Common.{◌≡◌, ◌≢◌, ◌+◌, ◌-◌, ◌*◌, ◌<◌, ◌≤◌, ℕ, List, [], ◌∷◌, ◌++◌, length, take, All, Option, Some, None, inl, inr, refl, sym, ap, subst, ◌∙◌, arith, length-append, length-take}
+use Rattle.std.proofs.Common.{◌≡◌, ◌+◌, ◌-◌, ◌≤◌, ℕ, List, [], ◌∷◌, ◌++◌, length, take, All, Option, Some, None, inl, inr, refl, sym, ap, subst, ◌∙◌, arith, length-append, length-take}
 use Rattle.std.specs.Prelude.{IfSome, Result, Ok, Err}
 use Rattle.std.proofs.Math.Seq.{take-length}
+use Rattle.std.proofs.lemmas.List.Folds.{concat-append}
 use Rattle.std.proofs.lemmas.List.{append-nil, append_assoc, take-append-le}
 use Rattle.m36_outside.specs.Counts.{Rose}
 use Rattle.m36_outside.specs.Passing.{joined}
@@ -13,18 +14,16 @@ use Rattle.m36_debug.specs.declared.fault.SessionFault.TheVariants as fault
 use Rattle.m36_debug.specs.declared.session_line.SessionLine.TheVariants.{Quit}
 use Rattle.m36_debug.specs.declared.turning.Ends.{Ends}
 use Rattle.m36_debug.specs.declared.turning.Ends.TheVariants as ends
-use Rattle.m36_debug.specs.LinesTaken.{whole_lines, IsLines, IsFirstPart, IsUnbroken}
-use Rattle.m36_debug.specs.Parts.{Part, CutPart, EndSays}
+use Rattle.m36_debug.specs.LinesTaken.{IsLines, IsUnbroken}
+use Rattle.m36_debug.specs.Parts.{Part, EndSays}
 use Rattle.m36_debug.specs.PieceSays.{AnsweredAll, AnsweredQuit, AnsweredSome, AnsweredCut}
-use Rattle.m36_debug.specs.Putting.{PutAll, PutSome}
-use Rattle.m36_debug.specs.Session.{Turning, Doing, Waiting, Over, Starved, Standing, standing, lines_said, lines_in}
-use Rattle.m36_debug.specs.SessionLines.{session_line}
-use Rattle.m36_debug.specs.SessionSays.{LinesSeen, SessionSays, TookBy, CountBy, WroteBy, ReadHasCause, answer_of, bytes_limit, HasEnded, StopsAtEnd, TookAll, TookOpen, EndInQuit, TookQuit, TookWhole}
+use Rattle.m36_debug.specs.Putting.{PutAll}
+use Rattle.m36_debug.specs.Session.{Turning, Waiting, Over, Starved, Standing, standing, lines_said}
+use Rattle.m36_debug.specs.SessionSays.{LinesSeen, SessionSays, TookBy, CountBy, WroteBy, ReadHasCause, answer_of, bytes_limit, HasEnded, StopsAtEnd, TookOpen, EndInQuit, TookWhole}
 use Rattle.m36_debug.specs.Sitting.{SittingFields, new_sitting}
 use Rattle.m36_debug.specs.Taking.{GotPiece, GotEnd, GotNothing}
 use Rattle.m36_debug.proofs.LinesLaws.{lines_none, lines_on, all_open, all_whole, some_whole}
 use Rattle.m36_debug.proofs.PartLaws.{part_none, part_on, part_cut}
-use Rattle.m36_debug.proofs.PutLaws.{joined_on}
 use Rattle.m36_debug.proofs.QuitLaws.{IsNotQuit, no_quit, quit_last}
 
 -- ---- pieces of input
@@ -43,7 +42,7 @@ preceded_both x y None = refl
 preceded_both x y (Some left) = ap (λ l. Some l) (sym (append_assoc x y left))
 
 joined_last : (pieces : List (List ℕ)) (piece : List ℕ) → joined (pieces ++ piece ∷ []) ≡ joined pieces ++ piece
-joined_last pieces piece = joined_on pieces (piece ∷ []) ∙ ap (λ t. joined pieces ++ t) (append-nil piece)
+joined_last pieces piece = concat-append pieces (piece ∷ []) ∙ ap (λ t. joined pieces ++ t) (append-nil piece)
 
 joined_end : (pieces : List (List ℕ)) → joined (pieces ++ [] ∷ []) ≡ joined pieces
 joined_end pieces = joined_last pieces [] ∙ append-nil (joined pieces)

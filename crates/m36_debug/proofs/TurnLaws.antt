@@ -1,5 +1,6 @@
 -- Laws of turns that a command takes.
-use Rattle.std.proofs.Common.{◌≡◌, ◌+◌, ◌-◌, ◌<◌, ◌≤◌, ℕ, Bool, true, false, List, [], ◌∷◌, ◌++◌, Option, refl, sym, ap, subst, ◌∙◌, arith}
+use Rattle.std.proofs.Common.{◌≡◌, ◌+◌, ◌-◌, ◌<◌, ◌≤◌, ℕ, Bool, true, false, List, [], refl, sym, ap, subst, ◌∙◌, arith}
+use Rattle.std.proofs.lemmas.Bool.{false≢true}
 use Rattle.std.specs.Prelude.{◌≢◌, nat_eq, if◌then◌else◌, Result, Ok, Err}
 use Rattle.std.proofs.lemmas.Bool.{eqb-false}
 use Rattle.m36_word.specs.declared.pair.Pair.{Pair}
@@ -61,16 +62,13 @@ turn_came o Done turn run s m m' old new next puts =
     came_says o turn (next_of (o.regs m') s run turn) (standing s (Running run)) m (sitting_after s turn) m' old new (turn_part o turn run s m m' old new next puts)
 turn_came o Failed turn run s m m' old new next puts = turn_cut o turn run s m m' old new next puts
 
-false_not_true : false ≡ true → ⊥
-false_not_true is = cc
-
 service_made : {M : Type 0} (o : Turning M) (turn : Turn) (m m' : M) → o.next m turn m' → is_service turn ≡ true → Serves o m m'
-service_made o (turns.Stepped told) m m' may is = absurd (false_not_true is)
+service_made o (turns.Stepped told) m m' may is = absurd (false≢true is)
 service_made o (turns.Linked note) m m' may is = record { turn = turns.Linked note; next = may; service = tt }
 service_made o (turns.Console text) m m' may is = record { turn = turns.Console text; next = may; service = tt }
-service_made o (turns.Ended end) m m' may is = absurd (false_not_true is)
-service_made o turns.Full m m' may is = absurd (false_not_true is)
-service_made o turns.NoMemory m m' may is = absurd (false_not_true is)
+service_made o (turns.Ended end) m m' may is = absurd (false≢true is)
+service_made o turns.Full m m' may is = absurd (false≢true is)
+service_made o turns.NoMemory m m' may is = absurd (false≢true is)
 
 came_served :
     {M : Type 0} (o : Turning M) (turn : Turn) (next : Further) (m m' : M)
@@ -216,7 +214,7 @@ pub record WasServed {M : Type 0} (o : Turning M) (m : M) : Type 0 where
   pub serves : Serves o before m
 
 pub none_served : {M : Type 0} (o : Turning M) (m : M) → false ≡ true → WasServed o m
-none_served o m is = absurd (false_not_true is)
+none_served o m is = absurd (false≢true is)
 
 -- the steps that are left, and those that were taken
 pub runs_count :

@@ -6,7 +6,7 @@ use Rattle.m36_debug.specs.declared.turning.Ends.TheVariants as ends
 use Rattle.m36_debug.specs.LinesTaken.{IsLines, IsUnbroken}
 use Rattle.m36_debug.specs.Parts.{Part, CutPart}
 use Rattle.m36_debug.specs.Putting.{PutAll}
-use Rattle.m36_debug.specs.Session.{Turning, Doing, Waiting, Over, Standing, standing}
+use Rattle.m36_debug.specs.Session.{Turning, Waiting, Over, Standing, standing}
 use Rattle.m36_debug.specs.Sitting.{SittingFields}
 
 -- All whole lines of a text were answered, and what stands behind them is kept.

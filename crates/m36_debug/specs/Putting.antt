@@ -1,8 +1,7 @@
 -- What is said of a sink to which lines are put, each in one piece.
 use Rattle.std.specs.Prelude.{ℕ, ◌≡◌, List, ◌++◌, Option}
 use Rattle.m36_outside.specs.Counts.{Rose}
-use Rattle.m36_outside.specs.Passing.{joined, TakesSome, TakesLines}
-use Rattle.m36_outside.specs.Put.{PutSays, PutHasCause}
+use Rattle.m36_outside.specs.Passing.{joined, TakesSome}
 use Rattle.m36_outside.specs.SinkState.{SinkState}
 use Rattle.m36_outside.specs.Written.{Grew, GrewWithin}
 use Rattle.m36_outside.specs.declared.sink.Put.{Put}

@@ -9,7 +9,7 @@ use Rattle.m36_model.specs.Registers.{RegsFields}
 use Rattle.m36_model.specs.declared.endings.End.{End}
 use Rattle.m36_step.specs.declared.turns.Turn.{Turn}
 use Rattle.m36_step.specs.declared.turns.Turn.TheVariants.{Ended}
-use Rattle.m36_trace.specs.TraceLine.{word_of_segment, indicators_text}
+use Rattle.m36_trace.specs.TraceLine.{word_of_segment, address_text, indicators_text}
 use Rattle.m36_turns.specs.TurnLines.{run_end_line_of, turn_pieces}
 
 -- an unknown line is shown up to its 64th byte
@@ -48,12 +48,13 @@ index_text x = codes " " ++ octal_text 6 x
 unfoldable pub x_line : RegsFields → List ℕ
 x_line g = as_line (codes "x" ++ flat_map index_text g.x)
 
--- a pointer register by its number: the ring, the segment and the word, and the bit
+-- a pointer register by its number: the address with its ring, and the bit
 unfoldable pub pointer_line : ℕ → PtrFields → List ℕ
 pointer_line n p =
     as_line
-    (codes "pr" ++ octal_text 1 n ++ codes " " ++ octal_text 1 p.ring ++ codes ":"
-    ++ word_of_segment p.seg p.word ++ codes " " ++ octal_text 2 p.bit)
+    (codes "pr" ++ octal_text 1 n ++ codes " "
+    ++ address_text (record { word = p.word; seg = p.seg; ring = p.ring }) ++ codes " "
+    ++ octal_text 2 p.bit)
 
 -- those from number n on
 unfoldable pub pointer_lines : ℕ → List PtrFields → List (List ℕ)

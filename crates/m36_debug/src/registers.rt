@@ -8,10 +8,10 @@ ghost use Rattle.m36_debug.specs.SessionTexts.{a_line, index_text, x_line, point
 use crate::putting::put_text;
 use arrayvec::ArrayString;
 use m36_desc::Ptr;
-use m36_model::Regs;
+use m36_model::{At, Regs};
 use m36_outside::{Put, Sink};
 use m36_text::octal;
-use m36_trace::{put_indicators, put_place};
+use m36_trace::{put_address, put_indicators};
 
 // Tells A, Q and the indicators.
 #[tactic(auto, unfolding(crate::specs::SessionTexts::a_line))]
@@ -68,9 +68,14 @@ fn put_pointer<S: Sink>(out: &mut S, n: u32, pointer: &Ptr) -> Put
     text.push_str("pr");
     text.push_str(octal(n as u64, 1).as_str());
     text.push_str(" ");
-    text.push_str(octal(pointer.ring as u64, 1).as_str());
-    text.push_str(":");
-    put_place(&mut text, pointer.seg, pointer.word);
+    put_address(
+        &mut text,
+        At {
+            word: pointer.word,
+            seg: pointer.seg,
+            ring: pointer.ring,
+        },
+    );
     text.push_str(" ");
     text.push_str(octal(pointer.bit as u64, 2).as_str());
     put_text(out, text)

@@ -1,7 +1,6 @@
-use Rattle.std.proofs.Common.{ap}
 use Rattle.m36_debug.specs.Putting.{seen}
 use Rattle.m36_debug.specs.SessionTexts.{pointer_lines}
-use Rattle.m36_debug.proofs.PutLaws.{pointers_start, pointer_put, pointer_cut, pointers_end}
+use Rattle.m36_debug.proofs.PutLaws.{pointer_cut}
 use Rattle.m36_debug.proofs.registers.put_pointers.Goals as goal
 
 pub returns-in-Failed : goal.returns-in-Failed

@@ -1,4 +1,4 @@
-use Rattle.std.proofs.Common.{[], ◌∷◌}
+use Rattle.std.proofs.Common.{◌∷◌}
 use Rattle.m36_debug.specs.Putting.{seen}
 use Rattle.m36_debug.specs.SessionTexts.{a_line, x_line, pointer_lines, regs_lines}
 use Rattle.m36_debug.proofs.PutLaws.{puts_behind, puts_behind_cut, puts_first_cut}

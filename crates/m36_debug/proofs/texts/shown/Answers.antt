@@ -1,4 +1,4 @@
-use Rattle.std.proofs.Common.{sym, arith, ◌≤◌}
+use Rattle.std.proofs.Common.{sym, arith}
 use Rattle.std.proofs.lemmas.List.{length-take-le}
 use Rattle.m36_debug.proofs.texts.shown.Goals as goal
 
