@@ -1,5 +1,5 @@
 -- Answers by what an audit has found: the audit text, and the run behind it.
-use Rattle.std.proofs.Common.{◌≡◌, ℕ, ◌<◌, Bool, true, false, List, [], ◌∷◌, ◌++◌, length, refl, ap, subst, ◌∙◌, arith}
+use Rattle.std.proofs.Common.{◌≡◌, ℕ, ◌<◌, true, false, List, [], ◌∷◌, ◌++◌, length, refl, ap, subst, ◌∙◌, arith}
 use Rattle.m36_outside.specs.Counts.{Rose}
 use Rattle.m36_outside.specs.Written.{Grew, GrewWithin}
 use Rattle.m36_outside.specs.Passing.{TakesSome}
@@ -13,14 +13,13 @@ use Rattle.m36_audit.specs.Findings.{pairs}
 use Rattle.m36_audit.specs.declared.verdict.Finding.{Finding}
 use Rattle.m36_reading.specs.declared.status.Status.TheVariants.{Done, WriteFault, AuditNo}
 use Rattle.m36_reading.specs.Answers.{Answer}
-use Rattle.m36_reading.specs.Ends.{Answered, end_of}
-use Rattle.m36_ran.specs.Run.{run, last_outcome}
+use Rattle.m36_reading.specs.Ends.{end_of}
 use Rattle.m36_ran.specs.Output.{status_after, run_text, run_pieces}
 use Rattle.m36_ran.specs.RunSays.{RunSays, RunTakes}
 use Rattle.m36_ran.specs.AuditText.{audit_text, audit_pieces}
 use Rattle.m36_ran.specs.Putting.{IsPut, PutsBy}
 use Rattle.m36_ran.specs.Ran.{behind, run_answer, passes, audit_answer}
-use Rattle.m36_ran.specs.declared.running.Ended.TheVariants.{Whole, Cut}
+use Rattle.m36_ran.specs.declared.running.Ended.TheVariants.{Whole}
 use Rattle.m36_ran.proofs.PiecesJoined.{grew_both, grew_both_more, grew_both_longer}
 
 -- a run that was written whole

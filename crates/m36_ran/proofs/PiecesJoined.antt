@@ -1,6 +1,6 @@
 -- Texts that are pieces, one behind the other: what is written of them, and that those of an answer on a state are.
-use Rattle.std.proofs.Common.{◌≡◌, ℕ, Bool, true, false, List, [], ◌∷◌, ◌++◌, Option, refl, sym, ap, subst, ◌∙◌}
-use Rattle.std.proofs.lemmas.List.{append_assoc}
+use Rattle.std.proofs.Common.{◌≡◌, ℕ, Bool, true, false, List, ◌++◌, Option, refl, sym, subst}
+pub use Rattle.std.proofs.lemmas.List.Folds.{concat-append as joined_on}
 use Rattle.m36_outside.specs.Passing.{joined}
 use Rattle.m36_outside.specs.Written.{Grew, GrewWithin}
 use Rattle.m36_outside.proofs.Grown.{grew_on, grew_more, grew_longer}
@@ -8,11 +8,6 @@ use Rattle.m36_model.specs.Store.{State}
 use Rattle.m36_ran.specs.declared.command.ImageCommand.{ImageCommand}
 use Rattle.m36_ran.specs.declared.command.ImageCommand.TheVariants.{Bare, Audit}
 use Rattle.m36_ran.specs.Ran.{audit_answer, bare_by, state_answer}
-
-pub joined_on : (first second : List (List ℕ)) → joined (first ++ second) ≡ joined first ++ joined second
-joined_on [] second = refl
-joined_on (piece ∷ first) second =
-    ap (λ t. piece ++ t) (joined_on first second) ∙ sym (append_assoc piece (joined first) (joined second))
 
 -- ---- what is written
 

@@ -1,8 +1,7 @@
 -- A command on a bare image, from its parts.
-use Rattle.std.proofs.Common.{◌≡◌, ℕ, List, [], Option, Result, Ok, Err, refl, sym, ap, subst, ◌∙◌, inl, inr}
+use Rattle.std.proofs.Common.{◌≡◌, ℕ, List, [], Result, Ok, Err, refl, sym, ap, inr}
 use Rattle.m36_model.specs.Store.{State}
 use Rattle.m36_model.specs.Audit.{AreFindings}
-use Rattle.m36_outside.specs.Files.{Files}
 use Rattle.m36_outside.specs.SinkState.{SinkState}
 use Rattle.m36_image.specs.declared.refusal.Refusal as refusal
 use Rattle.m36_reading.specs.declared.refusal.Refusal.{Refusal}
@@ -17,7 +16,7 @@ use Rattle.m36_reading.specs.Doing.{EndsBy, Performs}
 use Rattle.m36_reading.proofs.ReadLaws.{gives_by}
 use Rattle.m36_reading.proofs.WriteLaws.{writes_none}
 use Rattle.m36_ran.specs.declared.command.ImageCommand.{ImageCommand}
-use Rattle.m36_ran.specs.Putting.{PutsBy, PutsDue, PutsSome}
+use Rattle.m36_ran.specs.Putting.{PutsBy, PutsSome}
 use Rattle.m36_ran.specs.Ran.{code_of, state_by, state_answer, IsIsolated, IsStateDue, state_kind}
 
 -- ---- the state of a file

@@ -10,8 +10,8 @@ use Rattle.m36_ran.specs.declared.command.ImageCommand.{ImageCommand}
 use Rattle.m36_ran.specs.declared.command.ImageCommand.TheVariants.{Bare, Audit}
 use Rattle.m36_ran.specs.Output.{run_pieces}
 use Rattle.m36_ran.specs.AuditText.{yes_line, finding_line, finding_pieces, audit_pieces, audit_text}
-use Rattle.m36_ran.specs.Ran.{run_answer, audit_answer, bare_by, state_answer, IsStateDue, PassesAudit}
 use Rattle.m36_ran.proofs.PiecesJoined.{joined_on}
+use Rattle.m36_ran.specs.Ran.{run_answer, audit_answer, bare_by, state_answer, IsStateDue, PassesAudit}
 
 -- every output on a state begins with the audit text
 bare_begins :

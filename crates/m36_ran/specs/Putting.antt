@@ -1,5 +1,5 @@
 -- What is said of a sink where the answer that is due writes no file.
-use Rattle.std.specs.Prelude.{ℕ, ◌≡◌, List, [], ◌++◌}
+use Rattle.std.specs.Prelude.{◌≡◌, [], ◌++◌}
 use Rattle.m36_outside.specs.Counts.{Rose}
 use Rattle.m36_outside.specs.Passing.{TakesSome}
 use Rattle.m36_outside.specs.Written.{Grew, GrewWithin}

@@ -1,7 +1,6 @@
 -- What is due to a command on a bare image: the text of what its audit finds, and, where it is run,
 -- the output of the run, both line by line.
 use Rattle.std.specs.Prelude.{◌≡◌, ℕ, Bool, true, false, ◌||◌, List, [], ◌∷◌, ◌++◌, Result, Ok, Err}
-use Rattle.m36_outside.specs.Passing.{joined}
 use Rattle.m36_desc.specs.Fields.{DbrFields}
 use Rattle.m36_model.specs.Store.{State}
 use Rattle.m36_model.specs.Core.{core_store, core_tables}
@@ -17,14 +16,14 @@ use Rattle.m36_reading.specs.declared.status.Status.{Status}
 use Rattle.m36_reading.specs.declared.status.Status.TheVariants.{Done, AuditNo}
 use Rattle.m36_reading.specs.Reading.{Reading, decided, Early, then_with}
 use Rattle.m36_reading.specs.Readers.{refused, file_bytes}
-use Rattle.m36_reading.specs.Answers.{Answer}
-use Rattle.m36_reading.specs.Outside.{Outside, IsIdle}
+use Rattle.m36_reading.specs.Answers.{Answer, answer_with}
+use Rattle.m36_reading.specs.Outside.{IsIdle}
 use Rattle.m36_reading.specs.Doing.{Kind, fails_never}
 use Rattle.m36_ran.specs.declared.command.ImageCommand.{ImageCommand}
 use Rattle.m36_ran.specs.declared.command.ImageCommand.TheVariants.{Bare, Audit}
 use Rattle.m36_ran.specs.Run.{run, last_outcome}
-use Rattle.m36_ran.specs.Output.{run_text, run_pieces, status_after}
-use Rattle.m36_ran.specs.AuditText.{audit_text, audit_pieces}
+use Rattle.m36_ran.specs.Output.{run_pieces, status_after}
+use Rattle.m36_ran.specs.AuditText.{audit_pieces}
 
 -- ---- reading
 
@@ -47,12 +46,8 @@ state_reads name =
 
 -- a run of at most so many steps
 unfoldable pub run_answer : ℕ → State (List ℕ) → Answer
-run_answer steps state = record {
-  sets = [];
-  text = run_text steps state;
-  pieces = run_pieces steps state;
-  status = status_after (last_outcome (run steps state));
-}
+run_answer steps state =
+    answer_with (run_pieces steps state) (status_after (last_outcome (run steps state)))
 
 -- an audit, by what it finds: findings of any kind
 abbrev pub passes : {A : Type 0} → List A → Bool
@@ -64,22 +59,12 @@ audit_status true = Done
 audit_status false = AuditNo
 
 unfoldable pub audit_answer : List (ℕ × ℕ) → Answer
-audit_answer findings = record {
-  sets = [];
-  text = audit_text findings;
-  pieces = audit_pieces findings;
-  status = audit_status (passes findings);
-}
+audit_answer findings = answer_with (audit_pieces findings) (audit_status (passes findings))
 
 -- The audit text, and the run behind it where it is to be made: where the audit passes, or
 -- `--unaudited` is given.
 abbrev pub behind : List (ℕ × ℕ) → Answer → Answer
-behind findings answer = record {
-  sets = answer.sets;
-  text = joined (audit_pieces findings ++ answer.pieces);
-  pieces = audit_pieces findings ++ answer.pieces;
-  status = answer.status;
-}
+behind findings answer = answer_with (audit_pieces findings ++ answer.pieces) answer.status
 
 abbrev pub bare_by : Bool → ℕ → State (List ℕ) → List (ℕ × ℕ) → Answer
 bare_by true steps state findings = behind findings (run_answer steps state)

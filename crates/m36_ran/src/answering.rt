@@ -1,6 +1,6 @@
 //! The audit of an image, and its run.
 
-ghost use Rattle.std.specs.Prelude.{ℕ, ◌≡◌, ◌||◌, [], None, Ok, IfOk};
+ghost use Rattle.std.specs.Prelude.{◌≡◌, ◌||◌, [], None, Ok, IfOk};
 ghost use Rattle.m36_model.specs.Audit.{AreFindings};
 ghost use Rattle.m36_audit.specs.Findings.{pairs};
 ghost use Rattle.m36_reading.specs.Ends.{end_of};

@@ -1,6 +1,6 @@
 //! The text of an audit.
 
-ghost use Rattle.std.specs.Prelude.{ℕ, ◌≡◌, ◌≤◌, ◌<◌, ◌||◌, ◌==◌, [], ◌∷◌, length, if◌then◌else◌};
+ghost use Rattle.std.specs.Prelude.{◌≡◌, ◌≤◌, ◌<◌, ◌||◌, ◌==◌, [], ◌∷◌, length};
 ghost use Rattle.m36_text.specs.Digits.{octal_text};
 ghost use Rattle.m36_text.specs.Lines.{as_line};
 ghost use Rattle.m36_outside.specs.Passing.{TakesLines, joined};
