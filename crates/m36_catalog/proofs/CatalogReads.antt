@@ -1,5 +1,5 @@
 -- The boot text and the access lists, one after another.
-use Rattle.std.proofs.Common.{◌≡◌, ℕ, List, [], Option, Some, None, Result, Ok, Err, refl, sym, ap, subst}
+use Rattle.std.proofs.Common.{◌≡◌, ℕ, List, Option, Some, None, Result, Ok, Err, refl, sym, ap, subst}
 use Rattle.m36_dir.specs.Catalog.{CatalogFields, catalog_of}
 use Rattle.m36_dir.specs.Catalog as dir
 use Rattle.m36_dir.specs.declared.fault.CatalogFault.{CatalogFault}
@@ -12,7 +12,7 @@ use Rattle.m36_acl.specs.declared.fault.AclFault.TheVariants as acl
 use Rattle.m36_acl.specs.Granted.{first_unknown}
 use Rattle.m36_reading.specs.declared.refusal.Refusal.{Refusal}
 use Rattle.m36_reading.specs.declared.refusal.Refusal.TheVariants.{NoMemory}
-use Rattle.m36_reading.specs.Reading.{Reading, decided, Early, then_with}
+use Rattle.m36_reading.specs.Reading.{decided}
 use Rattle.m36_reading.specs.Readers.{file_bytes}
 use Rattle.m36_reading.specs.Asking.{Asked, Gives, Refuses}
 use Rattle.m36_reading.specs.Outside.{FolderState}

@@ -1,6 +1,6 @@
 //! The boot text of a folder, and its access lists.
 
-ghost use Rattle.std.specs.Prelude.{◌≡◌, ◌≤◌, Ok, Some, length};
+ghost use Rattle.std.specs.Prelude.{◌≤◌, Ok, Some, length};
 ghost use Rattle.m36_outside.specs.ReadAnswer.{file_limit};
 ghost use Rattle.m36_dir.specs.Catalog.{catalog_of};
 ghost use Rattle.m36_acl.specs.AccessLists.{lists_of};

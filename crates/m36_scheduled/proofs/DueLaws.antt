@@ -1,8 +1,6 @@
 -- What is due to a schedule of processes: one answer.
-use Rattle.std.proofs.Common.{◌≡◌, ℕ, ◌+◌, Bool, List, [], ◌∷◌, ◌++◌, Option, Some, None, refl, sym, ap, subst, ◌∙◌}
+use Rattle.std.proofs.Common.{◌≡◌, ℕ, ◌+◌, Bool, List, [], ◌∷◌, ◌++◌, refl, sym, ap, subst, ◌∙◌}
 use Rattle.m36_desc.specs.Fields.{DbrFields}
-use Rattle.m36_model.specs.Core.{core_store, core_tables}
-use Rattle.m36_model.specs.Audit.{AreFindings}
 use Rattle.m36_model.specs.JointAudit.{JointFound, IsJointTable, IsJointSegment, IsJointlyAudited, AreJointFindings, AreFindingsFrom, of_process, between}
 use Rattle.m36_isol.proofs.JointFindings.{joint_findings_law}
 use Rattle.m36_isol.proofs.Schedules.{jointly_isolated}

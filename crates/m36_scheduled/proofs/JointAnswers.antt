@@ -1,6 +1,5 @@
 -- Answers by what a joint audit has found: the audit text, and the lines of the schedule behind it.
-use Rattle.std.proofs.Common.{◌≡◌, ℕ, ◌<◌, Bool, true, false, List, [], ◌∷◌, ◌++◌, length, refl, ap, subst, ◌∙◌, arith}
-use Rattle.std.specs.Prelude.{Ok, Err}
+use Rattle.std.proofs.Common.{◌≡◌, ℕ, ◌<◌, true, false, List, [], ◌∷◌, ◌++◌, length, refl, subst, ◌∙◌, arith}
 use Rattle.m36_outside.specs.Counts.{Rose}
 use Rattle.m36_outside.specs.Written.{Grew, GrewWithin}
 use Rattle.m36_outside.specs.Passing.{TakesSome}

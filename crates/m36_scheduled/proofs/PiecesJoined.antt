@@ -1,5 +1,5 @@
 -- The pieces of an answer, one behind the other, are its text.
-use Rattle.std.proofs.Common.{◌≡◌, ℕ, Bool, true, false, List, refl}
+use Rattle.std.proofs.Common.{◌≡◌, Bool, true, false, List, refl}
 use Rattle.std.specs.Prelude.{◌||◌}
 use Rattle.m36_outside.specs.Passing.{joined}
 use Rattle.m36_model.specs.JointAudit.{JointFound}

@@ -1,18 +1,15 @@
 -- The command on processes, from its parts.
-use Rattle.std.proofs.Common.{◌≡◌, ℕ, Bool, List, [], Option, Result, Ok, Err, refl, sym, ap, subst, ◌∙◌, inl, inr}
+use Rattle.std.proofs.Common.{◌≡◌, ℕ, Bool, List, [], Result, Ok, Err, refl, sym, ap, inr}
 use Rattle.m36_model.specs.JointAudit.{JointFound, AreJointFindings}
-use Rattle.m36_outside.specs.Files.{Files}
 use Rattle.m36_outside.specs.SinkState.{SinkState}
 use Rattle.m36_procs.specs.ProcsFields.{ProcsFields}
 use Rattle.m36_procs.specs.declared.fault.Code.{Code as ProcsCode}
-use Rattle.m36_procs.specs.declared.fault.Code.TheVariants as procs
 use Rattle.m36_reading.specs.declared.refusal.Refusal.{Refusal}
 use Rattle.m36_reading.specs.declared.setting.Set.{Set}
-use Rattle.m36_reading.specs.declared.status.Code.TheVariants as code
 use Rattle.m36_reading.specs.declared.status.Status.{Status}
 use Rattle.m36_reading.specs.Asking.{Came, Gives, Refuses}
 use Rattle.m36_reading.specs.Readers.{refused}
-use Rattle.m36_reading.specs.Answers.{Answer, with_sets}
+use Rattle.m36_reading.specs.Answers.{with_sets}
 use Rattle.m36_reading.specs.Outside.{FolderState}
 use Rattle.m36_reading.specs.Ends.{End, Answered, Cut, Unread, Starved, Unasked, end_of}
 use Rattle.m36_reading.specs.Doing.{EndsBy, Performs}

@@ -5,16 +5,15 @@ use Rattle.std.proofs.lemmas.List.{append-nil}
 use Rattle.m36_outside.specs.Passing.{joined}
 use Rattle.m36_model.specs.JointAudit.{JointFound, AreJointFindings}
 use Rattle.m36_isol.proofs.JointFindings.{joint_findings_law}
-use Rattle.m36_text.specs.Digits.{decimal_text}
 use Rattle.m36_text.specs.Lines.{as_line}
 use Rattle.m36_procs.specs.ProcsFields.{ProcsFields}
 use Rattle.m36_procs.specs.ScheduleText.{schedule_pieces}
 use Rattle.m36_reading.specs.Answers.{Answer}
 use Rattle.m36_ran.specs.AuditText.{yes_line}
-use Rattle.m36_ran.specs.Ran.{passes}
 use Rattle.m36_ran.proofs.PiecesJoined.{joined_on}
+use Rattle.m36_ran.specs.Ran.{passes}
 use Rattle.m36_scheduled.specs.JointText.{process_line, between_line, line_by, found_pieces, joint_pieces, joint_text}
-use Rattle.m36_scheduled.specs.Scheduled.{run_answer, refused_answer, answer_by, procs_answer, dbrs_of, IsProcsDue, PassesJoint}
+use Rattle.m36_scheduled.specs.Scheduled.{run_answer, refused_answer, answer_by, dbrs_of, IsProcsDue, PassesJoint}
 
 -- every output begins with the audit text
 answer_begins : (b : Bool) (p : ProcsFields) (findings : List JointFound) → (more : List ℕ) × ((answer_by b findings p).text ≡ joint_text findings ++ more)

@@ -1,5 +1,5 @@
 -- What is due to a schedule of processes, by the conditions of the joint audit.
-use Rattle.std.specs.Prelude.{◌≡◌, ℕ, Bool, List, [], ◌∷◌}
+use Rattle.std.specs.Prelude.{◌≡◌, Bool, List, [], ◌∷◌}
 use Rattle.m36_model.specs.JointAudit.{JointFound, IsJointlyAudited}
 use Rattle.m36_procs.specs.ProcsFields.{ProcsFields}
 use Rattle.m36_reading.specs.Answers.{Answer}

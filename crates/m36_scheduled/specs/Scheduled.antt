@@ -1,8 +1,6 @@
 -- What is due to a schedule of processes: the text of what their joint audit finds, and, where they
 -- are run, the lines of the schedule, both line by line.
-use Rattle.std.specs.Prelude.{◌≡◌, ℕ, Bool, true, false, ◌||◌, List, [], ◌∷◌, ◌++◌, map, Result, Ok}
-use Rattle.std.specs.Prelude.{Err}
-use Rattle.m36_outside.specs.Passing.{joined}
+use Rattle.std.specs.Prelude.{◌≡◌, ℕ, Bool, true, false, ◌||◌, List, [], ◌++◌, map, Result, Ok, Err}
 use Rattle.m36_desc.specs.Fields.{DbrFields}
 use Rattle.m36_model.specs.Core.{core_store, core_tables}
 use Rattle.m36_model.specs.Schedule.{Processes}
@@ -15,15 +13,14 @@ use Rattle.m36_procs.specs.declared.fault.Code.{Code as ProcsCode}
 use Rattle.m36_procs.specs.declared.fault.Code.TheVariants as procs
 use Rattle.m36_reading.specs.declared.status.Code.{Code}
 use Rattle.m36_reading.specs.declared.status.Code.TheVariants as code
-use Rattle.m36_reading.specs.declared.status.Status.{Status}
 use Rattle.m36_reading.specs.declared.status.Status.TheVariants.{Done, AuditNo}
 use Rattle.m36_reading.specs.Reading.{Reading, decided, Early, then_with}
 use Rattle.m36_reading.specs.Readers.{refused, file_bytes}
-use Rattle.m36_reading.specs.Answers.{Answer}
+use Rattle.m36_reading.specs.Answers.{Answer, answer_with}
 use Rattle.m36_reading.specs.Outside.{IsIdle}
 use Rattle.m36_reading.specs.Doing.{Kind, fails_never}
 use Rattle.m36_ran.specs.Ran.{passes}
-use Rattle.m36_scheduled.specs.JointText.{joint_text, joint_pieces}
+use Rattle.m36_scheduled.specs.JointText.{joint_pieces}
 
 -- ---- reading
 
@@ -45,21 +42,12 @@ procs_reads name =
 
 -- The audit text, and the lines of the schedule behind it: the whole schedule is run.
 unfoldable pub run_answer : List JointFound → ProcsFields → Answer
-run_answer findings p = record {
-  sets = [];
-  text = joined (joint_pieces findings ++ schedule_pieces p.schedule p.state);
-  pieces = joint_pieces findings ++ schedule_pieces p.schedule p.state;
-  status = Done;
-}
+run_answer findings p =
+    answer_with (joint_pieces findings ++ schedule_pieces p.schedule p.state) Done
 
 -- the audit text alone, where something was found
 unfoldable pub refused_answer : List JointFound → Answer
-refused_answer findings = record {
-  sets = [];
-  text = joint_text findings;
-  pieces = joint_pieces findings;
-  status = AuditNo;
-}
+refused_answer findings = answer_with (joint_pieces findings) AuditNo
 
 -- The schedule is run where the audit passes, or `--unaudited` is given.
 abbrev pub answer_by : Bool → List JointFound → ProcsFields → Answer

@@ -1,6 +1,6 @@
 //! The joint audit of processes, and their schedule.
 
-ghost use Rattle.std.specs.Prelude.{ℕ, ◌≡◌, ◌||◌, ◌≤◌, ◌<◌, [], Ok, IfOk, map, length};
+ghost use Rattle.std.specs.Prelude.{◌≡◌, ◌||◌, ◌≤◌, ◌<◌, [], Ok, IfOk, length};
 ghost use Rattle.m36_model.specs.JointAudit.{AreJointFindings};
 ghost use Rattle.m36_audit.specs.Joints.{all_found};
 ghost use Rattle.m36_reading.specs.Ends.{end_of};
@@ -8,7 +8,7 @@ ghost use Rattle.m36_reading.specs.Outside.{sink_of, outside_of};
 ghost use Rattle.m36_reading.specs.Doing.{Does};
 ghost use Rattle.m36_ran.specs.Putting.{PutsBy, PutsSome};
 ghost use Rattle.m36_ran.specs.Ran.{passes};
-ghost use Rattle.m36_scheduled.specs.Scheduled.{procs_reads, run_answer, refused_answer, answer_by, procs_answer, dbrs_of, AreIsolated, IsProcsDue, procs_kind};
+ghost use Rattle.m36_scheduled.specs.Scheduled.{procs_reads, run_answer, refused_answer, procs_answer, dbrs_of, AreIsolated, IsProcsDue, procs_kind};
 
 use crate::findings::put_joint;
 use crate::reading::read_procs;

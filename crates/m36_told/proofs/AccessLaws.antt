@@ -1,5 +1,5 @@
 -- What is read of the rights of a user, one after another.
-use Rattle.std.proofs.Common.{◌≡◌, ℕ, List, [], Result, Ok, Err}
+use Rattle.std.proofs.Common.{ℕ, List, Result, Ok, Err}
 use Rattle.m36_dir.specs.Catalog.{CatalogFields}
 use Rattle.m36_acl.specs.Fields.{AclSegmentFields}
 use Rattle.m36_acl.specs.AccessLists.{Lists}

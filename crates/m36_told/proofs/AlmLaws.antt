@@ -1,5 +1,5 @@
 -- What `alm` tells, from its parts.
-use Rattle.std.proofs.Common.{◌≡◌, ℕ, List, [], ◌∷◌, Result, Ok, Err, refl, sym, ap, subst, ◌∙◌}
+use Rattle.std.proofs.Common.{◌≡◌, ℕ, List, [], ◌∷◌, Result, Ok, Err, sym, ap, subst, ◌∙◌}
 use Rattle.m36_text.specs.Packing.{packed}
 use Rattle.alm_parse.specs.SourceFields.{Source}
 use Rattle.alm_parse.specs.Sources.{parsed, Refuses}
@@ -15,7 +15,7 @@ use Rattle.m36_reading.proofs.ReadLaws.{gives_by, memory_given}
 use Rattle.m36_told.specs.declared.assembling.AlmFiles.{AlmFiles}
 use Rattle.m36_told.specs.Told.{ToldFields}
 use Rattle.m36_told.specs.Assemblies.{Assembly, with_parts, assembly_by, assembly_of, object_bytes}
-use Rattle.m36_told.specs.Telling.{source_refused, assembly_told, told_by, IsMade, MadeSays}
+use Rattle.m36_told.specs.Telling.{source_refused, told_by, IsMade, MadeSays}
 
 -- lines that are assembled
 pub made_parts :

@@ -1,5 +1,5 @@
 -- What `bind` tells, from its parts.
-use Rattle.std.proofs.Common.{◌≡◌, ℕ, List, [], ◌∷◌, ◌++◌, Result, Ok, Err, refl, sym, ap, subst, ◌∙◌}
+use Rattle.std.proofs.Common.{◌≡◌, ℕ, List, [], ◌∷◌, Result, Ok, Err, refl, sym, ap, subst, ◌∙◌}
 use Rattle.m36_text.specs.Packing.{packed}
 use Rattle.obj36_parts.specs.PartsFields.{PartsFields}
 use Rattle.obj36_parts.specs.ObjectSegment.{Stands}
@@ -9,16 +9,16 @@ use Rattle.m36_bindfile.specs.declared.fault.BindFault.TheVariants as bind
 use Rattle.m36_bindfile.specs.BindFile.{bind_lines, names_by, Refuses}
 use Rattle.m36_reading.specs.declared.refusal.Refusal.{Refusal}
 use Rattle.m36_reading.specs.declared.refusal.Refusal.TheVariants.{NoMemory}
-use Rattle.m36_reading.specs.Reading.{Reading, decided, Early, then_with}
+use Rattle.m36_reading.specs.Reading.{decided, Early, then_with}
 use Rattle.m36_reading.specs.Asking as asking
 use Rattle.m36_reading.specs.Asking.{Asked}
 use Rattle.m36_reading.specs.Outside.{FolderState}
 use Rattle.m36_reading.specs.Doing.{Reads}
-use Rattle.m36_reading.proofs.ReadLaws.{gives_by, memory_given, reads_then, reads_stop, reads_nothing}
+use Rattle.m36_reading.proofs.ReadLaws.{gives_by, memory_given, reads_stop, reads_nothing}
 use Rattle.m36_told.specs.declared.binding.BindFiles.{BindFiles}
 use Rattle.m36_told.specs.Told.{ToldFields}
 use Rattle.m36_told.specs.Assemblies.{object_bytes}
-use Rattle.m36_told.specs.Binding.{bind_refused, names_told, object_onto, objects_onto, bound_told, bind_told, names_read, text_read}
+use Rattle.m36_told.specs.Binding.{bind_refused, names_told, bound_told, bind_told, names_read, text_read}
 
 -- ---- answers that are refused
 
@@ -76,57 +76,6 @@ pub bound_refused :
     → lent ≡ files.bindfile → Refuses f given → asking.Refuses r (bind_refused lent f) → asking.Gives (Err r) (bind_told files given)
 bound_refused files lent given f r is refused refuses =
     handed PartsFields ToldFields (bind_told files) files.bindfile lent given f r (λ f. refl) is refused refuses
-
--- ---- the objects of the components, one after another
-
--- what completes a reading that is left completes the whole
-pub record Completes
-    {B : Type 0} (left whole : Reading (Early B)) (old now : FolderState) (before middle : List Asked)
-    : Type 0 where
-  pub by : (result : Result B Refusal) (new : FolderState) (after : List Asked) → Reads left result now new middle after → Reads whole result old new before after
-
-first_read : (done : List PartsFields) (name : List ℕ) (others : List (List ℕ)) → objects_onto done (name ∷ others) ≡ then_with (object_onto done name) (λ more. objects_onto more others)
-unfolding objects_onto
-first_read done name others = refl
-
-pub object_read :
-    (done more : List PartsFields) (name : List ℕ) (others rest : List (List ℕ)) (whole : Reading (Early (List PartsFields)))
-    (old now next : FolderState) (before middle behind : List Asked)
-    → rest ≡ name ∷ others → Reads (object_onto done name) (Ok more) now next middle behind
-    → Completes (objects_onto done rest) whole old now before middle → Completes (objects_onto more others) whole old next before behind
-object_read done more name others rest whole old now next before middle behind first read completes =
-    let whole_rest : objects_onto done rest ≡ then_with (object_onto done name) (λ m. objects_onto m others) = ap (objects_onto done) first ∙ first_read done name others in
-    record {
-      by = λ result new after reads.
-          completes.by result new after
-          (subst (λ (p : Reading (Early (List PartsFields))). Reads p result now new middle after) (sym whole_rest)
-          (reads_then (object_onto done name) (λ m. objects_onto m others) more result now next new middle behind after read reads));
-    }
-
-pub object_stopped :
-    (done : List PartsFields) (r : Refusal) (name : List ℕ) (others rest : List (List ℕ)) (whole : Reading (Early (List PartsFields)))
-    (old now next : FolderState) (before middle behind : List Asked)
-    → rest ≡ name ∷ others → Reads {A = List PartsFields} (object_onto done name) (Err r) now next middle behind
-    → Completes (objects_onto done rest) whole old now before middle → Reads whole (Err r) old next before behind
-object_stopped done r name others rest whole old now next before middle behind first read completes =
-    let whole_rest : objects_onto done rest ≡ then_with (object_onto done name) (λ m. objects_onto m others) = ap (objects_onto done) first ∙ first_read done name others in
-    completes.by (Err r) next behind
-    (subst (λ (p : Reading (Early (List PartsFields))). Reads p (Err r) now next middle behind) (sym whole_rest)
-    (reads_stop (List PartsFields) (List PartsFields) (object_onto done name) (λ m. objects_onto m others) r now next middle behind read))
-
-pub objects_read :
-    (done : List PartsFields) (rest : List (List ℕ)) (whole : Reading (Early (List PartsFields))) (old now : FolderState) (before middle : List Asked)
-    → rest ≡ [] → Completes (objects_onto done rest) whole old now before middle → Reads whole (Ok done) old now before middle
-unfolding objects_onto
-objects_read done rest whole old now before middle none completes =
-    completes.by (Ok done) now middle
-    (subst (λ (ns : List (List ℕ)). Reads (objects_onto done ns) (Ok done) now now middle middle) (sym none) (reads_nothing (Ok done) (Ok done) now middle refl))
-
-pub objects_begin : (done : List PartsFields) (names : List (List ℕ)) (old : FolderState) (before : List Asked) → done ≡ []
-    → Completes (objects_onto done names) (objects_onto [] names) old old before before
-objects_begin done names old before none = record {
-  by = λ result new after reads. subst (λ (d : List PartsFields). Reads (objects_onto d names) result old new before after) none reads;
-}
 
 -- ---- the whole
 

@@ -8,7 +8,7 @@ use Rattle.std.proofs.lemmas.List.Quantifiers.{position-Some}
 use Rattle.std.proofs.lemmas.List.Sums.{fails_before_first}
 use Rattle.m36_outside.specs.Passing.{TakesPart, TakesSome, joined}
 use Rattle.m36_outside.proofs.LinesTaken.{CompletesLines, completes_lines_all, completes_lines_rest, completes_lines_cut, completes_no_lines, takes_some_of_line}
-use Rattle.m36_text.proofs.Splitting.{rest_whole}
+use Rattle.m36_text.proofs.Splitting.{cond_none, rest_whole}
 use Rattle.m36_told.specs.LinesIn.{with_first, lines_in}
 
 -- ---- the first line
@@ -37,10 +37,6 @@ cut_nowhere (x ∷ y ∷ xs) some before =
 
 abbrev is_line_feed : ℕ → Bool
 is_line_feed b = b == 10
-
-cond_none : (t : Bool) (i : ℕ) → cond t (Some i) None ≡ None → t ≡ false
-cond_none true i e = cc
-cond_none false i e = refl
 
 pub first_there :
     (text : List ℕ) (i : ℕ)

@@ -1,5 +1,5 @@
 -- Files that are written, one after another.
-use Rattle.std.proofs.Common.{◌≡◌, ℕ, ◌+◌, ◌<◌, ◌≤◌, List, [], ◌∷◌, ◌++◌, length, take, drop, get_or, Option, Some, refl, sym, ap, subst, ◌∙◌}
+use Rattle.std.proofs.Common.{◌≡◌, ℕ, ◌+◌, ◌<◌, List, [], ◌∷◌, ◌++◌, length, take, drop, get_or, Option, Some, refl, sym, ap, subst, ◌∙◌}
 use Rattle.std.proofs.lemmas.List.{append_assoc, take_more, take-append-drop, drop_more}
 use Rattle.m36_outside.specs.Counts.{Rose}
 use Rattle.m36_outside.specs.Files.{Files, with_told_file}
@@ -11,7 +11,7 @@ use Rattle.m36_reading.specs.declared.setting.Set.{Set}
 use Rattle.m36_reading.specs.Answers.{with_sets, write_of, writes_of}
 use Rattle.m36_reading.specs.Outside.{FolderState}
 use Rattle.m36_reading.proofs.WriteLaws.{writes_end}
-use Rattle.m36_told.specs.Setting.{AllSet, SetFailed, SetWanting}
+use Rattle.m36_told.specs.Setting.{SetFailed, SetWanting}
 
 with_sets_end : (sets : List Set) (set : Set) (files : Option Files) → with_sets (sets ++ (set ∷ [])) files ≡ with_told_file set.name (Some set.content) (with_sets sets files)
 with_sets_end [] set files = refl

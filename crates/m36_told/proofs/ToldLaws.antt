@@ -1,5 +1,5 @@
 -- What is told is written and put.
-use Rattle.std.proofs.Common.{◌≡◌, ℕ, List, ◌++◌, Option, Some, Ok, refl, inl, inr}
+use Rattle.std.proofs.Common.{◌≡◌, ◌++◌, Ok, refl, inl, inr}
 use Rattle.m36_outside.specs.Counts.{Rose}
 use Rattle.m36_outside.specs.Passing.{TakesSome}
 use Rattle.m36_outside.specs.Written.{Grew, GrewWithin}

@@ -1,5 +1,5 @@
 -- What the command `access USER` tells, by what it reads: a line for each segment of the catalog.
-use Rattle.std.specs.Prelude.{ℕ, List, [], Result, Ok, Err}
+use Rattle.std.specs.Prelude.{ℕ, List, [], Ok}
 use Rattle.m36_dir.specs.Catalog.{CatalogFields}
 use Rattle.m36_acl.specs.AccessLists.{Lists}
 use Rattle.m36_acl.specs.AccessText.{access_text}

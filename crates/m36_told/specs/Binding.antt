@@ -1,6 +1,6 @@
 -- What the command `bind NAME` tells, by what it reads: the bind file, and then the objects of its
 -- components.
-use Rattle.std.specs.Prelude.{ℕ, ◌≡◌, List, [], ◌∷◌, ◌++◌, Result, Ok, Err}
+use Rattle.std.specs.Prelude.{ℕ, List, [], ◌∷◌, Result, Ok, Err}
 use Rattle.obj36_parts.specs.PartsFields.{PartsFields}
 use Rattle.m36_list.specs.Print.{print_of}
 use Rattle.m36_bindfile.specs.declared.fault.BindFault.{BindFault}
@@ -12,6 +12,7 @@ use Rattle.m36_reading.specs.declared.refusal.Refusal.{Refusal}
 use Rattle.m36_reading.specs.declared.refusal.Refusal.TheVariants.{NoMemory}
 use Rattle.m36_reading.specs.Reading.{Reading, decided, Early, then_with}
 use Rattle.m36_reading.specs.Readers.{refused, file_bytes, file_object}
+use Rattle.m36_reading.specs.EachRead.{each_onto}
 use Rattle.m36_told.specs.declared.binding.BindFiles.{BindFiles}
 use Rattle.m36_told.specs.Told.{ToldFields}
 use Rattle.m36_told.specs.Assemblies.{object_set}
@@ -30,16 +31,6 @@ abbrev pub names_told : List ℕ → Result (List (List ℕ)) BindFault → Earl
 names_told file (Ok names) = Ok names
 names_told file (Err fault) = Err (bind_refused file fault)
 
--- an object behind others
-unfoldable pub object_onto : List PartsFields → List ℕ → Reading (Early (List PartsFields))
-object_onto done name = then_with (file_object name) (λ parts. decided (Ok (done ++ parts ∷ [])))
-
--- objects behind others, each with all its refusals before the next is read
-unfoldable pub objects_onto : List PartsFields → List (List ℕ) → Reading (Early (List PartsFields))
-objects_onto done [] = decided (Ok done)
-objects_onto done (name ∷ names) =
-    then_with (object_onto done name) (λ more. objects_onto more names)
-
 -- the object is written, and then its print is put
 abbrev pub bound_told : List ℕ → PartsFields → ToldFields
 bound_told name parts = record { sets = object_set name parts ∷ []; text = print_of name parts }
@@ -51,7 +42,7 @@ bind_told files (Err fault) = Err (bind_refused files.bindfile fault)
 -- the components of these names are read, and bound
 unfoldable pub names_read : BindFiles → List ℕ → List (List ℕ) → Reading (Early ToldFields)
 names_read files text names =
-    then_with (objects_onto [] names)
+    then_with (each_onto file_object [] names)
     (λ objects. decided (bind_told files (bound_of text names objects)))
 
 unfoldable pub text_read : BindFiles → List ℕ → Reading (Early ToldFields)

@@ -1,6 +1,6 @@
 //! The command `access USER`.
 
-ghost use Rattle.std.specs.Prelude.{◌≡◌, Ok};
+ghost use Rattle.std.specs.Prelude.{Ok};
 ghost use Rattle.m36_reading.specs.Asking.{Gives};
 ghost use Rattle.m36_reading.specs.Outside.{folder_of, outside_of};
 ghost use Rattle.m36_reading.specs.Doing.{Reads, Does};

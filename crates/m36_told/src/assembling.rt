@@ -1,6 +1,6 @@
 //! The command `alm NAME`.
 
-ghost use Rattle.std.specs.Prelude.{◌≡◌, ◌≤◌, length};
+ghost use Rattle.std.specs.Prelude.{◌≤◌, length};
 ghost use Rattle.m36_outside.specs.ReadAnswer.{file_limit};
 ghost use Rattle.alm_asm.specs.Assembly.{assembled};
 ghost use Rattle.m36_reading.specs.Asking.{Gives, Refuses};

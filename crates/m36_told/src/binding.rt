@@ -5,10 +5,12 @@ ghost use Rattle.m36_outside.specs.ReadAnswer.{file_limit};
 ghost use Rattle.m36_bindfile.specs.BindFile.{bind_lines, names_by, BindSays};
 ghost use Rattle.m36_bind.specs.Bound.{bound_of};
 ghost use Rattle.m36_reading.specs.Asking.{Gives, Refuses};
+ghost use Rattle.m36_reading.specs.EachRead.{read_onto, each_onto};
 ghost use Rattle.m36_reading.specs.Outside.{folder_of, outside_of};
+ghost use Rattle.m36_reading.specs.Readers.{file_object};
 ghost use Rattle.m36_reading.specs.Doing.{Reads, Does};
 ghost use Rattle.m36_told.specs.Told.{told_kind};
-ghost use Rattle.m36_told.specs.Binding.{bind_refused, names_told, object_onto, objects_onto, bound_told, bind_told, names_read, text_read, bind_reads};
+ghost use Rattle.m36_told.specs.Binding.{bind_refused, names_told, bound_told, bind_told, names_read, text_read, bind_reads};
 
 use crate::telling::{Told, tell};
 use m36_bind::{BindFault, bind, components};
@@ -103,14 +105,14 @@ fn with_object(mut objects: Objects, object: Object) -> Result<Objects, Refusal>
 }
 
 // Reads one more object.
-#[tactic(auto, using(m36_reading::proofs::ReadLaws::reads_early), unfolding(crate::specs::Binding::object_onto))]
+#[tactic(auto, using(m36_reading::proofs::ReadLaws::reads_early), unfolding(m36_reading::specs::EachRead::read_onto))]
 fn read_one<F: Folder>(
     alloc: Global,
     objects: Objects,
     name: &Name,
     folder: &mut F,
 ) -> Result<Objects, Refusal>
-    ensures { Reads (object_onto objects name.now) result
+    ensures { Reads (read_onto file_object objects name.now) result
         (folder_of F.files F.wrote F.read_faults F.write_faults folder.old)
         (folder_of F.files F.wrote F.read_faults F.write_faults folder.new)
         (F.asked folder.old) (F.asked folder.new) }
@@ -125,7 +127,7 @@ fn read_objects<F: Folder>(
     names: &[Name],
     folder: &mut F,
 ) -> Result<Objects, Refusal>
-    ensures { Reads (objects_onto [] names.now) result
+    ensures { Reads (each_onto file_object [] names.now) result
         (folder_of F.files F.wrote F.read_faults F.write_faults folder.old)
         (folder_of F.files F.wrote F.read_faults F.write_faults folder.new)
         (F.asked folder.old) (F.asked folder.new) }

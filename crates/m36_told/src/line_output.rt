@@ -1,6 +1,6 @@
 //! A text, put line by line.
 
-ghost use Rattle.std.specs.Prelude.{ℕ, ◌≡◌, ◌≤◌, ◌<◌, ◌∷◌, length, take, drop};
+ghost use Rattle.std.specs.Prelude.{◌≡◌, ◌≤◌, ◌<◌, ◌∷◌, length, take, drop};
 ghost use Rattle.m36_outside.specs.Passing.{TakesLines};
 ghost use Rattle.m36_outside.specs.Put.{PutSays, PutHasCause};
 ghost use Rattle.m36_told.specs.LinesIn.{lines_in};

@@ -1,7 +1,6 @@
 //! What is told, and how it is written and put.
 
 ghost use Rattle.std.specs.Prelude.{◌≡◌, [], ◌∷◌, Ok, IfOk};
-ghost use Rattle.m36_outside.specs.Files.{Files};
 ghost use Rattle.m36_reading.specs.Outside.{folder_of, outside_of};
 ghost use Rattle.m36_reading.specs.Doing.{Performs};
 ghost use Rattle.m36_told.specs.Told.{told_kind};

@@ -1,6 +1,6 @@
-use Rattle.std.proofs.Common.{◌≡◌, ◌≤◌, ◌++◌, ◌∷◌, [], List, length, ◌∙◌, arith, ap, sym}
+use Rattle.std.proofs.Common.{◌++◌, ◌∷◌, [], ◌∙◌, arith, ap}
 use Rattle.m36_desc.specs.Fields.{DbrFields}
-use Rattle.m36_scheduled.proofs.Registers.{bases, bases_more, bases_all, bases_length}
+use Rattle.m36_scheduled.proofs.Registers.{bases_more, bases_all}
 use Rattle.m36_scheduled.proofs.answering.dbrs_of.Goals as goal
 
 pub loop-i-preserved : goal.loop-i-preserved

@@ -1,9 +1,8 @@
 -- The lines are assembled.
-use Rattle.std.proofs.Common.{[], ◌∷◌, ap, subst, ◌∙◌}
+use Rattle.std.proofs.Common.{[], ◌∷◌, ap, ◌∙◌}
 use Rattle.m36_text.specs.Packing.{packed}
 use Rattle.alm_asm.specs.Assembly.{assembled}
 use Rattle.m36_list.specs.Listing.{listing_of}
-use Rattle.m36_told.specs.Told.{ToldFields}
 use Rattle.m36_told.proofs.AlmLaws.{made_parts}
 use Rattle.m36_told.proofs.assembling.made_with.Goals as goal
 

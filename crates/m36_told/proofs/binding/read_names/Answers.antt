@@ -3,8 +3,10 @@ use Rattle.std.proofs.Common.{List, [], subst}
 use Rattle.obj36_parts.specs.PartsFields.{PartsFields}
 use Rattle.m36_bind.specs.Bound.{bound_of}
 use Rattle.m36_reading.specs.Asking.{Gives}
+use Rattle.m36_reading.specs.EachRead.{each_onto}
+use Rattle.m36_reading.specs.Readers.{file_object}
 use Rattle.m36_reading.proofs.ReadLaws.{reads_on}
-use Rattle.m36_told.specs.Binding.{objects_onto, bind_told, names_read}
+use Rattle.m36_told.specs.Binding.{bind_told, names_read}
 use Rattle.m36_told.proofs.binding.read_names.Goals as goal
 
 pub returns : goal.returns
@@ -13,5 +15,5 @@ returns g c =
     let files = c.args.files.now in
     let text = c.args.text.now in
     let names = c.args.names.now in
-    reads_on (objects_onto [] names) (λ objects. bind_told files (bound_of text names objects)) c.in_ok-objects.objects c.bound_in.result _ _ _ _ c.in_ok-objects.ensures
+    reads_on (each_onto file_object [] names) (λ objects. bind_told files (bound_of text names objects)) c.in_ok-objects.objects c.bound_in.result _ _ _ _ c.in_ok-objects.ensures
     (subst (λ (os : List PartsFields). Gives c.bound_in.result (bind_told files (bound_of text names os))) c.items.ensures c.bound_in.ensures)

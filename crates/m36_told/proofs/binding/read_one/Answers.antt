@@ -4,11 +4,11 @@ use Rattle.m36_reading.specs.Outside.{folder_of}
 use Rattle.m36_reading.specs.Doing.{Reads}
 use Rattle.m36_reading.specs.Readers.{file_object}
 use Rattle.m36_reading.proofs.ReadLaws.{reads_on}
-use Rattle.m36_told.specs.Binding.{object_onto}
+use Rattle.m36_reading.specs.EachRead.{read_onto}
 use Rattle.m36_told.proofs.binding.read_one.Goals as goal
 
 pub returns : goal.returns
-unfolding object_onto
+unfolding read_onto
 returns g c =
     let folder = folder_of g.F.Folder.files g.F.Folder.wrote g.F.Folder.read_faults g.F.Folder.write_faults in
     reads_on (file_object c.args.name.now) (λ parts. Ok (c.args.objects ++ parts ∷ [])) c.in_ok-object.object c.with_object.result _ _ _ _

@@ -1,5 +1,5 @@
 -- The names of the components were read.
-use Rattle.std.proofs.Common.{ℕ, List, Ok, Err, ap, sym, subst, ◌∙◌}
+use Rattle.std.proofs.Common.{ℕ, List, Err, ap, sym, subst, ◌∙◌}
 use Rattle.m36_bindfile.specs.BindFile.{bind_lines, names_by}
 use Rattle.m36_reading.specs.Asking as asking
 use Rattle.m36_reading.specs.Outside.{folder_of}

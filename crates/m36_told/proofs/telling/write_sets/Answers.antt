@@ -1,9 +1,6 @@
 -- One more file was written.
-use Rattle.std.proofs.Common.{◌≡◌, Some, subst, sym, ap, ◌∙◌}
-use Rattle.m36_outside.specs.WriteAnswer.{WriteSays}
+use Rattle.std.proofs.Common.{Some, ap, ◌∙◌}
 use Rattle.m36_outside.specs.Files.{with_told_file}
-use Rattle.m36_outside.specs.declared.folder.WriteAnswer.TheVariants.{Written}
-use Rattle.m36_reading.specs.declared.setting.Set.{Set}
 use Rattle.m36_told.proofs.SetLaws.{sets_more, writes_more}
 use Rattle.m36_told.proofs.telling.write_sets.Goals as goal
 
