@@ -12,7 +12,7 @@ unfolding pieces_from
 turns_untold taken [] = refl
 turns_untold taken (turn ∷ turns) = turns_untold (taken + steps_of turn) turns
 
-line_of_none : (place : Option ℕ) → option_to_list (option_and_then (slice_get []) place) ≡ []
+line_of_none : (place : Option ℕ) → option_to_list {X = List ℕ} (option_and_then (slice_get []) place) ≡ []
 line_of_none None = refl
 line_of_none (Some i) = refl
 
@@ -25,10 +25,10 @@ pub end_alone :
     → run_pieces [] output.Nothing turns (Some how) ≡ as_line (finish_line how (steps_in turns)) ∷ []
 unfolding run_pieces
 end_alone turns how =
-    ap (λ l. l ++ (as_line (finish_line how (steps_in turns)) ∷ denied_pieces [] how)) (turns_untold 0 turns)
-    ∙ ap (λ l. as_line (finish_line how (steps_in turns)) ∷ l) (none_denied how)
+    ap (λ (l : List (List ℕ)). l ++ (as_line (finish_line how (steps_in turns)) ∷ denied_pieces [] how)) (turns_untold 0 turns)
+    ∙ ap (λ (l : List (List ℕ)). as_line (finish_line how (steps_in turns)) ∷ l) (none_denied how)
 
 -- and nothing where the run has not come to its end
 pub none_alone : (turns : List Turn) → run_pieces [] output.Nothing turns None ≡ []
 unfolding run_pieces
-none_alone turns = ap (λ l. l ++ []) (turns_untold 0 turns)
+none_alone turns = ap (λ (l : List (List ℕ)). l ++ []) (turns_untold 0 turns)
