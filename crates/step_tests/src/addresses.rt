@@ -2,34 +2,18 @@
 
 ghost use Rattle.std.specs.Prelude.{◌≡◌, ◌<◌, ◌^◌, [], IfOk};
 
+use crate::setting::{DBR, NO_INDICATORS, at, put};
 use m36_core::Core;
-use m36_desc::{Dbr, Ptr};
+use m36_desc::Ptr;
 use m36_ea::{effective, pending};
 use m36_inst::Inst;
-use m36_model::{At, Fault, Final, Formed, Halt, Ind, Ppr, Refs, Regs, Tally};
+use m36_model::{At, Fault, Final, Formed, Halt, Ppr, Refs, Regs, Tally};
 use m36_walk::Walk;
 use m36_word::{NoMemory, Word};
 use std::alloc::Global;
 
-/// The descriptor segment is unpaged at core word 0 and has 128 descriptors.
-const DBR: Dbr = Dbr {
-    addr: 0,
-    bnd: 0o17,
-    stack: 1,
-    unpaged: true,
-};
-
 /// The segment that executes lies at core word octal 40, in ring 0, with all rights.
 const PROCEDURE: [(u32, u64); 2] = [(0o2, 0o000000400004), (0o3, 0o000027300000)];
-
-/// Puts words at places.
-fn put(core: &mut Core, words: &[(u32, u64)]) {
-    for (place, word) in words {
-        if *place < core.len() {
-            core.poke(*place, Word::low(*word));
-        }
-    }
-}
 
 /// A walk by the registers over a frame with these words beside the descriptor of the procedure segment.
 fn walk(alloc: Global, regs: &Regs, words: &[(u32, u64)]) -> Result<Walk, NoMemory>
@@ -60,14 +44,7 @@ fn regs(ring: u8, x1: u32, pr0: Ptr) -> Regs
             psr: 1,
             prr: ring,
         },
-        ind: Ind {
-            zero: false,
-            negative: false,
-            carry: false,
-            overflow: false,
-            mask: false,
-            tally: false,
-        },
+        ind: NO_INDICATORS,
     }
 }
 
@@ -93,14 +70,6 @@ fn form(walk: &mut Walk, regs: &Regs, word: u64) -> Result<Formed, Halt>
 {
     let mut refs = Refs::new();
     effective(walk, regs, &Inst::of_word(Word::low(word)), &mut refs)
-}
-
-fn at(seg: u16, word: u32, ring: u8) -> At
-    requires seg { seg < 2 ^ 15 }
-    requires word { word < 2 ^ 18 }
-    requires ring { ring < 2 ^ 3 }
-{
-    At { word, seg, ring }
 }
 
 /// An address without a tally word.

@@ -7,3 +7,5 @@ mod addresses;
 mod lines;
 #[cfg(test)]
 mod machine;
+#[cfg(test)]
+mod setting;

@@ -2,20 +2,12 @@
 
 ghost use Rattle.std.specs.Prelude.{◌<◌, ◌^◌};
 
+use crate::setting::{NO_INDICATORS, pointer};
 use arrayvec::ArrayVec;
-use m36_desc::{Dbr, Ptr};
+use m36_desc::Dbr;
 use m36_model::{At, Fault, Final, Ind, Outcome, Ppr, Regs, StepRecord, Stop};
 use m36_trace::{end_line, line};
 use m36_word::Word;
-
-const OFF: Ind = Ind {
-    zero: false,
-    negative: false,
-    carry: false,
-    overflow: false,
-    mask: false,
-    tally: false,
-};
 
 // A step of a machine that has this A and these indicators afterwards.
 fn told(
@@ -26,19 +18,13 @@ fn told(
     ind: Ind,
     outcome: Outcome,
 ) -> StepRecord {
-    let none = Ptr {
-        word: 0,
-        seg: 0,
-        ring: 0,
-        bit: 0,
-    };
     StepRecord {
         refs: ArrayVec::new(),
         after: Regs {
             a: Word::low(a),
             q: Word::ZERO,
             x: [0; 8],
-            pr: [none; 8],
+            pr: [pointer(0, 0, 0); 8],
             dbr: Dbr {
                 addr: 0,
                 bnd: 0,
@@ -82,7 +68,7 @@ fn a_load(rt: HostRuntime) {
         Some(Word::low(0o000002235000)),
         ending(0, 1, 2, None),
         5,
-        OFF,
+        NO_INDICATORS,
         Outcome::Next,
     );
     assert_eq!(rt;
@@ -98,7 +84,7 @@ fn a_halt(rt: HostRuntime) {
         Some(Word::low(0o000000616000)),
         None,
         5,
-        OFF,
+        NO_INDICATORS,
         Outcome::Stopped(Stop::Dis),
     );
     assert_eq!(rt;
@@ -119,7 +105,7 @@ fn a_link_fault(rt: HostRuntime) {
         Some(Word::low(0o400010713120)),
         None,
         6,
-        OFF,
+        NO_INDICATORS,
         Outcome::Faulted(Fault {
             at: here,
             number: 24,
@@ -169,7 +155,7 @@ fn a_refused_fetch(rt: HostRuntime) {
 fn a_direct_operand(rt: HostRuntime) {
     let negative = Ind {
         negative: true,
-        ..OFF
+        ..NO_INDICATORS
     };
     let record = told(
         standing(1, 8, 9),

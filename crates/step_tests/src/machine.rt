@@ -7,33 +7,14 @@ mod more_lines;
 mod reading;
 mod table;
 
+use crate::setting::{DBR, NO_INDICATORS, at, pointer, put};
 use m36_core::Core;
-use m36_desc::{Dbr, Ptr};
-use m36_model::{
-    At, End, Fault, Final, Ind, Kind, Outcome, Ppr, Reference, Regs, StepRecord, Stop,
-};
+use m36_model::{At, End, Fault, Final, Kind, Outcome, Ppr, Reference, Regs, StepRecord, Stop};
 use m36_step::machine::Machine;
 use m36_step::stepper::{Replay, Stepper};
 use m36_step::turns::{BackAnswer, Turn};
 use m36_word::{NoMemory, Word};
 use std::alloc::Global;
-
-/// The descriptor segment is unpaged at core word 0 and has 128 descriptors.
-const DBR: Dbr = Dbr {
-    addr: 0,
-    bnd: 0o17,
-    stack: 1,
-    unpaged: true,
-};
-
-const NO_INDICATORS: Ind = Ind {
-    zero: false,
-    negative: false,
-    carry: false,
-    overflow: false,
-    mask: false,
-    tally: false,
-};
 
 /// Registers that hold nothing, at a word of segment 1 in a ring.
 fn regs(ring: u8, ic: u32) -> Regs
@@ -55,33 +36,11 @@ fn regs(ring: u8, ic: u32) -> Regs
     }
 }
 
-fn pointer(seg: u16, ring: u8, word: u32) -> Ptr
-    requires seg { seg < 2 ^ 15 }
-    requires ring { ring < 8 }
-    requires word { word < 2 ^ 18 }
-{
-    Ptr {
-        word,
-        seg,
-        ring,
-        bit: 0,
-    }
-}
-
 /// Registers at word 0 of segment 1 in ring 0, with this accumulator.
 fn with_a(a: u64) -> Regs {
     let mut regs = regs(0, 0);
     regs.a = Word::low(a);
     regs
-}
-
-/// Puts words at places.
-fn put(core: &mut Core, words: &[(u32, u64)]) {
-    for (place, word) in words {
-        if *place < core.len() {
-            core.poke(*place, Word::low(*word));
-        }
-    }
 }
 
 /// A machine with two frames of core, in which these words stand and all others are zero.
@@ -98,14 +57,6 @@ fn word_at(machine: &Machine, place: u32) -> u64 {
     } else {
         u64::MAX
     }
-}
-
-fn at(seg: u16, word: u32, ring: u8) -> At
-    requires seg { seg < 2 ^ 15 }
-    requires word { word < 2 ^ 18 }
-    requires ring { ring < 8 }
-{
-    At { word, seg, ring }
 }
 
 fn faults(number: u8, at: At) -> Outcome {
