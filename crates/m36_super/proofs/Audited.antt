@@ -109,7 +109,8 @@ pub flat_loaded : (lib : Library) (r : FlatRun) → r.loaded ≡ false → IsPla
 unfolding flat_turn
 flat_loaded lib r loaded plain = loaded_by r.coming lib r loaded plain
 
-not_located : (turn : Turn) → LocatesInTurn turn → IsPlainTurn turn → ⊥
+-- a turn that executes ABSA is not plain
+pub not_located : (turn : Turn) → LocatesInTurn turn → IsPlainTurn turn → ⊥
 not_located (Stepped e) h plain = plain.0 h
 not_located (Linked note) h plain = h
 not_located (Console text) h plain = h

@@ -1,4 +1,5 @@
 pub mod Served
+pub mod AbsaSteps
 pub mod Turns
 pub mod Paging
 pub mod Audited

@@ -1,18 +1,18 @@
 -- A turn of a booted run is that of the flat run.
 use Rattle.std.proofs.Common.{◌≡◌, refl, sym, ◌∙◌, ap, subst, inl, inr}
 use Rattle.std.specs.Prelude.{ℕ, ◌⊎◌, Bool, true, false, nat_lt, List, Option, Some, Result, Ok, Err}
-use Rattle.m36_inst.specs.declared.effect.Effect.{Effect}
 use Rattle.m36_inst.specs.declared.effect.Effect.TheVariants as effect
 use Rattle.m36_model.specs.Fields.{AtFields}
 use Rattle.m36_model.specs.Registers.{RegsFields}
 use Rattle.m36_model.specs.Results.{moved_on}
+use Rattle.m36_model.specs.Store.{State}
 use Rattle.m36_model.specs.Core.{core_store}
 use Rattle.m36_model.specs.Step.{decode, record_of, state_after}
 use Rattle.m36_model.specs.Laws.{ExecutesLdbr}
-use Rattle.m36_model.specs.Flat.{flat_store}
+use Rattle.m36_model.specs.Flat.{Flat, flat_store}
 use Rattle.m36_model.specs.BootedCore.{booted_dbr}
 use Rattle.m36_model.specs.Residence.{flat_of}
-use Rattle.m36_model.specs.PagedStep.{flat_state, IsPresent, IsFlatStep, IsPageFault, IsAbsaStep, IsPagedStep}
+use Rattle.m36_model.specs.PagedStep.{flat_state, ExecutesAbsa, IsPresent, IsFlatStep, IsPageFault, IsAbsaStep, IsPagedStep}
 use Rattle.m36_model.specs.declared.outcome.Fault.{Fault}
 use Rattle.m36_model.specs.declared.outcome.Outcome.{Outcome}
 use Rattle.m36_model.specs.declared.outcome.Outcome.TheVariants.{Next}
@@ -29,6 +29,7 @@ use Rattle.m36_super.specs.Coming.{Coming, Step, Link, Print, Over, coming_after
 use Rattle.m36_super.specs.FlatRun.{FlatTurn, flat_stepped, flat_linked_by, flat_printed_by, flat_turn_by, flat_turn}
 use Rattle.m36_super.specs.BootedRun.{Booted, told_of, with_step, IsStep, IsLinkTurn, IsConsoleTurn, IsTurnBy, IsTurn, IsStanding, Stands, flat_run_of}
 use Rattle.m36_super.specs.TurnLaws.{LocatesInTurn, IsFlatTurn, IsTurnKept, TurnLaw}
+use Rattle.m36_super.proofs.AbsaSteps.{absa_law}
 use Rattle.m36_super.proofs.Served.{IsAlike, services_alike}
 
 -- ---- whether the step loads the DBR
@@ -65,6 +66,10 @@ module _ (lib : Library) (state : PagedState) (known : KnownFields) where
   unfolding flat_turn
   flat_by coming turn after h = record { turn_is = h.0; after_is = h.1 }
 
+  flat_kept : (coming : Coming) (turn : Turn) (after : Booted) → IsFlatTurn lib (before coming) turn after → Stands after.loaded frames after.state → IsTurnKept lib (before coming) turn after
+  flat_kept coming turn after h stands =
+      record { cases = inl h; locates = λ k. subst LocatesInTurn h.turn_is k; stands = stands }
+
   -- the core that a step leaves
   stands_after : (s : PagedState) → IsPagedStep frames s.memory.kept (core_state s) → (((state_after core_store (core_state s)).regs.dbr ≡ booted_dbr) ⊎ ExecutesLdbr (told_of s)) → (b : Bool) → loaded_after false (told_of s) ≡ b → Stands b frames (record { regs = (state_after core_store (core_state s)).regs; memory = stepped_memory s })
   stands_after s step dbr true e = tt
@@ -89,17 +94,24 @@ module _ (lib : Library) (state : PagedState) (known : KnownFields) where
         },
       )
 
+  -- a step that executes ABSA is one of the flat run that does
+  step_locates : (last : PagedState) → IsAlike frames state last → ExecutesAbsa (told_of last) → LocatesInTurn (flat_turn lib (flat_run_of (before Step))).turn
+  unfolding flat_turn flat_stepped
+  step_locates last alike h =
+      let r = alike.regs in
+      let f = alike.flat in
+      let same : flat_state last.memory.kept (core_state last) ≡ (flat_run_of (before Step)).state = λ i. record { regs = r i; store = f i } in
+      subst (λ (s : State Flat). ExecutesAbsa (record_of flat_store s)) same (absa_law frames last.memory.kept (core_state last) alike.standing.dbr alike.standing.laid h)
+
   step_cases : (last : PagedState) → IsAlike frames state last → (turn : Turn) → turn ≡ Stepped (told_of last) → IsPresent (told_of last).outcome → IsPagedStep frames last.memory.kept (core_state last) → (IsFlatStep last.memory.kept (core_state last) ⊎ IsPageFault last.memory.kept (core_state last) ⊎ IsAbsaStep last.memory.kept (core_state last)) → IsTurnKept lib (before Step) turn (with_step (before Step) last)
   step_cases last alike turn told present step (inl h) =
-      record {
-        cases = inl (flat_by Step turn (with_step (before Step) last) (step_turn last alike turn told h));
-        stands = stands_after last step h.dbr _ refl;
-      }
+      flat_kept Step turn (with_step (before Step) last) (flat_by Step turn (with_step (before Step) last) (step_turn last alike turn told h)) (stands_after last step h.dbr _ refl)
   step_cases last alike turn told present step (inr (inl h)) =
       absurd (subst IsPresent h.outcome present h.number)
   step_cases last alike turn told present step (inr (inr h)) =
       record {
         cases = inr (inr (subst LocatesInTurn (sym told) h.executes));
+        locates = λ k. step_locates last alike h.executes;
         stands = stands_after last step (inl h.dbr) _ refl;
       }
 
@@ -128,9 +140,9 @@ module _ (lib : Library) (state : PagedState) (known : KnownFields) where
 
   link_kept_by : (at : AtFields) (turn : Turn) (after : Booted) → IsStanding frames state → (((turn ≡ NoMemory) × (after ≡ before (Link at))) ⊎ (IsBy (Link at) (flat_turn_by (Link at) lib (flat_run_of (before (Link at)))) turn after × Stands after.loaded frames after.state)) → IsTurnKept lib (before (Link at)) turn after
   link_kept_by at turn after stands (inl h) =
-      record { cases = inr (inl h); stands = subst (λ (r : Booted). Stands r.loaded frames r.state) (sym h.1) stands }
+      record { cases = inr (inl h); locates = λ k. absurd (subst LocatesInTurn h.0 k); stands = subst (λ (r : Booted). Stands r.loaded frames r.state) (sym h.1) stands }
   link_kept_by at turn after stands (inr h) =
-      record { cases = inl (flat_by (Link at) turn after h.0); stands = h.1 }
+      flat_kept (Link at) turn after (flat_by (Link at) turn after h.0) h.1
 
   link_kept : (at : AtFields) (turn : Turn) (after : Booted) → IsStanding frames state → IsLinkTurn (snap_of known lib.catalog lib.files at) frames at (before (Link at)) turn after → IsTurnKept lib (before (Link at)) turn after
   link_kept at turn after stands h =
@@ -147,17 +159,14 @@ module _ (lib : Library) (state : PagedState) (known : KnownFields) where
   print_kept : (turn : Turn) (after : Booted) → IsStanding frames state → IsConsoleTurn (nat_lt console_limit state.regs.a) (console_text state.regs (flat_of state.memory)) (before Print) turn after → IsTurnKept lib (before Print) turn after
   print_kept turn after stands h =
       let k = console_cases (nat_lt console_limit state.regs.a) (console_text state.regs (flat_of state.memory)) turn after stands h in
-      record { cases = inl (flat_by Print turn after k.0); stands = k.1 }
+      flat_kept Print turn after (flat_by Print turn after k.0) k.1
 
   turn_by : (coming : Coming) (turn : Turn) (after : Booted) → IsStanding frames state → IsTurnBy coming lib (before coming) turn after → IsTurnKept lib (before coming) turn after
   turn_by Step turn after stands h = step_kept turn after stands h
   turn_by (Link at) turn after stands h = link_kept at turn after stands h
   turn_by Print turn after stands h = print_kept turn after stands h
   turn_by (Over e) turn after stands h =
-      record {
-        cases = inl (flat_by (Over e) turn after (h.0, ap flat_run_of h.1));
-        stands = subst (λ (r : Booted). Stands r.loaded frames r.state) (sym h.1) stands;
-      }
+      flat_kept (Over e) turn after (flat_by (Over e) turn after (h.0, ap flat_run_of h.1)) (subst (λ (r : Booted). Stands r.loaded frames r.state) (sym h.1) stands)
 
 loaded_by : (lib : Library) (before : Booted) (turn : Turn) (after : Booted) (b : Bool) → b ≡ false → IsStanding lib.catalog.frames before.state → IsTurnBy before.coming lib (record before { loaded = b }) turn after → IsTurnKept lib (record before { loaded = b }) turn after
 loaded_by lib before turn after true e stands h = cc

@@ -28,12 +28,13 @@ pub record IsFlatTurn (lib : Library) (before : Booted) (turn : Turn)
   pub turn_is : turn ≡ (flat_turn lib (flat_run_of before)).turn
   pub after_is : flat_run_of after ≡ (flat_turn lib (flat_run_of before)).after
 
--- Until an LDBR is executed a turn is the flat run's, or wants memory, or executes ABSA; and the
--- core stays that of the image.
+-- Until an LDBR is executed a turn is the flat run's, or wants memory, or executes ABSA, and then
+-- the flat run's does too; and the core stays that of the image.
 pub record IsTurnKept (lib : Library) (before : Booted) (turn : Turn)
     (after : Booted) : Type 0 where
   pub cases :
       IsFlatTurn lib before turn after ⊎ ((turn ≡ NoMemory) × (after ≡ before)) ⊎ LocatesInTurn turn
+  pub locates : LocatesInTurn turn → LocatesInTurn (flat_turn lib (flat_run_of before)).turn
   pub stands : Stands after.loaded lib.catalog.frames after.state
 
 abbrev pub TurnLaw : Type 0

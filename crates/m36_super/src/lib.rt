@@ -8,7 +8,8 @@
 //!
 //! The laws say how the booted run and the flat run, which has no pages and is a function of the catalog and the files,
 //! belong together. Until an LDBR is executed each turn that executes no ABSA and wants no memory is the turn of the
-//! flat run, the core stays that of the booted image, and the audit conditions are kept, services included.
+//! flat run, one that executes ABSA stands where the flat run executes one too, the core stays that of the booted image,
+//! and the audit conditions are kept, services included.
 //!
 //! `specs/` says what the next turn of a run may be (`BootedRun`), what a service does (`Services`), and what the flat
 //! run is (`FlatRun`); the booted image is that of `m36_boot`.
@@ -33,9 +34,9 @@ pub use booted::Super;
 pub use booting::{are_short, files_of};
 pub use coming::Coming;
 
-/// Until an LDBR is executed a turn of a booted run is that of the flat run, or wants memory, or executes ABSA, and the
-/// core stays that of the booted image; it keeps the audit conditions. So the turns up to the first that executes ABSA or
-/// LDBR, or wants memory, are those of the flat run, which knows of no frames.
+/// Until an LDBR is executed a turn of a booted run is that of the flat run, or wants memory, or executes ABSA as the turn of
+/// the flat run does, and the core stays that of the booted image; it keeps the audit conditions. So the turns up to the first
+/// that executes ABSA or LDBR, or wants memory, are those of the flat run, which knows of no frames.
 pub fn law_turn()
     ensures turn { TurnLaw }
     ensures audit { TurnAuditLaw }
