@@ -1,5 +1,5 @@
 -- What is due to a command on a folder.
-use Rattle.std.proofs.Common.{◌≡◌, ℕ, ◌+◌, ◌≤◌, Bool, true, false, ◌||◌, List, [], ◌∷◌, length, Some, refl, sym, ap, subst, ◌∙◌, arith}
+use Rattle.std.proofs.Common.{◌≡◌, ℕ, ◌+◌, ◌≤◌, Bool, true, false, ◌||◌, List, [], ◌∷◌, length, Option, Some, None, refl, sym, ap, subst, ◌∙◌, arith}
 use Rattle.m36_outside.specs.Passing.{joined}
 use Rattle.m36_model.specs.Audit.{AreFindings, IsAudited}
 use Rattle.m36_model.specs.BootedCore.{booted_dbr}
@@ -7,12 +7,10 @@ use Rattle.m36_model.specs.StoreLaw.{Each}
 use Rattle.m36_isol.proofs.Findings.{findings_law}
 use Rattle.m36_step.specs.declared.turns.Turn.{Turn}
 use Rattle.m36_super.specs.Library.{Library}
-use Rattle.m36_super.specs.FlatRun.{flat_turns}
 use Rattle.m36_super.specs.BootedRun.{Booted, AreTurns, flat_run_of}
 use Rattle.m36_super.specs.SuperFields.{SuperFields, booted_of}
 use Rattle.m36_super.specs.TurnLaws.{IsPlainTurn}
 use Rattle.m36_super.specs.BootSays.{IsBooted}
-use Rattle.m36_super.proofs.Audited.{function_law}
 use Rattle.m36_reading.specs.Answers.{Answer}
 use Rattle.m36_ran.specs.Ran.{passes, behind, audit_answer}
 use Rattle.m36_ran.proofs.DueLaws.{some_findings}
@@ -22,14 +20,14 @@ use Rattle.m36_booted.specs.declared.command.RunOutput.{RunOutput}
 use Rattle.m36_booted.specs.declared.command.RunOutput.TheVariants as output
 use Rattle.m36_booted.specs.Folder.{FolderFields}
 use Rattle.m36_booted.specs.RunText.{steps_in, run_answer}
-use Rattle.m36_booted.specs.Runs.{Extent, Whole, Begun, Starved, Goes, Finishes}
+use Rattle.m36_booted.specs.Runs.{Extent, Whole, Begun, Starved, Goes, Finishes, Reaches}
 use Rattle.m36_booted.specs.Booted.{IsAuditAnswer, IsRunBy, IsAnswerOf, IsFolderAnswer}
 use Rattle.m36_booted.specs.declared.running.Finish.{Finish}
 use Rattle.m36_booted.specs.declared.running.Finish.TheVariants as finish
-use Rattle.m36_booted.specs.DueLaw.{IsAnswerBy, IsByFindings, is_unaudited, HasLimit, with_frames, AreOneRun, FolderDueLaw}
+use Rattle.m36_booted.specs.DueLaw.{IsAnswerBy, IsByFindings, is_unaudited, HasLimit, with_frames, HasMemory, AreOneRun, FolderDueLaw}
 use Rattle.m36_booted.proofs.OneSystem.{one_system}
-use Rattle.m36_booted.proofs.OneRun.{Ends, IsFresh, one_run}
-use Rattle.m36_booted.proofs.FramesAlike.{frames_alike, turns_alike, booted_alike}
+use Rattle.m36_booted.proofs.OneRun.{AreAlike, Look, Ends, IsFresh, one_run, turns_one}
+use Rattle.m36_booted.proofs.FramesAlike.{frames_alike, booted_alike}
 
 -- ---- one answer to `audit`
 
@@ -45,21 +43,31 @@ one_audit given due same is is_same =
 
 -- ---- by the conditions of the audit
 
-by_system :
+-- what is due is by the findings of the one system
+record IsFoundBy (command : FolderCommand) (given : FolderFields) (system : SuperFields) (due : Answer) : Type 0 where
+  pub findings : List (ℕ × ℕ)
+  pub found : AreFindings system.core booted_dbr findings
+  pub answer : IsAnswerBy command given system findings due
+
+found_by :
     (command : FolderCommand) (given : FolderFields) (system : SuperFields) (due : Answer)
-    → IsBooted given.lib system → (is : IsFolderAnswer Whole command given due) → is.system ≡ system
-by_system command given system due booted is = one_system given.lib is.system system is.booted booted
+    → IsBooted given.lib system → IsFolderAnswer Whole command given due → IsFoundBy command given system due
+found_by command given system due booted is =
+    let same : is.system ≡ system = one_system given.lib is.system system is.booted booted in
+    record {
+      findings = is.findings;
+      found = subst (λ (s : SuperFields). AreFindings s.core booted_dbr is.findings) same is.found;
+      answer = subst (λ (s : SuperFields). IsAnswerBy command given s is.findings due) same is.answer;
+    }
 
 passed_by :
     (command : FolderCommand) (given : FolderFields) (system : SuperFields) (due : Answer)
     → IsBooted given.lib system → IsFolderAnswer Whole command given due
     → IsAudited system.core booted_dbr → IsAnswerBy command given system [] due
 passed_by command given system due booted is audited =
-    let same = by_system command given system due booted is in
-    let found : AreFindings system.core booted_dbr is.findings = subst (λ (s : SuperFields). AreFindings s.core booted_dbr is.findings) same is.found in
-    let none : is.findings ≡ [] = findings_law.complete system.core booted_dbr is.findings audited found in
-    subst (λ (s : SuperFields). IsAnswerBy command given s [] due) same
-    (subst (λ f. IsAnswerBy command given is.system f due) none is.answer)
+    let f = found_by command given system due booted is in
+    let none : f.findings ≡ [] = findings_law.complete system.core booted_dbr f.findings audited f.found in
+    subst (λ l. IsAnswerBy command given system l due) none f.answer
 
 some_found :
     (command : FolderCommand) (given : FolderFields) (system : SuperFields) (due : Answer) (findings : List (ℕ × ℕ))
@@ -73,10 +81,8 @@ failed_by :
     → IsBooted given.lib system → IsFolderAnswer Whole command given due
     → ¬ IsAudited system.core booted_dbr → IsByFindings command given system due
 failed_by command given system due booted is fails =
-    let same = by_system command given system due booted is in
-    some_found command given system due is.findings
-    (subst (λ (s : SuperFields). AreFindings s.core booted_dbr is.findings) same is.found)
-    (subst (λ (s : SuperFields). IsAnswerBy command given s is.findings due) same is.answer) fails
+    let f = found_by command given system due booted is in
+    some_found command given system due f.findings f.found f.answer fails
 
 -- ---- some answer
 
@@ -155,16 +161,17 @@ run_due command given system limit turns last how booted has goes ends =
 
 -- ---- the same turns
 
+fresh_of : (lib : Library) (system : SuperFields) → IsBooted lib system → IsFresh lib (booted_of system)
+fresh_of lib system booted = record { loaded = booted.loaded; stands = booted.stands }
+
 same_turns :
     (lib : Library) (frames : ℕ) (system other : SuperFields) (turns same : List Turn) (last end : Booted)
     → IsBooted lib system → IsBooted (with_frames lib frames) other → AreTurns lib (booted_of system) turns last
-    → AreTurns (with_frames lib frames) (booted_of other) same end → Each IsPlainTurn turns → Each IsPlainTurn same
+    → AreTurns (with_frames lib frames) (booted_of other) same end → Each IsPlainTurn turns → Each HasMemory same
     → length turns ≡ length same → turns ≡ same
-same_turns lib frames system other turns same last end booted booted' are are' plain plain' count =
-    function_law lib turns (booted_of system) last booted.loaded booted.stands are plain
-    ∙ turns_alike lib (with_frames lib frames) (flat_run_of (booted_of system)) (flat_run_of (booted_of other)) (length turns) (frames_alike lib frames) (booted_alike lib frames system other booted booted')
-    ∙ ap (λ n. flat_turns (with_frames lib frames) (flat_run_of (booted_of other)) n) count
-    ∙ sym (function_law (with_frames lib frames) same (booted_of other) end booted'.loaded booted'.stands are' plain')
+same_turns lib frames system other turns same last end booted booted' are are' plain has count =
+    turns_one lib (with_frames lib frames) (booted_of system) (booted_of other) last end turns same
+    (frames_alike lib frames) (booted_alike lib frames system other booted booted') (fresh_of lib system booted) (fresh_of (with_frames lib frames) other booted') are are' plain has count
 
 -- ---- one run
 
@@ -174,21 +181,103 @@ ends_at :
 ends_at (finish.Over e) lib limit turns last is = is
 ends_at finish.Limit lib limit turns last is = (omega (arith, is.0), is.1)
 
+run_from :
+    (lib other : Library) (limit : ℕ) (r s : Booted) (turns same : List Turn) (last end : Booted) (how how' : Finish)
+    → AreAlike lib other → Look r s → IsFresh lib r → IsFresh other s → Goes lib limit r turns last → Goes other limit s same end
+    → Finishes how lib limit turns last → Finishes how' other limit same end → Each IsPlainTurn turns
+    → AreOneRun turns same last end how how'
+run_from lib other limit r s turns same last end how how' alike look fresh fresh' goes goes' is is' plain =
+    let few : 0 + steps_in turns ≤ limit = omega (arith, goes.few) in
+    let few' : 0 + steps_in same ≤ limit = omega (arith, goes'.few) in
+    let one = one_run lib other limit 0 r s last end turns same how how' alike look fresh fresh' goes.turns_are goes'.turns_are goes.events goes'.events plain few few'
+    (ends_at how lib limit turns last is) (ends_at how' other limit same end is') in
+    record { turns_are = one.turns_are; end_is = one.how_is; left_is = one.look }
+
 one_run_of :
     (lib : Library) (frames limit : ℕ) (system other : SuperFields) (turns same : List Turn) (last end : Booted) (how how' : Finish)
     → IsBooted lib system → IsBooted (with_frames lib frames) other → Goes lib limit (booted_of system) turns last
     → Goes (with_frames lib frames) limit (booted_of other) same end → Finishes how lib limit turns last
-    → Finishes how' (with_frames lib frames) limit same end → Each IsPlainTurn turns → Each IsPlainTurn same
-    → AreOneRun turns same how how'
-one_run_of lib frames limit system other turns same last end how how' booted booted' goes goes' is is' plain plain' =
-    let fresh : IsFresh lib (booted_of system) = record { loaded = booted.loaded; stands = booted.stands } in
-    let fresh' : IsFresh (with_frames lib frames) (booted_of other) = record { loaded = booted'.loaded; stands = booted'.stands } in
-    let few : 0 + steps_in turns ≤ limit = omega (arith, goes.few) in
-    let few' : 0 + steps_in same ≤ limit = omega (arith, goes'.few) in
-    let one = one_run lib (with_frames lib frames) limit 0 (booted_of system) (booted_of other) last end turns same how how'
-    (frames_alike lib frames) (booted_alike lib frames system other booted booted') fresh fresh' goes.turns_are goes'.turns_are goes.events goes'.events plain plain' few few'
-    (ends_at how lib limit turns last is) (ends_at how' (with_frames lib frames) limit same end is') in
-    record { turns_are = one.turns_are; end_is = one.how_is }
+    → Finishes how' (with_frames lib frames) limit same end → Each IsPlainTurn turns → AreOneRun turns same last end how how'
+one_run_of lib frames limit system other turns same last end how how' booted booted' goes goes' is is' plain =
+    run_from lib (with_frames lib frames) limit (booted_of system) (booted_of other) turns same last end how how'
+    (frames_alike lib frames) (booted_alike lib frames system other booted booted') (fresh_of lib system booted) (fresh_of (with_frames lib frames) other booted') goes goes' is is' plain
+
+-- two runs of one system
+pub one_run_here :
+    (lib : Library) (limit : ℕ) (system : SuperFields) (turns same : List Turn) (last end : Booted) (how how' : Finish)
+    → IsBooted lib system → Goes lib limit (booted_of system) turns last → Goes lib limit (booted_of system) same end
+    → Finishes how lib limit turns last → Finishes how' lib limit same end → Each IsPlainTurn turns → AreOneRun turns same last end how how'
+one_run_here lib limit system turns same last end how how' booted goes goes' is is' plain =
+    let fresh = fresh_of lib system booted in
+    run_from lib lib limit (booted_of system) (booted_of system) turns same last end how how' (λ r. refl) refl fresh fresh goes goes' is is' plain
+
+-- ---- one answer where such a run executes no ABSA and no LDBR
+
+-- a run that is told whole is that run
+pub record IsThatRun (turns same : List Turn) (last end : Booted) (how : Finish) (other : Option Finish) : Type 0 where
+  pub turns_are : turns ≡ same
+  pub end_is : Some how ≡ other
+  pub left_is : flat_run_of last ≡ flat_run_of end
+
+pub reached_one :
+    (other : Option Finish) (lib : Library) (limit : ℕ) (system : SuperFields) (turns same : List Turn) (last end : Booted) (how : Finish)
+    → IsBooted lib system → Goes lib limit (booted_of system) turns last → Finishes how lib limit turns last → Each IsPlainTurn turns
+    → Goes lib limit (booted_of system) same end → Reaches Whole other lib limit same end → IsThatRun turns same last end how other
+reached_one None lib limit system turns same last end how booted goes is plain goes' reaches = absurd reaches
+reached_one (Some how') lib limit system turns same last end how booted goes is plain goes' reaches =
+    let one = one_run_here lib limit system turns same last end how how' booted goes goes' is reaches plain in
+    record { turns_are = one.turns_are; end_is = ap (λ (h : Finish). Some h) one.end_is; left_is = one.left_is }
+
+abbrev answer_by : Bool → List (List ℕ) → RunOutput → List Turn → Finish → List (ℕ × ℕ) → Answer
+answer_by true denied to turns how findings = behind findings (run_answer denied to turns (Some how))
+answer_by false denied to turns how findings = audit_answer findings
+
+run_one :
+    (b : Bool) (denied : List (List ℕ)) (to : RunOutput) (limit : ℕ) (lib : Library) (system : SuperFields) (findings : List (ℕ × ℕ))
+    (turns : List Turn) (last : Booted) (how : Finish) (due : Answer)
+    → IsBooted lib system → Goes lib limit (booted_of system) turns last → Finishes how lib limit turns last → Each IsPlainTurn turns
+    → IsRunBy b Whole denied to limit lib (booted_of system) findings due → due ≡ answer_by b denied to turns how findings
+run_one true denied to limit lib system findings turns last how due booted goes is plain run =
+    let one = reached_one run.how lib limit system turns run.turns last run.last how booted goes is plain run.goes run.reaches in
+    let turns_are = one.turns_are in
+    let end_is = one.end_is in
+    let answers : behind findings (run_answer denied to turns (Some how)) ≡ behind findings (run_answer denied to run.turns run.how) =
+    λ i. behind findings (run_answer denied to (turns_are i) (end_is i)) in
+    run.answer ∙ sym answers
+run_one false denied to limit lib system findings turns last how due booted goes is plain run = run
+
+abbrev due_answer : FolderCommand → FolderFields → List Turn → Finish → List (ℕ × ℕ) → Answer
+due_answer Audit given turns how findings = audit_answer findings
+due_answer (Run run) given turns how findings = answer_by (passes findings || run.unaudited) given.denied output.Console turns how findings
+due_answer (Trace run) given turns how findings = answer_by (passes findings || run.unaudited) given.denied output.Trace turns how findings
+
+command_one :
+    (command : FolderCommand) (given : FolderFields) (system : SuperFields) (limit : ℕ) (findings : List (ℕ × ℕ))
+    (turns : List Turn) (last : Booted) (how : Finish) (due : Answer)
+    → IsBooted given.lib system → HasLimit command limit → Goes given.lib limit (booted_of system) turns last
+    → Finishes how given.lib limit turns last → Each IsPlainTurn turns
+    → IsAnswerBy command given system findings due → due ≡ due_answer command given turns how findings
+command_one Audit given system limit findings turns last how due booted has goes is plain answer = absurd has
+command_one (Run run) given system limit findings turns last how due booted has goes is plain answer =
+    run_one (passes findings || run.unaudited) given.denied output.Console run.steps given.lib system findings turns last how due booted
+    (subst (λ n. Goes given.lib n (booted_of system) turns last) has goes) (subst (λ n. Finishes how given.lib n turns last) has is) plain answer
+command_one (Trace run) given system limit findings turns last how due booted has goes is plain answer =
+    run_one (passes findings || run.unaudited) given.denied output.Trace run.steps given.lib system findings turns last how due booted
+    (subst (λ n. Goes given.lib n (booted_of system) turns last) has goes) (subst (λ n. Finishes how given.lib n turns last) has is) plain answer
+
+plain_one :
+    (command : FolderCommand) (given : FolderFields) (system : SuperFields) (limit : ℕ)
+    (turns : List Turn) (last : Booted) (how : Finish) (due same : Answer)
+    → IsBooted given.lib system → HasLimit command limit → Goes given.lib limit (booted_of system) turns last
+    → Finishes how given.lib limit turns last → Each IsPlainTurn turns
+    → IsFolderAnswer Whole command given due → IsFolderAnswer Whole command given same → due ≡ same
+plain_one command given system limit turns last how due same booted has goes ends plain is is_same =
+    let f = found_by command given system due booted is in
+    let g = found_by command given system same booted is_same in
+    let one : f.findings ≡ g.findings = findings_law.unique system.core booted_dbr f.findings g.findings f.found g.found in
+    command_one command given system limit f.findings turns last how due booted has goes ends plain f.answer
+    ∙ ap (due_answer command given turns how) one
+    ∙ sym (command_one command given system limit g.findings turns last how same booted has goes ends plain g.answer)
 
 -- ---- pieces
 
@@ -231,6 +320,7 @@ folder_due_law = record {
   some_run = run_due;
   turns = same_turns;
   runs = one_run_of;
+  one_plain = plain_one;
   pieces = folder_joined;
 }
 

@@ -19,7 +19,7 @@ use Rattle.m36_boot.specs.Image.{booted_word, booted_content, words_from, booted
 use Rattle.m36_super.specs.Library.{Library}
 use Rattle.m36_super.specs.declared.coming.Coming.{Coming}
 use Rattle.m36_super.specs.declared.coming.Coming.TheVariants.{Step, Link, Print, Over}
-use Rattle.m36_super.specs.FlatRun.{FlatRun, FlatTurn, flat_linked_by, flat_turn_by, flat_turn, flat_turns}
+use Rattle.m36_super.specs.FlatRun.{FlatRun, flat_linked_by, flat_turn_by, flat_turn}
 use Rattle.m36_super.specs.SuperFields.{SuperFields, booted_of}
 use Rattle.m36_super.specs.BootSays.{IsBooted}
 use Rattle.m36_booted.specs.DueLaw.{with_frames}
@@ -45,16 +45,6 @@ alike_by (Over e) lib n r = refl
 pub frames_alike : (lib : Library) (n : ℕ) → AreAlike lib (with_frames lib n)
 unfolding flat_turn
 frames_alike lib n r = alike_by r.coming lib n r
-
-pub turns_alike :
-    (lib other : Library) (r s : FlatRun) (count : ℕ) → AreAlike lib other → r ≡ s
-    → flat_turns lib r count ≡ flat_turns other s count
-unfolding flat_turns
-turns_alike lib other r s zero alike same = refl
-turns_alike lib other r s (suc n) alike same =
-    let next : flat_turn lib r ≡ flat_turn other s = alike r ∙ ap (flat_turn other) same in
-    let rest = turns_alike lib other (flat_turn lib r).after (flat_turn other s).after n alike (ap (λ (t : FlatTurn). t.after) next) in
-    λ i. (next i).turn ∷ rest i
 
 -- ---- what is booted
 

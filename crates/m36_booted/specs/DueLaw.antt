@@ -1,12 +1,13 @@
 -- What is due to a command on a folder that is booted, by the conditions of the audit and by runs.
-use Rattle.std.specs.Prelude.{◌≡◌, ℕ, Bool, false, List, [], ◌∷◌, length}
+use Rattle.std.specs.Prelude.{◌≡◌, ◌≢◌, ℕ, Bool, false, List, [], ◌∷◌, length}
 use Rattle.m36_outside.specs.Passing.{joined}
 use Rattle.m36_model.specs.Audit.{IsAudited}
 use Rattle.m36_model.specs.BootedCore.{booted_dbr}
 use Rattle.m36_model.specs.StoreLaw.{Each}
 use Rattle.m36_step.specs.declared.turns.Turn.{Turn}
+use Rattle.m36_step.specs.declared.turns.Turn.TheVariants.{NoMemory}
 use Rattle.m36_super.specs.Library.{Library}
-use Rattle.m36_super.specs.BootedRun.{Booted, AreTurns}
+use Rattle.m36_super.specs.BootedRun.{Booted, AreTurns, flat_run_of}
 use Rattle.m36_super.specs.SuperFields.{SuperFields, booted_of}
 use Rattle.m36_super.specs.TurnLaws.{IsPlainTurn}
 use Rattle.m36_super.specs.BootSays.{IsBooted}
@@ -48,18 +49,25 @@ HasLimit Audit limit = ⊥
 HasLimit (Run run) limit = limit ≡ run.steps
 HasLimit (Trace run) limit = limit ≡ run.steps
 
--- two runs make the same turns, and end the same way
-pub record AreOneRun (turns same : List Turn) (how end : Finish) : Type 0 where
+-- the turn does not want memory
+abbrev pub HasMemory : Turn → Type 0
+HasMemory turn = turn ≢ NoMemory
+
+-- Two runs make the same turns, end the same way, and leave the same registers and content.
+pub record AreOneRun
+    (turns same : List Turn) (last end : Booted) (how how_other : Finish) : Type 0 where
   pub turns_are : turns ≡ same
-  pub end_is : how ≡ end
+  pub end_is : how ≡ how_other
+  pub left_is : flat_run_of last ≡ flat_run_of end
 
 -- Segments boot to one system at most. One answer at most is due to `audit`. Where all conditions
 -- of the audit hold of the core of the system, the answer is one without findings, and otherwise
 -- one by some findings. It can't be that none is due to `audit`, nor to `run` and `trace` where
 -- some condition fails and `--unaudited` is not given, nor where some turns are a run that comes
--- to its end. Whatever the counts of pageable frames, runs make the same turns, up to the first
--- that executes ABSA or LDBR, and runs that come to their end without one are one run. The pieces
--- of an answer, one behind the other, are its text.
+-- to its end. Whatever the counts of pageable frames, where some turns execute no ABSA and no LDBR,
+-- as many others that find memory are the same turns, and where they are a run that comes to its
+-- end, each run that does is this one; then one answer at most is due. The pieces of an answer, one
+-- behind the other, are its text.
 pub record FolderDueLaw : Type 0 where
   pub system :
       (lib : Library) (system same : SuperFields)
@@ -96,7 +104,7 @@ pub record FolderDueLaw : Type 0 where
       → IsBooted lib system → IsBooted (with_frames lib frames) other
       → AreTurns lib (booted_of system) turns last
       → AreTurns (with_frames lib frames) (booted_of other) same end
-      → Each IsPlainTurn turns → Each IsPlainTurn same → length turns ≡ length same → turns ≡ same
+      → Each IsPlainTurn turns → Each HasMemory same → length turns ≡ length same → turns ≡ same
   pub runs :
       (lib : Library) (frames limit : ℕ) (system other : SuperFields) (turns same : List Turn)
       (last end : Booted) (how how_other : Finish)
@@ -105,7 +113,15 @@ pub record FolderDueLaw : Type 0 where
       → Goes (with_frames lib frames) limit (booted_of other) same end
       → Finishes how lib limit turns last
       → Finishes how_other (with_frames lib frames) limit same end
-      → Each IsPlainTurn turns → Each IsPlainTurn same → AreOneRun turns same how how_other
+      → Each IsPlainTurn turns → AreOneRun turns same last end how how_other
+  pub one_plain :
+      (command : FolderCommand) (given : FolderFields) (system : SuperFields) (limit : ℕ)
+      (turns : List Turn) (last : Booted) (how : Finish) (due same : Answer)
+      → IsBooted given.lib system → HasLimit command limit
+      → Goes given.lib limit (booted_of system) turns last
+      → Finishes how given.lib limit turns last → Each IsPlainTurn turns
+      → IsFolderAnswer Whole command given due → IsFolderAnswer Whole command given same
+      → due ≡ same
   pub pieces :
       (extent : Extent) (command : FolderCommand) (given : FolderFields) (due : Answer)
       → IsFolderAnswer extent command given due → joined due.pieces ≡ due.text
