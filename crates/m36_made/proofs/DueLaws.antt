@@ -2,11 +2,15 @@
 use Rattle.std.proofs.Common.{◌≡◌, ℕ, List, [], ◌∷◌, length, Some, Ok, Err, refl, sym, ap, subst, ◌∙◌}
 use Rattle.m36_model.specs.Audit.{AreFindings, IsAudited}
 use Rattle.m36_model.specs.BootedCore.{booted_dbr}
+use Rattle.m36_model.specs.Registers.{RegsFields}
+use Rattle.m36_model.specs.StoreLaw.{Each}
 use Rattle.m36_isol.proofs.Findings.{findings_law}
 use Rattle.m36_step.specs.declared.turns.Turn.{Turn}
 use Rattle.m36_super.specs.Library.{Library}
+use Rattle.m36_super.specs.FlatRun.{FlatRun}
 use Rattle.m36_super.specs.BootedRun.{Booted}
 use Rattle.m36_super.specs.SuperFields.{SuperFields, booted_of}
+use Rattle.m36_super.specs.TurnLaws.{IsPlainTurn}
 use Rattle.m36_super.specs.BootSays.{IsBooted}
 use Rattle.m36_reading.specs.declared.refusal.Refusal.{Refusal}
 use Rattle.m36_reading.specs.declared.setting.Set.{Set}
@@ -17,6 +21,7 @@ use Rattle.m36_booted.specs.declared.running.Finish.{Finish}
 use Rattle.m36_booted.specs.Folder.{FolderFields}
 use Rattle.m36_booted.specs.RunText.{steps_in}
 use Rattle.m36_booted.specs.Runs.{Whole, Goes, Finishes}
+use Rattle.m36_booted.proofs.DueLaws.{reached_one}
 use Rattle.m36_booted.proofs.OneSystem.{one_system}
 use Rattle.m36_made.specs.Summary.{run_limit, run_answer, unrun_answer, IsSummary}
 use Rattle.m36_made.specs.Made.{boots_from, with_files, IsMadeDue}
@@ -154,6 +159,41 @@ run_due :
 run_due sets given system turns last how to goes ends =
     due_by sets given system to (λ findings found. ran given.lib system findings turns last how goes ends)
 
+-- ---- one answer where a run executes no ABSA and no LDBR
+
+abbrev told_by : ℕ → List Turn → Finish → RegsFields → List (ℕ × ℕ) → Answer
+told_by count turns how regs [] = run_answer count [] (Some how) (steps_in turns) regs
+told_by count turns how regs (f ∷ findings) = unrun_answer count (f ∷ findings)
+
+told_one :
+    (lib : Library) (system : SuperFields) (findings : List (ℕ × ℕ)) (turns : List Turn) (last : Booted) (how : Finish) (told : Answer)
+    → IsBooted lib system → Goes lib run_limit (booted_of system) turns last → Finishes how lib run_limit turns last → Each IsPlainTurn turns
+    → IsToldBy lib system findings told → told ≡ told_by (length lib.catalog.segments) turns how last.state.regs findings
+told_one lib system [] turns last how told booted goes is plain run =
+    let one = reached_one run.how lib run_limit system turns run.turns last run.last how booted goes is plain run.goes run.reaches in
+    let turns_are = one.turns_are in
+    let end_is = one.end_is in
+    let regs : last.state.regs ≡ run.last.state.regs = ap (λ (r : FlatRun). r.state.regs) one.left_is in
+    let count = length lib.catalog.segments in
+    let answers : run_answer count [] (Some how) (steps_in turns) last.state.regs ≡ run_answer count [] run.how (steps_in run.turns) run.last.state.regs =
+    λ i. run_answer count [] (end_is i) (steps_in (turns_are i)) (regs i) in
+    run.answer ∙ sym answers
+told_one lib system (f ∷ findings) turns last how told booted goes is plain none = none
+
+plain_one :
+    (sets : List Set) (given : FolderFields) (system : SuperFields) (turns : List Turn) (last : Booted) (how : Finish) (due same : Answer)
+    → BootsTo sets given system → Goes given.lib run_limit (booted_of system) turns last → Finishes how given.lib run_limit turns last
+    → Each IsPlainTurn turns → IsMadeDue sets due → IsMadeDue sets same → due ≡ same
+plain_one sets given system turns last how due same to goes ends plain is is_same =
+    let f = made_found sets given system due to is in
+    let g = made_found sets given system same to is_same in
+    let one : f.findings ≡ g.findings = findings_law.unique system.core booted_dbr f.findings g.findings f.found g.found in
+    let told : is.told ≡ is_same.told =
+    told_one given.lib system f.findings turns last how is.told to.booted goes ends plain f.told_by
+    ∙ ap (told_by (length given.lib.catalog.segments) turns how last.state.regs) one
+    ∙ sym (told_one given.lib system g.findings turns last how is_same.told to.booted goes ends plain g.told_by) in
+    is.answer ∙ ap (with_files sets) told ∙ sym is_same.answer
+
 pub made_due_law : MadeDueLaw
 made_due_law = record {
   refused = refused_by;
@@ -163,4 +203,5 @@ made_due_law = record {
   some_refused = refused_due;
   some_failed = failed_due;
   some_run = run_due;
+  one_plain = plain_one;
 }

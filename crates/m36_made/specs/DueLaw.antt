@@ -3,10 +3,12 @@
 use Rattle.std.specs.Prelude.{◌≡◌, ℕ, List, [], ◌∷◌, length, Ok, Err}
 use Rattle.m36_model.specs.Audit.{IsAudited}
 use Rattle.m36_model.specs.BootedCore.{booted_dbr}
+use Rattle.m36_model.specs.StoreLaw.{Each}
 use Rattle.m36_step.specs.declared.turns.Turn.{Turn}
 use Rattle.m36_super.specs.Library.{Library}
 use Rattle.m36_super.specs.BootedRun.{Booted}
 use Rattle.m36_super.specs.SuperFields.{SuperFields, booted_of}
+use Rattle.m36_super.specs.TurnLaws.{IsPlainTurn}
 use Rattle.m36_super.specs.BootSays.{IsBooted}
 use Rattle.m36_reading.specs.declared.refusal.Refusal.{Refusal}
 use Rattle.m36_reading.specs.declared.setting.Set.{Set}
@@ -48,7 +50,7 @@ pub record IsByFindings (sets : List Set) (lib : Library) (due : Answer) : Type 
 -- conditions of the audit hold of the core of the system to which they boot, the answer is one
 -- without findings, and otherwise it is the one by some findings. It can't be that none is due
 -- where they do not boot, or some condition fails, or some turns of the system are a run that comes
--- to its end.
+-- to its end; and where such a run executes no ABSA and no LDBR, one answer at most is due.
 pub record MadeDueLaw : Type 0 where
   pub refused :
       (sets : List Set) (refusal : Refusal) (due : Answer) → boots_from sets ≡ Err refusal
@@ -78,3 +80,9 @@ pub record MadeDueLaw : Type 0 where
       → BootsTo sets given system → Goes given.lib run_limit (booted_of system) turns last
       → Finishes how given.lib run_limit turns last
       → ¬ ((due : Answer) → ¬ IsMadeDue sets due)
+  pub one_plain :
+      (sets : List Set) (given : FolderFields) (system : SuperFields) (turns : List Turn)
+      (last : Booted) (how : Finish) (due same : Answer)
+      → BootsTo sets given system → Goes given.lib run_limit (booted_of system) turns last
+      → Finishes how given.lib run_limit turns last → Each IsPlainTurn turns
+      → IsMadeDue sets due → IsMadeDue sets same → due ≡ same
