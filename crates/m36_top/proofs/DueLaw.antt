@@ -4,14 +4,17 @@ use Rattle.m36_outside.specs.Files.{Files}
 use Rattle.m36_reading.specs.declared.status.Status.TheVariants.{Usage}
 use Rattle.m36_reading.specs.Reading.{Early, outcome_in}
 use Rattle.m36_reading.specs.Answers.{Answer, unwritten, status_of, IsDueBy}
+use Rattle.m36_model.specs.declared.endings.End.TheVariants as endings
+use Rattle.m36_model.specs.declared.outcome.Stop.TheVariants.{Dis}
 use Rattle.m36_told.specs.Told.{told_answer}
 use Rattle.m36_told.proofs.LineLaws.{lines_joined}
 use Rattle.m36_ran.proofs.DueLaws.{state_due_law}
 use Rattle.m36_ran.proofs.PiecesJoined.{state_joined}
 use Rattle.m36_scheduled.proofs.DueLaws.{procs_due_law}
 use Rattle.m36_scheduled.proofs.PiecesJoined.{procs_joined}
+use Rattle.m36_booted.specs.declared.running.Finish.TheVariants.{Over}
 use Rattle.m36_booted.specs.Runs.{Whole}
-use Rattle.m36_booted.proofs.DueLaws.{AreJoined, folder_due_law, folder_joined}
+use Rattle.m36_booted.proofs.DueLaws.{AreJoined, folder_due_law, folder_joined, one_run_here}
 use Rattle.m36_made.proofs.DueLaws.{made_due_law}
 use Rattle.m36_made.proofs.MadeLaws.{made_joined}
 use Rattle.m36_top.specs.declared.command.Command.{Command}
@@ -20,6 +23,7 @@ use Rattle.m36_sessions.specs.Held.{Talk, HoldsImage, HoldsFolder}
 use Rattle.m36_sessions.specs.Sessions.{Told as Holding, IsSessionDue}
 use Rattle.m36_top.specs.Dues.{Due, Told, Image, Folder, Schedule, ImageSession, FolderSession, Made, IsDueOf}
 use Rattle.m36_top.specs.Commands.{reads}
+use Rattle.m36_top.specs.Done.{OneComesToDis}
 use Rattle.m36_top.specs.DueLaw.{IsCommandDue, IsUnbooted, BootsNone, DueLaw}
 
 by_one : (talk : Talk) (given : Early Due) (due same : Answer) → IsUnbooted given → IsDueBy (IsDueOf talk) given due → IsDueBy (IsDueOf talk) given same → due ≡ same
@@ -72,6 +76,12 @@ command_joined : (command : Option Command) (files : Files) (talk : Talk) (due :
 command_joined None files talk due is = subst AreJoined (sym is) refl
 command_joined (Some command) files talk due is = by_joined talk (outcome_in files (reads command)) due is
 
+-- ---- a run that comes to DIS
+
+one_comes : OneComesToDis
+one_comes lib limit system turns last booted goes ends plain same end how goes' ends' =
+    sym (one_run_here lib limit system turns same last end (Over (endings.Stop Dis)) how booted goes goes' ends ends' plain).end_is
+
 pub due_law : DueLaw
 due_law = record {
   one = λ words files. command_one (command_of words) files;
@@ -81,4 +91,5 @@ due_law = record {
   on_processes = procs_due_law;
   on_folders = folder_due_law;
   on_made = made_due_law;
+  comes = one_comes;
 }

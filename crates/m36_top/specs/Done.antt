@@ -7,6 +7,7 @@ use Rattle.m36_model.specs.Store.{State}
 use Rattle.m36_model.specs.Audit.{IsAudited}
 use Rattle.m36_model.specs.BootedCore.{booted_dbr}
 use Rattle.m36_model.specs.JointAudit.{IsJointlyAudited}
+use Rattle.m36_model.specs.StoreLaw.{Each}
 use Rattle.m36_model.specs.declared.endings.End.TheVariants as end
 use Rattle.m36_model.specs.declared.outcome.Outcome.TheVariants.{Stopped}
 use Rattle.m36_model.specs.declared.outcome.Stop.TheVariants.{Dis}
@@ -14,6 +15,7 @@ use Rattle.m36_step.specs.declared.turns.Turn.{Turn}
 use Rattle.m36_super.specs.Library.{Library}
 use Rattle.m36_super.specs.BootedRun.{Booted}
 use Rattle.m36_super.specs.SuperFields.{SuperFields, booted_of}
+use Rattle.m36_super.specs.TurnLaws.{IsPlainTurn}
 use Rattle.m36_super.specs.BootSays.{IsBooted}
 use Rattle.m36_reading.specs.declared.status.Status.{Status}
 use Rattle.m36_reading.specs.declared.status.Status.TheVariants.{Done, ReadFault, WriteFault}
@@ -61,6 +63,14 @@ ComesToDis lib limit first =
     (turns : List Turn) (last : Booted) (how : Finish)
     → Goes lib limit first turns last → Finishes how lib limit turns last
     → how ≡ Over (end.Stop Dis)
+
+-- Where one run does, and executes no ABSA and no LDBR, each does.
+abbrev pub OneComesToDis : Type 0
+OneComesToDis =
+    (lib : Library) (limit : ℕ) (system : SuperFields) (turns : List Turn) (last : Booted)
+    → IsBooted lib system → Goes lib limit (booted_of system) turns last
+    → Finishes (Over (end.Stop Dis)) lib limit turns last → Each IsPlainTurn turns
+    → ComesToDis lib limit (booted_of system)
 
 abbrev pub RunNeeds : FolderRun → Library → SuperFields → Type 0
 RunNeeds run lib system =

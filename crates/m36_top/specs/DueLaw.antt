@@ -16,6 +16,7 @@ use Rattle.m36_sessions.specs.Held.{Talk}
 use Rattle.m36_top.specs.Dues.{Due, Told, Image, Folder, Schedule, ImageSession, FolderSession, Made}
 use Rattle.m36_top.specs.Dues.{IsDueOf}
 use Rattle.m36_top.specs.Commands.{reads}
+use Rattle.m36_top.specs.Done.{OneComesToDis}
 
 abbrev pub IsCommandDue : Option Command → Files → Talk → Answer → Type 0
 IsCommandDue None files talk due = due ≡ unwritten Usage
@@ -41,7 +42,8 @@ BootsNone (Some command) files = IsUnbooted (outcome_in files (reads command))
 -- and it can't be that none is.
 -- The pieces of an answer, one behind the other, are its text. To a command on an image, or on
 -- processes, it is the one that the findings of the audit give; of those to a command on a folder,
--- and of those to `make`, laws of their own speak.
+-- and of those to `make`, laws of their own speak. Where one run of a system comes to DIS, and
+-- executes no ABSA and no LDBR, each does.
 pub record DueLaw : Type 0 where
   pub one :
       (words : List (List ℕ)) (files : Files) (talk : Talk) (due same : Answer)
@@ -58,3 +60,4 @@ pub record DueLaw : Type 0 where
   pub on_processes : ProcsDueLaw
   pub on_folders : FolderDueLaw
   pub on_made : MadeDueLaw
+  pub comes : OneComesToDis

@@ -5,7 +5,8 @@ ghost use Rattle.m36_top.specs.DueLaw.{DueLaw};
 /// One answer at most is due to words and files that boot or make no folder and hold no session, and it can't be that none is.
 /// On a state of which all conditions of the audit hold it is the one without findings, and on every other state one by some
 /// findings. A folder boots to one system at most, and its runs make the same turns up to the first that executes ABSA or
-/// LDBR. A folder that was made is told of by the conditions of the audit of the system to which it boots.
+/// LDBR; where one run executes neither and comes to DIS, each run does. A folder that was made is told of by the conditions
+/// of the audit of the system to which it boots.
 pub fn law_due()
     ensures { DueLaw }
 {}
