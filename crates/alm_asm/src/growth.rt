@@ -2,6 +2,7 @@
 
 ghost use Rattle.std.specs.Prelude.{ℕ, false, [], ◌∷◌, ◌≡◌, ◌+◌, ◌*◌, ◌^◌, ◌<◌};
 ghost use Rattle.std.specs.Prelude.{◌≤◌, length, if◌then◌else◌, Option, OnOk, IfOk};
+ghost use Rattle.obj36_parts.specs.ObjectSegment.{section_limit};
 ghost use Rattle.alm_lines.specs.Arguments.{first_arg};
 ghost use Rattle.alm_lines.specs.Spots.{start};
 ghost use Rattle.alm_asm.specs.Links.{operand_args};
@@ -123,8 +124,8 @@ impl Growth {
     #[tactic(auto, unfolding(crate::specs::Growth::is_over))]
     fn is_over(&self, spot: Spot) -> bool
         ensures value { result ≡ is_over spot self.now }
-        ensures definition { result ≡ false → self.now.definition ≤ 258048 }
-        ensures symbol { result ≡ false → self.now.symbol ≤ 258048 }
+        ensures definition { result ≡ false → self.now.definition ≤ section_limit }
+        ensures symbol { result ≡ false → self.now.symbol ≤ section_limit }
     {
         let links = self.links.items().len() as u128;
         let linkage = 8 + spot.inner + 2 * links;
@@ -367,7 +368,7 @@ fn take_line(
     Ok(())
 }
 
-/// The refusal of the first line with which one of these sections has more than 2^18 - 4096 words. The error is want of
+/// The refusal of the first line with which one of these sections has too many words. The error is want of
 /// memory alone.
 #[tactic(auto, using(alm_lines::proofs::Rooms::rooms), unfolding(crate::specs::Growth::growth_refusal))]
 pub fn growth_refusal(

@@ -1,6 +1,7 @@
 -- Refusals: which comes first in the text, and what refuses an expression.
 use Rattle.std.specs.Prelude.{ℕ, ◌+◌, ◌-◌, ◌%◌, ◌^◌, Bool, true, false, not, ◌&&◌, ◌||◌, nat_eq}
 use Rattle.std.specs.Prelude.{nat_lt, is_some, List, Option, Some, None, if◌then◌else◌}
+use Rattle.obj36_parts.specs.ObjectSegment.{section_limit}
 use Rattle.alm_tokens.specs.declared.expression.Term.{Term}
 use Rattle.alm_parse.specs.declared.line.Line36.{Line36}
 use Rattle.alm_parse.specs.declared.fault.AlmFault.{AlmFault}
@@ -92,6 +93,6 @@ has_value text symbols spot terms room may_move =
 
 -- ---- lengths
 
--- A section of an object has at most 2^18 - 4096 words.
+-- whether so many words are more than a section of an object has
 abbrev pub is_over_limit : ℕ → Bool
-is_over_limit words = nat_lt 258048 words
+is_over_limit words = nat_lt section_limit words

@@ -11,6 +11,7 @@ use crate::spot::Spot;
 use crate::sum::{Balance, Kind, Sum};
 use crate::symbols::Symbols;
 use alm_parse::{AlmFault, Line36, Term};
+use obj36_parts::sections::SECTION_LIMIT;
 
 /// Why lines are not an object's.
 #[derive(Clone, Copy, Debug, PartialEq, Eq)]
@@ -206,9 +207,9 @@ pub fn has_value(
     place_undefined(text, symbols, terms).is_none() && !sum.unknown && is_said(room, may_move, sum)
 }
 
-/// A section of an object has more than 2^18 - 4096 words.
+/// So many words are more than a section of an object has.
 pub fn is_over_limit(words: u128) -> bool
     ensures { result ≡ is_over_limit words }
 {
-    words > 258048
+    words > SECTION_LIMIT as u128
 }

@@ -4,13 +4,13 @@
 --          does not fit
 --
 -- B1 is looked for first, over the whole file, then B2, B3 and B5 line by line, and B4 last.
-use Rattle.std.specs.Prelude.{ℕ, ◌+◌, ◌-◌, ◌^◌, Bool, true, false, ◌&&◌, ◌||◌, nat_le}
+use Rattle.std.specs.Prelude.{ℕ, ◌+◌, Bool, true, false, ◌&&◌, ◌||◌, nat_le}
 use Rattle.std.specs.Prelude.{if◌then◌else◌, List, [], ◌∷◌, ◌++◌, length, Result, Ok, Err}
 use Rattle.std.specs.List.{list_any}
 use Rattle.obj36_parts.specs.Fields.{RelocFields}
 use Rattle.obj36_parts.specs.PartsFields.{PartsFields}
 use Rattle.obj36_parts.specs.ObjectSegment.{is_well_formed, definition_section, linkage_section}
-use Rattle.obj36_parts.specs.ObjectSegment.{outer_statics, symbol_section}
+use Rattle.obj36_parts.specs.ObjectSegment.{outer_statics, symbol_section, section_limit}
 use Rattle.obj36_parts.specs.declared.definition.Named.{Named}
 use Rattle.m36_bindfile.specs.declared.fault.BindFault.{BindFault}
 use Rattle.m36_bindfile.specs.declared.fault.BindFault.TheVariants as fault
@@ -112,9 +112,9 @@ unfoldable pub components_fit : ShapeFields → List PlacedFields → Bool
 components_fit frame [] = true
 components_fit frame (p ∷ all) = if component_fits frame p then components_fit frame all else false
 
--- a section has at most 2^18 - 4,096 words
+-- whether a section has no more words than it may
 abbrev pub section_fits : List ℕ → Bool
-section_fits words = nat_le (length words) (2 ^ 18 - 4096)
+section_fits words = nat_le (length words) section_limit
 
 unfoldable pub sections_fit : PartsFields → Bool
 sections_fit p =

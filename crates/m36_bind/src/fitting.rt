@@ -1,6 +1,6 @@
 //! Whether all parts fit where they go.
 
-ghost use Rattle.std.specs.Prelude.{◌≡◌, ◌&&◌, ◌-◌};
+ghost use Rattle.std.specs.Prelude.{◌≡◌, ◌&&◌};
 ghost use Rattle.obj36_parts.specs.ObjectSegment.{definition_section};
 ghost use Rattle.m36_bind.specs.Bound.{component_fits, components_fit, sections_fit, section_fits};
 
@@ -10,6 +10,7 @@ use m36_relocate::words::all_fit;
 use m36_word::Word;
 use obj36::Object;
 use obj36_parts::Section;
+use obj36_parts::sections::SECTION_LIMIT;
 
 fn component_fits(frame: &Shape, p: &Placed<'_>) -> bool
     ensures { result ≡ component_fits frame.now p.now }
@@ -39,14 +40,14 @@ pub(crate) fn components_fit(frame: &Shape, all: &[Placed<'_>]) -> bool
 fn section_fits(words: &[Word]) -> bool
     ensures { result ≡ section_fits words.now }
 {
-    words.len() <= (1 << 18) - 4096
+    words.len() as u64 <= SECTION_LIMIT
 }
 
 // Whether the definition section fits.
 fn definition_fits(object: &Object) -> bool
     ensures { result ≡ section_fits (definition_section object.now) }
 {
-    object.definition_length() <= (1 << 18) - 4096
+    object.definition_length() as u64 <= SECTION_LIMIT
 }
 
 // Whether no section is over its limit.

@@ -212,6 +212,10 @@ section_words p Static = outer_statics p
 
 -- ---- for which parts a list stands
 
+-- the most words of a section of an object that is assembled or bound: 2^18 - 4096
+abbrev pub section_limit : ℕ
+section_limit = 258048
+
 -- whether each name stands once
 unfoldable pub are_distinct : List (List ℕ) → Bool
 are_distinct [] = true

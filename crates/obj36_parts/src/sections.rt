@@ -24,6 +24,9 @@ use std::alloc::Global;
 /// The tag of a link that is not snapped: fault 24.
 pub const LINK_TAG: u64 = 0o46;
 
+/// The most words of a section of an object that is assembled or bound.
+pub const SECTION_LIMIT: u64 = (1 << 18) - 4096;
+
 /// The class of a definition in a section.
 pub fn class(section: Section) -> u64
     ensures value { result ≡ class_number section }

@@ -1,4 +1,5 @@
 use Rattle.std.proofs.Common.{◌≡◌, ◌≤◌, length}
+use Rattle.obj36_parts.specs.ObjectSegment.{section_limit}
 use Rattle.alm_lines.specs.Spots.{start, HasRoom}
 use Rattle.alm_asm.specs.Growth.{at_first, growth_refusal}
 use Rattle.alm_asm.proofs.growth.growth_refusal.Given as goal
@@ -7,8 +8,8 @@ use Rattle.alm_asm.proofs.growth.growth_refusal.Given as goal
 abbrev pub invariant-loop-rest : goal.invariant-loop-rest
 invariant-loop-rest l = record {
   room : HasRoom (length l.rest) l.spot;
-  definition : l.growth.definition ≤ 258048;
-  symbol : l.growth.symbol ≤ 258048;
+  definition : l.growth.definition ≤ section_limit;
+  symbol : l.growth.symbol ≤ section_limit;
   whole : growth_refusal l.text l.symbols l.growth l.spot l.rest ≡ growth_refusal l.text l.symbols at_first start l.lines;
 }
 
