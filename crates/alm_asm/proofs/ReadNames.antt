@@ -30,7 +30,7 @@ use Rattle.alm_parse.specs.Bodies.{place_of, body_of, own_section, is_segment, i
 use Rattle.alm_parse.specs.Operands.{body_span, tag_given, entry_given, operand_of, is_operand, operand_given}
 use Rattle.alm_parse.specs.Members.{symbol_arg, symbols_given, number_arg, numbers_given}
 use Rattle.alm_tokens.specs.Lists.{members, is_symbol_at, is_written_at, place_out}
-use Rattle.alm_parse.specs.Pairs.{value_of_members, value_given, first_place, halves_of_members, halves_given, block_of_members, block_given, is_section, section_given}
+use Rattle.alm_parse.specs.Pairs.{value_of_members, value_given, first_place, halves_of_members, halves_given, block_of_members, block_given, used_section, is_section, section_given}
 use Rattle.alm_parse.specs.Characters.{place_bad, packed, is_ended, characters_by, characters_ended, characters_closed, characters_given}
 use Rattle.alm_tokens.specs.Heads.{head_of}
 use Rattle.alm_parse.specs.Operations.{operation_of}
@@ -38,6 +38,7 @@ use Rattle.alm_parse.specs.Lines.{missing, args_with, operand_for, args_by, args
 use Rattle.alm_tokens.specs.Rows.{rows_of}
 use Rattle.alm_parse.specs.Sources.{names_end, continued, read_lines, with_text, parsed}
 use Rattle.obj36_parts.specs.Names.{is_name_character, is_name}
+use Rattle.obj36_parts.specs.declared.section.Section.TheVariants.{Text, Linkage, Static}
 use Rattle.obj36_parts.proofs.SizeLaws.{same_is}
 use Rattle.alm_lines.specs.Arguments.{name_at}
 use Rattle.alm_asm.specs.Laws.{segment_is_named, entry_is_named, arg_is_named, args_are_named, lines_are_named}
@@ -173,14 +174,14 @@ static_named : is_name (take 32 (codes "static")) ≡ true
 unfolding is_name
 static_named = refl
 
-section_by : (bytes : List ℕ) (a b c : Bool) → is_text (codes "text") bytes ≡ a → is_text (codes "link") bytes ≡ b → is_text (codes "static") bytes ≡ c → ((a || b) || c) ≡ true → is_name (take 32 bytes) ≡ true
+section_by : (bytes : List ℕ) (a b c : Bool) → is_text (codes "text") bytes ≡ a → is_text (codes "link") bytes ≡ b → is_text (codes "static") bytes ≡ c → is_some (cond a (Some Text) (cond b (Some Linkage) (cond c (Some Static) None))) ≡ true → is_name (take 32 bytes) ≡ true
 section_by bytes true b c ea eb ec e = word_named (codes "text") bytes ea text_named
 section_by bytes false true c ea eb ec e = word_named (codes "link") bytes eb link_named
 section_by bytes false false true ea eb ec e = word_named (codes "static") bytes ec static_named
 section_by bytes false false false ea eb ec e = absurd (true≢false (sym e))
 
 section : (text : List ℕ) (operand : Span) (arguments : List Arg) → section_given text operand ≡ Ok arguments → args_are_named text arguments ≡ true
-unfolding section_given
+unfolding section_given used_section
 section text operand arguments e =
     let bytes = slice_of text operand in
     let ok = unless_ok (refused text operand.from (is_section (slice_of text operand)) None) (arg.Symbol operand ∷ []) arguments e in

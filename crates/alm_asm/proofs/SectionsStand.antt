@@ -1,6 +1,6 @@
 -- Lines that are not refused stand in the text or in static words of one kind.
 use Rattle.std.proofs.Common.{◌≡◌, ℕ, Bool, true, false, cond, not, ◌&&◌, List, [], ◌∷◌, ◌++◌, Option, Some, None, ◌⊎◌, inl, inr, refl, sym, ap, ◌∙◌, true≢false}
-use Rattle.std.specs.Prelude.{codes}
+use Rattle.std.specs.Prelude.{codes, unwrap_or}
 use Rattle.std.proofs.lemmas.Bool.{not-true}
 use Rattle.alm_tokens.specs.Tokens.{slice_of, is_text}
 use Rattle.alm_tokens.specs.declared.span.Span.{Span}
@@ -9,6 +9,7 @@ use Rattle.alm_parse.specs.declared.line.Line36.{Line36}
 use Rattle.obj36_parts.specs.declared.section.Section.{Section}
 use Rattle.obj36_parts.specs.declared.section.Section.TheVariants.{Text, Linkage, Symbol, Static}
 use Rattle.obj36_parts.specs.declared.definition.Named.{Named}
+use Rattle.alm_parse.specs.Pairs.{used_section}
 use Rattle.alm_lines.specs.Arguments.{first_arg, symbol_in, section_in}
 use Rattle.alm_lines.specs.Spots.{start, place, grown_in, entered, size_of, moved_by, below, end_of}
 use Rattle.alm_lines.specs.Refusals.{refusal_at}
@@ -56,14 +57,17 @@ is_entered Linkage = true
 is_entered Symbol = false
 is_entered Static = true
 
-entered_by : (a b : Bool) → is_entered (cond a Linkage (cond b Static Text)) ≡ true
-entered_by true b = refl
-entered_by false true = refl
-entered_by false false = refl
+entered_by : (a b c : Bool) → is_entered (unwrap_or (cond a (Some Text) (cond b (Some Linkage) (cond c (Some Static) None))) Text) ≡ true
+entered_by true b c = refl
+entered_by false true c = refl
+entered_by false false true = refl
+entered_by false false false = refl
 
 names_section : (text : List ℕ) (name : Option Span) → is_entered (section_in text name) ≡ true
+unfolding used_section
 names_section text None = refl
-names_section text (Some span) = entered_by (is_text (codes "link") (slice_of text span)) (is_text (codes "static") (slice_of text span))
+names_section text (Some span) =
+    entered_by (is_text (codes "text") (slice_of text span)) (is_text (codes "link") (slice_of text span)) (is_text (codes "static") (slice_of text span))
 
 entered_kept : (spot : Spot) (named : Section) → is_entered named ≡ true → may_enter spot named ≡ true → (spot.uses_inner && spot.uses_outer) ≡ false → kept (entered spot named) ≡ true
 entered_kept spot Text n m e = ap not e

@@ -1,13 +1,13 @@
 -- The arguments of operations.
-use Rattle.std.specs.Prelude.{ℕ, List, [], ◌∷◌, ◌++◌, codes, take, Option, Some, None}
-use Rattle.std.specs.Prelude.{if◌then◌else◌}
-use Rattle.alm_tokens.specs.Tokens.{slice_of, is_text}
+use Rattle.std.specs.Prelude.{ℕ, List, [], ◌∷◌, ◌++◌, take, Option, Some, None, unwrap_or}
+use Rattle.alm_tokens.specs.Tokens.{slice_of}
 use Rattle.alm_tokens.specs.declared.span.Span.{Span}
 use Rattle.alm_tokens.specs.declared.expression.Term.{Term}
 use Rattle.alm_parse.specs.declared.args.Arg.{Arg}
 use Rattle.alm_parse.specs.declared.args.Arg.TheVariants.{Symbol, Number, Chars, Plain, Operand}
+use Rattle.alm_parse.specs.Pairs.{used_section}
 use Rattle.obj36_parts.specs.declared.section.Section.{Section}
-use Rattle.obj36_parts.specs.declared.section.Section.TheVariants.{Text, Linkage, Static}
+use Rattle.obj36_parts.specs.declared.section.Section.TheVariants.{Text}
 
 -- a name of at most 32 bytes
 abbrev pub name_at : List ℕ → Span → List ℕ
@@ -61,10 +61,7 @@ words_of_args words (arg ∷ more) = words_of_args (words ++ words_of_arg arg) m
 
 -- the section of a `use` line
 abbrev pub section_named : List ℕ → Section
-section_named name =
-    if is_text (codes "link") name
-    then Linkage
-    else (if is_text (codes "static") name then Static else Text)
+section_named name = unwrap_or (used_section name) Text
 
 abbrev pub section_in : List ℕ → Option Span → Section
 section_in text (Some span) = section_named (slice_of text span)

@@ -7,7 +7,7 @@ ghost use Rattle.alm_lines.specs.Arguments.{number_in, words_of_arg, words_of_ar
 ghost use Rattle.alm_lines.specs.Arguments.{section_in};
 
 use alm_parse::span::bytes_of;
-use alm_parse::{Arg, Span, Term};
+use alm_parse::{Arg, Span, Term, used_section};
 use m36_text::Name;
 use m36_word::{NoMemory, Words};
 use obj36_parts::Section;
@@ -106,13 +106,7 @@ pub fn words_of_args(alloc: Global, args: &[Arg]) -> Result<Words, NoMemory>
 fn section_named(bytes: &[u8]) -> Section
     ensures { result ≡ section_named bytes.now }
 {
-    if bytes == b"link".as_slice() {
-        return Section::Linkage;
-    }
-    if bytes == b"static".as_slice() {
-        return Section::Static;
-    }
-    Section::Text
+    used_section(bytes).unwrap_or(Section::Text)
 }
 
 /// The section of a `use` line.

@@ -1,7 +1,9 @@
 -- Operands of two parts between a comma, and names of sections.
-use Rattle.std.specs.Prelude.{ℕ, Bool, ◌&&◌, ◌||◌, List, [], ◌∷◌, map, codes, Option, Some, None}
-use Rattle.std.specs.Prelude.{Result, Err}
+use Rattle.std.specs.Prelude.{ℕ, Bool, ◌&&◌, if◌then◌else◌, List, [], ◌∷◌, map, codes}
+use Rattle.std.specs.Prelude.{Option, Some, None, is_some, Result, Err}
 use Rattle.std.specs.List.{list_all}
+use Rattle.obj36_parts.specs.declared.section.Section.{Section}
+use Rattle.obj36_parts.specs.declared.section.Section.TheVariants.{Text, Linkage, Static}
 use Rattle.alm_tokens.specs.declared.span.Span.{Span}
 use Rattle.alm_tokens.specs.declared.pieces.Piece.{Piece}
 use Rattle.alm_parse.specs.declared.args.Arg.{Arg}
@@ -63,10 +65,18 @@ block_of_members text at _ = Err (told text at E2)
 unfoldable pub block_given : List ℕ → Span → Result (List Arg) Refusal
 block_given text operand = block_of_members text operand.from (members text operand)
 
--- the name of a section
+-- the section that a name behind `use` names
+unfoldable pub used_section : List ℕ → Option Section
+used_section name =
+    if is_text (codes "text") name
+    then Some Text
+    else (if is_text (codes "link") name
+    then Some Linkage
+    else (if is_text (codes "static") name then Some Static else None))
+
+-- whether it names one
 abbrev pub is_section : List ℕ → Bool
-is_section bytes =
-    is_text (codes "text") bytes || is_text (codes "link") bytes || is_text (codes "static") bytes
+is_section name = is_some (used_section name)
 
 unfoldable pub section_given : List ℕ → Span → Result (List Arg) Refusal
 section_given text operand =

@@ -49,4 +49,5 @@ pub use deed::Deed;
 pub use fault::AlmFault;
 pub use line::Line36;
 pub use operation::{Operation, operation_of};
+pub use pairs::used_section;
 pub use source::{Lines36, parse};

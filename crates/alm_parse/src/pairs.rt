@@ -1,7 +1,7 @@
 //! Operands of two parts, and names of sections.
 
 ghost use Rattle.std.specs.Prelude.{ℕ, ◌≡◌, ◌^◌, ◌<◌, Option, IfSome, IfOk, IfErr, length, ◌⊎◌};
-ghost use Rattle.alm_parse.specs.Pairs.{first_place, value_given, halves_given, block_given, is_section, section_given};
+ghost use Rattle.alm_parse.specs.Pairs.{first_place, value_given, halves_given, block_given, used_section, section_given};
 ghost use Rattle.alm_parse.specs.Refusals.{Reads, HaltsInside};
 
 use crate::args::{Arg, Args, one, two};
@@ -11,6 +11,7 @@ use alm_tokens::expression::{are_terms, expr_of, expression_pieces, place_over};
 use alm_tokens::lists::{is_symbol_at, is_written_at, members, place_out};
 use alm_tokens::numerals::Numeral;
 use alm_tokens::span::{Span, bytes_of};
+use obj36_parts::Section;
 use std::alloc::Global;
 
 /// A symbol and an expression.
@@ -93,10 +94,21 @@ pub fn block_args(alloc: Global, text: &[u8], operand: Span) -> Result<Args, Hal
     Ok(two(alloc, Arg::Symbol(name.span), count)?)
 }
 
-fn is_section(bytes: &[u8]) -> bool
-    ensures { result ≡ is_section bytes.now }
+/// The section that a name behind `use` names.
+#[tactic(auto, unfolding(crate::specs::Pairs::used_section))]
+pub fn used_section(bytes: &[u8]) -> Option<Section>
+    ensures { result ≡ used_section bytes.now }
 {
-    bytes == b"text".as_slice() || bytes == b"link".as_slice() || bytes == b"static".as_slice()
+    if bytes == b"text".as_slice() {
+        return Some(Section::Text);
+    }
+    if bytes == b"link".as_slice() {
+        return Some(Section::Linkage);
+    }
+    if bytes == b"static".as_slice() {
+        return Some(Section::Static);
+    }
+    None
 }
 
 /// The name of a section.
@@ -106,7 +118,7 @@ pub fn section_args(alloc: Global, text: &[u8], operand: Span) -> Result<Args, H
     ensures value { Reads result (section_given text.now operand) }
     ensures inside { IfErr result (HaltsInside (length text.now)) }
 {
-    let form = is_section(bytes_of(text, operand));
+    let form = used_section(bytes_of(text, operand)).is_some();
     if let Some(refusal) = refused(text, operand.from, form, None) {
         return Err(Halt::Refused(refusal));
     }
