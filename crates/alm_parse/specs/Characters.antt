@@ -1,8 +1,9 @@
 -- Texts that are placed: characters between two delimiters, four in a word.
-use Rattle.std.specs.Prelude.{ℕ, ◌+◌, ◌*◌, ◌^◌, Bool, true, false, not, ◌==◌, List, [], ◌∷◌}
+use Rattle.std.specs.Prelude.{ℕ, ◌+◌, Bool, true, false, not, ◌==◌, List, [], ◌∷◌}
 use Rattle.std.specs.Prelude.{slice_index, Option, Some, None, option_map, Result, Ok, Err}
 use Rattle.std.specs.Prelude.{if◌then◌else◌}
 use Rattle.std.specs.List.{find, position}
+use Rattle.obj36_parts.specs.Halves.{four}
 use Rattle.alm_tokens.specs.declared.span.Span.{Span}
 use Rattle.alm_parse.specs.declared.args.Arg.{Arg}
 use Rattle.alm_parse.specs.declared.args.Arg.TheVariants.{Chars}
@@ -13,9 +14,6 @@ use Rattle.alm_tokens.specs.Tokens.{slice_of, span_at}
 use Rattle.alm_parse.specs.Bodies.{place_of}
 
 -- A character has nine bits, and zeros follow the last.
-abbrev pub four : ℕ → ℕ → ℕ → ℕ → ℕ
-four a b c d = a * 2 ^ 27 + b * 2 ^ 18 + c * 2 ^ 9 + d
-
 unfoldable pub packed : List ℕ → List ℕ
 packed [] = []
 packed (a ∷ []) = four a 0 0 0 ∷ []

@@ -4,7 +4,7 @@ ghost use Rattle.std.specs.Prelude.{ℕ, ◌∷◌, ◌≡◌, ◌^◌, ◌<◌,
 ghost use Rattle.std.specs.List.{find, position};
 ghost use Rattle.std.specs.Option.{option_copied};
 ghost use Rattle.alm_tokens.specs.Bytes.{is_blank, is_character};
-ghost use Rattle.alm_parse.specs.Characters.{four, first_word, packed, is_ended, place_bad, characters_given};
+ghost use Rattle.alm_parse.specs.Characters.{first_word, packed, is_ended, place_bad, characters_given};
 ghost use Rattle.alm_parse.specs.Refusals.{Reads, HaltsInside};
 
 use crate::args::{Arg, Args, one};

@@ -13,6 +13,7 @@ use Rattle.m36_model.specs.Flat.{Flat, flat_store}
 use Rattle.m36_model.specs.declared.endings.LinkCode.{LinkCode}
 use Rattle.m36_model.specs.declared.outcome.Fault.{Fault}
 use Rattle.obj36_parts.specs.Fields.{LinkFields}
+use Rattle.obj36_parts.specs.Halves.{quarter}
 use Rattle.obj36.specs.References.{reference_text}
 use Rattle.m36_link.specs.Fields.{SnapFields}
 use Rattle.m36_link.specs.Snap.{RefusedFields}
@@ -55,8 +56,8 @@ written_character c = if nat_lt c 128 then c else 63
 -- what is written of the four characters of nine bits in a word
 unfoldable pub characters_of : ℕ → List ℕ
 characters_of w =
-    written_character (w / 2 ^ 27 % 2 ^ 9) ∷ written_character (w / 2 ^ 18 % 2 ^ 9)
-    ∷ written_character (w / 2 ^ 9 % 2 ^ 9) ∷ written_character (w % 2 ^ 9) ∷ []
+    written_character (quarter w 0) ∷ written_character (quarter w 1)
+    ∷ written_character (quarter w 2) ∷ written_character (quarter w 3) ∷ []
 
 -- The words of the text stand from the word on that PR2 names. They are read in its ring by the
 -- rules of access, and no mark is set.

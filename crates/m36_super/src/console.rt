@@ -95,14 +95,14 @@ fn written(character: u64) -> u8
 }
 
 // Puts the four characters of a word.
-#[tactic(auto, unfolding(crate::specs::Services::characters_of))]
+#[tactic(auto, unfolding(crate::specs::Services::characters_of, obj36_parts::specs::Halves::quarter))]
 fn put_characters(text: &mut ArrayVec<u8, 256>, word: Word)
     requires { length text.old.items + 4 ≤ 256 }
     ensures { text.new.items ≡ text.old.items ++ characters_of word }
 {
     let v = word.value();
     let four = [
-        written((v >> 27) % 512),
+        written(v >> 27),
         written((v >> 18) % 512),
         written((v >> 9) % 512),
         written(v % 512),

@@ -6,7 +6,8 @@ use Rattle.std.proofs.lemmas.Bool.{and_parts, leb-true, cond-true, cond-false}
 use Rattle.std.proofs.lemmas.Bool.Decides.{nat_tests}
 use Rattle.std.proofs.lemmas.List.{length-append, get_or-append_right}
 use Rattle.obj36_parts.specs.Names.{same, is_name, is_name_character, place_of, name_length, unit_of, name_word, name_words_from, name_words, all_name_words}
-use Rattle.obj36_read.specs.Reading.{part_of, unit_at, characters, name_at}
+use Rattle.obj36_parts.specs.Halves.{quarter}
+use Rattle.obj36_read.specs.Reading.{unit_at, characters, name_at}
 use Rattle.obj36_parts.proofs.SizeLaws.{same_is, length-name_words}
 
 -- ---- what a name is
@@ -37,23 +38,23 @@ unfolding unit_of
 small_unit name g zero = omega (arith, g.fits)
 small_unit name g (suc i) = omega (arith, g.bytes i)
 
-first_part : (a b c d : ℕ) → a < 512 → b < 512 → c < 512 → d < 512 → part_of (a * 2 ^ 27 + b * 2 ^ 18 + c * 2 ^ 9 + d) 0 ≡ a
-unfolding part_of
+first_part : (a b c d : ℕ) → a < 512 → b < 512 → c < 512 → d < 512 → quarter (a * 2 ^ 27 + b * 2 ^ 18 + c * 2 ^ 9 + d) 0 ≡ a
+unfolding quarter
 first_part a b c d p q r s = omega arith
 
-second_part : (a b c d : ℕ) → a < 512 → b < 512 → c < 512 → d < 512 → part_of (a * 2 ^ 27 + b * 2 ^ 18 + c * 2 ^ 9 + d) 1 ≡ b
-unfolding part_of
+second_part : (a b c d : ℕ) → a < 512 → b < 512 → c < 512 → d < 512 → quarter (a * 2 ^ 27 + b * 2 ^ 18 + c * 2 ^ 9 + d) 1 ≡ b
+unfolding quarter
 second_part a b c d p q r s = omega arith
 
-third_part : (a b c d : ℕ) → a < 512 → b < 512 → c < 512 → d < 512 → part_of (a * 2 ^ 27 + b * 2 ^ 18 + c * 2 ^ 9 + d) 2 ≡ c
-unfolding part_of
+third_part : (a b c d : ℕ) → a < 512 → b < 512 → c < 512 → d < 512 → quarter (a * 2 ^ 27 + b * 2 ^ 18 + c * 2 ^ 9 + d) 2 ≡ c
+unfolding quarter
 third_part a b c d p q r s = omega arith
 
-fourth_part : (a b c d : ℕ) → a < 512 → b < 512 → c < 512 → d < 512 → part_of (a * 2 ^ 27 + b * 2 ^ 18 + c * 2 ^ 9 + d) 3 ≡ d
-unfolding part_of
+fourth_part : (a b c d : ℕ) → a < 512 → b < 512 → c < 512 → d < 512 → quarter (a * 2 ^ 27 + b * 2 ^ 18 + c * 2 ^ 9 + d) 3 ≡ d
+unfolding quarter
 fourth_part a b c d p q r s = omega arith
 
-part_is : (name : List ℕ) → IsGood name → (j r : ℕ) → r < 4 → part_of (name_word name j) r ≡ unit_of name (4 * j + r)
+part_is : (name : List ℕ) → IsGood name → (j r : ℕ) → r < 4 → quarter (name_word name j) r ≡ unit_of name (4 * j + r)
 unfolding name_word
 part_is name g j zero lt =
     first_part (unit_of name (4 * j)) (unit_of name (4 * j + 1)) (unit_of name (4 * j + 2)) (unit_of name (4 * j + 3)) (small_unit name g (4 * j)) (small_unit name g (4 * j + 1)) (small_unit name g (4 * j + 2)) (small_unit name g (4 * j + 3))
@@ -90,7 +91,7 @@ spelled_word words at name s k lt =
 spelled_unit : (words : List ℕ) (at : ℕ) (name : List ℕ) → IsGood name → IsSpelled words at name → (i : ℕ) → i ≤ length name → unit_at words at i ≡ unit_of name i
 unfolding unit_at name_length
 spelled_unit words at name g s i le =
-    ap (λ w. part_of w (i % 4)) (spelled_word words at name s (i / 4) (omega arith))
+    ap (λ w. quarter w (i % 4)) (spelled_word words at name s (i / 4) (omega arith))
     ∙ part_is name g (i / 4) (i % 4) (omega arith)
     ∙ ap (unit_of name) (let e : 4 * (i / 4) + i % 4 ≡ i = omega arith in e)
 

@@ -1,5 +1,5 @@
--- Words by their halves of 18 bits.
-use Rattle.std.specs.Prelude.{ℕ, ◌+◌, ◌*◌, ◌/◌, ◌%◌, ◌^◌}
+-- Words by their halves of 18 bits, and by their quarters of nine.
+use Rattle.std.specs.Prelude.{ℕ, zero, suc, ◌+◌, ◌*◌, ◌/◌, ◌%◌, ◌^◌}
 
 -- bits 0 to 17 of a word
 unfoldable pub left : ℕ → ℕ
@@ -12,3 +12,14 @@ right w = w % 2 ^ 18
 -- the word of two halves; a number that does not fit its half is cut to its low bits
 unfoldable pub joined : ℕ → ℕ → ℕ
 joined l r = l % 2 ^ 18 * 2 ^ 18 + r % 2 ^ 18
+
+-- a quarter of a word, counted from its left end, which is quarter 0
+unfoldable pub quarter : ℕ → ℕ → ℕ
+quarter w zero = w / 2 ^ 27
+quarter w (suc zero) = w / 2 ^ 18 % 2 ^ 9
+quarter w (suc (suc zero)) = w / 2 ^ 9 % 2 ^ 9
+quarter w (suc (suc (suc n))) = w % 2 ^ 9
+
+-- the word of four quarters, each below 2^9
+abbrev pub four : ℕ → ℕ → ℕ → ℕ → ℕ
+four a b c d = a * 2 ^ 27 + b * 2 ^ 18 + c * 2 ^ 9 + d

@@ -1,9 +1,10 @@
 -- Names in a definition section: each stands there once, in order of first use.
-use Rattle.std.specs.Prelude.{ℕ, zero, suc, ◌+◌, ◌*◌, ◌/◌, ◌^◌, if◌then◌else◌, List, [], ◌∷◌, ◌++◌}
+use Rattle.std.specs.Prelude.{ℕ, zero, suc, ◌+◌, ◌*◌, ◌/◌, if◌then◌else◌, List, [], ◌∷◌, ◌++◌}
 use Rattle.std.specs.Prelude.{length, map, slice_index}
 use Rattle.std.specs.List.{list_any}
 pub use Rattle.m36_text.specs.Texts.{are_same as same, is_name_character}
 unfoldable pub use Rattle.m36_text.specs.Texts.{is_name}
+use Rattle.obj36_parts.specs.Halves.{four}
 
 -- ---- which names stand, and where
 
@@ -39,8 +40,8 @@ unit_of name i = slice_index (length name ∷ name) i
 -- a word of a name
 unfoldable pub name_word : List ℕ → ℕ → ℕ
 name_word name j =
-    unit_of name (4 * j) * 2 ^ 27 + unit_of name (4 * j + 1) * 2 ^ 18
-    + unit_of name (4 * j + 2) * 2 ^ 9 + unit_of name (4 * j + 3)
+    four (unit_of name (4 * j)) (unit_of name (4 * j + 1)) (unit_of name (4 * j + 2))
+    (unit_of name (4 * j + 3))
 
 -- so many words of a name, from one on
 unfoldable pub name_words_from : List ℕ → ℕ → ℕ → List ℕ

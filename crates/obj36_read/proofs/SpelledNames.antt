@@ -4,7 +4,8 @@ use Rattle.std.specs.Prelude.{slice_index}
 use Rattle.std.specs.Cmp.Lexicographic.{pointwise}
 use Rattle.std.proofs.lemmas.Bool.{and_parts, and_from, eqb-true, eq-eqb, leb-true}
 use Rattle.std.proofs.Math.Seq.{drop-cons}
-use Rattle.obj36_read.specs.Reading.{part_of, unit_at}
+use Rattle.obj36_parts.specs.Halves.{quarter}
+use Rattle.obj36_read.specs.Reading.{unit_at}
 use Rattle.obj36_read.specs.TableFaults.{lies_within, same_units}
 use Rattle.obj36_read.specs.Spelled.{whole_words, kept_parts, last_parts}
 
@@ -19,15 +20,15 @@ either_way false false f g = refl
 -- whether so many parts of nine bits from one on are the same in two words
 same_parts : ℕ → ℕ → ℕ → ℕ → Bool
 same_parts w v k zero = true
-same_parts w v k (suc count) = eqb (part_of w k) (part_of v k) && same_parts w v (k + 1) count
+same_parts w v k (suc count) = eqb (quarter w k) (quarter v k) && same_parts w v (k + 1) count
 
 one_part : (w v : ℕ) → same_parts w v 0 1 ≡ eqb (w / 2 ^ 27) (v / 2 ^ 27)
-unfolding same_parts part_of
+unfolding same_parts quarter
 one_part w v =
     either_way _ _ (λ e. (and_parts (eqb (w / 2 ^ 27) (v / 2 ^ 27)) true e).0) (λ e. and_from (eqb (w / 2 ^ 27) (v / 2 ^ 27)) true e refl)
 
 two_parts : (w v : ℕ) → same_parts w v 0 2 ≡ eqb (w / 2 ^ 18) (v / 2 ^ 18)
-unfolding same_parts part_of
+unfolding same_parts quarter
 two_parts w v = either_way _ _ there back
   where
     there : (eqb (w / 2 ^ 27) (v / 2 ^ 27) && (eqb (w / 2 ^ 18 % 2 ^ 9) (v / 2 ^ 18 % 2 ^ 9) && true)) ≡ true → eqb (w / 2 ^ 18) (v / 2 ^ 18) ≡ true
@@ -42,7 +43,7 @@ two_parts w v = either_way _ _ there back
         and_from _ _ (eq-eqb (w / 2 ^ 27) (v / 2 ^ 27) (omega (arith, h))) (and_from _ true (eq-eqb (w / 2 ^ 18 % 2 ^ 9) (v / 2 ^ 18 % 2 ^ 9) (ap (λ n. n % 2 ^ 9) h)) refl)
 
 three_parts : (w v : ℕ) → same_parts w v 0 3 ≡ eqb (w / 2 ^ 9) (v / 2 ^ 9)
-unfolding same_parts part_of
+unfolding same_parts quarter
 three_parts w v = either_way _ _ there back
   where
     there : (eqb (w / 2 ^ 27) (v / 2 ^ 27) && (eqb (w / 2 ^ 18 % 2 ^ 9) (v / 2 ^ 18 % 2 ^ 9) && (eqb (w / 2 ^ 9 % 2 ^ 9) (v / 2 ^ 9 % 2 ^ 9) && true))) ≡ true
@@ -68,7 +69,7 @@ three_parts w v = either_way _ _ there back
         (and_from _ true (eq-eqb (w / 2 ^ 9 % 2 ^ 9) (v / 2 ^ 9 % 2 ^ 9) (ap (λ n. n % 2 ^ 9) h)) refl))
 
 four_parts : (w v : ℕ) → same_parts w v 0 4 ≡ eqb w v
-unfolding same_parts part_of
+unfolding same_parts quarter
 four_parts w v = either_way _ _ there back
   where
     there : (eqb (w / 2 ^ 27) (v / 2 ^ 27) && (eqb (w / 2 ^ 18 % 2 ^ 9) (v / 2 ^ 18 % 2 ^ 9) && (eqb (w / 2 ^ 9 % 2 ^ 9) (v / 2 ^ 9 % 2 ^ 9) && (eqb (w % 2 ^ 9) (v % 2 ^ 9) && true)))) ≡ true
@@ -120,12 +121,12 @@ module _ (d : List ℕ) (a b : ℕ) where
       both true y z = refl
       both false y z = refl
 
-  unit_in : (c j k : ℕ) → k < 4 → unit_at d c (4 * j + k) ≡ part_of (slice_index d (c + j)) k
+  unit_in : (c j k : ℕ) → k < 4 → unit_at d c (4 * j + k) ≡ quarter (slice_index d (c + j)) k
   unfolding unit_at
   unit_in c j k lt =
       let word : (4 * j + k) / 4 ≡ j = omega arith in
       let part : (4 * j + k) % 4 ≡ k = omega arith in
-      λ i. part_of (slice_index d (c + word i)) (part i)
+      λ i. quarter (slice_index d (c + word i)) (part i)
 
   units_parts : (j k count : ℕ) → k + count ≤ 4 → same_units d a b (4 * j + k) count ≡ same_parts (slice_index d (a + j)) (slice_index d (b + j)) k count
   unfolding same_units same_parts
@@ -133,7 +134,7 @@ module _ (d : List ℕ) (a b : ℕ) where
   units_parts j k (suc count) le =
       let here : k < 4 = omega (arith, le) in
       (λ i. eqb (unit_in a j k here i) (unit_in b j k here i) && same_units d a b (4 * j + k + 1) count)
-      ∙ ap (λ t. eqb (part_of (slice_index d (a + j)) k) (part_of (slice_index d (b + j)) k) && t)
+      ∙ ap (λ t. eqb (quarter (slice_index d (a + j)) k) (quarter (slice_index d (b + j)) k) && t)
       (ap (λ m. same_units d a b m count) (let e : 4 * j + k + 1 ≡ 4 * j + (k + 1) = omega arith in e) ∙ units_parts j (k + 1) count (omega (arith, le)))
 
   word_units : (j : ℕ) → same_units d a b (4 * j) 4 ≡ eqb (slice_index d (a + j)) (slice_index d (b + j))

@@ -5,7 +5,7 @@ use Rattle.std.specs.Prelude.{ℕ, zero, suc, ◌+◌, ◌-◌, ◌*◌, ◌/◌
 use Rattle.std.specs.Prelude.{if◌then◌else◌, min, List, [], ◌∷◌, length, take, drop, slice_index}
 use Rattle.obj36_parts.specs.Fields.{LinkFields, RelocFields}
 use Rattle.obj36_parts.specs.PartsFields.{PartsFields}
-use Rattle.obj36_parts.specs.Halves.{left, right}
+use Rattle.obj36_parts.specs.Halves.{left, right, quarter}
 use Rattle.obj36_parts.specs.ObjectSegment.{has_name, has_entry}
 use Rattle.obj36_parts.specs.declared.section.Section.{Section}
 use Rattle.obj36_parts.specs.declared.section.Section.TheVariants.{Text, Linkage, Symbol, Static}
@@ -13,16 +13,9 @@ use Rattle.obj36_parts.specs.declared.definition.Named.{Named}
 
 -- ---- names
 
--- a part of nine bits of a word
-unfoldable pub part_of : ℕ → ℕ → ℕ
-part_of w zero = w / 2 ^ 27
-part_of w (suc zero) = w / 2 ^ 18 % 2 ^ 9
-part_of w (suc (suc zero)) = w / 2 ^ 9 % 2 ^ 9
-part_of w (suc (suc (suc n))) = w % 2 ^ 9
-
 -- part i of nine bits from a word on
 unfoldable pub unit_at : List ℕ → ℕ → ℕ → ℕ
-unit_at words at i = part_of (slice_index words (at + i / 4)) (i % 4)
+unit_at words at i = quarter (slice_index words (at + i / 4)) (i % 4)
 
 -- so many characters from part i on, each cut to a byte
 unfoldable pub characters : List ℕ → ℕ → ℕ → ℕ → List ℕ

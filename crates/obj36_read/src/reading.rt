@@ -3,7 +3,8 @@
 ghost use Rattle.std.specs.Prelude.{ℕ, [], ◌≡◌, ◌+◌, ◌-◌, ◌*◌, ◌/◌, ◌%◌, ◌^◌, ◌<◌};
 ghost use Rattle.std.specs.Prelude.{◌≤◌, min, length, take, drop, slice_index, if◌then◌else◌, IfOk};
 ghost use Rattle.obj36_parts.specs.declared.section.Section.TheVariants.{Text};
-ghost use Rattle.obj36_read.specs.Reading.{part_of, unit_at, characters, name_at, class_with};
+ghost use Rattle.obj36_parts.specs.Halves.{quarter};
+ghost use Rattle.obj36_read.specs.Reading.{unit_at, characters, name_at, class_with};
 ghost use Rattle.obj36_read.specs.Reading.{section_with, definition_at, definitions_in, link_at};
 ghost use Rattle.obj36_read.specs.Reading.{links_in, relocation_in, relocations_in, map_place};
 ghost use Rattle.obj36_read.specs.Reading.{version_in, told_length, told_count, from_definition};
@@ -57,10 +58,10 @@ pub fn front(words: &[Word], count: u64) -> &[Word]
 
 // ---- names
 
-#[tactic(auto, unfolding(crate::specs::Reading::part_of))]
+#[tactic(auto, unfolding(obj36_parts::specs::Halves::quarter))]
 fn part(word: Word, i: u64) -> u64
     requires { i < 4 }
-    ensures value { result ≡ part_of word i }
+    ensures value { result ≡ quarter word i }
     ensures bound { result < 2 ^ 9 }
 {
     let value = word.value();
