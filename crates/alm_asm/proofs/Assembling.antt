@@ -7,13 +7,13 @@ use Rattle.alm_parse.specs.declared.fault.AlmFault.{AlmFault}
 use Rattle.alm_parse.specs.Sources.{ParseSays}
 use Rattle.obj36_parts.specs.declared.section.Section.TheVariants.{Text}
 use Rattle.obj36_parts.specs.PartsFields.{PartsFields}
-use Rattle.obj36_parts.specs.ObjectSegment.{is_well_formed}
+use Rattle.obj36_parts.specs.ObjectSegment.{version_of, is_well_formed}
 use Rattle.obj36_parts.proofs.Formed.{is_formed}
 use Rattle.obj36_parts.proofs.LengthLaws.{length-words_of, least_size}
 use Rattle.alm_lines.specs.Spots.{start, count_in, end_of}
 use Rattle.alm_asm.specs.Words.{words_from}
 use Rattle.alm_lines.specs.Layout.{symbols_from}
-use Rattle.alm_asm.specs.Assembly.{tables_of, static_section, version_of, parts_with, parts_of, refusal_of, last_line, made, assembled_by, assembled}
+use Rattle.alm_asm.specs.Assembly.{tables_of, static_section, parts_with, parts_of, refusal_of, last_line, made, assembled_by, assembled}
 use Rattle.alm_asm.specs.Assembles.{evened_count, Assembles}
 use Rattle.alm_lines.specs.SpotFields.{Spot}
 use Rattle.alm_asm.specs.declared.tables.Tables.{Tables}

@@ -10,12 +10,11 @@ use Rattle.alm_parse.specs.declared.line.Line36.{Line36}
 use Rattle.obj36_parts.specs.declared.section.Section.TheVariants.{Text, Linkage, Symbol, Static}
 use Rattle.obj36_parts.specs.declared.definition.Named.{Named}
 use Rattle.obj36_parts.specs.Names.{is_name}
-use Rattle.obj36_parts.specs.ObjectSegment.{class_number, last_class, is_definition}
+use Rattle.obj36_parts.specs.ObjectSegment.{version_of, class_number, last_class, is_definition}
 use Rattle.alm_lines.specs.Sums.{half_of, kind_of}
 use Rattle.alm_lines.specs.Arguments.{name_at}
 use Rattle.alm_lines.specs.Expressions.{symbol_sum}
 use Rattle.alm_asm.specs.Definitions.{section_of, named, named_by, with_names, gives_entries, definitions_by, definitions_after, definitions_from}
-use Rattle.alm_asm.specs.Assembly.{version_of}
 use Rattle.alm_asm.specs.Laws.{arg_is_named, args_are_named, lines_are_named}
 use Rattle.alm_lines.specs.declared.sum.Balance.{Balance}
 use Rattle.alm_lines.specs.declared.sum.Sum.{Sum}

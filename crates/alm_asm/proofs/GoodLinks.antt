@@ -15,7 +15,7 @@ use Rattle.obj36_parts.specs.declared.section.Section.TheVariants.{Text, Linkage
 use Rattle.obj36_parts.specs.declared.definition.Named.{Named}
 use Rattle.obj36_parts.specs.Fields.{LinkFields}
 use Rattle.obj36_parts.specs.Names.{is_name}
-use Rattle.obj36_parts.specs.ObjectSegment.{is_text_section, is_link}
+use Rattle.obj36_parts.specs.ObjectSegment.{version_of, is_text_section, is_link}
 use Rattle.std.specs.Prelude.{codes}
 use Rattle.alm_lines.specs.Sums.{half_of}
 use Rattle.alm_lines.specs.Arguments.{name_at, first_arg}
@@ -26,7 +26,6 @@ use Rattle.alm_asm.specs.Links.{link_kind, link_section, link_name, entry_name, 
 use Rattle.obj36_parts.specs.Indexes.{same_link}
 use Rattle.alm_asm.specs.Definitions.{definitions_after}
 use Rattle.alm_asm.specs.LineRefusals.{unless, op_place, needs_static, may_name, link_expression, reaches, operand_refusal, refusal_of_deed, lines_refusal}
-use Rattle.alm_asm.specs.Assembly.{version_of}
 use Rattle.alm_asm.specs.Laws.{segment_is_named, entry_is_named, args_are_named, lines_are_named}
 use Rattle.alm_lines.specs.SpotFields.{Spot}
 use Rattle.alm_asm.specs.declared.tables.Tables.{Tables}

@@ -9,7 +9,7 @@ use Rattle.obj36_parts.specs.declared.section.Section.TheVariants.{Text}
 use Rattle.obj36_parts.specs.declared.definition.Named.{Named}
 use Rattle.obj36_parts.specs.Fields.{LinkFields, RelocFields}
 use Rattle.obj36_parts.specs.PartsFields.{PartsFields}
-use Rattle.obj36_parts.specs.ObjectSegment.{is_newer, inner_statics, outer_statics, words_of, definition_names, are_distinct, is_definition, is_link, is_relocation, are_rising, is_well_formed, place_number}
+use Rattle.obj36_parts.specs.ObjectSegment.{is_newer, version_of, inner_statics, outer_statics, words_of, definition_names, are_distinct, is_definition, is_link, is_relocation, are_rising, is_well_formed, place_number}
 use Rattle.obj36_parts.proofs.Formed.{is_formed}
 use Rattle.obj36_parts.proofs.LengthLaws.{length-words_of, least_size}
 use Rattle.alm_lines.specs.Spots.{start, count_in, below, end_of}
@@ -20,7 +20,7 @@ use Rattle.alm_lines.specs.Layout.{symbols_from}
 use Rattle.alm_asm.specs.Definitions.{definitions_from}
 use Rattle.alm_asm.specs.LineRefusals.{lines_refusal}
 use Rattle.alm_asm.proofs.Unrefused.{no_lines_refusal}
-use Rattle.alm_asm.specs.Assembly.{tables_of, bound_by, bound_from, static_section, version_of, evened, parts_with, parts_of, refusal_of}
+use Rattle.alm_asm.specs.Assembly.{tables_of, bound_by, bound_from, static_section, evened, parts_with, parts_of, refusal_of}
 use Rattle.alm_asm.specs.Laws.{holds_words, lines_are_named}
 use Rattle.alm_lines.specs.declared.sum.Sum.{Sum}
 use Rattle.alm_lines.specs.SpotFields.{Spot}

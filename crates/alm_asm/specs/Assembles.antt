@@ -14,6 +14,7 @@ use Rattle.obj36_parts.specs.declared.section.Section.TheVariants.{Text, Linkage
 use Rattle.obj36_parts.specs.Fields.{LinkFields}
 use Rattle.obj36_parts.specs.PartsFields.{PartsFields}
 use Rattle.obj36_parts.specs.ObjectSegment.{definition_names, are_distinct, are_rising}
+use Rattle.obj36_parts.specs.ObjectSegment.{version_of, evened}
 use Rattle.alm_lines.specs.Symbols.{sum_named}
 use Rattle.alm_lines.specs.Arguments.{name_at, first_arg, symbol_in, section_in}
 use Rattle.alm_lines.specs.Spots.{start, count_in, here, end_of}
@@ -23,7 +24,7 @@ use Rattle.alm_asm.specs.Words.{words_by}
 use Rattle.alm_asm.specs.Marks.{marks_from}
 use Rattle.alm_lines.specs.Layout.{own_symbol, own_sum, labelled, symbols_from}
 use Rattle.alm_asm.specs.Definitions.{definitions_from}
-use Rattle.alm_asm.specs.Assembly.{tables_of, static_section, version_of}
+use Rattle.alm_asm.specs.Assembly.{tables_of, static_section}
 use Rattle.alm_lines.specs.declared.sum.Sum.{Sum}
 use Rattle.alm_lines.specs.SpotFields.{Spot}
 use Rattle.alm_asm.specs.declared.tables.Tables.{Tables}
@@ -126,7 +127,7 @@ PlacesStatics source parts =
 -- the evening word.
 abbrev pub evened_count : Bool → ℕ → ℕ
 evened_count true n = n
-evened_count false n = n + n % 2
+evened_count false n = evened n
 
 abbrev pub evening_words : Bool → ℕ → List ℕ
 evening_words true n = []

@@ -1,6 +1,6 @@
 -- What lines mean: the parts of an object, or the first refusal in the order of the text.
-use Rattle.std.specs.Prelude.{ℕ, ◌+◌, ◌%◌, ◌^◌, Bool, true, false, nat_eq, List, [], ◌∷◌, ◌++◌}
-use Rattle.std.specs.Prelude.{length, Option, Some, None, Result, Ok, Err, if◌then◌else◌}
+use Rattle.std.specs.Prelude.{ℕ, ◌+◌, ◌%◌, ◌^◌, Bool, true, false, List, [], ◌∷◌}
+use Rattle.std.specs.Prelude.{Option, Some, None, Result, Ok, Err, if◌then◌else◌}
 use Rattle.alm_parse.specs.SourceFields.{Source}
 use Rattle.alm_parse.specs.declared.line.Line36.{Line36}
 use Rattle.alm_parse.specs.declared.fault.AlmFault.{AlmFault}
@@ -8,7 +8,7 @@ use Rattle.alm_parse.specs.declared.fault.AlmFault.TheVariants.{E8}
 use Rattle.obj36_parts.specs.declared.section.Section.{Section}
 use Rattle.obj36_parts.specs.declared.section.Section.TheVariants.{Text, Linkage, Static}
 use Rattle.obj36_parts.specs.PartsFields.{PartsFields}
-use Rattle.obj36_parts.specs.ObjectSegment.{is_well_formed}
+use Rattle.obj36_parts.specs.ObjectSegment.{version_of, evened_words, is_well_formed}
 use Rattle.alm_lines.specs.Spots.{start, below, end_of}
 use Rattle.alm_lines.specs.Refusals.{fault_of, sooner}
 use Rattle.alm_lines.specs.Layout.{symbols_from, layout_refusal}
@@ -68,14 +68,10 @@ abbrev pub static_section : Bool → Section
 static_section true = Static
 static_section false = Linkage
 
-abbrev pub version_of : Bool → ℕ
-version_of true = 2
-version_of false = 1
-
 -- In version 1 one zero word follows an odd count of static words.
 abbrev pub evened : Bool → List ℕ → List ℕ
 evened true words = words
-evened false words = if nat_eq (length words % 2) 0 then words else words ++ 0 ∷ []
+evened false words = evened_words words
 
 unfoldable pub parts_with : List ℕ → Tables → List Line36 → PartsFields
 parts_with text tables lines =

@@ -13,7 +13,7 @@ ghost use Rattle.alm_asm.specs.Words.{words_from};
 ghost use Rattle.alm_asm.specs.Marks.{marks_from};
 ghost use Rattle.alm_asm.specs.Assembles.{Assembles};
 ghost use Rattle.alm_asm.specs.Assembly.{made, first_link, tables_of, bound_by, bound_from};
-ghost use Rattle.alm_asm.specs.Assembly.{static_section, version_of, evened, parts_with, last_line};
+ghost use Rattle.alm_asm.specs.Assembly.{static_section, evened, parts_with, last_line};
 ghost use Rattle.alm_asm.specs.Assembly.{assembled};
 
 use crate::definitions::definitions_of;
@@ -27,8 +27,9 @@ use alm_lines::layout::layout_of;
 use alm_lines::refusal::{Refusal, fault_of, sooner};
 use alm_lines::spot::{Spot, below, end_of};
 use alm_parse::{AlmFault, Deed, Line36, Lines36};
-use m36_word::{NoMemory, Word, Words};
+use m36_word::{NoMemory, Words};
 use obj36::{Links, Object, Parts, Relocs, Section};
+use obj36_parts::sections::{push_evening, version_of};
 use std::alloc::Global;
 
 fn first_link(ending: Spot) -> Count
@@ -123,22 +124,13 @@ fn static_section(uses_outer: bool) -> Section
     }
 }
 
-fn version_of(uses_outer: bool) -> u8
-    ensures { result ≡ version_of uses_outer }
-{
-    if uses_outer { 2 } else { 1 }
-}
-
 fn even_out(uses_outer: bool, words: &mut Words) -> Result<(), NoMemory>
     ensures { OnOk result (words.new ≡ evened uses_outer words.old) }
 {
     if uses_outer {
         return Ok(());
     }
-    if words.slice().len() % 2 == 0 {
-        return Ok(());
-    }
-    words.push(Word::ZERO)
+    push_evening(words)
 }
 
 fn statics_of(

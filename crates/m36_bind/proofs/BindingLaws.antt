@@ -1,7 +1,8 @@
 -- What is bound, from its parts.
-use Rattle.std.proofs.Common.{ℕ, ◌≡◌, true, false, cond, List, [], Result, Ok, sym, ap, subst, ◌∙◌}
+use Rattle.std.proofs.Common.{ℕ, ◌≡◌, true, false, List, [], Result, Ok, sym, ap, subst, ◌∙◌}
 use Rattle.obj36_parts.specs.Fields.{LinkFields, RelocFields}
 use Rattle.obj36_parts.specs.PartsFields.{PartsFields}
+use Rattle.obj36_parts.specs.ObjectSegment.{version_of}
 use Rattle.obj36_parts.specs.declared.definition.Named.{Named}
 use Rattle.m36_bindfile.specs.declared.fault.BindFault.{BindFault}
 use Rattle.m36_bindfile.specs.declared.line.BindLine.{BindLine}
@@ -23,7 +24,7 @@ pub parts_bound :
     (relocations : List RelocFields) (bound version : ℕ)
     → text ≡ laid_from frame false [] all → statics ≡ laid_from frame true [] all → links ≡ links_from frame all [] all
     → relocations ≡ relocations_from frame true (relocations_from frame false [] all) all → bound ≡ first_bound all
-    → version ≡ cond frame.newer 2 1
+    → version ≡ version_of frame.newer
     → parts ≡ record { text = text; statics = statics; definitions = kept; links = links; relocations = relocations; entry_bound = bound; version = version }
     → parts ≡ bound_parts frame all kept
 unfolding bound_parts

@@ -4,7 +4,7 @@ use Rattle.std.specs.Prelude.{slice_index, IfOk}
 use Rattle.std.specs.List.{list_any, Contains}
 use Rattle.std.proofs.lemmas.Bool.{and_parts}
 use Rattle.obj36_parts.specs.PartsFields.{PartsFields}
-use Rattle.obj36_parts.specs.ObjectSegment.{is_well_formed, definition_names}
+use Rattle.obj36_parts.specs.ObjectSegment.{version_of, is_well_formed, definition_names}
 use Rattle.obj36_parts.specs.declared.definition.Named.{Named}
 use Rattle.obj36_parts.proofs.Formed.{is_formed}
 use Rattle.obj36_parts.proofs.LengthLaws.{length-words_of, least_size}
@@ -157,7 +157,7 @@ module _ (asked : Bool) (all : List PlacedFields) (kept : List Named) (picked : 
   unfolding bound_parts
   entry_is = refl
 
-  version_is : bound.version ≡ cond (asked || list_any is_newer_component all) 2 1
+  version_is : bound.version ≡ version_of (asked || list_any is_newer_component all)
   unfolding bound_parts frame_of
   version_is = refl
 

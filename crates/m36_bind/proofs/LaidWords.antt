@@ -6,8 +6,9 @@ use Rattle.std.proofs.lemmas.List.{length-append, get_or_append_left, get_or-app
 use Rattle.std.proofs.lemmas.Bool.{ltb-true, ltb-false}
 use Rattle.obj36_parts.specs.PartsFields.{PartsFields}
 use Rattle.m36_relocate.specs.Fields.{ShapeFields, BasesFields}
-use Rattle.m36_relocate.specs.Layout.{evened, shape_of, bases_behind}
-use Rattle.m36_relocate.specs.Words.{words_in, evened_words}
+use Rattle.obj36_parts.specs.ObjectSegment.{evened, evened_words}
+use Rattle.m36_relocate.specs.Layout.{shape_of, bases_behind}
+use Rattle.m36_relocate.specs.Words.{words_in}
 use Rattle.m36_bind.specs.Components.{PlacedFields, moving}
 use Rattle.m36_bind.specs.Bound.{component_words, laid_from, statics_end, links_end}
 use Rattle.m36_bind.specs.Meaning.{AreInOrder, IsOutside, start_in, words_end}

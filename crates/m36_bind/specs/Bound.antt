@@ -11,6 +11,7 @@ use Rattle.obj36_parts.specs.Fields.{RelocFields}
 use Rattle.obj36_parts.specs.PartsFields.{PartsFields}
 use Rattle.obj36_parts.specs.ObjectSegment.{is_well_formed, definition_section, linkage_section}
 use Rattle.obj36_parts.specs.ObjectSegment.{outer_statics, symbol_section, section_limit}
+use Rattle.obj36_parts.specs.ObjectSegment.{version_of, evened_words}
 use Rattle.obj36_parts.specs.declared.definition.Named.{Named}
 use Rattle.m36_bindfile.specs.declared.fault.BindFault.{BindFault}
 use Rattle.m36_bindfile.specs.declared.fault.BindFault.TheVariants as fault
@@ -19,7 +20,7 @@ use Rattle.m36_bindfile.specs.BindFile.{bind_lines, asks_newer}
 use Rattle.m36_relocate.specs.Fields.{ShapeFields}
 use Rattle.m36_bind.specs.Given.{GivenFields}
 use Rattle.m36_relocate.specs.Layout.{spot_moved}
-use Rattle.m36_relocate.specs.Words.{stands_in, words_in, words_moved, all_fit, evened_words}
+use Rattle.m36_relocate.specs.Words.{stands_in, words_in, words_moved, all_fit}
 use Rattle.m36_text.specs.Results.{and_then}
 use Rattle.m36_bind.specs.Components.{PlacedFields, moving, picked_of}
 use Rattle.m36_bind.specs.Kept.{exports_from, kept_from}
@@ -98,7 +99,7 @@ bound_parts frame all kept =
       links = links_from frame all [] all;
       relocations = relocations_from frame true (relocations_from frame false [] all) all;
       entry_bound = first_bound all;
-      version = if frame.newer then 2 else 1;
+      version = version_of frame.newer;
     }
 
 -- ---- B4

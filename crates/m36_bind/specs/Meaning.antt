@@ -11,6 +11,7 @@ use Rattle.std.specs.List.{Contains, list_any}
 use Rattle.obj36_parts.specs.Fields.{DefFields, RelocFields, LinkFields}
 use Rattle.obj36_parts.specs.PartsFields.{PartsFields}
 use Rattle.obj36_parts.specs.ObjectSegment.{later_section, is_well_formed, definition_names}
+use Rattle.obj36_parts.specs.ObjectSegment.{version_of}
 use Rattle.obj36_parts.specs.declared.definition.Named.{Named}
 use Rattle.obj36_parts.specs.Halves.{left, right}
 use Rattle.obj36_parts.specs.declared.section.Section.{Section}
@@ -230,8 +231,8 @@ pub record BoundMeaning (text : List ℕ) (names : List (List ℕ)) (objects : L
   pub no_other_relocations : (r : RelocFields) → Contains bound.relocations r
       → RelocationSource bound components r
   pub entry_bound : bound.entry_bound ≡ first_bound components
-  pub version : bound.version ≡ (if asks_newer lines || list_any is_newer_component components
-      then 2 else 1)
+  pub version :
+      bound.version ≡ version_of (asks_newer lines || list_any is_newer_component components)
 
 -- Each of these parts is that of an object.
 abbrev pub AreObjects : List PartsFields → Type 0

@@ -3,7 +3,8 @@
 ghost use Rattle.std.specs.Prelude.{ℕ, ◌≡◌, ◌+◌, ◌++◌, ◌^◌, ◌<◌, ◌≤◌, ◌||◌, [], true, false, if◌then◌else◌, IfOk, OnOk};
 ghost use Rattle.std.specs.List.{list_any};
 ghost use Rattle.m36_bind.specs.Components.{moving};
-ghost use Rattle.m36_relocate.specs.Words.{words_in, words_moved, evened_words};
+ghost use Rattle.m36_relocate.specs.Words.{words_in, words_moved};
+ghost use Rattle.obj36_parts.specs.ObjectSegment.{evened_words};
 ghost use Rattle.m36_bind.specs.Bound.{is_newer_component, statics_end, links_end, frame_of, component_words, laid_from, relocation_moved, with_relocation, relocations_onto, relocations_from, first_bound, bound_parts};
 
 use crate::links::links;
@@ -11,7 +12,7 @@ use crate::placed::{Components, Placed, moving};
 use m36_relocate::layout::{Moving, Shape, spot_moved};
 use m36_relocate::words::{move_words, stands_in};
 use m36_word::{NoMemory, Word, Words};
-use obj36_parts::sections::push_all;
+use obj36_parts::sections::{push_all, push_evening, version_of};
 use obj36_parts::{Defs, Parts, Reloc, Relocs};
 use std::alloc::Global;
 
@@ -89,15 +90,6 @@ fn is_newer_frame(asked: bool, all: &[Placed<'_>]) -> bool
 
 // ---- words
 
-fn even(out: &mut Words) -> Result<(), NoMemory>
-    ensures { OnOk result (out.new ≡ evened_words out.old) }
-{
-    if out.slice().len() % 2 == 0 {
-        return Ok(());
-    }
-    out.push(Word::ZERO)
-}
-
 fn words_in<'a>(statics: bool, parts: &'a Parts) -> &'a [Word]
     ensures { result.now ≡ words_in statics parts.now }
 {
@@ -150,7 +142,7 @@ fn lay(
 ) -> Result<(), NoMemory>
     ensures { OnOk result (out.new ≡ evened_words out.old ++ component_words frame.now statics p.now) }
 {
-    even(out)?;
+    push_evening(out)?;
     let words = component_words(alloc, frame, statics, p)?;
     push_all(out, words.as_slice())
 }
@@ -269,12 +261,6 @@ fn first_bound(all: &[Placed<'_>]) -> u32
     }
 }
 
-fn version_of(frame: &Shape) -> u8
-    ensures { result ≡ (if frame.now.newer then 2 else 1) }
-{
-    if frame.newer { 2 } else { 1 }
-}
-
 // The parts of the bound object, with these definitions.
 #[tactic(auto, using(crate::proofs::BindingLaws::parts_bound))]
 pub(crate) fn bound_parts(
@@ -296,6 +282,6 @@ pub(crate) fn bound_parts(
         links,
         relocations,
         entry_bound: first_bound(all.items()),
-        version: version_of(frame),
+        version: version_of(frame.newer),
     })
 }

@@ -7,7 +7,7 @@
 use Rattle.std.specs.Prelude.{ℕ, ◌+◌, ◌-◌, ◌*◌, ◌%◌, ◌^◌, ◌<◌, ◌≤◌, Bool, nat_lt, if◌then◌else◌}
 use Rattle.std.specs.Prelude.{List, length}
 use Rattle.obj36_parts.specs.PartsFields.{PartsFields}
-use Rattle.obj36_parts.specs.ObjectSegment.{is_newer}
+use Rattle.obj36_parts.specs.ObjectSegment.{is_newer, evened}
 use Rattle.obj36_parts.specs.declared.section.Section.{Section}
 use Rattle.obj36_parts.specs.declared.section.Section.TheVariants.{Text, Linkage, Symbol, Static}
 use Rattle.m36_relocate.specs.Fields.{ShapeFields, BasesFields}
@@ -55,9 +55,6 @@ IsBelow n (HeadWord v) = v < n
 
 abbrev pub first_bases : BasesFields
 first_bases = record { text = 0; statics = 0; links = 0 }
-
-abbrev pub evened : ℕ → ℕ
-evened n = n + n % 2
 
 -- those of the component behind another
 abbrev pub bases_behind : BasesFields → PartsFields → BasesFields

@@ -1,7 +1,7 @@
 -- The words of components with their relocated parts moved: halves, which count modulo 2^18, and
 -- bits 3 to 17, which count as signed and must fit.
 use Rattle.std.specs.Prelude.{ℕ, ◌+◌, ◌-◌, ◌*◌, ◌/◌, ◌%◌, ◌^◌, Bool, true, false, not, nat_lt}
-use Rattle.std.specs.Prelude.{nat_eq, if◌then◌else◌, List, [], ◌∷◌, ◌++◌, length, slice_index}
+use Rattle.std.specs.Prelude.{nat_eq, if◌then◌else◌, List, [], ◌∷◌, length, slice_index}
 use Rattle.std.specs.Prelude.{slice_set}
 use Rattle.obj36_parts.specs.Fields.{RelocFields}
 use Rattle.obj36_parts.specs.PartsFields.{PartsFields}
@@ -85,6 +85,3 @@ unfoldable pub all_fit : Moving → Bool → List ℕ → List RelocFields → B
 all_fit m statics words [] = true
 all_fit m statics words (r ∷ rs) =
     if one_fits m statics words r then all_fit m statics words rs else false
-
-abbrev pub evened_words : List ℕ → List ℕ
-evened_words words = if nat_eq (length words % 2) 0 then words else words ++ 0 ∷ []

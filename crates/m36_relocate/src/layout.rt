@@ -1,7 +1,8 @@
 //! Where the words of components go in the bound object.
 
 ghost use Rattle.std.specs.Prelude.{ℕ, ◌≡◌, ◌+◌, ◌*◌, ◌^◌, ◌<◌, ◌≤◌, length};
-ghost use Rattle.m36_relocate.specs.Layout.{meant, meant_older, meant_newer, meant_past_head, meant_in_linkage, IsBelow, bases_behind, first_link, first_static, spot, static_spot, image_spot, spot_moved, static_number, image_number, number_moved, evened};
+ghost use Rattle.m36_relocate.specs.Layout.{meant, meant_older, meant_newer, meant_past_head, meant_in_linkage, IsBelow, bases_behind, first_link, first_static, spot, static_spot, image_spot, spot_moved, static_number, image_number, number_moved};
+ghost use Rattle.obj36_parts.specs.ObjectSegment.{evened};
 
 use obj36_parts::Section;
 use std::marker::Model;

@@ -52,6 +52,17 @@ later_section a b = if nat_le (rank a) (rank b) then b else a
 abbrev pub is_newer : PartsFields → Bool
 is_newer p = nat_eq p.version 2
 
+-- the number of the version, by whether it is the newer one
+abbrev pub version_of : Bool → ℕ
+version_of newer = if newer then 2 else 1
+
+-- the next even number, and words with one zero word behind an odd count
+abbrev pub evened : ℕ → ℕ
+evened n = n + n % 2
+
+abbrev pub evened_words : List ℕ → List ℕ
+evened_words words = if nat_eq (length words % 2) 0 then words else words ++ 0 ∷ []
+
 -- the static words of the linkage section, and those of the static section
 abbrev pub inner_statics : PartsFields → List ℕ
 inner_statics p = if is_newer p then [] else p.statics
@@ -181,7 +192,7 @@ symbol_section p = symbol_part p.relocations
 -- of each section, and the entry bound; behind it the last word, with the offset of the map.
 unfoldable pub map_part : Bool → ℕ → ℕ → ℕ → ℕ → ℕ → ℕ → List ℕ
 map_part newer text definition linkage statics symbol bound =
-    joined 0 (if newer then 2 else 1)
+    joined 0 (version_of newer)
     ∷ joined 0 text
     ∷ joined text definition
     ∷ joined (text + definition) linkage

@@ -5,6 +5,7 @@ ghost use Rattle.std.specs.Prelude.{length, replicate, OnOk, IfOk};
 ghost use Rattle.obj36_parts.specs.Halves.{joined};
 ghost use Rattle.obj36_parts.specs.Names.{place_of};
 ghost use Rattle.obj36_parts.specs.ObjectSegment.{class_number, place_number, is_text_section};
+ghost use Rattle.obj36_parts.specs.ObjectSegment.{version_of, evened_words};
 ghost use Rattle.obj36_parts.specs.ObjectSegment.{rank, later_section, place_if_any};
 ghost use Rattle.obj36_parts.specs.ObjectSegment.{class_of};
 ghost use Rattle.obj36_parts.specs.ObjectSegment.{definition_words, subject_of, entry_place};
@@ -51,6 +52,13 @@ pub fn number(section: Section) -> u64
         Section::Static => 2,
         Section::Symbol => 3,
     }
+}
+
+/// The number of the version, by whether it is the newer one.
+pub fn version_of(newer: bool) -> u8
+    ensures { result ≡ version_of newer }
+{
+    if newer { 2 } else { 1 }
 }
 
 /// Whether a section is the text.
@@ -111,6 +119,16 @@ pub fn push_zeros(out: &mut Words, count: u64) -> Result<(), NoMemory>
         out.push(Word::ZERO)?;
     }
     Ok(())
+}
+
+/// Adds one zero behind an odd count of words.
+pub fn push_evening(out: &mut Words) -> Result<(), NoMemory>
+    ensures { OnOk result (out.new ≡ evened_words out.old) }
+{
+    if out.slice().len() % 2 == 0 {
+        return Ok(());
+    }
+    out.push(Word::ZERO)
 }
 
 fn push_pair(out: &mut Words, first: Word, second: Word) -> Result<(), NoMemory>
