@@ -11,7 +11,7 @@ use Rattle.alm_parse.specs.declared.args.Arg.TheVariants as arg
 use Rattle.alm_parse.specs.declared.line.Line36.{Line36}
 use Rattle.obj36_parts.specs.Fields.{LinkFields}
 use Rattle.obj36_parts.specs.Names.{name_length}
-use Rattle.obj36_parts.specs.ObjectSegment.{link_names}
+use Rattle.obj36_parts.specs.ObjectSegment.{head_words, link_names}
 use Rattle.alm_lines.specs.Sums.{no_sum, kind_of}
 use Rattle.alm_lines.specs.Symbols.{sum_named, with_symbol}
 use Rattle.alm_lines.specs.Arguments.{name_at, first_arg, second_arg, terms_in}
@@ -183,7 +183,7 @@ grown_by text symbols spot g line =
 -- The linkage section has its head, static words and links.
 unfoldable pub is_over : Spot → Growth → Bool
 is_over spot g =
-    is_over_limit g.definition || is_over_limit (8 + spot.inner + 2 * length g.links)
+    is_over_limit g.definition || is_over_limit (head_words + spot.inner + 2 * length g.links)
     || is_over_limit g.symbol
 
 -- the refusal of the first line with which one of these sections has more words

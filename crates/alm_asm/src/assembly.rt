@@ -29,7 +29,7 @@ use alm_lines::spot::{Spot, below, end_of};
 use alm_parse::{AlmFault, Deed, Line36, Lines36};
 use m36_word::{NoMemory, Words};
 use obj36::{Links, Object, Parts, Relocs, Section};
-use obj36_parts::sections::{push_evening, version_of};
+use obj36_parts::sections::{HEAD_WORDS, push_evening, version_of};
 use std::alloc::Global;
 
 fn first_link(ending: Spot) -> Count
@@ -37,9 +37,9 @@ fn first_link(ending: Spot) -> Count
     ensures { result ≡ first_link ending }
 {
     if ending.uses_outer {
-        return Count::of(8);
+        return Count::of(HEAD_WORDS as u128);
     }
-    Count::of(8 + ending.inner + ending.inner % 2)
+    Count::of(HEAD_WORDS as u128 + ending.inner + ending.inner % 2)
 }
 
 /// The tables of lines, of which only the symbols are said where something is refused; and the first refusal of a

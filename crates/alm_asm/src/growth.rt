@@ -28,6 +28,7 @@ use m36_text::Name;
 use m36_word::NoMemory;
 use obj36::{Link, Links};
 use obj36_parts::names::{has_its_entry, has_its_name};
+use obj36_parts::sections::HEAD_WORDS;
 use std::alloc::Global;
 
 /// What the lines so far give to these sections: the names that stand, those that are defined, each once and with a number that says
@@ -128,7 +129,7 @@ impl Growth {
         ensures symbol { result ≡ false → self.now.symbol ≤ section_limit }
     {
         let links = self.links.items().len() as u128;
-        let linkage = 8 + spot.inner + 2 * links;
+        let linkage = HEAD_WORDS as u128 + spot.inner + 2 * links;
         is_over_limit(self.definition) || is_over_limit(linkage) || is_over_limit(self.symbol)
     }
 }

@@ -1,6 +1,7 @@
 -- Where a line is: the section that it belongs to, and how many words the lines above it place in
 -- each section.
 use Rattle.std.specs.Prelude.{ℕ, ◌≤◌, ◌+◌, ◌-◌, ◌*◌, ◌%◌, ◌^◌, true, false, List, [], ◌∷◌, length}
+use Rattle.obj36_parts.specs.ObjectSegment.{head_words}
 use Rattle.obj36_parts.specs.declared.section.Section.{Section}
 use Rattle.obj36_parts.specs.declared.section.Section.TheVariants.{Text, Linkage, Symbol, Static}
 use Rattle.alm_parse.specs.declared.args.Arg.{Arg}
@@ -34,10 +35,10 @@ count_in Static spot = spot.outer
 abbrev pub count : Spot → ℕ
 count spot = count_in spot.section spot
 
--- the place in the section: static words of the linkage section begin at 8
+-- the place in the section: static words of the linkage section begin behind its head
 abbrev pub place_in : Section → Spot → ℕ
 place_in Text spot = spot.text
-place_in Linkage spot = spot.inner + 8
+place_in Linkage spot = spot.inner + head_words
 place_in Symbol spot = 0
 place_in Static spot = spot.outer
 
@@ -48,7 +49,7 @@ place spot = place_in spot.section spot
 abbrev pub here_in : Section → Spot → Sum
 here_in Text spot =
     record {
-      value = balance spot.text 0;
+      value = balance (place_in Text spot) 0;
       text = balance 1 0;
       inner = nothing;
       outer = nothing;
@@ -56,7 +57,7 @@ here_in Text spot =
     }
 here_in Linkage spot =
     record {
-      value = balance (spot.inner + 8) 0;
+      value = balance (place_in Linkage spot) 0;
       text = nothing;
       inner = balance 1 0;
       outer = nothing;
@@ -65,7 +66,7 @@ here_in Linkage spot =
 here_in Symbol spot = no_sum
 here_in Static spot =
     record {
-      value = balance spot.outer 0;
+      value = balance (place_in Static spot) 0;
       text = nothing;
       inner = nothing;
       outer = balance 1 0;

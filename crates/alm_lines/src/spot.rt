@@ -11,6 +11,7 @@ use crate::sum::{Balance, NOTHING, Sum, absolute};
 use alm_parse::{Arg, Deed, Line36};
 use m36_word::NoMemory;
 use obj36_parts::Section;
+use obj36_parts::sections::HEAD_WORDS;
 use std::alloc::Global;
 use std::marker::Model;
 
@@ -93,7 +94,7 @@ impl Spot {
         }
     }
 
-    /// The place in the section: static words of the linkage section begin at 8.
+    /// The place in the section: static words of the linkage section begin behind its head.
     pub fn place(self) -> u128
         ensures value { result ≡ place self }
         ensures bound { result < 2 ^ 96 }
@@ -101,7 +102,7 @@ impl Spot {
         let section = self.section;
         match section {
             Section::Text => self.text,
-            Section::Linkage => self.inner + 8,
+            Section::Linkage => self.inner + HEAD_WORDS as u128,
             Section::Symbol => 0,
             Section::Static => self.outer,
         }
@@ -122,7 +123,7 @@ impl Spot {
                 unknown: false,
             },
             Section::Linkage => Sum {
-                value: up(self.inner + 8),
+                value: up(self.inner + HEAD_WORDS as u128),
                 text: NOTHING,
                 inner: ONCE,
                 outer: NOTHING,

@@ -11,7 +11,7 @@ use Rattle.std.specs.List.{Contains, list_any}
 use Rattle.obj36_parts.specs.Fields.{DefFields, RelocFields, LinkFields}
 use Rattle.obj36_parts.specs.PartsFields.{PartsFields}
 use Rattle.obj36_parts.specs.ObjectSegment.{later_section, is_well_formed, definition_names}
-use Rattle.obj36_parts.specs.ObjectSegment.{version_of}
+use Rattle.obj36_parts.specs.ObjectSegment.{version_of, head_words}
 use Rattle.obj36_parts.specs.declared.definition.Named.{Named}
 use Rattle.obj36_parts.specs.Halves.{left, right}
 use Rattle.obj36_parts.specs.declared.section.Section.{Section}
@@ -45,7 +45,7 @@ abbrev pub is_there : PlacedFields → Meant → Bool
 is_there p (TextWord v) = nat_lt v (length p.parts.text)
 is_there p (StaticWord w) = nat_lt w p.shape.statics
 is_there p (LinkWord k) = nat_lt k (2 * p.shape.links)
-is_there p (HeadWord v) = nat_lt v 8
+is_there p (HeadWord v) = nat_lt v head_words
 
 -- A number that counts in a section of the bound object names the image of what another named in
 -- the component, if there is such a word.

@@ -8,6 +8,7 @@ use Rattle.obj36_parts.specs.Fields.{LinkFields}
 use Rattle.obj36_parts.specs.PartsFields.{PartsFields}
 use Rattle.obj36_parts.specs.ObjectSegment.{is_newer, outer_statics, first_link, words_of}
 use Rattle.obj36_parts.specs.ObjectSegment.{definition_section, linkage_section, symbol_section}
+use Rattle.obj36_parts.specs.ObjectSegment.{linkage_behind, statics_behind, symbol_behind}
 use Rattle.obj36_parts.specs.declared.section.Section.{Section}
 use Rattle.obj36_parts.specs.declared.section.Section.TheVariants.{Text, Linkage, Symbol, Static}
 use Rattle.obj36_parts.specs.declared.definition.Named.{Named}
@@ -26,15 +27,18 @@ object_line name p = line (codes "object" ∷ name ∷ decimal_text (length (wor
 abbrev pub section_line : List ℕ → ℕ → ℕ → List ℕ
 section_line name at len = line (name ∷ octal_text 6 at ∷ octal_text 6 len ∷ [])
 
--- sections follow one another
+-- where the sections begin
 abbrev pub linkage_at : PartsFields → ℕ
-linkage_at p = length p.text + length (definition_section p)
+linkage_at p = linkage_behind (length p.text) (length (definition_section p))
 
 abbrev pub statics_at : PartsFields → ℕ
-statics_at p = linkage_at p + length (linkage_section p)
+statics_at p =
+    statics_behind (length p.text) (length (definition_section p)) (length (linkage_section p))
 
 abbrev pub symbol_at : PartsFields → ℕ
-symbol_at p = statics_at p + length (outer_statics p)
+symbol_at p =
+    symbol_behind (length p.text) (length (definition_section p)) (length (linkage_section p))
+    (length (outer_statics p))
 
 -- version 2 has a section of its own for static words
 abbrev pub static_line : PartsFields → List ℕ

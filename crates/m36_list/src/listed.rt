@@ -1,7 +1,7 @@
 //! The listing of a source.
 
 ghost use Rattle.std.specs.Prelude.{ℕ, ◌+◌, ◌++◌, ◌≡◌, ◌^◌, ◌≤◌, length, codes, IfOk, OnOk};
-ghost use Rattle.obj36_parts.specs.ObjectSegment.{inner_statics};
+ghost use Rattle.obj36_parts.specs.ObjectSegment.{inner_statics, head_words};
 ghost use Rattle.m36_list.specs.Counts.{IsCount};
 ghost use Rattle.alm_lines.specs.Spots.{start};
 ghost use Rattle.m36_list.specs.Listing.{size_in, section_words, listing_of};
@@ -15,6 +15,7 @@ use alm_parse::{Line36, Lines36};
 use m36_outside::Text;
 use m36_word::{NoMemory, Word};
 use obj36::{Object, Section};
+use obj36_parts::sections::HEAD_WORDS;
 use obj36_read::reading::{behind, front};
 use std::alloc::Global;
 
@@ -72,7 +73,7 @@ fn put_section_words(
 fn inner_words(count: Counts, o: &Object) -> &[Word]
     requires { IsCount count o.now }
     ensures value { result.now ≡ inner_statics o.now }
-    ensures fits { 8 + length result.now ≤ 2 ^ 18 }
+    ensures fits { head_words + length result.now ≤ 2 ^ 18 }
 {
     let _count = count.linkage;
     o.parts().inner_statics()
@@ -90,7 +91,15 @@ pub fn listing(alloc: Global, name: &[u8], lines: &Lines36, o: &Object) -> Resul
     let outer = o.section(Section::Static);
     let mut text = Text::new(alloc);
     put_section_words(alloc, &mut text, b"text", Section::Text, lines, 0, words)?;
-    put_section_words(alloc, &mut text, b"link", Section::Linkage, lines, 8, inner)?;
+    put_section_words(
+        alloc,
+        &mut text,
+        b"link",
+        Section::Linkage,
+        lines,
+        HEAD_WORDS,
+        inner,
+    )?;
     put_section_words(
         alloc,
         &mut text,

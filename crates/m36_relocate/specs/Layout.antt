@@ -2,12 +2,12 @@
 --
 -- The texts follow one another, each from the next even word on, and so do the static words. Links
 -- follow in the order of the components. A place that a component names is a word of its text, one
--- of its static words, a word of its links, or one of the eight words at the head of its linkage
+-- of its static words, a word of its links, or one of the words at the head of its linkage
 -- section; the layout map sends each to a place of the bound object.
 use Rattle.std.specs.Prelude.{ℕ, ◌+◌, ◌-◌, ◌*◌, ◌%◌, ◌^◌, ◌<◌, ◌≤◌, Bool, nat_lt, if◌then◌else◌}
 use Rattle.std.specs.Prelude.{List, length}
 use Rattle.obj36_parts.specs.PartsFields.{PartsFields}
-use Rattle.obj36_parts.specs.ObjectSegment.{is_newer, evened}
+use Rattle.obj36_parts.specs.ObjectSegment.{is_newer, evened, head_words}
 use Rattle.obj36_parts.specs.declared.section.Section.{Section}
 use Rattle.obj36_parts.specs.declared.section.Section.TheVariants.{Text, Linkage, Symbol, Static}
 use Rattle.m36_relocate.specs.Fields.{ShapeFields, BasesFields}
@@ -26,17 +26,19 @@ shape_of p = record { newer = is_newer p; statics = length p.statics; links = le
 -- own, which is laid behind the linkage section.
 abbrev pub meant_older : ℕ → ℕ → Meant
 meant_older statics v =
-    if nat_lt v (8 + statics) then StaticWord (v - 8) else LinkWord (v - (8 + statics))
+    if nat_lt v (head_words + statics)
+    then StaticWord (v - head_words) else LinkWord (v - (head_words + statics))
 
 abbrev pub meant_newer : ℕ → ℕ → Meant
 meant_newer links v =
-    if nat_lt v (8 + 2 * links) then LinkWord (v - 8) else StaticWord (v - (8 + 2 * links))
+    if nat_lt v (head_words + 2 * links)
+    then LinkWord (v - head_words) else StaticWord (v - (head_words + 2 * links))
 
 abbrev pub meant_past_head : ShapeFields → ℕ → Meant
 meant_past_head s v = if s.newer then meant_newer s.links v else meant_older s.statics v
 
 abbrev pub meant_in_linkage : ShapeFields → ℕ → Meant
-meant_in_linkage s v = if nat_lt v 8 then HeadWord v else meant_past_head s v
+meant_in_linkage s v = if nat_lt v head_words then HeadWord v else meant_past_head s v
 
 -- the place of a section with an offset; nothing names the symbol section
 unfoldable pub meant : ShapeFields → Section → ℕ → Meant
@@ -69,17 +71,17 @@ bases_behind b c =
 
 -- where the first link of the bound object stands
 abbrev pub first_link : ShapeFields → ℕ
-first_link f = if f.newer then 8 else 8 + f.statics
+first_link f = if f.newer then head_words else head_words + f.statics
 
 -- where its first static word stands, seen from the head of the linkage section
 abbrev pub first_static : ShapeFields → ℕ
-first_static f = if f.newer then 8 + 2 * f.links else 8
+first_static f = if f.newer then head_words + 2 * f.links else head_words
 
 abbrev pub spot : Section → ℕ → Spot
 spot section offset = record { section = section; offset = offset % 2 ^ 18 }
 
 abbrev pub static_spot : ShapeFields → ℕ → Spot
-static_spot f w = if f.newer then spot Static w else spot Linkage (8 + w)
+static_spot f w = if f.newer then spot Static w else spot Linkage (head_words + w)
 
 abbrev pub image_spot : ShapeFields → BasesFields → Meant → Spot
 image_spot f b (TextWord v) = spot Text (b.text + v)

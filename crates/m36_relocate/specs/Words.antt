@@ -6,7 +6,7 @@ use Rattle.std.specs.Prelude.{slice_set}
 use Rattle.obj36_parts.specs.Fields.{RelocFields}
 use Rattle.obj36_parts.specs.PartsFields.{PartsFields}
 use Rattle.obj36_parts.specs.Halves.{left, right, joined}
-use Rattle.obj36_parts.specs.ObjectSegment.{is_text_section}
+use Rattle.obj36_parts.specs.ObjectSegment.{is_text_section, head_words}
 use Rattle.obj36_parts.specs.declared.section.Section.{Section}
 use Rattle.obj36_parts.specs.declared.section.Section.TheVariants.{Text, Linkage, Symbol, Static}
 use Rattle.m36_relocate.specs.Fields.{ShapeFields, BasesFields}
@@ -57,7 +57,7 @@ stands_in statics r = if statics then not (is_text_section r.section) else is_te
 
 -- where the words begin, as relocations count them
 abbrev pub start_of : Bool → ShapeFields → ℕ
-start_of statics s = if statics then (if s.newer then 0 else 8) else 0
+start_of statics s = if statics then (if s.newer then 0 else head_words) else 0
 
 abbrev pub words_in : Bool → PartsFields → List ℕ
 words_in statics p = if statics then p.statics else p.text

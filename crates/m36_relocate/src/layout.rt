@@ -2,9 +2,10 @@
 
 ghost use Rattle.std.specs.Prelude.{ℕ, ◌≡◌, ◌+◌, ◌*◌, ◌^◌, ◌<◌, ◌≤◌, length};
 ghost use Rattle.m36_relocate.specs.Layout.{meant, meant_older, meant_newer, meant_past_head, meant_in_linkage, IsBelow, bases_behind, first_link, first_static, spot, static_spot, image_spot, spot_moved, static_number, image_number, number_moved};
-ghost use Rattle.obj36_parts.specs.ObjectSegment.{evened};
+ghost use Rattle.obj36_parts.specs.ObjectSegment.{evened, head_words};
 
 use obj36_parts::Section;
+use obj36_parts::sections::HEAD_WORDS;
 use std::marker::Model;
 
 /// How an object numbers its words.
@@ -89,37 +90,37 @@ pub struct Spot {
 }
 
 fn meant_older(statics: u64, v: u64) -> Meant
-    requires head { 8 ≤ v }
+    requires head { head_words ≤ v }
     requires statics { statics < 2 ^ 61 }
     requires small { v < 2 ^ 18 }
     ensures value { result ≡ meant_older statics v }
     ensures small { IsBelow (2 ^ 18) result }
 {
-    let first = 8 + statics;
+    let first = HEAD_WORDS + statics;
     if v < first {
-        Meant::StaticWord(v - 8)
+        Meant::StaticWord(v - HEAD_WORDS)
     } else {
         Meant::LinkWord(v - first)
     }
 }
 
 fn meant_newer(links: u64, v: u64) -> Meant
-    requires head { 8 ≤ v }
+    requires head { head_words ≤ v }
     requires links { links < 2 ^ 61 }
     requires small { v < 2 ^ 18 }
     ensures value { result ≡ meant_newer links v }
     ensures small { IsBelow (2 ^ 18) result }
 {
-    let end = 8 + 2 * links;
+    let end = HEAD_WORDS + 2 * links;
     if v < end {
-        Meant::LinkWord(v - 8)
+        Meant::LinkWord(v - HEAD_WORDS)
     } else {
         Meant::StaticWord(v - end)
     }
 }
 
 fn meant_past_head(s: &Shape, v: u64) -> Meant
-    requires head { 8 ≤ v }
+    requires head { head_words ≤ v }
     requires small { v < 2 ^ 18 }
     ensures value { result ≡ meant_past_head s.now v }
     ensures small { IsBelow (2 ^ 18) result }
@@ -136,7 +137,7 @@ fn meant_in_linkage(s: &Shape, v: u64) -> Meant
     ensures value { result ≡ meant_in_linkage s.now v }
     ensures small { IsBelow (2 ^ 18) result }
 {
-    if v < 8 {
+    if v < HEAD_WORDS {
         Meant::HeadWord(v)
     } else {
         meant_past_head(s, v)
@@ -171,14 +172,22 @@ fn first_link(f: &Shape) -> u64
     ensures value { result ≡ first_link f.now }
     ensures bound { result < 2 ^ 61 + 8 }
 {
-    if f.newer { 8 } else { 8 + f.statics }
+    if f.newer {
+        HEAD_WORDS
+    } else {
+        HEAD_WORDS + f.statics
+    }
 }
 
 fn first_static(f: &Shape) -> u64
     ensures value { result ≡ first_static f.now }
     ensures bound { result < 2 ^ 62 + 16 }
 {
-    if f.newer { 8 + 2 * f.links } else { 8 }
+    if f.newer {
+        HEAD_WORDS + 2 * f.links
+    } else {
+        HEAD_WORDS
+    }
 }
 
 /// A place of a section; the offset counts modulo 2^18.
@@ -200,7 +209,7 @@ fn static_spot(f: &Shape, w: u64) -> Spot
     if f.newer {
         spot_at(Section::Static, w)
     } else {
-        spot_at(Section::Linkage, 8 + w)
+        spot_at(Section::Linkage, HEAD_WORDS + w)
     }
 }
 

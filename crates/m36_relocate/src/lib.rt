@@ -1,7 +1,7 @@
 //! Relocation: where the words of a component go in a bound object, and what becomes of what names them.
 //!
 //! The texts of components follow one another, each from an even word on; so do their static words, and so do their links.
-//! A place of a component is a word of its text, one of its static words, a word of its links, or one of the eight words at
+//! A place of a component is a word of its text, one of its static words, a word of its links, or one of the words at
 //! the head of its linkage section, and each has its image in the bound object ([`layout`]). A part of a word that a
 //! relocation names is a half, which counts modulo 2^18, or bits 3 to 17, which count as signed and must fit ([`words`]). A
 //! definition that is moved names the image of what it named; a table of definitions has the first one of each name, and

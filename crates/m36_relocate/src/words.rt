@@ -6,7 +6,7 @@ ghost use Rattle.m36_relocate.specs.Words.{offset_in, with_offset, below_zero, o
 use crate::layout::{Bases, Moving, Shape, number_moved};
 use m36_word::Word;
 use obj36_parts::halves::{left_of, right_of, word_of};
-use obj36_parts::sections::is_text_section;
+use obj36_parts::sections::{HEAD_WORDS, is_text_section};
 use obj36_parts::{Reloc, Section};
 
 // Bits 3 to 17 of a word.
@@ -98,7 +98,7 @@ fn start_of(statics: bool, s: &Shape) -> usize
     ensures value { result ≡ start_of statics s.now }
 {
     if statics {
-        if s.newer { 0 } else { 8 }
+        if s.newer { 0 } else { HEAD_WORDS as usize }
     } else {
         0
     }

@@ -5,7 +5,7 @@ use Rattle.obj36_parts.specs.Fields.{LinkFields, RelocFields}
 use Rattle.obj36_parts.specs.PartsFields.{PartsFields}
 use Rattle.obj36_parts.specs.declared.definition.Named.{Named}
 use Rattle.obj36_parts.specs.Names.{with_names, all_name_words}
-use Rattle.obj36_parts.specs.ObjectSegment.{is_newer, inner_statics, outer_statics, definition_names, all_link_names, definition_words, expression_words, definition_part, definition_section, link_words, linkage_part, linkage_section, relocation_words, symbol_part, symbol_section, map_part, map_words, words_of, is_well_formed}
+use Rattle.obj36_parts.specs.ObjectSegment.{is_newer, inner_statics, outer_statics, definition_names, all_link_names, definition_words, expression_words, definition_part, definition_section, head_words, link_words, linkage_part, linkage_section, relocation_words, symbol_part, symbol_section, map_part, map_words, words_of, is_well_formed}
 use Rattle.obj36_parts.specs.Sizes.{names_length, HasShortLists}
 use Rattle.obj36_parts.proofs.Formed.{is_formed}
 
@@ -40,7 +40,7 @@ length-link_words (l ∷ ls) at expression = omega (arith, length-link_words ls 
 pub length-linkage_part : (statics : List ℕ) (ls : List LinkFields) (expressions : ℕ) → length (linkage_part statics ls expressions) ≡ 8 + length statics + 2 * length ls
 unfolding linkage_part
 length-linkage_part statics ls expressions =
-    omega (arith, length-append statics (link_words ls (8 + length statics) expressions), length-link_words ls (8 + length statics) expressions)
+    omega (arith, length-append statics (link_words ls (head_words + length statics) expressions), length-link_words ls (head_words + length statics) expressions)
 
 pub length-relocation_words : (rs : List RelocFields) → length (relocation_words rs) ≡ length rs
 unfolding relocation_words

@@ -70,6 +70,10 @@ inner_statics p = if is_newer p then [] else p.statics
 abbrev pub outer_statics : PartsFields → List ℕ
 outer_statics p = if is_newer p then p.statics else []
 
+-- how many words the head of a linkage section has
+abbrev pub head_words : ℕ
+head_words = 8
+
 -- which link types have a name, an entry, or a section
 abbrev pub has_name : ℕ → Bool
 has_name kind = nat_eq kind 3 || nat_eq kind 4
@@ -149,24 +153,28 @@ definition_section p = definition_part p.definitions p.links
 
 -- ---- the linkage section
 
--- a link: 2^18 less its offset with tag 46, the place of its expression with its modifier
+-- the first word of a link that is not snapped: 2^18 less its offset, with the tag of fault 24
+abbrev pub link_head : ℕ → ℕ
+link_head at = joined (2 ^ 18 - at) 0o46
+
+-- a link: its first word, and the place of its expression with its modifier
 unfoldable pub link_words : List LinkFields → ℕ → ℕ → List ℕ
 link_words [] at expression = []
 link_words (l ∷ ls) at expression =
-    joined (2 ^ 18 - at) 38 ∷ joined expression l.modifier ∷ link_words ls (at + 2) (expression + 2)
+    link_head at ∷ joined expression l.modifier ∷ link_words ls (at + 2) (expression + 2)
 
--- eight header words, static words, and the links, whose expressions stand from a place on
+-- the words of the head, static words, and the links, whose expressions stand from a place on
 unfoldable pub linkage_part : List ℕ → List LinkFields → ℕ → List ℕ
 linkage_part statics ls expressions =
-    0 ∷ joined (8 + length statics) (length ls) ∷ 0 ∷ 0 ∷ 0 ∷ 0 ∷ 0 ∷ 0 ∷ statics
-    ++ link_words ls (8 + length statics) expressions
+    0 ∷ joined (head_words + length statics) (length ls) ∷ 0 ∷ 0 ∷ 0 ∷ 0 ∷ 0 ∷ 0 ∷ statics
+    ++ link_words ls (head_words + length statics) expressions
 
 unfoldable pub linkage_section : PartsFields → List ℕ
 linkage_section p = linkage_part (inner_statics p) p.links (2 + 2 * length p.definitions)
 
--- where the first link stands in it: behind its eight header words and the static words there
+-- where the first link stands in it: behind the words of the head and the static words there
 abbrev pub first_link : PartsFields → ℕ
-first_link p = 8 + length (inner_statics p)
+first_link p = head_words + length (inner_statics p)
 
 -- ---- the symbol section
 
@@ -188,6 +196,21 @@ symbol_section p = symbol_part p.relocations
 
 -- ---- the map and the last word
 
+-- where a section begins behind others of these lengths, which follow one another
+abbrev pub linkage_behind : ℕ → ℕ → ℕ
+linkage_behind text definition = text + definition
+
+abbrev pub statics_behind : ℕ → ℕ → ℕ → ℕ
+statics_behind text definition linkage = linkage_behind text definition + linkage
+
+abbrev pub symbol_behind : ℕ → ℕ → ℕ → ℕ → ℕ
+symbol_behind text definition linkage statics = statics_behind text definition linkage + statics
+
+-- and where the map does
+abbrev pub map_behind : ℕ → ℕ → ℕ → ℕ → ℕ → ℕ
+map_behind text definition linkage statics symbol =
+    symbol_behind text definition linkage statics + symbol
+
 -- The map of sections of these lengths that follow one another: the version, the offset and length
 -- of each section, and the entry bound; behind it the last word, with the offset of the map.
 unfoldable pub map_part : Bool → ℕ → ℕ → ℕ → ℕ → ℕ → ℕ → List ℕ
@@ -195,11 +218,11 @@ map_part newer text definition linkage statics symbol bound =
     joined 0 (version_of newer)
     ∷ joined 0 text
     ∷ joined text definition
-    ∷ joined (text + definition) linkage
-    ∷ (if newer then joined (text + definition + linkage) statics ∷ [] else [])
-    ++ joined (text + definition + linkage + statics) symbol
+    ∷ joined (linkage_behind text definition) linkage
+    ∷ (if newer then joined (statics_behind text definition linkage) statics ∷ [] else [])
+    ++ joined (symbol_behind text definition linkage statics) symbol
     ∷ joined bound 0
-    ∷ joined (text + definition + linkage + statics + symbol) 0
+    ∷ joined (map_behind text definition linkage statics symbol) 0
     ∷ []
 
 unfoldable pub map_words : PartsFields → List ℕ
@@ -258,7 +281,8 @@ is_link version l =
 -- many of each
 unfoldable pub is_place : ℕ → ℕ → ℕ → Section → ℕ → Bool
 is_place text inner outer Text offset = nat_lt offset text
-is_place text inner outer Linkage offset = nat_le 8 offset && nat_lt offset (8 + inner)
+is_place text inner outer Linkage offset =
+    nat_le head_words offset && nat_lt offset (head_words + inner)
 is_place text inner outer Static offset = nat_lt offset outer
 is_place text inner outer Symbol offset = false
 

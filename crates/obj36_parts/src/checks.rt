@@ -13,7 +13,7 @@ use crate::link::Link;
 use crate::names::{has_its_entry, has_its_name};
 use crate::relocation::Reloc;
 use crate::section::Section;
-use crate::sections::{class, number};
+use crate::sections::{HEAD_WORDS, class, number};
 use m36_text::Name;
 use m36_text::texts::is_name;
 
@@ -113,9 +113,10 @@ fn is_good_place(room: Room, section: Section, offset: u32) -> bool
     ensures { result ≡ is_place room.text room.inner room.outer section offset }
 {
     let offset = offset as usize;
+    let head = HEAD_WORDS as usize;
     match section {
         Section::Text => offset < room.text,
-        Section::Linkage => 8 <= offset && offset - 8 < room.inner,
+        Section::Linkage => head <= offset && offset - head < room.inner,
         Section::Static => offset < room.outer,
         Section::Symbol => false,
     }

@@ -12,6 +12,7 @@ use crate::checks::{
 use crate::definition::Defs;
 use crate::link::Links;
 use crate::relocation::Relocs;
+use crate::sections::HEAD_WORDS;
 use crate::size::length_of_names;
 use m36_word::{Word, Words};
 use std::marker::Model;
@@ -85,12 +86,12 @@ impl Parts {
         }
     }
 
-    /// Where the first link stands in the linkage section: behind its eight header words and the static words there.
+    /// Where the first link stands in the linkage section: behind the words of the head and the static words there.
     pub fn first_link(&self) -> u64
         ensures value { result ≡ first_link self.now }
         ensures bound { result ≤ 2 ^ 63 + 8 }
     {
-        8 + self.inner_statics().len() as u64
+        HEAD_WORDS + self.inner_statics().len() as u64
     }
 
     /// Whether each list has fewer than 2^32 members, as those of each object have.

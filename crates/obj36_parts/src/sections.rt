@@ -25,6 +25,9 @@ use std::alloc::Global;
 /// The tag of a link that is not snapped: fault 24.
 pub const LINK_TAG: u64 = 0o46;
 
+/// How many words the head of a linkage section has.
+pub const HEAD_WORDS: u64 = 8;
+
 /// The most words of a section of an object that is assembled or bound.
 pub const SECTION_LIMIT: u64 = (1 << 18) - 4096;
 
@@ -299,7 +302,7 @@ pub fn linkage_words_of(
     ensures { IfOk result (λ words. words ≡ linkage_part statics.now links.now expressions) }
 {
     let mut out = Words::new(alloc);
-    let first = 8 + statics.len() as u64;
+    let first = HEAD_WORDS + statics.len() as u64;
     push_linkage_header(&mut out, first, links.len() as u64)?;
     push_all(&mut out, statics)?;
     push_links(&mut out, links, first, expressions)?;

@@ -1,9 +1,9 @@
 -- Faults of links and of the linkage section.
-use Rattle.std.specs.Prelude.{ℕ, zero, suc, ◌+◌, ◌-◌, ◌*◌, ◌%◌, ◌^◌, Bool, ◌&&◌, ◌||◌, not, nat_eq}
+use Rattle.std.specs.Prelude.{ℕ, zero, suc, ◌+◌, ◌*◌, ◌%◌, ◌^◌, Bool, ◌&&◌, ◌||◌, not, nat_eq}
 use Rattle.std.specs.Prelude.{nat_lt, nat_le, if◌then◌else◌, List, length, slice_index, Option}
 use Rattle.std.specs.Prelude.{Some, None}
-use Rattle.obj36_parts.specs.Halves.{left, right, joined}
-use Rattle.obj36_parts.specs.ObjectSegment.{has_name, has_section, last_place}
+use Rattle.obj36_parts.specs.Halves.{left, right}
+use Rattle.obj36_parts.specs.ObjectSegment.{has_name, has_section, last_place, head_words, link_head}
 use Rattle.obj36_read.specs.TableFaults.{earlier, where_bad, expression_count, first_expression}
 
 -- ---- types and sections of expressions, whose places count from the definition section's word 0
@@ -32,15 +32,15 @@ link_start k = left (slice_index k 1)
 unfoldable pub is_head : ℕ → List ℕ → List ℕ → Bool
 is_head version d k =
     nat_eq (link_count k) (expression_count d)
-    && nat_le 8 (link_start k)
+    && nat_le head_words (link_start k)
     && nat_eq (link_start k % 2) 0
     && nat_eq (link_start k + 2 * link_count k) (length k)
-    && (not (nat_eq version 2) || nat_eq (link_start k) 8)
+    && (not (nat_eq version 2) || nat_eq (link_start k) head_words)
 
 -- whether the link at a place is as it must be, with its expression at another
 unfoldable pub is_link_at : List ℕ → ℕ → ℕ → Bool
 is_link_at k at expression =
-    nat_eq (slice_index k at) (joined (2 ^ 18 - at) 38)
+    nat_eq (slice_index k at) (link_head at)
     && nat_eq (left (slice_index k (at + 1))) expression
     && nat_lt (right (slice_index k (at + 1))) (2 ^ 6)
 

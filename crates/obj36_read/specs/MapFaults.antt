@@ -5,6 +5,7 @@ use Rattle.std.specs.Prelude.{Some, None}
 use Rattle.m36_word.specs.Bits.{of_bit}
 use Rattle.m36_text.specs.Lines.{first_met}
 use Rattle.obj36_parts.specs.Halves.{left, right}
+use Rattle.obj36_parts.specs.ObjectSegment.{head_words}
 use Rattle.obj36_read.specs.Reading.{map_place, version_in, told_length, bound_index}
 use Rattle.obj36_read.specs.declared.map.Extent.{Extent}
 use Rattle.obj36_read.specs.declared.map.Extents.{Extents}
@@ -74,7 +75,7 @@ section_fault words =
     first_met (
     (is_outside map e.text 0, map + 1)
     ∷ (is_outside map e.definition 2, map + 2)
-    ∷ (is_outside map e.linkage 8, map + 3)
+    ∷ (is_outside map e.linkage head_words, map + 3)
     ∷ (is_outside map e.statics 0, map + 4)
     ∷ (is_outside map e.symbol 1, map + symbol_index (version_in words))
     ∷ []

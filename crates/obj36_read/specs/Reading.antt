@@ -6,7 +6,7 @@ use Rattle.std.specs.Prelude.{if◌then◌else◌, min, List, [], ◌∷◌, len
 use Rattle.obj36_parts.specs.Fields.{LinkFields, RelocFields}
 use Rattle.obj36_parts.specs.PartsFields.{PartsFields}
 use Rattle.obj36_parts.specs.Halves.{left, right, quarter}
-use Rattle.obj36_parts.specs.ObjectSegment.{has_name, has_entry}
+use Rattle.obj36_parts.specs.ObjectSegment.{has_name, has_entry, head_words}
 use Rattle.obj36_parts.specs.declared.section.Section.{Section}
 use Rattle.obj36_parts.specs.declared.section.Section.TheVariants.{Text, Linkage, Symbol, Static}
 use Rattle.obj36_parts.specs.declared.definition.Named.{Named}
@@ -134,7 +134,7 @@ unfoldable pub statics_in : List ℕ → List ℕ
 statics_in words =
     if nat_eq (version_in words) 2
     then take (told_length words 4) (from_statics words)
-    else take (told_first words - 8) (drop 8 (from_linkage words))
+    else take (told_first words - head_words) (drop head_words (from_linkage words))
 
 -- how far behind map 0 the entry bound is
 abbrev pub bound_index : ℕ → ℕ

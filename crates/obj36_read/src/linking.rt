@@ -15,7 +15,7 @@ use m36_word::Word;
 use obj36_parts::checks::{greatest_place, has_its_section};
 use obj36_parts::halves::{left_of, right_of, word_of};
 use obj36_parts::names::has_its_name;
-use obj36_parts::sections::LINK_TAG;
+use obj36_parts::sections::{HEAD_WORDS, LINK_TAG};
 
 // ---- types of expressions
 
@@ -67,10 +67,10 @@ fn is_good_head(version: u8, d: &[Word], k: &[Word]) -> bool
     let count = count_of_links(k);
     let start = start_of_links(k);
     count == count_of_expressions(d)
-        && 8 <= start
+        && HEAD_WORDS <= start
         && start % 2 == 0
         && start + 2 * count == k.len() as u64
-        && (version != 2 || start == 8)
+        && (version != 2 || start == HEAD_WORDS)
 }
 
 #[tactic(auto, unfolding(crate::specs::LinkFaults::is_link_at))]

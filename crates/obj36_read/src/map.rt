@@ -12,6 +12,7 @@ ghost use Rattle.obj36_read.specs.Near.{AreNear};
 use crate::reading::{behind, front, index_of_bound, length_told, place_of_map, version, word_at};
 use m36_word::Word;
 use obj36_parts::halves::{left_of, right_of};
+use obj36_parts::sections::HEAD_WORDS;
 
 /// Where a section is, as its map word tells.
 #[derive(Clone, Copy)]
@@ -163,7 +164,7 @@ pub fn fault_of_sections(words: &[Word]) -> Option<u64>
     if leaves(map, e.definition, 2) {
         return Some(map + 2);
     }
-    if leaves(map, e.linkage, 8) {
+    if leaves(map, e.linkage, HEAD_WORDS) {
         return Some(map + 3);
     }
     if leaves(map, e.statics, 0) {

@@ -20,7 +20,7 @@ use obj36_parts::names::{has_its_entry, has_its_name};
 use obj36_parts::parts::Parts;
 use obj36_parts::relocation::{Reloc, Relocs};
 use obj36_parts::section::Section;
-use obj36_parts::sections::push_all;
+use obj36_parts::sections::{HEAD_WORDS, push_all};
 use std::alloc::Global;
 
 // The word at a place, and 0 past the end.
@@ -350,8 +350,8 @@ fn statics(words: &[Word]) -> &[Word]
     if version(words) == 2 {
         front(statics_on(words), length_told(words, 4))
     } else {
-        let inner = behind(linkage_on(words), 8);
-        front(inner, first_told(words).saturating_sub(8))
+        let inner = behind(linkage_on(words), HEAD_WORDS);
+        front(inner, first_told(words).saturating_sub(HEAD_WORDS))
     }
 }
 
