@@ -2,7 +2,8 @@
 use Rattle.std.proofs.Common.{ℕ, ◌+◌, ◌-◌, ◌*◌, ◌≡◌, ◌<◌, ◌≤◌, List, ◌++◌, length, take, drop, get_or, sym, ap, ◌∙◌, arith, length-append, length-drop}
 use Rattle.std.proofs.Math.Seq.{take-length}
 use Rattle.std.proofs.lemmas.List.{append-nil, drop-drop, drop_all, length-take-le, get_or-take, get_or-drop, get_or_append_left, get_or-append_right}
-use Rattle.m36_core.specs.Frames.{written_over, with_frame, IsFrameWritten}
+use Rattle.m36_core.specs.Frames.{with_frame, IsFrameWritten}
+use Rattle.m36_core.specs.Places.{overwritten}
 
 -- the list with words in the place of as many others
 abbrev around : List ℕ → ℕ → List ℕ → List ℕ
@@ -16,7 +17,7 @@ length-around core words first inside count =
     let back : length (drop (first + 1024) core) ≡ length core - (first + 1024) = length-drop (first + 1024) core in
     omega arith
 
-over-around : (core words : List ℕ) (first : ℕ) → first + 1024 ≤ length core → length words ≡ 1024 → written_over core first words ≡ around core first words
+over-around : (core words : List ℕ) (first : ℕ) → first + 1024 ≤ length core → length words ≡ 1024 → overwritten core first words ≡ around core first words
 over-around core words first inside count =
     let past : drop (length words) (drop first core) ≡ drop (first + 1024) core = ap (λ (n : ℕ). drop n (drop first core)) count ∙ drop-drop 1024 first core in
     let all = around core first words in
