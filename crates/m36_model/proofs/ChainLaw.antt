@@ -8,6 +8,7 @@ use Rattle.m36_model.specs.Modification.{Point, Move, Ends, Fails, Reads, Counts
 use Rattle.m36_model.specs.Tally.{tally, indirect_only}
 use Rattle.m36_model.specs.Chain.{ChainEnd, Found, Its, Itp, Plain, found, indirect, its_point, itp_point, tally_end, chain, chain_by, chain_exhausted, after_word, after_tally}
 use Rattle.m36_model.specs.ChainList.{Stage, Turn, Goes, Closes, turn, turn_by, turn_odd, turn_found, turn_even, turn_claimed, turn_tally_by, turn_tally, IsChain, IsOneChain, OneChain, first_stage}
+use Rattle.m36_model.specs.Step.{indirect_words}
 use Rattle.m36_model.specs.declared.outcome.Fault.{Fault}
 use Rattle.m36_model.specs.declared.outcome.Halt.{Halt}
 
@@ -52,7 +53,7 @@ module _ {S : Type 0} (o : Store S) (g : RegsFields) (k : ℕ) (s : Stage S) whe
   agree_tally m (Err f) = refl
 
   -- where indirect words may still be read
-  agree_move : nat_lt s.count 16 ≡ true → (v : Move) → Agrees (run o g (chain_by (chain k g) g s.point v) s.mid) (turn_by o g s v)
+  agree_move : nat_lt s.count indirect_words ≡ true → (v : Move) → Agrees (run o g (chain_by (chain k g) g s.point v) s.mid) (turn_by o g s v)
   unfolding run
   agree_move e (Ends last) = refl
   agree_move e (Fails h) = refl
@@ -61,7 +62,7 @@ module _ {S : Type 0} (o : Store S) (g : RegsFields) (k : ℕ) (s : Stage S) whe
   agree_move e Counts =
       let t = serve o g s.mid (indirect Indirect s.point s.point.y) in rw e (agree_tally t.mid t.reply)
 
-  agree : nat_lt s.count 16 ≡ true → Agrees (run o g (chain (suc k) g s.point) s.mid) (turn o g s)
+  agree : nat_lt s.count indirect_words ≡ true → Agrees (run o g (chain (suc k) g s.point) s.mid) (turn o g s)
   unfolding chain turn
   agree e = agree_move e (move_of_point g s.point)
 
@@ -70,14 +71,14 @@ module _ {S : Type 0} (o : Store S) (g : RegsFields) (k : ℕ) (s : Stage S) whe
   ClosesBy x (Goes b) = ⊥
   ClosesBy x (Closes r) = x ≡ r
 
-  close_move : nat_lt s.count 16 ≡ false → (v : Move) → ClosesBy (run o g (chain_exhausted s.point v) s.mid) (turn_by o g s v)
+  close_move : nat_lt s.count indirect_words ≡ false → (v : Move) → ClosesBy (run o g (chain_exhausted s.point v) s.mid) (turn_by o g s v)
   unfolding run
   close_move e (Ends last) = refl
   close_move e (Fails h) = refl
   close_move e (Reads word held) = rw e refl
   close_move e Counts = rw e refl
 
-  close : nat_lt s.count 16 ≡ false → ClosesBy (run o g (chain zero g s.point) s.mid) (turn o g s)
+  close : nat_lt s.count indirect_words ≡ false → ClosesBy (run o g (chain zero g s.point) s.mid) (turn o g s)
   unfolding chain turn
   close e = close_move e (move_of_point g s.point)
 
@@ -147,7 +148,7 @@ module _ {S : Type 0} (o : Store S) (g : RegsFields) where
       let u = one_from 16 (first_stage p m) refl in
       record {
         more = u.more;
-        answer = run o g (chain 16 g p) m;
+        answer = run o g (chain indirect_words g p) m;
         linked = u.linked;
         short = u.short;
         only = u.only;

@@ -13,6 +13,7 @@ use Rattle.m36_model.specs.Modification.{Point, Move, Ends, Fails, Reads, Counts
 use Rattle.m36_model.specs.Tally.{tally, tally_address, indirect_only}
 use Rattle.m36_model.specs.Chain.{ChainEnd, Found, Its, Itp, Plain, found, indirect, plain_point}
 use Rattle.m36_model.specs.Chain.{its_point, itp_point, tally_final, tally_end, lockup, chain}
+use Rattle.m36_model.specs.Step.{indirect_words}
 use Rattle.m36_model.specs.declared.outcome.Fault.{Fault}
 use Rattle.m36_model.specs.declared.outcome.Halt.{Halt}
 use Rattle.m36_model.specs.declared.outcome.Halt.TheVariants as halt
@@ -99,8 +100,8 @@ turn_counts o g s false = refused_with (lockup s.point s.point.y) s.mid
 abbrev pub turn_by : {S : Type 0} → Store S → RegsFields → Stage S → Move → Turn S
 turn_by o g s (Ends last) = ends_with (without_tally last) s.mid
 turn_by o g s (Fails h) = refused_with h s.mid
-turn_by o g s (Reads word held) = turn_reads o g s word held (nat_lt s.count 16)
-turn_by o g s Counts = turn_counts o g s (nat_lt s.count 16)
+turn_by o g s (Reads word held) = turn_reads o g s word held (nat_lt s.count indirect_words)
+turn_by o g s Counts = turn_counts o g s (nat_lt s.count indirect_words)
 
 unfoldable pub turn : {S : Type 0} → Store S → RegsFields → Stage S → Turn S
 turn o g s = turn_by o g s (move_of_point g s.point)
@@ -116,18 +117,18 @@ IsChain o g (s ∷ next ∷ more) answer = (turn o g s ≡ Goes next) × IsChain
 abbrev pub first_stage : {S : Type 0} → Point → Mid S → Stage S
 first_stage p m = record { point = p; count = 0; mid = m }
 
--- There is exactly one chain from a point, of at most 17 points, and its answer is that of the
--- program that forms the address.
+-- There is exactly one chain from a point, of at most one point more than indirect words may be
+-- read, and its answer is that of the program that forms the address.
 pub record IsOneChain {S : Type 0} (o : Store S) (g : RegsFields) (p : Point)
     (m : Mid S) : Type 0 where
   pub more : List (Stage S)
   pub answer : Ran (Result ChainEnd Halt) S
   pub linked : IsChain o g (first_stage p m ∷ more) answer
-  pub short : length more ≤ 16
+  pub short : length more ≤ indirect_words
   pub only :
       (other : List (Stage S)) (said : Ran (Result ChainEnd Halt) S)
       → IsChain o g (first_stage p m ∷ other) said → (other ≡ more) × (said ≡ answer)
-  pub same : run o g (chain 16 g p) m ≡ answer
+  pub same : run o g (chain indirect_words g p) m ≡ answer
 
 abbrev pub OneChain : Type 0
 OneChain = (g : RegsFields) (p : Point) (m : Mid (List ℕ)) → IsOneChain core_store g p m
