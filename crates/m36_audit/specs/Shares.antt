@@ -5,7 +5,8 @@ use Rattle.std.specs.Prelude.{false, nat_lt}
 use Rattle.std.specs.Prelude.{◌-◌, if◌then◌else◌, ◌==◌, ◌&&◌, ◌||◌, not, List, length, slice_get}
 use Rattle.std.specs.Prelude.{slice_index, Option, Some, None, Result, Ok, Err}
 use Rattle.m36_desc.specs.Fields.{SdwFields, DbrFields}
-use Rattle.m36_model.specs.Place.{wrapped, directory_at, page_at, sdw_place, core_sdw, in_bounds}
+use Rattle.m36_model.specs.Place.{wrapped, directory_at, page_at, page_count, sdw_place, core_sdw}
+use Rattle.m36_model.specs.Place.{in_bounds}
 use Rattle.m36_model.specs.Audit.{Table, Sdws, Directory, Pages, IsOf, IsSegmentWord}
 use Rattle.m36_model.specs.declared.outcome.Refusal.{Refusal}
 use Rattle.m36_audit.specs.declared.run.Run.{Run}
@@ -37,7 +38,7 @@ pages_told number d (suc n) values = joined_at (pages_told number d n values) (p
 
 abbrev pub page_table_told : ℕ → SdwFields → Bool → List ℕ → List ℕ
 page_table_told number d true values = values
-page_table_told number d false values = pages_told number d (d.bound / 64 + 1) values
+page_table_told number d false values = pages_told number d (page_count d) values
 
 abbrev pub live_told : ℕ → Result SdwFields Refusal → List ℕ → List ℕ
 live_told number (Err e) values = values
@@ -118,7 +119,7 @@ pub record IsSegmentCount (dbr : DbrFields) (n : ℕ) : Type 0 where
 
 -- how many runs a segment may have
 abbrev pub piece_count : SdwFields → ℕ
-piece_count d = if d.unpaged then 2 else (d.bound / 64 + 1)
+piece_count d = if d.unpaged then 2 else page_count d
 
 -- the counts with one more run, if there is one
 abbrev pub starts_with : Option Run → List ℕ → List ℕ

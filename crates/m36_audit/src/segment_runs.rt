@@ -2,7 +2,7 @@
 
 ghost use Rattle.std.specs.Prelude.{ℕ, ◌≡◌, ◌+◌, ◌*◌, ◌/◌, ◌<◌, ◌≤◌, ◌^◌, true, false, Ok, length};
 ghost use Rattle.m36_desc.specs.Access.{in_order};
-ghost use Rattle.m36_model.specs.Place.{core_sdw};
+ghost use Rattle.m36_model.specs.Place.{core_sdw, last_page};
 ghost use Rattle.m36_audit.specs.Runs.{whole_run, page_run, run, AreCounted};
 
 use crate::live::live;
@@ -26,7 +26,7 @@ fn words(sdw: &Sdw) -> u32
 
 /// The words of a page that are within the bound, where the page is in core.
 pub(crate) fn page_run(core: &Core, sdw: &Sdw, page: u32) -> Option<Run>
-    requires { page ≤ sdw.now.bound / 64 }
+    requires { page ≤ last_page sdw.now }
     ensures { result ≡ page_run core.now sdw.now page }
 {
     let count = words(sdw) - PAGE * page;
@@ -80,7 +80,7 @@ fn count_page(counts: &mut RunCounts, core: &Core, dbr: Dbr, seg: u16, sdw: &Sdw
     requires live { core_sdw core.now dbr seg ≡ Ok sdw.now }
     requires order { in_order sdw.now ≡ true }
     requires paged { sdw.now.unpaged ≡ false }
-    requires page { page ≤ sdw.now.bound / 64 }
+    requires page { page ≤ last_page sdw.now }
     requires few { page < 256 }
     requires before { AreCounted (run core.now dbr) (256 * seg + page) (length core.now)
         counts.old.starts.items counts.old.stops.items }

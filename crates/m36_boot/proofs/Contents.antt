@@ -19,7 +19,8 @@ use Rattle.m36_page.specs.Residence.{is_of, table_of, has_page_in, spot_in, kept
 use Rattle.m36_link.specs.Fields.{LayFields, SnapFields}
 use Rattle.m36_boot.specs.Segments.{booted_sdw, booted_words}
 use Rattle.m36_boot.specs.Start.{start_regs}
-use Rattle.m36_boot.specs.Image.{pages_of, booted_tables, booted_content, booted_flat, AreDescribed, IsImage}
+use Rattle.m36_model.specs.Place.{page_count}
+use Rattle.m36_boot.specs.Image.{booted_tables, booted_content, booted_flat, AreDescribed, IsImage}
 use Rattle.m36_boot.specs.Image.{content_by as booted_by}
 use Rattle.m36_boot.proofs.Sizes.{AreFiles}
 use Rattle.m36_boot.proofs.ImageTables.{page_table, has_table, table_is}
@@ -157,8 +158,8 @@ content_from catalog files lay n seg w core None are made e =
 content_from catalog files lay n seg w core (Some d) are made e =
     content_in (pager_given wired_frames catalog.frames (booted_tables catalog files lay)) core seg w (table_given (page_table catalog files lay seg d))
     (table_live catalog files lay seg d are e) (λ inside. absent_at catalog files lay n seg (w / 1024) core d are made e inside)
-    ∙ ap (λ v. cond (nat_lt (w / 1024) (pages_of d)) (Some v) None)
-    (filled_at (booted_words files lay seg) (1024 * pages_of d - length (booted_words files lay seg)) w 0)
+    ∙ ap (λ v. cond (nat_lt (w / 1024) (page_count d)) (Some v) None)
+    (filled_at (booted_words files lay seg) (1024 * page_count d - length (booted_words files lay seg)) w 0)
 
 content_at : (catalog : CatalogFields) (files : List (List ℕ)) (lay : Option LayFields) (n seg w : ℕ) (core : List ℕ) → AreFiles catalog files
     → IsMade catalog files lay n core

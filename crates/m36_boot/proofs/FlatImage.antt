@@ -6,7 +6,7 @@ use Rattle.std.proofs.lemmas.List.{get_or_past}
 use Rattle.m36_desc.specs.Fields.{SdwFields}
 use Rattle.m36_desc.specs.Access.{in_order}
 use Rattle.m36_model.specs.Store.{Spot, within, place_within, place_ordered, place_by, place}
-use Rattle.m36_model.specs.Place.{core_sdw, core_spot}
+use Rattle.m36_model.specs.Place.{core_sdw, core_spot, page_count}
 use Rattle.m36_model.specs.BootedCore.{booted_dbr, descriptor_words, wired_frames, IsLaid}
 use Rattle.m36_model.specs.Residence.{Paged, word_at, paged_content, flat_of}
 use Rattle.m36_model.specs.declared.outcome.Refusal.{Refusal}
@@ -17,7 +17,7 @@ use Rattle.m36_page.specs.Fields.{PagerFields}
 use Rattle.m36_page.specs.Given.{pager_given}
 use Rattle.m36_page.specs.Residence.{table_of, kept_in, kept_word}
 use Rattle.m36_boot.specs.Segments.{booted_sdw, booted_words}
-use Rattle.m36_boot.specs.Image.{pages_of, booted_word, booted_tables, words_from, booted_flat, booted_content, content_by}
+use Rattle.m36_boot.specs.Image.{booted_word, booted_tables, words_from, booted_flat, booted_content, content_by}
 use Rattle.m36_boot.proofs.Sizes.{AreFiles, IsFirst, blocks_fit}
 use Rattle.m36_boot.proofs.LaidCore.{IsMade, word_here, size_of}
 use Rattle.m36_boot.proofs.LaidImage.{sdw_by, sdw_here, sdw_out, live_sdw, away, laid_image}
@@ -67,7 +67,7 @@ module _ (catalog : CatalogFields) (files : List (List ℕ)) (lay : Option LayFi
   kept_live seg w d has =
       ap (λ (x : PagerFields). kept_in (table_of x.tables seg) w) given
       ∙ ap (λ o. kept_in o w) (table_live catalog files lay seg d are has)
-      ∙ filled_at (booted_words files lay seg) (1024 * pages_of d - length (booted_words files lay seg)) w 0
+      ∙ filled_at (booted_words files lay seg) (1024 * page_count d - length (booted_words files lay seg)) w 0
 
   -- within the bound the page is put away; past it words are zero
   word_by : (seg w : ℕ) (d : SdwFields) (inside : Bool) → booted_sdw catalog files seg ≡ Some d → within d w ≡ inside
@@ -80,12 +80,12 @@ module _ (catalog : CatalogFields) (files : List (List ℕ)) (lay : Option LayFi
       ap (λ (b : Bool). word_at memory seg w (place_within b (core_spot core booted_dbr d seg w))) e
       ∙ ap (λ (r : Result Spot Refusal). word_at memory seg w r) (absent_spot core catalog.frames laid seg w d live e none)
       ∙ kept_live seg w d has
-      ∙ ap (λ b. unwrap_or (cond b (Some (get_or (booted_words files lay seg) w 0)) None) 0) (sym (lt-ltb (w / 1024) (pages_of d) (omega (arith, block))))
+      ∙ ap (λ b. unwrap_or (cond b (Some (get_or (booted_words files lay seg) w 0)) None) 0) (sym (lt-ltb (w / 1024) (page_count d) (omega (arith, block))))
   word_by seg w d false has e =
       let block = leb-false (w / 16) d.bound e in
       let size = blocks_fit catalog files lay seg d first has in
       ap (λ (b : Bool). word_at memory seg w (place_within b (core_spot core booted_dbr d seg w))) e
-      ∙ past_pages (nat_lt (w / 1024) (pages_of d)) (get_or (booted_words files lay seg) w 0) (get_or_past (booted_words files lay seg) w 0 (omega (arith, block, size)))
+      ∙ past_pages (nat_lt (w / 1024) (page_count d)) (get_or (booted_words files lay seg) w 0) (get_or_past (booted_words files lay seg) w 0 (omega (arith, block, size)))
 
   content_by_sdw : (seg w : ℕ) (o : Option SdwFields) → booted_sdw catalog files seg ≡ o
       → word_at memory seg w (place_by (core_sdw core booted_dbr seg) (λ d. core_spot core booted_dbr d seg w) w) ≡ unwrap_or (content_by o (booted_words files lay seg) w) 0

@@ -11,7 +11,8 @@ use Rattle.m36_page.specs.declared.table.PageTable.{PageTable}
 use Rattle.m36_page.specs.Given.{is_apart, are_placed}
 use Rattle.m36_link.specs.Fields.{LayFields}
 use Rattle.m36_boot.specs.Segments.{booted_sdw, booted_words}
-use Rattle.m36_boot.specs.Image.{pages_of, table_of_segment, tables_from, booted_tables}
+use Rattle.m36_model.specs.Place.{page_count}
+use Rattle.m36_boot.specs.Image.{table_of_segment, tables_from, booted_tables}
 use Rattle.m36_boot.proofs.Sizes.{AreFiles, IsFirst, live, pages_fit}
 
 -- ---- the loop
@@ -56,7 +57,7 @@ later_apart catalog files lay t seg (suc n) le =
 
 -- the page table of a segment
 abbrev pub page_table : CatalogFields → List (List ℕ) → Option LayFields → ℕ → SdwFields → PageTable
-page_table catalog files lay seg d = record { words = booted_words files lay seg; at = table_at seg; seg = seg; pages = pages_of d }
+page_table catalog files lay seg d = record { words = booted_words files lay seg; at = table_at seg; seg = seg; pages = page_count d }
 
 placed_by : (catalog : CatalogFields) (files : List (List ℕ)) (lay : Option LayFields) (o : Option SdwFields) (seg n : ℕ) → AreFiles catalog files → IsFirst lay
     → booted_sdw catalog files seg ≡ o → seg < 576 → are_placed wired_frames (tables_from catalog files lay (seg + 1) n) ≡ true
@@ -67,10 +68,10 @@ placed_by catalog files lay (Some d) seg n are is e lt rest =
     let l = live catalog files seg d are e in
     let bound = l.bound in
     let room = pages_fit catalog files lay seg d is e in
-    let low : table_at seg + pages_of d ≤ 1024 * wired_frames = omega (arith, bound, lt) in
-    let next : table_at seg + pages_of d ≤ table_at (seg + 1) = omega (arith, bound) in
+    let low : table_at seg + page_count d ≤ 1024 * wired_frames = omega (arith, bound, lt) in
+    let next : table_at seg + page_count d ≤ table_at (seg + 1) = omega (arith, bound) in
     and_from _ _ (and_from _ _
-    (and_from _ _ (le-leb (table_at seg + pages_of d) (1024 * wired_frames) low) (le-leb (length (booted_words files lay seg)) (1024 * pages_of d) room))
+    (and_from _ _ (le-leb (table_at seg + page_count d) (1024 * wired_frames) low) (le-leb (length (booted_words files lay seg)) (1024 * page_count d) room))
     (later_apart catalog files lay (page_table catalog files lay seg d) (seg + 1) n next)) rest
 
 placed_from : (catalog : CatalogFields) (files : List (List ℕ)) (lay : Option LayFields) (seg n : ℕ) → AreFiles catalog files → IsFirst lay → seg + n ≤ 576

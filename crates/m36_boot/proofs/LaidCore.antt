@@ -15,7 +15,8 @@ use Rattle.m36_page.specs.Changes.{IsTableWord, AreAbsent}
 use Rattle.m36_page.specs.Given.{table_given}
 use Rattle.m36_link.specs.Fields.{LayFields}
 use Rattle.m36_boot.specs.Segments.{booted_sdw}
-use Rattle.m36_boot.specs.Image.{descriptor_word, pages_of, page_table_word, booted_word, booted_tables, IsWhole, AreDescribed}
+use Rattle.m36_model.specs.Place.{page_count}
+use Rattle.m36_boot.specs.Image.{descriptor_word, page_table_word, booted_word, booted_tables, IsWhole, AreDescribed}
 use Rattle.m36_boot.proofs.Sizes.{AreFiles, live}
 use Rattle.m36_boot.proofs.ImageTables.{page_table, has_table, table_is}
 
@@ -109,7 +110,7 @@ record IsWordOf (catalog : CatalogFields) (files : List (List ℕ)) (a : ℕ) : 
   sdw : SdwFields
   has : booted_sdw catalog files seg ≡ Some sdw
   low : table_at seg ≤ a
-  high : a < table_at seg + pages_of sdw
+  high : a < table_at seg + page_count sdw
 
 pub given_from : (o : Option PageTable) (t : TableFields) → option_map table_given o ≡ Some t → (u : PageTable) × (o ≡ Some u) × (table_given u ≡ t)
 given_from None t e = absurd (cc)
@@ -121,7 +122,7 @@ word_of catalog files lay a w =
     let u = given_from (slice_get (booted_tables catalog files lay) w.0) w.1 (sym (slice_get-map table_given (booted_tables catalog files lay) w.0) ∙ w.2) in
     let is = table_is catalog files lay w.0 u.0 u.1 in
     let at : w.1.at ≡ table_at is.seg = sym (ap (λ (t : TableFields). t.at) u.2) ∙ ap (λ (t : PageTable). t.at) is.is in
-    let pages : w.1.pages ≡ pages_of is.sdw = sym (ap (λ (t : TableFields). t.pages) u.2) ∙ ap (λ (t : PageTable). t.pages) is.is in
+    let pages : w.1.pages ≡ page_count is.sdw = sym (ap (λ (t : TableFields). t.pages) u.2) ∙ ap (λ (t : PageTable). t.pages) is.is in
     let low = w.3 in
     let high = w.4 in
     record { seg = is.seg; sdw = is.sdw; has = is.has; low = omega (arith, at, low); high = omega (arith, at, pages, high) }
@@ -133,7 +134,7 @@ pub record IsMade (catalog : CatalogFields) (files : List (List ℕ)) (lay : Opt
   pub absent : AreAbsent (map table_given (booted_tables catalog files lay)) (length (map table_given (booted_tables catalog files lay))) mid core
 
 pub absent_at : (catalog : CatalogFields) (files : List (List ℕ)) (lay : Option LayFields) (n k q : ℕ) (core : List ℕ) (d : SdwFields) → AreFiles catalog files
-    → IsMade catalog files lay n core → booted_sdw catalog files k ≡ Some d → q < pages_of d → get_or core (table_at k + q) 0 ≡ absent_ptw
+    → IsMade catalog files lay n core → booted_sdw catalog files k ≡ Some d → q < page_count d → get_or core (table_at k + q) 0 ≡ absent_ptw
 absent_at catalog files lay n k q core d are made e lt =
     let has = has_table catalog files lay k d are e in
     let t = page_table catalog files lay k d in
@@ -180,10 +181,10 @@ page_by catalog files lay n k q core None are made few lt e =
     let same : w.seg ≡ k = omega (arith, bound, low, high, lt) in
     some_none w.sdw (booted_sdw catalog files k) e (ap (λ m. booted_sdw catalog files m) (sym same) ∙ w.has))
 page_by catalog files lay n k q core (Some d) are made few lt e =
-    elim (cases_lt q (pages_of d)) [
+    elim (cases_lt q (page_count d)) [
       | inl inside ↦
           absent_at catalog files lay n k q core d are made e inside
-          ∙ ap (λ b. cond b absent_ptw 0) (sym (lt-ltb q (pages_of d) inside))
+          ∙ ap (λ b. cond b absent_ptw 0) (sym (lt-ltb q (page_count d) inside))
       | inr past ↦
           zero_at catalog files lay n (table_at k + q) core made (omega (arith, few)) (λ w.
           let bound = (live catalog files w.seg w.sdw are w.has).bound in
@@ -191,9 +192,9 @@ page_by catalog files lay n k q core (Some d) are made few lt e =
           let high = w.high in
           let same : w.seg ≡ k = omega (arith, bound, low, high, lt) in
           let equal = some_same w.sdw d (booted_sdw catalog files k) (ap (λ m. booted_sdw catalog files m) (sym same) ∙ w.has) e in
-          let pages = ap (λ (s : SdwFields). pages_of s) equal in
+          let pages = ap (λ (s : SdwFields). page_count s) equal in
           absurd (omega (arith, same, low, high, pages, past)))
-          ∙ ap (λ b. cond b absent_ptw 0) (sym (le-ltb q (pages_of d) past))
+          ∙ ap (λ b. cond b absent_ptw 0) (sym (le-ltb q (page_count d) past))
     ]
 
 page_here : (catalog : CatalogFields) (files : List (List ℕ)) (lay : Option LayFields) (n a : ℕ) (core : List ℕ) → AreFiles catalog files

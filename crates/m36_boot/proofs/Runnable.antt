@@ -18,7 +18,8 @@ use Rattle.m36_page.specs.Given.{table_given, pager_given, fits_below, is_apart,
 use Rattle.m36_page.specs.Residence.{table_of, has_page_in, has_page, spot_in, spot_of, IsPager}
 use Rattle.m36_boot.specs.Segments.{ring_segment, linkage_pages, booted_sdw}
 use Rattle.m36_boot.specs.Start.{start_regs}
-use Rattle.m36_boot.specs.Image.{pages_of, booted_tables, IsRunnable}
+use Rattle.m36_model.specs.Place.{page_count}
+use Rattle.m36_boot.specs.Image.{booted_tables, IsRunnable}
 use Rattle.m36_boot.proofs.Sizes.{AreFiles, IsFirst, live}
 use Rattle.m36_boot.proofs.ImageTables.{tables_placed}
 use Rattle.m36_boot.proofs.LaidCore.{IsMade}
@@ -52,7 +53,7 @@ all_filled first (t ∷ tables) e =
 record IsPageOf (catalog : CatalogFields) (files : List (List ℕ)) (seg page : ℕ) : Type 0 where
   sdw : SdwFields
   has : booted_sdw catalog files seg ≡ Some sdw
-  inside : page < pages_of sdw
+  inside : page < page_count sdw
 
 never : {P : Type 0} → false ≡ true → P
 never e = absurd (cc)
@@ -61,7 +62,7 @@ module _ (catalog : CatalogFields) (files : List (List ℕ)) (lay : Option LayFi
   tables_are : p.tables ≡ map table_given (booted_tables catalog files lay)
   tables_are = ap (λ (x : PagerFields). x.tables) given
 
-  has_live : (seg page : ℕ) (d : SdwFields) → booted_sdw catalog files seg ≡ Some d → has_page p seg page ≡ nat_lt page (pages_of d)
+  has_live : (seg page : ℕ) (d : SdwFields) → booted_sdw catalog files seg ≡ Some d → has_page p seg page ≡ nat_lt page (page_count d)
   unfolding has_page
   has_live seg page d has =
       ap (λ (ts : List TableFields). has_page_in (table_of ts seg) page) tables_are ∙ ap (λ o. has_page_in o page) (table_live catalog files lay seg d are has)
@@ -78,7 +79,7 @@ module _ (catalog : CatalogFields) (files : List (List ℕ)) (lay : Option LayFi
 
   page_by : (seg page : ℕ) (o : Option SdwFields) → booted_sdw catalog files seg ≡ o → has_page p seg page ≡ true → IsPageOf catalog files seg page
   page_by seg page None e has = never (sym (has_dead seg page e) ∙ has)
-  page_by seg page (Some d) e has = record { sdw = d; has = e; inside = ltb-true page (pages_of d) (sym (has_live seg page d e) ∙ has) }
+  page_by seg page (Some d) e has = record { sdw = d; has = e; inside = ltb-true page (page_count d) (sym (has_live seg page d e) ∙ has) }
 
   page_is : (seg page : ℕ) → has_page p seg page ≡ true → IsPageOf catalog files seg page
   page_is seg page has = page_by seg page (booted_sdw catalog files seg) refl has
@@ -162,7 +163,7 @@ runnable catalog files s core pager regs snap are few first some most made given
       serves = λ seg page is.
           let has = sdw_live catalog files s.lay (1024 * (wired_frames + catalog.frames)) core are few made room seg is.sdw is.live in
           let begins = is.begins in
-          has_live catalog files s.lay pager are few given seg page is.sdw has ∙ lt-ltb page (pages_of is.sdw) (omega (arith, begins));
+          has_live catalog files s.lay pager are few given seg page is.sdw has ∙ lt-ltb page (page_count is.sdw) (omega (arith, begins));
       exact = λ seg page has.
           let is = page_is catalog files s.lay pager are few given seg page has in
           let inside = is.inside in

@@ -6,7 +6,7 @@ use Rattle.std.specs.Prelude.{Result, Ok, Err}
 use Rattle.m36_desc.specs.Fields.{SdwFields}
 use Rattle.m36_desc.specs.Access.{in_order}
 use Rattle.m36_desc.specs.Descriptors.{sdw_of, sdw_even, sdw_odd}
-use Rattle.m36_model.specs.Place.{core_sdw}
+use Rattle.m36_model.specs.Place.{core_sdw, page_count}
 use Rattle.m36_model.specs.BootedCore.{descriptor_words, booted_dbr, wired_frames, table_at}
 use Rattle.m36_model.specs.BootedCore.{absent_ptw, IsPage, IsLaid}
 use Rattle.m36_model.specs.Flat.{Flat}
@@ -30,14 +30,10 @@ abbrev pub descriptor_word : ℕ → Option SdwFields → ℕ
 descriptor_word half None = 0
 descriptor_word half (Some d) = if nat_eq half 0 then sdw_even d else sdw_odd d
 
--- how many pages a segment has
-abbrev pub pages_of : SdwFields → ℕ
-pages_of d = d.bound / 64 + 1
-
 -- Each page of a segment is in no frame; a word of no page is zero.
 abbrev pub page_table_word : ℕ → Option SdwFields → ℕ
 page_table_word page None = 0
-page_table_word page (Some d) = if nat_lt page (pages_of d) then absent_ptw else 0
+page_table_word page (Some d) = if nat_lt page (page_count d) then absent_ptw else 0
 
 -- the word of core at a place: descriptors, then page tables of 256 words, and then empty frames
 unfoldable pub booted_word : CatalogFields → List (List ℕ) → ℕ → ℕ
@@ -71,7 +67,7 @@ pub record AreDescribed
 abbrev pub table_of_segment : ℕ → Option SdwFields → List ℕ → List PageTable
 table_of_segment seg None words = []
 table_of_segment seg (Some d) words =
-    record { words = words; at = table_at seg; seg = seg; pages = pages_of d } ∷ []
+    record { words = words; at = table_at seg; seg = seg; pages = page_count d } ∷ []
 
 -- those of so many segment numbers from one on
 unfoldable pub tables_from :
@@ -90,7 +86,7 @@ booted_tables catalog files lay =
 abbrev pub content_by : Option SdwFields → List ℕ → ℕ → Option ℕ
 content_by None words w = None
 content_by (Some d) words w =
-    if nat_lt (w / 1024) (pages_of d) then Some (slice_index words w) else None
+    if nat_lt (w / 1024) (page_count d) then Some (slice_index words w) else None
 
 unfoldable pub booted_content : CatalogFields → List (List ℕ) → Option LayFields → ℕ → ℕ → Option ℕ
 booted_content catalog files lay seg w =

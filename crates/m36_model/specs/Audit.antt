@@ -1,11 +1,12 @@
 -- The six conditions of the audit, each by the places that break it, and what the audit finds.
-use Rattle.std.specs.Prelude.{◌≡◌, ◌≢◌, ℕ, ◌+◌, ◌*◌, ◌/◌, ◌<◌, ◌≤◌, ◌⊎◌, Bool, true, false, ◌&&◌}
+use Rattle.std.specs.Prelude.{◌≡◌, ◌≢◌, ℕ, ◌+◌, ◌*◌, ◌<◌, ◌≤◌, ◌⊎◌, Bool, true, false, ◌&&◌}
 use Rattle.std.specs.Prelude.{◌==◌, List, [], ◌∷◌, ◌++◌, length, Option, Some, None, Result, Ok}
 use Rattle.std.specs.Prelude.{Err}
 use Rattle.m36_desc.specs.Fields.{SdwFields, DbrFields}
 use Rattle.m36_desc.specs.Access.{in_order}
 use Rattle.m36_model.specs.Store.{Core_word, place}
-use Rattle.m36_model.specs.Place.{wrapped, in_bounds, sdw_place, directory_at, page_at, core_sdw}
+use Rattle.m36_model.specs.Place.{wrapped, in_bounds, sdw_place, directory_at, page_at, last_page}
+use Rattle.m36_model.specs.Place.{core_sdw}
 use Rattle.m36_model.specs.Core.{core_store}
 use Rattle.m36_model.specs.declared.outcome.Refusal.{Refusal}
 
@@ -26,7 +27,7 @@ pub record IsPageWord (core : List ℕ) (dbr : DbrFields) (seg page a : ℕ) : T
   pub sdw : SdwFields
   pub live : core_sdw core dbr seg ≡ Ok sdw
   pub paged : sdw.unpaged ≡ false
-  pub begins : page ≤ sdw.bound / 64
+  pub begins : page ≤ last_page sdw
   pub found : a ≡ page_at sdw page
 
 -- the descriptors, the page table of the descriptor segment, and the page table of each live paged

@@ -1,10 +1,11 @@
 -- How a booted image lies in core: the descriptor segment at word 0, the page table of each segment
 -- behind it, and then frames, each of which holds one page of one segment or none.
-use Rattle.std.specs.Prelude.{◌≡◌, ◌≢◌, ℕ, ◌+◌, ◌*◌, ◌/◌, ◌^◌, ◌<◌, ◌≤◌, ◌⊎◌, true, false, List}
+use Rattle.std.specs.Prelude.{◌≡◌, ◌≢◌, ℕ, ◌+◌, ◌*◌, ◌^◌, ◌<◌, ◌≤◌, ◌⊎◌, true, false, List}
 use Rattle.std.specs.Prelude.{length, slice_index, Ok, Err}
 use Rattle.m36_desc.specs.Fields.{SdwFields, DbrFields}
 use Rattle.m36_desc.specs.Access.{in_order}
-use Rattle.m36_model.specs.Place.{core_sdw}
+use Rattle.m36_model.specs.Faults.{missing_page}
+use Rattle.m36_model.specs.Place.{core_sdw, last_page}
 use Rattle.m36_model.specs.Core.{unmarked}
 use Rattle.m36_model.specs.declared.outcome.Refusal.{Refusal}
 
@@ -38,14 +39,14 @@ pub record IsLaidSegment (seg : ℕ) (d : SdwFields) : Type 0 where
   pub number : seg < booted_segments
   pub paged : d.unpaged ≡ false
   pub table : d.addr ≡ table_at seg
-  pub size : d.bound / 64 < 256
+  pub size : last_page d < 256
   pub ordered : in_order d ≡ true
 
 -- a page that begins within the bound of a live segment
 pub record IsPage (core : List ℕ) (seg page : ℕ) : Type 0 where
   pub sdw : SdwFields
   pub live : core_sdw core booted_dbr seg ≡ Ok sdw
-  pub begins : page ≤ sdw.bound / 64
+  pub begins : page ≤ last_page sdw
 
 -- the page table word of a page, but for its marks
 abbrev pub page_word : List ℕ → ℕ → ℕ → ℕ
@@ -65,7 +66,9 @@ pub record IsLaid (core : List ℕ) (frames : ℕ) : Type 0 where
   pub segments :
       (seg : ℕ) (d : SdwFields) → core_sdw core booted_dbr seg ≡ Ok d → IsLaidSegment seg d
   -- a descriptor that is not live names another fault than a page that is in no frame
-  pub dead : (seg : ℕ) (why : Refusal) → core_sdw core booted_dbr seg ≡ Err why → why.number ≢ 17
+  pub dead :
+      (seg : ℕ) (why : Refusal) → core_sdw core booted_dbr seg ≡ Err why
+      → why.number ≢ missing_page
   pub pages :
       (seg page : ℕ) → IsPage core seg page
       → (page_word core seg page ≡ absent_ptw) ⊎

@@ -4,8 +4,8 @@ use Rattle.std.specs.Prelude.{◌∷◌, length, slice_get, slice_index, slice_s
 use Rattle.std.specs.Prelude.{Result, Ok, Err}
 use Rattle.m36_desc.specs.Fields.{SdwFields, DbrFields}
 use Rattle.m36_model.specs.Act.{Part}
-use Rattle.m36_model.specs.Place.{wrapped, directory_at, page_at, in_bounds, sdw_place, core_sdw}
-use Rattle.m36_model.specs.Place.{core_spot, core_marked}
+use Rattle.m36_model.specs.Place.{wrapped, directory_at, page_at, last_page, in_bounds, sdw_place}
+use Rattle.m36_model.specs.Place.{core_sdw, core_spot, core_marked}
 use Rattle.m36_model.specs.Store.{Spot, Core_word, Segment_word, Change, SegTable, Tables, Store}
 use Rattle.m36_model.specs.Store.{written}
 use Rattle.m36_model.specs.declared.outcome.Refusal.{Refusal}
@@ -46,7 +46,7 @@ pages_to core d (suc n) = ptw_entry core (page_at d (suc n)) ∷ pages_to core d
 -- the pages that begin within the bound
 abbrev pub page_entries : List ℕ → Result SdwFields Refusal → List (ℕ × Option ℕ)
 page_entries core (Err e) = []
-page_entries core (Ok d) = if d.unpaged then [] else pages_to core d (d.bound / 64)
+page_entries core (Ok d) = if d.unpaged then [] else pages_to core d (last_page d)
 
 abbrev pub segment_table : List ℕ → DbrFields → ℕ → SegTable
 segment_table core dbr seg =

@@ -32,6 +32,10 @@ overflow_fault = 13
 abbrev pub divide_check : ℕ
 divide_check = 14
 
+-- directed fault 1, which in a booted image is a page that is in no frame
+abbrev pub missing_page : ℕ
+missing_page = 17
+
 abbrev pub access_violation : ℕ
 access_violation = 20
 

@@ -2,6 +2,7 @@
 -- does over the flat memory for which core and the kept words stand.
 use Rattle.std.specs.Prelude.{◌≡◌, ◌≢◌, ℕ, ◌⊎◌, List, take, Some}
 use Rattle.m36_inst.specs.declared.effect.Effect.TheVariants as effect
+use Rattle.m36_model.specs.Faults.{missing_page}
 use Rattle.m36_model.specs.Registers.{RegsFields}
 use Rattle.m36_model.specs.Store.{State}
 use Rattle.m36_model.specs.Core.{core_store}
@@ -36,7 +37,7 @@ pub record DifferInA (x y : RegsFields) : Type 0 where
 -- the outcome is no page fault
 abbrev pub IsPresent : Outcome → Type 0
 IsPresent Next = Unit {0}
-IsPresent (Faulted f) = f.number ≢ 17
+IsPresent (Faulted f) = f.number ≢ missing_page
 IsPresent (Stopped s) = Unit {0}
 
 -- the step is the flat step, and no page fault; it leaves the DBR, or is an LDBR
@@ -53,7 +54,7 @@ pub record IsFlatStep (kept : ℕ → ℕ → ℕ) (s : State (List ℕ)) : Type
 pub record IsPageFault (kept : ℕ → ℕ → ℕ) (s : State (List ℕ)) : Type 0 where
   pub fault : Fault
   pub outcome : (record_of core_store s).outcome ≡ Faulted fault
-  pub number : fault.number ≡ 17
+  pub number : fault.number ≡ missing_page
   pub lacks : Lacks s.store fault.at.seg fault.at.word
   pub state : flat_state kept (state_after core_store s) ≡ flat_state kept s
 

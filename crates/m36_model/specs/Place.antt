@@ -49,6 +49,13 @@ directory_at dbr seg = wrapped (dbr.addr + (2 * seg) / 1024)
 abbrev pub page_at : SdwFields → ℕ → ℕ
 page_at d page = wrapped (d.addr + page)
 
+-- the last page that begins within the bound of a segment, and how many do
+abbrev pub last_page : SdwFields → ℕ
+last_page d = d.bound / 64
+
+abbrev pub page_count : SdwFields → ℕ
+page_count d = last_page d + 1
+
 -- the descriptor segment has a descriptor for the segment, whose number has 15 bits
 abbrev pub in_bounds : DbrFields → ℕ → Bool
 in_bounds dbr seg = nat_lt (2 * seg) (16 * (dbr.bnd + 1)) && nat_lt seg (2 ^ 15)

@@ -2,6 +2,7 @@
 -- the image holds is the same either way.
 use Rattle.std.specs.Prelude.{◌≡◌, ℕ, ◌+◌, ◌*◌, ◌/◌, ◌%◌, ◌<◌, ◌≤◌, ◌==◌, if◌then◌else◌, List}
 use Rattle.std.specs.Prelude.{length, take, slice_index, Option, Some, None, Result, Ok, Err}
+use Rattle.m36_model.specs.Faults.{missing_page}
 use Rattle.m36_model.specs.Store.{Spot, place}
 use Rattle.m36_model.specs.Core.{core_store, core_word}
 use Rattle.m36_model.specs.Flat.{Flat}
@@ -14,15 +15,15 @@ pub record Paged : Type 0 where
   pub core : List ℕ
   pub kept : ℕ → ℕ → ℕ
 
--- the refusal of a page that is in no frame: directed fault 1
+-- the refusal of a page that is in no frame
 abbrev pub absence : Refusal
-absence = record { number = 17; acv = 0 }
+absence = record { number = missing_page; acv = 0 }
 
 -- The content of a word: its frame's word where its page is resident, and else the word
 -- kept for it.
 abbrev pub word_at : Paged → ℕ → ℕ → Result Spot Refusal → ℕ
 word_at m seg w (Ok spot) = core_word m.core spot
-word_at m seg w (Err why) = if why.number == 17 then m.kept seg w else 0
+word_at m seg w (Err why) = if why.number == missing_page then m.kept seg w else 0
 
 unfoldable pub paged_content : Paged → ℕ → ℕ → ℕ
 paged_content m seg w = word_at m seg w (place core_store m.core booted_dbr seg w)

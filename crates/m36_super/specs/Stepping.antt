@@ -1,5 +1,6 @@
 -- A step with its page services, over a processor and its pager.
 use Rattle.std.specs.Prelude.{◌≡◌, ℕ, ◌≤◌, Bool, true, false, List, length, Option, Some, None}
+use Rattle.m36_model.specs.Faults.{missing_page}
 use Rattle.m36_model.specs.Fields.{AtFields}
 use Rattle.m36_model.specs.Store.{State}
 use Rattle.m36_model.specs.Core.{core_store}
@@ -30,7 +31,7 @@ run_of s p known coming loaded =
 pub record IsLacked (outcome : Outcome) (at : AtFields) : Type 0 where
   pub fault : Fault
   pub outcome_is : outcome ≡ Faulted fault
-  pub number : fault.number ≡ 17
+  pub number : fault.number ≡ missing_page
   pub at_is : at ≡ fault.at
 
 abbrev pub LackedSays : Outcome → Option AtFields → Type 0
