@@ -8,8 +8,7 @@ use Rattle.m36_model.specs.Place.{core_sdw}
 use Rattle.m36_model.specs.Core.{core_store, core_tables}
 use Rattle.m36_model.specs.Sight.{tables_of}
 use Rattle.m36_model.specs.Step.{state_after}
-use Rattle.m36_model.specs.Audit.{IsAudited, is_stack_of}
-use Rattle.m36_isol.specs.Gates.{IsGuarded}
+use Rattle.m36_model.specs.Audit.{IsAudited, is_stack_of, IsGuarded}
 use Rattle.m36_model.specs.CoreLaw.{HasTables, IsSegmentSpot, IsMarkedFrom}
 use Rattle.m36_model.specs.Isolation.{HasPointers, Isolated}
 use Rattle.m36_model.specs.Laws.{IsAbove, SightLaw, DependsLaw, ReachLaw, FallLaw, AgreeLaw, MarksLaw}

@@ -9,12 +9,11 @@ use Rattle.m36_model.specs.Store.{Spot, Core_word, Change}
 use Rattle.m36_model.specs.Place.{wrapped, sdw_place, sdw_at, sdw_words, core_sdw}
 use Rattle.m36_model.specs.Core.{core_store}
 use Rattle.m36_model.specs.Sight.{content_in}
-use Rattle.m36_model.specs.Audit.{IsSegmentWord}
+use Rattle.m36_model.specs.Audit.{IsSegmentWord, IsGuarded}
 use Rattle.m36_model.specs.StoreLaw.{same_spot, overlay, IsWord, Lawful}
 use Rattle.m36_model.specs.CoreLaw.{IsMarkedFrom}
 use Rattle.m36_model.specs.JointAudit.{AreSame, IsJointlyAudited}
 use Rattle.m36_model.specs.declared.outcome.Refusal.{Refusal}
-use Rattle.m36_isol.specs.Gates.{IsGuarded}
 use Rattle.m36_isol.proofs.Alike.{Sees, Reaches, IsReached, SeeEqual}
 use Rattle.m36_isol.proofs.Spots.{each_map}
 use Rattle.m36_isol.proofs.Contents.{overlay_none, content_equal, words_equal}

@@ -4,7 +4,7 @@ use Rattle.std.specs.Prelude.{ℕ, ◌+◌, ◌*◌, List, take, Ok}
 use Rattle.std.proofs.lemmas.Bool.{true_from_ne_false}
 use Rattle.m36_desc.specs.Fields.{SdwFields}
 use Rattle.m36_desc.specs.Access.{in_order}
-use Rattle.m36_model.specs.Place.{core_sdw}
+use Rattle.m36_model.specs.Place.{core_sdw, ring_stack}
 use Rattle.m36_model.specs.Audit.{IsCallable, is_stack_of, IsAudited}
 use Rattle.m36_model.specs.Flat.{flat_sdw, IsFlatAudited}
 use Rattle.m36_model.specs.BootedCore.{descriptor_words, booted_dbr, IsLaid}
@@ -51,8 +51,10 @@ module _ (frames : ℕ) (m : Paged) (laid : IsLaid m.core frames) (audited : IsA
       let gates = core_gates m.core booted_dbr audited in
       record {
         ordered = λ seg d live. true_from_ne_false (in_order d) (λ e. audited.first seg (record { sdw = d; live = flat_is seg ∙ live; out = e }));
-        gates = λ seg d live executable outer. gates.gates seg d (flat_is seg ∙ live) executable outer;
-        stacks = λ seg d live executable outer. ap (is_stack_of d.r2) (sym (flat_is (8 * booted_dbr.stack + d.r2))) ∙ gates.stacks seg d (flat_is seg ∙ live) executable outer;
+        guarded = record {
+          gates = λ seg d live executable outer. gates.gates seg d (flat_is seg ∙ live) executable outer;
+          stacks = λ seg d live executable outer. ap (is_stack_of d.r2) (sym (flat_is (ring_stack booted_dbr d.r2))) ∙ gates.stacks seg d (flat_is seg ∙ live) executable outer;
+        };
       }
 
 pub flat_audit : FlatAuditLaw

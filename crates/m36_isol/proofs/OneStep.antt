@@ -6,7 +6,7 @@ use Rattle.m36_model.specs.Store.{Spot, Change, Store, Ran, run, changes}
 use Rattle.m36_model.specs.Sight.{content_in}
 use Rattle.m36_model.specs.Step.{Ending, program, step_record}
 use Rattle.m36_model.specs.StoreLaw.{Each, same_spot, overlay, IsWord, IsSpot, Lawful}
-use Rattle.m36_isol.specs.Gates.{IsGuarded}
+use Rattle.m36_model.specs.Audit.{IsGuarded}
 use Rattle.m36_isol.proofs.Program.{AreRan, run_alike}
 use Rattle.m36_isol.proofs.Alike.{Sees, Reaches, IsReached, May, Known, Alike, SeeEqual}
 use Rattle.m36_isol.proofs.Spots.{each_change, each_map}

@@ -18,8 +18,7 @@ use Rattle.m36_model.specs.Effect.{exec, is_absa}
 use Rattle.m36_model.specs.Transfers.{is_taken}
 use Rattle.m36_model.specs.CallReturn.{stack_segment, stack_pointer}
 use Rattle.m36_model.specs.Step.{Performed, Operation, performed, tallied, no_operand, reading_word, reading_words, writing, changing, addressing, transferring, calling, by_kind, by_direct, operate_on, operate}
-use Rattle.m36_isol.specs.Gates.{IsGuarded}
-use Rattle.m36_model.specs.Audit.{is_stack_of}
+use Rattle.m36_model.specs.Audit.{is_stack_of, IsGuarded}
 use Rattle.m36_model.specs.Isolation.{HasPointers}
 use Rattle.m36_model.specs.Laws.{IsCalled}
 use Rattle.m36_model.specs.declared.outcome.Halt.{Halt}

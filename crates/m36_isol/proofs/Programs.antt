@@ -17,8 +17,7 @@ use Rattle.m36_model.specs.Modification.{here, fault_at}
 use Rattle.m36_model.specs.FirstPoint.{first_point, first_point_by}
 use Rattle.m36_model.specs.Chain.{ChainEnd, chain}
 use Rattle.m36_model.specs.Step.{Performed, Ending, outcome_by, halted, completed, operate, operated, indirect_words, addressed, no_address, started, admitted, decode, decoded, program}
-use Rattle.m36_isol.specs.Gates.{IsGuarded}
-use Rattle.m36_model.specs.Audit.{is_stack_of}
+use Rattle.m36_model.specs.Audit.{is_stack_of, IsGuarded}
 use Rattle.m36_model.specs.Isolation.{HasPointers}
 use Rattle.m36_model.specs.declared.outcome.Halt.{Halt}
 use Rattle.m36_model.specs.declared.outcome.Halt.TheVariants as halt

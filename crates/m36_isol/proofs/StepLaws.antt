@@ -6,10 +6,9 @@ use Rattle.m36_model.specs.Registers.{RegsFields}
 use Rattle.m36_model.specs.Store.{Spot, Store, Tables, State, run}
 use Rattle.m36_model.specs.Sight.{InSight, InReach, Unreached, content, content_in, tables_of}
 use Rattle.m36_model.specs.Agree.{Agree}
-use Rattle.m36_model.specs.Audit.{is_stack_of}
+use Rattle.m36_model.specs.Audit.{is_stack_of, IsGuarded}
 use Rattle.m36_model.specs.Step.{program, record_of, state_after}
 use Rattle.m36_model.specs.StoreLaw.{Each, Lawful}
-use Rattle.m36_isol.specs.Gates.{IsGuarded}
 use Rattle.m36_model.specs.Isolation.{IsGateCall, HasPointers}
 use Rattle.m36_model.specs.Laws.{IsAbove, MayRefer, IsWithin, SightLaw, DependsLaw, ReachLaw, FallLaw, MarksAlterNothing, MarksLaw, IsAlike, AgreeLaw, ExecutesLdbr}
 use Rattle.m36_model.specs.declared.outcome.Refusal.{Refusal}

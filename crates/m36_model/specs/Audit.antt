@@ -1,12 +1,12 @@
 -- The six conditions of the audit, each by the places that break it, and what the audit finds.
-use Rattle.std.specs.Prelude.{◌≡◌, ◌≢◌, ℕ, ◌+◌, ◌*◌, ◌<◌, ◌≤◌, ◌⊎◌, Bool, true, false, ◌&&◌}
+use Rattle.std.specs.Prelude.{◌≡◌, ◌≢◌, ℕ, ◌+◌, ◌<◌, ◌≤◌, ◌⊎◌, Bool, true, false, ◌&&◌}
 use Rattle.std.specs.Prelude.{◌==◌, List, [], ◌∷◌, ◌++◌, length, Option, Some, None, Result, Ok}
 use Rattle.std.specs.Prelude.{Err}
 use Rattle.m36_desc.specs.Fields.{SdwFields, DbrFields}
 use Rattle.m36_desc.specs.Access.{in_order}
 use Rattle.m36_model.specs.Store.{Core_word, place}
 use Rattle.m36_model.specs.Place.{wrapped, in_bounds, sdw_place, directory_at, page_at, last_page}
-use Rattle.m36_model.specs.Place.{core_sdw}
+use Rattle.m36_model.specs.Place.{core_sdw, ring_stack}
 use Rattle.m36_model.specs.Core.{core_store}
 use Rattle.m36_model.specs.declared.outcome.Refusal.{Refusal}
 
@@ -109,7 +109,17 @@ is_stack_of ring (Err e) = false
 pub record HasNoStack (core : List ℕ) (dbr : DbrFields) (seg : ℕ) : Type 0 where
   pub sdw : SdwFields
   pub callable : IsCallable core dbr seg sdw
-  pub missing : is_stack_of sdw.r2 (core_sdw core dbr (8 * dbr.stack + sdw.r2)) ≡ false
+  pub missing : is_stack_of sdw.r2 (core_sdw core dbr (ring_stack dbr sdw.r2)) ≡ false
+
+-- What the fifth and the sixth condition say of descriptors, in plain terms: a segment that rings
+-- outside its read bracket may call is a gate, and the ring that a call enters has a stack.
+pub record IsGuarded (dbr : DbrFields) (sdws : ℕ → Result SdwFields Refusal) : Type 0 where
+  pub gates :
+      (seg : ℕ) (d : SdwFields) → sdws seg ≡ Ok d → d.executable ≡ true → d.r2 < d.r3
+      → d.no_gate ≡ false
+  pub stacks :
+      (seg : ℕ) (d : SdwFields) → sdws seg ≡ Ok d → d.executable ≡ true → d.r2 < d.r3
+      → is_stack_of d.r2 (sdws (ring_stack dbr d.r2)) ≡ true
 
 -- all six conditions hold
 pub record IsAudited (core : List ℕ) (dbr : DbrFields) : Type 0 where

@@ -1,20 +1,21 @@
 -- Calls and returns between rings: CALL6 and RTCD.
 -- Multics Processor Manual AL39, "Call (using PR6 and PR7)", "Return control double"; Schroeder and
 -- Saltzer (1972).
-use Rattle.std.specs.Prelude.{ℕ, ◌+◌, ◌*◌, max, false, ◌==◌, if◌then◌else◌, List, [], map, Result}
+use Rattle.std.specs.Prelude.{ℕ, max, false, ◌==◌, if◌then◌else◌, List, [], map, Result}
 use Rattle.std.specs.Prelude.{Ok, slice_index}
 use Rattle.m36_desc.specs.Fields.{PtrFields, ItsFields}
 use Rattle.m36_desc.specs.Descriptors.{its_of}
 use Rattle.m36_model.specs.Fields.{FinalFields}
 use Rattle.m36_model.specs.Registers.{RegsFields}
 use Rattle.m36_model.specs.Modification.{ptr}
+use Rattle.m36_model.specs.Place.{ring_stack}
 use Rattle.m36_model.specs.Pointers.{with_pr}
 use Rattle.m36_model.specs.Results.{OperandFields, EffectFields}
 
 -- PR7 after CALL6 is the base of a stack in the new ring: where the ring changes, the stack that
 -- the DBR gives to it, and where it does not, the segment of PR6.
 abbrev pub stack_segment : RegsFields → ℕ → ℕ
-stack_segment g ring = if ring == g.ppr.prr then (ptr g 6).seg else 8 * g.dbr.stack + ring
+stack_segment g ring = if ring == g.ppr.prr then (ptr g 6).seg else ring_stack g.dbr ring
 
 abbrev pub stack_pointer : RegsFields → ℕ → PtrFields
 stack_pointer g ring = record { seg = stack_segment g ring; ring = ring; word = 0; bit = 0 }

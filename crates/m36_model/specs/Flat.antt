@@ -1,6 +1,6 @@
 -- The store Flat: the descriptors of a booted image and the content of its segments, with no page
 -- tables and no marks. A word lies at itself.
-use Rattle.std.specs.Prelude.{◌≡◌, ℕ, ◌+◌, ◌*◌, ◌<◌, Bool, true, false, ◌&&◌, ◌==◌, if◌then◌else◌}
+use Rattle.std.specs.Prelude.{◌≡◌, ℕ, ◌+◌, ◌*◌, Bool, true, false, ◌&&◌, ◌==◌, if◌then◌else◌}
 use Rattle.std.specs.Prelude.{List, [], ◌∷◌, slice_get, Result, Ok, Err}
 use Rattle.m36_desc.specs.Fields.{SdwFields, DbrFields}
 use Rattle.m36_desc.specs.Access.{in_order}
@@ -9,7 +9,7 @@ use Rattle.m36_model.specs.Act.{RequestKind, Part}
 use Rattle.m36_model.specs.Store.{Spot, Core_word, Segment_word, Change, SegTable, Tables, Store}
 use Rattle.m36_model.specs.Store.{written, violation}
 use Rattle.m36_model.specs.Place.{in_bounds, sdw_words}
-use Rattle.m36_model.specs.Audit.{is_stack_of}
+use Rattle.m36_model.specs.Audit.{IsGuarded}
 use Rattle.m36_model.specs.declared.outcome.Refusal.{Refusal}
 
 -- the words of the descriptor segment, and the content of each word of each segment
@@ -80,12 +80,7 @@ flat_store =
 -- The audit conditions that speak of descriptors alone: the first, the fifth and the sixth.
 pub record IsFlatAudited (s : Flat) (dbr : DbrFields) : Type 0 where
   pub ordered : (seg : ℕ) (d : SdwFields) → flat_sdw s dbr seg ≡ Ok d → in_order d ≡ true
-  pub gates :
-      (seg : ℕ) (d : SdwFields) → flat_sdw s dbr seg ≡ Ok d → d.executable ≡ true → d.r2 < d.r3
-      → d.no_gate ≡ false
-  pub stacks :
-      (seg : ℕ) (d : SdwFields) → flat_sdw s dbr seg ≡ Ok d → d.executable ≡ true → d.r2 < d.r3
-      → is_stack_of d.r2 (flat_sdw s dbr (8 * dbr.stack + d.r2)) ≡ true
+  pub guarded : IsGuarded dbr (flat_sdw s dbr)
 
 -- the flat state has these descriptors
 abbrev pub HasDescriptors : Flat → DbrFields → Flat → Type 0

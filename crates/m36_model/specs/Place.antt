@@ -60,6 +60,10 @@ page_count d = last_page d + 1
 abbrev pub in_bounds : DbrFields → ℕ → Bool
 in_bounds dbr seg = nat_lt (2 * seg) (16 * (dbr.bnd + 1)) && nat_lt seg (2 ^ 15)
 
+-- the segment that the DBR gives to a ring as its stack
+abbrev pub ring_stack : DbrFields → ℕ → ℕ
+ring_stack dbr ring = 8 * dbr.stack + ring
+
 -- the address of the descriptor's even word
 abbrev pub sdw_place_by : Bool → Bool → DbrFields → ℕ → Option PtwFields → Result ℕ Refusal
 sdw_place_by false unpaged dbr seg p = Err (violation out_of_segment_bounds)
