@@ -5,7 +5,8 @@ use Rattle.m36_desc.specs.Fields.{ItsFields}
 use Rattle.m36_desc.specs.Descriptors.{its_of}
 use Rattle.m36_model.specs.BootedCore.{booted_dbr}
 use Rattle.m36_model.specs.Registers.{RegsFields}
-use Rattle.m36_model.specs.Worked.{no_indicators, pointer}
+use Rattle.m36_model.specs.Pointers.{pointer}
+use Rattle.m36_model.specs.Results.{no_indicators}
 use Rattle.m36_dir.specs.Fields.{SegmentFields}
 use Rattle.m36_dir.specs.StartFields.{StartFields}
 use Rattle.m36_dir.specs.Catalog.{CatalogFields}

@@ -1,11 +1,12 @@
 -- The state of a machine that a bare image writes out.
-use Rattle.std.specs.Prelude.{ℕ, false, ◌+◌, ◌*◌, List, [], ◌∷◌, replicate, slice_set, Result, Ok}
+use Rattle.std.specs.Prelude.{ℕ, ◌+◌, ◌*◌, List, [], ◌∷◌, replicate, slice_set, Result, Ok}
 use Rattle.std.specs.Prelude.{Err}
 use Rattle.m36_word.specs.declared.pair.Pair.{Pair}
 use Rattle.m36_desc.specs.Descriptors.{dbr_of}
 use Rattle.m36_model.specs.Fields.{PprFields}
 use Rattle.m36_model.specs.Modification.{no_ptr}
 use Rattle.m36_model.specs.Registers.{RegsFields}
+use Rattle.m36_model.specs.Results.{no_indicators}
 use Rattle.m36_model.specs.Store.{State}
 use Rattle.m36_image.specs.declared.refusal.Refusal.{Refusal}
 use Rattle.m36_image.specs.PlacedWords.{PlacedWords}
@@ -35,15 +36,7 @@ regs_of dbr start =
       q = 0;
       x = replicate 8 0;
       pr = replicate 8 no_ptr;
-      ind =
-          record {
-            zero = false;
-            negative = false;
-            carry = false;
-            overflow = false;
-            mask = false;
-            tally = false;
-          };
+      ind = no_indicators;
       ppr = start;
       dbr = dbr_of dbr.even dbr.odd;
     }

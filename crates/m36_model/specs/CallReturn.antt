@@ -9,7 +9,7 @@ use Rattle.m36_model.specs.Fields.{FinalFields}
 use Rattle.m36_model.specs.Registers.{RegsFields}
 use Rattle.m36_model.specs.Modification.{ptr}
 use Rattle.m36_model.specs.Place.{ring_stack}
-use Rattle.m36_model.specs.Pointers.{with_pr}
+use Rattle.m36_model.specs.Pointers.{with_pr, pointer}
 use Rattle.m36_model.specs.Results.{OperandFields, EffectFields}
 
 -- PR7 after CALL6 is the base of a stack in the new ring: where the ring changes, the stack that
@@ -18,7 +18,7 @@ abbrev pub stack_segment : RegsFields → ℕ → ℕ
 stack_segment g ring = if ring == g.ppr.prr then (ptr g 6).seg else ring_stack g.dbr ring
 
 abbrev pub stack_pointer : RegsFields → ℕ → PtrFields
-stack_pointer g ring = record { seg = stack_segment g ring; ring = ring; word = 0; bit = 0 }
+stack_pointer g ring = pointer (stack_segment g ring) ring 0
 
 -- CALL6: control goes to the final address in the new ring, which is the operand's; access has
 -- found it as the lesser of TRR and R2 of the target.

@@ -16,12 +16,16 @@ use Rattle.m36_model.specs.Results.{completes_with}
 unfoldable pub with_pr : ℕ → PtrFields → RegsFields → RegsFields
 with_pr n p g = record g { pr = slice_set g.pr n p }
 
+-- a pointer to a word of a segment in a ring
+abbrev pub pointer : ℕ → ℕ → ℕ → PtrFields
+pointer seg ring word = record { seg = seg; ring = ring; word = word; bit = 0 }
+
 -- the final address as a pointer, and the base of its segment
 abbrev pub pointer_to : FinalFields → PtrFields
 pointer_to f = record { seg = f.at.seg; ring = f.at.ring; word = f.at.word; bit = f.bit }
 
 abbrev pub base_of : FinalFields → PtrFields
-base_of f = record { seg = f.at.seg; ring = f.at.ring; word = 0; bit = 0 }
+base_of f = pointer f.at.seg f.at.ring 0
 
 -- EPP: the pointer register becomes the final address
 unfoldable pub load_pointer : ℕ → RegsFields → FinalFields → Result EffectFields ℕ

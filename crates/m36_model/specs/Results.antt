@@ -56,6 +56,18 @@ lower o = field (word o) 18 18
 abbrev pub pair : OperandFields → ℕ
 pair o = slice_index o.got 0 * 2 ^ 36 + slice_index o.got 1
 
+-- no indicator is on
+abbrev pub no_indicators : Ind
+no_indicators =
+    record {
+      zero = false;
+      negative = false;
+      carry = false;
+      overflow = false;
+      mask = false;
+      tally = false;
+    }
+
 -- The registers that arithmetic works on: the accumulator, the quotient register, both as one
 -- number of 72 bits, and an index register.
 pub data Working : Type 0 where

@@ -2,7 +2,7 @@
 -- is computed from the definitions.
 use Rattle.std.specs.Prelude.{ℕ, ◌+◌, ◌*◌, false, true, List, [], ◌∷◌, replicate, slice_set}
 use Rattle.std.specs.Prelude.{slice_index, Option, None}
-use Rattle.m36_desc.specs.Fields.{SdwFields, PtrFields}
+use Rattle.m36_desc.specs.Fields.{SdwFields}
 use Rattle.m36_desc.specs.Descriptors.{sdw_even, sdw_odd}
 use Rattle.m36_model.specs.Faults.{access_violation}
 use Rattle.m36_model.specs.Fields.{AtFields, FinalFields}
@@ -10,8 +10,8 @@ use Rattle.m36_model.specs.Registers.{RegsFields}
 use Rattle.m36_model.specs.Store.{State}
 use Rattle.m36_model.specs.Core.{core_store}
 use Rattle.m36_model.specs.Modification.{no_ptr}
+use Rattle.m36_model.specs.Results.{no_indicators}
 use Rattle.m36_model.specs.Step.{record_of, state_after}
-use Rattle.m36_model.specs.declared.registers.Ind.{Ind}
 use Rattle.m36_model.specs.declared.place.Kind.{Kind}
 use Rattle.m36_model.specs.declared.place.Reference.{Reference}
 use Rattle.m36_model.specs.declared.outcome.Outcome.{Outcome}
@@ -82,17 +82,6 @@ procedure d = readable (executable d)
 
 -- registers that hold nothing, at an instruction; the descriptor segment lies in one piece from
 -- core word 0 on
-abbrev pub no_indicators : Ind
-no_indicators =
-    record {
-      zero = false;
-      negative = false;
-      carry = false;
-      overflow = false;
-      mask = false;
-      tally = false;
-    }
-
 abbrev pub at_instruction : ℕ → ℕ → ℕ → RegsFields
 at_instruction seg ring word =
     record {
@@ -104,9 +93,6 @@ at_instruction seg ring word =
       ppr = record { psr = seg; prr = ring; ic = word };
       dbr = record { addr = 0; bnd = 63; unpaged = true; stack = 1 };
     }
-
-abbrev pub pointer : ℕ → ℕ → ℕ → PtrFields
-pointer seg ring word = record { seg = seg; ring = ring; word = word; bit = 0 }
 
 abbrev pub at_word : ℕ → ℕ → ℕ → AtFields
 at_word seg word ring = record { seg = seg; word = word; ring = ring }

@@ -8,10 +8,11 @@ use Rattle.m36_model.specs.Faults.{lockup_fault}
 use Rattle.m36_model.specs.Store.{State}
 use Rattle.m36_model.specs.Core.{core_store}
 use Rattle.m36_model.specs.Step.{record_of, state_after}
+use Rattle.m36_model.specs.Pointers.{pointer}
 use Rattle.m36_model.specs.Tally.{tally}
 use Rattle.m36_model.specs.Worked.{words_from, segment, rings, readable, writable, privileged}
 use Rattle.m36_model.specs.Worked.{gate_with_entries, last_block, procedure}
-use Rattle.m36_model.specs.Worked.{core_of, at_instruction, pointer, at_word, ends_in, referred}
+use Rattle.m36_model.specs.Worked.{core_of, at_instruction, at_word, ends_in, referred}
 use Rattle.m36_model.specs.Worked.{faults, violates, outcome_of_step, address_of_step}
 use Rattle.m36_model.specs.Worked.{references_of_step, registers_after, word_after}
 use Rattle.m36_model.specs.declared.place.Kind.TheVariants.{Fetch, Indirect, Read, Write}

@@ -8,9 +8,10 @@ use Rattle.m36_model.specs.Store.{State}
 use Rattle.m36_model.specs.Core.{core_store}
 use Rattle.m36_model.specs.Step.{state_after}
 use Rattle.m36_model.specs.Modification.{ptr}
+use Rattle.m36_model.specs.Pointers.{pointer}
 use Rattle.m36_model.specs.Worked.{words_from, segment, rings, readable, executable, writable}
 use Rattle.m36_model.specs.Worked.{privileged, gate_with_entries, procedure}
-use Rattle.m36_model.specs.Worked.{core_of, at_instruction, pointer, at_word, faults, violates}
+use Rattle.m36_model.specs.Worked.{core_of, at_instruction, at_word, faults, violates}
 use Rattle.m36_model.specs.Worked.{outcome_of_step, registers_after, word_after}
 use Rattle.m36_model.specs.declared.outcome.Outcome.TheVariants.{Next}
 

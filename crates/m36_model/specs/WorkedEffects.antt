@@ -6,7 +6,7 @@ use Rattle.m36_model.specs.Faults.{divide_check, overflow_fault}
 use Rattle.m36_model.specs.Registers.{RegsFields}
 use Rattle.m36_model.specs.Store.{State}
 use Rattle.m36_model.specs.Arithmetic.{comparison}
-use Rattle.m36_model.specs.Results.{A}
+use Rattle.m36_model.specs.Results.{A, no_indicators}
 use Rattle.m36_model.specs.Booleans.{and_of, or_of, xor_of, and_not_of}
 use Rattle.m36_model.specs.Shifts.{left_shift, left_shift_carry, copying_right_shift}
 use Rattle.m36_model.specs.Shifts.{plain_right_shift, rotation}
@@ -16,7 +16,7 @@ use Rattle.m36_model.specs.Sums.{sign_extended}
 use Rattle.m36_model.specs.Products.{multiply, divide}
 use Rattle.m36_model.specs.ShiftEffects.{shift_left, shift_right, rotate_left}
 use Rattle.m36_model.specs.Worked.{words_from, segment, rings, procedure}
-use Rattle.m36_model.specs.Worked.{core_of, at_instruction, no_indicators, at_word, faults}
+use Rattle.m36_model.specs.Worked.{core_of, at_instruction, at_word, faults}
 use Rattle.m36_model.specs.Worked.{outcome_of_step, registers_after}
 use Rattle.m36_model.specs.declared.outcome.Outcome.TheVariants.{Next}
 
