@@ -12,7 +12,9 @@ ending_text Next = codes "limit"
 ending_text (Faulted fault) = fault_text fault
 ending_text (Stopped stop) = stop_text stop
 
--- the line, without its line feed
+-- the line by how the run ended, without its line feed
+abbrev pub end_line_with : List ℕ → ℕ → List ℕ
+end_line_with how steps = join_with_byte 32 (codes "end" ∷ how ∷ decimal_text steps ∷ [])
+
 unfoldable pub end_line_of : Outcome → ℕ → List ℕ
-end_line_of outcome steps =
-    join_with_byte 32 (codes "end" ∷ ending_text outcome ∷ decimal_text steps ∷ [])
+end_line_of outcome steps = end_line_with (ending_text outcome) steps

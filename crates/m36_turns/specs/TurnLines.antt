@@ -4,7 +4,7 @@ use Rattle.std.specs.Prelude.{ℕ, ◌+◌, Bool, ◌||◌, nat_le, nat_eq, if�
 use Rattle.std.specs.Prelude.{◌++◌, codes, Result, Ok, Err}
 use Rattle.std.specs.List.{join_with_byte, flat_map}
 use Rattle.m36_word.specs.declared.pair.Pair.{Pair}
-use Rattle.m36_text.specs.Digits.{octal_text, decimal_text}
+use Rattle.m36_text.specs.Digits.{octal_text}
 use Rattle.m36_text.specs.Lines.{as_line}
 use Rattle.m36_model.specs.declared.endings.End.{End}
 use Rattle.m36_model.specs.declared.endings.End.TheVariants as end
@@ -14,6 +14,7 @@ use Rattle.m36_step.specs.LinkNoteFields.{LinkNoteFields}
 use Rattle.m36_step.specs.declared.turns.Turn.{Turn}
 use Rattle.m36_step.specs.declared.turns.Turn.TheVariants.{Stepped, Linked, Console, Ended, Full}
 use Rattle.m36_step.specs.declared.turns.Turn.TheVariants.{NoMemory}
+use Rattle.m36_trace.specs.EndLine.{end_line_with}
 use Rattle.m36_trace.specs.TraceLine.{line_of, word_of_segment, fault_text, stop_text}
 
 -- ---- a link service: the ring, the word of the link, the link, and the pair or the code
@@ -61,7 +62,7 @@ end_text (end.Link code) = codes "link " ++ link_code_text code
 end_text end.Console = codes "console"
 
 unfoldable pub run_end_line_of : End → ℕ → List ℕ
-run_end_line_of how steps = join_with_byte 32 (codes "end" ∷ end_text how ∷ decimal_text steps ∷ [])
+run_end_line_of how steps = end_line_with (end_text how) steps
 
 -- ---- what is written of a turn before which so many steps were taken
 
