@@ -6,7 +6,8 @@ use Rattle.std.proofs.lemmas.List.{length-replicate, get_or_past}
 use Rattle.std.proofs.lemmas.List.Elements.{All-get_or}
 use Rattle.std.proofs.lemmas.Option.{slice_get_within}
 use Rattle.m36_desc.specs.Fields.{SdwFields}
-use Rattle.m36_desc.specs.Descriptors.{its_tag}
+use Rattle.m36_desc.specs.Descriptors.{ptr_even, ptr_odd}
+use Rattle.m36_model.specs.Pointers.{pointer}
 use Rattle.m36_model.specs.BootedCore.{table_at}
 use Rattle.m36_dir.specs.Fields.{SegmentFields}
 use Rattle.m36_dir.specs.Catalog.{CatalogFields}
@@ -105,7 +106,7 @@ unfolding stack_words
 stack_size ring =
     let nought : ℕ = 0 in
     let zeros = length-replicate 22 nought in
-    let all = length-append (replicate 22 nought) ((linkage_segment ring * 2 ^ 18 + ring * 2 ^ 15 + its_tag) ∷ 0 ∷ []) in
+    let all = length-append (replicate 22 nought) (ptr_even (pointer (linkage_segment ring) ring 0) ∷ ptr_odd (pointer (linkage_segment ring) ring 0) ∷ []) in
     omega (arith, zeros, all)
 
 lot_size : (l : LayFields) → l.seg < 1024 → length (lot_of l) ≡ 1024

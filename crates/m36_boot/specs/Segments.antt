@@ -5,7 +5,8 @@ use Rattle.std.specs.Prelude.{nat_lt, nat_le}
 use Rattle.std.specs.Prelude.{if◌then◌else◌, List, [], ◌∷◌, ◌++◌, length, replicate, slice_get}
 use Rattle.std.specs.Prelude.{slice_index_or, Option, Some, None}
 use Rattle.m36_desc.specs.Fields.{SdwFields}
-use Rattle.m36_desc.specs.Descriptors.{its_tag}
+use Rattle.m36_desc.specs.Descriptors.{ptr_even, ptr_odd}
+use Rattle.m36_model.specs.Pointers.{pointer}
 use Rattle.m36_model.specs.BootedCore.{table_at}
 use Rattle.m36_dir.specs.declared.segment.SegKind.{SegKind}
 use Rattle.m36_dir.specs.declared.segment.SegKind.TheVariants as kind
@@ -14,11 +15,19 @@ use Rattle.m36_dir.specs.Catalog.{CatalogFields}
 use Rattle.obj36_parts.specs.PartsFields.{PartsFields}
 use Rattle.obj36.specs.ObjectOf.{value_of}
 use Rattle.m36_link.specs.Fields.{LayFields}
-use Rattle.m36_link.specs.Known.{first_segment, linkage_segment, lot_words, lot_word}
+use Rattle.m36_link.specs.Known.{first_segment, first_linkage, linkage_segment, lot_words}
+use Rattle.m36_link.specs.Known.{lot_word}
 
 -- Stacks are segments 8 to 15, linkage segments 16 to 23, and those of the catalog 64 and on.
+abbrev pub first_stack : ℕ
+first_stack = 8
+
 abbrev pub stack_segment : ℕ → ℕ
-stack_segment ring = 8 + ring
+stack_segment ring = first_stack + ring
+
+-- the number behind those of the rings
+abbrev pub behind_rings : ℕ
+behind_rings = 24
 
 abbrev pub stack_pages : ℕ
 stack_pages = 16
@@ -107,9 +116,9 @@ catalog_segment seg (Some s) words = Some (limited_segment seg s words (limit_of
 -- the descriptor of a segment; None where the image has no such segment
 unfoldable pub booted_sdw : CatalogFields → List (List ℕ) → ℕ → Option SdwFields
 booted_sdw catalog files seg =
-    if nat_lt seg 8 then None
-    else if nat_lt seg 16 then Some (ring_segment seg (seg - 8) stack_pages)
-    else if nat_lt seg 24 then Some (ring_segment seg (seg - 16) linkage_pages)
+    if nat_lt seg first_stack then None
+    else if nat_lt seg first_linkage then Some (ring_segment seg (seg - first_stack) stack_pages)
+    else if nat_lt seg behind_rings then Some (ring_segment seg (seg - first_linkage) linkage_pages)
     else if nat_lt seg first_segment then None
     else catalog_segment seg (slice_get catalog.segments (seg - first_segment))
     (file_at files (seg - first_segment))
@@ -119,7 +128,8 @@ booted_sdw catalog files seg =
 -- Words 22 and 23 of a stack are an ITS pair to word 0 of the linkage segment of its ring.
 unfoldable pub stack_words : ℕ → List ℕ
 stack_words ring =
-    replicate 22 0 ++ (linkage_segment ring * 2 ^ 18 + ring * 2 ^ 15 + its_tag) ∷ 0 ∷ []
+    replicate 22 0 ++ ptr_even (pointer (linkage_segment ring) ring 0)
+    ∷ ptr_odd (pointer (linkage_segment ring) ring 0) ∷ []
 
 -- the LOT in which one section is laid
 abbrev pub lot_of : LayFields → List ℕ
@@ -136,6 +146,6 @@ linkage_words lay ring = linkage_by ring lay
 
 unfoldable pub booted_words : List (List ℕ) → Option LayFields → ℕ → List ℕ
 booted_words files lay seg =
-    if nat_lt seg 16 then stack_words (seg - 8)
-    else if nat_lt seg 24 then linkage_words lay (seg - 16)
+    if nat_lt seg first_linkage then stack_words (seg - first_stack)
+    else if nat_lt seg behind_rings then linkage_words lay (seg - first_linkage)
     else file_at files (seg - first_segment)

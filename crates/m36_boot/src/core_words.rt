@@ -2,6 +2,7 @@
 
 ghost use Rattle.std.specs.Prelude.{◌≡◌, ◌+◌, ◌*◌, ◌≤◌, ◌<◌, ◌^◌, length, All, IfSome, slice_set};
 ghost use Rattle.m36_desc.specs.Descriptors.{sdw_of, sdw_even, sdw_odd};
+ghost use Rattle.m36_link.specs.Known.{first_segment};
 ghost use Rattle.m36_boot.specs.Refusals.{AreLimits};
 ghost use Rattle.m36_boot.specs.Image.{descriptor_word, AreDescribed};
 
@@ -43,7 +44,7 @@ pub(crate) fn put_descriptors(core: &mut Core, catalog: &Catalog, files: &[File]
     requires short { All (λ w. length w ≤ 2 ^ 18) files.now }
     requires limits { AreLimits catalog.now files.now (length catalog.now.segments) limits.now }
     requires core { 2048 ≤ length core.old }
-    ensures { AreDescribed catalog.now files.now (64 + length catalog.now.segments) core.old core.new }
+    ensures { AreDescribed catalog.now files.now (first_segment + length catalog.now.segments) core.old core.new }
 {
     let count = catalog.count();
     for seg in 0..FIRST_SEGMENT + count as u16 {

@@ -2,8 +2,9 @@
 
 ghost use Rattle.std.specs.Prelude.{◌≡◌, ◌+◌, ◌*◌, ◌/◌, ◌<◌, ◌≤◌, ◌^◌, ◌⊎◌, length, All, IfOk, IfSome, true};
 ghost use Rattle.m36_desc.specs.Access.{in_order};
-ghost use Rattle.m36_model.specs.BootedCore.{table_at};
-ghost use Rattle.m36_boot.specs.Segments.{paged_segment, ring_segment, limited_segment, booted_sdw, stack_words, lot_of, linkage_words, booted_words};
+ghost use Rattle.m36_model.specs.BootedCore.{table_at, booted_segments};
+ghost use Rattle.m36_link.specs.Known.{first_segment};
+ghost use Rattle.m36_boot.specs.Segments.{first_stack, behind_rings, paged_segment, ring_segment, limited_segment, booted_sdw, stack_words, lot_of, linkage_words, booted_words};
 ghost use Rattle.m36_boot.specs.Refusals.{AreLimits};
 
 use crate::objects::file;
@@ -22,7 +23,7 @@ const BEHIND_RINGS: u16 = 24;
 
 // The place of the page table of a segment.
 pub(crate) fn table_at(seg: u16) -> u32
-    requires { seg < 576 }
+    requires { seg < booted_segments }
     ensures { result ≡ table_at seg }
 {
     2048 + 256 * seg as u32
@@ -32,7 +33,7 @@ pub(crate) fn table_at(seg: u16) -> u32
 
 // A segment with a page table, up to a block.
 fn paged_segment(seg: u16, last: u16) -> Sdw
-    requires seg { seg < 576 }
+    requires seg { seg < booted_segments }
     requires last { last < 2 ^ 14 }
     ensures { result ≡ paged_segment seg last }
 {
@@ -58,7 +59,7 @@ fn paged_segment(seg: u16, last: u16) -> Sdw
 // A stack or a linkage segment.
 #[tactic(auto, using(crate::proofs::Orders::in_order_by))]
 fn ring_segment(seg: u16, ring: u8, pages: u16) -> Sdw
-    requires seg { seg < 576 }
+    requires seg { seg < booted_segments }
     requires ring { ring < 8 }
     requires some { 1 ≤ pages }
     requires most { pages ≤ 256 }
@@ -77,7 +78,7 @@ fn ring_segment(seg: u16, ring: u8, pages: u16) -> Sdw
 // A segment of the catalog.
 #[tactic(auto, using(crate::proofs::Orders::in_order_by))]
 fn limited_segment(seg: u16, segment: &Segment, words: &[Word], limit: u16) -> Sdw
-    requires seg { seg < 576 }
+    requires seg { seg < booted_segments }
     requires words { length words.now ≤ 2 ^ 18 }
     requires limit { limit < 2 ^ 14 }
     requires read_bracket { segment.now.r1 ≤ segment.now.r2 }
@@ -104,7 +105,7 @@ pub(crate) fn descriptor(catalog: &Catalog, files: &[File], limits: &[u16], seg:
     requires files { length files.now ≡ length catalog.now.segments }
     requires short { All (λ w. length w ≤ 2 ^ 18) files.now }
     requires limits { AreLimits catalog.now files.now (length catalog.now.segments) limits.now }
-    requires seg { seg < 64 + length catalog.now.segments }
+    requires seg { seg < first_segment + length catalog.now.segments }
     ensures value { result ≡ booted_sdw catalog.now files.now seg }
     ensures ordered { IfSome result (λ d. in_order d ≡ true) }
 {
@@ -197,9 +198,9 @@ pub(crate) fn words_of(
     seg: u16,
 ) -> Result<Words, NoMemory>
     requires short { All (λ w. length w ≤ 2 ^ 18) files.now }
-    requires seg { seg < 64 + length files.now }
-    requires rings { 8 ≤ seg }
-    requires given { (seg < 24) ⊎ (64 ≤ seg) }
+    requires seg { seg < first_segment + length files.now }
+    requires rings { first_stack ≤ seg }
+    requires given { (seg < behind_rings) ⊎ (first_segment ≤ seg) }
     ensures { IfOk result (λ words. words ≡ booted_words files.now lay.now seg) }
 {
     if seg < FIRST_LINKAGE {

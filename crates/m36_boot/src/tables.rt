@@ -2,6 +2,7 @@
 
 ghost use Rattle.std.specs.Prelude.{◌≡◌, ◌+◌, ◌/◌, ◌<◌, ◌≤◌, ◌^◌, ◌++◌, length, All, Some, IfOk, OnOk};
 ghost use Rattle.m36_boot.specs.Segments.{booted_sdw, booted_words};
+ghost use Rattle.m36_link.specs.Known.{first_segment};
 ghost use Rattle.m36_boot.specs.Refusals.{AreLimits};
 ghost use Rattle.m36_boot.specs.Image.{table_of_segment, booted_tables};
 
@@ -25,7 +26,7 @@ fn add_table(
     requires files { length files.now ≡ length catalog.now.segments }
     requires short { All (λ w. length w ≤ 2 ^ 18) files.now }
     requires limits { AreLimits catalog.now files.now (length catalog.now.segments) limits.now }
-    requires seg { seg < 64 + length catalog.now.segments }
+    requires seg { seg < first_segment + length catalog.now.segments }
     ensures { OnOk result (tables.new.items ≡ tables.old.items ++ table_of_segment seg (booted_sdw catalog.now files.now seg) (booted_words files.now lay.now seg)) }
 {
     let _ = catalog.count();

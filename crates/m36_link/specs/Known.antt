@@ -25,8 +25,11 @@ nothing_known = record { names = []; laid = [] }
 abbrev pub first_segment : ℕ
 first_segment = 64
 
+abbrev pub first_linkage : ℕ
+first_linkage = 16
+
 abbrev pub linkage_segment : ℕ → ℕ
-linkage_segment ring = 16 + ring
+linkage_segment ring = first_linkage + ring
 
 abbrev pub lot_words : ℕ
 lot_words = 1024
