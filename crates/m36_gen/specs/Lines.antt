@@ -11,6 +11,10 @@ line text = as_line text
 unfoldable pub numbered : List ℕ → ℕ → List ℕ → List ℕ
 numbered before n behind = line (before ++ decimal_text n ++ behind)
 
+-- how many programs there are
+abbrev pub program_count : ℕ
+program_count = 64
+
 unfoldable pub segment_name : ℕ → List ℕ
 segment_name i = codes "g" ++ decimal_text i
 

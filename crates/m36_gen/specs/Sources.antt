@@ -1,8 +1,8 @@
--- The sources of a seed: 64 programs, of which each goes on to the next and the last calls
+-- The sources of a seed: programs, of which each goes on to the next and the last calls
 -- the gate, and the gate, which stops.
-use Rattle.std.specs.Prelude.{ℕ, ◌+◌, nat_eq, if◌then◌else◌, List, ◌++◌, codes}
+use Rattle.std.specs.Prelude.{ℕ, ◌+◌, ◌-◌, nat_eq, if◌then◌else◌, List, ◌++◌, codes}
 use Rattle.m36_gen.specs.declared.draws.Draws.{Draws}
-use Rattle.m36_gen.specs.Lines.{line, numbered}
+use Rattle.m36_gen.specs.Lines.{line, numbered, program_count}
 
 -- The entry, by which the linkage section of the segment is found.
 unfoldable pub entry_lines : List ℕ
@@ -31,7 +31,7 @@ loop_lines draws = adding_lines draws ++ storing_lines
 -- what follows the loop: the next program, or the gate behind the last
 unfoldable pub following_line : ℕ → List ℕ
 following_line i =
-    if nat_eq i 63 then line (codes " call6 stop_$stop")
+    if nat_eq i (program_count - 1) then line (codes " call6 stop_$stop")
     else numbered (codes " tra g") (i + 1) (codes "$start")
 
 unfoldable pub source_text : ℕ → Draws → List ℕ

@@ -4,7 +4,7 @@ ghost use Rattle.std.specs.Prelude.{ℕ, ◌≡◌, ◌<◌, ◌≤◌, ◌++◌
 ghost use Rattle.m36_text.specs.Packing.{packed};
 ghost use Rattle.m36_gen.specs.Draws.{draws_from};
 ghost use Rattle.m36_gen.specs.Folder.{file, source_files, data_words, zeros, sources_of, other_files, files_of};
-ghost use Rattle.m36_gen.specs.Lines.{source_name};
+ghost use Rattle.m36_gen.specs.Lines.{program_count, source_name};
 ghost use Rattle.m36_gen.specs.Sources.{source_text};
 
 use crate::catalog::boot_text;
@@ -45,7 +45,7 @@ fn packed_data(alloc: Global) -> Result<Text, NoMemory>
 
 // Adds the source of program `i`.
 fn add_source(alloc: Global, files: &mut Files, i: u64, draws: Draws) -> Result<(), NoMemory>
-    requires { i < 64 }
+    requires { i < program_count }
     ensures { OnOk result (files.new ≡ files.old ++ file (source_name i) (source_text i draws) ∷ []) }
 {
     let content = source(alloc, i, draws)?;
@@ -69,7 +69,7 @@ fn add_file(files: &mut Files, name: &[u8], content: Text) -> Result<(), NoMemor
 // The sources of the first programs.
 #[tactic(auto, using(crate::proofs::OneMore::of_sources))]
 fn program_sources(alloc: Global, seed: u64, count: u64) -> Result<Files, NoMemory>
-    requires { count ≤ 64 }
+    requires { count ≤ program_count }
     ensures { IfOk result (λ files. files ≡ source_files seed count) }
 {
     let mut files = Files::new(alloc);

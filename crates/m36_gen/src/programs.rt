@@ -1,6 +1,7 @@
 //! The sources of the programs and of the gate.
 
 ghost use Rattle.std.specs.Prelude.{ℕ, ◌≡◌, ◌<◌, ◌++◌, IfOk, OnOk};
+ghost use Rattle.m36_gen.specs.Lines.{program_count};
 ghost use Rattle.m36_gen.specs.Sources.{entry_lines, adding_lines, storing_lines, loop_lines, following_line};
 ghost use Rattle.m36_gen.specs.Sources.{source_text, stop_lines, stop_text};
 
@@ -49,7 +50,7 @@ fn put_loop(text: &mut Text, draws: Draws) -> Result<(), NoMemory>
 
 #[tactic(auto, unfolding(crate::specs::Sources::following_line))]
 fn put_following(text: &mut Text, i: u64) -> Result<(), NoMemory>
-    requires { i < 64 }
+    requires { i < program_count }
     ensures { OnOk result (text.new ≡ text.old ++ following_line i) }
 {
     if i == PROGRAMS - 1 {
@@ -59,10 +60,10 @@ fn put_following(text: &mut Text, i: u64) -> Result<(), NoMemory>
     }
 }
 
-/// The source of program `i`, of which there are 64.
+/// The source of program `i`.
 #[tactic(auto, unfolding(crate::specs::Sources::source_text))]
 pub fn source(alloc: Global, i: u64, draws: Draws) -> Result<Text, NoMemory>
-    requires { i < 64 }
+    requires { i < program_count }
     ensures { IfOk result (λ text. text ≡ source_text i draws) }
 {
     let mut text = Text::new(alloc);
