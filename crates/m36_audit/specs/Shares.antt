@@ -47,9 +47,9 @@ live_told number (Ok d) values = page_table_told number d d.unpaged values
 -- .. of one segment, and of so many segments.
 unfoldable pub segment_told : List ℕ → DbrFields → List ℕ → ℕ → ℕ → List ℕ → List ℕ
 segment_told core dbr firsts k seg values =
-    live_told (17 + slice_index firsts (2 ^ 15 * k + seg)) (core_sdw core dbr seg)
-    (directory_told (2 * k + 2) dbr.unpaged (directory_at dbr seg)
-    (descriptor_told (2 * k + 1) (sdw_place core dbr seg) values))
+    live_told (identity firsts k (Pages seg)) (core_sdw core dbr seg)
+    (directory_told (identity firsts k Directory) dbr.unpaged (directory_at dbr seg)
+    (descriptor_told (identity firsts k Sdws) (sdw_place core dbr seg) values))
 
 unfoldable pub segments_told : List ℕ → DbrFields → List ℕ → ℕ → ℕ → List ℕ → List ℕ
 segments_told core dbr firsts k zero values = values
