@@ -33,9 +33,12 @@ one_word word =
     else if is_text (codes "quit") word then Quit
     else Unknown
 
--- a number of steps
+-- a number of steps, at most so many
+abbrev pub most_steps : ℕ
+most_steps = 1000000
+
 abbrev pub steps_in : List ℕ → Option ℕ
-steps_in word = plain_decimal_in 1 1000000 word
+steps_in word = plain_decimal_in 1 most_steps word
 
 abbrev pub two_words : List ℕ → List ℕ → SessionLine
 two_words word n =
@@ -71,13 +74,13 @@ session_line line =
 
 -- How far the numbers of a line go.
 abbrev pub IsBounded : SessionLine → Type 0
-IsBounded (Step n) = n ≤ 1000000
+IsBounded (Step n) = n ≤ most_steps
 IsBounded Go = Unit {0}
 IsBounded (Break seg word) = (seg < 2 ^ 15) × (word < 2 ^ 18)
 IsBounded Regs = Unit {0}
 IsBounded (Seg seg word) = (seg < 2 ^ 15) × (word < 2 ^ 18)
 IsBounded Where = Unit {0}
-IsBounded (Back n) = n ≤ 1000000
+IsBounded (Back n) = n ≤ most_steps
 IsBounded Quit = Unit {0}
 IsBounded Empty = Unit {0}
 IsBounded Unknown = Unit {0}

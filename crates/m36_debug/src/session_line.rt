@@ -2,7 +2,7 @@
 
 ghost use Rattle.std.specs.Prelude.{ℕ, ◌≡◌, ◌<◌, ◌≤◌, ◌^◌, IfSome};
 ghost use Rattle.m36_text.specs.Lines.{words_of};
-ghost use Rattle.m36_debug.specs.SessionLines.{one_word, two_words, three_words, line_of_words, steps_in, session_line, IsBounded};
+ghost use Rattle.m36_debug.specs.SessionLines.{one_word, two_words, three_words, line_of_words, most_steps, steps_in, session_line, IsBounded};
 
 use m36_text::{first_word, is_text, octal_in, only_word, plain_decimal_in};
 
@@ -63,7 +63,7 @@ fn one_word(word: &[u8]) -> SessionLine
 // A number of steps.
 fn steps_in(word: &[u8]) -> Option<u64>
     ensures value { result ≡ steps_in word.now }
-    ensures bound { IfSome result (λ n. n ≤ 1000000) }
+    ensures bound { IfSome result (λ n. n ≤ most_steps) }
 {
     plain_decimal_in(word, 1, MOST_STEPS)
 }

@@ -83,8 +83,12 @@ mode_of (c ∷ word) =
 
 -- ---- what stands behind the first word of a line
 
+-- at most so many pageable frames
+abbrev pub most_frames : ℕ
+most_frames = 8192
+
 abbrev pub frames_line : List (List ℕ) → Option BootLine
-frames_line (n ∷ []) = option_map line.Frames (decimal_in 1 8192 n)
+frames_line (n ∷ []) = option_map line.Frames (decimal_in 1 most_frames n)
 frames_line _ = None
 
 abbrev pub work_line : List (List ℕ) → Option BootLine

@@ -153,10 +153,20 @@ unfoldable pub names_at_end : ℕ → List BootLine → ℕ
 names_at_end n [] = n
 names_at_end n (next ∷ lines) = names_at_end (names_with n next) lines
 
+-- at most so many segments, names of a segment with its first, and libraries
+abbrev pub most_segments : ℕ
+most_segments = 512
+
+abbrev pub most_names : ℕ
+most_names = 8
+
+abbrev pub most_libraries : ℕ
+most_libraries = 16
+
 abbrev pub is_too_many : List BootLine → BootLine → Bool
-is_too_many above (line.Segment given) = nat_le 512 (count_by is_segment above)
-is_too_many above (line.Name name) = nat_le 7 (names_at_end 0 above)
-is_too_many above (line.Library dir) = nat_le 16 (count_by is_library above)
+is_too_many above (line.Segment given) = nat_le most_segments (count_by is_segment above)
+is_too_many above (line.Name name) = nat_le (most_names - 1) (names_at_end 0 above)
+is_too_many above (line.Library dir) = nat_le most_libraries (count_by is_library above)
 is_too_many above _ = false
 
 -- ---- the code of a line

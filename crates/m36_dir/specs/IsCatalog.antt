@@ -1,24 +1,26 @@
 -- What holds of every catalog, whatever rights are set.
 use Rattle.std.specs.Prelude.{ℕ, ◌≡◌, ◌<◌, ◌≤◌, List, Ok, length, All}
 use Rattle.m36_dir.specs.Fields.{SegmentFields}
+use Rattle.m36_dir.specs.BootLine.{most_frames}
+use Rattle.m36_dir.specs.BootOrder.{most_segments, most_names, most_libraries}
 use Rattle.m36_dir.specs.Catalog.{CatalogFields, catalog_of}
 
 -- a segment where there are so many directories
 pub record IsSegment (directories : ℕ) (s : SegmentFields) : Type 0 where
   pub named : 1 ≤ length s.names
-  pub names : length s.names ≤ 8
+  pub names : length s.names ≤ most_names
   pub dir : s.dir < directories
   pub read_bracket : s.r1 ≤ s.r2
   pub call_bracket : s.r2 ≤ s.r3
 
 pub record IsCatalog (c : CatalogFields) : Type 0 where
   pub some_frames : 1 ≤ c.frames
-  pub frames : c.frames ≤ 8192
+  pub frames : c.frames ≤ most_frames
   pub some_segments : 1 ≤ length c.segments
-  pub segments : length c.segments ≤ 512
-  pub directories : length c.directories ≤ 512
+  pub segments : length c.segments ≤ most_segments
+  pub directories : length c.directories ≤ most_segments
   pub work : c.work < length c.directories
-  pub libraries : length c.libraries ≤ 16
+  pub libraries : length c.libraries ≤ most_libraries
   pub each_library : All (λ d. d < length c.directories) c.libraries
   pub each_segment : All (IsSegment (length c.directories)) c.segments
 

@@ -120,6 +120,13 @@ abbrev pub placed_from : Stands → Result ℕ ImageCode → Result Stands Code
 placed_from s (Ok end) = Ok (record s { stage = Placing; next = end })
 placed_from s (Err code) = Err P1
 
+-- at most so many processes, and so many events of a schedule
+abbrev pub most_processes : ℕ
+most_processes = 8
+
+abbrev pub most_events : ℕ
+most_events = 10000000
+
 abbrev pub events_with : Stands → TurnsFields → ℕ
 events_with s t = s.events + t.times * length t.order
 
@@ -128,13 +135,13 @@ are_named count numbers = list_all (λ number. nat_lt number count) numbers
 
 unfoldable pub judged : Stands → Line → Result Stands Code
 judged s (ProcessLine regs) =
-    if may_name s.stage && nat_lt s.processes 8
+    if may_name s.stage && nat_lt s.processes most_processes
     then Ok (record s { processes = s.processes + 1 }) else Err P1
 judged s (AtLine placed) =
     if may_place s.stage && nat_lt 0 s.processes
     then placed_from s (at_end s.size s.next (Some placed)) else Err P1
 judged s (TurnsLine t) =
-    if nat_lt 0 s.processes && nat_le (events_with s t) 10000000
+    if nat_lt 0 s.processes && nat_le (events_with s t) most_events
     then if are_named s.processes t.order
     then Ok (record s { stage = Turning; events = events_with s t }) else Err P2
     else Err P1

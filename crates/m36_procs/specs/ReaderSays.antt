@@ -5,7 +5,7 @@ use Rattle.m36_image.specs.BareImage.{at_words}
 use Rattle.m36_image.specs.ImageState.{written_all}
 use Rattle.m36_procs.specs.ProcsFields.{ProcsFields}
 use Rattle.m36_procs.specs.ProcsFile.{Line, line_by, Stands, judged, may_end, are_named, process_of}
-use Rattle.m36_procs.specs.ProcsFile.{placed_of, turns_of}
+use Rattle.m36_procs.specs.ProcsFile.{placed_of, turns_of, most_processes, most_events}
 use Rattle.m36_procs.specs.declared.fault.LineFault.{LineFault}
 use Rattle.m36_procs.specs.declared.fault.LineFault.TheVariants.{Refused, NoMemory}
 use Rattle.m36_procs.specs.declared.reader.Reader.{Reader}
@@ -35,8 +35,8 @@ procs_read r =
 
 -- what is known of what was read, whatever the lines
 pub record Fits (r : Reader) : Type 0 where
-  pub few : length r.regs.items ≤ 8
-  pub short : length r.schedule.items ≤ 10000000
+  pub few : length r.regs.items ≤ most_processes
+  pub short : length r.schedule.items ≤ most_events
   pub some : may_end r.stage ≡ true → 0 < length r.regs.items
   pub named : are_named (length r.regs.items) r.schedule.items ≡ true
 

@@ -2,7 +2,7 @@
 
 ghost use Rattle.std.specs.Prelude.{◌≡◌, ◌<◌, ◌≤◌, ◌^◌, length, slice_get, IfOk, Some};
 ghost use Rattle.m36_procs.specs.EventSays.{EventSays};
-ghost use Rattle.m36_procs.specs.ProcsFile.{procs_given};
+ghost use Rattle.m36_procs.specs.ProcsFile.{procs_given, most_processes};
 ghost use Rattle.m36_procs.specs.ProcsSays.{ProcsSays};
 ghost use Rattle.m36_procs.specs.ReaderSays.{Fits, procs_read};
 ghost use Rattle.m36_procs.specs.RunSays.{RunSays, RunTakes, RunHasCause};
@@ -73,7 +73,7 @@ impl Procs {
     pub fn count(&self) -> usize
         ensures value { result ≡ length self.now.state.regs }
         ensures some { 1 ≤ result }
-        ensures most { result ≤ 8 }
+        ensures most { result ≤ most_processes }
     {
         self.processes.count()
     }

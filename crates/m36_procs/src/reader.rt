@@ -2,7 +2,7 @@
 
 ghost use Rattle.std.specs.Prelude.{◌≡◌, ◌+◌, ◌*◌, ◌<◌, ◌≤◌, [], ◌∷◌, ◌++◌, length, OnOk};
 ghost use Rattle.m36_text.specs.Lines.{words_of};
-ghost use Rattle.m36_procs.specs.ProcsFile.{are_named, line_in, may_name, may_place, may_end, repeated};
+ghost use Rattle.m36_procs.specs.ProcsFile.{are_named, most_events, line_in, may_name, may_place, may_end, repeated};
 ghost use Rattle.m36_procs.specs.ProcsFile.Line.{ProcessLine, TurnsLine};
 ghost use Rattle.m36_procs.specs.ReaderSays.{Fits, TakeSays, rest_in};
 
@@ -88,7 +88,7 @@ fn have_processes(count: usize, turns: &Turns) -> bool
 // How many events there are with turns behind so many.
 #[tactic(auto, using(crate::proofs::Taking::few_events))]
 fn events_with(events: usize, turns: &Turns) -> u64
-    requires { events ≤ 10000000 }
+    requires { events ≤ most_events }
     ensures { result ≡ events + turns.now.times * length turns.now.order }
 {
     events as u64 + turns.times as u64 * turns.order.len() as u64
