@@ -1,6 +1,6 @@
 -- The boot text and the files of a folder, one after another.
-use Rattle.std.proofs.Common.{◌≡◌, ℕ, ◌+◌, ◌≤◌, List, [], length, drop, Option, Some, slice_get, Result, Ok, Err, refl, sym, ap, subst, ◌∙◌}
-use Rattle.std.proofs.lemmas.List.{at_drop_more, at_drop_all}
+use Rattle.std.proofs.Common.{◌≡◌, ℕ, ◌+◌, ◌≤◌, List, [], ◌∷◌, length, drop, Option, Some, slice_get, Result, Ok, Err, refl, sym, ap, subst, ◌∙◌}
+use Rattle.std.proofs.lemmas.List.{drop_more, drop_all}
 use Rattle.std.proofs.lemmas.Option.{slice_get_within, get_or_from_slice_get}
 use Rattle.m36_dir.specs.Fields.{SegmentFields}
 use Rattle.m36_boot.specs.Refusals.{boot_answer}
@@ -11,86 +11,73 @@ use Rattle.m36_super.specs.Library.{Library}
 use Rattle.m36_super.specs.SuperFields.{SuperFields}
 use Rattle.m36_super.specs.BootSays.{IsBooted}
 use Rattle.m36_reading.specs.declared.refusal.Refusal.{Refusal}
-use Rattle.m36_reading.specs.Reading.{Reading, decided, Early, then_with}
+use Rattle.m36_reading.specs.Reading.{decided}
 use Rattle.m36_reading.specs.Asking.{Asked, Gives, Refuses}
 use Rattle.m36_reading.specs.Outside.{FolderState}
 use Rattle.m36_reading.specs.Doing.{Reads}
+use Rattle.m36_reading.specs.Readers.{file_words}
+use Rattle.m36_reading.specs.EachRead.{read_onto, each_onto}
+use Rattle.m36_reading.proofs.EachLaws.{Completes, each_begins, item_read, item_stopped, all_read}
 use Rattle.m36_reading.proofs.ReadLaws.{gives_by, memory_given, reads_then, reads_nothing, reads_stop}
 use Rattle.m36_catalog.specs.declared.access.Access.{Access}
 use Rattle.m36_catalog.specs.Catalogs.{access_reads}
 use Rattle.m36_booted.specs.declared.reading.BootedFolder.{BootedFolder}
-use Rattle.m36_booted.specs.Folder.{FolderFields, files_with, files_from, folder_with, fault_refused, booted_by, boots, files_booted, folder_reads}
+use Rattle.m36_booted.specs.Folder.{FolderFields, segment_words, folder_with, fault_refused, booted_by, boots, files_booted, folder_reads}
 use Rattle.m36_booted.specs.Systems.{IsFresh, given_in}
 
 -- ---- the files
 
--- What is left of a reading, by which all of it comes to the same.
-pub record ReadsOn
-    (all left : Reading (Early (List (List ℕ)))) (old now : FolderState) (before asked : List Asked)
-    : Type 0 where
-  pub on :
-      (result : Result (List (List ℕ)) Refusal) (new : FolderState) (after : List Asked)
-      → Reads left result now new asked after → Reads all result old new before after
-
 pub files_start :
     (segments : List SegmentFields) (old : FolderState) (before : List Asked)
-    → ReadsOn (files_from [] segments) (files_from [] segments) old old before before
-files_start segments old before = record { on = λ result new after reads. reads }
+    → Completes (each_onto segment_words [] segments) (each_onto segment_words [] segments) old old before before
+files_start segments old before = each_begins segment_words [] segments old before refl
 
-from_more :
-    (files : List (List ℕ)) (segments : List SegmentFields) (i : ℕ) (s : SegmentFields) (name : List ℕ)
-    → slice_get segments i ≡ Some s → name ≡ s.file
-    → files_from files (drop i segments) ≡ then_with (files_with files name) (λ more. files_from more (drop (i + 1) segments))
-unfolding files_from
-from_more files segments i s name at is =
-    let next : SegmentFields → Reading (Early (List (List ℕ))) =
-    λ t. then_with (files_with files t.file) (λ more. files_from more (drop (i + 1) segments)) in
-    at_drop_more (files_from files) segments i s (slice_get_within segments i s at)
-    ∙ ap next (get_or_from_slice_get segments i s s at)
-    ∙ ap (λ (n : List ℕ). then_with (files_with files n) (λ more. files_from more (drop (i + 1) segments))) (sym is)
+-- what is left from a segment on
+left_from : (segments : List SegmentFields) (i : ℕ) (s : SegmentFields) → slice_get segments i ≡ Some s → drop i segments ≡ s ∷ drop (i + 1) segments
+left_from segments i s at =
+    drop_more segments i s (slice_get_within segments i s at)
+    ∙ ap (λ (t : SegmentFields). t ∷ drop (i + 1) segments) (get_or_from_slice_get segments i s s at)
+
+-- the file of a segment, by its name
+segment_read :
+    (files : List (List ℕ)) (s : SegmentFields) (name : List ℕ) (result : Result (List (List ℕ)) Refusal) (now new : FolderState) (asked after : List Asked)
+    → name ≡ s.file → Reads (read_onto file_words files name) result now new asked after → Reads (read_onto segment_words files s) result now new asked after
+unfolding read_onto segment_words
+segment_read files s name result now new asked after is reads =
+    subst (λ (n : List ℕ). Reads (read_onto file_words files n) result now new asked after) is reads
 
 -- a file was read
 pub files_more :
     (segments : List SegmentFields) (i : ℕ) (s : SegmentFields) (name : List ℕ) (files more : List (List ℕ)) (old now new : FolderState)
     (before asked after : List Asked)
     → slice_get segments i ≡ Some s → name ≡ s.file
-    → ReadsOn (files_from [] segments) (files_from files (drop i segments)) old now before asked
-    → Reads (files_with files name) (Ok more) now new asked after
-    → ReadsOn (files_from [] segments) (files_from more (drop (i + 1) segments)) old new before after
-files_more segments i s name files more old now new before asked after at is left reads = record {
-  on = λ result last behind rest.
-      left.on result last behind
-      (subst (λ p. Reads p result now last asked behind) (sym (from_more files segments i s name at is))
-      (reads_then (files_with files name) (λ m. files_from m (drop (i + 1) segments)) more result now new last asked after behind reads rest));
-}
+    → Completes (each_onto segment_words files (drop i segments)) (each_onto segment_words [] segments) old now before asked
+    → Reads (read_onto file_words files name) (Ok more) now new asked after
+    → Completes (each_onto segment_words more (drop (i + 1) segments)) (each_onto segment_words [] segments) old new before after
+files_more segments i s name files more old now new before asked after at is left reads =
+    item_read segment_words files more s (drop (i + 1) segments) (drop i segments) (each_onto segment_words [] segments) old now new before asked after
+    (left_from segments i s at) (segment_read files s name (Ok more) now new asked after is reads) left
 
 -- a file was not read
 pub files_stop :
     (segments : List SegmentFields) (i : ℕ) (s : SegmentFields) (name : List ℕ) (files : List (List ℕ)) (r : Refusal) (old now new : FolderState)
     (before asked after : List Asked)
     → slice_get segments i ≡ Some s → name ≡ s.file
-    → ReadsOn (files_from [] segments) (files_from files (drop i segments)) old now before asked
-    → Reads (files_with files name) (Err r) now new asked after
-    → Reads (files_from [] segments) (Err r) old new before after
+    → Completes (each_onto segment_words files (drop i segments)) (each_onto segment_words [] segments) old now before asked
+    → Reads (read_onto file_words files name) (Err r) now new asked after
+    → Reads (each_onto segment_words [] segments) (Err r) old new before after
 files_stop segments i s name files r old now new before asked after at is left reads =
-    left.on (Err r) new after
-    (subst (λ p. Reads p (let e : Result (List (List ℕ)) Refusal = Err r in e) now new asked after) (sym (from_more files segments i s name at is))
-    (reads_stop (List (List ℕ)) (List (List ℕ)) (files_with files name) (λ m. files_from m (drop (i + 1) segments)) r now new asked after reads))
-
-from_none : (files : List (List ℕ)) → files_from files [] ≡ decided (Ok files)
-unfolding files_from
-from_none files = refl
+    item_stopped segment_words files r s (drop (i + 1) segments) (drop i segments) (each_onto segment_words [] segments) old now new before asked after
+    (left_from segments i s at) (segment_read files s name (Err r) now new asked after is reads) left
 
 -- all were read
 pub files_end :
     (segments : List SegmentFields) (i : ℕ) (files : List (List ℕ)) (old now : FolderState) (before asked : List Asked)
     → length segments ≤ i
-    → ReadsOn (files_from [] segments) (files_from files (drop i segments)) old now before asked
-    → Reads (files_from [] segments) (Ok files) old now before asked
+    → Completes (each_onto segment_words files (drop i segments)) (each_onto segment_words [] segments) old now before asked
+    → Reads (each_onto segment_words [] segments) (Ok files) old now before asked
 files_end segments i files old now before asked past left =
-    left.on (Ok files) now asked
-    (subst (λ p. Reads p (let e : Result (List (List ℕ)) Refusal = Ok files in e) now now asked asked) (sym (at_drop_all (files_from files) segments i past ∙ from_none files))
-    (reads_nothing (Ok files) (Ok files) now asked refl))
+    all_read segment_words files (drop i segments) (each_onto segment_words [] segments) old now before asked (drop_all i segments past) left
 
 pub ruleset files_in_turn = (files_start, files_more, files_stop, files_end)
 
@@ -125,21 +112,21 @@ pub ruleset booting = (booted_given, booted_not, booted_fresh)
 
 pub files_given :
     (access : Access) (files : List (List ℕ)) (result : Result BootedFolder Refusal) (old new : FolderState) (before after : List Asked)
-    → Reads (files_from [] access.catalog.segments) (Ok files) old new before after
+    → Reads (each_onto segment_words [] access.catalog.segments) (Ok files) old new before after
     → Gives (given_in result) (boots (folder_with access files))
     → Reads (files_booted access) (given_in result) old new before after
 unfolding files_booted
 files_given access files result old new before after one gives =
-    reads_then (files_from [] access.catalog.segments) (λ files. decided (boots (folder_with access files))) files (given_in result) old new new before after after one
+    reads_then (each_onto segment_words [] access.catalog.segments) (λ files. decided (boots (folder_with access files))) files (given_in result) old new new before after after one
     (reads_nothing (boots (folder_with access files)) (given_in result) new after gives)
 
 pub files_not :
     (access : Access) (r : Refusal) (old new : FolderState) (before after : List Asked)
-    → Reads (files_from [] access.catalog.segments) (Err r) old new before after
+    → Reads (each_onto segment_words [] access.catalog.segments) (Err r) old new before after
     → Reads (files_booted access) (given_in (Err r)) old new before after
 unfolding files_booted
 files_not access r old new before after one =
-    reads_stop (List (List ℕ)) FolderFields (files_from [] access.catalog.segments) (λ files. decided (boots (folder_with access files))) r old new before after one
+    reads_stop (List (List ℕ)) FolderFields (each_onto segment_words [] access.catalog.segments) (λ files. decided (boots (folder_with access files))) r old new before after one
 
 pub ruleset boots_files = (files_given, files_not)
 

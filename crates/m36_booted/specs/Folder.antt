@@ -2,7 +2,7 @@
 -- of each segment in the order of the catalog. A file that two segments have is read twice. Then
 -- the catalog, with the rights of the user, is booted with these files, or refused with a code of
 -- the boot text.
-use Rattle.std.specs.Prelude.{ℕ, List, [], ◌∷◌, ◌++◌, Option, Result, Ok, Err}
+use Rattle.std.specs.Prelude.{ℕ, List, [], Option, Result, Ok, Err}
 use Rattle.m36_dir.specs.Fields.{SegmentFields}
 use Rattle.m36_link.specs.Fields.{SnapFields}
 use Rattle.m36_boot.specs.Refusals.{boot_answer}
@@ -13,20 +13,14 @@ use Rattle.m36_reading.specs.declared.status.Code.TheVariants as code
 use Rattle.m36_reading.specs.declared.refusal.Refusal.{Refusal}
 use Rattle.m36_reading.specs.declared.refusal.Refusal.TheVariants.{NoMemory}
 use Rattle.m36_reading.specs.Reading.{Reading, decided, Early, then_with}
+use Rattle.m36_reading.specs.EachRead.{each_onto}
 use Rattle.m36_reading.specs.Readers.{file_words}
 use Rattle.m36_catalog.specs.declared.access.Access.{Access}
 use Rattle.m36_catalog.specs.Catalogs.{boot_refused, access_reads}
 
--- ---- the files, each with all its refusals before the next one is read, behind those read before
-
-unfoldable pub files_with : List (List ℕ) → List ℕ → Reading (Early (List (List ℕ)))
-files_with files name =
-    then_with (file_words name) (λ words. decided (Ok (files ++ words ∷ [])))
-
-unfoldable pub files_from : List (List ℕ) → List SegmentFields → Reading (Early (List (List ℕ)))
-files_from files [] = decided (Ok files)
-files_from files (segment ∷ segments) =
-    then_with (files_with files segment.file) (λ more. files_from more segments)
+-- the file of a segment
+unfoldable pub segment_words : SegmentFields → Reading (Early (List ℕ))
+segment_words segment = file_words segment.file
 
 -- what is booted, and the line for each segment of the catalog that is told where a run ends for
 -- want of a right to it; no lines without a user
@@ -58,7 +52,7 @@ boots given = booted_by given (boot_answer given.lib.catalog given.lib.files)
 
 unfoldable pub files_booted : Access → Reading (Early FolderFields)
 files_booted access =
-    then_with (files_from [] access.catalog.segments) (λ files.
+    then_with (each_onto segment_words [] access.catalog.segments) (λ files.
     decided (boots (folder_with access files)))
 
 -- all that is read and refused before the audit

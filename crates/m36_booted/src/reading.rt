@@ -5,7 +5,9 @@ ghost use Rattle.m36_reading.specs.Reading.{Early};
 ghost use Rattle.m36_reading.specs.Asking.{Gives, Refuses};
 ghost use Rattle.m36_reading.specs.Outside.{folder_of};
 ghost use Rattle.m36_reading.specs.Doing.{Reads};
-ghost use Rattle.m36_booted.specs.Folder.{files_with, files_from, folder_with};
+ghost use Rattle.m36_reading.specs.EachRead.{read_onto, each_onto};
+ghost use Rattle.m36_reading.specs.Readers.{file_words};
+ghost use Rattle.m36_booted.specs.Folder.{segment_words, folder_with};
 ghost use Rattle.m36_booted.specs.Folder.{fault_refused, boots, files_booted, folder_reads};
 ghost use Rattle.m36_booted.specs.Systems.{IsFresh, given_in};
 
@@ -41,14 +43,14 @@ fn with_file(mut files: SegmentFiles, words: Words) -> Result<SegmentFiles, Refu
 }
 
 // Reads the file of a segment behind those read before.
-#[tactic(auto, using(m36_reading::proofs::ReadLaws::reads_early), unfolding(crate::specs::Folder::files_with))]
+#[tactic(auto, using(m36_reading::proofs::ReadLaws::reads_early), unfolding(m36_reading::specs::EachRead::read_onto))]
 fn read_file<F: Folder>(
     alloc: Global,
     name: &[u8],
     folder: &mut F,
     files: SegmentFiles,
 ) -> Result<SegmentFiles, Refusal>
-    ensures reads { Reads (files_with files name.now) result
+    ensures reads { Reads (read_onto file_words files name.now) result
         (folder_of F.files F.wrote F.read_faults F.write_faults folder.old)
         (folder_of F.files F.wrote F.read_faults F.write_faults folder.new)
         (F.asked folder.old) (F.asked folder.new) }
@@ -65,7 +67,7 @@ fn read_files<F: Folder>(
     catalog: &Catalog,
     folder: &mut F,
 ) -> Result<SegmentFiles, Refusal>
-    ensures reads { Reads (files_from [] catalog.now.segments) result
+    ensures reads { Reads (each_onto segment_words [] catalog.now.segments) result
         (folder_of F.files F.wrote F.read_faults F.write_faults folder.old)
         (folder_of F.files F.wrote F.read_faults F.write_faults folder.new)
         (F.asked folder.old) (F.asked folder.new) }

@@ -1,7 +1,8 @@
 use Rattle.std.proofs.Common.{◌≡◌, [], drop, length}
 use Rattle.m36_reading.specs.Outside.{folder_of}
-use Rattle.m36_booted.specs.Folder.{files_from}
-use Rattle.m36_booted.proofs.FolderReads.{ReadsOn}
+use Rattle.m36_reading.specs.EachRead.{each_onto}
+use Rattle.m36_reading.proofs.EachLaws.{Completes}
+use Rattle.m36_booted.specs.Folder.{segment_words}
 use Rattle.m36_booted.proofs.reading.read_files.Given as goal
 
 -- the files of the segments before this one were read, and with those of the rest they are all
@@ -11,7 +12,7 @@ invariant-loop-i g l =
     let asked = g.F.Folder.asked in
     record {
       left :
-          ReadsOn (files_from [] l.catalog.segments) (files_from l.files (drop l.i l.catalog.segments)) (folder l.fn.folder)
+          Completes (each_onto segment_words l.files (drop l.i l.catalog.segments)) (each_onto segment_words [] l.catalog.segments) (folder l.fn.folder)
           (folder l.folder) (asked l.fn.folder) (asked l.folder);
       count : length l.files ≡ l.i;
     }
