@@ -120,8 +120,11 @@ words (X n) v = v ∷ []
 unfoldable pub zn : ℕ → ℕ → Ind → Ind
 zn h v i = record i { zero = v == 0; negative = is_negative h v }
 
+abbrev pub with_zn_carry : Bool → Bool → Bool → Ind → Ind
+with_zn_carry z n c i = record i { zero = z; negative = n; carry = c }
+
 unfoldable pub zn_carry : SumFields → Ind → Ind
-zn_carry s i = record i { zero = s.zero; negative = s.negative; carry = s.carry }
+zn_carry s i = with_zn_carry s.zero s.negative s.carry i
 
 unfoldable pub zn_overflow : SumFields → Ind → Ind
 zn_overflow s i =
@@ -137,7 +140,7 @@ zn_carry_overflow s i =
     }
 
 unfoldable pub compared : ComparisonFields → Ind → Ind
-compared c i = record i { zero = c.zero; negative = c.negative; carry = c.carry }
+compared c i = with_zn_carry c.zero c.negative c.carry i
 
 abbrev pub with_zero : Bool → Ind → Ind
 with_zero z i = record i { zero = z }
