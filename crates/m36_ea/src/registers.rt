@@ -7,12 +7,13 @@ ghost use Rattle.m36_model.specs.Modification.{is_direct, index_of};
 use m36_model::Regs;
 use m36_word::{Field, Word};
 
-/// The segment of the instruction.
+/// The segment of the instruction. By way of a copy a step takes fewer instructions.
 #[inline(always)]
 pub fn procedure_segment(regs: &Regs) -> u16
     ensures { result ≡ regs.now.ppr.psr }
 {
-    regs.ppr.psr
+    let ppr = regs.ppr;
+    ppr.psr
 }
 
 /// The register that the low four bits of a tag name, where they name no direct operand.

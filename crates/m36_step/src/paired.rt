@@ -16,8 +16,9 @@ ghost use Rattle.m36_step.specs.Ended.{EndsFormed, ended_of};
 ghost use Rattle.m36_step.specs.References.{ServesRead, ServesWrite};
 
 use crate::frequent::operated_else;
-use crate::references::{complete, final_at, procedure_segment};
+use crate::references::{complete, final_at};
 use crate::telling::{tell_done, tell_refused};
+use m36_ea::procedure_segment;
 use m36_inst::{Effect, Row};
 use m36_model::{Fault, Final, Kind, Refs, Regs, StepRecord};
 use m36_walk::Walk;

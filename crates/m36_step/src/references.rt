@@ -8,19 +8,10 @@ ghost use Rattle.m36_walk.specs.Served.{IsCount, aligned_at, sdw_in, ok_map};
 ghost use Rattle.m36_walk.specs.Words.{pair_words};
 ghost use Rattle.m36_step.specs.References.{ServesRead, ServesWrite};
 
-use m36_ea::pending;
+use m36_ea::{pending, procedure_segment};
 use m36_model::{At, Fault, Final, Formed, Kind, Refs, Regs};
 use m36_walk::{Walk, first_at};
 use m36_word::{Pair, Word};
-
-/// The segment of the instruction. By way of a copy a step takes fewer instructions than by the call of `m36_ea`.
-#[inline(always)]
-pub(crate) fn procedure_segment(regs: &Regs) -> u16
-    ensures { result ≡ regs.now.ppr.psr }
-{
-    let ppr = regs.ppr;
-    ppr.psr
-}
 
 /// The word that an address ends at.
 pub(crate) fn end_at(formed: &Formed) -> At
