@@ -12,7 +12,7 @@ use Rattle.m36_step.specs.LinkNoteFields.{LinkNoteFields}
 use Rattle.m36_outside.specs.declared.sink.Put.{Put}
 use Rattle.m36_outside.specs.declared.sink.Put.TheVariants.{Done, Failed}
 use Rattle.m36_outside.specs.SinkState.{SinkState}
-use Rattle.m36_step.specs.Answers.{IsService}
+use Rattle.m36_step.specs.Answers.{IsService, is_service}
 use Rattle.m36_step.specs.declared.turns.Turn.{Turn}
 use Rattle.m36_step.specs.declared.turns.Turn.TheVariants as turns
 use Rattle.m36_model.specs.Registers.{RegsFields}
@@ -24,7 +24,7 @@ use Rattle.m36_debug.specs.declared.commands.Further.TheVariants.{Runs, Waits, S
 use Rattle.m36_debug.specs.declared.turning.Came.{Came}
 use Rattle.m36_debug.specs.declared.turning.Came.TheVariants as comes
 use Rattle.m36_debug.specs.Commands.{run_of, wants, after_step, after_link, after_turn, is_at_break}
-use Rattle.m36_debug.specs.Parts.{Part, CutPart, CameSays, CameServed, CameCounts, RunsCounts, Serves, is_service, came_of, told_turn}
+use Rattle.m36_debug.specs.Parts.{Part, CutPart, CameSays, CameServed, CameCounts, RunsCounts, Serves, came_of, told_turn}
 use Rattle.m36_debug.specs.Putting.{PutAll, PutSome, PutsLines}
 use Rattle.m36_debug.specs.Session.{Turning, Standing, standing, Running, Turned, doing_by, next_of, turn_says, command_says, onward, said}
 use Rattle.m36_debug.specs.Sitting.{SittingFields, sitting_after}

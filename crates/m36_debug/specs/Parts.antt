@@ -1,7 +1,7 @@
 -- What the parts of a session say: those of a turn, a command, a line and several lines.
 use Rattle.std.specs.Prelude.{ℕ, ◌≡◌, ◌+◌, ◌<◌, ◌≤◌, Bool, true, false, List, [], ◌∷◌}
 use Rattle.std.specs.Prelude.{Option, Some, None}
-use Rattle.m36_step.specs.Answers.{IsService}
+use Rattle.m36_step.specs.Answers.{IsService, is_service}
 use Rattle.m36_model.specs.declared.endings.End.{End}
 use Rattle.m36_outside.specs.declared.sink.Put.{Put}
 use Rattle.m36_outside.specs.declared.sink.Put.TheVariants.{Done, Failed}
@@ -42,14 +42,6 @@ doing_came (comes.Runs run service) = Running run
 doing_came comes.Waits = Waiting
 doing_came comes.Starves = Starved
 doing_came comes.Cut = Waiting
-
-abbrev pub is_service : Turn → Bool
-is_service (turns.Stepped told) = false
-is_service (turns.Linked note) = true
-is_service (turns.Console text) = true
-is_service (turns.Ended end) = false
-is_service turns.Full = false
-is_service turns.NoMemory = false
 
 -- by the turn and by what the command does after it
 abbrev pub came_of : Turn → Further → Came

@@ -1,7 +1,8 @@
 //! Turns that a command takes.
 
 ghost use Rattle.std.specs.Prelude.{ℕ, ◌≡◌, ◌≤◌, ◌<◌, ◌+◌, ◌-◌, ◌^◌, [], ◌∷◌};
-ghost use Rattle.m36_debug.specs.Parts.{CameSays, CameServed, CameCounts, EndSays, is_service, came_of, told_turn};
+ghost use Rattle.m36_debug.specs.Parts.{CameSays, CameServed, CameCounts, EndSays, came_of, told_turn};
+ghost use Rattle.m36_step.specs.Answers.{is_service};
 ghost use Rattle.m36_debug.specs.Putting.{PutsLines, seen};
 ghost use Rattle.m36_debug.specs.Session.{Running, standing, turning, go_says, command_says};
 

@@ -1,4 +1,5 @@
 -- Kinds of answers of a turn and of going back.
+use Rattle.std.specs.Prelude.{Bool, true, false, T}
 use Rattle.m36_step.specs.declared.turns.Turn.{Turn}
 use Rattle.m36_step.specs.declared.turns.Turn.TheVariants.{Stepped, Linked, Console, Ended, Full}
 use Rattle.m36_step.specs.declared.turns.Turn.TheVariants.{NoMemory}
@@ -6,13 +7,16 @@ use Rattle.m36_step.specs.declared.turns.BackAnswer.{BackAnswer}
 use Rattle.m36_step.specs.declared.turns.BackAnswer.TheVariants as back
 
 -- a link or a console service
+abbrev pub is_service : Turn → Bool
+is_service (Stepped told) = false
+is_service (Linked note) = true
+is_service (Console text) = true
+is_service (Ended end) = false
+is_service Full = false
+is_service NoMemory = false
+
 abbrev pub IsService : Turn → Type 0
-IsService (Stepped told) = ⊥
-IsService (Linked note) = Unit {0}
-IsService (Console text) = Unit {0}
-IsService (Ended end) = ⊥
-IsService Full = ⊥
-IsService NoMemory = ⊥
+IsService turn = T (is_service turn)
 
 -- a step, or an end with which this holds
 abbrev pub IsStepOrEnd : Type 0 → Turn → Type 0
