@@ -1,41 +1,49 @@
 -- The operations: the instructions of the machine, and what directs the assembler.
-use Rattle.std.specs.Prelude.{ℕ, ◌||◌, List, codes, Option, Some, None, if◌then◌else◌}
+use Rattle.std.specs.Prelude.{ℕ, List, codes, Option, Some, None, if◌then◌else◌}
 use Rattle.m36_inst.specs.Lookup.{code_named}
 use Rattle.alm_parse.specs.declared.operation.Operation.{Operation}
 use Rattle.alm_parse.specs.declared.operation.Operation.TheVariants.{Instruction, Names, Value}
 use Rattle.alm_parse.specs.declared.operation.Operation.TheVariants.{Section, Decimal, Octal}
 use Rattle.alm_parse.specs.declared.operation.Operation.TheVariants.{Characters, Halves, Block}
 use Rattle.alm_parse.specs.declared.operation.Operation.TheVariants.{Bare, End}
+use Rattle.alm_parse.specs.declared.deed.Deed.{Deed}
+use Rattle.alm_parse.specs.declared.deed.Deed.TheVariants as deed
 use Rattle.alm_tokens.specs.Tokens.{is_text}
 
-unfoldable pub directive : List ℕ → Option Operation
+-- Each name that directs the assembler: how its operand is read, and what it does. Behind `end`
+-- nothing is read.
+unfoldable pub directive : List ℕ → Option (Operation × Deed)
 directive name =
-    if is_text (codes "entry") name || is_text (codes "segdef") name
-    then Some Names
+    if is_text (codes "entry") name
+    then Some (Names, deed.Entry)
+    else (if is_text (codes "segdef") name
+    then Some (Names, deed.Segdef)
     else (if is_text (codes "equ") name
-    then Some Value
+    then Some (Value, deed.Equ)
     else (if is_text (codes "use") name
-    then Some Section
+    then Some (Section, deed.Use)
     else (if is_text (codes "dec") name
-    then Some Decimal
+    then Some (Decimal, deed.Words)
     else (if is_text (codes "oct") name
-    then Some Octal
+    then Some (Octal, deed.Words)
     else (if is_text (codes "aci") name
-    then Some Characters
+    then Some (Characters, deed.Words)
     else (if is_text (codes "zero") name
-    then Some Halves
+    then Some (Halves, deed.Zero)
     else (if is_text (codes "bss") name
-    then Some Block
-    else (if is_text (codes "even") name || is_text (codes "entrybound") name
-    then Some Bare
-    else (if is_text (codes "end") name then Some End else None)))))))))
+    then Some (Block, deed.Block)
+    else (if is_text (codes "even") name
+    then Some (Bare, deed.Even)
+    else (if is_text (codes "entrybound") name
+    then Some (Bare, deed.Bound)
+    else (if is_text (codes "end") name then Some (End, deed.Nothing) else None)))))))))))
 
 abbrev pub instruction_by : {A : Type 0} → Option A → Option Operation
 instruction_by (Some code) = Some Instruction
 instruction_by None = None
 
-abbrev pub operation_by : Option Operation → List ℕ → Option Operation
-operation_by (Some operation) name = Some operation
+abbrev pub operation_by : Option (Operation × Deed) → List ℕ → Option Operation
+operation_by (Some directed) name = Some directed.0
 operation_by None name = instruction_by (code_named name)
 
 unfoldable pub operation_of : List ℕ → Option Operation

@@ -8,11 +8,11 @@ ghost use Rattle.alm_parse.specs.Refusals.{Reads, IsInside, HaltsInside};
 
 use crate::args::Args;
 use crate::characters::characters_args;
-use crate::deed::deed_of;
+use crate::directives::{deed_of, operation_of};
 use crate::line::Line36;
 use crate::members::{numbers_args, symbols_args};
 use crate::operand::operand_args;
-use crate::operation::{Operation, operation_of};
+use crate::operation::Operation;
 use crate::pairs::{block_args, halves_args, section_args, value_args};
 use crate::refusal::{Code, Halt, Refusal, told};
 use alm_tokens::head::{Head, delimited_in, head_of, operand_in};

@@ -1,0 +1,98 @@
+//! What names of operations mean: how their operands are read, and what they do.
+
+ghost use Rattle.std.specs.Prelude.{◌≡◌, Option};
+ghost use Rattle.m36_inst.specs.Lookup.{code_named};
+ghost use Rattle.alm_parse.specs.Operations.{directive, operation_of};
+ghost use Rattle.alm_parse.specs.Deeds.{instruction_of, deed_named, deed_of};
+
+use crate::deed::Deed;
+use crate::operation::Operation;
+use alm_tokens::span::{Span, bytes_of};
+use m36_inst::by_name;
+
+// A name that directs the assembler.
+#[tactic(auto, unfolding(crate::specs::Operations::directive))]
+fn directive(bytes: &[u8]) -> Option<(Operation, Deed)>
+    ensures { result ≡ directive bytes.now }
+{
+    if bytes == b"entry".as_slice() {
+        return Some((Operation::Names, Deed::Entry));
+    }
+    if bytes == b"segdef".as_slice() {
+        return Some((Operation::Names, Deed::Segdef));
+    }
+    if bytes == b"equ".as_slice() {
+        return Some((Operation::Value, Deed::Equ));
+    }
+    if bytes == b"use".as_slice() {
+        return Some((Operation::Section, Deed::Use));
+    }
+    if bytes == b"dec".as_slice() {
+        return Some((Operation::Decimal, Deed::Words));
+    }
+    if bytes == b"oct".as_slice() {
+        return Some((Operation::Octal, Deed::Words));
+    }
+    if bytes == b"aci".as_slice() {
+        return Some((Operation::Characters, Deed::Words));
+    }
+    if bytes == b"zero".as_slice() {
+        return Some((Operation::Halves, Deed::Zero));
+    }
+    if bytes == b"bss".as_slice() {
+        return Some((Operation::Block, Deed::Block));
+    }
+    if bytes == b"even".as_slice() {
+        return Some((Operation::Bare, Deed::Even));
+    }
+    if bytes == b"entrybound".as_slice() {
+        return Some((Operation::Bare, Deed::Bound));
+    }
+    if bytes == b"end".as_slice() {
+        return Some((Operation::End, Deed::Nothing));
+    }
+    None
+}
+
+/// The operation of this name; none where there is none.
+#[tactic(auto, unfolding(crate::specs::Operations::operation_of))]
+pub fn operation_of(bytes: &[u8]) -> Option<Operation>
+    ensures { result ≡ operation_of bytes.now }
+{
+    if let Some((operation, _)) = directive(bytes) {
+        return Some(operation);
+    }
+    match by_name(bytes) {
+        Some(_) => Some(Operation::Instruction),
+        None => None,
+    }
+}
+
+fn instruction(bytes: &[u8]) -> Deed
+    ensures { result ≡ instruction_of (code_named bytes.now) }
+{
+    match by_name(bytes) {
+        Some((code, bit27)) => Deed::Instruction(code, bit27),
+        None => Deed::Nothing,
+    }
+}
+
+#[tactic(auto, unfolding(crate::specs::Deeds::deed_named))]
+fn deed_named(bytes: &[u8]) -> Deed
+    ensures { result ≡ deed_named bytes.now }
+{
+    if let Some((_, deed)) = directive(bytes) {
+        return deed;
+    }
+    instruction(bytes)
+}
+
+/// What a line's operation does.
+pub fn deed_of(text: &[u8], op: Option<Span>) -> Deed
+    ensures { result ≡ deed_of text.now op }
+{
+    match op {
+        Some(op) => deed_named(bytes_of(text, op)),
+        None => Deed::Nothing,
+    }
+}
