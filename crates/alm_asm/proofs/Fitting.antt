@@ -23,6 +23,7 @@ use Rattle.alm_lines.specs.SpotFields.{Spot}
 use Rattle.alm_parse.specs.declared.deed.Deed.{Deed}
 use Rattle.alm_parse.specs.declared.deed.Deed.TheVariants as deed
 use Rattle.alm_lines.specs.declared.refusal.Room.TheVariants.{Half}
+use Rattle.alm_asm.specs.LineRefusals.{is_static}
 use Rattle.alm_asm.proofs.EachSymbol.{Each, each_of_none, each_with_labels, each_with_own}
 
 abbrev pub Fits : Bool → Sum → Type 0
@@ -30,12 +31,6 @@ Fits outer sum = outer ≡ false → sum.outer.up ≡ sum.outer.down
 
 abbrev pub AllFit : Bool → List (List ℕ × Sum) → Type 0
 AllFit outer symbols = Each (Fits outer) symbols
-
-abbrev pub is_static : Section → Bool
-is_static Text = false
-is_static Linkage = false
-is_static Symbol = false
-is_static Static = true
 
 -- ---- spots
 

@@ -26,7 +26,8 @@ use Rattle.alm_lines.specs.SpotFields.{Spot}
 use Rattle.alm_asm.specs.declared.tables.Tables.{Tables}
 use Rattle.alm_parse.specs.declared.deed.Deed.{Deed}
 use Rattle.alm_parse.specs.declared.deed.Deed.TheVariants as deed
-use Rattle.alm_asm.proofs.Fitting.{AllFit, StandAt, others_stand, no_static, is_static, sum_fits, good_kind, kind_good}
+use Rattle.alm_asm.specs.LineRefusals.{is_static}
+use Rattle.alm_asm.proofs.Fitting.{AllFit, StandAt, others_stand, no_static, sum_fits, good_kind, kind_good}
 use Rattle.alm_asm.proofs.PlaceLaws.{grown_self, moved_grows, grows_to_end}
 
 -- ---- the order of relocations

@@ -14,7 +14,8 @@ use Rattle.alm_lines.specs.Spots.{start, count_in, place, grown_in, entered, siz
 use Rattle.alm_asm.specs.Words.{words_by, same_section, words_of_line, words_from}
 use Rattle.alm_asm.specs.Assembly.{bound_by, bound_from, evened}
 use Rattle.alm_asm.specs.Laws.{holds_words}
-use Rattle.alm_asm.specs.Assembles.{StandsBehind, evened_count, is_static, enters_static, is_use_static, is_bound, is_entrybound, evening_words}
+use Rattle.alm_asm.specs.LineRefusals.{is_static}
+use Rattle.alm_asm.specs.Assembles.{StandsBehind, evened_count, enters_static, is_use_static, is_bound, is_entrybound, evening_words}
 use Rattle.alm_lines.specs.SpotFields.{Spot}
 use Rattle.alm_asm.specs.declared.tables.Tables.{Tables}
 use Rattle.alm_parse.specs.declared.deed.Deed.{Deed}

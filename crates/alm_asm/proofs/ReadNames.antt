@@ -2,6 +2,7 @@
 use Rattle.std.proofs.Common.{◌≡◌, ℕ, ◌+◌, ◌≤◌, Bool, true, false, cond, ◌&&◌, ◌||◌, leb, List, [], ◌∷◌, ◌++◌, length, take, map, Option, Some, None, is_some, Result, Ok, Err, refl, sym, ap, ◌∙◌, true≢false}
 use Rattle.std.specs.Prelude.{codes, ◌==◌, slice_index, unwrap_or}
 use Rattle.std.specs.List.{list_all}
+use Rattle.std.specs.Option.{option_or}
 use Rattle.std.proofs.lemmas.Bool.{and_parts, and_from, leb-true}
 use Rattle.std.proofs.lemmas.List.{take_all}
 use Rattle.alm_parse.specs.SourceFields.{Source}
@@ -30,7 +31,7 @@ use Rattle.alm_parse.specs.Bodies.{place_of, body_of, own_section, is_segment, i
 use Rattle.alm_parse.specs.Operands.{body_span, tag_given, entry_given, operand_of, is_operand, operand_given}
 use Rattle.alm_parse.specs.Members.{symbol_arg, symbols_given, number_arg, numbers_given}
 use Rattle.alm_tokens.specs.Lists.{members, is_symbol_at, is_written_at, place_out}
-use Rattle.alm_parse.specs.Pairs.{value_of_members, value_given, first_place, halves_of_members, halves_given, block_of_members, block_given, used_section, is_section, section_given}
+use Rattle.alm_parse.specs.Pairs.{value_of_members, value_given, halves_of_members, halves_given, block_of_members, block_given, used_section, is_section, section_given}
 use Rattle.alm_parse.specs.Characters.{place_bad, packed, is_ended, characters_by, characters_ended, characters_closed, characters_given}
 use Rattle.alm_tokens.specs.Heads.{head_of}
 use Rattle.alm_parse.specs.Operations.{operation_of}
@@ -134,7 +135,7 @@ halves_by text at (left ∷ []) arguments e = absurd cc
 halves_by text at (left ∷ right ∷ []) arguments e =
     let a = expression_pieces text left in
     let b = expression_pieces text right in
-    let ok = unless_ok (refused text at (list_all (is_term_at text) (expression_pieces text left) && list_all (is_term_at text) (expression_pieces text right)) (first_place (place_over text (expression_pieces text left)) (place_over text (expression_pieces text right))))
+    let ok = unless_ok (refused text at (list_all (is_term_at text) (expression_pieces text left) && list_all (is_term_at text) (expression_pieces text right)) (option_or (place_over text (expression_pieces text left)) (place_over text (expression_pieces text right))))
     (arg.Plain (map (term_of text) (expression_pieces text left)) ∷ arg.Plain (map (term_of text) (expression_pieces text right)) ∷ []) arguments e in
     carried text (arg.Plain (map (term_of text) (expression_pieces text left)) ∷ arg.Plain (map (term_of text) (expression_pieces text right)) ∷ []) arguments ok.1
     (two_args text (arg.Plain (map (term_of text) (expression_pieces text left))) (arg.Plain (map (term_of text) (expression_pieces text right))) refl refl)

@@ -10,7 +10,7 @@ use Rattle.alm_parse.specs.declared.args.Arg.{Arg}
 use Rattle.alm_parse.specs.declared.args.Arg.TheVariants as arg
 use Rattle.alm_parse.specs.declared.line.Line36.{Line36}
 use Rattle.obj36_parts.specs.declared.section.Section.{Section}
-use Rattle.obj36_parts.specs.declared.section.Section.TheVariants.{Text, Linkage, Symbol, Static}
+use Rattle.obj36_parts.specs.declared.section.Section.TheVariants.{Text}
 use Rattle.obj36_parts.specs.Fields.{LinkFields}
 use Rattle.obj36_parts.specs.PartsFields.{PartsFields}
 use Rattle.obj36_parts.specs.ObjectSegment.{definition_names, are_distinct, are_rising}
@@ -24,6 +24,7 @@ use Rattle.alm_asm.specs.Words.{words_by}
 use Rattle.alm_asm.specs.Marks.{marks_from}
 use Rattle.alm_lines.specs.Layout.{own_symbol, own_sum, labelled, symbols_from}
 use Rattle.alm_asm.specs.Definitions.{definitions_from}
+use Rattle.alm_asm.specs.LineRefusals.{is_static}
 use Rattle.alm_asm.specs.Assembly.{tables_of, static_section}
 use Rattle.alm_lines.specs.declared.sum.Sum.{Sum}
 use Rattle.alm_lines.specs.SpotFields.{Spot}
@@ -57,12 +58,6 @@ words_placed source above line =
     words_by source.text (meaning_of source) (spot_below source above) line.args line.deed
 
 -- whether a line is `use static`
-abbrev pub is_static : Section → Bool
-is_static Text = false
-is_static Linkage = false
-is_static Symbol = false
-is_static Static = true
-
 abbrev pub enters_static : Deed → Section → Bool
 enters_static deed.Nothing section = false
 enters_static (deed.Instruction code bit27) section = false

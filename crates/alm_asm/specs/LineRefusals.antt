@@ -45,11 +45,14 @@ abbrev pub external_place : Span → Option Span → ℕ
 external_place segment (Some entry) = entry.to + 1
 external_place segment None = segment.to + 2
 
+abbrev pub is_static : Section → Bool
+is_static Text = false
+is_static Linkage = false
+is_static Symbol = false
+is_static Static = true
+
 abbrev pub needs_static : Option Section → Bool
-needs_static (Some Static) = true
-needs_static (Some Text) = false
-needs_static (Some Linkage) = false
-needs_static (Some Symbol) = false
+needs_static (Some section) = is_static section
 needs_static None = false
 
 -- Static words of their own are named only where the lines have some,

@@ -2,6 +2,7 @@
 use Rattle.std.specs.Prelude.{ℕ, Bool, ◌&&◌, if◌then◌else◌, List, [], ◌∷◌, map, codes}
 use Rattle.std.specs.Prelude.{Option, Some, None, is_some, Result, Err}
 use Rattle.std.specs.List.{list_all}
+use Rattle.std.specs.Option.{option_or}
 use Rattle.obj36_parts.specs.declared.section.Section.{Section}
 use Rattle.obj36_parts.specs.declared.section.Section.TheVariants.{Text, Linkage, Static}
 use Rattle.alm_tokens.specs.declared.span.Span.{Span}
@@ -32,15 +33,11 @@ unfoldable pub value_given : List ℕ → Span → Result (List Arg) Refusal
 value_given text operand = value_of_members text operand.from (members text operand)
 
 -- two expressions
-abbrev pub first_place : Option ℕ → Option ℕ → Option ℕ
-first_place (Some place) second = Some place
-first_place None second = second
-
 abbrev pub halves_by : List ℕ → ℕ → List Piece → List Piece → Result (List Arg) Refusal
 halves_by text at left right =
     unless
     (refused text at (list_all (is_term_at text) left && list_all (is_term_at text) right)
-    (first_place (place_over text left) (place_over text right)))
+    (option_or (place_over text left) (place_over text right)))
     (Plain (map (term_of text) left) ∷ Plain (map (term_of text) right) ∷ [])
 
 abbrev pub halves_of_members : List ℕ → ℕ → List Piece → Result (List Arg) Refusal

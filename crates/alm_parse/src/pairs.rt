@@ -1,7 +1,8 @@
 //! Operands of two parts, and names of sections.
 
 ghost use Rattle.std.specs.Prelude.{ℕ, ◌≡◌, ◌^◌, ◌<◌, Option, IfSome, IfOk, IfErr, length, ◌⊎◌};
-ghost use Rattle.alm_parse.specs.Pairs.{first_place, value_given, halves_given, block_given, used_section, section_given};
+ghost use Rattle.std.specs.Option.{option_or};
+ghost use Rattle.alm_parse.specs.Pairs.{value_given, halves_given, block_given, used_section, section_given};
 ghost use Rattle.alm_parse.specs.Refusals.{Reads, HaltsInside};
 
 use crate::args::{Arg, Args, one, two};
@@ -37,7 +38,7 @@ pub fn value_args(alloc: Global, text: &[u8], operand: Span) -> Result<Args, Hal
 }
 
 fn first_place(first: Option<u32>, second: Option<u32>) -> Option<u32>
-    ensures value { result ≡ first_place first second }
+    ensures value { result ≡ option_or first second }
     ensures either { (result ≡ first) ⊎ (result ≡ second) }
 {
     match first {
