@@ -36,7 +36,7 @@ text_of None = codes "none"
 text_of (Some term) = term.text
 
 abbrev pub term_at : List TermFields → Option ℕ → List ℕ
-term_at terms None = codes "none"
+term_at terms None = text_of None
 term_at terms (Some place) = text_of (slice_get terms place)
 
 unfoldable pub deciding_in : List TermFields → List ℕ → List ℕ
