@@ -63,7 +63,7 @@ EffectLaw =
     (e : Effect) (n : ℕ) (g : RegsFields) (f : FinalFields) (o : OperandFields) (x : EffectFields)
     → exec e n g f o ≡ Ok x → IsEffect e g f o x
 
--- No effect is refused with a directed fault, an access violation or a fault tag.
+-- No effect is refused with a directed fault, an access violation, or fault tag 2 or 3.
 abbrev pub EffectRefusals : Type 0
 EffectRefusals =
     (e : Effect) (n : ℕ) (g : RegsFields) (f : FinalFields) (o : OperandFields) (number : ℕ)

@@ -153,8 +153,8 @@ pub record SaysYes (yes : List ℕ) (old new : Option (List ℕ)) : Type 0 where
   pub was : old ≡ Some before
   pub is : new ≡ Some (before ++ (yes ++ rest))
 
--- Then the image, the folder or the processes that the command audits pass. Nothing is owed for a command that
--- audits none.
+-- Then the image, the folder, the folder that is made or the processes that the command audits
+-- pass. Nothing is owed for a command that audits none.
 abbrev pub YesPasses : Early Due → Outside → Outside → Type 0
 YesPasses (Ok due) old new =
     SaysYes (yes_of due) old.sink.written new.sink.written → Promises due

@@ -2,6 +2,7 @@
 -- refusal, told at its word.
 use Rattle.std.specs.Prelude.{ℕ, Bool, true, false, ◌≡◌, ◌++◌, List, Result, Ok, Err}
 use Rattle.m36_desc.specs.Fields.{SdwFields, DbrFields}
+use Rattle.m36_desc.specs.Violations.{illegal_ring_order}
 use Rattle.m36_desc.specs.declared.access.Acv.{Acv}
 use Rattle.m36_model.specs.Fields.{AtFields}
 use Rattle.m36_model.specs.Store.{Spot, violation, fault_by}
@@ -24,7 +25,7 @@ told_acv at (Err acv) = Err (fault_by (violation acv.0) at)
 -- brackets out of order are a refusal
 abbrev pub told_order : Bool → Result Unit Refusal
 told_order true = Ok tt
-told_order false = Err (violation 0)
+told_order false = Err (violation illegal_ring_order)
 
 -- a reference that is answered: the descriptor by which its words were found, and where they lie
 pub record Reached : Type 0 where
