@@ -1,5 +1,5 @@
 -- Answers by what an audit has found: the audit text, and a booted run behind it.
-use Rattle.std.proofs.Common.{◌≡◌, ℕ, List, [], ◌++◌, Option, Some, None, Ok, refl, sym, ap, subst, ◌∙◌, arith, inl, inr}
+use Rattle.std.proofs.Common.{◌≡◌, ℕ, List, [], ◌++◌, Option, Some, None, Ok, refl, subst, ◌∙◌, arith, inl, inr}
 use Rattle.m36_outside.specs.Counts.{Rose}
 use Rattle.m36_outside.specs.Passing.{TakesSome}
 use Rattle.m36_outside.specs.Written.{Grew, GrewWithin}
@@ -16,16 +16,15 @@ use Rattle.m36_step.specs.declared.turns.Turn.{Turn}
 use Rattle.m36_super.specs.Library.{Library}
 use Rattle.m36_super.specs.BootedRun.{Booted, AreTurns}
 use Rattle.m36_super.specs.SuperFields.{SuperFields, booted_of}
-use Rattle.m36_reading.specs.declared.setting.Set.{Set}
 use Rattle.m36_reading.specs.declared.status.Status.{Status}
 use Rattle.m36_reading.specs.declared.status.Status.TheVariants as status
-use Rattle.m36_reading.specs.Answers.{Answer, with_sets}
+use Rattle.m36_reading.specs.Answers.{Answer}
 use Rattle.m36_reading.specs.Asking.{Came}
 use Rattle.m36_reading.specs.Outside.{FolderState}
 use Rattle.m36_reading.specs.Ends.{End as Ending, Answered, Cut, Unread, Unasked, end_of}
 use Rattle.m36_reading.specs.Ends as ends
 use Rattle.m36_reading.specs.Doing.{EndsBy, Performs}
-use Rattle.m36_reading.proofs.WriteLaws.{writes_none}
+use Rattle.m36_reading.proofs.WriteLaws.{none_set}
 use Rattle.m36_ran.specs.AuditText.{audit_text, audit_pieces}
 use Rattle.m36_ran.specs.Putting.{PutsBy, IsPut, IsPartPut}
 use Rattle.m36_ran.specs.Ran.{behind, audit_answer}
@@ -42,6 +41,7 @@ use Rattle.m36_booted.specs.RunSays.{PutsPieces, RanSays}
 use Rattle.m36_booted.specs.Booted.{IsRunAnswer, IsAuditAnswer, IsAnswerOf, IsFolderAnswer, folder_kind}
 use Rattle.m36_booted.specs.Putting.{Puts}
 use Rattle.m36_booted.specs.Systems.{IsFresh}
+use Rattle.m36_booted.proofs.DueLaws.{folder_sets}
 
 -- ---- a run behind the audit text
 
@@ -233,13 +233,8 @@ ends_put command given Answered result f s s' p = record {
   is_due = p.is;
   made = record {
     status = p.puts.status;
-    files = sym (ap (λ (sets : List Set). with_sets sets f.files) p.puts.sets);
-    wrote = sym (writes_none f.wrote p.due.sets p.puts.sets);
-    text = p.puts.text;
-    pieces = p.puts.pieces;
+    whole = record { set = none_set f p.due.sets p.puts.sets; text = p.puts.text; pieces = p.puts.pieces; put_faults = p.puts.faults };
     read_faults = refl;
-    write_faults = refl;
-    put_faults = p.puts.faults;
   };
 }
 ends_put command given Cut result f s s' p = record {
@@ -248,13 +243,11 @@ ends_put command given Cut result f s s' p = record {
   due = p.due;
   begun = p.is;
   cut = inr (record {
-    files = sym (ap (λ (sets : List Set). with_sets sets f.files) p.puts.sets);
-    wrote = sym (writes_none f.wrote p.due.sets p.puts.sets);
+    set = none_set f p.due.sets p.puts.sets;
     text = p.puts.text;
     pieces = p.puts.pieces;
     cause = p.puts.cause;
     read_faults = refl;
-    write_faults = refl;
   });
 }
 ends_put command given ends.Starved result f s s' (inl p) = inr (record {
@@ -266,7 +259,11 @@ ends_put command given ends.Starved result f s s' (inl p) = inr (record {
 ends_put command given ends.Starved result f s s' (inr p) = inr (record {
   given = given;
   came = refl;
-  wants = inr (record { due = p.due; is = p.is; files = refl; wrote = refl; text = p.text; pieces = p.pieces; write_faults = refl; put_faults = p.faults });
+  wants = inr (record {
+    due = p.due;
+    is = p.is;
+    whole = record { set = none_set f p.due.sets (folder_sets Starved command given p.due p.is); text = p.text; pieces = p.pieces; put_faults = p.faults };
+  });
   read_faults = refl;
 })
 ends_put command given Unread result f s s' p = absurd p

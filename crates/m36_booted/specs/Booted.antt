@@ -1,7 +1,6 @@
 -- What is due to a command on a folder that is booted: the text of what the audit of the booted
 -- core finds, and, where the system is run, what is written of the run.
-use Rattle.std.specs.Prelude.{◌≡◌, ℕ, ◌⊎◌, Bool, true, false, ◌||◌, List, ◌++◌, Option}
-use Rattle.m36_outside.specs.Written.{Grew}
+use Rattle.std.specs.Prelude.{◌≡◌, ℕ, ◌⊎◌, Bool, true, false, ◌||◌, List, Option}
 use Rattle.m36_model.specs.Audit.{AreFindings}
 use Rattle.m36_model.specs.BootedCore.{booted_dbr}
 use Rattle.m36_step.specs.declared.turns.Turn.{Turn}
@@ -11,7 +10,7 @@ use Rattle.m36_super.specs.SuperFields.{SuperFields, booted_of}
 use Rattle.m36_super.specs.BootSays.{IsBooted}
 use Rattle.m36_reading.specs.Answers.{Answer}
 use Rattle.m36_reading.specs.Outside.{Outside, IsIdle}
-use Rattle.m36_reading.specs.Doing.{Kind, fails_never}
+use Rattle.m36_reading.specs.Doing.{Kind, IsWhole, fails_never}
 use Rattle.m36_ran.specs.Ran.{passes, behind, audit_answer}
 use Rattle.m36_booted.specs.declared.command.FolderCommand.{FolderCommand}
 use Rattle.m36_booted.specs.declared.command.FolderCommand.TheVariants.{Audit, Run, Trace}
@@ -76,12 +75,7 @@ pub record IsStarvedRun
     (command : FolderCommand) (given : FolderFields) (old new : Outside) : Type 0 where
   pub due : Answer
   pub is : IsFolderAnswer Starved command given due
-  pub files : new.folder.files ≡ old.folder.files
-  pub wrote : new.folder.wrote ≡ old.folder.wrote
-  pub text : Grew old.sink.written new.sink.written due.text
-  pub pieces : new.sink.taken ≡ old.sink.taken ++ due.pieces
-  pub write_faults : new.folder.write_faults ≡ old.folder.write_faults
-  pub put_faults : new.sink.faults ≡ old.sink.faults
+  pub whole : IsWhole due old new
 
 -- Memory is wanted before anything is written, or by a link service.
 abbrev pub FolderWants : FolderCommand → FolderFields → Outside → Outside → Type 0

@@ -17,7 +17,7 @@ use Rattle.m36_reading.specs.Ends as ends
 use Rattle.m36_reading.specs.Doing.{EndsBy, Does, Performs}
 use Rattle.m36_reading.proofs.EndLaws.{does_told, does_stop}
 use Rattle.m36_reading.proofs.ReadLaws.{reads_nothing}
-use Rattle.m36_told.specs.Setting.{AllSet, SetFailed, SetWanting}
+use Rattle.m36_reading.specs.Setting.{AllSet, SetFailed, SetWanting}
 use Rattle.m36_booted.specs.declared.reading.BootedFolder.{BootedFolder}
 use Rattle.m36_booted.specs.Folder.{FolderFields}
 use Rattle.m36_booted.specs.Runs.{Extent, Whole, Begun, Starved}
@@ -83,13 +83,8 @@ ends_told sets Answered result f f' s s' set unread p = record {
   is_due = record { told = p.due; is = p.is; answer = refl };
   made = record {
     status = p.puts.status;
-    files = set.files;
-    wrote = set.wrote;
-    text = p.puts.text;
-    pieces = p.puts.pieces;
+    whole = record { set = set; text = p.puts.text; pieces = p.puts.pieces; put_faults = p.puts.faults };
     read_faults = unread;
-    write_faults = set.write_faults;
-    put_faults = p.puts.faults;
   };
 }
 ends_told sets Cut result f f' s s' set unread p = record {
@@ -98,24 +93,20 @@ ends_told sets Cut result f f' s s' set unread p = record {
   due = with_files sets p.due;
   begun = inl (record { told = p.due; is = p.is; answer = refl });
   cut = inr (record {
-    files = set.files;
-    wrote = set.wrote;
+    set = set;
     text = p.puts.text;
     pieces = p.puts.pieces;
     cause = p.puts.cause;
     read_faults = unread;
-    write_faults = set.write_faults;
   });
 }
 ends_told sets ends.Starved result f f' s s' set unread (inl p) = inr (record {
   given = sets;
   came = refl;
   wants = inr (inl (record {
-    files = set.files;
-    wrote = set.wrote;
+    set = set;
     text = grew_nothing s.written s'.written p.written;
     pieces = p.taken ∙ sym (append-nil s.taken);
-    write_faults = set.write_faults;
     put_faults = p.faults;
   }));
   read_faults = unread;
@@ -126,14 +117,7 @@ ends_told sets ends.Starved result f f' s s' set unread (inr p) = inr (record {
   wants = inr (inr (record {
     told = p.due;
     is = p.is;
-    so_far = record {
-      files = set.files;
-      wrote = set.wrote;
-      text = p.text;
-      pieces = p.pieces;
-      write_faults = set.write_faults;
-      put_faults = p.faults;
-    };
+    so_far = record { set = set; text = p.text; pieces = p.pieces; put_faults = p.faults };
   }));
   read_faults = unread;
 })
@@ -156,15 +140,9 @@ made_unset sets f f' s failed unread = record {
   due = files_alone sets;
   begun = inr refl;
   cut = inl (record {
-    before = failed.before;
-    failed = failed.failed;
-    others = failed.others;
-    sets = failed.are;
-    files = failed.files;
-    wrote = failed.wrote;
+    set = failed;
     written = refl;
     taken = refl;
-    cause = failed.cause;
     read_faults = unread;
     put_faults = refl;
   });
@@ -178,15 +156,9 @@ made_wanting sets f f' s wanting unread = inr (record {
   given = sets;
   came = refl;
   wants = inl (record {
-    before = wanting.before;
-    next = wanting.next;
-    others = wanting.others;
-    sets = wanting.are;
-    files = wanting.files;
-    wrote = wanting.wrote;
+    set = wanting;
     written = refl;
     taken = refl;
-    write_faults = wanting.write_faults;
     put_faults = refl;
   });
   read_faults = unread;

@@ -1,14 +1,13 @@
 -- What is due to `make SEED`: all the files that the seed makes are written, and then it is told what
 -- the folder that they are comes to where it is booted.
-use Rattle.std.specs.Prelude.{ℕ, ◌≡◌, ◌⊎◌, List, [], ◌++◌, length, None, Ok, Err}
-use Rattle.m36_outside.specs.Written.{Grew}
+use Rattle.std.specs.Prelude.{ℕ, ◌≡◌, ◌⊎◌, List, [], length, None, Ok, Err}
 use Rattle.m36_text.specs.Lines.{as_line}
 use Rattle.m36_reading.specs.declared.setting.Set.{Set}
 use Rattle.m36_reading.specs.declared.status.Status.TheVariants as status
 use Rattle.m36_reading.specs.Reading.{Early, outcome_in}
-use Rattle.m36_reading.specs.Answers.{Answer, unwritten, IsDueBy, with_sets, writes_of}
+use Rattle.m36_reading.specs.Answers.{Answer, unwritten, IsDueBy}
 use Rattle.m36_reading.specs.Outside.{Outside}
-use Rattle.m36_reading.specs.Doing.{Kind, fails_never}
+use Rattle.m36_reading.specs.Doing.{Kind, IsWhole, fails_never}
 use Rattle.m36_told.specs.Told.{ToldWants}
 use Rattle.m36_booted.specs.Folder.{FolderFields, folder_reads}
 use Rattle.m36_booted.specs.Promise.{PassesBooted}
@@ -56,13 +55,8 @@ IsMadeBegun sets due = IsMadeAnswer Begun sets due ⊎ (due ≡ files_alone sets
 -- ---- want of memory
 
 -- All files are written, and this is put.
-pub record IsToldSoFar (sets : List Set) (told : Answer) (old new : Outside) : Type 0 where
-  pub files : new.folder.files ≡ with_sets sets old.folder.files
-  pub wrote : new.folder.wrote ≡ old.folder.wrote ++ writes_of sets
-  pub text : Grew old.sink.written new.sink.written told.text
-  pub pieces : new.sink.taken ≡ old.sink.taken ++ told.pieces
-  pub write_faults : new.folder.write_faults ≡ old.folder.write_faults
-  pub put_faults : new.sink.faults ≡ old.sink.faults
+abbrev pub IsToldSoFar : List Set → Answer → Outside → Outside → Type 0
+IsToldSoFar sets told old new = IsWhole (with_files sets told) old new
 
 -- Behind the files, and before a step is taken, nothing is put.
 abbrev pub IsUntold : List Set → Outside → Outside → Type 0

@@ -1,20 +1,19 @@
 -- A command on a bare image, from its parts.
-use Rattle.std.proofs.Common.{◌≡◌, ℕ, List, [], Result, Ok, Err, refl, sym, ap, inr}
+use Rattle.std.proofs.Common.{◌≡◌, ℕ, List, [], Result, Ok, Err, refl, ap, inr}
 use Rattle.m36_model.specs.Store.{State}
 use Rattle.m36_model.specs.Audit.{AreFindings}
 use Rattle.m36_outside.specs.SinkState.{SinkState}
 use Rattle.m36_image.specs.declared.refusal.Refusal as refusal
 use Rattle.m36_reading.specs.declared.refusal.Refusal.{Refusal}
-use Rattle.m36_reading.specs.declared.setting.Set.{Set}
 use Rattle.m36_reading.specs.declared.status.Status.{Status}
 use Rattle.m36_reading.specs.Asking.{Came, Gives, Refuses}
 use Rattle.m36_reading.specs.Readers.{refused}
-use Rattle.m36_reading.specs.Answers.{Answer, with_sets}
+use Rattle.m36_reading.specs.Answers.{Answer}
 use Rattle.m36_reading.specs.Outside.{FolderState}
 use Rattle.m36_reading.specs.Ends.{End, Answered, Cut, Unread, Starved, Unasked, end_of}
 use Rattle.m36_reading.specs.Doing.{EndsBy, Performs}
 use Rattle.m36_reading.proofs.ReadLaws.{gives_by}
-use Rattle.m36_reading.proofs.WriteLaws.{writes_none}
+use Rattle.m36_reading.proofs.WriteLaws.{none_set}
 use Rattle.m36_ran.specs.declared.command.ImageCommand.{ImageCommand}
 use Rattle.m36_ran.specs.Putting.{PutsBy, PutsSome}
 use Rattle.m36_ran.specs.Ran.{code_of, state_by, state_answer, IsIsolated, IsStateDue, state_kind}
@@ -69,13 +68,8 @@ ends_put command state Answered result f s s' p = record {
   is_due = p.is_due;
   made = record {
     status = p.puts.status;
-    files = sym (ap (λ (sets : List Set). with_sets sets f.files) p.puts.sets);
-    wrote = sym (writes_none f.wrote p.due.sets p.puts.sets);
-    text = p.puts.text;
-    pieces = p.puts.pieces;
+    whole = record { set = none_set f p.due.sets p.puts.sets; text = p.puts.text; pieces = p.puts.pieces; put_faults = p.puts.faults };
     read_faults = refl;
-    write_faults = refl;
-    put_faults = p.puts.faults;
   };
 }
 ends_put command state Cut result f s s' p = record {
@@ -84,13 +78,11 @@ ends_put command state Cut result f s s' p = record {
   due = p.due;
   begun = p.is_due;
   cut = inr (record {
-    files = sym (ap (λ (sets : List Set). with_sets sets f.files) p.puts.sets);
-    wrote = sym (writes_none f.wrote p.due.sets p.puts.sets);
+    set = none_set f p.due.sets p.puts.sets;
     text = p.puts.text;
     pieces = p.puts.pieces;
     cause = p.puts.cause;
     read_faults = refl;
-    write_faults = refl;
   });
 }
 ends_put command state Starved result f s s' p = inr (record {

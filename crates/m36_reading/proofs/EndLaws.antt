@@ -80,13 +80,13 @@ does_stop kind p (BadFile bad) old now sink before after reads = record {
     is_due = refl;
     made = record {
       status = refl;
-      files = reads.files;
-      wrote = reads.wrote ∙ sym (append-nil old.wrote);
-      text = grew_by_nothing sink.written;
-      pieces = sym (append-nil sink.taken);
+      whole = record {
+        set = record { files = reads.files; wrote = reads.wrote ∙ sym (append-nil old.wrote); write_faults = reads.write_faults };
+        text = grew_by_nothing sink.written;
+        pieces = sym (append-nil sink.taken);
+        put_faults = refl;
+      };
       read_faults = reads.cause;
-      write_faults = reads.write_faults;
-      put_faults = refl;
     };
   };
 }

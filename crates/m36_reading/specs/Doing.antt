@@ -1,17 +1,15 @@
 -- What a command does, by its reading and by the kind of what is due to it.
-use Rattle.std.specs.Prelude.{ℕ, ◌≡◌, ◌⊎◌, List, [], ◌∷◌, ◌++◌, Result, Ok, Err}
+use Rattle.std.specs.Prelude.{ℕ, ◌≡◌, ◌⊎◌, List, ◌++◌, Result, Ok, Err}
 use Rattle.m36_outside.specs.Counts.{Rose}
 use Rattle.m36_outside.specs.Passing.{TakesSome}
 use Rattle.m36_outside.specs.Written.{Grew, GrewWithin}
-use Rattle.m36_outside.specs.WriteAnswer.{DiffersAtMost}
-use Rattle.m36_outside.specs.declared.folder.WriteAnswer.TheVariants as write
 use Rattle.m36_reading.specs.declared.status.Status.{Status}
 use Rattle.m36_reading.specs.declared.refusal.Refusal.{Refusal}
 use Rattle.m36_reading.specs.declared.refusal.Refusal.TheVariants.{BadFile, ReadFault, NoMemory}
-use Rattle.m36_reading.specs.declared.setting.Set.{Set}
 use Rattle.m36_reading.specs.Reading.{Reading, Early}
 use Rattle.m36_reading.specs.Asking.{Asked, AreTold, Coming, Came, Failed, Wanting, Comes, coming}
-use Rattle.m36_reading.specs.Answers.{Answer, IsDueBy, with_sets, write_of, writes_of}
+use Rattle.m36_reading.specs.Answers.{Answer, IsDueBy}
+use Rattle.m36_reading.specs.Setting.{AllSet, SetFailed}
 use Rattle.m36_reading.specs.Outside.{FolderState, Outside, IsIdle, NoneUnread}
 use Rattle.m36_reading.specs.Ends.{End, Answered, Cut, Unread, Starved, Unasked, end_of}
 
@@ -55,44 +53,37 @@ pub record Reads
 
 -- ---- writing
 
--- The status is the one that is due, its files are written, each once and no others, and its text
--- is put whole, in its pieces.
-pub record IsMade (due : Answer) (result : Status) (old new : Outside) : Type 0 where
-  pub status : due.status ≡ result
-  pub files : new.folder.files ≡ with_sets due.sets old.folder.files
-  pub wrote : new.folder.wrote ≡ old.folder.wrote ++ writes_of due.sets
+-- The files of an answer are written, each once and no others, and its text is put whole, in its
+-- pieces.
+pub record IsWhole (due : Answer) (old new : Outside) : Type 0 where
+  pub set : AllSet due.sets old.folder new.folder
   pub text : Grew old.sink.written new.sink.written due.text
   pub pieces : new.sink.taken ≡ old.sink.taken ++ due.pieces
-  pub read_faults : NoneUnread old new
-  pub write_faults : new.folder.write_faults ≡ old.folder.write_faults
   pub put_faults : new.sink.faults ≡ old.sink.faults
+
+-- The status is the one that is due, and all else of the answer is written and put.
+pub record IsMade (due : Answer) (result : Status) (old new : Outside) : Type 0 where
+  pub status : due.status ≡ result
+  pub whole : IsWhole due old new
+  pub read_faults : NoneUnread old new
 
 -- A file could not be written: those before it are, no file but this one may differ otherwise, no
 -- other write is tried, and nothing is put.
 pub record IsUnset (due : Answer) (old new : Outside) : Type 0 where
-  pub before : List Set
-  pub failed : Set
-  pub others : List Set
-  pub sets : due.sets ≡ before ++ (failed ∷ others)
-  pub files : DiffersAtMost (with_sets before old.folder.files) new.folder.files failed.name
-  pub wrote :
-      new.folder.wrote ≡ old.folder.wrote ++ writes_of before ++ write_of write.Failed failed ∷ []
+  pub set : SetFailed due.sets old.folder new.folder
   pub written : new.sink.written ≡ old.sink.written
   pub taken : new.sink.taken ≡ old.sink.taken
-  pub cause : Rose old.folder.write_faults new.folder.write_faults
   pub read_faults : NoneUnread old new
   pub put_faults : new.sink.faults ≡ old.sink.faults
 
 -- All files are written, and a first part of the text is put: pieces of it, and then a first part
 -- of the next.
 pub record IsUnput (due : Answer) (old new : Outside) : Type 0 where
-  pub files : new.folder.files ≡ with_sets due.sets old.folder.files
-  pub wrote : new.folder.wrote ≡ old.folder.wrote ++ writes_of due.sets
+  pub set : AllSet due.sets old.folder new.folder
   pub text : GrewWithin old.sink.written new.sink.written due.text
   pub pieces : TakesSome old.sink.taken new.sink.taken due.pieces
   pub cause : Rose old.sink.faults new.sink.faults
   pub read_faults : NoneUnread old new
-  pub write_faults : new.folder.write_faults ≡ old.folder.write_faults
 
 -- ---- ends, by what may have come of the reading
 

@@ -5,5 +5,6 @@ pub mod Asking
 pub mod Readers
 pub mod Answers
 pub mod Outside
+pub mod Setting
 pub mod Ends
 pub mod Doing

@@ -1,20 +1,18 @@
 -- The command on processes, from its parts.
-use Rattle.std.proofs.Common.{◌≡◌, ℕ, Bool, List, [], Result, Ok, Err, refl, sym, ap, inr}
+use Rattle.std.proofs.Common.{◌≡◌, ℕ, Bool, List, [], Result, Ok, Err, refl, ap, inr}
 use Rattle.m36_model.specs.JointAudit.{JointFound, AreJointFindings}
 use Rattle.m36_outside.specs.SinkState.{SinkState}
 use Rattle.m36_procs.specs.ProcsFields.{ProcsFields}
 use Rattle.m36_procs.specs.declared.fault.Code.{Code as ProcsCode}
 use Rattle.m36_reading.specs.declared.refusal.Refusal.{Refusal}
-use Rattle.m36_reading.specs.declared.setting.Set.{Set}
 use Rattle.m36_reading.specs.declared.status.Status.{Status}
 use Rattle.m36_reading.specs.Asking.{Came, Gives, Refuses}
 use Rattle.m36_reading.specs.Readers.{refused}
-use Rattle.m36_reading.specs.Answers.{with_sets}
 use Rattle.m36_reading.specs.Outside.{FolderState}
 use Rattle.m36_reading.specs.Ends.{End, Answered, Cut, Unread, Starved, Unasked, end_of}
 use Rattle.m36_reading.specs.Doing.{EndsBy, Performs}
 use Rattle.m36_reading.proofs.ReadLaws.{gives_by}
-use Rattle.m36_reading.proofs.WriteLaws.{writes_none}
+use Rattle.m36_reading.proofs.WriteLaws.{none_set}
 use Rattle.m36_ran.specs.Putting.{PutsBy, PutsSome}
 use Rattle.m36_ran.proofs.StateLaws.{put_some}
 use Rattle.m36_scheduled.specs.Scheduled.{code_of, procs_by, procs_answer, dbrs_of, AreIsolated, IsProcsDue, procs_kind}
@@ -61,13 +59,8 @@ ends_put unaudited p Answered result f s s' puts = record {
   is_due = puts.is_due;
   made = record {
     status = puts.puts.status;
-    files = sym (ap (λ (sets : List Set). with_sets sets f.files) puts.puts.sets);
-    wrote = sym (writes_none f.wrote puts.due.sets puts.puts.sets);
-    text = puts.puts.text;
-    pieces = puts.puts.pieces;
+    whole = record { set = none_set f puts.due.sets puts.puts.sets; text = puts.puts.text; pieces = puts.puts.pieces; put_faults = puts.puts.faults };
     read_faults = refl;
-    write_faults = refl;
-    put_faults = puts.puts.faults;
   };
 }
 ends_put unaudited p Cut result f s s' puts = record {
@@ -76,13 +69,11 @@ ends_put unaudited p Cut result f s s' puts = record {
   due = puts.due;
   begun = puts.is_due;
   cut = inr (record {
-    files = sym (ap (λ (sets : List Set). with_sets sets f.files) puts.puts.sets);
-    wrote = sym (writes_none f.wrote puts.due.sets puts.puts.sets);
+    set = none_set f puts.due.sets puts.puts.sets;
     text = puts.puts.text;
     pieces = puts.puts.pieces;
     cause = puts.puts.cause;
     read_faults = refl;
-    write_faults = refl;
   });
 }
 ends_put unaudited p Starved result f s s' puts = inr (record {

@@ -1,7 +1,6 @@
 -- Ends of a command that holds a session.
-use Rattle.std.proofs.Common.{◌≡◌, ℕ, ◌⊎◌, List, Result, Ok, Err, inl, inr, refl, sym, ap, subst}
+use Rattle.std.proofs.Common.{◌≡◌, ℕ, ◌⊎◌, List, [], Result, Ok, Err, inl, inr, refl, sym, ap, subst}
 use Rattle.std.specs.Prelude.{codes, None}
-use Rattle.std.proofs.lemmas.List.{append-nil}
 use Rattle.m36_outside.specs.SinkState.{SinkState}
 use Rattle.m36_model.specs.Store.{State}
 use Rattle.m36_step.specs.MachineFields.{MachineFields}
@@ -19,6 +18,7 @@ use Rattle.m36_reading.specs.Asking.{Asked, Came}
 use Rattle.m36_reading.specs.Outside.{FolderState}
 use Rattle.m36_reading.specs.Ends.{End, Answered, Cut, Unread, Starved, Unasked, end_of}
 use Rattle.m36_reading.specs.Doing.{Reads, EndsBy, Performs}
+use Rattle.m36_reading.proofs.WriteLaws.{none_set}
 use Rattle.m36_debug.specs.declared.fault.SessionFault.{SessionFault}
 use Rattle.m36_debug.specs.declared.fault.SessionFault.TheVariants as fault
 use Rattle.m36_debug.specs.Session.{Turning}
@@ -142,13 +142,8 @@ ends_put Holds d Answered result talk f s s' (inl p) = record {
   is_due = inl (record { lines = p.puts.lines; holds = p.puts.holds; answer = refl });
   made = record {
     status = sym p.is;
-    files = refl;
-    wrote = sym (append-nil f.wrote);
-    text = p.puts.puts.text;
-    pieces = p.puts.puts.pieces;
+    whole = record { set = none_set f [] refl; text = p.puts.puts.text; pieces = p.puts.puts.pieces; put_faults = p.puts.puts.faults };
     read_faults = refl;
-    write_faults = refl;
-    put_faults = p.puts.puts.faults;
   };
 }
 ends_put Holds d Answered result talk f s s' (inr p) = record {
@@ -158,13 +153,8 @@ ends_put Holds d Answered result talk f s s' (inr p) = record {
   is_due = inr (record { lines = p.puts.lines; holds = p.puts.holds; answer = refl });
   made = record {
     status = sym p.is;
-    files = refl;
-    wrote = sym (append-nil f.wrote);
-    text = p.puts.puts.text;
-    pieces = p.puts.puts.pieces;
+    whole = record { set = none_set f [] refl; text = p.puts.puts.text; pieces = p.puts.puts.pieces; put_faults = p.puts.puts.faults };
     read_faults = refl;
-    write_faults = refl;
-    put_faults = p.puts.puts.faults;
   };
 }
 ends_put Holds d Cut result talk f s s' p = record {
@@ -173,13 +163,11 @@ ends_put Holds d Cut result talk f s s' p = record {
   due = answer_with p.lines status.WriteFault;
   begun = record { lines = p.lines; holds = p.holds; answer = refl };
   cut = inr (record {
-    files = refl;
-    wrote = sym (append-nil f.wrote);
+    set = none_set f [] refl;
     text = p.puts.text;
     pieces = p.puts.pieces;
     cause = p.puts.cause;
     read_faults = refl;
-    write_faults = refl;
   });
 }
 ends_put Holds d Unread result talk f s s' p = inr (record {
@@ -188,12 +176,7 @@ ends_put Holds d Unread result talk f s s' p = inr (record {
   fails = record {
     lines = p.lines;
     holds = p.holds;
-    files = refl;
-    wrote = refl;
-    text = p.puts.text;
-    pieces = p.puts.pieces;
-    write_faults = refl;
-    put_faults = p.puts.faults;
+    whole = record { set = none_set f [] refl; text = p.puts.text; pieces = p.puts.pieces; put_faults = p.puts.faults };
   };
   read_faults = refl;
 })
@@ -219,12 +202,7 @@ ends_put Holds d Starved result talk f s s' (inr p) = inr (record {
   wants = inr (record {
     lines = p.lines;
     holds = p.holds;
-    files = refl;
-    wrote = refl;
-    text = p.puts.text;
-    pieces = p.puts.pieces;
-    write_faults = refl;
-    put_faults = p.puts.faults;
+    whole = record { set = none_set f [] refl; text = p.puts.text; pieces = p.puts.pieces; put_faults = p.puts.faults };
   });
   read_faults = refl;
 })

@@ -1,7 +1,5 @@
 -- What is due to a session, and what is written of it by how it ends.
 use Rattle.std.specs.Prelude.{ℕ, ◌≡◌, ⊤, ◌⊎◌, List, ◌++◌, codes, None, Result, Ok, Err}
-use Rattle.m36_outside.specs.Passing.{joined}
-use Rattle.m36_outside.specs.Written.{Grew}
 use Rattle.m36_outside.specs.SinkState.{SinkState}
 use Rattle.m36_model.specs.Store.{State}
 use Rattle.m36_reading.specs.declared.status.Code.TheVariants.{S1}
@@ -13,7 +11,7 @@ use Rattle.m36_reading.specs.Reading.{Reading, Early}
 use Rattle.m36_reading.specs.Asking.{Asked, Came, Comes}
 use Rattle.m36_reading.specs.Outside.{Outside, IsIdle}
 use Rattle.m36_reading.specs.Ends.{End, Answered, Cut, Unread, Starved, Unasked}
-use Rattle.m36_reading.specs.Doing.{Kind}
+use Rattle.m36_reading.specs.Doing.{Kind, IsWhole}
 use Rattle.m36_ran.specs.Ran.{state_reads}
 use Rattle.m36_booted.specs.Folder.{FolderFields, folder_reads}
 use Rattle.m36_debug.specs.declared.fault.SessionFault.{SessionFault}
@@ -66,12 +64,7 @@ pub record IsWritten (Holds : Told) (ended : Result (Unit {0}) SessionFault) (ol
     : Type 0 where
   pub lines : List (List ℕ)
   pub holds : Holds ended lines
-  pub files : new.folder.files ≡ old.folder.files
-  pub wrote : new.folder.wrote ≡ old.folder.wrote
-  pub text : Grew old.sink.written new.sink.written (joined lines)
-  pub pieces : new.sink.taken ≡ old.sink.taken ++ lines
-  pub write_faults : new.folder.write_faults ≡ old.folder.write_faults
-  pub put_faults : new.sink.faults ≡ old.sink.faults
+  pub whole : IsWhole (answer_with lines (session_status ended stdin_name)) old new
 
 -- Memory is wanted before a session, of which nothing is taken or written then; or in it.
 pub record IsNotHeld (talk : Talk) (old new : Outside) : Type 0 where

@@ -11,7 +11,7 @@ use Rattle.m36_reading.specs.declared.setting.Set.{Set}
 use Rattle.m36_reading.specs.Answers.{with_sets, write_of, writes_of}
 use Rattle.m36_reading.specs.Outside.{FolderState}
 use Rattle.m36_reading.proofs.WriteLaws.{writes_end}
-use Rattle.m36_told.specs.Setting.{SetFailed, SetWanting}
+use Rattle.m36_reading.specs.Setting.{SetFailed, SetWanting}
 
 with_sets_end : (sets : List Set) (set : Set) (files : Option Files) → with_sets (sets ++ (set ∷ [])) files ≡ with_told_file set.name (Some set.content) (with_sets sets files)
 with_sets_end [] set files = refl

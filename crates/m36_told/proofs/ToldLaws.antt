@@ -9,7 +9,7 @@ use Rattle.m36_reading.specs.Outside.{FolderState}
 use Rattle.m36_reading.specs.Doing.{Performs}
 use Rattle.m36_told.specs.LinesIn.{lines_in}
 use Rattle.m36_told.specs.Told.{ToldFields, told_answer, told_kind}
-use Rattle.m36_told.specs.Setting.{AllSet, SetFailed, SetWanting}
+use Rattle.m36_reading.specs.Setting.{AllSet, SetFailed, SetWanting}
 
 pub told_done :
     (told : ToldFields) (f f' : FolderState) (s s' : SinkState)
@@ -23,13 +23,8 @@ told_done told f f' s s' set unread grew took stands = record {
   is_due = refl;
   made = record {
     status = refl;
-    files = set.files;
-    wrote = set.wrote;
-    text = grew;
-    pieces = took;
+    whole = record { set = set; text = grew; pieces = took; put_faults = stands };
     read_faults = unread;
-    write_faults = set.write_faults;
-    put_faults = stands;
   };
 }
 
@@ -44,13 +39,11 @@ told_cut told f f' s s' set unread grew took rose = record {
   due = told_answer told;
   begun = refl;
   cut = inr (record {
-    files = set.files;
-    wrote = set.wrote;
+    set = set;
     text = grew;
     pieces = took;
     cause = rose;
     read_faults = unread;
-    write_faults = set.write_faults;
   });
 }
 
@@ -64,15 +57,9 @@ told_unset told f f' s failed unread = record {
   due = told_answer told;
   begun = refl;
   cut = inl (record {
-    before = failed.before;
-    failed = failed.failed;
-    others = failed.others;
-    sets = failed.are;
-    files = failed.files;
-    wrote = failed.wrote;
+    set = failed;
     written = refl;
     taken = refl;
-    cause = failed.cause;
     read_faults = unread;
     put_faults = refl;
   });
@@ -86,15 +73,9 @@ told_starved told f f' s wanting unread = inr (record {
   given = told;
   came = refl;
   wants = record {
-    before = wanting.before;
-    next = wanting.next;
-    others = wanting.others;
-    sets = wanting.are;
-    files = wanting.files;
-    wrote = wanting.wrote;
+    set = wanting;
     written = refl;
     taken = refl;
-    write_faults = wanting.write_faults;
     put_faults = refl;
   };
   read_faults = unread;

@@ -4,4 +4,3 @@ pub mod Told
 pub mod Telling
 pub mod Binding
 pub mod Accesses
-pub mod Setting

@@ -4,7 +4,7 @@ ghost use Rattle.std.specs.Prelude.{◌≡◌, [], ◌∷◌, Ok, IfOk};
 ghost use Rattle.m36_reading.specs.Outside.{folder_of, outside_of};
 ghost use Rattle.m36_reading.specs.Doing.{Performs};
 ghost use Rattle.m36_told.specs.Told.{told_kind};
-ghost use Rattle.m36_told.specs.Setting.{SetsSay};
+ghost use Rattle.m36_reading.specs.Setting.{SetsSay};
 
 use crate::line_output::put_lines;
 use m36_outside::{Folder, Put, Sink, Text, WriteAnswer};

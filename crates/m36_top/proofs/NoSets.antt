@@ -27,6 +27,7 @@ use Rattle.m36_scheduled.specs.Scheduled.{procs_reads}
 use Rattle.m36_booted.specs.declared.command.FolderCommand.{FolderCommand}
 use Rattle.m36_booted.specs.Folder.{folder_reads}
 use Rattle.m36_booted.specs.Runs.{Whole, Begun}
+use Rattle.m36_booted.specs.Runs as runs
 use Rattle.m36_booted.proofs.DueLaws.{folder_sets}
 use Rattle.m36_scheduled.proofs.YesAnswers.{procs_sets}
 use Rattle.m36_top.specs.declared.command.Command.{Command}
@@ -184,45 +185,45 @@ empty_parts [] set others e = cc
 empty_parts (first ∷ before) set others e = cc
 
 none_unset : (due : Answer) (old new : Outside) → due.sets ≡ [] → IsUnset due old new → ⊥
-none_unset due old new none is = empty_parts is.before is.failed is.others (sym none ∙ is.sets)
+none_unset due old new none is = empty_parts is.set.before is.set.failed is.set.others (sym none ∙ is.set.are)
 
 cut_rose :
     (writes : Bool) (due : Answer) (old new : Outside) → (writes ≡ false → due.sets ≡ [])
     → IsUnset due old new ⊎ IsUnput due old new → WriteRose writes old new
-cut_rose true due old new none (inl is) = inr is.cause
+cut_rose true due old new none (inl is) = inr is.set.cause
 cut_rose true due old new none (inr is) = inl is.cause
 cut_rose false due old new none (inl is) = absurd (none_unset due old new (none refl) is)
 cut_rose false due old new none (inr is) = is.cause
 
 session_stands : (Holds : Holding) (talk : Talk) (old new : Outside) → SessionWants Holds talk old new → WritesStand old new
 session_stands Holds talk old new (inl w) = (w.idle.put_faults, w.idle.write_faults)
-session_stands Holds talk old new (inr w) = (w.put_faults, w.write_faults)
+session_stands Holds talk old new (inr w) = (w.whole.put_faults, w.whole.set.write_faults)
 
 wants_stand : (talk : Talk) (d : Due) (old new : Outside) → WantsOf talk d old new → WritesStand old new
-wants_stand talk (Told told) old new w = (w.put_faults, w.write_faults)
+wants_stand talk (Told told) old new w = (w.put_faults, w.set.write_faults)
 wants_stand talk (Image image) old new w = (w.put_faults, w.write_faults)
 wants_stand talk (Folder folder) old new (inl w) = (w.put_faults, w.write_faults)
-wants_stand talk (Folder folder) old new (inr w) = (w.put_faults, w.write_faults)
+wants_stand talk (Folder folder) old new (inr w) = (w.whole.put_faults, w.whole.set.write_faults)
 wants_stand talk (Schedule s) old new w = (w.put_faults, w.write_faults)
 wants_stand talk (ImageSession state) old new w = session_stands (HoldsImage talk state) talk old new w
 wants_stand talk (FolderSession given) old new w = session_stands (HoldsFolder talk given.lib) talk old new w
-wants_stand talk (Made sets) old new (inl w) = (w.put_faults, w.write_faults)
-wants_stand talk (Made sets) old new (inr (inl w)) = (w.put_faults, w.write_faults)
-wants_stand talk (Made sets) old new (inr (inr w)) = (w.so_far.put_faults, w.so_far.write_faults)
+wants_stand talk (Made sets) old new (inl w) = (w.put_faults, w.set.write_faults)
+wants_stand talk (Made sets) old new (inr (inl w)) = (w.put_faults, w.set.write_faults)
+wants_stand talk (Made sets) old new (inr (inr w)) = (w.so_far.put_faults, w.so_far.set.write_faults)
 
 fails_stand : (talk : Talk) (d : Due) (old new : Outside) → FailsOf talk d old new → WritesStand old new
 fails_stand talk (Told told) old new f = absurd f
 fails_stand talk (Image image) old new f = absurd f
 fails_stand talk (Folder folder) old new f = absurd f
 fails_stand talk (Schedule s) old new f = absurd f
-fails_stand talk (ImageSession state) old new f = (f.put_faults, f.write_faults)
-fails_stand talk (FolderSession given) old new f = (f.put_faults, f.write_faults)
+fails_stand talk (ImageSession state) old new f = (f.whole.put_faults, f.whole.set.write_faults)
+fails_stand talk (FolderSession given) old new f = (f.whole.put_faults, f.whole.set.write_faults)
 fails_stand talk (Made sets) old new f = absurd f
 
 cause_by :
     (talk : Talk) (command : Command) (asked : List Asked) (end : End) (result : Status) (old new : Outside)
     → EndsBy (due_kind talk) (Comes (reads command) asked) end result old new → WriteCauseBy (writes_files command) end old new
-cause_by talk command asked Answered result old new e = (e.made.put_faults, e.made.write_faults)
+cause_by talk command asked Answered result old new e = (e.made.whole.put_faults, e.made.whole.set.write_faults)
 cause_by talk command asked Cut result old new e =
     cut_rose (writes_files command) e.due old new (λ none. (no_sets talk command asked (Ok e.given) none e.came).1 e.due e.begun) e.cut
 cause_by talk command asked Unread result old new (inl e) = (e.idle.put_faults, e.idle.write_faults)
@@ -250,41 +251,42 @@ unset_keeps sets old new none files wrote = record {
 made_keeps :
     (talk : Talk) (given : Early Due) (due : Answer) (result : Status) (old new : Outside)
     → NoSets talk given → IsDueBy (IsDueOf talk) given due → IsMade due result old new → IsKept old new
-made_keeps talk (Ok d) due result old new none is made = unset_keeps due.sets old new (none.0 due is) made.files made.wrote
-made_keeps talk (Err r) due result old new none is made = unset_keeps due.sets old new (ap (λ (d : Answer). d.sets) is) made.files made.wrote
+made_keeps talk (Ok d) due result old new none is made = unset_keeps due.sets old new (none.0 due is) made.whole.set.files made.whole.set.wrote
+made_keeps talk (Err r) due result old new none is made = unset_keeps due.sets old new (ap (λ (d : Answer). d.sets) is) made.whole.set.files made.whole.set.wrote
 
 cut_keeps : (due : Answer) (old new : Outside) → due.sets ≡ [] → IsUnset due old new ⊎ IsUnput due old new → IsKept old new
 cut_keeps due old new none (inl is) = absurd (none_unset due old new none is)
-cut_keeps due old new none (inr is) = unset_keeps due.sets old new none is.files is.wrote
+cut_keeps due old new none (inr is) = unset_keeps due.sets old new none is.set.files is.set.wrote
 
 idle_keeps : (old new : Outside) → IsIdle old new → IsKept old new
 idle_keeps old new idle = record { files = idle.files; wrote = idle.wrote }
 
 session_keeps : (Holds : Holding) (talk : Talk) (old new : Outside) → SessionWants Holds talk old new → IsKept old new
 session_keeps Holds talk old new (inl w) = idle_keeps old new w.idle
-session_keeps Holds talk old new (inr w) = record { files = w.files; wrote = w.wrote }
+session_keeps Holds talk old new (inr w) = unset_keeps [] old new refl w.whole.set.files w.whole.set.wrote
 
 wants_keeps : (talk : Talk) (d : Due) (old new : Outside) → NoSets talk (Ok d) → WantsOf talk d old new → IsKept old new
-wants_keeps talk (Told told) old new none w = absurd (empty_parts w.before w.next w.others (sym (none.0 (told_answer told) refl) ∙ w.sets))
+wants_keeps talk (Told told) old new none w = absurd (empty_parts w.set.before w.set.next w.set.others (sym (none.0 (told_answer told) refl) ∙ w.set.are))
 wants_keeps talk (Image image) old new none w = idle_keeps old new w
 wants_keeps talk (Folder folder) old new none (inl w) = idle_keeps old new w
-wants_keeps talk (Folder folder) old new none (inr w) = record { files = w.files; wrote = w.wrote }
+wants_keeps talk (Folder folder) old new none (inr w) =
+    unset_keeps w.due.sets old new (folder_sets runs.Starved folder.command folder.given w.due w.is) w.whole.set.files w.whole.set.wrote
 wants_keeps talk (Schedule s) old new none w = idle_keeps old new w
 wants_keeps talk (ImageSession state) old new none w = session_keeps (HoldsImage talk state) talk old new w
 wants_keeps talk (FolderSession given) old new none w = session_keeps (HoldsFolder talk given.lib) talk old new w
 wants_keeps talk (Made sets) old new none (inl w) =
-    absurd (empty_parts w.before w.next w.others (sym (none.1 (files_alone sets) (inr refl)) ∙ w.sets))
-wants_keeps talk (Made sets) old new none (inr (inl w)) = unset_keeps sets old new (none.1 (files_alone sets) (inr refl)) w.files w.wrote
+    absurd (empty_parts w.set.before w.set.next w.set.others (sym (none.1 (files_alone sets) (inr refl)) ∙ w.set.are))
+wants_keeps talk (Made sets) old new none (inr (inl w)) = unset_keeps sets old new (none.1 (files_alone sets) (inr refl)) w.set.files w.set.wrote
 wants_keeps talk (Made sets) old new none (inr (inr w)) =
-    unset_keeps sets old new (none.1 (files_alone sets) (inr refl)) w.so_far.files w.so_far.wrote
+    unset_keeps sets old new (none.1 (files_alone sets) (inr refl)) w.so_far.set.files w.so_far.set.wrote
 
 fails_keeps : (talk : Talk) (d : Due) (old new : Outside) → FailsOf talk d old new → IsKept old new
 fails_keeps talk (Told told) old new f = absurd f
 fails_keeps talk (Image image) old new f = absurd f
 fails_keeps talk (Folder folder) old new f = absurd f
 fails_keeps talk (Schedule s) old new f = absurd f
-fails_keeps talk (ImageSession state) old new f = record { files = f.files; wrote = f.wrote }
-fails_keeps talk (FolderSession given) old new f = record { files = f.files; wrote = f.wrote }
+fails_keeps talk (ImageSession state) old new f = unset_keeps [] old new refl f.whole.set.files f.whole.set.wrote
+fails_keeps talk (FolderSession given) old new f = unset_keeps [] old new refl f.whole.set.files f.whole.set.wrote
 fails_keeps talk (Made sets) old new f = absurd f
 
 keeps_by :

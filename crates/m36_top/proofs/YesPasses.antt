@@ -116,7 +116,7 @@ wants_passes talk (Told told) old new w = idle_passes (Ok (Told told)) old new w
 wants_passes talk (Image image) old new w = idle_passes (Ok (Image image)) old new w.written
 wants_passes talk (Folder folder) old new (inl w) = idle_passes (Ok (Folder folder)) old new w.written
 wants_passes talk (Folder folder) old new (inr w) = λ told_yes.
-    let b = yes_grew yes_line old.sink.written new.sink.written w.due.text w.text told_yes in
+    let b = yes_grew yes_line old.sink.written new.sink.written w.due.text w.whole.text told_yes in
     folder_passes runs.Starved folder.command folder.given w.due b.0 w.is b.1
 wants_passes talk (Schedule s) old new w = idle_passes (Ok (Schedule s)) old new w.written
 wants_passes talk (ImageSession state) old new w = λ told_yes. tt
@@ -144,7 +144,7 @@ pub ends_pass_by :
     → ((other : Early Due) → Is (Came other) → given ≡ other)
     → EndsBy (due_kind talk) Is end result old new → YesPasses given old new
 ends_pass_by talk Is given Answered result old new same e =
-    subst (λ o. YesPasses o old new) (sym (same e.given e.came)) (made_passes talk e.given e.due old new e.is_due e.made.text)
+    subst (λ o. YesPasses o old new) (sym (same e.given e.came)) (made_passes talk e.given e.due old new e.is_due e.made.whole.text)
 ends_pass_by talk Is given Cut result old new same e =
     subst (λ o. YesPasses o old new) (sym (same (Ok e.given) e.came)) (cut_passes talk e.given e.due old new e.begun e.cut)
 ends_pass_by talk Is given Unread result old new same (inl e) = idle_passes given old new e.idle.written
