@@ -10,8 +10,11 @@ use Rattle.alm_parse.specs.declared.deed.Deed.{Deed}
 use Rattle.alm_parse.specs.declared.deed.Deed.TheVariants as deed
 use Rattle.alm_tokens.specs.Tokens.{is_text}
 
--- Each name that directs the assembler: how its operand is read, and what it does. Behind `end`
--- nothing is read.
+-- behind which nothing is read
+abbrev pub end_name : List ℕ
+end_name = codes "end"
+
+-- Each name that directs the assembler: how its operand is read, and what it does.
 unfoldable pub directive : List ℕ → Option (Operation × Deed)
 directive name =
     if is_text (codes "entry") name
@@ -36,7 +39,7 @@ directive name =
     then Some (Bare, deed.Even)
     else (if is_text (codes "entrybound") name
     then Some (Bare, deed.Bound)
-    else (if is_text (codes "end") name then Some (End, deed.Nothing) else None)))))))))))
+    else (if is_text end_name name then Some (End, deed.Nothing) else None)))))))))))
 
 abbrev pub instruction_by : {A : Type 0} → Option A → Option Operation
 instruction_by (Some code) = Some Instruction

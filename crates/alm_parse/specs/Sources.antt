@@ -1,5 +1,5 @@
 -- A whole source: its lines, or the first refusal in the order of the text.
-use Rattle.std.specs.Prelude.{ℕ, ◌+◌, ◌-◌, ◌≡◌, ⊤, Bool, false, List, [], ◌∷◌, ◌++◌, codes, Option}
+use Rattle.std.specs.Prelude.{ℕ, ◌+◌, ◌-◌, ◌≡◌, ⊤, Bool, false, List, [], ◌∷◌, ◌++◌, Option}
 use Rattle.std.specs.Prelude.{Some, None, Result, Ok, Err, if◌then◌else◌}
 use Rattle.alm_tokens.specs.declared.span.Span.{Span}
 use Rattle.alm_parse.specs.declared.refusal.Code.{Code}
@@ -13,6 +13,7 @@ use Rattle.alm_parse.specs.declared.fault.AlmFault.TheVariants.{NoMemory}
 use Rattle.alm_parse.specs.SourceFields.{Source}
 use Rattle.alm_tokens.specs.Tokens.{slice_of, is_text}
 use Rattle.alm_tokens.specs.Rows.{rows_of}
+use Rattle.alm_parse.specs.Operations.{end_name}
 use Rattle.alm_parse.specs.Lines.{line_given}
 
 -- A refusal is told by its line and its column, which counts bytes from 1.
@@ -27,7 +28,7 @@ fault_of row refusal = fault_by refusal.code row.number (refusal.place - row.spa
 
 -- Nothing is read behind the operation `end`.
 abbrev pub names_end : List ℕ → Option Span → Bool
-names_end text (Some op) = is_text (codes "end") (slice_of text op)
+names_end text (Some op) = is_text end_name (slice_of text op)
 names_end text None = false
 
 -- A line is read, and what follows it is what `further` gives of the lines up to it.
