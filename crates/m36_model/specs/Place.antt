@@ -116,7 +116,8 @@ pub record Mark : Type 0 where
   pub address : ℕ
   pub modified : Bool
 
--- a PTW with its used bit (26) on, and with its modified bit (29) on
+-- a PTW with its used bit (26) on, and with its modified bit (29) on: the bits that `ptw_of` tells
+-- as used and modified
 unfoldable pub with_used : ℕ → ℕ
 with_used w = (w / 1024 * 1024 + 512) + w % 512
 

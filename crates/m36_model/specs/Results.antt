@@ -148,9 +148,13 @@ with_zero z i = record i { zero = z }
 abbrev pub with_indicators : Ind → RegsFields → RegsFields
 with_indicators i g = record g { ind = i }
 
+-- the word of the next instruction
+abbrev pub next_word : RegsFields → ℕ
+next_word g = (g.ppr.ic + 1) % 2 ^ 18
+
 -- The instruction counter moves on by 1.
 unfoldable pub moved_on : RegsFields → RegsFields
-moved_on g = record g { ppr = record g.ppr { ic = (g.ppr.ic + 1) % 2 ^ 18 } }
+moved_on g = record g { ppr = record g.ppr { ic = next_word g } }
 
 -- An effect on registers that moves on to the next instruction: alone, with words to write, and
 -- with overflow.

@@ -1,12 +1,12 @@
 -- Transfers. Multics Processor Manual AL39, "Transfer of control instructions".
-use Rattle.std.specs.Prelude.{ℕ, ◌+◌, ◌%◌, ◌^◌, Bool, true, false, not, ◌&&◌, ◌||◌, [], Result, Ok}
+use Rattle.std.specs.Prelude.{ℕ, Bool, true, false, not, ◌&&◌, ◌||◌, [], Result, Ok}
 use Rattle.m36_desc.specs.Fields.{PtrFields}
 use Rattle.m36_inst.specs.declared.effect.Effect.{Effect}
 use Rattle.m36_inst.specs.declared.effect.Effect.TheVariants as effect
 use Rattle.m36_model.specs.Fields.{FinalFields}
 use Rattle.m36_model.specs.Registers.{RegsFields}
-use Rattle.m36_model.specs.Pointers.{with_pr}
-use Rattle.m36_model.specs.Results.{EffectFields, X, with_value, completes}
+use Rattle.m36_model.specs.Pointers.{with_pr, pointer}
+use Rattle.m36_model.specs.Results.{EffectFields, X, with_value, next_word, completes}
 
 -- Whether a transfer is taken, by the indicators. One that is not taken examines no target (this
 -- project's choice).
@@ -50,17 +50,13 @@ transfer_on_overflow_by false f g = completes g
 unfoldable pub transfer_on_overflow : Bool → FinalFields → RegsFields → Result EffectFields ℕ
 transfer_on_overflow taken f g = transfer_on_overflow_by taken f g
 
--- the word of the next instruction
-abbrev pub next_word : RegsFields → ℕ
-next_word g = (g.ppr.ic + 1) % 2 ^ 18
-
 -- TSX: the index register becomes the word of the next instruction
 unfoldable pub transfer_and_set_index : ℕ → FinalFields → RegsFields → Result EffectFields ℕ
 transfer_and_set_index n f g = goes_to f (with_value (X n) (next_word g) g)
 
 -- TSP: the pointer register becomes the place of the next instruction in the procedure ring
 abbrev pub return_pointer : RegsFields → PtrFields
-return_pointer g = record { seg = g.ppr.psr; ring = g.ppr.prr; word = next_word g; bit = 0 }
+return_pointer g = pointer g.ppr.psr g.ppr.prr (next_word g)
 
 unfoldable pub transfer_and_set_pointer : ℕ → FinalFields → RegsFields → Result EffectFields ℕ
 transfer_and_set_pointer n f g = goes_to f (with_pr n (return_pointer g) g)

@@ -7,7 +7,8 @@ ghost use Rattle.m36_model.specs.Effect.{exec};
 ghost use Rattle.m36_model.specs.Results.{OperandFields, effect_fields};
 ghost use Rattle.m36_model.specs.Transfers.{is_taken, gone_to, goes_to, transfer_where};
 ghost use Rattle.m36_model.specs.Transfers.{transfer_on_overflow, transfer_and_set_index};
-ghost use Rattle.m36_model.specs.Transfers.{transfer_and_set_pointer, next_word, without_overflow};
+ghost use Rattle.m36_model.specs.Transfers.{transfer_and_set_pointer, without_overflow};
+ghost use Rattle.m36_model.specs.Results.{next_word};
 ghost use Rattle.m36_xfer.specs.ControlInstructions.{is_transfer};
 
 use m36_desc::Ptr;
