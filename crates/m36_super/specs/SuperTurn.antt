@@ -10,12 +10,11 @@ use Rattle.m36_model.specs.Fields.{AtFields}
 use Rattle.m36_model.specs.declared.outcome.Fault.{Fault}
 use Rattle.m36_link.specs.Fields.{SnapFields}
 use Rattle.m36_link.specs.Snap.{RefusedFields}
-use Rattle.m36_step.specs.Answers.{IsDone, IsService}
+use Rattle.m36_step.specs.Answers.{IsDone, IsService, StaysPut}
 use Rattle.m36_step.specs.declared.turns.Turn.{Turn}
 use Rattle.m36_step.specs.declared.turns.Turn.TheVariants.{Stepped, Linked, Console, Ended, Full}
 use Rattle.m36_step.specs.declared.turns.Turn.TheVariants.{NoMemory}
 use Rattle.m36_step.specs.declared.turns.BackAnswer.{BackAnswer}
-use Rattle.m36_step.specs.declared.turns.BackAnswer.TheVariants as back
 use Rattle.m36_super.specs.Coming.{Coming, Step, Link, Print, Over}
 use Rattle.m36_super.specs.Library.{Library}
 use Rattle.m36_super.specs.BootedRun.{Booted, IsStepTurn, IsLinkTurn, IsConsoleTurn, IsTurnBy}
@@ -28,7 +27,7 @@ SuperTurns before turn later =
 
 -- A booted system does not go back.
 abbrev pub SuperWent : SuperFields → ℕ → BackAnswer → SuperFields → Type 0
-SuperWent before n answer later = (answer ≡ back.Unable) × (later ≡ before)
+SuperWent before n answer later = StaysPut before n answer later
 
 -- The content of a word: of the flat memory until an LDBR has been executed, and of core
 -- from then on.
