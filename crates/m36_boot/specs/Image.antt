@@ -14,7 +14,7 @@ use Rattle.m36_model.specs.Residence.{Paged, flat_of}
 use Rattle.m36_dir.specs.Catalog.{CatalogFields}
 use Rattle.m36_page.specs.declared.table.PageTable.{PageTable}
 use Rattle.m36_page.specs.Given.{pager_given}
-use Rattle.m36_page.specs.Residence.{content_of, kept_word, has_page, spot_of, IsPager}
+use Rattle.m36_page.specs.Residence.{content_of, paged_by, has_page, spot_of, IsPager}
 use Rattle.m36_boot.specs.declared.fault.BootFault.{BootFault}
 use Rattle.m36_boot.specs.declared.image.Image.{Image}
 use Rattle.m36_link.specs.Fields.{LayFields, SnapFields}
@@ -111,7 +111,7 @@ booted_flat catalog files s =
 
 -- the image, as a paged memory
 abbrev pub paged_of : Image → Paged
-paged_of image = record { core = image.core; kept = kept_word image.pager }
+paged_of image = paged_by image.core image.pager
 
 -- ---- the image
 

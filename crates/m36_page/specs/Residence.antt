@@ -6,6 +6,7 @@ use Rattle.std.specs.Prelude.{slice_index, slice_index_or, All, Option, Some, No
 use Rattle.m36_desc.specs.Descriptors.{ptw_of, ptw_word}
 use Rattle.m36_desc.specs.Fields.{PtwFields}
 use Rattle.m36_model.specs.Core.{unmarked}
+use Rattle.m36_model.specs.Residence.{Paged}
 use Rattle.m36_page.specs.Fields.{TableFields, PagerFields}
 pub use Rattle.m36_model.specs.BootedCore.{absent_ptw, resident_ptw}
 
@@ -39,6 +40,10 @@ spot_of p seg page = spot_in (table_of p.tables seg) page
 -- the word kept for a word of a segment
 unfoldable pub kept_word : PagerFields → ℕ → ℕ → ℕ
 kept_word p seg w = kept_in (table_of p.tables seg) w
+
+-- core with the words that a pager keeps
+abbrev pub paged_by : List ℕ → PagerFields → Paged
+paged_by core p = record { core = core; kept = kept_word p }
 
 -- ---- page table words
 

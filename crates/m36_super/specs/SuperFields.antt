@@ -10,7 +10,7 @@ use Rattle.m36_model.specs.Step.{state_after}
 use Rattle.m36_model.specs.BootedCore.{booted_dbr, table_at, wired_frames, IsLaid, IsPage}
 use Rattle.m36_model.specs.Residence.{IsMoved}
 use Rattle.m36_page.specs.Fields.{PagerFields}
-use Rattle.m36_page.specs.Residence.{has_page, spot_of, frame_of, kept_word, IsPager, Reads}
+use Rattle.m36_page.specs.Residence.{has_page, spot_of, frame_of, paged_by, IsPager, Reads}
 use Rattle.m36_page.specs.Changes.{IsKept}
 use Rattle.m36_link.specs.Fields.{KnownFields}
 use Rattle.m36_link.specs.Known.{linkage_segment}
@@ -39,7 +39,7 @@ booted_of s =
       state =
           record {
             regs = s.regs;
-            memory = record { core = s.core; kept = kept_word s.pager };
+            memory = paged_by s.core s.pager;
           };
       known = s.known;
       coming = s.coming;
@@ -103,8 +103,7 @@ held_in p core seg page = frame_by (has_page p seg page) (frame_of p core seg pa
 pub record IsPaging
     (frames : ℕ) (core now : List ℕ) (p q : PagerFields) : Type 0 where
   pub moved :
-      IsMoved frames (record { core = core; kept = kept_word p })
-      (record { core = now; kept = kept_word q })
+      IsMoved frames (paged_by core p) (paged_by now q)
   pub before_is : (seg page : ℕ) → moved.before seg page ≡ held_in p core seg page
   pub after_is : (seg page : ℕ) → moved.after seg page ≡ held_in q now seg page
   pub manages : IsManaged frames now q

@@ -4,12 +4,12 @@ use Rattle.m36_model.specs.Store.{Change}
 use Rattle.m36_model.specs.Flat.{Flat, flat_put}
 use Rattle.m36_model.specs.Residence.{flat_of}
 use Rattle.m36_page.specs.Fields.{PagerFields}
-use Rattle.m36_page.specs.Residence.{kept_word}
+use Rattle.m36_page.specs.Residence.{paged_by}
 use Rattle.m36_super.specs.SuperFields.{IsManaged}
 
 -- the flat memory for which core and a pager stand
 abbrev pub flat_by : List ℕ → PagerFields → Flat
-flat_by core p = flat_of (record { core = core; kept = kept_word p })
+flat_by core p = flat_of (paged_by core p)
 
 -- The changes are made, and all is managed as before.
 pub record ArePut
