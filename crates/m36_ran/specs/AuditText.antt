@@ -10,10 +10,14 @@ use Rattle.m36_text.specs.Lines.{as_line}
 abbrev pub place_digits : ℕ → ℕ
 place_digits condition = if condition == 1 || (condition == 5 || condition == 6) then 5 else 8
 
--- a condition and its place, as in `audit no A3 00000100`
+-- a condition and its place of so many digits, as in `3 00000100`
+abbrev pub place_text : ℕ → ℕ → ℕ → List ℕ
+place_text condition digits place =
+    decimal_text condition ++ codes " " ++ octal_text digits place
+
+-- as in `audit no A3 00000100`
 unfoldable pub finding_line : ℕ × ℕ → List ℕ
-finding_line f =
-    codes "audit no A" ++ decimal_text f.0 ++ codes " " ++ octal_text (place_digits f.0) f.1
+finding_line f = codes "audit no A" ++ place_text f.0 (place_digits f.0) f.1
 
 unfoldable pub finding_pieces : List (ℕ × ℕ) → List (List ℕ)
 finding_pieces [] = []

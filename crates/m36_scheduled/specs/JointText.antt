@@ -4,21 +4,20 @@
 -- `audit no J2 00000060`.
 use Rattle.std.specs.Prelude.{ℕ, List, [], ◌∷◌, ◌++◌, codes, Option, Some, None}
 use Rattle.m36_outside.specs.Passing.{joined}
-use Rattle.m36_text.specs.Digits.{octal_text, decimal_text}
+use Rattle.m36_text.specs.Digits.{decimal_text}
 use Rattle.m36_text.specs.Lines.{as_line}
 use Rattle.m36_model.specs.JointAudit.{JointFound}
-use Rattle.m36_ran.specs.AuditText.{place_digits, yes_line}
+use Rattle.m36_ran.specs.AuditText.{place_digits, place_text, yes_line}
 
 -- of a process
 unfoldable pub process_line : ℕ → ℕ → ℕ → List ℕ
 process_line process condition place =
-    codes "audit no " ++ decimal_text process ++ codes " A" ++ decimal_text condition ++ codes " "
-    ++ octal_text (place_digits condition) place
+    codes "audit no " ++ decimal_text process ++ codes " A"
+    ++ place_text condition (place_digits condition) place
 
 -- between processes
 unfoldable pub between_line : ℕ → ℕ → List ℕ
-between_line condition place =
-    codes "audit no J" ++ decimal_text condition ++ codes " " ++ octal_text 8 place
+between_line condition place = codes "audit no J" ++ place_text condition 8 place
 
 abbrev pub line_by : Option ℕ → ℕ → ℕ → List ℕ
 line_by (Some process) condition place = process_line process condition place
