@@ -58,9 +58,11 @@ unfolding run_answer
 told_whole findings denied output turns how old now new grew took stood puts = record {
   sets = refl;
   status = refl;
-  text = grew_both old.written now.written new.written (audit_pieces findings) (run_pieces denied output turns (Some how)) grew puts.says;
-  pieces = takes_lines_on old.taken now.taken new.taken (audit_pieces findings) (run_pieces denied output turns (Some how)) took puts.through;
-  faults = puts.cause ∙ stood;
+  whole = record {
+    text = grew_both old.written now.written new.written (audit_pieces findings) (run_pieces denied output turns (Some how)) grew puts.says;
+    pieces = takes_lines_on old.taken now.taken new.taken (audit_pieces findings) (run_pieces denied output turns (Some how)) took puts.through;
+    faults = puts.cause ∙ stood;
+  };
 }
 
 told_part :
@@ -71,9 +73,11 @@ told_part :
 unfolding run_answer
 told_part findings denied output turns how old now new grew took stood puts = record {
   sets = refl;
-  text = grew_both_more old.written now.written new.written (audit_pieces findings) (run_pieces denied output turns how) grew puts.says;
-  pieces = takes_lines_more old.taken now.taken new.taken (audit_pieces findings) (run_pieces denied output turns how) took puts.through;
-  cause = let P : ℕ → Type 0 = λ n. Rose n new.faults in subst P stood puts.cause;
+  part = record {
+    text = grew_both_more old.written now.written new.written (audit_pieces findings) (run_pieces denied output turns how) grew puts.says;
+    pieces = takes_lines_more old.taken now.taken new.taken (audit_pieces findings) (run_pieces denied output turns how) took puts.through;
+    cause = let P : ℕ → Type 0 = λ n. Rose n new.faults in subst P stood puts.cause;
+  };
 }
 
 -- how it ends is a status with which all is answered
@@ -126,9 +130,11 @@ run_starved findings denied output limit system after old now new grew took stoo
     inr (record {
       due = Told findings denied output is.turns None;
       is = record { turns = is.turns; last = is.last; how = None; goes = is.goes; reaches = is.reaches; answer = refl };
-      text = grew_both old.written now.written new.written (audit_pieces findings) (run_pieces denied output is.turns None) grew is.puts.says;
-      pieces = takes_lines_on old.taken now.taken new.taken (audit_pieces findings) (run_pieces denied output is.turns None) took is.puts.through;
-      faults = is.puts.cause ∙ stood;
+      whole = record {
+        text = grew_both old.written now.written new.written (audit_pieces findings) (run_pieces denied output is.turns None) grew is.puts.says;
+        pieces = takes_lines_on old.taken now.taken new.taken (audit_pieces findings) (run_pieces denied output is.turns None) took is.puts.through;
+        faults = is.puts.cause ∙ stood;
+      };
     })
 
 pub no_turns : (lib : Library) (limit : ℕ) (first : Booted) → Goes lib limit first [] first
@@ -153,9 +159,11 @@ text_part findings denied output limit system old new grew took rose = record {
   };
   puts = record {
     sets = refl;
-    text = grew_both_longer old.written new.written (audit_pieces findings) (run_pieces denied output [] None) grew;
-    pieces = takes_lines_longer old.taken new.taken (audit_pieces findings) (run_pieces denied output [] None) took;
-    cause = rose;
+    part = record {
+      text = grew_both_longer old.written new.written (audit_pieces findings) (run_pieces denied output [] None) grew;
+      pieces = takes_lines_longer old.taken new.taken (audit_pieces findings) (run_pieces denied output [] None) took;
+      cause = rose;
+    };
   };
 }
 
@@ -192,7 +200,7 @@ puts_more A B Answered result old new more puts = record { due = puts.due; is = 
 puts_more A B Cut result old new more puts = record { due = puts.due; is = more Begun puts.due puts.is; puts = puts.puts }
 puts_more A B ends.Starved result old new more (inl puts) = inl puts
 puts_more A B ends.Starved result old new more (inr puts) =
-    inr (record { due = puts.due; is = more Starved puts.due puts.is; text = puts.text; pieces = puts.pieces; faults = puts.faults })
+    inr (record { due = puts.due; is = more Starved puts.due puts.is; whole = puts.whole })
 puts_more A B Unread result old new more puts = absurd puts
 puts_more A B Unasked result old new more puts = absurd puts
 
@@ -233,7 +241,7 @@ ends_put command given Answered result f s s' p = record {
   is_due = p.is;
   made = record {
     status = p.puts.status;
-    whole = record { set = none_set f p.due.sets p.puts.sets; text = p.puts.text; pieces = p.puts.pieces; put_faults = p.puts.faults };
+    whole = record { set = none_set f p.due.sets p.puts.sets; put = p.puts.whole };
     read_faults = refl;
   };
 }
@@ -244,9 +252,7 @@ ends_put command given Cut result f s s' p = record {
   begun = p.is;
   cut = inr (record {
     set = none_set f p.due.sets p.puts.sets;
-    text = p.puts.text;
-    pieces = p.puts.pieces;
-    cause = p.puts.cause;
+    put = p.puts.part;
     read_faults = refl;
   });
 }
@@ -262,7 +268,7 @@ ends_put command given ends.Starved result f s s' (inr p) = inr (record {
   wants = inr (record {
     due = p.due;
     is = p.is;
-    whole = record { set = none_set f p.due.sets (folder_sets Starved command given p.due p.is); text = p.text; pieces = p.pieces; put_faults = p.faults };
+    whole = record { set = none_set f p.due.sets (folder_sets Starved command given p.due p.is); put = p.whole };
   });
   read_faults = refl;
 })

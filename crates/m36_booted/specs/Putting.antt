@@ -1,9 +1,9 @@
 -- What is said of a sink where a booted system is audited and run.
-use Rattle.std.specs.Prelude.{◌≡◌, ◌⊎◌, ◌++◌}
-use Rattle.m36_outside.specs.Written.{Grew}
+use Rattle.std.specs.Prelude.{◌⊎◌}
 use Rattle.m36_outside.specs.SinkState.{SinkState}
 use Rattle.m36_reading.specs.declared.status.Status.{Status}
 use Rattle.m36_reading.specs.Answers.{Answer}
+use Rattle.m36_reading.specs.Puts.{IsPutWhole}
 use Rattle.m36_reading.specs.Ends.{End, Answered, Cut, Unread, Starved, Unasked}
 use Rattle.m36_ran.specs.Putting.{IsPut, IsPartPut, IsNotPut}
 use Rattle.m36_booted.specs.Runs.{Extent}
@@ -26,9 +26,7 @@ pub record PutsPart (IsAnswer : Extent → Answer → Type 0) (old new : SinkSta
 pub record PutsBefore (IsAnswer : Extent → Answer → Type 0) (old new : SinkState) : Type 0 where
   pub due : Answer
   pub is : IsAnswer extent.Starved due
-  pub text : Grew old.written new.written due.text
-  pub pieces : new.taken ≡ old.taken ++ due.pieces
-  pub faults : new.faults ≡ old.faults
+  pub whole : IsPutWhole due old new
 
 abbrev pub Puts : (Extent → Answer → Type 0) → End → Status → SinkState → SinkState → Type 0
 Puts IsAnswer Answered result old new = PutsWhole IsAnswer result old new

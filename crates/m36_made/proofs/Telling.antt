@@ -57,9 +57,7 @@ told_refused sets (BadFile bad) s boots = record {
   puts = record {
     sets = refl;
     status = refl;
-    text = grew_by_nothing s.written;
-    pieces = sym (append-nil s.taken);
-    faults = refl;
+    whole = record { text = grew_by_nothing s.written; pieces = sym (append-nil s.taken); faults = refl };
   };
 }
 told_refused sets ReadFault s boots = absurd boots
@@ -83,7 +81,7 @@ ends_told sets Answered result f f' s s' set unread p = record {
   is_due = record { told = p.due; is = p.is; answer = refl };
   made = record {
     status = p.puts.status;
-    whole = record { set = set; text = p.puts.text; pieces = p.puts.pieces; put_faults = p.puts.faults };
+    whole = record { set = set; put = record { text = p.puts.whole.text; pieces = p.puts.whole.pieces; faults = p.puts.whole.faults } };
     read_faults = unread;
   };
 }
@@ -94,9 +92,7 @@ ends_told sets Cut result f f' s s' set unread p = record {
   begun = inl (record { told = p.due; is = p.is; answer = refl });
   cut = inr (record {
     set = set;
-    text = p.puts.text;
-    pieces = p.puts.pieces;
-    cause = p.puts.cause;
+    put = record { text = p.puts.part.text; pieces = p.puts.part.pieces; cause = p.puts.part.cause };
     read_faults = unread;
   });
 }
@@ -105,9 +101,7 @@ ends_told sets ends.Starved result f f' s s' set unread (inl p) = inr (record {
   came = refl;
   wants = inr (inl (record {
     set = set;
-    text = grew_nothing s.written s'.written p.written;
-    pieces = p.taken ∙ sym (append-nil s.taken);
-    put_faults = p.faults;
+    put = record { text = grew_nothing s.written s'.written p.written; pieces = p.taken ∙ sym (append-nil s.taken); faults = p.faults };
   }));
   read_faults = unread;
 })
@@ -117,7 +111,7 @@ ends_told sets ends.Starved result f f' s s' set unread (inr p) = inr (record {
   wants = inr (inr (record {
     told = p.due;
     is = p.is;
-    so_far = record { set = set; text = p.text; pieces = p.pieces; put_faults = p.faults };
+    so_far = record { set = set; put = record { text = p.whole.text; pieces = p.whole.pieces; faults = p.whole.faults } };
   }));
   read_faults = unread;
 })

@@ -40,9 +40,11 @@ run_whole findings steps state last old now new before took stood says takes sta
     put_whole last (behind findings (run_answer steps state)) old new (record {
       sets = refl;
       status = ap status_after says.0;
-      text = grew_both old.written now.written new.written (audit_pieces findings) (run_pieces steps state) before says.1;
-      pieces = takes_lines_on old.taken now.taken new.taken (audit_pieces findings) (run_pieces steps state) took takes;
-      faults = stands ∙ stood;
+      whole = record {
+        text = grew_both old.written now.written new.written (audit_pieces findings) (run_pieces steps state) before says.1;
+        pieces = takes_lines_on old.taken now.taken new.taken (audit_pieces findings) (run_pieces steps state) took takes;
+        faults = stands ∙ stood;
+      };
     })
 
 -- a run of which a part was written
@@ -54,9 +56,11 @@ pub run_cut :
 unfolding run_answer run_text
 run_cut findings steps state old now new before took stood says takes rose = record {
   sets = refl;
-  text = grew_both_more old.written now.written new.written (audit_pieces findings) (run_pieces steps state) before says;
-  pieces = takes_lines_more old.taken now.taken new.taken (audit_pieces findings) (run_pieces steps state) took takes;
-  cause = let P : ℕ → Type 0 = λ n. Rose n new.faults in subst P stood rose;
+  part = record {
+    text = grew_both_more old.written now.written new.written (audit_pieces findings) (run_pieces steps state) before says;
+    pieces = takes_lines_more old.taken now.taken new.taken (audit_pieces findings) (run_pieces steps state) took takes;
+    cause = let P : ℕ → Type 0 = λ n. Rose n new.faults in subst P stood rose;
+  };
 }
 
 -- the text before the run was cut off
@@ -67,9 +71,11 @@ pub text_cut :
 unfolding run_answer run_text
 text_cut findings steps state old new cut takes rose = record {
   sets = refl;
-  text = grew_both_longer old.written new.written (audit_pieces findings) (run_pieces steps state) cut;
-  pieces = takes_lines_longer old.taken new.taken (audit_pieces findings) (run_pieces steps state) takes;
-  cause = rose;
+  part = record {
+    text = grew_both_longer old.written new.written (audit_pieces findings) (run_pieces steps state) cut;
+    pieces = takes_lines_longer old.taken new.taken (audit_pieces findings) (run_pieces steps state) takes;
+    cause = rose;
+  };
 }
 
 -- an audit alone
@@ -78,14 +84,14 @@ pub audit_cut :
     → GrewWithin old.written new.written (audit_text findings) → TakesSome old.taken new.taken (audit_pieces findings) → Rose old.faults new.faults
     → PutsBy (end_of WriteFault) WriteFault (audit_answer findings) old new
 unfolding audit_answer
-audit_cut findings old new cut takes rose = record { sets = refl; text = cut; pieces = takes; cause = rose }
+audit_cut findings old new cut takes rose = record { sets = refl; part = record { text = cut; pieces = takes; cause = rose } }
 
 pub audit_done :
     (findings : List Finding) (old new : SinkState)
     → length findings ≡ 0 → Grew old.written new.written (audit_text (pairs findings)) → new.taken ≡ old.taken ++ audit_pieces (pairs findings) → new.faults ≡ old.faults
     → PutsBy (end_of Done) Done (audit_answer (pairs findings)) old new
 unfolding audit_answer
-audit_done [] old new none grew took stands = record { sets = refl; status = refl; text = grew; pieces = took; faults = stands }
+audit_done [] old new none grew took stands = record { sets = refl; status = refl; whole = record { text = grew; pieces = took; faults = stands } }
 audit_done (f ∷ findings) old new none grew took stands = absurd (omega (arith, none))
 
 pub audit_failed :
@@ -94,7 +100,7 @@ pub audit_failed :
     → PutsBy (end_of AuditNo) AuditNo (audit_answer (pairs findings)) old new
 unfolding audit_answer
 audit_failed [] old new some grew took stands = absurd (omega arith)
-audit_failed (f ∷ findings) old new some grew took stands = record { sets = refl; status = refl; text = grew; pieces = took; faults = stands }
+audit_failed (f ∷ findings) old new some grew took stands = record { sets = refl; status = refl; whole = record { text = grew; pieces = took; faults = stands } }
 
 pub ruleset answers = (run_whole, run_cut, text_cut, audit_cut, audit_done, audit_failed)
 

@@ -68,7 +68,7 @@ ends_put command state Answered result f s s' p = record {
   is_due = p.is_due;
   made = record {
     status = p.puts.status;
-    whole = record { set = none_set f p.due.sets p.puts.sets; text = p.puts.text; pieces = p.puts.pieces; put_faults = p.puts.faults };
+    whole = record { set = none_set f p.due.sets p.puts.sets; put = p.puts.whole };
     read_faults = refl;
   };
 }
@@ -79,9 +79,7 @@ ends_put command state Cut result f s s' p = record {
   begun = p.is_due;
   cut = inr (record {
     set = none_set f p.due.sets p.puts.sets;
-    text = p.puts.text;
-    pieces = p.puts.pieces;
-    cause = p.puts.cause;
+    put = p.puts.part;
     read_faults = refl;
   });
 }

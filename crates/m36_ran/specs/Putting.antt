@@ -1,25 +1,19 @@
 -- What is said of a sink where the answer that is due writes no file.
-use Rattle.std.specs.Prelude.{◌≡◌, [], ◌++◌}
-use Rattle.m36_outside.specs.Counts.{Rose}
-use Rattle.m36_outside.specs.Passing.{TakesSome}
-use Rattle.m36_outside.specs.Written.{Grew, GrewWithin}
+use Rattle.std.specs.Prelude.{◌≡◌, []}
 use Rattle.m36_outside.specs.SinkState.{SinkState}
 use Rattle.m36_reading.specs.declared.status.Status.{Status}
 use Rattle.m36_reading.specs.Answers.{Answer}
+use Rattle.m36_reading.specs.Puts.{IsPutWhole, IsPutPart}
 use Rattle.m36_reading.specs.Ends.{End, Answered, Cut, Unread, Starved, Unasked}
 
 pub record IsPut (due : Answer) (result : Status) (old new : SinkState) : Type 0 where
   pub sets : due.sets ≡ []
   pub status : due.status ≡ result
-  pub text : Grew old.written new.written due.text
-  pub pieces : new.taken ≡ old.taken ++ due.pieces
-  pub faults : new.faults ≡ old.faults
+  pub whole : IsPutWhole due old new
 
 pub record IsPartPut (due : Answer) (old new : SinkState) : Type 0 where
   pub sets : due.sets ≡ []
-  pub text : GrewWithin old.written new.written due.text
-  pub pieces : TakesSome old.taken new.taken due.pieces
-  pub cause : Rose old.faults new.faults
+  pub part : IsPutPart due old new
 
 pub record IsNotPut (old new : SinkState) : Type 0 where
   pub written : new.written ≡ old.written

@@ -82,9 +82,7 @@ does_stop kind p (BadFile bad) old now sink before after reads = record {
       status = refl;
       whole = record {
         set = record { files = reads.files; wrote = reads.wrote ∙ sym (append-nil old.wrote); write_faults = reads.write_faults };
-        text = grew_by_nothing sink.written;
-        pieces = sym (append-nil sink.taken);
-        put_faults = refl;
+        put = record { text = grew_by_nothing sink.written; pieces = sym (append-nil sink.taken); faults = refl };
       };
       read_faults = reads.cause;
     };

@@ -1,8 +1,6 @@
 -- What a command does, by its reading and by the kind of what is due to it.
 use Rattle.std.specs.Prelude.{ℕ, ◌≡◌, ◌⊎◌, List, ◌++◌, Result, Ok, Err}
 use Rattle.m36_outside.specs.Counts.{Rose}
-use Rattle.m36_outside.specs.Passing.{TakesSome}
-use Rattle.m36_outside.specs.Written.{Grew, GrewWithin}
 use Rattle.m36_reading.specs.declared.status.Status.{Status}
 use Rattle.m36_reading.specs.declared.refusal.Refusal.{Refusal}
 use Rattle.m36_reading.specs.declared.refusal.Refusal.TheVariants.{BadFile, ReadFault, NoMemory}
@@ -10,6 +8,7 @@ use Rattle.m36_reading.specs.Reading.{Reading, Early}
 use Rattle.m36_reading.specs.Asking.{Asked, AreTold, Coming, Came, Failed, Wanting, Comes, coming}
 use Rattle.m36_reading.specs.Answers.{Answer, IsDueBy}
 use Rattle.m36_reading.specs.Setting.{AllSet, SetFailed}
+use Rattle.m36_reading.specs.Puts.{IsPutWhole, IsPutPart}
 use Rattle.m36_reading.specs.Outside.{FolderState, Outside, IsIdle, NoneUnread}
 use Rattle.m36_reading.specs.Ends.{End, Answered, Cut, Unread, Starved, Unasked, end_of}
 
@@ -57,9 +56,7 @@ pub record Reads
 -- pieces.
 pub record IsWhole (due : Answer) (old new : Outside) : Type 0 where
   pub set : AllSet due.sets old.folder new.folder
-  pub text : Grew old.sink.written new.sink.written due.text
-  pub pieces : new.sink.taken ≡ old.sink.taken ++ due.pieces
-  pub put_faults : new.sink.faults ≡ old.sink.faults
+  pub put : IsPutWhole due old.sink new.sink
 
 -- The status is the one that is due, and all else of the answer is written and put.
 pub record IsMade (due : Answer) (result : Status) (old new : Outside) : Type 0 where
@@ -76,13 +73,10 @@ pub record IsUnset (due : Answer) (old new : Outside) : Type 0 where
   pub read_faults : NoneUnread old new
   pub put_faults : new.sink.faults ≡ old.sink.faults
 
--- All files are written, and a first part of the text is put: pieces of it, and then a first part
--- of the next.
+-- All files are written, and a first part of the text is put.
 pub record IsUnput (due : Answer) (old new : Outside) : Type 0 where
   pub set : AllSet due.sets old.folder new.folder
-  pub text : GrewWithin old.sink.written new.sink.written due.text
-  pub pieces : TakesSome old.sink.taken new.sink.taken due.pieces
-  pub cause : Rose old.sink.faults new.sink.faults
+  pub put : IsPutPart due old.sink new.sink
   pub read_faults : NoneUnread old new
 
 -- ---- ends, by what may have come of the reading

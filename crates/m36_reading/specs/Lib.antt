@@ -6,5 +6,6 @@ pub mod Readers
 pub mod Answers
 pub mod Outside
 pub mod Setting
+pub mod Puts
 pub mod Ends
 pub mod Doing

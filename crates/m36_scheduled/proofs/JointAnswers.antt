@@ -30,9 +30,11 @@ unfolding run_answer schedule_text
 run_whole findings p after old now new before took stood says takes stands = record {
   sets = refl;
   status = refl;
-  text = grew_both old.written now.written new.written (joint_pieces findings) (schedule_pieces p.schedule p.state) before says.grew;
-  pieces = takes_lines_on old.taken now.taken new.taken (joint_pieces findings) (schedule_pieces p.schedule p.state) took takes;
-  faults = stands ∙ stood;
+  whole = record {
+    text = grew_both old.written now.written new.written (joint_pieces findings) (schedule_pieces p.schedule p.state) before says.grew;
+    pieces = takes_lines_on old.taken now.taken new.taken (joint_pieces findings) (schedule_pieces p.schedule p.state) took takes;
+    faults = stands ∙ stood;
+  };
 }
 
 -- one of which a part was written
@@ -44,9 +46,11 @@ pub run_cut :
 unfolding run_answer schedule_text
 run_cut findings p old now new before took stood says takes rose = record {
   sets = refl;
-  text = grew_both_more old.written now.written new.written (joint_pieces findings) (schedule_pieces p.schedule p.state) before says;
-  pieces = takes_lines_more old.taken now.taken new.taken (joint_pieces findings) (schedule_pieces p.schedule p.state) took takes;
-  cause = let P : ℕ → Type 0 = λ n. Rose n new.faults in subst P stood rose;
+  part = record {
+    text = grew_both_more old.written now.written new.written (joint_pieces findings) (schedule_pieces p.schedule p.state) before says;
+    pieces = takes_lines_more old.taken now.taken new.taken (joint_pieces findings) (schedule_pieces p.schedule p.state) took takes;
+    cause = let P : ℕ → Type 0 = λ n. Rose n new.faults in subst P stood rose;
+  };
 }
 
 -- the audit text before the schedule was cut off
@@ -57,9 +61,11 @@ pub text_cut :
 unfolding run_answer schedule_text
 text_cut findings p old new cut takes rose = record {
   sets = refl;
-  text = grew_both_longer old.written new.written (joint_pieces findings) (schedule_pieces p.schedule p.state) cut;
-  pieces = takes_lines_longer old.taken new.taken (joint_pieces findings) (schedule_pieces p.schedule p.state) takes;
-  cause = rose;
+  part = record {
+    text = grew_both_longer old.written new.written (joint_pieces findings) (schedule_pieces p.schedule p.state) cut;
+    pieces = takes_lines_longer old.taken new.taken (joint_pieces findings) (schedule_pieces p.schedule p.state) takes;
+    cause = rose;
+  };
 }
 
 -- the audit text alone
@@ -68,14 +74,14 @@ pub refused_cut :
     → GrewWithin old.written new.written (joint_text findings) → TakesSome old.taken new.taken (joint_pieces findings) → Rose old.faults new.faults
     → PutsBy (end_of WriteFault) WriteFault (refused_answer findings) old new
 unfolding refused_answer
-refused_cut findings old new cut takes rose = record { sets = refl; text = cut; pieces = takes; cause = rose }
+refused_cut findings old new cut takes rose = record { sets = refl; part = record { text = cut; pieces = takes; cause = rose } }
 
 pub refused_whole :
     (findings : List JointFound) (old new : SinkState)
     → Grew old.written new.written (joint_text findings) → new.taken ≡ old.taken ++ joint_pieces findings → new.faults ≡ old.faults
     → PutsBy (end_of AuditNo) AuditNo (refused_answer findings) old new
 unfolding refused_answer
-refused_whole findings old new grew took stands = record { sets = refl; status = refl; text = grew; pieces = took; faults = stands }
+refused_whole findings old new grew took stands = record { sets = refl; status = refl; whole = record { text = grew; pieces = took; faults = stands } }
 
 pub ruleset answers = (run_whole, run_cut, text_cut, refused_cut, refused_whole)
 

@@ -59,7 +59,7 @@ ends_put unaudited p Answered result f s s' puts = record {
   is_due = puts.is_due;
   made = record {
     status = puts.puts.status;
-    whole = record { set = none_set f puts.due.sets puts.puts.sets; text = puts.puts.text; pieces = puts.puts.pieces; put_faults = puts.puts.faults };
+    whole = record { set = none_set f puts.due.sets puts.puts.sets; put = puts.puts.whole };
     read_faults = refl;
   };
 }
@@ -70,9 +70,7 @@ ends_put unaudited p Cut result f s s' puts = record {
   begun = puts.is_due;
   cut = inr (record {
     set = none_set f puts.due.sets puts.puts.sets;
-    text = puts.puts.text;
-    pieces = puts.puts.pieces;
-    cause = puts.puts.cause;
+    put = puts.puts.part;
     read_faults = refl;
   });
 }

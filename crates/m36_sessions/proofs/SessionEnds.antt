@@ -142,7 +142,7 @@ ends_put Holds d Answered result talk f s s' (inl p) = record {
   is_due = inl (record { lines = p.puts.lines; holds = p.puts.holds; answer = refl });
   made = record {
     status = sym p.is;
-    whole = record { set = none_set f [] refl; text = p.puts.puts.text; pieces = p.puts.puts.pieces; put_faults = p.puts.puts.faults };
+    whole = record { set = none_set f [] refl; put = record { text = p.puts.puts.text; pieces = p.puts.puts.pieces; faults = p.puts.puts.faults } };
     read_faults = refl;
   };
 }
@@ -153,7 +153,7 @@ ends_put Holds d Answered result talk f s s' (inr p) = record {
   is_due = inr (record { lines = p.puts.lines; holds = p.puts.holds; answer = refl });
   made = record {
     status = sym p.is;
-    whole = record { set = none_set f [] refl; text = p.puts.puts.text; pieces = p.puts.puts.pieces; put_faults = p.puts.puts.faults };
+    whole = record { set = none_set f [] refl; put = record { text = p.puts.puts.text; pieces = p.puts.puts.pieces; faults = p.puts.puts.faults } };
     read_faults = refl;
   };
 }
@@ -164,9 +164,7 @@ ends_put Holds d Cut result talk f s s' p = record {
   begun = record { lines = p.lines; holds = p.holds; answer = refl };
   cut = inr (record {
     set = none_set f [] refl;
-    text = p.puts.text;
-    pieces = p.puts.pieces;
-    cause = p.puts.cause;
+    put = record { text = p.puts.text; pieces = p.puts.pieces; cause = p.puts.cause };
     read_faults = refl;
   });
 }
@@ -176,7 +174,7 @@ ends_put Holds d Unread result talk f s s' p = inr (record {
   fails = record {
     lines = p.lines;
     holds = p.holds;
-    whole = record { set = none_set f [] refl; text = p.puts.text; pieces = p.puts.pieces; put_faults = p.puts.faults };
+    whole = record { set = none_set f [] refl; put = record { text = p.puts.text; pieces = p.puts.pieces; faults = p.puts.faults } };
   };
   read_faults = refl;
 })
@@ -202,7 +200,7 @@ ends_put Holds d Starved result talk f s s' (inr p) = inr (record {
   wants = inr (record {
     lines = p.lines;
     holds = p.holds;
-    whole = record { set = none_set f [] refl; text = p.puts.text; pieces = p.puts.pieces; put_faults = p.puts.faults };
+    whole = record { set = none_set f [] refl; put = record { text = p.puts.text; pieces = p.puts.pieces; faults = p.puts.faults } };
   });
   read_faults = refl;
 })

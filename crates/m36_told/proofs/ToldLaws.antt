@@ -23,7 +23,7 @@ told_done told f f' s s' set unread grew took stands = record {
   is_due = refl;
   made = record {
     status = refl;
-    whole = record { set = set; text = grew; pieces = took; put_faults = stands };
+    whole = record { set = set; put = record { text = grew; pieces = took; faults = stands } };
     read_faults = unread;
   };
 }
@@ -40,9 +40,7 @@ told_cut told f f' s s' set unread grew took rose = record {
   begun = refl;
   cut = inr (record {
     set = set;
-    text = grew;
-    pieces = took;
-    cause = rose;
+    put = record { text = grew; pieces = took; cause = rose };
     read_faults = unread;
   });
 }

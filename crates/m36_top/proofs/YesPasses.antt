@@ -109,24 +109,24 @@ cut_passes :
     → IsBegunOf talk d due → IsUnset due old new ⊎ IsUnput due old new → YesPasses (Ok d) old new
 cut_passes talk d due old new is (inl unset) = idle_passes (Ok d) old new unset.written
 cut_passes talk d due old new is (inr unput) = λ told_yes.
-    begun_passes talk d due is (yes_grew_within (yes_of d) old.sink.written new.sink.written due.text unput.text told_yes)
+    begun_passes talk d due is (yes_grew_within (yes_of d) old.sink.written new.sink.written due.text unput.put.text told_yes)
 
 wants_passes : (talk : Talk) (d : Due) (old new : Outside) → WantsOf talk d old new → YesPasses (Ok d) old new
 wants_passes talk (Told told) old new w = idle_passes (Ok (Told told)) old new w.written
 wants_passes talk (Image image) old new w = idle_passes (Ok (Image image)) old new w.written
 wants_passes talk (Folder folder) old new (inl w) = idle_passes (Ok (Folder folder)) old new w.written
 wants_passes talk (Folder folder) old new (inr w) = λ told_yes.
-    let b = yes_grew yes_line old.sink.written new.sink.written w.due.text w.whole.text told_yes in
+    let b = yes_grew yes_line old.sink.written new.sink.written w.due.text w.whole.put.text told_yes in
     folder_passes runs.Starved folder.command folder.given w.due b.0 w.is b.1
 wants_passes talk (Schedule s) old new w = idle_passes (Ok (Schedule s)) old new w.written
 wants_passes talk (ImageSession state) old new w = λ told_yes. tt
 wants_passes talk (FolderSession given) old new w = λ told_yes. tt
 wants_passes talk (Made sets) old new (inl w) = idle_passes (Ok (Made sets)) old new w.written
 wants_passes talk (Made sets) old new (inr (inl w)) = λ told_yes.
-    let b = yes_grew (yes_of (Made sets)) old.sink.written new.sink.written [] w.text told_yes in
+    let b = yes_grew (yes_of (Made sets)) old.sink.written new.sink.written [] w.put.text told_yes in
     yes_begun sets (files_alone sets) b.0 (inr refl) b.1
 wants_passes talk (Made sets) old new (inr (inr w)) = λ told_yes.
-    let b = yes_grew (yes_of (Made sets)) old.sink.written new.sink.written w.told.text w.so_far.text told_yes in
+    let b = yes_grew (yes_of (Made sets)) old.sink.written new.sink.written w.told.text w.so_far.put.text told_yes in
     yes_told runs.Starved sets w.told b.0 w.is b.1
 
 fails_passes : (talk : Talk) (d : Due) (old new : Outside) → FailsOf talk d old new → YesPasses (Ok d) old new
@@ -144,7 +144,7 @@ pub ends_pass_by :
     → ((other : Early Due) → Is (Came other) → given ≡ other)
     → EndsBy (due_kind talk) Is end result old new → YesPasses given old new
 ends_pass_by talk Is given Answered result old new same e =
-    subst (λ o. YesPasses o old new) (sym (same e.given e.came)) (made_passes talk e.given e.due old new e.is_due e.made.whole.text)
+    subst (λ o. YesPasses o old new) (sym (same e.given e.came)) (made_passes talk e.given e.due old new e.is_due e.made.whole.put.text)
 ends_pass_by talk Is given Cut result old new same e =
     subst (λ o. YesPasses o old new) (sym (same (Ok e.given) e.came)) (cut_passes talk e.given e.due old new e.begun e.cut)
 ends_pass_by talk Is given Unread result old new same (inl e) = idle_passes given old new e.idle.written
