@@ -22,6 +22,7 @@ use Rattle.m36_model.specs.declared.outcome.Refusal.{Refusal}
 use Rattle.m36_model.specs.declared.place.Reference.{Reference}
 use Rattle.m36_model.specs.declared.record.StepRecord.{StepRecord}
 use Rattle.m36_isol.specs.PageServices.{StaysIn}
+use Rattle.m36_isol.specs.References.{references_of_a_step}
 use Rattle.m36_isol.proofs.Laid.{page_of_word}
 use Rattle.m36_isol.proofs.PagedStep.{paged_step_law}
 use Rattle.m36_isol.proofs.Pages.{few_references}
@@ -166,9 +167,9 @@ pub bring_managed : (old later : State (List ℕ)) (p : PagerFields) → later �
 bring_managed old later p mid_is runs =
     subst (λ (s : State (List ℕ)). IsManaged (length p.holders) s.store p) (sym mid_is) (step_managed (length p.holders) old p runs.dbr runs.managed)
 
-pub bring_few : (old : State (List ℕ)) (told : StepRecord) → told ≡ record_of core_store old → length told.refs.items ≤ 20
+pub bring_few : (old : State (List ℕ)) (told : StepRecord) → told ≡ record_of core_store old → length told.refs.items ≤ references_of_a_step
 bring_few old told told_is =
-    subst (λ (e : StepRecord). length e.refs.items ≤ 20) (sym told_is) (few_references old)
+    subst (λ (e : StepRecord). length e.refs.items ≤ references_of_a_step) (sym told_is) (few_references old)
 
 fault_at : (old : State (List ℕ)) (p : PagerFields) (told : StepRecord) (at : AtFields) → told ≡ record_of core_store old → IsRunning (length p.holders) old.regs old.store p → IsLacked told.outcome at → IsFaultAt (kept_word p) old at
 fault_at old p told at told_is runs lacked =

@@ -1,6 +1,7 @@
 //! Steps with their page services.
 
 ghost use Rattle.std.specs.Prelude.{◌≡◌, ◌≤◌, ◌<◌, ◌/◌, length, true};
+ghost use Rattle.m36_isol.specs.References.{references_of_a_step};
 ghost use Rattle.m36_link.specs.Fields.{KnownFields};
 ghost use Rattle.m36_page.specs.Residence.{has_page, Reads, IsPager};
 ghost use Rattle.m36_page.specs.Changes.{IsBrought};
@@ -49,7 +50,7 @@ fn lacked(outcome: Outcome) -> Option<At>
 fn bring_in(machine: &mut Machine, pager: &mut Pager, at: At, refs: &Refs)
     requires managed { IsManaged (length pager.old.holders) machine.old.state.store pager.old }
     requires page { has_page pager.old at.seg (at.word / 1024) ≡ true }
-    requires few { length refs.now.items ≤ 20 }
+    requires few { length refs.now.items ≤ references_of_a_step }
     ensures regs { machine.new.state.regs ≡ machine.old.state.regs }
     ensures brought { IsBrought pager.old machine.old.state.store pager.new
         machine.new.state.store at.seg (at.word / 1024) refs.now.items }
