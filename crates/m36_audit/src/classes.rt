@@ -7,13 +7,10 @@ ghost use Rattle.m36_audit.specs.Classes.{IsKey, KeyAt, AreClasses, AreNoted, Ar
 use crate::run::zeros;
 use m36_core::Core;
 use m36_desc::Dbr;
-use m36_tables::{descriptor_place, segment_count, wrapped};
+use m36_tables::{SEGMENTS, descriptor_place, segment_count, wrapped};
 use m36_word::NoMemory;
 use std::alloc::Global;
 use std::collections::HashMap;
-
-/// Segments of a process, by their numbers.
-const SEGMENTS: u32 = 1 << 15;
 
 /// The two words of a segment's descriptor as one number, where both stand in core.
 fn key(core: &Core, dbr: Dbr, seg: u16) -> Option<u128>
@@ -74,7 +71,7 @@ fn note_process(
     ensures { OnOk result (AreNotedSo core.now dbrs.now (2 ^ 15 * (k + 1)) (get nat_eq places.new) firsts.new.items) }
 {
     let dbr = dbrs[k];
-    let first = k as u32 * SEGMENTS;
+    let first = k as u32 * SEGMENTS as u32;
     for seg in 0..segment_count(dbr) {
         note(places, firsts, key(core, dbr, seg), first + seg as u32)?;
     }
@@ -86,7 +83,7 @@ pub(crate) fn classes(alloc: Global, core: &Core, dbrs: &[Dbr]) -> Result<Vec<u3
     requires { length dbrs.now ≤ 8 }
     ensures { IfOk result (λ firsts. AreClasses core.now dbrs.now (2 ^ 15 * length dbrs.now) firsts.items) }
 {
-    let mut firsts = zeros(alloc, dbrs.len() as u32 * SEGMENTS)?;
+    let mut firsts = zeros(alloc, dbrs.len() as u32 * SEGMENTS as u32)?;
     let mut places = HashMap::new(alloc);
     for k in 0..dbrs.len() {
         note_process(&mut places, &mut firsts, core, dbrs, k)?;

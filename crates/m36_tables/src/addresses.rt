@@ -6,8 +6,8 @@ ghost use Rattle.m36_model.specs.Store.{within};
 
 use m36_desc::{Dbr, Sdw};
 
-/// Segment numbers have 15 bits.
-const SEGMENTS: u16 = 1 << 15;
+/// How many segments a process has at most: their numbers have 15 bits.
+pub const SEGMENTS: u16 = 1 << 15;
 
 /// Sums of addresses wrap.
 #[inline(always)]

@@ -27,7 +27,7 @@ pub mod pages;
 pub mod places;
 pub mod refusals;
 
-pub use addresses::{directory_at, page_at, segment_count, within, wrapped};
+pub use addresses::{SEGMENTS, directory_at, page_at, segment_count, within, wrapped};
 pub use descriptors::{descriptor, descriptor_place};
 pub use pages::{in_frame, page_frame, page_table_word};
 pub use places::{content, in_order, place, word_in_core, word_place};
