@@ -13,6 +13,7 @@ use crate::tallies::{
     ADD_DELTA, DECREMENT_INCREMENT, INCREMENT_DECREMENT, INDIRECT_ONLY, SUBTRACT_DELTA,
 };
 use crate::temporary::Tpr;
+use m36_desc::{ITP_TAG, ITS_TAG};
 use m36_model::{At, Fault, Final, Halt, Regs, Stop};
 use m36_word::Word;
 
@@ -34,16 +35,17 @@ const DIRECT_UPPER: u8 = 0o3;
 
 const DIRECT_LOWER: u8 = 0o7;
 
-/// The low four bits of the fault tags, and of the tags of pairs.
+/// The low four bits of the fault tags.
 const FAULT_TAG_1: u8 = 0o0;
 
 const FAULT_TAG_2: u8 = 0o6;
 
 const FAULT_TAG_3: u8 = 0o7;
 
-const ITP: u8 = 0o1;
+/// The low four bits of the tags of pairs.
+const ITP: u8 = ITP_TAG % 16;
 
-const ITS: u8 = 0o3;
+const ITS: u8 = ITS_TAG % 16;
 
 /// No register is named, but a direct operand.
 fn names_direct(td: u8) -> bool

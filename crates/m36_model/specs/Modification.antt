@@ -4,6 +4,7 @@
 use Rattle.std.specs.Prelude.{ℕ, ◌+◌, ◌-◌, ◌*◌, ◌/◌, ◌%◌, ◌^◌, Bool, ◌||◌, ◌==◌, if◌then◌else◌}
 use Rattle.std.specs.Prelude.{Option, Some, None, slice_index, slice_index_or}
 use Rattle.m36_word.specs.Field.{field}
+use Rattle.m36_desc.specs.Descriptors.{its_tag, itp_tag}
 use Rattle.m36_desc.specs.Fields.{PtrFields}
 use Rattle.m36_model.specs.Faults.{fault_tag_1, fault_tag_2, fault_tag_3, illegal_procedure}
 use Rattle.m36_model.specs.Tally.{is_tally_tag}
@@ -118,7 +119,7 @@ move_indirect_then_register g p td =
     then Fails (fault_at illegal_procedure (here g))
     else Reads p.y (Some (index_of g td))
 
--- Td of the three fault tags, and of the pair tags ITP and ITS, all of Tm IT
+-- Td of the three fault tags, of Tm IT
 abbrev pub first_fault_tag : ℕ
 first_fault_tag = 0o0
 
@@ -128,8 +129,9 @@ second_fault_tag = 0o6
 abbrev pub third_fault_tag : ℕ
 third_fault_tag = 0o7
 
+-- Td of the tags of pairs, which have Tm IT too
 abbrev pub is_pair_tag : ℕ → Bool
-is_pair_tag td = (td == 0o1) || (td == 0o3)
+is_pair_tag td = (td == itp_tag % 16) || (td == its_tag % 16)
 
 -- Indirect then tally (IT). Fault tags 1, 2 and 3 (octal 40, 46, 47) are told at the word that
 -- carried the tag. The pair tags ITP and ITS (41, 43) count only in the even word of a pair that RI
