@@ -2,7 +2,7 @@
 
 ghost use Rattle.std.specs.Prelude.{◌≡◌, ◌<◌, ◌≤◌, ◌%◌, ◌^◌, IfSome, IfNone};
 ghost use Rattle.m36_model.specs.Faults.{illegal_procedure};
-ghost use Rattle.m36_model.specs.Modification.{Ends, Fails, here, fault_at, is_direct};
+ghost use Rattle.m36_model.specs.Modification.{Ends, Fails, here, plain_fault, fault_at, is_direct};
 ghost use Rattle.m36_model.specs.Modification.{move_register, move_register_then_indirect};
 ghost use Rattle.m36_model.specs.Modification.{move_indirect_then_tally};
 ghost use Rattle.m36_model.specs.Modification.{move_indirect_then_register, move_of_point};
@@ -56,7 +56,7 @@ fn names_direct(td: u8) -> bool
 
 /// A fault other than an access violation.
 pub(crate) fn fault(number: u8, at: At) -> Fault
-    ensures { result ≡ record { at = at; number = number; acv = 0 } }
+    ensures { result ≡ plain_fault number at }
 {
     Fault { at, number, acv: 0 }
 }

@@ -29,7 +29,7 @@ use Rattle.m36_model.specs.Registers.{RegsFields}
 use Rattle.m36_model.specs.Act.{RequestKind, Fetch, Read, Write, Transfer, Call, Locate, Part}
 use Rattle.m36_model.specs.Act.{Whole, Left, Right, Put, Request, Answer, Act, done, ask, refer}
 use Rattle.m36_model.specs.Act.{otherwise}
-use Rattle.m36_model.specs.Modification.{here, fault_at}
+use Rattle.m36_model.specs.Modification.{here, plain_fault, fault_at}
 use Rattle.m36_model.specs.FirstPoint.{first_point}
 use Rattle.m36_model.specs.Chain.{ChainEnd, chain}
 use Rattle.m36_model.specs.Results.{OperandFields, EffectFields}
@@ -209,7 +209,7 @@ halted g word at h =
 -- A step that has put overflow on gives its fault where the overflow mask is off. Its effect
 -- stands.
 abbrev pub outcome_by : Bool → RegsFields → Outcome
-outcome_by true g = Faulted (record { at = here g; number = overflow_fault; acv = 0 })
+outcome_by true g = Faulted (plain_fault overflow_fault (here g))
 outcome_by false g = Next
 
 abbrev pub completed : RegsFields → ℕ → FinalFields → Performed → Act Ending
