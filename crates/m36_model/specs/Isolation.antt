@@ -5,6 +5,7 @@ use Rattle.std.specs.Prelude.{slice_get, Some}
 use Rattle.m36_desc.specs.Fields.{SdwFields}
 use Rattle.m36_inst.specs.declared.effect.Effect.TheVariants as effect
 use Rattle.m36_model.specs.Fields.{FinalFields}
+use Rattle.m36_model.specs.Pointers.{pointer}
 use Rattle.m36_model.specs.Registers.{RegsFields}
 use Rattle.m36_model.specs.Store.{Store, State, Tables}
 use Rattle.m36_model.specs.Step.{decode}
@@ -36,8 +37,7 @@ pub record IsGateCall {S : Type 0} (o : Store S) (s : State S) (r : ℕ)
   pub entry : final.at.word < sdw.limit
   pub new_ring : e.after.ppr.prr ≡ sdw.r2
   pub stack : ℕ
-  pub stack_pointer :
-      slice_get e.after.pr 7 ≡ Some (record { seg = stack; ring = sdw.r2; word = 0; bit = 0 })
+  pub stack_pointer : slice_get e.after.pr 7 ≡ Some (pointer stack sdw.r2 0)
   pub stack_sdw : SdwFields
   pub stack_live : IsLive o s stack stack_sdw
   pub stack_open : (stack_sdw.readable && stack_sdw.writable) ≡ true

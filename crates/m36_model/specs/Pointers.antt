@@ -103,8 +103,7 @@ load_address_pair g f =
 
 -- STCD: the pair becomes the ITS form of the second instruction from here
 abbrev pub control_pointer : RegsFields → PtrFields
-control_pointer g =
-    record { seg = g.ppr.psr; ring = g.ppr.prr; word = (g.ppr.ic + 2) % 2 ^ 18; bit = 0 }
+control_pointer g = pointer g.ppr.psr g.ppr.prr ((g.ppr.ic + 2) % 2 ^ 18)
 
 unfoldable pub store_control : RegsFields → Result EffectFields ℕ
 store_control g = completes_with g (ptr_even (control_pointer g) ∷ ptr_odd (control_pointer g) ∷ [])
