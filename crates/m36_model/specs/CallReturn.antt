@@ -1,13 +1,13 @@
 -- Calls and returns between rings: CALL6 and RTCD.
 -- Multics Processor Manual AL39, "Call (using PR6 and PR7)", "Return control double"; Schroeder and
 -- Saltzer (1972).
-use Rattle.std.specs.Prelude.{ℕ, max, false, ◌==◌, if◌then◌else◌, List, [], map, Result}
+use Rattle.std.specs.Prelude.{ℕ, false, ◌==◌, if◌then◌else◌, List, [], map, Result}
 use Rattle.std.specs.Prelude.{Ok, slice_index}
 use Rattle.m36_desc.specs.Fields.{PtrFields, ItsFields}
 use Rattle.m36_desc.specs.Descriptors.{its_of}
 use Rattle.m36_model.specs.Fields.{FinalFields}
 use Rattle.m36_model.specs.Registers.{RegsFields}
-use Rattle.m36_model.specs.Modification.{ptr}
+use Rattle.m36_model.specs.Modification.{ptr, pair_ring}
 use Rattle.m36_model.specs.Place.{ring_stack}
 use Rattle.m36_model.specs.Pointers.{with_pr, pointer}
 use Rattle.m36_model.specs.Results.{OperandFields, EffectFields}
@@ -33,11 +33,10 @@ call f ring g =
       overflow = false;
     })
 
--- RTCD: the ring after a return is the greatest of the pair's ring, TRR and R1 of the pair's
--- segment. No pointer register keeps another ring. The target is examined by the next fetch (this
--- project's choice).
+-- RTCD: a return goes to the ring after its pair. No pointer register keeps another ring. The target
+-- is examined by the next fetch (this project's choice).
 abbrev pub return_ring : ItsFields → FinalFields → OperandFields → ℕ
-return_ring its f o = max (max f.at.ring o.ring) its.ring
+return_ring its f o = pair_ring f.at.ring o.ring its.ring
 
 abbrev pub pointer_in_ring : ℕ → PtrFields → PtrFields
 pointer_in_ring ring p = record p { ring = ring }

@@ -16,7 +16,7 @@ use Rattle.m36_model.specs.declared.outcome.Halt.{Halt}
 use Rattle.m36_model.specs.Act.{RequestKind, Indirect, Odd, Write, Whole, Put, Request, Answer, Act}
 use Rattle.m36_model.specs.Act.{done, refer}
 use Rattle.m36_model.specs.Modification.{Point, Move, Ends, Fails, Reads, Counts, move_of_point}
-use Rattle.m36_model.specs.Modification.{ptr, fault_at}
+use Rattle.m36_model.specs.Modification.{ptr, pair_ring, fault_at}
 use Rattle.m36_model.specs.Tally.{Counted, tally, tally_address, indirect_only}
 
 -- What a chain gives: the final address, the tally word that is still to be written, and the tally
@@ -65,11 +65,6 @@ plain_point p word held w r1 =
       carrier = record { seg = p.seg; word = word; ring = max p.ring r1 };
     }
 
--- The ring after a pair is the greatest of TRR, the ring that the pair names, and R1 of the segment
--- that holds the pair.
-abbrev pub pair_ring : Point → ℕ → ℕ → ℕ
-pair_ring p ring r1 = max (max p.ring r1) ring
-
 -- An ITS pair gives the segment, the ring, y, the bit number and the tag that go on; its odd word
 -- carries the tag.
 abbrev pub its_point : Point → ℕ → Option ℕ → ℕ → ℕ → ℕ → Point
@@ -77,12 +72,12 @@ its_point p word held even odd r1 =
     let its = its_of even odd in
     record {
       seg = its.seg;
-      ring = pair_ring p its.ring r1;
+      ring = pair_ring p.ring r1 its.ring;
       y = its.word;
       bit = its.bit;
       tag = its.tag;
       held = held;
-      carrier = record { seg = p.seg; word = word + 1; ring = pair_ring p its.ring r1 };
+      carrier = record { seg = p.seg; word = word + 1; ring = pair_ring p.ring r1 its.ring };
     }
 
 -- An ITP pair names a pointer register: segment and ring are those of the register, y is the sum of
@@ -93,12 +88,12 @@ itp_point g p word held even odd r1 =
     let base = ptr g itp.pr in
     record {
       seg = base.seg;
-      ring = pair_ring p base.ring r1;
+      ring = pair_ring p.ring r1 base.ring;
       y = (base.word + itp.word) % 2 ^ 18;
       bit = itp.bit;
       tag = itp.tag;
       held = held;
-      carrier = record { seg = p.seg; word = word + 1; ring = pair_ring p base.ring r1 };
+      carrier = record { seg = p.seg; word = word + 1; ring = pair_ring p.ring r1 base.ring };
     }
 
 -- The next point, once the word at the point's address is read. Of a pair the odd word is read with

@@ -1,7 +1,7 @@
 -- Address modification: the points of an address chain, and what the tag of a point does.
 -- Multics Processor Manual AL39, "Effective address formation", "Address modification features" and
 -- "Tag field".
-use Rattle.std.specs.Prelude.{ℕ, ◌+◌, ◌-◌, ◌*◌, ◌/◌, ◌%◌, ◌^◌, Bool, ◌||◌, ◌==◌, if◌then◌else◌}
+use Rattle.std.specs.Prelude.{ℕ, ◌+◌, ◌-◌, ◌*◌, ◌/◌, ◌%◌, ◌^◌, max, Bool, ◌||◌, ◌==◌, if◌then◌else◌}
 use Rattle.std.specs.Prelude.{Option, Some, None, slice_index, slice_index_or}
 use Rattle.m36_word.specs.Field.{field}
 use Rattle.m36_desc.specs.Descriptors.{its_tag, itp_tag}
@@ -37,6 +37,11 @@ plain_fault number at = record { at = at; number = number; acv = 0 }
 
 abbrev pub fault_at : ℕ → AtFields → Halt
 fault_at number at = halt.Fault (plain_fault number at)
+
+-- The ring after a pair is the greatest of TRR, R1 of the segment that holds the pair, and the ring
+-- that the pair names: its own, or of an ITP pair that of its pointer register.
+abbrev pub pair_ring : ℕ → ℕ → ℕ → ℕ
+pair_ring trr r1 named = max (max trr r1) named
 
 -- a register that no number names
 abbrev pub no_ptr : PtrFields

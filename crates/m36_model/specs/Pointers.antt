@@ -1,7 +1,7 @@
 -- Pointer register instructions. Multics Processor Manual AL39, "Pointer register data movement
 -- load instructions", "Pointer register data movement store instructions", "Effective address to
 -- AQ", "Store control double".
-use Rattle.std.specs.Prelude.{ℕ, ◌+◌, ◌*◌, ◌%◌, ◌^◌, max, Bool, true, false, ◌&&◌, ◌==◌, List, []}
+use Rattle.std.specs.Prelude.{ℕ, ◌+◌, ◌*◌, ◌%◌, ◌^◌, Bool, true, false, ◌&&◌, ◌==◌, List, []}
 use Rattle.std.specs.Prelude.{◌∷◌, Result, Err, slice_index, slice_set}
 use Rattle.m36_word.specs.Field.{field}
 use Rattle.m36_desc.specs.Fields.{PtrFields}
@@ -9,7 +9,7 @@ use Rattle.m36_desc.specs.Descriptors.{ptr_of, ptr_even, ptr_odd, packed_of}
 use Rattle.m36_model.specs.Faults.{command}
 use Rattle.m36_model.specs.Fields.{FinalFields}
 use Rattle.m36_model.specs.Registers.{RegsFields}
-use Rattle.m36_model.specs.Modification.{ptr}
+use Rattle.m36_model.specs.Modification.{ptr, pair_ring}
 use Rattle.m36_model.specs.Results.{OperandFields, EffectFields, with_zero, completes}
 use Rattle.m36_model.specs.Results.{completes_with}
 
@@ -59,11 +59,10 @@ pointer_block g =
 unfoldable pub store_pointers : RegsFields → Result EffectFields ℕ
 store_pointers g = completes_with g (pointer_block g)
 
--- LPRI: each pointer register becomes segment, word and bit of its pair, in the greatest of the
--- pair's ring, TRR and R1 of the block's segment. The tags of the pairs are not examined (this
--- project's choice).
+-- LPRI: each pointer register becomes segment, word and bit of its pair, in the ring after the pair.
+-- The tags of the pairs are not examined (this project's choice).
 abbrev pub pointer_raised : PtrFields → ℕ → ℕ → PtrFields
-pointer_raised p ring r1 = record p { ring = max (max ring r1) p.ring }
+pointer_raised p trr r1 = record p { ring = pair_ring trr r1 p.ring }
 
 abbrev pub pointer_in : OperandFields → FinalFields → ℕ → PtrFields
 pointer_in o f n =
