@@ -24,7 +24,7 @@ use Rattle.m36_inst.specs.declared.effect.Effect.TheVariants as effect
 use Rattle.m36_inst.specs.declared.operand.Operand.{Operand}
 use Rattle.m36_inst.specs.declared.operand.Operand.TheVariants as kind
 use Rattle.m36_model.specs.Faults.{master_mode_entry, derail, illegal_procedure, overflow_fault}
-use Rattle.m36_model.specs.Fields.{FinalFields}
+use Rattle.m36_model.specs.Fields.{AtFields, FinalFields}
 use Rattle.m36_model.specs.Registers.{RegsFields}
 use Rattle.m36_model.specs.Act.{RequestKind, Fetch, Read, Write, Transfer, Call, Locate, Part}
 use Rattle.m36_model.specs.Act.{Whole, Left, Right, Put, Request, Answer, Act, done, ask, refer}
@@ -92,6 +92,9 @@ aligned zero w = w
 aligned (suc zero) w = w
 aligned (suc (suc n)) w = w - w % suc (suc n)
 
+abbrev pub aligned_at : ℕ → AtFields → AtFields
+aligned_at count at = record { seg = at.seg; word = aligned count at.word; ring = at.ring }
+
 -- A reference at the end of the chain, to so many words. It sees the new tally word.
 abbrev pub request_at : RequestKind → ChainEnd → ℕ → Request
 request_at kind c count =
@@ -99,12 +102,7 @@ request_at kind c count =
       kind = kind;
       count = count;
       pending = c.pending;
-      at =
-          record {
-            seg = c.last.at.seg;
-            word = aligned count c.last.at.word;
-            ring = c.last.at.ring;
-          };
+      at = aligned_at count c.last.at;
     }
 
 -- a word is read; and a pair or a block, whose segment's R1 goes with it

@@ -3,8 +3,9 @@
 ghost use Rattle.std.specs.Prelude.{ℕ, ◌≡◌, ◌+◌, ◌<◌, ◌≤◌, ◌^◌, [], ◌∷◌, ◌++◌, Ok, IfOk, IfSome, IfNone, length};
 ghost use Rattle.m36_ea.specs.Formed.{plain};
 ghost use Rattle.m36_model.specs.Results.{words_of_pairs};
+ghost use Rattle.m36_model.specs.Step.{aligned_at};
 ghost use Rattle.m36_walk.specs.Runs.{LiesIn};
-ghost use Rattle.m36_walk.specs.Served.{IsCount, aligned_at, sdw_in, ok_map};
+ghost use Rattle.m36_walk.specs.Served.{IsCount, sdw_in, ok_map};
 ghost use Rattle.m36_walk.specs.Words.{pair_words};
 ghost use Rattle.m36_step.specs.References.{ServesRead, ServesWrite};
 

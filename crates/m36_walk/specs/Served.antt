@@ -11,7 +11,7 @@ use Rattle.m36_model.specs.Store.{Spot, Change, Mid, Served, serve, changes, rea
 use Rattle.m36_model.specs.Store.{with_claims, with_reference}
 use Rattle.m36_model.specs.Core.{core_store, core_word, core_put}
 use Rattle.m36_model.specs.Place.{core_sdw}
-use Rattle.m36_model.specs.Step.{aligned, puts_from}
+use Rattle.m36_model.specs.Step.{puts_from}
 use Rattle.m36_model.specs.declared.outcome.Fault.{Fault}
 use Rattle.m36_model.specs.declared.outcome.Refusal.{Refusal}
 use Rattle.m36_model.specs.declared.place.Reference.{Reference}
@@ -29,10 +29,6 @@ ok_map f (Err e) = Err e
 -- where a step stands: core, what its Writes have claimed, and its completed references
 abbrev pub standing : List ℕ → List Spot → List Reference → Mid (List ℕ)
 standing core claims refs = record { store = core; claims = claims; refs = refs }
-
--- the low bits of the address of a pair or a block are dropped
-abbrev pub aligned_at : ℕ → AtFields → AtFields
-aligned_at count at = record { seg = at.seg; word = aligned count at.word; ring = at.ring }
 
 -- a request for so many words, which sees these writes as made
 abbrev pub request : RequestKind → AtFields → ℕ → List Put → Request

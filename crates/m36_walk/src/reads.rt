@@ -3,7 +3,8 @@
 ghost use Rattle.std.specs.Prelude.{ℕ, ◌≡◌, ◌+◌, ◌%◌, ◌<◌, ◌≤◌, ◌^◌, [], ◌∷◌, None, IfOk, ◌&&◌, ◌==◌, length};
 ghost use Rattle.m36_model.specs.Act.{Fetch, Indirect, Odd};
 ghost use Rattle.m36_model.specs.Results.{words_of_pairs};
-ghost use Rattle.m36_walk.specs.Served.{aligned_at, sdw_in, ok_map, ServesWord, Reads};
+ghost use Rattle.m36_model.specs.Step.{aligned_at};
+ghost use Rattle.m36_walk.specs.Served.{sdw_in, ok_map, ServesWord, Reads};
 ghost use Rattle.m36_walk.specs.Words.{pair_words};
 
 use crate::refer::{refer_fetch, refer_read};

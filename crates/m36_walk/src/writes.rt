@@ -3,8 +3,9 @@
 ghost use Rattle.std.specs.Prelude.{ℕ, ◌≡◌, ◌+◌, ◌%◌, ◌<◌, ◌≤◌, ◌^◌, [], ◌∷◌, IfOk, length, slice_set};
 ghost use Rattle.m36_model.specs.Core.{core_put};
 ghost use Rattle.m36_model.specs.Results.{words_of_pairs};
+ghost use Rattle.m36_model.specs.Step.{aligned_at};
 ghost use Rattle.m36_walk.specs.Runs.{LiesIn};
-ghost use Rattle.m36_walk.specs.Served.{aligned_at, IsCount, ok_map, ServesClaim, Writes};
+ghost use Rattle.m36_walk.specs.Served.{IsCount, ok_map, ServesClaim, Writes};
 ghost use Rattle.m36_walk.specs.Words.{run_changes, pair_words};
 
 use crate::reads::{block_at, pair_at};

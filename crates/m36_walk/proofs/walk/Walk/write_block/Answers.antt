@@ -1,6 +1,7 @@
 use Rattle.std.proofs.Common.{[]}
 use Rattle.m36_model.specs.Results.{words_of_pairs}
-use Rattle.m36_walk.specs.Served.{sdw_in, aligned_at}
+use Rattle.m36_model.specs.Step.{aligned_at}
+use Rattle.m36_walk.specs.Served.{sdw_in}
 use Rattle.m36_walk.proofs.Claims.{written_refused, written_answered}
 use Rattle.m36_walk.proofs.walk.Walk.write_block.Goals as goal
 
