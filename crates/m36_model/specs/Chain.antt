@@ -51,8 +51,12 @@ pub data Found : Type 0 where
 abbrev pub found_by_tag : ℕ → Found
 found_by_tag tag = if tag == its_tag then Its else if tag == itp_tag then Itp else Plain
 
+-- the tag of an indirect word, plain or even
+abbrev pub indirect_tag : ℕ → ℕ
+indirect_tag w = field w 30 6
+
 unfoldable pub found : ℕ → ℕ → Found
-found word w = if word % 2 == 0 then found_by_tag (field w 30 6) else Plain
+found word w = if word % 2 == 0 then found_by_tag (indirect_tag w) else Plain
 
 -- A plain indirect word gives y and the tag; segment, ring and bit number stay (the bit number:
 -- this project's choice).
@@ -60,7 +64,7 @@ abbrev pub plain_point : Point → ℕ → Option ℕ → ℕ → ℕ → Point
 plain_point p word held w r1 =
     record p {
       y = field w 0 18;
-      tag = field w 30 6;
+      tag = indirect_tag w;
       held = held;
       carrier = record { seg = p.seg; word = word; ring = max p.ring r1 };
     }
