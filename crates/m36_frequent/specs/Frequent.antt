@@ -3,7 +3,7 @@ use Rattle.std.specs.Prelude.{ℕ, Bool, true, false, [], ◌∷◌}
 use Rattle.m36_word.specs.declared.pair.Pair.{Pair}
 use Rattle.m36_inst.specs.declared.effect.Effect.{Effect}
 use Rattle.m36_inst.specs.declared.effect.Effect.TheVariants as effect
-use Rattle.m36_model.specs.Results.{OperandFields}
+use Rattle.m36_model.specs.Results.{OperandFields, words_only}
 
 -- those that read a word
 abbrev pub reads_word : Effect → Bool
@@ -80,7 +80,7 @@ is_shift _ = false
 
 -- a word that is read, and a pair with the first ring bracket of its segment
 abbrev pub word_read : ℕ → OperandFields
-word_read w = record { got = w ∷ []; ring = 0; place = 0 }
+word_read w = words_only (w ∷ [])
 
 abbrev pub pair_read : Pair → ℕ → OperandFields
 pair_read p ring = record { got = p.even ∷ p.odd ∷ []; ring = ring; place = 0 }

@@ -19,6 +19,10 @@ pub record OperandFields : Type 0 where
   pub ring : ℕ
   pub place : ℕ
 
+-- an operand of words alone
+abbrev pub words_only : List ℕ → OperandFields
+words_only got = record { got = got; ring = 0; place = 0 }
+
 -- What an effect gives: the new registers, the words to write, and whether it has put overflow on.
 -- A half to write stands right-justified in its word.
 pub record EffectFields : Type 0 where

@@ -32,7 +32,7 @@ use Rattle.m36_model.specs.Act.{otherwise}
 use Rattle.m36_model.specs.Modification.{here, plain_fault, fault_at}
 use Rattle.m36_model.specs.FirstPoint.{first_point}
 use Rattle.m36_model.specs.Chain.{ChainEnd, chain}
-use Rattle.m36_model.specs.Results.{OperandFields, EffectFields}
+use Rattle.m36_model.specs.Results.{OperandFields, EffectFields, words_only}
 use Rattle.m36_model.specs.Transfers.{is_taken}
 use Rattle.m36_model.specs.Effect.{exec, is_absa}
 use Rattle.m36_model.specs.Store.{Store, Mid, Ran, State, run, changes}
@@ -84,7 +84,7 @@ abbrev pub perform : Effect → ℕ → RegsFields → ChainEnd → Part → ℕ
 perform e n g c part first o = done (performed g c part first (exec e n (tallied g c) c.last o))
 
 abbrev pub no_operand : OperandFields
-no_operand = record { got = []; ring = 0; place = 0 }
+no_operand = words_only []
 
 -- The low bits of the address of a pair or a block are dropped.
 abbrev pub aligned : ℕ → ℕ → ℕ
@@ -109,7 +109,7 @@ request_at kind c count =
 abbrev pub reading_word : Effect → ℕ → RegsFields → ChainEnd → Operation
 reading_word e n g c =
     refer (request_at Read c 1) (λ a.
-    perform e n g c Whole 0 (record { got = a.words; ring = 0; place = 0 }))
+    perform e n g c Whole 0 (words_only a.words))
 
 abbrev pub reading_words : Effect → ℕ → RegsFields → ChainEnd → ℕ → Operation
 reading_words e n g c count =
@@ -126,7 +126,7 @@ abbrev pub changing : Effect → ℕ → RegsFields → ChainEnd → Part → Op
 changing e n g c part =
     refer (request_at Read c 1) (λ a.
     refer (request_at Write c 1) (λ b.
-    perform e n g c part b.first (record { got = a.words; ring = 0; place = 0 })))
+    perform e n g c part b.first (words_only a.words)))
 
 -- the address alone is used; ABSA asks for its place
 abbrev pub addressing : Effect → ℕ → RegsFields → ChainEnd → Bool → Operation
@@ -175,8 +175,7 @@ direct_word kind.R w = w ∷ []
 direct_word _ w = []
 
 abbrev pub by_direct : Effect → ℕ → RegsFields → ChainEnd → ℕ → Bool → Operation
-by_direct e n g c w true =
-    perform e n g c Whole 0 (record { got = direct_word (operand_of e) w; ring = 0; place = 0 })
+by_direct e n g c w true = perform e n g c Whole 0 (words_only (direct_word (operand_of e) w))
 by_direct e n g c w false = done (Err (fault_at illegal_procedure (here g)))
 
 abbrev pub operate_on : Effect → ℕ → RegsFields → ChainEnd → Option ℕ → Operation

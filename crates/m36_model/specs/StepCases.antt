@@ -28,7 +28,7 @@ use Rattle.m36_model.specs.Core.{core_store}
 use Rattle.m36_model.specs.Modification.{here, fault_at}
 use Rattle.m36_model.specs.FirstPoint.{first_point}
 use Rattle.m36_model.specs.Chain.{ChainEnd, chain}
-use Rattle.m36_model.specs.Results.{OperandFields, EffectFields}
+use Rattle.m36_model.specs.Results.{OperandFields, EffectFields, words_only}
 use Rattle.m36_model.specs.Transfers.{is_taken}
 use Rattle.m36_model.specs.Effect.{exec, is_absa}
 use Rattle.m36_model.specs.Step.{tallied, no_operand, request_at, direct_word, operate, outcome_of}
@@ -96,9 +96,6 @@ pub record Reached (S : Type 0) : Type 0 where
   pub part : Part
   pub spots : List Spot
   pub mid : Mid S
-
-abbrev pub words_only : List ℕ → OperandFields
-words_only got = record { got = got; ring = 0; place = 0 }
 
 -- nothing is referenced
 pub record IsUnreferenced {S : Type 0} (m : Mid S) (got : OperandFields)

@@ -9,7 +9,7 @@ use Rattle.m36_model.specs.Chain.{chain_end_fields, claimed_by}
 use Rattle.m36_model.specs.Core.{core_store}
 use Rattle.m36_model.specs.Registers.{RegsFields}
 use Rattle.m36_model.specs.Modification.{here, plain_fault}
-use Rattle.m36_model.specs.Results.{OperandFields, operand_fields}
+use Rattle.m36_model.specs.Results.{OperandFields, words_only, operand_fields}
 use Rattle.m36_model.specs.Step.{Performed, Operation, perform, direct_word}
 use Rattle.m36_model.specs.Store.{Ran, run}
 use Rattle.m36_model.specs.declared.effects.Formed.{Formed}
@@ -93,7 +93,7 @@ part_for _ = part.Whole
 
 -- A direct operand is given to the effect as it stands, where the instruction takes it.
 abbrev pub takes_word : Effect → RegsFields → ℕ → Bool → Result OperandFields Fault
-takes_word e g w true = Ok (record { got = direct_word (operand_of e) w; ring = 0; place = 0 })
+takes_word e g w true = Ok (words_only (direct_word (operand_of e) w))
 takes_word e g w false = Err (plain_fault illegal_procedure (here g))
 
 abbrev pub fields_reached : Operand36 → Result Reached Fault → Result OperandFields Fault
