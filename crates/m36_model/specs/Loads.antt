@@ -3,20 +3,17 @@
 use Rattle.std.specs.Prelude.{ℕ, ◌*◌, ◌^◌, [], ◌∷◌, Result}
 use Rattle.m36_word.specs.Bits.{is_on}
 use Rattle.m36_model.specs.Registers.{RegsFields}
-use Rattle.m36_model.specs.Arithmetic.{negation}
-use Rattle.m36_model.specs.Results.{EffectFields, Working, half, with_indicators, zn, zn_overflow}
-use Rattle.m36_model.specs.Results.{takes, completes, completes_with, completes_or_overflows}
+use Rattle.m36_model.specs.Results.{EffectFields, Working, half, with_indicators, zn, takes}
+use Rattle.m36_model.specs.Results.{completes, completes_with, becomes, becomes_negative}
 use Rattle.m36_model.specs.declared.registers.Ind.{Ind}
 
 -- LDA, LDQ, LDAQ, LDX, LXL: the register becomes the value
 unfoldable pub load : Working → ℕ → RegsFields → Result EffectFields ℕ
-load r v g = completes (takes r v (zn (half r) v g.ind) g)
+load r v g = becomes r v g
 
 -- LCA, LCQ, LCAQ, LCX: the register becomes the negative of the value
 unfoldable pub load_complement : Working → ℕ → RegsFields → Result EffectFields ℕ
-load_complement r v g =
-    let s = negation (half r) v in
-    completes_or_overflows (takes r s.value (zn_overflow s g.ind) g) [] s.overflow
+load_complement r v g = becomes_negative r v g
 
 -- LDAC, LDQC: the register becomes the value, and the word becomes 0
 unfoldable pub load_and_clear : Working → ℕ → RegsFields → Result EffectFields ℕ

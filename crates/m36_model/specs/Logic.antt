@@ -4,26 +4,23 @@
 use Rattle.std.specs.Prelude.{ℕ, Result}
 use Rattle.m36_model.specs.Registers.{RegsFields}
 use Rattle.m36_model.specs.Booleans.{and_of, or_of, xor_of}
-use Rattle.m36_model.specs.Results.{EffectFields, Working, half, width, value, words, takes}
-use Rattle.m36_model.specs.Results.{with_indicators, zn, completes, completes_with}
-
-abbrev pub bits_into_register : Working → ℕ → RegsFields → Result EffectFields ℕ
-bits_into_register r v g = completes (takes r v (zn (half r) v g.ind) g)
+use Rattle.m36_model.specs.Results.{EffectFields, Working, half, width, value, words}
+use Rattle.m36_model.specs.Results.{with_indicators, zn, completes_with, becomes}
 
 abbrev pub bits_into_operand : Working → ℕ → RegsFields → Result EffectFields ℕ
 bits_into_operand r v g = completes_with (with_indicators (zn (half r) v g.ind) g) (words r v)
 
 -- ANA, ANQ, ANAQ, ANX
 unfoldable pub and_register : Working → ℕ → RegsFields → Result EffectFields ℕ
-and_register r v g = bits_into_register r (and_of (width r) (value r g) v) g
+and_register r v g = becomes r (and_of (width r) (value r g) v) g
 
 -- ORA, ORQ, ORAQ, ORX
 unfoldable pub or_register : Working → ℕ → RegsFields → Result EffectFields ℕ
-or_register r v g = bits_into_register r (or_of (width r) (value r g) v) g
+or_register r v g = becomes r (or_of (width r) (value r g) v) g
 
 -- ERA, ERQ, ERAQ, ERX
 unfoldable pub xor_register : Working → ℕ → RegsFields → Result EffectFields ℕ
-xor_register r v g = bits_into_register r (xor_of (width r) (value r g) v) g
+xor_register r v g = becomes r (xor_of (width r) (value r g) v) g
 
 -- ANSA, ANSQ, ANSX: the operand becomes register and operand
 unfoldable pub and_storage : Working → ℕ → RegsFields → Result EffectFields ℕ

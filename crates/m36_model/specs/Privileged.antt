@@ -4,8 +4,8 @@
 use Rattle.std.specs.Prelude.{ℕ, ◌*◌, ◌^◌, [], ◌∷◌, Result, slice_index}
 use Rattle.m36_desc.specs.Descriptors.{dbr_of, dbr_even, dbr_odd}
 use Rattle.m36_model.specs.Registers.{RegsFields}
-use Rattle.m36_model.specs.Results.{OperandFields, EffectFields, A, half, takes, zn, completes}
-use Rattle.m36_model.specs.Results.{completes_with}
+use Rattle.m36_model.specs.Results.{OperandFields, EffectFields, A, completes, completes_with}
+use Rattle.m36_model.specs.Results.{becomes}
 
 -- LDBR: the descriptor segment base register becomes the fields of the pair
 unfoldable pub load_dbr : OperandFields → RegsFields → Result EffectFields ℕ
@@ -18,5 +18,4 @@ store_dbr g = completes_with g (dbr_even g.dbr ∷ dbr_odd g.dbr ∷ [])
 -- ABSA: A 0-23 become the place in core, and A 24-35 become 0. The indicators are this project's
 -- choice.
 unfoldable pub load_absolute_address : OperandFields → RegsFields → Result EffectFields ℕ
-load_absolute_address o g =
-    let v = o.place * 2 ^ 12 in completes (takes A v (zn (half A) v g.ind) g)
+load_absolute_address o g = becomes A (o.place * 2 ^ 12) g

@@ -5,10 +5,11 @@ use Rattle.m36_model.specs.Faults.{divide_check}
 use Rattle.m36_model.specs.Registers.{RegsFields}
 use Rattle.m36_model.specs.Arithmetic.{product, quotient, remainder, is_divide_check}
 use Rattle.m36_model.specs.Results.{EffectFields, A, Q, AQ, half, with_value, takes, zn, completes}
+use Rattle.m36_model.specs.Results.{becomes}
 
 -- MPY: AQ becomes Q times the value
 unfoldable pub multiply : ℕ → RegsFields → Result EffectFields ℕ
-multiply v g = let p = product g.q v in completes (takes AQ p (zn (half AQ) p g.ind) g)
+multiply v g = becomes AQ (product g.q v) g
 
 -- DIV: Q becomes Q over the value, and A the remainder; a divide check changes nothing
 abbrev pub divide_by : Bool → ℕ → RegsFields → Result EffectFields ℕ

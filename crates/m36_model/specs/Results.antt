@@ -5,7 +5,7 @@ use Rattle.std.specs.Prelude.{Result, Ok, slice_index, slice_set}
 use Rattle.m36_word.specs.Field.{field}
 use Rattle.m36_word.specs.declared.pair.Pair.{Pair}
 use Rattle.m36_model.specs.Registers.{RegsFields}
-use Rattle.m36_model.specs.Arithmetic.{SumFields, ComparisonFields, is_negative}
+use Rattle.m36_model.specs.Arithmetic.{SumFields, ComparisonFields, is_negative, negation}
 use Rattle.m36_model.specs.declared.effects.Held.{Held}
 use Rattle.m36_model.specs.declared.effects.Held.TheVariants as held
 use Rattle.m36_model.specs.declared.effects.Operand36.{Operand36}
@@ -175,3 +175,13 @@ completes_or_overflows g put overflow =
 -- a register takes a value, with the indicators as they are to be
 abbrev pub takes : Working → ℕ → Ind → RegsFields → RegsFields
 takes r v i g = with_indicators i (with_value r v g)
+
+-- A register becomes a value, of which zero and negative tell; and the negative of a value, of which
+-- overflow tells too.
+abbrev pub becomes : Working → ℕ → RegsFields → Result EffectFields ℕ
+becomes r v g = completes (takes r v (zn (half r) v g.ind) g)
+
+abbrev pub becomes_negative : Working → ℕ → RegsFields → Result EffectFields ℕ
+becomes_negative r v g =
+    let s = negation (half r) v in
+    completes_or_overflows (takes r s.value (zn_overflow s g.ind) g) [] s.overflow

@@ -5,6 +5,7 @@ use Rattle.m36_model.specs.Registers.{RegsFields}
 use Rattle.m36_model.specs.Shifts.{count_of, left_shift, left_shift_carry, copying_right_shift}
 use Rattle.m36_model.specs.Shifts.{plain_right_shift, rotation}
 use Rattle.m36_model.specs.Results.{EffectFields, Working, half, width, value, takes, zn, completes}
+use Rattle.m36_model.specs.Results.{becomes}
 use Rattle.m36_model.specs.declared.registers.Ind.{Ind}
 
 abbrev pub with_carry : Bool → Ind → Ind
@@ -21,16 +22,16 @@ shift_left r address g =
 unfoldable pub shift_right : Working → ℕ → RegsFields → Result EffectFields ℕ
 shift_right r address g =
     let v = copying_right_shift (width r) (value r g) (count_of address) in
-    completes (takes r v (zn (half r) v g.ind) g)
+    becomes r v g
 
 -- ARL, QRL, LRL
 unfoldable pub shift_right_logical : Working → ℕ → RegsFields → Result EffectFields ℕ
 shift_right_logical r address g =
     let v = plain_right_shift (value r g) (count_of address) in
-    completes (takes r v (zn (half r) v g.ind) g)
+    becomes r v g
 
 -- ALR, QLR, LLR
 unfoldable pub rotate_left : Working → ℕ → RegsFields → Result EffectFields ℕ
 rotate_left r address g =
     let v = rotation (width r) (value r g) (count_of address) in
-    completes (takes r v (zn (half r) v g.ind) g)
+    becomes r v g

@@ -2,10 +2,10 @@
 -- "Fixed-point subtraction instructions", "Fixed-point negate instructions".
 use Rattle.std.specs.Prelude.{ℕ, ◌+◌, ◌-◌, ◌^◌, false, not, nat_lt, if◌then◌else◌, [], Result}
 use Rattle.m36_model.specs.Registers.{RegsFields}
-use Rattle.m36_model.specs.Arithmetic.{SumFields, sum, difference, negation}
+use Rattle.m36_model.specs.Arithmetic.{SumFields, sum, difference}
 use Rattle.m36_model.specs.Results.{EffectFields, Working, A, half, value, words, takes}
-use Rattle.m36_model.specs.Results.{with_indicators, zn_carry, zn_overflow, zn_carry_overflow}
-use Rattle.m36_model.specs.Results.{completes, completes_or_overflows}
+use Rattle.m36_model.specs.Results.{with_indicators, zn_carry, zn_carry_overflow, completes}
+use Rattle.m36_model.specs.Results.{completes_or_overflows, becomes_negative}
 
 -- a result that goes into the register, with carry and overflow, and one with carry alone
 unfoldable pub into_register : Working → SumFields → RegsFields → Result EffectFields ℕ
@@ -63,6 +63,4 @@ subtract_stored r v g = into_operand r (difference (half r) (value r g) v false)
 
 -- NEG, NEGL: the register becomes its negative
 unfoldable pub negate : Working → RegsFields → Result EffectFields ℕ
-negate r g =
-    let s = negation (half r) (value r g) in
-    completes_or_overflows (takes r s.value (zn_overflow s g.ind) g) [] s.overflow
+negate r g = becomes_negative r (value r g) g
