@@ -58,7 +58,7 @@ module _ (frames : ℕ) (kept : ℕ → ℕ → ℕ) (g : RegsFields) (core : Li
       subst (λ (l : List Put). M (core_put x.store (changes x.claims puts)) (flat_put y.store (changes y.claims l))) e (mirrors.put x.store y.store k.mirrors (changes x.claims puts) (changes y.claims puts) pairs)
 
   ldbr_of : (x : Ran Ending (List ℕ)) → EndsWithLdbr g x.value → ExecutesLdbr (step_record g x)
-  ldbr_of x k = record { word = k.word; fetched = k.fetched; number = k.number; loads = k.loads; next = k.next }
+  ldbr_of x k = record { word = k.word; fetched = k.fetched; number = k.number; does = k.loads; next = k.next }
 
   by_run : AreRun M Pair (Lacks core) there.store (EndsSo g) (StopsSo g) (EndPlaced g) (ran core_store here) (ran flat_store there) → IsPagedStep frames kept here
   unfolding record_of state_after
@@ -95,7 +95,7 @@ module _ (frames : ℕ) (kept : ℕ → ℕ → ℕ) (g : RegsFields) (core : Li
       let m = puts_alike x.mid y.mid mids x.value.puts y.value.puts two.puts in
       let store = flat_back core frames laid kept (state_after core_store here).store _ m in
       keeps (λ now f k. inr (inr (record {
-        executes = record { word = two.word; fetched = two.fetched; number = two.number; locates = two.locates; next = two.next };
+        executes = record { word = two.word; fetched = two.fetched; number = two.number; does = two.locates; next = two.next };
         store = store;
         regs = two.regs;
         dbr = two.dbr ∙ dbr;

@@ -97,7 +97,7 @@ module _ {S : Type 0} (o : Store S) (T : Tables) (g : RegsFields) (B : Backed o 
   unfolding state_after record_of
   dbr_or =
       let k = one_run o g B.Has B.Lies B.Near B.law B.guarded r low store has_here in
-      ⊎_elim (λ same. inl same) (λ loads. inr (record { word = loads.word; fetched = loads.fetched; number = loads.number; loads = loads.loads; next = loads.next })) k.post.dbr
+      ⊎_elim (λ same. inl same) (λ loads. inr (record { word = loads.word; fetched = loads.fetched; number = loads.number; does = loads.loads; next = loads.next })) k.post.dbr
 
   pub tables_by : (state_after o here).regs.dbr ≡ g.dbr → tables_of o (state_after o here) ≡ T
   unfolding state_after

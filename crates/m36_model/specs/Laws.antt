@@ -148,13 +148,16 @@ abbrev pub AgreeLaw : {S : Type 0} → Store S → Tables → Type 0
 AgreeLaw {S} o T =
     (r : ℕ) (a b : State S) → 1 ≤ r → IsAbove o T r a → Agree o r a b → IsAlike o T r a b
 
--- the step was an LDBR that completed
-pub record ExecutesLdbr (e : StepRecord) : Type 0 where
+-- the step was this instruction, and completed
+pub record Executes (instruction : Effect) (e : StepRecord) : Type 0 where
   pub word : ℕ
   pub fetched : e.word ≡ Some word
   pub number : ℕ
-  pub loads : decode word ≡ Some (effect.Ldbr, number)
+  pub does : decode word ≡ Some (instruction, number)
   pub next : e.outcome ≡ Next
+
+abbrev pub ExecutesLdbr : StepRecord → Type 0
+ExecutesLdbr e = Executes effect.Ldbr e
 
 -- A step in any ring that executes no LDBR keeps the audit conditions.
 abbrev pub KeptLaw : Type 0

@@ -1,14 +1,14 @@
 -- What a step does over the core of a booted image, whose pages may be in frames or not, by what it
 -- does over the flat memory for which core and the kept words stand.
-use Rattle.std.specs.Prelude.{◌≡◌, ◌≢◌, ℕ, ◌⊎◌, List, take, Some}
+use Rattle.std.specs.Prelude.{◌≡◌, ◌≢◌, ℕ, ◌⊎◌, List, take}
 use Rattle.m36_inst.specs.declared.effect.Effect.TheVariants as effect
 use Rattle.m36_model.specs.Faults.{missing_page}
 use Rattle.m36_model.specs.Registers.{RegsFields}
 use Rattle.m36_model.specs.Store.{State}
 use Rattle.m36_model.specs.Core.{core_store}
-use Rattle.m36_model.specs.Step.{decode, record_of, state_after}
+use Rattle.m36_model.specs.Step.{record_of, state_after}
 use Rattle.m36_model.specs.Audit.{IsAudited}
-use Rattle.m36_model.specs.Laws.{ExecutesLdbr}
+use Rattle.m36_model.specs.Laws.{Executes, ExecutesLdbr}
 use Rattle.m36_model.specs.Flat.{Flat, flat_store, IsFlatAudited}
 use Rattle.m36_model.specs.BootedCore.{booted_dbr, descriptor_words, IsLaid, IsPage, page_word}
 use Rattle.m36_model.specs.Residence.{Paged, flat_of, Lacks, IsMoved}
@@ -23,12 +23,8 @@ flat_state kept s =
     record { regs = s.regs; store = flat_of (record { core = s.store; kept = kept }) }
 
 -- the step was an ABSA that completed
-pub record ExecutesAbsa (e : StepRecord) : Type 0 where
-  pub word : ℕ
-  pub fetched : e.word ≡ Some word
-  pub number : ℕ
-  pub locates : decode word ≡ Some (effect.Absa, number)
-  pub next : e.outcome ≡ Next
+abbrev pub ExecutesAbsa : StepRecord → Type 0
+ExecutesAbsa e = Executes effect.Absa e
 
 -- registers that differ in A and in the indicators alone
 pub record DifferInA (x y : RegsFields) : Type 0 where

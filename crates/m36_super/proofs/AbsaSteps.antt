@@ -64,14 +64,14 @@ module _ (frames : ℕ) (kept : ℕ → ℕ → ℕ) (g : RegsFields) (core : Li
         word = k.word;
         fetched = sym (ap (λ (e : Ending). e.word) value) ∙ k.fetched;
         number = k.number;
-        locates = k.locates;
+        does = k.does;
         next = sym (ap (λ (e : Ending). e.outcome) value) ∙ k.next;
       }
   absa_by (lacked fault number lacks stop m) k =
       let ends : Faulted fault ≡ Next = sym stop.outcome ∙ k.next in
       absurd (cc)
   absa_by (placed_apart two mids) k =
-      record { word = two.1.word; fetched = two.1.fetched; number = two.1.number; locates = two.1.locates; next = two.1.next }
+      record { word = two.1.word; fetched = two.1.fetched; number = two.1.number; does = two.1.locates; next = two.1.next }
 
   absa_there : ExecutesAbsa (record_of core_store here) → ExecutesAbsa (record_of flat_store there)
   absa_there =

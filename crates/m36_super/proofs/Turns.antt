@@ -41,7 +41,7 @@ loads_ldbr word outcome w n fetched row next =
 
 pub not_loaded : (e : StepRecord) → loaded_after false e ≡ false → ExecutesLdbr e → ⊥
 not_loaded e none k =
-    let loaded = loads_ldbr e.word e.outcome k.word k.number k.fetched k.loads k.next in
+    let loaded = loads_ldbr e.word e.outcome k.word k.number k.fetched k.does k.next in
     cc
 
 -- an instruction counter that moves on leaves the DBR
