@@ -40,24 +40,21 @@ write_rows s trr =
     ∷ (not s.writable, no_write_right)
     ∷ []
 
--- The execute bracket has a lower end too.
-abbrev pub fetch_rows : SdwFields → ℕ → List (Bool × ℕ)
-fetch_rows s prr =
+-- a fetch in a ring, and then more: the execute bracket has a lower end too
+abbrev pub execute_rows : SdwFields → ℕ → List (Bool × ℕ) → List (Bool × ℕ)
+execute_rows s ring more =
     (not (in_order s), illegal_ring_order)
-    ∷ (nat_lt prr s.r1, out_of_execute_bracket)
-    ∷ (nat_lt s.r2 prr, out_of_execute_bracket)
+    ∷ (nat_lt ring s.r1, out_of_execute_bracket)
+    ∷ (nat_lt s.r2 ring, out_of_execute_bracket)
     ∷ (not s.executable, no_execute_right)
-    ∷ []
+    ∷ more
+
+abbrev pub fetch_rows : SdwFields → ℕ → List (Bool × ℕ)
+fetch_rows s prr = execute_rows s prr []
 
 -- as a fetch, at the ring of the reference
 abbrev pub transfer_rows : SdwFields → ℕ → ℕ → List (Bool × ℕ)
-transfer_rows s trr prr =
-    (not (in_order s), illegal_ring_order)
-    ∷ (nat_lt trr s.r1, out_of_execute_bracket)
-    ∷ (nat_lt s.r2 trr, out_of_execute_bracket)
-    ∷ (not s.executable, no_execute_right)
-    ∷ (not (trr == prr), crossing_ring_transfer)
-    ∷ []
+transfer_rows s trr prr = execute_rows s trr ((not (trr == prr), crossing_ring_transfer) ∷ [])
 
 abbrev pub call_rows : SdwFields → ℕ → ℕ → Bool → ℕ → List (Bool × ℕ)
 call_rows s trr prr same word =
