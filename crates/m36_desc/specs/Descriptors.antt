@@ -70,29 +70,46 @@ dbr_even d = d.addr * 2 ^ 12
 abbrev pub dbr_odd : DbrFields → ℕ
 dbr_odd d = d.bnd * 2 ^ 21 + of_bit d.unpaged * 2 ^ 16 + d.stack
 
+-- The odd word of an indirect pair: WORDNO 0-17, BITNO 21-26, tag 30-35.
+abbrev pub wordno_of : ℕ → ℕ
+wordno_of odd = field odd 0 18
+
+abbrev pub bitno_of : ℕ → ℕ
+bitno_of odd = field odd 21 6
+
+abbrev pub tag_of : ℕ → ℕ
+tag_of odd = field odd 30 6
+
+abbrev pub odd_of : ℕ → ℕ → ℕ → ℕ
+odd_of number bit tag = number * 2 ^ 18 + bit * 2 ^ 9 + tag
+
 -- Indirect to segment. Even word: SEGNO 3-17, RNR 18-20, tag 43 octal in 30-35.
--- Odd word: WORDNO 0-17, BITNO 21-26, tag 30-35.
 abbrev pub its_tag : ℕ
 its_tag = 0o43
+
+abbrev pub segno_of : ℕ → ℕ
+segno_of even = field even 3 15
+
+abbrev pub rnr_of : ℕ → ℕ
+rnr_of even = field even 18 3
 
 abbrev pub its_of : ℕ → ℕ → ItsFields
 its_of even odd =
     record {
-      seg = field even 3 15;
-      ring = field even 18 3;
-      word = field odd 0 18;
-      bit = field odd 21 6;
-      tag = field odd 30 6;
+      seg = segno_of even;
+      ring = rnr_of even;
+      word = wordno_of odd;
+      bit = bitno_of odd;
+      tag = tag_of odd;
     }
 
 abbrev pub its_even : ItsFields → ℕ
 its_even p = p.seg * 2 ^ 18 + p.ring * 2 ^ 15 + its_tag
 
 abbrev pub its_odd : ItsFields → ℕ
-its_odd p = p.word * 2 ^ 18 + p.bit * 2 ^ 9 + p.tag
+its_odd p = odd_of p.word p.bit p.tag
 
--- Indirect through a pointer register. Even word: PRNUM 0-2, tag 41 octal in 30-35. Odd word
--- as of ITS.
+-- Indirect through a pointer register. Even word: PRNUM 0-2, tag 41 octal in 30-35.
 abbrev pub itp_tag : ℕ
 itp_tag = 0o41
 
@@ -100,25 +117,25 @@ abbrev pub itp_of : ℕ → ℕ → ItpFields
 itp_of even odd =
     record {
       pr = field even 0 3;
-      word = field odd 0 18;
-      bit = field odd 21 6;
-      tag = field odd 30 6;
+      word = wordno_of odd;
+      bit = bitno_of odd;
+      tag = tag_of odd;
     }
 
 abbrev pub itp_even : ItpFields → ℕ
 itp_even p = p.pr * 2 ^ 33 + itp_tag
 
 abbrev pub itp_odd : ItpFields → ℕ
-itp_odd p = p.word * 2 ^ 18 + p.bit * 2 ^ 9 + p.tag
+itp_odd p = odd_of p.word p.bit p.tag
 
 -- Pointer register: its pair is the ITS pair of its fields with tag 0 in the odd word.
 abbrev pub ptr_of : ℕ → ℕ → PtrFields
 ptr_of even odd =
     record {
-      seg = field even 3 15;
-      ring = field even 18 3;
-      word = field odd 0 18;
-      bit = field odd 21 6;
+      seg = segno_of even;
+      ring = rnr_of even;
+      word = wordno_of odd;
+      bit = bitno_of odd;
     }
 
 abbrev pub its_of_ptr : PtrFields → ItsFields
