@@ -25,6 +25,10 @@ least_frames = 24
 abbrev pub most_entries : ℕ
 most_entries = 16383
 
+-- a number that it holds, in its 14 bits
+abbrev pub IsLimit : ℕ → Type 0
+IsLimit limit = limit < 2 ^ 14
+
 -- ---- gates
 
 abbrev pub bound_fault : ℕ → Option PartsFields → Option BootFault
@@ -102,13 +106,13 @@ ToldOfGates told first = first ≡ Some told
 abbrev pub GateSays : ℕ → List ℕ → Result ℕ BootFault → Type 0
 GateSays seg words (Ok limit) =
     (bound_fault seg (value_of words) ≡ None) × (limit ≡ entry_bound_of (value_of words))
-    × (limit < 2 ^ 14)
+    × IsLimit limit
 GateSays seg words (Err told) = ToldOfGates told (bound_fault seg (value_of words))
 
 -- the call limiter of a segment
 abbrev pub LimitSays : ℕ → SegmentFields → List ℕ → Result ℕ BootFault → Type 0
 LimitSays seg s words (Ok limit) =
-    (gate_fault seg s words ≡ None) × (limit ≡ limit_of s words) × (limit < 2 ^ 14)
+    (gate_fault seg s words ≡ None) × (limit ≡ limit_of s words) × IsLimit limit
 LimitSays seg s words (Err told) = ToldOfGates told (gate_fault seg s words)
 
 abbrev pub limit_at : Option SegmentFields → List ℕ → ℕ
@@ -123,4 +127,4 @@ pub record AreLimits
   pub each :
       (i : ℕ) → i < count
       → slice_index limits i ≡ limit_at (slice_get catalog.segments i) (file_at files i)
-  pub small : (i : ℕ) → i < count → slice_index limits i < 2 ^ 14
+  pub small : (i : ℕ) → i < count → IsLimit (slice_index limits i)

@@ -5,7 +5,7 @@ ghost use Rattle.m36_desc.specs.Access.{in_order};
 ghost use Rattle.m36_model.specs.BootedCore.{table_at, booted_segments};
 ghost use Rattle.m36_link.specs.Known.{first_segment};
 ghost use Rattle.m36_boot.specs.Segments.{first_stack, behind_rings, paged_segment, ring_segment, limited_segment, booted_sdw, stack_words, lot_of, linkage_words, booted_words};
-ghost use Rattle.m36_boot.specs.Refusals.{AreLimits};
+ghost use Rattle.m36_boot.specs.Refusals.{IsLimit, AreLimits};
 
 use crate::objects::file;
 use m36_desc::{ITS_TAG, Sdw};
@@ -80,7 +80,7 @@ fn ring_segment(seg: u16, ring: u8, pages: u16) -> Sdw
 fn limited_segment(seg: u16, segment: &Segment, words: &[Word], limit: u16) -> Sdw
     requires seg { seg < booted_segments }
     requires words { length words.now ≤ 2 ^ 18 }
-    requires limit { limit < 2 ^ 14 }
+    requires limit { IsLimit limit }
     requires read_bracket { segment.now.r1 ≤ segment.now.r2 }
     requires call_bracket { segment.now.r2 ≤ segment.now.r3 }
     ensures value { result ≡ limited_segment seg segment.now words.now limit }
