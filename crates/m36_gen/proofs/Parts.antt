@@ -10,6 +10,10 @@ pub numbered_put : (old before behind : List ℕ) (n : ℕ) → ((old ++ before)
 unfolding line numbered
 numbered_put old before behind n = simp append_assoc
 
+pub named_put : (old before name behind : List ℕ) → ((old ++ before) ++ name) ++ line behind ≡ old ++ line (before ++ name ++ behind)
+unfolding line
+named_put old before name behind = simp append_assoc
+
 -- the line of a segment
 pub segment_put : (old name has : List ℕ)
     → (((((old ++ codes "segment >gen ") ++ name) ++ codes " ") ++ name) ++ codes " ") ++ line has ≡ old ++ segment_line name has

@@ -21,4 +21,4 @@ boot_text =
     ++ program_lines program_count
     ++ segment_line (codes "d_") (codes "data rw 4 4 4")
     ++ segment_line (codes "stop_") (codes "gate rep 0 0 4")
-    ++ line (codes "start 4 g0$start")
+    ++ line (codes "start 4 " ++ segment_name 0 ++ codes "$start")

@@ -2,7 +2,7 @@
 -- the gate, and the gate, which stops.
 use Rattle.std.specs.Prelude.{ℕ, ◌+◌, ◌-◌, nat_eq, if◌then◌else◌, List, ◌++◌, codes}
 use Rattle.m36_gen.specs.declared.draws.Draws.{Draws}
-use Rattle.m36_gen.specs.Lines.{line, numbered, program_count}
+use Rattle.m36_gen.specs.Lines.{line, numbered, program_count, segment_name}
 
 -- The entry, by which the linkage section of the segment is found.
 unfoldable pub entry_lines : List ℕ
@@ -32,7 +32,7 @@ loop_lines draws = adding_lines draws ++ storing_lines
 unfoldable pub following_line : ℕ → List ℕ
 following_line i =
     if nat_eq i (program_count - 1) then line (codes " call6 stop_$stop")
-    else numbered (codes " tra g") (i + 1) (codes "$start")
+    else line (codes " tra " ++ segment_name (i + 1) ++ codes "$start")
 
 unfoldable pub source_text : ℕ → Draws → List ℕ
 source_text i draws =

@@ -27,6 +27,16 @@ pub fn put_numbered(text: &mut Text, before: &[u8], n: u64, behind: &[u8]) -> Re
     put_line(text, behind)
 }
 
+/// Puts a line with a name in it.
+#[tactic(auto, using(crate::proofs::Parts::named_put))]
+pub fn put_named(text: &mut Text, before: &[u8], name: &[u8], behind: &[u8]) -> Result<(), NoMemory>
+    ensures { OnOk result (text.new ≡ text.old ++ line (before.now ++ name.now ++ behind.now)) }
+{
+    text.append(before)?;
+    text.append(name)?;
+    put_line(text, behind)
+}
+
 /// A name of at most 32 bytes.
 pub fn name_of(bytes: &[u8]) -> Name
     requires { length bytes.now ≤ 32 }

@@ -6,7 +6,7 @@ ghost use Rattle.m36_gen.specs.Sources.{entry_lines, adding_lines, storing_lines
 ghost use Rattle.m36_gen.specs.Sources.{source_text, stop_lines, stop_text};
 
 use crate::draws::Draws;
-use crate::lines::{put_line, put_numbered};
+use crate::lines::{put_line, put_named, put_numbered, segment_name};
 use m36_outside::Text;
 use m36_word::NoMemory;
 use std::alloc::Global;
@@ -56,7 +56,7 @@ fn put_following(text: &mut Text, i: u64) -> Result<(), NoMemory>
     if i == PROGRAMS - 1 {
         put_line(text, b" call6 stop_$stop")
     } else {
-        put_numbered(text, b" tra g", i + 1, b"$start")
+        put_named(text, b" tra ", segment_name(i + 1).bytes(), b"$start")
     }
 }
 
