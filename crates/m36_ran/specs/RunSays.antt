@@ -2,8 +2,11 @@
 use Rattle.std.specs.Prelude.{ℕ, ◌≡◌, ◌≤◌, false, List, [], ◌∷◌, ◌++◌, Option}
 use Rattle.m36_outside.specs.Counts.{Rose}
 use Rattle.m36_outside.specs.Gathered.{Gathers, Loses}
-use Rattle.m36_outside.specs.Passing.{joined, TakesSome}
+use Rattle.m36_outside.specs.Passing.{joined, TakesLines}
+use Rattle.m36_outside.specs.Put.{PutHasCause}
 use Rattle.m36_outside.specs.Written.{Grew, GrewWithin}
+use Rattle.m36_outside.specs.declared.sink.Put.{Put}
+use Rattle.m36_outside.specs.declared.sink.Put.TheVariants as put
 use Rattle.m36_text.specs.Lines.{as_line}
 use Rattle.m36_model.specs.Store.{State}
 use Rattle.m36_model.specs.Run.{is_next}
@@ -51,6 +54,11 @@ TurnHasCause turn.Next old new = new ≡ old
 TurnHasCause (turn.Last outcome) old new = new ≡ old
 TurnHasCause turn.Cut old new = Rose old new
 
+-- what the last put of a run answered
+abbrev pub put_by : Ended → Put
+put_by (Whole last) = put.Done
+put_by Cut = put.Failed
+
 -- what putting the lines that are gathered and the end line of a run answers
 abbrev pub EndSays :
     Ended → Outcome → List (List ℕ) → Option (List ℕ) → Option (List ℕ) → Type 0
@@ -58,8 +66,7 @@ EndSays (Whole last) outcome due before now = (last ≡ outcome) × Grew before 
 EndSays Cut outcome due before now = GrewWithin before now (joined due)
 
 abbrev pub EndTakes : Ended → List (List ℕ) → List (List ℕ) → List (List ℕ) → Type 0
-EndTakes (Whole last) due before now = now ≡ before ++ due
-EndTakes Cut due before now = TakesSome before now due
+EndTakes ended due before now = TakesLines (put_by ended) before now due
 
 -- what a run answers: its last outcome, with its whole output written, or else a first part of it
 abbrev pub RunSays : Ended → ℕ → State (List ℕ) → Option (List ℕ) → Option (List ℕ) → Type 0
@@ -69,8 +76,7 @@ RunSays Cut steps state before now = GrewWithin before now (run_text steps state
 
 -- which pieces the sink took by it: a line in each
 abbrev pub RunTakes : Ended → ℕ → State (List ℕ) → List (List ℕ) → List (List ℕ) → Type 0
-RunTakes (Whole last) steps state before now = now ≡ before ++ run_pieces steps state
-RunTakes Cut steps state before now = TakesSome before now (run_pieces steps state)
+RunTakes ended steps state before now = EndTakes ended (run_pieces steps state) before now
 
 -- The machine stands behind the first steps of a run, or behind all of them.
 pub record IsPartRun (steps : ℕ) (old new : State (List ℕ)) : Type 0 where
@@ -84,5 +90,4 @@ RunLeaves (Whole last) steps old new = new ≡ last_state steps old
 RunLeaves Cut steps old new = IsPartRun steps old new
 
 abbrev pub EndedHasCause : Ended → ℕ → ℕ → Type 0
-EndedHasCause (Whole last) old new = new ≡ old
-EndedHasCause Cut old new = Rose old new
+EndedHasCause ended old new = PutHasCause (put_by ended) old new
