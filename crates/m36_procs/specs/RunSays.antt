@@ -1,8 +1,10 @@
 -- What a run of a schedule answers.
 use Rattle.std.specs.Prelude.{ℕ, ◌≡◌, List, ◌++◌, Option, Result, Ok, Err}
-use Rattle.m36_outside.specs.Counts.{Rose}
-use Rattle.m36_outside.specs.Passing.{TakesSome}
+use Rattle.m36_outside.specs.Passing.{TakesLines}
+use Rattle.m36_outside.specs.Put.{PutHasCause}
 use Rattle.m36_outside.specs.Written.{Grew, GrewWithin}
+use Rattle.m36_outside.specs.declared.sink.Put.{Put}
+use Rattle.m36_outside.specs.declared.sink.Put.TheVariants as put
 use Rattle.m36_model.specs.Schedule.{Processes}
 use Rattle.m36_procs.specs.ScheduleText.{schedule_text, schedule_pieces, last_state}
 use Rattle.m36_procs.specs.declared.fault.WriteFault.{WriteFault}
@@ -30,13 +32,17 @@ abbrev pub RunSays :
 RunSays (Ok done) schedule old new before now = IsRun schedule old new before now
 RunSays (Err cut) schedule old new before now = IsPartRun schedule old new before now
 
+-- what the last put of a run answered
+abbrev pub put_by : Result (Unit {0}) WriteFault → Put
+put_by (Ok done) = put.Done
+put_by (Err cut) = put.Failed
+
 -- which pieces the sink took by it: a line in each
 abbrev pub RunTakes :
     Result (Unit {0}) WriteFault → List ℕ → Processes (List ℕ) → List (List ℕ) → List (List ℕ)
     → Type 0
-RunTakes (Ok done) schedule old before now = now ≡ before ++ schedule_pieces schedule old
-RunTakes (Err cut) schedule old before now = TakesSome before now (schedule_pieces schedule old)
+RunTakes result schedule old before now =
+    TakesLines (put_by result) before now (schedule_pieces schedule old)
 
 abbrev pub RunHasCause : Result (Unit {0}) WriteFault → ℕ → ℕ → Type 0
-RunHasCause (Ok done) old new = new ≡ old
-RunHasCause (Err cut) old new = Rose old new
+RunHasCause result old new = PutHasCause (put_by result) old new
