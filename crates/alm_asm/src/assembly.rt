@@ -39,7 +39,7 @@ fn first_link(ending: Spot) -> Count
     if ending.uses_outer {
         return Count::of(HEAD_WORDS as u128);
     }
-    Count::of(HEAD_WORDS as u128 + ending.inner + ending.inner % 2)
+    Count::of(HEAD_WORDS as u128 + (ending.inner + ending.inner % 2))
 }
 
 /// The tables of lines, of which only the symbols are said where something is refused; and the first refusal of a
