@@ -1,8 +1,9 @@
 -- Refusals: which comes first in the text, and what refuses an expression.
-use Rattle.std.specs.Prelude.{ℕ, ◌+◌, ◌-◌, ◌%◌, ◌^◌, Bool, true, false, not, ◌&&◌, ◌||◌, nat_eq}
+use Rattle.std.specs.Prelude.{ℕ, ◌%◌, ◌^◌, Bool, true, false, not, ◌&&◌, ◌||◌, nat_eq}
 use Rattle.std.specs.Prelude.{nat_lt, is_some, List, Option, Some, None, if◌then◌else◌}
 use Rattle.obj36_parts.specs.ObjectSegment.{section_limit}
 use Rattle.alm_tokens.specs.declared.expression.Term.{Term}
+use Rattle.alm_parse.specs.Sources.{column_at}
 use Rattle.alm_parse.specs.declared.line.Line36.{Line36}
 use Rattle.alm_parse.specs.declared.fault.AlmFault.{AlmFault}
 use Rattle.alm_parse.specs.declared.fault.AlmFault.TheVariants as fault
@@ -41,9 +42,9 @@ sooner (Some a) (Some b) = Some (if precedes b a then b else a)
 abbrev pub refusal_at : Line36 → ℕ → Code → Refusal
 refusal_at line at code = record { place = at; start = line.start; line = line.line; code = code }
 
--- a refusal by its line and its column, which counts bytes from 1
+-- a refusal by its line and its column
 abbrev pub column_of : Refusal → ℕ
-column_of refusal = (refusal.place - refusal.start + 1) % 2 ^ 32
+column_of refusal = column_at refusal.start refusal.place % 2 ^ 32
 
 abbrev pub fault_by : Code → ℕ → ℕ → AlmFault
 fault_by E5 line column = fault.E5 line column

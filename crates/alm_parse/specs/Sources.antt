@@ -16,7 +16,11 @@ use Rattle.alm_tokens.specs.Rows.{rows_of}
 use Rattle.alm_parse.specs.Operations.{end_name}
 use Rattle.alm_parse.specs.Lines.{line_given}
 
--- A refusal is told by its line and its column, which counts bytes from 1.
+-- the column of a place in a line that begins at a place: it counts bytes from 1
+abbrev pub column_at : ℕ → ℕ → ℕ
+column_at start place = place - start + 1
+
+-- A refusal is told by its line and its column.
 abbrev pub fault_by : Code → ℕ → ℕ → AlmFault
 fault_by code.E1 line column = E1 line column
 fault_by code.E2 line column = E2 line column
@@ -24,7 +28,7 @@ fault_by code.E3 line column = E3 line column
 fault_by code.E4 line column = E4 line column
 
 abbrev pub fault_of : Row → Refusal → AlmFault
-fault_of row refusal = fault_by refusal.code row.number (refusal.place - row.span.from + 1)
+fault_of row refusal = fault_by refusal.code row.number (column_at row.span.from refusal.place)
 
 -- Nothing is read behind the operation `end`.
 abbrev pub names_end : List ℕ → Option Span → Bool
