@@ -7,7 +7,7 @@ use Rattle.m36_text.specs.Reading.{number_read, judged, first_other, number_of}
 use Rattle.m36_text.specs.declared.reading.NumberFault.TheVariants.{T2}
 use Rattle.alm_tokens.specs.declared.expression.Atom.TheVariants.{Number, Symbol, Here}
 use Rattle.m36_text.specs.Digits.{is_digit}
-use Rattle.alm_tokens.specs.Tokens.{is_text, is_number, small_read, value_of}
+use Rattle.alm_tokens.specs.Tokens.{is_text, is_number, most_number, small_read, value_of}
 use Rattle.alm_tokens.specs.Expressions.{is_here, atom_of, IsSmall}
 use Rattle.std.specs.Option.{option_or}
 use Rattle.alm_tokens.specs.Modifiers.{NumberedName, octal_digit, after_x, register_of, pr_digit, pr_name, pr_number, single_tag, indirect_first, indirect_last, tag_of, registers, pointer_registers, single_tags, number_beside}
@@ -102,12 +102,12 @@ judged_by : (o : Option ℕ) (v max : ℕ) → value_of (judged o v max) ≤ max
 judged_by (Some place) v max = omega arith
 judged_by None v max = over_by (leb v max) v max refl
 
-small_below : (bytes : List ℕ) → value_of (small_read bytes) ≤ 262143
+small_below : (bytes : List ℕ) → value_of (small_read bytes) ≤ most_number
 unfolding number_read
 small_below [] = omega arith
-small_below (b ∷ bytes) = judged_by (first_other 10 (b ∷ bytes)) (number_of 10 (b ∷ bytes)) 262143
+small_below (b ∷ bytes) = judged_by (first_other 10 (b ∷ bytes)) (number_of 10 (b ∷ bytes)) most_number
 
-atom_by : (b c : Bool) (n : ℕ) → n ≤ 262143 → IsSmall (cond b Here (cond c (Number n) Symbol))
+atom_by : (b c : Bool) (n : ℕ) → n ≤ most_number → IsSmall (cond b Here (cond c (Number n) Symbol))
 atom_by true c n h = tt
 atom_by false true n h = h
 atom_by false false n h = tt

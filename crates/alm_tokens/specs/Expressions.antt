@@ -8,7 +8,7 @@ use Rattle.alm_tokens.specs.declared.expression.Atom.{Atom}
 use Rattle.alm_tokens.specs.declared.expression.Atom.TheVariants.{Number, Symbol, Here}
 use Rattle.alm_tokens.specs.declared.expression.Term.{Term}
 use Rattle.alm_tokens.specs.Tokens.{slice_of, is_text, is_symbol, is_number, is_over, value_of}
-use Rattle.alm_tokens.specs.Tokens.{small_read}
+use Rattle.alm_tokens.specs.Tokens.{small_read, most_number}
 use Rattle.alm_tokens.specs.Pieces.{pieces_of, piece_at}
 
 -- A term is a number, a symbol, or *, the current place.
@@ -52,6 +52,6 @@ term_of text piece =
 
 -- a number is within the limit
 abbrev pub IsSmall : Atom → Type 0
-IsSmall (Number n) = n ≤ 262143
+IsSmall (Number n) = n ≤ most_number
 IsSmall Symbol = ⊤
 IsSmall Here = ⊤

@@ -37,9 +37,12 @@ is_over (Err (T1 place)) = false
 abbrev pub value_of : Result ℕ NumberFault → ℕ
 value_of read = result_unwrap_or read 0
 
--- numbers of expressions, and of words of zeros, are at most 262143
+-- the greatest number of an expression, and of words of zeros
+abbrev pub most_number : ℕ
+most_number = 262143
+
 abbrev pub small_read : List ℕ → Result ℕ NumberFault
-small_read bytes = number_read 10 bytes 262143
+small_read bytes = number_read 10 bytes most_number
 
 unfoldable pub is_number : List ℕ → Bool
 is_number bytes = has_digits (small_read bytes) && has_no_leading_zero bytes

@@ -2,7 +2,7 @@
 
 ghost use Rattle.std.specs.Prelude.{ℕ, ◌≡◌, ◌≤◌, IfOk};
 ghost use Rattle.m36_text.specs.Reading.{number_read};
-ghost use Rattle.alm_tokens.specs.Tokens.{is_symbol, has_digits, is_over, small_read, is_number};
+ghost use Rattle.alm_tokens.specs.Tokens.{is_symbol, has_digits, is_over, small_read, most_number, is_number};
 
 use crate::bytes::begins_symbol;
 use crate::span::first_byte;
@@ -42,7 +42,7 @@ pub fn is_over(read: Result<u64, NumberFault>) -> bool
 /// A decimal number of an expression.
 pub fn read_small(bytes: &[u8]) -> Result<u64, NumberFault>
     ensures value { result ≡ small_read bytes.now }
-    ensures bound { IfOk result (λ v. v ≤ 262143) }
+    ensures bound { IfOk result (λ v. v ≤ most_number) }
 {
     read_decimal(bytes, MOST)
 }
