@@ -1,18 +1,16 @@
 -- The files that are made from a seed: the sources, the object of each of them, the data and the
 -- boot text, in this order.
-use Rattle.std.specs.Prelude.{ℕ, ◌≡◌, ◌-◌, nat_lt, if◌then◌else◌, List, [], ◌∷◌, ◌++◌, length, map, take}
+use Rattle.std.specs.Prelude.{ℕ, ◌≡◌, ◌-◌, List, [], ◌∷◌, ◌++◌, length, map, take}
 use Rattle.std.specs.Prelude.{Some, None, Result, Ok, Err}
 use Rattle.m36_outside.specs.Files.{Files, with_file}
-use Rattle.m36_outside.specs.ReadAnswer.{file_limit}
 use Rattle.m36_text.specs.Results.{and_then}
 use Rattle.alm_parse.specs.Sources.{Refuses}
 use Rattle.alm_parse.specs.declared.fault.AlmFault.{AlmFault}
 use Rattle.m36_gen.specs.declared.files.File.{File}
 use Rattle.m36_gen.specs.Folder.{sources_of, other_files}
 use Rattle.m36_reading.specs.declared.setting.Set.{Set}
-use Rattle.m36_reading.specs.declared.status.Code.TheVariants as code
-use Rattle.m36_reading.specs.Reading.{Reading, decided, Early}
-use Rattle.m36_reading.specs.Readers.{refused}
+use Rattle.m36_reading.specs.Reading.{found_in, Reading, decided, Early}
+use Rattle.m36_reading.specs.Readers.{bytes_of}
 use Rattle.m36_told.specs.Assemblies.{Assembly, assembly_of, object_bytes, object_set}
 use Rattle.m36_told.specs.Telling.{source_refused}
 
@@ -32,8 +30,8 @@ object_by source (Err fault) = Err (source_refused source fault)
 -- what `alm` makes of a source, or why the source is refused
 unfoldable pub object_of : File → Early Set
 object_of source =
-    if nat_lt file_limit (length source.content) then Err (refused source.name code.F2 0)
-    else object_by source.name (assembly_of source.content)
+    and_then (bytes_of source.name (found_in (Some source.content))) (λ bytes.
+    object_by source.name (assembly_of bytes))
 
 -- the objects of sources behind these files
 unfoldable pub with_objects : List Set → List File → Early (List Set)

@@ -25,10 +25,14 @@ refused name code at = refused_at name code at 0
 
 -- ---- bytes
 
+-- of a file as it is found
+abbrev pub bytes_of : List ℕ → Found → Early (List ℕ)
+bytes_of name (Content bytes) = Ok bytes
+bytes_of name Absent = Err (refused name code.F1 0)
+bytes_of name TooLarge = Err (refused name code.F2 0)
+
 abbrev pub bytes_by : List ℕ → Found → Reading (Early (List ℕ))
-bytes_by name (Content bytes) = decided (Ok bytes)
-bytes_by name Absent = decided (Err (refused name code.F1 0))
-bytes_by name TooLarge = decided (Err (refused name code.F2 0))
+bytes_by name found = decided (bytes_of name found)
 
 unfoldable pub file_bytes : List ℕ → Reading (Early (List ℕ))
 file_bytes name = asks name (bytes_by name)
