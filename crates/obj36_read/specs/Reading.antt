@@ -6,7 +6,7 @@ use Rattle.std.specs.Prelude.{if◌then◌else◌, min, List, [], ◌∷◌, len
 use Rattle.obj36_parts.specs.Fields.{LinkFields, RelocFields}
 use Rattle.obj36_parts.specs.PartsFields.{PartsFields}
 use Rattle.obj36_parts.specs.Halves.{left, right, quarter}
-use Rattle.obj36_parts.specs.ObjectSegment.{has_name, has_entry, head_words}
+use Rattle.obj36_parts.specs.ObjectSegment.{has_name, has_entry, head_words, version_of}
 use Rattle.obj36_parts.specs.declared.section.Section.{Section}
 use Rattle.obj36_parts.specs.declared.section.Section.TheVariants.{Text, Linkage, Symbol, Static}
 use Rattle.obj36_parts.specs.declared.definition.Named.{Named}
@@ -100,7 +100,7 @@ unfoldable pub map_place : List ℕ → ℕ
 map_place words = left (slice_index words (length words - 1))
 
 unfoldable pub version_in : List ℕ → ℕ
-version_in words = if nat_eq (map_place words + 8) (length words) then 2 else 1
+version_in words = version_of (nat_eq (map_place words + 8) (length words))
 
 -- a length that a map word tells
 unfoldable pub told_length : List ℕ → ℕ → ℕ

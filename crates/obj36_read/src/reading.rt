@@ -20,7 +20,7 @@ use obj36_parts::names::{has_its_entry, has_its_name};
 use obj36_parts::parts::Parts;
 use obj36_parts::relocation::{Reloc, Relocs};
 use obj36_parts::section::Section;
-use obj36_parts::sections::{HEAD_WORDS, push_all};
+use obj36_parts::sections::{HEAD_WORDS, push_all, version_of};
 use std::alloc::Global;
 
 // The word at a place, and 0 past the end.
@@ -278,11 +278,7 @@ pub(crate) fn place_of_map(words: &[Word]) -> u64
 pub fn version(words: &[Word]) -> u8
     ensures { result ≡ version_in words.now }
 {
-    if place_of_map(words) + 8 == words.len() as u64 {
-        2
-    } else {
-        1
-    }
+    version_of(place_of_map(words) + 8 == words.len() as u64)
 }
 
 /// A length that a map word tells.
