@@ -14,23 +14,14 @@ use obj36_parts::sections::later_section;
 use obj36_parts::{Link, Links, Section};
 use std::alloc::Global;
 
-fn empty_name() -> Name
-    ensures { result ≡ [] }
-{
-    match Name::new(&[]) {
-        Some(name) => name,
-        None => unreachable!(),
-    }
-}
-
 // A link to a place of the bound object itself.
 fn own_link(l: &Link, s: Spot) -> Link
     requires { s.offset < 2 ^ 18 }
     ensures { result ≡ own_link l.now s }
 {
     Link {
-        name: empty_name(),
-        entry: empty_name(),
+        name: Name::default(),
+        entry: Name::default(),
         expr: s.offset,
         kind: 1,
         section: s.section,

@@ -204,21 +204,12 @@ pub(crate) fn work_of(lines: &[BootLine]) -> &[u8]
     }
 }
 
-fn empty_name() -> Name
-    ensures { result ≡ [] }
-{
-    match Name::new(&[]) {
-        Some(name) => name,
-        None => unreachable!(),
-    }
-}
-
 fn no_start() -> Start
     ensures { result ≡ no_start }
 {
     Start {
-        name: empty_name(),
-        entry: empty_name(),
+        name: Name::default(),
+        entry: Name::default(),
         ring: 0,
     }
 }
