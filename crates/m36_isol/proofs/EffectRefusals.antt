@@ -4,7 +4,8 @@ use Rattle.std.specs.Prelude.{ℕ, ◌<◌, Result, Ok, Err}
 use Rattle.m36_inst.specs.Operands.{operand_of}
 use Rattle.m36_model.specs.Results.{EffectFields}
 use Rattle.m36_model.specs.Effect.{exec}
-use Rattle.m36_model.specs.Laws.{words_written, EffectRefusals}
+use Rattle.m36_model.specs.Laws.{EffectRefusals}
+use Rattle.m36_model.specs.WordsPut.{words_written}
 use Rattle.m36_model.proofs.PutLaw.{PutsSo, puts_so}
 
 by_answer : (count : ℕ) (v : Result EffectFields ℕ) (number : ℕ) → PutsSo count v → v ≡ Err number → number < 16

@@ -16,7 +16,8 @@ use Rattle.m36_model.specs.Transfers.{is_taken}
 use Rattle.m36_model.specs.CallReturn.{call, return_to, all_in_ring}
 use Rattle.m36_model.specs.Privileged.{load_dbr}
 use Rattle.m36_model.specs.Effect.{exec}
-use Rattle.m36_model.specs.Laws.{words_written, IsEffect, EffectLaw}
+use Rattle.m36_model.specs.Laws.{IsEffect, EffectLaw}
+use Rattle.m36_model.specs.WordsPut.{words_written}
 use Rattle.m36_isol.proofs.EffectParts.{OfOk, of_ok, IsPlain, add_plain, add_logical_plain, add_one_to_storage_plain, add_to_storage_plain, add_with_carry_plain, and_register_plain, and_storage_plain, compare_plain, compare_masked_plain, completes_plain, divide_plain, load_plain, load_absolute_address_plain, load_address_pair_plain, load_and_clear_plain, load_base_pointer_plain, load_complement_plain, load_indicators_plain, load_packed_plain, load_pointer_plain, load_pointers_plain, multiply_plain, negate_plain, or_register_plain, or_storage_plain, rotate_left_plain, shift_left_plain, shift_right_plain, shift_right_logical_plain, store_plain, store_base_pointer_plain, store_control_plain, store_dbr_plain, store_indicators_plain, store_pointer_plain, store_pointers_plain, store_where_equal_plain, store_where_zero_plain, store_zero_plain, subtract_plain, subtract_logical_plain, subtract_stored_plain, subtract_with_carry_plain, test_and_plain, test_and_clear_plain, test_and_not_plain, test_word_plain, transfer_and_set_index_plain, transfer_and_set_pointer_plain, transfer_on_overflow_plain, transfer_where_plain, xor_register_plain, xor_storage_plain}
 
 plain_effect : (e : Effect) (g : RegsFields) (f : FinalFields) (o : OperandFields) (v : Result EffectFields ℕ) → OfOk (IsPlain g (words_written (operand_of e))) v → OfOk (IsEffect e g f o) v

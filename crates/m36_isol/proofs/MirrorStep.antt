@@ -17,7 +17,7 @@ use Rattle.m36_model.specs.FirstPoint.{first_point}
 use Rattle.m36_model.specs.Chain.{ChainEnd, Formation, Found, Its, Itp, Plain, found, after_word, after_tally, chain_by, chain_exhausted, chain}
 use Rattle.m36_model.specs.Results.{OperandFields, EffectFields}
 use Rattle.m36_model.specs.Effect.{exec, is_absa}
-use Rattle.m36_model.specs.Laws.{words_written}
+use Rattle.m36_model.specs.WordsPut.{words_written}
 use Rattle.m36_model.specs.Transfers.{is_taken}
 use Rattle.m36_model.specs.Step.{Performed, Operation, performed, tallied, no_operand, reading_word, reading_words, writing, changing, addressing, transferring, calling, by_kind, by_direct, operate_on, operate, Ending, outcome_of, outcome_by, halted, completed, operated, indirect_words, addressed, no_address, started, admitted, decode, decoded, program}
 use Rattle.m36_model.specs.PagedStep.{DifferInA, IsPresent}

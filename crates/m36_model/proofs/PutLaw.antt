@@ -15,7 +15,7 @@ use Rattle.m36_model.specs.Products.{divide_by}
 use Rattle.m36_model.specs.Arithmetic.{is_divide_check}
 use Rattle.m36_model.specs.Pointers.{load_packed_by}
 use Rattle.m36_model.specs.Effect.{exec}
-use Rattle.m36_model.specs.Laws.{words_written}
+use Rattle.m36_model.specs.WordsPut.{words_written}
 use Rattle.m36_model.specs.Step.{puts_from}
 use Rattle.m36_model.specs.StepCases.{at_spots}
 use Rattle.m36_model.proofs.Computed.{everything}

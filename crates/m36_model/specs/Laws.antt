@@ -5,12 +5,11 @@ use Rattle.m36_desc.specs.Fields.{DbrFields}
 use Rattle.m36_inst.specs.Operands.{operand_of}
 use Rattle.m36_inst.specs.declared.effect.Effect.{Effect}
 use Rattle.m36_inst.specs.declared.effect.Effect.TheVariants as effect
-use Rattle.m36_inst.specs.declared.operand.Operand.{Operand}
-use Rattle.m36_inst.specs.declared.operand.Operand.TheVariants as kind
 use Rattle.m36_model.specs.Fields.{FinalFields}
 use Rattle.m36_model.specs.Registers.{RegsFields}
 use Rattle.m36_model.specs.Results.{OperandFields, EffectFields}
 use Rattle.m36_model.specs.Effect.{exec}
+use Rattle.m36_model.specs.WordsPut.{words_written}
 use Rattle.m36_model.specs.CallReturn.{stack_pointer}
 use Rattle.m36_model.specs.Step.{decode, record_of, state_after}
 use Rattle.m36_model.specs.Store.{Store, State, Tables, place}
@@ -26,17 +25,6 @@ use Rattle.m36_model.specs.declared.place.Kind.{Kind}
 use Rattle.m36_model.specs.declared.place.Kind.TheVariants as reference
 use Rattle.m36_model.specs.declared.place.Reference.{Reference}
 use Rattle.m36_model.specs.declared.record.StepRecord.{StepRecord}
-
--- how many words an instruction writes
-abbrev pub words_written : Operand → ℕ
-words_written kind.W = 1
-words_written kind.W2 = 2
-words_written kind.W16 = 16
-words_written kind.Wl = 1
-words_written kind.Wr = 1
-words_written kind.Rw = 1
-words_written kind.Rwl = 1
-words_written _ = 0
 
 -- CALL6 goes to the final address in the operand's ring, and PR7 becomes the base of
 -- that ring's stack

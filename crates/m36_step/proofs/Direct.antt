@@ -6,7 +6,7 @@ use Rattle.m36_inst.specs.declared.operand.Operand.{Operand}
 use Rattle.m36_inst.specs.declared.operand.Operand.TheVariants as kind
 use Rattle.m36_model.specs.Act.{Whole}
 use Rattle.m36_model.specs.Chain.{chain_end_fields}
-use Rattle.m36_model.specs.Laws.{words_written}
+use Rattle.m36_model.specs.WordsPut.{words_written}
 use Rattle.m36_model.specs.Modification.{here}
 use Rattle.m36_model.specs.Registers.{RegsFields}
 use Rattle.m36_model.specs.Results.{OperandFields, operand_fields}

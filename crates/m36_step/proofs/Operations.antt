@@ -9,12 +9,11 @@ use Rattle.m36_model.specs.Act.{Part, Put}
 use Rattle.m36_model.specs.Chain.{chain_end_fields, claimed_by}
 use Rattle.m36_model.specs.Effect.{exec, answer_fields, refused_here}
 use Rattle.m36_model.specs.Fields.{FinalFields}
-use Rattle.m36_model.specs.Laws.{words_written}
+use Rattle.m36_model.specs.WordsPut.{words_written, PutsFor}
 use Rattle.m36_model.specs.Registers.{RegsFields}
 use Rattle.m36_model.specs.Results.{OperandFields, EffectFields, effect_fields, operand_fields, words_of_held}
 use Rattle.m36_model.specs.Step.{Performed, puts_from, performed, tallied}
 use Rattle.m36_model.specs.Store.{Spot, Ran, run}
-use Rattle.m36_model.specs.WordsPut.{PutsFor}
 use Rattle.m36_model.specs.declared.effects.Effect36.{Effect36}
 use Rattle.m36_model.specs.declared.effects.Formed.{Formed}
 use Rattle.m36_model.specs.declared.effects.Held.{Held}

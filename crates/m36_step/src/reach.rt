@@ -4,7 +4,7 @@ ghost use Rattle.std.specs.Prelude.{ℕ, ◌≡◌, ◌≢◌, ◌+◌, ◌<◌,
 ghost use Rattle.m36_inst.specs.Lookup.{IsRow};
 ghost use Rattle.m36_inst.specs.declared.operand.Operand.TheVariants.{N};
 ghost use Rattle.m36_model.specs.Chain.{chain_end_fields};
-ghost use Rattle.m36_model.specs.Laws.{words_written};
+ghost use Rattle.m36_model.specs.WordsPut.{words_written};
 ghost use Rattle.m36_model.specs.OperandHeld.{HoldsFor};
 ghost use Rattle.m36_model.specs.Step.{by_kind};
 ghost use Rattle.m36_walk.specs.Runs.{LiesIn};

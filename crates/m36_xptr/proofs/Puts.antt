@@ -7,8 +7,7 @@ use Rattle.m36_model.specs.Fields.{FinalFields}
 use Rattle.m36_model.specs.Registers.{RegsFields}
 use Rattle.m36_model.specs.Results.{OperandFields, EffectFields, words_of_held}
 use Rattle.m36_model.specs.Effect.{exec, answer_fields, refused_here}
-use Rattle.m36_model.specs.Laws.{words_written}
-use Rattle.m36_model.specs.WordsPut.{PutsFor}
+use Rattle.m36_model.specs.WordsPut.{words_written, PutsFor}
 use Rattle.m36_model.specs.declared.effects.Effect36.{Effect36}
 use Rattle.m36_model.specs.declared.outcome.Fault.{Fault}
 use Rattle.m36_model.proofs.PutLaw.{PutsSo, puts_so}
