@@ -25,9 +25,14 @@ directed fc = record { number = 16 + fc; acv = 0 }
 abbrev pub wrapped : ℕ → ℕ
 wrapped a = a % 2 ^ 24
 
--- a page's frame begins at the PTW's address with its low four bits zero, times 64
+-- the frame that a PTW names: its address counts blocks of 64 words, and its low four bits are not
+-- looked at
+abbrev pub frame_named : PtwFields → ℕ
+frame_named p = p.addr / 16
+
+-- where a page's frame begins
 abbrev pub frame_at : PtwFields → ℕ
-frame_at p = (p.addr / 16) * 1024
+frame_at p = frame_named p * 1024
 
 -- a place by a PTW
 abbrev pub in_frame_by : Bool → PtwFields → ℕ → Result ℕ Refusal

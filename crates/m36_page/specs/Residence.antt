@@ -5,6 +5,7 @@ use Rattle.std.specs.Prelude.{nat_eq, nat_lt, if◌then◌else◌, List, length,
 use Rattle.std.specs.Prelude.{slice_index, slice_index_or, All, Option, Some, None, option_and_then}
 use Rattle.m36_desc.specs.Descriptors.{ptw_of, ptw_word}
 use Rattle.m36_desc.specs.Fields.{PtwFields}
+use Rattle.m36_model.specs.Place.{frame_named}
 use Rattle.m36_model.specs.Core.{unmarked}
 use Rattle.m36_model.specs.Residence.{Paged}
 use Rattle.m36_page.specs.Fields.{TableFields, PagerFields}
@@ -49,7 +50,7 @@ paged_by core p = record { core = core; kept = kept_word p }
 
 -- the frame that a page table word names
 abbrev pub frame_by : PtwFields → Option ℕ
-frame_by ptw = if ptw.f then Some (ptw.addr / 16) else None
+frame_by ptw = if ptw.f then Some (frame_named ptw) else None
 
 unfoldable pub frame_in : ℕ → Option ℕ
 frame_in w = frame_by (ptw_of w)
