@@ -1,7 +1,7 @@
 -- Where pages have moved between frames and the words kept, the core is that of the same booted image, and stands for the
 -- same flat memory.
 use Rattle.std.proofs.Common.{◌≡◌, refl, sym, ◌∙◌, ap, inl, inr, arith, eqb-true}
-use Rattle.std.specs.Prelude.{ℕ, ◌/◌, ◌⊎◌, Bool, true, false, ◌==◌, if◌then◌else◌, List, length, take, Option, Some, None, Result, Ok, Err}
+use Rattle.std.specs.Prelude.{ℕ, ◌+◌, ◌*◌, ◌/◌, ◌%◌, ◌⊎◌, Bool, true, false, ◌==◌, if◌then◌else◌, List, length, take, slice_index, Option, Some, None, Result, Ok, Err}
 use Rattle.m36_desc.specs.Fields.{SdwFields}
 use Rattle.m36_desc.specs.Access.{in_order}
 use Rattle.m36_model.specs.Store.{Spot, within, place, place_by, place_within, place_ordered}
@@ -62,7 +62,9 @@ module _ (m : Paged) (frames : ℕ) (laid : IsLaid m.core frames) (frame_of : �
   spot_word seg w d live inside (Some frame) e =
       let p = page_of_word m.core frames laid seg w d live inside in
       let k = r.range seg (w / 1024) frame e in
+      let same : frame * 1024 + w % 1024 ≡ 1024 * frame + w % 1024 = omega arith in
       ap (word_at m seg w) (resident_spot m.core frames laid seg w frame d live inside (record { word = frame_as m.core frames frame_of r seg (w / 1024) p (Some frame) e; low = k.0; high = k.1 }))
+      ∙ ap (slice_index m.core) same
 
 -- the word at a place, by the descriptor
 word_by : (m n : Paged) (seg w : ℕ) (a b : Bool) (x y : Result Spot Refusal) → ((a ≡ true) → (b ≡ true) → word_at m seg w x ≡ word_at n seg w y) → word_at m seg w (place_ordered a (place_within b x)) ≡ word_at n seg w (place_ordered a (place_within b y))

@@ -54,10 +54,13 @@ pub record IsResidence (core : List ℕ) (frames : ℕ) (frame_of : ℕ → ℕ 
       (seg page seg' page' frame : ℕ) → frame_of seg page ≡ Some frame
       → frame_of seg' page' ≡ Some frame → (seg ≡ seg') × (page ≡ page')
 
--- a word by the frame of its page, if any
+-- a word of core by the frame of its page, if any, and else the word that is kept for it
+abbrev pub word_in : Option ℕ → List ℕ → ℕ → ℕ → ℕ
+word_in (Some frame) core w kept = slice_index core (1024 * frame + w % 1024)
+word_in None core w kept = kept
+
 abbrev pub resident_word : Paged → Option ℕ → ℕ → ℕ → ℕ
-resident_word m (Some frame) seg w = slice_index m.core (frame * 1024 + w % 1024)
-resident_word m None seg w = m.kept seg w
+resident_word m frame seg w = word_in frame m.core w (m.kept seg w)
 
 -- Pages have moved between frames and the words kept: descriptors are as they were, and so is each
 -- word of each page.

@@ -8,6 +8,7 @@ use Rattle.m36_desc.specs.Fields.{PtwFields}
 use Rattle.m36_model.specs.Place.{frame_named}
 use Rattle.m36_model.specs.Core.{unmarked}
 use Rattle.m36_model.specs.Residence.{Paged}
+pub use Rattle.m36_model.specs.Residence.{word_in}
 use Rattle.m36_page.specs.Fields.{TableFields, PagerFields}
 pub use Rattle.m36_model.specs.BootedCore.{absent_ptw, resident_ptw}
 
@@ -64,11 +65,6 @@ unfoldable pub frame_of : PagerFields → List ℕ → ℕ → ℕ → Option �
 frame_of p core seg page = frame_in (slice_index core (spot_of p seg page))
 
 -- ---- content
-
--- a word by the frame of its page
-abbrev pub word_in : Option ℕ → List ℕ → ℕ → ℕ → ℕ
-word_in (Some frame) core w kept = slice_index core (1024 * frame + w % 1024)
-word_in None core w kept = kept
 
 unfoldable pub page_word : PagerFields → List ℕ → ℕ → ℕ → ℕ
 page_word p core seg w = word_in (frame_of p core seg (w / 1024)) core w (kept_word p seg w)

@@ -1,7 +1,7 @@
 -- What the flat memory shows of a word, by what the pager finds; and how a word that is set changes it.
 use Rattle.std.proofs.Common.{◌≡◌, refl, sym, ◌∙◌, ap, subst, inl, inr, arith}
 use Rattle.std.proofs.lemmas.Bool.{eqb-true, le-leb}
-use Rattle.std.specs.Prelude.{ℕ, ◌+◌, ◌*◌, ◌/◌, ◌^◌, ◌<◌, ◌≤◌, ◌⊎◌, Bool, true, false, ◌&&◌, ◌==◌, if◌then◌else◌, List, [], ◌∷◌, length, take, Option, Some, None, Result, Ok, Err}
+use Rattle.std.specs.Prelude.{ℕ, ◌+◌, ◌*◌, ◌/◌, ◌^◌, ◌<◌, ◌≤◌, ◌%◌, ◌⊎◌, Bool, true, false, ◌&&◌, ◌==◌, if◌then◌else◌, List, [], ◌∷◌, length, take, slice_index, Option, Some, None, Result, Ok, Err}
 use Rattle.m36_desc.specs.Fields.{SdwFields}
 use Rattle.m36_desc.specs.Access.{in_order}
 use Rattle.m36_model.specs.Store.{within, place, place_by, place_within, place_ordered}
@@ -20,7 +20,7 @@ use Rattle.m36_link.specs.Known.{linkage_segment}
 use Rattle.m36_super.specs.Laying.{written_from}
 use Rattle.m36_super.specs.SuperFields.{IsManaged, held_in}
 use Rattle.m36_super.specs.Writing.{flat_by, ArePut}
-use Rattle.m36_super.proofs.Paging.{frame_true, word_as, residence, now_managed, descriptors}
+use Rattle.m36_super.proofs.Paging.{frame_true, residence, now_managed, descriptors}
 
 -- a word that a pager finds
 abbrev pub found_word : Option ℕ → ℕ
@@ -67,7 +67,9 @@ module _ (frames : ℕ) (core : List ℕ) (p : PagerFields) (m : IsManaged frame
   spot_word seg w d live inside (Some frame) e =
       let is = page_of_word core frames m.laid seg w d live inside in
       let k = here.range seg (w / 1024) frame e in
+      let same : frame * 1024 + w % 1024 ≡ 1024 * frame + w % 1024 = omega arith in
       ap (word_at memory seg w) (resident_spot core frames m.laid seg w frame d live inside (record { word = here.words seg (w / 1024) is ∙ ap ptw_of_page e; low = k.0; high = k.1 }))
+      ∙ ap (slice_index core) same
 
   found_of : (seg w : ℕ) → has_page p seg (w / 1024) ≡ true → found_word (content_of p core seg w) ≡ word_in (frame_of p core seg (w / 1024)) core w (kept_word p seg w)
   unfolding content_of pages.page_word
@@ -78,7 +80,6 @@ module _ (frames : ℕ) (core : List ℕ) (p : PagerFields) (m : IsManaged frame
       let has = page_there seg w d live inside in
       spot_word seg w d live inside (held_in p core seg (w / 1024)) refl
       ∙ ap (λ (v : Option ℕ). resident_word memory v seg w) (frame_true _ (frame_of p core seg (w / 1024)) has)
-      ∙ word_as memory (frame_of p core seg (w / 1024)) seg w
       ∙ sym (found_of seg w has)
 
   dead_word : (seg w : ℕ) (why : Refusal) → (why.number ≡ 17 → ⊥) → (b : Bool) → (why.number == 17) ≡ b → word_at memory seg w (Err why) ≡ 0

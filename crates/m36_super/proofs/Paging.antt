@@ -1,11 +1,11 @@
 -- A call of the pager moves pages of the booted image; and a step leaves what is managed.
 use Rattle.std.proofs.Common.{◌≡◌, refl, sym, ◌∙◌, ap, subst, inl, inr, arith}
-use Rattle.std.specs.Prelude.{ℕ, zero, suc, ◌+◌, ◌*◌, ◌/◌, ◌%◌, ◌<◌, ◌≤◌, ◌⊎◌, Bool, true, false, List, [], ◌∷◌, length, take, slice_index, slice_index_or, Option, Some, None}
+use Rattle.std.specs.Prelude.{ℕ, zero, suc, ◌+◌, ◌*◌, ◌/◌, ◌<◌, ◌≤◌, ◌⊎◌, Bool, true, false, List, [], ◌∷◌, length, take, slice_index, slice_index_or, Option, Some, None}
 use Rattle.m36_model.specs.Core.{core_store, unmarked}
 use Rattle.m36_model.specs.Place.{core_sdw}
 use Rattle.m36_model.specs.Step.{state_after}
 use Rattle.m36_model.specs.BootedCore.{descriptor_words, booted_dbr, table_at, wired_frames, absent_ptw, resident_ptw, IsPage, page_word, IsLaid}
-use Rattle.m36_model.specs.Residence.{Paged, ptw_of_page, IsResidence, resident_word}
+use Rattle.m36_model.specs.Residence.{ptw_of_page, IsResidence, resident_word}
 use Rattle.m36_isol.proofs.PagedStep.{paged_step_law}
 use Rattle.m36_isol.proofs.Moved.{same_descriptors, laid_by}
 use Rattle.m36_page.specs.Fields.{PagerFields}
@@ -112,13 +112,6 @@ module _ (frames : ℕ) (core : List ℕ) (p : PagerFields) (most : wired_frames
           let pair = one_some _ (seg, page) (seg', page') (subst (λ (n : ℕ). Holds p n seg page) same h.holds) k.holds in
           (ap (λ (x : ℕ × ℕ). x.0) pair, ap (λ (x : ℕ × ℕ). x.1) pair)
 
--- a word by the frame of its page
-pub word_as : (m : Paged) (v : Option ℕ) (seg w : ℕ) → resident_word m v seg w ≡ word_in v m.core w (m.kept seg w)
-word_as m (Some frame) seg w =
-    let same : frame * 1024 + w % 1024 ≡ 1024 * frame + w % 1024 = omega arith in
-    ap (slice_index m.core) same
-word_as m None seg w = refl
-
 content_parts : (a b : Bool) (x y : ℕ) → a ≡ true → b ≡ true → content_by a x ≡ content_by b y → x ≡ y
 content_parts true true x y e f h = cc
 content_parts true false x y e f h = cc
@@ -206,9 +199,7 @@ module _ (frames : ℕ) (core now : List ℕ) (p q : PagerFields) (m : IsManaged
         let here = frame_true _ (frame_of q now seg (w / 1024)) other in
         let there = frame_true _ (frame_of p core seg (w / 1024)) has in
         ap (λ (v : Option ℕ). resident_word (record { core = now; kept = kept_word q }) v seg w) here
-        ∙ word_as (record { core = now; kept = kept_word q }) (frame_of q now seg (w / 1024)) seg w
         ∙ same_content p q core now seg w has other (content seg w)
-        ∙ sym (word_as (record { core = core; kept = kept_word p }) (frame_of p core seg (w / 1024)) seg w)
         ∙ sym (ap (λ (v : Option ℕ). resident_word (record { core = core; kept = kept_word p }) v seg w) there)
 
     paging : IsPaging frames core now p q
