@@ -26,6 +26,7 @@ use Rattle.m36_text.specs.Reading.{number_read}
 use Rattle.m36_text.specs.declared.reading.NumberFault.{NumberFault}
 use Rattle.m36_text.specs.declared.reading.NumberFault.TheVariants.{T1, T2}
 use Rattle.m36_model.specs.Fields.{PprFields}
+use Rattle.m36_model.specs.Place.{frames_reached}
 use Rattle.m36_image.specs.declared.refusal.ImageCode.{ImageCode}
 use Rattle.m36_image.specs.declared.refusal.ImageCode.TheVariants.{I1, I2, I3}
 use Rattle.m36_image.specs.declared.refusal.Refusal.{Refusal}
@@ -40,7 +41,7 @@ frames_read (Err T2) = Err I2
 
 abbrev pub core_words : List (List ℕ) → Result ℕ ImageCode
 core_words (name ∷ n ∷ []) =
-    if is_text (codes "core") name then frames_read (number_read 10 n 16384) else Err I1
+    if is_text (codes "core") name then frames_read (number_read 10 n frames_reached) else Err I1
 core_words _ = Err I1
 
 abbrev pub core_line : Option (List ℕ) → Result ℕ ImageCode

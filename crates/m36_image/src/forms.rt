@@ -3,6 +3,7 @@
 ghost use Rattle.std.specs.Prelude.{ℕ, ◌≡◌, ◌≤◌, IfOk};
 ghost use Rattle.m36_text.specs.Lines.{words_of};
 ghost use Rattle.m36_text.specs.Numbers.{octal_in};
+ghost use Rattle.m36_model.specs.Place.{frames_reached};
 ghost use Rattle.m36_image.specs.BareImage.{core_words, frames_read, dbr_words, start_words};
 
 use crate::refusal::ImageCode;
@@ -23,10 +24,10 @@ pub fn word_of(text: &[u8]) -> Option<Word>
 
 // The number of frames that a number of the line `core N` gives.
 fn frames_of(read: Result<u64, NumberFault>) -> Result<u32, ImageCode>
-    requires { IfOk read (λ n. n ≤ 16384) }
+    requires { IfOk read (λ n. n ≤ frames_reached) }
     ensures frames { result ≡ frames_read read }
     ensures some { IfOk result (λ n. 1 ≤ n) }
-    ensures most { IfOk result (λ n. n ≤ 16384) }
+    ensures most { IfOk result (λ n. n ≤ frames_reached) }
 {
     match read {
         Ok(0) | Err(NumberFault::T2) => Err(ImageCode::I2),
@@ -39,7 +40,7 @@ fn frames_of(read: Result<u64, NumberFault>) -> Result<u32, ImageCode>
 pub fn core_line(line: &[u8]) -> Result<u32, ImageCode>
     ensures frames { result ≡ core_words (words_of line.now) }
     ensures some { IfOk result (λ n. 1 ≤ n) }
-    ensures most { IfOk result (λ n. n ≤ 16384) }
+    ensures most { IfOk result (λ n. n ≤ frames_reached) }
 {
     let (name, rest) = first_word(line);
     let Some(rest) = rest else {

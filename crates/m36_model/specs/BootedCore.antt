@@ -5,7 +5,7 @@ use Rattle.std.specs.Prelude.{length, slice_index, Ok, Err}
 use Rattle.m36_desc.specs.Fields.{SdwFields, DbrFields}
 use Rattle.m36_desc.specs.Access.{in_order}
 use Rattle.m36_model.specs.Faults.{missing_page}
-use Rattle.m36_model.specs.Place.{core_sdw, last_page}
+use Rattle.m36_model.specs.Place.{frames_reached, core_sdw, last_page}
 use Rattle.m36_model.specs.Core.{unmarked}
 use Rattle.m36_model.specs.declared.outcome.Refusal.{Refusal}
 
@@ -62,7 +62,7 @@ pub record IsInFrame (core : List ℕ) (frames seg page frame : ℕ) : Type 0 wh
 -- loads another DBR
 pub record IsLaid (core : List ℕ) (frames : ℕ) : Type 0 where
   pub size : length core ≡ 1024 * (wired_frames + frames)
-  pub most : wired_frames + frames ≤ 16384
+  pub most : wired_frames + frames ≤ frames_reached
   pub segments :
       (seg : ℕ) (d : SdwFields) → core_sdw core booted_dbr seg ≡ Ok d → IsLaidSegment seg d
   -- a descriptor that is not live names another fault than a page that is in no frame
