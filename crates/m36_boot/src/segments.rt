@@ -12,7 +12,7 @@ use m36_desc::{ITS_TAG, Sdw};
 use m36_dir::{Catalog, SegKind, Segment};
 use m36_link::{FIRST_LINKAGE, FIRST_SEGMENT, File, LOT_WORDS, Lay};
 use m36_word::{NoMemory, Word, Words};
-use obj36_parts::sections::{push_all, push_zeros};
+use obj36_parts::sections::{copied, push_all, push_zeros};
 use std::alloc::Global;
 
 /// The number of the stack of ring 0.
@@ -179,14 +179,6 @@ fn linkage_words(alloc: Global, lay: &Option<Lay>, ring: u8) -> Result<Words, No
         }
         _ => Ok(Words::new(alloc)),
     }
-}
-
-fn copied(alloc: Global, words: &[Word]) -> Result<Words, NoMemory>
-    ensures { IfOk result (λ copy. copy ≡ words.now) }
-{
-    let mut copy = Words::new(alloc);
-    push_all(&mut copy, words)?;
-    Ok(copy)
 }
 
 /// The words of a segment of the image, in which a section is laid.

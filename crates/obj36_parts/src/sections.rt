@@ -114,6 +114,15 @@ pub fn push_all(out: &mut Words, words: &[Word]) -> Result<(), NoMemory>
     Ok(())
 }
 
+/// The same words again.
+pub fn copied(alloc: Global, words: &[Word]) -> Result<Words, NoMemory>
+    ensures { IfOk result (λ copy. copy ≡ words.now) }
+{
+    let mut copy = Words::new(alloc);
+    push_all(&mut copy, words)?;
+    Ok(copy)
+}
+
 /// Adds so many zeros at the end.
 pub fn push_zeros(out: &mut Words, count: u64) -> Result<(), NoMemory>
     ensures { OnOk result (out.new ≡ out.old ++ replicate count 0) }

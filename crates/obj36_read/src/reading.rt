@@ -20,7 +20,7 @@ use obj36_parts::names::{has_its_entry, has_its_name};
 use obj36_parts::parts::Parts;
 use obj36_parts::relocation::{Reloc, Relocs};
 use obj36_parts::section::Section;
-use obj36_parts::sections::{HEAD_WORDS, push_all, version_of};
+use obj36_parts::sections::{HEAD_WORDS, copied, version_of};
 use std::alloc::Global;
 
 // The word at a place, and 0 past the end.
@@ -366,14 +366,6 @@ fn bound(words: &[Word]) -> u64
 {
     let i = index_of_bound(version(words));
     left_of(word_at(words, place_of_map(words) + i))
-}
-
-fn copied(alloc: Global, words: &[Word]) -> Result<Words, NoMemory>
-    ensures { IfOk result (λ copy. copy ≡ words.now) }
-{
-    let mut copy = Words::new(alloc);
-    push_all(&mut copy, words)?;
-    Ok(copy)
 }
 
 /// The parts that a list of fewer than 2^32 words would spell. The error is want of memory alone.
