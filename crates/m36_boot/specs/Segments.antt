@@ -1,6 +1,6 @@
 -- The segments of a booted image: the stack and the linkage segment of each ring, and the segments
 -- of the catalog with their files.
-use Rattle.std.specs.Prelude.{ℕ, ◌+◌, ◌-◌, ◌*◌, ◌/◌, ◌^◌, Bool, true, false, not, nat_eq}
+use Rattle.std.specs.Prelude.{ℕ, ◌+◌, ◌-◌, ◌*◌, ◌/◌, Bool, true, false, not, nat_eq}
 use Rattle.std.specs.Prelude.{nat_lt, nat_le}
 use Rattle.std.specs.Prelude.{if◌then◌else◌, List, [], ◌∷◌, ◌++◌, length, replicate, slice_get}
 use Rattle.std.specs.Prelude.{slice_index_or, Option, Some, None}
@@ -13,6 +13,7 @@ use Rattle.m36_dir.specs.declared.segment.SegKind.TheVariants as kind
 use Rattle.m36_dir.specs.Fields.{SegmentFields}
 use Rattle.m36_dir.specs.Catalog.{CatalogFields}
 use Rattle.obj36_parts.specs.PartsFields.{PartsFields}
+use Rattle.obj36_parts.specs.ObjectSegment.{segment_limit}
 use Rattle.obj36.specs.ObjectOf.{value_of}
 use Rattle.m36_link.specs.Fields.{LayFields}
 use Rattle.m36_link.specs.Known.{first_segment, first_linkage, linkage_segment, lot_words}
@@ -37,7 +38,7 @@ linkage_pages = 256
 
 -- a file has no more words than a segment
 abbrev pub is_short : List ℕ → Bool
-is_short words = nat_le (length words) (2 ^ 18)
+is_short words = nat_le (length words) segment_limit
 
 -- the file of a segment of the catalog, both counted from 0
 unfoldable pub file_at : List (List ℕ) → ℕ → List ℕ

@@ -1,9 +1,9 @@
 -- What is known once an answer is accepted: a name more, where it was none yet, and the section
 -- that was laid.
-use Rattle.std.specs.Prelude.{ℕ, ◌≡◌, ◌+◌, ◌^◌, ◌≤◌, if◌then◌else◌, List, [], ◌∷◌, ◌++◌, length}
+use Rattle.std.specs.Prelude.{ℕ, ◌≡◌, ◌+◌, ◌≤◌, if◌then◌else◌, List, [], ◌∷◌, ◌++◌, length}
 use Rattle.std.specs.Prelude.{Option, Some, None, is_some}
 use Rattle.obj36_parts.specs.Fields.{LinkFields}
-use Rattle.obj36_parts.specs.ObjectSegment.{has_name}
+use Rattle.obj36_parts.specs.ObjectSegment.{has_name, segment_limit}
 use Rattle.m36_link.specs.Fields.{RingNameFields, LaidFields, LayFields, KnownFields, SnapFields}
 use Rattle.m36_link.specs.Known.{initiated, laid_in, base_of}
 
@@ -34,7 +34,7 @@ accepted known s =
 pub record IsNext (known : KnownFields) (l : LayFields) : Type 0 where
   pub absent : laid_in known.laid l.ring l.seg ≡ None
   pub base : l.base ≡ base_of known.laid l.ring
-  pub fits : l.base + length l.words ≤ 2 ^ 18
+  pub fits : l.base + length l.words ≤ segment_limit
 
 abbrev pub MayBeLaid : KnownFields → Option LayFields → Type 0
 MayBeLaid known None = Unit {0}

@@ -13,7 +13,7 @@ use Rattle.m36_dir.specs.declared.segment.SegKind.TheVariants.{Object, Gate, Pla
 use Rattle.obj36_parts.specs.Fields.{DefFields, LinkFields}
 use Rattle.obj36_parts.specs.PartsFields.{PartsFields}
 use Rattle.obj36_parts.specs.ObjectSegment.{later_section, has_name, has_entry, linkage_section}
-use Rattle.obj36_parts.specs.ObjectSegment.{definition_named}
+use Rattle.obj36_parts.specs.ObjectSegment.{definition_named, segment_limit}
 use Rattle.obj36_parts.specs.declared.section.Section.{Section}
 use Rattle.obj36_parts.specs.declared.section.Section.TheVariants.{Text, Linkage, Symbol, Static}
 use Rattle.obj36.specs.ObjectOf.{object_of}
@@ -73,7 +73,7 @@ pair_of point ring l linkage link = pair_from point.section point.value ring l l
 -- L6: the section would end past the linkage segment
 abbrev pub new_home : ℕ → ℕ → ℕ → ℕ → Result Home LinkCode
 new_home ring seg base size =
-    if nat_le (base + size) (2 ^ 18) then
+    if nat_le (base + size) segment_limit then
     Ok (record {
       section = record { ring = ring; seg = seg; base = base; size = size };
       is_new = true;

@@ -8,9 +8,7 @@ ghost use Rattle.m36_link.specs.Landing.{home_of};
 use crate::laid::{LOT_WORDS, Laid};
 use m36_model::LinkCode;
 use obj36::{Object, Section};
-
-/// How many words a linkage segment may have.
-const SEGMENT_WORDS: u32 = 1 << 18;
+use obj36_parts::sections::SEGMENT_LIMIT;
 
 /// The section of a segment in a ring, and whether it has to be laid.
 #[derive(Clone, Copy, Debug)]
@@ -104,7 +102,7 @@ pub(crate) fn home_of(laid: &[Laid], ring: u8, seg: u16, object: &Object) -> Res
     }
     let base = base_of(laid, ring);
     let size = laid_size(object);
-    if base + size > SEGMENT_WORDS {
+    if base + size > SEGMENT_LIMIT as u32 {
         return Err(LinkCode::L6(base, size));
     }
     Ok(Home {

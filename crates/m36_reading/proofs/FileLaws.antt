@@ -10,6 +10,7 @@ use Rattle.m36_reading.specs.declared.status.Code.TheVariants as code
 use Rattle.m36_reading.specs.declared.refusal.Refusal.{Refusal}
 use Rattle.m36_reading.specs.declared.refusal.Refusal.TheVariants.{NoMemory}
 use Rattle.m36_reading.specs.Asking.{Gives, Refuses}
+use Rattle.obj36_parts.specs.ObjectSegment.{segment_limit}
 use Rattle.obj36.specs.ObjectOf.{object_of, IsObjectOf}
 use Rattle.m36_reading.specs.Readers.{refused, sized, words_by, object_refused, object_by}
 use Rattle.m36_reading.proofs.ReadLaws.{gives_by, memory_given}
@@ -17,12 +18,12 @@ use Rattle.m36_reading.proofs.ReadLaws.{gives_by, memory_given}
 -- more words than an object has, or not
 pub sized_over :
     (name words : List ℕ) (r : Refusal)
-    → 262144 < length words → Refuses r (refused name code.F3 0) → Gives (Err r) (sized name words)
+    → segment_limit < length words → Refuses r (refused name code.F3 0) → Gives (Err r) (sized name words)
 sized_over name words r over is =
-    gives_by (List ℕ) r (refused name code.F3 0) (sized name words) (ap (λ b. cond b (Err (refused name code.F3 0)) (Ok words)) (lt-ltb 262144 (length words) over)) is
+    gives_by (List ℕ) r (refused name code.F3 0) (sized name words) (ap (λ b. cond b (Err (refused name code.F3 0)) (Ok words)) (lt-ltb segment_limit (length words) over)) is
 
-pub sized_within : (name words : List ℕ) → length words ≤ 262144 → Gives (Ok words) (sized name words)
-sized_within name words within = ap (λ b. cond b (Err (refused name code.F3 0)) (Ok words)) (le-ltb 262144 (length words) within)
+pub sized_within : (name words : List ℕ) → length words ≤ segment_limit → Gives (Ok words) (sized name words)
+sized_within name words within = ap (λ b. cond b (Err (refused name code.F3 0)) (Ok words)) (le-ltb segment_limit (length words) within)
 
 pub ruleset sizes = (sized_over, sized_within)
 

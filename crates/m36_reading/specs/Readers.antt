@@ -5,6 +5,7 @@ use Rattle.m36_text.specs.Packing.{unpacked}
 use Rattle.m36_text.specs.declared.packing.PackFault.{PackFault}
 use Rattle.m36_text.specs.declared.packing.PackFault.TheVariants as pack
 use Rattle.obj36_parts.specs.PartsFields.{PartsFields}
+use Rattle.obj36_parts.specs.ObjectSegment.{segment_limit}
 use Rattle.obj36.specs.declared.fault.ObjectFault.{ObjectFault}
 use Rattle.obj36.specs.declared.fault.ObjectFault.TheVariants as fault
 use Rattle.m36_reading.specs.declared.status.Code.{Code}
@@ -39,9 +40,10 @@ file_bytes name = asks name (bytes_by name)
 
 -- ---- words
 
--- F3: more than 2^18 words
+-- F3: more words than an object has
 abbrev pub sized : List ℕ → List ℕ → Early (List ℕ)
-sized name words = if nat_lt 262144 (length words) then Err (refused name code.F3 0) else Ok words
+sized name words =
+    if nat_lt segment_limit (length words) then Err (refused name code.F3 0) else Ok words
 
 abbrev pub words_by : List ℕ → Result (List ℕ) PackFault → Early (List ℕ)
 words_by name (Ok words) = sized name words

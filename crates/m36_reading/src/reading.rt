@@ -4,6 +4,7 @@ ghost use Rattle.std.specs.Prelude.{◌≤◌, ◌<◌, ◌^◌, length, IfOk};
 ghost use Rattle.m36_outside.specs.ReadAnswer.{file_limit};
 ghost use Rattle.m36_text.specs.Packing.{unpacked};
 ghost use Rattle.m36_reading.specs.Asking.{Gives, Refuses};
+ghost use Rattle.obj36_parts.specs.ObjectSegment.{segment_limit};
 ghost use Rattle.obj36.specs.ObjectOf.{object_of};
 ghost use Rattle.m36_reading.specs.Readers.{refused, sized, refused_at, words_by, object_refused, object_by, file_bytes, file_words, file_object};
 ghost use Rattle.m36_reading.specs.Outside.{folder_of};
@@ -15,10 +16,8 @@ use m36_outside::{Folder, ReadAnswer, Text};
 use m36_text::{PackFault, unpack};
 use m36_word::{Word, Words};
 use obj36::{Object, ObjectFault};
+use obj36_parts::sections::SEGMENT_LIMIT;
 use std::alloc::Global;
-
-/// The most words of an object.
-const MOST_WORDS: usize = 262144;
 
 /// Refuses a file, at a place and a column of it, unless no memory is found for its name.
 pub fn refuse_at(alloc: Global, name: &[u8], code: Code, at: u32, column: u32) -> Refusal
@@ -64,9 +63,9 @@ pub fn read_bytes<F: Folder>(alloc: Global, name: &[u8], folder: &mut F) -> Resu
 #[tactic(auto, using(crate::proofs::FileLaws::sizes))]
 fn sized(alloc: Global, name: &[u8], words: Words) -> Result<Words, Refusal>
     ensures gives { Gives result (sized name.now words) }
-    ensures few { IfOk result (λ words. length words ≤ 262144) }
+    ensures few { IfOk result (λ words. length words ≤ segment_limit) }
 {
-    if words.slice().len() > MOST_WORDS {
+    if words.slice().len() > SEGMENT_LIMIT as usize {
         return Err(refuse(alloc, name, Code::F3, 0));
     }
     Ok(words)
@@ -78,7 +77,7 @@ fn sized(alloc: Global, name: &[u8], words: Words) -> Result<Words, Refusal>
 pub fn words_in(alloc: Global, name: &[u8], bytes: &[u8]) -> Result<Words, Refusal>
     requires { length bytes.now ≤ file_limit }
     ensures gives { Gives result (words_by name.now (unpacked bytes.now)) }
-    ensures few { IfOk result (λ words. length words ≤ 262144) }
+    ensures few { IfOk result (λ words. length words ≤ segment_limit) }
 {
     match unpack(alloc, bytes) {
         Ok(words) => sized(alloc, name, words),
@@ -95,7 +94,7 @@ pub fn read_words<F: Folder>(alloc: Global, name: &[u8], folder: &mut F) -> Resu
         (folder_of F.files F.wrote F.read_faults F.write_faults folder.old)
         (folder_of F.files F.wrote F.read_faults F.write_faults folder.new)
         (F.asked folder.old) (F.asked folder.new) }
-    ensures few { IfOk result (λ words. length words ≤ 262144) }
+    ensures few { IfOk result (λ words. length words ≤ segment_limit) }
 {
     let text = read_bytes(alloc, name, folder)?;
     words_in(alloc, name, text.bytes())

@@ -17,12 +17,13 @@ use m36_dir::Catalog;
 use m36_link::{File, Known, Snap, link_laws};
 use m36_step::Machine;
 use m36_word::{NoMemory, Words};
+use obj36_parts::sections::SEGMENT_LIMIT;
 use std::alloc::Global;
 
 fn is_short(file: &Words) -> bool
     ensures { result ≡ is_short file.now }
 {
-    file.slice().len() <= 1 << 18
+    file.slice().len() <= SEGMENT_LIMIT as usize
 }
 
 /// Whether each file has at most 2^18 words, as many as a segment.

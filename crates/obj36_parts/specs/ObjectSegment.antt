@@ -246,6 +246,10 @@ section_words p Static = outer_statics p
 
 -- ---- for which parts a list stands
 
+-- the most words of a segment, and so of an object
+abbrev pub segment_limit : ℕ
+segment_limit = 2 ^ 18
+
 -- the most words of a section of an object that is assembled or bound: 2^18 - 4096
 abbrev pub section_limit : ℕ
 section_limit = 258048
@@ -308,7 +312,7 @@ are_rising least barred (r ∷ rs) =
 unfoldable pub is_well_formed : PartsFields → Bool
 is_well_formed p =
     (nat_eq p.version 1 || nat_eq p.version 2)
-    && nat_le (length (words_of p)) (2 ^ 18)
+    && nat_le (length (words_of p)) segment_limit
     && nat_le p.entry_bound (length p.text)
     && (is_newer p || nat_eq (length p.statics % 2) 0)
     && list_all (is_definition p.version) p.definitions

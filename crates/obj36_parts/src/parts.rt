@@ -12,7 +12,7 @@ use crate::checks::{
 use crate::definition::Defs;
 use crate::link::Links;
 use crate::relocation::Relocs;
-use crate::sections::HEAD_WORDS;
+use crate::sections::{HEAD_WORDS, SEGMENT_LIMIT};
 use crate::size::length_of_names;
 use m36_word::{Word, Words};
 use std::marker::Model;
@@ -142,7 +142,7 @@ impl Parts {
             version,
         };
         (version == 1 || version == 2)
-            && size <= 1 << 18
+            && size <= SEGMENT_LIMIT
             && self.entry_bound as usize <= text
             && (version == 2 || statics.len() % 2 == 0)
             && are_good_definitions(version, definitions)

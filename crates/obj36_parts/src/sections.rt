@@ -28,6 +28,9 @@ pub const LINK_TAG: u64 = 0o46;
 /// How many words the head of a linkage section has.
 pub const HEAD_WORDS: u64 = 8;
 
+/// The most words of a segment, and so of an object.
+pub const SEGMENT_LIMIT: u64 = 1 << 18;
+
 /// The most words of a section of an object that is assembled or bound.
 pub const SECTION_LIMIT: u64 = (1 << 18) - 4096;
 
