@@ -1,5 +1,6 @@
 -- The arguments of operations.
 use Rattle.std.specs.Prelude.{ℕ, List, [], ◌∷◌, ◌++◌, take, Option, Some, None, unwrap_or}
+use Rattle.m36_text.specs.Texts.{name_limit}
 use Rattle.alm_tokens.specs.Tokens.{slice_of}
 use Rattle.alm_tokens.specs.declared.span.Span.{Span}
 use Rattle.alm_tokens.specs.declared.expression.Term.{Term}
@@ -9,9 +10,9 @@ use Rattle.alm_parse.specs.Pairs.{used_section}
 use Rattle.obj36_parts.specs.declared.section.Section.{Section}
 use Rattle.obj36_parts.specs.declared.section.Section.TheVariants.{Text}
 
--- a name of at most 32 bytes
+-- a name, cut to the most characters of one
 abbrev pub name_at : List ℕ → Span → List ℕ
-name_at text span = take 32 (slice_of text span)
+name_at text span = take name_limit (slice_of text span)
 
 -- ---- arguments
 

@@ -8,7 +8,7 @@ ghost use Rattle.alm_lines.specs.Arguments.{section_in};
 
 use alm_parse::span::bytes_of;
 use alm_parse::{Arg, Span, Term, used_section};
-use m36_text::Name;
+use m36_text::{LONGEST_NAME, Name};
 use m36_word::{NoMemory, Words};
 use obj36_parts::Section;
 use obj36_parts::sections::push_all;
@@ -30,7 +30,7 @@ fn front(bytes: &[u8], count: usize) -> &[u8]
 pub fn name_at(text: &[u8], span: Span) -> Name
     ensures { result ≡ name_at text.now span }
 {
-    match Name::new(front(bytes_of(text, span), 32)) {
+    match Name::new(front(bytes_of(text, span), LONGEST_NAME)) {
         Some(name) => name,
         None => unreachable!(),
     }

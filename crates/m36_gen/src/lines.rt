@@ -1,6 +1,7 @@
 //! Lines put at the end of a text, and names of segments.
 
 ghost use Rattle.std.specs.Prelude.{ℕ, ◌≡◌, ◌≤◌, [], ◌∷◌, ◌++◌, length, OnOk};
+ghost use Rattle.m36_text.specs.Texts.{name_limit};
 ghost use Rattle.m36_gen.specs.Lines.{line, numbered, segment_name, source_name};
 
 use arrayvec::ArrayVec;
@@ -39,7 +40,7 @@ pub fn put_named(text: &mut Text, before: &[u8], name: &[u8], behind: &[u8]) -> 
 
 /// A name of at most 32 bytes.
 pub fn name_of(bytes: &[u8]) -> Name
-    requires { length bytes.now ≤ 32 }
+    requires { length bytes.now ≤ name_limit }
     ensures { result ≡ bytes.now }
 {
     match Name::new(bytes) {

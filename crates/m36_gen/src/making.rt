@@ -2,6 +2,7 @@
 
 ghost use Rattle.std.specs.Prelude.{ℕ, ◌≡◌, ◌<◌, ◌≤◌, ◌++◌, [], ◌∷◌, length, IfOk, OnOk};
 ghost use Rattle.m36_text.specs.Packing.{packed};
+ghost use Rattle.m36_text.specs.Texts.{name_limit};
 ghost use Rattle.m36_gen.specs.Draws.{draws_from};
 ghost use Rattle.m36_gen.specs.Folder.{file, source_files, data_words, zeros, sources_of, other_files, files_of};
 ghost use Rattle.m36_gen.specs.Lines.{program_count, source_name};
@@ -57,7 +58,7 @@ fn add_source(alloc: Global, files: &mut Files, i: u64, draws: Draws) -> Result<
 
 // Adds a file of a name of at most 32 bytes.
 fn add_file(files: &mut Files, name: &[u8], content: Text) -> Result<(), NoMemory>
-    requires { length name.now ≤ 32 }
+    requires { length name.now ≤ name_limit }
     ensures { OnOk result (files.new ≡ files.old ++ file name.now content ∷ []) }
 {
     files.push(File {

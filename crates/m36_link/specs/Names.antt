@@ -1,9 +1,10 @@
 -- What holds of the names that are initiated, whatever they are.
 use Rattle.std.specs.Prelude.{ℕ, ◌<◌, ◌≤◌, ◌^◌, List, length, All}
+use Rattle.m36_text.specs.Texts.{name_limit}
 use Rattle.m36_link.specs.Fields.{RingNameFields}
 
 pub record IsInitiated (e : RingNameFields × ℕ) : Type 0 where
-  pub name : length e.0.name ≤ 32
+  pub name : length e.0.name ≤ name_limit
   pub seg : e.1 < 2 ^ 15
 
 abbrev pub AreNames : List (RingNameFields × ℕ) → Type 0

@@ -2,6 +2,7 @@
 
 ghost use Rattle.std.specs.Prelude.{[], ◌∷◌, ◌++◌, ◌≡◌, ◌<◌, ◌≤◌, ◌^◌, ◌+◌, Option, Some, None, IfOk, IfSome, OnOk, OnErr, length};
 ghost use Rattle.std.specs.Vec.{vec_len, vec_capacity};
+ghost use Rattle.m36_text.specs.Texts.{name_limit};
 ghost use Rattle.m36_link.specs.Known.{nothing_known, initiated};
 ghost use Rattle.m36_link.specs.Names.{AreNames};
 ghost use Rattle.m36_link.specs.Search.{searched};
@@ -47,7 +48,7 @@ fn insert_name(
 ) -> Result<(), NoMemory>
     requires names { AreNames names.old.entries }
     requires absent { None ≡ initiated names.old.entries name.ring name.name }
-    requires fits { length name.name ≤ 32 }
+    requires fits { length name.name ≤ name_limit }
     requires target { target < 2 ^ 15 }
     ensures ok { OnOk result (names.new.entries ≡ names.old.entries ++ (name, target) ∷ []) }
     ensures err { OnErr result (names.new.entries ≡ names.old.entries) }

@@ -2,6 +2,7 @@
 
 ghost use Rattle.std.specs.Prelude.{◌≡◌, ◌<◌, ◌≤◌, ◌^◌, length, Ok};
 ghost use Rattle.alm_asm.specs.Assembly.{assembled};
+ghost use Rattle.m36_text.specs.Texts.{name_limit};
 ghost use Rattle.m36_outside.specs.ReadAnswer.{file_limit};
 ghost use Rattle.m36_reading.specs.Asking.{Gives};
 ghost use Rattle.m36_told.specs.Assemblies.{with_parts, assembly_of};
@@ -20,7 +21,7 @@ use std::alloc::Global;
 // The name of the object of a source.
 #[tactic(auto, unfolding(crate::specs::Making::object_name))]
 fn object_name(source: &[u8]) -> Name
-    requires { length source.now ≤ 32 }
+    requires { length source.now ≤ name_limit }
     ensures { result ≡ object_name source.now }
 {
     match Name::new(&source[..source.len().saturating_sub(4)]) {
@@ -58,7 +59,7 @@ fn content_of(alloc: Global, source: &[u8]) -> Result<Text, AlmFault>
 // The object of a source of at most 16 MiB.
 #[tactic(auto, using(crate::proofs::ObjectLaws::giving))]
 fn object_of_bytes(alloc: Global, name: &[u8], source: &[u8]) -> Result<Set, Refusal>
-    requires name { length name.now ≤ 32 }
+    requires name { length name.now ≤ name_limit }
     requires source { length source.now ≤ file_limit }
     ensures { Gives result (object_by name.now (assembly_of source.now)) }
 {

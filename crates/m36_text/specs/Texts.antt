@@ -24,9 +24,13 @@ is_name_character c = is_letter c || is_digit 10 c || (c == 95) || (c == 46)
 abbrev pub is_run_of : (ℕ → Bool) → ℕ → List ℕ → Bool
 is_run_of may most text = nat_le 1 (length text) && nat_le (length text) most && list_all may text
 
--- a name has 1 to 32 of them
+-- the most characters of a name
+abbrev pub name_limit : ℕ
+name_limit = 32
+
+-- a name has one of them at least
 unfoldable pub is_name : List ℕ → Bool
-is_name text = is_run_of is_name_character 32 text
+is_name text = is_run_of is_name_character name_limit text
 
 -- and that of a file or a segment does not begin with a point
 unfoldable pub is_file_name : List ℕ → Bool

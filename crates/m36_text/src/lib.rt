@@ -28,4 +28,4 @@ pub use numbers::{decimal_in, has_no_leading_zero, octal_in, plain_decimal_in, s
 pub use numerals::{decimal, octal};
 pub use packing::{PackFault, pack, packing_laws, unpack};
 pub use reading::{NumberFault, is_digit, numeral_laws, read_decimal, read_octal};
-pub use texts::{is_file_name, is_letter, is_name, is_name_character, is_text};
+pub use texts::{LONGEST_NAME, is_file_name, is_letter, is_name, is_name_character, is_text};

@@ -2,6 +2,7 @@
 
 ghost use Rattle.std.specs.Prelude.{ℕ, List, [], ◌∷◌, ◌++◌, ◌≡◌, ◌≤◌, length, OnOk, OnErr};
 ghost use Rattle.std.specs.Option.{SomeIff};
+ghost use Rattle.m36_text.specs.Texts.{name_limit};
 
 use arrayvec::ArrayVec;
 use m36_word::NoMemory;
@@ -27,7 +28,7 @@ impl Model for Name {
 impl Name {
     /// The name of these bytes; None exactly where there are more than 32.
     pub fn new(t: &[u8]) -> Option<Name>
-        ensures { SomeIff result (length t.now ≤ 32) t.now }
+        ensures { SomeIff result (length t.now ≤ name_limit) t.now }
     {
         let mut items = ArrayVec::new();
         match items.try_extend_from_slice(t) {
@@ -39,7 +40,7 @@ impl Name {
     /// The bytes in order, at most 32.
     pub fn bytes(&self) -> &[u8]
         ensures value { result.now ≡ self.now }
-        ensures fits { length self.now ≤ 32 }
+        ensures fits { length self.now ≤ name_limit }
     {
         self.items.as_slice()
     }

@@ -2,12 +2,12 @@
 
 ghost use Rattle.std.specs.Prelude.{ℕ, ◌≡◌, ◌≤◌, true, length};
 ghost use Rattle.std.specs.List.{list_all};
-ghost use Rattle.m36_text.specs.Texts.{is_text, is_letter, is_name_character, is_name, is_file_name};
+ghost use Rattle.m36_text.specs.Texts.{is_text, is_letter, is_name_character, name_limit, is_name, is_file_name};
 
 use crate::reading::is_digit;
 
 /// The most characters of a name.
-const LONGEST_NAME: usize = 32;
+pub const LONGEST_NAME: usize = 32;
 
 /// Whether a text is this one.
 pub fn is_text(name: &[u8], text: &[u8]) -> bool
@@ -40,7 +40,7 @@ fn has_name_characters(text: &[u8]) -> bool
 #[tactic(auto, unfolding(crate::specs::Texts::is_name))]
 pub fn is_name(text: &[u8]) -> bool
     ensures value { result ≡ is_name text.now }
-    ensures fits { result ≡ true → length text.now ≤ 32 }
+    ensures fits { result ≡ true → length text.now ≤ name_limit }
 {
     if text.is_empty() || text.len() > LONGEST_NAME {
         return false;
@@ -52,7 +52,7 @@ pub fn is_name(text: &[u8]) -> bool
 #[tactic(auto, unfolding(crate::specs::Texts::is_file_name))]
 pub fn is_file_name(text: &[u8]) -> bool
     ensures value { result ≡ is_file_name text.now }
-    ensures fits { result ≡ true → length text.now ≤ 32 }
+    ensures fits { result ≡ true → length text.now ≤ name_limit }
 {
     is_name(text) && !text.starts_with(b".")
 }

@@ -1,6 +1,7 @@
 //! The text of a reference.
 
 ghost use Rattle.std.specs.Prelude.{[], ◌++◌, ◌≡◌, ◌≤◌, length, OnOk, if◌then◌else◌};
+ghost use Rattle.m36_text.specs.Texts.{name_limit};
 ghost use Rattle.obj36_parts.specs.ObjectSegment.{has_name, has_entry};
 ghost use Rattle.obj36.specs.References.{own_section, reference_text};
 
@@ -13,7 +14,7 @@ use obj36_parts::section::Section;
 // A section of the object itself, as the assembler writes it.
 fn own_section(section: Section) -> &'static str
     ensures text { result.now ≡ own_section section }
-    ensures len { length result.now ≤ 32 }
+    ensures len { length result.now ≤ name_limit }
 {
     match section {
         Section::Text => "*text",
@@ -27,7 +28,7 @@ fn own_section(section: Section) -> &'static str
 pub fn subject(link: &Link) -> &[u8]
     ensures text { result.now
         ≡ (if has_name link.now.kind then link.now.name else own_section link.now.section) }
-    ensures len { length result.now ≤ 32 }
+    ensures len { length result.now ≤ name_limit }
 {
     if has_its_name(link.kind as u64) {
         link.name.bytes()
@@ -39,7 +40,7 @@ pub fn subject(link: &Link) -> &[u8]
 /// The entry of a link's reference, or nothing. At most 32 bytes.
 pub fn entry(link: &Link) -> &[u8]
     ensures text { result.now ≡ (if has_entry link.now.kind then link.now.entry else []) }
-    ensures len { length result.now ≤ 32 }
+    ensures len { length result.now ≤ name_limit }
 {
     if has_its_entry(link.kind as u64) {
         link.entry.bytes()

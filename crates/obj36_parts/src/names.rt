@@ -2,6 +2,7 @@
 
 ghost use Rattle.std.specs.Prelude.{ℕ, [], ◌++◌, ◌≡◌, ◌+◌, ◌-◌, ◌*◌, ◌^◌, ◌<◌, ◌≤◌, length};
 ghost use Rattle.std.specs.Prelude.{OnOk, IfOk};
+ghost use Rattle.m36_text.specs.Texts.{name_limit};
 ghost use Rattle.obj36_parts.specs.Names.{with_name, with_names, place_of, name_length, unit_of};
 ghost use Rattle.obj36_parts.specs.Names.{name_word, name_words, all_name_words};
 ghost use Rattle.obj36_parts.specs.ObjectSegment.{definition_names, link_names, all_link_names};
@@ -167,7 +168,7 @@ pub(crate) fn names_used(
 
 #[tactic(auto, unfolding(crate::specs::Names::unit_of))]
 fn unit(name: &[u8], i: usize) -> u64
-    requires { length name.now ≤ 32 }
+    requires { length name.now ≤ name_limit }
     ensures value { result ≡ unit_of name.now i }
     ensures bound { result < 2 ^ 9 }
 {
@@ -183,7 +184,7 @@ fn unit(name: &[u8], i: usize) -> u64
 
 #[tactic(auto, unfolding(crate::specs::Names::name_word))]
 fn word(name: &[u8], j: usize) -> Word
-    requires fits { length name.now ≤ 32 }
+    requires fits { length name.now ≤ name_limit }
     requires small { j < 9 }
     ensures { result ≡ name_word name.now j }
 {

@@ -3,6 +3,7 @@
 -- the parts again.
 use Rattle.std.specs.Prelude.{ℕ, zero, suc, ◌+◌, ◌-◌, ◌*◌, ◌/◌, ◌%◌, ◌^◌, nat_eq, nat_le}
 use Rattle.std.specs.Prelude.{if◌then◌else◌, min, List, [], ◌∷◌, length, take, drop, slice_index}
+use Rattle.m36_text.specs.Texts.{name_limit}
 use Rattle.obj36_parts.specs.Fields.{LinkFields, RelocFields}
 use Rattle.obj36_parts.specs.PartsFields.{PartsFields}
 use Rattle.obj36_parts.specs.Halves.{left, right, quarter}
@@ -22,9 +23,9 @@ unfoldable pub characters : List ℕ → ℕ → ℕ → ℕ → List ℕ
 characters words at i zero = []
 characters words at i (suc count) = unit_at words at i % 2 ^ 8 ∷ characters words at (i + 1) count
 
--- the name at a place, cut to 32 characters
+-- the name at a place, cut to the most characters of one
 unfoldable pub name_at : List ℕ → ℕ → List ℕ
-name_at words at = characters words at 1 (min (unit_at words at 0) 32)
+name_at words at = characters words at 1 (min (unit_at words at 0) name_limit)
 
 -- ---- sections by their numbers
 

@@ -2,6 +2,7 @@
 use Rattle.std.specs.Prelude.{ℕ, zero, suc, ◌+◌, ◌-◌, ◌*◌, ◌/◌, ◌%◌, Bool, true, false, ◌&&◌, ◌||◌}
 use Rattle.std.specs.Prelude.{not, nat_eq, nat_lt, nat_le, if◌then◌else◌, min, List, length}
 use Rattle.std.specs.Prelude.{slice_index, Option, Some, None}
+use Rattle.m36_text.specs.Texts.{name_limit}
 use Rattle.obj36_parts.specs.Halves.{left, right}
 use Rattle.obj36_parts.specs.Names.{is_name_character}
 use Rattle.obj36_parts.specs.ObjectSegment.{has_name, has_entry, last_class}
@@ -145,10 +146,10 @@ unfoldable pub are_zeros : List ℕ → ℕ → ℕ → ℕ → Bool
 are_zeros d at i zero = true
 are_zeros d at i (suc count) = nat_eq (unit_at d at i) 0 && are_zeros d at (i + 1) count
 
--- whether a name stands at a place: 1 to 32 characters, and zeros to the end of its last word
+-- whether a name stands at a place: its characters, one at least, and zeros to the end of its last word
 unfoldable pub is_name_at : List ℕ → ℕ → Bool
 is_name_at d at =
-    lies_within d at && nat_le 1 (unit_at d at 0) && nat_le (unit_at d at 0) 32
+    lies_within d at && nat_le 1 (unit_at d at 0) && nat_le (unit_at d at 0) name_limit
     && are_characters d at 1 (unit_at d at 0)
     && are_zeros d at (unit_at d at 0 + 1) (3 - unit_at d at 0 % 4)
 

@@ -11,7 +11,7 @@ ghost use Rattle.obj36_read.specs.Reading.{version_in, told_length, told_count, 
 ghost use Rattle.obj36_read.specs.Reading.{from_linkage, from_statics, from_symbol, told_first};
 ghost use Rattle.obj36_read.specs.Reading.{statics_in, bound_index, bound_in, parts_of};
 
-use m36_text::Name;
+use m36_text::{LONGEST_NAME, Name};
 use m36_word::{NoMemory, Word, Words};
 use obj36_parts::definition::{Def, Defs, Named};
 use obj36_parts::halves::{left_of, right_of};
@@ -100,7 +100,7 @@ fn name(words: &[Word], at: u64) -> Name
     requires { at < 2 ^ 32 }
     ensures { result ≡ name_at words.now at }
 {
-    let count = unit(words, at, 0).min(32) as usize;
+    let count = unit(words, at, 0).min(LONGEST_NAME as u64) as usize;
     let mut bytes = [0; 32];
     put_characters(words, at, count, &mut bytes);
     match Name::new(&bytes[..count]) {

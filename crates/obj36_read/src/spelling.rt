@@ -15,7 +15,7 @@ use crate::tables::{
     count_of_definitions, count_of_expressions, definition_behind, definition_first, earlier_of,
     expression_first, is_within, place_if, place_of_name,
 };
-use m36_text::is_name_character;
+use m36_text::{LONGEST_NAME, is_name_character};
 use m36_word::Word;
 use obj36_parts::halves::{left_of, right_of};
 use obj36_parts::names::{has_its_entry, has_its_name};
@@ -63,7 +63,7 @@ fn has_good_name(d: &[Word], at: u64) -> bool
     let length = unit(d, at, 0);
     is_within(d, at)
         && 1 <= length
-        && length <= 32
+        && length <= LONGEST_NAME as u64
         && have_name_bytes(d, at, 1, length)
         && have_zeros(d, at, length + 1, 3 - length % 4)
 }
