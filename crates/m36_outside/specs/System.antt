@@ -16,10 +16,11 @@ use Rattle.m36_outside.specs.declared.sink.Put.TheVariants.{Done, Failed}
 abbrev pub slash : ℕ
 slash = 47
 
--- Done was answered behind a flush of all that was taken.
-abbrev pub PutFlushes : Put → List (List ℕ) → List (List ℕ) → List ℕ → Type 0
-PutFlushes Done old new taken = new ≡ old ++ taken ∷ []
-PutFlushes Failed old new taken = ⊤
+-- Done was answered where these bytes went through a call, whole: all that was taken through a
+-- flush, or a content into a file.
+abbrev pub NotesDone : Put → List (List ℕ) → List (List ℕ) → List ℕ → Type 0
+NotesDone Done old new bytes = new ≡ old ++ bytes ∷ []
+NotesDone Failed old new bytes = ⊤
 
 -- Failed was answered where the system's call gave up, and Done behind signals alone.
 abbrev pub PutHasError : Put → List ErrorKind → List ErrorKind → Type 0
@@ -68,11 +69,6 @@ ReadHasError read.TooLarge name old new = Signals old new
 ReadHasError read.Failed name old new = ReadsNot old new
 ReadHasError read.NoMemory name old new = Signals old new
 
--- Done was answered where a file took the content.
-abbrev pub FileTakes : Put → List (List ℕ) → List (List ℕ) → List ℕ → Type 0
-FileTakes Done old new content = new ≡ old ++ content ∷ []
-FileTakes Failed old new content = ⊤
-
 -- No file was written: it has the name of none, or a write gave up, or one error came by which no
 -- file was made.
 pub record WritesNot (name : List ℕ) (old new : List ErrorKind) : Type 0 where
@@ -83,7 +79,7 @@ abbrev pub FileHasError : Put → List ℕ → List ErrorKind → List ErrorKind
 FileHasError Done name old new = Signals old new
 FileHasError Failed name old new = WritesNot name old new
 
--- the same of the answers of a folder
+-- the answers of a folder, where a file took the content
 abbrev pub WriteTakes : WriteAnswer → List (List ℕ) → List (List ℕ) → List ℕ → Type 0
 WriteTakes write.Written old new content = new ≡ old ++ content ∷ []
 WriteTakes write.Failed old new content = ⊤

@@ -3,7 +3,7 @@
 ghost use Rattle.std.specs.Prelude.{[], ◌∷◌, ◌++◌, ◌≡◌, ◌≤◌, ◌<◌, ◌^◌, None, MatchOption};
 ghost use Rattle.m36_outside.specs.Given.{ReadGives};
 ghost use Rattle.m36_outside.specs.ReadAnswer.{IsWithinLimit, ReadHasCause};
-ghost use Rattle.m36_outside.specs.System.{ReadHasError, WriteHasError, WriteTakes, FileHasError, FileTakes, NamesFile, NamesNoFile, refusal_of};
+ghost use Rattle.m36_outside.specs.System.{ReadHasError, WriteHasError, WriteTakes, FileHasError, NotesDone, NamesFile, NamesNoFile, refusal_of};
 ghost use Rattle.m36_outside.specs.WriteAnswer.{WriteSays, WriteHasCause};
 
 use crate::faults::raise;
@@ -204,7 +204,7 @@ fn refusal(kind: ErrorKind) -> ReadAnswer
 fn write_file<R: Files>(rt: &R, name: &[u8], content: &[u8], notes: &mut FileNotes) -> Put
     ensures outside { NamesNoFile name.now
         → (result ≡ Put.Failed) × (notes.new.taken.entries ≡ notes.old.taken.entries) }
-    ensures took { FileTakes result notes.old.taken.entries notes.new.taken.entries content.now }
+    ensures took { NotesDone result notes.old.taken.entries notes.new.taken.entries content.now }
     ensures given { notes.new.given.entries ≡ notes.old.given.entries }
     ensures error { FileHasError result name.now notes.old.errors.entries notes.new.errors.entries }
 {

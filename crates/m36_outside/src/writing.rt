@@ -4,7 +4,7 @@ ghost use Rattle.std.specs.Prelude.{◌≡◌, ◌≤◌, ◌<◌, ◌-◌, ◌+
 ghost use Rattle.std.specs.Io.KnownBytes.{Appends, Keeps};
 ghost use Rattle.m36_outside.specs.Put.{PutSays};
 ghost use Rattle.m36_outside.specs.Signals.{Signals, GivesUp};
-ghost use Rattle.m36_outside.specs.System.{PutFlushes, PutHasError};
+ghost use Rattle.m36_outside.specs.System.{NotesDone, PutHasError};
 
 use crate::noted::NotedWriter;
 use crate::sink::Put;
@@ -16,7 +16,7 @@ pub fn write_whole<W: Write>(to: &mut NotedWriter<W>, bytes: &[u8]) -> Put
     ensures taken { PutSays result (Some to.old.taken.entries) (Some to.new.taken.entries) bytes.now }
     ensures inner { IfSome (W.contents to.old.inner)
         (λ held. PutSays result (Some held) (W.contents to.new.inner) bytes.now) }
-    ensures flushed { PutFlushes result to.old.flushed.entries to.new.flushed.entries to.new.taken.entries }
+    ensures flushed { NotesDone result to.old.flushed.entries to.new.flushed.entries to.new.taken.entries }
     ensures error { PutHasError result to.old.errors.entries to.new.errors.entries }
 {
     let mut done = 0;
