@@ -13,6 +13,7 @@ pub mod MemSink
 pub mod Passing
 pub mod Piece
 pub mod Put
+pub mod Putting
 pub mod ReadAnswer
 pub mod Signals
 pub mod SinkState

@@ -1,0 +1,18 @@
+-- What is said of a sink to which a text is put, in pieces.
+use Rattle.std.specs.Prelude.{ℕ, ◌≡◌, List, ◌++◌}
+use Rattle.m36_outside.specs.Counts.{Rose}
+use Rattle.m36_outside.specs.Passing.{TakesSome}
+use Rattle.m36_outside.specs.SinkState.{SinkState}
+use Rattle.m36_outside.specs.Written.{Grew, GrewWithin}
+
+-- It is put whole.
+pub record PutsAll (bytes : List ℕ) (due : List (List ℕ)) (old new : SinkState) : Type 0 where
+  pub text : Grew old.written new.written bytes
+  pub pieces : new.taken ≡ old.taken ++ due
+  pub faults : new.faults ≡ old.faults
+
+-- A first part of it is put, pieces of it and a first part of the next, and then a put failed.
+pub record PutsFirst (bytes : List ℕ) (due : List (List ℕ)) (old new : SinkState) : Type 0 where
+  pub text : GrewWithin old.written new.written bytes
+  pub pieces : TakesSome old.taken new.taken due
+  pub cause : Rose old.faults new.faults
