@@ -59,9 +59,9 @@ told_whole findings denied output turns how old now new grew took stood puts = r
   sets = refl;
   status = refl;
   whole = record {
-    text = grew_both old.written now.written new.written (audit_pieces findings) (run_pieces denied output turns (Some how)) grew puts.says;
-    pieces = takes_lines_on old.taken now.taken new.taken (audit_pieces findings) (run_pieces denied output turns (Some how)) took puts.through;
-    faults = puts.cause ∙ stood;
+    text = grew_both old.written now.written new.written (audit_pieces findings) (run_pieces denied output turns (Some how)) grew puts.text;
+    pieces = takes_lines_on old.taken now.taken new.taken (audit_pieces findings) (run_pieces denied output turns (Some how)) took puts.pieces;
+    faults = puts.faults ∙ stood;
   };
 }
 
@@ -74,8 +74,8 @@ unfolding run_answer
 told_part findings denied output turns how old now new grew took stood puts = record {
   sets = refl;
   part = record {
-    text = grew_both_more old.written now.written new.written (audit_pieces findings) (run_pieces denied output turns how) grew puts.says;
-    pieces = takes_lines_more old.taken now.taken new.taken (audit_pieces findings) (run_pieces denied output turns how) took puts.through;
+    text = grew_both_more old.written now.written new.written (audit_pieces findings) (run_pieces denied output turns how) grew puts.text;
+    pieces = takes_lines_more old.taken now.taken new.taken (audit_pieces findings) (run_pieces denied output turns how) took puts.pieces;
     cause = let P : ℕ → Type 0 = λ n. Rose n new.faults in subst P stood puts.cause;
   };
 }
@@ -131,9 +131,9 @@ run_starved findings denied output limit system after old now new grew took stoo
       due = Told findings denied output is.turns None;
       is = record { turns = is.turns; last = is.last; how = None; goes = is.goes; reaches = is.reaches; answer = refl };
       whole = record {
-        text = grew_both old.written now.written new.written (audit_pieces findings) (run_pieces denied output is.turns None) grew is.puts.says;
-        pieces = takes_lines_on old.taken now.taken new.taken (audit_pieces findings) (run_pieces denied output is.turns None) took is.puts.through;
-        faults = is.puts.cause ∙ stood;
+        text = grew_both old.written now.written new.written (audit_pieces findings) (run_pieces denied output is.turns None) grew is.puts.text;
+        pieces = takes_lines_on old.taken now.taken new.taken (audit_pieces findings) (run_pieces denied output is.turns None) took is.puts.pieces;
+        faults = is.puts.faults ∙ stood;
       };
     })
 

@@ -51,18 +51,18 @@ adds_are answer xs ys old new is adds = subst (λ pieces. AddsPieces answer piec
 taken_of :
     (xs : List (List ℕ)) (old new : BlockState) (a : AddsPieces put.Done xs old new)
     → PutsPieces put.Done a.adds.handed old.sink new.sink
-taken_of xs old new a = record { says = a.adds.grew; through = a.adds.took; cause = a.cause }
+taken_of xs old new a = record { text = a.adds.grew; pieces = a.adds.took; faults = a.cause }
 
 -- a put failed where pieces were added
 pub lost_of :
     (xs : List (List ℕ)) (old new : BlockState)
     → AddsPieces put.Failed xs old new → PutsPieces put.Failed (old.pieces ++ xs) old.sink new.sink
-lost_of xs old new a = record { says = a.adds.grew; through = a.adds.took; cause = a.cause }
+lost_of xs old new a = record { text = a.adds.grew; pieces = a.adds.took; cause = a.cause }
 
 losing :
     (xs : List (List ℕ)) (old new : BlockState)
     → PutsPieces put.Failed (old.pieces ++ xs) old.sink new.sink → AddsPieces put.Failed xs old new
-losing xs old new puts = record { adds = record { grew = puts.says; took = puts.through }; cause = puts.cause }
+losing xs old new puts = record { adds = record { grew = puts.text; took = puts.pieces }; cause = puts.cause }
 
 -- what is due with more behind it, by what the sink took and what is in the block
 due_behind :
@@ -102,10 +102,10 @@ adds_then put.Done xs ys old mid new one two =
         due =
             due_behind xs ys old mid one ∙ ap (λ l. one.adds.handed ++ l) two.adds.due
             ∙ sym (append_assoc one.adds.handed two.adds.handed new.pieces);
-        grew = both.says;
-        took = both.through;
+        grew = both.text;
+        took = both.pieces;
       };
-      cause = both.cause;
+      cause = both.faults;
     }
 adds_then put.Failed xs ys old mid new one two =
     losing (xs ++ ys) old new (put_behind put.Failed xs ys old mid new.sink one (lost_of ys mid new two))
@@ -131,4 +131,5 @@ pub block_put :
     (answer : Put) (pieces : List (List ℕ)) (old new : SinkState)
     → PutSays answer old.written new.written (joined pieces) → TakesLines answer old.taken new.taken pieces
     → PutHasCause answer old.faults new.faults → PutsPieces answer pieces old new
-block_put answer pieces old new says through cause = record { says = says; through = through; cause = cause }
+block_put put.Done pieces old new says through cause = record { text = says; pieces = through; faults = cause }
+block_put put.Failed pieces old new says through cause = record { text = says; pieces = through; cause = cause }

@@ -28,18 +28,18 @@ pub pieces_then :
     → PutsPieces put.Done xs old now → PutsPieces answer ys now new
     → PutsPieces answer (xs ++ ys) old new
 pieces_then put.Done xs ys old now new one two = record {
-  says =
+  text =
       says_of put.Done old.written new.written (joined xs ++ joined ys) (joined (xs ++ ys)) (sym (concat-append xs ys))
-      (grew_on old.written now.written new.written (joined xs) (joined ys) one.says two.says);
-  through = takes_lines_on old.taken now.taken new.taken xs ys one.through two.through;
-  cause = two.cause ∙ one.cause;
+      (grew_on old.written now.written new.written (joined xs) (joined ys) one.text two.text);
+  pieces = takes_lines_on old.taken now.taken new.taken xs ys one.pieces two.pieces;
+  faults = two.faults ∙ one.faults;
 }
 pieces_then put.Failed xs ys old now new one two = record {
-  says =
+  text =
       says_of put.Failed old.written new.written (joined xs ++ joined ys) (joined (xs ++ ys)) (sym (concat-append xs ys))
-      (grew_more old.written now.written new.written (joined xs) (joined ys) one.says two.says);
-  through = takes_lines_more old.taken now.taken new.taken xs ys one.through two.through;
-  cause = let P : ℕ → Type 0 = λ n. Rose n new.faults in subst P one.cause two.cause;
+      (grew_more old.written now.written new.written (joined xs) (joined ys) one.text two.text);
+  pieces = takes_lines_more old.taken now.taken new.taken xs ys one.pieces two.pieces;
+  cause = let P : ℕ → Type 0 = λ n. Rose n new.faults in subst P one.faults two.cause;
 }
 
 -- a first part of some is one of more
@@ -47,9 +47,9 @@ pub pieces_longer :
     (xs ys : List (List ℕ)) (old new : SinkState)
     → PutsPieces put.Failed xs old new → PutsPieces put.Failed (xs ++ ys) old new
 pieces_longer xs ys old new cut = record {
-  says =
+  text =
       says_of put.Failed old.written new.written (joined xs ++ joined ys) (joined (xs ++ ys)) (sym (concat-append xs ys))
-      (grew_longer old.written new.written (joined xs) (joined ys) cut.says);
-  through = takes_lines_longer old.taken new.taken xs ys cut.through;
+      (grew_longer old.written new.written (joined xs) (joined ys) cut.text);
+  pieces = takes_lines_longer old.taken new.taken xs ys cut.pieces;
   cause = cut.cause;
 }

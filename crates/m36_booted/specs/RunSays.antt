@@ -1,8 +1,8 @@
 -- What the parts of a booted run answer, and what they put.
 use Rattle.std.specs.Prelude.{ℕ, ◌≡◌, List, ◌++◌, Option, Some, None}
 use Rattle.m36_outside.specs.Gathered.{Adds}
-use Rattle.m36_outside.specs.Passing.{joined, TakesLines}
-use Rattle.m36_outside.specs.Put.{PutSays, PutHasCause}
+pub use Rattle.m36_outside.specs.Putting.{PutsPieces}
+use Rattle.m36_outside.specs.Put.{PutHasCause}
 use Rattle.m36_outside.specs.declared.sink.Put.{Put}
 use Rattle.m36_outside.specs.declared.sink.Put.TheVariants as put
 use Rattle.m36_outside.specs.SinkState.{SinkState}
@@ -23,12 +23,6 @@ use Rattle.m36_booted.specs.declared.running.Ran.TheVariants as ran
 use Rattle.m36_booted.specs.RunText.{steps_in, pieces_from, end_pieces, run_pieces}
 use Rattle.m36_booted.specs.Runs.{IsEvent, Goes, AwaitsLink, Extent, Whole, Begun, Starved, Reaches}
 use Rattle.m36_booted.specs.Runs.{StandsBehind}
-
--- pieces are put, or a first part of them where a put failed
-pub record PutsPieces (answer : Put) (pieces : List (List ℕ)) (old new : SinkState) : Type 0 where
-  pub says : PutSays answer old.written new.written (joined pieces)
-  pub through : TakesLines answer old.taken new.taken pieces
-  pub cause : PutHasCause answer old.faults new.faults
 
 -- the pieces that are gathered in a block, and the sink to which it is handed over
 pub record BlockState : Type 0 where

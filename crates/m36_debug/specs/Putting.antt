@@ -1,10 +1,9 @@
 -- What is said of a sink to which lines are put, each in one piece.
 use Rattle.std.specs.Prelude.{ℕ, List, Option}
 use Rattle.m36_outside.specs.Passing.{joined}
-use Rattle.m36_outside.specs.Putting.{PutsAll, PutsFirst}
+use Rattle.m36_outside.specs.Putting.{PutsAll, PutsFirst, PutsPieces}
 use Rattle.m36_outside.specs.SinkState.{SinkState}
 use Rattle.m36_outside.specs.declared.sink.Put.{Put}
-use Rattle.m36_outside.specs.declared.sink.Put.TheVariants.{Done, Failed}
 
 -- a sink by what it tells
 abbrev pub seen : Option (List ℕ) → List (List ℕ) → ℕ → SinkState
@@ -19,5 +18,4 @@ abbrev pub PutSome : SinkState → SinkState → List (List ℕ) → Type 0
 PutSome old new lines = PutsFirst (joined lines) lines old new
 
 abbrev pub PutsLines : Put → SinkState → SinkState → List (List ℕ) → Type 0
-PutsLines Done old new lines = PutAll old new lines
-PutsLines Failed old new lines = PutSome old new lines
+PutsLines answer old new lines = PutsPieces answer lines old new

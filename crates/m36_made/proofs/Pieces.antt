@@ -16,9 +16,14 @@ pub line_put :
     (answer : Put) (line : List ℕ) (old new : SinkState)
     → PutSays answer old.written new.written line → TakesLines answer old.taken new.taken (line ∷ [])
     → PutHasCause answer old.faults new.faults → PutsPieces answer (line ∷ []) old new
-line_put answer line old new says through cause = record {
-  says = says_of answer old.written new.written line (joined (line ∷ [])) (sym (append-nil line)) says;
-  through = through;
+line_put put.Done line old new says through cause = record {
+  text = says_of put.Done old.written new.written line (joined (line ∷ [])) (sym (append-nil line)) says;
+  pieces = through;
+  faults = cause;
+}
+line_put put.Failed line old new says through cause = record {
+  text = says_of put.Failed old.written new.written line (joined (line ∷ [])) (sym (append-nil line)) says;
+  pieces = through;
   cause = cause;
 }
 
@@ -28,9 +33,14 @@ pub audit_put :
     → PutSays answer old.written new.written (audit_text findings)
     → TakesLines answer old.taken new.taken (audit_pieces findings)
     → PutHasCause answer old.faults new.faults → PutsPieces answer (audit_pieces findings) old new
-audit_put answer findings old new says through cause = record {
-  says = says;
-  through = through;
+audit_put put.Done findings old new says through cause = record {
+  text = says;
+  pieces = through;
+  faults = cause;
+}
+audit_put put.Failed findings old new says through cause = record {
+  text = says;
+  pieces = through;
   cause = cause;
 }
 

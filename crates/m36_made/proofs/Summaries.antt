@@ -88,14 +88,14 @@ run_ended Answered result count system after findings how regs old now mid new h
     record {
       due = run_answer count findings (Some how) (steps_in is.turns) is.last.state.regs;
       is = record { turns = is.turns; last = is.last; how = Some how; goes = is.goes; reaches = is.reaches; answer = refl };
-      puts = record { sets = refl; status = sum.status; whole = record { text = all.says; pieces = all.through; faults = all.cause } };
+      puts = record { sets = refl; status = sum.status; whole = record { text = all.text; pieces = all.pieces; faults = all.faults } };
     }
 run_ended Cut result count system after findings how regs old now mid new head is left sum =
     let some = run_told put.Failed count system after findings how regs old now mid new head is left sum in
     record {
       due = run_answer count findings (Some how) (steps_in is.turns) is.last.state.regs;
       is = record { turns = is.turns; last = is.last; how = Some how; goes = is.goes; reaches = is.reaches; answer = refl };
-      puts = record { sets = refl; part = record { text = some.says; pieces = some.through; cause = some.cause } };
+      puts = record { sets = refl; part = record { text = some.text; pieces = some.pieces; cause = some.cause } };
     }
 run_ended Unread result count system after findings how regs old now mid new head is left sum = absurd sum
 run_ended ends.Starved result count system after findings how regs old now mid new head is left sum = absurd sum
@@ -126,7 +126,7 @@ run_cut count system after findings old now new head says =
     record {
       due = run_answer count findings says.0 (steps_in is.turns) is.last.state.regs;
       is = record { turns = is.turns; last = is.last; how = says.0; goes = is.goes; reaches = is.reaches; answer = refl };
-      puts = record { sets = refl; part = record { text = some.says; pieces = some.through; cause = some.cause } };
+      puts = record { sets = refl; part = record { text = some.text; pieces = some.pieces; cause = some.cause } };
     }
 
 pub run_starved :
@@ -142,7 +142,7 @@ run_starved count system after findings old now new head is =
     inr (record {
       due = run_answer count findings None (steps_in is.turns) is.last.state.regs;
       is = record { turns = is.turns; last = is.last; how = None; goes = is.goes; reaches = is.reaches; answer = refl };
-      whole = record { text = all.says; pieces = all.through; faults = all.cause };
+      whole = record { text = all.text; pieces = all.pieces; faults = all.faults };
     })
 
 -- the lines before the run were cut off
@@ -163,7 +163,7 @@ head_part count system findings old new head =
         reaches = tt;
         answer = refl;
       };
-      puts = record { sets = refl; part = record { text = some.says; pieces = some.through; cause = some.cause } };
+      puts = record { sets = refl; part = record { text = some.text; pieces = some.pieces; cause = some.cause } };
     }
 
 -- ---- no run
@@ -179,7 +179,7 @@ unrun_whole count findings old new some head = record {
   puts = record {
     sets = refl;
     status = ap audit_status (passes_some findings some);
-    whole = record { text = head.says; pieces = head.through; faults = head.cause };
+    whole = record { text = head.text; pieces = head.pieces; faults = head.faults };
   };
 }
 
@@ -191,7 +191,7 @@ unfolding unrun_answer
 unrun_part count findings old new head = record {
   due = unrun_answer count findings;
   is = refl;
-  puts = record { sets = refl; part = record { text = head.says; pieces = head.through; cause = head.cause } };
+  puts = record { sets = refl; part = record { text = head.text; pieces = head.pieces; cause = head.cause } };
 }
 
 pub ruleset unruns = (unrun_whole, unrun_part)

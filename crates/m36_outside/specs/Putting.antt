@@ -1,9 +1,11 @@
 -- What is said of a sink to which a text is put, in pieces.
 use Rattle.std.specs.Prelude.{ℕ, ◌≡◌, List, ◌++◌}
 use Rattle.m36_outside.specs.Counts.{Rose}
-use Rattle.m36_outside.specs.Passing.{TakesSome}
+use Rattle.m36_outside.specs.Passing.{joined, TakesSome}
 use Rattle.m36_outside.specs.SinkState.{SinkState}
 use Rattle.m36_outside.specs.Written.{Grew, GrewWithin}
+use Rattle.m36_outside.specs.declared.sink.Put.{Put}
+use Rattle.m36_outside.specs.declared.sink.Put.TheVariants.{Done, Failed}
 
 -- It is put whole.
 pub record PutsAll (bytes : List ℕ) (due : List (List ℕ)) (old new : SinkState) : Type 0 where
@@ -16,3 +18,8 @@ pub record PutsFirst (bytes : List ℕ) (due : List (List ℕ)) (old new : SinkS
   pub text : GrewWithin old.written new.written bytes
   pub pieces : TakesSome old.taken new.taken due
   pub cause : Rose old.faults new.faults
+
+-- Pieces are put, or a first part of them where a put failed.
+abbrev pub PutsPieces : Put → List (List ℕ) → SinkState → SinkState → Type 0
+PutsPieces Done pieces old new = PutsAll (joined pieces) pieces old new
+PutsPieces Failed pieces old new = PutsFirst (joined pieces) pieces old new
