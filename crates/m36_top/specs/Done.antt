@@ -47,11 +47,15 @@ use Rattle.m36_top.specs.Dues.{Due, Told, Image, Folder, Schedule, ImageSession,
 use Rattle.m36_top.specs.Commands.{reads, writes_files, takes_input}
 use Rattle.m36_top.specs.TopCall.{ReadRose, WriteRose}
 
+-- an audit passes, or what it audits is run all the same
+abbrev pub MayRun : Type 0 → Bool → Type 0
+MayRun Passes unaudited = Passes ⊎ (unaudited ≡ true)
+
 -- ---- an image: its audit passes, or it is run all the same, and its run comes to DIS
 
 abbrev pub ImageNeeds : ImageCommand → State (List ℕ) → Type 0
 ImageNeeds (image.Bare bare) state =
-    (IsAudited state.store state.regs.dbr ⊎ (bare.unaudited ≡ true))
+    MayRun (IsAudited state.store state.regs.dbr) bare.unaudited
     × (last_outcome (run bare.steps state) ≡ Stopped Dis)
 ImageNeeds image.Audit state = IsAudited state.store state.regs.dbr
 
@@ -74,7 +78,7 @@ OneComesToDis =
 
 abbrev pub RunNeeds : FolderRun → Library → SuperFields → Type 0
 RunNeeds run lib system =
-    (IsAudited system.core booted_dbr ⊎ (run.unaudited ≡ true))
+    MayRun (IsAudited system.core booted_dbr) run.unaudited
     × ComesToDis lib run.steps (booted_of system)
 
 abbrev pub SystemNeeds : FolderCommand → Library → SuperFields → Type 0
@@ -90,7 +94,7 @@ FolderNeeds command given =
 
 abbrev pub ScheduleNeeds : Bool → ProcsFields → Type 0
 ScheduleNeeds unaudited procs =
-    IsJointlyAudited procs.state.store (dbrs_of procs.state) ⊎ (unaudited ≡ true)
+    MayRun (IsJointlyAudited procs.state.store (dbrs_of procs.state)) unaudited
 
 -- ---- a session: its input is told, and is not too long
 
