@@ -153,15 +153,19 @@ pub record SaysYes (yes : List ℕ) (old new : Option (List ℕ)) : Type 0 where
   pub was : old ≡ Some before
   pub is : new ≡ Some (before ++ (yes ++ rest))
 
--- Then the image, the folder, the folder that is made or the processes that the command audits
--- pass. Nothing is owed for a command that audits none.
+-- it does not begin with the line
+abbrev pub SaysNoYes : Outside → Outside → Type 0
+SaysNoYes old new = ¬ SaysYes yes_line old.sink.written new.sink.written
+
+-- Where it does, the image, the folder, the folder that is made or the processes that the command
+-- audits pass. Nothing is owed for a command that audits none.
 abbrev pub YesPasses : Early Due → Outside → Outside → Type 0
 YesPasses (Ok due) old new =
     SaysYes (yes_of due) old.sink.written new.sink.written → Promises due
-YesPasses (Err refusal) old new = ¬ SaysYes yes_line old.sink.written new.sink.written
+YesPasses (Err refusal) old new = SaysNoYes old new
 
 abbrev pub TopPasses : Option Command → Files → Outside → Outside → Type 0
-TopPasses None files old new = ¬ SaysYes yes_line old.sink.written new.sink.written
+TopPasses None files old new = SaysNoYes old new
 TopPasses (Some command) files old new = YesPasses (outcome_in files (reads command)) old new
 
 -- The same by what the folder answered, whether it tells its files or not.
@@ -173,6 +177,5 @@ pub record AnswersPass (command : Command) (old new : Outside)
       → YesPasses given old new
 
 abbrev pub TopAnswersPass : Option Command → Outside → Outside → List Asked → List Asked → Type 0
-TopAnswersPass None old new before after =
-    ¬ SaysYes yes_line old.sink.written new.sink.written
+TopAnswersPass None old new before after = SaysNoYes old new
 TopAnswersPass (Some command) old new before after = AnswersPass command old new before after
