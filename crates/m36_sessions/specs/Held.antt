@@ -1,5 +1,5 @@
 -- What a session is held over: the machine of an image, which goes back, or a booted system.
-use Rattle.std.specs.Prelude.{ℕ, List, Option, None, Result}
+use Rattle.std.specs.Prelude.{◌≡◌, ℕ, List, Option, None, Result}
 use Rattle.m36_model.specs.Core.{core_store}
 use Rattle.m36_model.specs.Sight.{content}
 use Rattle.m36_model.specs.Store.{State}
@@ -25,6 +25,10 @@ talk_of left given faults old new = record {
   before = input (left old) (given old) (faults old);
   after = input (left new) (given new) (faults new);
 }
+
+-- nothing of the input is taken
+abbrev pub IsUntaken : Talk → Type 0
+IsUntaken talk = talk.after ≡ talk.before
 
 -- A session over a machine ended so, and these lines are said of it.
 pub record IsHeld {M : Type 0} (o : Turning M) (m : M) (talk : Talk)

@@ -17,7 +17,7 @@ use Rattle.m36_booted.specs.Folder.{FolderFields, folder_reads}
 use Rattle.m36_debug.specs.declared.fault.SessionFault.{SessionFault}
 use Rattle.m36_debug.specs.declared.fault.SessionFault.TheVariants as fault
 use Rattle.m36_debug.specs.SessionSays.{WroteBy}
-use Rattle.m36_sessions.specs.Held.{Talk, HoldsImage, HoldsFolder}
+use Rattle.m36_sessions.specs.Held.{Talk, IsUntaken, HoldsImage, HoldsFolder}
 
 -- how a session ended, and the lines that are said of it
 abbrev pub Told : Type 1
@@ -69,7 +69,7 @@ pub record IsWritten (Holds : Told) (ended : Result (Unit {0}) SessionFault) (ol
 -- Memory is wanted before a session, of which nothing is taken or written then; or in it.
 pub record IsNotHeld (talk : Talk) (old new : Outside) : Type 0 where
   pub idle : IsIdle old new
-  pub untaken : talk.after ≡ talk.before
+  pub untaken : IsUntaken talk
 
 abbrev pub SessionWants : Told → Talk → Outside → Outside → Type 0
 SessionWants Holds talk old new =
@@ -120,7 +120,7 @@ pub record PutsWith (Holds : Told) (ended : Result (Unit {0}) SessionFault) (sta
 -- nothing was taken or put
 pub record PutsNone (talk : Talk) (old new : SinkState) : Type 0 where
   pub same : new ≡ old
-  pub untaken : talk.after ≡ talk.before
+  pub untaken : IsUntaken talk
 
 abbrev pub PutsBy : Told → End → Status → Talk → SinkState → SinkState → Type 0
 PutsBy Holds Answered result talk old new =
@@ -156,7 +156,7 @@ abbrev pub TakesInput :
     {D : Type 0} → (D → Told) → Reading (Early D) → Status → Talk → List Asked → List Asked
     → Type 0
 TakesInput Holds p result talk before after =
-    (talk.after ≡ talk.before) ⊎ IsSessionOver Holds p result before after
+    IsUntaken talk ⊎ IsSessionOver Holds p result before after
 
 abbrev pub ImageTakes : List ℕ → Status → Talk → List Asked → List Asked → Type 0
 ImageTakes name result talk before after =

@@ -12,7 +12,7 @@ use Rattle.m36_reading.specs.Outside.{Outside, IsIdle, NoneUnread}
 use Rattle.m36_reading.specs.Ends.{End, Answered, Cut, Unread, Starved, Unasked, end_of}
 use Rattle.m36_reading.specs.Doing.{IsAnswered, EndsBy, Does}
 use Rattle.m36_ran.specs.AuditText.{yes_line}
-use Rattle.m36_sessions.specs.Held.{Talk}
+use Rattle.m36_sessions.specs.Held.{Talk, IsUntaken}
 use Rattle.m36_sessions.specs.Sessions.{InputStands, ImageTakes, FolderTakes}
 use Rattle.m36_top.specs.declared.command.Command.{Command}
 use Rattle.m36_top.specs.declared.command.Command.TheVariants.{DebugFolder, DebugImage}
@@ -53,7 +53,7 @@ may_take (Some command) = takes_input command
 -- every other nothing is taken of it.
 abbrev pub InputBy : Bool → End → Talk → Type 0
 InputBy true end talk = InputStands end talk
-InputBy false end talk = talk.after ≡ talk.before
+InputBy false end talk = IsUntaken talk
 
 abbrev pub InputSays : Option Command → Status → Talk → Type 0
 InputSays command result talk = InputBy (may_take command) (end_of result) talk
@@ -62,10 +62,10 @@ InputSays command result talk = InputBy (may_take command) (end_of result) talk
 abbrev pub CommandTakes : Command → Status → Talk → List Asked → List Asked → Type 0
 CommandTakes DebugFolder result talk before after = FolderTakes result talk before after
 CommandTakes (DebugImage file) result talk before after = ImageTakes file result talk before after
-CommandTakes command result talk before after = talk.after ≡ talk.before
+CommandTakes command result talk before after = IsUntaken talk
 
 abbrev pub TopTakes : Option Command → Status → Talk → List Asked → List Asked → Type 0
-TopTakes None result talk before after = talk.after ≡ talk.before
+TopTakes None result talk before after = IsUntaken talk
 TopTakes (Some command) result talk before after = CommandTakes command result talk before after
 
 -- ---- causes
