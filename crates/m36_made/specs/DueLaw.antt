@@ -1,6 +1,6 @@
 -- What is due to `make`, by what the files that are made boot to, and by the conditions of the
 -- audit.
-use Rattle.std.specs.Prelude.{◌≡◌, ℕ, List, [], ◌∷◌, length, Ok, Err}
+use Rattle.std.specs.Prelude.{◌≡◌, ℕ, List, [], ◌∷◌, Ok, Err}
 use Rattle.m36_model.specs.Audit.{IsAudited}
 use Rattle.m36_model.specs.BootedCore.{booted_dbr}
 use Rattle.m36_model.specs.StoreLaw.{Each}
@@ -13,11 +13,10 @@ use Rattle.m36_super.specs.BootSays.{IsBooted}
 use Rattle.m36_reading.specs.declared.refusal.Refusal.{Refusal}
 use Rattle.m36_reading.specs.declared.setting.Set.{Set}
 use Rattle.m36_reading.specs.Answers.{Answer, unwritten, status_of}
-use Rattle.m36_ran.specs.Ran.{passes}
 use Rattle.m36_booted.specs.declared.running.Finish.{Finish}
 use Rattle.m36_booted.specs.Folder.{FolderFields}
 use Rattle.m36_booted.specs.Runs.{Whole, Goes, Finishes}
-use Rattle.m36_made.specs.Summary.{run_limit, unrun_answer, IsFoundAnswer}
+use Rattle.m36_made.specs.Summary.{run_limit, segment_count, unrun_answer, IsSummaryBy}
 use Rattle.m36_made.specs.Made.{boots_from, with_files, IsMadeDue}
 
 -- the files boot to a system
@@ -27,9 +26,7 @@ pub record BootsTo (sets : List Set) (given : FolderFields) (system : SuperField
 
 -- what is told by these findings of the audit of a system
 abbrev pub IsToldBy : Library → SuperFields → List (ℕ × ℕ) → Answer → Type 0
-IsToldBy lib system findings told =
-    IsFoundAnswer (passes findings) Whole (length lib.catalog.segments) lib (booted_of system)
-    findings told
+IsToldBy lib system findings told = IsSummaryBy Whole lib system findings told
 
 -- all files, and what is told by these findings behind them
 pub record IsMadeBy
@@ -44,7 +41,7 @@ pub record IsByFindings (sets : List Set) (lib : Library) (due : Answer) : Type 
   pub first : ℕ × ℕ
   pub others : List (ℕ × ℕ)
   pub answer :
-      due ≡ with_files sets (unrun_answer (length lib.catalog.segments) (first ∷ others))
+      due ≡ with_files sets (unrun_answer (segment_count lib) (first ∷ others))
 
 -- Where the files are no folder that boots, they are written, and nothing is told. Where all
 -- conditions of the audit hold of the core of the system to which they boot, the answer is one

@@ -77,6 +77,15 @@ IsFoundAnswer true extent count lib first findings due =
     IsRunAnswer extent count lib first findings due
 IsFoundAnswer false extent count lib first findings due = IsUnrunAnswer extent count findings due
 
+-- how many segments a system has
+abbrev pub segment_count : Library → ℕ
+segment_count lib = length lib.catalog.segments
+
+-- what is told of a system, by these findings of the audit of its core
+abbrev pub IsSummaryBy : Extent → Library → SuperFields → List (ℕ × ℕ) → Answer → Type 0
+IsSummaryBy extent lib system findings told =
+    IsFoundAnswer (passes findings) extent (segment_count lib) lib (booted_of system) findings told
+
 -- The answer is by the system to which the folder boots, and by what the audit of its core finds,
 -- of which there is one list.
 pub record IsSummary (extent : Extent) (lib : Library) (told : Answer) : Type 0 where
@@ -84,6 +93,4 @@ pub record IsSummary (extent : Extent) (lib : Library) (told : Answer) : Type 0 
   pub booted : IsBooted lib system
   pub findings : List (ℕ × ℕ)
   pub found : AreFindings system.core booted_dbr findings
-  pub answer :
-      IsFoundAnswer (passes findings) extent (length lib.catalog.segments) lib (booted_of system)
-      findings told
+  pub answer : IsSummaryBy extent lib system findings told
