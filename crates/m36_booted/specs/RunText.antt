@@ -20,7 +20,7 @@ use Rattle.m36_turns.specs.TurnLines.{run_end_line_of, turn_pieces}
 use Rattle.m36_reading.specs.declared.status.Status.{Status}
 use Rattle.m36_reading.specs.declared.status.Status.TheVariants as status
 use Rattle.m36_reading.specs.Answers.{Answer, answer_with}
-use Rattle.m36_ran.specs.Output.{end_status}
+use Rattle.m36_ran.specs.Output.{status_by}
 use Rattle.m36_booted.specs.declared.command.RunOutput.{RunOutput}
 use Rattle.m36_booted.specs.declared.command.RunOutput.TheVariants as output
 use Rattle.m36_booted.specs.declared.running.Finish.{Finish}
@@ -103,8 +103,8 @@ end_pieces denied (Some how) steps = as_line (finish_line how steps) ∷ denied_
 -- a run that has not come to its end wants memory, if it is told at all
 abbrev pub finish_status : Option Finish → Status
 finish_status None = status.NoMemory
-finish_status (Some (Over e)) = end_status e
-finish_status (Some Limit) = status.Steps
+finish_status (Some (Over e)) = status_by (Some e)
+finish_status (Some Limit) = status_by None
 
 -- ---- the run
 
