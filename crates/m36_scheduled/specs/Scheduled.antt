@@ -13,13 +13,13 @@ use Rattle.m36_procs.specs.declared.fault.Code.{Code as ProcsCode}
 use Rattle.m36_procs.specs.declared.fault.Code.TheVariants as procs
 use Rattle.m36_reading.specs.declared.status.Code.{Code}
 use Rattle.m36_reading.specs.declared.status.Code.TheVariants as code
-use Rattle.m36_reading.specs.declared.status.Status.TheVariants.{Done, AuditNo}
+use Rattle.m36_reading.specs.declared.status.Status.TheVariants.{Done}
 use Rattle.m36_reading.specs.Reading.{Reading, decided, Early, then_with}
 use Rattle.m36_reading.specs.Readers.{refused, file_bytes}
 use Rattle.m36_reading.specs.Answers.{Answer, answer_with}
 use Rattle.m36_reading.specs.Outside.{IsIdle}
 use Rattle.m36_reading.specs.Doing.{Kind, fails_never}
-use Rattle.m36_ran.specs.Ran.{passes}
+use Rattle.m36_ran.specs.Ran.{passes, audit_status}
 use Rattle.m36_scheduled.specs.JointText.{joint_pieces}
 
 -- ---- reading
@@ -47,7 +47,7 @@ run_answer findings p =
 
 -- the audit text alone, where something was found
 unfoldable pub refused_answer : List JointFound → Answer
-refused_answer findings = answer_with (joint_pieces findings) AuditNo
+refused_answer findings = answer_with (joint_pieces findings) (audit_status false)
 
 -- The schedule is run where the audit passes, or `--unaudited` is given.
 abbrev pub answer_by : Bool → List JointFound → ProcsFields → Answer
