@@ -1,5 +1,5 @@
 -- Laws of the line `quit`: a session that goes on has not taken it.
-use Rattle.std.proofs.Common.{◌≡◌, ◌≢◌, ℕ, Bool, true, false, List, [], ◌∷◌, ◌++◌, Option, Some, None, All, ◌⊎◌, inl, inr, refl, sym, ap, subst, ◌∙◌}
+use Rattle.std.proofs.Common.{◌≡◌, ℕ, Bool, true, false, List, [], ◌∷◌, ◌++◌, Option, Some, None, All, ◌⊎◌, inl, inr, refl, sym, ap, subst, ◌∙◌}
 use Rattle.std.proofs.lemmas.List.Elements.{All-nil, All-cons, All-append}
 use Rattle.std.specs.Prelude.{nat_le, if◌then◌else◌}
 use Rattle.std.proofs.lemmas.List.{append-nil, append_assoc}
@@ -14,12 +14,9 @@ use Rattle.m36_debug.specs.declared.session_line.SessionLine.{SessionLine}
 use Rattle.m36_debug.specs.declared.session_line.SessionLine.TheVariants.{Quit}
 use Rattle.m36_debug.specs.declared.session_line.SessionLine.TheVariants as session
 use Rattle.m36_debug.specs.Session.{Turning, Doing, Waiting, Running, Backing, Over, Starved, Standing, standing, Happening, Took, Turned, Went, Event, May, begun, run_begun, doing_by, went, next_of, onward, Follow, lines_in, line_in}
-use Rattle.m36_debug.specs.SessionLines.{session_line}
+use Rattle.m36_debug.specs.SessionLines.{session_line, IsNotQuit}
 use Rattle.m36_debug.specs.SessionSays.{EndInQuit}
 use Rattle.m36_debug.specs.Sitting.{SittingFields}
-
-abbrev pub IsNotQuit : List ℕ → Type 0
-IsNotQuit line = session_line line ≢ Quit
 
 none_over : {M : Type 0} (o : Turning M) (m : M) (h : Happening) (m' : M) → May o Over m h m' → ⊥
 none_over o m (Took line) m' may = may

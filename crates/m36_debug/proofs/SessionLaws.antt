@@ -24,7 +24,8 @@ use Rattle.m36_debug.specs.Sitting.{SittingFields, new_sitting}
 use Rattle.m36_debug.specs.Taking.{GotPiece, GotEnd, GotNothing}
 use Rattle.m36_debug.proofs.LinesLaws.{lines_none, lines_on, all_open, all_whole, some_whole}
 use Rattle.m36_debug.proofs.PartLaws.{part_none, part_on, part_cut}
-use Rattle.m36_debug.proofs.QuitLaws.{IsNotQuit, no_quit, quit_last}
+use Rattle.m36_debug.specs.SessionLines.{IsNotQuit}
+use Rattle.m36_debug.proofs.QuitLaws.{no_quit, quit_last}
 
 -- ---- pieces of input
 

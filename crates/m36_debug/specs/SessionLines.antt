@@ -11,7 +11,7 @@
 --
 -- Words are parted by single spaces, and a number has no leading zero. A line has at most 256
 -- bytes. An empty line is taken, and any other line is unknown.
-use Rattle.std.specs.Prelude.{ℕ, ◌<◌, ◌≤◌, ◌^◌, nat_le, if◌then◌else◌, List, [], ◌∷◌, codes}
+use Rattle.std.specs.Prelude.{ℕ, ◌≢◌, ◌<◌, ◌≤◌, ◌^◌, nat_le, if◌then◌else◌, List, [], ◌∷◌, codes}
 use Rattle.std.specs.Prelude.{length, Option, Some}
 use Rattle.std.specs.Prelude.{None, option_map, unwrap_or}
 use Rattle.m36_text.specs.Texts.{is_text}
@@ -71,6 +71,10 @@ longest_line = 256
 unfoldable pub session_line : List ℕ → SessionLine
 session_line line =
     if nat_le (length line) longest_line then line_of_words (words_of line) else Unknown
+
+-- a line other than `quit`
+abbrev pub IsNotQuit : List ℕ → Type 0
+IsNotQuit line = session_line line ≢ Quit
 
 -- How far the numbers of a line go.
 abbrev pub IsBounded : SessionLine → Type 0

@@ -1,5 +1,5 @@
 -- What a session says by its answer.
-use Rattle.std.specs.Prelude.{ℕ, ◌≡◌, ◌≢◌, ◌+◌, ◌≤◌, ◌<◌, ◌⊎◌, List, [], ◌∷◌, ◌++◌, All, length}
+use Rattle.std.specs.Prelude.{ℕ, ◌≡◌, ◌+◌, ◌≤◌, ◌<◌, ◌⊎◌, List, [], ◌∷◌, ◌++◌, All, length}
 use Rattle.std.specs.Prelude.{take, Option}
 use Rattle.std.specs.Prelude.{IfSome, Result, Ok, Err}
 use Rattle.m36_outside.specs.Counts.{Rose}
@@ -16,7 +16,7 @@ use Rattle.m36_debug.specs.LinesTaken.{whole_lines, IsFirstPart}
 use Rattle.m36_debug.specs.Putting.{PutAll, PutSome}
 use Rattle.m36_debug.specs.Session.{Turning, Doing, Waiting, Over, Standing, Event, standing}
 use Rattle.m36_debug.specs.Session.{Follow, lines_said, lines_in}
-use Rattle.m36_debug.specs.SessionLines.{session_line}
+use Rattle.m36_debug.specs.SessionLines.{session_line, IsNotQuit}
 use Rattle.m36_debug.specs.Sitting.{new_sitting}
 
 -- the most bytes of a session
@@ -79,7 +79,7 @@ pub record TookQuit (pieces lines : List (List ℕ)) (doing : Doing) (new : Line
 pub record TookWhole (bytes : List ℕ) (lines : List (List ℕ)) (doing : Doing) : Type 0 where
   pub waits : doing ≡ Waiting
   pub whole : lines ≡ whole_lines bytes
-  pub none : All (λ line. session_line line ≢ Quit) lines
+  pub none : All IsNotQuit lines
 
 -- which lines were taken, by the answer, of the bytes in these pieces
 abbrev pub TookBy :

@@ -1,6 +1,6 @@
 -- Where what a command needs is so, it comes to Done; and where nothing ever fails, to no fault.
 use Rattle.std.proofs.Common.{◌≡◌, ℕ, ◌+◌, ◌<◌, Bool, true, false, ◌||◌, ◌⊎◌, List, [], ◌∷◌, ◌++◌, length, take, Option, Some, None, Ok, Err, inl, inr, refl, sym, ap, subst, ◌∙◌, arith, length-append}
-use Rattle.std.specs.Prelude.{IfSome, All, ◌≢◌}
+use Rattle.std.specs.Prelude.{IfSome, All}
 use Rattle.std.proofs.lemmas.List.{take-append-le}
 use Rattle.m36_outside.specs.Counts.{Rose}
 use Rattle.m36_outside.specs.Files.{Files}
@@ -52,10 +52,9 @@ use Rattle.m36_made.specs.Made.{IsMadeDue}
 use Rattle.m36_made.specs.Summary.{run_limit, IsSummary, IsFoundAnswer}
 use Rattle.m36_made.specs.Summary as made
 use Rattle.m36_debug.specs.declared.fault.SessionFault.TheVariants as fault
-use Rattle.m36_debug.specs.declared.session_line.SessionLine.TheVariants.{Quit}
 use Rattle.m36_debug.specs.LinesTaken.{whole_lines}
 use Rattle.m36_debug.specs.Session.{Turning}
-use Rattle.m36_debug.specs.SessionLines.{session_line}
+use Rattle.m36_debug.specs.SessionLines.{IsNotQuit}
 use Rattle.m36_debug.specs.SessionSays.{bytes_limit, IsSession}
 use Rattle.m36_sessions.specs.Held.{Talk, HoldsImage, HoldsFolder}
 use Rattle.m36_sessions.specs.Sessions.{Told as Holding, IsSessionDue}
@@ -200,8 +199,8 @@ too_long o m m' talk lines left told s =
     record {
       more = omega (arith, more, size);
       none =
-          subst (λ t. All (λ line. session_line line ≢ Quit) (whole_lines t)) (sym same)
-          (subst (λ (l : List (List ℕ)). All (λ line. session_line line ≢ Quit) l) s.took.whole s.took.none);
+          subst (λ t. All IsNotQuit (whole_lines t)) (sym same)
+          (subst (λ (l : List (List ℕ)). All IsNotQuit l) s.took.whole s.took.none);
     }
 
 session_done :

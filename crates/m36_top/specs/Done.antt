@@ -37,9 +37,8 @@ use Rattle.m36_procs.specs.ProcsFields.{ProcsFields}
 use Rattle.m36_scheduled.specs.Scheduled.{dbrs_of}
 use Rattle.m36_made.specs.Made.{boots_from}
 use Rattle.m36_made.specs.Summary.{run_limit}
-use Rattle.m36_debug.specs.declared.session_line.SessionLine.TheVariants.{Quit}
 use Rattle.m36_debug.specs.LinesTaken.{whole_lines}
-use Rattle.m36_debug.specs.SessionLines.{session_line}
+use Rattle.m36_debug.specs.SessionLines.{IsNotQuit}
 use Rattle.m36_debug.specs.SessionSays.{bytes_limit}
 use Rattle.m36_sessions.specs.Held.{Talk}
 use Rattle.m36_top.specs.declared.command.Command.{Command}
@@ -101,7 +100,7 @@ ScheduleNeeds unaudited procs =
 -- There are more bytes than a session takes, and none of the whole lines among so many is `quit`.
 pub record IsTooLong (left : List ℕ) : Type 0 where
   pub more : bytes_limit < length left
-  pub none : All (λ line. session_line line ≢ Quit) (whole_lines (take bytes_limit left))
+  pub none : All IsNotQuit (whole_lines (take bytes_limit left))
 
 pub record SessionNeeds (talk : Talk) : Type 0 where
   pub left : List ℕ
