@@ -1,6 +1,6 @@
 -- A session over a machine: what happens in it, one thing after another, and what is written of
 -- each.
-use Rattle.std.specs.Prelude.{ℕ, ◌≡◌, nat_le, nat_lt, if◌then◌else◌, List, [], ◌∷◌, ◌++◌, length}
+use Rattle.std.specs.Prelude.{ℕ, ◌≡◌, if◌then◌else◌, List, [], ◌∷◌, ◌++◌}
 use Rattle.std.specs.Prelude.{Option, Some, None}
 use Rattle.m36_model.specs.Registers.{RegsFields}
 use Rattle.m36_model.specs.declared.endings.End.{End}
@@ -19,7 +19,7 @@ use Rattle.m36_debug.specs.SessionLines.{session_line}
 use Rattle.m36_debug.specs.SessionTexts.{unknown_line, where_line, break_line, seg_line, regs_lines}
 use Rattle.m36_debug.specs.SessionTexts.{end_lines, end_or_where, turn_lines}
 use Rattle.m36_debug.specs.Sitting.{SittingFields, sitting_after, sitting_before, sitting_with}
-use Rattle.m36_debug.specs.Sitting.{most_breaks}
+use Rattle.m36_debug.specs.Sitting.{has_taken, has_room}
 
 -- what a session knows of a machine: its registers and words, which turns it may answer, and how it
 -- may go back
@@ -87,7 +87,7 @@ begun s line (session.Break seg word) = Waiting
 begun s line session.Regs = Waiting
 begun s line (session.Seg seg word) = Waiting
 begun s line session.Where = Waiting
-begun s line (session.Back n) = if nat_le n s.taken then Backing n line else Waiting
+begun s line (session.Back n) = if has_taken s n then Backing n line else Waiting
 begun s line session.Quit = Over
 begun s line session.Empty = Waiting
 begun s line session.Unknown = Waiting
@@ -110,12 +110,12 @@ abbrev pub line_says :
 line_says g content s line (session.Step n) = end_lines s.ended s.taken
 line_says g content s line session.Go = end_lines s.ended s.taken
 line_says g content s line (session.Break seg word) =
-    (if nat_lt (length s.breaks) most_breaks then break_line seg word else unknown_line line) ∷ []
+    (if has_room s then break_line seg word else unknown_line line) ∷ []
 line_says g content s line session.Regs = regs_lines g
 line_says g content s line (session.Seg seg word) = seg_line seg word (content seg word) ∷ []
 line_says g content s line session.Where = where_line g.ppr ∷ []
 line_says g content s line (session.Back n) =
-    if nat_le n s.taken then [] else unknown_line line ∷ []
+    if has_taken s n then [] else unknown_line line ∷ []
 line_says g content s line session.Quit = []
 line_says g content s line session.Empty = []
 line_says g content s line session.Unknown = unknown_line line ∷ []

@@ -1,5 +1,6 @@
 -- What a session remembers.
-use Rattle.std.specs.Prelude.{ℕ, ◌-◌, nat_lt, if◌then◌else◌, List, [], ◌∷◌, ◌++◌, length}
+use Rattle.std.specs.Prelude.{ℕ, ◌-◌, Bool, nat_le, nat_lt, if◌then◌else◌, List, [], ◌∷◌, ◌++◌}
+use Rattle.std.specs.Prelude.{length}
 use Rattle.std.specs.Prelude.{Option, Some, None}
 use Rattle.m36_model.specs.declared.endings.End.{End}
 use Rattle.m36_step.specs.Counting.{counted}
@@ -33,14 +34,22 @@ sitting_after s NoMemory = s
 abbrev pub sitting_before : SittingFields → ℕ → SittingFields
 sitting_before s n = record { taken = s.taken - n; ended = None; breaks = s.breaks }
 
+-- whether so many steps were taken
+abbrev pub has_taken : SittingFields → ℕ → Bool
+has_taken s n = nat_le n s.taken
+
 -- the most breaks
 abbrev pub most_breaks : ℕ
 most_breaks = 16
 
--- one break more, where there are fewer
+-- whether there is room for one break more
+abbrev pub has_room : SittingFields → Bool
+has_room s = nat_lt (length s.breaks) most_breaks
+
+-- one break more, where there is room for it
 abbrev pub sitting_with : SittingFields → ℕ → ℕ → SittingFields
 sitting_with s seg word =
-    if nat_lt (length s.breaks) most_breaks
+    if has_room s
     then record {
       taken = s.taken;
       ended = s.ended;

@@ -1,11 +1,11 @@
 //! Lines that are answered.
 
-ghost use Rattle.std.specs.Prelude.{ℕ, ◌≡◌, ◌≤◌, ◌<◌, ◌+◌, ◌-◌, ◌^◌, [], ◌∷◌, length, nat_le, nat_lt, if◌then◌else◌};
+ghost use Rattle.std.specs.Prelude.{ℕ, ◌≡◌, ◌≤◌, ◌<◌, ◌+◌, ◌-◌, ◌^◌, [], ◌∷◌, if◌then◌else◌};
 ghost use Rattle.m36_debug.specs.Parts.{EndSays, CommandSays, BackSays, told};
 ghost use Rattle.m36_debug.specs.Putting.{PutsLines, seen};
 ghost use Rattle.m36_debug.specs.Session.{Waiting, Backing, standing, turning};
 ghost use Rattle.m36_debug.specs.SessionTexts.{unknown_line, break_line};
-ghost use Rattle.m36_debug.specs.Sitting.{sitting_with, most_breaks};
+ghost use Rattle.m36_debug.specs.Sitting.{sitting_with, has_taken, has_room};
 
 use crate::commands::{Command, GO_LIMIT, Run};
 use crate::registers::put_regs;
@@ -50,7 +50,7 @@ fn add_break<S: Sink>(line: &[u8], seg: u16, word: u32, sitting: &mut Sitting, o
     ensures puts { PutsLines result
         (seen (S.written out.old) (S.taken out.old) (S.faults out.old))
         (seen (S.written out.new) (S.taken out.new) (S.faults out.new))
-        ((if nat_lt (length sitting.old.breaks) most_breaks then break_line seg word else unknown_line line.now) ∷ []) }
+        ((if has_room sitting.old then break_line seg word else unknown_line line.now) ∷ []) }
 {
     if sitting.has_room() {
         sitting.add(seg, word);
@@ -94,7 +94,7 @@ fn back<M: Stepper, S: Sink>(
     sitting: &mut Sitting,
     out: &mut S,
 ) -> Ends
-    ensures says { BackSays (turning M.regs M.content M.next M.went) result (nat_le n sitting.old.taken) line.now n
+    ensures says { BackSays (turning M.regs M.content M.next M.went) result (has_taken sitting.old n) line.now n
         sitting.old m.old sitting.new m.new
         (seen (S.written out.old) (S.taken out.old) (S.faults out.old))
         (seen (S.written out.new) (S.taken out.new) (S.faults out.new)) }

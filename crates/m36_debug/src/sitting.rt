@@ -1,8 +1,8 @@
 //! What a session remembers.
 
-ghost use Rattle.std.specs.Prelude.{ℕ, ◌≡◌, ◌≤◌, ◌<◌, ◌-◌, ◌^◌, nat_le, nat_lt, length};
+ghost use Rattle.std.specs.Prelude.{ℕ, ◌≡◌, ◌≤◌, ◌<◌, ◌-◌, ◌^◌};
 ghost use Rattle.m36_debug.specs.Commands.{is_at_break, after_turn};
-ghost use Rattle.m36_debug.specs.Sitting.{new_sitting, sitting_after, sitting_before, sitting_with, most_breaks};
+ghost use Rattle.m36_debug.specs.Sitting.{new_sitting, sitting_after, sitting_before, sitting_with, has_taken, has_room};
 
 use crate::commands::{Break, Further, Run, after_turn, is_at_break};
 use arrayvec::ArrayVec;
@@ -50,7 +50,7 @@ impl Sitting {
 
     /// Whether so many steps were taken.
     pub(crate) fn has_taken(&self, n: u32) -> bool
-        ensures { result ≡ nat_le n self.now.taken }
+        ensures { result ≡ has_taken self.now n }
     {
         n as u64 <= self.taken
     }
@@ -94,7 +94,7 @@ impl Sitting {
 
     /// Whether there is room for one more break.
     pub(crate) fn has_room(&self) -> bool
-        ensures { result ≡ nat_lt (length self.now.breaks) most_breaks }
+        ensures { result ≡ has_room self.now }
     {
         self.breaks.len() < 16
     }
