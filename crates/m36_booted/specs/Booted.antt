@@ -1,6 +1,6 @@
 -- What is due to a command on a folder that is booted: the text of what the audit of the booted
 -- core finds, and, where the system is run, what is written of the run.
-use Rattle.std.specs.Prelude.{◌≡◌, ℕ, ◌⊎◌, Bool, true, false, ◌||◌, List, Option}
+use Rattle.std.specs.Prelude.{◌≡◌, ℕ, ◌⊎◌, Bool, true, false, List, Option}
 use Rattle.m36_model.specs.Audit.{AreFindings}
 use Rattle.m36_model.specs.BootedCore.{booted_dbr}
 use Rattle.m36_step.specs.declared.turns.Turn.{Turn}
@@ -11,7 +11,7 @@ use Rattle.m36_super.specs.BootSays.{IsBooted}
 use Rattle.m36_reading.specs.Answers.{Answer}
 use Rattle.m36_reading.specs.Outside.{Outside, IsIdle}
 use Rattle.m36_reading.specs.Doing.{Kind, IsWhole, fails_never}
-use Rattle.m36_ran.specs.Ran.{passes, behind, audit_answer}
+use Rattle.m36_ran.specs.Ran.{is_run, behind, audit_answer}
 use Rattle.m36_booted.specs.declared.command.FolderCommand.{FolderCommand}
 use Rattle.m36_booted.specs.declared.command.FolderCommand.TheVariants.{Audit, Run, Trace}
 use Rattle.m36_booted.specs.declared.command.RunOutput.{RunOutput}
@@ -40,7 +40,7 @@ IsAuditAnswer Whole findings due = due ≡ audit_answer findings
 IsAuditAnswer Begun findings due = due ≡ audit_answer findings
 IsAuditAnswer Starved findings due = ⊥
 
--- The system is run where the audit passes, or `--unaudited` is given.
+-- by whether the system is run
 abbrev pub IsRunBy :
     Bool → Extent → List (List ℕ) → RunOutput → ℕ → Library → Booted → List (ℕ × ℕ) → Answer
     → Type 0
@@ -53,10 +53,10 @@ abbrev pub IsAnswerOf :
     FolderCommand → Extent → List (List ℕ) → Library → Booted → List (ℕ × ℕ) → Answer → Type 0
 IsAnswerOf Audit extent denied lib first findings due = IsAuditAnswer extent findings due
 IsAnswerOf (Run run) extent denied lib first findings due =
-    IsRunBy (passes findings || run.unaudited) extent denied output.Console run.steps lib first
+    IsRunBy (is_run findings run.unaudited) extent denied output.Console run.steps lib first
     findings due
 IsAnswerOf (Trace run) extent denied lib first findings due =
-    IsRunBy (passes findings || run.unaudited) extent denied output.Trace run.steps lib first
+    IsRunBy (is_run findings run.unaudited) extent denied output.Trace run.steps lib first
     findings due
 
 -- The answer is by the system to which the folder boots, and by what the audit of its core finds,

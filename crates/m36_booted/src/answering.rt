@@ -1,11 +1,11 @@
 //! The audit of a booted system, and its run.
 
-ghost use Rattle.std.specs.Prelude.{◌≡◌, ◌||◌, IfOk};
+ghost use Rattle.std.specs.Prelude.{◌≡◌, IfOk};
 ghost use Rattle.m36_model.specs.Audit.{AreFindings};
 ghost use Rattle.m36_audit.specs.Findings.{pairs};
 ghost use Rattle.m36_super.specs.declared.coming.Coming.TheVariants.{Step};
 ghost use Rattle.m36_super.specs.SuperFields.{booted_of};
-ghost use Rattle.m36_ran.specs.Ran.{passes};
+ghost use Rattle.m36_ran.specs.Ran.{is_run};
 ghost use Rattle.m36_reading.specs.Ends.{end_of};
 ghost use Rattle.m36_reading.specs.Outside.{sink_of, outside_of};
 ghost use Rattle.m36_reading.specs.Doing.{Does};
@@ -60,7 +60,7 @@ fn run_audited<S: Sink>(
 // Whether the system is run.
 #[tactic(auto, using(m36_ran::proofs::AuditAnswers::passing))]
 fn is_run(findings: &[Finding], run: FolderRun) -> bool
-    ensures { result ≡ (passes (pairs findings.now) || run.unaudited) }
+    ensures { result ≡ is_run (pairs findings.now) run.unaudited }
 {
     findings.is_empty() || run.unaudited
 }
@@ -85,7 +85,7 @@ fn answer_run<S: Sink>(
 ) -> Status
     requires { system.old.coming ≡ Step }
     ensures { Puts
-        (λ extent. IsRunBy (passes (pairs findings.now) || run.unaudited) extent denied.now output
+        (λ extent. IsRunBy (is_run (pairs findings.now) run.unaudited) extent denied.now output
         run.steps system.old.lib (booted_of system.old) (pairs findings.now))
         (end_of result) result
         (sink_of S.written S.taken S.faults out.old) (sink_of S.written S.taken S.faults out.new) }

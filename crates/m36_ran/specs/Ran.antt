@@ -54,6 +54,10 @@ abbrev pub passes : {A : Type 0} → List A → Bool
 passes [] = true
 passes (f ∷ findings) = false
 
+-- What was audited is run where the audit passes, or `--unaudited` is given.
+abbrev pub is_run : {A : Type 0} → List A → Bool → Bool
+is_run findings unaudited = passes findings || unaudited
+
 abbrev pub audit_status : Bool → Status
 audit_status true = Done
 audit_status false = AuditNo
@@ -61,8 +65,7 @@ audit_status false = AuditNo
 unfoldable pub audit_answer : List (ℕ × ℕ) → Answer
 audit_answer findings = answer_with (audit_pieces findings) (audit_status (passes findings))
 
--- The audit text, and the run behind it where it is to be made: where the audit passes, or
--- `--unaudited` is given.
+-- The audit text, and the run behind it where it is to be made.
 abbrev pub behind : List (ℕ × ℕ) → Answer → Answer
 behind findings answer = answer_with (audit_pieces findings ++ answer.pieces) answer.status
 
@@ -73,7 +76,7 @@ bare_by false steps state findings = audit_answer findings
 -- by what the audit of the state finds
 abbrev pub state_answer : ImageCommand → State (List ℕ) → List (ℕ × ℕ) → Answer
 state_answer (Bare bare) state findings =
-    bare_by (passes findings || bare.unaudited) bare.steps state findings
+    bare_by (is_run findings bare.unaudited) bare.steps state findings
 state_answer Audit state findings = audit_answer findings
 
 -- ---- what is due

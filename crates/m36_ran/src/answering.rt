@@ -1,6 +1,6 @@
 //! The audit of an image, and its run.
 
-ghost use Rattle.std.specs.Prelude.{◌≡◌, ◌||◌, [], None, Ok, IfOk};
+ghost use Rattle.std.specs.Prelude.{◌≡◌, [], None, Ok, IfOk};
 ghost use Rattle.m36_model.specs.Audit.{AreFindings};
 ghost use Rattle.m36_audit.specs.Findings.{pairs};
 ghost use Rattle.m36_reading.specs.Ends.{end_of};
@@ -8,7 +8,7 @@ ghost use Rattle.m36_reading.specs.Outside.{sink_of, outside_of};
 ghost use Rattle.m36_reading.specs.Doing.{Does};
 ghost use Rattle.m36_ran.specs.Output.{end_status, status_after};
 ghost use Rattle.m36_ran.specs.Putting.{PutsBy, PutsSome};
-ghost use Rattle.m36_ran.specs.Ran.{state_reads, behind, run_answer, passes, audit_answer, bare_by, state_answer, IsIsolated, IsStateDue, state_kind};
+ghost use Rattle.m36_ran.specs.Ran.{state_reads, behind, run_answer, is_run, audit_answer, bare_by, state_answer, IsIsolated, IsStateDue, state_kind};
 
 use crate::command::{BareRun, ImageCommand};
 use crate::findings::put_audit;
@@ -107,7 +107,7 @@ pub fn answer_audit<S: Sink>(findings: &[Finding], out: &mut S) -> Status
 // Whether the machine is run.
 #[tactic(auto, using(crate::proofs::AuditAnswers::passing))]
 fn is_run(findings: &[Finding], bare: BareRun) -> bool
-    ensures { result ≡ (passes (pairs findings.now) || bare.unaudited) }
+    ensures { result ≡ is_run (pairs findings.now) bare.unaudited }
 {
     findings.is_empty() || bare.unaudited
 }
@@ -121,7 +121,7 @@ fn answer_bare<S: Sink>(
     out: &mut S,
 ) -> Status
     ensures { PutsBy (end_of result) result
-        (bare_by (passes (pairs findings.now) || bare.unaudited) bare.steps image (pairs findings.now))
+        (bare_by (is_run (pairs findings.now) bare.unaudited) bare.steps image (pairs findings.now))
         (sink_of S.written S.taken S.faults out.old) (sink_of S.written S.taken S.faults out.new) }
 {
     if is_run(findings, bare) {

@@ -1,6 +1,6 @@
 -- What is due to a schedule of processes: the text of what their joint audit finds, and, where they
 -- are run, the lines of the schedule, both line by line.
-use Rattle.std.specs.Prelude.{◌≡◌, ℕ, Bool, true, false, ◌||◌, List, [], ◌++◌, map, Result, Ok, Err}
+use Rattle.std.specs.Prelude.{◌≡◌, ℕ, Bool, true, false, List, [], ◌++◌, map, Result, Ok, Err}
 use Rattle.m36_desc.specs.Fields.{DbrFields}
 use Rattle.m36_model.specs.Core.{core_store, core_tables}
 use Rattle.m36_model.specs.Schedule.{Processes}
@@ -19,7 +19,7 @@ use Rattle.m36_reading.specs.Readers.{refused, file_bytes}
 use Rattle.m36_reading.specs.Answers.{Answer, answer_with}
 use Rattle.m36_reading.specs.Outside.{IsIdle}
 use Rattle.m36_reading.specs.Doing.{Kind, fails_never}
-use Rattle.m36_ran.specs.Ran.{passes, audit_status}
+use Rattle.m36_ran.specs.Ran.{is_run, audit_status}
 use Rattle.m36_scheduled.specs.JointText.{joint_pieces}
 
 -- ---- reading
@@ -49,13 +49,13 @@ run_answer findings p =
 unfoldable pub refused_answer : List JointFound → Answer
 refused_answer findings = answer_with (joint_pieces findings) (audit_status false)
 
--- The schedule is run where the audit passes, or `--unaudited` is given.
+-- by whether the schedule is run
 abbrev pub answer_by : Bool → List JointFound → ProcsFields → Answer
 answer_by true findings p = run_answer findings p
 answer_by false findings p = refused_answer findings
 
 abbrev pub procs_answer : Bool → ProcsFields → List JointFound → Answer
-procs_answer unaudited p findings = answer_by (passes findings || unaudited) findings p
+procs_answer unaudited p findings = answer_by (is_run findings unaudited) findings p
 
 -- ---- what is due
 

@@ -1,13 +1,13 @@
 //! The joint audit of processes, and their schedule.
 
-ghost use Rattle.std.specs.Prelude.{◌≡◌, ◌||◌, ◌≤◌, ◌<◌, [], Ok, IfOk, length};
+ghost use Rattle.std.specs.Prelude.{◌≡◌, ◌≤◌, ◌<◌, [], Ok, IfOk, length};
 ghost use Rattle.m36_model.specs.JointAudit.{AreJointFindings};
 ghost use Rattle.m36_audit.specs.Joints.{all_found};
 ghost use Rattle.m36_reading.specs.Ends.{end_of};
 ghost use Rattle.m36_reading.specs.Outside.{sink_of, outside_of};
 ghost use Rattle.m36_reading.specs.Doing.{Does};
 ghost use Rattle.m36_ran.specs.Putting.{PutsBy, PutsSome};
-ghost use Rattle.m36_ran.specs.Ran.{passes};
+ghost use Rattle.m36_ran.specs.Ran.{is_run};
 ghost use Rattle.m36_scheduled.specs.Scheduled.{procs_reads, run_answer, refused_answer, procs_answer, dbrs_of, AreIsolated, IsProcsDue, procs_kind};
 
 use crate::findings::put_joint;
@@ -51,7 +51,7 @@ fn refuse_run<S: Sink>(findings: &[JointFinding], out: &mut S) -> Status
 // Whether the schedule is run.
 #[tactic(auto, using(crate::proofs::JointAnswers::passing))]
 fn is_run(findings: &[JointFinding], unaudited: bool) -> bool
-    ensures { result ≡ (passes (all_found findings.now) || unaudited) }
+    ensures { result ≡ is_run (all_found findings.now) unaudited }
 {
     findings.is_empty() || unaudited
 }
