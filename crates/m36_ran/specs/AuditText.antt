@@ -26,9 +26,13 @@ finding_pieces (f ∷ findings) = as_line (finding_line f) ∷ finding_pieces fi
 abbrev pub yes_line : List ℕ
 yes_line = as_line (codes "audit yes")
 
+-- the lines of findings of any kind, or the line `audit yes` where there are none
+abbrev pub yes_or : {A : Type 0} → (List A → List (List ℕ)) → List A → List (List ℕ)
+yes_or lines [] = yes_line ∷ []
+yes_or lines (f ∷ findings) = lines (f ∷ findings)
+
 abbrev pub audit_pieces : List (ℕ × ℕ) → List (List ℕ)
-audit_pieces [] = yes_line ∷ []
-audit_pieces (f ∷ findings) = finding_pieces (f ∷ findings)
+audit_pieces findings = yes_or finding_pieces findings
 
 abbrev pub audit_text : List (ℕ × ℕ) → List ℕ
 audit_text findings = joined (audit_pieces findings)

@@ -7,7 +7,7 @@ use Rattle.m36_outside.specs.Passing.{joined}
 use Rattle.m36_text.specs.Digits.{decimal_text}
 use Rattle.m36_text.specs.Lines.{as_line}
 use Rattle.m36_model.specs.JointAudit.{JointFound}
-use Rattle.m36_ran.specs.AuditText.{place_digits, place_text, yes_line}
+use Rattle.m36_ran.specs.AuditText.{place_digits, place_text, yes_or}
 
 -- of a process
 unfoldable pub process_line : ℕ → ℕ → ℕ → List ℕ
@@ -31,8 +31,7 @@ found_pieces [] = []
 found_pieces (f ∷ findings) = as_line (found_line f) ∷ found_pieces findings
 
 abbrev pub joint_pieces : List JointFound → List (List ℕ)
-joint_pieces [] = yes_line ∷ []
-joint_pieces (f ∷ findings) = found_pieces (f ∷ findings)
+joint_pieces findings = yes_or found_pieces findings
 
 abbrev pub joint_text : List JointFound → List ℕ
 joint_text findings = joined (joint_pieces findings)
