@@ -1,6 +1,6 @@
 -- The lines of a text: the first one, those that are taken, and all of them joined.
 use Rattle.std.proofs.Common.{◌≡◌, ℕ, zero, suc, ◌+◌, ◌-◌, ◌<◌, ◌≤◌, ◌==◌, Bool, true, false, cond, List, [], ◌∷◌, ◌++◌, length, take, drop, get_or, Option, Some, None, refl, sym, ap, subst, ◌∙◌, arith}
-use Rattle.std.specs.List.{position, position_or_len}
+use Rattle.std.specs.List.{position, position_or_len, onto_first}
 use Rattle.std.proofs.Math.Dec.{ltb}
 use Rattle.std.proofs.lemmas.Bool.{ltb-false}
 use Rattle.std.proofs.lemmas.List.{take_all, drop_all}
@@ -9,7 +9,7 @@ use Rattle.std.proofs.lemmas.List.Sums.{fails_before_first}
 use Rattle.m36_outside.specs.Passing.{TakesPart, TakesSome, joined}
 use Rattle.m36_outside.proofs.LinesTaken.{CompletesLines, completes_lines_all, completes_lines_rest, completes_lines_cut, completes_no_lines, takes_some_of_line}
 use Rattle.m36_text.proofs.Splitting.{cond_none, rest_whole}
-use Rattle.m36_told.specs.LinesIn.{with_first, lines_in}
+use Rattle.m36_told.specs.LinesIn.{lines_in}
 
 -- ---- the first line
 
@@ -20,20 +20,20 @@ cut_there :
     → lines_in xs ≡ take (suc i) xs ∷ lines_in (drop (suc i) xs)
 unfolding lines_in
 cut_there [] i within here before = absurd (omega arith)
-cut_there (x ∷ xs) zero within here before = ap (λ t. cond t ((x ∷ []) ∷ lines_in xs) (with_first x (lines_in xs))) here
+cut_there (x ∷ xs) zero within here before = ap (λ t. cond t ((x ∷ []) ∷ lines_in xs) (onto_first x (lines_in xs))) here
 cut_there (x ∷ xs) (suc i) within here before =
-    ap (λ t. cond t ((x ∷ []) ∷ lines_in xs) (with_first x (lines_in xs))) (before 0 (omega arith))
-    ∙ ap (with_first x) (cut_there xs i (omega arith) here (λ k below. before (suc k) (omega arith)))
+    ap (λ t. cond t ((x ∷ []) ∷ lines_in xs) (onto_first x (lines_in xs))) (before 0 (omega arith))
+    ∙ ap (onto_first x) (cut_there xs i (omega arith) here (λ k below. before (suc k) (omega arith)))
 
 -- or it is all, where there is none
 cut_nowhere :
     (xs : List ℕ) → 0 < length xs → ((k : ℕ) → k < length xs → (get_or xs k 0 == 10) ≡ false) → lines_in xs ≡ xs ∷ []
 unfolding lines_in
 cut_nowhere [] some before = absurd (omega arith)
-cut_nowhere (x ∷ []) some before = ap (λ t. cond t ((x ∷ []) ∷ []) (with_first x [])) (before 0 (omega arith))
+cut_nowhere (x ∷ []) some before = ap (λ t. cond t ((x ∷ []) ∷ []) (onto_first x [])) (before 0 (omega arith))
 cut_nowhere (x ∷ y ∷ xs) some before =
-    ap (λ t. cond t ((x ∷ []) ∷ lines_in (y ∷ xs)) (with_first x (lines_in (y ∷ xs)))) (before 0 (omega arith))
-    ∙ ap (with_first x) (cut_nowhere (y ∷ xs) (omega arith) (λ k below. before (suc k) (omega arith)))
+    ap (λ t. cond t ((x ∷ []) ∷ lines_in (y ∷ xs)) (onto_first x (lines_in (y ∷ xs)))) (before 0 (omega arith))
+    ∙ ap (onto_first x) (cut_nowhere (y ∷ xs) (omega arith) (λ k below. before (suc k) (omega arith)))
 
 abbrev is_line_feed : ℕ → Bool
 is_line_feed b = b == 10
@@ -94,11 +94,11 @@ pub ruleset lines_taken = (lines_start, line_taken, line_part, lines_end)
 
 -- ---- joined
 
-joined_first : (b : ℕ) (lines : List (List ℕ)) → joined (with_first b lines) ≡ b ∷ joined lines
+joined_first : (b : ℕ) (lines : List (List ℕ)) → joined (onto_first b lines) ≡ b ∷ joined lines
 joined_first b [] = refl
 joined_first b (line ∷ lines) = refl
 
-joined_by : (t : Bool) (b : ℕ) (lines : List (List ℕ)) → joined (cond t ((b ∷ []) ∷ lines) (with_first b lines)) ≡ b ∷ joined lines
+joined_by : (t : Bool) (b : ℕ) (lines : List (List ℕ)) → joined (cond t ((b ∷ []) ∷ lines) (onto_first b lines)) ≡ b ∷ joined lines
 joined_by true b lines = refl
 joined_by false b lines = joined_first b lines
 
