@@ -53,9 +53,13 @@ abbrev pub dbr_read : Option ℕ → Option ℕ → Option Pair
 dbr_read (Some even) (Some odd) = Some (record { even = even; odd = odd })
 dbr_read _ _ = None
 
+-- from its two words
+abbrev pub dbr_in : List ℕ → List ℕ → Option Pair
+dbr_in even odd = dbr_read (octal_in 12 even) (octal_in 12 odd)
+
 abbrev pub dbr_words : List (List ℕ) → Option Pair
 dbr_words (name ∷ even ∷ odd ∷ []) =
-    if is_text (codes "dbr") name then dbr_read (octal_in 12 even) (octal_in 12 odd) else None
+    if is_text (codes "dbr") name then dbr_in even odd else None
 dbr_words _ = None
 
 abbrev pub dbr_line : Option (List ℕ) → Option Pair
@@ -67,10 +71,13 @@ abbrev pub start_read : Option ℕ → Option ℕ → Option ℕ → Option PprF
 start_read (Some seg) (Some ring) (Some word) = Some (record { psr = seg; prr = ring; ic = word })
 start_read _ _ _ = None
 
+-- from a segment, a ring and a word
+abbrev pub start_in : List ℕ → List ℕ → List ℕ → Option PprFields
+start_in seg ring word = start_read (octal_in 5 seg) (octal_in 1 ring) (octal_in 6 word)
+
 abbrev pub start_words : List (List ℕ) → Option PprFields
 start_words (name ∷ seg ∷ ring ∷ word ∷ []) =
-    if is_text (codes "start") name
-    then start_read (octal_in 5 seg) (octal_in 1 ring) (octal_in 6 word) else None
+    if is_text (codes "start") name then start_in seg ring word else None
 start_words _ = None
 
 abbrev pub start_line : Option (List ℕ) → Option PprFields

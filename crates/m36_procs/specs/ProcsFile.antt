@@ -25,14 +25,14 @@ use Rattle.std.specs.Prelude.{Result, Ok, Err, if◌then◌else◌}
 use Rattle.std.specs.List.{list_all, flat_map}
 use Rattle.m36_text.specs.Texts.{is_text}
 use Rattle.m36_text.specs.Lines.{lines_of, line_at, words_of, first_told}
-use Rattle.m36_text.specs.Numbers.{octal_in, decimal_in, short_decimal_in}
+use Rattle.m36_text.specs.Numbers.{decimal_in, short_decimal_in}
 use Rattle.m36_word.specs.declared.pair.Pair.{Pair}
 use Rattle.m36_model.specs.Fields.{PprFields}
 use Rattle.m36_model.specs.Registers.{RegsFields}
 use Rattle.m36_image.specs.PlacedWords.{PlacedWords}
 use Rattle.m36_image.specs.Several.{one_to}
 use Rattle.m36_image.specs.declared.refusal.ImageCode.{ImageCode}
-use Rattle.m36_image.specs.BareImage.{dbr_read, start_read, at_words, core_line, frames_of}
+use Rattle.m36_image.specs.BareImage.{dbr_in, start_in, at_words, core_line, frames_of}
 use Rattle.m36_image.specs.ImageState.{regs_of, written_all}
 use Rattle.m36_image.specs.InTurn.{at_end}
 use Rattle.m36_procs.specs.ProcsFields.{ProcsFields, TurnsFields}
@@ -49,10 +49,7 @@ process_read _ _ = None
 abbrev pub process_words : List (List ℕ) → Option RegsFields
 process_words (name ∷ even ∷ odd ∷ seg ∷ ring ∷ word ∷ []) =
     if is_text (codes "process") name
-    then process_read
-    (dbr_read (octal_in 12 even) (octal_in 12 odd))
-    (start_read (octal_in 5 seg) (octal_in 1 ring) (octal_in 6 word))
-    else None
+    then process_read (dbr_in even odd) (start_in seg ring word) else None
 process_words _ = None
 
 -- A `turns` line: one to sixteen numbers of processes, and how many times.
