@@ -23,9 +23,12 @@ abbrev pub written_all : List ℕ → List PlacedWords → List ℕ
 written_all core [] = core
 written_all core (p ∷ placed) = written_all (written_at core p.first p.words) placed
 
--- every core word that no line writes is zero
+-- a core of so many words: every one that no line writes is zero
+abbrev pub core_with : ℕ → List PlacedWords → List ℕ
+core_with size placed = written_all (replicate size 0) placed
+
 abbrev pub core_of : Image → List ℕ
-core_of image = written_all (replicate (1024 * image.frames) 0) image.placed
+core_of image = core_with (1024 * image.frames) image.placed
 
 -- The words of the descriptor segment base register and the first instruction: all other registers
 -- are zero.

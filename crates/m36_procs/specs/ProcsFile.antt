@@ -20,7 +20,7 @@
 -- first line with a fault counts, and in it P1 before P2. A missing line has the number that it
 -- would have.
 use Rattle.std.specs.Prelude.{ℕ, zero, suc, ◌+◌, ◌*◌, ◌&&◌, Bool, true, false, nat_le, nat_lt, List}
-use Rattle.std.specs.Prelude.{[], ◌∷◌, ◌++◌, length, drop, replicate, codes, Option, Some, None}
+use Rattle.std.specs.Prelude.{[], ◌∷◌, ◌++◌, length, drop, codes, Option, Some, None}
 use Rattle.std.specs.Prelude.{Result, Ok, Err, if◌then◌else◌}
 use Rattle.std.specs.List.{list_all, flat_map}
 use Rattle.m36_text.specs.Texts.{is_text}
@@ -33,7 +33,7 @@ use Rattle.m36_image.specs.PlacedWords.{PlacedWords}
 use Rattle.m36_image.specs.Several.{one_to}
 use Rattle.m36_image.specs.declared.refusal.ImageCode.{ImageCode}
 use Rattle.m36_image.specs.BareImage.{dbr_in, start_in, at_words, core_line, frames_of}
-use Rattle.m36_image.specs.ImageState.{regs_of, written_all}
+use Rattle.m36_image.specs.ImageState.{regs_of, core_with}
 use Rattle.m36_image.specs.InTurn.{at_end}
 use Rattle.m36_procs.specs.ProcsFields.{ProcsFields, TurnsFields}
 use Rattle.m36_procs.specs.declared.fault.Code.{Code}
@@ -200,14 +200,13 @@ placed_in lines = flat_map (λ line. placed_of (line_of line)) lines
 abbrev pub turns_in : List (Option (List ℕ)) → List ℕ
 turns_in lines = flat_map (λ line. turns_of (line_of line)) lines
 
--- every core word that no line writes is zero
 abbrev pub procs_in : ℕ → List (Option (List ℕ)) → ProcsFields
 procs_in size lines =
     record {
       state =
           record {
             regs = processes_in lines;
-            store = written_all (replicate size 0) (placed_in lines);
+            store = core_with size (placed_in lines);
           };
       schedule = turns_in lines;
     }
