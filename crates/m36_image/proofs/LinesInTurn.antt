@@ -1,7 +1,7 @@
 -- The `at` lines of a bare image, read one after the other.
 use Rattle.std.proofs.Common.{◌≡◌, ℕ, zero, suc, ◌+◌, ◌<◌, ◌≤◌, Bool, true, false, cond, ◌&&◌, List, [], ◌∷◌, ◌++◌, length, Option, Some, None, Result, Ok, Err, refl, sym, ap, ◌∙◌, arith}
 use Rattle.std.specs.Prelude.{nat_le, nat_lt, IfSome, codes}
-use Rattle.std.specs.List.{list_all}
+use Rattle.std.specs.List.{list_all, range_with_len}
 use Rattle.std.proofs.lemmas.List.Folds.{list_all-append}
 use Rattle.std.proofs.lemmas.Bool.{le-leb, leb-true}
 use Rattle.std.proofs.lemmas.Bool.Decides.{nat_tests}
@@ -11,7 +11,7 @@ use Rattle.m36_image.specs.PlacedWords.{PlacedWords}
 use Rattle.m36_text.specs.Texts.{is_text}
 use Rattle.m36_text.specs.Lines.{words_of, first_told}
 use Rattle.m36_text.specs.Numbers.{octal_in}
-use Rattle.m36_image.specs.BareImage.{at_read, at_words, at_line, at_code, at_codes, addresses, numbers_from}
+use Rattle.m36_image.specs.BareImage.{at_read, at_words, at_line, at_code, at_codes, addresses}
 use Rattle.m36_image.specs.Several.{with_number, numbers_by, one_to}
 use Rattle.m36_image.specs.InTurn.{at_end}
 
@@ -77,11 +77,11 @@ one_below first x = grind (arith, nat_tests)
 more_below : (first count x : ℕ) → nat_lt first x && nat_le (first + 1 + suc count) x ≡ nat_le (first + suc (suc count)) x
 more_below first count x = grind (arith, nat_tests)
 
-all_below : (first count x : ℕ) → list_all (λ a. nat_lt a x) (numbers_from first (suc count)) ≡ nat_le (first + suc count) x
+all_below : (first count x : ℕ) → list_all (λ a. nat_lt a x) (range_with_len first (suc count)) ≡ nat_le (first + suc count) x
 all_below first zero x = one_below first x
 all_below first (suc count) x = ap (λ b. nat_lt first x && b) (all_below (first + 1) count x) ∙ more_below first count x
 
-some_below : (first count x : ℕ) → 0 < count → list_all (λ a. nat_lt a x) (numbers_from first count) ≡ nat_le (first + count) x
+some_below : (first count x : ℕ) → 0 < count → list_all (λ a. nat_lt a x) (range_with_len first count) ≡ nat_le (first + count) x
 some_below first zero x some = absurd (omega arith)
 some_below first (suc count) x some = all_below first count x
 
@@ -92,9 +92,9 @@ EndsAt earlier next = (x : ℕ) → list_all (λ a. nat_lt a x) earlier ≡ nat_
 both_below : (next first count x : ℕ) → next ≤ first → nat_le next x && nat_le (first + count) x ≡ nat_le (first + count) x
 both_below next first count x above = grind (arith, nat_tests)
 
-ends_on : (earlier : List ℕ) (next first count : ℕ) → 0 < count → next ≤ first → EndsAt earlier next → EndsAt (earlier ++ numbers_from first count) (first + count)
+ends_on : (earlier : List ℕ) (next first count : ℕ) → 0 < count → next ≤ first → EndsAt earlier next → EndsAt (earlier ++ range_with_len first count) (first + count)
 ends_on earlier next first count some above ends x =
-    list_all-append (λ a. nat_lt a x) earlier (numbers_from first count) ∙ ap (λ b. b && list_all (λ a. nat_lt a x) (numbers_from first count)) (ends x) ∙ ap (λ b. nat_le next x && b) (some_below first count x some) ∙ both_below next first count x above
+    list_all-append (λ a. nat_lt a x) earlier (range_with_len first count) ∙ ap (λ b. b && list_all (λ a. nat_lt a x) (range_with_len first count)) (ends x) ∙ ap (λ b. nat_le next x && b) (some_below first count x some) ∙ both_below next first count x above
 
 -- at the beginning there are none
 pub ends_nowhere : EndsAt [] 0
@@ -114,10 +114,10 @@ test_in_turn :
     → b ≡ (nat_le next p.first && nat_le (p.first + length p.words) size)
     → 0 < length p.words → EndsAt earlier next → Agrees size (n + 1) lines
     → fault_or n (cond b (Ok (p.first + length p.words)) (Err I3)) (fault_in_turn size (n + 1) (end_or next (cond b (Ok (p.first + length p.words)) (Err I3))) lines)
-    ≡ first_told n (cond b None (Some I3) ∷ at_codes size (earlier ++ numbers_from p.first (length p.words)) lines)
+    ≡ first_told n (cond b None (Some I3) ∷ at_codes size (earlier ++ range_with_len p.first (length p.words)) lines)
 unfolding first_told
 test_in_turn true size n next earlier lines p test some ends later =
-    later (p.first + length p.words) (earlier ++ numbers_from p.first (length p.words)) (ends_on earlier next p.first (length p.words) some (leb-true next p.first (and_left (nat_le next p.first) (nat_le (p.first + length p.words) size) test)) ends)
+    later (p.first + length p.words) (earlier ++ range_with_len p.first (length p.words)) (ends_on earlier next p.first (length p.words) some (leb-true next p.first (and_left (nat_le next p.first) (nat_le (p.first + length p.words) size) test)) ends)
 test_in_turn false size n next earlier lines p test some ends later = refl
 
 line_in_turn :
@@ -128,7 +128,7 @@ line_in_turn :
 unfolding first_told
 line_in_turn size n next earlier lines None some ends later = refl
 line_in_turn size n next earlier lines (Some p) some ends later =
-    test_in_turn (nat_le next p.first && nat_le (p.first + length p.words) size) size n next earlier lines p refl some ends later ∙ ap (λ b. first_told n (cond (b && nat_le (p.first + length p.words) size) None (Some I3) ∷ at_codes size (earlier ++ numbers_from p.first (length p.words)) lines)) (sym (ends p.first))
+    test_in_turn (nat_le next p.first && nat_le (p.first + length p.words) size) size n next earlier lines p refl some ends later ∙ ap (λ b. first_told n (cond (b && nat_le (p.first + length p.words) size) None (Some I3) ∷ at_codes size (earlier ++ range_with_len p.first (length p.words)) lines)) (sym (ends p.first))
 
 pub turn_is_fault : (size n : ℕ) (lines : List (Option (List ℕ))) → Agrees size n lines
 unfolding fault_in_turn at_codes first_told

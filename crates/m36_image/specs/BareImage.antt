@@ -13,10 +13,10 @@
 -- I1 is a line not of its form, a missing line or a missing line feed. I2 is an N out of range. I3
 -- is an `at` whose first address is not above every earlier address, or whose last address is
 -- outside core. The first line with a fault counts, and in it the least code.
-use Rattle.std.specs.Prelude.{ℕ, zero, suc, ◌+◌, ◌*◌, ◌&&◌, nat_le, nat_lt, List, [], ◌∷◌, ◌++◌}
+use Rattle.std.specs.Prelude.{ℕ, ◌+◌, ◌*◌, ◌&&◌, nat_le, nat_lt, List, [], ◌∷◌, ◌++◌}
 use Rattle.std.specs.Prelude.{length, drop, codes, Option, Some, None, Result, Ok, Err, unwrap_or}
 use Rattle.std.specs.Prelude.{if◌then◌else◌}
-use Rattle.std.specs.List.{list_all, filter_map}
+use Rattle.std.specs.List.{list_all, filter_map, range_with_len}
 use Rattle.std.specs.Result.{result_unwrap_or}
 use Rattle.m36_word.specs.declared.pair.Pair.{Pair}
 use Rattle.m36_text.specs.Texts.{is_text}
@@ -107,14 +107,9 @@ at_code size earlier (Some p) =
     if list_all (λ a. nat_lt a p.first) earlier && nat_le (p.first + length p.words) size
     then None else Some I3
 
--- so many numbers from one on
-abbrev pub numbers_from : ℕ → ℕ → List ℕ
-numbers_from n zero = []
-numbers_from n (suc count) = n ∷ numbers_from (n + 1) count
-
 abbrev pub addresses : Option PlacedWords → List ℕ
 addresses None = []
-addresses (Some p) = numbers_from p.first (length p.words)
+addresses (Some p) = range_with_len p.first (length p.words)
 
 unfoldable pub at_codes : ℕ → List ℕ → List (Option (List ℕ)) → List (Option ImageCode)
 at_codes size earlier [] = []
