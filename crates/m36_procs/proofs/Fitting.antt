@@ -9,7 +9,8 @@ use Rattle.m36_image.specs.PlacedWords.{PlacedWords}
 use Rattle.m36_image.specs.declared.refusal.ImageCode.{ImageCode}
 use Rattle.m36_image.specs.InTurn.{at_end}
 use Rattle.m36_procs.specs.ProcsFields.{TurnsFields}
-use Rattle.m36_procs.specs.ProcsFile.{Line, Stands, may_name, may_place, may_end, placed_from, events_with, are_named, judged, repeated}
+use Rattle.m36_procs.specs.ProcsFile.{Line, Stands, may_name, may_place, may_end, placed_from, events_with, are_named, judged}
+use Rattle.std.specs.List.{repeat}
 use Rattle.m36_procs.specs.ProcsFile.Line.{ProcessLine, TurnsLine, AtLine, OtherLine}
 use Rattle.m36_procs.specs.ReaderSays.{stands_of, Fits, TookLine}
 use Rattle.m36_procs.specs.declared.fault.Code.{Code}
@@ -55,9 +56,9 @@ named_both : (count : ℕ) (front back : List ℕ) → are_named count front ≡
 named_both count front back e f =
     list_all-append (λ n. nat_lt n count) front back ∙ and_from (are_named count front) (are_named count back) e f
 
-named_repeated : (times count : ℕ) (order : List ℕ) → are_named count order ≡ true → are_named count (repeated times order) ≡ true
+named_repeated : (times count : ℕ) (order : List ℕ) → are_named count order ≡ true → are_named count (repeat times order) ≡ true
 named_repeated zero count order e = refl
-named_repeated (suc times) count order e = named_both count order (repeated times order) e (named_repeated times count order e)
+named_repeated (suc times) count order e = named_both count order (repeat times order) e (named_repeated times count order e)
 
 -- the schedule stays, and the count of processes too
 named_still :
@@ -119,7 +120,7 @@ kept_turns old new t fits took =
       few = omega (arith, counted, fits.few);
       short = rw events most;
       some = λ e. omega (arith, counted, some);
-      named = ap (are_named (length new.regs.items)) took.schedule ∙ ap (λ n. are_named n (old.schedule.items ++ repeated t.times t.order)) counted ∙ named_both (length old.regs.items) old.schedule.items (repeated t.times t.order) fits.named (named_repeated t.times (length old.regs.items) t.order named);
+      named = ap (are_named (length new.regs.items)) took.schedule ∙ ap (λ n. are_named n (old.schedule.items ++ repeat t.times t.order)) counted ∙ named_both (length old.regs.items) old.schedule.items (repeat t.times t.order) fits.named (named_repeated t.times (length old.regs.items) t.order named);
     }
 
 kept_other : (old new : Reader) → TookLine old new OtherLine → Fits new

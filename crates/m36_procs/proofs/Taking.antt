@@ -5,7 +5,8 @@ use Rattle.std.proofs.lemmas.Bool.{le-leb, lt-ltb}
 use Rattle.m36_image.specs.PlacedWords.{PlacedWords}
 use Rattle.m36_image.specs.InTurn.{at_end}
 use Rattle.m36_procs.specs.ProcsFields.{TurnsFields}
-use Rattle.m36_procs.specs.ProcsFile.{Stands, judged, placed_from, events_with, are_named, repeated}
+use Rattle.m36_procs.specs.ProcsFile.{Stands, judged, placed_from, events_with, are_named}
+use Rattle.std.specs.List.{repeat}
 use Rattle.m36_procs.specs.ProcsFile.Line.{TurnsLine}
 use Rattle.m36_procs.specs.declared.fault.Code.{Code}
 use Rattle.m36_procs.specs.declared.fault.Code.TheVariants.{P1, P2}
@@ -15,10 +16,10 @@ abbrev pub in_order : Stands → ℕ → Result Stands Code
 in_order s n = Ok (record s { stage = Turning; events = n })
 
 -- so many turns make so many events
-pub length-repeated : (times : ℕ) (order : List ℕ) → length (repeated times order) ≡ times * length order
+pub length-repeated : (times : ℕ) (order : List ℕ) → length (repeat times order) ≡ times * length order
 length-repeated zero order = omega arith
 length-repeated (suc times) order =
-    length-append order (repeated times order) ∙ omega (arith, length-repeated times order)
+    length-append order (repeat times order) ∙ omega (arith, length-repeated times order)
 
 pub few_events : (times count : ℕ) → times ≤ 1000000 → count ≤ 16 → times * count ≤ 16000000
 few_events times count a b = grind arith

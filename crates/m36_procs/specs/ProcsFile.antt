@@ -19,10 +19,10 @@
 -- core, or a `turns` line with which there are too many events. P2 is a number of no process. The
 -- first line with a fault counts, and in it P1 before P2. A missing line has the number that it
 -- would have.
-use Rattle.std.specs.Prelude.{ℕ, zero, suc, ◌+◌, ◌*◌, ◌&&◌, Bool, true, false, nat_le, nat_lt, List}
+use Rattle.std.specs.Prelude.{ℕ, ◌+◌, ◌*◌, ◌&&◌, Bool, true, false, nat_le, nat_lt, List}
 use Rattle.std.specs.Prelude.{[], ◌∷◌, ◌++◌, length, drop, codes, Option, Some, None}
 use Rattle.std.specs.Prelude.{Result, Ok, Err, if◌then◌else◌}
-use Rattle.std.specs.List.{list_all, flat_map}
+use Rattle.std.specs.List.{list_all, flat_map, repeat}
 use Rattle.m36_text.specs.Texts.{is_text}
 use Rattle.m36_text.specs.Lines.{lines_of, line_at, words_of, first_told}
 use Rattle.m36_text.specs.Numbers.{decimal_in, short_decimal_in}
@@ -175,10 +175,6 @@ line_codes lines =
     ∷ codes_from (at_start (1024 * frames_of lines)) (drop 1 lines)
 
 -- What the lines say, where none has a code.
-abbrev pub repeated : ℕ → List ℕ → List ℕ
-repeated zero numbers = []
-repeated (suc times) numbers = numbers ++ repeated times numbers
-
 abbrev pub process_of : Line → List RegsFields
 process_of (ProcessLine regs) = regs ∷ []
 process_of _ = []
@@ -188,7 +184,7 @@ placed_of (AtLine placed) = placed ∷ []
 placed_of _ = []
 
 abbrev pub turns_of : Line → List ℕ
-turns_of (TurnsLine t) = repeated t.times t.order
+turns_of (TurnsLine t) = repeat t.times t.order
 turns_of _ = []
 
 abbrev pub processes_in : List (Option (List ℕ)) → List RegsFields

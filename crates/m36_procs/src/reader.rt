@@ -1,8 +1,9 @@
 //! What a text of processes has said so far, and what its next line adds.
 
 ghost use Rattle.std.specs.Prelude.{◌≡◌, ◌+◌, ◌*◌, ◌<◌, ◌≤◌, [], ◌∷◌, ◌++◌, length, OnOk};
+ghost use Rattle.std.specs.List.{repeat};
 ghost use Rattle.m36_text.specs.Lines.{words_of};
-ghost use Rattle.m36_procs.specs.ProcsFile.{are_named, most_events, line_in, may_name, may_place, may_end, repeated};
+ghost use Rattle.m36_procs.specs.ProcsFile.{are_named, most_events, line_in, may_name, may_place, may_end};
 ghost use Rattle.m36_procs.specs.ProcsFile.Line.{ProcessLine, TurnsLine};
 ghost use Rattle.m36_procs.specs.ReaderSays.{Fits, TakeSays, rest_in};
 
@@ -104,7 +105,7 @@ fn push_process(all: &mut Vec<Regs>, regs: Regs) -> Result<(), NoMemory>
 // Puts numbers behind a schedule, so many times.
 #[tactic(auto, using(crate::proofs::Repeating::repeating))]
 fn push_numbers(schedule: &mut Vec<u8>, order: &[u8], times: u32) -> Result<(), NoMemory>
-    ensures { OnOk result (schedule.new.items ≡ schedule.old.items ++ repeated times order.now) }
+    ensures { OnOk result (schedule.new.items ≡ schedule.old.items ++ repeat times order.now) }
 {
     let mut left = times;
     'times: while left > 0 {
@@ -117,7 +118,7 @@ fn push_numbers(schedule: &mut Vec<u8>, order: &[u8], times: u32) -> Result<(), 
 // Puts turns behind a schedule.
 fn push_turns(schedule: &mut Vec<u8>, turns: &Turns) -> Result<(), NoMemory>
     ensures { OnOk result
-        (schedule.new.items ≡ schedule.old.items ++ repeated turns.now.times turns.now.order) }
+        (schedule.new.items ≡ schedule.old.items ++ repeat turns.now.times turns.now.order) }
 {
     push_numbers(schedule, turns.order.as_slice(), turns.times)
 }

@@ -3,7 +3,8 @@ use Rattle.std.proofs.Common.{◌≡◌, ◌+◌, ◌*◌, ◌<◌, ◌≤◌, t
 use Rattle.std.specs.Vec.{vec_len}
 use Rattle.std.proofs.lemmas.Bool.{eqb-false}
 use Rattle.std.proofs.lemmas.List.{append-nil}
-use Rattle.m36_procs.specs.ProcsFile.{are_named, repeated}
+use Rattle.std.specs.List.{repeat}
+use Rattle.m36_procs.specs.ProcsFile.{are_named}
 use Rattle.m36_procs.specs.ReaderSays.{stands_of}
 use Rattle.m36_procs.proofs.Taking.{turns_taken, length-repeated}
 use Rattle.m36_procs.proofs.reader.take_turns.Goals as goal
@@ -16,7 +17,7 @@ returns-in_ok-push_turns c =
     let most : length reader.schedule.items + turns.times * length turns.order ≤ 10000000 = omega arith in
     let named : are_named (length reader.regs.items) turns.order ≡ true = cc in
     let pushed = c.in_ok-push_turns.ensures in
-    let events : length c.push_turns.new.schedule.items ≡ length reader.schedule.items + turns.times * length turns.order = ap length pushed ∙ length-append reader.schedule.items (repeated turns.times turns.order) ∙ ap (λ n. length reader.schedule.items + n) (length-repeated turns.times turns.order) in
+    let events : length c.push_turns.new.schedule.items ≡ length reader.schedule.items + turns.times * length turns.order = ap length pushed ∙ length-append reader.schedule.items (repeat turns.times turns.order) ∙ ap (λ n. length reader.schedule.items + n) (length-repeated turns.times turns.order) in
     record {
       stands = turns_taken (stands_of reader) turns (length c.push_turns.new.schedule.items) some most named events;
       regs = sym (append-nil reader.regs.items);
