@@ -2,7 +2,7 @@
 use Rattle.std.proofs.Common.{◌≡◌, ℕ, ◌+◌, ◌*◌, List, [], ◌∷◌, ◌++◌, length, drop, replicate, Option, Some, None, Result, Ok, Err, sym, ap, ◌∙◌}
 use Rattle.std.specs.Prelude.{unwrap_or}
 use Rattle.std.specs.List.{filter_map}
-use Rattle.std.specs.Result.{result_unwrap_or}
+use Rattle.std.specs.Result.{result_err, result_unwrap_or}
 use Rattle.std.proofs.Math.ListN.{length-replicate}
 use Rattle.m36_word.specs.declared.pair.Pair.{Pair}
 use Rattle.m36_model.specs.Fields.{PprFields}
@@ -13,7 +13,7 @@ use Rattle.m36_image.specs.declared.header.Header.{Header}
 use Rattle.m36_image.specs.PlacedWords.{PlacedWords}
 use Rattle.m36_text.specs.Lines.{lines_of, line_at, first_told}
 use Rattle.m36_text.proofs.Telling.{told_earlier}
-use Rattle.m36_image.specs.BareImage.{core_line, core_code, dbr_line, form_code, start_line, at_line, at_codes, frames_of, header_codes, line_codes, image_in, image_by, image_of}
+use Rattle.m36_image.specs.BareImage.{core_line, dbr_line, form_code, start_line, at_line, at_codes, frames_of, header_codes, line_codes, image_in, image_by, image_of}
 use Rattle.m36_image.specs.ImageState.{written_all, regs_of, state_of, state_by, state_given}
 use Rattle.m36_image.specs.HeaderFields.{IsHeader}
 
@@ -28,7 +28,7 @@ header_refused text refusal e =
 header_fine :
     (core : Result ℕ ImageCode) (dbr : Option Pair) (start : Option PprFields) (more : List (Option ImageCode)) (n : ℕ) (d : Pair) (s : PprFields)
     → core ≡ Ok n → dbr ≡ Some d → start ≡ Some s
-    → first_told 1 (core_code core ∷ form_code dbr ∷ form_code start ∷ more) ≡ first_told 4 more
+    → first_told 1 (result_err core ∷ form_code dbr ∷ form_code start ∷ more) ≡ first_told 4 more
 unfolding first_told
 header_fine core dbr start more n d s e f g = rw (e, f, g)
 

@@ -17,7 +17,7 @@ use Rattle.std.specs.Prelude.{ℕ, ◌+◌, ◌*◌, ◌&&◌, nat_le, nat_lt, L
 use Rattle.std.specs.Prelude.{length, drop, codes, Option, Some, None, Result, Ok, Err, unwrap_or}
 use Rattle.std.specs.Prelude.{if◌then◌else◌}
 use Rattle.std.specs.List.{list_all, filter_map, range_with_len}
-use Rattle.std.specs.Result.{result_unwrap_or}
+use Rattle.std.specs.Result.{result_err, result_unwrap_or}
 use Rattle.m36_word.specs.declared.pair.Pair.{Pair}
 use Rattle.m36_text.specs.Texts.{is_text}
 use Rattle.m36_text.specs.Lines.{lines_of, line_at, words_of, first_told}
@@ -117,10 +117,6 @@ at_codes size earlier (line ∷ lines) =
     at_code size earlier (at_line line) ∷ at_codes size (earlier ++ addresses (at_line line)) lines
 
 -- the code of each line, in order; a file has three lines at least
-abbrev pub core_code : Result ℕ ImageCode → Option ImageCode
-core_code (Ok frames) = None
-core_code (Err code) = Some code
-
 abbrev pub form_code : {A : Type 0} → Option A → Option ImageCode
 form_code (Some value) = None
 form_code None = Some I1
@@ -130,7 +126,7 @@ frames_of lines = result_unwrap_or (core_line (line_at lines 1)) 0
 
 abbrev pub header_codes : List (Option (List ℕ)) → List (Option ImageCode)
 header_codes lines =
-    core_code (core_line (line_at lines 1))
+    result_err (core_line (line_at lines 1))
     ∷ form_code (dbr_line (line_at lines 2))
     ∷ form_code (start_line (line_at lines 3))
     ∷ []

@@ -1,10 +1,11 @@
 -- How far the lines behind the first have been read.
-use Rattle.std.proofs.Common.{◌≡◌, ℕ, ◌+◌, ◌<◌, true, false, cond, List, [], ◌∷◌, ◌++◌, length, Option, Some, None, Ok, Err, refl, sym, ap, ◌∙◌, arith, append_assoc}
+use Rattle.std.proofs.Common.{◌≡◌, ℕ, ◌+◌, ◌<◌, true, false, cond, List, [], ◌∷◌, ◌++◌, length, Option, Some, None, Result, Ok, Err, refl, sym, ap, ◌∙◌, arith, append_assoc}
+use Rattle.std.specs.Result.{result_err}
 use Rattle.std.proofs.lemmas.List.{append-nil}
 use Rattle.m36_text.specs.Lines.{cut_line, words_of, first_told}
 use Rattle.m36_image.specs.PlacedWords.{PlacedWords}
 use Rattle.m36_image.specs.ImageState.{written_at, written_all}
-use Rattle.m36_procs.specs.ProcsFile.{line_in, line_of, Stands, judged, code_of, behind, codes_from, may_end, process_of, placed_of, turns_of, processes_in, placed_in, turns_in}
+use Rattle.m36_procs.specs.ProcsFile.{line_in, line_of, Stands, judged, behind, codes_from, may_end, process_of, placed_of, turns_of, processes_in, placed_in, turns_in}
 use Rattle.m36_procs.specs.ReaderSays.{stands_of, TakeSays, TookLine, Fits}
 use Rattle.m36_procs.specs.ReadingSays.{FaultSays, TookLines}
 use Rattle.m36_procs.specs.declared.fault.Code.{Code}
@@ -38,7 +39,7 @@ judged_first :
     → first_told n (codes_from s (line ∷ lines)) ≡ first_told (n + 1) (codes_from later lines)
 unfolding first_told codes_from
 judged_first s later n line lines e =
-    ap (λ r. first_told n (code_of r ∷ codes_from (behind s r) lines)) e
+    ap (λ (r : Result Stands Code). first_told n (result_err r ∷ codes_from (behind s r) lines)) e
 
 judged_code :
     (s : Stands) (n : ℕ) (line : Option (List ℕ)) (lines : List (Option (List ℕ))) (code : Code)
@@ -46,7 +47,7 @@ judged_code :
     → first_told n (codes_from s (line ∷ lines)) ≡ Some (n, code)
 unfolding first_told codes_from
 judged_code s n line lines code e =
-    ap (λ r. first_told n (code_of r ∷ codes_from (behind s r) lines)) e
+    ap (λ (r : Result Stands Code). first_told n (result_err r ∷ codes_from (behind s r) lines)) e
 
 -- one more line was taken
 pub lines_more :

@@ -23,6 +23,7 @@ use Rattle.std.specs.Prelude.{ℕ, ◌+◌, ◌*◌, ◌&&◌, Bool, true, false
 use Rattle.std.specs.Prelude.{[], ◌∷◌, ◌++◌, length, drop, codes, Option, Some, None}
 use Rattle.std.specs.Prelude.{Result, Ok, Err, if◌then◌else◌}
 use Rattle.std.specs.List.{list_all, flat_map, repeat}
+use Rattle.std.specs.Result.{result_err}
 use Rattle.m36_text.specs.Texts.{is_text}
 use Rattle.m36_text.specs.Lines.{lines_of, line_at, words_of, first_told}
 use Rattle.m36_text.specs.Numbers.{decimal_in, short_decimal_in}
@@ -144,11 +145,7 @@ judged s (TurnsLine t) =
     else Err P1
 judged s OtherLine = Err P1
 
--- The code of each line from there on, and of what is missing at their end.
-abbrev pub code_of : Result Stands Code → Option Code
-code_of (Ok s) = None
-code_of (Err code) = Some code
-
+-- what stands behind a line that is judged so: what stood before one with a code
 abbrev pub behind : Stands → Result Stands Code → Stands
 behind s (Ok later) = later
 behind s (Err code) = s
@@ -156,10 +153,11 @@ behind s (Err code) = s
 abbrev pub end_code : Stage → Option Code
 end_code stage = if may_end stage then None else Some P1
 
+-- The code of each line from there on, and of what is missing at their end.
 unfoldable pub codes_from : Stands → List (Option (List ℕ)) → List (Option Code)
 codes_from s [] = end_code s.stage ∷ []
 codes_from s (line ∷ lines) =
-    code_of (judged s (line_of line)) ∷ codes_from (behind s (judged s (line_of line))) lines
+    result_err (judged s (line_of line)) ∷ codes_from (behind s (judged s (line_of line))) lines
 
 -- The first line, and what stands behind it.
 abbrev pub core_code : Result ℕ ImageCode → Option Code
