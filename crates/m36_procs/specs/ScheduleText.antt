@@ -9,6 +9,7 @@ use Rattle.m36_model.specs.Core.{core_store}
 use Rattle.m36_model.specs.Registers.{RegsFields}
 use Rattle.m36_model.specs.Schedule.{Processes, Event, events, stepped}
 use Rattle.m36_model.specs.declared.record.StepRecord.{StepRecord}
+use Rattle.m36_trace.specs.EndLine.{end_line_with}
 use Rattle.m36_trace.specs.TraceLine.{line_of}
 
 -- the line of event n: the process, and the trace line of its step
@@ -21,7 +22,7 @@ event_pieces n [] = []
 event_pieces n (e ∷ more) = event_line n e.process e.told ∷ event_pieces (n + 1) more
 
 unfoldable pub end_line : ℕ → List ℕ
-end_line events = as_line (codes "end schedule " ++ decimal_text events)
+end_line events = as_line (end_line_with (codes "schedule") events)
 
 -- what is written from event n on, where there are so many events
 abbrev pub pieces_from : ℕ → ℕ → List ℕ → Processes (List ℕ) → List (List ℕ)
