@@ -25,7 +25,7 @@ use Rattle.m36_step.specs.declared.turns.Turn.TheVariants.{NoMemory}
 use Rattle.m36_super.specs.Library.{Library}
 use Rattle.m36_super.specs.Services.{link_changes, note_snapped, note_refused, console_limit}
 use Rattle.m36_super.specs.Services.{console_text}
-use Rattle.m36_super.specs.Coming.{Coming, Step, Link, Print, Over, coming_after, loaded_after}
+use Rattle.m36_super.specs.Coming.{Coming, Step, Link, Print, Over, loaded_after, coming_behind}
 use Rattle.m36_super.specs.FlatRun.{FlatRun}
 
 -- a state of the booted run
@@ -49,8 +49,7 @@ with_step r s =
             regs = (state_after core_store (core_state s)).regs;
             memory = stepped_memory s;
           };
-      coming =
-          coming_after (loaded_after r.loaded (told_of s)) (told_of s).ppr.prr (told_of s).outcome;
+      coming = coming_behind r.loaded (told_of s);
       loaded = loaded_after r.loaded (told_of s);
     }
 

@@ -47,3 +47,7 @@ loads (Some w) (Stopped s) = false
 abbrev pub loaded_after : Bool → StepRecord → Bool
 loaded_after true e = true
 loaded_after false e = loads e.word e.outcome
+
+-- what comes after a step
+abbrev pub coming_behind : Bool → StepRecord → Coming
+coming_behind loaded e = coming_after (loaded_after loaded e) e.ppr.prr e.outcome

@@ -17,7 +17,7 @@ use Rattle.m36_step.specs.declared.turns.Turn.TheVariants.{Stepped, Linked, Cons
 use Rattle.m36_super.specs.Library.{Library}
 use Rattle.m36_super.specs.Services.{link_changes, note_snapped, note_refused, console_limit}
 use Rattle.m36_super.specs.Services.{console_text}
-use Rattle.m36_super.specs.Coming.{Coming, Step, Link, Print, Over, coming_after, loaded_after}
+use Rattle.m36_super.specs.Coming.{Coming, Step, Link, Print, Over, loaded_after, coming_behind}
 
 -- registers and flat memory, what is known, what the next turn is, and whether an LDBR has been
 -- executed
@@ -40,7 +40,7 @@ flat_stepped r =
       after =
           record r {
             state = state_after flat_store r.state;
-            coming = coming_after (loaded_after r.loaded told) told.ppr.prr told.outcome;
+            coming = coming_behind r.loaded told;
             loaded = loaded_after r.loaded told;
           };
     }
