@@ -18,8 +18,7 @@ use Rattle.m36_super.specs.Laying.{written_from, laying}
 use Rattle.m36_super.specs.Services.{link_changes, note_snapped, note_refused}
 use Rattle.m36_super.specs.Coming.{Coming, Step, Over}
 use Rattle.m36_super.specs.BootedRun.{Booted, IsLinkTurn}
-use Rattle.m36_super.specs.SuperFields.{IsManaged, IsRunning}
-use Rattle.m36_super.specs.Stepping.{run_of}
+use Rattle.m36_super.specs.SuperFields.{run_of, IsManaged, IsRunning}
 use Rattle.m36_super.specs.Writing.{flat_by, ArePut}
 use Rattle.m36_super.proofs.LinkPlaces.{snap_place}
 

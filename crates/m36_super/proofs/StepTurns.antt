@@ -17,8 +17,8 @@ use Rattle.m36_page.specs.Residence.{kept_word}
 use Rattle.m36_step.specs.declared.turns.Turn.TheVariants.{Stepped}
 use Rattle.m36_super.specs.Coming.{Coming, coming_after, loaded_after}
 use Rattle.m36_super.specs.BootedRun.{IsStepTurn}
-use Rattle.m36_super.specs.SuperFields.{IsRunning, Manages}
-use Rattle.m36_super.specs.Stepping.{paged_of, run_of, IsTried, IsTaken, IsStepped, StepSays}
+use Rattle.m36_super.specs.SuperFields.{paged_of, run_of, IsRunning, Manages}
+use Rattle.m36_super.specs.Stepping.{IsTried, IsTaken, IsStepped, StepSays}
 use Rattle.m36_super.proofs.Paging.{step_managed}
 use Rattle.m36_super.proofs.Turns.{not_loaded}
 use Rattle.m36_super.proofs.SystemTurns.{due_after}

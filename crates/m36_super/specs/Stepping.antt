@@ -10,22 +10,9 @@ use Rattle.m36_model.specs.declared.outcome.Fault.{Fault}
 use Rattle.m36_model.specs.declared.outcome.Outcome.{Outcome}
 use Rattle.m36_model.specs.declared.outcome.Outcome.TheVariants.{Faulted}
 use Rattle.m36_model.specs.declared.record.StepRecord.{StepRecord}
-use Rattle.m36_isol.specs.PageServices.{PagedState, IsServed, AreServed, pages_of_an_instruction}
+use Rattle.m36_isol.specs.PageServices.{IsServed, AreServed, pages_of_an_instruction}
 use Rattle.m36_page.specs.Fields.{PagerFields}
-use Rattle.m36_page.specs.Residence.{paged_by}
-use Rattle.m36_link.specs.Fields.{KnownFields}
-use Rattle.m36_super.specs.Coming.{Coming}
-use Rattle.m36_super.specs.BootedRun.{Booted}
-use Rattle.m36_super.specs.SuperFields.{IsRunning}
-
--- the paged state of a processor and its pager
-abbrev pub paged_of : State (List ℕ) → PagerFields → PagedState
-paged_of s p = record { regs = s.regs; memory = paged_by s.store p }
-
--- the state of the booted run
-abbrev pub run_of : State (List ℕ) → PagerFields → KnownFields → Coming → Bool → Booted
-run_of s p known coming loaded =
-    record { state = paged_of s p; known = known; coming = coming; loaded = loaded }
+use Rattle.m36_super.specs.SuperFields.{paged_of, IsRunning}
 
 -- the word whose page a step lacked, if it lacked one
 pub record IsLacked (outcome : Outcome) (at : AtFields) : Type 0 where

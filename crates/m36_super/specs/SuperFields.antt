@@ -9,6 +9,7 @@ use Rattle.m36_model.specs.Core.{core_store}
 use Rattle.m36_model.specs.Step.{state_after}
 use Rattle.m36_model.specs.BootedCore.{booted_dbr, table_at, wired_frames, IsLaid, IsPage}
 use Rattle.m36_model.specs.Residence.{IsMoved}
+use Rattle.m36_isol.specs.PageServices.{PagedState}
 use Rattle.m36_page.specs.Fields.{PagerFields}
 use Rattle.m36_page.specs.Residence.{has_page, spot_of, frame_of, paged_by, IsPager, Reads}
 use Rattle.m36_page.specs.Changes.{IsKept}
@@ -32,19 +33,18 @@ pub record SuperFields : Type 0 where
   pub coming : Coming
   pub loaded : Bool
 
+-- the paged state of a processor and its pager
+abbrev pub paged_of : State (List ℕ) → PagerFields → PagedState
+paged_of s p = record { regs = s.regs; memory = paged_by s.store p }
+
 -- the state of the booted run
+abbrev pub run_of : State (List ℕ) → PagerFields → KnownFields → Coming → Bool → Booted
+run_of s p known coming loaded =
+    record { state = paged_of s p; known = known; coming = coming; loaded = loaded }
+
 abbrev pub booted_of : SuperFields → Booted
 booted_of s =
-    record {
-      state =
-          record {
-            regs = s.regs;
-            memory = paged_by s.core s.pager;
-          };
-      known = s.known;
-      coming = s.coming;
-      loaded = s.loaded;
-    }
+    run_of (record { regs = s.regs; store = s.core }) s.pager s.known s.coming s.loaded
 
 -- The descriptor of a linkage segment: it has all the pages of a segment.
 pub record IsLinkage (core : List ℕ) (seg : ℕ) : Type 0 where

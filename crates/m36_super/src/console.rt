@@ -9,8 +9,7 @@ ghost use Rattle.m36_link.specs.Fields.{KnownFields};
 ghost use Rattle.m36_super.specs.BootedRun.{IsConsoleTurn};
 ghost use Rattle.m36_super.specs.Services.{console_limit, written_character, characters_of};
 ghost use Rattle.m36_super.specs.Services.{console_at, console_words, console_text};
-ghost use Rattle.m36_super.specs.SuperFields.{IsManaged, IsRunning};
-ghost use Rattle.m36_super.specs.Stepping.{run_of};
+ghost use Rattle.m36_super.specs.SuperFields.{run_of, IsManaged, IsRunning};
 ghost use Rattle.m36_super.specs.Writing.{flat_by};
 ghost use Rattle.m36_super.specs.Examining.{ExaminedSays};
 

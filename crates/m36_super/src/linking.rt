@@ -8,8 +8,7 @@ ghost use Rattle.m36_link.specs.Laws.{IsMade};
 ghost use Rattle.m36_super.specs.BootedRun.{IsLinkTurn};
 ghost use Rattle.m36_super.specs.Laying.{written_from, laying};
 ghost use Rattle.m36_super.specs.Services.{link_changes, note_snapped, note_of};
-ghost use Rattle.m36_super.specs.SuperFields.{IsManaged, IsRunning};
-ghost use Rattle.m36_super.specs.Stepping.{run_of};
+ghost use Rattle.m36_super.specs.SuperFields.{run_of, IsManaged, IsRunning};
 ghost use Rattle.m36_super.specs.Writing.{ArePut};
 
 use crate::coming::Coming;

@@ -6,8 +6,8 @@ ghost use Rattle.m36_link.specs.Fields.{KnownFields};
 ghost use Rattle.m36_page.specs.Residence.{has_page, Reads, IsPager};
 ghost use Rattle.m36_page.specs.Changes.{IsBrought};
 ghost use Rattle.m36_super.specs.BootedRun.{IsStepTurn};
-ghost use Rattle.m36_super.specs.SuperFields.{IsManaged, IsRunning, Manages, IsDue};
-ghost use Rattle.m36_super.specs.Stepping.{run_of, LackedSays, AttemptSays, IsStepped, StepSays};
+ghost use Rattle.m36_super.specs.SuperFields.{run_of, IsManaged, IsRunning, Manages, IsDue};
+ghost use Rattle.m36_super.specs.Stepping.{LackedSays, AttemptSays, IsStepped, StepSays};
 
 use crate::coming::{Coming, coming_after, loaded_after};
 use m36_model::{At, Fault, Outcome, Refs, StepRecord};
