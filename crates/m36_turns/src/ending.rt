@@ -1,8 +1,7 @@
 //! The end line of a run that may have had services.
 
-ghost use Rattle.std.specs.Prelude.{◌≡◌, ◌≤◌, ◌∷◌, ◌++◌, [], codes, length};
-ghost use Rattle.std.specs.List.{join_with_byte};
-ghost use Rattle.m36_text.specs.Digits.{decimal_text};
+ghost use Rattle.std.specs.Prelude.{◌≡◌, ◌≤◌, ◌++◌, length};
+ghost use Rattle.m36_trace.specs.EndLine.{end_line_with};
 ghost use Rattle.m36_turns.specs.TurnLines.{run_end_line_of};
 
 use crate::link::link_code_name;
@@ -16,7 +15,7 @@ use m36_trace::end_line;
 fn service_end_line(service: &str, code: &str, steps: u64) -> ArrayString<160>
     requires service { length service.now ≤ 20 }
     requires code { length code.now ≤ 20 }
-    ensures text { result.bytes ≡ join_with_byte 32 (codes "end" ∷ (service.now ++ code.now) ∷ decimal_text steps ∷ []) }
+    ensures text { result.bytes ≡ end_line_with (service.now ++ code.now) steps }
     ensures len { length result.bytes ≤ 72 }
 {
     let mut line = ArrayString::new();
