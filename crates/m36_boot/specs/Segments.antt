@@ -67,10 +67,14 @@ paged_segment seg last =
       limit = 0;
     }
 
+-- the last block of so many pages
+abbrev pub bound_of_pages : ℕ → ℕ
+bound_of_pages pages = 64 * pages - 1
+
 -- a stack or a linkage segment: read and written in its ring alone
 abbrev pub ring_segment : ℕ → ℕ → ℕ → SdwFields
 ring_segment seg ring pages =
-    record (paged_segment seg (64 * pages - 1)) {
+    record (paged_segment seg (bound_of_pages pages)) {
       r1 = ring;
       r2 = ring;
       r3 = ring;

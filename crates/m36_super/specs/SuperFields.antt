@@ -1,5 +1,5 @@
 -- What a booted system shows.
-use Rattle.std.specs.Prelude.{◌≡◌, ℕ, ◌≤◌, ◌+◌, ◌-◌, ◌*◌, Bool, true, false, List, length}
+use Rattle.std.specs.Prelude.{◌≡◌, ℕ, ◌≤◌, ◌+◌, Bool, true, false, List, length}
 use Rattle.std.specs.Prelude.{Option, None, ◌<◌, Ok}
 use Rattle.m36_desc.specs.Fields.{SdwFields}
 use Rattle.m36_model.specs.Place.{core_sdw}
@@ -16,7 +16,7 @@ use Rattle.m36_page.specs.Changes.{IsKept}
 use Rattle.m36_link.specs.Fields.{KnownFields}
 use Rattle.m36_link.specs.Known.{linkage_segment}
 use Rattle.m36_boot.specs.Refusals.{least_frames}
-use Rattle.m36_boot.specs.Segments.{linkage_pages}
+use Rattle.m36_boot.specs.Segments.{linkage_pages, bound_of_pages}
 use Rattle.m36_link.specs.Laws.{IsMade}
 use Rattle.m36_super.specs.Library.{Library}
 use Rattle.m36_super.specs.Coming.{Coming, Step, Link, Print, Over}
@@ -50,7 +50,7 @@ booted_of s =
 pub record IsLinkage (core : List ℕ) (seg : ℕ) : Type 0 where
   pub sdw : SdwFields
   pub live : core_sdw core booted_dbr seg ≡ Ok sdw
-  pub whole : sdw.bound ≡ 64 * linkage_pages - 1
+  pub whole : sdw.bound ≡ bound_of_pages linkage_pages
 
 -- The core is that of the image, the pager has the page tables of the image and no others, and the
 -- page table words are as it left them.
