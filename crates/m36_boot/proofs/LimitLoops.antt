@@ -1,7 +1,7 @@
 -- The limits, segment by segment.
 use Rattle.std.proofs.Common.{ℕ, suc, ◌≡◌, ◌+◌, ◌-◌, ◌^◌, ◌<◌, ◌≤◌, Bool, true, false, cond, List, [], ◌∷◌, ◌++◌, get_or, Option, Some, None, refl, sym, ap, subst, inl, inr, ◌∙◌, arith, length-append}
 use Rattle.std.specs.Option.{option_or}
-use Rattle.std.specs.Prelude.{slice_get, nat_lt, nat_le, ◌&&◌}
+use Rattle.std.specs.Prelude.{slice_get}
 use Rattle.obj36_parts.specs.PartsFields.{PartsFields}
 use Rattle.std.proofs.lemmas.Bool.{cases_lt}
 use Rattle.std.proofs.lemmas.List.{get_or_append_left, get_or_push}
@@ -10,7 +10,7 @@ use Rattle.m36_dir.specs.Fields.{SegmentFields}
 use Rattle.m36_boot.specs.declared.fault.BootFault.{BootFault}
 use Rattle.m36_boot.specs.declared.fault.BootFault.TheVariants as fault
 use Rattle.m36_boot.specs.Segments.{file_at, limit_of}
-use Rattle.m36_boot.specs.Refusals.{most_entries, ToldOfGates, bound_fault, gate_fault, gate_fault_of, first_gate_fault, limit_at, AreLimits}
+use Rattle.m36_boot.specs.Refusals.{is_entry_count, ToldOfGates, bound_fault, gate_fault, gate_fault_of, first_gate_fault, limit_at, AreLimits}
 
 gates_by : (catalog : CatalogFields) (files : List (List ℕ)) (i n left : ℕ) → n - i ≡ suc left
     → first_gate_fault catalog files i (n - i)
@@ -65,11 +65,11 @@ limits_done catalog files i n le so_far =
 -- ---- a gate by its object
 
 pub gate_none : (seg : ℕ) (o : Option PartsFields) (p : PartsFields) → o ≡ Some p
-    → (nat_lt 0 p.entry_bound && nat_le p.entry_bound most_entries) ≡ true → bound_fault seg o ≡ None
+    → is_entry_count p.entry_bound ≡ true → bound_fault seg o ≡ None
 gate_none seg o p is e = ap (λ x. bound_fault seg x) is ∙ ap (λ (b : Bool). cond b None (Some (fault.U2 seg))) e
 
 pub gate_two : (seg : ℕ) (o : Option PartsFields) (p : PartsFields) → o ≡ Some p
-    → (nat_lt 0 p.entry_bound && nat_le p.entry_bound most_entries) ≡ false → bound_fault seg o ≡ Some (fault.U2 seg)
+    → is_entry_count p.entry_bound ≡ false → bound_fault seg o ≡ Some (fault.U2 seg)
 gate_two seg o p is e = ap (λ x. bound_fault seg x) is ∙ ap (λ (b : Bool). cond b None (Some (fault.U2 seg))) e
 
 pub ruleset gates = (gate_none, gate_two)

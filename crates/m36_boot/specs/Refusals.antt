@@ -31,11 +31,14 @@ IsLimit limit = limit < 2 ^ 14
 
 -- ---- gates
 
+-- whether a gate may have so many entries
+abbrev pub is_entry_count : ℕ → Bool
+is_entry_count bound = nat_lt 0 bound && nat_le bound most_entries
+
 abbrev pub bound_fault : ℕ → Option PartsFields → Option BootFault
 bound_fault seg None = Some (fault.U4 seg)
 bound_fault seg (Some p) =
-    if nat_lt 0 p.entry_bound && nat_le p.entry_bound most_entries then None
-    else Some (fault.U2 seg)
+    if is_entry_count p.entry_bound then None else Some (fault.U2 seg)
 
 unfoldable pub gate_fault : ℕ → SegmentFields → List ℕ → Option BootFault
 gate_fault seg s words = if is_gate s.kind then bound_fault seg (value_of words) else None

@@ -1,7 +1,7 @@
 //! The call limiters of the segments, and what is wrong with gates.
 
-ghost use Rattle.std.specs.Prelude.{◌≡◌, ◌+◌, ◌<◌, ◌≤◌, ◌^◌, ◌++◌, ◌∷◌, [], ◌&&◌, nat_lt, nat_le, true, length, All, OnOk, IfOk, IfErr, None};
-ghost use Rattle.m36_boot.specs.Refusals.{most_entries, IsLimit, GateSays, LimitSays, AreLimits, ToldOfGates, first_gate_fault};
+ghost use Rattle.std.specs.Prelude.{◌≡◌, ◌+◌, ◌<◌, ◌≤◌, ◌^◌, ◌++◌, ◌∷◌, [], true, length, All, OnOk, IfOk, IfErr, None};
+ghost use Rattle.m36_boot.specs.Refusals.{is_entry_count, IsLimit, GateSays, LimitSays, AreLimits, ToldOfGates, first_gate_fault};
 
 use crate::fault::BootFault;
 use crate::objects::{file, object_of};
@@ -15,7 +15,7 @@ const MOST_ENTRIES: u32 = 16383;
 
 // Whether a gate may have so many entries.
 fn is_limit(bound: u32) -> bool
-    ensures value { result ≡ (nat_lt 0 bound && nat_le bound most_entries) }
+    ensures value { result ≡ is_entry_count bound }
     ensures small { result ≡ true → IsLimit bound }
 {
     bound > 0 && bound <= MOST_ENTRIES
