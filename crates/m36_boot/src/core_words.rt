@@ -2,6 +2,7 @@
 
 ghost use Rattle.std.specs.Prelude.{◌≡◌, ◌+◌, ◌*◌, ◌≤◌, ◌<◌, ◌^◌, length, All, IfSome, slice_set};
 ghost use Rattle.m36_desc.specs.Descriptors.{sdw_of, sdw_even, sdw_odd};
+ghost use Rattle.m36_model.specs.BootedCore.{descriptor_words};
 ghost use Rattle.m36_link.specs.Known.{first_segment};
 ghost use Rattle.m36_boot.specs.Refusals.{AreLimits};
 ghost use Rattle.m36_boot.specs.Image.{descriptor_word, AreDescribed};
@@ -31,7 +32,7 @@ fn pair_of(sdw: Option<Sdw>) -> Pair
 // Writes the pair of words of a segment's descriptor.
 fn put_pair(core: &mut Core, seg: u16, pair: Pair)
     requires seg { seg < 1024 }
-    requires core { 2048 ≤ length core.old }
+    requires core { descriptor_words ≤ length core.old }
     ensures { core.new ≡ slice_set (slice_set core.old (2 * seg) pair.even) (2 * seg + 1) pair.odd }
 {
     core.poke(2 * seg as u32, pair.even);
@@ -43,7 +44,7 @@ pub(crate) fn put_descriptors(core: &mut Core, catalog: &Catalog, files: &[File]
     requires files { length files.now ≡ length catalog.now.segments }
     requires short { All (λ w. length w ≤ 2 ^ 18) files.now }
     requires limits { AreLimits catalog.now files.now (length catalog.now.segments) limits.now }
-    requires core { 2048 ≤ length core.old }
+    requires core { descriptor_words ≤ length core.old }
     ensures { AreDescribed catalog.now files.now (first_segment + length catalog.now.segments) core.old core.new }
 {
     let count = catalog.count();

@@ -3,7 +3,7 @@
 ghost use Rattle.std.specs.Prelude.{◌≡◌, ◌<◌, ◌≤◌, ◌^◌, length, All, None, Ok, IfOk};
 ghost use Rattle.m36_page.specs.Residence.{Reads, HasFrames};
 ghost use Rattle.m36_boot.specs.Start.{start_answer};
-ghost use Rattle.m36_boot.specs.Refusals.{AreLimits, first_gate_fault};
+ghost use Rattle.m36_boot.specs.Refusals.{least_frames, AreLimits, first_gate_fault};
 ghost use Rattle.m36_boot.specs.Image.{IsImage, IsRunnable, LaySays};
 
 use crate::core_words::put_descriptors;
@@ -47,7 +47,7 @@ fn image_at(
     requires files { length files.now ≡ length catalog.now.segments }
     requires short { All (λ w. length w ≤ 2 ^ 18) files.now }
     requires limits { AreLimits catalog.now files.now (length catalog.now.segments) limits.now }
-    requires frames { 24 ≤ catalog.now.frames }
+    requires frames { least_frames ≤ catalog.now.frames }
     requires snap { start_answer catalog.now files.now ≡ Ok snap }
     ensures image { IfOk result (λ image. IsImage catalog.now files.now image.snap image) }
     ensures snap { IfOk result (λ image. image.snap ≡ snap) }
@@ -81,7 +81,7 @@ fn started(
     requires files { length files.now ≡ length catalog.now.segments }
     requires short { All (λ w. length w ≤ 2 ^ 18) files.now }
     requires limits { AreLimits catalog.now files.now (length catalog.now.segments) limits.now }
-    requires frames { 24 ≤ catalog.now.frames }
+    requires frames { least_frames ≤ catalog.now.frames }
     requires gates { first_gate_fault catalog.now files.now 0 (length catalog.now.segments) ≡ None }
     ensures says { LaySays catalog.now files.now result }
     ensures answer { IfOk result (λ image. start_answer catalog.now files.now ≡ Ok image.snap) }
