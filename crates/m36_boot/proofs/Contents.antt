@@ -15,7 +15,8 @@ use Rattle.m36_page.specs.declared.table.PageTable.{PageTable}
 use Rattle.m36_page.specs.Fields.{TableFields, PagerFields}
 use Rattle.m36_page.specs.Changes.{AreAbsent}
 use Rattle.m36_page.specs.Given.{table_given, pager_given}
-use Rattle.m36_page.specs.Residence.{is_of, table_of, has_page_in, spot_in, kept_in, has_page, spot_of, kept_word, frame_in, frame_of, word_in, page_word, content_by, content_of, HasFrames}
+use Rattle.std.specs.Bool.{then_some}
+use Rattle.m36_page.specs.Residence.{is_of, table_of, has_page_in, spot_in, kept_in, has_page, spot_of, kept_word, frame_in, frame_of, word_in, page_word, content_of, HasFrames}
 use Rattle.m36_link.specs.Fields.{LayFields, SnapFields}
 use Rattle.m36_boot.specs.Segments.{booted_sdw, booted_words}
 use Rattle.m36_boot.specs.Start.{start_regs}
@@ -137,17 +138,17 @@ content_in : (p : PagerFields) (core : List ℕ) (seg w : ℕ) (t : TableFields)
     → content_of p core seg w ≡ cond (nat_lt (w / 1024) t.pages) (Some (get_or t.words w 0)) None
 unfolding content_of has_page page_word frame_of spot_of kept_word
 content_in p core seg w t at out =
-    ap (λ o. content_by (has_page_in o (w / 1024)) (word_in (frame_in (get_or core (spot_in o (w / 1024)) 0)) core w (kept_in o w))) at
+    ap (λ o. then_some (has_page_in o (w / 1024)) (word_in (frame_in (get_or core (spot_in o (w / 1024)) 0)) core w (kept_in o w))) at
     ∙ decided (nat_lt (w / 1024) t.pages) (λ e. ap frame_in (out (ltb-true (w / 1024) t.pages e)) ∙ absent_frame)
   where
     decided : (b : Bool) → (b ≡ true → frame_in (get_or core (t.at + w / 1024) 0) ≡ None)
-        → content_by b (word_in (frame_in (get_or core (t.at + w / 1024) 0)) core w (get_or t.words w 0)) ≡ cond b (Some (get_or t.words w 0)) None
+        → then_some b (word_in (frame_in (get_or core (t.at + w / 1024) 0)) core w (get_or t.words w 0)) ≡ cond b (Some (get_or t.words w 0)) None
     decided true away = ap (λ o. Some (word_in o core w (get_or t.words w 0))) (away refl)
     decided false away = refl
 
 content_none : (p : PagerFields) (core : List ℕ) (seg w : ℕ) → table_of p.tables seg ≡ None → content_of p core seg w ≡ None
 unfolding content_of has_page
-content_none p core seg w at = ap (λ o. content_by (has_page_in o (w / 1024)) (page_word p core seg w)) at
+content_none p core seg w at = ap (λ o. then_some (has_page_in o (w / 1024)) (page_word p core seg w)) at
 
 content_from : (catalog : CatalogFields) (files : List (List ℕ)) (lay : Option LayFields) (n seg w : ℕ) (core : List ℕ) (o : Option SdwFields) → AreFiles catalog files
     → IsMade catalog files lay n core → booted_sdw catalog files seg ≡ o

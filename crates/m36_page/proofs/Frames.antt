@@ -8,7 +8,8 @@ use Rattle.m36_model.specs.declared.place.Reference.{Reference}
 use Rattle.m36_page.specs.Fields.{TableFields, PagerFields}
 use Rattle.m36_page.specs.Changes.{is_pinned, IsPassed}
 use Rattle.m36_page.specs.Choice.{IsMarked, IsHeldSpot, AreInCore}
-use Rattle.m36_page.specs.Residence.{has_page, spot_of, kept_word, absent_ptw, resident_ptw, frame_in, without_used, frame_of, word_in, page_word, content_by, content_of, Holds, IsPager, TellsPage, Reads, HasFrames, IsSettled}
+use Rattle.std.specs.Bool.{then_some}
+use Rattle.m36_page.specs.Residence.{has_page, spot_of, kept_word, absent_ptw, resident_ptw, frame_in, without_used, frame_of, word_in, page_word, content_of, Holds, IsPager, TellsPage, Reads, HasFrames, IsSettled}
 
 -- ---- page table words
 
@@ -89,11 +90,11 @@ unfolding content_of
 content_same old core new now pages words seg w =
     elim (cases_Bool (has_page old seg (w / 1024))) [
       | inl has ↦
-          ap (λ b. content_by b (page_word new now seg w)) (pages seg (w / 1024))
-          ∙ ap (λ v. content_by (has_page old seg (w / 1024)) v) (words seg w has)
+          ap (λ b. then_some b (page_word new now seg w)) (pages seg (w / 1024))
+          ∙ ap (λ v. then_some (has_page old seg (w / 1024)) v) (words seg w has)
       | inr lacks ↦
-          ap (λ b. content_by b (page_word new now seg w)) (pages seg (w / 1024) ∙ lacks)
-          ∙ sym (ap (λ b. content_by b (page_word old core seg w)) lacks)
+          ap (λ b. then_some b (page_word new now seg w)) (pages seg (w / 1024) ∙ lacks)
+          ∙ sym (ap (λ b. then_some b (page_word old core seg w)) lacks)
     ]
 
 word_by : (f : Option ℕ) (core now : List ℕ) (w kept kept' : ℕ) → (f ≡ None → kept' ≡ kept)

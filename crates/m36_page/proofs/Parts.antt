@@ -12,7 +12,8 @@ use Rattle.m36_model.specs.declared.place.Reference.{Reference}
 use Rattle.m36_page.specs.Fields.{TableFields, PagerFields}
 use Rattle.m36_page.specs.Copied.{IsCopied}
 use Rattle.m36_page.specs.Choice.{IsFree, ArePinned, IsHeldSpot, IsMarked, AreInCore}
-use Rattle.m36_page.specs.Residence.{is_of, table_of, has_page_in, has_page, spot_of, kept_word, word_in, page_word, content_by, content_of, absent_ptw, resident_ptw, frame_in, frame_of, Holds, IsPager, Reads, HasFrames, IsSettled, IsInside}
+use Rattle.std.specs.Bool.{then_some}
+use Rattle.m36_page.specs.Residence.{is_of, table_of, has_page_in, has_page, spot_of, kept_word, word_in, page_word, content_of, absent_ptw, resident_ptw, frame_in, frame_of, Holds, IsPager, Reads, HasFrames, IsSettled, IsInside}
 use Rattle.m36_page.specs.Changes.{IsSpot, IsKept, is_to, is_pinned, AllPinned, Stays, IsFreeSpot, IsPassed, IsBrought}
 use Rattle.m36_page.specs.Moved.{HasWords, IsAway, IsTaken, IsEmptied}
 use Rattle.m36_page.proofs.Frames.{held_inside, unused_unmarked, marked_as}
@@ -393,19 +394,19 @@ frame_room p core seg page frame s has e =
 
 pub content_none : (p : PagerFields) (core : List ℕ) (seg w : ℕ) → has_page p seg (w / 1024) ≡ false → content_of p core seg w ≡ None
 unfolding content_of
-content_none p core seg w lacks = ap (λ b. content_by b (page_word p core seg w)) lacks
+content_none p core seg w lacks = ap (λ b. then_some b (page_word p core seg w)) lacks
 
 pub content_some : (p : PagerFields) (core : List ℕ) (seg w frame : ℕ) → has_page p seg (w / 1024) ≡ true
     → frame_of p core seg (w / 1024) ≡ Some frame → content_of p core seg w ≡ Some (get_or core (1024 * frame + w % 1024) 0)
 unfolding content_of page_word
 content_some p core seg w frame has e =
-    ap (λ b. content_by b (page_word p core seg w)) has ∙ ap (λ f. Some (word_in f core w (kept_word p seg w))) e
+    ap (λ b. then_some b (page_word p core seg w)) has ∙ ap (λ f. Some (word_in f core w (kept_word p seg w))) e
 
 pub content_kept : (p : PagerFields) (core : List ℕ) (seg w : ℕ) → has_page p seg (w / 1024) ≡ true
     → frame_of p core seg (w / 1024) ≡ None → content_of p core seg w ≡ Some (kept_word p seg w)
 unfolding content_of page_word
 content_kept p core seg w has e =
-    ap (λ b. content_by b (page_word p core seg w)) has ∙ ap (λ f. Some (word_in f core w (kept_word p seg w))) e
+    ap (λ b. then_some b (page_word p core seg w)) has ∙ ap (λ f. Some (word_in f core w (kept_word p seg w))) e
 
 -- the frame that a page table word names is one of core
 pub frame_here : (p : PagerFields) (core : List ℕ) (seg page spot frame : ℕ) (o : Option ℕ) → IsPager p → Reads p core → HasFrames p core

@@ -5,7 +5,8 @@ use Rattle.std.proofs.lemmas.Bool.{cases_eq, cases_Bool}
 use Rattle.std.proofs.lemmas.List.{get_or-set_same, get_or-set_other, length-set}
 use Rattle.m36_model.specs.Core.{unmarked}
 use Rattle.m36_page.specs.Fields.{TableFields, PagerFields}
-use Rattle.m36_page.specs.Residence.{is_of, has_page, spot_of, kept_word, resident_ptw, frame_in, frame_of, word_in, page_word, content_by, content_of, Holds, IsPager, TellsPage, Reads, IsSettled, IsInside}
+use Rattle.std.specs.Bool.{then_some}
+use Rattle.m36_page.specs.Residence.{is_of, has_page, spot_of, kept_word, resident_ptw, frame_in, frame_of, word_in, page_word, content_of, Holds, IsPager, TellsPage, Reads, IsSettled, IsInside}
 use Rattle.m36_page.specs.Changes.{IsSameShape, IsPaged, IsSet}
 use Rattle.m36_page.specs.Moved.{HasWords, IsKeptWord}
 use Rattle.m36_page.proofs.Frames.{held_inside, content_same, word_stays}
@@ -22,9 +23,9 @@ unfolding content_of
 content_other old core new now s w pages words =
     elim (cases_Bool (has_page old s (w / 1024))) [
       | inl has ↦
-          ap (λ b. content_by b (page_word new now s w)) pages ∙ ap (λ v. content_by (has_page old s (w / 1024)) v) (words has)
+          ap (λ b. then_some b (page_word new now s w)) pages ∙ ap (λ v. then_some (has_page old s (w / 1024)) v) (words has)
       | inr lacks ↦
-          ap (λ b. content_by b (page_word new now s w)) (pages ∙ lacks) ∙ sym (ap (λ b. content_by b (page_word old core s w)) lacks)
+          ap (λ b. then_some b (page_word new now s w)) (pages ∙ lacks) ∙ sym (ap (λ b. then_some b (page_word old core s w)) lacks)
     ]
 
 -- ---- in a frame

@@ -3,6 +3,7 @@
 use Rattle.std.specs.Prelude.{ℕ, ◌≡◌, ◌+◌, ◌*◌, ◌/◌, ◌%◌, ◌^◌, ◌<◌, ◌≤◌, ◌⊎◌, Bool, true, false}
 use Rattle.std.specs.Prelude.{nat_eq, nat_lt, if◌then◌else◌, List, length, position, slice_get}
 use Rattle.std.specs.Prelude.{slice_index, slice_index_or, All, Option, Some, None, option_and_then}
+use Rattle.std.specs.Bool.{then_some}
 use Rattle.m36_desc.specs.Descriptors.{ptw_of, ptw_word}
 use Rattle.m36_desc.specs.Fields.{PtwFields}
 use Rattle.m36_model.specs.Place.{frame_named}
@@ -71,12 +72,8 @@ page_word p core seg w = word_in (frame_of p core seg (w / 1024)) core w (kept_w
 
 -- the content of a word of a segment; None where the segment has no table or the word is
 -- past its pages
-abbrev pub content_by : Bool → ℕ → Option ℕ
-content_by true v = Some v
-content_by false v = None
-
 unfoldable pub content_of : PagerFields → List ℕ → ℕ → ℕ → Option ℕ
-content_of p core seg w = content_by (has_page p seg (w / 1024)) (page_word p core seg w)
+content_of p core seg w = then_some (has_page p seg (w / 1024)) (page_word p core seg w)
 
 -- ---- what a pager and its core keep
 

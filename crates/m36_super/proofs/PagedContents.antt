@@ -13,7 +13,8 @@ use Rattle.m36_model.specs.declared.outcome.Refusal.{Refusal}
 use Rattle.m36_isol.proofs.Laid.{page_of_word, absent_spot, resident_spot}
 use Rattle.m36_isol.proofs.Moved.{same_descriptors}
 use Rattle.m36_page.specs.Fields.{PagerFields}
-use Rattle.m36_page.specs.Residence.{has_page, frame_of, kept_word, word_in, content_by, content_of, HasFrames, IsPager, Reads}
+use Rattle.std.specs.Bool.{then_some}
+use Rattle.m36_page.specs.Residence.{has_page, frame_of, kept_word, word_in, content_of, HasFrames, IsPager, Reads}
 use Rattle.m36_page.specs.Residence as pages
 use Rattle.m36_page.specs.Changes.{IsSet}
 use Rattle.m36_link.specs.Known.{linkage_segment}
@@ -37,7 +38,7 @@ abbrev pub shown : Result SdwFields Refusal → Option ℕ → ℕ → ℕ
 shown (Err why) found w = 0
 shown (Ok d) found w = shown_by (in_order d) (within d w) found
 
-found_at : (b : Bool) (v : ℕ) → b ≡ true → found_word (content_by b v) ≡ v
+found_at : (b : Bool) (v : ℕ) → b ≡ true → found_word (then_some b v) ≡ v
 found_at true v e = refl
 found_at false v e = cc
 
@@ -191,7 +192,7 @@ pub ruleset words_put = (word_put, linkage_page, has_frames)
 
 pub ruleset found = (has_frames, page_there)
 
-none_by : (b : Bool) (v : ℕ) → b ≡ true → content_by b v ≡ None → ⊥
+none_by : (b : Bool) (v : ℕ) → b ≡ true → then_some b v ≡ None → ⊥
 none_by true v e h = cc
 none_by false v e h = cc
 

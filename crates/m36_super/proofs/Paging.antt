@@ -9,7 +9,8 @@ use Rattle.m36_model.specs.Residence.{ptw_of_page, IsResidence, resident_word}
 use Rattle.m36_isol.proofs.PagedStep.{paged_step_law}
 use Rattle.m36_isol.proofs.Moved.{same_descriptors, laid_by}
 use Rattle.m36_page.specs.Fields.{PagerFields}
-use Rattle.m36_page.specs.Residence.{has_page, spot_of, frame_of, kept_word, word_in, content_by, content_of, Holds, IsPager, TellsPage, Reads}
+use Rattle.std.specs.Bool.{then_some}
+use Rattle.m36_page.specs.Residence.{has_page, spot_of, frame_of, kept_word, word_in, content_of, Holds, IsPager, TellsPage, Reads}
 use Rattle.m36_page.specs.Residence as pages
 use Rattle.m36_page.specs.Changes.{IsPaged, IsSameShape}
 use Rattle.m36_page.proofs.Frames.{frame_absent, frame_resident}
@@ -112,7 +113,7 @@ module _ (frames : ℕ) (core : List ℕ) (p : PagerFields) (most : wired_frames
           let pair = one_some _ (seg, page) (seg', page') (subst (λ (n : ℕ). Holds p n seg page) same h.holds) k.holds in
           (ap (λ (x : ℕ × ℕ). x.0) pair, ap (λ (x : ℕ × ℕ). x.1) pair)
 
-content_parts : (a b : Bool) (x y : ℕ) → a ≡ true → b ≡ true → content_by a x ≡ content_by b y → x ≡ y
+content_parts : (a b : Bool) (x y : ℕ) → a ≡ true → b ≡ true → then_some a x ≡ then_some b y → x ≡ y
 content_parts true true x y e f h = cc
 content_parts true false x y e f h = cc
 content_parts false b x y e f h = cc
