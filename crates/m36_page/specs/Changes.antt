@@ -35,12 +35,15 @@ pub record IsKept (old : PagerFields) (core : List ℕ) (new : PagerFields)
   pub content : (seg w : ℕ) → content_of new now seg w ≡ content_of old core seg w
   pub others : (a : ℕ) → (IsPaged old a → ⊥) → slice_index now a ≡ slice_index core a
 
--- Frames other than frame k hold the pages that they held, and of core no word has changed but the
--- page table word of the page that frame k held.
+-- frames other than frame k hold the pages that they held
+abbrev pub OthersHold : PagerFields → PagerFields → ℕ → Type 0
+OthersHold old new k =
+    (j : ℕ) → j ≢ k → slice_index_or new.holders j None ≡ slice_index_or old.holders j None
+
+-- They do, and of core no word has changed but the page table word of the page that frame k held.
 pub record OthersStay (old : PagerFields) (core : List ℕ) (new : PagerFields) (now : List ℕ)
     (k : ℕ) : Type 0 where
-  pub holders : (j : ℕ) → j ≢ k
-      → slice_index_or new.holders j None ≡ slice_index_or old.holders j None
+  pub holders : OthersHold old new k
   pub words : (a : ℕ) → ((seg page : ℕ) → Holds old k seg page → a ≢ spot_of old seg page)
       → slice_index now a ≡ slice_index core a
 
@@ -125,8 +128,7 @@ pub record IsBrought (old : PagerFields) (core : List ℕ) (new : PagerFields) (
   pub resident : IsSome (frame_of new now seg page)
   pub stays : All (Stays old core new now) refs
   pub k : ℕ
-  pub holders : (j : ℕ) → j ≢ k
-      → slice_index_or new.holders j None ≡ slice_index_or old.holders j None
+  pub holders : OthersHold old new k
   pub spot : frame_of old core seg page ≡ None
       → slice_index now (spot_of old seg page) ≡ resident_ptw (old.first + k)
   pub away : (s q : ℕ) → frame_of old core seg page ≡ None → Holds old k s q
