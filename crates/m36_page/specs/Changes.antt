@@ -4,6 +4,7 @@ use Rattle.std.specs.Prelude.{◌&&◌, nat_eq, if◌then◌else◌, List, lengt
 use Rattle.std.specs.Prelude.{slice_index_or, slice_set, All, Option, Some, None, IsSome}
 use Rattle.std.specs.List.{list_any}
 use Rattle.m36_model.specs.declared.place.Reference.{Reference}
+use Rattle.m36_page.specs.Copied.{IsOutside}
 use Rattle.m36_page.specs.Fields.{TableFields, PagerFields}
 use Rattle.m36_page.specs.Residence.{has_page, spot_of, kept_word, absent_ptw, resident_ptw}
 use Rattle.m36_page.specs.Residence.{without_used, frame_of, content_of, Holds}
@@ -135,5 +136,5 @@ pub record IsBrought (old : PagerFields) (core : List ℕ) (new : PagerFields) (
       → slice_index now (spot_of old s q) ≡ absent_ptw
   pub words : (a : ℕ) → a ≢ spot_of old seg page
       → ((s q : ℕ) → Holds old k s q → a ≢ spot_of old s q)
-      → (a < 1024 * (old.first + k)) ⊎ (1024 * (old.first + k) + 1024 ≤ a)
+      → IsOutside (1024 * (old.first + k)) 1024 a
       → IsPassed (IsFreeSpot old refs) core now a

@@ -1,6 +1,7 @@
 -- A page that is put away, and one that is taken in: what has changed, word by word.
 use Rattle.std.specs.Prelude.{ℕ, ◌≡◌, ◌≢◌, ◌+◌, ◌*◌, ◌/◌, ◌%◌, ◌<◌, ◌≤◌, ◌⊎◌, true, List, length}
 use Rattle.std.specs.Prelude.{slice_index, slice_index_or, slice_set, position, Option, Some, None}
+use Rattle.m36_page.specs.Copied.{IsOutside}
 use Rattle.m36_page.specs.Fields.{TableFields, PagerFields}
 use Rattle.m36_page.specs.Residence.{is_of, has_page, spot_of, kept_word, absent_ptw, resident_ptw}
 use Rattle.m36_page.specs.Residence.{frame_of, Holds, IsPager, IsSettled}
@@ -47,8 +48,7 @@ pub record IsTaken (p : PagerFields) (core : List ℕ) (new : PagerFields) (now 
   pub spot : slice_index now (spot_of p seg page) ≡ resident_ptw (p.first + k)
   pub page_in : (i : ℕ) → i < 1024
       → slice_index now (1024 * (p.first + k) + i) ≡ kept_word p seg (1024 * page + i)
-  pub others : (a : ℕ) → a ≢ spot_of p seg page → (a < 1024 * (p.first + k))
-      ⊎ (1024 * (p.first + k) + 1024 ≤ a)
+  pub others : (a : ℕ) → a ≢ spot_of p seg page → IsOutside (1024 * (p.first + k)) 1024 a
       → slice_index now a ≡ slice_index core a
 
 -- A frame was emptied, if it held a page: all other pages stay where they are.
