@@ -7,7 +7,7 @@ use Rattle.m36_desc.specs.Fields.{SdwFields}
 use Rattle.m36_desc.specs.Access.{in_order}
 use Rattle.m36_desc.specs.Descriptors.{sdw_of, sdw_even, sdw_odd}
 use Rattle.m36_model.specs.Place.{core_sdw, page_count}
-use Rattle.m36_model.specs.BootedCore.{descriptor_words, booted_dbr, wired_frames, table_at}
+use Rattle.m36_model.specs.BootedCore.{descriptor_words, booted_dbr, wired_frames, table_words, table_at}
 use Rattle.m36_model.specs.BootedCore.{absent_ptw, IsPage, IsLaid}
 use Rattle.m36_model.specs.Flat.{Flat}
 use Rattle.m36_model.specs.Residence.{Paged, flat_of}
@@ -35,13 +35,13 @@ abbrev pub page_table_word : ℕ → Option SdwFields → ℕ
 page_table_word page None = 0
 page_table_word page (Some d) = if nat_lt page (page_count d) then absent_ptw else 0
 
--- the word of core at a place: descriptors, then page tables of 256 words, and then empty frames
+-- the word of core at a place: descriptors, then page tables, and then empty frames
 unfoldable pub booted_word : CatalogFields → List (List ℕ) → ℕ → ℕ
 booted_word catalog files a =
     if nat_lt a descriptor_words then descriptor_word (a % 2) (booted_sdw catalog files (a / 2))
     else if nat_lt a (1024 * wired_frames)
-    then page_table_word ((a - descriptor_words) % 256)
-    (booted_sdw catalog files ((a - descriptor_words) / 256))
+    then page_table_word ((a - descriptor_words) % table_words)
+    (booted_sdw catalog files ((a - descriptor_words) / table_words))
     else 0
 
 -- The words of a descriptor are read back as it, and its brackets are in order.

@@ -7,7 +7,7 @@ use Rattle.std.specs.Prelude.{slice_index_or, Option, Some, None}
 use Rattle.m36_desc.specs.Fields.{SdwFields}
 use Rattle.m36_desc.specs.Descriptors.{ptr_even, ptr_odd}
 use Rattle.m36_model.specs.Pointers.{pointer}
-use Rattle.m36_model.specs.BootedCore.{table_at}
+use Rattle.m36_model.specs.BootedCore.{table_words, table_at}
 use Rattle.m36_dir.specs.declared.segment.SegKind.{SegKind}
 use Rattle.m36_dir.specs.declared.segment.SegKind.TheVariants as kind
 use Rattle.m36_dir.specs.Fields.{SegmentFields}
@@ -33,8 +33,9 @@ behind_rings = 24
 abbrev pub stack_pages : ℕ
 stack_pages = 16
 
+-- all the pages of a segment
 abbrev pub linkage_pages : ℕ
-linkage_pages = 256
+linkage_pages = table_words
 
 -- a file has no more words than a segment
 abbrev pub is_short : List ℕ → Bool

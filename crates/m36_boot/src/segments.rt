@@ -2,7 +2,7 @@
 
 ghost use Rattle.std.specs.Prelude.{◌≡◌, ◌+◌, ◌*◌, ◌/◌, ◌<◌, ◌≤◌, ◌^◌, ◌⊎◌, length, All, IfOk, IfSome, true};
 ghost use Rattle.m36_desc.specs.Access.{in_order};
-ghost use Rattle.m36_model.specs.BootedCore.{table_at, booted_segments};
+ghost use Rattle.m36_model.specs.BootedCore.{table_words, table_at, booted_segments};
 ghost use Rattle.m36_link.specs.Known.{first_segment};
 ghost use Rattle.m36_boot.specs.Segments.{first_stack, behind_rings, paged_segment, ring_segment, limited_segment, booted_sdw, stack_words, lot_of, linkage_words, booted_words};
 ghost use Rattle.m36_boot.specs.Refusals.{IsLimit, AreLimits};
@@ -62,7 +62,7 @@ fn ring_segment(seg: u16, ring: u8, pages: u16) -> Sdw
     requires seg { seg < booted_segments }
     requires ring { ring < 8 }
     requires some { 1 ≤ pages }
-    requires most { pages ≤ 256 }
+    requires most { pages ≤ table_words }
     ensures value { result ≡ ring_segment seg ring pages }
     ensures ordered { in_order result ≡ true }
 {

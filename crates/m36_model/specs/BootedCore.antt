@@ -16,12 +16,16 @@ descriptor_words = 2048
 abbrev pub booted_dbr : DbrFields
 booted_dbr = record { addr = 0; bnd = 127; unpaged = true; stack = 1 }
 
--- segments have page tables of 256 words, one behind another
+-- the words of a page table: a segment has at most so many pages
+abbrev pub table_words : ℕ
+table_words = 256
+
+-- so many segments have page tables, one behind another
 abbrev pub booted_segments : ℕ
 booted_segments = 576
 
 abbrev pub table_at : ℕ → ℕ
-table_at seg = descriptor_words + 256 * seg
+table_at seg = descriptor_words + table_words * seg
 
 -- the frames of the descriptor segment and of the page tables; the pageable frames come behind them
 abbrev pub wired_frames : ℕ
@@ -39,7 +43,7 @@ pub record IsLaidSegment (seg : ℕ) (d : SdwFields) : Type 0 where
   pub number : seg < booted_segments
   pub paged : d.unpaged ≡ false
   pub table : d.addr ≡ table_at seg
-  pub size : last_page d < 256
+  pub size : last_page d < table_words
   pub ordered : in_order d ≡ true
 
 -- a page that begins within the bound of a live segment
