@@ -4,7 +4,7 @@
 -- Catalog segment i has segment number 64 + i, and the linkage segment of ring r has 16 + r. Its
 -- words 0 to 1023 are the linkage offset table of the ring; sections are laid from word 1024 on,
 -- one after another, each at an even word.
-use Rattle.std.specs.Prelude.{ℕ, ◌+◌, ◌-◌, ◌*◌, ◌%◌, ◌^◌, Bool, ◌&&◌, nat_eq, nat_le, if◌then◌else◌}
+use Rattle.std.specs.Prelude.{ℕ, ◌+◌, ◌-◌, ◌*◌, ◌^◌, Bool, ◌&&◌, nat_eq, nat_le, if◌then◌else◌}
 use Rattle.std.specs.Prelude.{List, [], ◌∷◌, ◌++◌, find, slice_get, Option, Some, None}
 use Rattle.std.specs.Prelude.{option_and_then}
 use Rattle.std.specs.Map.{lookup}
@@ -13,7 +13,7 @@ use Rattle.m36_text.specs.Texts.{are_same}
 use Rattle.m36_dir.specs.Fields.{SegmentFields}
 use Rattle.m36_dir.specs.Catalog.{CatalogFields}
 use Rattle.obj36_parts.specs.PartsFields.{PartsFields}
-use Rattle.obj36_parts.specs.ObjectSegment.{linkage_section, outer_statics}
+use Rattle.obj36_parts.specs.ObjectSegment.{evened, linkage_section, outer_statics}
 use Rattle.obj36.specs.ObjectOf.{object_of}
 use Rattle.m36_link.specs.Fields.{RingNameFields, LaidFields, LayFields, KnownFields}
 
@@ -73,7 +73,7 @@ laid_in laid ring seg = find (is_laid_of ring seg) laid
 
 -- the even word behind a section
 unfoldable pub behind : LaidFields → ℕ
-behind l = l.base + l.size + (l.base + l.size) % 2
+behind l = evened (l.base + l.size)
 
 -- where the next section of a ring goes, where it would go to a word if no further one were laid
 abbrev pub base_behind : ℕ → ℕ → LaidFields → ℕ
