@@ -32,10 +32,15 @@ is_symbol Text = false
 is_symbol Linkage = false
 is_symbol Static = false
 
+-- the table with a definition of an object, which stands there as this one; of class symbol none
+abbrev pub with_counted : List (List ℕ × Export) → Named → DefFields → List (List ℕ × Export)
+with_counted table d def =
+    if is_symbol d.def.section then table else with_export table d.name def
+
 -- ---- the definitions of one component, as they are there
 
 abbrev pub with_own : List (List ℕ × Export) → Named → List (List ℕ × Export)
-with_own table d = if is_symbol d.def.section then table else with_export table d.name d.def
+with_own table d = with_counted table d d.def
 
 unfoldable pub own_from : List (List ℕ × Export) → List Named → List (List ℕ × Export)
 own_from table [] = table
@@ -49,8 +54,7 @@ def_moved m d =
     record { section = s.section; value = s.offset; is_entry = d.is_entry }
 
 abbrev pub with_moved : Moving → List (List ℕ × Export) → Named → List (List ℕ × Export)
-with_moved m table d =
-    if is_symbol d.def.section then table else with_export table d.name (def_moved m d.def)
+with_moved m table d = with_counted table d (def_moved m d.def)
 
 unfoldable pub moved_from : Moving → List (List ℕ × Export) → List Named → List (List ℕ × Export)
 moved_from m table [] = table

@@ -1,7 +1,7 @@
 //! Tables of definitions by name.
 
 ghost use Rattle.std.specs.Prelude.{ℕ, ◌≡◌, ◌^◌, ◌<◌, [], IfOk, OnOk, option_map};
-ghost use Rattle.m36_relocate.specs.Exports.{export_named, export_behind, with_export, is_symbol, with_own, own_from, def_moved, with_moved, moved_from};
+ghost use Rattle.m36_relocate.specs.Exports.{export_named, export_behind, with_export, is_symbol, with_counted, with_own, own_from, def_moved, with_moved, moved_from};
 
 use crate::layout::{Moving, spot_moved};
 use indexmap::IndexMap;
@@ -81,6 +81,16 @@ impl Exports {
             .insert(name.copied(), export_behind(def, first))?;
         Ok(())
     }
+
+    // Adds a definition of an object, which stands there as this one, unless it is of class symbol.
+    fn add_counted(&mut self, d: &Named, def: Def) -> Result<(), NoMemory>
+        ensures { OnOk result (self.new ≡ with_counted self.old d.now def) }
+    {
+        if is_symbol(d.def.section) {
+            return Ok(());
+        }
+        self.add(&d.name, def)
+    }
 }
 
 fn is_symbol(section: Section) -> bool
@@ -92,10 +102,7 @@ fn is_symbol(section: Section) -> bool
 fn add_own(table: &mut Exports, d: &Named) -> Result<(), NoMemory>
     ensures { OnOk result (table.new ≡ with_own table.old d.now) }
 {
-    if is_symbol(d.def.section) {
-        return Ok(());
-    }
-    table.add(&d.name, d.def)
+    table.add_counted(d, d.def)
 }
 
 /// The definitions of one object, as they are there. Those of class symbol count as none. The error is want of memory.
@@ -126,10 +133,7 @@ fn def_moved(m: &Moving, def: Def) -> Def
 fn add_one_moved(table: &mut Exports, m: &Moving, d: &Named) -> Result<(), NoMemory>
     ensures { OnOk result (table.new ≡ with_moved m.now table.old d.now) }
 {
-    if is_symbol(d.def.section) {
-        return Ok(());
-    }
-    table.add(&d.name, def_moved(m, d.def))
+    table.add_counted(d, def_moved(m, d.def))
 }
 
 /// Adds the definitions of a component, where they go. The error is want of memory.
