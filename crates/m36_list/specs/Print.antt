@@ -23,6 +23,13 @@ line fields = as_line (join_with_byte 32 fields)
 abbrev pub object_line : List ℕ → PartsFields → List ℕ
 object_line name p = line (codes "object" ∷ name ∷ decimal_text (length (words_of p)) ∷ [])
 
+-- the name of a section, by which the class of a definition is told too
+abbrev pub section_text : Section → List ℕ
+section_text Text = codes "text"
+section_text Linkage = codes "linkage"
+section_text Symbol = codes "symbol"
+section_text Static = codes "static"
+
 -- where a section begins, and how many words it has
 abbrev pub section_line : List ℕ → ℕ → ℕ → List ℕ
 section_line name at len = line (name ∷ octal_text 6 at ∷ octal_text 6 len ∷ [])
@@ -43,30 +50,24 @@ symbol_at p =
 -- version 2 has a section of its own for static words
 abbrev pub static_line : PartsFields → List ℕ
 static_line p =
-    if is_newer p then section_line (codes "static") (statics_at p) (length p.statics) else []
+    if is_newer p then section_line (section_text Static) (statics_at p) (length p.statics) else []
 
 abbrev pub value_line : List ℕ → ℕ → List ℕ
 value_line name v = line (name ∷ octal_text 6 v ∷ [])
 
 unfoldable pub section_lines : PartsFields → List ℕ
 section_lines p =
-    section_line (codes "text") 0 (length p.text)
+    section_line (section_text Text) 0 (length p.text)
     ++ section_line (codes "definition") (length p.text) (length (definition_section p))
-    ++ section_line (codes "linkage") (linkage_at p) (length (linkage_section p))
+    ++ section_line (section_text Linkage) (linkage_at p) (length (linkage_section p))
     ++ static_line p
-    ++ section_line (codes "symbol") (symbol_at p) (length (symbol_section p))
+    ++ section_line (section_text Symbol) (symbol_at p) (length (symbol_section p))
     ++ value_line (codes "entrybound") p.entry_bound
 
--- a definition: its name, its class and its value, and that it is an entry
-abbrev pub class_text : Section → List ℕ
-class_text Text = codes "text"
-class_text Linkage = codes "linkage"
-class_text Symbol = codes "symbol"
-class_text Static = codes "static"
-
+-- a definition: its name, the section of its class and its value, and that it is an entry
 abbrev pub definition_fields : Named → List (List ℕ)
 definition_fields d =
-    codes "def" ∷ d.name ∷ class_text d.def.section ∷ octal_text 6 d.def.value ∷ []
+    codes "def" ∷ d.name ∷ section_text d.def.section ∷ octal_text 6 d.def.value ∷ []
 
 unfoldable pub definition_line : Named → List ℕ
 definition_line d =

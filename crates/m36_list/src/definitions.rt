@@ -2,7 +2,7 @@
 
 ghost use Rattle.std.specs.Prelude.{◌++◌, ◌≡◌, OnOk};
 ghost use Rattle.std.specs.List.{flat_map};
-ghost use Rattle.m36_list.specs.Print.{class_text, definition_line};
+ghost use Rattle.m36_list.specs.Print.{section_text, definition_line};
 
 use crate::fields::{put_field, put_last, put_last_number, put_number};
 use m36_outside::Text;
@@ -11,7 +11,7 @@ use obj36::{Named, Section};
 
 /// The name of a definition's class.
 fn class(section: Section) -> &'static str
-    ensures { result.now ≡ class_text section }
+    ensures { result.now ≡ section_text section }
 {
     match section {
         Section::Text => "text",
