@@ -7,9 +7,9 @@ use Rattle.alm_parse.specs.SourceFields.{Source}
 use Rattle.obj36_parts.specs.declared.section.Section.{Section}
 use Rattle.obj36_parts.specs.declared.section.Section.TheVariants.{Text, Linkage, Static}
 use Rattle.obj36_parts.specs.PartsFields.{PartsFields}
-use Rattle.obj36_parts.specs.ObjectSegment.{inner_statics, outer_statics, head_words}
+use Rattle.obj36_parts.specs.ObjectSegment.{inner_statics, outer_statics}
 use Rattle.alm_lines.specs.SpotFields.{Spot}
-use Rattle.alm_lines.specs.Spots.{start, place, size_of, below}
+use Rattle.alm_lines.specs.Spots.{start, place_in, place, size_of, below}
 use Rattle.alm_asm.specs.Words.{same_section}
 use Rattle.m36_list.specs.Print.{line, print_of}
 
@@ -39,12 +39,15 @@ section_words name section text at words spot (row ∷ lines) =
     placed_lines name row.line at here
     ++ section_words name section text (at + length here) left (below text spot row) lines
 
--- Text, static words of the linkage section, which stand behind the words of its head, and
--- those of a section of their own; then the print.
+-- the words of a section, from the place where its first line is on
+abbrev pub listed : List ℕ → Section → Source → List ℕ → List ℕ
+listed name section source words =
+    section_words name section source.text (place_in section start) words start source.lines
+
+-- Text, static words of the linkage section, and those of a section of their own; then the print.
 unfoldable pub listing_of : List ℕ → Source → PartsFields → List ℕ
 listing_of name source p =
-    section_words (codes "text") Text source.text 0 p.text start source.lines
-    ++ section_words (codes "link") Linkage source.text head_words (inner_statics p) start
-    source.lines
-    ++ section_words (codes "static") Static source.text 0 (outer_statics p) start source.lines
+    listed (codes "text") Text source p.text
+    ++ listed (codes "link") Linkage source (inner_statics p)
+    ++ listed (codes "static") Static source (outer_statics p)
     ++ print_of name p
