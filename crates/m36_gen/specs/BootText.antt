@@ -1,7 +1,7 @@
 -- The boot text of the folder that a seed makes, which is the same for each seed.
 use Rattle.std.specs.Prelude.{ℕ, List, ◌++◌, codes}
 use Rattle.std.specs.List.{flat_map, range_with_len}
-use Rattle.m36_gen.specs.Lines.{line, program_count, segment_name}
+use Rattle.m36_gen.specs.Lines.{line, program_count, data_name, gate_name, segment_name}
 
 -- a segment, whose file has its name, with its kind, its mode and its brackets
 unfoldable pub segment_line : List ℕ → List ℕ → List ℕ
@@ -19,6 +19,6 @@ boot_text =
     line (codes "frames 32")
     ++ line (codes "work >gen")
     ++ program_lines program_count
-    ++ segment_line (codes "d_") (codes "data rw 4 4 4")
-    ++ segment_line (codes "stop_") (codes "gate rep 0 0 4")
+    ++ segment_line data_name (codes "data rw 4 4 4")
+    ++ segment_line gate_name (codes "gate rep 0 0 4")
     ++ line (codes "start 4 " ++ segment_name 0 ++ codes "$start")

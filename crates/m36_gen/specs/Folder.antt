@@ -5,7 +5,7 @@ use Rattle.std.specs.List.{range_with_len}
 use Rattle.m36_text.specs.Packing.{packed}
 use Rattle.m36_gen.specs.declared.files.File.{File}
 use Rattle.m36_gen.specs.Draws.{draws_from, state_at}
-use Rattle.m36_gen.specs.Lines.{program_count, source_name}
+use Rattle.m36_gen.specs.Lines.{program_count, data_name, gate_name, source_name}
 use Rattle.m36_gen.specs.Sources.{source_text, stop_text}
 use Rattle.m36_gen.specs.BootText.{boot_text}
 
@@ -27,12 +27,12 @@ unfoldable pub zeros : ℕ → List ℕ
 zeros count = replicate count 0
 
 unfoldable pub sources_of : ℕ → List File
-sources_of seed = source_files seed program_count ++ file (codes "stop_.alm") stop_text ∷ []
+sources_of seed = source_files seed program_count ++ file (gate_name ++ codes ".alm") stop_text ∷ []
 
 -- the files beside the sources, which are the same for each seed
 unfoldable pub other_files : List File
 other_files =
-    file (codes "d_") (packed (zeros data_words)) ∷ file (codes "boot") boot_text ∷ []
+    file data_name (packed (zeros data_words)) ∷ file (codes "boot") boot_text ∷ []
 
 unfoldable pub files_of : ℕ → List File
 files_of seed = sources_of seed ++ other_files

@@ -15,6 +15,13 @@ numbered before n behind = line (before ++ decimal_text n ++ behind)
 abbrev pub program_count : ℕ
 program_count = 64
 
+-- the segment of the data, and that of the gate
+abbrev pub data_name : List ℕ
+data_name = codes "d_"
+
+abbrev pub gate_name : List ℕ
+gate_name = codes "stop_"
+
 unfoldable pub segment_name : ℕ → List ℕ
 segment_name i = codes "g" ++ decimal_text i
 

@@ -2,7 +2,7 @@
 -- the gate, and the gate, which stops.
 use Rattle.std.specs.Prelude.{ℕ, ◌+◌, ◌-◌, nat_eq, if◌then◌else◌, List, ◌++◌, codes}
 use Rattle.m36_gen.specs.declared.draws.Draws.{Draws}
-use Rattle.m36_gen.specs.Lines.{line, numbered, program_count, segment_name}
+use Rattle.m36_gen.specs.Lines.{line, numbered, program_count, segment_name, data_name, gate_name}
 
 -- The entry, by which the linkage section of the segment is found.
 unfoldable pub entry_lines : List ℕ
@@ -14,7 +14,7 @@ entry_lines =
 -- The loop adds to X1 as often as X2 counts,
 unfoldable pub adding_lines : Draws → List ℕ
 adding_lines draws =
-    numbered (codes " epp1 d_$+") draws.offset (codes "")
+    numbered (codes " epp1 " ++ data_name ++ codes "$+") draws.offset (codes "")
     ++ numbered (codes " eax2 ") draws.count (codes "")
     ++ numbered (codes "loop: eax1 ") draws.add (codes ",x1")
 
@@ -31,7 +31,7 @@ loop_lines draws = adding_lines draws ++ storing_lines
 -- what follows the loop: the next program, or the gate behind the last
 unfoldable pub following_line : ℕ → List ℕ
 following_line i =
-    if nat_eq i (program_count - 1) then line (codes " call6 stop_$stop")
+    if nat_eq i (program_count - 1) then line (codes " call6 " ++ gate_name ++ codes "$stop")
     else line (codes " tra " ++ segment_name (i + 1) ++ codes "$start")
 
 unfoldable pub source_text : ℕ → Draws → List ℕ
