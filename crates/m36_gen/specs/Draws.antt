@@ -9,13 +9,17 @@ next x = (6364136223846793005 * x + 1442695040888963407) % 2 ^ 64
 abbrev pub drawn : ℕ → ℕ
 drawn x = x / 2 ^ 33
 
+-- the offsets in the data, behind which the words of a source stand, are below this
+abbrev pub offset_bound : ℕ
+offset_bound = 65536
+
 -- Three draws make a source: what its loop adds, how often it goes round, and where in the data its
 -- words stand.
 unfoldable pub draws_from : ℕ → Draws
 draws_from x = record {
   add = drawn (next x) % 1000;
   count = 1 + drawn (next (next x)) % 200;
-  offset = drawn (next (next (next x))) % 65536;
+  offset = drawn (next (next (next x))) % offset_bound;
 }
 
 -- where the sequence of a seed stands before source i

@@ -1,10 +1,10 @@
 -- The files of the folder that a seed makes: the sources, the data and the boot text, in this
 -- order.
-use Rattle.std.specs.Prelude.{ℕ, List, [], ◌∷◌, ◌++◌, map, replicate, codes}
+use Rattle.std.specs.Prelude.{ℕ, ◌+◌, List, [], ◌∷◌, ◌++◌, map, replicate, codes}
 use Rattle.std.specs.List.{range_with_len}
 use Rattle.m36_text.specs.Packing.{packed}
 use Rattle.m36_gen.specs.declared.files.File.{File}
-use Rattle.m36_gen.specs.Draws.{draws_from, state_at}
+use Rattle.m36_gen.specs.Draws.{offset_bound, draws_from, state_at}
 use Rattle.m36_gen.specs.Lines.{program_count, data_name, gate_name, source_name}
 use Rattle.m36_gen.specs.Sources.{source_text, stop_text}
 use Rattle.m36_gen.specs.BootText.{boot_text}
@@ -19,9 +19,9 @@ source_file seed i = file (source_name i) (source_text i (draws_from (state_at s
 unfoldable pub source_files : ℕ → ℕ → List File
 source_files seed count = map (source_file seed) (range_with_len 0 count)
 
--- Each program leaves at most 200 words, from one behind an offset below 2^16 on.
+-- Each program leaves at most 200 words, from one behind its offset on.
 unfoldable pub data_words : ℕ
-data_words = 65792
+data_words = offset_bound + 256
 
 unfoldable pub zeros : ℕ → List ℕ
 zeros count = replicate count 0
