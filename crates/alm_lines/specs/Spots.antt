@@ -112,12 +112,13 @@ abbrev pub moved_by : List ℕ → Deed → List Arg → Spot → Spot
 moved_by text deed.Use arguments spot =
     entered spot (section_in text (symbol_in (first_arg arguments)))
 moved_by text deed.Nothing arguments spot = spot
-moved_by text (deed.Instruction code bit27) arguments spot = grown spot 1
+moved_by text (deed.Instruction code bit27) arguments spot =
+    grown spot (size_of (deed.Instruction code bit27) arguments (place spot))
 moved_by text deed.Entry arguments spot = spot
 moved_by text deed.Segdef arguments spot = spot
 moved_by text deed.Equ arguments spot = spot
 moved_by text deed.Words arguments spot = grown spot (size_of deed.Words arguments (place spot))
-moved_by text deed.Zero arguments spot = grown spot 1
+moved_by text deed.Zero arguments spot = grown spot (size_of deed.Zero arguments (place spot))
 moved_by text deed.Block arguments spot = grown spot (size_of deed.Block arguments (place spot))
 moved_by text deed.Even arguments spot = grown spot (size_of deed.Even arguments (place spot))
 moved_by text deed.Bound arguments spot = spot
