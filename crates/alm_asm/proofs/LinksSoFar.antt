@@ -20,7 +20,7 @@ use Rattle.obj36_parts.specs.ObjectSegment.{is_text_section}
 use Rattle.alm_lines.specs.Arguments.{first_arg}
 use Rattle.alm_lines.specs.Spots.{below}
 use Rattle.alm_lines.specs.SpotFields.{Spot}
-use Rattle.alm_lines.specs.Refusals.{sooner, refusal_at, has_value}
+use Rattle.alm_lines.specs.Refusals.{offset_limit, sooner, refusal_at, has_value}
 use Rattle.alm_lines.specs.declared.sum.Sum.{Sum}
 use Rattle.alm_lines.specs.declared.refusal.Code.TheVariants.{E7}
 use Rattle.alm_lines.specs.declared.refusal.Room.TheVariants.{Half}
@@ -103,9 +103,9 @@ same_place text symbols first l links spot line lines given =
 -- The reach is judged only of a link, and an operand without a value is none.
 same_by_value : (text : List ℕ) (symbols : List (List ℕ × Sum)) (first : ℕ) (l : LinkFields) (links : List LinkFields) (spot : Spot) (line : Line36) (lines : List Line36) (valued : Bool)
     → link_in text symbols spot (first_arg (operand_args line.deed line.args)) ≡ cond valued (Some l) None
-    → (not valued || nat_lt (link_place (links_after text symbols links spot line) first l) 16384)
-    ≡ (not valued || nat_lt (link_place (links_from text symbols links spot (line ∷ lines)) first l) 16384)
-same_by_value text symbols first l links spot line lines true given = ap (λ place. nat_lt place 16384) (same_place text symbols first l links spot line lines given)
+    → (not valued || nat_lt (link_place (links_after text symbols links spot line) first l) offset_limit)
+    ≡ (not valued || nat_lt (link_place (links_from text symbols links spot (line ∷ lines)) first l) offset_limit)
+same_by_value text symbols first l links spot line lines true given = ap (λ place. nat_lt place offset_limit) (same_place text symbols first l links spot line lines given)
 same_by_value text symbols first l links spot line lines false given = refl
 
 same_reach : (text : List ℕ) (tables : Tables) (links : List LinkFields) (spot : Spot) (line : Line36) (lines : List Line36) (segment : Span) (entry : Option Span) (terms : List Term) (tag : ℕ)

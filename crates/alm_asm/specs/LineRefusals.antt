@@ -17,7 +17,7 @@ use Rattle.obj36_parts.specs.Fields.{LinkFields}
 use Rattle.alm_lines.specs.Arguments.{first_arg, second_arg, symbol_in, terms_in, section_in}
 use Rattle.alm_lines.specs.Spots.{below}
 use Rattle.alm_lines.specs.Expressions.{expression_place}
-use Rattle.alm_lines.specs.Refusals.{sooner, refusal_at, expression_refusal, has_value}
+use Rattle.alm_lines.specs.Refusals.{offset_limit, sooner, refusal_at, expression_refusal, has_value}
 use Rattle.alm_asm.specs.Links.{link_of, link_place}
 use Rattle.alm_asm.specs.Definitions.{gives_entries, definitions_after, definitions_refused}
 use Rattle.alm_lines.specs.SpotFields.{Spot}
@@ -64,7 +64,7 @@ unfoldable pub is_in_reach : List ℕ → Tables → Spot → Span → Option Sp
 is_in_reach text tables spot segment entry terms tag =
     nat_lt
     (link_place tables.links tables.first_link
-    (link_of text tables.symbols spot segment entry terms tag)) 16384
+    (link_of text tables.symbols spot segment entry terms tag)) offset_limit
 
 abbrev pub own_room : Option ℕ → Room
 own_room (Some pr) = Offset

@@ -20,7 +20,7 @@ use crate::tables::Tables;
 use alm_lines::arguments::{first_symbol, first_terms, second_terms, section_in};
 use alm_lines::expression::expression_place;
 use alm_lines::refusal::{
-    Code, Refusal, Room, Wanted, expression_refusal, has_value, refusal_at, sooner,
+    Code, OFFSET_LIMIT, Refusal, Room, Wanted, expression_refusal, has_value, refusal_at, sooner,
 };
 use alm_lines::spot::{Spot, below};
 use alm_lines::symbols::Symbols;
@@ -83,7 +83,7 @@ fn is_in_reach(
     ensures { result ≡ is_in_reach text.now tables.now spot segment entry terms.now tag }
 {
     let link = link_of(text, &tables.symbols, spot, segment, entry, terms, tag);
-    link_place(&tables.links, tables.first_link, &link) < 16384
+    link_place(&tables.links, tables.first_link, &link) < OFFSET_LIMIT as u128
 }
 
 /// What the expression of an operand has to fit in.

@@ -57,10 +57,14 @@ fault_of refusal = fault_by refusal.code refusal.line (column_of refusal)
 
 -- ---- expressions
 
+-- an offset behind a pointer register is below this, and at most as much below zero
+abbrev pub offset_limit : ℕ
+offset_limit = 16384
+
 -- A half holds -131072 to 262143, the offset behind a pointer register -16384 to 16383.
 abbrev pub has_room : Room → Balance → Bool
 has_room Half value = is_within 131072 262143 value
-has_room Offset value = is_within 16384 16383 value
+has_room Offset value = is_within offset_limit (offset_limit - 1) value
 
 -- whether an object can say this, where a place of a section may or may not stand
 abbrev pub may_stand : Bool → Kind → Bool

@@ -13,6 +13,9 @@ use crate::symbols::Symbols;
 use alm_parse::{AlmFault, Line36, Term};
 use obj36_parts::sections::SECTION_LIMIT;
 
+/// An offset behind a pointer register is below this, and at most as much below zero.
+pub const OFFSET_LIMIT: u64 = 16384;
+
 /// Why lines are not an object's.
 #[derive(Clone, Copy, Debug, PartialEq, Eq)]
 pub enum Code {
@@ -117,7 +120,7 @@ pub fn has_room(room: Room, value: Balance) -> bool
 {
     match room {
         Room::Half => value.is_within(131072, 262143),
-        Room::Offset => value.is_within(16384, 16383),
+        Room::Offset => value.is_within(OFFSET_LIMIT, OFFSET_LIMIT - 1),
     }
 }
 
