@@ -16,7 +16,7 @@ use Rattle.alm_lines.specs.Sums.{no_sum, kind_of}
 use Rattle.alm_lines.specs.Symbols.{sum_named, with_symbol}
 use Rattle.alm_lines.specs.Arguments.{name_at, first_arg, second_arg, terms_in}
 use Rattle.alm_lines.specs.Spots.{below}
-use Rattle.alm_lines.specs.Refusals.{refusal_at, has_value, is_over_limit}
+use Rattle.alm_lines.specs.Refusals.{refusal_at, has_value, has_number, is_over_limit}
 use Rattle.alm_asm.specs.Links.{link_of, operand_args}
 use Rattle.obj36_parts.specs.Indexes.{same_link}
 use Rattle.alm_lines.specs.Expressions.{sum_of}
@@ -103,7 +103,7 @@ with_link_once g link = if list_any (same_link link) g.links then g else with_ne
 abbrev pub with_operand : List ℕ → List (List ℕ × Sum) → Spot → Growth → Option Span → Option Span
     → List Term → ℕ → Growth
 with_operand text symbols spot g (Some segment) entry terms tag =
-    if has_value text symbols spot terms Half false
+    if has_number text symbols spot terms
     then with_link_once g (link_of text symbols spot segment entry terms tag)
     else g
 with_operand text symbols spot g None entry terms tag = g

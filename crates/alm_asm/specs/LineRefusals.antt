@@ -17,7 +17,8 @@ use Rattle.obj36_parts.specs.Fields.{LinkFields}
 use Rattle.alm_lines.specs.Arguments.{first_arg, second_arg, symbol_in, terms_in, section_in}
 use Rattle.alm_lines.specs.Spots.{below}
 use Rattle.alm_lines.specs.Expressions.{expression_place}
-use Rattle.alm_lines.specs.Refusals.{offset_limit, sooner, refusal_at, expression_refusal, has_value}
+use Rattle.alm_lines.specs.Refusals.{offset_limit, sooner, refusal_at, expression_refusal}
+use Rattle.alm_lines.specs.Refusals.{number_refusal, has_number}
 use Rattle.alm_asm.specs.Links.{link_of, link_place}
 use Rattle.alm_asm.specs.Definitions.{gives_entries, definitions_after, definitions_refused}
 use Rattle.alm_lines.specs.SpotFields.{Spot}
@@ -74,12 +75,12 @@ own_room None = Half
 abbrev pub link_expression : List ℕ → List (List ℕ × Sum) → Spot → Line36 → Span → Option Span
     → List Term → Option Refusal
 link_expression text symbols spot line segment entry terms =
-    expression_refusal text symbols spot line terms (external_place segment entry) Half false
+    number_refusal text symbols spot line terms (external_place segment entry)
 
 -- An operand whose expression gives no value is no link, and nothing is said of its place.
 unfoldable pub reaches : List ℕ → Tables → Spot → Span → Option Span → List Term → ℕ → Bool
 reaches text tables spot segment entry terms tag =
-    not (has_value text tables.symbols spot terms Half false)
+    not (has_number text tables.symbols spot terms)
     || is_in_reach text tables spot segment entry terms tag
 
 abbrev pub external_refusal : List ℕ → Tables → Spot → Line36 → Span → Option Span → List Term → ℕ

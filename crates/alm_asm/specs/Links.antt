@@ -1,5 +1,5 @@
 -- Links: the external operands of instructions, each once, in the order of their first use.
-use Rattle.std.specs.Prelude.{ℕ, ◌+◌, ◌*◌, ◌%◌, ◌^◌, false, List, [], ◌∷◌, ◌++◌, Option}
+use Rattle.std.specs.Prelude.{ℕ, ◌+◌, ◌*◌, ◌%◌, ◌^◌, List, [], ◌∷◌, ◌++◌, Option}
 use Rattle.std.specs.Prelude.{Some, None, unwrap_or, if◌then◌else◌}
 use Rattle.std.specs.List.{list_any, position}
 use Rattle.alm_tokens.specs.Tokens.{slice_of}
@@ -17,8 +17,7 @@ use Rattle.alm_lines.specs.Sums.{half_of}
 use Rattle.alm_lines.specs.Arguments.{name_at, first_arg}
 use Rattle.alm_lines.specs.Spots.{below}
 use Rattle.alm_lines.specs.Expressions.{sum_of}
-use Rattle.alm_lines.specs.Refusals.{has_value}
-use Rattle.alm_lines.specs.declared.refusal.Room.TheVariants.{Half}
+use Rattle.alm_lines.specs.Refusals.{has_number}
 use Rattle.alm_lines.specs.declared.sum.Sum.{Sum}
 use Rattle.alm_lines.specs.SpotFields.{Spot}
 use Rattle.alm_parse.specs.declared.deed.Deed.{Deed}
@@ -76,7 +75,7 @@ operand_args deed.Bound arguments = []
 abbrev pub link_by : List ℕ → List (List ℕ × Sum) → Spot → Option Span → Option Span → List Term → ℕ
     → Option LinkFields
 link_by text symbols spot (Some segment) entry terms tag =
-    if has_value text symbols spot terms Half false
+    if has_number text symbols spot terms
     then Some (link_of text symbols spot segment entry terms tag)
     else None
 link_by text symbols spot None entry terms tag = None

@@ -10,7 +10,7 @@ use Rattle.alm_lines.specs.Symbols.{sum_named, with_symbol}
 use Rattle.alm_lines.specs.Arguments.{name_at, first_arg, second_arg, symbol_in, terms_in}
 use Rattle.alm_lines.specs.Spots.{count, here, below}
 use Rattle.alm_lines.specs.Expressions.{sum_of, expression_place}
-use Rattle.alm_lines.specs.Refusals.{sooner, refusal_at, expression_refusal, has_value}
+use Rattle.alm_lines.specs.Refusals.{sooner, refusal_at, number_refusal, has_number}
 use Rattle.alm_lines.specs.Refusals.{is_over_limit}
 use Rattle.alm_lines.specs.declared.sum.Sum.{Sum}
 use Rattle.alm_lines.specs.SpotFields.{Spot}
@@ -18,7 +18,6 @@ use Rattle.alm_parse.specs.declared.deed.Deed.{Deed}
 use Rattle.alm_parse.specs.declared.deed.Deed.TheVariants as deed
 use Rattle.alm_lines.specs.declared.refusal.Code.TheVariants.{E5, E8}
 use Rattle.alm_lines.specs.declared.refusal.Refusal.{Refusal}
-use Rattle.alm_lines.specs.declared.refusal.Room.TheVariants.{Half}
 
 -- ---- labels
 
@@ -61,8 +60,8 @@ own_symbol deed.Bound arguments = None
 -- an `equ` is refused unless it comes to a number by the symbols above
 abbrev pub value_refusal : List ℕ → List (List ℕ × Sum) → Spot → Line36 → Option Refusal
 value_refusal text symbols spot line =
-    expression_refusal text symbols spot line (terms_in (second_arg line.args))
-    (expression_place (terms_in (second_arg line.args))) Half false
+    number_refusal text symbols spot line (terms_in (second_arg line.args))
+    (expression_place (terms_in (second_arg line.args)))
 
 abbrev pub own_refusal : List ℕ → List (List ℕ × Sum) → Spot → Line36 → Deed → Option Refusal
 own_refusal text symbols spot line deed.Nothing = None
@@ -95,7 +94,7 @@ value_by false sum = unknown_sum
 
 unfoldable pub value_of : List ℕ → List (List ℕ × Sum) → Spot → Line36 → Sum
 value_of text symbols spot line =
-    value_by (has_value text symbols spot (terms_in (second_arg line.args)) Half false)
+    value_by (has_number text symbols spot (terms_in (second_arg line.args)))
     (sum_of text symbols spot (terms_in (second_arg line.args)))
 
 abbrev pub own_sum : List ℕ → List (List ℕ × Sum) → Spot → Line36 → Deed → Sum

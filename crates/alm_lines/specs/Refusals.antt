@@ -96,6 +96,16 @@ has_value text symbols spot terms room may_move =
     not (is_some (place_undefined text symbols terms)) && not sum.unknown
     && is_said room may_move sum
 
+-- An `equ`, and an expression behind an external name, is a number of a half, and no place of a
+-- section.
+abbrev pub number_refusal : List ℕ → List (List ℕ × Sum) → Spot → Line36 → List Term → ℕ
+    → Option Refusal
+number_refusal text symbols spot line terms place =
+    expression_refusal text symbols spot line terms place Half false
+
+abbrev pub has_number : List ℕ → List (List ℕ × Sum) → Spot → List Term → Bool
+has_number text symbols spot terms = has_value text symbols spot terms Half false
+
 -- ---- lengths
 
 -- whether so many words are more than a section of an object has
