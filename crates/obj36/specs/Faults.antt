@@ -4,7 +4,7 @@ use Rattle.std.specs.Prelude.{Result, Ok, Err}
 use Rattle.std.specs.Option.{option_map}
 use Rattle.obj36_parts.specs.PartsFields.{PartsFields}
 use Rattle.obj36_parts.specs.ObjectSegment.{Stands}
-use Rattle.obj36_read.specs.Reading.{version_in}
+use Rattle.obj36_read.specs.Reading.{older_map, version_in}
 use Rattle.obj36_read.specs.MapFaults.{map_fault, section_fault, shared_fault, extents_of}
 use Rattle.obj36_read.specs.MapFaults.{extent_words}
 use Rattle.obj36_read.specs.TableFaults.{table_fault, names_fault}
@@ -68,7 +68,9 @@ fault_behind_map words =
 -- what is told before anything is read: too few words, or a map that is not as it must be
 unfoldable pub outline_fault : List ℕ → Option ObjectFault
 outline_fault words =
-    if nat_lt (length words) 7 then Some (O1 (length words)) else option_map O2 (map_fault words)
+    if nat_lt (length words) older_map
+    then Some (O1 (length words))
+    else option_map O2 (map_fault words)
 
 unfoldable pub first_fault : List ℕ → ObjectFault
 first_fault words = from_outline (outline_fault words) (fault_behind_map words)

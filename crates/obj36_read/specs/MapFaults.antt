@@ -6,7 +6,8 @@ use Rattle.m36_word.specs.Bits.{of_bit}
 use Rattle.m36_text.specs.Lines.{first_met}
 use Rattle.obj36_parts.specs.Halves.{left, right}
 use Rattle.obj36_parts.specs.ObjectSegment.{head_words}
-use Rattle.obj36_read.specs.Reading.{map_place, version_in, told_length, bound_index}
+use Rattle.obj36_read.specs.Reading.{older_map, newer_map, map_place, version_in, told_length}
+use Rattle.obj36_read.specs.Reading.{bound_index}
 use Rattle.obj36_read.specs.declared.map.Extent.{Extent}
 use Rattle.obj36_read.specs.declared.map.Extents.{Extents}
 
@@ -15,7 +16,8 @@ use Rattle.obj36_read.specs.declared.map.Extents.{Extents}
 -- whether the last word tells a place from which on a map of either version reaches to the end
 unfoldable pub is_told : List ℕ → Bool
 is_told words =
-    nat_eq (map_place words + 7) (length words) || nat_eq (map_place words + 8) (length words)
+    nat_eq (map_place words + older_map) (length words)
+    || nat_eq (map_place words + newer_map) (length words)
 
 -- map 0 has the version alone; the entry bound has 0 beside it, and is no more than the length of
 -- the text; the last word has 0 beside the place of the map

@@ -96,12 +96,19 @@ relocations_in words at (suc count) =
 
 -- ---- the whole
 
+-- how many words the map has with the last word: of version 1, and of version 2
+abbrev pub older_map : ℕ
+older_map = 7
+
+abbrev pub newer_map : ℕ
+newer_map = 8
+
 -- where the map is, and its version by how far from the end it is
 unfoldable pub map_place : List ℕ → ℕ
 map_place words = left (slice_index words (length words - 1))
 
 unfoldable pub version_in : List ℕ → ℕ
-version_in words = version_of (nat_eq (map_place words + 8) (length words))
+version_in words = version_of (nat_eq (map_place words + newer_map) (length words))
 
 -- a length that a map word tells
 unfoldable pub told_length : List ℕ → ℕ → ℕ

@@ -9,7 +9,10 @@ ghost use Rattle.obj36_read.specs.MapFaults.{is_outside, section_fault, extents_
 ghost use Rattle.obj36_read.specs.MapFaults.{covering, first_shared, shared_fault, extent_words};
 ghost use Rattle.obj36_read.specs.Near.{AreNear};
 
-use crate::reading::{behind, front, index_of_bound, length_told, place_of_map, version, word_at};
+use crate::reading::{
+    NEWER_MAP, OLDER_MAP, behind, front, index_of_bound, length_told, place_of_map, version,
+    word_at,
+};
 use m36_word::Word;
 use obj36_parts::halves::{left_of, right_of};
 use obj36_parts::sections::HEAD_WORDS;
@@ -56,7 +59,7 @@ fn is_map_told(words: &[Word]) -> bool
 {
     let map = place_of_map(words);
     let count = words.len() as u64;
-    map + 7 == count || map + 8 == count
+    map + OLDER_MAP == count || map + NEWER_MAP == count
 }
 
 #[tactic(auto, unfolding(crate::specs::MapFaults::is_bound))]

@@ -23,6 +23,12 @@ use obj36_parts::section::Section;
 use obj36_parts::sections::{HEAD_WORDS, copied, version_of};
 use std::alloc::Global;
 
+/// How many words the map of version 1 has, with the last word of the list.
+pub const OLDER_MAP: u64 = 7;
+
+/// And that of version 2.
+pub const NEWER_MAP: u64 = 8;
+
 // The word at a place, and 0 past the end.
 pub(crate) fn word_at(words: &[Word], at: u64) -> Word
     ensures { result ≡ slice_index words.now at }
@@ -278,7 +284,7 @@ pub(crate) fn place_of_map(words: &[Word]) -> u64
 pub fn version(words: &[Word]) -> u8
     ensures { result ≡ version_in words.now }
 {
-    version_of(place_of_map(words) + 8 == words.len() as u64)
+    version_of(place_of_map(words) + NEWER_MAP == words.len() as u64)
 }
 
 /// A length that a map word tells.
