@@ -12,6 +12,7 @@ use Rattle.alm_parse.specs.Bodies.{own_section}
 use Rattle.obj36_parts.specs.declared.section.Section.{Section}
 use Rattle.obj36_parts.specs.declared.section.Section.TheVariants.{Text}
 use Rattle.obj36_parts.specs.Fields.{LinkFields}
+use Rattle.obj36_parts.specs.ObjectSegment.{to_section, to_segment, to_entry, to_own_entry}
 use Rattle.obj36_parts.specs.Indexes.{same_link}
 use Rattle.alm_lines.specs.Sums.{half_of}
 use Rattle.alm_lines.specs.Arguments.{name_at, first_arg}
@@ -26,10 +27,10 @@ use Rattle.alm_parse.specs.declared.deed.Deed.TheVariants as deed
 -- ---- a link
 
 abbrev pub link_kind : Option Section → Option Span → ℕ
-link_kind (Some section) None = 1
-link_kind (Some section) (Some entry) = 5
-link_kind None None = 3
-link_kind None (Some entry) = 4
+link_kind (Some section) None = to_section
+link_kind (Some section) (Some entry) = to_own_entry
+link_kind None None = to_segment
+link_kind None (Some entry) = to_entry
 
 abbrev pub link_section : Option Section → Section
 link_section (Some section) = section

@@ -4,6 +4,7 @@ use Rattle.std.specs.Prelude.{ℕ, ◌+◌, ◌%◌, ◌^◌, nat_eq, if◌then�
 use Rattle.std.specs.Prelude.{Option, Some, None}
 use Rattle.obj36_parts.specs.Fields.{LinkFields}
 use Rattle.obj36_parts.specs.ObjectSegment.{later_section}
+use Rattle.obj36_parts.specs.ObjectSegment.{to_section, to_segment, to_entry, to_own_entry}
 use Rattle.obj36_parts.specs.declared.section.Section.TheVariants.{Text}
 use Rattle.m36_relocate.specs.Fields.{ShapeFields}
 use Rattle.m36_relocate.specs.Layout.{spot, spot_moved}
@@ -16,7 +17,7 @@ use Rattle.m36_relocate.specs.declared.layout.Spot.{Spot}
 abbrev pub own_link : LinkFields → Spot → LinkFields
 own_link l s =
     record {
-      kind = 1;
+      kind = to_section;
       section = s.section;
       name = [];
       entry = [];
@@ -27,12 +28,12 @@ own_link l s =
 abbrev pub farther : Spot → ℕ → Spot
 farther s n = record { section = s.section; offset = (s.offset + n) % 2 ^ 18 }
 
--- type 3: word 0 of the component's text, and the number of the link
+-- to a segment: word 0 of the component's text, and the number of the link
 abbrev pub segment_link : LinkFields → Option PlacedFields → LinkFields
 segment_link l None = l
 segment_link l (Some p) = own_link l (spot Text (p.bases.text + l.expr))
 
--- type 4: where the definition goes, and the number of the link
+-- to an entry of a segment: where the definition goes, and the number of the link
 abbrev pub entry_link : ShapeFields → LinkFields → PlacedFields → Option Export → LinkFields
 entry_link frame l p None = l
 entry_link frame l p (Some e) =
@@ -42,7 +43,8 @@ abbrev pub outer_link : ShapeFields → LinkFields → Option PlacedFields → L
 outer_link frame l None = l
 outer_link frame l (Some p) = entry_link frame l p (export_named l.entry p.entries)
 
--- type 5: the definition's value counts in the later of its section and that of the link
+-- to an entry of the own object: the definition's value counts in the later of its section and that
+-- of the link
 abbrev pub inner_link : ShapeFields → PlacedFields → LinkFields → Option Export → LinkFields
 inner_link frame p l None = l
 inner_link frame p l (Some e) =
@@ -52,10 +54,10 @@ inner_link frame p l (Some e) =
 -- a link of a component
 unfoldable pub link_moved : ShapeFields → List PlacedFields → PlacedFields → LinkFields → LinkFields
 link_moved frame all p l =
-    if nat_eq l.kind 1 then own_link l (spot_moved (moving frame p) l.section l.expr)
-    else if nat_eq l.kind 3 then segment_link l (component_named l.name all)
-    else if nat_eq l.kind 4 then outer_link frame l (component_named l.name all)
-    else if nat_eq l.kind 5 then inner_link frame p l (export_named l.entry p.entries)
+    if nat_eq l.kind to_section then own_link l (spot_moved (moving frame p) l.section l.expr)
+    else if nat_eq l.kind to_segment then segment_link l (component_named l.name all)
+    else if nat_eq l.kind to_entry then outer_link frame l (component_named l.name all)
+    else if nat_eq l.kind to_own_entry then inner_link frame p l (export_named l.entry p.entries)
     else l
 
 -- links of a component behind others

@@ -12,6 +12,7 @@ use Rattle.obj36_parts.specs.Fields.{DefFields, RelocFields, LinkFields}
 use Rattle.obj36_parts.specs.PartsFields.{PartsFields}
 use Rattle.obj36_parts.specs.ObjectSegment.{later_section, is_well_formed, definition_names}
 use Rattle.obj36_parts.specs.ObjectSegment.{version_of, head_words}
+use Rattle.obj36_parts.specs.ObjectSegment.{to_section, to_segment, to_entry, to_own_entry}
 use Rattle.obj36_parts.specs.declared.definition.Named.{Named}
 use Rattle.obj36_parts.specs.Halves.{left, right}
 use Rattle.obj36_parts.specs.declared.section.Section.{Section}
@@ -168,17 +169,17 @@ IsUndefined all l =
 -- none defines, is as it was.
 pub record IsMovedLink (bound : PartsFields) (all : List PlacedFields) (p : PlacedFields)
     (old new : LinkFields) : Type 0 where
-  pub own : old.kind ≡ 1 → LinksAt bound p old new
-  pub segment : (q : PlacedFields) → old.kind ≡ 3 → component_named old.name all ≡ Some q
+  pub own : old.kind ≡ to_section → LinksAt bound p old new
+  pub segment : (q : PlacedFields) → old.kind ≡ to_segment → component_named old.name all ≡ Some q
       → new ≡ own_link old (spot Text (q.bases.text + old.expr))
-  pub outer : (q : PlacedFields) (e : Export) → old.kind ≡ 4 → component_named old.name all ≡ Some q
-      → export_named old.entry q.entries ≡ Some e
+  pub outer : (q : PlacedFields) (e : Export) → old.kind ≡ to_entry
+      → component_named old.name all ≡ Some q → export_named old.entry q.entries ≡ Some e
       → LinksTo bound q e.def.section e.def.value old new
-  pub inner : (e : Export) → old.kind ≡ 5 → export_named old.entry p.entries ≡ Some e
+  pub inner : (e : Export) → old.kind ≡ to_own_entry → export_named old.entry p.entries ≡ Some e
       → LinksTo bound p (later_section old.section e.def.section) e.def.value old new
-  pub far_segment : old.kind ≡ 3 → component_named old.name all ≡ None → new ≡ old
-  pub far_entry : old.kind ≡ 4 → IsUndefined all old → new ≡ old
-  pub no_entry : old.kind ≡ 5 → export_named old.entry p.entries ≡ None → new ≡ old
+  pub far_segment : old.kind ≡ to_segment → component_named old.name all ≡ None → new ≡ old
+  pub far_entry : old.kind ≡ to_entry → IsUndefined all old → new ≡ old
+  pub no_entry : old.kind ≡ to_own_entry → export_named old.entry p.entries ≡ None → new ≡ old
 
 -- The links of a component stand one behind another from its first on.
 abbrev pub LinksStand : PartsFields → List PlacedFields → PlacedFields → Type 0

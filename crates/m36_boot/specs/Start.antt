@@ -11,6 +11,7 @@ use Rattle.m36_dir.specs.Fields.{SegmentFields}
 use Rattle.m36_dir.specs.StartFields.{StartFields}
 use Rattle.m36_dir.specs.Catalog.{CatalogFields}
 use Rattle.obj36_parts.specs.Fields.{LinkFields}
+use Rattle.obj36_parts.specs.ObjectSegment.{to_entry}
 use Rattle.obj36_parts.specs.declared.section.Section.TheVariants.{Text}
 use Rattle.m36_link.specs.Fields.{LayFields, SnapFields}
 use Rattle.m36_link.specs.Known.{nothing_known, linkage_segment}
@@ -25,7 +26,7 @@ use Rattle.m36_boot.specs.Segments.{stack_segment}
 abbrev pub start_link : StartFields → LinkFields
 start_link s =
     record {
-      kind = 4;
+      kind = to_entry;
       section = Text;
       name = s.name;
       entry = s.entry;

@@ -74,15 +74,29 @@ outer_statics p = if is_newer p then p.statics else []
 abbrev pub head_words : ℕ
 head_words = 8
 
--- which link types have a name, an entry, or a section
+-- the types of links: to a place of a section of the own object, to a segment, to an entry of a
+-- segment, and to an entry of the own object
+abbrev pub to_section : ℕ
+to_section = 1
+
+abbrev pub to_segment : ℕ
+to_segment = 3
+
+abbrev pub to_entry : ℕ
+to_entry = 4
+
+abbrev pub to_own_entry : ℕ
+to_own_entry = 5
+
+-- which of them have a name, an entry, or a section
 abbrev pub has_name : ℕ → Bool
-has_name kind = nat_eq kind 3 || nat_eq kind 4
+has_name kind = nat_eq kind to_segment || nat_eq kind to_entry
 
 abbrev pub has_entry : ℕ → Bool
-has_entry kind = nat_eq kind 4 || nat_eq kind 5
+has_entry kind = nat_eq kind to_entry || nat_eq kind to_own_entry
 
 abbrev pub has_section : ℕ → Bool
-has_section kind = nat_eq kind 1 || nat_eq kind 5
+has_section kind = nat_eq kind to_section || nat_eq kind to_own_entry
 
 -- a place, or 0 where nothing stands there
 unfoldable pub place_if_any : ℕ → ℕ → ℕ
