@@ -48,9 +48,12 @@ later_section a b = if nat_le (rank a) (rank b) then b else a
 
 -- ---- what is written where
 
--- whether the parts have a static section of their own
+-- whether objects of a version, and parts, have a static section of their own
+abbrev pub is_newer_version : ℕ → Bool
+is_newer_version version = nat_eq version 2
+
 abbrev pub is_newer : PartsFields → Bool
-is_newer p = nat_eq p.version 2
+is_newer p = is_newer_version p.version
 
 -- the number of the version, by whether it is the newer one
 abbrev pub version_of : Bool → ℕ
@@ -275,10 +278,10 @@ are_distinct (name ∷ names) = not (list_any (same name) names) && are_distinct
 
 -- the greatest class, and the greatest number of a section in links and relocations
 abbrev pub last_class : ℕ → ℕ
-last_class version = if nat_eq version 2 then 3 else 2
+last_class version = if is_newer_version version then 3 else 2
 
 abbrev pub last_place : ℕ → ℕ
-last_place version = if nat_eq version 2 then 2 else 1
+last_place version = if is_newer_version version then 2 else 1
 
 unfoldable pub is_definition : ℕ → Named → Bool
 is_definition version d =

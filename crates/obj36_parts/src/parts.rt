@@ -1,9 +1,9 @@
 //! The parts of an object.
 
-ghost use Rattle.std.specs.Prelude.{ℕ, ◌≡◌, ◌+◌, ◌*◌, ◌<◌, ◌≤◌, ◌^◌, length, [], nat_eq};
+ghost use Rattle.std.specs.Prelude.{ℕ, ◌≡◌, ◌+◌, ◌*◌, ◌<◌, ◌≤◌, ◌^◌, length, []};
 ghost use Rattle.std.specs.Prelude.{if◌then◌else◌, IsTrue};
 ghost use Rattle.obj36_parts.specs.ObjectSegment.{inner_statics, outer_statics, first_link};
-ghost use Rattle.obj36_parts.specs.ObjectSegment.{words_of, is_well_formed};
+ghost use Rattle.obj36_parts.specs.ObjectSegment.{is_newer_version, words_of, is_well_formed};
 ghost use Rattle.obj36_parts.specs.Sizes.{HasShortLists};
 
 use crate::checks::{
@@ -57,7 +57,7 @@ impl Model for Parts {
 
 // The words that each object has: the heads of three sections, the map and the last word.
 fn fixed_length(version: u8) -> u64
-    ensures value { result ≡ (if nat_eq version 2 then 19 else 18) }
+    ensures value { result ≡ (if is_newer_version version then 19 else 18) }
     ensures bound { result < 20 }
 {
     if version == 2 { 19 } else { 18 }

@@ -3,7 +3,8 @@ use Rattle.std.specs.Prelude.{ℕ, zero, suc, ◌+◌, ◌*◌, ◌%◌, ◌^◌
 use Rattle.std.specs.Prelude.{nat_lt, nat_le, if◌then◌else◌, List, length, slice_index, Option}
 use Rattle.std.specs.Prelude.{Some, None}
 use Rattle.obj36_parts.specs.Halves.{left, right}
-use Rattle.obj36_parts.specs.ObjectSegment.{has_name, has_section, last_place, head_words, link_head}
+use Rattle.obj36_parts.specs.ObjectSegment.{is_newer_version, has_name, has_section, last_place}
+use Rattle.obj36_parts.specs.ObjectSegment.{head_words, link_head}
 use Rattle.obj36_read.specs.TableFaults.{earlier, where_bad, expression_count, first_expression}
 
 -- ---- types and sections of expressions, whose places count from the definition section's word 0
@@ -35,7 +36,7 @@ is_head version d k =
     && nat_le head_words (link_start k)
     && nat_eq (link_start k % 2) 0
     && nat_eq (link_start k + 2 * link_count k) (length k)
-    && (not (nat_eq version 2) || nat_eq (link_start k) head_words)
+    && (not (is_newer_version version) || nat_eq (link_start k) head_words)
 
 -- whether the link at a place is as it must be, with its expression at another
 unfoldable pub is_link_at : List ℕ → ℕ → ℕ → Bool

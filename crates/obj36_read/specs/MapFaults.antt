@@ -5,7 +5,7 @@ use Rattle.std.specs.Prelude.{Some, None}
 use Rattle.m36_word.specs.Bits.{of_bit}
 use Rattle.m36_text.specs.Lines.{first_met}
 use Rattle.obj36_parts.specs.Halves.{left, right}
-use Rattle.obj36_parts.specs.ObjectSegment.{head_words}
+use Rattle.obj36_parts.specs.ObjectSegment.{is_newer_version, head_words}
 use Rattle.obj36_read.specs.Reading.{older_map, newer_map, map_place, version_in, told_length}
 use Rattle.obj36_read.specs.Reading.{bound_index}
 use Rattle.obj36_read.specs.declared.map.Extent.{Extent}
@@ -51,7 +51,7 @@ extent_at words i = record {
 }
 
 abbrev pub symbol_index : ℕ → ℕ
-symbol_index version = if nat_eq version 2 then 5 else 4
+symbol_index version = if is_newer_version version then 5 else 4
 
 abbrev pub nowhere : Extent
 nowhere = record { from = 0; count = 0 }
@@ -62,7 +62,7 @@ extents_of words =
       text = extent_at words 1;
       definition = extent_at words 2;
       linkage = extent_at words 3;
-      statics = if nat_eq (version_in words) 2 then extent_at words 4 else nowhere;
+      statics = if is_newer_version (version_in words) then extent_at words 4 else nowhere;
       symbol = extent_at words (symbol_index (version_in words));
     }
 

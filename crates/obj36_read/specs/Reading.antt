@@ -7,7 +7,8 @@ use Rattle.m36_text.specs.Texts.{name_limit}
 use Rattle.obj36_parts.specs.Fields.{LinkFields, RelocFields}
 use Rattle.obj36_parts.specs.PartsFields.{PartsFields}
 use Rattle.obj36_parts.specs.Halves.{left, right, quarter}
-use Rattle.obj36_parts.specs.ObjectSegment.{has_name, has_entry, head_words, version_of}
+use Rattle.obj36_parts.specs.ObjectSegment.{is_newer_version, version_of, has_name, has_entry}
+use Rattle.obj36_parts.specs.ObjectSegment.{head_words}
 use Rattle.obj36_parts.specs.declared.section.Section.{Section}
 use Rattle.obj36_parts.specs.declared.section.Section.TheVariants.{Text, Linkage, Symbol, Static}
 use Rattle.obj36_parts.specs.declared.definition.Named.{Named}
@@ -130,7 +131,7 @@ from_statics words = drop (told_length words 3) (from_linkage words)
 
 unfoldable pub from_symbol : List ℕ → List ℕ
 from_symbol words =
-    if nat_eq (version_in words) 2
+    if is_newer_version (version_in words)
     then drop (told_length words 4) (from_statics words)
     else from_statics words
 
@@ -140,13 +141,13 @@ told_first words = left (slice_index (from_linkage words) 1)
 
 unfoldable pub statics_in : List ℕ → List ℕ
 statics_in words =
-    if nat_eq (version_in words) 2
+    if is_newer_version (version_in words)
     then take (told_length words 4) (from_statics words)
     else take (told_first words - head_words) (drop head_words (from_linkage words))
 
 -- how far behind map 0 the entry bound is
 abbrev pub bound_index : ℕ → ℕ
-bound_index version = if nat_eq version 2 then 6 else 5
+bound_index version = if is_newer_version version then 6 else 5
 
 unfoldable pub bound_in : List ℕ → ℕ
 bound_in words = left (slice_index words (map_place words + bound_index (version_in words)))

@@ -1,8 +1,9 @@
 //! The map of a list of words: where its sections are.
 
 ghost use Rattle.std.specs.Prelude.{ℕ, ◌≡◌, ◌+◌, ◌-◌, ◌^◌, ◌<◌, ◌≤◌, ◌&&◌, ◌||◌};
-ghost use Rattle.std.specs.Prelude.{nat_eq, length, Option, Some, None};
+ghost use Rattle.std.specs.Prelude.{length, Option, Some, None};
 ghost use Rattle.std.specs.Prelude.{IfSome, if◌then◌else◌};
+ghost use Rattle.obj36_parts.specs.ObjectSegment.{is_newer_version};
 ghost use Rattle.obj36_read.specs.MapFaults.{extent_at, is_told, is_bound};
 ghost use Rattle.obj36_read.specs.MapFaults.{symbol_index, nowhere, fixed_fault, map_fault};
 ghost use Rattle.obj36_read.specs.MapFaults.{is_outside, section_fault, extents_of, covers};
@@ -117,7 +118,7 @@ fn index_of_symbol(version: u8) -> u64
 }
 
 fn extent_of_statics(words: &[Word], version: u8) -> Extent
-    ensures value { result ≡ (if nat_eq version 2 then extent_at words.now 4 else nowhere) }
+    ensures value { result ≡ (if is_newer_version version then extent_at words.now 4 else nowhere) }
     ensures from { result.from < 2 ^ 18 }
     ensures count { result.count < 2 ^ 18 }
 {
