@@ -13,7 +13,7 @@ use Rattle.obj36_parts.specs.declared.section.Section.{Section}
 use Rattle.obj36_parts.specs.declared.section.Section.TheVariants.{Text}
 use Rattle.obj36_parts.specs.Fields.{LinkFields}
 use Rattle.obj36_parts.specs.PartsFields.{PartsFields}
-use Rattle.obj36_parts.specs.ObjectSegment.{definition_names, are_distinct, are_rising}
+use Rattle.obj36_parts.specs.ObjectSegment.{definition_names, are_distinct, are_in_order}
 use Rattle.obj36_parts.specs.ObjectSegment.{version_of, evened}
 use Rattle.alm_lines.specs.Symbols.{sum_named}
 use Rattle.alm_lines.specs.Arguments.{name_at, first_arg, symbol_in, section_in}
@@ -212,7 +212,7 @@ pub record Assembles (source : Source) (parts : PartsFields) : Type 0 where
       (static_section (meaning_of source).uses_outer)
       (marks_from source.text (meaning_of source).symbols Text [] start source.lines) start
       source.lines
-  pub rising : are_rising 0 3 parts.relocations ≡ true
+  pub rising : are_in_order parts.relocations ≡ true
   pub bound : BoundIs source parts
   pub unbound : list_any (is_entrybound) source.lines ≡ false → parts.entry_bound ≡ 0
   pub version : parts.version ≡ version_of (list_any (is_use_static source.text) source.lines)

@@ -325,7 +325,12 @@ are_rising least barred (r ∷ rs) =
     nat_le least (order_of r) && not (nat_eq (order_of r) barred)
     && are_rising (order_of r + 1) (if nat_eq r.part 0 then order_of r + 2 else barred) rs
 
--- whether some list stands for the parts; no part has a number that bars nothing, 3
+-- whether relocations are in order: any may be first, and nothing is barred before it, since no part
+-- of a word has the number 3
+abbrev pub are_in_order : List RelocFields → Bool
+are_in_order rs = are_rising 0 3 rs
+
+-- whether some list stands for the parts
 unfoldable pub is_well_formed : PartsFields → Bool
 is_well_formed p =
     (nat_eq p.version 1 || nat_eq p.version 2)
@@ -338,7 +343,7 @@ is_well_formed p =
     && list_all
     (is_relocation (length p.text) (length (inner_statics p)) (length (outer_statics p)) p.version)
     p.relocations
-    && are_rising 0 3 p.relocations
+    && are_in_order p.relocations
 
 -- The list stands for the parts.
 pub record Stands (p : PartsFields) (words : List ℕ) : Type 0 where

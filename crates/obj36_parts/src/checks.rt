@@ -6,7 +6,7 @@ ghost use Rattle.std.specs.List.{list_all};
 ghost use Rattle.obj36_parts.specs.Names.{is_name};
 ghost use Rattle.obj36_parts.specs.ObjectSegment.{has_section, last_class, last_place};
 ghost use Rattle.obj36_parts.specs.ObjectSegment.{is_definition, is_link, is_place, is_relocation};
-ghost use Rattle.obj36_parts.specs.ObjectSegment.{order_of, are_rising, place_number};
+ghost use Rattle.obj36_parts.specs.ObjectSegment.{order_of, are_in_order, place_number};
 
 use crate::definition::Named;
 use crate::link::Link;
@@ -166,7 +166,7 @@ fn barred_behind(part: u8, place: u64, barred: u64) -> u64
 // Whether relocations are in rising order, without parts 0 and 2 of one word.
 #[tactic(auto, unfolding(crate::specs::ObjectSegment::are_rising))]
 pub(crate) fn are_in_order(relocations: &[Reloc]) -> bool
-    ensures { result ≡ are_rising 0 3 relocations.now }
+    ensures { result ≡ are_in_order relocations.now }
 {
     let mut least = 0;
     let mut barred = 3;
