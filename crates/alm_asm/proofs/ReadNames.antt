@@ -26,7 +26,7 @@ use Rattle.alm_parse.specs.declared.fault.AlmFault.{AlmFault}
 use Rattle.alm_tokens.specs.Bytes.{begins_symbol, is_character}
 use Rattle.alm_tokens.specs.Tokens.{slice_of, is_text, is_symbol, span_at}
 use Rattle.alm_parse.specs.Refusals.{refused, unless}
-use Rattle.alm_tokens.specs.Expressions.{is_term_at, expression_pieces, place_over, term_of}
+use Rattle.alm_tokens.specs.Expressions.{is_term_at, expression_pieces, term_of}
 use Rattle.alm_parse.specs.Bodies.{place_of, body_of, own_section, is_segment, is_entry, is_tail, is_body, body_pieces}
 use Rattle.alm_parse.specs.Operands.{body_span, tag_given, entry_given, operand_of, is_operand, operand_given}
 use Rattle.alm_parse.specs.Members.{symbol_arg, symbols_given, number_arg, numbers_given}
@@ -119,8 +119,8 @@ value_by text at (name ∷ value ∷ []) arguments e =
     let pieces = expression_pieces text value in
     let form = is_symbol_at text name && list_all (is_term_at text) pieces in
     let given = arg.Symbol name.span ∷ arg.Plain (map (term_of text) pieces) ∷ [] in
-    let ok = unless_ok (refused text at (is_symbol_at text name && list_all (is_term_at text) (expression_pieces text value)) (place_over text (expression_pieces text value))) (arg.Symbol name.span ∷ arg.Plain (map (term_of text) (expression_pieces text value)) ∷ []) arguments e in
-    let symbol = (and_parts (is_symbol_at text name) (list_all (is_term_at text) (expression_pieces text value)) (of_form text at (is_symbol_at text name && list_all (is_term_at text) (expression_pieces text value)) (place_over text (expression_pieces text value)) ok.0)).0 in
+    let ok = unless_ok (refused text at (is_symbol_at text name && list_all (is_term_at text) (expression_pieces text value)) (place_out numeral.Small text (expression_pieces text value))) (arg.Symbol name.span ∷ arg.Plain (map (term_of text) (expression_pieces text value)) ∷ []) arguments e in
+    let symbol = (and_parts (is_symbol_at text name) (list_all (is_term_at text) (expression_pieces text value)) (of_form text at (is_symbol_at text name && list_all (is_term_at text) (expression_pieces text value)) (place_out numeral.Small text (expression_pieces text value)) ok.0)).0 in
     carried text (arg.Symbol name.span ∷ arg.Plain (map (term_of text) (expression_pieces text value)) ∷ []) arguments ok.1
     (two_args text (arg.Symbol name.span) (arg.Plain (map (term_of text) (expression_pieces text value))) (symbol_named text name.span symbol) refl)
 value_by text at (name ∷ value ∷ other ∷ more) arguments e = absurd cc
@@ -135,7 +135,7 @@ halves_by text at (left ∷ []) arguments e = absurd cc
 halves_by text at (left ∷ right ∷ []) arguments e =
     let a = expression_pieces text left in
     let b = expression_pieces text right in
-    let ok = unless_ok (refused text at (list_all (is_term_at text) (expression_pieces text left) && list_all (is_term_at text) (expression_pieces text right)) (option_or (place_over text (expression_pieces text left)) (place_over text (expression_pieces text right))))
+    let ok = unless_ok (refused text at (list_all (is_term_at text) (expression_pieces text left) && list_all (is_term_at text) (expression_pieces text right)) (option_or (place_out numeral.Small text (expression_pieces text left)) (place_out numeral.Small text (expression_pieces text right))))
     (arg.Plain (map (term_of text) (expression_pieces text left)) ∷ arg.Plain (map (term_of text) (expression_pieces text right)) ∷ []) arguments e in
     carried text (arg.Plain (map (term_of text) (expression_pieces text left)) ∷ arg.Plain (map (term_of text) (expression_pieces text right)) ∷ []) arguments ok.1
     (two_args text (arg.Plain (map (term_of text) (expression_pieces text left))) (arg.Plain (map (term_of text) (expression_pieces text right))) refl refl)
@@ -239,10 +239,10 @@ body_named text (body.External segment entry tail) terms tag e =
 body_named text (body.Plain whole) terms tag e = refl
 
 operand_by_body : (text : List ℕ) (at : ℕ) (b : Body) (pieces : List Piece) (tag : Option ℕ) (arguments : List Arg)
-    → unless (refused text at (is_operand text b pieces tag) (place_over text pieces)) (operand_of text b (map (term_of text) pieces) (unwrap_or tag 0) ∷ []) ≡ Ok arguments → args_are_named text arguments ≡ true
+    → unless (refused text at (is_operand text b pieces tag) (place_out numeral.Small text pieces)) (operand_of text b (map (term_of text) pieces) (unwrap_or tag 0) ∷ []) ≡ Ok arguments → args_are_named text arguments ≡ true
 operand_by_body text at b pieces tag arguments e =
-    let ok = unless_ok (refused text at (is_operand text b pieces tag) (place_over text pieces)) (operand_of text b (map (term_of text) pieces) (unwrap_or tag 0) ∷ []) arguments e in
-    let form = and_parts (is_body text b && list_all (is_term_at text) pieces) (is_some tag) (of_form text at (is_operand text b pieces tag) (place_over text pieces) ok.0) in
+    let ok = unless_ok (refused text at (is_operand text b pieces tag) (place_out numeral.Small text pieces)) (operand_of text b (map (term_of text) pieces) (unwrap_or tag 0) ∷ []) arguments e in
+    let form = and_parts (is_body text b && list_all (is_term_at text) pieces) (is_some tag) (of_form text at (is_operand text b pieces tag) (place_out numeral.Small text pieces) ok.0) in
     let is = (and_parts (is_body text b) (list_all (is_term_at text) pieces) form.0).0 in
     carried text (operand_of text b (map (term_of text) pieces) (unwrap_or tag 0) ∷ []) arguments ok.1
     (one_arg text (operand_of text b (map (term_of text) pieces) (unwrap_or tag 0)) (body_named text b (map (term_of text) pieces) (unwrap_or tag 0) is))

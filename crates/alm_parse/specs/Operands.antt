@@ -3,6 +3,7 @@ use Rattle.std.specs.Prelude.{ℕ, ◌+◌, Bool, ◌&&◌, ◌==◌, List, [], 
 use Rattle.std.specs.Prelude.{None, Result, is_some, unwrap_or, if◌then◌else◌}
 use Rattle.std.specs.List.{list_all}
 use Rattle.alm_tokens.specs.declared.span.Span.{Span}
+use Rattle.alm_tokens.specs.declared.numerals.Numeral.TheVariants.{Small}
 use Rattle.alm_tokens.specs.declared.pieces.Piece.{Piece}
 use Rattle.alm_tokens.specs.declared.expression.Term.{Term}
 use Rattle.alm_parse.specs.declared.body.Body.{Body}
@@ -11,7 +12,8 @@ use Rattle.alm_parse.specs.declared.args.Arg.{Arg}
 use Rattle.alm_parse.specs.declared.args.Arg.TheVariants.{Operand}
 use Rattle.alm_parse.specs.declared.refusal.Refusal.{Refusal}
 use Rattle.alm_tokens.specs.Tokens.{slice_of, span_at}
-use Rattle.alm_tokens.specs.Expressions.{is_term_at, place_over, term_of}
+use Rattle.alm_tokens.specs.Expressions.{is_term_at, term_of}
+use Rattle.alm_tokens.specs.Lists.{place_out}
 use Rattle.alm_tokens.specs.Modifiers.{pr_number, tag_of}
 use Rattle.alm_parse.specs.Bodies.{place_of, body_of, is_body, body_pieces}
 use Rattle.alm_parse.specs.Refusals.{refused, unless}
@@ -42,7 +44,7 @@ is_operand text body pieces tag =
 
 abbrev pub operand_by : List ℕ → ℕ → Body → List Piece → Option ℕ → Result (List Arg) Refusal
 operand_by text at body pieces tag =
-    unless (refused text at (is_operand text body pieces tag) (place_over text pieces))
+    unless (refused text at (is_operand text body pieces tag) (place_out Small text pieces))
     (operand_of text body (map (term_of text) pieces) (unwrap_or tag 0) ∷ [])
 
 abbrev pub operand_with : List ℕ → Span → Body → Option ℕ → Result (List Arg) Refusal

@@ -13,7 +13,7 @@ use Rattle.alm_tokens.specs.declared.numerals.Numeral.TheVariants.{Small}
 use Rattle.alm_parse.specs.declared.refusal.Code.TheVariants.{E2}
 use Rattle.alm_parse.specs.declared.refusal.Refusal.{Refusal}
 use Rattle.alm_tokens.specs.Tokens.{slice_of, is_text}
-use Rattle.alm_tokens.specs.Expressions.{is_term_at, expression_pieces, place_over, term_of}
+use Rattle.alm_tokens.specs.Expressions.{is_term_at, expression_pieces, term_of}
 use Rattle.alm_parse.specs.Members.{number_arg}
 use Rattle.alm_tokens.specs.Lists.{members, is_symbol_at, is_written_at, place_out}
 use Rattle.alm_parse.specs.Refusals.{told, refused, unless}
@@ -23,7 +23,7 @@ abbrev pub value_by : List ℕ → ℕ → Piece → List Piece → Result (List
 value_by text at name pieces =
     unless
     (refused text at (is_symbol_at text name && list_all (is_term_at text) pieces)
-    (place_over text pieces)) (Symbol name.span ∷ Plain (map (term_of text) pieces) ∷ [])
+    (place_out Small text pieces)) (Symbol name.span ∷ Plain (map (term_of text) pieces) ∷ [])
 
 abbrev pub value_of_members : List ℕ → ℕ → List Piece → Result (List Arg) Refusal
 value_of_members text at (name ∷ value ∷ []) = value_by text at name (expression_pieces text value)
@@ -37,7 +37,7 @@ abbrev pub halves_by : List ℕ → ℕ → List Piece → List Piece → Result
 halves_by text at left right =
     unless
     (refused text at (list_all (is_term_at text) left && list_all (is_term_at text) right)
-    (option_or (place_over text left) (place_over text right)))
+    (option_or (place_out Small text left) (place_out Small text right)))
     (Plain (map (term_of text) left) ∷ Plain (map (term_of text) right) ∷ [])
 
 abbrev pub halves_of_members : List ℕ → ℕ → List Piece → Result (List Arg) Refusal

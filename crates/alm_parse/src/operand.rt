@@ -8,8 +8,10 @@ ghost use Rattle.alm_parse.specs.Refusals.{Reads, HaltsInside};
 use crate::args::{Arg, Args, one};
 use crate::body::{Body, body_of, body_pieces, is_body, place_of};
 use crate::refusal::{Halt, refused};
-use alm_tokens::expression::{Expr, are_terms, expr_of, place_over};
+use alm_tokens::expression::{Expr, are_terms, expr_of};
+use alm_tokens::lists::place_out;
 use alm_tokens::modifiers::{pr_number, tag_of};
+use alm_tokens::numerals::Numeral;
 use alm_tokens::span::{Span, bytes_of};
 use std::alloc::Global;
 
@@ -95,7 +97,8 @@ pub fn operand_args(alloc: Global, text: &[u8], operand: Span) -> Result<Args, H
     let body = body_of(text, body_span(operand, comma));
     let pieces = body_pieces(alloc, text, body)?;
     let form = is_body(text, body) && are_terms(text, pieces.items()) && tag.is_some();
-    if let Some(refusal) = refused(text, operand.from, form, place_over(text, pieces.items())) {
+    let over = place_out(Numeral::Small, text, pieces.items());
+    if let Some(refusal) = refused(text, operand.from, form, over) {
         return Err(Halt::Refused(refusal));
     }
     let expr = expr_of(alloc, text, pieces.items())?;

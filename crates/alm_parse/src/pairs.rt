@@ -8,7 +8,7 @@ ghost use Rattle.alm_parse.specs.Refusals.{Reads, HaltsInside};
 use crate::args::{Arg, Args, one, two};
 use crate::members::number_arg;
 use crate::refusal::{Code, Halt, refused, told};
-use alm_tokens::expression::{are_terms, expr_of, expression_pieces, place_over};
+use alm_tokens::expression::{are_terms, expr_of, expression_pieces};
 use alm_tokens::lists::{is_symbol_at, is_written_at, members, place_out};
 use alm_tokens::numerals::Numeral;
 use alm_tokens::span::{Span, bytes_of};
@@ -29,7 +29,7 @@ pub fn value_args(alloc: Global, text: &[u8], operand: Span) -> Result<Args, Hal
     };
     let pieces = expression_pieces(alloc, text, *value)?;
     let form = is_symbol_at(text, name) && are_terms(text, pieces.items());
-    let over = place_over(text, pieces.items());
+    let over = place_out(Numeral::Small, text, pieces.items());
     if let Some(refusal) = refused(text, operand.from, form, over) {
         return Err(Halt::Refused(refusal));
     }
@@ -63,8 +63,8 @@ pub fn halves_args(alloc: Global, text: &[u8], operand: Span) -> Result<Args, Ha
     let right = expression_pieces(alloc, text, *right)?;
     let form = are_terms(text, left.items()) && are_terms(text, right.items());
     let over = first_place(
-        place_over(text, left.items()),
-        place_over(text, right.items()),
+        place_out(Numeral::Small, text, left.items()),
+        place_out(Numeral::Small, text, right.items()),
     );
     if let Some(refusal) = refused(text, operand.from, form, over) {
         return Err(Halt::Refused(refusal));

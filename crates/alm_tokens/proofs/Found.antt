@@ -8,8 +8,7 @@ use Rattle.alm_tokens.specs.declared.span.Span.{Span}
 use Rattle.alm_tokens.specs.declared.pieces.Piece.{Piece}
 use Rattle.alm_tokens.specs.declared.numerals.Numeral.{Numeral}
 use Rattle.alm_tokens.specs.declared.numerals.Numeral.TheVariants.{Decimal, Octal, Small}
-use Rattle.alm_tokens.specs.Tokens.{slice_of, small_read, is_over}
-use Rattle.alm_tokens.specs.Expressions.{is_over_at}
+use Rattle.alm_tokens.specs.Tokens.{slice_of, is_over}
 use Rattle.alm_tokens.specs.Numerals.{read_as}
 use Rattle.alm_tokens.specs.Lists.{is_out_at}
 
@@ -30,21 +29,12 @@ slice_inside text span some =
     omega (arith, some, count)
 
 -- a text without a byte is no number
-small_some : (bytes : List ℕ) → is_over (small_read bytes) ≡ true → 0 < length bytes
-unfolding number_read
-small_some [] e = absurd (false≢true e)
-small_some (b ∷ bytes) e = omega arith
-
 pub out_some : (numeral : Numeral) (bytes : List ℕ) → is_over (read_as numeral bytes) ≡ true → 0 < length bytes
 unfolding number_read
 out_some Decimal [] e = absurd (false≢true e)
 out_some Octal [] e = absurd (false≢true e)
 out_some Small [] e = absurd (false≢true e)
 out_some numeral (b ∷ bytes) e = omega arith
-
-pub over_inside : (text : List ℕ) (pieces : List Piece) (piece : Piece) → find (is_over_at text) pieces ≡ Some piece → piece.span.from < length text
-over_inside text pieces piece e =
-    slice_inside text piece.span (small_some (slice_of text piece.span) (found_passes (is_over_at text) pieces piece e))
 
 pub out_inside :
     (numeral : Numeral) (text : List ℕ) (pieces : List Piece) (piece : Piece)

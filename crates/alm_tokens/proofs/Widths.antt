@@ -7,7 +7,8 @@ use Rattle.m36_text.specs.Reading.{number_read, judged, first_other, number_of}
 use Rattle.m36_text.specs.declared.reading.NumberFault.TheVariants.{T2}
 use Rattle.alm_tokens.specs.declared.expression.Atom.TheVariants.{Number, Symbol, Here}
 use Rattle.m36_text.specs.Digits.{is_digit}
-use Rattle.alm_tokens.specs.Tokens.{is_text, is_number, most_number, small_read, value_of}
+use Rattle.alm_tokens.specs.Tokens.{is_text, most_number, small_read, value_of}
+use Rattle.alm_tokens.specs.Numerals.{is_number}
 use Rattle.alm_tokens.specs.Expressions.{is_here, atom_of, IsSmall}
 use Rattle.std.specs.Option.{option_or}
 use Rattle.alm_tokens.specs.Modifiers.{NumberedName, octal_digit, after_x, register_of, pr_digit, pr_name, pr_number, single_tag, indirect_first, indirect_last, tag_of, registers, pointer_registers, single_tags, number_beside}

@@ -1,14 +1,14 @@
 -- Expressions: terms joined by + and -. A minus may stand before the first term.
 use Rattle.std.specs.Prelude.{ℕ, ◌+◌, ◌≤◌, ⊤, Bool, not, ◌||◌, ◌==◌, List, slice_index, codes}
-use Rattle.std.specs.Prelude.{Option, option_map, if◌then◌else◌}
-use Rattle.std.specs.List.{find}
+use Rattle.std.specs.Prelude.{if◌then◌else◌}
 use Rattle.alm_tokens.specs.declared.pieces.Parter.TheVariants.{Sign}
 use Rattle.alm_tokens.specs.declared.pieces.Piece.{Piece}
 use Rattle.alm_tokens.specs.declared.expression.Atom.{Atom}
 use Rattle.alm_tokens.specs.declared.expression.Atom.TheVariants.{Number, Symbol, Here}
 use Rattle.alm_tokens.specs.declared.expression.Term.{Term}
-use Rattle.alm_tokens.specs.Tokens.{slice_of, is_text, is_symbol, is_number, is_over, value_of}
-use Rattle.alm_tokens.specs.Tokens.{small_read, most_number}
+use Rattle.alm_tokens.specs.Tokens.{slice_of, is_text, is_symbol, value_of, small_read}
+use Rattle.alm_tokens.specs.Tokens.{most_number}
+use Rattle.alm_tokens.specs.Numerals.{is_number}
 use Rattle.alm_tokens.specs.Pieces.{pieces_of, piece_at}
 
 -- A term is a number, a symbol, or *, the current place.
@@ -31,13 +31,6 @@ signed_start text whole =
 
 unfoldable pub expression_pieces : List ℕ → Piece → List Piece
 expression_pieces text whole = pieces_of Sign text (signed_start text whole)
-
--- the place of the first number over the limit
-abbrev pub is_over_at : List ℕ → Piece → Bool
-is_over_at text piece = is_over (small_read (slice_of text piece.span))
-
-unfoldable pub place_over : List ℕ → List Piece → Option ℕ
-place_over text pieces = option_map (λ piece. piece.span.from) (find (is_over_at text) pieces)
 
 -- what a piece says as a term
 unfoldable pub atom_of : List ℕ → Atom

@@ -33,6 +33,10 @@ has_its_zeros Small bytes = has_no_leading_zero bytes
 abbrev pub is_written : Numeral → List ℕ → Bool
 is_written numeral bytes = has_digits (read_as numeral bytes) && has_its_zeros numeral bytes
 
+-- whether a text is a number of an expression, within the limit or not
+unfoldable pub is_number : List ℕ → Bool
+is_number bytes = is_written Small bytes
+
 -- the word of a number, a negative one as its complement
 abbrev pub signed_word : Bool → ℕ → ℕ
 signed_word negative magnitude = (if negative then 2 ^ 36 - magnitude else magnitude) % 2 ^ 36

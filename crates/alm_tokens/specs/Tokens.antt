@@ -43,6 +43,3 @@ most_number = 262143
 
 abbrev pub small_read : List ℕ → Result ℕ NumberFault
 small_read bytes = number_read 10 bytes most_number
-
-unfoldable pub is_number : List ℕ → Bool
-is_number bytes = has_digits (small_read bytes) && has_no_leading_zero bytes

@@ -1,13 +1,13 @@
 //! Expressions: terms joined by signs.
 
-ghost use Rattle.std.specs.Prelude.{ℕ, List, [], ◌∷◌, ◌++◌, ◌≡◌, ◌^◌, ◌<◌, ◌≤◌, length, map, OnOk, OnErr, IfOk, IfSome};
-ghost use Rattle.std.specs.List.{list_all, find};
-ghost use Rattle.std.specs.Option.{option_copied};
-ghost use Rattle.alm_tokens.specs.Expressions.{is_here, is_term, is_term_at, signed_start, expression_pieces, is_over_at, place_over, atom_of, term_of, IsSmall};
+ghost use Rattle.std.specs.Prelude.{ℕ, List, [], ◌∷◌, ◌++◌, ◌≡◌, ◌^◌, ◌<◌, ◌≤◌, length, map, OnOk, OnErr, IfOk};
+ghost use Rattle.std.specs.List.{list_all};
+ghost use Rattle.alm_tokens.specs.Expressions.{is_here, is_term, is_term_at, signed_start, expression_pieces, atom_of, term_of, IsSmall};
 
+use crate::numerals::is_number;
 use crate::pieces::{Parter, Piece, Pieces, pieces_of};
 use crate::span::{Span, bytes_of, first_byte};
-use crate::tokens::{is_number, is_over, is_symbol, read_small};
+use crate::tokens::{is_symbol, read_small};
 use m36_word::NoMemory;
 use std::alloc::Global;
 use std::marker::Model;
@@ -129,30 +129,6 @@ pub fn expression_pieces(alloc: Global, text: &[u8], whole: Piece) -> Result<Pie
     ensures count { IfOk result (λ p. length p ≤ 2 ^ 32) }
 {
     pieces_of(alloc, Parter::Sign, text, signed_start(text, whole))
-}
-
-fn is_over_at(text: &[u8], piece: &Piece) -> bool
-    ensures { result ≡ is_over_at text.now piece.now }
-{
-    is_over(read_small(bytes_of(text, piece.span)))
-}
-
-fn first_over<'a>(text: &[u8], pieces: &'a [Piece]) -> Option<&'a Piece>
-    ensures { option_copied result ≡ find (is_over_at text.now) pieces.now }
-{
-    pieces.iter().find(|piece| is_over_at(text, *piece))
-}
-
-/// The place of the first number over 262143 among pieces.
-#[tactic(auto, unfolding(crate::specs::Expressions::place_over))]
-pub fn place_over(text: &[u8], pieces: &[Piece]) -> Option<u32>
-    ensures value { result ≡ place_over text.now pieces.now }
-    ensures within { IfSome result (λ place. place < length text.now) }
-{
-    match first_over(text, pieces) {
-        Some(piece) => Some(piece.span.from),
-        None => None,
-    }
 }
 
 #[tactic(auto, unfolding(crate::specs::Expressions::atom_of))]

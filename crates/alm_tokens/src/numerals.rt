@@ -1,7 +1,7 @@
 //! The numbers of words.
 
 ghost use Rattle.std.specs.Prelude.{ℕ, ◌≡◌, ◌≤◌, ◌^◌, ◌<◌, IfOk, length, slice_index};
-ghost use Rattle.alm_tokens.specs.Numerals.{is_negative, unsigned, read_as, is_written, signed_word, word_as};
+ghost use Rattle.alm_tokens.specs.Numerals.{is_negative, unsigned, read_as, is_written, is_number, signed_word, word_as};
 ghost use Rattle.alm_tokens.specs.Tokens.{is_over, value_of};
 
 use crate::bytes::is_sign;
@@ -66,6 +66,14 @@ pub fn is_written(numeral: Numeral, bytes: &[u8]) -> bool
         Numeral::Decimal => has_no_leading_zero(unsigned(bytes)),
         Numeral::Small => has_no_leading_zero(bytes),
     }
+}
+
+/// Whether a text is a number of an expression, within the limit or not.
+#[tactic(auto, unfolding(crate::specs::Numerals::is_number))]
+pub fn is_number(bytes: &[u8]) -> bool
+    ensures { result ≡ is_number bytes.now }
+{
+    is_written(Numeral::Small, bytes)
 }
 
 /// Whether a text is a number out of its range.

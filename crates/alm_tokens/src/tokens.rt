@@ -2,11 +2,11 @@
 
 ghost use Rattle.std.specs.Prelude.{ℕ, ◌≡◌, ◌≤◌, IfOk};
 ghost use Rattle.m36_text.specs.Reading.{number_read};
-ghost use Rattle.alm_tokens.specs.Tokens.{is_symbol, has_digits, is_over, small_read, most_number, is_number};
+ghost use Rattle.alm_tokens.specs.Tokens.{is_symbol, has_digits, is_over, small_read, most_number};
 
 use crate::bytes::begins_symbol;
 use crate::span::first_byte;
-use m36_text::{NumberFault, has_no_leading_zero, is_name, read_decimal};
+use m36_text::{NumberFault, is_name, read_decimal};
 
 /// The greatest number of an expression.
 const MOST: u64 = 262_143;
@@ -45,12 +45,4 @@ pub fn read_small(bytes: &[u8]) -> Result<u64, NumberFault>
     ensures bound { IfOk result (λ v. v ≤ most_number) }
 {
     read_decimal(bytes, MOST)
-}
-
-/// Whether a text is a decimal number, within the limit or not.
-#[tactic(auto, unfolding(crate::specs::Tokens::is_number))]
-pub fn is_number(bytes: &[u8]) -> bool
-    ensures { result ≡ is_number bytes.now }
-{
-    has_digits(read_small(bytes)) && has_no_leading_zero(bytes)
 }

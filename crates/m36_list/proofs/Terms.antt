@@ -12,9 +12,12 @@ use Rattle.alm_tokens.specs.declared.pieces.Parter.{Parter}
 use Rattle.alm_tokens.specs.declared.pieces.Parter.TheVariants.{Sign}
 use Rattle.alm_tokens.specs.declared.pieces.Piece.{Piece}
 use Rattle.alm_tokens.specs.declared.expression.Atom.TheVariants.{Number}
-use Rattle.alm_tokens.specs.Tokens.{slice_of, is_text, is_number, small_read, has_no_leading_zero as starts_well, span_at}
+use Rattle.alm_tokens.specs.Tokens.{slice_of, is_text, small_read, has_no_leading_zero as starts_well, span_at}
+use Rattle.alm_tokens.specs.Numerals.{is_number}
 use Rattle.alm_tokens.specs.Pieces.{parts, piece_at, cut, pieces_of}
-use Rattle.alm_tokens.specs.Expressions.{is_here, is_term, is_term_at, signed_start, expression_pieces, place_over, atom_of, term_of}
+use Rattle.alm_tokens.specs.Expressions.{is_here, is_term, is_term_at, signed_start, expression_pieces, atom_of, term_of}
+use Rattle.alm_tokens.specs.Lists.{place_out}
+use Rattle.alm_tokens.specs.declared.numerals.Numeral.TheVariants.{Small}
 use Rattle.m36_list.proofs.Characters.{decimal_passes_none}
 
 -- a text that has no byte of another is another one
@@ -95,11 +98,11 @@ pub record IsNumberAt (source : List ℕ) (pieces : List Piece) (minus : Bool) (
   pub span : Span
   pub one : pieces ≡ record { span = span; minus = minus } ∷ []
   pub terms : list_all (is_term_at source) pieces ≡ true
-  pub within : place_over source pieces ≡ None
+  pub within : place_out Small source pieces ≡ None
   pub read : map (term_of source) pieces ≡ record { what = Number v; span = span; minus = minus } ∷ []
 
 number_at : (source : List ℕ) (from to : ℕ) (minus : Bool) (v : ℕ) → v < 2 ^ 18 → slice_of source (span_at from to) ≡ decimal_text v → IsNumberAt source (piece_at minus from to ∷ []) minus v
-unfolding place_over
+unfolding place_out
 number_at source from to minus v fits slice =
     record {
       span = span_at from to;
