@@ -15,13 +15,17 @@ abbrev pub unsigned : List ℕ → List ℕ
 unsigned [] = []
 unsigned (b ∷ rest) = if is_sign b then rest else b ∷ rest
 
+-- 2^36 - 1
+abbrev pub greatest_word : ℕ
+greatest_word = 68719476735
+
 -- A number of a decimal word is from -2^35 to 2^36 - 1; of an octal word it is below 2^36.
 abbrev pub read_as : Numeral → List ℕ → Result ℕ NumberFault
 read_as Decimal bytes =
     if is_negative bytes
     then number_read 10 (unsigned bytes) 34359738368
-    else number_read 10 (unsigned bytes) 68719476735
-read_as Octal bytes = number_read 8 bytes 68719476735
+    else number_read 10 (unsigned bytes) greatest_word
+read_as Octal bytes = number_read 8 bytes greatest_word
 read_as Small bytes = small_read bytes
 
 -- an octal number may have leading zeros

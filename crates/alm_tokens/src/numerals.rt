@@ -1,7 +1,7 @@
 //! The numbers of words.
 
 ghost use Rattle.std.specs.Prelude.{ℕ, ◌≡◌, ◌≤◌, ◌^◌, ◌<◌, IfOk, length, slice_index};
-ghost use Rattle.alm_tokens.specs.Numerals.{is_negative, unsigned, read_as, is_written, is_number, signed_word, word_as};
+ghost use Rattle.alm_tokens.specs.Numerals.{is_negative, unsigned, greatest_word, read_as, is_written, is_number, signed_word, word_as};
 ghost use Rattle.alm_tokens.specs.Tokens.{is_over, value_of};
 
 use crate::bytes::is_sign;
@@ -21,6 +21,9 @@ pub enum Numeral {
     Small,
 }
 
+/// The greatest number of a word.
+const GREATEST_WORD: u64 = 0o777777777777;
+
 fn is_negative(bytes: &[u8]) -> bool
     ensures { result ≡ is_negative bytes.now }
 {
@@ -39,17 +42,17 @@ fn unsigned(bytes: &[u8]) -> &[u8]
 /// A number without its sign, as it is read.
 pub fn read_as(numeral: Numeral, bytes: &[u8]) -> Result<u64, NumberFault>
     ensures value { result ≡ read_as numeral bytes.now }
-    ensures bound { IfOk result (λ v. v ≤ 68719476735) }
+    ensures bound { IfOk result (λ v. v ≤ greatest_word) }
 {
     match numeral {
         Numeral::Decimal => {
             if is_negative(bytes) {
                 read_decimal(unsigned(bytes), 0o400000000000)
             } else {
-                read_decimal(unsigned(bytes), 0o777777777777)
+                read_decimal(unsigned(bytes), GREATEST_WORD)
             }
         }
-        Numeral::Octal => read_octal(bytes, 0o777777777777),
+        Numeral::Octal => read_octal(bytes, GREATEST_WORD),
         Numeral::Small => read_small(bytes),
     }
 }
@@ -84,7 +87,7 @@ pub fn is_out(numeral: Numeral, bytes: &[u8]) -> bool
 }
 
 fn signed_word(negative: bool, magnitude: u64) -> Word
-    requires { magnitude ≤ 68719476735 }
+    requires { magnitude ≤ greatest_word }
     ensures { result ≡ signed_word negative magnitude }
 {
     if negative {
@@ -95,9 +98,9 @@ fn signed_word(negative: bool, magnitude: u64) -> Word
 }
 
 fn value_of(read: Result<u64, NumberFault>) -> u64
-    requires { IfOk read (λ v. v ≤ 68719476735) }
+    requires { IfOk read (λ v. v ≤ greatest_word) }
     ensures value { result ≡ value_of read }
-    ensures bound { result ≤ 68719476735 }
+    ensures bound { result ≤ greatest_word }
 {
     match read {
         Ok(value) => value,
