@@ -1,5 +1,5 @@
 -- Texts that are placed: characters between two delimiters, four in a word.
-use Rattle.std.specs.Prelude.{ℕ, ◌+◌, Bool, true, false, not, ◌==◌, List, [], ◌∷◌}
+use Rattle.std.specs.Prelude.{ℕ, ◌+◌, Bool, true, false, not, List, [], ◌∷◌}
 use Rattle.std.specs.Prelude.{slice_index, Option, Some, None, option_map, Result, Ok, Err}
 use Rattle.std.specs.Prelude.{if◌then◌else◌}
 use Rattle.std.specs.List.{find, position}
@@ -9,7 +9,7 @@ use Rattle.alm_parse.specs.declared.args.Arg.{Arg}
 use Rattle.alm_parse.specs.declared.args.Arg.TheVariants.{Chars}
 use Rattle.alm_parse.specs.declared.refusal.Code.TheVariants.{E1, E2}
 use Rattle.alm_parse.specs.declared.refusal.Refusal.{Refusal}
-use Rattle.alm_tokens.specs.Bytes.{is_blank, is_character}
+use Rattle.alm_tokens.specs.Bytes.{is_blank, begins_comment, is_character}
 use Rattle.alm_tokens.specs.Tokens.{slice_of, span_at}
 use Rattle.alm_parse.specs.Bodies.{place_of}
 
@@ -29,7 +29,7 @@ first_word bytes =
 -- behind the closing delimiter only blanks stand, and perhaps a comment
 abbrev pub ended_by : Option ℕ → Bool
 ended_by None = true
-ended_by (Some b) = b == 34
+ended_by (Some b) = begins_comment b
 
 abbrev pub is_ended : List ℕ → Bool
 is_ended bytes = ended_by (find (λ b. not (is_blank b)) bytes)

@@ -14,13 +14,18 @@ begins_symbol b = is_letter b || (b == 95)
 abbrev pub is_sign : ℕ → Bool
 is_sign b = (b == 43) || (b == 45)
 
+-- A quotation mark begins a comment.
+abbrev pub begins_comment : ℕ → Bool
+begins_comment b = b == 34
+
 -- the characters of a text that is placed: octal 40 to 176
 abbrev pub is_character : ℕ → Bool
 is_character b = nat_le 32 b && nat_le b 126
 
 -- | : * $ , and the quotation mark
 abbrev pub is_mark : ℕ → Bool
-is_mark b = (b == 124) || (b == 58) || (b == 42) || (b == 36) || (b == 44) || (b == 34)
+is_mark b =
+    (b == 124) || (b == 58) || (b == 42) || (b == 36) || (b == 44) || begins_comment b
 
 -- what a source may have outside comments and texts that are placed
 unfoldable pub is_legal : ℕ → Bool

@@ -7,7 +7,7 @@ use Rattle.alm_tokens.specs.declared.span.Span.{Span}
 use Rattle.alm_tokens.specs.declared.head.Turn.{Turn}
 use Rattle.alm_tokens.specs.declared.head.Turn.TheVariants.{Label, Skip, Stop, Go}
 use Rattle.alm_tokens.specs.declared.head.Head.{Head}
-use Rattle.alm_tokens.specs.Bytes.{is_blank}
+use Rattle.alm_tokens.specs.Bytes.{is_blank, begins_comment}
 use Rattle.alm_tokens.specs.Tokens.{slice_of, span_at}
 
 -- What a byte does to the tokens before the operand: `fresh` says that no byte of the token stands
@@ -16,7 +16,9 @@ abbrev pub turn_of : ℕ → Bool → Turn
 turn_of b fresh =
     if b == 58
     then Label
-    else (if is_blank b then (if fresh then Skip else Stop) else (if b == 34 then Stop else Go))
+    else (if is_blank b
+    then (if fresh then Skip else Stop)
+    else (if begins_comment b then Stop else Go))
 
 abbrev pub token : ℕ → ℕ → Option Span
 token from to = if from == to then None else Some (span_at from to)
@@ -52,7 +54,7 @@ operand_start text rest =
 unfoldable pub end_from : ℕ → ℕ → List ℕ → ℕ
 end_from end at [] = end
 end_from end at (b ∷ rest) =
-    if b == 34 then end else end_from (if is_blank b then end else at + 1) (at + 1) rest
+    if begins_comment b then end else end_from (if is_blank b then end else at + 1) (at + 1) rest
 
 abbrev pub operand_end : List ℕ → Span → ℕ
 operand_end text rest = end_from rest.from rest.from (slice_of text rest)
@@ -72,7 +74,7 @@ delimited_by rest (Some from) = Some (span_at from rest.to)
 
 unfoldable pub delimited_in : List ℕ → Span → Option Span
 delimited_in text rest =
-    if slice_index (slice_of text rest) 0 == 34
+    if begins_comment (slice_index (slice_of text rest) 0)
     then None
     else delimited_by rest (operand_start text rest)
 
