@@ -1,6 +1,7 @@
 -- What is read of a folder before the files of its segments: the boot text, which gives a catalog,
 -- and for a user the access lists, by which its segments get their rights.
 use Rattle.std.specs.Prelude.{ℕ, List, [], codes, Option, Some, None, Result, Ok, Err}
+pub use Rattle.m36_text.specs.FileNames.{boot_name}
 use Rattle.m36_dir.specs.Catalog.{CatalogFields, catalog_of}
 use Rattle.m36_dir.specs.declared.fault.CatalogFault.{CatalogFault}
 use Rattle.m36_dir.specs.declared.fault.CatalogFault.TheVariants as catalog
@@ -19,9 +20,6 @@ use Rattle.m36_reading.specs.Reading.{Reading, decided, Early, then_with}
 use Rattle.m36_reading.specs.Readers.{refused, file_bytes}
 
 -- ---- the boot text: D1 to D6 at its line
-
-abbrev pub boot_name : List ℕ
-boot_name = codes "boot"
 
 abbrev pub boot_refused : Code → ℕ → Refusal
 boot_refused code at = refused boot_name code at

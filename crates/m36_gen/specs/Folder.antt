@@ -1,7 +1,8 @@
 -- The files of the folder that a seed makes: the sources, the data and the boot text, in this
 -- order.
-use Rattle.std.specs.Prelude.{ℕ, ◌+◌, List, [], ◌∷◌, ◌++◌, map, replicate, codes}
+use Rattle.std.specs.Prelude.{ℕ, ◌+◌, List, [], ◌∷◌, ◌++◌, map, replicate}
 use Rattle.std.specs.List.{range_with_len}
+use Rattle.m36_text.specs.FileNames.{source_suffix, boot_name}
 use Rattle.m36_text.specs.Packing.{packed}
 use Rattle.m36_gen.specs.declared.files.File.{File}
 use Rattle.m36_gen.specs.Draws.{offset_bound, draws_from, state_at}
@@ -27,12 +28,13 @@ unfoldable pub zeros : ℕ → List ℕ
 zeros count = replicate count 0
 
 unfoldable pub sources_of : ℕ → List File
-sources_of seed = source_files seed program_count ++ file (gate_name ++ codes ".alm") stop_text ∷ []
+sources_of seed =
+    source_files seed program_count ++ file (gate_name ++ source_suffix) stop_text ∷ []
 
 -- the files beside the sources, which are the same for each seed
 unfoldable pub other_files : List File
 other_files =
-    file data_name (packed (zeros data_words)) ∷ file (codes "boot") boot_text ∷ []
+    file data_name (packed (zeros data_words)) ∷ file boot_name boot_text ∷ []
 
 unfoldable pub files_of : ℕ → List File
 files_of seed = sources_of seed ++ other_files

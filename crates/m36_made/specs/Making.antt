@@ -3,6 +3,7 @@
 use Rattle.std.specs.Prelude.{ℕ, ◌≡◌, ◌-◌, List, [], ◌∷◌, ◌++◌, length, map, take}
 use Rattle.std.specs.Prelude.{Some, None, Result, Ok, Err}
 use Rattle.m36_outside.specs.Files.{Files, with_file}
+use Rattle.m36_text.specs.FileNames.{source_suffix}
 use Rattle.m36_text.specs.Results.{and_then}
 use Rattle.alm_parse.specs.Sources.{Refuses}
 use Rattle.alm_parse.specs.declared.fault.AlmFault.{AlmFault}
@@ -19,9 +20,9 @@ set_of file = record { name = file.name; content = file.content }
 
 -- ---- objects
 
--- An object has the name of its source without `.alm`.
+-- An object has the name of its source without the end.
 unfoldable pub object_name : List ℕ → List ℕ
-object_name source = take (length source - 4) source
+object_name source = take (length source - length source_suffix) source
 
 abbrev pub object_by : List ℕ → Result Assembly AlmFault → Early Set
 object_by source (Ok a) = Ok (object_set (object_name source) a.parts)

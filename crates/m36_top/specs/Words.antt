@@ -27,6 +27,7 @@
 use Rattle.std.specs.Prelude.{ℕ, Bool, true, false, not, ◌&&◌, nat_le, List, [], ◌∷◌, ◌++◌, length}
 use Rattle.std.specs.Prelude.{take, drop, codes, Option, Some, None, unwrap_or, if◌then◌else◌}
 use Rattle.std.specs.Option.{is_none, option_map, option_and_then}
+use Rattle.m36_text.specs.FileNames.{source_suffix}
 use Rattle.m36_text.specs.Texts.{is_text}
 use Rattle.m36_text.specs.Numbers.{short_decimal_in}
 use Rattle.m36_booted.specs.declared.command.FolderRun.{FolderRun}
@@ -191,7 +192,7 @@ may_be_longer name = nat_le (length name) 27
 abbrev pub alm_of : List ℕ → Option Command
 alm_of name =
     if may_be_longer name
-    then Some (Alm (record { source = name ++ codes ".alm"; object = name })) else None
+    then Some (Alm (record { source = name ++ source_suffix; object = name })) else None
 
 abbrev pub alm : Given → Option Command
 alm g = if has_no_option g then option_and_then alm_of (file_given g) else None

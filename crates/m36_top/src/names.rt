@@ -1,6 +1,7 @@
 //! Operands, and names of files.
 
 ghost use Rattle.std.specs.Prelude.{◌≡◌, ◌≤◌, ◌++◌, length, codes, Some};
+ghost use Rattle.m36_text.specs.FileNames.{source_suffix};
 ghost use Rattle.m36_top.specs.Words.{operand_by, operand_of};
 
 use arrayvec::ArrayVec;
@@ -34,7 +35,7 @@ pub fn operand_of(word: &[u8]) -> Option<Operand>
 /// The name of the source of an object: NAME.alm.
 pub fn source_of(object: &[u8]) -> Option<Name>
     requires { length object.now ≤ 27 }
-    ensures { result ≡ Some (object.now ++ codes ".alm") }
+    ensures { result ≡ Some (object.now ++ source_suffix) }
 {
     let mut name: ArrayVec<u8, 32> = ArrayVec::new();
     let _ = name.try_extend_from_slice(object);
