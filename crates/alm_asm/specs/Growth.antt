@@ -11,7 +11,7 @@ use Rattle.alm_parse.specs.declared.args.Arg.TheVariants as arg
 use Rattle.alm_parse.specs.declared.line.Line36.{Line36}
 use Rattle.obj36_parts.specs.Fields.{LinkFields}
 use Rattle.obj36_parts.specs.Names.{name_length}
-use Rattle.obj36_parts.specs.ObjectSegment.{head_words, link_names}
+use Rattle.obj36_parts.specs.ObjectSegment.{head_words, definition_head, symbol_head, link_names}
 use Rattle.alm_lines.specs.Sums.{no_sum, kind_of}
 use Rattle.alm_lines.specs.Symbols.{sum_named, with_symbol}
 use Rattle.alm_lines.specs.Arguments.{name_at, first_arg, second_arg, terms_in}
@@ -38,7 +38,13 @@ use Rattle.alm_lines.specs.declared.refusal.Refusal.{Refusal}
 -- Of no lines the definition section has its two first words, and the symbol section the count of
 -- the relocations.
 abbrev pub at_first : Growth
-at_first = record { names = []; defined = []; links = []; definition = 2; symbol = 1 }
+at_first = record {
+  names = [];
+  defined = [];
+  links = [];
+  definition = definition_head;
+  symbol = symbol_head;
+}
 
 -- ---- names
 

@@ -77,6 +77,17 @@ outer_statics p = if is_newer p then p.statics else []
 abbrev pub head_words : ℕ
 head_words = 8
 
+-- and how many stand at the head of a definition section, and of a symbol section
+abbrev pub definition_head : ℕ
+definition_head = 2
+
+abbrev pub symbol_head : ℕ
+symbol_head = 1
+
+-- where the expressions of links begin, behind that head and so many definitions
+abbrev pub expressions_behind : ℕ → ℕ
+expressions_behind definitions = definition_head + 2 * definitions
+
 -- the types of links: to a place of a section of the own object, to a segment, to an entry of a
 -- segment, and to an entry of the own object
 abbrev pub to_section : ℕ
@@ -157,11 +168,11 @@ expression_words names base (l ∷ ls) =
 unfoldable pub definition_part : List Named → List LinkFields → List ℕ
 definition_part ds ls =
     let names = with_names [] (definition_names ds ++ all_link_names ls) in
-    let expressions = 2 + 2 * length ds in
+    let expressions = expressions_behind (length ds) in
     let base = expressions + 2 * length ls in
-    joined (place_if_any (length ds) 2) (length ds)
+    joined (place_if_any (length ds) definition_head) (length ds)
     ∷ joined (place_if_any (length ls) expressions) (length ls)
-    ∷ definition_words names base ds 2
+    ∷ definition_words names base ds definition_head
     ++ expression_words names base ls
     ++ all_name_words names
 
@@ -187,7 +198,8 @@ linkage_part statics ls expressions =
     ++ link_words ls (head_words + length statics) expressions
 
 unfoldable pub linkage_section : PartsFields → List ℕ
-linkage_section p = linkage_part (inner_statics p) p.links (2 + 2 * length p.definitions)
+linkage_section p =
+    linkage_part (inner_statics p) p.links (expressions_behind (length p.definitions))
 
 -- where the first link stands in it: behind the words of the head and the static words there
 abbrev pub first_link : PartsFields → ℕ

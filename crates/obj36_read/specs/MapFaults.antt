@@ -6,6 +6,7 @@ use Rattle.m36_word.specs.Bits.{of_bit}
 use Rattle.m36_text.specs.Lines.{first_met}
 use Rattle.obj36_parts.specs.Halves.{left, right}
 use Rattle.obj36_parts.specs.ObjectSegment.{is_newer_version, head_words}
+use Rattle.obj36_parts.specs.ObjectSegment.{definition_head, symbol_head}
 use Rattle.obj36_read.specs.Reading.{older_map, newer_map, map_place, version_in, told_length}
 use Rattle.obj36_read.specs.Reading.{bound_index}
 use Rattle.obj36_read.specs.declared.map.Extent.{Extent}
@@ -76,10 +77,10 @@ section_fault words =
     let e = extents_of words in
     first_met (
     (is_outside map e.text 0, map + 1)
-    ∷ (is_outside map e.definition 2, map + 2)
+    ∷ (is_outside map e.definition definition_head, map + 2)
     ∷ (is_outside map e.linkage head_words, map + 3)
     ∷ (is_outside map e.statics 0, map + 4)
-    ∷ (is_outside map e.symbol 1, map + symbol_index (version_in words))
+    ∷ (is_outside map e.symbol symbol_head, map + symbol_index (version_in words))
     ∷ []
     )
 

@@ -1,14 +1,15 @@
 -- The parts that a list of words would spell: read by counts alone, the sections one behind another
 -- and each table in order. What this does not look at, as offsets, is judged by spelling
 -- the parts again.
-use Rattle.std.specs.Prelude.{ℕ, zero, suc, ◌+◌, ◌-◌, ◌*◌, ◌/◌, ◌%◌, ◌^◌, nat_eq, nat_le}
+use Rattle.std.specs.Prelude.{ℕ, zero, suc, ◌+◌, ◌-◌, ◌/◌, ◌%◌, ◌^◌, nat_eq, nat_le}
 use Rattle.std.specs.Prelude.{if◌then◌else◌, min, List, [], ◌∷◌, length, take, drop, slice_index}
 use Rattle.m36_text.specs.Texts.{name_limit}
 use Rattle.obj36_parts.specs.Fields.{LinkFields, RelocFields}
 use Rattle.obj36_parts.specs.PartsFields.{PartsFields}
 use Rattle.obj36_parts.specs.Halves.{left, right, quarter}
 use Rattle.obj36_parts.specs.ObjectSegment.{is_newer_version, version_of, has_name, has_entry}
-use Rattle.obj36_parts.specs.ObjectSegment.{head_words}
+use Rattle.obj36_parts.specs.ObjectSegment.{head_words, definition_head, symbol_head}
+use Rattle.obj36_parts.specs.ObjectSegment.{expressions_behind}
 use Rattle.obj36_parts.specs.declared.section.Section.{Section}
 use Rattle.obj36_parts.specs.declared.section.Section.TheVariants.{Text, Linkage, Symbol, Static}
 use Rattle.obj36_parts.specs.declared.definition.Named.{Named}
@@ -159,10 +160,11 @@ parts_of words =
     record {
       text = take (told_length words 1) words;
       statics = statics_in words;
-      definitions = definitions_in definition 2 count;
-      links = links_in definition (2 + 2 * count) (from_linkage words) (told_first words)
-          (told_count words definition 1);
-      relocations = relocations_in (from_symbol words) 1 (told_count words (from_symbol words) 0);
+      definitions = definitions_in definition definition_head count;
+      links = links_in definition (expressions_behind count) (from_linkage words)
+          (told_first words) (told_count words definition 1);
+      relocations = relocations_in (from_symbol words) symbol_head
+          (told_count words (from_symbol words) 0);
       entry_bound = bound_in words;
       version = version_in words;
     }
