@@ -15,12 +15,13 @@ use Rattle.alm_parse.specs.declared.line.Line36.{Line36}
 use Rattle.alm_parse.specs.Bodies.{own_section}
 use Rattle.obj36_parts.specs.Fields.{LinkFields}
 use Rattle.obj36_parts.specs.declared.definition.Named.{Named}
+use Rattle.obj36_parts.specs.Halves.{offset_limit}
 use Rattle.obj36_parts.specs.Indexes.{same_link}
 use Rattle.obj36_parts.specs.ObjectSegment.{is_text_section}
 use Rattle.alm_lines.specs.Arguments.{first_arg}
 use Rattle.alm_lines.specs.Spots.{below}
 use Rattle.alm_lines.specs.SpotFields.{Spot}
-use Rattle.alm_lines.specs.Refusals.{offset_limit, sooner, refusal_at, has_value}
+use Rattle.alm_lines.specs.Refusals.{sooner, refusal_at, has_value}
 use Rattle.alm_lines.specs.declared.sum.Sum.{Sum}
 use Rattle.alm_lines.specs.declared.refusal.Code.TheVariants.{E7}
 use Rattle.alm_lines.specs.declared.refusal.Room.TheVariants.{Half}

@@ -9,6 +9,7 @@ use Rattle.alm_parse.specs.declared.args.Arg.{Arg}
 use Rattle.alm_parse.specs.declared.args.Arg.TheVariants as arg
 use Rattle.alm_parse.specs.declared.line.Line36.{Line36}
 use Rattle.alm_parse.specs.Bodies.{own_section}
+use Rattle.obj36_parts.specs.Halves.{offset_limit}
 use Rattle.obj36_parts.specs.ObjectSegment.{is_text_section}
 use Rattle.obj36_parts.specs.declared.section.Section.{Section}
 use Rattle.obj36_parts.specs.declared.section.Section.TheVariants.{Text, Linkage, Symbol, Static}
@@ -17,7 +18,7 @@ use Rattle.obj36_parts.specs.Fields.{LinkFields}
 use Rattle.alm_lines.specs.Arguments.{first_arg, second_arg, symbol_in, terms_in, section_in}
 use Rattle.alm_lines.specs.Spots.{below}
 use Rattle.alm_lines.specs.Expressions.{expression_place}
-use Rattle.alm_lines.specs.Refusals.{offset_limit, sooner, refusal_at, expression_refusal}
+use Rattle.alm_lines.specs.Refusals.{sooner, refusal_at, expression_refusal}
 use Rattle.alm_lines.specs.Refusals.{number_refusal, has_number}
 use Rattle.alm_asm.specs.Links.{link_of, link_place}
 use Rattle.alm_asm.specs.Definitions.{gives_entries, definitions_after, definitions_refused}

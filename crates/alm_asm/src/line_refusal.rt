@@ -20,13 +20,14 @@ use crate::tables::Tables;
 use alm_lines::arguments::{first_symbol, first_terms, second_terms, section_in};
 use alm_lines::expression::expression_place;
 use alm_lines::refusal::{
-    Code, OFFSET_LIMIT, Refusal, Room, Wanted, expression_refusal, has_value, refusal_at, sooner,
+    Code, Refusal, Room, Wanted, expression_refusal, has_value, refusal_at, sooner,
 };
 use alm_lines::spot::{Spot, below};
 use alm_lines::symbols::Symbols;
 use alm_parse::{Arg, Deed, Line36, Span, Term, own_section};
 use m36_word::NoMemory;
 use obj36::{Defs, Section};
+use obj36_parts::halves::OFFSET_LIMIT;
 use obj36_parts::sections::is_text_section;
 use std::alloc::Global;
 

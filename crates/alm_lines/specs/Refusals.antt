@@ -1,6 +1,7 @@
 -- Refusals: which comes first in the text, and what refuses an expression.
 use Rattle.std.specs.Prelude.{ℕ, ◌%◌, ◌^◌, Bool, true, false, not, ◌&&◌, ◌||◌, nat_eq}
 use Rattle.std.specs.Prelude.{nat_lt, is_some, List, Option, Some, None, if◌then◌else◌}
+use Rattle.obj36_parts.specs.Halves.{offset_limit}
 use Rattle.obj36_parts.specs.ObjectSegment.{section_limit}
 use Rattle.alm_tokens.specs.declared.expression.Term.{Term}
 use Rattle.alm_parse.specs.Sources.{column_at}
@@ -56,10 +57,6 @@ unfoldable pub fault_of : Refusal → AlmFault
 fault_of refusal = fault_by refusal.code refusal.line (column_of refusal)
 
 -- ---- expressions
-
--- an offset behind a pointer register is below this, and at most as much below zero
-abbrev pub offset_limit : ℕ
-offset_limit = 16384
 
 -- A half holds -131072 to 262143, the offset behind a pointer register -16384 to 16383.
 abbrev pub has_room : Room → Balance → Bool

@@ -11,10 +11,8 @@ use crate::spot::Spot;
 use crate::sum::{Balance, Kind, Sum};
 use crate::symbols::Symbols;
 use alm_parse::{AlmFault, Line36, Term};
+use obj36_parts::halves::OFFSET_LIMIT;
 use obj36_parts::sections::SECTION_LIMIT;
-
-/// An offset behind a pointer register is below this, and at most as much below zero.
-pub const OFFSET_LIMIT: u64 = 16384;
 
 /// Why lines are not an object's.
 #[derive(Clone, Copy, Debug, PartialEq, Eq)]

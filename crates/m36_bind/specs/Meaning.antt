@@ -14,7 +14,7 @@ use Rattle.obj36_parts.specs.ObjectSegment.{later_section, is_well_formed, defin
 use Rattle.obj36_parts.specs.ObjectSegment.{version_of, head_words}
 use Rattle.obj36_parts.specs.ObjectSegment.{to_section, to_segment, to_entry, to_own_entry}
 use Rattle.obj36_parts.specs.declared.definition.Named.{Named}
-use Rattle.obj36_parts.specs.Halves.{left, right}
+use Rattle.obj36_parts.specs.Halves.{left, right, offset_limit}
 use Rattle.obj36_parts.specs.declared.section.Section.{Section}
 use Rattle.obj36_parts.specs.declared.section.Section.TheVariants.{Text}
 use Rattle.m36_bindfile.specs.declared.line.BindLine.{BindLine}
@@ -79,9 +79,9 @@ pub record Moves (p : PlacedFields) (statics : Bool) (i : ℕ) (r : RelocFields)
 -- part is as it was.
 pub record IsMovedWord (bound : PartsFields) (p : PlacedFields) (statics : Bool)
     (i old new : ℕ) : Type 0 where
-  pub names : (r : RelocFields) → Moves p statics i r → (r.part ≡ 2 → part_of 2 old < 2 ^ 14)
+  pub names : (r : RelocFields) → Moves p statics i r → (r.part ≡ 2 → part_of 2 old < offset_limit)
       → NamesImage bound p r.target (part_of r.part old) r.target (part_of r.part new)
-  pub below : (r : RelocFields) → Moves p statics i r → r.part ≡ 2 → 2 ^ 14 ≤ part_of 2 old
+  pub below : (r : RelocFields) → Moves p statics i r → r.part ≡ 2 → offset_limit ≤ part_of 2 old
       → part_of 2 new ≡ below_zero p.bases r.target (part_of 2 old) % 2 ^ 15
   pub stays : (part : ℕ) → part ≤ 2
       → ((r : RelocFields) → Moves p statics i r → overlap r.part part ≡ false)

@@ -5,12 +5,13 @@ use Rattle.m36_text.specs.Digits.{character, octal_text, decimal_text}
 use Rattle.m36_inst.specs.Fields.{InstFields}
 use Rattle.m36_inst.specs.Instruction.{inst_of, pr_number}
 use Rattle.m36_inst.specs.Lookup.{name_at}
+use Rattle.obj36_parts.specs.Halves.{offset_limit}
 use Rattle.m36_list.specs.Modifiers.{modifier_text}
 
 -- a number of 15 bits as a signed one
 unfoldable pub signed_text : ℕ → List ℕ
 signed_text offset =
-    if nat_lt offset (2 ^ 14) then decimal_text offset else codes "-"
+    if nat_lt offset offset_limit then decimal_text offset else codes "-"
     ++ decimal_text (2 ^ 15 - offset)
 
 -- the address; or the pointer register and the signed offset from it

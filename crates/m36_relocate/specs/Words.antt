@@ -5,7 +5,7 @@ use Rattle.std.specs.Prelude.{nat_eq, if◌then◌else◌, List, [], ◌∷◌, 
 use Rattle.std.specs.Prelude.{slice_set}
 use Rattle.obj36_parts.specs.Fields.{RelocFields}
 use Rattle.obj36_parts.specs.PartsFields.{PartsFields}
-use Rattle.obj36_parts.specs.Halves.{left, right, joined}
+use Rattle.obj36_parts.specs.Halves.{left, right, joined, offset_limit}
 use Rattle.obj36_parts.specs.ObjectSegment.{is_text_section, head_words}
 use Rattle.obj36_parts.specs.declared.section.Section.{Section}
 use Rattle.obj36_parts.specs.declared.section.Section.TheVariants.{Text, Linkage, Symbol, Static}
@@ -33,7 +33,7 @@ below_zero b Symbol v = v
 
 unfoldable pub offset_raised : Moving → Section → ℕ → ℕ
 offset_raised m target v =
-    if nat_lt v (2 ^ 14) then 2 ^ 15 + number_moved m target v else below_zero m.bases target v
+    if nat_lt v offset_limit then 2 ^ 15 + number_moved m target v else below_zero m.bases target v
 
 -- the word with the part of a relocation moved
 unfoldable pub word_moved : Moving → RelocFields → ℕ → ℕ
@@ -47,7 +47,7 @@ unfoldable pub part_fits : Moving → RelocFields → ℕ → Bool
 part_fits m r w =
     if nat_eq r.part 0 then true
     else if nat_eq r.part 1 then true
-    else nat_lt (offset_raised m r.target (offset_in w)) (2 ^ 15 + 2 ^ 14)
+    else nat_lt (offset_raised m r.target (offset_in w)) (2 ^ 15 + offset_limit)
 
 -- ---- the words of a component: those of its text, or its static words
 

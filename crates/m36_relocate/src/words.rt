@@ -5,7 +5,7 @@ ghost use Rattle.m36_relocate.specs.Words.{offset_in, with_offset, below_zero, o
 
 use crate::layout::{Bases, Moving, Shape, number_moved};
 use m36_word::Word;
-use obj36_parts::halves::{left_of, right_of, word_of};
+use obj36_parts::halves::{OFFSET_LIMIT, left_of, right_of, word_of};
 use obj36_parts::sections::{HEAD_WORDS, is_text_section};
 use obj36_parts::{Reloc, Section};
 
@@ -47,7 +47,7 @@ fn offset_raised(m: &Moving, target: Section, v: u64) -> u64
     requires { v < 2 ^ 15 }
     ensures { result ≡ offset_raised m.now target v }
 {
-    if v < 1 << 14 {
+    if v < OFFSET_LIMIT {
         (1 << 15) + number_moved(m, target, v)
     } else {
         below_zero(&m.bases, target, v)
@@ -79,7 +79,7 @@ fn part_fits(m: &Moving, r: &Reloc, w: Word) -> bool
     if r.part == 1 {
         return true;
     }
-    offset_raised(m, r.target, offset_in(w)) < (1 << 15) + (1 << 14)
+    offset_raised(m, r.target, offset_in(w)) < (1 << 15) + OFFSET_LIMIT
 }
 
 /// Whether a relocation's place is among static words, or in the text.

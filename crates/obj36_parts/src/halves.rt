@@ -8,6 +8,10 @@ use m36_word::Word;
 /// The numbers that a half can hold are below this.
 const HALF: u64 = 1 << 18;
 
+/// Bits 3 to 17 of a word, the offset behind a pointer register, count as signed: an offset is below this, and at most
+/// as much below zero.
+pub const OFFSET_LIMIT: u64 = 1 << 14;
+
 /// Bits 0 to 17.
 #[tactic(auto, unfolding(crate::specs::Halves::left))]
 pub fn left_of(w: Word) -> u64
