@@ -21,6 +21,10 @@ class_number Linkage = 1
 class_number Symbol = 2
 class_number Static = 3
 
+-- what is added to the class of an entry
+abbrev pub entry_mark : ℕ
+entry_mark = 8
+
 -- the number of a section in links and relocations, where the symbol section never stands
 abbrev pub place_number : Section → ℕ
 place_number Text = 0
@@ -138,7 +142,7 @@ all_link_names [] = []
 all_link_names (l ∷ ls) = link_names l ++ all_link_names ls
 
 unfoldable pub class_of : DefFields → ℕ
-class_of d = class_number d.section + (if d.is_entry then 8 else 0)
+class_of d = class_number d.section + (if d.is_entry then entry_mark else 0)
 
 -- definitions from a place on: the place of the next and the class, the value and the place
 -- of the name

@@ -25,6 +25,9 @@ use std::alloc::Global;
 /// The tag of a link that is not snapped: fault 24.
 pub const LINK_TAG: u64 = 0o46;
 
+/// What is added to the class of an entry.
+pub const ENTRY_MARK: u64 = 8;
+
 /// How many words the head of a linkage section has.
 pub const HEAD_WORDS: u64 = 8;
 
@@ -105,7 +108,7 @@ fn place_unless_empty(count: usize, at: u64) -> u64
 fn class_with_entry(def: &Def) -> u64
     ensures { result ≡ class_of def.now }
 {
-    class(def.section) + if def.is_entry { 8 } else { 0 }
+    class(def.section) + if def.is_entry { ENTRY_MARK } else { 0 }
 }
 
 pub fn push_all(out: &mut Words, words: &[Word]) -> Result<(), NoMemory>

@@ -9,7 +9,7 @@ use Rattle.obj36_parts.specs.PartsFields.{PartsFields}
 use Rattle.obj36_parts.specs.Halves.{left, right, quarter}
 use Rattle.obj36_parts.specs.ObjectSegment.{is_newer_version, version_of, has_name, has_entry}
 use Rattle.obj36_parts.specs.ObjectSegment.{head_words, definition_head, symbol_head}
-use Rattle.obj36_parts.specs.ObjectSegment.{expressions_behind}
+use Rattle.obj36_parts.specs.ObjectSegment.{expressions_behind, entry_mark}
 use Rattle.obj36_parts.specs.declared.section.Section.{Section}
 use Rattle.obj36_parts.specs.declared.section.Section.TheVariants.{Text, Linkage, Symbol, Static}
 use Rattle.obj36_parts.specs.declared.definition.Named.{Named}
@@ -52,9 +52,9 @@ definition_at words at =
     record {
       name = name_at words (right second);
       def = record {
-        section = class_with (first % 2 ^ 3);
+        section = class_with (first % entry_mark);
         value = left second;
-        is_entry = nat_le 8 first;
+        is_entry = nat_le entry_mark first;
       };
     }
 

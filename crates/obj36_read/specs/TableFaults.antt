@@ -6,7 +6,7 @@ use Rattle.m36_text.specs.Texts.{name_limit}
 use Rattle.obj36_parts.specs.Halves.{left, right}
 use Rattle.obj36_parts.specs.Names.{is_name_character}
 use Rattle.obj36_parts.specs.ObjectSegment.{has_name, has_entry, last_class}
-use Rattle.obj36_parts.specs.ObjectSegment.{expressions_behind}
+use Rattle.obj36_parts.specs.ObjectSegment.{expressions_behind, entry_mark}
 use Rattle.obj36_read.specs.Reading.{unit_at}
 
 -- the lesser of two places, where there are any
@@ -66,12 +66,12 @@ leaves_section d =
 
 -- ---- classes
 
--- the class of a definition, with 8 for an entry taken off
+-- the class of a definition, with what is added for an entry taken off
 unfoldable pub class_at : List ℕ → ℕ → ℕ
 class_at d at =
-    if nat_lt (right (slice_index d at)) 8
+    if nat_lt (right (slice_index d at)) entry_mark
     then right (slice_index d at)
-    else (right (slice_index d at) - 8)
+    else (right (slice_index d at) - entry_mark)
 
 -- the least of so many definitions from one on whose class is over the last
 unfoldable pub class_faults : ℕ → List ℕ → ℕ → ℕ → Option ℕ

@@ -20,7 +20,7 @@ use obj36_parts::names::{has_its_entry, has_its_name};
 use obj36_parts::parts::Parts;
 use obj36_parts::relocation::{Reloc, Relocs};
 use obj36_parts::section::Section;
-use obj36_parts::sections::{HEAD_WORDS, copied, version_of};
+use obj36_parts::sections::{ENTRY_MARK, HEAD_WORDS, copied, version_of};
 use std::alloc::Global;
 
 /// How many words the map of version 1 has, with the last word of the list.
@@ -154,8 +154,8 @@ fn definition(words: &[Word], at: u64) -> Named
         name: name(words, right_of(second)),
         def: Def {
             value: left_of(second) as u32,
-            section: section_of_class(first % 8),
-            is_entry: 8 <= first,
+            section: section_of_class(first % ENTRY_MARK),
+            is_entry: ENTRY_MARK <= first,
         },
     }
 }

@@ -15,6 +15,7 @@ use crate::repeats::fault_of_repeats;
 use m36_word::{NoMemory, Word};
 use obj36_parts::checks::greatest_class;
 use obj36_parts::halves::{left_of, right_of};
+use obj36_parts::sections::ENTRY_MARK;
 use std::alloc::Global;
 
 // The lesser of two places, where there are any.
@@ -152,7 +153,11 @@ fn class_of_definition(d: &[Word], at: u64) -> u64
     ensures { result ≡ class_at d.now at }
 {
     let class = right_of(word_at(d, at));
-    if class < 8 { class } else { class - 8 }
+    if class < ENTRY_MARK {
+        class
+    } else {
+        class - ENTRY_MARK
+    }
 }
 
 fn fault_of_classes(d: &[Word], last: u64) -> Option<u64>
