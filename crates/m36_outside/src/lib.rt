@@ -33,12 +33,10 @@
 //!
 //! A caller composes these contracts by the laws in `proofs/`: `Grown` for what several puts wrote, `LinesTaken` for the
 //! pieces that they put, `Completes` for puts in a loop, `Gathered` for pieces that were gathered in a block, `Risen` for
-//! counts, and `FilesKept` for files. `caller.rt` is a worked one. No part of the manual speaks of this.
+//! counts, and `FilesKept` for files. `caller.rt` of `outside_tests` is a worked one. No part of the manual speaks of this.
 #![tactic(auto)]
 
 pub mod block;
-#[cfg(test)]
-mod caller;
 mod calls;
 pub mod directory;
 mod faults;

@@ -147,37 +147,3 @@ impl Folder for MemFolder {
         }
     }
 }
-
-#[cfg(test)]
-mod tests {
-    use super::*;
-
-    #[test]
-    fn fails_listed_calls(rt: HostRuntime) -> Result<(), NoMemory> {
-        let alloc = rt.alloc();
-        let mut folder = MemFolder::new(alloc, &[2], &[1, 3])?;
-        folder.add(b"boot", b"frames 24\n")?;
-        assert!(rt; is_read_as(folder.read(alloc, b"boot"), b"frames 24\n"));
-        assert!(rt; matches!(folder.read(alloc, b"boot"), ReadAnswer::Failed));
-        assert!(rt; matches!(folder.read(alloc, b"boo"), ReadAnswer::Absent));
-        assert_eq!(rt; folder.write(alloc, b"main", b"x"), WriteAnswer::Failed);
-        assert!(rt; matches!(folder.read(alloc, b"main"), ReadAnswer::Absent));
-        assert_eq!(rt; folder.write(alloc, b"main", b"y"), WriteAnswer::Written);
-        assert_eq!(rt; folder.write(alloc, b"main", b"z"), WriteAnswer::Failed);
-        assert!(rt; is_read_as(folder.read(alloc, b"main"), b"y"));
-        assert_eq!(rt;
-            folder.write(alloc, b"boot", b"frames 25\n"),
-            WriteAnswer::Written
-        );
-        assert!(rt; is_read_as(folder.read(alloc, b"boot"), b"frames 25\n"));
-        assert!(rt; is_read_as(folder.read(alloc, b"main"), b"y"));
-        Ok(())
-    }
-
-    fn is_read_as(answer: ReadAnswer, content: &[u8]) -> bool {
-        match answer {
-            ReadAnswer::Read(text) => text.bytes() == content,
-            _ => false,
-        }
-    }
-}

@@ -91,30 +91,3 @@ impl Lines for MemLines {
         }
     }
 }
-
-#[cfg(test)]
-mod tests {
-    use super::*;
-    use crate::sure_lines::SureLines;
-
-    #[test]
-    fn gives_pieces(rt: HostRuntime) -> Result<(), NoMemory> {
-        let mut lines = MemLines::new(rt.alloc(), b"step\nquit\n", &[2])?;
-        let mut sure = SureLines::new(rt.alloc(), b"step\nquit\n")?;
-        let mut buffer = [0; 7];
-        for (want, bytes) in [
-            (Piece::Got(7), b"step\nqu".as_slice()),
-            (Piece::Failed, b""),
-            (Piece::Got(3), b"it\n"),
-            (Piece::End, b""),
-        ] {
-            assert_eq!(rt; lines.next_piece(&mut buffer), want);
-            assert!(rt; buffer.starts_with(bytes));
-            if want != Piece::Failed {
-                assert_eq!(rt; sure.next_piece(&mut buffer), want);
-                assert!(rt; buffer.starts_with(bytes));
-            }
-        }
-        Ok(())
-    }
-}

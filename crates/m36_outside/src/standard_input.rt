@@ -75,18 +75,3 @@ impl<R: Input + Drop> Lines for StdLines<R> {
         }
     }
 }
-
-#[cfg(test)]
-mod tests {
-    use super::*;
-    use std::alloc::AllocError;
-
-    /// Tests are run with an empty input.
-    #[test]
-    fn ends(rt: HostRuntime) -> Result<(), AllocError> {
-        let mut lines = StdLines::new(rt.clone()?);
-        let mut buffer = [0; 8];
-        assert_eq!(rt; lines.next_piece(&mut buffer), Piece::End);
-        Ok(())
-    }
-}

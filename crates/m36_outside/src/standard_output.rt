@@ -114,21 +114,3 @@ impl<R: Print + Drop> Sink for StdSink<R> {
         }
     }
 }
-
-#[cfg(test)]
-mod tests {
-    use super::*;
-    use std::alloc::AllocError;
-
-    #[test]
-    fn puts(rt: HostRuntime) -> Result<(), AllocError> {
-        let mut out = StdSink::new(rt.clone()?);
-        assert_eq!(rt; out.put(b"end dis 2\n"), Put::Done);
-        assert_eq!(rt; out.put(b""), Put::Done);
-        let mut block = Block::new();
-        assert_eq!(rt; block.add(b"end dis 2\n", &mut out), Put::Done);
-        assert_eq!(rt; block.hand_over(&mut out), Put::Done);
-        assert_eq!(rt; out.put_block(&block), Put::Done);
-        Ok(())
-    }
-}

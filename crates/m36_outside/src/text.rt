@@ -65,20 +65,3 @@ impl Text {
         self.items.as_slice()
     }
 }
-
-#[cfg(test)]
-mod tests {
-    use super::*;
-
-    #[test]
-    fn grows_at_its_end(rt: HostRuntime) -> Result<(), NoMemory> {
-        let mut text = Text::new(rt.alloc());
-        text.push(b'm')?;
-        text.push(b'3')?;
-        text.append(b"6 bare")?;
-        let same = Text::from_bytes(rt.alloc(), b"m36 bare")?;
-        assert!(rt; text.bytes() == b"m36 bare".as_slice());
-        assert!(rt; same.bytes() == text.bytes());
-        Ok(())
-    }
-}

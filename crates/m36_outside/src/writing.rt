@@ -73,24 +73,3 @@ fn write_some<W: Write>(to: &mut NotedWriter<W>, bytes: &[u8]) -> Option<usize>
     }
     None
 }
-
-#[cfg(test)]
-mod tests {
-    use super::*;
-    use std::fs::File;
-    use std::test::Fail;
-
-    /// The device that takes every byte, and the one that is always full.
-    #[test]
-    fn writes_to_devices(rt: HostRuntime) -> Result<(), Fail> {
-        for (name, bytes, want) in [
-            ("/dev/null", b"dis\n".as_slice(), Put::Done),
-            ("/dev/null", b"", Put::Done),
-            ("/dev/full", b"dis\n", Put::Failed),
-        ] {
-            let mut to = NotedWriter::new(File::create(&rt, name)?);
-            assert_eq!(rt; write_whole(&mut to, bytes), want);
-        }
-        Ok(())
-    }
-}

@@ -5,12 +5,7 @@ ghost use Rattle.m36_outside.specs.Passing.{TakesLines};
 ghost use Rattle.m36_outside.specs.Put.{PutSays, PutHasCause};
 ghost use Rattle.m36_outside.specs.ReadAnswer.{ReadSays, ReadHasCause};
 
-use crate::folder::{Folder, ReadAnswer};
-use crate::memory_folder::MemFolder;
-use crate::memory_sink::MemSink;
-use crate::sink::{Put, Sink};
-use crate::sure_folder::SureFolder;
-use crate::sure_sink::SureSink;
+use m36_outside::{Folder, MemFolder, MemSink, Put, ReadAnswer, Sink, SureFolder, SureSink};
 use m36_word::NoMemory;
 use std::alloc::Global;
 
@@ -47,7 +42,7 @@ fn put_file<F: Folder, S: Sink>(
 }
 
 /// Puts a line, and then the last line.
-#[tactic(auto, using(crate::proofs::Grown::output, crate::proofs::LinesTaken::lines_taken))]
+#[tactic(auto, using(m36_outside::proofs::Grown::output, m36_outside::proofs::LinesTaken::lines_taken))]
 fn put_lines<S: Sink>(line: &[u8], out: &mut S) -> Put
     ensures through { TakesLines result (S.taken out.old) (S.taken out.new) (line.now ∷ END.now ∷ []) }
     ensures says { PutSays result (S.written out.old) (S.written out.new) (line.now ++ END.now) }
@@ -63,25 +58,37 @@ fn put_lines<S: Sink>(line: &[u8], out: &mut S) -> Put
     }
 }
 
+/// The room of the output, the put that fails, 0 for none, the answer, and what is written.
+const ROOMS: &[(usize, u32, Put, &[u8])] = &[
+    (8, 0, Put::Done, b"dis\nend\n"),
+    (7, 0, Put::Failed, b"dis\nend"),
+    (8, 1, Put::Failed, b""),
+    (8, 2, Put::Failed, b"dis\n"),
+];
+
+/// Whether two calls over a folder whose second read fails answer so, and this is written behind each.
+fn answers(alloc: Global, row: &(usize, u32, Put, &[u8])) -> Result<bool, NoMemory> {
+    let (room, fail, want, written) = row;
+    let mut folder = MemFolder::new(alloc, &[2], &[])?;
+    folder.add(b"a", b"dis\n")?;
+    let mut out = MemSink::new(alloc, *room, &[*fail])?;
+    let first = put_file(alloc, b"a", &mut folder, &mut out);
+    let is_first = matches!(first, Ok(put) if put == *want) && out.bytes() == *written;
+    let second = put_file(alloc, b"a", &mut folder, &mut out);
+    Ok(is_first && matches!(second, Err(ReadAnswer::Failed)) && out.bytes() == *written)
+}
+
 #[test]
 fn gives_a_prefix(rt: HostRuntime) -> Result<(), NoMemory> {
-    let alloc = rt.alloc();
-    for (room, fail, want, written) in [
-        (8, 0, Put::Done, b"dis\nend\n".as_slice()),
-        (7, 0, Put::Failed, b"dis\nend"),
-        (8, 1, Put::Failed, b""),
-        (8, 2, Put::Failed, b"dis\n"),
-    ] {
-        let mut folder = MemFolder::new(alloc, &[2], &[])?;
-        folder.add(b"a", b"dis\n")?;
-        let mut out = MemSink::new(alloc, room, &[fail])?;
-        let first = put_file(alloc, b"a", &mut folder, &mut out);
-        assert!(rt; matches!(first, Ok(put) if put == want));
-        assert!(rt; out.bytes() == written);
-        let second = put_file(alloc, b"a", &mut folder, &mut out);
-        assert!(rt; matches!(second, Err(ReadAnswer::Failed)));
-        assert!(rt; out.bytes() == written);
+    for row in ROOMS {
+        assert!(rt; answers(rt.alloc(), row)?, "room {} fail {}", row.0, row.1);
     }
+    Ok(())
+}
+
+#[test]
+fn gives_the_whole(rt: HostRuntime) -> Result<(), NoMemory> {
+    let alloc = rt.alloc();
     let mut folder = SureFolder::new(alloc)?;
     folder.add(b"a", b"dis\n")?;
     let mut out = SureSink::new();
