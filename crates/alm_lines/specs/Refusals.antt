@@ -1,5 +1,5 @@
 -- Refusals: which comes first in the text, and what refuses an expression.
-use Rattle.std.specs.Prelude.{ℕ, ◌%◌, ◌^◌, Bool, true, false, not, ◌&&◌, ◌||◌, nat_eq}
+use Rattle.std.specs.Prelude.{ℕ, ◌-◌, ◌%◌, ◌^◌, Bool, true, false, not, ◌&&◌, ◌||◌, nat_eq}
 use Rattle.std.specs.Prelude.{nat_lt, is_some, List, Option, Some, None, if◌then◌else◌}
 use Rattle.obj36_parts.specs.Halves.{offset_limit}
 use Rattle.obj36_parts.specs.ObjectSegment.{section_limit}
