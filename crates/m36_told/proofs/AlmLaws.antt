@@ -1,36 +1,24 @@
 -- What `alm` tells, from its parts.
-use Rattle.std.proofs.Common.{◌≡◌, ℕ, List, [], ◌∷◌, Result, Ok, Err, sym, ap, subst, ◌∙◌}
-use Rattle.m36_text.specs.Packing.{packed}
+use Rattle.std.proofs.Common.{◌≡◌, ℕ, List, Result, Ok, Err, sym, ap, subst, ◌∙◌}
 use Rattle.alm_parse.specs.SourceFields.{Source}
 use Rattle.alm_parse.specs.Sources.{parsed, Refuses}
 use Rattle.alm_parse.specs.declared.fault.AlmFault.{AlmFault}
 use Rattle.alm_parse.specs.declared.fault.AlmFault.TheVariants as alm
 use Rattle.alm_asm.specs.Assembly.{assembled}
 use Rattle.obj36_parts.specs.PartsFields.{PartsFields}
-use Rattle.obj36_parts.specs.ObjectSegment.{Stands}
-use Rattle.m36_list.specs.Listing.{listing_of}
 use Rattle.m36_reading.specs.declared.refusal.Refusal.{Refusal}
 use Rattle.m36_reading.specs.Asking as asking
 use Rattle.m36_reading.proofs.ReadLaws.{gives_by, memory_given}
 use Rattle.m36_told.specs.declared.assembling.AlmFiles.{AlmFiles}
 use Rattle.m36_told.specs.Told.{ToldFields}
-use Rattle.m36_told.specs.Assemblies.{Assembly, with_parts, assembly_by, assembly_of, object_bytes}
+use Rattle.m36_told.specs.Assemblies.{Assembly, with_parts, assembly_by, assembly_of}
 use Rattle.m36_told.specs.Telling.{source_refused, told_by, IsMade, MadeSays}
 
 -- lines that are assembled
 pub made_parts :
-    (name : List ℕ) (source : Source) (given : Result PartsFields AlmFault) (parts : PartsFields) (words object listing : List ℕ) (told : ToldFields)
-    → given ≡ Ok parts → Stands parts words → object ≡ packed words → listing ≡ listing_of name source parts
-    → told ≡ record { sets = record { name = name; content = object } ∷ []; text = listing }
-    → IsMade name told (with_parts source given)
-unfolding object_bytes
-made_parts name source given parts words object listing told is stands packs lists tells =
-    let bytes : object ≡ object_bytes parts = packs ∙ ap packed stands.spelled in
-    record {
-      assembly = record { source = source; parts = parts };
-      is = ap (with_parts source) is;
-      told_is = tells ∙ (λ i. record { sets = record { name = name; content = bytes i } ∷ []; text = lists i });
-    }
+    (name : List ℕ) (source : Source) (given : Result PartsFields AlmFault) (parts : PartsFields) (result : Result ToldFields AlmFault)
+    → given ≡ Ok parts → MadeSays name result (Ok (record { source = source; parts = parts })) → MadeSays name result (with_parts source given)
+made_parts name source given parts result is says = subst (λ g. MadeSays name result (with_parts source g)) (sym is) says
 
 -- and lines that are refused
 pub made_refused :

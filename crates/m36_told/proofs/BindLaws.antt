@@ -1,9 +1,6 @@
 -- What `bind` tells, from its parts.
-use Rattle.std.proofs.Common.{◌≡◌, ℕ, List, [], ◌∷◌, Result, Ok, Err, refl, sym, ap, subst, ◌∙◌}
-use Rattle.m36_text.specs.Packing.{packed}
+use Rattle.std.proofs.Common.{◌≡◌, ℕ, List, Result, Ok, Err, refl, sym, ap, subst, ◌∙◌}
 use Rattle.obj36_parts.specs.PartsFields.{PartsFields}
-use Rattle.obj36_parts.specs.ObjectSegment.{Stands}
-use Rattle.m36_list.specs.Print.{print_of}
 use Rattle.m36_bindfile.specs.declared.fault.BindFault.{BindFault}
 use Rattle.m36_bindfile.specs.declared.fault.BindFault.TheVariants as bind
 use Rattle.m36_bindfile.specs.BindFile.{bind_lines, names_by, Refuses}
@@ -17,7 +14,6 @@ use Rattle.m36_reading.specs.Doing.{Reads}
 use Rattle.m36_reading.proofs.ReadLaws.{gives_by, memory_given, reads_stop, reads_nothing}
 use Rattle.m36_told.specs.declared.binding.BindFiles.{BindFiles}
 use Rattle.m36_told.specs.Told.{ToldFields}
-use Rattle.m36_told.specs.Assemblies.{object_bytes}
 use Rattle.m36_told.specs.Binding.{bind_refused, names_told, bound_told, bind_told, names_read, text_read}
 
 -- ---- answers that are refused
@@ -57,19 +53,10 @@ pub ruleset naming = (names_given, names_refused)
 
 -- ---- the bound object
 
-pub told_parts :
-    (name : List ℕ) (parts : PartsFields) (words object print : List ℕ) (told : ToldFields)
-    → Stands parts words → object ≡ packed words → print ≡ print_of name parts
-    → told ≡ record { sets = record { name = name; content = object } ∷ []; text = print } → told ≡ bound_told name parts
-unfolding object_bytes
-told_parts name parts words object print told stands packs prints tells =
-    let bytes : object ≡ object_bytes parts = packs ∙ ap packed stands.spelled in
-    tells ∙ (λ i. record { sets = record { name = name; content = bytes i } ∷ []; text = prints i })
-
 pub bound_given :
-    (files : BindFiles) (given : Result PartsFields BindFault) (parts : PartsFields) (told : ToldFields)
-    → given ≡ Ok parts → told ≡ bound_told files.object parts → asking.Gives (Ok told) (bind_told files given)
-bound_given files given parts told is tells = ap (bind_told files) is ∙ ap (λ (t : ToldFields). Ok t) (sym tells)
+    (files : BindFiles) (given : Result PartsFields BindFault) (parts : PartsFields) (result : Result ToldFields Refusal)
+    → given ≡ Ok parts → asking.Gives result (Ok (bound_told files.object parts)) → asking.Gives result (bind_told files given)
+bound_given files given parts result is gives = subst (λ g. asking.Gives result (bind_told files g)) (sym is) gives
 
 pub bound_refused :
     (files : BindFiles) (lent : List ℕ) (given : Result PartsFields BindFault) (f : BindFault) (r : Refusal)

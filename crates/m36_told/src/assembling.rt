@@ -1,6 +1,6 @@
 //! The command `alm NAME`.
 
-ghost use Rattle.std.specs.Prelude.{◌≤◌, length};
+ghost use Rattle.std.specs.Prelude.{◌≤◌, length, Ok};
 ghost use Rattle.m36_outside.specs.ReadAnswer.{file_limit};
 ghost use Rattle.alm_asm.specs.Assembly.{assembled};
 ghost use Rattle.m36_reading.specs.Asking.{Gives, Refuses};
@@ -10,13 +10,15 @@ ghost use Rattle.m36_told.specs.Assemblies.{with_parts, assembly_of};
 ghost use Rattle.m36_told.specs.Told.{told_kind};
 ghost use Rattle.m36_told.specs.Telling.{source_refused, told_by, alm_reads, MadeSays};
 
+use crate::objects::{object_bytes, told_file};
 use crate::telling::{Told, tell};
 use alm_asm::assemble;
 use alm_parse::{AlmFault, Lines36, parse};
 use m36_list::listing;
 use m36_outside::{Folder, Sink};
-use m36_reading::{Code, Refusal, Set, Status, read_bytes, refuse_at};
-use m36_text::{Name, pack};
+use m36_reading::{Code, Refusal, Status, read_bytes, refuse_at};
+use m36_text::Name;
+use obj36::Object;
 use std::alloc::Global;
 
 /// The files of `alm NAME`.
@@ -45,24 +47,25 @@ pub fn refuse_source(alloc: Global, name: &[u8], fault: AlmFault) -> Refusal
     }
 }
 
+// The object that lines mean, and their listing, under the name of the object.
+fn listed(alloc: Global, name: &Name, lines: &Lines36, object: &Object) -> Result<Told, AlmFault>
+    ensures { MadeSays name.now result (Ok (record { source = lines.now; parts = object.now })) }
+{
+    let content = object_bytes(alloc, object)?;
+    let listing = listing(alloc, name.bytes(), lines, object)?;
+    let told = told_file(alloc, name, content, listing)?;
+    Ok(told)
+}
+
 /// The object and the listing of lines, under the name of the object.
 #[tactic(auto, using(crate::proofs::AlmLaws::made))]
 pub fn made_with(alloc: Global, name: &Name, lines: &Lines36) -> Result<Told, AlmFault>
     ensures { MadeSays name.now result (with_parts lines.now (assembled lines.now)) }
 {
-    let object = match assemble(alloc, lines) {
-        Ok(object) => object,
-        Err(fault) => return Err(fault),
-    };
-    let words = object.write(alloc)?;
-    let packed = pack(alloc, words.slice())?;
-    let listing = listing(alloc, name.bytes(), lines, &object)?;
-    let set = Set {
-        name: name.copied(),
-        content: packed,
-    };
-    let told = Told::of_file(alloc, set, listing)?;
-    Ok(told)
+    match assemble(alloc, lines) {
+        Ok(object) => listed(alloc, name, lines, &object),
+        Err(fault) => Err(fault),
+    }
 }
 
 /// The object and the listing of a source of at most 16 MiB.

@@ -12,12 +12,13 @@ ghost use Rattle.m36_reading.specs.Doing.{Reads, Does};
 ghost use Rattle.m36_told.specs.Told.{told_kind};
 ghost use Rattle.m36_told.specs.Binding.{bind_refused, names_told, bound_told, bind_told, names_read, text_read, bind_reads};
 
+use crate::objects::{object_bytes, told_file};
 use crate::telling::{Told, tell};
 use m36_bind::{BindFault, bind, components};
 use m36_list::print;
 use m36_outside::{Folder, Sink};
-use m36_reading::{Code, Refusal, Set, Status, read_bytes, read_object, refuse};
-use m36_text::{Name, Names, pack};
+use m36_reading::{Code, Refusal, Status, read_bytes, read_object, refuse};
+use m36_text::{Name, Names};
 use m36_word::NoMemory;
 use obj36::Object;
 use std::alloc::Global;
@@ -143,17 +144,12 @@ fn read_objects<F: Folder>(
 }
 
 // The file and the print of a bound object.
-fn told_of(alloc: Global, name: &Name, object: &Object) -> Result<Told, NoMemory>
-    ensures { IfOk result (λ told. told ≡ bound_told name.now object.now) }
+fn told_of(alloc: Global, name: &Name, object: &Object) -> Result<Told, Refusal>
+    ensures { Gives result (Ok (bound_told name.now object.now)) }
 {
-    let words = object.write(alloc)?;
-    let packed = pack(alloc, words.slice())?;
+    let content = object_bytes(alloc, object)?;
     let text = print(alloc, name.bytes(), object)?;
-    let set = Set {
-        name: name.copied(),
-        content: packed,
-    };
-    let told = Told::of_file(alloc, set, text)?;
+    let told = told_file(alloc, name, content, text)?;
     Ok(told)
 }
 
@@ -181,12 +177,10 @@ fn bound_in(
     requires { length text.now ≤ file_limit }
     ensures { Gives result (bind_told files.now (bound_of text.now names.now objects.now)) }
 {
-    let object = match bound_by(alloc, text, names, objects) {
-        Ok(object) => object,
-        Err(fault) => return Err(refuse_bind(alloc, files.bindfile.bytes(), fault)),
-    };
-    let told = told_of(alloc, &files.object, &object)?;
-    Ok(told)
+    match bound_by(alloc, text, names, objects) {
+        Ok(object) => told_of(alloc, &files.object, &object),
+        Err(fault) => Err(refuse_bind(alloc, files.bindfile.bytes(), fault)),
+    }
 }
 
 // Reads the components, and binds them.

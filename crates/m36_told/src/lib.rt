@@ -14,6 +14,7 @@ pub mod accesses;
 pub mod assembling;
 pub mod binding;
 mod line_output;
+pub mod objects;
 pub mod printing;
 pub mod telling;
 

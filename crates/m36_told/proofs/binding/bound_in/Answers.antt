@@ -3,10 +3,10 @@ use Rattle.m36_bind.specs.Bound.{bound_of}
 use Rattle.m36_told.proofs.BindLaws.{bound_given, bound_refused}
 use Rattle.m36_told.proofs.binding.bound_in.Goals as goal
 
-pub returns : goal.returns
-returns c =
-    bound_given c.args.files.now (bound_of c.args.text.now c.args.names.now c.args.objects.now) c.in-Ok.object c.in_ok-told.told
-    c.in-Ok.ensures c.in_ok-told.ensures
+pub returns-in-Ok : goal.returns-in-Ok
+returns-in-Ok c =
+    bound_given c.args.files.now (bound_of c.args.text.now c.args.names.now c.args.objects.now) c.in-Ok.object c.told_of.result
+    c.in-Ok.ensures c.told_of.ensures
 
 pub returns-in-Err : goal.returns-in-Err
 returns-in-Err c =
