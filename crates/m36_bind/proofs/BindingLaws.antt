@@ -1,5 +1,5 @@
 -- What is bound, from its parts.
-use Rattle.std.proofs.Common.{ℕ, ◌≡◌, true, false, List, [], Result, Ok, sym, ap, subst, ◌∙◌}
+use Rattle.std.proofs.Common.{ℕ, ◌≡◌, true, false, List, [], Result, Ok, sym, subst, ◌∙◌}
 use Rattle.obj36_parts.specs.Fields.{LinkFields, RelocFields}
 use Rattle.obj36_parts.specs.PartsFields.{PartsFields}
 use Rattle.obj36_parts.specs.ObjectSegment.{version_of}
@@ -9,7 +9,6 @@ use Rattle.m36_bindfile.specs.declared.line.BindLine.{BindLine}
 use Rattle.m36_bindfile.specs.BindFile.{bind_lines, asks_newer, Refuses, BindSays}
 use Rattle.m36_relocate.specs.Fields.{ShapeFields}
 use Rattle.m36_bind.specs.Given.{GivenFields}
-use Rattle.m36_relocate.specs.declared.exports.Export.{Export}
 use Rattle.m36_text.specs.Results.{and_then}
 use Rattle.m36_bind.specs.Components.{PlacedFields, picked_of}
 use Rattle.m36_bind.specs.Kept.{exports_from, kept_from}
@@ -39,19 +38,17 @@ goes_on {A} {B} result d a f is says =
     let P : Result A BindFault → Type 0 = λ x. BindSays result (and_then x f) in subst P (sym is) says
 
 pub components_go :
-    (frame : ShapeFields) (all : List PlacedFields) (lines : List BindLine) (exports : List (List ℕ × Export)) (kept : List Named) (result : Result PartsFields BindFault)
-    → exports ≡ exports_from frame [] all → kept_from exports [] 1 lines ≡ Ok kept → BindSays result (made_of frame all kept)
+    (frame : ShapeFields) (all : List PlacedFields) (lines : List BindLine) (kept : List Named) (result : Result PartsFields BindFault)
+    → kept_from (exports_from frame [] all) [] 1 lines ≡ Ok kept → BindSays result (made_of frame all kept)
     → BindSays result (bound_of_components frame all lines)
-components_go frame all lines exports kept result is keeps says =
-    goes_on result (kept_from (exports_from frame [] all) [] 1 lines) kept (λ k. made_of frame all k)
-    (ap (λ (e : List (List ℕ × Export)). kept_from e [] 1 lines) (sym is) ∙ keeps) says
+components_go frame all lines kept result keeps says =
+    goes_on result (kept_from (exports_from frame [] all) [] 1 lines) kept (λ k. made_of frame all k) keeps says
 
 pub components_stop :
-    (frame : ShapeFields) (all : List PlacedFields) (lines : List BindLine) (exports : List (List ℕ × Export)) (told : BindFault)
-    → exports ≡ exports_from frame [] all → Refuses told (kept_from exports [] 1 lines) → Refuses told (bound_of_components frame all lines)
-components_stop frame all lines exports told is refused =
-    let P : List (List ℕ × Export) → Type 0 = λ e. Refuses told (kept_from e [] 1 lines) in
-    refused_on told (kept_from (exports_from frame [] all) [] 1 lines) (λ k. made_of frame all k) (subst P is refused)
+    (frame : ShapeFields) (all : List PlacedFields) (lines : List BindLine) (told : BindFault)
+    → Refuses told (kept_from (exports_from frame [] all) [] 1 lines) → Refuses told (bound_of_components frame all lines)
+components_stop frame all lines told refused =
+    refused_on told (kept_from (exports_from frame [] all) [] 1 lines) (λ k. made_of frame all k) refused
 
 pub ruleset of_components = (components_go, components_stop)
 

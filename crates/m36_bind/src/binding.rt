@@ -1,7 +1,8 @@
 //! What is bound, or why not.
 
-ghost use Rattle.std.specs.Prelude.{◌≡◌, ◌^◌, ◌<◌, length, IfOk};
+ghost use Rattle.std.specs.Prelude.{◌≡◌, ◌^◌, ◌<◌, [], length, IfOk};
 ghost use Rattle.m36_bindfile.specs.BindFile.{asks_newer, is_version, BindSays};
+ghost use Rattle.m36_bind.specs.Kept.{exports_from, kept_from};
 ghost use Rattle.m36_bind.specs.Bound.{bound_parts, made, made_of, bound_of_components, bound_of_lines, bound_of};
 ghost use Rattle.m36_bind.specs.Meaning.{AreObjects, BoundMeaning};
 
@@ -60,6 +61,20 @@ fn made_of(
     made(alloc, bound_parts(alloc, frame, all, kept)?)
 }
 
+// The definitions of the retained names, or the first of B3 and B5.
+fn kept_of(
+    alloc: Global,
+    frame: &Shape,
+    all: &Components<'_>,
+    lines: &[BindLine],
+) -> Result<Defs, BindFault>
+    requires { length lines.now < 2 ^ 32 }
+    ensures { BindSays result (kept_from (exports_from frame.now [] all.now) [] 1 lines.now) }
+{
+    let exports = exports(alloc, frame, all.items())?;
+    kept(alloc, &exports, lines)
+}
+
 // The bound object of components, or the first of B3, B5 and B4.
 #[tactic(auto, using(crate::proofs::BindingLaws::of_components))]
 fn bound_of_components(
@@ -71,8 +86,7 @@ fn bound_of_components(
     requires { length lines.now < 2 ^ 32 }
     ensures { BindSays result (bound_of_components frame.now all.now lines.now) }
 {
-    let exports = exports(alloc, frame, all.items())?;
-    let kept = kept(alloc, &exports, lines)?;
+    let kept = kept_of(alloc, frame, all, lines)?;
     made_of(alloc, frame, all, kept)
 }
 

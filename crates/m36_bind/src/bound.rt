@@ -3,6 +3,7 @@
 ghost use Rattle.std.specs.Prelude.{ℕ, ◌≡◌, ◌+◌, ◌++◌, ◌^◌, ◌<◌, ◌≤◌, ◌||◌, [], true, false, if◌then◌else◌, IfOk, OnOk};
 ghost use Rattle.std.specs.List.{list_any};
 ghost use Rattle.m36_bind.specs.Components.{moving};
+ghost use Rattle.m36_bind.specs.Links.{links_from};
 ghost use Rattle.m36_relocate.specs.Words.{words_in, words_moved};
 ghost use Rattle.obj36_parts.specs.ObjectSegment.{evened_words};
 ghost use Rattle.m36_bind.specs.Bound.{is_newer_component, statics_end, links_end, frame_of, component_words, laid_from, relocation_moved, with_relocation, relocations_onto, relocations_from, first_bound, bound_parts};
@@ -13,7 +14,7 @@ use m36_relocate::layout::{Moving, Shape, spot_moved};
 use m36_relocate::words::{move_words, stands_in};
 use m36_word::{NoMemory, Word, Words};
 use obj36_parts::sections::{push_all, push_evening, version_of};
-use obj36_parts::{Defs, Parts, Reloc, Relocs};
+use obj36_parts::{Defs, Links, Parts, Reloc, Relocs};
 use std::alloc::Global;
 
 fn is_newer_component(p: &Placed<'_>) -> bool
@@ -261,6 +262,38 @@ fn first_bound(all: &[Placed<'_>]) -> u32
     }
 }
 
+// The texts of the components, and their static words.
+#[derive(Drop)]
+struct LaidWords {
+    text: Words,
+    statics: Words,
+}
+
+fn all_laid(alloc: Global, frame: &Shape, all: &[Placed<'_>]) -> Result<LaidWords, NoMemory>
+    ensures text { IfOk result (λ laid. laid.text ≡ laid_from frame.now false [] all.now) }
+    ensures statics { IfOk result (λ laid. laid.statics ≡ laid_from frame.now true [] all.now) }
+{
+    let text = laid(alloc, frame, false, all)?;
+    let statics = laid(alloc, frame, true, all)?;
+    Ok(LaidWords { text, statics })
+}
+
+// The links, and the relocations.
+#[derive(Drop)]
+struct References {
+    links: Links,
+    relocations: Relocs,
+}
+
+fn references_of(alloc: Global, frame: &Shape, all: &Components<'_>) -> Result<References, NoMemory>
+    ensures links { IfOk result (λ refs. refs.links ≡ links_from frame.now all.now [] all.now) }
+    ensures relocations { IfOk result (λ refs. refs.relocations ≡ relocations_from frame.now true (relocations_from frame.now false [] all.now) all.now) }
+{
+    let links = links(alloc, frame, all)?;
+    let relocations = relocations(alloc, frame, all.items())?;
+    Ok(References { links, relocations })
+}
+
 // The parts of the bound object, with these definitions.
 #[tactic(auto, using(crate::proofs::BindingLaws::parts_bound))]
 pub(crate) fn bound_parts(
@@ -271,16 +304,14 @@ pub(crate) fn bound_parts(
 ) -> Result<Parts, NoMemory>
     ensures { IfOk result (λ parts. parts ≡ bound_parts frame.now all.now kept) }
 {
-    let text = laid(alloc, frame, false, all.items())?;
-    let statics = laid(alloc, frame, true, all.items())?;
-    let links = links(alloc, frame, all)?;
-    let relocations = relocations(alloc, frame, all.items())?;
+    let laid = all_laid(alloc, frame, all.items())?;
+    let references = references_of(alloc, frame, all)?;
     Ok(Parts {
-        text,
-        statics,
+        text: laid.text,
+        statics: laid.statics,
         definitions: kept,
-        links,
-        relocations,
+        links: references.links,
+        relocations: references.relocations,
         entry_bound: first_bound(all.items()),
         version: version_of(frame.newer),
     })
