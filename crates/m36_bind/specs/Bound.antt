@@ -122,9 +122,11 @@ sections_fit p =
     section_fits p.text && section_fits (definition_section p) && section_fits (linkage_section p)
     && section_fits (outer_statics p) && section_fits (symbol_section p)
 
+abbrev pub fitting : PartsFields → Result PartsFields BindFault
+fitting parts = if sections_fit parts then Ok parts else Err (fault.B4 0)
+
 abbrev pub made : PartsFields → Result PartsFields BindFault
-made parts = if is_well_formed parts
-    then (if sections_fit parts then Ok parts else Err (fault.B4 0)) else Err (fault.B4 0)
+made parts = if is_well_formed parts then fitting parts else Err (fault.B4 0)
 
 abbrev pub made_of : ShapeFields → List PlacedFields → List Named → Result PartsFields BindFault
 made_of frame all kept =

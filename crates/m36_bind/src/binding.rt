@@ -1,9 +1,10 @@
 //! What is bound, or why not.
 
-ghost use Rattle.std.specs.Prelude.{◌≡◌, ◌^◌, ◌<◌, [], length, IfOk};
+ghost use Rattle.std.specs.Prelude.{◌≡◌, ◌^◌, ◌<◌, true, [], length, IfOk};
+ghost use Rattle.obj36_parts.specs.ObjectSegment.{is_well_formed};
 ghost use Rattle.m36_bindfile.specs.BindFile.{asks_newer, is_version, BindSays};
 ghost use Rattle.m36_bind.specs.Kept.{exports_from, kept_from};
-ghost use Rattle.m36_bind.specs.Bound.{bound_parts, made, made_of, bound_of_components, bound_of_lines, bound_of};
+ghost use Rattle.m36_bind.specs.Bound.{bound_parts, fitting, made, made_of, bound_of_components, bound_of_lines, bound_of};
 ghost use Rattle.m36_bind.specs.Meaning.{AreObjects, BoundMeaning};
 
 use crate::bound::{bound_parts, frame_of};
@@ -32,18 +33,35 @@ fn asks_newer(lines: &[BindLine]) -> bool
     lines.iter().any(|line| is_version(line))
 }
 
+// The object, if each of its sections fits.
+fn fitting(object: Object) -> Result<Object, BindFault>
+    ensures { BindSays result (fitting object) }
+{
+    if sections_fit(&object) {
+        Ok(object)
+    } else {
+        Err(BindFault::B4(0))
+    }
+}
+
+// The object of the parts of one, if each of its sections fits.
+fn object_fitting(alloc: Global, parts: Parts) -> Result<Object, BindFault>
+    requires { is_well_formed parts ≡ true }
+    ensures { BindSays result (fitting parts) }
+{
+    let object = Object::new(alloc, parts)?;
+    fitting(object)
+}
+
 // The object of these parts, if they are those of one that fits.
 fn made(alloc: Global, parts: Parts) -> Result<Object, BindFault>
     ensures { BindSays result (made parts) }
 {
-    if !parts.is_object() {
-        return Err(BindFault::B4(0));
+    if parts.is_object() {
+        object_fitting(alloc, parts)
+    } else {
+        Err(BindFault::B4(0))
     }
-    let object = Object::new(alloc, parts)?;
-    if !sections_fit(&object) {
-        return Err(BindFault::B4(0));
-    }
-    Ok(object)
 }
 
 // The bound object, or B4.
