@@ -1,14 +1,12 @@
 -- Objects that are made of sources.
 use Rattle.std.proofs.Common.{◌≡◌, ℕ, ◌+◌, ◌<◌, ◌≤◌, List, [], ◌∷◌, ◌++◌, length, drop, get_or, Result, Ok, Err, refl, sym, ap, subst, ◌∙◌}
 use Rattle.std.proofs.lemmas.List.{drop_more, at_drop_all}
-use Rattle.m36_text.specs.Packing.{packed}
 use Rattle.alm_parse.specs.SourceFields.{Source}
 use Rattle.alm_parse.specs.Sources.{parsed, Refuses}
 use Rattle.alm_parse.specs.declared.fault.AlmFault.{AlmFault}
 use Rattle.alm_parse.specs.declared.fault.AlmFault.TheVariants as alm
 use Rattle.alm_asm.specs.Assembly.{assembled}
 use Rattle.obj36_parts.specs.PartsFields.{PartsFields}
-use Rattle.obj36_parts.specs.ObjectSegment.{Stands}
 use Rattle.m36_gen.specs.declared.files.File.{File}
 use Rattle.m36_reading.specs.declared.refusal.Refusal.{Refusal}
 use Rattle.m36_reading.specs.declared.refusal.Refusal.TheVariants.{BadFile, ReadFault, NoMemory}
@@ -25,13 +23,12 @@ use Rattle.m36_made.specs.Making.{object_name, object_by, object_of, with_object
 -- ---- one object
 
 pub content_made :
-    (source : Source) (given : Result PartsFields AlmFault) (parts : PartsFields) (words content : List ℕ)
-    → given ≡ Ok parts → Stands parts words → content ≡ packed words → IsObject content (with_parts source given)
-unfolding object_bytes
-content_made source given parts words content is stands packs = record {
+    (source : Source) (given : Result PartsFields AlmFault) (parts : PartsFields) (content : List ℕ)
+    → given ≡ Ok parts → content ≡ object_bytes parts → IsObject content (with_parts source given)
+content_made source given parts content is packs = record {
   assembly = record { source = source; parts = parts };
   is = ap (with_parts source) is;
-  content_is = packs ∙ ap packed stands.spelled;
+  content_is = packs;
 }
 
 pub ruleset made = (content_made, made_refused)

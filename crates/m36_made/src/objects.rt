@@ -14,7 +14,8 @@ use alm_parse::{AlmFault, Lines36, parse};
 use m36_gen::File;
 use m36_outside::{FILE_LIMIT, Text};
 use m36_reading::{Code, Refusal, Set, refuse};
-use m36_text::{Name, pack};
+use m36_text::Name;
+use m36_told::objects::object_bytes;
 use m36_told::refuse_source;
 use std::alloc::Global;
 
@@ -35,13 +36,10 @@ fn object_name(source: &[u8]) -> Name
 fn content_with(alloc: Global, lines: &Lines36) -> Result<Text, AlmFault>
     ensures { ObjectSays result (with_parts lines.now (assembled lines.now)) }
 {
-    let object = match assemble(alloc, lines) {
-        Ok(object) => object,
-        Err(fault) => return Err(fault),
-    };
-    let words = object.write(alloc)?;
-    let packed = pack(alloc, words.slice())?;
-    Ok(packed)
+    match assemble(alloc, lines) {
+        Ok(object) => Ok(object_bytes(alloc, &object)?),
+        Err(fault) => Err(fault),
+    }
 }
 
 // The packed words of the object of a source.

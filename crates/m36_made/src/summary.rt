@@ -181,16 +181,25 @@ fn answer_found<S: Sink>(
     }
 }
 
-/// Audits a booted system, runs it where nothing is found, and tells of it.
+// Audits a booted system, runs it where nothing is found, and tells of it.
 #[tactic(auto, using(m36_booted::proofs::FolderAnswers::nothing_put))]
+fn answer_system<S: Sink>(alloc: Global, system: &mut Super, out: &mut S) -> Status
+    requires { IsFresh system.old }
+    ensures { Puts (λ extent. IsSummary extent system.old.lib) (end_of result) result
+        (sink_of S.written S.taken S.faults out.old) (sink_of S.written S.taken S.faults out.new) }
+{
+    let count = system.catalog().count() as u64;
+    match audited(alloc, system) {
+        Ok(verdict) => answer_found(alloc, system, count, verdict.findings.as_slice(), out),
+        Err(_) => Status::NoMemory,
+    }
+}
+
+/// Audits a booted system, runs it where nothing is found, and tells of it.
 pub fn summarise<S: Sink>(alloc: Global, mut system: Super, out: &mut S) -> Status
     requires { IsFresh system }
     ensures { Puts (λ extent. IsSummary extent system.lib) (end_of result) result
         (sink_of S.written S.taken S.faults out.old) (sink_of S.written S.taken S.faults out.new) }
 {
-    let count = system.catalog().count() as u64;
-    match audited(alloc, &system) {
-        Ok(verdict) => answer_found(alloc, &mut system, count, verdict.findings.as_slice(), out),
-        Err(_) => Status::NoMemory,
-    }
+    answer_system(alloc, &mut system, out)
 }
