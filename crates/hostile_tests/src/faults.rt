@@ -1,22 +1,36 @@
 //! Each read, each write and each put of a command fails in turn.
 
-use crate::rows::{File, ROWS, Row, assembled, called, is_there};
+use crate::rows::{File, OBJECTS, OTHERS, RUNS, Row, assembled, called, is_there};
 use m36_outside::{Folder, MemFolder, MemSink, ReadAnswer, SureFolder, SureSink};
 use m36_word::NoMemory;
 use std::alloc::Global;
+use std::process::Abort;
 
-/// The numbers of the reads, writes and puts that fail.
-type Failing<'a> = (&'a [u32], &'a [u32], &'a [u32]);
+/// The read, the write or the put of this number fails.
+#[derive(Clone, Copy)]
+enum Fault {
+    Read(u32),
+    Write(u32),
+    Put(u32),
+}
 
-/// The folder of a row, of which some reads and writes fail.
-fn folder_of(
+/// The numbers of the read, of the write and of the put that fail, 0 for none.
+fn numbers(fault: Fault) -> (u32, u32, u32) {
+    match fault {
+        Fault::Read(number) => (number, 0, 0),
+        Fault::Write(number) => (0, number, 0),
+        Fault::Put(number) => (0, 0, number),
+    }
+}
+
+/// Puts the objects in, and the files of a row.
+fn fill(
     alloc: Global,
+    folder: &mut MemFolder,
     row: &Row,
     objects: &mut SureFolder,
-    failing: Failing,
-) -> Result<MemFolder, NoMemory> {
-    let mut folder = MemFolder::new(alloc, failing.0, failing.1)?;
-    for name in row.sources {
+) -> Result<(), NoMemory> {
+    for name in OBJECTS {
         if let ReadAnswer::Read(object) = objects.read(alloc, name) {
             folder.add(name, object.bytes())?;
         }
@@ -24,47 +38,7 @@ fn folder_of(
     for (name, content) in row.files {
         folder.add(name, content)?;
     }
-    Ok(folder)
-}
-
-/// What a row comes to where some calls fail: the number of its status, the folder, and what is written.
-fn run(
-    alloc: Global,
-    row: &Row,
-    objects: &mut SureFolder,
-    failing: Failing,
-) -> Result<(u8, MemFolder, MemSink), NoMemory> {
-    let mut folder = folder_of(alloc, row, objects, failing)?;
-    let mut out = MemSink::new(alloc, 10_000, failing.2)?;
-    let status = called(alloc, row.words, &mut folder, &mut out)?;
-    Ok((status.number(), folder, out))
-}
-
-/// Whether these lines are written, and nothing else.
-fn are_written(out: &MemSink, lines: &[&[u8]]) -> bool {
-    let mut rest = out.bytes();
-    for line in lines {
-        match rest.strip_prefix(*line) {
-            Some(left) => rest = left,
-            None => return false,
-        }
-    }
-    rest.is_empty()
-}
-
-/// Whether a folder has these files, but for those that are among others by their names.
-fn has_files(
-    alloc: Global,
-    folder: &mut MemFolder,
-    files: &[File],
-    others: &[File],
-) -> Result<bool, NoMemory> {
-    for (name, content) in files {
-        if !is_among(name, others) && !is_there(alloc, folder, name, content)? {
-            return Ok(false);
-        }
-    }
-    Ok(true)
+    Ok(())
 }
 
 fn is_among(name: &[u8], files: &[File]) -> bool {
@@ -76,102 +50,170 @@ fn is_among(name: &[u8], files: &[File]) -> bool {
     false
 }
 
-#[test]
-fn reads_fail_in_turn(rt: HostRuntime) -> Result<(), NoMemory> {
-    let mut objects = assembled(rt.alloc())?;
-    for row in &ROWS {
-        let words = row.words;
-        for number in 1..=row.reads {
-            let (status, _, out) = run(rt.alloc(), row, &mut objects, (&[number], &[], &[]))?;
-            assert!(rt; status == 2 && out.bytes().is_empty(), "{words:?} {number}");
+/// Whether a folder has these files, but for those that are among others by their names.
+fn has_files<F: Folder>(alloc: Global, folder: &mut F, files: &[File], others: &[File]) -> bool {
+    for (name, content) in files {
+        if !is_among(name, others) && !is_there(alloc, folder, name, content) {
+            return false;
         }
-        let next = row.reads.saturating_add(1);
-        let (status, _, out) = run(rt.alloc(), row, &mut objects, (&[next], &[], &[]))?;
-        assert!(rt;
-            status == row.status && are_written(&out, row.lines),
-            "{words:?}"
-        );
+    }
+    true
+}
+
+/// Whether the first so many of its files are written, and the others of the folder are as they were.
+fn has_written(alloc: Global, folder: &mut MemFolder, row: &Row, count: usize) -> bool {
+    let written = row.writes.get(..count).unwrap_or(row.writes);
+    has_files(alloc, folder, written, &[]) && has_files(alloc, folder, row.files, written)
+}
+
+fn line_count(text: &[u8]) -> u32 {
+    let mut count: u32 = 0;
+    for byte in text {
+        if *byte == b'\n' {
+            count = count.saturating_add(1);
+        }
+    }
+    count
+}
+
+/// Whether the first so many lines of a text are written, and nothing else.
+fn are_first(written: &[u8], count: u32, text: &[u8]) -> bool {
+    let is_whole = written.is_empty() || written.ends_with(b"\n");
+    is_whole && text.starts_with(written) && line_count(written) == count
+}
+
+/// Whether a fault is told as it has to be. A read that is never made does not fail.
+fn is_due(
+    alloc: Global,
+    (row, fault): (&Row, Fault),
+    status: u8,
+    folder: &mut MemFolder,
+    written: &[u8],
+) -> bool {
+    match fault {
+        Fault::Read(number) if number > row.reads => {
+            status == row.status && written == row.lines
+        }
+        Fault::Read(_) => status == 2 && written.is_empty(),
+        Fault::Write(number) => {
+            let before = number.saturating_sub(1) as usize;
+            status == 3 && written.is_empty() && has_written(alloc, folder, row, before)
+        }
+        Fault::Put(number) => {
+            status == 3
+                && are_first(written, number.saturating_sub(1), row.lines)
+                && has_written(alloc, folder, row, row.writes.len())
+        }
+    }
+}
+
+/// Whether a command comes to what is due where a call fails.
+fn comes_to(
+    alloc: Global,
+    row: &Row,
+    objects: &mut SureFolder,
+    fault: Fault,
+) -> Result<bool, NoMemory> {
+    let (read, write, put) = numbers(fault);
+    let mut folder = MemFolder::new(alloc, &[read], &[write])?;
+    fill(alloc, &mut folder, row, objects)?;
+    let mut out = MemSink::new(alloc, 10_000, &[put])?;
+    let status = called(alloc, row.words, &mut folder, &mut out)?;
+    Ok(is_due(
+        alloc,
+        (row, fault),
+        status.number(),
+        &mut folder,
+        out.bytes(),
+    ))
+}
+
+/// The kinds of calls.
+#[derive(Clone, Copy)]
+enum Kind {
+    Reads,
+    Writes,
+    Puts,
+}
+
+fn failing(kind: Kind, number: u32) -> Fault {
+    match kind {
+        Kind::Reads => Fault::Read(number),
+        Kind::Writes => Fault::Write(number),
+        Kind::Puts => Fault::Put(number),
+    }
+}
+
+/// How many calls of a kind a command makes, and of reads one more.
+fn count(row: &Row, kind: Kind) -> u32 {
+    match kind {
+        Kind::Reads => row.reads.saturating_add(1),
+        Kind::Writes => u32::try_from(row.writes.len()).unwrap_or(u32::MAX),
+        Kind::Puts => line_count(row.lines),
+    }
+}
+
+/// The number of the first call of a kind which fails and is not told as it has to be; 0 where each is.
+fn wrong_call(
+    alloc: Global,
+    row: &Row,
+    objects: &mut SureFolder,
+    kind: Kind,
+) -> Result<u32, NoMemory> {
+    for number in 1..=count(row, kind) {
+        if !comes_to(alloc, row, objects, failing(kind, number))? {
+            return Ok(number);
+        }
+    }
+    Ok(0)
+}
+
+/// Each call of each command fails in turn.
+fn fail_in_turn(rt: &impl Abort, alloc: Global, rows: &[Row]) -> Result<(), NoMemory> {
+    let mut objects = assembled(alloc)?;
+    for row in rows {
+        for kind in [Kind::Reads, Kind::Writes, Kind::Puts] {
+            let wrong = wrong_call(alloc, row, &mut objects, kind)?;
+            assert!(rt; wrong == 0, "{:?} {wrong}", row.words);
+        }
     }
     Ok(())
 }
 
 #[test]
-fn writes_fail_in_turn(rt: HostRuntime) -> Result<(), NoMemory> {
-    let mut objects = assembled(rt.alloc())?;
-    for row in &ROWS {
-        let words = row.words;
-        let mut number = 0u32;
-        for place in 0..row.writes.len() {
-            number = number.saturating_add(1);
-            let (status, mut folder, out) = run(
-                rt.alloc(),
-                row,
-                &mut objects,
-                (&[], &[number], &[]),
-            )?;
-            assert!(rt; status == 3 && out.bytes().is_empty(), "{words:?} {number}");
-            let written = &row.writes[..place];
-            assert!(rt;
-                has_files(rt.alloc(), &mut folder, written, &[])?,
-                "{words:?} {number}"
-            );
-            assert!(rt;
-                has_files(rt.alloc(), &mut folder, row.files, written)?,
-                "{words:?} {number}"
-            );
-        }
+fn calls_of_runs_fail_in_turn(rt: HostRuntime) -> Result<(), NoMemory> {
+    fail_in_turn(&rt, rt.alloc(), RUNS)
+}
+
+#[test]
+fn calls_of_others_fail_in_turn(rt: HostRuntime) -> Result<(), NoMemory> {
+    fail_in_turn(&rt, rt.alloc(), OTHERS)
+}
+
+/// Whether a command comes to what is due over a folder and an output that never fail.
+fn succeeds(alloc: Global, folder: &mut SureFolder, row: &Row) -> Result<bool, NoMemory> {
+    for (name, content) in row.files {
+        folder.add(name, content)?;
+    }
+    let status = called(alloc, row.words, folder, &mut SureSink::new())?;
+    Ok(status.number() == row.status && has_files(alloc, folder, row.writes, &[]))
+}
+
+/// Each command succeeds over one folder.
+fn succeed(rt: &impl Abort, alloc: Global, rows: &[Row]) -> Result<(), NoMemory> {
+    let mut folder = assembled(alloc)?;
+    for row in rows {
+        assert!(rt; succeeds(alloc, &mut folder, row)?, "{:?}", row.words);
     }
     Ok(())
 }
 
 #[test]
-fn puts_fail_in_turn(rt: HostRuntime) -> Result<(), NoMemory> {
-    let mut objects = assembled(rt.alloc())?;
-    for row in &ROWS {
-        let words = row.words;
-        let mut number = 0u32;
-        for place in 0..row.lines.len() {
-            number = number.saturating_add(1);
-            let (status, mut folder, out) = run(
-                rt.alloc(),
-                row,
-                &mut objects,
-                (&[], &[], &[number]),
-            )?;
-            assert!(rt;
-                status == 3 && are_written(&out, &row.lines[..place]),
-                "{words:?} {number}"
-            );
-            assert!(rt;
-                has_files(rt.alloc(), &mut folder, row.writes, &[])?,
-                "{words:?} {number}"
-            );
-            assert!(rt;
-                has_files(rt.alloc(), &mut folder, row.files, row.writes)?,
-                "{words:?} {number}"
-            );
-        }
-    }
-    Ok(())
+fn runs_succeed(rt: HostRuntime) -> Result<(), NoMemory> {
+    succeed(&rt, rt.alloc(), RUNS)
 }
 
-/// Over files, input and output that never fail.
 #[test]
-fn nothing_fails(rt: HostRuntime) -> Result<(), NoMemory> {
-    let mut folder = assembled(rt.alloc())?;
-    for row in &ROWS {
-        let words = row.words;
-        for (name, content) in row.files {
-            folder.add(name, content)?;
-        }
-        let status = called(rt.alloc(), words, &mut folder, &mut SureSink::new())?;
-        assert!(rt; status.number() == row.status, "{words:?}");
-        for (name, content) in row.writes {
-            assert!(rt;
-                is_there(rt.alloc(), &mut folder, name, content)?,
-                "{words:?}"
-            );
-        }
-    }
-    Ok(())
+fn others_succeed(rt: HostRuntime) -> Result<(), NoMemory> {
+    succeed(&rt, rt.alloc(), OTHERS)
 }

@@ -1,6 +1,6 @@
 //! Commands over files in memory, with all that each of them reads, writes and puts. It was worked out by hand.
 
-use m36_outside::{Folder, ReadAnswer, Sink, SureFolder, SureLines, SureSink, Text};
+use m36_outside::{Folder, Lines, ReadAnswer, Sink, SureFolder, SureLines, SureSink, Text};
 use m36_reading::Status;
 use m36_top::top::m36;
 use m36_word::NoMemory;
@@ -11,23 +11,22 @@ pub(crate) type File<'a> = (&'a [u8], &'a [u8]);
 
 /// A command and what it comes to.
 pub(crate) struct Row<'a> {
-    pub words: &'a [&'a [u8]],
-    /// The sources that stand assembled in the folder, each by its name.
-    pub sources: &'a [&'a [u8]],
-    /// The other files of the folder.
+    /// The words, each behind one blank but the first.
+    pub words: &'a [u8],
+    /// The files of the folder, beside the objects of the sources.
     pub files: &'a [File<'a>],
-    /// How many files it reads.
-    pub reads: u32,
     /// The files that it writes.
     pub writes: &'a [File<'a>],
     /// What it puts, each line one piece.
-    pub lines: &'a [&'a [u8]],
+    pub lines: &'a [u8],
+    /// How many files it reads.
+    pub reads: u32,
     /// The number of its status.
     pub status: u8,
 }
 
 /// Writes `hello` through a gate, and stops through it; the gate; and two sources without a line.
-const SOURCES: [File; 4] = [
+const SOURCES: &[File] = &[
     (
         b"main.alm",
         b" entry start
@@ -125,155 +124,168 @@ turns 3 0 1
 ",
 );
 
-/// The commands.
-pub(crate) const ROWS: [Row; 9] = [
+const LEAST_LINES: &[u8] = b"audit yes
+1 0 00001|000000 000002235000 0:00001|000002 000000000005 000000000000 ...... next
+2 0 00001|000001 000000616000 - 000000000005 000000000000 ...... dis
+end dis 2
+";
+
+const TRACE_LINES: &[u8] = b"audit yes
+1 4 00100|000000 000000213004 4:00100|000000 000100000004 000000000000 ...... next
+2 4 00100|000001 700026764161 4:00024|000100 000100000004 000000000000 ...... next
+3 4 00100|000002 000007352000 4:00100|000007 000100000004 000000000000 ...... next
+4 4 00100|000003 000006235007 =000000000006 000000000006 000000000000 ...... next
+5 4 00100|000004 600024357100 4:00014|000124 000000000006 000000000000 ...... next
+6 4 00100|000005 400010713120 - 000000000006 000000000000 ...... fault 24
+link 4 00024|002010 con_$write 000101400043 000000000000
+7 4 00100|000005 400010713120 4:00101|000000 000000000006 000000000000 ...... next
+8 0 00101|000000 000002710000 0:00101|000002 000000000006 000000000000 ...... next
+9 0 00101|000002 000000001000 - 000000000006 000000000000 ...... fault 2
+console hello\\012
+10 0 00101|000003 600024610100 4:00014|000124 000000000006 000000000000 ...... next
+11 4 00100|000006 400012713120 - 000000000006 000000000000 ...... fault 24
+link 4 00024|002012 con_$stop 000101400043 000001000000
+12 4 00100|000006 400012713120 4:00101|000001 000000000006 000000000000 ...... next
+13 0 00101|000001 000000616000 - 000000000006 000000000000 ...... dis
+end dis 13
+";
+
+const LOCK_LINES: &[u8] = b"audit yes
+0 1 4 00001|000000 000004761000 4:00001|000004 000000000000 000000000000 ...... next
+1 2 4 00001|000000 000004761000 4:00001|000004 000000000000 000000000000 ...... next
+0 3 4 00001|000001 000004235000 4:00001|000004 000002000000 000000000000 ...... next
+1 4 4 00001|000001 000004235000 4:00001|000004 000002000000 000000000000 ...... next
+0 5 4 00001|000002 100000354100 4:00002|000000 000002000000 000000000000 z..... next
+1 6 4 00001|000002 100000354100 4:00002|000000 000002000000 000000000000 ...... next
+end schedule 6
+";
+
+const E_LINES: &[u8] = b"object e 18
+text 000000 000000
+definition 000000 000002
+linkage 000002 000010
+symbol 000012 000001
+entrybound 000000
+";
+
+const B_LINES: &[u8] = b"object b 18
+text 000000 000000
+definition 000000 000002
+linkage 000002 000010
+symbol 000012 000001
+entrybound 000000
+";
+
+/// Audits and runs.
+pub(crate) const RUNS: &[Row] = &[
     Row {
-        words: &[b"bare", b"least"],
-        sources: &[],
+        words: b"bare least",
         files: &[LEAST],
+        writes: &[],
+        lines: LEAST_LINES,
         reads: 1,
-        writes: &[],
-        lines: &[
-            b"audit yes\n",
-            b"1 0 00001|000000 000002235000 0:00001|000002 000000000005 000000000000 ...... next\n",
-            b"2 0 00001|000001 000000616000 - 000000000005 000000000000 ...... dis\n",
-            b"end dis 2\n",
-        ],
         status: 0,
     },
     Row {
-        words: &[b"run"],
-        sources: &[b"main", b"con_"],
+        words: b"run",
         files: &[HELLO],
-        reads: 3,
         writes: &[],
-        lines: &[b"audit yes\n", b"hello\n", b"end dis 13\n"],
+        lines: b"audit yes\nhello\nend dis 13\n",
+        reads: 3,
         status: 0,
     },
     Row {
-        words: &[b"trace"],
-        sources: &[b"main", b"con_"],
+        words: b"trace",
         files: &[HELLO],
-        reads: 3,
         writes: &[],
-        lines: &[
-            b"audit yes\n",
-            b"1 4 00100|000000 000000213004 4:00100|000000 000100000004 000000000000 ...... next\n",
-            b"2 4 00100|000001 700026764161 4:00024|000100 000100000004 000000000000 ...... next\n",
-            b"3 4 00100|000002 000007352000 4:00100|000007 000100000004 000000000000 ...... next\n",
-            b"4 4 00100|000003 000006235007 =000000000006 000000000006 000000000000 ...... next\n",
-            b"5 4 00100|000004 600024357100 4:00014|000124 000000000006 000000000000 ...... next\n",
-            b"6 4 00100|000005 400010713120 - 000000000006 000000000000 ...... fault 24\n",
-            b"link 4 00024|002010 con_$write 000101400043 000000000000\n",
-            b"7 4 00100|000005 400010713120 4:00101|000000 000000000006 000000000000 ...... next\n",
-            b"8 0 00101|000000 000002710000 0:00101|000002 000000000006 000000000000 ...... next\n",
-            b"9 0 00101|000002 000000001000 - 000000000006 000000000000 ...... fault 2\n",
-            b"console hello\\012\n",
-            b"10 0 00101|000003 600024610100 4:00014|000124 000000000006 000000000000 ...... next\n",
-            b"11 4 00100|000006 400012713120 - 000000000006 000000000000 ...... fault 24\n",
-            b"link 4 00024|002012 con_$stop 000101400043 000001000000\n",
-            b"12 4 00100|000006 400012713120 4:00101|000001 000000000006 000000000000 ...... next\n",
-            b"13 0 00101|000001 000000616000 - 000000000006 000000000000 ...... dis\n",
-            b"end dis 13\n",
-        ],
+        lines: TRACE_LINES,
+        reads: 3,
         status: 0,
     },
     Row {
-        words: &[b"audit"],
-        sources: &[b"main", b"con_"],
+        words: b"audit",
         files: &[OPEN],
-        reads: 3,
         writes: &[],
-        lines: &[b"audit no A5 00101\n"],
+        lines: b"audit no A5 00101\n",
+        reads: 3,
         status: 5,
     },
     Row {
-        words: &[b"access", b"Jones.Demo.a"],
-        sources: &[],
-        files: &[HELLO, LISTS],
-        reads: 2,
-        writes: &[],
-        lines: &[
-            b">udd>demo main null Jones.Demo.*\n",
-            b">sss con_ re *.*.*\n",
-        ],
-        status: 0,
-    },
-    Row {
-        words: &[b"procs", b"lock"],
-        sources: &[],
+        words: b"procs lock",
         files: &[LOCK],
-        reads: 1,
         writes: &[],
-        lines: &[
-            b"audit yes\n",
-            b"0 1 4 00001|000000 000004761000 4:00001|000004 000000000000 000000000000 ...... next\n",
-            b"1 2 4 00001|000000 000004761000 4:00001|000004 000000000000 000000000000 ...... next\n",
-            b"0 3 4 00001|000001 000004235000 4:00001|000004 000002000000 000000000000 ...... next\n",
-            b"1 4 4 00001|000001 000004235000 4:00001|000004 000002000000 000000000000 ...... next\n",
-            b"0 5 4 00001|000002 100000354100 4:00002|000000 000002000000 000000000000 z..... next\n",
-            b"1 6 4 00001|000002 100000354100 4:00002|000000 000002000000 000000000000 ...... next\n",
-            b"end schedule 6\n",
-        ],
-        status: 0,
-    },
-    Row {
-        words: &[b"alm", b"e"],
-        sources: &[],
-        files: &[(b"e.alm", b""), (b"e", b"old")],
+        lines: LOCK_LINES,
         reads: 1,
-        writes: &[(b"e", EMPTY)],
-        lines: &[
-            b"object e 18\n",
-            b"text 000000 000000\n",
-            b"definition 000000 000002\n",
-            b"linkage 000002 000010\n",
-            b"symbol 000012 000001\n",
-            b"entrybound 000000\n",
-        ],
-        status: 0,
-    },
-    Row {
-        words: &[b"bind", b"b"],
-        sources: &[b"e", b"f"],
-        files: &[(b"b.bind", b"object e\nobject f\n"), (b"b", b"old")],
-        reads: 3,
-        writes: &[(b"b", EMPTY)],
-        lines: &[
-            b"object b 18\n",
-            b"text 000000 000000\n",
-            b"definition 000000 000002\n",
-            b"linkage 000002 000010\n",
-            b"symbol 000012 000001\n",
-            b"entrybound 000000\n",
-        ],
-        status: 0,
-    },
-    Row {
-        words: &[b"print", b"e"],
-        sources: &[],
-        files: &[(b"e", EMPTY)],
-        reads: 1,
-        writes: &[],
-        lines: &[
-            b"object e 18\n",
-            b"text 000000 000000\n",
-            b"definition 000000 000002\n",
-            b"linkage 000002 000010\n",
-            b"symbol 000012 000001\n",
-            b"entrybound 000000\n",
-        ],
         status: 0,
     },
 ];
 
-/// The words of a command line.
-pub(crate) fn words_of(alloc: Global, list: &[&[u8]]) -> Result<Vec<Text>, NoMemory> {
+/// Other commands.
+pub(crate) const OTHERS: &[Row] = &[
+    Row {
+        words: b"access Jones.Demo.a",
+        files: &[HELLO, LISTS],
+        writes: &[],
+        lines: b">udd>demo main null Jones.Demo.*\n>sss con_ re *.*.*\n",
+        reads: 2,
+        status: 0,
+    },
+    Row {
+        words: b"alm e",
+        files: &[(b"e.alm", b""), (b"e", b"old")],
+        writes: &[(b"e", EMPTY)],
+        lines: E_LINES,
+        reads: 1,
+        status: 0,
+    },
+    Row {
+        words: b"bind b",
+        files: &[(b"b.bind", b"object e\nobject f\n"), (b"b", b"old")],
+        writes: &[(b"b", EMPTY)],
+        lines: B_LINES,
+        reads: 3,
+        status: 0,
+    },
+    Row {
+        words: b"print e",
+        files: &[(b"e", EMPTY)],
+        writes: &[],
+        lines: E_LINES,
+        reads: 1,
+        status: 0,
+    },
+];
+
+/// The words of a command line: each stands behind one blank, but the first.
+fn words_of(alloc: Global, command: &[u8]) -> Result<Vec<Text>, NoMemory> {
     let mut words = Vec::new(alloc);
-    for word in list {
+    for word in command.split(|byte| *byte == b' ') {
         words.push(Text::from_bytes(alloc, word)?)?;
     }
     Ok(words)
+}
+
+/// Calls the simulator over a folder and an input.
+pub(crate) fn held<F: Folder, L: Lines, S: Sink>(
+    alloc: Global,
+    command: &[u8],
+    folder: &mut F,
+    lines: &mut L,
+    out: &mut S,
+) -> Result<Status, NoMemory> {
+    let words = words_of(alloc, command)?;
+    Ok(m36(alloc, words.as_slice(), folder, lines, out))
+}
+
+/// Calls the simulator over a folder, without input.
+pub(crate) fn called<F: Folder, S: Sink>(
+    alloc: Global,
+    command: &[u8],
+    folder: &mut F,
+    out: &mut S,
+) -> Result<Status, NoMemory> {
+    let mut lines = SureLines::new(alloc, &[])?;
+    held(alloc, command, folder, &mut lines, out)
 }
 
 /// Whether a folder has a file of this name and content.
@@ -282,34 +294,31 @@ pub(crate) fn is_there<F: Folder>(
     folder: &mut F,
     name: &[u8],
     content: &[u8],
-) -> Result<bool, NoMemory> {
+) -> bool {
     match folder.read(alloc, name) {
-        ReadAnswer::Read(text) => Ok(text.bytes() == content),
-        ReadAnswer::NoMemory => Err(NoMemory),
-        ReadAnswer::Absent | ReadAnswer::TooLarge | ReadAnswer::Failed => Ok(false),
+        ReadAnswer::Read(text) => text.bytes() == content,
+        _ => false,
     }
 }
 
-/// Calls the simulator over a folder, without input.
-pub(crate) fn called<F: Folder, S: Sink>(
-    alloc: Global,
-    list: &[&[u8]],
-    folder: &mut F,
-    out: &mut S,
-) -> Result<Status, NoMemory> {
-    let words = words_of(alloc, list)?;
-    let mut lines = SureLines::new(alloc, &[])?;
-    Ok(m36(alloc, words.as_slice(), folder, &mut lines, out))
-}
+const ASSEMBLIES: &[&[u8]] = &[b"alm main", b"alm con_", b"alm e", b"alm f"];
+
+/// The names of the objects.
+pub(crate) const OBJECTS: &[&[u8]] = &[b"main", b"con_", b"e", b"f"];
 
 /// The sources, each with its object beside it.
 pub(crate) fn assembled(alloc: Global) -> Result<SureFolder, NoMemory> {
     let mut folder = SureFolder::new(alloc)?;
+    assemble(alloc, &mut folder)?;
+    Ok(folder)
+}
+
+fn assemble(alloc: Global, folder: &mut SureFolder) -> Result<(), NoMemory> {
     for (name, content) in SOURCES {
         folder.add(name, content)?;
     }
-    for name in [b"main".as_slice(), b"con_", b"e", b"f"] {
-        let _ = called(alloc, &[b"alm", name], &mut folder, &mut SureSink::new())?;
+    for command in ASSEMBLIES {
+        let _ = called(alloc, command, folder, &mut SureSink::new())?;
     }
-    Ok(folder)
+    Ok(())
 }
