@@ -1,8 +1,7 @@
 //! Calls over files and output in memory. What is expected was worked out by hand.
 
-use crate::memory::{File, folder_of, has_file, run};
-use m36_outside::{MemFolder, MemSink};
-use m36_reading::{Code, Status};
+use crate::memory::{Due, File, Place, SURE, comes_with};
+use m36_reading::Code;
 use m36_word::NoMemory;
 use std::alloc::Global;
 
@@ -157,53 +156,41 @@ const IMAGES: &[(&[u8], &[u8], u8, &[u8])] = &[
     (b"procs f", LOOSE, 5, b"audit no J3 00000060\n"),
 ];
 
-// Whether a command comes to this over a folder with one file.
-fn writes(
-    alloc: Global,
-    command: &[u8],
-    file: File,
-    number: u8,
-    output: &[u8],
-) -> Result<bool, NoMemory> {
-    let mut folder = folder_of(alloc, &[file], &[], &[])?;
-    let mut out = MemSink::new(alloc, 10_000_000, &[])?;
-    let status = run(alloc, command, &mut folder, &mut out)?;
-    Ok(status.number() == number && out.bytes() == output)
-}
-
 #[test]
 fn writes_outputs(rt: HostRuntime) -> Result<(), NoMemory> {
     for (command, image, number, output) in IMAGES {
+        let due = Due::Writes(*number, output);
         assert!(rt;
-            writes(rt.alloc(), command, (b"f", image), *number, output)?,
+            comes_with(rt.alloc(), command, (b"f", image), SURE, due)?,
             "{command:?}"
         );
     }
     Ok(())
 }
 
+/// Commands over a folder with one file, which print the object `e`.
+const PRINTS: &[(&[u8], File)] = &[(b"print e", (b"e", EMPTY)), (b"alm e", (b"e.alm", b""))];
+
 #[test]
 fn writes_prints(rt: HostRuntime) -> Result<(), NoMemory> {
-    assert!(rt; writes(rt.alloc(), b"print e", (b"e", EMPTY), 0, EMPTY_PRINT)?);
-    assert!(rt; writes(rt.alloc(), b"alm e", (b"e.alm", b""), 0, EMPTY_PRINT)?);
+    for (command, file) in PRINTS {
+        let due = Due::Writes(0, EMPTY_PRINT);
+        assert!(rt;
+            comes_with(rt.alloc(), command, *file, SURE, due)?,
+            "{command:?}"
+        );
+    }
     Ok(())
 }
+
+const LIMIT_BEGIN: &[u8] = b"audit yes\n1 0 00001|000000 000000710000 0:00001|000000 ";
 
 #[test]
 fn ends_at_the_limit(rt: HostRuntime) -> Result<(), NoMemory> {
-    let mut folder = folder_of(rt.alloc(), &[(b"f", ENDLESS)], &[], &[])?;
-    let mut out = MemSink::new(rt.alloc(), 10_000_000, &[])?;
-    let status = run(rt.alloc(), b"bare f", &mut folder, &mut out)?;
-    assert_eq!(rt; status.number(), 7);
-    assert!(rt; out.bytes().ends_with(b"\nend limit 100000\n"));
-    assert!(rt;
-        out.bytes().starts_with(b"audit yes\n1 0 00001|000000 000000710000 0:00001|000000 ")
-    );
+    let due = Due::Begins(7, LIMIT_BEGIN, b"\nend limit 100000\n");
+    assert!(rt; comes_with(rt.alloc(), b"bare f", (b"f", ENDLESS), SURE, due)?);
     Ok(())
 }
-
-/// The code of a file that is refused, and its place and column.
-type Place = (Code, u32, u32);
 
 /// Commands that refuse the file `f`: the one file that is there, and why.
 const IMAGES_REFUSED: &[(&[u8], File, Place)] = &[
@@ -241,34 +228,12 @@ const BINDS_REFUSED: &[(File, &[u8], Place)] = &[
     ),
 ];
 
-fn is_refusal(status: &Status, name: &[u8], place: Place) -> bool {
-    match status {
-        Status::BadFile(bad) => {
-            bad.name.bytes() == name && (bad.code, bad.at, bad.column) == place
-        }
-        _ => false,
-    }
-}
-
-// Whether a command refuses a file so, over a folder with one file, and writes nothing.
-fn refuses(
-    alloc: Global,
-    command: &[u8],
-    file: File,
-    name: &[u8],
-    place: Place,
-) -> Result<bool, NoMemory> {
-    let mut folder = folder_of(alloc, &[file], &[], &[])?;
-    let mut out = MemSink::new(alloc, 10_000, &[])?;
-    let status = run(alloc, command, &mut folder, &mut out)?;
-    Ok(out.bytes().is_empty() && is_refusal(&status, name, place))
-}
-
 #[test]
 fn refuses_images(rt: HostRuntime) -> Result<(), NoMemory> {
     for (command, file, place) in IMAGES_REFUSED {
+        let due = Due::Refuses(b"f", *place);
         assert!(rt;
-            refuses(rt.alloc(), command, *file, b"f", *place)?,
+            comes_with(rt.alloc(), command, *file, SURE, due)?,
             "{command:?}"
         );
     }
@@ -278,9 +243,9 @@ fn refuses_images(rt: HostRuntime) -> Result<(), NoMemory> {
 #[test]
 fn refuses_prints(rt: HostRuntime) -> Result<(), NoMemory> {
     for (content, place) in PRINTS_REFUSED {
-        let file = (b"e".as_slice(), *content);
+        let due = Due::Refuses(b"e", *place);
         assert!(rt;
-            refuses(rt.alloc(), b"print e", file, b"e", *place)?,
+            comes_with(rt.alloc(), b"print e", (b"e", content), SURE, due)?,
             "{content:?}"
         );
     }
@@ -290,8 +255,9 @@ fn refuses_prints(rt: HostRuntime) -> Result<(), NoMemory> {
 #[test]
 fn refuses_sources(rt: HostRuntime) -> Result<(), NoMemory> {
     for (file, place) in SOURCES_REFUSED {
+        let due = Due::Refuses(b"e.alm", *place);
         assert!(rt;
-            refuses(rt.alloc(), b"alm e", *file, b"e.alm", *place)?,
+            comes_with(rt.alloc(), b"alm e", *file, SURE, due)?,
             "{:?}",
             file.1
         );
@@ -302,8 +268,9 @@ fn refuses_sources(rt: HostRuntime) -> Result<(), NoMemory> {
 #[test]
 fn refuses_binds(rt: HostRuntime) -> Result<(), NoMemory> {
     for (file, name, place) in BINDS_REFUSED {
+        let due = Due::Refuses(name, *place);
         assert!(rt;
-            refuses(rt.alloc(), b"bind e", *file, name, *place)?,
+            comes_with(rt.alloc(), b"bind e", *file, SURE, due)?,
             "{:?}",
             file.1
         );
@@ -311,27 +278,43 @@ fn refuses_binds(rt: HostRuntime) -> Result<(), NoMemory> {
     Ok(())
 }
 
-#[test]
-fn refuses_large_files(rt: HostRuntime) -> Result<(), NoMemory> {
-    let large = vec![in rt.alloc(); b'0'; 16777217]?;
-    let file = (b"f".as_slice(), large.as_slice());
-    assert!(rt; refuses(rt.alloc(), b"bare f", file, b"f", (Code::F2, 0, 0))?);
-    Ok(())
+/// The least length of a file that is too large, what it has, the command, the file's name, and the code.
+const LARGE: &[(usize, u8, &[u8], &[u8], Code)] = &[
+    (16_777_217, b'0', b"bare f", b"f", Code::F2),
+    (1_179_653, 0, b"print e", b"e", Code::F3),
+];
+
+// Whether a file of so many equal bytes is refused so.
+fn is_too_large(
+    alloc: Global,
+    (length, byte): (usize, u8),
+    command: &[u8],
+    name: &[u8],
+    code: Code,
+) -> Result<bool, NoMemory> {
+    let large = vec![in alloc; byte; length]?;
+    let due = Due::Refuses(name, (code, 0, 0));
+    comes_with(alloc, command, (name, large.as_slice()), SURE, due)
 }
 
 #[test]
-fn refuses_long_objects(rt: HostRuntime) -> Result<(), NoMemory> {
-    let long = vec![in rt.alloc(); 0; 1179653]?;
-    let file = (b"e".as_slice(), long.as_slice());
-    assert!(rt; refuses(rt.alloc(), b"print e", file, b"e", (Code::F3, 0, 0))?);
+fn refuses_large_files(rt: HostRuntime) -> Result<(), NoMemory> {
+    for (length, byte, command, name, code) in LARGE {
+        assert!(rt;
+            is_too_large(rt.alloc(), (*length, *byte), command, name, *code)?,
+            "{command:?}"
+        );
+    }
     Ok(())
 }
 
 /// Commands over a folder with one file: the read, the write and the put that fails, 0 for none; the number of the status, how
-/// much is written, and whether the object is there.
-const FAULTS: &[(&[u8], File, (u32, u32, u32), u8, usize, bool)] = &[
+/// much is written, and whether the object is there then.
+type Faulty<'a> = (&'a [u8], File<'a>, (u32, u32, u32), u8, usize, bool);
+
+const FAULTS: &[Faulty] = &[
     (b"bare f", (b"f", LEAST), (1, 0, 0), 2, 0, false),
-    (b"print e", (b"e", EMPTY), (1, 0, 0), 2, 0, false),
+    (b"print e", (b"e", EMPTY), (1, 0, 0), 2, 0, true),
     (b"alm e", (b"e.alm", b""), (1, 0, 0), 2, 0, false),
     (b"alm e", (b"e.alm", b""), (0, 1, 0), 3, 0, false),
     (b"alm e", (b"e.alm", b""), (0, 0, 1), 3, 0, true),
@@ -344,27 +327,14 @@ const FAULTS: &[(&[u8], File, (u32, u32, u32), u8, usize, bool)] = &[
     (b"audit f", (b"f", SEGMENTS), (0, 0, 2), 3, 18, false),
 ];
 
-// What a command came to: the number of the status, how much is written, and the folder then.
-fn failed(
-    alloc: Global,
-    command: &[u8],
-    file: File,
-    (read, write, put): (u32, u32, u32),
-) -> Result<(u8, usize, MemFolder), NoMemory> {
-    let mut folder = folder_of(alloc, &[file], &[read], &[write])?;
-    let mut out = MemSink::new(alloc, 10_000_000, &[put])?;
-    let status = run(alloc, command, &mut folder, &mut out)?;
-    Ok((status.number(), out.bytes().len(), folder))
-}
-
 #[test]
 fn tells_faults(rt: HostRuntime) -> Result<(), NoMemory> {
-    let alloc = rt.alloc();
-    for (command, file, failing, number, whole, is_there) in FAULTS {
-        let (status, written, mut folder) = failed(alloc, command, *file, *failing)?;
-        assert!(rt; status == *number && written == *whole, "{command:?}");
-        let is_object = has_file(alloc, &mut folder, b"e", EMPTY);
-        assert!(rt; *number == 2 || is_object == *is_there, "{command:?}");
+    for (command, file, (read, write, put), number, length, is_there) in FAULTS {
+        let due = Due::Leaves(*number, *length, (b"e", EMPTY), *is_there);
+        assert!(rt;
+            comes_with(rt.alloc(), command, *file, (*read, *write, *put, 0), due)?,
+            "{command:?}"
+        );
     }
     Ok(())
 }

@@ -1,7 +1,6 @@
 //! Folders that boot. What is expected was worked out by hand.
 
-use crate::memory::{File, assemble, folder_of, run};
-use m36_outside::MemSink;
+use crate::memory::{Due, World, comes_to};
 use m36_word::NoMemory;
 use std::alloc::Global;
 
@@ -111,29 +110,30 @@ link 4 00100|000003 ? L1
 end link L1 4
 ";
 
-// What a command comes to over a folder of these sources, assembled, and a boot text, where a read and a put fail: the number
-// of the status, and what is written. The sources are read first, so the boot text is the fourth file.
-fn booted(
+const ASSEMBLIES: &[&[u8]] = &[b"alm main", b"alm con_", b"alm changes"];
+
+// Whether a command comes to what is due over a folder of these sources, assembled, and a boot text, where a read and a put
+// fail. The sources are read first, so the boot text is the fourth file.
+fn boots(
     alloc: Global,
     boot: &[u8],
     command: &[u8],
-    read: u32,
-    put: u32,
-) -> Result<(u8, MemSink), NoMemory> {
-    let files: [File; 4] = [
-        (b"boot", boot),
-        (b"main.alm", MAIN),
-        (b"con_.alm", CON),
-        (b"changes.alm", CHANGES),
-    ];
-    let mut folder = folder_of(alloc, &files, &[read], &[])?;
-    assemble(alloc, ASSEMBLIES, &mut folder)?;
-    let mut out = MemSink::new(alloc, 10_000, &[put])?;
-    let status = run(alloc, command, &mut folder, &mut out)?;
-    Ok((status.number(), out))
+    (read, put): (u32, u32),
+    due: Due,
+) -> Result<bool, NoMemory> {
+    let world = World {
+        files: &[
+            (b"boot", boot),
+            (b"main.alm", MAIN),
+            (b"con_.alm", CON),
+            (b"changes.alm", CHANGES),
+        ],
+        before: ASSEMBLIES,
+        input: b"",
+        failing: (read, 0, put, 0),
+    };
+    comes_to(alloc, command, &world, due)
 }
-
-const ASSEMBLIES: &[&[u8]] = &[b"alm main", b"alm con_", b"alm changes"];
 
 /// The boot text, the command, the number of the status, and what is written.
 const BOOTS: &[(&[u8], &[u8], u8, &[u8])] = &[
@@ -163,8 +163,11 @@ const BOOTS: &[(&[u8], &[u8], u8, &[u8])] = &[
 #[test]
 fn boots_folders(rt: HostRuntime) -> Result<(), NoMemory> {
     for (boot, command, number, output) in BOOTS {
-        let (status, out) = booted(rt.alloc(), boot, command, 0, 0)?;
-        assert!(rt; status == *number && out.bytes() == *output, "{command:?}");
+        let due = Due::Writes(*number, output);
+        assert!(rt;
+            boots(rt.alloc(), boot, command, (0, 0), due)?,
+            "{command:?}"
+        );
     }
     Ok(())
 }
@@ -179,10 +182,10 @@ const FAULTS: &[(u32, u32, u8, usize)] = &[
 
 #[test]
 fn tells_faults_of_folders(rt: HostRuntime) -> Result<(), NoMemory> {
-    for (read, put, number, written) in FAULTS {
-        let (status, out) = booted(rt.alloc(), HELLO, b"run", *read, *put)?;
+    for (read, put, number, length) in FAULTS {
+        let due = Due::Length(*number, *length);
         assert!(rt;
-            status == *number && out.bytes().len() == *written,
+            boots(rt.alloc(), HELLO, b"run", (*read, *put), due)?,
             "at {read} {put}"
         );
     }

@@ -1,7 +1,6 @@
 //! Folders with access lists. What is expected was worked out by hand.
 
-use crate::memory::{File, assemble, folder_of, run};
-use m36_outside::{MemFolder, MemSink};
+use crate::memory::{Due, SURE, World, comes_to};
 use m36_word::NoMemory;
 use std::alloc::Global;
 
@@ -54,29 +53,26 @@ segment
 
 const ASSEMBLIES: &[&[u8]] = &[b"alm main", b"alm go"];
 
-const FILES: &[File] = &[(b"main.alm", MAIN), (b"go.alm", GO), (b"dat", &[0; 9])];
-
-// A folder of the sources, assembled, with a boot text and access lists.
-fn listed(alloc: Global, boot: &[u8], lists: &[u8]) -> Result<MemFolder, NoMemory> {
-    let mut folder = folder_of(alloc, FILES, &[], &[])?;
-    folder.add(b"boot", boot)?;
-    folder.add(b"acl", lists)?;
-    assemble(alloc, ASSEMBLIES, &mut folder)?;
-    Ok(folder)
-}
-
-// Whether a command comes to this over such a folder.
-fn says(
+// Whether a command comes to what is due over a folder of the sources, assembled, with a boot text and access lists.
+fn says<'a>(
     alloc: Global,
-    (boot, lists): (&[u8], &[u8]),
+    (boot, lists): (&'a [u8], &'a [u8]),
     command: &[u8],
-    number: u8,
-    output: &[u8],
+    due: Due,
 ) -> Result<bool, NoMemory> {
-    let mut folder = listed(alloc, boot, lists)?;
-    let mut out = MemSink::new(alloc, 10_000, &[])?;
-    let status = run(alloc, command, &mut folder, &mut out)?;
-    Ok(status.number() == number && out.bytes() == output)
+    let world = World {
+        files: &[
+            (b"main.alm", MAIN),
+            (b"go.alm", GO),
+            (b"dat", &[0; 9]),
+            (b"boot", boot),
+            (b"acl", lists),
+        ],
+        before: ASSEMBLIES,
+        input: b"",
+        failing: SURE,
+    };
+    comes_to(alloc, command, &world, due)
 }
 
 /// The boot text and the access lists, the command, the number of the status, and what is written.
@@ -113,10 +109,8 @@ const RIGHTS: &[((&[u8], &[u8]), &[u8], u8, &[u8])] = &[
 #[test]
 fn gives_rights_by_lists(rt: HostRuntime) -> Result<(), NoMemory> {
     for (texts, command, number, output) in RIGHTS {
-        assert!(rt;
-            says(rt.alloc(), *texts, command, *number, output)?,
-            "{command:?}"
-        );
+        let due = Due::Writes(*number, output);
+        assert!(rt; says(rt.alloc(), *texts, command, due)?, "{command:?}");
     }
     Ok(())
 }

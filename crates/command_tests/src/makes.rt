@@ -1,10 +1,12 @@
 //! Folders that are made. The lines, counts and words are those that another program gave.
 
-use crate::memory::{folder_of, has_file, run};
-use m36_outside::{Folder, MemFolder, MemSink, ReadAnswer, Text};
+use crate::memory::{has_file, words};
+use m36_outside::{Folder, MemFolder, MemSink, ReadAnswer, SureLines, Text};
 use m36_text::decimal;
+use m36_top::top::m36;
 use m36_word::NoMemory;
 use std::alloc::Global;
+use std::test::Fail;
 
 const SUMMARY: &[u8] = b"segments 66
 audit yes
@@ -25,12 +27,24 @@ loop: eax1 774,x1
  end
 ";
 
-// What the making of a seed comes to in an empty folder, where a write and a put fail, 0 for none, and the folder then.
-fn made(alloc: Global, write: u32, put: u32) -> Result<(u8, MemFolder, MemSink), NoMemory> {
-    let mut folder = folder_of(alloc, &[], &[], &[write])?;
-    let mut out = MemSink::new(alloc, 1000, &[put])?;
-    let status = run(alloc, b"make 1", &mut folder, &mut out)?;
-    Ok((status.number(), folder, out))
+// Makes the files of a seed in a folder: the number of the status.
+fn make(alloc: Global, folder: &mut MemFolder, out: &mut MemSink) -> Result<u8, NoMemory> {
+    let words = words(alloc, b"make 1")?;
+    let mut lines = SureLines::new(alloc, &[])?;
+    let status = m36(alloc, words.as_slice(), folder, &mut lines, out);
+    Ok(status.number())
+}
+
+// The folder as it is made where the write behind the last fails.
+fn whole(alloc: Global) -> Result<MemFolder, Fail> {
+    let mut folder = MemFolder::new(alloc, &[], &[FILES + 1])?;
+    let mut out = MemSink::new(alloc, 1000, &[])?;
+    let number = make(alloc, &mut folder, &mut out)?;
+    if number == 0 && out.bytes() == SUMMARY {
+        Ok(folder)
+    } else {
+        Err(Fail::from("the folder is made"))
+    }
 }
 
 // How many bytes a file has; None where there is no such file.
@@ -50,18 +64,21 @@ const LENGTHS: &[(&[u8], Option<usize>)] = &[
     (b"g64", None),
 ];
 
-#[test]
-fn makes_a_folder(rt: HostRuntime) -> Result<(), NoMemory> {
-    let (number, mut folder, out) = made(rt.alloc(), 0, 0)?;
-    assert!(rt; number == 0 && out.bytes() == SUMMARY);
-    assert!(rt; has_file(rt.alloc(), &mut folder, b"g0.alm", FIRST_SOURCE));
+// Whether the files have these lengths.
+fn has_lengths(alloc: Global, folder: &mut MemFolder) -> bool {
     for (name, length) in LENGTHS {
-        assert_eq!(rt;
-            length_of(rt.alloc(), &mut folder, name),
-            *length,
-            "{name:?}"
-        );
+        if length_of(alloc, folder, name) != *length {
+            return false;
+        }
     }
+    true
+}
+
+#[test]
+fn makes_a_folder(rt: HostRuntime) -> Result<(), Fail> {
+    let mut folder = whole(rt.alloc())?;
+    assert!(rt; has_file(rt.alloc(), &mut folder, b"g0.alm", FIRST_SOURCE));
+    assert!(rt; has_lengths(rt.alloc(), &mut folder));
     Ok(())
 }
 
@@ -137,21 +154,30 @@ fn has_first(
     Ok(true)
 }
 
-// Whether a write that fails behind so many others ends the making: the status is WriteFault, nothing is put, and the
-// files before it are there and no others.
-fn ends_behind(alloc: Global, whole: &mut MemFolder, written: u32) -> Result<bool, NoMemory> {
-    let (number, mut folder, out) = made(alloc, written.saturating_add(1), 0)?;
-    let is_right = has_first(alloc, &mut folder, whole, written)?;
-    Ok(is_right && number == 3 && out.bytes().is_empty())
+// Whether the making where a write or a put of these numbers fails, 0 for none, ends with WriteFault, has put this by then,
+// and has left the first so many files and no others.
+fn ends_behind(
+    alloc: Global,
+    whole: &mut MemFolder,
+    (write, put): (u32, u32),
+    written: &[u8],
+    count: u32,
+) -> Result<bool, NoMemory> {
+    let mut folder = MemFolder::new(alloc, &[], &[write])?;
+    let mut out = MemSink::new(alloc, 1000, &[put])?;
+    let number = make(alloc, &mut folder, &mut out)?;
+    let is_told = number == 3 && out.bytes() == written;
+    Ok(is_told && matches!(has_first(alloc, &mut folder, whole, count), Ok(true)))
 }
 
 #[test]
-fn writes_fail_in_turn(rt: HostRuntime) -> Result<(), NoMemory> {
-    let alloc = rt.alloc();
-    let (number, mut whole, out) = made(alloc, 133, 0)?;
-    assert!(rt; number == 0 && out.bytes() == SUMMARY);
-    for written in 0..FILES {
-        assert!(rt; ends_behind(alloc, &mut whole, written)?, "{written}");
+fn writes_fail_in_turn(rt: HostRuntime) -> Result<(), Fail> {
+    let mut whole = whole(rt.alloc())?;
+    for count in 0..FILES {
+        assert!(rt;
+            ends_behind(rt.alloc(), &mut whole, (count + 1, 0), b"", count)?,
+            "{count}"
+        );
     }
     Ok(())
 }
@@ -165,13 +191,13 @@ const PUTS: &[(u32, &[u8])] = &[
 ];
 
 #[test]
-fn puts_fail_in_turn(rt: HostRuntime) -> Result<(), NoMemory> {
-    let alloc = rt.alloc();
-    let (_, mut whole, _) = made(alloc, 0, 0)?;
+fn puts_fail_in_turn(rt: HostRuntime) -> Result<(), Fail> {
+    let mut whole = whole(rt.alloc())?;
     for (put, written) in PUTS {
-        let (number, mut folder, out) = made(alloc, 0, *put)?;
-        assert!(rt; number == 3 && out.bytes() == *written, "{put}");
-        assert!(rt; has_first(alloc, &mut folder, &mut whole, FILES)?, "{put}");
+        assert!(rt;
+            ends_behind(rt.alloc(), &mut whole, (0, *put), written, FILES)?,
+            "{put}"
+        );
     }
     Ok(())
 }

@@ -1,13 +1,52 @@
-//! Commands over files and output in memory.
+//! Commands over files, input and output in memory, and what they have to come to.
 
-use m36_outside::{Folder, MemFolder, MemLines, MemSink, ReadAnswer, SureLines, Text};
-use m36_reading::Status;
+use m36_outside::{Folder, MemFolder, MemLines, MemSink, ReadAnswer, SureLines, SureSink, Text};
+use m36_reading::{Code, Status};
+use m36_top::report;
 use m36_top::top::m36;
 use m36_word::NoMemory;
 use std::alloc::Global;
 
 /// A file: its name and what it has.
 pub(crate) type File<'a> = (&'a [u8], &'a [u8]);
+
+/// The numbers of the read, the write, the put and the piece of the input that fail, 0 for none.
+pub(crate) type Failing = (u32, u32, u32, u32);
+
+pub(crate) const SURE: Failing = (0, 0, 0, 0);
+
+/// The code of a file that is refused, and its place and column.
+pub(crate) type Place = (Code, u32, u32);
+
+/// What a command is called over.
+#[derive(Clone, Copy)]
+pub(crate) struct World<'a> {
+    pub files: &'a [File<'a>],
+    /// Commands that are called before; what they put is not kept.
+    pub before: &'a [&'a [u8]],
+    pub input: &'a [u8],
+    pub failing: Failing,
+}
+
+/// What a command has to come to.
+#[derive(Clone, Copy)]
+pub(crate) enum Due<'a> {
+    /// The number of the status, and what is written.
+    Writes(u8, &'a [u8]),
+    /// The number of the status, and how what is written begins and ends.
+    Begins(u8, &'a [u8], &'a [u8]),
+    /// The number of the status, and how much is written.
+    Length(u8, usize),
+    /// The same, and a file and whether the folder has it then.
+    Leaves(u8, usize, File<'a>, bool),
+    /// The name of the file that is refused, and why. Nothing is written.
+    Refuses(&'a [u8], Place),
+    /// The line of the status, and what is written.
+    Reports(&'a [u8], &'a [u8]),
+}
+
+/// The most bytes that are written here.
+const ROOM: usize = 10_000_000;
 
 /// The words of a command: each stands behind one blank, but the first.
 pub(crate) fn words(alloc: Global, command: &[u8]) -> Result<Vec<Text>, NoMemory> {
@@ -18,71 +57,131 @@ pub(crate) fn words(alloc: Global, command: &[u8]) -> Result<Vec<Text>, NoMemory
     Ok(words)
 }
 
-/// A folder of files, where the reads and writes of these numbers fail.
-pub(crate) fn folder_of(
-    alloc: Global,
-    files: &[File],
-    reads: &[u32],
-    writes: &[u32],
-) -> Result<MemFolder, NoMemory> {
-    let mut folder = MemFolder::new(alloc, reads, writes)?;
-    for (name, content) in files {
-        folder.add(name, content)?;
-    }
-    Ok(folder)
-}
-
-/// What words come to, where no line is read.
-pub(crate) fn run_words(
-    alloc: Global,
-    words: &[Text],
-    folder: &mut MemFolder,
-    out: &mut MemSink,
-) -> Result<Status, NoMemory> {
-    let mut lines = SureLines::new(alloc, &[])?;
-    Ok(m36(alloc, words, folder, &mut lines, out))
-}
-
-/// What a command comes to, where no line is read.
-pub(crate) fn run(
-    alloc: Global,
-    command: &[u8],
-    folder: &mut MemFolder,
-    out: &mut MemSink,
-) -> Result<Status, NoMemory> {
-    let words = words(alloc, command)?;
-    run_words(alloc, words.as_slice(), folder, out)
-}
-
-/// What a command comes to over these lines.
-pub(crate) fn hold(
-    alloc: Global,
-    command: &[u8],
-    folder: &mut MemFolder,
-    lines: &mut MemLines,
-    out: &mut MemSink,
-) -> Result<Status, NoMemory> {
-    let words = words(alloc, command)?;
-    Ok(m36(alloc, words.as_slice(), folder, lines, out))
-}
-
-/// Commands that assemble the sources of the folder; their listings are not kept.
-pub(crate) fn assemble(
-    alloc: Global,
-    commands: &[&[u8]],
-    folder: &mut MemFolder,
-) -> Result<(), NoMemory> {
-    for command in commands {
-        let mut out = MemSink::new(alloc, 10_000, &[])?;
-        let _ = run(alloc, command, folder, &mut out)?;
-    }
-    Ok(())
-}
-
 /// Whether a file is there and has this content.
 pub(crate) fn has_file(alloc: Global, folder: &mut MemFolder, name: &[u8], content: &[u8]) -> bool {
     match folder.read(alloc, name) {
         ReadAnswer::Read(text) => text.bytes() == content,
         _ => false,
     }
+}
+
+/// Whether a status has this line.
+pub(crate) fn has_line(alloc: Global, status: &Status, line: &[u8]) -> bool {
+    match report(alloc, status) {
+        Ok(text) => text.bytes() == line,
+        Err(_) => false,
+    }
+}
+
+fn is_refusal(status: &Status, name: &[u8], place: Place) -> bool {
+    match status {
+        Status::BadFile(bad) => {
+            bad.name.bytes() == name && (bad.code, bad.at, bad.column) == place
+        }
+        _ => false,
+    }
+}
+
+/// Whether this is what a command has come to.
+fn is_met(
+    alloc: Global,
+    due: Due,
+    status: &Status,
+    folder: &mut MemFolder,
+    written: &[u8],
+) -> bool {
+    match due {
+        Due::Writes(number, text) => status.number() == number && written == text,
+        Due::Begins(number, begin, end) => {
+            status.number() == number && written.starts_with(begin) && written.ends_with(end)
+        }
+        Due::Length(number, length) => status.number() == number && written.len() == length,
+        Due::Leaves(number, length, (name, content), is_there) => {
+            status.number() == number
+                && written.len() == length
+                && has_file(alloc, folder, name, content) == is_there
+        }
+        Due::Refuses(name, place) => written.is_empty() && is_refusal(status, name, place),
+        Due::Reports(line, text) => has_line(alloc, status, line) && written == text,
+    }
+}
+
+/// Calls a command over the folder.
+fn call_before(alloc: Global, command: &[u8], folder: &mut MemFolder) -> Result<(), NoMemory> {
+    let words = words(alloc, command)?;
+    let mut lines = SureLines::new(alloc, &[])?;
+    let _ = m36(
+        alloc,
+        words.as_slice(),
+        folder,
+        &mut lines,
+        &mut SureSink::new(),
+    );
+    Ok(())
+}
+
+fn fill(alloc: Global, folder: &mut MemFolder, world: &World) -> Result<(), NoMemory> {
+    for (name, content) in world.files {
+        folder.add(name, content)?;
+    }
+    for command in world.before {
+        call_before(alloc, command, folder)?;
+    }
+    Ok(())
+}
+
+/// Calls words over the folder, once it is filled, and over the input.
+fn call(
+    alloc: Global,
+    words: &[Text],
+    world: &World,
+    folder: &mut MemFolder,
+    out: &mut MemSink,
+) -> Result<Status, NoMemory> {
+    fill(alloc, folder, world)?;
+    let (_, _, _, piece) = world.failing;
+    let mut lines = MemLines::new(alloc, world.input, &[piece])?;
+    Ok(m36(alloc, words, folder, &mut lines, out))
+}
+
+/// Whether words come to what is due.
+pub(crate) fn words_come_to(
+    alloc: Global,
+    words: &[Text],
+    world: &World,
+    due: Due,
+) -> Result<bool, NoMemory> {
+    let (read, write, put, _) = world.failing;
+    let mut folder = MemFolder::new(alloc, &[read], &[write])?;
+    let mut out = MemSink::new(alloc, ROOM, &[put])?;
+    let status = call(alloc, words, world, &mut folder, &mut out)?;
+    Ok(is_met(alloc, due, &status, &mut folder, out.bytes()))
+}
+
+/// Whether a command comes to what is due.
+pub(crate) fn comes_to(
+    alloc: Global,
+    command: &[u8],
+    world: &World,
+    due: Due,
+) -> Result<bool, NoMemory> {
+    let words = words(alloc, command)?;
+    words_come_to(alloc, words.as_slice(), world, due)
+}
+
+/// Whether a command comes to what is due over a folder with one file.
+pub(crate) fn comes_with(
+    alloc: Global,
+    command: &[u8],
+    file: File,
+    failing: Failing,
+    due: Due,
+) -> Result<bool, NoMemory> {
+    let world = World {
+        files: &[file],
+        before: &[],
+        input: b"",
+        failing,
+    };
+    comes_to(alloc, command, &world, due)
 }

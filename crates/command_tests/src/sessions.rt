@@ -1,10 +1,8 @@
 //! Sessions by the words of the command line. What is expected was worked out by hand.
 
 use crate::calls::LEAST;
-use crate::memory::{folder_of, hold};
-use m36_outside::{MemLines, MemSink, Text};
-use m36_reading::Status;
-use m36_top::report;
+use crate::memory::{Due, World, comes_to};
+use m36_outside::Text;
 use m36_word::NoMemory;
 use std::alloc::Global;
 
@@ -14,18 +12,20 @@ const SESSION: &[u8] = b"step 1\nwhere\nfly\nquit\n";
 const WRITTEN: &[u8] =
     b"1 0 00001|000000 000002235000 0:00001|000002 000000000005 000000000000 ...... next\n0 00001|000001\n? fly\n";
 
-// What a session over the least image as the file `f` comes to, where a piece and a put fail, 0 for none.
-fn held(
+// Whether a session over the least image as the file `f` comes to what is due, where a piece and a put fail, 0 for none.
+fn holds(
     alloc: Global,
-    content: &[u8],
-    piece: u32,
-    put: u32,
-) -> Result<(Status, MemSink), NoMemory> {
-    let mut folder = folder_of(alloc, &[(b"f", LEAST)], &[], &[])?;
-    let mut lines = MemLines::new(alloc, content, &[piece])?;
-    let mut out = MemSink::new(alloc, 10_000, &[put])?;
-    let status = hold(alloc, b"debug f", &mut folder, &mut lines, &mut out)?;
-    Ok((status, out))
+    input: &[u8],
+    (piece, put): (u32, u32),
+    due: Due,
+) -> Result<bool, NoMemory> {
+    let world = World {
+        files: &[(b"f", LEAST)],
+        before: &[],
+        input,
+        failing: (0, 0, put, piece),
+    };
+    comes_to(alloc, b"debug f", &world, due)
 }
 
 /// The lines, the piece and the put that fails, 0 for none, the number of the status, and what is written.
@@ -40,9 +40,9 @@ const SESSIONS: &[(&[u8], u32, u32, u8, &[u8])] = &[
 
 #[test]
 fn holds_sessions(rt: HostRuntime) -> Result<(), NoMemory> {
-    for (content, piece, put, number, written) in SESSIONS {
-        let (status, out) = held(rt.alloc(), content, *piece, *put)?;
-        assert!(rt; status.number() == *number && out.bytes() == *written);
+    for (input, piece, put, number, written) in SESSIONS {
+        let due = Due::Writes(*number, written);
+        assert!(rt; holds(rt.alloc(), input, (*piece, *put), due)?);
     }
     Ok(())
 }
@@ -59,9 +59,7 @@ fn long_input(alloc: Global) -> Result<Text, NoMemory> {
 #[test]
 fn refuses_long_input(rt: HostRuntime) -> Result<(), NoMemory> {
     let content = long_input(rt.alloc())?;
-    let (status, out) = held(rt.alloc(), content.bytes(), 0, 0)?;
-    assert!(rt; status.number() == 4);
-    assert!(rt; report(rt.alloc(), &status)?.bytes() == b"m36: BadFile stdin S1 0 0\n".as_slice());
-    assert!(rt; out.bytes() == b"0 00001|000000\n".as_slice());
+    let due = Due::Reports(b"m36: BadFile stdin S1 0 0\n", b"0 00001|000000\n");
+    assert!(rt; holds(rt.alloc(), content.bytes(), (0, 0), due)?);
     Ok(())
 }

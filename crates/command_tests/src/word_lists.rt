@@ -1,8 +1,7 @@
 //! Lists of words, in and out of the set.
 
 use crate::calls::LEAST;
-use crate::memory::{folder_of, run_words, words};
-use m36_outside::{MemSink, Text};
+use crate::memory::{Due, SURE, World, comes_with, words_come_to};
 use m36_word::NoMemory;
 use std::alloc::Global;
 
@@ -117,17 +116,10 @@ const OTHERS: &[Asked] = &[
     (b"-- bare f", 1, 0),
 ];
 
-// What words answer over the least image as the file `f`, and how much is written.
-fn answer(alloc: Global, words: &[Text]) -> Result<(u8, usize), NoMemory> {
-    let mut folder = folder_of(alloc, &[(b"f", LEAST)], &[], &[])?;
-    let mut out = MemSink::new(alloc, 1000, &[])?;
-    let status = run_words(alloc, words, &mut folder, &mut out)?;
-    Ok((status.number(), out.bytes().len()))
-}
-
+// Whether words come to this over the least image as the file `f`.
 fn answers(alloc: Global, (command, number, written): Asked) -> Result<bool, NoMemory> {
-    let words = words(alloc, command)?;
-    Ok(answer(alloc, words.as_slice())? == (number, written))
+    let due = Due::Length(number, written);
+    comes_with(alloc, command, (b"f", LEAST), SURE, due)
 }
 
 #[test]
@@ -156,6 +148,12 @@ fn other_words(rt: HostRuntime) -> Result<(), NoMemory> {
 
 #[test]
 fn no_words(rt: HostRuntime) -> Result<(), NoMemory> {
-    assert!(rt; answer(rt.alloc(), &[])? == (1, 0));
+    let world = World {
+        files: &[(b"f", LEAST)],
+        before: &[],
+        input: b"",
+        failing: SURE,
+    };
+    assert!(rt; words_come_to(rt.alloc(), &[], &world, Due::Length(1, 0))?);
     Ok(())
 }
