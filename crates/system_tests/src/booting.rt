@@ -241,7 +241,7 @@ fn words_of_both(alloc: Global, second: Second) -> Result<Vec<Words>, NoMemory> 
     Ok(words)
 }
 
-fn read(alloc: Global, text: &[u8]) -> Result<Catalog, BootFault> {
+pub(crate) fn read(alloc: Global, text: &[u8]) -> Result<Catalog, BootFault> {
     if text.len() > 1000 {
         return Err(BootFault::NoMemory);
     }

@@ -97,26 +97,56 @@ const STORES: [(u32, u64); 7] = [
     (0o2001, 0o000000616000),
 ];
 
+/// What is done with a machine, or seen of it.
+#[derive(Clone, Copy)]
+enum Doing {
+    /// A step, which ends at this word.
+    Steps(u32),
+    /// A turn, which tells that the run has ended.
+    Ends,
+    /// Going back so many steps, and the answer.
+    Back(u32, BackAnswer),
+    /// How many steps were taken and not taken back.
+    Taken(u64),
+    /// A word of a segment, and its number.
+    Has(u16, u32, u64),
+}
+
+/// The run ends, and is running again once a step is taken back.
+const RESTORED: &[Doing] = &[
+    Doing::Back(1, BackAnswer::Before(0)),
+    Doing::Steps(1),
+    Doing::Has(1, 0, 0),
+    Doing::Has(2, 0o100, 0o000020001104),
+    Doing::Back(1, BackAnswer::Done),
+    Doing::Taken(0),
+    Doing::Has(1, 0, 0o000000755000),
+    Doing::Has(2, 0o100, 0o000020000004),
+    Doing::Steps(1),
+    Doing::Steps(1),
+    Doing::Ends,
+    Doing::Taken(2),
+    Doing::Back(3, BackAnswer::Before(2)),
+    Doing::Back(1, BackAnswer::Done),
+    Doing::Steps(1),
+];
+
+fn is_so(past: &mut Past<Machine>, doing: &Doing) -> bool {
+    match doing {
+        Doing::Steps(ic) => steps_to(past, *ic),
+        Doing::Ends => matches!(past.turn(), Turn::Ended(_)),
+        Doing::Back(steps, answer) => past.back(*steps) == *answer,
+        Doing::Taken(steps) => past.taken() == *steps,
+        Doing::Has(seg, word, number) => word_at(past, *seg, *word) == *number,
+    }
+}
+
 #[test]
 fn restores_core_and_marks(rt: HostRuntime) -> Result<(), NoMemory> {
     let mut past = past(rt.alloc(), machine(rt.alloc(), &STORES)?)?;
-    assert!(rt; past.back(1) == BackAnswer::Before(0));
-    assert!(rt; steps_to(&mut past, 1));
-    assert_eq!(rt; word_at(&past, 1, 0), 0);
-    assert_eq!(rt; word_at(&past, 2, 0o100), 0o000020001104);
-    assert!(rt; past.back(1) == BackAnswer::Done);
-    assert_eq!(rt; past.taken(), 0);
-    assert_eq!(rt; word_at(&past, 1, 0), 0o000000755000);
-    assert_eq!(rt; word_at(&past, 2, 0o100), 0o000020000004);
-
-    // The run ends, and is running again once a step is taken back.
-    assert!(rt; steps_to(&mut past, 1));
-    assert!(rt; steps_to(&mut past, 1));
-    assert!(rt; matches!(past.turn(), Turn::Ended(_)));
-    assert_eq!(rt; past.taken(), 2);
-    assert!(rt; past.back(3) == BackAnswer::Before(2));
-    assert!(rt; past.back(1) == BackAnswer::Done);
-    assert!(rt; steps_to(&mut past, 1));
+    for (place, doing) in RESTORED.iter().enumerate() {
+        assert!(rt; is_so(&mut past, doing), "row {place}");
+    }
     Ok(())
 }
 
@@ -145,11 +175,18 @@ fn turns_with_back(alloc: Global, steps: u32) -> Result<u64, NoMemory> {
     }
 }
 
-// Copies stand 1,024 steps apart, and 2,048 once a ninth was due.
+/// Copies stand 1,024 steps apart, and 2,048 once a ninth was due. How many steps are taken before one is taken back, and
+/// how many turns are taken then.
+const TURNS: &[(u32, u64)] = &[
+    (3000, 3951),
+    (9 * 1024, 10 * 1024 - 1),
+    (10 * 1024, 12 * 1024 - 1),
+];
+
 #[test]
 fn keeps_states(rt: HostRuntime) -> Result<(), NoMemory> {
-    assert_eq!(rt; turns_with_back(rt.alloc(), 3000)?, 3951);
-    assert_eq!(rt; turns_with_back(rt.alloc(), 9 * 1024)?, 10 * 1024 - 1);
-    assert_eq!(rt; turns_with_back(rt.alloc(), 10 * 1024)?, 12 * 1024 - 1);
+    for (steps, turns) in TURNS {
+        assert_eq!(rt; turns_with_back(rt.alloc(), *steps)?, *turns);
+    }
     Ok(())
 }

@@ -1,6 +1,7 @@
 //! Pages moved by hand: segments 5 and 6, of two pages each, have their page tables at core words 0 and 16, and frames 1
 //! and 2 of core are pageable.
 
+ghost use Rattle.std.specs.Prelude.{◌≡◌, IfOk, length};
 ghost use Rattle.m36_page.specs.Residence.{HasFrames, Reads};
 
 use m36_core::Core;
@@ -8,7 +9,6 @@ use m36_model::{At, Kind, Reference, Refs};
 use m36_page::{PageTable, Pager, Pinned, are_placed};
 use m36_word::{NoMemory, Word, Words};
 use std::alloc::Global;
-use std::test::Fail;
 
 // A table of two pages, of which the words are so many numbers from one on.
 fn table(alloc: Global, seg: u16, at: u32, from: u64, count: u64) -> Result<PageTable, NoMemory> {
@@ -53,104 +53,227 @@ fn references(first: (u16, u32), second: (u16, u32)) -> Refs {
     refs
 }
 
+/// The place and the pages of a second table, the first frame, and whether both tables may stand so.
+const PLACES: &[(u32, u16, u32, bool)] = &[
+    (16, 2, 1, true),
+    (1, 2, 1, false),
+    (1022, 2, 1, true),
+    (1023, 2, 1, false),
+    (2, 1, 0, false),
+];
+
+fn may_stand(alloc: Global, at: u32, pages: u16, first: u32) -> Result<bool, NoMemory> {
+    let mut tables = Vec::new(alloc);
+    tables.push(table(alloc, 5, 0, 0, 1)?)?;
+    let mut other = table(alloc, 6, at, 0, 1)?;
+    other.pages = pages;
+    tables.push(other)?;
+    Ok(are_placed(first, &tables))
+}
+
 #[test]
-fn tables_in_places(rt: HostRuntime) -> Result<(), Fail> {
-    let alloc = rt.alloc();
-    for (at, pages, first, placed) in [
-        (16, 2, 1, true),
-        (1, 2, 1, false),
-        (1022, 2, 1, true),
-        (1023, 2, 1, false),
-        (2, 1, 0, false),
-    ] {
-        let mut tables = Vec::new(alloc);
-        tables.push(table(alloc, 5, 0, 0, 1)?)?;
-        let mut other = table(alloc, 6, at, 0, 1)?;
-        other.pages = pages;
-        tables.push(other)?;
-        assert_eq!(rt; are_placed(first, &tables), placed);
+fn tables_in_places(rt: HostRuntime) -> Result<(), NoMemory> {
+    for (at, pages, first, placed) in PLACES {
+        assert!(rt;
+            may_stand(rt.alloc(), *at, *pages, *first)? == *placed,
+            "{at}"
+        );
     }
-    let mut long = Vec::new(alloc);
-    long.push(table(alloc, 5, 0, 0, 2049)?)?;
+    Ok(())
+}
+
+// There are more words than two pages have.
+#[test]
+fn tables_of_many_words(rt: HostRuntime) -> Result<(), NoMemory> {
+    let mut long = Vec::new(rt.alloc());
+    long.push(table(rt.alloc(), 5, 0, 0, 2049)?)?;
     assert!(rt; !are_placed(1, &long));
     Ok(())
 }
 
-// What is told of a word: the number that stands there.
-fn number_at(pager: &Pager, core: &Core, seg: u16, word: u32) -> Option<u64>
-    requires frames { HasFrames pager.now core.now }
-    requires reads { Reads pager.now core.now }
+/// A pager and its core.
+#[derive(Drop)]
+struct Paged {
+    pager: Pager,
+    core: Core,
+}
+
+// No page is in a frame yet.
+fn laid(alloc: Global) -> Result<Paged, NoMemory>
+    ensures reads { IfOk result (λ p. Reads p.pager p.core) }
+    ensures frames { IfOk result (λ p. HasFrames p.pager p.core) }
+    ensures first { IfOk result (λ p. p.pager.first ≡ 1) }
+    ensures count { IfOk result (λ p. length p.pager.holders ≡ 2) }
 {
-    let word = pager.content(core, seg, word)?;
+    let tables = tables(alloc)?;
+    if !are_placed(1, &tables) {
+        return Err(NoMemory);
+    }
+    let pager = Pager::new(alloc, 1, 2, &tables)?;
+    let mut core = Core::new(alloc, 3)?;
+    pager.lay(&mut core);
+    Ok(Paged { pager, core })
+}
+
+// The number at a place of core.
+fn core_number(core: &Core, place: usize) -> Option<u64> {
+    let word = core.words().get(place)?;
     Some(word.value())
 }
 
-#[test]
-fn pages_in_turn(rt: HostRuntime) -> Result<(), Fail> {
-    let alloc = rt.alloc();
-    let tables = tables(alloc)?;
-    assert!(rt; are_placed(1, &tables));
-    let mut pager = Pager::new(alloc, 1, 2, &tables)?;
-    let mut core = Core::new(alloc, 3)?;
-    pager.lay(&mut core);
-    assert!(rt; core.peek(17) == Word::low(1));
-    for (seg, page, first, second, brought) in [
-        (5, 0, (6, 0), (6, 1024), Ok(())),
-        (6, 1, (5, 7), (5, 7), Ok(())),
-        (5, 1, (5, 7), (6, 1024), Err(Pinned)),
-        (5, 1, (5, 7), (5, 7), Ok(())),
-        (5, 0, (5, 1030), (5, 7), Ok(())),
-    ] {
-        assert!(rt; pager.has_page(seg, page));
-        assert_eq!(rt;
-            pager.bring(&mut core, seg, page, &references(first, second)),
-            brought
-        );
+// What is told of a word: the number that stands there.
+fn number_at(paged: &Paged, seg: u16, word: u32) -> Option<u64>
+    requires frames { HasFrames paged.now.pager paged.now.core }
+    requires reads { Reads paged.now.pager paged.now.core }
+{
+    let word = paged.pager.content(&paged.core, seg, word)?;
+    Some(word.value())
+}
+
+/// A segment and a page, two words that the step refers to, and whether the page is brought.
+type Bringing = (u16, u16, (u16, u32), (u16, u32), Result<(), Pinned>);
+
+const BRINGINGS: &[Bringing] = &[
+    (5, 0, (6, 0), (6, 1024), Ok(())),
+    (6, 1, (5, 7), (5, 7), Ok(())),
+    (5, 1, (5, 7), (6, 1024), Err(Pinned)),
+    (5, 1, (5, 7), (5, 7), Ok(())),
+    (5, 0, (5, 1030), (5, 7), Ok(())),
+];
+
+// Whether a page is brought so.
+fn brings(paged: &mut Paged, row: &Bringing) -> bool
+    requires frames { HasFrames paged.old.pager paged.old.core }
+    requires reads { Reads paged.old.pager paged.old.core }
+    ensures frames { HasFrames paged.new.pager paged.new.core }
+    ensures reads { Reads paged.new.pager paged.new.core }
+{
+    let (seg, page, first, second, due) = *row;
+    if !paged.pager.has_page(seg, page) {
+        return false;
     }
-    assert_eq!(rt; core.len(), 3072);
-    assert_eq!(rt; core.peek(1024).value(), 5000);
-    assert_eq!(rt; core.peek(2048).value(), 6024);
-    assert!(rt; pager.has_page(6, 1));
-    pager.set(&mut core, 6, 1025, Word::low(7));
-    assert!(rt; pager.has_page(5, 1));
-    pager.set(&mut core, 5, 1025, Word::low(8));
-    for (seg, word, number) in [
-        (5, 0, Some(5000)),
-        (5, 1024, Some(6024)),
-        (5, 1025, Some(8)),
-        (5, 1029, Some(6029)),
-        (5, 1030, Some(0)),
-        (5, 2048, None),
-        (6, 0, Some(60000)),
-        (6, 1025, Some(7)),
-        (6, 2047, Some(62047)),
-        (7, 0, None),
-    ] {
-        assert_eq!(rt; number_at(&pager, &core, seg, word), number);
+    let refs = references(first, second);
+    paged.pager.bring(&mut paged.core, seg, page, &refs) == due
+}
+
+fn brings_all(paged: &mut Paged) -> bool
+    requires frames { HasFrames paged.old.pager paged.old.core }
+    requires reads { Reads paged.old.pager paged.old.core }
+    ensures frames { HasFrames paged.new.pager paged.new.core }
+    ensures reads { Reads paged.new.pager paged.new.core }
+{
+    for row in BRINGINGS {
+        if !brings(paged, row) {
+            return false;
+        }
     }
-    Ok(())
+    true
+}
+
+// Whether there is such a word, which then has this number.
+fn sets(paged: &mut Paged, seg: u16, word: u32, number: u64) -> bool
+    requires frames { HasFrames paged.old.pager paged.old.core }
+    requires reads { Reads paged.old.pager paged.old.core }
+    ensures frames { HasFrames paged.new.pager paged.new.core }
+    ensures reads { Reads paged.new.pager paged.new.core }
+{
+    let Ok(page) = u16::try_from(word / 1024) else {
+        return false;
+    };
+    if !paged.pager.has_page(seg, page) {
+        return false;
+    }
+    paged
+        .pager
+        .set(&mut paged.core, seg, word, Word::low(number));
+    true
+}
+
+/// Words of segments, and the numbers that stand there.
+const WORDS: &[(u16, u32, Option<u64>)] = &[
+    (5, 0, Some(5000)),
+    (5, 1024, Some(6024)),
+    (5, 1025, Some(8)),
+    (5, 1029, Some(6029)),
+    (5, 1030, Some(0)),
+    (5, 2048, None),
+    (6, 0, Some(60000)),
+    (6, 1025, Some(7)),
+    (6, 2047, Some(62047)),
+    (7, 0, None),
+];
+
+fn has_words(paged: &Paged) -> bool
+    requires frames { HasFrames paged.now.pager paged.now.core }
+    requires reads { Reads paged.now.pager paged.now.core }
+{
+    for (seg, word, number) in WORDS {
+        if number_at(paged, *seg, *word) != *number {
+            return false;
+        }
+    }
+    true
+}
+
+// Whether core has three frames, of which the second and the third begin with these words.
+fn has_frames(core: &Core, first: u64, second: u64) -> bool {
+    core.len() == 3072
+        && core_number(core, 1024) == Some(first)
+        && core_number(core, 2048) == Some(second)
 }
 
 #[test]
-fn page_put_away(rt: HostRuntime) -> Result<(), Fail> {
-    let alloc = rt.alloc();
-    let tables = tables(alloc)?;
-    assert!(rt; are_placed(1, &tables));
-    let mut pager = Pager::new(alloc, 1, 2, &tables)?;
-    let mut core = Core::new(alloc, 3)?;
-    pager.lay(&mut core);
-    assert!(rt; pager.has_page(6, 1));
-    pager.set(&mut core, 6, 1025, Word::low(9));
-    assert!(rt; pager.has_page(6, 1));
-    let brought = pager.bring(&mut core, 6, 1, &Refs::new());
-    assert_eq!(rt; core.len(), 3072);
-    assert_eq!(rt; core.peek(1025).value(), 9);
-    assert!(rt; core.peek(17) != Word::low(1));
-    if let Ok(()) = brought {
-        pager.evict(&mut core, 1);
+fn pages_in_turn(rt: HostRuntime) -> Result<(), NoMemory> {
+    let mut paged = laid(rt.alloc())?;
+    assert!(rt; core_number(&paged.core, 17) == Some(1));
+    assert!(rt; brings_all(&mut paged));
+    assert!(rt; has_frames(&paged.core, 5000, 6024));
+    assert!(rt; sets(&mut paged, 6, 1025, 7));
+    assert!(rt; sets(&mut paged, 5, 1025, 8));
+    assert!(rt; has_words(&paged));
+    Ok(())
+}
+
+// Whether core has the changed word of the page in the first frame, whose page table word says so.
+fn is_in(core: &Core) -> bool {
+    core.len() == 3072 && core_number(core, 1025) == Some(9) && core_number(core, 17) != Some(1)
+}
+
+// Whether the page is in no frame, and has its changed word.
+fn is_away(paged: &Paged) -> bool
+    requires frames { HasFrames paged.now.pager paged.now.core }
+    requires reads { Reads paged.now.pager paged.now.core }
+{
+    paged.core.len() == 3072
+        && core_number(&paged.core, 17) == Some(1)
+        && number_at(paged, 6, 1025) == Some(9)
+}
+
+// Whether a page is brought with a word that was changed before, and put away with it.
+fn is_put_away(paged: &mut Paged) -> bool
+    requires frames { HasFrames paged.old.pager paged.old.core }
+    requires reads { Reads paged.old.pager paged.old.core }
+    requires first { paged.old.pager.first ≡ 1 }
+    requires count { length paged.old.pager.holders ≡ 2 }
+{
+    if !paged.pager.has_page(6, 1) {
+        return false;
     }
-    assert_eq!(rt; core.len(), 3072);
-    assert_eq!(rt; core.peek(17), Word::low(1));
-    assert_eq!(rt; number_at(&pager, &core, 6, 1025), Some(9));
+    paged.pager.set(&mut paged.core, 6, 1025, Word::low(9));
+    if !paged.pager.has_page(6, 1) {
+        return false;
+    }
+    let brought = paged.pager.bring(&mut paged.core, 6, 1, &Refs::new());
+    if brought.is_err() || !is_in(&paged.core) {
+        return false;
+    }
+    paged.pager.evict(&mut paged.core, 1);
+    is_away(paged)
+}
+
+#[test]
+fn page_put_away(rt: HostRuntime) -> Result<(), NoMemory> {
+    let mut paged = laid(rt.alloc())?;
+    assert!(rt; is_put_away(&mut paged));
     Ok(())
 }

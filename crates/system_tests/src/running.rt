@@ -1,5 +1,6 @@
 //! A folder of two segments, worked out by hand: a program that writes `hello` through a gate and stops.
 
+use crate::booting::read;
 use m36_boot::BootFault;
 use m36_dir::Catalog;
 use m36_model::StepRecord;
@@ -112,8 +113,8 @@ pub(crate) fn text_of(alloc: Global, lines: &[&str]) -> Result<Text, NoMemory> {
     Ok(text)
 }
 
-// The folder, with so many frames.
-fn booted(alloc: Global, frames: &str, gate: &str) -> Result<Super, BootFault> {
+// The catalog, with so many frames.
+fn catalog(alloc: Global, frames: &str, gate: &str) -> Result<Catalog, BootFault> {
     let lines = [
         frames,
         "work >udd>demo",
@@ -123,25 +124,25 @@ fn booted(alloc: Global, frames: &str, gate: &str) -> Result<Super, BootFault> {
         "start 4 main$start",
     ];
     let text = text_of(alloc, &lines)?;
-    let bytes = text.bytes();
-    if bytes.len() >= 4294967296 {
-        return Err(BootFault::NoMemory);
-    }
-    let Ok(catalog) = Catalog::read(alloc, bytes) else {
-        return Err(BootFault::NoMemory);
-    };
+    read(alloc, text.bytes())
+}
+
+// The words of the two files.
+fn files(alloc: Global) -> Result<Vec<Words>, NoMemory> {
     let mut files = Vec::new(alloc);
-    add(&mut files, words_of(alloc, &MAIN)?)?;
-    add(&mut files, words_of(alloc, &CON)?)?;
+    files.push(words_of(alloc, &MAIN)?)?;
+    files.push(words_of(alloc, &CON)?)?;
+    Ok(files)
+}
+
+// The folder, with so many frames.
+fn booted(alloc: Global, frames: &str, gate: &str) -> Result<Super, BootFault> {
+    let catalog = catalog(alloc, frames, gate)?;
+    let files = files(alloc)?;
     if files.len() != catalog.count() || !are_short(&files) {
         return Err(BootFault::NoMemory);
     }
     Super::boot(alloc, catalog, files)
-}
-
-fn add(files: &mut Vec<Words>, words: Words) -> Result<(), NoMemory> {
-    files.push(words)?;
-    Ok(())
 }
 
 const GATE: &str = "segment >sss con_ con_ gate rep 0 0 5";
@@ -195,23 +196,20 @@ fn behind(rt: &impl Abort, system: &mut Super) {
     assert!(rt; system.back(1) == BackAnswer::Unable);
 }
 
-// The folder, with so many frames.
-fn run(rt: &impl Abort, alloc: Global, frames: &str) {
-    match booted(alloc, frames, GATE) {
-        Ok(mut system) => {
-            if turns(rt, &mut system) {
-                behind(rt, &mut system);
-            }
-        }
-        Err(fault) => assert_eq!(rt; fault, BootFault::NoMemory),
+// Takes all turns, and looks at what stands behind them.
+fn run(rt: &impl Abort, system: &mut Super) {
+    if turns(rt, system) {
+        behind(rt, system);
     }
 }
 
 #[test]
-fn writes_and_stops(rt: HostRuntime) {
+fn writes_and_stops(rt: HostRuntime) -> Result<(), BootFault> {
     for frames in ["frames 24", "frames 400"] {
-        run(&rt, rt.alloc(), frames);
+        let mut system = booted(rt.alloc(), frames, GATE)?;
+        run(&rt, &mut system);
     }
+    Ok(())
 }
 
 // Whether a record is that of a turn.
@@ -247,18 +245,20 @@ fn both(rt: &impl Abort, one: &mut Super, told: &mut StepRecord, other: &mut Sup
     }
 }
 
-#[test]
-fn tells_steps_in_one_record(rt: HostRuntime) {
-    let Ok(mut one) = booted(rt.alloc(), "frames 24", GATE) else {
-        return;
-    };
-    let Ok(mut other) = booted(rt.alloc(), "frames 24", GATE) else {
-        return;
-    };
+// Takes all turns of both systems, which are the same.
+fn agree(rt: &impl Abort, one: &mut Super, other: &mut Super) {
     let mut told = one.untold();
     for _ in 0..19 {
-        if !both(&rt, &mut one, &mut told, &mut other) {
+        if !both(rt, one, &mut told, other) {
             return;
         }
     }
+}
+
+#[test]
+fn tells_steps_in_one_record(rt: HostRuntime) -> Result<(), BootFault> {
+    let mut one = booted(rt.alloc(), "frames 24", GATE)?;
+    let mut other = booted(rt.alloc(), "frames 24", GATE)?;
+    agree(&rt, &mut one, &mut other);
+    Ok(())
 }
