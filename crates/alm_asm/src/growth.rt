@@ -369,9 +369,36 @@ fn take_line(
     Ok(())
 }
 
+// The refusal of the first line with which one of these sections has too many words, behind what has been given.
+#[tactic(auto, using(alm_lines::proofs::Rooms::rooms), unfolding(crate::specs::Growth::growth_refusal))]
+fn take_lines(
+    alloc: Global,
+    text: &[u8],
+    symbols: &Symbols,
+    lines: &[Line36],
+    growth: &mut Growth,
+) -> Result<Option<Refusal>, NoMemory>
+    requires count { length lines.now < 2 ^ 32 }
+    requires definition { growth.old.definition ≤ section_limit }
+    requires symbol { growth.old.symbol ≤ section_limit }
+    ensures { IfOk result (λ r.
+        r ≡ growth_refusal text.now symbols.now growth.old start lines.now) }
+{
+    let mut spot = Spot::start();
+    let mut rest = lines;
+    while let [line, more @ ..] = rest {
+        take_line(text, symbols, spot, line, growth)?;
+        spot = below(alloc, text, spot, line)?;
+        if growth.is_over(spot) {
+            return Ok(Some(refusal_at(line, line.start as u64, Code::E8)));
+        }
+        rest = more;
+    }
+    Ok(None)
+}
+
 /// The refusal of the first line with which one of these sections has too many words. The error is want of
 /// memory alone.
-#[tactic(auto, using(alm_lines::proofs::Rooms::rooms), unfolding(crate::specs::Growth::growth_refusal))]
 pub fn growth_refusal(
     alloc: Global,
     text: &[u8],
@@ -382,15 +409,5 @@ pub fn growth_refusal(
     ensures { IfOk result (λ r. r ≡ growth_refusal text.now symbols.now at_first start lines.now) }
 {
     let mut growth = Growth::start(alloc);
-    let mut spot = Spot::start();
-    let mut rest = lines;
-    while let [line, more @ ..] = rest {
-        take_line(text, symbols, spot, line, &mut growth)?;
-        spot = below(alloc, text, spot, line)?;
-        if growth.is_over(spot) {
-            return Ok(Some(refusal_at(line, line.start as u64, Code::E8)));
-        }
-        rest = more;
-    }
-    Ok(None)
+    take_lines(alloc, text, symbols, lines, &mut growth)
 }

@@ -1,8 +1,8 @@
 use Rattle.std.proofs.Common.{◌≡◌, ◌≤◌, length}
 use Rattle.obj36_parts.specs.ObjectSegment.{section_limit}
 use Rattle.alm_lines.specs.Spots.{start, HasRoom}
-use Rattle.alm_asm.specs.Growth.{at_first, growth_refusal}
-use Rattle.alm_asm.proofs.growth.growth_refusal.Given as goal
+use Rattle.alm_asm.specs.Growth.{growth_refusal}
+use Rattle.alm_asm.proofs.growth.take_lines.Given as goal
 
 -- what the rest are refused for is what all are refused for
 abbrev pub invariant-loop-rest : goal.invariant-loop-rest
@@ -10,7 +10,7 @@ invariant-loop-rest l = record {
   room : HasRoom (length l.rest) l.spot;
   definition : l.growth.definition ≤ section_limit;
   symbol : l.growth.symbol ≤ section_limit;
-  whole : growth_refusal l.text l.symbols l.growth l.spot l.rest ≡ growth_refusal l.text l.symbols at_first start l.lines;
+  whole : growth_refusal l.text l.symbols l.growth l.spot l.rest ≡ growth_refusal l.text l.symbols l.initial.growth start l.lines;
 }
 
 abbrev pub decreases-loop-rest : goal.decreases-loop-rest
