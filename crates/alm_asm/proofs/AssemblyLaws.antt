@@ -1,24 +1,24 @@
 -- What the assembler answers.
-use Rattle.std.proofs.Common.{◌≡◌, ℕ, List, [], Option, Some, None, Result, Err, sym, ap, ◌∙◌}
+use Rattle.std.proofs.Common.{◌≡◌, ℕ, List, [], Option, Some, None, Result, Ok, Err, refl, sym, ap, subst, ◌∙◌}
 use Rattle.alm_parse.specs.SourceFields.{Source}
 use Rattle.alm_parse.specs.declared.fault.AlmFault.{AlmFault}
 use Rattle.alm_parse.specs.declared.fault.AlmFault.TheVariants.{E1, E2, E3, E4, E5, E6, E7, E8, NoMemory}
-use Rattle.alm_parse.specs.Sources.{Refuses}
+use Rattle.alm_parse.specs.Sources.{Refuses, ParseSays}
 use Rattle.obj36_parts.specs.PartsFields.{PartsFields}
 use Rattle.obj36_parts.specs.ObjectSegment.{is_well_formed}
 use Rattle.alm_parse.specs.declared.line.Line36.{Line36}
-use Rattle.alm_lines.specs.declared.sum.Sum.{Sum}
 use Rattle.alm_lines.specs.Spots.{start}
 use Rattle.alm_lines.specs.Layout.{layout_refusal}
 use Rattle.alm_lines.specs.Refusals.{fault_of, sooner}
-use Rattle.alm_asm.specs.LineRefusals.{lines_refusal}
+use Rattle.alm_asm.specs.Links.{links_from}
+use Rattle.alm_asm.specs.LineRefusals.{lines_refusal, with_links}
 use Rattle.alm_asm.specs.Growth.{at_first, growth_refusal}
 use Rattle.alm_asm.specs.declared.tables.Tables.{Tables}
-use Rattle.alm_asm.specs.Assembly.{tables_of, parts_with, parts_of, refusal_of, last_line, made, assembled_by, assembled}
+use Rattle.alm_asm.specs.Assembly.{tables_of, refusal_in, refusal_of, unless_refused, parts_with, last_line, made, assembled_by, assembled}
 use Rattle.alm_lines.specs.declared.refusal.Refusal.{Refusal}
 
 -- a fault is told where the definition gives it
-pub refuses : (f : AlmFault) (definition : Result PartsFields AlmFault) → definition ≡ Err f → Refuses f definition
+pub refuses : {A : Type 0} (f : AlmFault) (definition : Result A AlmFault) → definition ≡ Err f → Refuses f definition
 refuses (E1 line column) definition e = e
 refuses (E2 line column) definition e = e
 refuses (E3 line column) definition e = e
@@ -29,40 +29,83 @@ refuses (E7 line column) definition e = e
 refuses (E8 line column) definition e = e
 refuses NoMemory definition e = tt
 
--- a refusal of the source is told
-pub tells_refusal : (source : Source) (refusal : Refusal) → refusal_of source ≡ Some refusal → Refuses (fault_of refusal) (assembled source)
-unfolding assembled
-tells_refusal source refusal e = refuses (fault_of refusal) (assembled_by source (refusal_of source)) (ap (assembled_by source) e)
+-- ---- tables
 
--- ---- a source that is not refused
+refusal_found : (text : List ℕ) (lines : List Line36) (tables : Tables) (found refused : Option Refusal)
+    → tables ≡ with_links (tables_of text lines) [] → found ≡ layout_refusal text None [] start lines
+    → refused ≡ sooner (sooner found (lines_refusal text (with_links tables (links_from text tables.symbols tables.links start lines)) [] start lines)) (growth_refusal text tables.symbols at_first start lines)
+    → refused ≡ refusal_in text lines
+unfolding tables_of
+refusal_found text lines tables found refused t f r =
+    r ∙ (λ i. sooner (sooner (f i) (lines_refusal text (with_links (t i) (links_from text (t i).symbols (t i).links start lines)) [] start lines)) (growth_refusal text (t i).symbols at_first start lines))
 
--- what is refused of a text with these lines
-refusal_in : List ℕ → List Line36 → Option Refusal
-refusal_in text lines =
-    sooner
-    (sooner (layout_refusal text None [] start lines) (lines_refusal text (tables_of text lines) [] start lines))
-    (growth_refusal text (tables_of text lines).symbols at_first start lines)
+-- the links complete the tables
+tables_found : (text : List ℕ) (lines : List Line36) (tables later : Tables)
+    → tables ≡ with_links (tables_of text lines) [] → later ≡ with_links tables (links_from text tables.symbols tables.links start lines)
+    → later ≡ tables_of text lines
+unfolding tables_of
+tables_found text lines tables later t l = l ∙ (λ i. with_links (t i) (links_from text (t i).symbols (t i).links start lines))
 
-pub none_refused : (source : Source) (text : List ℕ) (lines : List Line36) (first grown : Option Refusal) (symbols : List (List ℕ × Sum))
-    → text ≡ source.text → lines ≡ source.lines
-    → first ≡ sooner (layout_refusal text None [] start lines) (lines_refusal text (tables_of text lines) [] start lines)
-    → symbols ≡ (tables_of text lines).symbols → grown ≡ growth_refusal text symbols at_first start lines → sooner first grown ≡ None
-    → refusal_of source ≡ None
-unfolding refusal_of refusal_in
-none_refused source text lines first grown symbols t l f s g none =
-    let growth : grown ≡ growth_refusal text (tables_of text lines).symbols at_first start lines =
-    g ∙ ap (λ (known : List (List ℕ × Sum)). growth_refusal text known at_first start lines) s in
-    let here : refusal_in text lines ≡ None = (λ i. sooner (sym f i) (sym growth i)) ∙ none in
-    (λ i. refusal_in (sym t i) (sym l i)) ∙ here
+pub tells_tables : (text : List ℕ) (lines : List Line36) (tables later : Tables) (found refused : Option Refusal)
+    → tables ≡ with_links (tables_of text lines) [] → found ≡ layout_refusal text None [] start lines
+    → refused ≡ sooner (sooner found (lines_refusal text (with_links tables (links_from text tables.symbols tables.links start lines)) [] start lines)) (growth_refusal text tables.symbols at_first start lines)
+    → refused ≡ None → later ≡ with_links tables (links_from text tables.symbols tables.links start lines)
+    → unless_refused text lines (refusal_in text lines) ≡ Ok later
+tells_tables text lines tables later found refused t f r none l =
+    ap (unless_refused text lines) (sym (refusal_found text lines tables found refused t f r) ∙ none)
+    ∙ ap (λ (whole : Tables). Ok whole) (sym (tables_found text lines tables later t l))
 
--- its object is that of its parts
-pub made_is : (source : Source) (text : List ℕ) (lines : List Line36) (tables : Tables) (parts : PartsFields) (number : ℕ)
-    → text ≡ source.text → lines ≡ source.lines → refusal_of source ≡ None
-    → tables ≡ tables_of text lines → parts ≡ parts_with text tables lines → number ≡ last_line 1 lines
-    → made parts number (is_well_formed parts) ≡ assembled source
-unfolding assembled
-made_is source text lines tables parts number t l none tab p n =
-    let whole : parts ≡ parts_of source =
-    p ∙ ap (λ (known : Tables). parts_with text known lines) tab ∙ (λ i. parts_with (t i) (tables_of (t i) (l i)) (l i)) in
-    let last : number ≡ last_line 1 source.lines = n ∙ ap (last_line 1) l in
-    (λ i. made (whole i) (last i) (is_well_formed (whole i))) ∙ sym (ap (assembled_by source) none)
+pub tells_refusal : (text : List ℕ) (lines : List Line36) (tables : Tables) (found refused : Option Refusal) (refusal : Refusal) (fault : AlmFault)
+    → tables ≡ with_links (tables_of text lines) [] → found ≡ layout_refusal text None [] start lines
+    → refused ≡ sooner (sooner found (lines_refusal text (with_links tables (links_from text tables.symbols tables.links start lines)) [] start lines)) (growth_refusal text tables.symbols at_first start lines)
+    → refused ≡ Some refusal → fault ≡ fault_of refusal
+    → Refuses fault (unless_refused text lines (refusal_in text lines))
+tells_refusal text lines tables found refused refusal fault t f r some is =
+    refuses fault (unless_refused text lines (refusal_in text lines))
+    (ap (unless_refused text lines) (sym (refusal_found text lines tables found refused t f r) ∙ some) ∙ ap (λ (why : AlmFault). Err why) (sym is))
+
+-- ---- the object of tables
+
+-- the object of tables, or why there are none
+made_by : List ℕ → List Line36 → Result Tables AlmFault → Result PartsFields AlmFault
+made_by text lines (Ok tables) =
+    made (parts_with text tables lines) (last_line 1 lines) (is_well_formed (parts_with text tables lines))
+made_by text lines (Err fault) = Err fault
+
+by_refusal : (source : Source) (refused : Option Refusal)
+    → made_by source.text source.lines (unless_refused source.text source.lines refused) ≡ assembled_by source refused
+unfolding made_by
+by_refusal source None = refl
+by_refusal source (Some refusal) = refl
+
+made_all : (source : Source) (text : List ℕ) (lines : List Line36) → text ≡ source.text → lines ≡ source.lines
+    → made_by text lines (unless_refused text lines (refusal_in text lines)) ≡ assembled source
+unfolding assembled refusal_of
+made_all source text lines t l =
+    (λ i. made_by (t i) (l i) (unless_refused (t i) (l i) (refusal_in (t i) (l i)))) ∙ by_refusal source (refusal_of source)
+
+-- why there are no tables is why there is no object
+no_tables : (text : List ℕ) (lines : List Line36) (f : AlmFault) (definition : Result Tables AlmFault)
+    → Refuses f definition → Refuses f (made_by text lines definition)
+unfolding made_by
+no_tables text lines (E1 line column) definition e = ap (made_by text lines) e
+no_tables text lines (E2 line column) definition e = ap (made_by text lines) e
+no_tables text lines (E3 line column) definition e = ap (made_by text lines) e
+no_tables text lines (E4 line column) definition e = ap (made_by text lines) e
+no_tables text lines (E5 line column) definition e = ap (made_by text lines) e
+no_tables text lines (E6 line column) definition e = ap (made_by text lines) e
+no_tables text lines (E7 line column) definition e = ap (made_by text lines) e
+no_tables text lines (E8 line column) definition e = ap (made_by text lines) e
+no_tables text lines NoMemory definition e = tt
+
+pub tells_fault : (source : Source) (text : List ℕ) (lines : List Line36) (f : AlmFault) → text ≡ source.text → lines ≡ source.lines
+    → Refuses f (unless_refused text lines (refusal_in text lines)) → Refuses f (assembled source)
+tells_fault source text lines f t l e =
+    subst (Refuses f) (made_all source text lines t l) (no_tables text lines f (unless_refused text lines (refusal_in text lines)) e)
+
+pub tells_object : (source : Source) (text : List ℕ) (lines : List Line36) (tables : Tables) (result : Result PartsFields AlmFault)
+    → text ≡ source.text → lines ≡ source.lines → unless_refused text lines (refusal_in text lines) ≡ Ok tables
+    → ParseSays result (made (parts_with text tables lines) (last_line 1 lines) (is_well_formed (parts_with text tables lines))) → ParseSays result (assembled source)
+unfolding made_by
+tells_object source text lines tables result t l e says =
+    subst (ParseSays result) (ap (made_by text lines) (sym e) ∙ made_all source text lines t l) says

@@ -95,14 +95,22 @@ parts_of source = parts_with source.text (tables_of source.text source.lines) so
 -- ---- the refusal
 
 -- the first refusal in the order of the text, if there is one
-unfoldable pub refusal_of : Source → Option Refusal
-refusal_of source =
-    let tables = tables_of source.text source.lines in
+abbrev pub refusal_in : List ℕ → List Line36 → Option Refusal
+refusal_in text lines =
+    let tables = tables_of text lines in
     sooner
     (sooner
-    (layout_refusal source.text None [] start source.lines)
-    (lines_refusal source.text tables [] start source.lines))
-    (growth_refusal source.text tables.symbols at_first start source.lines)
+    (layout_refusal text None [] start lines)
+    (lines_refusal text tables [] start lines))
+    (growth_refusal text tables.symbols at_first start lines)
+
+unfoldable pub refusal_of : Source → Option Refusal
+refusal_of source = refusal_in source.text source.lines
+
+-- the tables of lines, unless one is refused
+abbrev pub unless_refused : List ℕ → List Line36 → Option Refusal → Result Tables AlmFault
+unless_refused text lines (Some refusal) = Err (fault_of refusal)
+unless_refused text lines None = Ok (tables_of text lines)
 
 -- the number of the last line, or 1
 unfoldable pub last_line : ℕ → List Line36 → ℕ

@@ -15,6 +15,7 @@ pub mod Marks
 pub mod Definitions
 pub mod LineRefusals
 pub mod Growth
+pub mod Parts
 pub mod Assembly
 pub mod Laws
 pub mod Assembles

@@ -1,20 +1,24 @@
 //! Objects of lines.
 
 ghost use Rattle.std.specs.Prelude.{ℕ, [], ◌≡◌, ◌+◌, ◌%◌, ◌^◌, ◌<◌, length};
-ghost use Rattle.std.specs.Prelude.{Option, None, OnOk, IfOk};
+ghost use Rattle.std.specs.Prelude.{Option, None, Ok, OnOk, IfOk, true};
 ghost use Rattle.alm_parse.specs.Sources.{ParseSays};
 ghost use Rattle.alm_lines.specs.Spots.{start, HasRoom};
 ghost use Rattle.obj36_parts.specs.declared.section.Section.TheVariants.{Text};
 ghost use Rattle.obj36_parts.specs.ObjectSegment.{is_well_formed};
 ghost use Rattle.alm_lines.specs.Layout.{layout_refusal};
 ghost use Rattle.alm_lines.specs.Refusals.{sooner};
-ghost use Rattle.alm_asm.specs.LineRefusals.{lines_refusal};
+ghost use Rattle.alm_asm.specs.LineRefusals.{lines_refusal, with_links};
+ghost use Rattle.alm_asm.specs.Links.{links_from};
+ghost use Rattle.alm_asm.specs.Growth.{at_first, growth_refusal};
 ghost use Rattle.alm_asm.specs.Words.{words_from};
 ghost use Rattle.alm_asm.specs.Marks.{marks_from};
+ghost use Rattle.alm_asm.specs.Definitions.{definitions_from};
+ghost use Rattle.alm_asm.specs.Parts.{parts_by};
 ghost use Rattle.alm_asm.specs.Assembles.{Assembles};
 ghost use Rattle.alm_asm.specs.Assembly.{made, first_link, tables_of, bound_by, bound_from};
 ghost use Rattle.alm_asm.specs.Assembly.{static_section, evened, parts_with, last_line};
-ghost use Rattle.alm_asm.specs.Assembly.{assembled};
+ghost use Rattle.alm_asm.specs.Assembly.{refusal_in, unless_refused, assembled};
 
 use crate::definitions::definitions_of;
 use crate::growth::growth_refusal;
@@ -28,7 +32,7 @@ use alm_lines::refusal::{Refusal, fault_of, sooner};
 use alm_lines::spot::{Spot, below, end_of};
 use alm_parse::{AlmFault, Deed, Line36, Lines36};
 use m36_word::{NoMemory, Words};
-use obj36::{Links, Object, Parts, Relocs, Section};
+use obj36::{Defs, Links, Object, Parts, Relocs, Section};
 use obj36_parts::sections::{HEAD_WORDS, push_evening, version_of};
 use std::alloc::Global;
 
@@ -42,8 +46,7 @@ fn first_link(ending: Spot) -> Count
     Count::of(HEAD_WORDS as u128 + (ending.inner + ending.inner % 2))
 }
 
-/// The tables of lines, of which only the symbols are said where something is refused; and the first refusal of a
-/// symbol's definition, of a section's length or of a line.
+/// The tables of lines, with no links yet; and the first refusal of a symbol's definition or of a section's length.
 #[derive(Drop)]
 struct Found {
     tables: Tables,
@@ -53,28 +56,69 @@ struct Found {
 #[tactic(auto, unfolding(crate::specs::Assembly::tables_of))]
 fn found_in(alloc: Global, text: &[u8], lines: &[Line36]) -> Result<Found, NoMemory>
     requires { length lines.now < 2 ^ 32 }
-    ensures symbols { IfOk result (λ found.
-        found.tables.symbols ≡ (tables_of text.now lines.now).symbols) }
     ensures tables { IfOk result (λ found.
-        found.refused ≡ None → found.tables ≡ tables_of text.now lines.now) }
+        found.tables ≡ with_links (tables_of text.now lines.now) []) }
     ensures refused { IfOk result (λ found.
-        found.refused
-        ≡ sooner (layout_refusal text.now None [] start lines.now)
-        (lines_refusal text.now (tables_of text.now lines.now) [] start lines.now)) }
+        found.refused ≡ layout_refusal text.now None [] start lines.now) }
 {
-    let layout = layout_of(alloc, text, lines)?;
     let ending = end_of(alloc, text, lines)?;
-    let mut tables = Tables {
+    let layout = layout_of(alloc, text, lines)?;
+    let tables = Tables {
         symbols: layout.symbols,
         links: Links::new(alloc),
         first_link: first_link(ending),
         uses_outer: ending.uses_outer,
     };
-    let refused = lines_refusal(alloc, text, &mut tables, lines)?;
     Ok(Found {
         tables,
-        refused: sooner(layout.refused, refused),
+        refused: layout.refused,
     })
+}
+
+// The first refusal, behind that of the layout; and the links of the lines where there is none.
+fn first_refusal(
+    alloc: Global,
+    text: &[u8],
+    found: Option<Refusal>,
+    tables: &mut Tables,
+    lines: &[Line36],
+) -> Result<Option<Refusal>, NoMemory>
+    requires { length lines.now < 2 ^ 32 }
+    ensures refused { IfOk result (λ r.
+        r
+        ≡ sooner
+        (sooner found
+        (lines_refusal text.now
+        (with_links tables.old
+        (links_from text.now tables.old.symbols tables.old.links start lines.now))
+        [] start lines.now))
+        (growth_refusal text.now tables.old.symbols at_first start lines.now)) }
+    ensures links { IfOk result (λ r.
+        r ≡ None
+        → tables.new
+        ≡ with_links tables.old
+        (links_from text.now tables.old.symbols tables.old.links start lines.now)) }
+{
+    let refused = lines_refusal(alloc, text, tables, lines)?;
+    let grown = growth_refusal(alloc, text, &tables.symbols, lines)?;
+    Ok(sooner(sooner(found, refused), grown))
+}
+
+// The tables of lines, or the first refusal.
+fn tables_in(alloc: Global, text: &[u8], lines: &[Line36]) -> Result<Tables, AlmFault>
+    requires { length lines.now < 2 ^ 32 }
+    ensures { ParseSays result
+        (unless_refused text.now lines.now (refusal_in text.now lines.now)) }
+{
+    let Found {
+        mut tables,
+        refused,
+    } = found_in(alloc, text, lines)?;
+    match first_refusal(alloc, text, refused, &mut tables, lines) {
+        Ok(None) => Ok(tables),
+        Ok(Some(refusal)) => Err(fault_of(refusal)),
+        Err(_) => Err(AlmFault::NoMemory),
+    }
 }
 
 fn bound_by(spot: Spot, bound: u32, deed: Deed) -> u32
@@ -178,8 +222,112 @@ fn relocations_of(
     Ok(marks)
 }
 
+/// The words of the text, and the static words.
+#[derive(Drop)]
+struct Placed {
+    text: Words,
+    statics: Words,
+}
+
+fn placed_in(
+    alloc: Global,
+    text: &[u8],
+    tables: &Tables,
+    lines: &[Line36],
+) -> Result<Placed, NoMemory>
+    requires { length lines.now < 2 ^ 32 }
+    ensures text { IfOk result (λ placed.
+        placed.text ≡ words_from text.now tables.now Text [] start lines.now) }
+    ensures statics { IfOk result (λ placed.
+        placed.statics
+        ≡ evened tables.now.uses_outer
+        (words_from text.now tables.now (static_section tables.now.uses_outer) [] start
+        lines.now)) }
+{
+    let words = words_in(alloc, text, tables, Section::Text, lines)?;
+    let statics = statics_of(alloc, text, tables, lines)?;
+    Ok(Placed {
+        text: words,
+        statics,
+    })
+}
+
+/// The definitions and the relocations.
+#[derive(Drop)]
+struct Noted {
+    definitions: Defs,
+    relocations: Relocs,
+}
+
+fn noted_in(
+    alloc: Global,
+    text: &[u8],
+    tables: &Tables,
+    lines: &[Line36],
+) -> Result<Noted, NoMemory>
+    requires { length lines.now < 2 ^ 32 }
+    ensures definitions { IfOk result (λ noted.
+        noted.definitions ≡ definitions_from text.now tables.now.symbols [] lines.now) }
+    ensures relocations { IfOk result (λ noted.
+        noted.relocations
+        ≡ marks_from text.now tables.now.symbols (static_section tables.now.uses_outer)
+        (marks_from text.now tables.now.symbols Text [] start lines.now) start lines.now) }
+{
+    let definitions = definitions_of(alloc, text, &tables.symbols, lines)?;
+    let relocations = relocations_of(alloc, text, tables, lines)?;
+    Ok(Noted {
+        definitions,
+        relocations,
+    })
+}
+
+/// All that lines give by their tables.
+#[derive(Drop)]
+struct Contents {
+    placed: Placed,
+    noted: Noted,
+    entry_bound: u32,
+}
+
 // The parts, of which the tables' links become part.
+fn parts_of(tables: Tables, contents: Contents) -> Parts
+    requires { contents.entry_bound < 2 ^ 18 }
+    ensures { result ≡ parts_by tables contents.placed contents.noted contents.entry_bound }
+{
+    Parts {
+        text: contents.placed.text,
+        statics: contents.placed.statics,
+        definitions: contents.noted.definitions,
+        links: tables.links,
+        relocations: contents.noted.relocations,
+        entry_bound: contents.entry_bound,
+        version: version_of(tables.uses_outer),
+    }
+}
+
 #[tactic(auto, unfolding(crate::specs::Assembly::parts_with))]
+fn contents_of(
+    alloc: Global,
+    text: &[u8],
+    tables: &Tables,
+    lines: &[Line36],
+) -> Result<Contents, NoMemory>
+    requires { length lines.now < 2 ^ 32 }
+    ensures bound { IfOk result (λ contents. contents.entry_bound < 2 ^ 18) }
+    ensures parts { IfOk result (λ contents.
+        parts_by tables.now contents.placed contents.noted contents.entry_bound
+        ≡ parts_with text.now tables.now lines.now) }
+{
+    let entry_bound = bound_of(alloc, text, lines)?;
+    let placed = placed_in(alloc, text, tables, lines)?;
+    let noted = noted_in(alloc, text, tables, lines)?;
+    Ok(Contents {
+        placed,
+        noted,
+        entry_bound,
+    })
+}
+
 fn parts_with(
     alloc: Global,
     text: &[u8],
@@ -189,21 +337,10 @@ fn parts_with(
     requires { length lines.now < 2 ^ 32 }
     ensures { IfOk result (λ parts. parts ≡ parts_with text.now tables lines.now) }
 {
-    let words = words_in(alloc, text, &tables, Section::Text, lines)?;
-    let statics = statics_of(alloc, text, &tables, lines)?;
-    let definitions = definitions_of(alloc, text, &tables.symbols, lines)?;
-    let relocations = relocations_of(alloc, text, &tables, lines)?;
-    let entry_bound = bound_of(alloc, text, lines)?;
-    let version = version_of(tables.uses_outer);
-    Ok(Parts {
-        text: words,
-        statics,
-        definitions,
-        links: tables.links,
-        relocations,
-        entry_bound,
-        version,
-    })
+    match contents_of(alloc, text, &tables, lines) {
+        Ok(contents) => Ok(parts_of(tables, contents)),
+        Err(fault) => Err(fault),
+    }
 }
 
 #[tactic(auto, unfolding(crate::specs::Assembly::last_line))]
@@ -219,31 +356,50 @@ fn last_line(lines: &[Line36]) -> u32
     number
 }
 
+// The object of the parts of one.
+fn object_made(alloc: Global, parts: Parts) -> Result<Object, AlmFault>
+    requires { is_well_formed parts ≡ true }
+    ensures { ParseSays result (Ok parts) }
+{
+    Ok(Object::new(alloc, parts)?)
+}
+
 // The object of parts, if they are those of one.
 fn object_of(alloc: Global, parts: Parts, number: u32) -> Result<Object, AlmFault>
     ensures { ParseSays result (made parts number (is_well_formed parts)) }
 {
-    if !parts.is_object() {
-        return Err(AlmFault::E8(number, 1));
+    if parts.is_object() {
+        object_made(alloc, parts)
+    } else {
+        Err(AlmFault::E8(number, 1))
     }
-    Ok(Object::new(alloc, parts)?)
+}
+
+// The object of lines with these tables.
+fn object_with(
+    alloc: Global,
+    text: &[u8],
+    tables: Tables,
+    lines: &[Line36],
+) -> Result<Object, AlmFault>
+    requires { length lines.now < 2 ^ 32 }
+    ensures { ParseSays result
+        (made (parts_with text.now tables lines.now) (last_line 1 lines.now)
+        (is_well_formed (parts_with text.now tables lines.now))) }
+{
+    let parts = parts_with(alloc, text, tables, lines)?;
+    object_of(alloc, parts, last_line(lines))
 }
 
 // What lines mean: the parts of an object, or the first refusal.
-#[tactic(auto, using(crate::proofs::AssemblyLaws::tells_refusal), unfolding(crate::specs::Assembly::assembled, crate::specs::Assembly::refusal_of))]
 fn meaning(alloc: Global, lines: &Lines36) -> Result<Object, AlmFault>
     ensures { ParseSays result (assembled lines.now) }
 {
     let text = lines.text();
     let rows = lines.lines();
-    let found = found_in(alloc, text, rows)?;
-    let grown = growth_refusal(alloc, text, &found.tables.symbols, rows)?;
-    match sooner(found.refused, grown) {
-        Some(refusal) => Err(fault_of(refusal)),
-        None => {
-            let parts = parts_with(alloc, text, found.tables, rows)?;
-            object_of(alloc, parts, last_line(rows))
-        }
+    match tables_in(alloc, text, rows) {
+        Ok(tables) => object_with(alloc, text, tables, rows),
+        Err(fault) => Err(fault),
     }
 }
 

@@ -1,0 +1,19 @@
+-- The parts of an object, of what lines give.
+use Rattle.std.specs.Prelude.{ℕ}
+use Rattle.obj36_parts.specs.PartsFields.{PartsFields}
+use Rattle.obj36_parts.specs.ObjectSegment.{version_of}
+use Rattle.alm_asm.specs.declared.tables.Tables.{Tables}
+use Rattle.alm_asm.specs.declared.assembly.Placed.{Placed}
+use Rattle.alm_asm.specs.declared.assembly.Noted.{Noted}
+
+abbrev pub parts_by : Tables → Placed → Noted → ℕ → PartsFields
+parts_by tables placed noted entry_bound =
+    record {
+      text = placed.text;
+      statics = placed.statics;
+      definitions = noted.definitions;
+      links = tables.links;
+      relocations = noted.relocations;
+      entry_bound = entry_bound;
+      version = version_of tables.uses_outer;
+    }
