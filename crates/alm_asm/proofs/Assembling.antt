@@ -1,5 +1,5 @@
 -- The parts that are given are the object of the lines.
-use Rattle.std.proofs.Common.{◌≡◌, ℕ, ◌%◌, ◌^◌, ◌<◌, ◌≤◌, Bool, true, false, eqb, List, [], ◌∷◌, ◌++◌, length, Option, Some, None, Result, Ok, Err, refl, sym, ap, ◌∙◌, subst, arith}
+use Rattle.std.proofs.Common.{◌≡◌, ℕ, ◌+◌, ◌%◌, ◌^◌, ◌<◌, ◌≤◌, Bool, true, false, cond, eqb, List, [], ◌∷◌, ◌++◌, length, Option, Some, None, Result, Ok, Err, refl, sym, ap, ◌∙◌, subst, arith}
 use Rattle.std.specs.Prelude.{IfOk}
 use Rattle.alm_parse.specs.SourceFields.{Source}
 use Rattle.alm_parse.specs.declared.line.Line36.{Line36}
@@ -7,13 +7,13 @@ use Rattle.alm_parse.specs.declared.fault.AlmFault.{AlmFault}
 use Rattle.alm_parse.specs.Sources.{ParseSays}
 use Rattle.obj36_parts.specs.declared.section.Section.TheVariants.{Text}
 use Rattle.obj36_parts.specs.PartsFields.{PartsFields}
-use Rattle.obj36_parts.specs.ObjectSegment.{version_of, is_well_formed}
+use Rattle.obj36_parts.specs.ObjectSegment.{is_newer_version, version_of, evened, head_words, is_well_formed}
 use Rattle.obj36_parts.proofs.Formed.{is_formed}
 use Rattle.obj36_parts.proofs.LengthLaws.{length-words_of, least_size}
 use Rattle.alm_lines.specs.Spots.{start, count_in, end_of}
 use Rattle.alm_asm.specs.Words.{words_from}
 use Rattle.alm_lines.specs.Layout.{symbols_from}
-use Rattle.alm_asm.specs.Assembly.{tables_of, static_section, parts_with, parts_of, refusal_of, last_line, made, assembled_by, assembled}
+use Rattle.alm_asm.specs.Assembly.{first_link, tables_of, static_section, parts_with, parts_of, refusal_of, last_line, made, assembled_by, assembled}
 use Rattle.alm_asm.specs.Assembles.{evened_count, Assembles}
 use Rattle.alm_lines.specs.SpotFields.{Spot}
 use Rattle.alm_asm.specs.declared.tables.Tables.{Tables}
@@ -45,6 +45,13 @@ bound_in_text text tables lines above line others split small =
     let least : spot.text < 2 ^ 18 = omega arith in
     omega arith
 
+-- where operands find the links, and where the object has them
+links_at_by : (newer : Bool) (ending : Spot) (statics : List ℕ) → ending.uses_outer ≡ newer
+    → length statics ≡ evened_count newer (count_in (static_section newer) ending)
+    → first_link ending ≡ head_words + length (cond (is_newer_version (version_of newer)) [] statics)
+links_at_by true ending statics e n = ap (λ b. cond b head_words (head_words + evened ending.inner)) e
+links_at_by false ending statics e n = ap (λ b. cond b head_words (head_words + evened ending.inner)) e ∙ ap (λ k. head_words + k) (sym n)
+
 parts_assemble : (source : Source) → refusal_of source ≡ None → is_well_formed (parts_of source) ≡ true → Assembles source (parts_of source)
 unfolding parts_with tables_of refusal_of
 parts_assemble source none formed =
@@ -68,6 +75,8 @@ parts_assemble source none formed =
       links = λ above line others split external. external_stands text tables lines above line others split (symbols_known text lines free) (no_lines_refusal source none) external;
       links_in_order = refl;
       links_apart = links_apart text (symbols_from text [] start lines) start lines;
+      links_at = links_at_by newer (end_of text start lines) _ refl
+          (evened_length newer (words_from text tables section [] start lines) ∙ ap (λ n. evened_count newer n) (sym (places_count text tables section lines (static_holds newer))));
       definitions = refl;
       distinct = well.distinct;
       relocations = refl;

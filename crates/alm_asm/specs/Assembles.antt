@@ -14,7 +14,7 @@ use Rattle.obj36_parts.specs.declared.section.Section.TheVariants.{Text}
 use Rattle.obj36_parts.specs.Fields.{LinkFields}
 use Rattle.obj36_parts.specs.PartsFields.{PartsFields}
 use Rattle.obj36_parts.specs.ObjectSegment.{definition_names, are_distinct, are_in_order}
-use Rattle.obj36_parts.specs.ObjectSegment.{version_of, evened}
+use Rattle.obj36_parts.specs.ObjectSegment.{version_of, evened, first_link}
 use Rattle.alm_lines.specs.Symbols.{sum_named}
 use Rattle.alm_lines.specs.Arguments.{name_at, first_arg, symbol_in, section_in}
 use Rattle.alm_lines.specs.Spots.{start, count_in, here, end_of}
@@ -203,6 +203,8 @@ pub record Assembles (source : Source) (parts : PartsFields) : Type 0 where
   pub links_in_order :
       parts.links ≡ links_from source.text (meaning_of source).symbols [] start source.lines
   pub links_apart : are_apart parts.links ≡ true
+  -- operands name the links where the object has them
+  pub links_at : (meaning_of source).first_link ≡ first_link parts
   pub definitions :
       parts.definitions ≡ definitions_from source.text (meaning_of source).symbols [] source.lines
   pub distinct : are_distinct (definition_names parts.definitions) ≡ true
