@@ -1,7 +1,7 @@
 //! Small images that break a condition each, and some that break none. Findings are worked out by hand.
 
 use Segment::{Code, Disordered, Paged, Stack, Text, Whole};
-use m36_audit::auditor::audit;
+use m36_audit::{Verdict, audit};
 use m36_core::Core;
 use m36_desc::{Dbr, Ptw, Sdw};
 use m36_word::{NoMemory, Word};
@@ -26,39 +26,36 @@ enum Segment {
 
 /// An image of three frames: its descriptor segment, its segments, its page table words, each with the frame of its
 /// page, and what the audit finds in it, each a condition and a place.
-struct Image<'a>(Dbr, &'a [Segment], &'a [(u32, u8)], &'a [(u8, u32)]);
+struct Image<'a>(Base, &'a [Segment], &'a [(u32, u8)], &'a [(u8, u32)]);
 
-/// An unpaged descriptor segment at core word 0 with eight descriptors; the stacks are segments 0 to 7.
-const EIGHT: Dbr = Dbr {
-    addr: 0,
-    bnd: 0,
-    stack: 0,
-    unpaged: true,
-};
+/// Where the descriptor segment lies.
+#[derive(Clone, Copy)]
+enum Base {
+    /// Unpaged at core word 0, with eight descriptors.
+    Eight,
+    /// Of eight descriptors, with its page table at octal 100.
+    Directory,
+    /// Of two pages, with its page table at octal 100.
+    TwoPages,
+    /// Its page table is a word of one of its descriptors.
+    Inside,
+}
 
-/// A descriptor segment of eight descriptors with its page table at octal 100.
-const PAGED: Dbr = Dbr {
-    addr: 0o100,
-    bnd: 0,
-    stack: 0,
-    unpaged: false,
-};
-
-/// A descriptor segment of two pages with its page table at octal 100.
-const TWO_PAGES: Dbr = Dbr {
-    addr: 0o100,
-    bnd: 0o177,
-    stack: 0,
-    unpaged: false,
-};
-
-/// A descriptor segment whose page table is a word of one of its descriptors.
-const INSIDE: Dbr = Dbr {
-    addr: 0o2003,
-    bnd: 0,
-    stack: 0,
-    unpaged: false,
-};
+/// The descriptor segment register. The stacks are segments 0 to 7.
+fn dbr(base: Base) -> Dbr {
+    let (addr, bnd, unpaged) = match base {
+        Base::Eight => (0, 0, true),
+        Base::Directory => (0o100, 0, false),
+        Base::TwoPages => (0o100, 0o177, false),
+        Base::Inside => (0o2003, 0, false),
+    };
+    Dbr {
+        addr,
+        bnd,
+        stack: 0,
+        unpaged,
+    }
+}
 
 /// The number of a segment, and its descriptor.
 fn described(segment: Segment) -> (u32, Sdw) {
@@ -162,98 +159,139 @@ fn core_of(
     Ok(core)
 }
 
-/// Whether the audit finds these, each a condition and a place.
-fn finds(alloc: Global, core: &Core, dbr: Dbr, expected: &[(u8, u32)]) -> Result<bool, NoMemory> {
-    let verdict = audit(alloc, core, dbr)?;
-    if verdict.findings.len() != expected.len() || verdict.yes() != expected.is_empty() {
-        return Ok(false);
-    }
-    for (finding, (condition, place)) in verdict.findings.iter().zip(expected.iter()) {
+/// Whether these are found, each a condition and a place.
+fn are_found(verdict: &Verdict, expected: &[(u8, u32)]) -> bool {
+    for (finding, (condition, place)) in verdict.findings.iter().zip(expected) {
         if finding.condition != *condition || finding.place != *place {
-            return Ok(false);
+            return false;
         }
     }
-    Ok(true)
+    verdict.findings.len() == expected.len() && verdict.yes() == expected.is_empty()
 }
 
-const IMAGES: [Image<'static>; 24] = [
+/// Of whole segments.
+const WHOLE: &[Image] = &[
     // The least image, and brackets 4 3 4 of two segments.
-    Image(EIGHT, &[Whole(1, 0o40, 0)], &[], &[]),
+    Image(Base::Eight, &[Whole(1, 0o40, 0)], &[], &[]),
     Image(
-        EIGHT,
+        Base::Eight,
         &[Disordered(2, 0o40, 0), Disordered(5, 0o60, 0)],
         &[],
         &[(1, 2)],
     ),
     // Outer rings may call it at every word, and ring 0 has no stack; then with a stack; then as a gate.
-    Image(EIGHT, &[Code(true)], &[], &[(5, 1), (6, 1)]),
-    Image(EIGHT, &[Stack(0, 0, true), Code(true)], &[], &[(5, 1)]),
-    Image(EIGHT, &[Stack(0, 0, true), Code(false)], &[], &[]),
-    // The stack cannot be written, or has brackets 0 4 4. Without the right to execute nothing is asked.
-    Image(EIGHT, &[Stack(0, 0, false), Code(false)], &[], &[(6, 1)]),
-    Image(EIGHT, &[Stack(0, 4, true), Code(false)], &[], &[(6, 1)]),
-    Image(EIGHT, &[Text], &[], &[]),
-    // Segments side by side, and segments that meet. With brackets out of order the first has no words.
-    Image(EIGHT, &[Whole(1, 0o40, 0), Whole(2, 0o60, 0)], &[], &[]),
+    Image(Base::Eight, &[Code(true)], &[], &[(5, 1), (6, 1)]),
     Image(
-        EIGHT,
+        Base::Eight,
+        &[Stack(0, 0, true), Code(true)],
+        &[],
+        &[(5, 1)],
+    ),
+    Image(Base::Eight, &[Stack(0, 0, true), Code(false)], &[], &[]),
+    // The stack cannot be written, or has brackets 0 4 4. Without the right to execute nothing is asked.
+    Image(
+        Base::Eight,
+        &[Stack(0, 0, false), Code(false)],
+        &[],
+        &[(6, 1)],
+    ),
+    Image(
+        Base::Eight,
+        &[Stack(0, 4, true), Code(false)],
+        &[],
+        &[(6, 1)],
+    ),
+    Image(Base::Eight, &[Text], &[], &[]),
+    // Segments side by side, and segments that meet. With brackets out of order the first has no words.
+    Image(
+        Base::Eight,
+        &[Whole(1, 0o40, 0), Whole(2, 0o60, 0)],
+        &[],
+        &[],
+    ),
+    Image(
+        Base::Eight,
         &[Whole(1, 0o40, 1), Whole(2, 0o77, 0)],
         &[],
         &[(4, 0o77)],
     ),
     Image(
-        EIGHT,
+        Base::Eight,
         &[Disordered(1, 0o40, 1), Whole(2, 0o77, 0)],
         &[],
         &[(1, 1)],
     ),
     // On descriptors that are not live. At the last addresses it goes on at 0, and begins past the end of core.
-    Image(EIGHT, &[Whole(1, 0o14, 0)], &[], &[(3, 0o14)]),
-    Image(EIGHT, &[Whole(1, 0o77777770, 0)], &[], &[(3, 0)]),
+    Image(Base::Eight, &[Whole(1, 0o14, 0)], &[], &[(3, 0o14)]),
+    Image(Base::Eight, &[Whole(1, 0o77777770, 0)], &[], &[(3, 0)]),
+];
+
+/// Of page tables.
+const TABLES: &[Image] = &[
     // A segment on a page table, a page table on the descriptors, and two pages in one frame.
     Image(
-        EIGHT,
+        Base::Eight,
         &[Paged(1, 0o100, 0), Whole(2, 0o100, 0)],
         &[(0o100, 2)],
         &[(3, 0o100)],
     ),
-    Image(EIGHT, &[Paged(1, 0o10, 0)], &[], &[(2, 0o10)]),
+    Image(Base::Eight, &[Paged(1, 0o10, 0)], &[], &[(2, 0o10)]),
     Image(
-        EIGHT,
+        Base::Eight,
         &[Paged(1, 0o100, 0), Paged(2, 0o101, 0)],
         &[(0o100, 2), (0o101, 2)],
         &[(4, 0o4000)],
     ),
     Image(
-        EIGHT,
+        Base::Eight,
         &[Paged(1, 0o100, 64)],
         &[(0o100, 2), (0o101, 2)],
         &[(4, 0o4000)],
     ),
     // Two page tables on one word, whose page is absent.
     Image(
-        EIGHT,
+        Base::Eight,
         &[Paged(1, 0o100, 0), Paged(2, 0o100, 0)],
         &[],
         &[(2, 0o100)],
     ),
     // Beside the page table of the descriptor segment, and on it; and that table is a word of a descriptor.
-    Image(PAGED, &[Whole(1, 0o40, 0)], &[(0o100, 1)], &[]),
-    Image(PAGED, &[Whole(1, 0o100, 0)], &[(0o100, 1)], &[(3, 0o100)]),
-    Image(INSIDE, &[], &[(0o2003, 1)], &[(2, 0o2003)]),
+    Image(Base::Directory, &[Whole(1, 0o40, 0)], &[(0o100, 1)], &[]),
+    Image(
+        Base::Directory,
+        &[Whole(1, 0o100, 0)],
+        &[(0o100, 1)],
+        &[(3, 0o100)],
+    ),
+    Image(Base::Inside, &[], &[(0o2003, 1)], &[(2, 0o2003)]),
     // Two pages of descriptors in one frame: two words of one table on one core word. The second page is absent.
-    Image(TWO_PAGES, &[], &[(0o100, 1), (0o101, 1)], &[]),
-    Image(TWO_PAGES, &[], &[(0o100, 1)], &[]),
+    Image(Base::TwoPages, &[], &[(0o100, 1), (0o101, 1)], &[]),
+    Image(Base::TwoPages, &[], &[(0o100, 1)], &[]),
     // It is past the end of core.
-    Image(TWO_PAGES, &[], &[(0o100, 1), (0o101, 3)], &[]),
+    Image(Base::TwoPages, &[], &[(0o100, 1), (0o101, 3)], &[]),
 ];
+
+/// Whether the audit of an image finds what it is to find.
+fn is_found(alloc: Global, image: &Image) -> Result<bool, NoMemory> {
+    let Image(base, segments, pages, findings) = image;
+    let dbr = dbr(*base);
+    let core = core_of(alloc, dbr.unpaged, segments, pages)?;
+    let verdict = audit(alloc, &core, dbr)?;
+    Ok(are_found(&verdict, findings))
+}
 
 #[test]
 fn findings_of_images(rt: HostRuntime) -> Result<(), NoMemory> {
-    for (n, image) in IMAGES.iter().enumerate() {
-        let Image(dbr, segments, pages, findings) = image;
-        let core = core_of(rt.alloc(), dbr.unpaged, segments, pages)?;
-        assert!(rt; finds(rt.alloc(), &core, *dbr, findings)?, "image {n}");
+    for (n, image) in WHOLE.iter().enumerate() {
+        assert!(rt; is_found(rt.alloc(), image)?, "image {n}");
+    }
+    Ok(())
+}
+
+#[test]
+fn findings_of_tables(rt: HostRuntime) -> Result<(), NoMemory> {
+    for (n, image) in TABLES.iter().enumerate() {
+        assert!(rt; is_found(rt.alloc(), image)?, "image {n}");
     }
     Ok(())
 }

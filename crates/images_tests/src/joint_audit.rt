@@ -1,7 +1,7 @@
 //! Two processes on a core of two frames: images that share, and some that break a condition between them. Findings are
 //! worked out by hand.
 
-use m36_audit::joint_auditor::joint;
+use m36_audit::{Joint, joint};
 use m36_core::Core;
 use m36_desc::Dbr;
 use m36_word::{NoMemory, Word};
@@ -40,28 +40,30 @@ fn put(core: &mut Core, words: &[(u32, u64)]) {
     }
 }
 
+/// Whether these are found: a process or none, a condition and a place.
+fn are_found(joint: &Joint, expected: &[(Option<u8>, u8, u32)]) -> bool {
+    for (finding, (process, condition, place)) in joint.findings.iter().zip(expected) {
+        if finding.process != *process
+            || finding.condition != *condition
+            || finding.place != *place
+        {
+            return false;
+        }
+    }
+    joint.findings.len() == expected.len() && joint.yes() == expected.is_empty()
+}
+
 /// Whether the joint audit of an image finds what it is to find.
-fn finds(alloc: Global, image: &Image<'_>) -> Result<bool, NoMemory> {
+fn finds(alloc: Global, image: &Image) -> Result<bool, NoMemory> {
     let Image(words, second, expected) = image;
     let mut core = Core::new(alloc, 2)?;
     put(&mut core, &LOCK);
     put(&mut core, words);
     let joint = joint(alloc, &core, &[dbr(0), dbr(*second)])?;
-    if joint.findings.len() != expected.len() || joint.yes() != expected.is_empty() {
-        return Ok(false);
-    }
-    for (finding, (process, condition, place)) in joint.findings.iter().zip(expected.iter()) {
-        if finding.process != *process
-            || finding.condition != *condition
-            || finding.place != *place
-        {
-            return Ok(false);
-        }
-    }
-    Ok(true)
+    Ok(are_found(&joint, expected))
 }
 
-const IMAGES: [Image<'static>; 7] = [
+const IMAGES: &[Image] = &[
     // Both segments are shared.
     Image(&[], 0o20, &[]),
     // Other brackets: the same words, but another segment.

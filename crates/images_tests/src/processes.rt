@@ -4,7 +4,7 @@ use m36_outside::{MemSink, Text};
 use m36_procs::{Procs, ProcsFault};
 use m36_word::NoMemory;
 use std::alloc::Global;
-use std::test::Fail;
+use std::process::Abort;
 
 // The first lines of texts: none; core; a process too; eight of them.
 const NOTHING: &[u8] = b"";
@@ -49,105 +49,138 @@ const LOCK_OUTPUT: &[u8] =
 end schedule 8
 ";
 
-fn fault(alloc: Global, front: &[u8], rest: &[u8]) -> Result<Option<ProcsFault>, NoMemory> {
+/// Lines, and what is wrong with the first that is refused.
+type Refused<'a> = (&'a [u8], ProcsFault);
+
+/// Behind no line.
+const OF_CORE: &[Refused] = &[
+    (b"", ProcsFault::P1(1)),
+    (b"core 0\n", ProcsFault::P1(1)),
+    (b"core 1", ProcsFault::P1(1)),
+];
+
+/// Behind the size of core.
+const OF_PROCESS: &[Refused] = &[
+    (b"", ProcsFault::P1(2)),
+    (b"at 00000000 000000000001\n", ProcsFault::P1(2)),
+    (b"turns 1 0\n", ProcsFault::P1(2)),
+    (b"process 0 0 00001 4 000000\n", ProcsFault::P1(2)),
+];
+
+/// Behind a process too. Core has 1,024 words, the last of which is 1777.
+const OF_OTHERS: &[Refused] = &[
+    (b"", ProcsFault::P1(3)),
+    (b"core 1\n", ProcsFault::P1(3)),
+    (b"at 00001777 000000000001\n", ProcsFault::P1(4)),
+    (b"at 00002000 000000000001\n", ProcsFault::P1(3)),
+    (
+        b"at 00000010 000000000001\nprocess 000000000000 000000200000 00001 4 000000\n",
+        ProcsFault::P1(4),
+    ),
+    (b"turns 1 0\nat 00000010 000000000001\n", ProcsFault::P1(4)),
+    (b"turns 1 0", ProcsFault::P1(3)),
+    (b"turns 0 0\n", ProcsFault::P1(3)),
+    (b"turns 1000001 0\n", ProcsFault::P1(3)),
+    (b"turns 1\n", ProcsFault::P1(3)),
+    (b"turns 1 00\n", ProcsFault::P1(3)),
+    (
+        b"turns 1 0 0 0 0 0 0 0 0 0 0 0 0 0 0 0 0 0\n",
+        ProcsFault::P1(3),
+    ),
+    (b"turns 1 1\n", ProcsFault::P2(3)),
+    (b"turns 1 0 9\n", ProcsFault::P2(3)),
+    (b"turns 1000000 9 9 9 9 9 9 9 9 9 9 9\n", ProcsFault::P1(3)),
+    (
+        b"turns 1000000 0 0 0 0 0 0 0 0 0 0\nturns 1 0\n",
+        ProcsFault::P1(4),
+    ),
+];
+
+/// Behind eight processes.
+const OF_TURNS: &[Refused] = &[
+    (
+        b"process 000000000000 000000200000 00001 4 000000\n",
+        ProcsFault::P1(10),
+    ),
+    (b"turns 1 7\nturns 1 8\n", ProcsFault::P2(11)),
+];
+
+// What is told of a text; of a long one, want of memory.
+fn fault(alloc: Global, text: &[u8]) -> Option<ProcsFault> {
+    if text.len() > 1000 {
+        return Some(ProcsFault::NoMemory);
+    }
+    Procs::read(alloc, text).err()
+}
+
+fn refuses(alloc: Global, front: &[u8], row: &Refused) -> Result<bool, NoMemory> {
+    let (rest, expected) = row;
     let mut text = Text::from_bytes(alloc, front)?;
     text.append(rest)?;
-    if text.bytes().len() > 1000 {
-        return Err(NoMemory);
+    Ok(fault(alloc, text.bytes()) == Some(*expected))
+}
+
+fn refuse(rt: &impl Abort, alloc: Global, front: &[u8], rows: &[Refused]) -> Result<(), NoMemory> {
+    for row in rows {
+        assert!(rt; refuses(alloc, front, row)?, "{:?}", row.0);
     }
-    match Procs::read(alloc, text.bytes()) {
-        Ok(_) => Ok(None),
-        Err(fault) => Ok(Some(fault)),
+    Ok(())
+}
+
+#[test]
+fn refuses_lines(rt: HostRuntime) -> Result<(), NoMemory> {
+    refuse(&rt, rt.alloc(), NOTHING, OF_CORE)?;
+    refuse(&rt, rt.alloc(), CORE, OF_PROCESS)?;
+    refuse(&rt, rt.alloc(), ONE, OF_OTHERS)?;
+    refuse(&rt, rt.alloc(), EIGHT, OF_TURNS)
+}
+
+// Whether the processes stand so behind the schedule, where the second goes on with one event.
+fn stand_right(procs: &mut Procs) -> bool {
+    if procs.core().len() != 1024 || procs.count() != 3 {
+        return false;
+    }
+    let lock = procs.core().peek(0o60).value();
+    let told = procs.event(1);
+    let (first, second) = (procs.regs(0).ppr, procs.regs(1).ppr);
+    lock == 0o2000000 && (told.ppr.ic, first.ic, second.ic) == (3, 3, 2)
+}
+
+/// How a run of the two processes has to end.
+#[derive(Clone, Copy)]
+enum Due {
+    /// By its schedule, with its lines written.
+    Lines,
+    /// With a line that is not written.
+    Failure,
+}
+
+fn runs(procs: &mut Procs, due: Due, out: &mut MemSink) -> bool {
+    let ran = procs.run(out);
+    match due {
+        Due::Lines => ran.is_ok() && out.bytes() == LOCK_OUTPUT && stand_right(procs),
+        Due::Failure => ran.is_err(),
+    }
+}
+
+fn is_due(alloc: Global, due: Due, out: &mut MemSink) -> bool {
+    match Procs::read(alloc, LOCK) {
+        Ok(mut procs) => runs(&mut procs, due, out),
+        Err(_) => false,
     }
 }
 
 #[test]
-fn runs_a_schedule(rt: HostRuntime) -> Result<(), Fail> {
-    let mut procs = Procs::read(rt.alloc(), LOCK)?;
-    assert_eq!(rt; procs.count(), 3);
+fn runs_a_schedule(rt: HostRuntime) -> Result<(), NoMemory> {
     let mut out = MemSink::new(rt.alloc(), 1000, &[])?;
-    procs.run(&mut out)?;
-    assert!(rt; out.bytes() == LOCK_OUTPUT);
-    assert_eq!(rt; procs.core().len(), 1024);
-    if procs.core().len() == 1024 {
-        assert_eq!(rt; procs.core().peek(0o60).value(), 0o2000000);
-    }
-    if procs.count() == 3 {
-        let told = procs.event(1);
-        assert_eq!(rt; told.ppr.ic, 3);
-        assert_eq!(rt; procs.regs(0).ppr.ic, 3);
-        assert_eq!(rt; procs.regs(1).ppr.ic, 2);
-    }
+    assert!(rt; is_due(rt.alloc(), Due::Lines, &mut out));
     Ok(())
 }
 
 // The third line cannot be written.
 #[test]
-fn stops_where_a_line_is_not_written(rt: HostRuntime) -> Result<(), Fail> {
-    let mut procs = Procs::read(rt.alloc(), LOCK)?;
+fn stops_where_a_line_is_not_written(rt: HostRuntime) -> Result<(), NoMemory> {
     let mut out = MemSink::new(rt.alloc(), 1000, &[3])?;
-    assert!(rt; procs.run(&mut out).is_err());
-    Ok(())
-}
-
-// Core has 1,024 words, the last of which is 1777.
-#[test]
-fn refuses_lines(rt: HostRuntime) -> Result<(), NoMemory> {
-    for (front, rest, expected) in [
-        (NOTHING, b"".as_slice(), ProcsFault::P1(1)),
-        (NOTHING, b"core 0\n", ProcsFault::P1(1)),
-        (NOTHING, b"core 1", ProcsFault::P1(1)),
-        (CORE, b"", ProcsFault::P1(2)),
-        (CORE, b"at 00000000 000000000001\n", ProcsFault::P1(2)),
-        (CORE, b"turns 1 0\n", ProcsFault::P1(2)),
-        (CORE, b"process 0 0 00001 4 000000\n", ProcsFault::P1(2)),
-        (ONE, b"", ProcsFault::P1(3)),
-        (ONE, b"core 1\n", ProcsFault::P1(3)),
-        (ONE, b"at 00001777 000000000001\n", ProcsFault::P1(4)),
-        (ONE, b"at 00002000 000000000001\n", ProcsFault::P1(3)),
-        (
-            ONE,
-            b"at 00000010 000000000001\nprocess 000000000000 000000200000 00001 4 000000\n",
-            ProcsFault::P1(4),
-        ),
-        (
-            ONE,
-            b"turns 1 0\nat 00000010 000000000001\n",
-            ProcsFault::P1(4),
-        ),
-        (ONE, b"turns 1 0", ProcsFault::P1(3)),
-        (ONE, b"turns 0 0\n", ProcsFault::P1(3)),
-        (ONE, b"turns 1000001 0\n", ProcsFault::P1(3)),
-        (ONE, b"turns 1\n", ProcsFault::P1(3)),
-        (ONE, b"turns 1 00\n", ProcsFault::P1(3)),
-        (
-            ONE,
-            b"turns 1 0 0 0 0 0 0 0 0 0 0 0 0 0 0 0 0 0\n",
-            ProcsFault::P1(3),
-        ),
-        (ONE, b"turns 1 1\n", ProcsFault::P2(3)),
-        (ONE, b"turns 1 0 9\n", ProcsFault::P2(3)),
-        (
-            ONE,
-            b"turns 1000000 9 9 9 9 9 9 9 9 9 9 9\n",
-            ProcsFault::P1(3),
-        ),
-        (
-            ONE,
-            b"turns 1000000 0 0 0 0 0 0 0 0 0 0\nturns 1 0\n",
-            ProcsFault::P1(4),
-        ),
-        (
-            EIGHT,
-            b"process 000000000000 000000200000 00001 4 000000\n",
-            ProcsFault::P1(10),
-        ),
-        (EIGHT, b"turns 1 7\nturns 1 8\n", ProcsFault::P2(11)),
-    ] {
-        assert!(rt;
-            fault(rt.alloc(), front, rest)? == Some(expected),
-            "{rest:?}"
-        );
-    }
+    assert!(rt; is_due(rt.alloc(), Due::Failure, &mut out));
     Ok(())
 }
