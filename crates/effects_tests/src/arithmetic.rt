@@ -72,7 +72,7 @@ fn of_pair(s: Sum72) -> Found {
     }
 }
 
-#[derive(Clone, Copy, Debug)]
+#[derive(Clone, Copy)]
 enum Operation {
     Add18,
     Add36,
@@ -86,7 +86,7 @@ enum Operation {
 }
 
 /// An operation, its numbers, whether a carry or a borrow comes in; the result, and what is on.
-const SUMS: [(Operation, u128, u128, bool, u128, &str); 15] = [
+const SUMS: &[(Operation, u128, u128, bool, u128, &str)] = &[
     (
         Operation::Add36,
         0o377777777777,
@@ -161,7 +161,7 @@ fn sum(operation: Operation, x: u128, y: u128, carry: bool) -> Found {
 }
 
 /// The bits of a number, a shift, the number, and the count; the result, and what is on.
-const SHIFTS: [(u8, Shift, u128, u32, u128, &str); 12] = [
+const SHIFTS: &[(u8, Shift, u128, u32, u128, &str)] = &[
     (36, Shift::Left, 0o200000000000, 1, 0o400000000000, "nc"),
     (36, Shift::Left, 1, 36, 0, "zc"),
     (36, Shift::Left, 0o777777777777, 0, 0o777777777777, "n"),
@@ -185,28 +185,40 @@ fn shift(bits: u8, shift: Shift, v: u128, count: u32) -> Found {
     }
 }
 
+/// Whether this was found, with what its letters say on.
+fn is_found(found: Found, value: u128, letters: &str) -> bool {
+    found.value == value
+        && are(
+            letters,
+            found.zero,
+            found.negative,
+            found.carry,
+            found.overflow,
+        )
+}
+
 #[test]
-fn sums_and_shifts(rt: HostRuntime) {
+fn sums(rt: HostRuntime) {
     for (operation, x, y, carry, value, letters) in SUMS {
-        let s = sum(operation, x, y, carry);
-        assert!(rt; s.value == value, "{operation:?} {x:o} {y:o}");
         assert!(rt;
-            are(letters, s.zero, s.negative, s.carry, s.overflow),
-            "{operation:?} {x:o} {y:o}"
+            is_found(sum(*operation, *x, *y, *carry), *value, letters),
+            "{x:o} {y:o} to {value:o}"
         );
     }
+}
+
+#[test]
+fn shifts(rt: HostRuntime) {
     for (bits, kind, v, count, value, letters) in SHIFTS {
-        let s = shift(bits, kind, v, count);
-        assert!(rt; s.value == value, "{kind:?} {v:o}");
         assert!(rt;
-            are(letters, s.zero, s.negative, s.carry, s.overflow),
-            "{kind:?} {v:o}"
+            is_found(shift(*bits, *kind, *v, *count), *value, letters),
+            "{v:o} by {count} to {value:o}"
         );
     }
 }
 
 /// The bits of two numbers, the numbers, and what is on.
-const COMPARISONS: [(u8, u128, u128, &str); 5] = [
+const COMPARISONS: &[(u8, u128, u128, &str)] = &[
     (36, 0o400000000000, 1, "nc"),
     (36, 7, 7, "zc"),
     (18, 0o400000, 1, "nc"),
@@ -223,14 +235,14 @@ fn comparison(bits: u8, x: u128, y: u128) -> Compare {
 }
 
 /// Two factors, and their product.
-const PRODUCTS: [(u128, u128, u128); 3] = [
+const PRODUCTS: &[(u128, u128, u128)] = &[
     (0o400000000000, 0o400000000000, 1 << 70),
     (0o777777777777, 3, (1 << 72) - 3),
     (0o777777777777, 0, 0),
 ];
 
 /// A dividend, a divisor, and the quotient and the remainder.
-const QUOTIENTS: [(u128, u128, Option<(u64, u64)>); 5] = [
+const QUOTIENTS: &[(u128, u128, Option<(u64, u64)>)] = &[
     (7, 0o777777777775, Some((0o777777777776, 1))),
     (0o777777777771, 3, Some((0o777777777776, 0o777777777777))),
     (0o400000000000, 1, Some((0o400000000000, 0))),
@@ -245,24 +257,33 @@ fn quotient(q: u128, y: u128) -> Option<(u64, u64)> {
     }
 }
 
+fn compares(bits: u8, x: u128, y: u128, letters: &str) -> bool {
+    let found = comparison(bits, x, y);
+    are(letters, found.zero, found.negative, found.carry, false)
+}
+
 #[test]
-fn comparisons_products_and_quotients(rt: HostRuntime) {
+fn comparisons(rt: HostRuntime) {
     for (bits, x, y, letters) in COMPARISONS {
-        let c = comparison(bits, x, y);
-        assert!(rt;
-            are(letters, c.zero, c.negative, c.carry, false),
-            "{x:o} {y:o}"
-        );
-    }
-    for (x, y, product) in PRODUCTS {
-        assert!(rt; mul(word(x), word(y)).value() == product, "{x:o} {y:o}");
-    }
-    for (q, y, expected) in QUOTIENTS {
-        assert!(rt; quotient(q, y) == expected, "{q:o} {y:o}");
+        assert!(rt; compares(*bits, *x, *y, letters), "{x:o} {y:o}");
     }
 }
 
-#[derive(Clone, Copy, Debug)]
+#[test]
+fn products(rt: HostRuntime) {
+    for (x, y, product) in PRODUCTS {
+        assert!(rt; mul(word(*x), word(*y)).value() == *product, "{x:o} {y:o}");
+    }
+}
+
+#[test]
+fn quotients(rt: HostRuntime) {
+    for (q, y, expected) in QUOTIENTS {
+        assert!(rt; quotient(*q, *y) == *expected, "{q:o} {y:o}");
+    }
+}
+
+#[derive(Clone, Copy)]
 enum Boolean {
     And,
     Or,
@@ -271,7 +292,7 @@ enum Boolean {
 }
 
 /// An operation on two numbers of 18, of 36 or of 72 bits, and its result.
-const BOOLEANS: [(u8, Boolean, u128, u128, u128); 12] = [
+const BOOLEANS: &[(u8, Boolean, u128, u128, u128)] = &[
     (36, Boolean::And, 0o1100, 0o1010, 0o1000),
     (36, Boolean::Or, 0o1100, 0o1010, 0o1110),
     (36, Boolean::Xor, 0o1100, 0o1010, 0o0110),
@@ -352,8 +373,8 @@ fn result_of(bits: u8, operation: Boolean, x: u128, y: u128) -> u128 {
 fn booleans(rt: HostRuntime) {
     for (bits, operation, x, y, value) in BOOLEANS {
         assert!(rt;
-            result_of(bits, operation, x, y) == value,
-            "{operation:?} of {bits}"
+            result_of(*bits, *operation, *x, *y) == *value,
+            "{x:o} {y:o} to {value:o}"
         );
     }
 }

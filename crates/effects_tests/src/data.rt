@@ -1,7 +1,9 @@
 //! Effects worked out by hand. Each begins at word 5 of segment 1 in ring 4, with all that is not named 0.
 
-ghost use Rattle.std.specs.Prelude.{◌≡◌, ◌%◌, ◌^◌};
-ghost use Rattle.m36_model.specs.declared.effects.Held.TheVariants as held;
+ghost use Rattle.std.specs.Prelude.{◌<◌, IsTrue};
+ghost use Rattle.m36_inst.specs.Operands.{operand_of};
+ghost use Rattle.m36_model.specs.OperandHeld.{HoldsFor};
+ghost use Rattle.m36_xdata.specs.DataInstructions.{is_data};
 
 use m36_desc::{Dbr, Ptr};
 use m36_inst::{Effect, Operand, Row};
@@ -15,26 +17,52 @@ const GREATEST: u64 = 0o377777777777;
 
 const ONES: u64 = 0o777777777777;
 
-const NO_INDICATORS: Ind = Ind {
-    zero: false,
-    negative: false,
-    carry: false,
-    overflow: false,
-    mask: false,
-    tally: false,
-};
+/// A, Q and X3.
+type Numbers = (u64, u64, u32);
 
-fn registers(a: u64, q: u64, x3: u32, ind: Ind, ic: u32) -> Regs {
+/// What an instruction puts.
+#[derive(Clone, Copy)]
+enum Put {
+    Nothing,
+    One(u64),
+    Two(u64, u64),
+}
+
+fn held(put: Put) -> Held {
+    match put {
+        Put::Nothing => Held::Empty,
+        Put::One(v) => Held::One(Word::low(v)),
+        Put::Two(even, odd) => Held::Two(Pair {
+            even: Word::low(even),
+            odd: Word::low(odd),
+        }),
+    }
+}
+
+/// The indicators whose letters these are: zero, negative, carry, overflow, tally.
+fn indicators(letters: &str) -> Ind {
+    let on = letters.as_bytes();
+    Ind {
+        zero: on.contains(&b'z'),
+        negative: on.contains(&b'n'),
+        carry: on.contains(&b'c'),
+        overflow: on.contains(&b'o'),
+        mask: false,
+        tally: on.contains(&b't'),
+    }
+}
+
+fn registers(numbers: Numbers, letters: &str, ic: u32) -> Regs {
     let pointer = Ptr {
         word: 0,
         seg: 0,
         ring: 0,
         bit: 0,
     };
-    let low = x3 % (1 << 18);
+    let low = numbers.2 % (1 << 18);
     Regs {
-        a: Word::low(a),
-        q: Word::low(q),
+        a: Word::low(numbers.0),
+        q: Word::low(numbers.1),
         x: [0, 0, 0, low, 0, 0, 0, 0],
         pr: [pointer; 8],
         dbr: Dbr {
@@ -48,28 +76,7 @@ fn registers(a: u64, q: u64, x3: u32, ind: Ind, ic: u32) -> Regs {
             psr: 1,
             prr: 4,
         },
-        ind,
-    }
-}
-
-fn before(a: u64, q: u64, x3: u32) -> Regs {
-    registers(a, q, x3, NO_INDICATORS, 5)
-}
-
-fn after(a: u64, q: u64, x3: u32, ind: Ind) -> Regs {
-    registers(a, q, x3, ind, 6)
-}
-
-fn row(effect: Effect, reg: u8) -> Row
-    ensures effect { result.effect ≡ effect }
-    ensures reg { result.reg ≡ reg }
-{
-    Row {
-        effect,
-        operand: Operand::R,
-        reg,
-        direct: false,
-        privileged: false,
+        ind: indicators(letters),
     }
 }
 
@@ -85,42 +92,174 @@ fn at(word: u32) -> Final {
     }
 }
 
-fn none() -> Operand36
-    ensures { result.got ≡ held.Empty }
+/// What an instruction comes to with the word of its final address and what it has read.
+fn effect_of(effect: Effect, reg: u8, regs: &Regs, word: u32, got: Held) -> Result<Effect36, Fault>
+    requires data { IsTrue (is_data effect) }
+    requires reg { reg < 8 }
+    requires got { HoldsFor (operand_of effect) got }
 {
-    Operand36 {
-        got: Held::Empty,
+    let row = Row {
+        effect,
+        operand: Operand::R,
+        reg,
+        direct: false,
+        privileged: false,
+    };
+    let operand = Operand36 {
+        got,
         place: 0,
         ring: 0,
-    }
+    };
+    exec(&row, regs, &at(word), operand)
 }
 
-fn one(v: u64) -> Operand36
-    ensures { result.got ≡ held.One (v % 2 ^ 36) }
-{
-    Operand36 {
-        got: Held::One(Word::low(v)),
-        place: 0,
-        ring: 0,
-    }
-}
-
-fn gives(found: Result<Effect36, Fault>, regs: Regs, put: Held, overflow: bool) -> bool {
+fn gives(found: &Result<Effect36, Fault>, regs: Regs, put: Held, overflow: bool) -> bool {
+    let expected = Effect36 {
+        regs,
+        put,
+        overflow,
+    };
     match found {
-        Ok(effect) => {
-            let expected = Effect36 {
-                regs,
-                put,
-                overflow,
-            };
-            effect == expected
-        }
+        Ok(effect) => *effect == expected,
         Err(_) => false,
     }
 }
 
-fn word(v: u64) -> Held {
-    Held::One(Word::low(v))
+/// An instruction with the number of its register, the registers before, the word that it reads, the registers and the
+/// indicators after, what it puts, and whether it overflows with a fault.
+type OfWord<'a> = ((Effect, u8), Numbers, u64, (Numbers, &'a str), (Put, bool));
+
+const OF_WORDS: &[OfWord] = &[
+    // The least number is below 1, though the difference of the two is not negative.
+    (
+        (Effect::Cmpa, 0),
+        (LEAST, 0, 0),
+        1,
+        ((LEAST, 0, 0), "nc"),
+        (Put::Nothing, false),
+    ),
+    (
+        (Effect::Cmk, 0),
+        (0o70, 0o77, 0),
+        0o07,
+        ((0o70, 0o77, 0), "z"),
+        (Put::Nothing, false),
+    ),
+    (
+        (Effect::Ada, 0),
+        (GREATEST, 0, 0),
+        1,
+        ((LEAST, 0, 0), "no"),
+        (Put::Nothing, true),
+    ),
+    (
+        (Effect::Lca, 0),
+        (0, 0, 0),
+        LEAST,
+        ((LEAST, 0, 0), "no"),
+        (Put::Nothing, true),
+    ),
+    (
+        (Effect::Adl, 0),
+        (0, 0, 0),
+        LEAST,
+        ((ONES, LEAST, 0), "n"),
+        (Put::Nothing, false),
+    ),
+    (
+        (Effect::SsxN, 3),
+        (0, 0, 1),
+        0o000002777777,
+        ((0, 0, 1), "n"),
+        (Put::One(0o777777), false),
+    ),
+    (
+        (Effect::Mpy, 0),
+        (1, LEAST, 0),
+        LEAST,
+        ((0o200000000000, 0, 0), ""),
+        (Put::Nothing, false),
+    ),
+    (
+        (Effect::Div, 0),
+        (0, 7, 0),
+        0o777777777775,
+        ((1, 0o777777777776, 0), "n"),
+        (Put::Nothing, false),
+    ),
+    (
+        (Effect::LxlN, 3),
+        (0, 0, 0),
+        0o000001400002,
+        ((0, 0, 0o400002), "n"),
+        (Put::Nothing, false),
+    ),
+    (
+        (Effect::Stac, 0),
+        (7, 0, 0),
+        0,
+        ((7, 0, 0), "z"),
+        (Put::One(7), false),
+    ),
+    // Bits 20 and 25 are carry and tally runout.
+    (
+        (Effect::Ldi, 0),
+        (0, 0, 0),
+        0o102000,
+        ((0, 0, 0), "ct"),
+        (Put::Nothing, false),
+    ),
+    (
+        (Effect::Ana, 0),
+        (0o1100, 0, 0),
+        0o1010,
+        ((0o1000, 0, 0), ""),
+        (Put::Nothing, false),
+    ),
+    (
+        (Effect::ErsxN, 3),
+        (0, 0, 0o1100),
+        0o001010000000,
+        ((0, 0, 0o1100), ""),
+        (Put::One(0o110), false),
+    ),
+];
+
+/// What an instruction of the table comes to.
+fn of_word((effect, reg): (Effect, u8), regs: &Regs, v: u64) -> Option<Result<Effect36, Fault>> {
+    let got = Held::One(Word::low(v));
+    let reg = reg % 8;
+    match effect {
+        Effect::Cmpa => Some(effect_of(Effect::Cmpa, reg, regs, 0, got)),
+        Effect::Cmk => Some(effect_of(Effect::Cmk, reg, regs, 0, got)),
+        Effect::Ada => Some(effect_of(Effect::Ada, reg, regs, 0, got)),
+        Effect::Lca => Some(effect_of(Effect::Lca, reg, regs, 0, got)),
+        Effect::Adl => Some(effect_of(Effect::Adl, reg, regs, 0, got)),
+        Effect::SsxN => Some(effect_of(Effect::SsxN, reg, regs, 0, got)),
+        Effect::Mpy => Some(effect_of(Effect::Mpy, reg, regs, 0, got)),
+        Effect::Div => Some(effect_of(Effect::Div, reg, regs, 0, got)),
+        Effect::LxlN => Some(effect_of(Effect::LxlN, reg, regs, 0, got)),
+        Effect::Stac => Some(effect_of(Effect::Stac, reg, regs, 0, got)),
+        Effect::Ldi => Some(effect_of(Effect::Ldi, reg, regs, 0, got)),
+        Effect::Ana => Some(effect_of(Effect::Ana, reg, regs, 0, got)),
+        Effect::ErsxN => Some(effect_of(Effect::ErsxN, reg, regs, 0, got)),
+        _ => None,
+    }
+}
+
+fn gives_of_word(row: &OfWord) -> bool {
+    let (instruction, before, v, (after, letters), (put, overflow)) = row;
+    match of_word(*instruction, &registers(*before, "", 5), *v) {
+        Some(found) => gives(&found, registers(*after, letters, 6), held(*put), *overflow),
+        None => false,
+    }
+}
+
+#[test]
+fn effects_of_words(rt: HostRuntime) {
+    for row in OF_WORDS {
+        assert!(rt; gives_of_word(row), "{:?}", row.0);
+    }
 }
 
 fn is_divide_check_at_5(found: Result<Effect36, Fault>) -> bool {
@@ -135,218 +274,94 @@ fn is_divide_check_at_5(found: Result<Effect36, Fault>) -> bool {
     }
 }
 
-// The least number is below 1, though the difference of the two is not negative.
 #[test]
-fn comparisons(rt: HostRuntime) {
-    let below = Ind {
-        negative: true,
-        carry: true,
-        ..NO_INDICATORS
-    };
-    let compared = exec(&row(Effect::Cmpa, 0), &before(LEAST, 0, 0), &at(0), one(1));
-    assert!(rt; gives(compared, after(LEAST, 0, 0, below), Held::Empty, false));
-    let zero = Ind {
-        zero: true,
-        ..NO_INDICATORS
-    };
-    let masked = exec(
-        &row(Effect::Cmk, 0),
-        &before(0o70, 0o77, 0),
-        &at(0),
-        one(0o07),
-    );
-    assert!(rt; gives(masked, after(0o70, 0o77, 0, zero), Held::Empty, false));
-}
-
-#[test]
-fn sums(rt: HostRuntime) {
-    let negative = Ind {
-        negative: true,
-        ..NO_INDICATORS
-    };
-    let overflow = Ind {
-        overflow: true,
-        ..negative
-    };
-    let added = exec(
-        &row(Effect::Ada, 0),
-        &before(GREATEST, 0, 0),
-        &at(0),
-        one(1),
-    );
-    assert!(rt; gives(added, after(LEAST, 0, 0, overflow), Held::Empty, true));
-    let complement = exec(&row(Effect::Lca, 0), &before(0, 0, 0), &at(0), one(LEAST));
-    assert!(rt; gives(complement, after(LEAST, 0, 0, overflow), Held::Empty, true));
-    let low = exec(&row(Effect::Adl, 0), &before(0, 0, 0), &at(0), one(LEAST));
-    assert!(rt; gives(low, after(ONES, LEAST, 0, negative), Held::Empty, false));
-    let stored = exec(
-        &row(Effect::SsxN, 3),
-        &before(0, 0, 1),
-        &at(0),
-        one(0o000002777777),
-    );
-    assert!(rt; gives(stored, after(0, 0, 1, negative), word(0o777777), false));
-}
-
-#[test]
-fn products_and_quotients(rt: HostRuntime) {
-    let squared = exec(
-        &row(Effect::Mpy, 0),
-        &before(1, LEAST, 0),
-        &at(0),
-        one(LEAST),
-    );
-    assert!(rt;
-        gives(
-            squared,
-            after(0o200000000000, 0, 0, NO_INDICATORS),
-            Held::Empty,
-            false
-        )
-    );
-    let negative = Ind {
-        negative: true,
-        ..NO_INDICATORS
-    };
-    let divided = exec(
-        &row(Effect::Div, 0),
-        &before(0, 7, 0),
-        &at(0),
-        one(0o777777777775),
-    );
-    assert!(rt;
-        gives(
-            divided,
-            after(1, 0o777777777776, 0, negative),
-            Held::Empty,
-            false
-        )
-    );
-    let refused = exec(&row(Effect::Div, 0), &before(0, 7, 0), &at(0), one(0));
+fn quotient_refused(rt: HostRuntime) {
+    let got = Held::One(Word::ZERO);
+    let refused = effect_of(Effect::Div, 0, &registers((0, 7, 0), "", 5), 0, got);
     assert!(rt; is_divide_check_at_5(refused));
 }
 
-#[test]
-fn shifts(rt: HostRuntime) {
-    let negative = Ind {
-        negative: true,
-        ..NO_INDICATORS
-    };
-    let carried = Ind {
-        carry: true,
-        ..negative
-    };
-    let left = exec(
-        &row(Effect::Als, 0),
-        &before(0o200000000000, 0, 0),
-        &at(1),
-        none(),
-    );
-    assert!(rt; gives(left, after(LEAST, 0, 0, carried), Held::Empty, false));
-    let right = exec(
-        &row(Effect::Ars, 0),
-        &before(LEAST, 0, 0),
-        &at(0o201),
-        none(),
-    );
-    assert!(rt;
-        gives(
-            right,
-            after(0o600000000000, 0, 0, negative),
-            Held::Empty,
-            false
-        )
-    );
-    let round = exec(
-        &row(Effect::Alr, 0),
-        &before(0o400000000001, 0, 0),
-        &at(1),
-        none(),
-    );
-    assert!(rt; gives(round, after(3, 0, 0, NO_INDICATORS), Held::Empty, false));
-    let long = exec(&row(Effect::Lrl, 0), &before(LEAST, 0, 0), &at(71), none());
-    assert!(rt; gives(long, after(0, 1, 0, NO_INDICATORS), Held::Empty, false));
+/// An instruction that reads nothing, the registers and the indicators before, the word of its final address, the registers
+/// and the indicators after, and what it puts. None overflows with a fault.
+type OfAddress<'a> = (Effect, (Numbers, &'a str), u32, (Numbers, &'a str), Put);
+
+const OF_ADDRESSES: &[OfAddress] = &[
+    (
+        Effect::Als,
+        ((0o200000000000, 0, 0), ""),
+        1,
+        ((LEAST, 0, 0), "nc"),
+        Put::Nothing,
+    ),
+    (
+        Effect::Ars,
+        ((LEAST, 0, 0), ""),
+        0o201,
+        ((0o600000000000, 0, 0), "n"),
+        Put::Nothing,
+    ),
+    (
+        Effect::Alr,
+        ((0o400000000001, 0, 0), ""),
+        1,
+        ((3, 0, 0), ""),
+        Put::Nothing,
+    ),
+    (
+        Effect::Lrl,
+        ((LEAST, 0, 0), ""),
+        71,
+        ((0, 1, 0), ""),
+        Put::Nothing,
+    ),
+    (
+        Effect::Eaq,
+        ((0, 0, 0), ""),
+        0o400000,
+        ((0, LEAST, 0), "n"),
+        Put::Nothing,
+    ),
+    (
+        Effect::Staq,
+        ((1, 2, 0), ""),
+        0,
+        ((1, 2, 0), ""),
+        Put::Two(1, 2),
+    ),
+    (
+        Effect::Sti,
+        ((0, 0, 0), "ct"),
+        0,
+        ((0, 0, 0), "ct"),
+        Put::One(0o102000),
+    ),
+];
+
+/// What an instruction of the table comes to.
+fn of_address(effect: Effect, regs: &Regs, word: u32) -> Option<Result<Effect36, Fault>> {
+    match effect {
+        Effect::Als => Some(effect_of(Effect::Als, 0, regs, word, Held::Empty)),
+        Effect::Ars => Some(effect_of(Effect::Ars, 0, regs, word, Held::Empty)),
+        Effect::Alr => Some(effect_of(Effect::Alr, 0, regs, word, Held::Empty)),
+        Effect::Lrl => Some(effect_of(Effect::Lrl, 0, regs, word, Held::Empty)),
+        Effect::Eaq => Some(effect_of(Effect::Eaq, 0, regs, word, Held::Empty)),
+        Effect::Staq => Some(effect_of(Effect::Staq, 0, regs, word, Held::Empty)),
+        Effect::Sti => Some(effect_of(Effect::Sti, 0, regs, word, Held::Empty)),
+        _ => None,
+    }
+}
+
+fn gives_of_address(row: &OfAddress) -> bool {
+    let (effect, (before, on), word, (after, letters), put) = row;
+    match of_address(*effect, &registers(*before, on, 5), *word) {
+        Some(found) => gives(&found, registers(*after, letters, 6), held(*put), false),
+        None => false,
+    }
 }
 
 #[test]
-fn loads_and_stores(rt: HostRuntime) {
-    let negative = Ind {
-        negative: true,
-        ..NO_INDICATORS
-    };
-    let lower = exec(
-        &row(Effect::LxlN, 3),
-        &before(0, 0, 0),
-        &at(0),
-        one(0o000001400002),
-    );
-    assert!(rt; gives(lower, after(0, 0, 0o400002, negative), Held::Empty, false));
-    let address = exec(
-        &row(Effect::Eaq, 0),
-        &before(0, 0, 0),
-        &at(0o400000),
-        none(),
-    );
-    assert!(rt; gives(address, after(0, LEAST, 0, negative), Held::Empty, false));
-    let both = Pair {
-        even: Word::low(1),
-        odd: Word::low(2),
-    };
-    let pair = exec(&row(Effect::Staq, 0), &before(1, 2, 0), &at(0), none());
-    assert!(rt; gives(pair, after(1, 2, 0, NO_INDICATORS), Held::Two(both), false));
-    let free = Ind {
-        zero: true,
-        ..NO_INDICATORS
-    };
-    let taken = exec(&row(Effect::Stac, 0), &before(7, 0, 0), &at(0), one(0));
-    assert!(rt; gives(taken, after(7, 0, 0, free), word(7), false));
-}
-
-// Bits 20 and 25 are carry and tally runout.
-#[test]
-fn indicators(rt: HostRuntime) {
-    let both = Ind {
-        carry: true,
-        tally: true,
-        ..NO_INDICATORS
-    };
-    let loaded = exec(
-        &row(Effect::Ldi, 0),
-        &before(0, 0, 0),
-        &at(0),
-        one(0o102000),
-    );
-    assert!(rt; gives(loaded, after(0, 0, 0, both), Held::Empty, false));
-    let stored = exec(
-        &row(Effect::Sti, 0),
-        &registers(0, 0, 0, both, 5),
-        &at(0),
-        none(),
-    );
-    assert!(rt; gives(stored, after(0, 0, 0, both), word(0o102000), false));
-}
-
-#[test]
-fn bits(rt: HostRuntime) {
-    let kept = exec(
-        &row(Effect::Ana, 0),
-        &before(0o1100, 0, 0),
-        &at(0),
-        one(0o1010),
-    );
-    assert!(rt; gives(kept, after(0o1000, 0, 0, NO_INDICATORS), Held::Empty, false));
-    let differing = exec(
-        &row(Effect::ErsxN, 3),
-        &before(0, 0, 0o1100),
-        &at(0),
-        one(0o001010000000),
-    );
-    assert!(rt;
-        gives(
-            differing,
-            after(0, 0, 0o1100, NO_INDICATORS),
-            word(0o110),
-            false
-        )
-    );
+fn effects_of_addresses(rt: HostRuntime) {
+    for row in OF_ADDRESSES {
+        assert!(rt; gives_of_address(row), "{:?}", row.0);
+    }
 }

@@ -3,6 +3,7 @@
 ghost use Rattle.std.specs.Prelude.{◌<◌, IsTrue};
 ghost use Rattle.m36_inst.specs.Operands.{operand_of};
 ghost use Rattle.m36_model.specs.OperandHeld.{HoldsFor};
+ghost use Rattle.m36_model.specs.declared.effects.Held.TheVariants as held;
 ghost use Rattle.m36_xptr.specs.PointerInstructions.{is_pointer};
 
 use m36_desc::{Dbr, Ptr};
@@ -10,7 +11,6 @@ use m36_inst::{Effect, Operand, Row};
 use m36_model::{At, Effect36, Fault, Final, Held, Ind, Operand36, Ppr, Regs};
 use m36_word::{Pair, Word};
 use m36_xptr::exec;
-use std::test::Fail;
 
 /// Bit 9 of word 22 of segment 123, from ring 4.
 const THERE: Final = Final {
@@ -85,43 +85,76 @@ fn effect_of(effect: Effect, reg: u8, regs: &Regs, got: Held) -> Result<Effect36
     exec(&row, regs, &THERE, operand)
 }
 
+/// The registers behind an instruction; those before it where it is refused.
+fn loaded(effect: Effect, reg: u8, got: Held) -> Regs
+    requires pointer { IsTrue (is_pointer effect) }
+    requires reg { reg < 8 }
+    requires got { HoldsFor (operand_of effect) got }
+{
+    let before = registers();
+    match effect_of(effect, reg, &before, got) {
+        Ok(found) => found.regs,
+        Err(_) => before,
+    }
+}
+
+/// What an instruction puts that reads nothing; None where it is refused.
+fn stored(effect: Effect, reg: u8, regs: &Regs) -> Option<Held>
+    requires pointer { IsTrue (is_pointer effect) }
+    requires reg { reg < 8 }
+    requires got { HoldsFor (operand_of effect) held.Empty }
+{
+    match effect_of(effect, reg, regs, Held::Empty) {
+        Ok(found) => Some(found.put),
+        Err(_) => None,
+    }
+}
+
+fn two(even: u64, odd: u64) -> Option<Held> {
+    Some(Held::Two(pair(even, odd)))
+}
+
 #[test]
-fn one_pointer(rt: HostRuntime) -> Result<(), Fail> {
-    let loaded = effect_of(Effect::EppN, 4, &registers(), Held::Empty)?.regs;
+fn one_pointer(rt: HostRuntime) {
+    let loaded = loaded(Effect::EppN, 4, Held::Empty);
     let there = Ptr {
         word: 0o22,
         seg: 0o123,
         ring: 4,
         bit: 9,
     };
-    assert_eq!(rt; loaded.pr[4], there);
-    assert_eq!(rt; loaded.ppr.ic, 0o777777);
-    let stored = effect_of(Effect::SpriN, 4, &loaded, Held::Empty)?;
-    assert_eq!(rt; stored.put, Held::Two(pair(0o000123400043, 0o000022011000)));
-    let stored = effect_of(Effect::SpbpN, 4, &loaded, Held::Empty)?;
-    assert_eq!(rt; stored.put, Held::Two(pair(0o000123400043, 0)));
+    assert!(rt; loaded.pr[4] == there && loaded.ppr.ic == 0o777777);
+    let pair = stored(Effect::SpriN, 4, &loaded);
+    assert!(rt; pair == two(0o000123400043, 0o000022011000));
+    let pair = stored(Effect::SpbpN, 4, &loaded);
+    assert!(rt; pair == two(0o000123400043, 0));
+}
 
-    let loaded = effect_of(Effect::EpbpN, 7, &registers(), Held::Empty)?.regs;
+#[test]
+fn base_of_a_segment(rt: HostRuntime) {
     let base = Ptr {
         word: 0,
         seg: 0o123,
         ring: 4,
         bit: 0,
     };
-    assert_eq!(rt; loaded.pr[7], base);
-
-    let loaded = effect_of(Effect::Epaq, 0, &registers(), Held::Empty)?.regs;
-    assert_eq!(rt; loaded.a.value(), 0o000123000004);
-    assert_eq!(rt; loaded.q.value(), 0o000022000011);
-    assert!(rt; !loaded.ind.zero && loaded.ind.negative);
-
-    let stored = effect_of(Effect::Stcd, 0, &registers(), Held::Empty)?;
-    assert_eq!(rt; stored.put, Held::Two(pair(0o000001400043, 0)));
-    Ok(())
+    assert!(rt; loaded(Effect::EpbpN, 7, Held::Empty).pr[7] == base);
 }
 
 #[test]
-fn packed_pointers(rt: HostRuntime) -> Result<(), Fail> {
+fn address_in_a_and_q(rt: HostRuntime) {
+    let loaded = loaded(Effect::Epaq, 0, Held::Empty);
+    assert!(rt; loaded.a.value() == 0o000123000004 && loaded.q.value() == 0o000022000011);
+    assert!(rt; !loaded.ind.zero && loaded.ind.negative);
+}
+
+#[test]
+fn control_double(rt: HostRuntime) {
+    assert!(rt; stored(Effect::Stcd, 0, &registers()) == two(0o000001400043, 0));
+}
+
+#[test]
+fn packed_pointer_refused(rt: HostRuntime) {
     let here = At {
         word: 0o777776,
         seg: 1,
@@ -135,25 +168,30 @@ fn packed_pointers(rt: HostRuntime) -> Result<(), Fail> {
     let wrong = Held::One(Word::low(0o600003000007));
     let refused = effect_of(Effect::LprpN, 4, &registers(), wrong);
     assert!(rt; refused == Err(command));
-
-    // The short segment number 7777 stands for 77777, and no other is extended.
-    let packed = [
-        (0o127777000100, pair(0o077777400043, 0o000100012000)),
-        (0o007776000100, pair(0o007776400043, 0o000100000000)),
-    ];
-    for (word, its) in packed {
-        let held = Held::One(Word::low(word));
-        let loaded = effect_of(Effect::LprpN, 4, &registers(), held)?.regs;
-        let stored = effect_of(Effect::SpriN, 4, &loaded, Held::Empty)?;
-        assert_eq!(rt; stored.put, Held::Two(its));
-    }
-    Ok(())
 }
 
-/// Pairs of rings 0 to 7, read in ring 4 from a segment whose first bracket is 1.
+/// Packed pointers, and the words of the pair of each. The short segment number 7777 stands for 77777, and no other is
+/// extended.
+const PACKED: &[(u64, u64, u64)] = &[
+    (0o127777000100, 0o077777400043, 0o000100012000),
+    (0o007776000100, 0o007776400043, 0o000100000000),
+];
+
+fn unpacked(word: u64) -> Option<Held> {
+    let loaded = loaded(Effect::LprpN, 4, Held::One(Word::low(word)));
+    stored(Effect::SpriN, 4, &loaded)
+}
+
 #[test]
-fn all_pointers(rt: HostRuntime) -> Result<(), Fail> {
-    let block = [
+fn packed_pointers(rt: HostRuntime) {
+    for (word, even, odd) in PACKED {
+        assert!(rt; unpacked(*word) == two(*even, *odd), "{word:o}");
+    }
+}
+
+/// Pairs of rings 0 to 7; the last is no pair by a segment, and has a tag.
+fn given() -> [Pair; 8] {
+    [
         pair(0o000123000043, 0o000022011000),
         pair(0o000123100043, 0o000022011000),
         pair(0o000123200043, 0o000022011000),
@@ -162,26 +200,32 @@ fn all_pointers(rt: HostRuntime) -> Result<(), Fail> {
         pair(0o000123500043, 0o000022011000),
         pair(0o000123600043, 0o000022011000),
         pair(0o000123700041, 0o000022011077),
-    ];
-    let loaded = effect_of(Effect::Lpri, 0, &registers(), Held::Block(block))?.regs;
-    let rings = [4, 4, 4, 4, 4, 5, 6, 7];
-    for n in 0..8 {
-        let pointer = loaded.pr[n];
-        assert_eq!(rt; (pointer.seg, pointer.word), (0o123, 0o22));
-        assert_eq!(rt; (pointer.ring, pointer.bit), (rings[n], 9));
-    }
-    let stored = effect_of(Effect::Spri, 0, &loaded, Held::Empty)?;
-    let raised = pair(0o000123400043, 0o000022011000);
-    let block = [
-        raised,
-        raised,
-        raised,
-        raised,
-        raised,
+    ]
+}
+
+/// The pairs of those pointers, read in ring 4 from a segment whose first bracket is 1.
+fn raised() -> [Pair; 8] {
+    [
+        pair(0o000123400043, 0o000022011000),
+        pair(0o000123400043, 0o000022011000),
+        pair(0o000123400043, 0o000022011000),
+        pair(0o000123400043, 0o000022011000),
+        pair(0o000123400043, 0o000022011000),
         pair(0o000123500043, 0o000022011000),
         pair(0o000123600043, 0o000022011000),
         pair(0o000123700043, 0o000022011000),
-    ];
-    assert!(rt; stored.put == Held::Block(block));
-    Ok(())
+    ]
+}
+
+/// The rings of those pointers.
+const RINGS: &[u8] = &[4, 4, 4, 4, 4, 5, 6, 7];
+
+#[test]
+fn all_pointers(rt: HostRuntime) {
+    let loaded = loaded(Effect::Lpri, 0, Held::Block(given()));
+    for (pointer, ring) in loaded.pr.iter().zip(RINGS) {
+        assert!(rt; (pointer.seg, pointer.word) == (0o123, 0o22), "{ring}");
+        assert!(rt; (pointer.ring, pointer.bit) == (*ring, 9), "{ring}");
+    }
+    assert!(rt; stored(Effect::Spri, 0, &loaded) == Some(Held::Block(raised())));
 }

@@ -10,7 +10,6 @@ use m36_inst::{Effect, Operand, Row};
 use m36_model::{At, Effect36, Fault, Final, Held, Ind, Operand36, Ppr, Regs};
 use m36_word::{Pair, Word};
 use m36_xfer::{exec, is_absa, is_taken};
-use std::test::Fail;
 
 const NOTHING_ON: Ind = Ind {
     zero: false,
@@ -90,6 +89,19 @@ fn effect_of(effect: Effect, reg: u8, regs: &Regs, got: Held, ring: u8) -> Resul
     exec(&row, regs, &last, operand)
 }
 
+/// The registers behind an instruction; those before it where it is refused.
+fn after(effect: Effect, reg: u8, before: &Regs, got: Held, ring: u8) -> Regs
+    requires control { IsTrue (is_control effect) }
+    requires reg { reg < 8 }
+    requires got { HoldsFor (operand_of effect) got }
+    requires ring { ring < 2 ^ 3 }
+{
+    match effect_of(effect, reg, before, got, ring) {
+        Ok(found) => found.regs,
+        Err(_) => *before,
+    }
+}
+
 fn stands_at(regs: &Regs, seg: u16, ring: u8, word: u32) -> bool {
     let ppr = regs.ppr;
     ppr.psr == seg && ppr.prr == ring && ppr.ic == word
@@ -102,67 +114,118 @@ fn points_to(pointer: Ptr, seg: u16, ring: u8, word: u32) -> bool {
 
 /// The ring of the caller, the ring that is entered, and the segment of the stack: in another ring that of the entered
 /// ring, in the same that of PR6.
-const CALLS: [(u8, u8, u16); 2] = [(4, 0, 0o10), (3, 3, 5)];
+const CALLS: &[(u8, u8, u16)] = &[(4, 0, 0o10), (3, 3, 5)];
 
 /// The ring that returns, the pair, and the first bracket of its segment, for a return to ring 4: by the pair's ring, by the
 /// ring of the reference, and by the first bracket.
-const RETURNS: [(u8, u64, u8); 3] = [
+const RETURNS: &[(u8, u64, u8)] = &[
     (0, 0o000001400043, 0),
     (4, 0o000001000043, 0),
     (0, 0o000001000043, 4),
 ];
 
-#[test]
-fn calls_and_returns(rt: HostRuntime) -> Result<(), Fail> {
-    for (from, to, stack) in CALLS {
-        let called = effect_of(Effect::Call6, 0, &registers(from % 8), Held::Empty, to % 8)?.regs;
-        assert!(rt; stands_at(&called, 3, to, 1), "{from}");
-        assert!(rt; points_to(called.pr[7], stack, to, 0), "{from}");
-    }
-    for (from, even, bracket) in RETURNS {
-        let held = Held::Two(pair(even, 0o000002000000));
-        let regs = effect_of(Effect::Rtcd, 0, &registers(from % 8), held, bracket % 8)?.regs;
-        assert!(rt; stands_at(&regs, 1, 4, 2), "{from} {bracket}");
-        for pointer in regs.pr {
-            assert!(rt; pointer == registers(4).pr[0], "{from} {bracket}");
-        }
-    }
-    Ok(())
+fn calls(from: u8, to: u8, stack: u16) -> bool {
+    let called = after(Effect::Call6, 0, &registers(from % 8), Held::Empty, to % 8);
+    stands_at(&called, 3, to, 1) && points_to(called.pr[7], stack, to, 0)
 }
 
 #[test]
-fn transfers_and_descriptor_base(rt: HostRuntime) -> Result<(), Fail> {
-    let gone = effect_of(Effect::TsxN, 1, &registers(4), Held::Empty, 0)?.regs;
+fn calls_enter_rings(rt: HostRuntime) {
+    for (from, to, stack) in CALLS {
+        assert!(rt; calls(*from, *to, *stack), "{from}");
+    }
+}
+
+fn returned(from: u8, even: u64, bracket: u8) -> Regs {
+    let held = Held::Two(pair(even, 0o000002000000));
+    after(Effect::Rtcd, 0, &registers(from % 8), held, bracket % 8)
+}
+
+fn are_of_ring_4(pointers: &[Ptr; 8]) -> bool {
+    let expected = registers(4).pr[0];
+    for pointer in pointers {
+        if *pointer != expected {
+            return false;
+        }
+    }
+    true
+}
+
+#[test]
+fn returns_to_ring_4(rt: HostRuntime) {
+    for (from, even, bracket) in RETURNS {
+        let regs = returned(*from, *even, *bracket);
+        assert!(rt; stands_at(&regs, 1, 4, 2), "{from} {bracket}");
+        assert!(rt; are_of_ring_4(&regs.pr), "{from} {bracket}");
+    }
+}
+
+#[test]
+fn transfers_that_set(rt: HostRuntime) {
+    let gone = after(Effect::TsxN, 1, &registers(4), Held::Empty, 0);
     assert!(rt; gone.x[1] == 4 && stands_at(&gone, 3, 4, 1));
-    let gone = effect_of(Effect::TspN, 2, &registers(4), Held::Empty, 0)?.regs;
+    let gone = after(Effect::TspN, 2, &registers(4), Held::Empty, 0);
     assert!(rt; points_to(gone.pr[2], 1, 4, 4) && stands_at(&gone, 3, 4, 1));
-    let gone = effect_of(Effect::Tov, 0, &registers(4), Held::Empty, 0)?.regs;
+}
+
+#[test]
+fn transfer_on_overflow(rt: HostRuntime) {
+    let gone = after(Effect::Tov, 0, &registers(4), Held::Empty, 0);
     assert!(rt; stands_at(&gone, 1, 4, 4));
     let mut regs = registers(4);
     regs.ind.overflow = true;
-    let gone = effect_of(Effect::Tov, 0, &regs, Held::Empty, 0)?.regs;
+    let gone = after(Effect::Tov, 0, &regs, Held::Empty, 0);
     assert!(rt; stands_at(&gone, 3, 4, 1) && gone.ind == NOTHING_ON);
-    let gone = effect_of(Effect::Nop, 0, &regs, Held::Empty, 0)?.regs;
-    assert!(rt; stands_at(&gone, 1, 4, 4) && gone.ind == regs.ind);
+}
 
+#[test]
+fn no_operation(rt: HostRuntime) {
+    let mut regs = registers(4);
+    regs.ind.overflow = true;
+    let gone = after(Effect::Nop, 0, &regs, Held::Empty, 0);
+    assert!(rt; stands_at(&gone, 1, 4, 4) && gone.ind == regs.ind);
+}
+
+/// Registers of ring 0 with a descriptor base that was loaded.
+fn with_base() -> Regs {
     let words = Held::Two(pair(0o000001000000, 0o000010200007));
-    let loaded = effect_of(Effect::Ldbr, 0, &registers(0), words, 0)?.regs;
+    after(Effect::Ldbr, 0, &registers(0), words, 0)
+}
+
+#[test]
+fn descriptor_base(rt: HostRuntime) {
     let dbr = Dbr {
         addr: 0o100,
         bnd: 1,
         stack: 7,
         unpaged: true,
     };
-    assert!(rt; loaded.dbr == dbr);
-    assert!(rt; effect_of(Effect::Sdbr, 0, &loaded, Held::Empty, 0)?.put == words);
-    let found = effect_of(Effect::Absa, 0, &loaded, Held::Empty, 0)?.regs;
+    assert!(rt; with_base().dbr == dbr);
+}
+
+fn puts(found: &Result<Effect36, Fault>, put: Held) -> bool {
+    match found {
+        Ok(effect) => effect.put == put,
+        Err(_) => false,
+    }
+}
+
+#[test]
+fn descriptor_base_stored(rt: HostRuntime) {
+    let words = Held::Two(pair(0o000001000000, 0o000010200007));
+    let stored = effect_of(Effect::Sdbr, 0, &with_base(), Held::Empty, 0);
+    assert!(rt; puts(&stored, words));
+}
+
+#[test]
+fn absolute_address(rt: HostRuntime) {
+    let found = after(Effect::Absa, 0, &with_base(), Held::Empty, 0);
     assert!(rt; found.a.value() == 0o400000000000);
     assert!(rt; found.ind.negative && !found.ind.zero);
-    Ok(())
 }
 
 /// Conditional transfers, and whether each is taken where its indicators are on; where they are off it is the opposite.
-const CONDITIONS: [(Effect, bool); 10] = [
+const CONDITIONS: &[(Effect, bool)] = &[
     (Effect::Tze, true),
     (Effect::Tmi, true),
     (Effect::Trc, true),
@@ -189,7 +252,7 @@ fn conditions(rt: HostRuntime) {
     };
     for (effect, taken) in CONDITIONS {
         assert!(rt;
-            is_taken(effect, &on) == taken && is_taken(effect, &off) != taken,
+            is_taken(*effect, &on) == *taken && is_taken(*effect, &off) != *taken,
             "{effect:?}"
         );
     }
