@@ -114,7 +114,7 @@ const ASSEMBLIES: &[&[u8]] = &[b"alm main", b"alm con_", b"alm changes"];
 
 // Whether a command comes to what is due over a folder of these sources, assembled, and a boot text, where a read and a put
 // fail. The sources are read first, so the boot text is the fourth file.
-fn boots(
+fn command_comes_to(
     alloc: Global,
     boot: &[u8],
     command: &[u8],
@@ -165,7 +165,7 @@ fn boots_folders(rt: HostRuntime) -> Result<(), NoMemory> {
     for (boot, command, number, output) in BOOTS {
         let due = Due::Writes(*number, output);
         assert!(rt;
-            boots(rt.alloc(), boot, command, (0, 0), due)?,
+            command_comes_to(rt.alloc(), boot, command, (0, 0), due)?,
             "{command:?}"
         );
     }
@@ -185,7 +185,7 @@ fn tells_faults_of_folders(rt: HostRuntime) -> Result<(), NoMemory> {
     for (read, put, number, length) in FAULTS {
         let due = Due::Length(*number, *length);
         assert!(rt;
-            boots(rt.alloc(), HELLO, b"run", (*read, *put), due)?,
+            command_comes_to(rt.alloc(), HELLO, b"run", (*read, *put), due)?,
             "at {read} {put}"
         );
     }

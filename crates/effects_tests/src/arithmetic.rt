@@ -198,7 +198,7 @@ fn is_found(found: Found, value: u128, letters: &str) -> bool {
 }
 
 #[test]
-fn sums(rt: HostRuntime) {
+fn sums_come_to(rt: HostRuntime) {
     for (operation, x, y, carry, value, letters) in SUMS {
         assert!(rt;
             is_found(sum(*operation, *x, *y, *carry), *value, letters),
@@ -208,7 +208,7 @@ fn sums(rt: HostRuntime) {
 }
 
 #[test]
-fn shifts(rt: HostRuntime) {
+fn shifts_come_to(rt: HostRuntime) {
     for (bits, kind, v, count, value, letters) in SHIFTS {
         assert!(rt;
             is_found(shift(*bits, *kind, *v, *count), *value, letters),
@@ -263,21 +263,21 @@ fn compares(bits: u8, x: u128, y: u128, letters: &str) -> bool {
 }
 
 #[test]
-fn comparisons(rt: HostRuntime) {
+fn comparisons_come_to(rt: HostRuntime) {
     for (bits, x, y, letters) in COMPARISONS {
         assert!(rt; compares(*bits, *x, *y, letters), "{x:o} {y:o}");
     }
 }
 
 #[test]
-fn products(rt: HostRuntime) {
+fn products_come_to(rt: HostRuntime) {
     for (x, y, product) in PRODUCTS {
         assert!(rt; mul(word(*x), word(*y)).value() == *product, "{x:o} {y:o}");
     }
 }
 
 #[test]
-fn quotients(rt: HostRuntime) {
+fn quotients_come_to(rt: HostRuntime) {
     for (q, y, expected) in QUOTIENTS {
         assert!(rt; quotient(*q, *y) == *expected, "{q:o} {y:o}");
     }
@@ -370,7 +370,7 @@ fn result_of(bits: u8, operation: Boolean, x: u128, y: u128) -> u128 {
 }
 
 #[test]
-fn booleans(rt: HostRuntime) {
+fn booleans_come_to(rt: HostRuntime) {
     for (bits, operation, x, y, value) in BOOLEANS {
         assert!(rt;
             result_of(*bits, *operation, *x, *y) == *value,

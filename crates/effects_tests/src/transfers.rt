@@ -124,7 +124,7 @@ const RETURNS: &[(u8, u64, u8)] = &[
     (0, 0o000001000043, 4),
 ];
 
-fn calls(from: u8, to: u8, stack: u16) -> bool {
+fn call_enters(from: u8, to: u8, stack: u16) -> bool {
     let called = after(Effect::Call6, 0, &registers(from % 8), Held::Empty, to % 8);
     stands_at(&called, 3, to, 1) && points_to(called.pr[7], stack, to, 0)
 }
@@ -132,7 +132,7 @@ fn calls(from: u8, to: u8, stack: u16) -> bool {
 #[test]
 fn calls_enter_rings(rt: HostRuntime) {
     for (from, to, stack) in CALLS {
-        assert!(rt; calls(*from, *to, *stack), "{from}");
+        assert!(rt; call_enters(*from, *to, *stack), "{from}");
     }
 }
 
@@ -239,7 +239,7 @@ const CONDITIONS: &[(Effect, bool)] = &[
 ];
 
 #[test]
-fn conditions(rt: HostRuntime) {
+fn conditions_decide(rt: HostRuntime) {
     let off = registers(0);
     let mut on = off;
     on.ind = Ind {

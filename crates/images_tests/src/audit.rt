@@ -170,7 +170,7 @@ fn are_found(verdict: &Verdict, expected: &[(u8, u32)]) -> bool {
 }
 
 /// Of whole segments.
-const WHOLE: &[Image] = &[
+const WHOLE_SEGMENTS: &[Image] = &[
     // The least image, and brackets 4 3 4 of two segments.
     Image(Base::Eight, &[Whole(1, 0o40, 0)], &[], &[]),
     Image(
@@ -282,7 +282,7 @@ fn is_found(alloc: Global, image: &Image) -> Result<bool, NoMemory> {
 
 #[test]
 fn findings_of_images(rt: HostRuntime) -> Result<(), NoMemory> {
-    for (n, image) in WHOLE.iter().enumerate() {
+    for (n, image) in WHOLE_SEGMENTS.iter().enumerate() {
         assert!(rt; is_found(rt.alloc(), image)?, "image {n}");
     }
     Ok(())

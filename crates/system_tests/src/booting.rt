@@ -183,7 +183,7 @@ const CORE: [(usize, u64); 16] = [
 ];
 
 /// Words of its segments: the number of the segment, the word, and what stands there.
-const WORDS: [(u16, u32, Option<u64>); 18] = [
+const SEGMENT_WORDS: [(u16, u32, Option<u64>); 18] = [
     (8, 22, Some(0o000020000043)),
     (12, 21, Some(0)),
     (12, 22, Some(0o000024400043)),
@@ -222,7 +222,7 @@ fn core_words() -> &'static [(usize, u64)] {
 }
 
 fn segment_words() -> &'static [(u16, u32, Option<u64>)] {
-    &WORDS
+    &SEGMENT_WORDS
 }
 
 fn second_of(alloc: Global, second: Second) -> Result<Words, NoMemory> {

@@ -190,7 +190,7 @@ fn sets(paged: &mut Paged, seg: u16, word: u32, number: u64) -> bool
 }
 
 /// Words of segments, and the numbers that stand there.
-const WORDS: &[(u16, u32, Option<u64>)] = &[
+const SEGMENT_WORDS: &[(u16, u32, Option<u64>)] = &[
     (5, 0, Some(5000)),
     (5, 1024, Some(6024)),
     (5, 1025, Some(8)),
@@ -207,7 +207,7 @@ fn has_words(paged: &Paged) -> bool
     requires frames { HasFrames paged.now.pager paged.now.core }
     requires reads { Reads paged.now.pager paged.now.core }
 {
-    for (seg, word, number) in WORDS {
+    for (seg, word, number) in SEGMENT_WORDS {
         if number_at(paged, *seg, *word) != *number {
             return false;
         }
