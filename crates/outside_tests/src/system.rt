@@ -25,6 +25,8 @@ fn folder_keeps_a_file(rt: HostRuntime) -> Result<(), Fail> {
     let alloc = rt.alloc();
     let mut folder = DirFolder::new(rt.clone()?);
     let name = b"m36_outside_file";
+    // A run that was killed may have left the file.
+    let _ = fs::remove_file(&rt, "m36_outside_file");
     assert!(rt; matches!(folder.read(alloc, name), ReadAnswer::Absent));
     let large = vec![in alloc; b'x'; FILE_LIMIT + 1]?;
     for content in [b"bare words\n".as_slice(), b"", b"\0\xff", &large[1..]] {
@@ -78,6 +80,8 @@ const DEVICES: &[(&str, &[u8], WriteAnswer)] = &[
 fn folder_writes_to_devices(rt: HostRuntime) -> Result<(), Fail> {
     let mut folder = DirFolder::new(rt.clone()?);
     for (device, bytes, want) in DEVICES {
+        // A run that was killed may have left the link.
+        let _ = fs::remove_file(&rt, "m36_outside_device");
         symlink(&rt, *device, "m36_outside_device")?;
         let answer = folder.write(rt.alloc(), b"m36_outside_device", bytes);
         fs::remove_file(&rt, "m36_outside_device")?;
