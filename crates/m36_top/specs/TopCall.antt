@@ -153,12 +153,12 @@ pub record SaysYes (yes : List ℕ) (old new : Option (List ℕ)) : Type 0 where
   pub was : old ≡ Some before
   pub is : new ≡ Some (before ++ (yes ++ rest))
 
--- it does not begin with the line
+-- what is written does not begin with the line `audit yes`
 abbrev pub SaysNoYes : Outside → Outside → Type 0
 SaysNoYes old new = ¬ SaysYes yes_line old.sink.written new.sink.written
 
--- Where it does, the image, the folder, the folder that is made or the processes that the command
--- audits pass. Nothing is owed for a command that audits none.
+-- Where what is written begins so, the image, the folder, the folder that is made or the processes
+-- that the command audits pass. Nothing is owed for a command that audits none.
 abbrev pub YesPasses : Early Due → Outside → Outside → Type 0
 YesPasses (Ok due) old new =
     SaysYes (yes_of due) old.sink.written new.sink.written → Promises due
