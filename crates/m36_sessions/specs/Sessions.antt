@@ -59,7 +59,7 @@ abbrev pub IsSessionBegun : Told → Answer → Type 0
 IsSessionBegun Holds due =
     IsAnswerOf Holds (Err fault.WriteFault) (session_status (Err fault.WriteFault) stdin_name) due
 
--- What is said of a session that ended so is written whole.
+-- What is said of a session that ended so is written whole; the status is not looked at here.
 pub record IsWritten (Holds : Told) (ended : Result (Unit {0}) SessionFault) (old new : Outside)
     : Type 0 where
   pub lines : List (List ℕ)
