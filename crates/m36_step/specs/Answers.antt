@@ -1,5 +1,5 @@
 -- Kinds of answers of a turn and of going back.
-use Rattle.std.specs.Prelude.{◌≡◌, ℕ, Bool, true, false, T}
+use Rattle.std.specs.Prelude.{◌≡◌, Bool, true, false, T}
 use Rattle.m36_step.specs.declared.turns.Turn.{Turn}
 use Rattle.m36_step.specs.declared.turns.Turn.TheVariants.{Stepped, Linked, Console, Ended, Full}
 use Rattle.m36_step.specs.declared.turns.Turn.TheVariants.{NoMemory}
@@ -27,9 +27,9 @@ IsStepOrEnd Same (Ended end) = Same
 IsStepOrEnd Same Full = ⊥
 IsStepOrEnd Same NoMemory = ⊥
 
--- It has answered that it can't go back, and stays.
-abbrev pub StaysPut : {S : Type 0} → S → ℕ → BackAnswer → S → Type 0
-StaysPut before n answer later = (answer ≡ back.Unable) × (later ≡ before)
+-- it answers that it cannot go back, and is as before
+abbrev pub IsUnable : {S : Type 0} → S → BackAnswer → S → Type 0
+IsUnable before answer later = (answer ≡ back.Unable) × (later ≡ before)
 
 -- the machine has gone back
 abbrev pub IsDone : BackAnswer → Type 0

@@ -8,7 +8,7 @@ use Rattle.m36_model.specs.declared.endings.End.{End}
 use Rattle.m36_model.specs.declared.endings.End.TheVariants as end
 use Rattle.m36_model.specs.declared.outcome.Outcome.{Outcome}
 use Rattle.m36_model.specs.declared.outcome.Outcome.TheVariants.{Next, Faulted, Stopped}
-use Rattle.m36_step.specs.Answers.{IsDone, IsService, IsStepOrEnd, StaysPut}
+use Rattle.m36_step.specs.Answers.{IsDone, IsService, IsStepOrEnd, IsUnable}
 use Rattle.m36_step.specs.MachineFields.{MachineFields}
 use Rattle.m36_step.specs.declared.turns.Turn.{Turn}
 use Rattle.m36_step.specs.declared.turns.Turn.TheVariants.{Stepped, Ended}
@@ -44,7 +44,7 @@ MachineTurns before turn later = (turn ≡ machine_turn before) × (later ≡ ma
 
 -- A machine does not go back.
 abbrev pub MachineWent : MachineFields → ℕ → BackAnswer → MachineFields → Type 0
-MachineWent before n answer later = StaysPut before n answer later
+MachineWent before n answer later = IsUnable before answer later
 
 pub machine_stays :
     (before : MachineFields) (n : ℕ) (answer : BackAnswer) (after : MachineFields)

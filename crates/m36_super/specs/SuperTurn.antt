@@ -10,7 +10,7 @@ use Rattle.m36_model.specs.Fields.{AtFields}
 use Rattle.m36_model.specs.declared.outcome.Fault.{Fault}
 use Rattle.m36_link.specs.Fields.{SnapFields}
 use Rattle.m36_link.specs.Snap.{RefusedFields}
-use Rattle.m36_step.specs.Answers.{IsDone, IsService, StaysPut}
+use Rattle.m36_step.specs.Answers.{IsDone, IsService, IsUnable}
 use Rattle.m36_step.specs.declared.turns.Turn.{Turn}
 use Rattle.m36_step.specs.declared.turns.Turn.TheVariants.{Stepped, Linked, Console, Ended, Full}
 use Rattle.m36_step.specs.declared.turns.Turn.TheVariants.{NoMemory}
@@ -27,7 +27,7 @@ SuperTurns before turn later =
 
 -- A booted system does not go back.
 abbrev pub SuperWent : SuperFields → ℕ → BackAnswer → SuperFields → Type 0
-SuperWent before n answer later = StaysPut before n answer later
+SuperWent before n answer later = IsUnable before answer later
 
 -- The content of a word: of the flat memory until an LDBR has been executed, and of core
 -- from then on.
