@@ -14,7 +14,7 @@ use std::alloc::Global;
 const MOST_ENTRIES: u32 = 16383;
 
 // Whether a gate may have so many entries.
-fn is_limit(bound: u32) -> bool
+fn is_entry_count(bound: u32) -> bool
     ensures value { result ≡ is_entry_count bound }
     ensures small { result ≡ true → IsLimit bound }
 {
@@ -30,7 +30,7 @@ fn gate_limit(seg: u16, file: &File) -> Result<u16, BootFault>
         return Err(BootFault::U4(seg));
     };
     let bound = object.entry_bound();
-    if !is_limit(bound) {
+    if !is_entry_count(bound) {
         return Err(BootFault::U2(seg));
     }
     Ok(bound as u16)
