@@ -13,7 +13,7 @@ use Rattle.m36_debug.specs.declared.session_line.SessionLine.TheVariants as sess
 use Rattle.m36_debug.specs.declared.turning.Ends.{Ends}
 use Rattle.m36_debug.specs.declared.turning.Ends.TheVariants as ends
 use Rattle.m36_debug.specs.Parts.{Part, CutPart, EndSays, EndPuts, IsTold, CommandSays, BackSays, told}
-use Rattle.m36_debug.specs.Putting.{PutAll, PutSome, PutsLines}
+use Rattle.m36_outside.specs.Putting.{PutsPieces}
 use Rattle.m36_debug.specs.Session.{Turning, Doing, Waiting, Running, Backing, Over, Starved, Standing, standing, Took, Went, onward, said, begun, remembered, line_says, run_begun, went, back_says}
 use Rattle.m36_debug.specs.SessionLines.{session_line}
 use Rattle.m36_debug.specs.SessionTexts.{unknown_line, end_line, end_lines}
@@ -24,7 +24,7 @@ use Rattle.m36_debug.proofs.PartLaws.{event_part, event_cut, part_on, part_cut}
 -- a part, and then what an answer says
 pub then_ends :
     {M : Type 0} (o : Turning M) (end : Ends) (s : Standing) (m : M) (lines others : List (List ℕ)) (s1 : Standing) (m1 : M) (sitting : SittingFields) (m2 : M) (old now new : SinkState)
-    → Part o s m lines s1 m1 (PutAll old now) → EndSays o end s1 m1 others sitting m2 now new
+    → Part o s m lines s1 m1 Done old now → EndSays o end s1 m1 others sitting m2 now new
     → EndSays o end s m (lines ++ others) sitting m2 old new
 then_ends o ends.Line s m lines others s1 m1 sitting m2 old now new one two =
     part_on o s m lines others s1 m1 (standing sitting Waiting) m2 old now new one two
@@ -38,33 +38,33 @@ then_ends o ends.Cut s m lines others s1 m1 sitting m2 old now new one two =
 -- a line of this kind was taken
 took_part :
     {M : Type 0} (o : Turning M) (s : SittingFields) (m : M) (text : List ℕ) (kind : SessionLine) (old new : SinkState)
-    → session_line text ≡ kind → PutAll old new (line_says (o.regs m) (o.content m) s text kind)
-    → Part o (standing s Waiting) m (text ∷ []) (standing (remembered s kind) (begun s text kind)) m (PutAll old new)
+    → session_line text ≡ kind → PutsPieces Done (line_says (o.regs m) (o.content m) s text kind) old new
+    → Part o (standing s Waiting) m (text ∷ []) (standing (remembered s kind) (begun s text kind)) m Done old new
 unfolding onward said
 took_part o s m text kind old new is puts =
-    let P : SessionLine → Type 0 = λ k. Part o (standing s Waiting) m (text ∷ []) (standing (remembered s k) (begun s text k)) m (PutAll old new) in
+    let P : SessionLine → Type 0 = λ k. Part o (standing s Waiting) m (text ∷ []) (standing (remembered s k) (begun s text k)) m Done old new in
     subst P is
     (event_part o (standing s Waiting) m m (Took text) old new refl
-    (subst (λ k. PutAll old new (line_says (o.regs m) (o.content m) s text k)) (sym is) puts))
+    (subst (λ k. PutsPieces Done (line_says (o.regs m) (o.content m) s text k) old new) (sym is) puts))
 
 took_cut :
     {M : Type 0} (o : Turning M) (s : SittingFields) (m : M) (text : List ℕ) (kind : SessionLine) (old new : SinkState)
-    → session_line text ≡ kind → PutSome old new (line_says (o.regs m) (o.content m) s text kind)
+    → session_line text ≡ kind → PutsPieces Failed (line_says (o.regs m) (o.content m) s text kind) old new
     → CutPart o (standing s Waiting) m (text ∷ []) m old new
 unfolding said
 took_cut o s m text kind old new is puts =
     event_cut o (standing s Waiting) m m (Took text) old new refl
-    (subst (λ k. PutSome old new (line_says (o.regs m) (o.content m) s text k)) (sym is) puts)
+    (subst (λ k. PutsPieces Failed (line_says (o.regs m) (o.content m) s text k) old new) (sym is) puts)
 
 -- it was told at once
 pub took_told :
     {M : Type 0} (o : Turning M) (put : Put) (s : SittingFields) (m : M) (text : List ℕ) (kind : SessionLine) (sitting : SittingFields) (old new : SinkState)
     → session_line text ≡ kind → begun s text kind ≡ Waiting → sitting ≡ remembered s kind
-    → PutsLines put old new (line_says (o.regs m) (o.content m) s text kind)
+    → PutsPieces put (line_says (o.regs m) (o.content m) s text kind) old new
     → EndSays o (told put) (standing s Waiting) m (text ∷ []) sitting m old new
 took_told o Done s m text kind sitting old new is waits remembers puts =
-    subst (λ r. Part o (standing s Waiting) m (text ∷ []) (standing r Waiting) m (PutAll old new)) (sym remembers)
-    (subst (λ d. Part o (standing s Waiting) m (text ∷ []) (standing (remembered s kind) d) m (PutAll old new)) waits (took_part o s m text kind old new is puts))
+    subst (λ r. Part o (standing s Waiting) m (text ∷ []) (standing r Waiting) m Done old new) (sym remembers)
+    (subst (λ d. Part o (standing s Waiting) m (text ∷ []) (standing (remembered s kind) d) m Done old new) waits (took_part o s m text kind old new is puts))
 took_told o Failed s m text kind sitting old new is waits remembers puts = took_cut o s m text kind old new is puts
 
 -- the same by how it ended
@@ -111,11 +111,11 @@ took_then :
     → EndSays o end (standing s doing) m [] sitting m' old new
     → EndSays o end (standing s Waiting) m (text ∷ []) sitting m' old new
 took_then o end s m text kind doing sitting m' old new is begins remembers silent says =
-    let took : Part o (standing s Waiting) m (text ∷ []) (standing (remembered s kind) (begun s text kind)) m (PutAll old old) =
-    took_part o s m text kind old old is (subst (PutAll old old) (sym silent) (puts_nothing old)) in
-    let there : Part o (standing s Waiting) m (text ∷ []) (standing s doing) m (PutAll old old) =
-    subst (λ r. Part o (standing s Waiting) m (text ∷ []) (standing r doing) m (PutAll old old)) remembers
-    (subst (λ d. Part o (standing s Waiting) m (text ∷ []) (standing (remembered s kind) d) m (PutAll old old)) begins took) in
+    let took : Part o (standing s Waiting) m (text ∷ []) (standing (remembered s kind) (begun s text kind)) m Done old old =
+    took_part o s m text kind old old is (subst (λ l. PutsPieces Done l old old) (sym silent) (puts_nothing old)) in
+    let there : Part o (standing s Waiting) m (text ∷ []) (standing s doing) m Done old old =
+    subst (λ r. Part o (standing s Waiting) m (text ∷ []) (standing r doing) m Done old old) remembers
+    (subst (λ d. Part o (standing s Waiting) m (text ∷ []) (standing (remembered s kind) d) m Done old old) begins took) in
     then_ends o end (standing s Waiting) m (text ∷ []) [] (standing s doing) m sitting m' old old new there says
 
 -- a command that takes turns, by whether the run has ended
@@ -166,15 +166,15 @@ took_back o end n s m text sitting m' old new is back =
 -- the machine was to go back
 pub went_part :
     {M : Type 0} (o : Turning M) (answer : BackAnswer) (n : ℕ) (text : List ℕ) (s : SittingFields) (m m' : M) (old new : SinkState)
-    → o.went m n answer m' → PutAll old new (back_says (o.regs m') text answer)
-    → Part o (standing s (Backing n text)) m [] (went s n answer) m' (PutAll old new)
+    → o.went m n answer m' → PutsPieces Done (back_says (o.regs m') text answer) old new
+    → Part o (standing s (Backing n text)) m [] (went s n answer) m' Done old new
 unfolding onward said
 went_part o answer n text s m m' old new may puts =
     event_part o (standing s (Backing n text)) m m' (Went answer) old new may puts
 
 pub went_cut :
     {M : Type 0} (o : Turning M) (answer : BackAnswer) (n : ℕ) (text : List ℕ) (s : SittingFields) (m m' : M) (old new : SinkState)
-    → o.went m n answer m' → PutSome old new (back_says (o.regs m') text answer)
+    → o.went m n answer m' → PutsPieces Failed (back_says (o.regs m') text answer) old new
     → CutPart o (standing s (Backing n text)) m [] m' old new
 unfolding said
 went_cut o answer n text s m m' old new may puts =
@@ -185,18 +185,18 @@ went_cut o answer n text s m m' old new may puts =
 -- what is told at once, by how it ended
 pub told_puts :
     (put : Put) (old new : SinkState) (lines : List (List ℕ))
-    → PutsLines put old new lines → EndPuts (told put) old new lines
+    → PutsPieces put lines old new → EndPuts (told put) old new lines
 told_puts Done old new lines puts = puts
 told_puts Failed old new lines puts = puts
 
 -- the end was told again
 pub command_told :
     {M : Type 0} (o : Turning M) (put : Put) (answer : Ends) (end : End) (run : Run) (s : SittingFields) (taken : ℕ) (m : M) (old new : SinkState)
-    → Some end ≡ s.ended → taken ≡ s.taken → PutsLines put old new (end_line end taken ∷ []) → answer ≡ told put
+    → Some end ≡ s.ended → taken ≡ s.taken → PutsPieces put (end_line end taken ∷ []) old new → answer ≡ told put
     → CommandSays o answer s.ended run s m s m old new
 command_told o put answer end run s taken m old new is counted puts ends =
-    let lines : PutsLines put old new (end_line end s.taken ∷ []) =
-    subst (λ (n : ℕ). PutsLines put old new (end_line end n ∷ [])) counted puts in
+    let lines : PutsPieces put (end_line end s.taken ∷ []) old new =
+    subst (λ (n : ℕ). PutsPieces put (end_line end n ∷ []) old new) counted puts in
     let there : IsTold (told put) (end_line end s.taken ∷ []) s m s m old new =
     record { puts = told_puts put old new (end_line end s.taken ∷ []) lines; sitting_stays = refl; machine_stays = refl } in
     subst (λ (e : Option End). CommandSays o answer e run s m s m old new) is
@@ -214,11 +214,11 @@ command_ran o answer run s m sitting m' old new is says =
 pub went_told :
     {M : Type 0} (o : Turning M) (put : Put) (end : Ends) (answer : BackAnswer) (n : ℕ) (text : List ℕ) (s sitting : SittingFields) (m m' : M) (old new : SinkState)
     → o.went m n answer m' → went s n answer ≡ standing sitting Waiting
-    → PutsLines put old new (back_says (o.regs m') text answer) → end ≡ told put
+    → PutsPieces put (back_says (o.regs m') text answer) old new → end ≡ told put
     → EndSays o end (standing s (Backing n text)) m [] sitting m' old new
 went_told o Done end answer n text s sitting m m' old new may stands puts ends =
     subst (λ (a : Ends). EndSays o a (standing s (Backing n text)) m [] sitting m' old new) (sym ends)
-    (subst (λ (t : Standing). Part o (standing s (Backing n text)) m [] t m' (PutAll old new)) stands (went_part o answer n text s m m' old new may puts))
+    (subst (λ (t : Standing). Part o (standing s (Backing n text)) m [] t m' Done old new) stands (went_part o answer n text s m m' old new may puts))
 went_told o Failed end answer n text s sitting m m' old new may stands puts ends =
     subst (λ (a : Ends). EndSays o a (standing s (Backing n text)) m [] sitting m' old new) (sym ends)
     (went_cut o answer n text s m m' old new may puts)
@@ -239,7 +239,7 @@ back_went o end n text s m sitting m' old new enough says =
 -- fewer were
 pub back_not :
     {M : Type 0} (o : Turning M) (put : Put) (end : Ends) (n : ℕ) (text : List ℕ) (s : SittingFields) (m : M) (old new : SinkState)
-    → nat_le n s.taken ≡ false → PutsLines put old new (unknown_line text ∷ []) → end ≡ told put
+    → nat_le n s.taken ≡ false → PutsPieces put (unknown_line text ∷ []) old new → end ≡ told put
     → BackSays o end (nat_le n s.taken) text n s m s m old new
 back_not o put end n text s m old new few puts ends =
     let there : IsTold (told put) (unknown_line text ∷ []) s m s m old new =
@@ -251,7 +251,7 @@ back_not o put end n text s m old new few puts ends =
 pub took_at_once :
     {M : Type 0} (o : Turning M) (put : Put) (end : Ends) (s : SittingFields) (m : M) (text : List ℕ) (kind : SessionLine) (sitting : SittingFields) (old new : SinkState)
     → kind ≡ session_line text → begun s text kind ≡ Waiting → sitting ≡ remembered s kind
-    → PutsLines put old new (line_says (o.regs m) (o.content m) s text kind) → end ≡ told put
+    → PutsPieces put (line_says (o.regs m) (o.content m) s text kind) old new → end ≡ told put
     → EndSays o end (standing s Waiting) m (text ∷ []) sitting m old new
 took_at_once o put end s m text kind sitting old new is waits remembers puts ends =
     subst (λ (a : Ends). EndSays o a (standing s Waiting) m (text ∷ []) sitting m old new) (sym ends)

@@ -1,9 +1,10 @@
 -- Laws of parts of a session: two that follow one another are one.
 use Rattle.std.proofs.Common.{◌≡◌, ℕ, List, [], ◌∷◌, ◌++◌, refl, sym, ap, subst, ◌∙◌}
 use Rattle.std.proofs.lemmas.List.{append-nil, append_assoc}
+use Rattle.m36_outside.specs.declared.sink.Put.TheVariants.{Done, Failed}
 use Rattle.m36_outside.specs.SinkState.{SinkState}
 use Rattle.m36_debug.specs.Parts.{Part, CutPart}
-use Rattle.m36_debug.specs.Putting.{PutAll, PutSome}
+use Rattle.m36_outside.specs.Putting.{PutsPieces}
 use Rattle.m36_debug.specs.Session.{Turning, Standing, Happening, Event, May, onward, said, Follow, lines_said, lines_in, line_in}
 use Rattle.m36_debug.proofs.PutLaws.{puts_nothing, puts_on, puts_more}
 
@@ -35,24 +36,24 @@ in_on (e ∷ events) others =
 
 -- ---- parts
 
-pub part_none : {M : Type 0} (o : Turning M) (s : Standing) (m : M) (now : SinkState) → Part o s m [] s m (PutAll now now)
+pub part_none : {M : Type 0} (o : Turning M) (s : Standing) (m : M) (now : SinkState) → Part o s m [] s m Done now now
 unfolding Follow lines_said lines_in
 part_none o s m now = record { events = []; follow = (refl, refl); took = refl; wrote = puts_nothing now }
 
 pub part_on :
     {M : Type 0} (o : Turning M) (s : Standing) (m : M) (lines others : List (List ℕ)) (s1 : Standing) (m1 : M) (s2 : Standing) (m2 : M) (old now new : SinkState)
-    → Part o s m lines s1 m1 (PutAll old now) → Part o s1 m1 others s2 m2 (PutAll now new)
-    → Part o s m (lines ++ others) s2 m2 (PutAll old new)
+    → Part o s m lines s1 m1 Done old now → Part o s1 m1 others s2 m2 Done now new
+    → Part o s m (lines ++ others) s2 m2 Done old new
 part_on o s m lines others s1 m1 s2 m2 old now new one two = record {
   events = one.events ++ two.events;
   follow = follow_on o s m one.events two.events s1 m1 s2 m2 one.follow two.follow;
   took = in_on one.events two.events ∙ ap (λ l. l ++ lines_in two.events) one.took ∙ ap (λ l. lines ++ l) two.took;
-  wrote = subst (PutAll old new) (sym (said_on o s m one.events two.events s1 m1 one.follow)) (puts_on old now new (lines_said o s one.events) (lines_said o s1 two.events) one.wrote two.wrote);
+  wrote = subst (λ l. PutsPieces Done l old new) (sym (said_on o s m one.events two.events s1 m1 one.follow)) (puts_on old now new (lines_said o s one.events) (lines_said o s1 two.events) one.wrote two.wrote);
 }
 
 pub part_cut :
     {M : Type 0} (o : Turning M) (s : Standing) (m : M) (lines others : List (List ℕ)) (s1 : Standing) (m1 m2 : M) (old now new : SinkState)
-    → Part o s m lines s1 m1 (PutAll old now) → CutPart o s1 m1 others m2 now new
+    → Part o s m lines s1 m1 Done old now → CutPart o s1 m1 others m2 now new
     → CutPart o s m (lines ++ others) m2 old new
 part_cut o s m lines others s1 m1 m2 old now new one two = record {
   stands = two.stands;
@@ -60,26 +61,26 @@ part_cut o s m lines others s1 m1 m2 old now new one two = record {
     events = one.events ++ two.part.events;
     follow = follow_on o s m one.events two.part.events s1 m1 two.stands m2 one.follow two.part.follow;
     took = in_on one.events two.part.events ∙ ap (λ l. l ++ lines_in two.part.events) one.took ∙ ap (λ l. lines ++ l) two.part.took;
-    wrote = subst (PutSome old new) (sym (said_on o s m one.events two.part.events s1 m1 one.follow)) (puts_more old now new (lines_said o s one.events) (lines_said o s1 two.part.events) one.wrote two.part.wrote);
+    wrote = subst (λ l. PutsPieces Failed l old new) (sym (said_on o s m one.events two.part.events s1 m1 one.follow)) (puts_more old now new (lines_said o s one.events) (lines_said o s1 two.part.events) one.wrote two.part.wrote);
   };
 }
 
 -- one event
 pub event_part :
     {M : Type 0} (o : Turning M) (s : Standing) (m m' : M) (h : Happening) (old new : SinkState)
-    → May o s.doing m h m' → PutAll old new (said (o.regs m') (o.content m') s h)
-    → Part o s m (line_in h) (onward (o.regs m') s h) m' (PutAll old new)
+    → May o s.doing m h m' → PutsPieces Done (said (o.regs m') (o.content m') s h) old new
+    → Part o s m (line_in h) (onward (o.regs m') s h) m' Done old new
 unfolding Follow lines_said lines_in
 event_part o s m m' h old new may puts = record {
   events = record { happened = h; after = m' } ∷ [];
   follow = (may, (refl, refl));
   took = append-nil (line_in h);
-  wrote = subst (PutAll old new) (sym (append-nil (said (o.regs m') (o.content m') s h))) puts;
+  wrote = subst (λ l. PutsPieces Done l old new) (sym (append-nil (said (o.regs m') (o.content m') s h))) puts;
 }
 
 pub event_cut :
     {M : Type 0} (o : Turning M) (s : Standing) (m m' : M) (h : Happening) (old new : SinkState)
-    → May o s.doing m h m' → PutSome old new (said (o.regs m') (o.content m') s h)
+    → May o s.doing m h m' → PutsPieces Failed (said (o.regs m') (o.content m') s h) old new
     → CutPart o s m (line_in h) m' old new
 unfolding Follow lines_said lines_in
 event_cut o s m m' h old new may puts = record {
@@ -88,6 +89,6 @@ event_cut o s m m' h old new may puts = record {
     events = record { happened = h; after = m' } ∷ [];
     follow = (may, (refl, refl));
     took = append-nil (line_in h);
-    wrote = subst (PutSome old new) (sym (append-nil (said (o.regs m') (o.content m') s h))) puts;
+    wrote = subst (λ l. PutsPieces Failed l old new) (sym (append-nil (said (o.regs m') (o.content m') s h))) puts;
   };
 }

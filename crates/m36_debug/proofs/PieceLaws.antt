@@ -1,5 +1,6 @@
 -- Laws of pieces of input that are answered line by line.
 use Rattle.std.proofs.Common.{◌≡◌, ◌+◌, ◌<◌, ℕ, List, [], ◌∷◌, ◌++◌, length, sym, subst, arith}
+use Rattle.m36_outside.specs.declared.sink.Put.TheVariants.{Done}
 use Rattle.m36_outside.specs.SinkState.{SinkState}
 use Rattle.m36_text.specs.Lines.{as_line, open_rest}
 use Rattle.m36_debug.specs.declared.turning.Ends.{Ends}
@@ -7,7 +8,6 @@ use Rattle.m36_debug.specs.declared.turning.Ends.TheVariants as ends
 use Rattle.m36_debug.specs.LinesTaken.{IsLines, IsUnbroken}
 use Rattle.m36_debug.specs.Parts.{Part, EndSays}
 use Rattle.m36_debug.specs.PieceSays.{AnsweredAll, AnsweredQuit, AnsweredSome, AnsweredCut}
-use Rattle.m36_debug.specs.Putting.{PutAll}
 use Rattle.m36_debug.specs.Session.{Turning, Waiting, Over, Starved, Standing, standing}
 use Rattle.m36_debug.specs.Sitting.{SittingFields}
 use Rattle.m36_debug.proofs.LinesLaws.{lines_none, lines_line}
@@ -17,7 +17,7 @@ use Rattle.m36_debug.proofs.PartLaws.{part_none, part_on, part_cut}
 pub record SoFar {M : Type 0} (o : Turning M) (s : Standing) (m : M) (text left : List ℕ) (sitting : SittingFields) (m' : M) (old new : SinkState) : Type 0 where
   pub lines : List (List ℕ)
   pub is : IsLines text lines left
-  pub part : Part o s m lines (standing sitting Waiting) m' (PutAll old new)
+  pub part : Part o s m lines (standing sitting Waiting) m' Done old new
 
 pub so_far_start :
     {M : Type 0} (o : Turning M) (sitting : SittingFields) (m : M) (text : List ℕ) (now : SinkState)
@@ -120,7 +120,7 @@ so_far_all o s m text left kept sitting m1 old now f is unbroken = record {
 -- no line has begun
 pub last_none :
     {M : Type 0} (o : Turning M) (s : SittingFields) (m : M) (text : List ℕ) (now : SinkState)
-    → length text ≡ 0 → Part o (standing s Waiting) m (open_rest text) (standing s Waiting) m (PutAll now now)
+    → length text ≡ 0 → Part o (standing s Waiting) m (open_rest text) (standing s Waiting) m Done now now
 last_none o s m [] now none = part_none o (standing s Waiting) m now
 last_none o s m (b ∷ text) now none = absurd (omega (arith, none))
 

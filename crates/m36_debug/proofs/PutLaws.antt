@@ -12,18 +12,19 @@ use Rattle.m36_outside.specs.declared.sink.Put.TheVariants.{Done, Failed}
 use Rattle.m36_outside.proofs.Grown.{grew_by_nothing, grew_on, grew_more, grew_longer}
 use Rattle.m36_outside.proofs.LinesTaken.{takes_no_lines, takes_lines_on, takes_some_of_line, takes_lines_more, takes_lines_longer}
 use Rattle.m36_outside.specs.SinkState.{SinkState}
-use Rattle.m36_debug.specs.Putting.{seen, PutAll, PutSome, PutsLines}
+use Rattle.m36_outside.specs.Putting.{PutsPieces}
+use Rattle.m36_debug.specs.Putting.{seen}
 use Rattle.m36_debug.specs.SessionTexts.{pointer_line, pointer_lines}
 
 -- nothing is to be put
-pub puts_nothing : (now : SinkState) → PutAll now now []
+pub puts_nothing : (now : SinkState) → PutsPieces Done [] now now
 puts_nothing now =
     record { text = grew_by_nothing now.written; pieces = takes_no_lines now.taken; faults = refl }
 
 -- some lines, and then others
 pub puts_on :
     (old now new : SinkState) (first second : List (List ℕ))
-    → PutAll old now first → PutAll now new second → PutAll old new (first ++ second)
+    → PutsPieces Done first old now → PutsPieces Done second now new → PutsPieces Done (first ++ second) old new
 puts_on old now new first second one two = record {
   text = subst (Grew old.written new.written) (sym (concat-append first second)) (grew_on old.written now.written new.written (joined first) (joined second) one.text two.text);
   pieces = takes_lines_on old.taken now.taken new.taken first second one.pieces two.pieces;
@@ -33,7 +34,7 @@ puts_on old now new first second one two = record {
 -- some lines, and then a part of others
 pub puts_more :
     (old now new : SinkState) (first second : List (List ℕ))
-    → PutAll old now first → PutSome now new second → PutSome old new (first ++ second)
+    → PutsPieces Done first old now → PutsPieces Failed second now new → PutsPieces Failed (first ++ second) old new
 puts_more old now new first second one two = record {
   text = subst (GrewWithin old.written new.written) (sym (concat-append first second)) (grew_more old.written now.written new.written (joined first) (joined second) one.text two.text);
   pieces = takes_lines_more old.taken now.taken new.taken first second one.pieces two.pieces;
@@ -43,7 +44,7 @@ puts_more old now new first second one two = record {
 -- a part of some lines is a part of more
 pub puts_longer :
     (old new : SinkState) (first second : List (List ℕ))
-    → PutSome old new first → PutSome old new (first ++ second)
+    → PutsPieces Failed first old new → PutsPieces Failed (first ++ second) old new
 puts_longer old new first second cut = record {
   text = subst (GrewWithin old.written new.written) (sym (concat-append first second)) (grew_longer old.written new.written (joined first) (joined second) cut.text);
   pieces = takes_lines_longer old.taken new.taken first second cut.pieces;
@@ -54,7 +55,7 @@ puts_longer old new first second cut = record {
 pub puts_line :
     (answer : Put) (written written' : Option (List ℕ)) (taken taken' : List (List ℕ)) (faults faults' : ℕ) (line : List ℕ)
     → PutSays answer written written' line → PutTakes answer written written' taken taken' line → PutHasCause answer faults faults'
-    → PutsLines answer (seen written taken faults) (seen written' taken' faults') (line ∷ [])
+    → PutsPieces answer (line ∷ []) (seen written taken faults) (seen written' taken' faults')
 puts_line Done written written' taken taken' faults faults' line says took cause = record {
   text = subst (Grew written written') (sym (append-nil line)) says;
   pieces = took;
@@ -69,20 +70,20 @@ puts_line Failed written written' taken taken' faults faults' line says took cau
 -- what was put is this line
 pub puts_same :
     (answer : Put) (old new : SinkState) (lines others : List (List ℕ))
-    → lines ≡ others → PutsLines answer old new lines → PutsLines answer old new others
-puts_same answer old new lines others is puts = subst (PutsLines answer old new) is puts
+    → lines ≡ others → PutsPieces answer lines old new → PutsPieces answer others old new
+puts_same answer old new lines others is puts = subst (λ l. PutsPieces answer l old new) is puts
 
 -- some lines, and then what an answer says of others
 pub puts_then :
     (answer : Put) (old now new : SinkState) (first second : List (List ℕ))
-    → PutAll old now first → PutsLines answer now new second → PutsLines answer old new (first ++ second)
+    → PutsPieces Done first old now → PutsPieces answer second now new → PutsPieces answer (first ++ second) old new
 puts_then Done old now new first second one two = puts_on old now new first second one two
 puts_then Failed old now new first second one two = puts_more old now new first second one two
 
 -- Of the lines `all`, put from `start` on, `left` are left to put behind `now`.
 pub record Putting (now start : SinkState) (left all : List (List ℕ)) : Type 0 where
-  pub whole : (new : SinkState) → PutAll now new left → PutAll start new all
-  pub cut : (new : SinkState) → PutSome now new left → PutSome start new all
+  pub whole : (new : SinkState) → PutsPieces Done left now new → PutsPieces Done all start new
+  pub cut : (new : SinkState) → PutsPieces Failed left now new → PutsPieces Failed all start new
 
 -- at the beginning all are left
 pub putting_all : (start : SinkState) (all : List (List ℕ)) → Putting start start all all
@@ -91,7 +92,7 @@ putting_all start all = record { whole = λ new puts. puts; cut = λ new puts. p
 -- the first of those that were left was put
 pub putting_next :
     (now next start : SinkState) (line : List ℕ) (left all : List (List ℕ))
-    → Putting now start (line ∷ left) all → PutAll now next (line ∷ []) → Putting next start left all
+    → Putting now start (line ∷ left) all → PutsPieces Done (line ∷ []) now next → Putting next start left all
 putting_next now next start line left all before puts = record {
   whole = λ new rest. before.whole new (puts_on now next new (line ∷ []) left puts rest);
   cut = λ new rest. before.cut new (puts_more now next new (line ∷ []) left puts rest);
@@ -100,12 +101,12 @@ putting_next now next start line left all before puts = record {
 -- it was not put whole
 pub putting_cut :
     (now new start : SinkState) (line : List ℕ) (left all : List (List ℕ))
-    → Putting now start (line ∷ left) all → PutSome now new (line ∷ []) → PutSome start new all
+    → Putting now start (line ∷ left) all → PutsPieces Failed (line ∷ []) now new → PutsPieces Failed all start new
 putting_cut now new start line left all before cut =
     before.cut new (puts_longer now new (line ∷ []) left cut)
 
 -- none is left
-pub putting_none : (now start : SinkState) (all : List (List ℕ)) → Putting now start [] all → PutAll start now all
+pub putting_none : (now start : SinkState) (all : List (List ℕ)) → Putting now start [] all → PutsPieces Done all start now
 putting_none now start all before = before.whole now (puts_nothing now)
 
 -- ---- pointer registers, one after another
@@ -136,7 +137,7 @@ pointers_start now pointers = putting_all now (pointer_lines 0 pointers)
 pub pointer_put :
     (now next start : SinkState) (n : ℕ) (pointers : List PtrFields) (i : ℕ) (p : PtrFields) (all : List (List ℕ))
     → i < length pointers → p ≡ get_or pointers i p
-    → Putting now start (pointer_lines n (drop i pointers)) all → PutAll now next (pointer_line n p ∷ [])
+    → Putting now start (pointer_lines n (drop i pointers)) all → PutsPieces Done (pointer_line n p ∷ []) now next
     → Putting next start (pointer_lines (n + 1) (drop (i + 1) pointers)) all
 pointer_put now next start n pointers i p all inside is before puts =
     putting_next now next start (pointer_line n p) (pointer_lines (n + 1) (drop (i + 1) pointers)) all
@@ -146,8 +147,8 @@ pointer_put now next start n pointers i p all inside is before puts =
 pub pointer_cut :
     (now new start : SinkState) (n : ℕ) (pointers : List PtrFields) (i : ℕ) (p : PtrFields) (all : List (List ℕ))
     → i < length pointers → p ≡ get_or pointers i p
-    → Putting now start (pointer_lines n (drop i pointers)) all → PutSome now new (pointer_line n p ∷ [])
-    → PutSome start new all
+    → Putting now start (pointer_lines n (drop i pointers)) all → PutsPieces Failed (pointer_line n p ∷ []) now new
+    → PutsPieces Failed all start new
 pointer_cut now new start n pointers i p all inside is before cut =
     putting_cut now new start (pointer_line n p) (pointer_lines (n + 1) (drop (i + 1) pointers)) all
     (subst (λ l. Putting now start l all) (pointers_at n pointers i p inside is) before) cut
@@ -155,7 +156,7 @@ pointer_cut now new start n pointers i p all inside is before cut =
 -- all were put
 pub pointers_end :
     (now start : SinkState) (n : ℕ) (pointers : List PtrFields) (i : ℕ) (all : List (List ℕ))
-    → length pointers ≤ i → Putting now start (pointer_lines n (drop i pointers)) all → PutAll start now all
+    → length pointers ≤ i → Putting now start (pointer_lines n (drop i pointers)) all → PutsPieces Done all start now
 pointers_end now start n pointers i all past before =
     putting_none now start all (subst (λ l. Putting now start l all) (at_drop_all (pointer_lines n) pointers i past ∙ pointers_none n) before)
 
@@ -169,19 +170,19 @@ shown_whole line within = sym (take_all 64 line within)
 -- one line, and then what an answer says of others
 pub puts_behind :
     (answer : Put) (old now new : SinkState) (line : List ℕ) (lines : List (List ℕ))
-    → PutAll old now (line ∷ []) → PutsLines answer now new lines → PutsLines answer old new (line ∷ lines)
+    → PutsPieces Done (line ∷ []) old now → PutsPieces answer lines now new → PutsPieces answer (line ∷ lines) old new
 puts_behind answer old now new line lines one two = puts_then answer old now new (line ∷ []) lines one two
 
 -- one line, and then a part of others
 pub puts_behind_cut :
     (old now new : SinkState) (line : List ℕ) (lines : List (List ℕ))
-    → PutAll old now (line ∷ []) → PutSome now new lines → PutSome old new (line ∷ lines)
+    → PutsPieces Done (line ∷ []) old now → PutsPieces Failed lines now new → PutsPieces Failed (line ∷ lines) old new
 puts_behind_cut old now new line lines one two = puts_more old now new (line ∷ []) lines one two
 
 -- a part of the first of several lines
 pub puts_first_cut :
     (old new : SinkState) (line : List ℕ) (lines : List (List ℕ))
-    → PutSome old new (line ∷ []) → PutSome old new (line ∷ lines)
+    → PutsPieces Failed (line ∷ []) old new → PutsPieces Failed (line ∷ lines) old new
 puts_first_cut old new line lines cut = puts_longer old new (line ∷ []) lines cut
 
 -- what a function that puts several lines takes by `using`

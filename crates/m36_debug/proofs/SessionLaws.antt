@@ -7,6 +7,8 @@ use Rattle.std.proofs.lemmas.List.{append-nil, append_assoc, take-append-le}
 use Rattle.m36_outside.specs.Counts.{Rose}
 use Rattle.m36_outside.specs.Passing.{joined}
 use Rattle.m36_outside.specs.Piece.{preceded}
+use Rattle.m36_outside.specs.declared.sink.Put.{Put}
+use Rattle.m36_outside.specs.declared.sink.Put.TheVariants.{Done}
 use Rattle.m36_outside.specs.SinkState.{SinkState}
 use Rattle.m36_text.specs.Lines.{open_rest, open_lines_of}
 use Rattle.m36_debug.specs.declared.fault.SessionFault.{SessionFault}
@@ -17,7 +19,6 @@ use Rattle.m36_debug.specs.declared.turning.Ends.TheVariants as ends
 use Rattle.m36_debug.specs.LinesTaken.{IsLines, IsUnbroken}
 use Rattle.m36_debug.specs.Parts.{Part, EndSays}
 use Rattle.m36_debug.specs.PieceSays.{AnsweredAll, AnsweredQuit, AnsweredSome, AnsweredCut}
-use Rattle.m36_debug.specs.Putting.{PutAll}
 use Rattle.m36_debug.specs.Session.{Turning, Waiting, Over, Starved, Standing, standing, lines_said}
 use Rattle.m36_debug.specs.SessionSays.{LinesSeen, SessionSays, TookBy, CountBy, WroteBy, ReadHasCause, answer_of, bytes_limit, HasEnded, StopsAtEnd, TookOpen, EndInQuit, TookWhole}
 use Rattle.m36_debug.specs.Sitting.{SittingFields, new_sitting}
@@ -118,7 +119,7 @@ pub record Going {M : Type 0} (o : Turning M) (m m' : M) (before after : LinesSe
   pub lines : List (List ℕ)
   pub is : IsLines (joined pieces) lines begun
   pub unbroken : IsUnbroken begun
-  pub part : Part o (standing new_sitting Waiting) m lines (standing sitting Waiting) m' (PutAll old new)
+  pub part : Part o (standing new_sitting Waiting) m lines (standing sitting Waiting) m' Done old new
 
 -- at the beginning
 pub going_start :
@@ -134,7 +135,7 @@ going_start o m before old begun sitting empty is unbroken = record {
   is = subst (IsLines [] []) (sym empty) (lines_none []);
   unbroken = subst IsUnbroken (sym empty) unbroken;
   part =
-      subst (λ (s : SittingFields). Part o (standing new_sitting Waiting) m [] (standing s Waiting) m (PutAll old old)) (sym is)
+      subst (λ (s : SittingFields). Part o (standing new_sitting Waiting) m [] (standing s Waiting) m Done old old) (sym is)
       (part_none o (standing new_sitting Waiting) m old);
 }
 
@@ -166,10 +167,10 @@ says o result m m' before after old new pieces lines stands came count cause sto
 
 -- a part that waits for a line has not taken `quit`
 part_no_quit :
-    {M : Type 0} (o : Turning M) (m m' : M) (lines : List (List ℕ)) (sitting : SittingFields) (Wrote : List (List ℕ) → Type 0)
-    → Part o (standing new_sitting Waiting) m lines (standing sitting Waiting) m' Wrote
+    {M : Type 0} (o : Turning M) (m m' : M) (lines : List (List ℕ)) (sitting : SittingFields) (answer : Put) (old new : SinkState)
+    → Part o (standing new_sitting Waiting) m lines (standing sitting Waiting) m' answer old new
     → All IsNotQuit lines
-part_no_quit o m m' lines sitting Wrote part =
+part_no_quit o m m' lines sitting answer old new part =
     subst (All IsNotQuit) part.took
     (no_quit o new_sitting Waiting m part.events (standing sitting Waiting) m' part.follow refl)
 
@@ -178,23 +179,23 @@ waits_not_over is = cc
 
 -- one that is over has taken it last
 part_quit :
-    {M : Type 0} (o : Turning M) (m m' : M) (lines : List (List ℕ)) (sitting : SittingFields) (Wrote : List (List ℕ) → Type 0)
-    → Part o (standing new_sitting Waiting) m lines (standing sitting Over) m' Wrote
+    {M : Type 0} (o : Turning M) (m m' : M) (lines : List (List ℕ)) (sitting : SittingFields) (answer : Put) (old new : SinkState)
+    → Part o (standing new_sitting Waiting) m lines (standing sitting Over) m' answer old new
     → EndInQuit lines
-part_quit o m m' lines sitting Wrote part =
+part_quit o m m' lines sitting answer old new part =
     subst EndInQuit part.took
     (quit_last o new_sitting Waiting m part.events (standing sitting Over) m' (λ is. waits_not_over is) part.follow refl)
 
 -- all whole lines were taken
 took_whole :
-    {M : Type 0} (o : Turning M) (m m' : M) (text begun : List ℕ) (lines : List (List ℕ)) (sitting : SittingFields) (Wrote : List (List ℕ) → Type 0)
+    {M : Type 0} (o : Turning M) (m m' : M) (text begun : List ℕ) (lines : List (List ℕ)) (sitting : SittingFields) (answer : Put) (old new : SinkState)
     → IsLines text lines begun → IsUnbroken begun
-    → Part o (standing new_sitting Waiting) m lines (standing sitting Waiting) m' Wrote
+    → Part o (standing new_sitting Waiting) m lines (standing sitting Waiting) m' answer old new
     → TookWhole text lines Waiting
-took_whole o m m' text begun lines sitting Wrote are unbroken part = record {
+took_whole o m m' text begun lines sitting answer old new are unbroken part = record {
   waits = refl;
   whole = sym (all_whole text begun lines are unbroken);
-  none = part_no_quit o m m' lines sitting Wrote part;
+  none = part_no_quit o m m' lines sitting answer old new part;
 }
 
 -- the input could not be read
@@ -208,7 +209,7 @@ going_unread o m m' before now after old new left begun sitting g got =
     (omega (arith, g.count))
     (subst (λ n. Rose n after.faults) g.faults got.cause)
     (stops_going g.pieces before.faults after.faults g.some)
-    (took_whole o m m' (joined g.pieces) begun g.lines sitting (PutAll old new) g.is g.unbroken g.part)
+    (took_whole o m m' (joined g.pieces) begun g.lines sitting Done old new g.is g.unbroken g.part)
     g.part
 
 -- one byte more than the most was taken
@@ -233,7 +234,7 @@ going_too_long o m m' before now after old new count left begun buffer sitting g
     (omega (arith, size), omega (arith, size))
     (got.faults ∙ g.faults)
     (stops_going (g.pieces ++ piece ∷ []) before.faults after.faults (some_more g.pieces piece g.some (omega (arith, one))))
-    (subst (λ t. TookWhole t g.lines Waiting) (sym first) (took_whole o m m' bytes begun g.lines sitting (PutAll old new) g.is g.unbroken g.part))
+    (subst (λ t. TookWhole t g.lines Waiting) (sym first) (took_whole o m m' bytes begun g.lines sitting Done old new g.is g.unbroken g.part))
     g.part
 
 -- the input has told its end
@@ -284,7 +285,7 @@ going_end o ends.Quit m m1 m2 before now after old mid new left begun sitting si
     (inl record {
       over = refl;
       some = inr (took_open now after g.pieces g.lines begun got g.is g.unbroken);
-      quit = part_quit o m m2 (g.lines ++ open_rest begun) sitting' (PutAll old new) part;
+      quit = part_quit o m m2 (g.lines ++ open_rest begun) sitting' Done old new part;
     })
     part
 going_end o ends.Starved m m1 m2 before now after old mid new left begun sitting sitting' g got said =
@@ -364,7 +365,7 @@ going_quit o m m1 m2 before now after old mid new count left begun buffer sittin
     (inl record {
       over = refl;
       some = inl (some_whole (joined pieces) said.rest (g.lines ++ said.lines) (got_lines g.pieces g.lines said.lines begun (take count buffer) said.rest g.is said.is));
-      quit = part_quit o m m2 (g.lines ++ said.lines) sitting' (PutAll old new) part;
+      quit = part_quit o m m2 (g.lines ++ said.lines) sitting' Done old new part;
     })
     part
 

@@ -25,7 +25,7 @@ use Rattle.m36_debug.specs.declared.turning.Came.{Came}
 use Rattle.m36_debug.specs.declared.turning.Came.TheVariants as comes
 use Rattle.m36_debug.specs.Commands.{run_of, wants, after_step, after_link, after_turn, is_at_break}
 use Rattle.m36_debug.specs.Parts.{Part, CutPart, CameSays, CameServed, CameCounts, RunsCounts, Serves, came_of, told_turn}
-use Rattle.m36_debug.specs.Putting.{PutAll, PutSome, PutsLines}
+use Rattle.m36_outside.specs.Putting.{PutsPieces}
 use Rattle.m36_debug.specs.Session.{Turning, Standing, standing, Running, Turned, doing_by, next_of, turn_says, command_says, onward, said}
 use Rattle.m36_debug.specs.Sitting.{SittingFields, sitting_after}
 use Rattle.m36_debug.proofs.PartLaws.{event_part, event_cut}
@@ -33,7 +33,7 @@ use Rattle.m36_debug.proofs.PartLaws.{event_part, event_cut}
 -- a part that goes on as the command does
 came_says :
     {M : Type 0} (o : Turning M) (turn : Turn) (next : Further) (s : Standing) (m : M) (sitting : SittingFields) (m' : M) (old new : SinkState)
-    → Part o s m [] (standing sitting (doing_by next)) m' (PutAll old new)
+    → Part o s m [] (standing sitting (doing_by next)) m' Done old new
     → CameSays o (came_of turn next) s m sitting m' old new
 came_says o turn (Runs run) s m sitting m' old new part = part
 came_says o turn Waits s m sitting m' old new part = part
@@ -41,14 +41,14 @@ came_says o turn Starves s m sitting m' old new part = part
 
 turn_part :
     {M : Type 0} (o : Turning M) (turn : Turn) (run : Run) (s : SittingFields) (m m' : M) (old new : SinkState)
-    → o.next m turn m' → PutAll old new (turn_says (o.regs m') s run turn)
-    → Part o (standing s (Running run)) m [] (standing (sitting_after s turn) (doing_by (next_of (o.regs m') s run turn))) m' (PutAll old new)
+    → o.next m turn m' → PutsPieces Done (turn_says (o.regs m') s run turn) old new
+    → Part o (standing s (Running run)) m [] (standing (sitting_after s turn) (doing_by (next_of (o.regs m') s run turn))) m' Done old new
 unfolding onward said
 turn_part o turn run s m m' old new next puts = event_part o (standing s (Running run)) m m' (Turned turn) old new next puts
 
 turn_cut :
     {M : Type 0} (o : Turning M) (turn : Turn) (run : Run) (s : SittingFields) (m m' : M) (old new : SinkState)
-    → o.next m turn m' → PutSome old new (turn_says (o.regs m') s run turn)
+    → o.next m turn m' → PutsPieces Failed (turn_says (o.regs m') s run turn) old new
     → CutPart o (standing s (Running run)) m [] m' old new
 unfolding said
 turn_cut o turn run s m m' old new next puts = event_cut o (standing s (Running run)) m m' (Turned turn) old new next puts
@@ -56,7 +56,7 @@ turn_cut o turn run s m m' old new next puts = event_cut o (standing s (Running 
 -- a turn was taken, and what it says was put
 pub turn_came :
     {M : Type 0} (o : Turning M) (put : Put) (turn : Turn) (run : Run) (s : SittingFields) (m m' : M) (old new : SinkState)
-    → o.next m turn m' → PutsLines put old new (turn_says (o.regs m') s run turn)
+    → o.next m turn m' → PutsPieces put (turn_says (o.regs m') s run turn) old new
     → CameSays o (told_turn put turn (next_of (o.regs m') s run turn)) (standing s (Running run)) m (sitting_after s turn) m' old new
 turn_came o Done turn run s m m' old new next puts =
     came_says o turn (next_of (o.regs m') s run turn) (standing s (Running run)) m (sitting_after s turn) m' old new (turn_part o turn run s m m' old new next puts)
@@ -178,7 +178,7 @@ further_same o turn run next g s s' m' noted regs further =
 pub took_turn :
     {M : Type 0} (o : Turning M) (put : Put) (turn : Turn) (run : Run) (next : Further) (came : Came) (g : RegsFields) (s s' : SittingFields) (taken : ℕ) (m m' : M) (old new : SinkState)
     → taken ≡ s.taken → o.next m turn m' → s' ≡ sitting_after s turn → g ≡ o.regs m' → next ≡ after_turn run (is_at_break g.ppr s'.breaks) turn
-    → PutsLines put old new (command_says run.command g taken s' turn next) → came ≡ told_turn put turn next
+    → PutsPieces put (command_says run.command g taken s' turn next) old new → came ≡ told_turn put turn next
     → CameSays o came (standing s (Running run)) m s' m' old new
 took_turn o put turn run next came g s s' taken m m' old new counted may noted regs further puts comes =
     let same : next ≡ next_of (o.regs m') s run turn = further_same o turn run next g s s' m' noted regs further in
@@ -188,7 +188,7 @@ took_turn o put turn run next came g s s' taken m m' old new counted may noted r
     ∙ ap (λ (t : SittingFields). command_says run.command (o.regs m') s.taken t turn next) noted
     ∙ ap (λ (f : Further). command_says run.command (o.regs m') s.taken (sitting_after s turn) turn f) same in
     let there : CameSays o (told_turn put turn (next_of (o.regs m') s run turn)) (standing s (Running run)) m (sitting_after s turn) m' old new =
-    turn_came o put turn run s m m' old new may (subst (PutsLines put old new) lines puts) in
+    turn_came o put turn run s m m' old new may (subst (λ l. PutsPieces put l old new) lines puts) in
     subst (λ (c : Came). CameSays o c (standing s (Running run)) m s' m' old new) (sym (comes ∙ ap (λ (f : Further). told_turn put turn f) same))
     (subst (λ (t : SittingFields). CameSays o (told_turn put turn (next_of (o.regs m') s run turn)) (standing s (Running run)) m t m' old new) (sym noted) there)
 

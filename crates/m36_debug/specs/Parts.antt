@@ -15,25 +15,26 @@ use Rattle.m36_debug.specs.declared.turning.Came.{Came}
 use Rattle.m36_debug.specs.declared.turning.Came.TheVariants as comes
 use Rattle.m36_debug.specs.declared.turning.Ends.{Ends}
 use Rattle.m36_debug.specs.declared.turning.Ends.TheVariants as ends
-use Rattle.m36_debug.specs.Putting.{PutAll, PutSome}
+use Rattle.m36_outside.specs.Putting.{PutsPieces}
 use Rattle.m36_debug.specs.Session.{Turning, Doing, Waiting, Running, Backing, Over, Starved}
 use Rattle.m36_debug.specs.Session.{Standing, Event, standing, Follow, lines_said, lines_in}
 use Rattle.m36_debug.specs.SessionTexts.{unknown_line, end_line}
 use Rattle.m36_debug.specs.Sitting.{SittingFields}
 
--- A part of a session, in which these lines were taken, and of which this is said to be written.
+-- A part of a session: these lines were taken in it, and what is said of it was put, whole or cut
+-- as the answer tells.
 pub record Part {M : Type 0} (o : Turning M) (s : Standing) (m : M) (lines : List (List ℕ))
-    (s' : Standing) (m' : M) (Wrote : List (List ℕ) → Type 0) : Type 0 where
+    (s' : Standing) (m' : M) (answer : Put) (old new : SinkState) : Type 0 where
   pub events : List (Event M)
   pub follow : Follow o s m events s' m'
   pub took : lines_in events ≡ lines
-  pub wrote : Wrote (lines_said o s events)
+  pub wrote : PutsPieces answer (lines_said o s events) old new
 
 -- One whose output was cut: the session stood somewhere.
 pub record CutPart {M : Type 0} (o : Turning M) (s : Standing) (m : M) (lines : List (List ℕ))
     (m' : M) (old new : SinkState) : Type 0 where
   pub stands : Standing
-  pub part : Part o s m lines stands m' (PutSome old new)
+  pub part : Part o s m lines stands m' Failed old new
 
 -- ---- a turn
 
@@ -84,7 +85,7 @@ abbrev pub CameSays :
     → Type 0
 CameSays o comes.Cut s m sitting m' old new = CutPart o s m [] m' old new
 CameSays o came s m sitting m' old new =
-    Part o s m [] (standing sitting (doing_came came)) m' (PutAll old new)
+    Part o s m [] (standing sitting (doing_came came)) m' Done old new
 
 -- ---- a command, a line, and several lines
 
@@ -99,7 +100,7 @@ abbrev pub EndSays :
     → SinkState → Type 0
 EndSays o ends.Cut s m lines sitting m' old new = CutPart o s m lines m' old new
 EndSays o end s m lines sitting m' old new =
-    Part o s m lines (standing sitting (doing_at end)) m' (PutAll old new)
+    Part o s m lines (standing sitting (doing_at end)) m' Done old new
 
 -- how a line ends that is told at once
 abbrev pub told : Put → Ends
@@ -108,10 +109,10 @@ told Failed = ends.Cut
 
 -- A line was told at once: nothing has changed but for what was put.
 abbrev pub EndPuts : Ends → SinkState → SinkState → List (List ℕ) → Type 0
-EndPuts ends.Line old new lines = PutAll old new lines
+EndPuts ends.Line old new lines = PutsPieces Done lines old new
 EndPuts ends.Quit old new lines = ⊥
 EndPuts ends.Starved old new lines = ⊥
-EndPuts ends.Cut old new lines = PutSome old new lines
+EndPuts ends.Cut old new lines = PutsPieces Failed lines old new
 
 pub record IsTold {M : Type 0} (end : Ends) (lines : List (List ℕ)) (s : SittingFields) (m : M)
     (sitting : SittingFields) (m' : M) (old new : SinkState) : Type 0 where

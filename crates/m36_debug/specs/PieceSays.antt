@@ -1,11 +1,11 @@
 -- What the answers to a piece of input say.
 use Rattle.std.specs.Prelude.{ℕ, List}
+use Rattle.m36_outside.specs.declared.sink.Put.TheVariants.{Done}
 use Rattle.m36_outside.specs.SinkState.{SinkState}
 use Rattle.m36_debug.specs.declared.turning.Ends.{Ends}
 use Rattle.m36_debug.specs.declared.turning.Ends.TheVariants as ends
 use Rattle.m36_debug.specs.LinesTaken.{IsLines, IsUnbroken}
 use Rattle.m36_debug.specs.Parts.{Part, CutPart}
-use Rattle.m36_debug.specs.Putting.{PutAll}
 use Rattle.m36_debug.specs.Session.{Turning, Waiting, Over, Standing, standing}
 use Rattle.m36_debug.specs.Sitting.{SittingFields}
 
@@ -15,7 +15,7 @@ pub record AnsweredAll {M : Type 0} (o : Turning M) (s : Standing) (m : M) (text
   pub lines : List (List ℕ)
   pub is : IsLines text lines kept
   pub unbroken : IsUnbroken kept
-  pub part : Part o s m lines (standing sitting Waiting) m' (PutAll old new)
+  pub part : Part o s m lines (standing sitting Waiting) m' Done old new
 
 -- The first lines of a text were answered, the last of which is `quit`.
 pub record AnsweredQuit {M : Type 0} (o : Turning M) (s : Standing) (m : M) (text : List ℕ)
@@ -23,7 +23,7 @@ pub record AnsweredQuit {M : Type 0} (o : Turning M) (s : Standing) (m : M) (tex
   pub lines : List (List ℕ)
   pub rest : List ℕ
   pub is : IsLines text lines rest
-  pub part : Part o s m lines (standing sitting Over) m' (PutAll old new)
+  pub part : Part o s m lines (standing sitting Over) m' Done old new
 
 -- Some were, and then no memory was found.
 pub record AnsweredSome {M : Type 0} (o : Turning M) (s : Standing) (m : M) (text : List ℕ)
@@ -32,7 +32,7 @@ pub record AnsweredSome {M : Type 0} (o : Turning M) (s : Standing) (m : M) (tex
   pub rest : List ℕ
   pub is : IsLines text lines rest
   pub stands : Standing
-  pub part : Part o s m lines stands m' (PutAll old new)
+  pub part : Part o s m lines stands m' Done old new
 
 -- Some were, and then the output could not be written.
 pub record AnsweredCut {M : Type 0} (o : Turning M) (s : Standing) (m : M) (text : List ℕ)

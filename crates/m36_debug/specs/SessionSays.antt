@@ -5,6 +5,7 @@ use Rattle.std.specs.Prelude.{IfSome, Result, Ok, Err}
 use Rattle.m36_outside.specs.Counts.{Rose}
 use Rattle.m36_outside.specs.Passing.{joined}
 use Rattle.m36_outside.specs.Piece.{preceded}
+use Rattle.m36_outside.specs.declared.sink.Put.TheVariants.{Done, Failed}
 use Rattle.m36_outside.specs.SinkState.{SinkState}
 use Rattle.m36_text.specs.Lines.{open_lines_of}
 use Rattle.m36_debug.specs.declared.fault.SessionFault.{SessionFault}
@@ -13,7 +14,7 @@ use Rattle.m36_debug.specs.declared.session_line.SessionLine.TheVariants.{Quit}
 use Rattle.m36_debug.specs.declared.turning.Ends.{Ends}
 use Rattle.m36_debug.specs.declared.turning.Ends.TheVariants as ends
 use Rattle.m36_debug.specs.LinesTaken.{whole_lines, IsFirstPart}
-use Rattle.m36_debug.specs.Putting.{PutAll, PutSome}
+use Rattle.m36_outside.specs.Putting.{PutsPieces}
 use Rattle.m36_debug.specs.Session.{Turning, Doing, Waiting, Over, Standing, Event, standing}
 use Rattle.m36_debug.specs.Session.{Follow, lines_said, lines_in}
 use Rattle.m36_debug.specs.SessionLines.{session_line, IsNotQuit}
@@ -103,11 +104,11 @@ CountBy (Err fault.NoMemory) count = count ≤ bytes_limit
 -- what was written of it
 abbrev pub WroteBy :
     Result (Unit {0}) SessionFault → SinkState → SinkState → List (List ℕ) → Type 0
-WroteBy (Ok done) old new lines = PutAll old new lines
-WroteBy (Err fault.ReadFault) old new lines = PutAll old new lines
-WroteBy (Err fault.TooLong) old new lines = PutAll old new lines
-WroteBy (Err fault.WriteFault) old new lines = PutSome old new lines
-WroteBy (Err fault.NoMemory) old new lines = PutAll old new lines
+WroteBy (Ok done) old new lines = PutsPieces Done lines old new
+WroteBy (Err fault.ReadFault) old new lines = PutsPieces Done lines old new
+WroteBy (Err fault.TooLong) old new lines = PutsPieces Done lines old new
+WroteBy (Err fault.WriteFault) old new lines = PutsPieces Failed lines old new
+WroteBy (Err fault.NoMemory) old new lines = PutsPieces Done lines old new
 
 -- how a session ends with its input
 abbrev pub answer_of : Ends → Result (Unit {0}) SessionFault

@@ -2,7 +2,8 @@
 
 ghost use Rattle.std.specs.Prelude.{ℕ, ◌≡◌, ◌≤◌, ◌<◌, ◌+◌, ◌-◌, ◌^◌, [], ◌∷◌, if◌then◌else◌};
 ghost use Rattle.m36_debug.specs.Parts.{EndSays, CommandSays, BackSays, told};
-ghost use Rattle.m36_debug.specs.Putting.{PutsLines, seen};
+ghost use Rattle.m36_outside.specs.Putting.{PutsPieces};
+ghost use Rattle.m36_debug.specs.Putting.{seen};
 ghost use Rattle.m36_debug.specs.Session.{Waiting, Backing, standing, turning};
 ghost use Rattle.m36_debug.specs.SessionTexts.{unknown_line, break_line};
 ghost use Rattle.m36_debug.specs.Sitting.{sitting_with, has_taken, has_room};
@@ -47,10 +48,9 @@ fn add_break<S: Sink>(line: &[u8], seg: u16, word: u32, sitting: &mut Sitting, o
     requires word { word < 2 ^ 18 }
     ensures sitting { sitting.new ≡ sitting_with sitting.old seg word }
     ensures taken { sitting.new.taken ≡ sitting.old.taken }
-    ensures puts { PutsLines result
+    ensures puts { PutsPieces result ((if has_room sitting.old then break_line seg word else unknown_line line.now) ∷ [])
         (seen (S.written out.old) (S.taken out.old) (S.faults out.old))
-        (seen (S.written out.new) (S.taken out.new) (S.faults out.new))
-        ((if has_room sitting.old then break_line seg word else unknown_line line.now) ∷ []) }
+        (seen (S.written out.new) (S.taken out.new) (S.faults out.new)) }
 {
     if sitting.has_room() {
         sitting.add(seg, word);

@@ -2,7 +2,8 @@
 
 ghost use Rattle.std.specs.Prelude.{ℕ, ◌≡◌, ◌≤◌, ◌<◌, ◌+◌, ◌*◌, ◌^◌, ◌++◌, [], ◌∷◌, length, slice_index};
 ghost use Rattle.std.specs.List.{flat_map};
-ghost use Rattle.m36_debug.specs.Putting.{PutsLines, seen};
+ghost use Rattle.m36_outside.specs.Putting.{PutsPieces};
+ghost use Rattle.m36_debug.specs.Putting.{seen};
 ghost use Rattle.m36_debug.specs.SessionTexts.{a_line, index_text, x_line, pointer_line, pointer_lines, regs_lines};
 
 use crate::putting::put_text;
@@ -16,9 +17,9 @@ use m36_trace::{put_address, put_indicators};
 // Tells A, Q and the indicators.
 #[tactic(auto, unfolding(crate::specs::SessionTexts::a_line))]
 fn put_a<S: Sink>(out: &mut S, regs: &Regs) -> Put
-    ensures { PutsLines result
+    ensures { PutsPieces result (a_line regs.now ∷ [])
         (seen (S.written out.old) (S.taken out.old) (S.faults out.old))
-        (seen (S.written out.new) (S.taken out.new) (S.faults out.new)) (a_line regs.now ∷ []) }
+        (seen (S.written out.new) (S.taken out.new) (S.faults out.new)) }
 {
     let mut text: ArrayString<80> = ArrayString::new();
     text.push_str("a ");
@@ -46,9 +47,9 @@ fn push_indexes(text: &mut ArrayString<80>, indexes: &[u32])
 // Tells the index registers.
 #[tactic(auto, unfolding(crate::specs::SessionTexts::x_line))]
 fn put_x<S: Sink>(out: &mut S, regs: &Regs) -> Put
-    ensures { PutsLines result
+    ensures { PutsPieces result (x_line regs.now ∷ [])
         (seen (S.written out.old) (S.taken out.old) (S.faults out.old))
-        (seen (S.written out.new) (S.taken out.new) (S.faults out.new)) (x_line regs.now ∷ []) }
+        (seen (S.written out.new) (S.taken out.new) (S.faults out.new)) }
 {
     let mut text = ArrayString::new();
     text.push_str("x");
@@ -60,9 +61,9 @@ fn put_x<S: Sink>(out: &mut S, regs: &Regs) -> Put
 #[tactic(auto, unfolding(crate::specs::SessionTexts::pointer_line))]
 fn put_pointer<S: Sink>(out: &mut S, n: u32, pointer: &Ptr) -> Put
     requires { n < 8 }
-    ensures { PutsLines result
+    ensures { PutsPieces result (pointer_line n pointer.now ∷ [])
         (seen (S.written out.old) (S.taken out.old) (S.faults out.old))
-        (seen (S.written out.new) (S.taken out.new) (S.faults out.new)) (pointer_line n pointer.now ∷ []) }
+        (seen (S.written out.new) (S.taken out.new) (S.faults out.new)) }
 {
     let mut text: ArrayString<80> = ArrayString::new();
     text.push_str("pr");
@@ -85,9 +86,9 @@ fn put_pointer<S: Sink>(out: &mut S, n: u32, pointer: &Ptr) -> Put
 #[tactic(auto, using(crate::proofs::PutLaws::pointers))]
 fn put_pointers<S: Sink>(out: &mut S, pointers: &[Ptr]) -> Put
     requires { length pointers.now ≤ 8 }
-    ensures { PutsLines result
+    ensures { PutsPieces result (pointer_lines 0 pointers.now)
         (seen (S.written out.old) (S.taken out.old) (S.faults out.old))
-        (seen (S.written out.new) (S.taken out.new) (S.faults out.new)) (pointer_lines 0 pointers.now) }
+        (seen (S.written out.new) (S.taken out.new) (S.faults out.new)) }
 {
     let mut n: u32 = 0;
     for pointer in pointers {
@@ -102,18 +103,18 @@ fn put_pointers<S: Sink>(out: &mut S, pointers: &[Ptr]) -> Put
 
 // Tells the pointer registers.
 fn put_pr<S: Sink>(out: &mut S, regs: &Regs) -> Put
-    ensures { PutsLines result
+    ensures { PutsPieces result (pointer_lines 0 regs.now.pr)
         (seen (S.written out.old) (S.taken out.old) (S.faults out.old))
-        (seen (S.written out.new) (S.taken out.new) (S.faults out.new)) (pointer_lines 0 regs.now.pr) }
+        (seen (S.written out.new) (S.taken out.new) (S.faults out.new)) }
 {
     put_pointers(out, &regs.pr)
 }
 
 /// Tells the registers.
 pub(crate) fn put_regs<S: Sink>(out: &mut S, regs: &Regs) -> Put
-    ensures { PutsLines result
+    ensures { PutsPieces result (regs_lines regs.now)
         (seen (S.written out.old) (S.taken out.old) (S.faults out.old))
-        (seen (S.written out.new) (S.taken out.new) (S.faults out.new)) (regs_lines regs.now) }
+        (seen (S.written out.new) (S.taken out.new) (S.faults out.new)) }
 {
     match put_a(out, regs) {
         Put::Done => {}

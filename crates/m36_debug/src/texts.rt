@@ -1,7 +1,8 @@
 //! Lines that tell one thing, each put to the output.
 
 ghost use Rattle.std.specs.Prelude.{ℕ, ◌≡◌, ◌≤◌, ◌<◌, ◌-◌, ◌^◌, [], ◌∷◌, length, take};
-ghost use Rattle.m36_debug.specs.Putting.{PutsLines, seen};
+ghost use Rattle.m36_outside.specs.Putting.{PutsPieces};
+ghost use Rattle.m36_debug.specs.Putting.{seen};
 ghost use Rattle.m36_debug.specs.SessionTexts.{where_line, break_line, seg_line, end_line, unknown_line, turn_lines};
 
 use crate::putting::{put_characters, put_text};
@@ -21,9 +22,9 @@ const SHOWN: usize = 64;
 /// Tells where a machine stands.
 #[tactic(auto, unfolding(crate::specs::SessionTexts::where_line))]
 pub(crate) fn put_where<S: Sink>(out: &mut S, regs: &Regs) -> Put
-    ensures { PutsLines result
+    ensures { PutsPieces result (where_line regs.now.ppr ∷ [])
         (seen (S.written out.old) (S.taken out.old) (S.faults out.old))
-        (seen (S.written out.new) (S.taken out.new) (S.faults out.new)) (where_line regs.now.ppr ∷ []) }
+        (seen (S.written out.new) (S.taken out.new) (S.faults out.new)) }
 {
     let place = regs.ppr;
     let mut text: ArrayString<80> = ArrayString::new();
@@ -38,9 +39,9 @@ pub(crate) fn put_where<S: Sink>(out: &mut S, regs: &Regs) -> Put
 pub(crate) fn put_break<S: Sink>(out: &mut S, seg: u16, word: u32) -> Put
     requires seg { seg < 2 ^ 15 }
     requires word { word < 2 ^ 18 }
-    ensures { PutsLines result
+    ensures { PutsPieces result (break_line seg word ∷ [])
         (seen (S.written out.old) (S.taken out.old) (S.faults out.old))
-        (seen (S.written out.new) (S.taken out.new) (S.faults out.new)) (break_line seg word ∷ []) }
+        (seen (S.written out.new) (S.taken out.new) (S.faults out.new)) }
 {
     let mut text: ArrayString<80> = ArrayString::new();
     text.push_str("break ");
@@ -53,9 +54,9 @@ pub(crate) fn put_break<S: Sink>(out: &mut S, seg: u16, word: u32) -> Put
 pub(crate) fn put_seg<S: Sink>(out: &mut S, seg: u16, word: u32, content: Option<Word>) -> Put
     requires seg { seg < 2 ^ 15 }
     requires word { word < 2 ^ 18 }
-    ensures { PutsLines result
+    ensures { PutsPieces result (seg_line seg word content ∷ [])
         (seen (S.written out.old) (S.taken out.old) (S.faults out.old))
-        (seen (S.written out.new) (S.taken out.new) (S.faults out.new)) (seg_line seg word content ∷ []) }
+        (seen (S.written out.new) (S.taken out.new) (S.faults out.new)) }
 {
     let mut text: ArrayString<80> = ArrayString::new();
     put_place(&mut text, seg, word);
@@ -70,9 +71,9 @@ pub(crate) fn put_seg<S: Sink>(out: &mut S, seg: u16, word: u32, content: Option
 /// Tells how a run has ended, after so many steps.
 #[tactic(auto, unfolding(crate::specs::SessionTexts::end_line))]
 pub(crate) fn put_end<S: Sink>(out: &mut S, end: End, taken: u64) -> Put
-    ensures { PutsLines result
+    ensures { PutsPieces result (end_line end taken ∷ [])
         (seen (S.written out.old) (S.taken out.old) (S.faults out.old))
-        (seen (S.written out.new) (S.taken out.new) (S.faults out.new)) (end_line end taken ∷ []) }
+        (seen (S.written out.new) (S.taken out.new) (S.faults out.new)) }
 {
     put_text(out, run_end_line(end, taken))
 }
@@ -93,9 +94,9 @@ fn shown(line: &[u8]) -> &[u8]
 /// Shows a line that is not known, up to its 64th byte.
 #[tactic(auto, unfolding(crate::specs::SessionTexts::unknown_line))]
 pub(crate) fn put_unknown<S: Sink>(out: &mut S, line: &[u8]) -> Put
-    ensures { PutsLines result
+    ensures { PutsPieces result (unknown_line line.now ∷ [])
         (seen (S.written out.old) (S.taken out.old) (S.faults out.old))
-        (seen (S.written out.new) (S.taken out.new) (S.faults out.new)) (unknown_line line.now ∷ []) }
+        (seen (S.written out.new) (S.taken out.new) (S.faults out.new)) }
 {
     let mut text: ArrayVec<u8, 80> = ArrayVec::new();
     put(&mut text, b"? ");
@@ -108,9 +109,9 @@ pub(crate) fn put_unknown<S: Sink>(out: &mut S, line: &[u8]) -> Put
 #[tactic(auto, unfolding(crate::specs::SessionTexts::turn_lines), using(crate::proofs::PutLaws::puts_nothing))]
 pub(crate) fn put_turn<S: Sink>(out: &mut S, taken: u64, turn: &Turn) -> Put
     requires { taken < 2 ^ 64 - 1 }
-    ensures { PutsLines result
+    ensures { PutsPieces result (turn_lines taken turn.now)
         (seen (S.written out.old) (S.taken out.old) (S.faults out.old))
-        (seen (S.written out.new) (S.taken out.new) (S.faults out.new)) (turn_lines taken turn.now) }
+        (seen (S.written out.new) (S.taken out.new) (S.faults out.new)) }
 {
     match turn {
         Turn::Stepped(told) => put_text(out, line(taken + 1, told)),

@@ -3,7 +3,8 @@
 ghost use Rattle.std.specs.Prelude.{ℕ, ◌≡◌, ◌≤◌, ◌<◌, ◌+◌, ◌-◌, ◌^◌, [], ◌∷◌};
 ghost use Rattle.m36_debug.specs.Parts.{CameSays, CameServed, CameCounts, EndSays, came_of, told_turn};
 ghost use Rattle.m36_step.specs.Answers.{is_service};
-ghost use Rattle.m36_debug.specs.Putting.{PutsLines, seen};
+ghost use Rattle.m36_outside.specs.Putting.{PutsPieces};
+ghost use Rattle.m36_debug.specs.Putting.{seen};
 ghost use Rattle.m36_debug.specs.Session.{Running, standing, turning, go_says, command_says};
 
 use crate::commands::{Command, Further, Run};
@@ -43,9 +44,9 @@ pub enum Ends {
 #[inline]
 #[tactic(auto, using(crate::proofs::PutLaws::puts_nothing))]
 fn put_go<S: Sink>(out: &mut S, regs: &Regs, sitting: &Sitting, next: Further) -> Put
-    ensures { PutsLines result
+    ensures { PutsPieces result (go_says regs.now sitting.now next)
         (seen (S.written out.old) (S.taken out.old) (S.faults out.old))
-        (seen (S.written out.new) (S.taken out.new) (S.faults out.new)) (go_says regs.now sitting.now next) }
+        (seen (S.written out.new) (S.taken out.new) (S.faults out.new)) }
 {
     match next {
         Further::Runs(_) | Further::Starves => Put::Done,
@@ -68,10 +69,9 @@ fn put_command<S: Sink>(
     next: Further,
 ) -> Put
     requires { taken < 2 ^ 64 - 1 }
-    ensures { PutsLines result
+    ensures { PutsPieces result (command_says command regs.now taken sitting.now turn.now next)
         (seen (S.written out.old) (S.taken out.old) (S.faults out.old))
-        (seen (S.written out.new) (S.taken out.new) (S.faults out.new))
-        (command_says command regs.now taken sitting.now turn.now next) }
+        (seen (S.written out.new) (S.taken out.new) (S.faults out.new)) }
 {
     match command {
         Command::Step => put_turn(out, taken, turn),

@@ -3,7 +3,8 @@ use Rattle.m36_model.specs.Registers.{RegsFields}
 use Rattle.m36_debug.specs.declared.commands.Command.TheVariants as commands
 use Rattle.m36_debug.specs.declared.session_line.SessionLine.TheVariants as session
 use Rattle.m36_debug.specs.Commands.{run_of, go_limit}
-use Rattle.m36_debug.specs.Putting.{seen, PutsLines}
+use Rattle.m36_outside.specs.Putting.{PutsPieces}
+use Rattle.m36_debug.specs.Putting.{seen}
 use Rattle.m36_debug.specs.Session.{turning}
 use Rattle.m36_debug.specs.SessionTexts.{regs_lines, seg_line, where_line}
 use Rattle.m36_debug.proofs.AnswerLaws.{took_at_once, took_command, took_back, took_quit, took_empty}
@@ -34,7 +35,7 @@ returns-in-Regs-clause-says g c =
     let s = g.S.Sink in
     let m = g.M.Stepper in
     took_at_once (turning m.regs m.content m.next m.went) c.put_regs.result c.told-in-Regs.result c.args.sitting.now c.args.m.now c.args.line.now session.Regs c.args.sitting.now (seen (s.written c.args.out.now) (s.taken c.args.out.now) (s.faults c.args.out.now)) (seen (s.written c.put_regs.new.out) (s.taken c.put_regs.new.out) (s.faults c.put_regs.new.out)) c.in-Regs.ensures.value refl refl
-    (subst (λ (r : RegsFields). PutsLines c.put_regs.result (seen (s.written c.args.out.now) (s.taken c.args.out.now) (s.faults c.args.out.now)) (seen (s.written c.put_regs.new.out) (s.taken c.put_regs.new.out) (s.faults c.put_regs.new.out)) (regs_lines r)) c.regs.ensures c.put_regs.ensures)
+    (subst (λ (r : RegsFields). PutsPieces c.put_regs.result (regs_lines r) (seen (s.written c.args.out.now) (s.taken c.args.out.now) (s.faults c.args.out.now)) (seen (s.written c.put_regs.new.out) (s.taken c.put_regs.new.out) (s.faults c.put_regs.new.out))) c.regs.ensures c.put_regs.ensures)
     c.told-in-Regs.ensures
 
 pub returns-in-Seg-clause-says : goal.returns-in-Seg-clause-says
@@ -42,7 +43,7 @@ returns-in-Seg-clause-says g c =
     let s = g.S.Sink in
     let m = g.M.Stepper in
     took_at_once (turning m.regs m.content m.next m.went) c.put_seg.result c.told-in-Seg.result c.args.sitting.now c.args.m.now c.args.line.now (session.Seg c.in-Seg.seg c.in-Seg.word) c.args.sitting.now (seen (s.written c.args.out.now) (s.taken c.args.out.now) (s.faults c.args.out.now)) (seen (s.written c.put_seg.new.out) (s.taken c.put_seg.new.out) (s.faults c.put_seg.new.out)) c.in-Seg.ensures.value refl refl
-    (subst (λ (w : Option ℕ). PutsLines c.put_seg.result (seen (s.written c.args.out.now) (s.taken c.args.out.now) (s.faults c.args.out.now)) (seen (s.written c.put_seg.new.out) (s.taken c.put_seg.new.out) (s.faults c.put_seg.new.out)) (seg_line c.in-Seg.seg c.in-Seg.word w ∷ [])) c.content.ensures c.put_seg.ensures)
+    (subst (λ (w : Option ℕ). PutsPieces c.put_seg.result (seg_line c.in-Seg.seg c.in-Seg.word w ∷ []) (seen (s.written c.args.out.now) (s.taken c.args.out.now) (s.faults c.args.out.now)) (seen (s.written c.put_seg.new.out) (s.taken c.put_seg.new.out) (s.faults c.put_seg.new.out))) c.content.ensures c.put_seg.ensures)
     c.told-in-Seg.ensures
 
 pub returns-in-Where-clause-says : goal.returns-in-Where-clause-says
@@ -50,7 +51,7 @@ returns-in-Where-clause-says g c =
     let s = g.S.Sink in
     let m = g.M.Stepper in
     took_at_once (turning m.regs m.content m.next m.went) c.put_where.result c.told-in-Where.result c.args.sitting.now c.args.m.now c.args.line.now session.Where c.args.sitting.now (seen (s.written c.args.out.now) (s.taken c.args.out.now) (s.faults c.args.out.now)) (seen (s.written c.put_where.new.out) (s.taken c.put_where.new.out) (s.faults c.put_where.new.out)) c.in-Where.ensures.value refl refl
-    (subst (λ (r : RegsFields). PutsLines c.put_where.result (seen (s.written c.args.out.now) (s.taken c.args.out.now) (s.faults c.args.out.now)) (seen (s.written c.put_where.new.out) (s.taken c.put_where.new.out) (s.faults c.put_where.new.out)) (where_line r.ppr ∷ [])) c.regs-in-Where.ensures c.put_where.ensures)
+    (subst (λ (r : RegsFields). PutsPieces c.put_where.result (where_line r.ppr ∷ []) (seen (s.written c.args.out.now) (s.taken c.args.out.now) (s.faults c.args.out.now)) (seen (s.written c.put_where.new.out) (s.taken c.put_where.new.out) (s.faults c.put_where.new.out))) c.regs-in-Where.ensures c.put_where.ensures)
     c.told-in-Where.ensures
 
 pub returns-in-Back-clause-says : goal.returns-in-Back-clause-says

@@ -1,7 +1,8 @@
 use Rattle.std.proofs.Common.{[], ◌∷◌, refl, sym, ap, subst}
 use Rattle.m36_model.specs.Registers.{RegsFields}
 use Rattle.m36_step.specs.declared.turns.BackAnswer.TheVariants as back
-use Rattle.m36_debug.specs.Putting.{seen, PutsLines}
+use Rattle.m36_outside.specs.Putting.{PutsPieces}
+use Rattle.m36_debug.specs.Putting.{seen}
 use Rattle.m36_debug.specs.Session.{turning, standing, Waiting}
 use Rattle.m36_debug.specs.SessionTexts.{where_line}
 use Rattle.m36_debug.specs.Sitting.{SittingFields}
@@ -14,7 +15,7 @@ returns-in-Done-clause-says g c =
     let m = g.M.Stepper in
     went_told (turning m.regs m.content m.next m.went) c.put_where.result c.told.result back.Done c.args.n c.args.line.now c.args.sitting.now c.note_back.new.self c.args.m.now c.back.new.self (seen (s.written c.args.out.now) (s.taken c.args.out.now) (s.faults c.args.out.now)) (seen (s.written c.put_where.new.out) (s.taken c.put_where.new.out) (s.faults c.put_where.new.out)) c.in-Done.ensures
     (ap (λ (t : SittingFields). standing t Waiting) (sym c.note_back.ensures))
-    (subst (λ (r : RegsFields). PutsLines c.put_where.result (seen (s.written c.args.out.now) (s.taken c.args.out.now) (s.faults c.args.out.now)) (seen (s.written c.put_where.new.out) (s.taken c.put_where.new.out) (s.faults c.put_where.new.out)) (where_line r.ppr ∷ [])) c.regs.ensures c.put_where.ensures)
+    (subst (λ (r : RegsFields). PutsPieces c.put_where.result (where_line r.ppr ∷ []) (seen (s.written c.args.out.now) (s.taken c.args.out.now) (s.faults c.args.out.now)) (seen (s.written c.put_where.new.out) (s.taken c.put_where.new.out) (s.faults c.put_where.new.out))) c.regs.ensures c.put_where.ensures)
     c.told.ensures
 
 pub returns-in-Before-clause-says : goal.returns-in-Before-clause-says

@@ -1,7 +1,8 @@
 use Rattle.std.proofs.Common.{◌≡◌, ◌+◌, ◌≤◌, true, []}
 use Rattle.std.specs.Prelude.{if◌then◌else◌}
+use Rattle.m36_outside.specs.declared.sink.Put.TheVariants.{Done}
 use Rattle.m36_debug.specs.Parts.{Part}
-use Rattle.m36_debug.specs.Putting.{PutAll, seen}
+use Rattle.m36_debug.specs.Putting.{seen}
 use Rattle.m36_debug.specs.Session.{turning, standing, Running}
 use Rattle.m36_debug.proofs.TurnLaws.{WasServed}
 use Rattle.m36_debug.proofs.turning.run_command.Given as goal
@@ -17,7 +18,7 @@ invariant-turns g l =
     let m = g.M.Stepper in
     let o = turning m.regs m.content m.next m.went in
     record {
-      part : Part o (standing l.fn.sitting (Running l.fn.first)) l.fn.m [] (standing l.sitting (Running l.run)) l.m (PutAll (seen (s.written l.fn.out) (s.taken l.fn.out) (s.faults l.fn.out)) (seen (s.written l.out) (s.taken l.out) (s.faults l.out)));
+      part : Part o (standing l.fn.sitting (Running l.fn.first)) l.fn.m [] (standing l.sitting (Running l.run)) l.m Done (seen (s.written l.fn.out) (s.taken l.fn.out) (s.faults l.fn.out)) (seen (s.written l.out) (s.taken l.out) (s.faults l.out));
       count : l.sitting.taken + l.run.left ≤ l.fn.sitting.taken + l.fn.first.left;
       service : l.served ≡ true → WasServed o l.m;
     }
