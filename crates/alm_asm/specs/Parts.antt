@@ -3,8 +3,8 @@ use Rattle.std.specs.Prelude.{ℕ}
 use Rattle.obj36_parts.specs.PartsFields.{PartsFields}
 use Rattle.obj36_parts.specs.ObjectSegment.{version_of}
 use Rattle.alm_asm.specs.declared.tables.Tables.{Tables}
-use Rattle.alm_asm.specs.declared.assembly.Placed.{Placed}
-use Rattle.alm_asm.specs.declared.assembly.Noted.{Noted}
+use Rattle.alm_asm.specs.declared.parts.Placed.{Placed}
+use Rattle.alm_asm.specs.declared.parts.Noted.{Noted}
 
 abbrev pub parts_by : Tables → Placed → Noted → ℕ → PartsFields
 parts_by tables placed noted entry_bound =

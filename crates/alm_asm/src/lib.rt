@@ -19,6 +19,7 @@ pub mod laws;
 pub mod line_refusal;
 pub mod links;
 pub mod marks;
+mod parts;
 pub mod tables;
 pub mod words;
 

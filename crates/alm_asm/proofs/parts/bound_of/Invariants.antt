@@ -1,7 +1,7 @@
 use Rattle.std.proofs.Common.{◌≡◌, ◌<◌, ◌^◌, length}
 use Rattle.alm_lines.specs.Spots.{start, HasRoom}
 use Rattle.alm_asm.specs.Assembly.{bound_from}
-use Rattle.alm_asm.proofs.assembly.bound_of.Given as goal
+use Rattle.alm_asm.proofs.parts.bound_of.Given as goal
 
 -- the bound by the rest, or what it is so far, is that of all
 abbrev pub invariant-loop-rest : goal.invariant-loop-rest

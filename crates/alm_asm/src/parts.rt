@@ -1,0 +1,244 @@
+//! The parts of the object of lines, by their tables.
+
+ghost use Rattle.std.specs.Prelude.{[], ◌≡◌, ◌^◌, ◌<◌, length, OnOk, IfOk};
+ghost use Rattle.alm_lines.specs.Spots.{start};
+ghost use Rattle.obj36_parts.specs.declared.section.Section.TheVariants.{Text};
+ghost use Rattle.alm_asm.specs.Words.{words_from};
+ghost use Rattle.alm_asm.specs.Marks.{marks_from};
+ghost use Rattle.alm_asm.specs.Definitions.{definitions_from};
+ghost use Rattle.alm_asm.specs.Parts.{parts_by};
+ghost use Rattle.alm_asm.specs.Assembly.{bound_by, bound_from, static_section, evened, parts_with};
+
+use crate::definitions::definitions_of;
+use crate::marks::push_marks_in;
+use crate::tables::Tables;
+use crate::words::words_in;
+use alm_lines::spot::{Spot, below};
+use alm_parse::{Deed, Line36};
+use m36_word::{NoMemory, Words};
+use obj36::{Defs, Parts, Relocs, Section};
+use obj36_parts::sections::{push_evening, version_of};
+use std::alloc::Global;
+
+fn bound_by(spot: Spot, bound: u32, deed: Deed) -> u32
+    requires { bound < 2 ^ 18 }
+    ensures value { result ≡ bound_by spot bound deed }
+    ensures bound { result < 2 ^ 18 }
+{
+    match deed {
+        Deed::Bound => (spot.text % (1 << 18)) as u32,
+        Deed::Nothing
+        | Deed::Instruction(_, _)
+        | Deed::Entry
+        | Deed::Segdef
+        | Deed::Equ
+        | Deed::Use
+        | Deed::Words
+        | Deed::Zero
+        | Deed::Block
+        | Deed::Even => bound,
+    }
+}
+
+#[tactic(auto, using(alm_lines::proofs::Rooms::rooms), unfolding(crate::specs::Assembly::bound_from))]
+fn bound_of(alloc: Global, text: &[u8], lines: &[Line36]) -> Result<u32, NoMemory>
+    requires { length lines.now < 2 ^ 32 }
+    ensures value { IfOk result (λ bound. bound ≡ bound_from text.now 0 start lines.now) }
+    ensures bound { IfOk result (λ bound. bound < 2 ^ 18) }
+{
+    let mut bound = 0;
+    let mut spot = Spot::start();
+    let mut rest = lines;
+    while let [line, more @ ..] = rest {
+        bound = bound_by(spot, bound, line.deed);
+        spot = below(alloc, text, spot, line)?;
+        rest = more;
+    }
+    Ok(bound)
+}
+
+fn static_section(uses_outer: bool) -> Section
+    ensures { result ≡ static_section uses_outer }
+{
+    if uses_outer {
+        Section::Static
+    } else {
+        Section::Linkage
+    }
+}
+
+fn even_out(uses_outer: bool, words: &mut Words) -> Result<(), NoMemory>
+    ensures { OnOk result (words.new ≡ evened uses_outer words.old) }
+{
+    if uses_outer {
+        return Ok(());
+    }
+    push_evening(words)
+}
+
+fn statics_of(
+    alloc: Global,
+    text: &[u8],
+    tables: &Tables,
+    lines: &[Line36],
+) -> Result<Words, NoMemory>
+    requires { length lines.now < 2 ^ 32 }
+    ensures { IfOk result (λ words.
+        words
+        ≡ evened tables.now.uses_outer
+        (words_from text.now tables.now (static_section tables.now.uses_outer) [] start
+        lines.now)) }
+{
+    let section = static_section(tables.uses_outer);
+    let mut words = words_in(alloc, text, tables, section, lines)?;
+    even_out(tables.uses_outer, &mut words)?;
+    Ok(words)
+}
+
+fn relocations_of(
+    alloc: Global,
+    text: &[u8],
+    tables: &Tables,
+    lines: &[Line36],
+) -> Result<Relocs, NoMemory>
+    requires { length lines.now < 2 ^ 32 }
+    ensures { IfOk result (λ marks.
+        marks
+        ≡ marks_from text.now tables.now.symbols (static_section tables.now.uses_outer)
+        (marks_from text.now tables.now.symbols Text [] start lines.now) start lines.now) }
+{
+    let mut marks = Relocs::new(alloc);
+    let section = static_section(tables.uses_outer);
+    push_marks_in(
+        alloc,
+        text,
+        &tables.symbols,
+        Section::Text,
+        lines,
+        &mut marks,
+    )?;
+    push_marks_in(alloc, text, &tables.symbols, section, lines, &mut marks)?;
+    Ok(marks)
+}
+
+/// The words of the text, and the static words.
+#[derive(Drop)]
+struct Placed {
+    text: Words,
+    statics: Words,
+}
+
+fn placed_in(
+    alloc: Global,
+    text: &[u8],
+    tables: &Tables,
+    lines: &[Line36],
+) -> Result<Placed, NoMemory>
+    requires { length lines.now < 2 ^ 32 }
+    ensures text { IfOk result (λ placed.
+        placed.text ≡ words_from text.now tables.now Text [] start lines.now) }
+    ensures statics { IfOk result (λ placed.
+        placed.statics
+        ≡ evened tables.now.uses_outer
+        (words_from text.now tables.now (static_section tables.now.uses_outer) [] start
+        lines.now)) }
+{
+    let words = words_in(alloc, text, tables, Section::Text, lines)?;
+    let statics = statics_of(alloc, text, tables, lines)?;
+    Ok(Placed {
+        text: words,
+        statics,
+    })
+}
+
+/// The definitions and the relocations.
+#[derive(Drop)]
+struct Noted {
+    definitions: Defs,
+    relocations: Relocs,
+}
+
+fn noted_in(
+    alloc: Global,
+    text: &[u8],
+    tables: &Tables,
+    lines: &[Line36],
+) -> Result<Noted, NoMemory>
+    requires { length lines.now < 2 ^ 32 }
+    ensures definitions { IfOk result (λ noted.
+        noted.definitions ≡ definitions_from text.now tables.now.symbols [] lines.now) }
+    ensures relocations { IfOk result (λ noted.
+        noted.relocations
+        ≡ marks_from text.now tables.now.symbols (static_section tables.now.uses_outer)
+        (marks_from text.now tables.now.symbols Text [] start lines.now) start lines.now) }
+{
+    let definitions = definitions_of(alloc, text, &tables.symbols, lines)?;
+    let relocations = relocations_of(alloc, text, tables, lines)?;
+    Ok(Noted {
+        definitions,
+        relocations,
+    })
+}
+
+/// All that lines give by their tables.
+#[derive(Drop)]
+struct Contents {
+    placed: Placed,
+    noted: Noted,
+    entry_bound: u32,
+}
+
+// The parts, of which the tables' links become part.
+fn parts_of(tables: Tables, contents: Contents) -> Parts
+    requires { contents.entry_bound < 2 ^ 18 }
+    ensures { result ≡ parts_by tables contents.placed contents.noted contents.entry_bound }
+{
+    Parts {
+        text: contents.placed.text,
+        statics: contents.placed.statics,
+        definitions: contents.noted.definitions,
+        links: tables.links,
+        relocations: contents.noted.relocations,
+        entry_bound: contents.entry_bound,
+        version: version_of(tables.uses_outer),
+    }
+}
+
+#[tactic(auto, unfolding(crate::specs::Assembly::parts_with))]
+fn contents_of(
+    alloc: Global,
+    text: &[u8],
+    tables: &Tables,
+    lines: &[Line36],
+) -> Result<Contents, NoMemory>
+    requires { length lines.now < 2 ^ 32 }
+    ensures bound { IfOk result (λ contents. contents.entry_bound < 2 ^ 18) }
+    ensures parts { IfOk result (λ contents.
+        parts_by tables.now contents.placed contents.noted contents.entry_bound
+        ≡ parts_with text.now tables.now lines.now) }
+{
+    let entry_bound = bound_of(alloc, text, lines)?;
+    let placed = placed_in(alloc, text, tables, lines)?;
+    let noted = noted_in(alloc, text, tables, lines)?;
+    Ok(Contents {
+        placed,
+        noted,
+        entry_bound,
+    })
+}
+
+// The parts of lines with these tables.
+pub(crate) fn parts_with(
+    alloc: Global,
+    text: &[u8],
+    tables: Tables,
+    lines: &[Line36],
+) -> Result<Parts, NoMemory>
+    requires { length lines.now < 2 ^ 32 }
+    ensures { IfOk result (λ parts. parts ≡ parts_with text.now tables lines.now) }
+{
+    match contents_of(alloc, text, &tables, lines) {
+        Ok(contents) => Ok(parts_of(tables, contents)),
+        Err(fault) => Err(fault),
+    }
+}
