@@ -17,7 +17,8 @@ use Rattle.m36_link.specs.Snap.{RefusedFields}
 use Rattle.m36_boot.specs.Segments.{file_at, is_gate, entry_bound_of, limit_of}
 use Rattle.m36_boot.specs.Start.{start_answer, start_segment, may_start}
 
--- an instruction that is tried again finds a frame that it does not refer to
+-- An instruction refers to 18 pages at most, so with 19 frames one that is tried again finds a
+-- frame that it does not refer to; the rest is room, and 24 is what the format of boot texts asks.
 abbrev pub least_frames : ℕ
 least_frames = 24
 
