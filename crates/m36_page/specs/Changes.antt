@@ -104,7 +104,8 @@ Stays old core new now e =
     → frame_of old core e.at.seg (e.at.word / 1024) ≡ Some frame
     → frame_of new now e.at.seg (e.at.word / 1024) ≡ Some frame
 
--- a core word that holds the page table word of a page in a frame which the references do not pin
+-- A core word holds a page table word of a pager: that of a page which is in a frame, and which the
+-- references do not pin.
 pub record IsFreeSpot (p : PagerFields) (refs : List Reference) (a : ℕ) : Type 0 where
   pub k : ℕ
   pub seg : ℕ

@@ -14,7 +14,8 @@ pub record ArePinned (refs : List Reference) (holders : List (Option (ℕ × ℕ
     (from to : ℕ) : Type 0 where
   pub each : (k : ℕ) → from ≤ k → k < to → is_pinned refs (slice_index_or holders k None) ≡ true
 
--- a core word that holds the page table word of a page in a frame which the references do not pin
+-- The page table word of each frame's page has a spot in core: a core word is that of a frame whose
+-- page the references do not pin.
 pub record IsHeldSpot (refs : List Reference) (holders : List (Option (ℕ × ℕ))) (spots : List ℕ)
     (a : ℕ) : Type 0 where
   pub k : ℕ
