@@ -32,7 +32,7 @@ is_symbol Text = false
 is_symbol Linkage = false
 is_symbol Static = false
 
--- the table with a definition of an object, which stands there as this one; of class symbol none
+-- the table with a definition, under which this one is noted; one of class symbol is left out
 abbrev pub with_counted : List (List ℕ × Export) → Named → DefFields → List (List ℕ × Export)
 with_counted table d def =
     if is_symbol d.def.section then table else with_export table d.name def
