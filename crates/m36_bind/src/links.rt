@@ -14,6 +14,15 @@ use obj36_parts::sections::later_section;
 use obj36_parts::{Link, Links, Section};
 use std::alloc::Global;
 
+// The types of links, by what they name.
+const TO_SECTION: u8 = 1;
+
+const TO_SEGMENT: u8 = 3;
+
+const TO_ENTRY: u8 = 4;
+
+const TO_OWN_ENTRY: u8 = 5;
+
 // A link to a place of the bound object itself.
 fn own_link(l: &Link, s: Spot) -> Link
     requires { s.offset < 2 ^ 18 }
@@ -23,7 +32,7 @@ fn own_link(l: &Link, s: Spot) -> Link
         name: Name::default(),
         entry: Name::default(),
         expr: s.offset,
-        kind: 1,
+        kind: TO_SECTION,
         section: s.section,
         modifier: l.modifier,
     }
@@ -101,16 +110,16 @@ fn moved_own(frame: &Shape, p: &Placed<'_>, l: &Link) -> Link
 fn link_moved(frame: &Shape, all: &Components<'_>, p: &Placed<'_>, l: &Link) -> Link
     ensures { result ≡ link_moved frame.now all.now p.now l.now }
 {
-    if l.kind == 1 {
+    if l.kind == TO_SECTION {
         return moved_own(frame, p, l);
     }
-    if l.kind == 3 {
+    if l.kind == TO_SEGMENT {
         return segment_link(l, all.find(&l.name));
     }
-    if l.kind == 4 {
+    if l.kind == TO_ENTRY {
         return outer_link(frame, l, all.find(&l.name));
     }
-    if l.kind == 5 {
+    if l.kind == TO_OWN_ENTRY {
         return inner_link(frame, p, l, p.entries.find(&l.entry));
     }
     l.copied()
