@@ -40,7 +40,7 @@ file_bytes name = asks name (bytes_by name)
 
 -- ---- words
 
--- F3: more words than an object has
+-- F3: more words than a segment has
 abbrev pub sized : List ℕ → List ℕ → Early (List ℕ)
 sized name words =
     if nat_lt segment_limit (length words) then Err (refused name code.F3 0) else Ok words
