@@ -1,6 +1,7 @@
--- A label that is no symbol has a byte in the text.
-use Rattle.std.proofs.Common.{◌≡◌, ℕ, suc, ◌<◌, ◌≤◌, Bool, true, false, cond, List, [], ◌∷◌, length, Option, Some, refl, arith, subst}
+-- A label that is no symbol has a byte in the text, and so has the first number out of its range.
+use Rattle.std.proofs.Common.{◌≡◌, ℕ, suc, ◌<◌, ◌≤◌, Bool, true, false, cond, List, [], ◌∷◌, length, Option, Some, None, refl, arith, sym, subst}
 use Rattle.std.specs.List.{find, All}
+use Rattle.std.specs.Option.{option_or, IfSome}
 use Rattle.alm_tokens.specs.declared.span.Span.{Span}
 use Rattle.alm_tokens.specs.Heads.{IsMark}
 use Rattle.alm_parse.specs.Lines.{is_no_symbol}
@@ -24,3 +25,18 @@ pub mark_inside :
 mark_inside text marks y all e =
     let is : IsMark (length text) y = found_mark (is_no_symbol text) (IsMark (length text)) marks y all e in
     omega (arith, is.ordered, is.inside)
+
+or_inside :
+    (size : ℕ) (first second : Option ℕ)
+    → IfSome first (λ place. place < size) → IfSome second (λ place. place < size)
+    → IfSome (option_or first second) (λ place. place < size)
+or_inside size None second one two = two
+or_inside size (Some place) second one two = one
+
+-- the first of two places, where each is in the text
+pub first_inside :
+    (size : ℕ) (first second over : Option ℕ)
+    → over ≡ option_or first second → IfSome first (λ place. place < size) → IfSome second (λ place. place < size)
+    → IfSome over (λ place. place < size)
+first_inside size first second over is one two =
+    subst (λ (o : Option ℕ). IfSome o (λ place. place < size)) (sym is) (or_inside size first second one two)

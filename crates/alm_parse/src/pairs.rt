@@ -1,7 +1,6 @@
 //! Operands of two parts, and names of sections.
 
-ghost use Rattle.std.specs.Prelude.{ℕ, ◌≡◌, ◌^◌, ◌<◌, Option, IfSome, IfOk, IfErr, length, ◌⊎◌};
-ghost use Rattle.std.specs.Option.{option_or};
+ghost use Rattle.std.specs.Prelude.{ℕ, ◌≡◌, ◌^◌, ◌<◌, Option, IfSome, IfOk, IfErr, length};
 ghost use Rattle.alm_parse.specs.Pairs.{value_given, halves_given, block_given, used_section, section_given};
 ghost use Rattle.alm_parse.specs.Refusals.{Reads, HaltsInside};
 
@@ -37,18 +36,8 @@ pub fn value_args(alloc: Global, text: &[u8], operand: Span) -> Result<Args, Hal
     Ok(two(alloc, Arg::Symbol(name.span), Arg::Plain(expr))?)
 }
 
-fn first_place(first: Option<u32>, second: Option<u32>) -> Option<u32>
-    ensures value { result ≡ option_or first second }
-    ensures either { (result ≡ first) ⊎ (result ≡ second) }
-{
-    match first {
-        Some(place) => Some(place),
-        None => second,
-    }
-}
-
 /// Two expressions.
-#[tactic(auto, unfolding(crate::specs::Pairs::halves_given))]
+#[tactic(auto, using(crate::proofs::Inside::first_inside), unfolding(crate::specs::Pairs::halves_given))]
 pub fn halves_args(alloc: Global, text: &[u8], operand: Span) -> Result<Args, Halt>
     requires text { length text.now < 2 ^ 32 }
     requires inside { operand.from < length text.now }
@@ -62,10 +51,9 @@ pub fn halves_args(alloc: Global, text: &[u8], operand: Span) -> Result<Args, Ha
     let left = expression_pieces(alloc, text, *left)?;
     let right = expression_pieces(alloc, text, *right)?;
     let form = are_terms(text, left.items()) && are_terms(text, right.items());
-    let over = first_place(
-        place_out(Numeral::Small, text, left.items()),
-        place_out(Numeral::Small, text, right.items()),
-    );
+    let first = place_out(Numeral::Small, text, left.items());
+    let second = place_out(Numeral::Small, text, right.items());
+    let over = first.or(second);
     if let Some(refusal) = refused(text, operand.from, form, over) {
         return Err(Halt::Refused(refusal));
     }
