@@ -1,7 +1,7 @@
 -- The names of registers and modifiers. Multics Processor Manual AL39, "Address modification": the
 -- tag of a register then indirect modification is the register's and 20 (octal), that of an
 -- indirect then register modification the register's and 60; 44, 51, 53, 54 and 56 are those of
--- indirect then tally.
+-- indirect then tally. The rows below have the same tags in base 16.
 use Rattle.std.specs.Prelude.{ℕ, ◌+◌, ◌-◌, ◌&&◌, ◌==◌, List, [], ◌∷◌, length, take, slice_index}
 use Rattle.std.specs.Prelude.{codes, Option, Some, None, option_map, if◌then◌else◌}
 use Rattle.std.specs.Option.{option_or}
