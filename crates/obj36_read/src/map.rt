@@ -110,6 +110,11 @@ pub fn fault_of_map(words: &[Word]) -> Option<u64>
 
 // ---- sections
 
+// How many words stand at the head of a definition section, and of a symbol section.
+const DEFINITION_HEAD: u64 = 2;
+
+const SYMBOL_HEAD: u64 = 1;
+
 fn index_of_symbol(version: u8) -> u64
     ensures value { result ≡ symbol_index version }
     ensures bound { result < 8 }
@@ -165,7 +170,7 @@ pub fn fault_of_sections(words: &[Word]) -> Option<u64>
     if leaves(map, e.text, 0) {
         return Some(map + 1);
     }
-    if leaves(map, e.definition, 2) {
+    if leaves(map, e.definition, DEFINITION_HEAD) {
         return Some(map + 2);
     }
     if leaves(map, e.linkage, HEAD_WORDS) {
@@ -174,7 +179,7 @@ pub fn fault_of_sections(words: &[Word]) -> Option<u64>
     if leaves(map, e.statics, 0) {
         return Some(map + 4);
     }
-    if leaves(map, e.symbol, 1) {
+    if leaves(map, e.symbol, SYMBOL_HEAD) {
         return Some(map + index_of_symbol(version(words)));
     }
     None
