@@ -83,7 +83,7 @@ pub fn load_packed(regs: &Regs, n: u8, f: &Final, word: Word) -> Result<Effect36
     ensures { answer_fields result ≡ refused_here regs.now (load_packed n word regs.now f.now) }
 {
     if Field::<0, 2>::get(word) == 3 {
-        return Err(command(regs));
+        return Err(command_fault(regs));
     }
     Ok(Effect36::completed(regs.with_pointer(n, unpacked(word, f))))
 }
@@ -104,7 +104,7 @@ pub fn load_address_pair(regs: &Regs, f: &Final) -> Effect36
 }
 
 /// The fault of an operand that the instruction does not take.
-fn command(regs: &Regs) -> Fault
+fn command_fault(regs: &Regs) -> Fault
     ensures { result ≡ plain_fault command (here regs.now) }
 {
     Fault {
