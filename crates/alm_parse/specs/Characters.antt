@@ -3,7 +3,7 @@ use Rattle.std.specs.Prelude.{ℕ, ◌+◌, Bool, true, false, not, List, [], �
 use Rattle.std.specs.Prelude.{slice_index, Option, Some, None, option_map, Result, Ok, Err}
 use Rattle.std.specs.Prelude.{if◌then◌else◌}
 use Rattle.std.specs.List.{find, position}
-use Rattle.obj36_parts.specs.Halves.{four}
+use Rattle.obj36_parts.specs.Halves.{of_quarters}
 use Rattle.alm_tokens.specs.declared.span.Span.{Span}
 use Rattle.alm_parse.specs.declared.args.Arg.{Arg}
 use Rattle.alm_parse.specs.declared.args.Arg.TheVariants.{Chars}
@@ -16,15 +16,16 @@ use Rattle.alm_parse.specs.Bodies.{place_of}
 -- A character has nine bits, and zeros follow the last.
 unfoldable pub packed : List ℕ → List ℕ
 packed [] = []
-packed (a ∷ []) = four a 0 0 0 ∷ []
-packed (a ∷ b ∷ []) = four a b 0 0 ∷ []
-packed (a ∷ b ∷ c ∷ []) = four a b c 0 ∷ []
-packed (a ∷ b ∷ c ∷ d ∷ rest) = four a b c d ∷ packed rest
+packed (a ∷ []) = of_quarters a 0 0 0 ∷ []
+packed (a ∷ b ∷ []) = of_quarters a b 0 0 ∷ []
+packed (a ∷ b ∷ c ∷ []) = of_quarters a b c 0 ∷ []
+packed (a ∷ b ∷ c ∷ d ∷ rest) = of_quarters a b c d ∷ packed rest
 
 -- the word of the first four, or of those that there are
 unfoldable pub first_word : List ℕ → ℕ
 first_word bytes =
-    four (slice_index bytes 0) (slice_index bytes 1) (slice_index bytes 2) (slice_index bytes 3)
+    of_quarters (slice_index bytes 0) (slice_index bytes 1) (slice_index bytes 2)
+    (slice_index bytes 3)
 
 -- behind the closing delimiter only blanks stand, and perhaps a comment
 abbrev pub ended_by : Option ℕ → Bool

@@ -4,7 +4,7 @@ use Rattle.std.specs.Prelude.{length, map, slice_index}
 use Rattle.std.specs.List.{list_any}
 pub use Rattle.m36_text.specs.Texts.{are_same as same, is_name_character}
 unfoldable pub use Rattle.m36_text.specs.Texts.{is_name}
-use Rattle.obj36_parts.specs.Halves.{four}
+use Rattle.obj36_parts.specs.Halves.{of_quarters}
 
 -- ---- which names stand, and where
 
@@ -40,7 +40,7 @@ unit_of name i = slice_index (length name ∷ name) i
 -- a word of a name
 unfoldable pub name_word : List ℕ → ℕ → ℕ
 name_word name j =
-    four (unit_of name (4 * j)) (unit_of name (4 * j + 1)) (unit_of name (4 * j + 2))
+    of_quarters (unit_of name (4 * j)) (unit_of name (4 * j + 1)) (unit_of name (4 * j + 2))
     (unit_of name (4 * j + 3))
 
 -- so many words of a name, from one on
