@@ -185,7 +185,8 @@ definition_section p = definition_part p.definitions p.links
 
 -- ---- the linkage section
 
--- the first word of a link that is not snapped: 2^18 less its offset, with the tag of fault 24
+-- the first word of a link that is not snapped: 2^18 less its offset, with tag 46 (octal), fault
+-- tag 2
 abbrev pub link_head : ℕ → ℕ
 link_head at = joined (2 ^ 18 - at) 0o46
 
