@@ -17,15 +17,16 @@ at_least least (Some n) = if nat_le least n then Some n else None
 unfoldable pub decimal_in : ℕ → ℕ → List ℕ → Option ℕ
 decimal_in least most text = at_least least (result_ok (number_read 10 text most))
 
--- the same of at most so many digits
+-- what `decimal_in` gives, of at most so many digits
 unfoldable pub short_decimal_in : ℕ → ℕ → ℕ → List ℕ → Option ℕ
 short_decimal_in digits least most text =
     if nat_le (length text) digits then decimal_in least most text else None
 
--- the same without a leading zero, but for the number 0
+-- no zero leads, but that of the number 0
 abbrev pub has_no_leading_zero : List ℕ → Bool
 has_no_leading_zero text = (length text == 1) || not (slice_index text 0 == 48)
 
+-- what `decimal_in` gives, without a leading zero
 unfoldable pub plain_decimal_in : ℕ → ℕ → List ℕ → Option ℕ
 plain_decimal_in least most text =
     if has_no_leading_zero text then decimal_in least most text else None
