@@ -1,6 +1,6 @@
 -- The faults, by the manual's names: each number stands here alone. The store fault and the
--- directed faults, which places give, are in `Place`. Multics Processor Manual AL39, "Faults and
--- interrupts".
+-- directed faults, which places give, are in `Place`, but directed fault 1, which has its name here
+-- too. Multics Processor Manual AL39, "Faults and interrupts".
 use Rattle.std.specs.Prelude.{ℕ}
 
 -- MME
