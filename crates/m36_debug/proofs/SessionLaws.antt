@@ -20,7 +20,7 @@ use Rattle.m36_debug.specs.LinesTaken.{IsLines, IsUnbroken}
 use Rattle.m36_debug.specs.Parts.{Part, EndSays}
 use Rattle.m36_debug.specs.PieceSays.{AnsweredAll, AnsweredQuit, AnsweredSome, AnsweredCut}
 use Rattle.m36_debug.specs.Session.{Turning, Waiting, Over, Starved, Standing, standing, lines_said}
-use Rattle.m36_debug.specs.SessionSays.{LinesSeen, SessionSays, TookBy, CountBy, WroteBy, ReadHasCause, answer_of, bytes_limit, HasEnded, StopsAtEnd, TookOpen, EndInQuit, TookWhole}
+use Rattle.m36_debug.specs.SessionSays.{LinesSeen, SessionSays, TookBy, CountBy, put_by, ReadHasCause, answer_of, bytes_limit, HasEnded, StopsAtEnd, TookOpen, EndInQuit, TookWhole}
 use Rattle.m36_debug.specs.Sitting.{SittingFields, new_sitting}
 use Rattle.m36_debug.specs.Taking.{GotPiece, GotEnd, GotNothing}
 use Rattle.m36_debug.proofs.LinesLaws.{lines_none, lines_on, all_open, all_whole, some_whole}
@@ -145,7 +145,7 @@ says :
     → Came before after pieces → CountBy result (length (joined pieces)) → ReadHasCause result before.faults after.faults
     → StopsAtEnd pieces before.faults after.faults
     → TookBy result pieces lines stands.doing after
-    → Part o (standing new_sitting Waiting) m lines stands m' (WroteBy result old new)
+    → Part o (standing new_sitting Waiting) m lines stands m' (put_by result) old new
     → SessionSays o result m m' before after old new
 says o result m m' before after old new pieces lines stands came count cause stops took part = record {
   lines = lines_said o (standing new_sitting Waiting) part.events;

@@ -5,6 +5,7 @@ use Rattle.std.specs.Prelude.{IfSome, Result, Ok, Err}
 use Rattle.m36_outside.specs.Counts.{Rose}
 use Rattle.m36_outside.specs.Passing.{joined}
 use Rattle.m36_outside.specs.Piece.{preceded}
+use Rattle.m36_outside.specs.declared.sink.Put.{Put}
 use Rattle.m36_outside.specs.declared.sink.Put.TheVariants.{Done, Failed}
 use Rattle.m36_outside.specs.SinkState.{SinkState}
 use Rattle.m36_text.specs.Lines.{open_lines_of}
@@ -101,14 +102,18 @@ CountBy (Err fault.TooLong) count = (bytes_limit < count) × (count ≤ bytes_li
 CountBy (Err fault.WriteFault) count = count ≤ bytes_limit
 CountBy (Err fault.NoMemory) count = count ≤ bytes_limit
 
+-- what the last put of it answered
+abbrev pub put_by : Result (Unit {0}) SessionFault → Put
+put_by (Ok done) = Done
+put_by (Err fault.ReadFault) = Done
+put_by (Err fault.TooLong) = Done
+put_by (Err fault.WriteFault) = Failed
+put_by (Err fault.NoMemory) = Done
+
 -- what was written of it
 abbrev pub WroteBy :
     Result (Unit {0}) SessionFault → SinkState → SinkState → List (List ℕ) → Type 0
-WroteBy (Ok done) old new lines = PutsPieces Done lines old new
-WroteBy (Err fault.ReadFault) old new lines = PutsPieces Done lines old new
-WroteBy (Err fault.TooLong) old new lines = PutsPieces Done lines old new
-WroteBy (Err fault.WriteFault) old new lines = PutsPieces Failed lines old new
-WroteBy (Err fault.NoMemory) old new lines = PutsPieces Done lines old new
+WroteBy result old new lines = PutsPieces (put_by result) lines old new
 
 -- how a session ends with its input
 abbrev pub answer_of : Ends → Result (Unit {0}) SessionFault
