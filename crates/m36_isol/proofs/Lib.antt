@@ -7,6 +7,7 @@ pub mod Lists
 pub mod CoreTables
 pub mod Places
 pub mod CoreMarks
+pub mod MarkFields
 pub mod CoreLaw
 pub mod EffectParts
 pub mod Effects

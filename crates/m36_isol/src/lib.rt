@@ -30,7 +30,7 @@ ghost use Rattle.m36_model.specs.JointIsolation.{JointlyIsolated};
 ghost use Rattle.m36_isol.specs.Findings.{FindingsLaw, JointFindingsLaw};
 ghost use Rattle.m36_isol.specs.Rights.{RightsLaw};
 ghost use Rattle.m36_isol.specs.Gates.{GatesLaw};
-ghost use Rattle.m36_isol.specs.MarkBits.{MarksKeepBits};
+ghost use Rattle.m36_isol.specs.MarkBits.{MarksKeepBits, MarksAreFields};
 ghost use Rattle.m36_isol.specs.PageServices.{PagesLaw};
 ghost use Rattle.m36_isol.specs.References.{FewReferencesLaw};
 ghost use Rattle.m36_model.specs.Laws.{EffectLaw, EffectRefusals, DependsLaw, SightLaw, ReachLaw, CoreReachLaw};
@@ -55,9 +55,11 @@ pub fn law_gates()
 /// Core as a store owes what the laws want, where table words and words of segments are apart, as three of the audit
 /// conditions say: descriptors and places are by the tables
 /// but for marks; a word at the place of a segment word is its content; marks and words written at segment words change
-/// neither tables nor other words. A mark changes no other bit of its page table word.
+/// neither tables nor other words. A mark changes no other bit of its page table word, and the bits that it puts on are
+/// those that the fields of the word tell as used and modified.
 pub fn law_store()
     ensures marks { MarksKeepBits }
+    ensures fields { MarksAreFields }
     ensures store { (core : List ℕ) (dbr : DbrFields) → AreApart core dbr
         → Lawful core_store dbr (HasTables core dbr) (IsSegmentSpot core dbr)
         (IsMarkedFrom core dbr) }
