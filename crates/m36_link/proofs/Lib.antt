@@ -1,3 +1,4 @@
 mod Sizes
 mod KnownNames
 mod Made
+mod LinkTags

@@ -1,14 +1,26 @@
--- Laws of search and of laying.
+-- Laws of links, of search and of laying.
 use Rattle.std.specs.Prelude.{ℕ, ◌≡◌, ◌<◌, ◌≤◌, ◌+◌, ◌^◌, List, length, All, Some}
 use Rattle.std.specs.Prelude.{Ok}
 use Rattle.m36_model.specs.Fields.{AtFields}
+use Rattle.m36_model.specs.Chain.{indirect_tag}
+use Rattle.m36_model.specs.Faults.{fault_tag_2}
+use Rattle.m36_model.specs.Modification.{Point, Fails, fault_at, move_of_point}
+use Rattle.m36_model.specs.Registers.{RegsFields}
 use Rattle.m36_dir.specs.Catalog.{CatalogFields}
 use Rattle.obj36_parts.specs.Fields.{LinkFields}
+use Rattle.obj36_parts.specs.ObjectSegment.{link_head}
 use Rattle.obj36_parts.specs.PartsFields.{PartsFields}
 use Rattle.m36_link.specs.Fields.{LaidFields, KnownFields, SnapFields}
 use Rattle.m36_link.specs.Known.{first_segment, object_in, laid_words}
 use Rattle.m36_link.specs.Snap.{snap_of, outer_snap}
 use Rattle.m36_link.specs.Accepted.{accepted, MayBeLaid}
+
+-- The tag in the first word of a link that is not snapped is that of fault tag 2, the fault by which
+-- links are served: an address that reaches it ends there with this fault.
+abbrev pub LinksFault : Type 0
+LinksFault =
+    (g : RegsFields) (p : Point) (at : ℕ) → p.tag ≡ indirect_tag (link_head at)
+    → move_of_point g p ≡ Fails (fault_at fault_tag_2 p.carrier)
 
 -- a number of a catalog segment
 pub record IsOfCatalog (catalog : CatalogFields) (seg : ℕ) : Type 0 where

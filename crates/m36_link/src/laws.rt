@@ -1,11 +1,13 @@
-//! Laws of search and of laying.
+//! Laws of links, of search and of laying.
 
-ghost use Rattle.m36_link.specs.Laws.{MayBeAccepted, MayBeAcceptedFrom, KeepsMade, KeepsMadeFrom};
+ghost use Rattle.m36_link.specs.Laws.{LinksFault, MayBeAccepted, MayBeAcceptedFrom, KeepsMade, KeepsMadeFrom};
 
 /// An answer may be accepted. And where each name is that of a catalog segment, and each laid section that of an object
 /// of the catalog, whole and within its linkage segment, this holds again once an answer is accepted.
-#[tactic(auto, using(crate::proofs::Made::laws))]
+/// And a link that is not snapped ends an address with fault tag 2, by which it is served.
+#[tactic(auto, using(crate::proofs::Made::laws, crate::proofs::LinkTags::links_fault))]
 pub fn link_laws()
+    ensures fault { LinksFault }
     ensures accepted { MayBeAccepted }
     ensures accepted_from { MayBeAcceptedFrom }
     ensures made { KeepsMade }
