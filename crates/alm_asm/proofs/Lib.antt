@@ -20,3 +20,6 @@ pub mod LinksSoFar
 pub mod EachSymbol
 pub mod Valued
 pub mod ExternalsStand
+pub mod Grown
+pub mod MarksCounted
+pub mod SectionsFit

@@ -78,21 +78,28 @@ line_below text tables done spot [] line others e = (line_parts text tables done
 line_below text tables done spot (first ∷ above) line others e =
     line_below text tables (definitions_after text tables.symbols done first) (below text spot first) above line others (other_lines text tables done spot first (above ++ line ∷ others) e)
 
--- Where a source is not refused, neither are its symbols nor its lines by themselves.
+-- Where a source is not refused, neither are its symbols nor its lines by themselves, nor the words of its sections.
 parts_none :
     (source : Source) → refusal_of source ≡ None
-    → (layout_refusal source.text None [] start source.lines ≡ None) × (lines_refusal source.text (tables_of source.text source.lines) [] start source.lines ≡ None)
+    → ((layout_refusal source.text None [] start source.lines ≡ None) × (lines_refusal source.text (tables_of source.text source.lines) [] start source.lines ≡ None))
+    × (growth_refusal source.text (tables_of source.text source.lines).symbols at_first start source.lines ≡ None)
 unfolding refusal_of
 parts_none source none =
     let symbols = layout_refusal source.text None [] start source.lines in
     let lines = lines_refusal source.text (tables_of source.text source.lines) [] start source.lines in
     let long = growth_refusal source.text (tables_of source.text source.lines).symbols at_first start source.lines in
-    sooner_none symbols lines (sooner_none (sooner symbols lines) long none).0
+    let parts = sooner_none (sooner symbols lines) long none in
+    (sooner_none symbols lines parts.0, parts.1)
 
 pub no_layout_refusal : (source : Source) → refusal_of source ≡ None → layout_refusal source.text None [] start source.lines ≡ None
-no_layout_refusal source none = (parts_none source none).0
+no_layout_refusal source none = (parts_none source none).0.0
 
 pub no_lines_refusal :
     (source : Source) → refusal_of source ≡ None
     → lines_refusal source.text (tables_of source.text source.lines) [] start source.lines ≡ None
-no_lines_refusal source none = (parts_none source none).1
+no_lines_refusal source none = (parts_none source none).0.1
+
+pub no_growth_refusal :
+    (source : Source) → refusal_of source ≡ None
+    → growth_refusal source.text (tables_of source.text source.lines).symbols at_first start source.lines ≡ None
+no_growth_refusal source none = (parts_none source none).1

@@ -1,0 +1,157 @@
+-- The growth of the symbol section counts the relocations of lines that are not refused.
+use Rattle.std.proofs.Common.{◌≡◌, ℕ, ◌+◌, ◌≤◌, Bool, true, false, cond, List, [], ◌∷◌, ◌++◌, length, Option, Some, None, refl, sym, ap, ◌∙◌, arith, add-zero}
+use Rattle.std.proofs.lemmas.List.{length-append}
+use Rattle.alm_tokens.specs.Tokens.{slice_of}
+use Rattle.alm_parse.specs.declared.args.Arg.{Arg}
+use Rattle.alm_parse.specs.declared.args.Arg.TheVariants as arg
+use Rattle.alm_parse.specs.declared.deed.Deed.{Deed}
+use Rattle.alm_parse.specs.declared.deed.Deed.TheVariants as deed
+use Rattle.alm_parse.specs.declared.line.Line36.{Line36}
+use Rattle.alm_parse.specs.Bodies.{own_section}
+use Rattle.obj36_parts.specs.declared.section.Section.{Section}
+use Rattle.obj36_parts.specs.declared.section.Section.TheVariants.{Text, Linkage, Symbol, Static}
+use Rattle.obj36_parts.specs.declared.definition.Named.{Named}
+use Rattle.obj36_parts.specs.Fields.{RelocFields}
+use Rattle.obj36_parts.specs.ObjectSegment.{is_text_section}
+use Rattle.alm_lines.specs.Sums.{kind_of}
+use Rattle.alm_lines.specs.Arguments.{first_arg, second_arg, terms_in}
+use Rattle.alm_lines.specs.Spots.{below}
+use Rattle.alm_lines.specs.SpotFields.{Spot}
+use Rattle.alm_lines.specs.Expressions.{sum_of, expression_place}
+use Rattle.alm_lines.specs.Refusals.{sooner, refusal_at, has_value}
+use Rattle.alm_lines.specs.declared.sum.Sum.{Sum}
+use Rattle.alm_lines.specs.declared.sum.Kind.{Kind}
+use Rattle.alm_lines.specs.declared.sum.Kind.TheVariants.{Absolute, Moved, Unsaid}
+use Rattle.alm_lines.specs.declared.refusal.Code.TheVariants.{E7}
+use Rattle.alm_lines.specs.declared.refusal.Room.TheVariants.{Half}
+use Rattle.alm_asm.specs.Words.{same_section}
+use Rattle.alm_asm.specs.Marks.{mark, operand_part, operand_kind, operand_mark, marks_by, marks_after, marks_from}
+use Rattle.alm_asm.specs.Definitions.{definitions_after}
+use Rattle.alm_asm.specs.LineRefusals.{unless, op_place, external_place, may_name, own_room, link_expression, reaches, own_operand, operand_refusal, refusal_of_deed, lines_refusal}
+use Rattle.alm_asm.specs.Assembly.{static_section}
+use Rattle.alm_asm.specs.Growth.{mark_count, operand_count, half_count, marks_count, grown_by}
+use Rattle.alm_asm.specs.declared.growth.Growth.{Growth}
+use Rattle.alm_asm.specs.declared.tables.Tables.{Tables}
+use Rattle.alm_asm.proofs.Unrefused.{sooner_none, line_parts, head_line, other_lines}
+use Rattle.alm_asm.proofs.Valued.{AreKnown, valued}
+use Rattle.alm_asm.proofs.Grown.{growth_from, line_symbol}
+
+-- ---- a line
+
+-- An expression that has a value is counted as it is marked.
+mark_counted : (spot : Spot) (part : ℕ) (kind : Kind) (b : Bool) → b ≡ true → length (mark spot part kind) ≡ mark_count b kind
+mark_counted spot part Absolute b e = refl
+mark_counted spot part (Moved target) b e = sym (ap (λ v. cond v 1 0) e)
+mark_counted spot part Unsaid b e = refl
+
+operand_counted : (text : List ℕ) (tables : Tables) (spot : Spot) (line : Line36) (given : Option Arg) → AreKnown tables.symbols → operand_refusal text tables spot line given ≡ None
+    → length (operand_mark text tables.symbols spot given) ≡ operand_count text tables.symbols spot given
+operand_counted text tables spot line (Some (arg.Symbol span)) known none = refl
+operand_counted text tables spot line (Some (arg.Number word)) known none = refl
+operand_counted text tables spot line (Some (arg.Chars words)) known none = refl
+operand_counted text tables spot line (Some (arg.Plain terms)) known none = refl
+operand_counted text tables spot line (Some (arg.Operand pr None entry terms tag)) known none =
+    mark_counted spot (operand_part pr None) (kind_of (sum_of text tables.symbols spot terms)) (has_value text tables.symbols spot terms (own_room pr) true)
+    (valued text tables.symbols spot line terms (expression_place terms) (own_room pr) true known none)
+operand_counted text tables spot line (Some (arg.Operand pr (Some segment) entry terms tag)) known none =
+    let at = refusal_at line segment.from E7 in
+    let said = link_expression text tables.symbols spot line segment entry terms in
+    let reached = unless (reaches text tables spot segment entry terms tag) at in
+    let named = unless (may_name tables (own_section (slice_of text segment))) at in
+    let free = (sooner_none said reached (sooner_none (sooner said reached) named none).0).0 in
+    mark_counted spot (operand_part pr (Some segment)) (operand_kind (Some segment) (sum_of text tables.symbols spot terms)) (has_value text tables.symbols spot terms Half false)
+    (valued text tables.symbols spot line terms (external_place segment entry) Half false known free)
+operand_counted text tables spot line None known none = refl
+
+deed_counted : (text : List ℕ) (tables : Tables) (spot : Spot) (line : Line36) (marks : List RelocFields) (d : Deed) → AreKnown tables.symbols → refusal_of_deed text tables spot line d ≡ None
+    → length (marks_by text tables.symbols spot marks line.args d) ≡ length marks + marks_count text tables.symbols spot line.args d
+deed_counted text tables spot line marks deed.Nothing known none = sym (add-zero (length marks))
+deed_counted text tables spot line marks (deed.Instruction code bit27) known none =
+    let given = first_arg line.args in
+    let free = (sooner_none (unless (is_text_section spot.section) (refusal_at line (op_place line.op) E7)) (operand_refusal text tables spot line given) none).1 in
+    length-append marks (operand_mark text tables.symbols spot given) ∙ ap (λ n. length marks + n) (operand_counted text tables spot line given known free)
+deed_counted text tables spot line marks deed.Entry known none = sym (add-zero (length marks))
+deed_counted text tables spot line marks deed.Segdef known none = sym (add-zero (length marks))
+deed_counted text tables spot line marks deed.Equ known none = sym (add-zero (length marks))
+deed_counted text tables spot line marks deed.Use known none = sym (add-zero (length marks))
+deed_counted text tables spot line marks deed.Words known none = sym (add-zero (length marks))
+deed_counted text tables spot line marks deed.Zero known none =
+    let left = terms_in (first_arg line.args) in
+    let right = terms_in (second_arg line.args) in
+    let free = sooner_none (own_operand text tables spot line Half left) (own_operand text tables spot line Half right) none in
+    let a = mark spot 0 (kind_of (sum_of text tables.symbols spot left)) in
+    let b = mark spot 1 (kind_of (sum_of text tables.symbols spot right)) in
+    let first : length a ≡ half_count text tables.symbols spot left =
+    mark_counted spot 0 (kind_of (sum_of text tables.symbols spot left)) (has_value text tables.symbols spot left Half true)
+    (valued text tables.symbols spot line left (expression_place left) Half true known free.0) in
+    let second : length b ≡ half_count text tables.symbols spot right =
+    mark_counted spot 1 (kind_of (sum_of text tables.symbols spot right)) (has_value text tables.symbols spot right Half true)
+    (valued text tables.symbols spot line right (expression_place right) Half true known free.1) in
+    let whole = length-append (marks ++ a) b in
+    let part = length-append marks a in
+    omega arith
+deed_counted text tables spot line marks deed.Block known none = sym (add-zero (length marks))
+deed_counted text tables spot line marks deed.Even known none = sym (add-zero (length marks))
+deed_counted text tables spot line marks deed.Bound known none = sym (add-zero (length marks))
+
+-- ---- the lines
+
+-- how many relocations lines count in a section
+counts_in : List ℕ → List (List ℕ × Sum) → Section → Spot → List Line36 → ℕ
+counts_in text symbols section spot [] = 0
+counts_in text symbols section spot (line ∷ lines) =
+    cond (same_section spot.section section) (marks_count text symbols spot line.args line.deed) 0 + counts_in text symbols section (below text spot line) lines
+
+after_by : (b : Bool) (marks more : List RelocFields) (n : ℕ) → length more ≡ length marks + n → length (cond b more marks) ≡ length marks + cond b n 0
+after_by true marks more n e = e
+after_by false marks more n e = sym (add-zero (length marks))
+
+after_counted : (text : List ℕ) (tables : Tables) (section : Section) (marks : List RelocFields) (spot : Spot) (line : Line36) → AreKnown tables.symbols
+    → refusal_of_deed text tables spot line line.deed ≡ None
+    → length (marks_after text tables.symbols section marks spot line) ≡ length marks + cond (same_section spot.section section) (marks_count text tables.symbols spot line.args line.deed) 0
+unfolding marks_after
+after_counted text tables section marks spot line known none =
+    after_by (same_section spot.section section) marks (marks_by text tables.symbols spot marks line.args line.deed) (marks_count text tables.symbols spot line.args line.deed)
+    (deed_counted text tables spot line marks line.deed known none)
+
+from_counted : (text : List ℕ) (tables : Tables) (section : Section) (done : List Named) (marks : List RelocFields) (spot : Spot) (lines : List Line36) → AreKnown tables.symbols
+    → lines_refusal text tables done spot lines ≡ None
+    → length (marks_from text tables.symbols section marks spot lines) ≡ length marks + counts_in text tables.symbols section spot lines
+unfolding marks_from counts_in
+from_counted text tables section done marks spot [] known none = sym (add-zero (length marks))
+from_counted text tables section done marks spot (line ∷ lines) known none =
+    let own = (line_parts text tables done spot line (head_line text tables done spot line lines none)).1 in
+    let more = after_counted text tables section marks spot line known own in
+    let rest = from_counted text tables section (definitions_after text tables.symbols done line) (marks_after text tables.symbols section marks spot line) (below text spot line) lines known
+    (other_lines text tables done spot line lines none) in
+    omega arith
+
+-- A line stands in one section.
+once : (newer : Bool) (section : Section) (n : ℕ) → cond (same_section section Text) n 0 + cond (same_section section (static_section newer)) n 0 ≤ n
+once true Text n = omega arith
+once true Linkage n = omega arith
+once true Symbol n = omega arith
+once true Static n = omega arith
+once false Text n = omega arith
+once false Linkage n = omega arith
+once false Symbol n = omega arith
+once false Static n = omega arith
+
+grown_counts : (text : List ℕ) (symbols : List (List ℕ × Sum)) (newer : Bool) (g : Growth) (spot : Spot) (lines : List Line36)
+    → g.symbol + counts_in text symbols Text spot lines + counts_in text symbols (static_section newer) spot lines ≤ (growth_from text symbols g spot lines).symbol
+unfolding growth_from counts_in
+grown_counts text symbols newer g spot [] = omega arith
+grown_counts text symbols newer g spot (line ∷ lines) =
+    let own = line_symbol text symbols spot g line in
+    let one = once newer spot.section (marks_count text symbols spot line.args line.deed) in
+    let rest = grown_counts text symbols newer (grown_by text symbols spot g line) (below text spot line) lines in
+    omega arith
+
+-- No relocation stands that is not counted.
+pub marks_counted : (text : List ℕ) (tables : Tables) (newer : Bool) (g : Growth) (spot : Spot) (lines : List Line36) → AreKnown tables.symbols → lines_refusal text tables [] spot lines ≡ None
+    → g.symbol + length (marks_from text tables.symbols (static_section newer) (marks_from text tables.symbols Text [] spot lines) spot lines) ≤ (growth_from text tables.symbols g spot lines).symbol
+marks_counted text tables newer g spot lines known none =
+    let words = from_counted text tables Text [] [] spot lines known none in
+    let statics = from_counted text tables (static_section newer) [] (marks_from text tables.symbols Text [] spot lines) spot lines known none in
+    let counted = grown_counts text tables.symbols newer g spot lines in
+    omega arith
