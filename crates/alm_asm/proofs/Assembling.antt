@@ -85,7 +85,7 @@ parts_assemble source none formed =
       bound = λ above line others split this last. bound_is text lines above line others split this last ∙ bound_in_text text tables lines above line others split small;
       unbound = λ last. unbound text 0 start lines last;
       version = ap version_of (end_outer text start lines);
-      fits = sections_fit source none;
+      fits = sections_fit source none well.distinct;
     }
 
 record IsMade (source : Source) (parts : PartsFields) : Type 0 where

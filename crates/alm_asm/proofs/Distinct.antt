@@ -1,9 +1,7 @@
 -- The names of definitions that are not refused are distinct.
-use Rattle.std.proofs.Common.{◌≡◌, ℕ, Bool, true, false, not, List, [], ◌∷◌, ◌++◌, Option, Some, None, is_some, refl, ap, ◌∙◌, true≢false}
+use Rattle.std.proofs.Common.{◌≡◌, ℕ, Bool, true, false, List, [], ◌∷◌, ◌++◌, Option, Some, None, is_some, refl, sym, ap, ◌∙◌, true≢false}
 use Rattle.std.specs.List.{list_any}
-use Rattle.std.proofs.lemmas.Bool.{and_parts, and_from, not-true, or_parts, or_from}
 use Rattle.std.proofs.lemmas.List.{append-nil}
-use Rattle.std.proofs.lemmas.Cmp.{nat_list_eq_equiv}
 use Rattle.alm_tokens.specs.declared.span.Span.{Span}
 use Rattle.alm_parse.specs.declared.args.Arg.{Arg}
 use Rattle.alm_parse.specs.declared.args.Arg.TheVariants as arg
@@ -20,29 +18,15 @@ use Rattle.alm_lines.specs.declared.sum.Sum.{Sum}
 use Rattle.alm_lines.specs.SpotFields.{Spot}
 use Rattle.alm_asm.specs.declared.tables.Tables.{Tables}
 use Rattle.alm_lines.specs.declared.refusal.Refusal.{Refusal}
+use Rattle.obj36_parts.proofs.SizeLaws.{any_definition, definition_names-append}
+use Rattle.alm_asm.proofs.NamesCounted.{distinct_pushed as name_pushed}
 use Rattle.alm_asm.proofs.Unrefused.{sooner_none, names_first, line_parts, head_line, other_lines}
-
-same_turned : (a b : List ℕ) → same_name a b ≡ same_name b a
-same_turned a b = nat_list_eq_equiv.symm a b
-
--- a name that is not among some, nor the one at their end
-not_among : (name : List ℕ) (done : List Named) (d : Named) → list_any (same_name name) (definition_names done) ≡ false → same_name name d.name ≡ false
-    → list_any (same_name name) (definition_names (done ++ d ∷ [])) ≡ false
-unfolding definition_names
-not_among name [] d e f = or_from (same_name name d.name) false f refl
-not_among name (x ∷ done) d e f =
-    let parts = or_parts (same_name name x.name) (list_any (same_name name) (definition_names done)) e in
-    or_from (same_name name x.name) (list_any (same_name name) (definition_names (done ++ d ∷ []))) parts.0 (not_among name done d parts.1 f)
 
 distinct_pushed : (done : List Named) (d : Named) → are_distinct (definition_names done) ≡ true → list_any (λ x. same_name d.name x.name) done ≡ false
     → are_distinct (definition_names (done ++ d ∷ [])) ≡ true
-unfolding definition_names are_distinct
-distinct_pushed [] d e f = refl
-distinct_pushed (x ∷ done) d e f =
-    let parts = and_parts (not (list_any (same_name x.name) (definition_names done))) (are_distinct (definition_names done)) e in
-    let others = or_parts (same_name d.name x.name) (list_any (λ y. same_name d.name y.name) done) f in
-    let fresh = not_among x.name done d (not-true (list_any (same_name x.name) (definition_names done)) parts.0) (same_turned x.name d.name ∙ others.0) in
-    and_from (not (list_any (same_name x.name) (definition_names (done ++ d ∷ [])))) (are_distinct (definition_names (done ++ d ∷ []))) (ap not fresh) (distinct_pushed done d parts.1 others.1)
+unfolding definition_names
+distinct_pushed done d e f =
+    ap are_distinct (definition_names-append done (d ∷ [])) ∙ name_pushed (definition_names done) d.name e (sym (any_definition d.name done) ∙ f)
 
 nothing_pushed : (done : List Named) → are_distinct (definition_names done) ≡ true → are_distinct (definition_names (done ++ [])) ≡ true
 nothing_pushed done e = ap (λ (l : List Named). are_distinct (definition_names l)) (append-nil done) ∙ e

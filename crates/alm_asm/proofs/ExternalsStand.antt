@@ -2,6 +2,8 @@
 use Rattle.std.proofs.Common.{◌≡◌, ℕ, true, false, cond, List, [], ◌∷◌, ◌++◌, Option, Some, None, refl, sym, ap, ◌∙◌, true≢false}
 use Rattle.std.specs.List.{list_any}
 use Rattle.alm_tokens.specs.Tokens.{slice_of}
+use Rattle.alm_tokens.specs.declared.span.Span.{Span}
+use Rattle.alm_tokens.specs.declared.expression.Term.{Term}
 use Rattle.alm_parse.specs.declared.args.Arg.{Arg}
 use Rattle.alm_parse.specs.declared.args.Arg.TheVariants as arg
 use Rattle.alm_parse.specs.declared.deed.Deed.{Deed}
@@ -18,12 +20,22 @@ use Rattle.alm_lines.specs.SpotFields.{Spot}
 use Rattle.alm_lines.specs.declared.refusal.Code.TheVariants.{E7}
 use Rattle.alm_lines.specs.declared.refusal.Room.TheVariants.{Half}
 use Rattle.alm_asm.specs.Links.{link_of, operand_args, link_in, links_from}
-use Rattle.alm_asm.specs.LineRefusals.{unless, op_place, external_place, may_name, link_expression, reaches, operand_refusal, refusal_of_deed, lines_refusal}
+use Rattle.alm_asm.specs.LineRefusals.{unless, op_place, external_place, may_name, link_expression, reaches, external_refusal, operand_refusal, refusal_of_deed, lines_refusal}
 use Rattle.alm_asm.specs.Assembles.{is_external}
 use Rattle.alm_asm.specs.declared.tables.Tables.{Tables}
 use Rattle.alm_asm.proofs.LinksStanding.{link_stands}
 use Rattle.alm_asm.proofs.Unrefused.{sooner_none, line_below}
 use Rattle.alm_asm.proofs.Valued.{AreKnown, valued}
+
+-- of an external operand that is not refused the expression is not
+pub expression_none : (text : List ℕ) (tables : Tables) (spot : Spot) (line : Line36) (segment : Span) (entry : Option Span) (terms : List Term) (tag : ℕ)
+    → external_refusal text tables spot line segment entry terms tag ≡ None → link_expression text tables.symbols spot line segment entry terms ≡ None
+expression_none text tables spot line segment entry terms tag none =
+    let at = refusal_at line segment.from E7 in
+    let said = link_expression text tables.symbols spot line segment entry terms in
+    let reached = unless (reaches text tables spot segment entry terms tag) at in
+    let named = unless (may_name tables (own_section (slice_of text segment))) at in
+    (sooner_none said reached (sooner_none (sooner said reached) named none).0).0
 
 -- the link of an external operand that is not refused
 given_link : (text : List ℕ) (tables : Tables) (spot : Spot) (line : Line36) (given : Option Arg) → AreKnown tables.symbols → operand_refusal text tables spot line given ≡ None
@@ -35,11 +47,7 @@ given_link text tables spot line (Some (arg.Plain terms)) known none e = absurd 
 given_link text tables spot line (Some (arg.Operand pr None entry terms tag)) known none e = absurd (true≢false (sym e))
 given_link text tables spot line (Some (arg.Operand pr (Some segment) entry terms tag)) known none e =
     let link = link_of text tables.symbols spot segment entry terms tag in
-    let at = refusal_at line segment.from E7 in
-    let said = link_expression text tables.symbols spot line segment entry terms in
-    let reached = unless (reaches text tables spot segment entry terms tag) at in
-    let named = unless (may_name tables (own_section (slice_of text segment))) at in
-    let free = (sooner_none said reached (sooner_none (sooner said reached) named none).0).0 in
+    let free = expression_none text tables spot line segment entry terms tag none in
     let has = valued text tables.symbols spot line terms (external_place segment entry) Half false known free in
     (link, ap (λ b. cond b (Some link) None) has)
 given_link text tables spot line None known none e = absurd (true≢false (sym e))

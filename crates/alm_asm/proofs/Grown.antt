@@ -76,9 +76,9 @@ end_within text symbols lines none =
 -- ---- what names change
 
 -- neither links nor relocations
-record Follows (g h : Growth) : Type 0 where
-  links : h.links ≡ g.links
-  symbol : h.symbol ≡ g.symbol
+pub record Follows (g h : Growth) : Type 0 where
+  pub links : h.links ≡ g.links
+  pub symbol : h.symbol ≡ g.symbol
 
 stays : (g : Growth) → Follows g g
 stays g = record { links = refl; symbol = refl }
@@ -96,12 +96,12 @@ name_follows g name =
     unless_there (is_some (sum_named name g.names)) g (record g { names = with_symbol g.names name no_sum; definition = g.definition + name_length name })
     (record { links = refl; symbol = refl })
 
-names_follow : (g : Growth) (names : List (List ℕ)) → Follows g (with_names g names)
+pub names_follow : (g : Growth) (names : List (List ℕ)) → Follows g (with_names g names)
 unfolding with_names
 names_follow g [] = stays g
 names_follow g (name ∷ names) = onward g (with_name g name) (with_names (with_name g name) names) (name_follows g name) (names_follow (with_name g name) names)
 
-definition_follows : (g : Growth) (name : List ℕ) → Follows g (with_definition g name)
+pub definition_follows : (g : Growth) (name : List ℕ) → Follows g (with_definition g name)
 unfolding with_definition
 definition_follows g name =
     let defined = record g { defined = with_symbol g.defined name no_sum; definition = g.definition + 2 } in
@@ -136,7 +136,7 @@ definitions_follow text symbols line g (Some is_entry) = args_follow text symbol
 -- a link more where it is new, and no relocation
 record Links (linked : List LinkFields) (g h : Growth) : Type 0 where
   links : h.links ≡ linked
-  symbol : h.symbol ≡ g.symbol
+  pub symbol : h.symbol ≡ g.symbol
 
 once_by : (b : Bool) (g : Growth) (link : LinkFields) → Links (cond b g.links (g.links ++ link ∷ [])) g (cond b g (with_new_link g link))
 unfolding with_new_link

@@ -23,3 +23,6 @@ pub mod ExternalsStand
 pub mod Grown
 pub mod MarksCounted
 pub mod SectionsFit
+pub mod NamesCounted
+pub mod DefinitionsCounted
+pub mod CountsFit

@@ -35,7 +35,7 @@ use Rattle.alm_asm.proofs.LinksStanding.{stays_with, added_with}
 
 -- ---- the first that passes
 
-or_second : (a b : Bool) → (a || b) ≡ true → a ≡ false → b ≡ true
+pub or_second : (a b : Bool) → (a || b) ≡ true → a ≡ false → b ≡ true
 or_second true b e f = absurd (cc)
 or_second false b e f = e
 

@@ -1,13 +1,11 @@
 -- The growth of the symbol section counts the relocations of lines that are not refused.
 use Rattle.std.proofs.Common.{◌≡◌, ℕ, ◌+◌, ◌≤◌, Bool, true, false, cond, List, [], ◌∷◌, ◌++◌, length, Option, Some, None, refl, sym, ap, ◌∙◌, arith, add-zero}
 use Rattle.std.proofs.lemmas.List.{length-append}
-use Rattle.alm_tokens.specs.Tokens.{slice_of}
 use Rattle.alm_parse.specs.declared.args.Arg.{Arg}
 use Rattle.alm_parse.specs.declared.args.Arg.TheVariants as arg
 use Rattle.alm_parse.specs.declared.deed.Deed.{Deed}
 use Rattle.alm_parse.specs.declared.deed.Deed.TheVariants as deed
 use Rattle.alm_parse.specs.declared.line.Line36.{Line36}
-use Rattle.alm_parse.specs.Bodies.{own_section}
 use Rattle.obj36_parts.specs.declared.section.Section.{Section}
 use Rattle.obj36_parts.specs.declared.section.Section.TheVariants.{Text, Linkage, Symbol, Static}
 use Rattle.obj36_parts.specs.declared.definition.Named.{Named}
@@ -18,7 +16,7 @@ use Rattle.alm_lines.specs.Arguments.{first_arg, second_arg, terms_in}
 use Rattle.alm_lines.specs.Spots.{below}
 use Rattle.alm_lines.specs.SpotFields.{Spot}
 use Rattle.alm_lines.specs.Expressions.{sum_of, expression_place}
-use Rattle.alm_lines.specs.Refusals.{sooner, refusal_at, has_value}
+use Rattle.alm_lines.specs.Refusals.{refusal_at, has_value}
 use Rattle.alm_lines.specs.declared.sum.Sum.{Sum}
 use Rattle.alm_lines.specs.declared.sum.Kind.{Kind}
 use Rattle.alm_lines.specs.declared.sum.Kind.TheVariants.{Absolute, Moved, Unsaid}
@@ -27,13 +25,14 @@ use Rattle.alm_lines.specs.declared.refusal.Room.TheVariants.{Half}
 use Rattle.alm_asm.specs.Words.{same_section}
 use Rattle.alm_asm.specs.Marks.{mark, operand_part, operand_kind, operand_mark, marks_by, marks_after, marks_from}
 use Rattle.alm_asm.specs.Definitions.{definitions_after}
-use Rattle.alm_asm.specs.LineRefusals.{unless, op_place, external_place, may_name, own_room, link_expression, reaches, own_operand, operand_refusal, refusal_of_deed, lines_refusal}
+use Rattle.alm_asm.specs.LineRefusals.{unless, op_place, external_place, own_room, own_operand, operand_refusal, refusal_of_deed, lines_refusal}
 use Rattle.alm_asm.specs.Assembly.{static_section}
 use Rattle.alm_asm.specs.Growth.{mark_count, operand_count, half_count, marks_count, grown_by}
 use Rattle.alm_asm.specs.declared.growth.Growth.{Growth}
 use Rattle.alm_asm.specs.declared.tables.Tables.{Tables}
 use Rattle.alm_asm.proofs.Unrefused.{sooner_none, line_parts, head_line, other_lines}
 use Rattle.alm_asm.proofs.Valued.{AreKnown, valued}
+use Rattle.alm_asm.proofs.ExternalsStand.{expression_none}
 use Rattle.alm_asm.proofs.Grown.{growth_from, line_symbol}
 
 -- ---- a line
@@ -54,11 +53,7 @@ operand_counted text tables spot line (Some (arg.Operand pr None entry terms tag
     mark_counted spot (operand_part pr None) (kind_of (sum_of text tables.symbols spot terms)) (has_value text tables.symbols spot terms (own_room pr) true)
     (valued text tables.symbols spot line terms (expression_place terms) (own_room pr) true known none)
 operand_counted text tables spot line (Some (arg.Operand pr (Some segment) entry terms tag)) known none =
-    let at = refusal_at line segment.from E7 in
-    let said = link_expression text tables.symbols spot line segment entry terms in
-    let reached = unless (reaches text tables spot segment entry terms tag) at in
-    let named = unless (may_name tables (own_section (slice_of text segment))) at in
-    let free = (sooner_none said reached (sooner_none (sooner said reached) named none).0).0 in
+    let free = expression_none text tables spot line segment entry terms tag none in
     mark_counted spot (operand_part pr (Some segment)) (operand_kind (Some segment) (sum_of text tables.symbols spot terms)) (has_value text tables.symbols spot terms Half false)
     (valued text tables.symbols spot line terms (external_place segment entry) Half false known free)
 operand_counted text tables spot line None known none = refl

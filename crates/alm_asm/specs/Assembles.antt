@@ -15,7 +15,8 @@ use Rattle.obj36_parts.specs.Fields.{LinkFields}
 use Rattle.obj36_parts.specs.PartsFields.{PartsFields}
 use Rattle.obj36_parts.specs.ObjectSegment.{definition_names, are_distinct, are_in_order}
 use Rattle.obj36_parts.specs.ObjectSegment.{version_of, evened, first_link, section_limit}
-use Rattle.obj36_parts.specs.ObjectSegment.{linkage_section, symbol_section}
+use Rattle.obj36_parts.specs.ObjectSegment.{definition_section, linkage_section, outer_statics}
+use Rattle.obj36_parts.specs.ObjectSegment.{symbol_section}
 use Rattle.alm_lines.specs.Symbols.{sum_named}
 use Rattle.alm_lines.specs.Arguments.{name_at, first_arg, symbol_in, section_in}
 use Rattle.alm_lines.specs.Spots.{start, count_in, here, end_of}
@@ -187,9 +188,12 @@ BoundIs source parts =
     → is_entrybound line ≡ true
     → list_any (is_entrybound) others ≡ false → parts.entry_bound ≡ (spot_below source above).text
 
--- The linkage and the symbol section have at most so many words as a section may have.
+-- Each section has at most so many words as a section may have.
 pub record SectionsFit (parts : PartsFields) : Type 0 where
+  pub text : length parts.text ≤ section_limit
+  pub definition : length (definition_section parts) ≤ section_limit
   pub linkage : length (linkage_section parts) ≤ section_limit
+  pub statics : length (outer_statics parts) ≤ section_limit
   pub symbol : length (symbol_section parts) ≤ section_limit
 
 -- The parts are the object of the lines.

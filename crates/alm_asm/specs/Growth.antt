@@ -186,7 +186,8 @@ grown_by text symbols spot g line =
     (with_definitions text symbols line g (gives_entries line.deed))
     (first_arg (operand_args line.deed line.args)))
 
--- The linkage section has its head, static words and links.
+-- The linkage section has its head, static words and links. The zero behind an odd count of static
+-- words is not counted: the limit is even, and so is all else there.
 unfoldable pub is_over : Spot → Growth → Bool
 is_over spot g =
     is_over_limit g.definition || is_over_limit (head_words + spot.inner + 2 * length g.links)

@@ -1,0 +1,92 @@
+-- Where no section of lines is refused for its length, the lines place in each at most so many words as a section may have.
+use Rattle.std.proofs.Common.{◌≡◌, ℕ, ◌%◌, ◌≤◌, Bool, true, false, cond, ltb, List, [], ◌∷◌, length, Option, Some, None, is_some, refl, ap, subst, true≢false, arith}
+use Rattle.std.proofs.lemmas.Bool.{ltb-false}
+use Rattle.alm_parse.specs.declared.args.Arg.{Arg}
+use Rattle.alm_parse.specs.declared.line.Line36.{Line36}
+use Rattle.alm_parse.specs.declared.deed.Deed.{Deed}
+use Rattle.alm_parse.specs.declared.deed.Deed.TheVariants as deed
+use Rattle.obj36_parts.specs.ObjectSegment.{section_limit}
+use Rattle.obj36_parts.specs.declared.section.Section.{Section}
+use Rattle.obj36_parts.specs.declared.section.Section.TheVariants.{Text, Linkage, Symbol, Static}
+use Rattle.alm_lines.specs.Arguments.{first_arg, second_arg, symbol_in, number_in, words_of_args, section_in}
+use Rattle.alm_lines.specs.Spots.{start, count_in, count, place, here, grown_in, entered, moved_by, below, end_of}
+use Rattle.alm_lines.specs.SpotFields.{Spot}
+use Rattle.alm_lines.specs.Refusals.{sooner, refusal_at}
+use Rattle.alm_lines.specs.Layout.{labels_refused, refused_with, labelled, over, symbols_after, refused_after, layout_refusal}
+use Rattle.alm_lines.specs.declared.sum.Sum.{Sum}
+use Rattle.alm_lines.specs.declared.refusal.Refusal.{Refusal}
+use Rattle.alm_lines.specs.declared.refusal.Code.TheVariants.{E8}
+use Rattle.alm_asm.proofs.Unrefused.{sooner_none}
+use Rattle.alm_asm.proofs.SymbolsMean.{layout_first}
+
+-- so many words at most in each section
+pub record AreShort (spot : Spot) : Type 0 where
+  pub text : spot.text ≤ section_limit
+  pub inner : spot.inner ≤ section_limit
+  pub outer : spot.outer ≤ section_limit
+
+-- The section of a line is the only one that grows with it.
+grown_short : (section : Section) (spot : Spot) (n : ℕ) → count_in section (grown_in section spot n) ≤ section_limit → AreShort spot → AreShort (grown_in section spot n)
+grown_short Text spot n h at = record { text = h; inner = at.inner; outer = at.outer }
+grown_short Linkage spot n h at = record { text = at.text; inner = h; outer = at.outer }
+grown_short Symbol spot n h at = at
+grown_short Static spot n h at = record { text = at.text; inner = at.inner; outer = h }
+
+grown_stays : (section : Section) (spot : Spot) (n : ℕ) → (grown_in section spot n).section ≡ spot.section
+grown_stays Text spot n = refl
+grown_stays Linkage spot n = refl
+grown_stays Symbol spot n = refl
+grown_stays Static spot n = refl
+
+placed_short : (spot : Spot) (n : ℕ) → count (grown_in spot.section spot n) ≤ section_limit → AreShort spot → AreShort (grown_in spot.section spot n)
+placed_short spot n h at =
+    grown_short spot.section spot n (subst (λ (s : Section). count_in s (grown_in spot.section spot n) ≤ section_limit) (grown_stays spot.section spot n) h) at
+
+entered_short : (spot : Spot) (named : Section) → AreShort spot → AreShort (entered spot named)
+entered_short spot Text at = record { text = at.text; inner = at.inner; outer = at.outer }
+entered_short spot Linkage at = record { text = at.text; inner = at.inner; outer = at.outer }
+entered_short spot Symbol at = at
+entered_short spot Static at = record { text = at.text; inner = at.inner; outer = at.outer }
+
+moved_short : (text : List ℕ) (d : Deed) (arguments : List Arg) (spot : Spot) → count (moved_by text d arguments spot) ≤ section_limit → AreShort spot → AreShort (moved_by text d arguments spot)
+moved_short text deed.Nothing arguments spot h at = at
+moved_short text (deed.Instruction code bit27) arguments spot h at = placed_short spot 1 h at
+moved_short text deed.Entry arguments spot h at = at
+moved_short text deed.Segdef arguments spot h at = at
+moved_short text deed.Equ arguments spot h at = at
+moved_short text deed.Use arguments spot h at = entered_short spot (section_in text (symbol_in (first_arg arguments))) at
+moved_short text deed.Words arguments spot h at = placed_short spot (length (words_of_args [] arguments)) h at
+moved_short text deed.Zero arguments spot h at = placed_short spot 1 h at
+moved_short text deed.Block arguments spot h at = placed_short spot (number_in (second_arg arguments)) h at
+moved_short text deed.Even arguments spot h at = placed_short spot (place spot % 2) h at
+moved_short text deed.Bound arguments spot h at = at
+
+not_over_by : (b : Bool) (refusal : Refusal) → cond b (Some refusal) None ≡ None → b ≡ false
+not_over_by true refusal e = absurd (true≢false (ap is_some e))
+not_over_by false refusal e = refl
+
+count_fits : (text : List ℕ) (first : Option Refusal) (symbols : List (List ℕ × Sum)) (spot : Spot) (line : Line36) → refused_after text first symbols spot line ≡ None
+    → count (below text spot line) ≤ section_limit
+unfolding refused_after over
+count_fits text first symbols spot line e =
+    let words = count (below text spot line) in
+    let others = sooner (labels_refused text line (here spot) symbols first line.labels) (refused_with text (labelled text symbols spot line) spot line line.deed) in
+    let long = (sooner_none others (over line (below text spot line)) e).1 in
+    ltb-false section_limit words (not_over_by (ltb section_limit words) (refusal_at line line.start E8) long)
+
+below_short : (text : List ℕ) (spot : Spot) (line : Line36) → count (below text spot line) ≤ section_limit → AreShort spot → AreShort (below text spot line)
+unfolding below
+below_short text spot line h at = moved_short text line.deed line.args spot h at
+
+end_short : (text : List ℕ) (first : Option Refusal) (symbols : List (List ℕ × Sum)) (spot : Spot) (lines : List Line36) → layout_refusal text first symbols spot lines ≡ None
+    → AreShort spot → AreShort (end_of text spot lines)
+unfolding layout_refusal end_of
+end_short text first symbols spot [] e at = at
+end_short text first symbols spot (line ∷ lines) e at =
+    let refused = refused_after text first symbols spot line in
+    let more = symbols_after text symbols spot line in
+    let free = layout_first text refused more (below text spot line) lines e in
+    end_short text refused more (below text spot line) lines e (below_short text spot line (count_fits text first symbols spot line free) at)
+
+pub counts_fit : (text : List ℕ) (lines : List Line36) → layout_refusal text None [] start lines ≡ None → AreShort (end_of text start lines)
+counts_fit text lines e = end_short text None [] start lines e (record { text = omega arith; inner = omega arith; outer = omega arith })
