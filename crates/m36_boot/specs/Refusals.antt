@@ -18,7 +18,7 @@ use Rattle.m36_boot.specs.Segments.{file_at, is_gate, entry_bound_of, limit_of}
 use Rattle.m36_boot.specs.Start.{start_answer, start_segment, may_start}
 
 -- An instruction refers to 18 pages at most, so with 19 frames one that is tried again finds a
--- frame that it does not refer to; the rest is room, and 24 is what the format of boot texts asks.
+-- frame that it does not refer to; the rest of the 24, below which U1 comes, is room.
 abbrev pub least_frames : ℕ
 least_frames = 24
 

@@ -72,7 +72,7 @@ paged_segment seg last =
 abbrev pub bound_of_pages : ℕ → ℕ
 bound_of_pages pages = 64 * pages - 1
 
--- a stack or a linkage segment: read and written in its ring alone
+-- a stack or a linkage segment: read and written in the rings from 0 to its own
 abbrev pub ring_segment : ℕ → ℕ → ℕ → SdwFields
 ring_segment seg ring pages =
     record (paged_segment seg (bound_of_pages pages)) {

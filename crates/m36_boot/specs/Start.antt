@@ -60,8 +60,9 @@ section_base (Some l) = l.base
 abbrev pub entry_of : SnapFields → ItsFields
 entry_of s = its_of s.pair.even s.pair.odd
 
--- PR4 points to the laid section, PR6 to word 64 and PR7 to word 0 of the stack, all in the ring of
--- the start; the instruction is at the entry, and all else is zero.
+-- PR4 points to the laid section, PR6 to word 64 and PR7 to word 0 of the stack, and every pointer
+-- has the ring of the start; the instruction is at the entry, the descriptor segment base register
+-- is that of every booted image, and all else is zero.
 unfoldable pub start_regs : ℕ → SnapFields → RegsFields
 start_regs ring s =
     record {
