@@ -5,7 +5,7 @@ use Rattle.m36_reading.specs.declared.status.Status.{Status}
 use Rattle.m36_reading.specs.Answers.{Answer}
 use Rattle.m36_reading.specs.Puts.{IsPutWhole}
 use Rattle.m36_reading.specs.Ends.{End, Answered, Cut, Unread, Starved, Unasked}
-use Rattle.m36_ran.specs.Putting.{IsPut, IsPartPut, IsNotPut}
+use Rattle.m36_ran.specs.Putting.{IsPut, IsPartPut}
 use Rattle.m36_booted.specs.Runs.{Extent}
 use Rattle.m36_booted.specs.Runs as extent
 

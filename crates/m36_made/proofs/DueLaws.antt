@@ -24,7 +24,7 @@ use Rattle.m36_booted.specs.Runs.{Whole, Goes, Finishes}
 use Rattle.m36_booted.proofs.DueLaws.{reached_one}
 use Rattle.m36_booted.proofs.OneSystem.{one_system}
 use Rattle.m36_made.specs.Summary.{run_limit, run_answer, unrun_answer, IsSummary}
-use Rattle.m36_made.specs.Made.{boots_from, with_files, IsMadeDue}
+use Rattle.m36_made.specs.Made.{boots_from, behind_files, IsMadeDue}
 use Rattle.m36_made.specs.DueLaw.{BootsTo, IsToldBy, IsMadeBy, IsByFindings, MadeDueLaw}
 
 -- ---- by what the files boot to
@@ -34,10 +34,10 @@ IsToldOf booted told = IsDueBy (λ (given : FolderFields). IsSummary Whole given
 
 refused_by :
     (sets : List Set) (refusal : Refusal) (due : Answer) → boots_from sets ≡ Err refusal → IsMadeDue sets due
-    → due ≡ with_files sets (unwritten (status_of refusal))
+    → due ≡ behind_files sets (unwritten (status_of refusal))
 refused_by sets refusal due refused is =
     let told : is.told ≡ unwritten (status_of refusal) = subst (λ (b : Early FolderFields). IsToldOf b is.told) refused is.is in
-    is.answer ∙ ap (with_files sets) told
+    is.answer ∙ ap (behind_files sets) told
 
 summary_of :
     (sets : List Set) (given : FolderFields) (due : Answer) → boots_from sets ≡ Ok given → (is : IsMadeDue sets due) → IsSummary Whole given.lib is.told
@@ -80,10 +80,10 @@ passed_by sets given system due to is audited =
 
 some_found :
     (sets : List Set) (lib : Library) (system : SuperFields) (due told : Answer) (findings : List (ℕ × ℕ))
-    → AreFindings system.core booted_dbr findings → IsToldBy lib system findings told → due ≡ with_files sets told
+    → AreFindings system.core booted_dbr findings → IsToldBy lib system findings told → due ≡ behind_files sets told
     → ¬ IsAudited system.core booted_dbr → IsByFindings sets lib due
 some_found sets lib system due told [] found is answer fails = absurd (fails (findings_law.sound system.core booted_dbr found))
-some_found sets lib system due told (f ∷ findings) found is answer fails = record { first = f; others = findings; answer = answer ∙ ap (with_files sets) is }
+some_found sets lib system due told (f ∷ findings) found is answer fails = record { first = f; others = findings; answer = answer ∙ ap (behind_files sets) is }
 
 failed_by :
     (sets : List Set) (given : FolderFields) (system : SuperFields) (due : Answer)
@@ -109,14 +109,14 @@ failed_one sets given system due same to is is_same fails =
     let told : is.told ≡ is_same.told =
     one_told given.lib system is.told is_same.told f.findings f.found f.told_by
     (subst (λ (l : List (ℕ × ℕ)). IsToldBy given.lib system l is_same.told) one g.told_by) fails in
-    is.answer ∙ ap (with_files sets) told ∙ sym is_same.answer
+    is.answer ∙ ap (behind_files sets) told ∙ sym is_same.answer
 
 -- ---- some answer
 
 refused_due : (sets : List Set) (refusal : Refusal) → boots_from sets ≡ Err refusal → ¬ ((due : Answer) → ¬ IsMadeDue sets due)
 refused_due sets refusal refused none =
     let nothing : Answer = unwritten (status_of refusal) in
-    none (with_files sets nothing)
+    none (behind_files sets nothing)
     (record { told = nothing; is = subst (λ (b : Early FolderFields). IsToldOf b nothing) (sym refused) refl; answer = refl })
 
 -- There is a list of findings: so what is told by each list will do.
@@ -128,7 +128,7 @@ due_by sets given system to answers none =
     some_findings system.core booted_dbr (λ findings found.
     let a = answers findings found in
     let is : IsSummary Whole given.lib a.0 = record { system = system; booted = to.booted; findings = findings; found = found; answer = a.1 } in
-    none (with_files sets a.0)
+    none (behind_files sets a.0)
     (record { told = a.0; is = subst (λ (b : Early FolderFields). IsToldOf b a.0) (sym to.boots) is; answer = refl }))
 
 unrun :
@@ -192,7 +192,7 @@ plain_one sets given system turns last how due same to goes ends plain is is_sam
     told_one given.lib system f.findings turns last how is.told to.booted goes ends plain f.told_by
     ∙ ap (told_by (length given.lib.catalog.segments) turns how last.state.regs) one
     ∙ sym (told_one given.lib system g.findings turns last how is_same.told to.booted goes ends plain g.told_by) in
-    is.answer ∙ ap (with_files sets) told ∙ sym is_same.answer
+    is.answer ∙ ap (behind_files sets) told ∙ sym is_same.answer
 
 pub made_due_law : MadeDueLaw
 made_due_law = record {

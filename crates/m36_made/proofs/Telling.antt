@@ -26,7 +26,7 @@ use Rattle.m36_booted.specs.Systems.{given_by}
 use Rattle.m36_booted.proofs.FolderAnswers.{puts_more}
 use Rattle.m36_made.specs.Making.{sets_of, make_reads}
 use Rattle.m36_made.specs.Summary.{IsSummary}
-use Rattle.m36_made.specs.Made.{boots_from, IsToldIn, with_files, files_alone, made_kind}
+use Rattle.m36_made.specs.Made.{boots_from, IsToldIn, behind_files, files_alone, made_kind}
 
 -- ---- what is told of the files
 
@@ -77,7 +77,7 @@ ends_told :
 ends_told sets Answered result f f' s s' set unread p = record {
   given = Ok sets;
   came = refl;
-  due = with_files sets p.due;
+  due = behind_files sets p.due;
   is_due = record { told = p.due; is = p.is; answer = refl };
   made = record {
     status = p.puts.status;
@@ -88,7 +88,7 @@ ends_told sets Answered result f f' s s' set unread p = record {
 ends_told sets Cut result f f' s s' set unread p = record {
   given = sets;
   came = refl;
-  due = with_files sets p.due;
+  due = behind_files sets p.due;
   begun = inl (record { told = p.due; is = p.is; answer = refl });
   cut = inr (record {
     set = set;
@@ -135,10 +135,8 @@ made_unset sets f f' s failed unread = record {
   begun = inr refl;
   cut = inl (record {
     set = failed;
-    written = refl;
-    taken = refl;
+    none_put = record { written = refl; taken = refl; faults = refl };
     read_faults = unread;
-    put_faults = refl;
   });
 }
 
@@ -151,9 +149,7 @@ made_wanting sets f f' s wanting unread = inr (record {
   came = refl;
   wants = inl (record {
     set = wanting;
-    written = refl;
-    taken = refl;
-    put_faults = refl;
+    none_put = record { written = refl; taken = refl; faults = refl };
   });
   read_faults = unread;
 })

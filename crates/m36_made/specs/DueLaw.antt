@@ -17,7 +17,7 @@ use Rattle.m36_booted.specs.declared.running.Finish.{Finish}
 use Rattle.m36_booted.specs.Folder.{FolderFields}
 use Rattle.m36_booted.specs.Runs.{Whole, Goes, Finishes}
 use Rattle.m36_made.specs.Summary.{run_limit, segment_count, unrun_answer, IsSummaryBy}
-use Rattle.m36_made.specs.Made.{boots_from, with_files, IsMadeDue}
+use Rattle.m36_made.specs.Made.{boots_from, behind_files, IsMadeDue}
 
 -- the files boot to a system
 pub record BootsTo (sets : List Set) (given : FolderFields) (system : SuperFields) : Type 0 where
@@ -34,14 +34,14 @@ pub record IsMadeBy
     (due : Answer) : Type 0 where
   pub told : Answer
   pub is : IsToldBy lib system findings told
-  pub answer : due ≡ with_files sets told
+  pub answer : due ≡ behind_files sets told
 
 -- all files, and some findings behind them, without a run
 pub record IsByFindings (sets : List Set) (lib : Library) (due : Answer) : Type 0 where
   pub first : ℕ × ℕ
   pub others : List (ℕ × ℕ)
   pub answer :
-      due ≡ with_files sets (unrun_answer (segment_count lib) (first ∷ others))
+      due ≡ behind_files sets (unrun_answer (segment_count lib) (first ∷ others))
 
 -- Where the files are no folder that boots, they are written, and nothing is told. Where all
 -- conditions of the audit hold of the core of the system to which they boot, the answer is one
@@ -51,7 +51,7 @@ pub record IsByFindings (sets : List Set) (lib : Library) (due : Answer) : Type 
 pub record MadeDueLaw : Type 0 where
   pub refused :
       (sets : List Set) (refusal : Refusal) (due : Answer) → boots_from sets ≡ Err refusal
-      → IsMadeDue sets due → due ≡ with_files sets (unwritten (status_of refusal))
+      → IsMadeDue sets due → due ≡ behind_files sets (unwritten (status_of refusal))
   pub passed :
       (sets : List Set) (given : FolderFields) (system : SuperFields) (due : Answer)
       → BootsTo sets given system → IsMadeDue sets due → IsAudited system.core booted_dbr

@@ -19,8 +19,8 @@ use Rattle.m36_made.specs.Summary.{segment_count, segments_line, IsSummary}
 unfoldable pub boots_from : List Set → Early FolderFields
 boots_from sets = outcome_in (files_in sets) (folder_reads None)
 
-abbrev pub with_files : List Set → Answer → Answer
-with_files sets told =
+abbrev pub behind_files : List Set → Answer → Answer
+behind_files sets told =
     record { sets = sets; text = told.text; pieces = told.pieces; status = told.status }
 
 -- what is told of a folder that is booted, in this extent
@@ -38,13 +38,13 @@ IsToldIn sets Starved told = IsTold Starved sets told
 
 -- the files, of which one could not be written
 abbrev pub files_alone : List Set → Answer
-files_alone sets = with_files sets (unwritten status.WriteFault)
+files_alone sets = behind_files sets (unwritten status.WriteFault)
 
 -- all files, and what is told behind them
 pub record IsMadeAnswer (extent : Extent) (sets : List Set) (due : Answer) : Type 0 where
   pub told : Answer
   pub is : IsToldIn sets extent told
-  pub answer : due ≡ with_files sets told
+  pub answer : due ≡ behind_files sets told
 
 abbrev pub IsMadeDue : List Set → Answer → Type 0
 IsMadeDue sets due = IsMadeAnswer Whole sets due
@@ -56,7 +56,7 @@ IsMadeBegun sets due = IsMadeAnswer Begun sets due ⊎ (due ≡ files_alone sets
 
 -- All files are written, and this is put.
 abbrev pub IsToldSoFar : List Set → Answer → Outside → Outside → Type 0
-IsToldSoFar sets told old new = IsWhole (with_files sets told) old new
+IsToldSoFar sets told old new = IsWhole (behind_files sets told) old new
 
 -- Behind the files, and before a step is taken, nothing is put.
 abbrev pub IsUntold : List Set → Outside → Outside → Type 0

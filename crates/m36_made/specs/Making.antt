@@ -1,8 +1,8 @@
 -- The files that are made from a seed: the sources, the object of each of them, the data and the
 -- boot text, in this order.
 use Rattle.std.specs.Prelude.{ℕ, ◌≡◌, ◌-◌, List, [], ◌∷◌, ◌++◌, length, map, take}
-use Rattle.std.specs.Prelude.{Some, None, Result, Ok, Err}
-use Rattle.m36_outside.specs.Files.{Files, with_file}
+use Rattle.std.specs.Prelude.{Some, None, unwrap_or, Result, Ok, Err}
+use Rattle.m36_outside.specs.Files.{Files}
 use Rattle.m36_text.specs.FileNames.{source_suffix}
 use Rattle.m36_text.specs.Results.{and_then}
 use Rattle.alm_parse.specs.Sources.{Refuses}
@@ -10,6 +10,7 @@ use Rattle.alm_parse.specs.declared.fault.AlmFault.{AlmFault}
 use Rattle.m36_gen.specs.declared.files.File.{File}
 use Rattle.m36_gen.specs.Folder.{sources_of, other_files}
 use Rattle.m36_reading.specs.declared.setting.Set.{Set}
+use Rattle.m36_reading.specs.Answers.{with_sets}
 use Rattle.m36_reading.specs.Reading.{found_in, Reading, decided, Early}
 use Rattle.m36_reading.specs.Readers.{bytes_of}
 use Rattle.m36_told.specs.Assemblies.{Assembly, assembly_of, object_bytes, object_set}
@@ -58,9 +59,9 @@ make_reads seed = decided (sets_of seed)
 abbrev pub no_files : Files
 no_files name = None
 
+-- these written into a folder that tells its files
 unfoldable pub with_files : List Set → Files → Files
-with_files [] files = files
-with_files (set ∷ sets) files = with_files sets (with_file set.name (Some set.content) files)
+with_files sets files = unwrap_or (with_sets sets (Some files)) no_files
 
 unfoldable pub files_in : List Set → Files
 files_in sets = with_files sets no_files

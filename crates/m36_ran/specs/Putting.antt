@@ -3,7 +3,7 @@ use Rattle.std.specs.Prelude.{◌≡◌, []}
 use Rattle.m36_outside.specs.SinkState.{SinkState}
 use Rattle.m36_reading.specs.declared.status.Status.{Status}
 use Rattle.m36_reading.specs.Answers.{Answer}
-use Rattle.m36_reading.specs.Puts.{IsPutWhole, IsPutPart}
+use Rattle.m36_reading.specs.Puts.{IsPutWhole, IsPutPart, IsNotPut}
 use Rattle.m36_reading.specs.Ends.{End, Answered, Cut, Unread, Starved, Unasked}
 
 pub record IsPut (due : Answer) (result : Status) (old new : SinkState) : Type 0 where
@@ -14,11 +14,6 @@ pub record IsPut (due : Answer) (result : Status) (old new : SinkState) : Type 0
 pub record IsPartPut (due : Answer) (old new : SinkState) : Type 0 where
   pub sets : due.sets ≡ []
   pub part : IsPutPart due old new
-
-pub record IsNotPut (old new : SinkState) : Type 0 where
-  pub written : new.written ≡ old.written
-  pub taken : new.taken ≡ old.taken
-  pub faults : new.faults ≡ old.faults
 
 -- by this answer
 abbrev pub PutsBy : End → Status → Answer → SinkState → SinkState → Type 0

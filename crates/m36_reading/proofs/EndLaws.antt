@@ -63,7 +63,7 @@ does_told kind p d result old now sink new before after last reads performs same
 
 -- the reading has ended early
 idle_after : {D : Type 0} (p : Reading (Early D)) (r : Refusal) (old now : FolderState) (sink : SinkState) (before after : List Asked) → Reads p (Err r) old now before after → IsIdle (record { folder = old; sink = sink }) (record { folder = now; sink = sink })
-idle_after p r old now sink before after reads = record { files = reads.files; wrote = reads.wrote; write_faults = reads.write_faults; written = refl; taken = refl; put_faults = refl }
+idle_after p r old now sink before after reads = record { files = reads.files; wrote = reads.wrote; write_faults = reads.write_faults; none_put = record { written = refl; taken = refl; faults = refl } }
 
 pub does_stop :
     {D : Type 0} (kind : Kind D) (p : Reading (Early D)) (r : Refusal) (old now : FolderState) (sink : SinkState) (before after : List Asked)

@@ -8,7 +8,7 @@ use Rattle.m36_reading.specs.Reading.{Reading, Early}
 use Rattle.m36_reading.specs.Asking.{Asked, AreTold, Coming, Came, Failed, Wanting, Comes, coming}
 use Rattle.m36_reading.specs.Answers.{Answer, IsDueBy}
 use Rattle.m36_reading.specs.Setting.{AllSet, SetFailed}
-use Rattle.m36_reading.specs.Puts.{IsPutWhole, IsPutPart}
+use Rattle.m36_reading.specs.Puts.{IsPutWhole, IsPutPart, IsNotPut}
 use Rattle.m36_reading.specs.Outside.{FolderState, Outside, IsIdle, NoneUnread}
 use Rattle.m36_reading.specs.Ends.{End, Answered, Cut, Unread, Starved, Unasked, end_of}
 
@@ -68,10 +68,8 @@ pub record IsMade (due : Answer) (result : Status) (old new : Outside) : Type 0 
 -- other write is tried, and nothing is put.
 pub record IsUnset (due : Answer) (old new : Outside) : Type 0 where
   pub set : SetFailed due.sets old.folder new.folder
-  pub written : new.sink.written ≡ old.sink.written
-  pub taken : new.sink.taken ≡ old.sink.taken
+  pub none_put : IsNotPut old.sink new.sink
   pub read_faults : NoneUnread old new
-  pub put_faults : new.sink.faults ≡ old.sink.faults
 
 -- All files are written, and a first part of the text is put.
 pub record IsUnput (due : Answer) (old new : Outside) : Type 0 where

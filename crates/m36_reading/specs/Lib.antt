@@ -4,8 +4,8 @@ pub mod EachRead
 pub mod Asking
 pub mod Readers
 pub mod Answers
+pub mod Puts
 pub mod Outside
 pub mod Setting
-pub mod Puts
 pub mod Ends
 pub mod Doing

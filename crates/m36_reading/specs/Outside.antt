@@ -3,6 +3,7 @@ use Rattle.std.specs.Prelude.{ℕ, ◌≡◌, List, Option}
 use Rattle.m36_outside.specs.Files.{Files}
 use Rattle.m36_outside.specs.FolderCalls.{Wrote}
 use Rattle.m36_outside.specs.SinkState.{SinkState}
+use Rattle.m36_reading.specs.Puts.{IsNotPut}
 
 pub record FolderState : Type 0 where
   pub files : Option Files
@@ -34,9 +35,7 @@ pub record IsIdle (old new : Outside) : Type 0 where
   pub files : new.folder.files ≡ old.folder.files
   pub wrote : new.folder.wrote ≡ old.folder.wrote
   pub write_faults : new.folder.write_faults ≡ old.folder.write_faults
-  pub written : new.sink.written ≡ old.sink.written
-  pub taken : new.sink.taken ≡ old.sink.taken
-  pub put_faults : new.sink.faults ≡ old.sink.faults
+  pub none_put : IsNotPut old.sink new.sink
 
 -- no read failed
 abbrev pub NoneUnread : Outside → Outside → Type 0

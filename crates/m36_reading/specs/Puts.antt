@@ -1,4 +1,5 @@
 -- What is said of a sink to which an answer is put.
+use Rattle.std.specs.Prelude.{◌≡◌}
 use Rattle.m36_outside.specs.Putting.{PutsAll, PutsFirst}
 use Rattle.m36_outside.specs.SinkState.{SinkState}
 use Rattle.m36_reading.specs.Answers.{Answer}
@@ -10,3 +11,9 @@ IsPutWhole due old new = PutsAll due.text due.pieces old new
 -- A first part of it is put: pieces of it, and then a first part of the next.
 abbrev pub IsPutPart : Answer → SinkState → SinkState → Type 0
 IsPutPart due old new = PutsFirst due.text due.pieces old new
+
+-- Nothing is put, and no put failed.
+pub record IsNotPut (old new : SinkState) : Type 0 where
+  pub written : new.written ≡ old.written
+  pub taken : new.taken ≡ old.taken
+  pub faults : new.faults ≡ old.faults

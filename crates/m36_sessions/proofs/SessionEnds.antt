@@ -78,7 +78,7 @@ held_input o result name ended m m' talk old new is says =
 pub none_puts :
     (Holds : Told) (talk : Talk) (now : SinkState) → talk.after ≡ talk.before
     → PutsBy Holds (end_of status.NoMemory) status.NoMemory talk now now
-none_puts Holds talk now untaken = inl (record { same = refl; untaken = untaken })
+none_puts Holds talk now untaken = inl (record { none_put = record { written = refl; taken = refl; faults = refl }; untaken = untaken })
 
 stands_same : (end : End) (talk : Talk) → talk.after ≡ talk.before → InputStands end talk
 stands_same Unread talk same = tt
@@ -186,9 +186,7 @@ ends_put Holds d Starved result talk f s s' (inl p) = inr (record {
       files = refl;
       wrote = refl;
       write_faults = refl;
-      written = ap (λ (t : SinkState). t.written) p.same;
-      taken = ap (λ (t : SinkState). t.taken) p.same;
-      put_faults = ap (λ (t : SinkState). t.faults) p.same;
+      none_put = p.none_put;
     };
     untaken = p.untaken;
   });

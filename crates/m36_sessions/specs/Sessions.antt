@@ -9,6 +9,7 @@ use Rattle.m36_reading.specs.declared.status.Status.TheVariants as status
 use Rattle.m36_reading.specs.Answers.{Answer, answer_with}
 use Rattle.m36_reading.specs.Reading.{Reading, Early}
 use Rattle.m36_reading.specs.Asking.{Asked, Came, Comes}
+use Rattle.m36_reading.specs.Puts.{IsNotPut}
 use Rattle.m36_reading.specs.Outside.{Outside, IsIdle}
 use Rattle.m36_reading.specs.Ends.{End, Answered, Cut, Unread, Starved, Unasked}
 use Rattle.m36_reading.specs.Doing.{Kind, IsWhole}
@@ -119,7 +120,7 @@ pub record PutsWith (Holds : Told) (ended : Result (Unit {0}) SessionFault) (sta
 
 -- nothing was taken or put
 pub record PutsNone (talk : Talk) (old new : SinkState) : Type 0 where
-  pub same : new ≡ old
+  pub none_put : IsNotPut old new
   pub untaken : IsUntaken talk
 
 abbrev pub PutsBy : Told → End → Status → Talk → SinkState → SinkState → Type 0

@@ -56,10 +56,8 @@ told_unset told f f' s failed unread = record {
   begun = refl;
   cut = inl (record {
     set = failed;
-    written = refl;
-    taken = refl;
+    none_put = record { written = refl; taken = refl; faults = refl };
     read_faults = unread;
-    put_faults = refl;
   });
 }
 
@@ -72,9 +70,7 @@ told_starved told f f' s wanting unread = inr (record {
   came = refl;
   wants = record {
     set = wanting;
-    written = refl;
-    taken = refl;
-    put_faults = refl;
+    none_put = record { written = refl; taken = refl; faults = refl };
   };
   read_faults = unread;
 })

@@ -5,6 +5,7 @@ use Rattle.m36_reading.specs.declared.setting.Set.{Set}
 use Rattle.m36_reading.specs.declared.status.Status.TheVariants.{Done}
 use Rattle.m36_reading.specs.Answers.{Answer}
 use Rattle.m36_reading.specs.Setting.{SetWanting}
+use Rattle.m36_reading.specs.Puts.{IsNotPut}
 use Rattle.m36_reading.specs.Outside.{Outside}
 use Rattle.m36_reading.specs.Doing.{Kind, fails_never}
 use Rattle.m36_told.specs.LinesIn.{lines_in}
@@ -25,9 +26,7 @@ IsToldDue told due = due ≡ told_answer told
 -- is tried, and nothing is put.
 pub record ToldWants (told : ToldFields) (old new : Outside) : Type 0 where
   pub set : SetWanting told.sets old.folder new.folder
-  pub written : new.sink.written ≡ old.sink.written
-  pub taken : new.sink.taken ≡ old.sink.taken
-  pub put_faults : new.sink.faults ≡ old.sink.faults
+  pub none_put : IsNotPut old.sink new.sink
 
 abbrev pub told_kind : Kind ToldFields
 told_kind =

@@ -196,18 +196,18 @@ cut_rose false due old new none (inl is) = absurd (none_unset due old new (none 
 cut_rose false due old new none (inr is) = is.put.cause
 
 session_stands : (Holds : Holding) (talk : Talk) (old new : Outside) → SessionWants Holds talk old new → WritesStand old new
-session_stands Holds talk old new (inl w) = (w.idle.put_faults, w.idle.write_faults)
+session_stands Holds talk old new (inl w) = (w.idle.none_put.faults, w.idle.write_faults)
 session_stands Holds talk old new (inr w) = (w.whole.put.faults, w.whole.set.write_faults)
 
 wants_stand : (talk : Talk) (d : Due) (old new : Outside) → WantsOf talk d old new → WritesStand old new
-wants_stand talk (Told told) old new w = (w.put_faults, w.set.write_faults)
-wants_stand talk (Image image) old new w = (w.put_faults, w.write_faults)
-wants_stand talk (Folder folder) old new (inl w) = (w.put_faults, w.write_faults)
+wants_stand talk (Told told) old new w = (w.none_put.faults, w.set.write_faults)
+wants_stand talk (Image image) old new w = (w.none_put.faults, w.write_faults)
+wants_stand talk (Folder folder) old new (inl w) = (w.none_put.faults, w.write_faults)
 wants_stand talk (Folder folder) old new (inr w) = (w.whole.put.faults, w.whole.set.write_faults)
-wants_stand talk (Schedule s) old new w = (w.put_faults, w.write_faults)
+wants_stand talk (Schedule s) old new w = (w.none_put.faults, w.write_faults)
 wants_stand talk (ImageSession state) old new w = session_stands (HoldsImage talk state) talk old new w
 wants_stand talk (FolderSession given) old new w = session_stands (HoldsFolder talk given.lib) talk old new w
-wants_stand talk (Made sets) old new (inl w) = (w.put_faults, w.set.write_faults)
+wants_stand talk (Made sets) old new (inl w) = (w.none_put.faults, w.set.write_faults)
 wants_stand talk (Made sets) old new (inr (inl w)) = (w.put.faults, w.set.write_faults)
 wants_stand talk (Made sets) old new (inr (inr w)) = (w.so_far.put.faults, w.so_far.set.write_faults)
 
@@ -226,9 +226,9 @@ cause_by :
 cause_by talk command asked Answered result old new e = (e.made.whole.put.faults, e.made.whole.set.write_faults)
 cause_by talk command asked Cut result old new e =
     cut_rose (writes_files command) e.due old new (λ none. (no_sets talk command asked (Ok e.given) none e.came).1 e.due e.begun) e.cut
-cause_by talk command asked Unread result old new (inl e) = (e.idle.put_faults, e.idle.write_faults)
+cause_by talk command asked Unread result old new (inl e) = (e.idle.none_put.faults, e.idle.write_faults)
 cause_by talk command asked Unread result old new (inr e) = fails_stand talk e.given old new e.fails
-cause_by talk command asked Starved result old new (inl e) = (e.idle.put_faults, e.idle.write_faults)
+cause_by talk command asked Starved result old new (inl e) = (e.idle.none_put.faults, e.idle.write_faults)
 cause_by talk command asked Starved result old new (inr e) = wants_stand talk e.given old new e.wants
 cause_by talk command asked Unasked result old new e = absurd e
 

@@ -42,7 +42,7 @@ top_read talk (Some command) result old new before after says = does_read talk c
 
 pub top_write :
     (talk : Talk) (command : Option Command) (result : Status) (old new : Outside) (before after : List Asked) → Through command result talk old new before after → WriteCause command result old new
-top_write talk None result old new before after says = subst (λ r. WriteCause None r old new) (sym says.0.usage) (says.0.idle.put_faults, says.0.idle.write_faults)
+top_write talk None result old new before after says = subst (λ r. WriteCause None r old new) (sym says.0.usage) (says.0.idle.none_put.faults, says.0.idle.write_faults)
 top_write talk (Some command) result old new before after says = does_cause talk command result old new before after says
 
 pub top_keeps :
@@ -93,7 +93,7 @@ passes_by :
     (talk : Talk) (command : Option Command) (files : Option Files) (result : Status) (old new : Outside) (before after : List Asked)
     → old.folder.files ≡ files → Through command result talk old new before after → IfSome files (λ f. TopPasses command f old new)
 passes_by talk command None result old new before after is says = tt
-passes_by talk None (Some files) result old new before after is says = yes_nothing old.sink.written new.sink.written says.0.idle.written
+passes_by talk None (Some files) result old new before after is says = yes_nothing old.sink.written new.sink.written says.0.idle.none_put.written
 passes_by talk (Some command) (Some files) result old new before after is says =
     ends_pass talk command files (end_of result) result old new (ends_in (due_kind talk) files (reads command) result old new before after is says)
 
@@ -105,7 +105,7 @@ top_passes talk command result old new before after says = passes_by talk comman
 pub top_answers_pass :
     (talk : Talk) (command : Option Command) (result : Status) (old new : Outside) (before after : List Asked)
     → Through command result talk old new before after → TopAnswersPass command old new before after
-top_answers_pass talk None result old new before after says = yes_nothing old.sink.written new.sink.written says.0.idle.written
+top_answers_pass talk None result old new before after says = yes_nothing old.sink.written new.sink.written says.0.idle.none_put.written
 top_answers_pass talk (Some command) result old new before after says = does_pass talk command result old new before after says
 
 pub ruleset tops = (top_output, top_read, top_write, top_keeps, top_complete, top_passes, top_answers_pass)

@@ -107,21 +107,21 @@ made_passes talk (Err r) due old new is grew = λ told_yes.
 cut_passes :
     (talk : Talk) (d : Due) (due : Answer) (old new : Outside)
     → IsBegunOf talk d due → IsUnset due old new ⊎ IsUnput due old new → YesPasses (Ok d) old new
-cut_passes talk d due old new is (inl unset) = idle_passes (Ok d) old new unset.written
+cut_passes talk d due old new is (inl unset) = idle_passes (Ok d) old new unset.none_put.written
 cut_passes talk d due old new is (inr unput) = λ told_yes.
     begun_passes talk d due is (yes_grew_within (yes_of d) old.sink.written new.sink.written due.text unput.put.text told_yes)
 
 wants_passes : (talk : Talk) (d : Due) (old new : Outside) → WantsOf talk d old new → YesPasses (Ok d) old new
-wants_passes talk (Told told) old new w = idle_passes (Ok (Told told)) old new w.written
-wants_passes talk (Image image) old new w = idle_passes (Ok (Image image)) old new w.written
-wants_passes talk (Folder folder) old new (inl w) = idle_passes (Ok (Folder folder)) old new w.written
+wants_passes talk (Told told) old new w = idle_passes (Ok (Told told)) old new w.none_put.written
+wants_passes talk (Image image) old new w = idle_passes (Ok (Image image)) old new w.none_put.written
+wants_passes talk (Folder folder) old new (inl w) = idle_passes (Ok (Folder folder)) old new w.none_put.written
 wants_passes talk (Folder folder) old new (inr w) = λ told_yes.
     let b = yes_grew yes_line old.sink.written new.sink.written w.due.text w.whole.put.text told_yes in
     folder_passes runs.Starved folder.command folder.given w.due b.0 w.is b.1
-wants_passes talk (Schedule s) old new w = idle_passes (Ok (Schedule s)) old new w.written
+wants_passes talk (Schedule s) old new w = idle_passes (Ok (Schedule s)) old new w.none_put.written
 wants_passes talk (ImageSession state) old new w = λ told_yes. tt
 wants_passes talk (FolderSession given) old new w = λ told_yes. tt
-wants_passes talk (Made sets) old new (inl w) = idle_passes (Ok (Made sets)) old new w.written
+wants_passes talk (Made sets) old new (inl w) = idle_passes (Ok (Made sets)) old new w.none_put.written
 wants_passes talk (Made sets) old new (inr (inl w)) = λ told_yes.
     let b = yes_grew (yes_of (Made sets)) old.sink.written new.sink.written [] w.put.text told_yes in
     yes_begun sets (files_alone sets) b.0 (inr refl) b.1
@@ -147,10 +147,10 @@ ends_pass_by talk Is given Answered result old new same e =
     subst (λ o. YesPasses o old new) (sym (same e.given e.came)) (made_passes talk e.given e.due old new e.is_due e.made.whole.put.text)
 ends_pass_by talk Is given Cut result old new same e =
     subst (λ o. YesPasses o old new) (sym (same (Ok e.given) e.came)) (cut_passes talk e.given e.due old new e.begun e.cut)
-ends_pass_by talk Is given Unread result old new same (inl e) = idle_passes given old new e.idle.written
+ends_pass_by talk Is given Unread result old new same (inl e) = idle_passes given old new e.idle.none_put.written
 ends_pass_by talk Is given Unread result old new same (inr e) =
     subst (λ o. YesPasses o old new) (sym (same (Ok e.given) e.came)) (fails_passes talk e.given old new e.fails)
-ends_pass_by talk Is given Starved result old new same (inl e) = idle_passes given old new e.idle.written
+ends_pass_by talk Is given Starved result old new same (inl e) = idle_passes given old new e.idle.none_put.written
 ends_pass_by talk Is given Starved result old new same (inr e) =
     subst (λ o. YesPasses o old new) (sym (same (Ok e.given) e.came)) (wants_passes talk e.given old new e.wants)
 ends_pass_by talk Is given Unasked result old new same e = absurd e
