@@ -1,9 +1,8 @@
 -- What is due to a command on a folder that is booted: the text of what the audit of the booted
 -- core finds, and, where the system is run, what is written of the run.
-use Rattle.std.specs.Prelude.{◌≡◌, ℕ, ◌⊎◌, Bool, true, false, List, Option}
+use Rattle.std.specs.Prelude.{ℕ, ◌⊎◌, Bool, List}
 use Rattle.m36_model.specs.Audit.{AreFindings}
 use Rattle.m36_model.specs.BootedCore.{booted_dbr}
-use Rattle.m36_step.specs.declared.turns.Turn.{Turn}
 use Rattle.m36_super.specs.Library.{Library}
 use Rattle.m36_super.specs.BootedRun.{Booted}
 use Rattle.m36_super.specs.SuperFields.{SuperFields, booted_of}
@@ -16,38 +15,32 @@ use Rattle.m36_booted.specs.declared.command.FolderCommand.{FolderCommand}
 use Rattle.m36_booted.specs.declared.command.FolderCommand.TheVariants.{Audit, Run, Trace}
 use Rattle.m36_booted.specs.declared.command.RunOutput.{RunOutput}
 use Rattle.m36_booted.specs.declared.command.RunOutput.TheVariants as output
-use Rattle.m36_booted.specs.declared.running.Finish.{Finish}
 use Rattle.m36_booted.specs.Folder.{FolderFields}
 use Rattle.m36_booted.specs.RunText.{run_answer}
-use Rattle.m36_booted.specs.Runs.{Goes, Extent, Whole, Begun, Starved, Reaches}
+use Rattle.m36_booted.specs.Runs.{Extent, Whole, Begun, Starved}
+use Rattle.m36_booted.specs.Runs.{Telling, IsRunTold, IsUnrunTold, IsToldBy}
 
--- The audit text, and a run behind it. Which page gives way where one is brought in is free, so
--- several runs may be due where a program has looked at the addresses of frames, by ABSA; until
--- then one is.
-pub record IsRunAnswer
-    (extent : Extent) (denied : List (List ℕ)) (output : RunOutput) (limit : ℕ) (lib : Library)
-    (first : Booted) (findings : List (ℕ × ℕ)) (due : Answer) : Type 0 where
-  pub turns : List Turn
-  pub last : Booted
-  pub how : Option Finish
-  pub goes : Goes lib limit first turns last
-  pub reaches : Reaches extent how lib limit turns last
-  pub answer : due ≡ behind findings (run_answer denied output turns how)
+-- the audit text, and what is written of a run behind it
+abbrev pub run_behind : List (ℕ × ℕ) → List (List ℕ) → RunOutput → Telling
+run_behind findings denied output turns last how =
+    behind findings (run_answer denied output turns how)
 
--- The audit text alone. No memory is wanted behind it.
+abbrev pub IsRunAnswer :
+    Extent → List (List ℕ) → RunOutput → ℕ → Library → Booted → List (ℕ × ℕ) → Answer → Type 0
+IsRunAnswer extent denied output limit lib first findings due =
+    IsRunTold extent lib limit first (run_behind findings denied output) due
+
+-- the audit text alone
 abbrev pub IsAuditAnswer : Extent → List (ℕ × ℕ) → Answer → Type 0
-IsAuditAnswer Whole findings due = due ≡ audit_answer findings
-IsAuditAnswer Begun findings due = due ≡ audit_answer findings
-IsAuditAnswer Starved findings due = ⊥
+IsAuditAnswer extent findings due = IsUnrunTold extent (audit_answer findings) due
 
 -- by whether the system is run
 abbrev pub IsRunBy :
     Bool → Extent → List (List ℕ) → RunOutput → ℕ → Library → Booted → List (ℕ × ℕ) → Answer
     → Type 0
-IsRunBy true extent denied output limit lib first findings due =
-    IsRunAnswer extent denied output limit lib first findings due
-IsRunBy false extent denied output limit lib first findings due =
-    IsAuditAnswer extent findings due
+IsRunBy runs extent denied output limit lib first findings due =
+    IsToldBy runs extent lib limit first (run_behind findings denied output)
+    (audit_answer findings) due
 
 abbrev pub IsAnswerOf :
     FolderCommand → Extent → List (List ℕ) → Library → Booted → List (ℕ × ℕ) → Answer → Type 0

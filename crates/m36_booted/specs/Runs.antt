@@ -1,5 +1,5 @@
 -- Booted runs with a limit of steps, as lists of turns.
-use Rattle.std.specs.Prelude.{◌≡◌, ℕ, ⊤, ◌≤◌, List, Option, Some, None}
+use Rattle.std.specs.Prelude.{◌≡◌, ℕ, ⊤, ◌≤◌, Bool, true, false, List, Option, Some, None}
 use Rattle.m36_model.specs.StoreLaw.{Each}
 use Rattle.m36_step.specs.declared.turns.Turn.{Turn}
 use Rattle.m36_step.specs.declared.turns.Turn.TheVariants.{Stepped, Linked, Console, Ended}
@@ -9,6 +9,7 @@ use Rattle.m36_super.specs.declared.coming.Coming.{Coming}
 use Rattle.m36_super.specs.declared.coming.Coming.TheVariants.{Step, Link, Print}
 use Rattle.m36_super.specs.declared.coming.Coming.TheVariants as coming
 use Rattle.m36_super.specs.BootedRun.{Booted, IsTurn, AreTurns}
+use Rattle.m36_reading.specs.Answers.{Answer}
 use Rattle.m36_booted.specs.declared.running.Finish.{Finish}
 use Rattle.m36_booted.specs.declared.running.Finish.TheVariants.{Over, Limit}
 use Rattle.m36_booted.specs.RunText.{steps_in}
@@ -64,3 +65,33 @@ Reaches Begun (Some how) lib limit turns last = Finishes how lib limit turns las
 Reaches Begun None lib limit turns last = ⊤
 Reaches Starved (Some how) lib limit turns last = ⊥
 Reaches Starved None lib limit turns last = AwaitsLink last.coming
+
+-- ---- answers
+
+-- what is told of a run, by its turns, where they leave the system, and how it ended, if it has
+abbrev pub Telling : Type 0
+Telling = List Turn → Booted → Option Finish → Answer
+
+-- The system is run, and what is told is due. Which page gives way where one is brought in is free,
+-- so several runs may be due where a program has looked at the addresses of frames, by ABSA; until
+-- then one is.
+pub record IsRunTold
+    (extent : Extent) (lib : Library) (limit : ℕ) (first : Booted) (told : Telling) (due : Answer)
+    : Type 0 where
+  pub turns : List Turn
+  pub last : Booted
+  pub how : Option Finish
+  pub goes : Goes lib limit first turns last
+  pub reaches : Reaches extent how lib limit turns last
+  pub answer : due ≡ told turns last how
+
+-- It is not run, and this is due. No memory is wanted then.
+abbrev pub IsUnrunTold : Extent → Answer → Answer → Type 0
+IsUnrunTold Whole unrun due = due ≡ unrun
+IsUnrunTold Begun unrun due = due ≡ unrun
+IsUnrunTold Starved unrun due = ⊥
+
+-- by whether it is run
+abbrev pub IsToldBy : Bool → Extent → Library → ℕ → Booted → Telling → Answer → Answer → Type 0
+IsToldBy true extent lib limit first told unrun due = IsRunTold extent lib limit first told due
+IsToldBy false extent lib limit first told unrun due = IsUnrunTold extent unrun due

@@ -1,13 +1,12 @@
 -- What is told of a folder that was made: the count of its segments, what the audit of its booted
 -- core finds, and, where nothing is found, how the run ended and what it left in X1.
-use Rattle.std.specs.Prelude.{ℕ, ◌≡◌, Bool, true, false, List, [], ◌∷◌, ◌++◌, codes, slice_index}
+use Rattle.std.specs.Prelude.{ℕ, Bool, List, [], ◌∷◌, ◌++◌, codes, slice_index}
 use Rattle.std.specs.Prelude.{Option, Some, None, length}
 use Rattle.m36_text.specs.Digits.{octal_text, decimal_text}
 use Rattle.m36_text.specs.Lines.{as_line}
 use Rattle.m36_model.specs.Audit.{AreFindings}
 use Rattle.m36_model.specs.BootedCore.{booted_dbr}
 use Rattle.m36_model.specs.Registers.{RegsFields}
-use Rattle.m36_step.specs.declared.turns.Turn.{Turn}
 use Rattle.m36_super.specs.Library.{Library}
 use Rattle.m36_super.specs.BootedRun.{Booted}
 use Rattle.m36_super.specs.SuperFields.{SuperFields, booted_of}
@@ -17,7 +16,7 @@ use Rattle.m36_ran.specs.AuditText.{audit_pieces}
 use Rattle.m36_ran.specs.Ran.{passes, audit_status}
 use Rattle.m36_booted.specs.declared.running.Finish.{Finish}
 use Rattle.m36_booted.specs.RunText.{steps_in, finish_line, finish_status}
-use Rattle.m36_booted.specs.Runs.{Goes, Extent, Whole, Begun, Starved, Reaches}
+use Rattle.m36_booted.specs.Runs.{Extent, Telling, IsRunTold, IsUnrunTold, IsToldBy}
 
 -- the most steps of the run
 abbrev pub run_limit : ℕ
@@ -53,35 +52,31 @@ unfoldable pub unrun_answer : ℕ → List (ℕ × ℕ) → Answer
 unrun_answer count findings =
     answer_with (head_pieces count findings) (audit_status (passes findings))
 
--- The system is run. Which page gives way where one is brought in is free.
-pub record IsRunAnswer
-    (extent : Extent) (count : ℕ) (lib : Library) (first : Booted) (findings : List (ℕ × ℕ))
-    (due : Answer) : Type 0 where
-  pub turns : List Turn
-  pub last : Booted
-  pub how : Option Finish
-  pub goes : Goes lib run_limit first turns last
-  pub reaches : Reaches extent how lib run_limit turns last
-  pub answer : due ≡ run_answer count findings how (steps_in turns) last.state.regs
+-- by the turns of the run
+abbrev pub run_told : ℕ → List (ℕ × ℕ) → Telling
+run_told count findings turns last how =
+    run_answer count findings how (steps_in turns) last.state.regs
 
--- It is not. No memory is wanted then.
+abbrev pub IsRunAnswer : Extent → ℕ → Library → Booted → List (ℕ × ℕ) → Answer → Type 0
+IsRunAnswer extent count lib first findings due =
+    IsRunTold extent lib run_limit first (run_told count findings) due
+
 abbrev pub IsUnrunAnswer : Extent → ℕ → List (ℕ × ℕ) → Answer → Type 0
-IsUnrunAnswer Whole count findings due = due ≡ unrun_answer count findings
-IsUnrunAnswer Begun count findings due = due ≡ unrun_answer count findings
-IsUnrunAnswer Starved count findings due = ⊥
+IsUnrunAnswer extent count findings due = IsUnrunTold extent (unrun_answer count findings) due
 
--- It is run exactly where nothing is found.
+-- by whether the system is run
 abbrev pub IsFoundAnswer :
     Bool → Extent → ℕ → Library → Booted → List (ℕ × ℕ) → Answer → Type 0
-IsFoundAnswer true extent count lib first findings due =
-    IsRunAnswer extent count lib first findings due
-IsFoundAnswer false extent count lib first findings due = IsUnrunAnswer extent count findings due
+IsFoundAnswer runs extent count lib first findings due =
+    IsToldBy runs extent lib run_limit first (run_told count findings)
+    (unrun_answer count findings) due
 
 -- how many segments a system has
 abbrev pub segment_count : Library → ℕ
 segment_count lib = length lib.catalog.segments
 
--- what is told of a system, by these findings of the audit of its core
+-- What is told of a system, by these findings of the audit of its core: it is run exactly where
+-- nothing is found.
 abbrev pub IsSummaryBy : Extent → Library → SuperFields → List (ℕ × ℕ) → Answer → Type 0
 IsSummaryBy extent lib system findings told =
     IsFoundAnswer (passes findings) extent (segment_count lib) lib (booted_of system) findings told
