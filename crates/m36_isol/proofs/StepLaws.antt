@@ -1,6 +1,6 @@
 -- The laws of one step, over any store that owes what the laws want wherever its tables are T.
-use Rattle.std.proofs.Common.{◌≡◌, refl, sym, ◌∙◌, ap, subst, inl, inr, ⊎_elim, arith, eqb-true}
-use Rattle.std.specs.Prelude.{ℕ, ◌+◌, ◌*◌, ◌<◌, ◌≤◌, ◌⊎◌, Bool, true, false, ◌&&◌, ◌==◌, [], Result, Ok, Err}
+use Rattle.std.proofs.Common.{◌≡◌, refl, sym, ◌∙◌, ap, subst, inl, inr, ⊎_elim, arith}
+use Rattle.std.specs.Prelude.{ℕ, ◌+◌, ◌*◌, ◌<◌, ◌≤◌, ◌⊎◌, true, [], Result, Ok, Err}
 use Rattle.m36_desc.specs.Fields.{SdwFields, DbrFields}
 use Rattle.m36_model.specs.Registers.{RegsFields}
 use Rattle.m36_model.specs.Store.{Spot, Store, Tables, State, run}
@@ -35,21 +35,11 @@ pub record Backed {S : Type 0} (o : Store S) (T : Tables) (dbr : DbrFields) : Ty
 pub record IsStack (sdws : ℕ → Result SdwFields Refusal) (ring seg : ℕ) : Type 0 where
   pub sdw : SdwFields
   pub live : sdws seg ≡ Ok sdw
-  pub opens : (sdw.readable && sdw.writable) ≡ true
-  pub brackets : (sdw.r1 ≡ ring) × (sdw.r2 ≡ ring)
-
-four_parts : (a b c d : Bool) → ((a && b) && (c && d)) ≡ true → ((a && b) ≡ true) × (c ≡ true) × (d ≡ true)
-four_parts true true true true h = (refl, refl, refl)
-four_parts true true true false h = cc
-four_parts true true false d h = cc
-four_parts true false c d h = cc
-four_parts false b c d h = cc
+  pub is : is_stack_of ring (Ok sdw) ≡ true
 
 stack_by : (sdws : ℕ → Result SdwFields Refusal) (ring seg : ℕ) (v : Result SdwFields Refusal) → sdws seg ≡ v → is_stack_of ring v ≡ true → IsStack sdws ring seg
 stack_by sdws ring seg (Err e) live h = cc
-stack_by sdws ring seg (Ok d) live h =
-    let k = four_parts d.readable d.writable (d.r1 == ring) (d.r2 == ring) h in
-    record { sdw = d; live = live; opens = k.0; brackets = (eqb-true d.r1 ring k.1, eqb-true d.r2 ring k.2) }
+stack_by sdws ring seg (Ok d) live h = record { sdw = d; live = live; is = h }
 
 pub stack_parts : (sdws : ℕ → Result SdwFields Refusal) (ring seg : ℕ) → is_stack_of ring (sdws seg) ≡ true → IsStack sdws ring seg
 stack_parts sdws ring seg h = stack_by sdws ring seg (sdws seg) refl h
@@ -150,8 +140,7 @@ module _ {S : Type 0} (o : Store S) (T : Tables) (g : RegsFields) (B : Backed o 
             stack_pointer = k.pointer pointers;
             stack_sdw = stack.sdw;
             stack_live = B.law.sdw_is store has_here (8 * g.dbr.stack + k.sdw.r2) ∙ stack.live;
-            stack_open = stack.opens;
-            stack_ring = stack.brackets;
+            stack_is = stack.is;
           }
 
   pub pointers_stay : HasPointers g → HasPointers (state_after o here).regs

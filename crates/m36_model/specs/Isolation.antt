@@ -1,7 +1,7 @@
 -- Isolation: programs of a ring and above neither change words that the ring may not write nor
 -- depend on words that it may not read, until they fault, stop, or leave through a gate.
-use Rattle.std.specs.Prelude.{◌≡◌, ℕ, ◌<◌, ◌≤◌, true, false, ◌&&◌, List, [], ◌∷◌, map, length}
-use Rattle.std.specs.Prelude.{slice_get, Some}
+use Rattle.std.specs.Prelude.{◌≡◌, ℕ, ◌<◌, ◌≤◌, true, false, List, [], ◌∷◌, map, length}
+use Rattle.std.specs.Prelude.{slice_get, Some, Ok}
 use Rattle.m36_desc.specs.Fields.{SdwFields}
 use Rattle.m36_inst.specs.declared.effect.Effect.TheVariants as effect
 use Rattle.m36_model.specs.Fields.{FinalFields}
@@ -11,6 +11,7 @@ use Rattle.m36_model.specs.Store.{Store, State, Tables}
 use Rattle.m36_model.specs.Step.{decode}
 use Rattle.m36_model.specs.Sight.{IsLive, tables_of, Unreached}
 use Rattle.m36_model.specs.Agree.{Agree}
+use Rattle.m36_model.specs.Audit.{is_stack_of}
 use Rattle.m36_model.specs.Run.{Visited, window}
 use Rattle.m36_model.specs.StoreLaw.{Each}
 use Rattle.m36_model.specs.declared.outcome.Outcome.TheVariants.{Next}
@@ -40,8 +41,7 @@ pub record IsGateCall {S : Type 0} (o : Store S) (s : State S) (r : ℕ)
   pub stack_pointer : slice_get e.after.pr 7 ≡ Some (pointer stack sdw.r2 0)
   pub stack_sdw : SdwFields
   pub stack_live : IsLive o s stack stack_sdw
-  pub stack_open : (stack_sdw.readable && stack_sdw.writable) ≡ true
-  pub stack_ring : (stack_sdw.r1 ≡ sdw.r2) × (stack_sdw.r2 ≡ sdw.r2)
+  pub stack_is : is_stack_of sdw.r2 (Ok stack_sdw) ≡ true
 
 abbrev pub EachTwo : {A B : Type 0} → (A → B → Type 0) → List A → List B → Type 0
 EachTwo P [] [] = Unit {0}
