@@ -1,8 +1,7 @@
 -- Calls and returns between rings: CALL6 and RTCD.
 -- Multics Processor Manual AL39, "Call (using PR6 and PR7)", "Return control double"; Schroeder and
 -- Saltzer (1972).
-use Rattle.std.specs.Prelude.{ℕ, false, ◌==◌, if◌then◌else◌, List, [], map, Result}
-use Rattle.std.specs.Prelude.{Ok, slice_index}
+use Rattle.std.specs.Prelude.{ℕ, ◌==◌, if◌then◌else◌, List, map, Result, slice_index}
 use Rattle.m36_desc.specs.Fields.{PtrFields, ItsFields}
 use Rattle.m36_desc.specs.Descriptors.{its_of}
 use Rattle.m36_model.specs.Fields.{FinalFields}
@@ -10,7 +9,7 @@ use Rattle.m36_model.specs.Registers.{RegsFields}
 use Rattle.m36_model.specs.Modification.{ptr, pair_ring}
 use Rattle.m36_model.specs.Place.{ring_stack}
 use Rattle.m36_model.specs.Pointers.{with_pr, pointer}
-use Rattle.m36_model.specs.Results.{OperandFields, EffectFields}
+use Rattle.m36_model.specs.Results.{OperandFields, EffectFields, leaves}
 
 -- PR7 after CALL6 is the base of a stack in the new ring: where the ring changes, the stack that
 -- the DBR gives to it, and where it does not, the segment of PR6.
@@ -26,12 +25,7 @@ abbrev pub in_ring : FinalFields → ℕ → RegsFields → RegsFields
 in_ring f ring g = record g { ppr = record { psr = f.at.seg; prr = ring; ic = f.at.word } }
 
 unfoldable pub call : FinalFields → ℕ → RegsFields → Result EffectFields ℕ
-call f ring g =
-    Ok (record {
-      regs = in_ring f ring (with_pr 7 (stack_pointer g ring) g);
-      put = [];
-      overflow = false;
-    })
+call f ring g = leaves (in_ring f ring (with_pr 7 (stack_pointer g ring) g))
 
 -- RTCD: a return goes to the ring after its pair. No pointer register keeps another ring. The target
 -- is examined by the next fetch (this project's choice).
@@ -52,8 +46,7 @@ returned its ring g =
     }
 
 abbrev pub return_by : ItsFields → FinalFields → OperandFields → RegsFields → Result EffectFields ℕ
-return_by its f o g =
-    Ok (record { regs = returned its (return_ring its f o) g; put = []; overflow = false })
+return_by its f o g = leaves (returned its (return_ring its f o) g)
 
 unfoldable pub return_to : FinalFields → OperandFields → RegsFields → Result EffectFields ℕ
 return_to f o g = return_by (its_of (slice_index o.got 0) (slice_index o.got 1)) f o g

@@ -160,17 +160,21 @@ next_word g = (g.ppr.ic + 1) % 2 ^ 18
 unfoldable pub moved_on : RegsFields → RegsFields
 moved_on g = record g { ppr = record g.ppr { ic = next_word g } }
 
+-- an effect on registers alone, which leaves them so
+abbrev pub leaves : RegsFields → Result EffectFields ℕ
+leaves g = Ok (record { regs = g; put = []; overflow = false })
+
 -- An effect on registers that moves on to the next instruction: alone, with words to write, and
 -- with overflow.
 abbrev pub completes : RegsFields → Result EffectFields ℕ
-completes g = Ok (record { regs = moved_on g; put = []; overflow = false })
-
-abbrev pub completes_with : RegsFields → List ℕ → Result EffectFields ℕ
-completes_with g put = Ok (record { regs = moved_on g; put = put; overflow = false })
+completes g = leaves (moved_on g)
 
 abbrev pub completes_or_overflows : RegsFields → List ℕ → Bool → Result EffectFields ℕ
 completes_or_overflows g put overflow =
     Ok (record { regs = moved_on g; put = put; overflow = overflow })
+
+abbrev pub completes_with : RegsFields → List ℕ → Result EffectFields ℕ
+completes_with g put = completes_or_overflows g put false
 
 -- a register takes a value, with the indicators as they are to be
 abbrev pub takes : Working → ℕ → Ind → RegsFields → RegsFields

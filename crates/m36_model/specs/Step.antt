@@ -35,7 +35,7 @@ use Rattle.m36_model.specs.Chain.{ChainEnd, chain}
 use Rattle.m36_model.specs.Results.{OperandFields, EffectFields, words_only}
 use Rattle.m36_model.specs.Transfers.{is_taken}
 use Rattle.m36_model.specs.Effect.{exec, is_absa}
-use Rattle.m36_model.specs.Store.{Store, Mid, Ran, State, run, changes}
+use Rattle.m36_model.specs.Store.{Store, Mid, Ran, State, begun, run, changes}
 use Rattle.m36_model.specs.declared.outcome.Fault.{Fault}
 use Rattle.m36_model.specs.declared.outcome.Stop.TheVariants as stop
 use Rattle.m36_model.specs.declared.outcome.Halt.{Halt}
@@ -291,9 +291,9 @@ abbrev pub stepped : {S : Type 0} → Store S → Ran Ending S → State S
 stepped o t =
     record { regs = t.value.after; store = o.put t.mid.store (changes t.mid.claims t.value.puts) }
 
--- where a step begins: it has claimed nothing, and completed no reference
+-- where a step begins
 abbrev pub start : {S : Type 0} → State S → Mid S
-start s = record { store = s.store; claims = []; refs = [] }
+start s = begun s.store
 
 abbrev pub ran : {S : Type 0} → Store S → State S → Ran Ending S
 ran o s = run o s.regs (program s.regs) (start s)

@@ -196,6 +196,10 @@ pub record Mid (S : Type 0) : Type 0 where
   pub claims : List Spot
   pub refs : List Reference
 
+-- where nothing is claimed, and no reference is completed
+abbrev pub begun : {S : Type 0} → S → Mid S
+begun s = record { store = s; claims = []; refs = [] }
+
 -- the changes that puts mean; a number under which nothing is claimed means none
 abbrev pub change_of : Put → Option Spot → List Change → List Change
 change_of p None rest = rest
@@ -299,7 +303,7 @@ without_marks o = record o { marked = λ s dbr kind seg word. s }
 
 unfoldable pub examined : {S : Type 0} → Store S → RegsFields → S → AtFields → Result Answer Fault
 examined o g s at =
-    (serve (without_marks o) g (record { store = s; claims = []; refs = [] })
+    (serve (without_marks o) g (begun s)
     (record { kind = Read; at = at; count = 1; pending = [] })).reply
 
 -- what a program gives, and where the step stands then

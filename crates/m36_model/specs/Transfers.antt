@@ -1,12 +1,12 @@
 -- Transfers. Multics Processor Manual AL39, "Transfer of control instructions".
-use Rattle.std.specs.Prelude.{ℕ, Bool, true, false, not, ◌&&◌, ◌||◌, [], Result, Ok}
+use Rattle.std.specs.Prelude.{ℕ, Bool, true, false, not, ◌&&◌, ◌||◌, Result}
 use Rattle.m36_desc.specs.Fields.{PtrFields}
 use Rattle.m36_inst.specs.declared.effect.Effect.{Effect}
 use Rattle.m36_inst.specs.declared.effect.Effect.TheVariants as effect
 use Rattle.m36_model.specs.Fields.{FinalFields}
 use Rattle.m36_model.specs.Registers.{RegsFields}
 use Rattle.m36_model.specs.Pointers.{with_pr, pointer}
-use Rattle.m36_model.specs.Results.{EffectFields, X, with_value, next_word, completes}
+use Rattle.m36_model.specs.Results.{EffectFields, X, with_value, next_word, leaves, completes}
 
 -- Whether a transfer is taken, by the indicators. One that is not taken examines no target (this
 -- project's choice).
@@ -29,7 +29,7 @@ unfoldable pub gone_to : FinalFields → RegsFields → RegsFields
 gone_to f g = record g { ppr = record g.ppr { psr = f.at.seg; ic = f.at.word } }
 
 abbrev pub goes_to : FinalFields → RegsFields → Result EffectFields ℕ
-goes_to f g = Ok (record { regs = gone_to f g; put = []; overflow = false })
+goes_to f g = leaves (gone_to f g)
 
 -- TRA and the conditional transfers
 abbrev pub transfer_by : Bool → FinalFields → RegsFields → Result EffectFields ℕ
