@@ -70,5 +70,4 @@ line_of_words (word ∷ given) = line_named word given
 
 -- a line that lacks its line feed is of no form
 unfoldable pub line_given : Option (List ℕ) → Option Line
-line_given None = None
-line_given (Some line) = line_of_words (words_of line)
+line_given line = option_and_then (λ (l : List ℕ). line_of_words (words_of l)) line

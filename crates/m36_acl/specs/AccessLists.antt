@@ -6,11 +6,11 @@
 --
 -- The least line that has a code is told, and C1 where a line has both.
 use Rattle.std.specs.Prelude.{ℕ, ◌≡◌, ◌+◌, ◌-◌, Bool, nat_le, if◌then◌else◌, List, [], ◌∷◌, ◌++◌}
-use Rattle.std.specs.Prelude.{length, map, slice_get, slice_set}
+use Rattle.std.specs.Prelude.{length, map, slice_set}
 use Rattle.std.specs.Prelude.{Option, Some, None, Result, Ok, Err}
 use Rattle.std.specs.List.{list_any}
 use Rattle.m36_text.specs.Texts.{is_text}
-use Rattle.m36_text.specs.Lines.{lines_of}
+use Rattle.m36_text.specs.Lines.{lines_of, last_of}
 use Rattle.m36_text.specs.Results.{and_then}
 use Rattle.m36_dir.specs.BootOrder.{Entry, entry, is_entry}
 use Rattle.m36_acl.specs.declared.fault.AclFault.{AclFault}
@@ -45,9 +45,6 @@ segment_behind line above given =
     if has_segment above given then Err (fault.C2 line) else Ok (above ++ begun line given ∷ [])
 
 -- ---- a `term` line, which belongs to the last segment
-
-abbrev pub last_of : Lists → Option AclSegmentFields
-last_of lists = slice_get lists (length lists - 1)
 
 abbrev pub has_term : List TermFields → List ℕ → Bool
 has_term terms text = list_any (λ t. is_text text t.text) terms

@@ -3,7 +3,8 @@
 ghost use Rattle.std.specs.Prelude.{[], ◌∷◌, ◌++◌, ◌≡◌, ◌≤◌, ◌<◌, ◌-◌, false, length, slice_set, IfSome, OnOk, option_map};
 ghost use Rattle.std.specs.Vec.{vec_len, vec_capacity};
 ghost use Rattle.m36_dir.specs.BootOrder.{entry};
-ghost use Rattle.m36_acl.specs.AccessLists.{places_of, has_segment, last_of, with_term};
+ghost use Rattle.m36_acl.specs.AccessLists.{places_of, has_segment, with_term};
+ghost use Rattle.m36_text.specs.Lines.{last_of};
 
 use crate::segment::{AclSegment, Term};
 use arrayvec::ArrayVec;

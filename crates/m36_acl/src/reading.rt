@@ -1,10 +1,10 @@
 //! The lines of access lists in turn, up to the first that has a code.
 
 ghost use Rattle.std.specs.Prelude.{◌≡◌, ◌<◌, ◌≤◌, ◌^◌, length, Some, Ok, IfOk, IfErr, option_map};
-ghost use Rattle.m36_text.specs.Lines.{words_of};
+ghost use Rattle.m36_text.specs.Lines.{words_of, last_of};
 ghost use Rattle.m36_dir.specs.BootOrder.{entry};
 ghost use Rattle.m36_acl.specs.AccessLine.{Segment, Term as TermLine, entry_of, term_of, line_given};
-ghost use Rattle.m36_acl.specs.AccessLists.{segment_behind, last_of, has_term, term_behind, line_behind, lists_of, Told, Takes};
+ghost use Rattle.m36_acl.specs.AccessLists.{segment_behind, has_term, term_behind, line_behind, lists_of, Told, Takes};
 
 use crate::above::{Above, Place};
 use crate::fault::AclFault;

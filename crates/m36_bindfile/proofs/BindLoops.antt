@@ -3,11 +3,11 @@ use Rattle.std.proofs.Common.{ℕ, ◌≡◌, ◌+◌, ◌<◌, ◌≤◌, Bool,
 use Rattle.std.proofs.lemmas.List.{length-append}
 use Rattle.std.specs.Prelude.{◌||◌}
 use Rattle.std.specs.List.{list_any}
-use Rattle.m36_text.specs.Lines.{lines_of, open_lines_of, cut_line}
+use Rattle.m36_text.specs.Lines.{lines_of, open_lines_of, cut_line, last_of}
 use Rattle.m36_bindfile.specs.declared.line.BindLine.{BindLine}
 use Rattle.m36_bindfile.specs.declared.fault.BindFault.{BindFault}
 use Rattle.m36_bindfile.specs.declared.fault.BindFault.TheVariants as fault
-use Rattle.m36_bindfile.specs.BindFile.{line_given, lines_given, gives_object, has_object, lines_from, in_order, last_of, read_on, is_cut}
+use Rattle.m36_bindfile.specs.BindFile.{line_given, lines_given, gives_object, has_object, lines_from, in_order, read_on, is_cut}
 
 -- ---- a line that asks for an object
 

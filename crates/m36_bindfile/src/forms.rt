@@ -2,8 +2,8 @@
 //! its form.
 
 ghost use Rattle.std.specs.Prelude.{◌≡◌, Some};
-ghost use Rattle.m36_text.specs.Lines.{words_of};
-ghost use Rattle.m36_bindfile.specs.BindFile.{object_line, retain_line, version_line, two_words, line_given, is_object, may_begin, may_follow, is_in_order_behind, last_of, in_order, gives_object};
+ghost use Rattle.m36_text.specs.Lines.{words_of, last_of};
+ghost use Rattle.m36_bindfile.specs.BindFile.{object_line, retain_line, version_line, two_words, line_given, is_object, may_begin, may_follow, is_in_order_behind, in_order, gives_object};
 
 use crate::line::{BindLine, BindLines};
 use m36_text::{Name, first_word, is_file_name, only_word};

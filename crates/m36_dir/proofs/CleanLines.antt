@@ -3,11 +3,11 @@ use Rattle.std.proofs.Common.{ℕ, ◌≡◌, ◌+◌, ◌<◌, ◌≤◌, Bool,
 use Rattle.std.specs.Prelude.{not, count_by}
 use Rattle.std.proofs.lemmas.Bool.{leb-false, not-false}
 use Rattle.std.proofs.lemmas.List.Sums.{sum_by-append, sum_by-cons}
-use Rattle.m36_text.specs.Lines.{first_met, first_told}
+use Rattle.m36_text.specs.Lines.{first_met, first_told, last_of}
 use Rattle.m36_dir.specs.declared.boot_line.BootLine.{BootLine}
 use Rattle.m36_dir.specs.declared.boot_line.BootLine.TheVariants as line
 use Rattle.m36_dir.specs.declared.boot_code.BootCode.TheVariants.{D1, D2, D3, D4, D5}
-use Rattle.m36_dir.specs.BootOrder.{is_segment, is_library, is_in_order_behind, stands_twice, names_no_directory, has_wrong_brackets, is_too_many, last_of, code_of, code_at_end, codes_from, formed, names_at_end, names_with, has_directory}
+use Rattle.m36_dir.specs.BootOrder.{is_segment, is_library, is_in_order_behind, stands_twice, names_no_directory, has_wrong_brackets, is_too_many, code_of, code_at_end, codes_from, formed, names_at_end, names_with, has_directory}
 use Rattle.m36_dir.specs.Catalog.{names_behind}
 
 -- ---- none is told

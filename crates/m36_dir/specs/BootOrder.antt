@@ -10,11 +10,11 @@
 --
 -- The least line that has a code is told, and its least code.
 use Rattle.std.specs.Prelude.{ℕ, ◌≡◌, ◌+◌, ◌-◌, Bool, true, false, not, ◌&&◌, ◌||◌, nat_eq, nat_le}
-use Rattle.std.specs.Prelude.{if◌then◌else◌, List, [], ◌∷◌, ◌++◌, length, slice_get, count_by}
+use Rattle.std.specs.Prelude.{if◌then◌else◌, List, [], ◌∷◌, ◌++◌, length, count_by}
 use Rattle.std.specs.Prelude.{filter_map, map, Option, Some, None, Result, Ok, Err}
 use Rattle.std.specs.List.{list_any}
 use Rattle.m36_text.specs.Texts.{is_text}
-use Rattle.m36_text.specs.Lines.{lines_of, first_met, first_told}
+use Rattle.m36_text.specs.Lines.{lines_of, last_of, first_met, first_told}
 use Rattle.m36_dir.specs.declared.segment.SegKind.{SegKind}
 use Rattle.m36_dir.specs.declared.segment.SegKind.TheVariants.{Gate}
 use Rattle.m36_dir.specs.declared.boot_line.BootLine.{BootLine}
@@ -66,9 +66,6 @@ may_follow above (line.Start start) = is_work_or_library above || is_segment_or_
 abbrev pub is_in_order_behind : Option BootLine → BootLine → Bool
 is_in_order_behind None next = is_frames next
 is_in_order_behind (Some above) next = may_follow above next
-
-abbrev pub last_of : List BootLine → Option BootLine
-last_of lines = slice_get lines (length lines - 1)
 
 -- ---- names: D2
 

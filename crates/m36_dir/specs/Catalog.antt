@@ -12,7 +12,8 @@ use Rattle.m36_dir.specs.declared.boot_code.BootCode.{BootCode}
 use Rattle.m36_dir.specs.declared.boot_code.BootCode.TheVariants.{D1, D2, D3, D4, D5, D6}
 use Rattle.m36_dir.specs.Fields.{SegmentFields, SegmentGiven}
 use Rattle.m36_dir.specs.StartFields.{StartFields}
-use Rattle.m36_dir.specs.BootOrder.{all_lines, first_code, last_of}
+use Rattle.m36_dir.specs.BootOrder.{all_lines, first_code}
+use Rattle.m36_text.specs.Lines.{last_of}
 
 -- A catalog. Directories are told by their numbers, from 0 on.
 pub record CatalogFields : Type 0 where

@@ -3,7 +3,7 @@
 ghost use Rattle.std.specs.Prelude.{ℕ, ◌≡◌, ◌+◌, ◌≤◌, ◌<◌, [], ◌∷◌, ◌++◌, IfOk, IfSome, OnOk, length, drop, slice_get, option_map};
 ghost use Rattle.std.specs.List.{list_any, position};
 ghost use Rattle.m36_text.specs.Texts.{is_text};
-ghost use Rattle.m36_dir.specs.BootOrder.{last_of};
+ghost use Rattle.m36_text.specs.Lines.{last_of};
 ghost use Rattle.m36_dir.specs.Catalog.{with_directory, with_directory_of, directories_from, number_in, names_behind, segment_with, segment_of, segments_in, library_of, libraries_in, frames_of, work_of, no_start, start_of};
 
 use crate::boot_line::{BootLine, SegmentLine};

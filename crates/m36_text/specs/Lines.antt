@@ -1,7 +1,7 @@
 -- The lines of a text, the words of a line, and the first line of which something is told; and a
 -- text as a line.
 use Rattle.std.specs.Prelude.{ℕ, ◌≡◌, ◌+◌, ◌-◌, ◌==◌, Bool, if◌then◌else◌, List, [], ◌∷◌, ◌++◌}
-use Rattle.std.specs.Prelude.{Option, Some, None, slice_get, unwrap_or}
+use Rattle.std.specs.Prelude.{length, Option, Some, None, slice_get, unwrap_or}
 use Rattle.std.specs.List.{slice_split}
 
 -- a text as a line
@@ -49,6 +49,10 @@ pub record HasMore (words : List (List ℕ)) : Type 0 where
   pub second : List ℕ
   pub others : List (List ℕ)
   pub are : words ≡ first ∷ second ∷ others
+
+-- the last of some lines, or of what they mean
+abbrev pub last_of : {A : Type 0} → List A → Option A
+last_of lines = slice_get lines (length lines - 1)
 
 -- The first line of which something is told, with its number, where the first of these is line n.
 unfoldable pub first_told : {A : Type 0} → ℕ → List (Option A) → Option (ℕ × A)
