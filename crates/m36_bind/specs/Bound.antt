@@ -113,15 +113,6 @@ unfoldable pub components_fit : ShapeFields → List PlacedFields → Bool
 components_fit frame [] = true
 components_fit frame (p ∷ all) = if component_fits frame p then components_fit frame all else false
 
--- whether a section has no more words than it may
-abbrev pub section_fits : List ℕ → Bool
-section_fits words = nat_le (length words) section_limit
-
-unfoldable pub sections_fit : PartsFields → Bool
-sections_fit p =
-    section_fits p.text && section_fits (definition_section p) && section_fits (linkage_section p)
-    && section_fits (outer_statics p) && section_fits (symbol_section p)
-
 abbrev pub fitting : PartsFields → Result PartsFields BindFault
 fitting parts = if sections_fit parts then Ok parts else Err (fault.B4 0)
 

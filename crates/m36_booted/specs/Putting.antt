@@ -3,7 +3,7 @@ use Rattle.std.specs.Prelude.{◌⊎◌}
 use Rattle.m36_outside.specs.SinkState.{SinkState}
 use Rattle.m36_reading.specs.declared.status.Status.{Status}
 use Rattle.m36_reading.specs.Answers.{Answer}
-use Rattle.m36_reading.specs.Puts.{IsPutWhole}
+use Rattle.m36_reading.specs.Puts.{IsPutWhole, IsNotPut}
 use Rattle.m36_reading.specs.Ends.{End, Answered, Cut, Unread, Starved, Unasked}
 use Rattle.m36_ran.specs.Putting.{IsPut, IsPartPut}
 use Rattle.m36_booted.specs.Runs.{Extent}

@@ -6,7 +6,7 @@ use Rattle.std.proofs.lemmas.List.{length-append, get_or-append_right, take_at, 
 use Rattle.obj36_parts.specs.Fields.{LinkFields}
 use Rattle.obj36_parts.specs.Halves.{left, right, joined}
 use Rattle.obj36_parts.specs.ObjectSegment.{map_part, linkage_part, link_words}
-use Rattle.obj36_read.specs.Reading.{map_place, version_in, told_length, told_count, from_definition, from_linkage, from_statics, from_symbol, told_first, statics_in, bound_in}
+use Rattle.obj36_read.specs.Reading.{map_place, version_in, told_length, told_count, from_definition, from_linkage, from_statics, from_symbol, link_start, told_first, statics_in, bound_in}
 use Rattle.obj36.proofs.TableReading.{left_joined, right_joined}
 
 pub in_map : (front m : List ℕ) (i j : ℕ) → j ≡ length front + i → slice_index (front ++ m) j ≡ slice_index m i
@@ -95,7 +95,7 @@ cut newer words t d k st s y m b e f told =
 -- ---- what the heads of sections tell
 
 pub first_is : (words statics rest : List ℕ) (ls : List LinkFields) (x : ℕ) → from_linkage words ≡ linkage_part statics ls x ++ rest → 8 + length statics < 2 ^ 18 → told_first words ≡ 8 + length statics
-unfolding told_first linkage_part
+unfolding told_first link_start linkage_part
 first_is words statics rest ls x e lt = ap (λ (ws : List ℕ). left (slice_index ws 1)) e ∙ left_joined (8 + length statics) (length ls) lt
 
 statics_by : (newer : Bool) (words st k rest : List ℕ) (ls : List LinkFields) (x : ℕ) → version_in words ≡ cond newer 2 1 → from_linkage words ≡ linkage_part (cond newer [] st) ls x ++ rest

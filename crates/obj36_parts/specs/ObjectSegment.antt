@@ -2,7 +2,7 @@
 -- static words in the linkage section, version 2 in a section of their own.
 use Rattle.std.specs.Prelude.{ℕ, zero, suc, ◌≡◌, ◌+◌, ◌-◌, ◌*◌, ◌%◌, ◌^◌, Bool, true, false, ◌&&◌}
 use Rattle.std.specs.Prelude.{◌||◌, not, nat_eq, nat_lt, nat_le, if◌then◌else◌, List, [], ◌∷◌, ◌++◌}
-use Rattle.std.specs.Prelude.{length, Option, Some, None}
+use Rattle.std.specs.Prelude.{length, codes, Option, Some, None}
 use Rattle.std.specs.List.{list_any, list_all}
 use Rattle.obj36_parts.specs.Fields.{DefFields, LinkFields, RelocFields}
 use Rattle.obj36_parts.specs.PartsFields.{PartsFields}
@@ -32,6 +32,20 @@ place_number Linkage = 1
 place_number Static = 2
 place_number Symbol = 3
 
+-- the name of a section behind `use`, and before its lines in a listing
+abbrev pub section_name : Section → List ℕ
+section_name Text = codes "text"
+section_name Linkage = codes "link"
+section_name Symbol = codes "symbol"
+section_name Static = codes "static"
+
+-- and as the segment of an operand
+abbrev pub own_name : Section → List ℕ
+own_name Text = codes "*text"
+own_name Linkage = codes "*link"
+own_name Symbol = codes "*symbol"
+own_name Static = codes "*static"
+
 -- whether a section is the text
 abbrev pub is_text_section : Section → Bool
 is_text_section Text = true
@@ -52,16 +66,16 @@ later_section a b = if nat_le (rank a) (rank b) then b else a
 
 -- ---- what is written where
 
--- whether objects of a version, and parts, have a static section of their own
-abbrev pub is_newer_version : ℕ → Bool
-is_newer_version version = nat_eq version 2
-
-abbrev pub is_newer : PartsFields → Bool
-is_newer p = is_newer_version p.version
-
 -- the number of the version, by whether it is the newer one
 abbrev pub version_of : Bool → ℕ
 version_of newer = if newer then 2 else 1
+
+-- whether objects of a version, and parts, have a static section of their own
+abbrev pub is_newer_version : ℕ → Bool
+is_newer_version version = nat_eq version (version_of true)
+
+abbrev pub is_newer : PartsFields → Bool
+is_newer p = is_newer_version p.version
 
 -- the next even number, and words with one zero word behind an odd count
 abbrev pub evened : ℕ → ℕ
@@ -196,26 +210,52 @@ link_words [] at expression = []
 link_words (l ∷ ls) at expression =
     link_head at ∷ joined expression l.modifier ∷ link_words ls (at + 2) (expression + 2)
 
+-- where the first link stands behind so many static words of the linkage section
+abbrev pub links_behind : ℕ → ℕ
+links_behind statics = head_words + statics
+
 -- the words of the head, static words, and the links, whose expressions stand from a place on
 unfoldable pub linkage_part : List ℕ → List LinkFields → ℕ → List ℕ
 linkage_part statics ls expressions =
-    0 ∷ joined (head_words + length statics) (length ls) ∷ 0 ∷ 0 ∷ 0 ∷ 0 ∷ 0 ∷ 0 ∷ statics
-    ++ link_words ls (head_words + length statics) expressions
+    0 ∷ joined (links_behind (length statics)) (length ls) ∷ 0 ∷ 0 ∷ 0 ∷ 0 ∷ 0 ∷ 0 ∷ statics
+    ++ link_words ls (links_behind (length statics)) expressions
 
 unfoldable pub linkage_section : PartsFields → List ℕ
 linkage_section p =
     linkage_part (inner_statics p) p.links (expressions_behind (length p.definitions))
 
--- where the first link stands in it: behind the words of the head and the static words there
+-- where the first link stands in it
 abbrev pub first_link : PartsFields → ℕ
-first_link p = head_words + length (inner_statics p)
+first_link p = links_behind (length (inner_statics p))
 
 -- ---- the symbol section
+
+-- the parts of a word that a relocation may name: its left half, its right half, and bits 3 to 17
+abbrev pub left_part : ℕ
+left_part = 0
+
+abbrev pub right_part : ℕ
+right_part = 1
+
+abbrev pub offset_part : ℕ
+offset_part = 2
+
+-- In its right half a relocation has its section, its part and its target, of three bits each: what
+-- they count in.
+abbrev pub section_unit : ℕ
+section_unit = 2 ^ 15
+
+abbrev pub part_unit : ℕ
+part_unit = 2 ^ 12
+
+abbrev pub target_unit : ℕ
+target_unit = 2 ^ 9
 
 unfoldable pub relocation_word : RelocFields → ℕ
 relocation_word r =
     joined r.offset
-    (place_number r.section * 2 ^ 15 + r.part * 2 ^ 12 + place_number r.target * 2 ^ 9)
+    (place_number r.section * section_unit + r.part * part_unit
+    + place_number r.target * target_unit)
 
 unfoldable pub relocation_words : List RelocFields → List ℕ
 relocation_words [] = []
@@ -288,6 +328,15 @@ segment_limit = 2 ^ 18
 abbrev pub section_limit : ℕ
 section_limit = 258048
 
+-- whether a section has no more words than it may, and whether none of an object has
+abbrev pub section_fits : List ℕ → Bool
+section_fits words = nat_le (length words) section_limit
+
+unfoldable pub sections_fit : PartsFields → Bool
+sections_fit p =
+    section_fits p.text && section_fits (definition_section p) && section_fits (linkage_section p)
+    && section_fits (outer_statics p) && section_fits (symbol_section p)
+
 -- whether each name stands once
 unfoldable pub are_distinct : List (List ℕ) → Bool
 are_distinct [] = true
@@ -295,10 +344,12 @@ are_distinct (name ∷ names) = not (list_any (same name) names) && are_distinct
 
 -- the greatest class, and the greatest number of a section in links and relocations
 abbrev pub last_class : ℕ → ℕ
-last_class version = if is_newer_version version then 3 else 2
+last_class version =
+    if is_newer_version version then class_number Static else class_number Symbol
 
 abbrev pub last_place : ℕ → ℕ
-last_place version = if is_newer_version version then 2 else 1
+last_place version =
+    if is_newer_version version then place_number Static else place_number Linkage
 
 unfoldable pub is_definition : ℕ → Named → Bool
 is_definition version d =
@@ -326,21 +377,22 @@ is_place text inner outer Symbol offset = false
 
 unfoldable pub is_relocation : ℕ → ℕ → ℕ → ℕ → RelocFields → Bool
 is_relocation text inner outer version r =
-    is_place text inner outer r.section r.offset && nat_lt r.offset (2 ^ 18) && nat_le r.part 2
-    && nat_le (place_number r.target) (last_place version)
+    is_place text inner outer r.section r.offset && nat_lt r.offset (2 ^ 18)
+    && nat_le r.part offset_part && nat_le (place_number r.target) (last_place version)
 
 -- the number by which relocations are in order
 unfoldable pub order_of : RelocFields → ℕ
 order_of r = (place_number r.section * 2 ^ 18 + r.offset) * 4 + r.part
 
--- Whether relocations are in rising order, each at least at a number, where parts 0 and 2 of one
--- word never both stand: behind part 0 of a word the number of its part 2 is barred, until the next
--- part 0 bars another.
+-- Whether relocations are in rising order, each at least at a number, where the left half of one
+-- word and its bits 3 to 17 never both stand: behind the one the number of the other is barred,
+-- until the next left half bars another.
 unfoldable pub are_rising : ℕ → ℕ → List RelocFields → Bool
 are_rising least barred [] = true
 are_rising least barred (r ∷ rs) =
     nat_le least (order_of r) && not (nat_eq (order_of r) barred)
-    && are_rising (order_of r + 1) (if nat_eq r.part 0 then order_of r + 2 else barred) rs
+    && are_rising (order_of r + 1)
+    (if nat_eq r.part left_part then order_of r + offset_part else barred) rs
 
 -- whether relocations are in order: any may be first, and nothing is barred before it, since no part
 -- of a word has the number 3
@@ -350,7 +402,7 @@ are_in_order rs = are_rising 0 3 rs
 -- whether some list stands for the parts
 unfoldable pub is_well_formed : PartsFields → Bool
 is_well_formed p =
-    (nat_eq p.version 1 || nat_eq p.version 2)
+    (nat_eq p.version (version_of false) || nat_eq p.version (version_of true))
     && nat_le (length (words_of p)) segment_limit
     && nat_le p.entry_bound (length p.text)
     && (is_newer p || nat_eq (length p.statics % 2) 0)

@@ -25,9 +25,6 @@ type_faults version d (suc count) at =
 unfoldable pub link_count : List ℕ → ℕ
 link_count k = right (slice_index k 1)
 
-unfoldable pub link_start : List ℕ → ℕ
-link_start k = left (slice_index k 1)
-
 -- whether the head of the linkage section is as it must be: as many links as expressions, behind an
 -- even number of static words in version 1 and none in version 2, up to the section's end
 unfoldable pub is_head : ℕ → List ℕ → List ℕ → Bool

@@ -25,7 +25,7 @@ is_told words =
 unfoldable pub is_bound : List ℕ → ℕ → Bool
 is_bound words bound =
     nat_eq (right bound) 0
-    && nat_le (left bound) (told_length words 1)
+    && nat_le (left bound) (told_length words text_index)
 
 unfoldable pub fixed_fault : List ℕ → ℕ → Option ℕ
 fixed_fault words version =
@@ -51,19 +51,17 @@ extent_at words i = record {
   count = told_length words i;
 }
 
-abbrev pub symbol_index : ℕ → ℕ
-symbol_index version = if is_newer_version version then 5 else 4
-
 abbrev pub nowhere : Extent
 nowhere = record { from = 0; count = 0 }
 
 unfoldable pub extents_of : List ℕ → Extents
 extents_of words =
     record {
-      text = extent_at words 1;
-      definition = extent_at words 2;
-      linkage = extent_at words 3;
-      statics = if is_newer_version (version_in words) then extent_at words 4 else nowhere;
+      text = extent_at words text_index;
+      definition = extent_at words definition_index;
+      linkage = extent_at words linkage_index;
+      statics =
+          if is_newer_version (version_in words) then extent_at words statics_index else nowhere;
       symbol = extent_at words (symbol_index (version_in words));
     }
 
@@ -76,10 +74,10 @@ section_fault words =
     let map = map_place words in
     let e = extents_of words in
     first_met (
-    (is_outside map e.text 0, map + 1)
-    ∷ (is_outside map e.definition definition_head, map + 2)
-    ∷ (is_outside map e.linkage head_words, map + 3)
-    ∷ (is_outside map e.statics 0, map + 4)
+    (is_outside map e.text 0, map + text_index)
+    ∷ (is_outside map e.definition definition_head, map + definition_index)
+    ∷ (is_outside map e.linkage head_words, map + linkage_index)
+    ∷ (is_outside map e.statics 0, map + statics_index)
     ∷ (is_outside map e.symbol symbol_head, map + symbol_index (version_in words))
     ∷ []
     )

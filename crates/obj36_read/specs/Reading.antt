@@ -9,7 +9,8 @@ use Rattle.obj36_parts.specs.PartsFields.{PartsFields}
 use Rattle.obj36_parts.specs.Halves.{left, right, quarter}
 use Rattle.obj36_parts.specs.ObjectSegment.{is_newer_version, version_of, has_name, has_entry}
 use Rattle.obj36_parts.specs.ObjectSegment.{head_words, definition_head, symbol_head}
-use Rattle.obj36_parts.specs.ObjectSegment.{expressions_behind, entry_mark}
+use Rattle.obj36_parts.specs.ObjectSegment.{expressions_behind, entry_mark, section_unit}
+use Rattle.obj36_parts.specs.ObjectSegment.{part_unit, target_unit}
 use Rattle.obj36_parts.specs.declared.section.Section.{Section}
 use Rattle.obj36_parts.specs.declared.section.Section.TheVariants.{Text, Linkage, Symbol, Static}
 use Rattle.obj36_parts.specs.declared.definition.Named.{Named}
@@ -85,10 +86,10 @@ links_in words at linkage place (suc count) =
 unfoldable pub relocation_in : ℕ → RelocFields
 relocation_in w =
     record {
-      section = section_with (right w / 2 ^ 15);
+      section = section_with (right w / section_unit);
       offset = left w;
-      part = right w / 2 ^ 12 % 2 ^ 3;
-      target = section_with (right w / 2 ^ 9 % 2 ^ 3);
+      part = right w / part_unit % 2 ^ 3;
+      target = section_with (right w / target_unit % 2 ^ 3);
     }
 
 unfoldable pub relocations_in : List ℕ → ℕ → ℕ → List RelocFields
@@ -104,6 +105,26 @@ older_map = 7
 
 abbrev pub newer_map : ℕ
 newer_map = 8
+
+-- how far behind the first word of the map the words of the sections are
+abbrev pub text_index : ℕ
+text_index = 1
+
+abbrev pub definition_index : ℕ
+definition_index = 2
+
+abbrev pub linkage_index : ℕ
+linkage_index = 3
+
+abbrev pub statics_index : ℕ
+statics_index = 4
+
+abbrev pub symbol_index : ℕ → ℕ
+symbol_index version = if is_newer_version version then 5 else 4
+
+-- and that with the entry bound
+abbrev pub bound_index : ℕ → ℕ
+bound_index version = if is_newer_version version then 6 else 5
 
 -- where the map is, and its version by how far from the end it is
 unfoldable pub map_place : List ℕ → ℕ
@@ -122,33 +143,32 @@ told_count words part i = min (right (slice_index part i)) (length words)
 
 -- what is left of the list from each section on
 unfoldable pub from_definition : List ℕ → List ℕ
-from_definition words = drop (told_length words 1) words
+from_definition words = drop (told_length words text_index) words
 
 unfoldable pub from_linkage : List ℕ → List ℕ
-from_linkage words = drop (told_length words 2) (from_definition words)
+from_linkage words = drop (told_length words definition_index) (from_definition words)
 
 unfoldable pub from_statics : List ℕ → List ℕ
-from_statics words = drop (told_length words 3) (from_linkage words)
+from_statics words = drop (told_length words linkage_index) (from_linkage words)
 
 unfoldable pub from_symbol : List ℕ → List ℕ
 from_symbol words =
     if is_newer_version (version_in words)
-    then drop (told_length words 4) (from_statics words)
+    then drop (told_length words statics_index) (from_statics words)
     else from_statics words
 
--- where the first link stands
+-- where the first link stands, by the head of the linkage section
+unfoldable pub link_start : List ℕ → ℕ
+link_start k = left (slice_index k 1)
+
 unfoldable pub told_first : List ℕ → ℕ
-told_first words = left (slice_index (from_linkage words) 1)
+told_first words = link_start (from_linkage words)
 
 unfoldable pub statics_in : List ℕ → List ℕ
 statics_in words =
     if is_newer_version (version_in words)
-    then take (told_length words 4) (from_statics words)
+    then take (told_length words statics_index) (from_statics words)
     else take (told_first words - head_words) (drop head_words (from_linkage words))
-
--- how far behind map 0 the entry bound is
-abbrev pub bound_index : ℕ → ℕ
-bound_index version = if is_newer_version version then 6 else 5
 
 unfoldable pub bound_in : List ℕ → ℕ
 bound_in words = left (slice_index words (map_place words + bound_index (version_in words)))
@@ -158,7 +178,7 @@ parts_of words =
     let definition = from_definition words in
     let count = told_count words definition 0 in
     record {
-      text = take (told_length words 1) words;
+      text = take (told_length words text_index) words;
       statics = statics_in words;
       definitions = definitions_in definition definition_head count;
       links = links_in definition (expressions_behind count) (from_linkage words)

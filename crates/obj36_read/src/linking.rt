@@ -5,7 +5,7 @@ ghost use Rattle.std.specs.Prelude.{◌||◌, Option, Some, None};
 ghost use Rattle.std.specs.Prelude.{IfSome};
 ghost use Rattle.obj36_read.specs.TableFaults.{earlier, expression_count};
 ghost use Rattle.obj36_read.specs.TableFaults.{first_expression};
-ghost use Rattle.obj36_read.specs.LinkFaults.{is_type, type_faults, link_count, link_start};
+ghost use Rattle.obj36_read.specs.LinkFaults.{is_type, type_faults, link_count};
 ghost use Rattle.obj36_read.specs.LinkFaults.{is_head, is_link_at, link_faults, linkage_fault};
 ghost use Rattle.obj36_read.specs.LinkFaults.{behind, links_fault};
 
@@ -52,7 +52,7 @@ fn count_of_links(k: &[Word]) -> u64
     right_of(word_at(k, 1))
 }
 
-#[tactic(auto, unfolding(crate::specs::LinkFaults::link_start))]
+#[tactic(auto, unfolding(crate::specs::Reading::link_start))]
 fn start_of_links(k: &[Word]) -> u64
     ensures value { result ≡ link_start k.now }
     ensures bound { result < 2 ^ 18 }

@@ -337,7 +337,7 @@ fn symbol_on(words: &[Word]) -> &[Word]
     }
 }
 
-#[tactic(auto, unfolding(crate::specs::Reading::told_first))]
+#[tactic(auto, unfolding(crate::specs::Reading::told_first, crate::specs::Reading::link_start))]
 fn first_told(words: &[Word]) -> u64
     ensures value { result ≡ told_first words.now }
     ensures bound { result < 2 ^ 18 }
