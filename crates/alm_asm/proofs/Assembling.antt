@@ -27,7 +27,7 @@ use Rattle.alm_asm.proofs.ExternalsStand.{external_stands}
 use Rattle.alm_asm.proofs.SectionsStand.{section_stands, end_follows}
 use Rattle.alm_asm.proofs.TooLong.{static_holds}
 use Rattle.alm_asm.proofs.SymbolsMean.{labels_mean, own_mean}
-use Rattle.alm_asm.proofs.SectionsFit.{sections_fit}
+use Rattle.alm_asm.proofs.SectionsFit.{object_fits}
 
 short : (p : PartsFields) → is_well_formed p ≡ true → length p.text < 2 ^ 18
 short p formed =
@@ -85,7 +85,7 @@ parts_assemble source none formed =
       bound = λ above line others split this last. bound_is text lines above line others split this last ∙ bound_in_text text tables lines above line others split small;
       unbound = λ last. unbound text 0 start lines last;
       version = ap version_of (end_outer text start lines);
-      fits = sections_fit source none well.distinct;
+      fits = object_fits source none well.distinct;
     }
 
 record IsMade (source : Source) (parts : PartsFields) : Type 0 where

@@ -1,9 +1,11 @@
 -- Each section of the object of lines that are not refused has at most so many words as a section may have.
-use Rattle.std.proofs.Common.{◌≡◌, ℕ, ◌+◌, ◌*◌, ◌≤◌, Bool, true, false, cond, List, [], length, None, refl, ap, arith}
+use Rattle.std.proofs.Common.{◌≡◌, ℕ, ◌+◌, ◌*◌, ◌≤◌, Bool, true, false, ◌&&◌, leb, cond, List, [], length, None, refl, ap, arith}
+use Rattle.std.proofs.lemmas.Bool.{le-leb}
 use Rattle.alm_parse.specs.SourceFields.{Source}
 use Rattle.obj36_parts.specs.declared.section.Section.TheVariants.{Text}
 use Rattle.obj36_parts.specs.Fields.{LinkFields}
-use Rattle.obj36_parts.specs.ObjectSegment.{is_newer_version, version_of, inner_statics, definition_names, are_distinct, definition_section, linkage_section, symbol_section, expressions_behind, section_limit}
+use Rattle.obj36_parts.specs.ObjectSegment.{is_newer_version, version_of, inner_statics, definition_names, outer_statics, are_distinct, definition_section, linkage_section, symbol_section, expressions_behind, section_limit, sections_fit}
+use Rattle.obj36_parts.specs.PartsFields.{PartsFields}
 use Rattle.obj36_parts.proofs.LengthLaws.{length-definition_part, length-linkage_part, length-symbol_part}
 use Rattle.alm_lines.specs.Spots.{start, count_in, end_of}
 use Rattle.alm_lines.specs.SpotFields.{Spot}
@@ -11,7 +13,6 @@ use Rattle.alm_lines.specs.Layout.{symbols_from}
 use Rattle.alm_asm.specs.Words.{words_from}
 use Rattle.alm_asm.specs.Growth.{at_first}
 use Rattle.alm_asm.specs.Assembly.{tables_of, static_section, evened, parts_with, parts_of, refusal_of}
-use Rattle.alm_asm.specs.Assembles.{SectionsFit}
 use Rattle.alm_asm.proofs.Unrefused.{no_layout_refusal, no_lines_refusal, no_growth_refusal}
 use Rattle.alm_asm.proofs.PlaceLaws.{places_count}
 use Rattle.alm_asm.proofs.Placed.{evened_length}
@@ -33,9 +34,34 @@ statics_fit : (newer : Bool) (ending : Spot) (words : List ℕ) → count_in (st
 statics_fit true ending words same fits = omega arith
 statics_fit false ending words same fits = omega arith
 
-pub sections_fit : (source : Source) → refusal_of source ≡ None → are_distinct (definition_names (parts_of source).definitions) ≡ true → SectionsFit (parts_of source)
+-- no section of these parts is over its limit
+record AreWithin (parts : PartsFields) : Type 0 where
+  pub text : length parts.text ≤ section_limit
+  pub definition : length (definition_section parts) ≤ section_limit
+  pub linkage : length (linkage_section parts) ≤ section_limit
+  pub statics : length (outer_statics parts) ≤ section_limit
+  pub symbol : length (symbol_section parts) ≤ section_limit
+
+all_five : (a b c d e : Bool) → a ≡ true → b ≡ true → c ≡ true → d ≡ true → e ≡ true → (a && b && c && d && e) ≡ true
+all_five true true true true true p q r s t = refl
+all_five true true true true false p q r s t = cc
+all_five true true true false e p q r s t = cc
+all_five true true false d e p q r s t = cc
+all_five true false c d e p q r s t = cc
+all_five false b c d e p q r s t = cc
+
+within_fit : (parts : PartsFields) → AreWithin parts → sections_fit parts ≡ true
+unfolding sections_fit
+within_fit parts are =
+    all_five (leb (length parts.text) section_limit) (leb (length (definition_section parts)) section_limit) (leb (length (linkage_section parts)) section_limit)
+    (leb (length (outer_statics parts)) section_limit) (leb (length (symbol_section parts)) section_limit)
+    (le-leb (length parts.text) section_limit are.text) (le-leb (length (definition_section parts)) section_limit are.definition)
+    (le-leb (length (linkage_section parts)) section_limit are.linkage) (le-leb (length (outer_statics parts)) section_limit are.statics)
+    (le-leb (length (symbol_section parts)) section_limit are.symbol)
+
+are_within : (source : Source) → refusal_of source ≡ None → are_distinct (definition_names (parts_of source).definitions) ≡ true → AreWithin (parts_of source)
 unfolding parts_with tables_of definition_section linkage_section symbol_section
-sections_fit source none distinct =
+are_within source none distinct =
     let text = source.text in
     let lines = source.lines in
     let tables = tables_of source.text source.lines in
@@ -59,3 +85,6 @@ sections_fit source none distinct =
       linkage = omega (arith, linked, length-linkage_part (inner_statics parts) parts.links (expressions_behind (length parts.definitions)));
       symbol = omega (arith, marked, within.symbol, length-symbol_part parts.relocations);
     }
+
+pub object_fits : (source : Source) → refusal_of source ≡ None → are_distinct (definition_names (parts_of source).definitions) ≡ true → sections_fit (parts_of source) ≡ true
+object_fits source none distinct = within_fit (parts_of source) (are_within source none distinct)

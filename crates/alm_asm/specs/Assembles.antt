@@ -1,7 +1,7 @@
 -- What an object is of lines, by what stands where. A line is told by the lines above it: it stands
 -- at the spot that these end at, in the section that the last `use` line among them names, behind
 -- the words that they place there.
-use Rattle.std.specs.Prelude.{ℕ, ◌≡◌, ◌≤◌, ◌+◌, ◌%◌, Bool, true, false, not, ◌&&◌, ◌⊎◌, List, []}
+use Rattle.std.specs.Prelude.{ℕ, ◌≡◌, ◌+◌, ◌%◌, Bool, true, false, not, ◌&&◌, ◌⊎◌, List, []}
 use Rattle.std.specs.Prelude.{◌∷◌, ◌++◌, length, replicate, Option, Some, None, is_some}
 use Rattle.std.specs.List.{list_any}
 use Rattle.alm_parse.specs.SourceFields.{Source}
@@ -14,9 +14,7 @@ use Rattle.obj36_parts.specs.declared.section.Section.TheVariants.{Text}
 use Rattle.obj36_parts.specs.Fields.{LinkFields}
 use Rattle.obj36_parts.specs.PartsFields.{PartsFields}
 use Rattle.obj36_parts.specs.ObjectSegment.{definition_names, are_distinct, are_in_order}
-use Rattle.obj36_parts.specs.ObjectSegment.{version_of, evened, first_link, section_limit}
-use Rattle.obj36_parts.specs.ObjectSegment.{definition_section, linkage_section, outer_statics}
-use Rattle.obj36_parts.specs.ObjectSegment.{symbol_section}
+use Rattle.obj36_parts.specs.ObjectSegment.{version_of, evened, first_link, sections_fit}
 use Rattle.alm_lines.specs.Symbols.{sum_named}
 use Rattle.alm_lines.specs.Arguments.{name_at, first_arg, symbol_in, section_in}
 use Rattle.alm_lines.specs.Spots.{start, count_in, here, end_of}
@@ -188,14 +186,6 @@ BoundIs source parts =
     → is_entrybound line ≡ true
     → list_any (is_entrybound) others ≡ false → parts.entry_bound ≡ (spot_below source above).text
 
--- Each section has at most so many words as a section may have.
-pub record SectionsFit (parts : PartsFields) : Type 0 where
-  pub text : length parts.text ≤ section_limit
-  pub definition : length (definition_section parts) ≤ section_limit
-  pub linkage : length (linkage_section parts) ≤ section_limit
-  pub statics : length (outer_statics parts) ≤ section_limit
-  pub symbol : length (symbol_section parts) ≤ section_limit
-
 -- The parts are the object of the lines.
 pub record Assembles (source : Source) (parts : PartsFields) : Type 0 where
   pub sections : SectionsStand source
@@ -228,4 +218,4 @@ pub record Assembles (source : Source) (parts : PartsFields) : Type 0 where
   pub bound : BoundIs source parts
   pub unbound : list_any (is_entrybound) source.lines ≡ false → parts.entry_bound ≡ 0
   pub version : parts.version ≡ version_of (list_any (is_use_static source.text) source.lines)
-  pub fits : SectionsFit parts
+  pub fits : sections_fit parts ≡ true

@@ -2,7 +2,7 @@
 -- or a segment, a dollar sign, perhaps an entry, and perhaps a sign and an expression; or an
 -- expression.
 use Rattle.std.specs.Prelude.{ℕ, ◌+◌, Bool, true, false, not, ◌&&◌, ◌||◌, ◌==◌, List, [], length}
-use Rattle.std.specs.Prelude.{slice_index, codes, Option, Some, None, option_map, is_some}
+use Rattle.std.specs.Prelude.{slice_index, Option, Some, None, option_map, is_some}
 use Rattle.std.specs.Prelude.{if◌then◌else◌}
 use Rattle.std.specs.List.{position}
 use Rattle.alm_tokens.specs.declared.span.Span.{Span}
@@ -11,6 +11,7 @@ use Rattle.alm_parse.specs.declared.body.Body.{Body}
 use Rattle.alm_parse.specs.declared.body.Body.TheVariants.{Through, External, Plain}
 use Rattle.obj36_parts.specs.declared.section.Section.{Section}
 use Rattle.obj36_parts.specs.declared.section.Section.TheVariants.{Text, Linkage, Static}
+use Rattle.obj36_parts.specs.ObjectSegment.{own_name}
 use Rattle.m36_text.specs.Texts.{is_name_character}
 use Rattle.alm_tokens.specs.Bytes.{is_sign}
 use Rattle.alm_tokens.specs.Tokens.{span_at, slice_of, is_text, is_symbol}
@@ -56,11 +57,11 @@ body_of text whole = body_by text whole (place_of text whole 124)
 -- the own section that a segment names
 unfoldable pub own_section : List ℕ → Option Section
 own_section name =
-    if is_text (codes "*text") name
+    if is_text (own_name Text) name
     then Some Text
-    else (if is_text (codes "*link") name
+    else (if is_text (own_name Linkage) name
     then Some Linkage
-    else (if is_text (codes "*static") name then Some Static else None))
+    else (if is_text (own_name Static) name then Some Static else None))
 
 -- the forms of the parts
 abbrev pub is_segment : List ℕ → Bool

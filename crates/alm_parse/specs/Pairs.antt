@@ -1,10 +1,11 @@
 -- Operands of two parts between a comma, and names of sections.
-use Rattle.std.specs.Prelude.{ℕ, Bool, ◌&&◌, if◌then◌else◌, List, [], ◌∷◌, map, codes}
+use Rattle.std.specs.Prelude.{ℕ, Bool, ◌&&◌, if◌then◌else◌, List, [], ◌∷◌, map}
 use Rattle.std.specs.Prelude.{Option, Some, None, is_some, Result, Err}
 use Rattle.std.specs.List.{list_all}
 use Rattle.std.specs.Option.{option_or}
 use Rattle.obj36_parts.specs.declared.section.Section.{Section}
 use Rattle.obj36_parts.specs.declared.section.Section.TheVariants.{Text, Linkage, Static}
+use Rattle.obj36_parts.specs.ObjectSegment.{section_name}
 use Rattle.alm_tokens.specs.declared.span.Span.{Span}
 use Rattle.alm_tokens.specs.declared.pieces.Piece.{Piece}
 use Rattle.alm_parse.specs.declared.args.Arg.{Arg}
@@ -65,11 +66,11 @@ block_given text operand = block_of_members text operand.from (members text oper
 -- the section that a name behind `use` names
 unfoldable pub used_section : List ℕ → Option Section
 used_section name =
-    if is_text (codes "text") name
+    if is_text (section_name Text) name
     then Some Text
-    else (if is_text (codes "link") name
+    else (if is_text (section_name Linkage) name
     then Some Linkage
-    else (if is_text (codes "static") name then Some Static else None))
+    else (if is_text (section_name Static) name then Some Static else None))
 
 -- whether it names one
 abbrev pub is_section : List ℕ → Bool

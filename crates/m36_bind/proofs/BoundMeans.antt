@@ -4,7 +4,7 @@ use Rattle.std.specs.Prelude.{slice_index, IfOk}
 use Rattle.std.specs.List.{list_any, Contains}
 use Rattle.std.proofs.lemmas.Bool.{and_parts}
 use Rattle.obj36_parts.specs.PartsFields.{PartsFields}
-use Rattle.obj36_parts.specs.ObjectSegment.{version_of, is_well_formed, definition_names}
+use Rattle.obj36_parts.specs.ObjectSegment.{version_of, is_well_formed, definition_names, sections_fit}
 use Rattle.obj36_parts.specs.declared.definition.Named.{Named}
 use Rattle.obj36_parts.proofs.Formed.{is_formed}
 use Rattle.obj36_parts.proofs.LengthLaws.{length-words_of, least_size}
@@ -19,7 +19,7 @@ use Rattle.m36_relocate.specs.Words.{words_in, all_fit}
 use Rattle.m36_bind.specs.Components.{PlacedFields, moving, picked_of}
 use Rattle.m36_bind.specs.Kept.{exports_from, kept_from}
 use Rattle.m36_bind.specs.Links.{link_moved}
-use Rattle.m36_bind.specs.Bound.{is_newer_component, links_end, frame_of, laid_from, relocations_from, first_bound, bound_parts, component_fits, components_fit, sections_fit, made_of, bound_of_components, bound_of_lines, bound_of}
+use Rattle.m36_bind.specs.Bound.{is_newer_component, links_end, frame_of, laid_from, relocations_from, first_bound, bound_parts, component_fits, components_fit, made_of, bound_of_components, bound_of_lines, bound_of}
 use Rattle.m36_bind.specs.Meaning.{AreInOrder, IsOutside, start_in, IsMovedWord, WordsStand, LinksStand, DefinitionSource, BoundMeaning, AreObjects}
 use Rattle.m36_bind.proofs.MovedWords.{word_by, word_at}
 use Rattle.m36_bind.proofs.LaidWords.{laid_at, laid_gap, laid_within, statics_long, links_within, words_count}

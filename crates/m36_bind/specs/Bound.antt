@@ -4,13 +4,12 @@
 --          does not fit
 --
 -- B1 is looked for first, over the whole file, then B2, B3 and B5 line by line, and B4 last.
-use Rattle.std.specs.Prelude.{ℕ, ◌+◌, Bool, true, false, ◌&&◌, ◌||◌, nat_le}
-use Rattle.std.specs.Prelude.{if◌then◌else◌, List, [], ◌∷◌, ◌++◌, length, Result, Ok, Err}
+use Rattle.std.specs.Prelude.{ℕ, ◌+◌, Bool, true, false, ◌&&◌, ◌||◌, if◌then◌else◌, List, [], ◌∷◌}
+use Rattle.std.specs.Prelude.{◌++◌, length, Result, Ok, Err}
 use Rattle.std.specs.List.{list_any}
 use Rattle.obj36_parts.specs.Fields.{RelocFields}
 use Rattle.obj36_parts.specs.PartsFields.{PartsFields}
-use Rattle.obj36_parts.specs.ObjectSegment.{is_well_formed, definition_section, linkage_section}
-use Rattle.obj36_parts.specs.ObjectSegment.{outer_statics, symbol_section, section_limit}
+use Rattle.obj36_parts.specs.ObjectSegment.{is_well_formed, sections_fit}
 use Rattle.obj36_parts.specs.ObjectSegment.{version_of, evened_words}
 use Rattle.obj36_parts.specs.declared.definition.Named.{Named}
 use Rattle.m36_bindfile.specs.declared.fault.BindFault.{BindFault}

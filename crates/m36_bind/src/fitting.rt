@@ -1,8 +1,8 @@
 //! Whether all parts fit where they go.
 
 ghost use Rattle.std.specs.Prelude.{◌≡◌, ◌&&◌};
-ghost use Rattle.obj36_parts.specs.ObjectSegment.{definition_section};
-ghost use Rattle.m36_bind.specs.Bound.{component_fits, components_fit, sections_fit, section_fits};
+ghost use Rattle.obj36_parts.specs.ObjectSegment.{definition_section, section_fits, sections_fit};
+ghost use Rattle.m36_bind.specs.Bound.{component_fits, components_fit};
 
 use crate::placed::{Placed, moving};
 use m36_relocate::layout::Shape;
@@ -51,7 +51,7 @@ fn definition_fits(object: &Object) -> bool
 }
 
 // Whether no section is over its limit.
-#[tactic(auto, unfolding(crate::specs::Bound::sections_fit))]
+#[tactic(auto, unfolding(obj36_parts::specs::ObjectSegment::sections_fit))]
 pub(crate) fn sections_fit(object: &Object) -> bool
     ensures { result ≡ sections_fit object.now }
 {

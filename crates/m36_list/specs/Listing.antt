@@ -1,13 +1,13 @@
 -- The listing of a source: a line for each word that the source places, and then the print of the
 -- object.
-use Rattle.std.specs.Prelude.{ℕ, ◌+◌, List, [], ◌∷◌, ◌++◌, length, take, drop, codes, if◌then◌else◌}
+use Rattle.std.specs.Prelude.{ℕ, ◌+◌, List, [], ◌∷◌, ◌++◌, length, take, drop, if◌then◌else◌}
 use Rattle.m36_text.specs.Digits.{octal_text, decimal_text}
 use Rattle.alm_parse.specs.declared.line.Line36.{Line36}
 use Rattle.alm_parse.specs.SourceFields.{Source}
 use Rattle.obj36_parts.specs.declared.section.Section.{Section}
 use Rattle.obj36_parts.specs.declared.section.Section.TheVariants.{Text, Linkage, Static}
 use Rattle.obj36_parts.specs.PartsFields.{PartsFields}
-use Rattle.obj36_parts.specs.ObjectSegment.{inner_statics, outer_statics}
+use Rattle.obj36_parts.specs.ObjectSegment.{section_name, inner_statics, outer_statics}
 use Rattle.alm_lines.specs.SpotFields.{Spot}
 use Rattle.alm_lines.specs.Spots.{start, place_in, place, size_of, below}
 use Rattle.alm_asm.specs.Words.{same_section}
@@ -47,7 +47,7 @@ listed name section source words =
 -- Text, static words of the linkage section, and those of a section of their own; then the print.
 unfoldable pub listing_of : List ℕ → Source → PartsFields → List ℕ
 listing_of name source p =
-    listed (codes "text") Text source p.text
-    ++ listed (codes "link") Linkage source (inner_statics p)
-    ++ listed (codes "static") Static source (outer_statics p)
+    listed (section_name Text) Text source p.text
+    ++ listed (section_name Linkage) Linkage source (inner_statics p)
+    ++ listed (section_name Static) Static source (outer_statics p)
     ++ print_of name p

@@ -2,8 +2,8 @@
 
 ghost use Rattle.std.specs.Prelude.{[], ◌++◌, ◌≡◌, ◌≤◌, length, OnOk, if◌then◌else◌};
 ghost use Rattle.m36_text.specs.Texts.{name_limit};
-ghost use Rattle.obj36_parts.specs.ObjectSegment.{has_name, has_entry};
-ghost use Rattle.obj36.specs.References.{own_section, reference_text};
+ghost use Rattle.obj36_parts.specs.ObjectSegment.{own_name, has_name, has_entry};
+ghost use Rattle.obj36.specs.References.{reference_text};
 
 use m36_outside::Text;
 use m36_word::NoMemory;
@@ -12,8 +12,8 @@ use obj36_parts::names::{has_its_entry, has_its_name};
 use obj36_parts::section::Section;
 
 // A section of the object itself, as the assembler writes it.
-fn own_section(section: Section) -> &'static str
-    ensures text { result.now ≡ own_section section }
+fn own_name(section: Section) -> &'static str
+    ensures text { result.now ≡ own_name section }
     ensures len { length result.now ≤ name_limit }
 {
     match section {
@@ -27,13 +27,13 @@ fn own_section(section: Section) -> &'static str
 /// What a link's reference begins with: a segment, or a section of the object itself, as `*text`. At most 32 bytes.
 pub fn subject(link: &Link) -> &[u8]
     ensures text { result.now
-        ≡ (if has_name link.now.kind then link.now.name else own_section link.now.section) }
+        ≡ (if has_name link.now.kind then link.now.name else own_name link.now.section) }
     ensures len { length result.now ≤ name_limit }
 {
     if has_its_name(link.kind as u64) {
         link.name.bytes()
     } else {
-        own_section(link.section).as_bytes()
+        own_name(link.section).as_bytes()
     }
 }
 

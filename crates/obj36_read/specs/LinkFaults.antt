@@ -5,6 +5,7 @@ use Rattle.std.specs.Prelude.{Some, None}
 use Rattle.obj36_parts.specs.Halves.{left, right}
 use Rattle.obj36_parts.specs.ObjectSegment.{is_newer_version, has_name, has_section, last_place}
 use Rattle.obj36_parts.specs.ObjectSegment.{head_words, link_head}
+use Rattle.obj36_read.specs.Reading.{link_start}
 use Rattle.obj36_read.specs.TableFaults.{earlier, where_bad, expression_count, first_expression}
 
 -- ---- types and sections of expressions, whose places count from the definition section's word 0

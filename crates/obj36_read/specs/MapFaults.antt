@@ -8,7 +8,8 @@ use Rattle.obj36_parts.specs.Halves.{left, right}
 use Rattle.obj36_parts.specs.ObjectSegment.{is_newer_version, head_words}
 use Rattle.obj36_parts.specs.ObjectSegment.{definition_head, symbol_head}
 use Rattle.obj36_read.specs.Reading.{older_map, newer_map, map_place, version_in, told_length}
-use Rattle.obj36_read.specs.Reading.{bound_index}
+use Rattle.obj36_read.specs.Reading.{text_index, definition_index, linkage_index, statics_index}
+use Rattle.obj36_read.specs.Reading.{symbol_index, bound_index}
 use Rattle.obj36_read.specs.declared.map.Extent.{Extent}
 use Rattle.obj36_read.specs.declared.map.Extents.{Extents}
 

@@ -5,6 +5,7 @@ ghost use Rattle.std.specs.Prelude.{◌||◌, Option, Some, None};
 ghost use Rattle.std.specs.Prelude.{IfSome};
 ghost use Rattle.obj36_read.specs.TableFaults.{earlier, expression_count};
 ghost use Rattle.obj36_read.specs.TableFaults.{first_expression};
+ghost use Rattle.obj36_read.specs.Reading.{link_start};
 ghost use Rattle.obj36_read.specs.LinkFaults.{is_type, type_faults, link_count};
 ghost use Rattle.obj36_read.specs.LinkFaults.{is_head, is_link_at, link_faults, linkage_fault};
 ghost use Rattle.obj36_read.specs.LinkFaults.{behind, links_fault};
