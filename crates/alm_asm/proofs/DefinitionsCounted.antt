@@ -5,7 +5,6 @@ use Rattle.std.proofs.lemmas.Bool.{or_left, or_right}
 use Rattle.std.proofs.lemmas.List.{append-nil}
 use Rattle.std.proofs.lemmas.List.Folds.{list_any-append}
 use Rattle.alm_tokens.specs.declared.span.Span.{Span}
-use Rattle.alm_tokens.specs.declared.expression.Term.{Term}
 use Rattle.alm_parse.specs.declared.args.Arg.{Arg}
 use Rattle.alm_parse.specs.declared.args.Arg.TheVariants as arg
 use Rattle.alm_parse.specs.declared.line.Line36.{Line36}
@@ -23,14 +22,14 @@ use Rattle.alm_lines.specs.Symbols.{sum_named, with_symbol}
 use Rattle.alm_lines.specs.Arguments.{name_at, first_arg}
 use Rattle.alm_lines.specs.Spots.{below}
 use Rattle.alm_lines.specs.SpotFields.{Spot}
-use Rattle.alm_lines.specs.Refusals.{sooner, has_number}
+use Rattle.alm_lines.specs.Refusals.{sooner}
 use Rattle.alm_lines.specs.declared.sum.Sum.{Sum}
 use Rattle.alm_lines.specs.declared.refusal.Refusal.{Refusal}
-use Rattle.alm_asm.specs.Links.{link_of, operand_args, links_from}
+use Rattle.alm_asm.specs.Links.{operand_args, link_in, links_from}
 use Rattle.alm_asm.specs.Definitions.{named, named_by, gives_entries, definitions_by, definitions_after, definitions_from, is_taken, sum_refusal, taken_refusal, name_refusal, arg_refusal, names_refused, definitions_refused}
 use Rattle.alm_asm.specs.Definitions.{with_names as definitions_with}
 use Rattle.alm_asm.specs.LineRefusals.{lines_refusal}
-use Rattle.alm_asm.specs.Growth.{at_first, with_name, with_names, with_definition, with_unrefused, with_arg, with_args, with_definitions, with_new_link, with_link_once, with_operand, with_link, marks_count, with_marks, grown_by}
+use Rattle.alm_asm.specs.Growth.{at_first, with_name, with_names, with_definition, with_unrefused, with_arg, with_args, with_definitions, with_new_link, with_link_once, with_link, marks_count, with_marks, grown_by}
 use Rattle.alm_asm.specs.declared.growth.Growth.{Growth}
 use Rattle.alm_asm.specs.declared.tables.Tables.{Tables}
 use Rattle.alm_asm.proofs.Unrefused.{sooner_none, names_first, line_parts, head_line, other_lines}
@@ -282,24 +281,10 @@ once_holds ds g link false at =
           ∙ ap (λ (l : List LinkFields). list_any (same other) (all_link_names l)) (sym links) ∙ e);
     }
 
-valued_holds : (ds : List Named) (g : Growth) (link : LinkFields) (b : Bool) → Holds ds g → Holds ds (cond b (with_link_once g link) g)
+link_holds : (ds : List Named) (g : Growth) (given : Option LinkFields) → Holds ds g → Holds ds (with_link g given)
 unfolding with_link_once
-valued_holds ds g link true at = once_holds ds g link (list_any (same_link link) g.links) at
-valued_holds ds g link false at = at
-
-operand_holds : (ds : List Named) (text : List ℕ) (symbols : List (List ℕ × Sum)) (spot : Spot) (g : Growth) (segment entry : Option Span) (terms : List Term) (tag : ℕ)
-    → Holds ds g → Holds ds (with_operand text symbols spot g segment entry terms tag)
-operand_holds ds text symbols spot g (Some segment) entry terms tag at =
-    valued_holds ds g (link_of text symbols spot segment entry terms tag) (has_number text symbols spot terms) at
-operand_holds ds text symbols spot g None entry terms tag at = at
-
-link_holds : (ds : List Named) (text : List ℕ) (symbols : List (List ℕ × Sum)) (spot : Spot) (g : Growth) (given : Option Arg) → Holds ds g → Holds ds (with_link text symbols spot g given)
-link_holds ds text symbols spot g (Some (arg.Symbol span)) at = at
-link_holds ds text symbols spot g (Some (arg.Number word)) at = at
-link_holds ds text symbols spot g (Some (arg.Chars words)) at = at
-link_holds ds text symbols spot g (Some (arg.Plain terms)) at = at
-link_holds ds text symbols spot g (Some (arg.Operand pr segment entry terms tag)) at = operand_holds ds text symbols spot g segment entry terms tag at
-link_holds ds text symbols spot g None at = at
+link_holds ds g None at = at
+link_holds ds g (Some link) at = once_holds ds g link (list_any (same_link link) g.links) at
 
 -- ---- the lines
 
@@ -314,9 +299,10 @@ unfolding definitions_after grown_by with_marks
 line_holds text symbols spot line ds g e at =
     let after = definitions_by text symbols ds line.args (gives_entries line.deed) in
     let named = with_definitions text symbols line g (gives_entries line.deed) in
-    let linked = with_link text symbols spot named (first_arg (operand_args line.deed line.args)) in
+    let given = link_in text symbols spot (first_arg (operand_args line.deed line.args)) in
+    let linked = with_link named given in
     marked_holds after linked (linked.symbol + marks_count text symbols spot line.args line.deed)
-    (link_holds after text symbols spot named (first_arg (operand_args line.deed line.args)) (hold_definitions text symbols line ds g (gives_entries line.deed) e at))
+    (link_holds after named given (hold_definitions text symbols line ds g (gives_entries line.deed) e at))
 
 lines_hold : (text : List ℕ) (tables : Tables) (ds : List Named) (g : Growth) (spot : Spot) (lines : List Line36) → lines_refusal text tables ds spot lines ≡ None → Holds ds g
     → Holds (definitions_from text tables.symbols ds lines) (growth_from text tables.symbols g spot lines)

@@ -2,8 +2,6 @@
 use Rattle.std.proofs.Common.{◌≡◌, ℕ, ◌+◌, ◌*◌, ◌≤◌, Bool, true, false, cond, ◌||◌, ltb, List, [], ◌∷◌, ◌++◌, length, Option, Some, None, is_some, refl, ap, ◌∙◌, true≢false}
 use Rattle.std.specs.List.{list_any}
 use Rattle.std.proofs.lemmas.Bool.{or_parts, ltb-false}
-use Rattle.alm_tokens.specs.declared.span.Span.{Span}
-use Rattle.alm_tokens.specs.declared.expression.Term.{Term}
 use Rattle.alm_parse.specs.declared.args.Arg.{Arg}
 use Rattle.alm_parse.specs.declared.args.Arg.TheVariants as arg
 use Rattle.alm_parse.specs.declared.line.Line36.{Line36}
@@ -16,14 +14,14 @@ use Rattle.alm_lines.specs.Symbols.{sum_named, with_symbol}
 use Rattle.alm_lines.specs.Arguments.{name_at, first_arg}
 use Rattle.alm_lines.specs.Spots.{start, below, end_of}
 use Rattle.alm_lines.specs.SpotFields.{Spot}
-use Rattle.alm_lines.specs.Refusals.{refusal_at, has_number}
+use Rattle.alm_lines.specs.Refusals.{refusal_at}
 use Rattle.alm_lines.specs.declared.sum.Sum.{Sum}
 use Rattle.alm_lines.specs.declared.refusal.Code.TheVariants.{E8}
 use Rattle.alm_lines.specs.declared.refusal.Refusal.{Refusal}
-use Rattle.alm_asm.specs.Links.{link_of, operand_args, link_by, link_in, links_after, links_from}
+use Rattle.alm_asm.specs.Links.{operand_args, link_in, links_after, links_from}
 use Rattle.alm_asm.specs.Links.{with_link as link_with}
 use Rattle.alm_asm.specs.Definitions.{gives_entries, sum_refusal}
-use Rattle.alm_asm.specs.Growth.{at_first, with_name, with_names, with_definition, with_unrefused, with_arg, with_args, with_definitions, with_new_link, with_link_once, with_operand, with_link, marks_count, with_marks, grown_by, is_over, growth_refusal}
+use Rattle.alm_asm.specs.Growth.{at_first, with_name, with_names, with_definition, with_unrefused, with_arg, with_args, with_definitions, with_new_link, with_link_once, with_link, marks_count, with_marks, grown_by, is_over, growth_refusal}
 use Rattle.alm_asm.specs.declared.growth.Growth.{Growth}
 
 -- ---- the end
@@ -149,42 +147,28 @@ link_once : (g : Growth) (link : LinkFields) → Links (link_with g.links (Some 
 unfolding with_link_once
 link_once g link = once_by (list_any (same_link link) g.links) g link
 
-valued_by : (b : Bool) (g : Growth) (link : LinkFields) → Links (link_with g.links (cond b (Some link) None)) g (cond b (with_link_once g link) g)
-valued_by true g link = link_once g link
-valued_by false g link = record { links = refl; symbol = refl }
-
-operand_links : (text : List ℕ) (symbols : List (List ℕ × Sum)) (spot : Spot) (g : Growth) (segment entry : Option Span) (terms : List Term) (tag : ℕ)
-    → Links (link_with g.links (link_by text symbols spot segment entry terms tag)) g (with_operand text symbols spot g segment entry terms tag)
-operand_links text symbols spot g (Some segment) entry terms tag = valued_by (has_number text symbols spot terms) g (link_of text symbols spot segment entry terms tag)
-operand_links text symbols spot g None entry terms tag = record { links = refl; symbol = refl }
-
-given_links : (text : List ℕ) (symbols : List (List ℕ × Sum)) (spot : Spot) (g : Growth) (given : Option Arg)
-    → Links (link_with g.links (link_in text symbols spot given)) g (with_link text symbols spot g given)
-given_links text symbols spot g (Some (arg.Symbol span)) = record { links = refl; symbol = refl }
-given_links text symbols spot g (Some (arg.Number word)) = record { links = refl; symbol = refl }
-given_links text symbols spot g (Some (arg.Chars words)) = record { links = refl; symbol = refl }
-given_links text symbols spot g (Some (arg.Plain terms)) = record { links = refl; symbol = refl }
-given_links text symbols spot g (Some (arg.Operand pr segment entry terms tag)) = operand_links text symbols spot g segment entry terms tag
-given_links text symbols spot g None = record { links = refl; symbol = refl }
+given_links : (g : Growth) (given : Option LinkFields) → Links (link_with g.links given) g (with_link g given)
+given_links g None = record { links = refl; symbol = refl }
+given_links g (Some link) = link_once g link
 
 -- ---- a line
 
 pub line_links : (text : List ℕ) (symbols : List (List ℕ × Sum)) (spot : Spot) (g : Growth) (line : Line36) → (grown_by text symbols spot g line).links ≡ links_after text symbols g.links spot line
 unfolding grown_by with_marks links_after
 line_links text symbols spot g line =
-    let given = first_arg (operand_args line.deed line.args) in
+    let given = link_in text symbols spot (first_arg (operand_args line.deed line.args)) in
     let named = with_definitions text symbols line g (gives_entries line.deed) in
-    (given_links text symbols spot named given).links
-    ∙ ap (λ (links : List LinkFields). link_with links (link_in text symbols spot given)) (definitions_follow text symbols line g (gives_entries line.deed)).links
+    (given_links named given).links
+    ∙ ap (λ (links : List LinkFields). link_with links given) (definitions_follow text symbols line g (gives_entries line.deed)).links
 
 pub line_symbol : (text : List ℕ) (symbols : List (List ℕ × Sum)) (spot : Spot) (g : Growth) (line : Line36)
     → (grown_by text symbols spot g line).symbol ≡ g.symbol + marks_count text symbols spot line.args line.deed
 unfolding grown_by with_marks
 line_symbol text symbols spot g line =
-    let given = first_arg (operand_args line.deed line.args) in
+    let given = link_in text symbols spot (first_arg (operand_args line.deed line.args)) in
     let named = with_definitions text symbols line g (gives_entries line.deed) in
     ap (λ n. n + marks_count text symbols spot line.args line.deed)
-    ((given_links text symbols spot named given).symbol ∙ (definitions_follow text symbols line g (gives_entries line.deed)).symbol)
+    ((given_links named given).symbol ∙ (definitions_follow text symbols line g (gives_entries line.deed)).symbol)
 
 -- the links of the growth are those of the object
 pub links_grown : (text : List ℕ) (symbols : List (List ℕ × Sum)) (g : Growth) (spot : Spot) (lines : List Line36)

@@ -8,7 +8,7 @@ use Rattle.alm_parse.specs.declared.fault.AlmFault.TheVariants.{E8}
 use Rattle.obj36_parts.specs.declared.section.Section.{Section}
 use Rattle.obj36_parts.specs.declared.section.Section.TheVariants.{Text, Linkage, Static}
 use Rattle.obj36_parts.specs.PartsFields.{PartsFields}
-use Rattle.obj36_parts.specs.ObjectSegment.{head_words, version_of, evened_words}
+use Rattle.obj36_parts.specs.ObjectSegment.{head_words, links_behind, version_of, evened_words}
 use Rattle.obj36_parts.specs.ObjectSegment.{evened as even_number, is_well_formed}
 use Rattle.alm_lines.specs.Spots.{start, below, end_of}
 use Rattle.alm_lines.specs.Refusals.{fault_of, sooner}
@@ -31,7 +31,7 @@ use Rattle.alm_lines.specs.declared.refusal.Refusal.{Refusal}
 -- an even number.
 abbrev pub first_link : Spot → ℕ
 first_link ending =
-    if ending.uses_outer then head_words else head_words + even_number ending.inner
+    if ending.uses_outer then head_words else links_behind (even_number ending.inner)
 
 unfoldable pub tables_of : List ℕ → List Line36 → Tables
 tables_of text lines =

@@ -16,8 +16,8 @@ use Rattle.alm_lines.specs.Sums.{no_sum, kind_of}
 use Rattle.alm_lines.specs.Symbols.{sum_named, with_symbol}
 use Rattle.alm_lines.specs.Arguments.{name_at, first_arg, second_arg, terms_in}
 use Rattle.alm_lines.specs.Spots.{below}
-use Rattle.alm_lines.specs.Refusals.{refusal_at, has_value, has_number, is_over_limit}
-use Rattle.alm_asm.specs.Links.{link_of, operand_args}
+use Rattle.alm_lines.specs.Refusals.{refusal_at, has_value, is_over_limit}
+use Rattle.alm_asm.specs.Links.{operand_args, link_in}
 use Rattle.obj36_parts.specs.Indexes.{same_link}
 use Rattle.alm_lines.specs.Expressions.{sum_of}
 use Rattle.alm_asm.specs.Marks.{operand_kind}
@@ -105,23 +105,10 @@ with_new_link g link =
 unfoldable pub with_link_once : Growth → LinkFields → Growth
 with_link_once g link = if list_any (same_link link) g.links then g else with_new_link g link
 
--- An external operand whose expression gives no value is none.
-abbrev pub with_operand : List ℕ → List (List ℕ × Sum) → Spot → Growth → Option Span → Option Span
-    → List Term → ℕ → Growth
-with_operand text symbols spot g (Some segment) entry terms tag =
-    if has_number text symbols spot terms
-    then with_link_once g (link_of text symbols spot segment entry terms tag)
-    else g
-with_operand text symbols spot g None entry terms tag = g
-
-abbrev pub with_link : List ℕ → List (List ℕ × Sum) → Spot → Growth → Option Arg → Growth
-with_link text symbols spot g (Some (arg.Symbol span)) = g
-with_link text symbols spot g (Some (arg.Number word)) = g
-with_link text symbols spot g (Some (arg.Chars words)) = g
-with_link text symbols spot g (Some (arg.Plain terms)) = g
-with_link text symbols spot g (Some (arg.Operand pr segment entry terms tag)) =
-    with_operand text symbols spot g segment entry terms tag
-with_link text symbols spot g None = g
+-- the link that an operand gives, if any
+abbrev pub with_link : Growth → Option LinkFields → Growth
+with_link g None = g
+with_link g (Some link) = with_link_once g link
 
 -- ---- relocations
 
@@ -182,9 +169,8 @@ with_marks text symbols spot line g =
 unfoldable pub grown_by : List ℕ → List (List ℕ × Sum) → Spot → Growth → Line36 → Growth
 grown_by text symbols spot g line =
     with_marks text symbols spot line
-    (with_link text symbols spot
-    (with_definitions text symbols line g (gives_entries line.deed))
-    (first_arg (operand_args line.deed line.args)))
+    (with_link (with_definitions text symbols line g (gives_entries line.deed))
+    (link_in text symbols spot (first_arg (operand_args line.deed line.args))))
 
 -- The linkage section has its head, static words and links. The zero behind an odd count of static
 -- words is not counted: the limit is even, and so is all else there.

@@ -8,6 +8,7 @@ use Rattle.alm_parse.specs.declared.line.Line36.{Line36}
 use Rattle.obj36_parts.specs.declared.section.Section.{Section}
 use Rattle.obj36_parts.specs.declared.section.Section.TheVariants.{Linkage}
 use Rattle.obj36_parts.specs.Fields.{RelocFields}
+use Rattle.obj36_parts.specs.ObjectSegment.{left_part, right_part, offset_part}
 use Rattle.alm_lines.specs.Sums.{kind_of}
 use Rattle.alm_lines.specs.Arguments.{first_arg, second_arg, terms_in}
 use Rattle.alm_lines.specs.Spots.{place, below}
@@ -20,8 +21,7 @@ use Rattle.alm_lines.specs.SpotFields.{Spot}
 use Rattle.alm_parse.specs.declared.deed.Deed.{Deed}
 use Rattle.alm_parse.specs.declared.deed.Deed.TheVariants as deed
 
--- the relocation of a part of the word at a spot: 0 its left half, 1 its right half, 2 its bits 3
--- to 17
+-- the relocation of a part of the word at a spot
 abbrev pub mark : Spot → ℕ → Kind → List RelocFields
 mark spot part Absolute = []
 mark spot part (Moved target) =
@@ -35,9 +35,9 @@ mark spot part Unsaid = []
 
 -- the part that an operand stands in, and what it is
 abbrev pub operand_part : Option ℕ → Option Span → ℕ
-operand_part pr (Some segment) = 2
-operand_part (Some pr) None = 2
-operand_part None None = 0
+operand_part pr (Some segment) = offset_part
+operand_part (Some pr) None = offset_part
+operand_part None None = left_part
 
 abbrev pub operand_kind : Option Span → Sum → Kind
 operand_kind (Some segment) sum = Moved Linkage
@@ -64,8 +64,9 @@ marks_by text symbols spot marks arguments deed.Equ = marks
 marks_by text symbols spot marks arguments deed.Use = marks
 marks_by text symbols spot marks arguments deed.Words = marks
 marks_by text symbols spot marks arguments deed.Zero =
-    marks ++ mark spot 0 (kind_of (sum_of text symbols spot (terms_in (first_arg arguments))))
-    ++ mark spot 1 (kind_of (sum_of text symbols spot (terms_in (second_arg arguments))))
+    marks
+    ++ mark spot left_part (kind_of (sum_of text symbols spot (terms_in (first_arg arguments))))
+    ++ mark spot right_part (kind_of (sum_of text symbols spot (terms_in (second_arg arguments))))
 marks_by text symbols spot marks arguments deed.Block = marks
 marks_by text symbols spot marks arguments deed.Even = marks
 marks_by text symbols spot marks arguments deed.Bound = marks

@@ -5,11 +5,11 @@ ghost use Rattle.std.specs.Prelude.{◌≤◌, length, if◌then◌else◌, Opti
 ghost use Rattle.obj36_parts.specs.ObjectSegment.{section_limit};
 ghost use Rattle.alm_lines.specs.Arguments.{first_arg};
 ghost use Rattle.alm_lines.specs.Spots.{start};
-ghost use Rattle.alm_asm.specs.Links.{operand_args};
+ghost use Rattle.alm_asm.specs.Links.{operand_args, link_by, link_in};
 ghost use Rattle.alm_asm.specs.Definitions.{gives_entries};
 ghost use Rattle.alm_asm.specs.Growth.{IsLarger, at_first, with_name, with_names, with_definition};
 ghost use Rattle.alm_asm.specs.Growth.{with_arg, with_args, with_definitions};
-ghost use Rattle.alm_asm.specs.Growth.{with_new_link, with_link_once, with_operand, with_link};
+ghost use Rattle.alm_asm.specs.Growth.{with_new_link, with_link_once, with_link};
 ghost use Rattle.alm_asm.specs.Growth.{mark_count, operand_room, is_own, operand_count, half_count};
 ghost use Rattle.alm_asm.specs.Growth.{marks_count, with_marks, grown_by, is_over, growth_refusal};
 
@@ -214,8 +214,8 @@ fn take_external(
     ensures symbol { OnOk result (growth.new.symbol ≡ growth.old.symbol) }
     ensures value { OnOk result
         (growth.new
-        ≡ with_operand text.now symbols.now spot growth.old (Option.Some segment) entry terms.now
-        tag) }
+        ≡ with_link growth.old
+        (link_by text.now symbols.now spot (Option.Some segment) entry terms.now tag)) }
 {
     if !has_value(text, symbols, spot, terms, Room::Half, false) {
         return Ok(());
@@ -235,8 +235,8 @@ fn take_link(
     ensures symbol { OnOk result (growth.new.symbol ≡ growth.old.symbol) }
     ensures value { OnOk result
         (growth.new
-        ≡ with_link text.now symbols.now spot growth.old
-        (first_arg (operand_args line.now.deed line.now.args))) }
+        ≡ with_link growth.old
+        (link_in text.now symbols.now spot (first_arg (operand_args line.now.deed line.now.args)))) }
 {
     match operand_args(line.deed, line.args.items()) {
         [

@@ -11,7 +11,7 @@ use Rattle.std.specs.List.{Contains, list_any}
 use Rattle.obj36_parts.specs.Fields.{DefFields, RelocFields, LinkFields}
 use Rattle.obj36_parts.specs.PartsFields.{PartsFields}
 use Rattle.obj36_parts.specs.ObjectSegment.{later_section, is_well_formed, definition_names}
-use Rattle.obj36_parts.specs.ObjectSegment.{version_of, head_words}
+use Rattle.obj36_parts.specs.ObjectSegment.{version_of, head_words, offset_part}
 use Rattle.obj36_parts.specs.ObjectSegment.{to_section, to_segment, to_entry, to_own_entry}
 use Rattle.obj36_parts.specs.declared.definition.Named.{Named}
 use Rattle.obj36_parts.specs.Halves.{left, right, offset_limit}
@@ -57,7 +57,7 @@ NamesImage bound p section old target new =
 
 -- ---- words
 
--- the parts of a word that relocations name: its left half, its right half, and bits 3 to 17
+-- the parts of a word that relocations name, by their numbers
 unfoldable pub part_of : ℕ → ℕ → ℕ
 part_of zero w = left w
 part_of (suc zero) w = right w
@@ -79,11 +79,13 @@ pub record Moves (p : PlacedFields) (statics : Bool) (i : ℕ) (r : RelocFields)
 -- part is as it was.
 pub record IsMovedWord (bound : PartsFields) (p : PlacedFields) (statics : Bool)
     (i old new : ℕ) : Type 0 where
-  pub names : (r : RelocFields) → Moves p statics i r → (r.part ≡ 2 → part_of 2 old < offset_limit)
+  pub names : (r : RelocFields) → Moves p statics i r
+      → (r.part ≡ offset_part → part_of offset_part old < offset_limit)
       → NamesImage bound p r.target (part_of r.part old) r.target (part_of r.part new)
-  pub below : (r : RelocFields) → Moves p statics i r → r.part ≡ 2 → offset_limit ≤ part_of 2 old
-      → part_of 2 new ≡ below_zero p.bases r.target (part_of 2 old) % 2 ^ 15
-  pub stays : (part : ℕ) → part ≤ 2
+  pub below : (r : RelocFields) → Moves p statics i r → r.part ≡ offset_part
+      → offset_limit ≤ part_of offset_part old
+      → part_of offset_part new ≡ below_zero p.bases r.target (part_of offset_part old) % 2 ^ 15
+  pub stays : (part : ℕ) → part ≤ offset_part
       → ((r : RelocFields) → Moves p statics i r → overlap r.part part ≡ false)
       → part_of part new ≡ part_of part old
 

@@ -7,7 +7,7 @@
 use Rattle.std.specs.Prelude.{ℕ, ◌+◌, ◌-◌, ◌*◌, ◌%◌, ◌^◌, ◌<◌, ◌≤◌, Bool, nat_lt, if◌then◌else◌}
 use Rattle.std.specs.Prelude.{List, length}
 use Rattle.obj36_parts.specs.PartsFields.{PartsFields}
-use Rattle.obj36_parts.specs.ObjectSegment.{is_newer, evened, head_words}
+use Rattle.obj36_parts.specs.ObjectSegment.{is_newer, evened, head_words, links_behind}
 use Rattle.obj36_parts.specs.declared.section.Section.{Section}
 use Rattle.obj36_parts.specs.declared.section.Section.TheVariants.{Text, Linkage, Symbol, Static}
 use Rattle.m36_relocate.specs.Fields.{ShapeFields, BasesFields}
@@ -26,13 +26,17 @@ shape_of p = record { newer = is_newer p; statics = length p.statics; links = le
 -- own, which is laid behind the linkage section.
 abbrev pub meant_older : ℕ → ℕ → Meant
 meant_older statics v =
-    if nat_lt v (head_words + statics)
-    then StaticWord (v - head_words) else LinkWord (v - (head_words + statics))
+    if nat_lt v (links_behind statics)
+    then StaticWord (v - head_words) else LinkWord (v - links_behind statics)
+
+-- where they are laid behind so many links
+abbrev pub statics_past : ℕ → ℕ
+statics_past links = head_words + 2 * links
 
 abbrev pub meant_newer : ℕ → ℕ → Meant
 meant_newer links v =
-    if nat_lt v (head_words + 2 * links)
-    then LinkWord (v - head_words) else StaticWord (v - (head_words + 2 * links))
+    if nat_lt v (statics_past links)
+    then LinkWord (v - head_words) else StaticWord (v - statics_past links)
 
 abbrev pub meant_past_head : ShapeFields → ℕ → Meant
 meant_past_head s v = if s.newer then meant_newer s.links v else meant_older s.statics v
@@ -71,11 +75,11 @@ bases_behind b c =
 
 -- where the first link of the bound object stands
 abbrev pub first_link : ShapeFields → ℕ
-first_link f = if f.newer then head_words else head_words + f.statics
+first_link f = if f.newer then head_words else links_behind f.statics
 
 -- where its first static word stands, seen from the head of the linkage section
 abbrev pub first_static : ShapeFields → ℕ
-first_static f = if f.newer then head_words + 2 * f.links else head_words
+first_static f = if f.newer then statics_past f.links else head_words
 
 abbrev pub spot : Section → ℕ → Spot
 spot section offset = record { section = section; offset = offset % 2 ^ 18 }

@@ -6,7 +6,7 @@ use Rattle.std.specs.Prelude.{slice_set}
 use Rattle.obj36_parts.specs.Fields.{RelocFields}
 use Rattle.obj36_parts.specs.PartsFields.{PartsFields}
 use Rattle.obj36_parts.specs.Halves.{left, right, joined, offset_limit}
-use Rattle.obj36_parts.specs.ObjectSegment.{is_text_section, head_words}
+use Rattle.obj36_parts.specs.ObjectSegment.{is_text_section, head_words, left_part, right_part}
 use Rattle.obj36_parts.specs.declared.section.Section.{Section}
 use Rattle.obj36_parts.specs.declared.section.Section.TheVariants.{Text, Linkage, Symbol, Static}
 use Rattle.m36_relocate.specs.Fields.{ShapeFields, BasesFields}
@@ -38,15 +38,15 @@ offset_raised m target v =
 -- the word with the part of a relocation moved
 unfoldable pub word_moved : Moving → RelocFields → ℕ → ℕ
 word_moved m r w =
-    if nat_eq r.part 0 then joined (number_moved m r.target (left w)) (right w)
-    else if nat_eq r.part 1 then joined (left w) (number_moved m r.target (right w))
+    if nat_eq r.part left_part then joined (number_moved m r.target (left w)) (right w)
+    else if nat_eq r.part right_part then joined (left w) (number_moved m r.target (right w))
     else with_offset w (offset_raised m r.target (offset_in w))
 
 -- whether the part fits: bits 3 to 17 from -2^14 to 2^14 - 1
 unfoldable pub part_fits : Moving → RelocFields → ℕ → Bool
 part_fits m r w =
-    if nat_eq r.part 0 then true
-    else if nat_eq r.part 1 then true
+    if nat_eq r.part left_part then true
+    else if nat_eq r.part right_part then true
     else nat_lt (offset_raised m r.target (offset_in w)) (2 ^ 15 + offset_limit)
 
 -- ---- the words of a component: those of its text, or its static words
