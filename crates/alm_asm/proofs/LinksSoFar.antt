@@ -15,7 +15,7 @@ use Rattle.alm_parse.specs.declared.line.Line36.{Line36}
 use Rattle.alm_parse.specs.Bodies.{own_section}
 use Rattle.obj36_parts.specs.Fields.{LinkFields}
 use Rattle.obj36_parts.specs.declared.definition.Named.{Named}
-use Rattle.obj36_parts.specs.Halves.{offset_limit}
+use Rattle.m36_word.specs.Field.{offset_limit}
 use Rattle.obj36_parts.specs.Indexes.{same_link}
 use Rattle.obj36_parts.specs.ObjectSegment.{is_text_section}
 use Rattle.alm_lines.specs.Arguments.{first_arg}

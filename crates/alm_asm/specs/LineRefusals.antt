@@ -9,7 +9,7 @@ use Rattle.alm_parse.specs.declared.args.Arg.{Arg}
 use Rattle.alm_parse.specs.declared.args.Arg.TheVariants as arg
 use Rattle.alm_parse.specs.declared.line.Line36.{Line36}
 use Rattle.alm_parse.specs.Bodies.{own_section}
-use Rattle.obj36_parts.specs.Halves.{offset_limit}
+use Rattle.m36_word.specs.Field.{offset_limit}
 use Rattle.obj36_parts.specs.ObjectSegment.{is_text_section}
 use Rattle.obj36_parts.specs.declared.section.Section.{Section}
 use Rattle.obj36_parts.specs.declared.section.Section.TheVariants.{Text, Linkage, Symbol, Static}

@@ -1,7 +1,7 @@
 -- Refusals: which comes first in the text, and what refuses an expression.
 use Rattle.std.specs.Prelude.{ℕ, ◌-◌, ◌%◌, ◌^◌, Bool, true, false, not, ◌&&◌, ◌||◌, nat_eq}
 use Rattle.std.specs.Prelude.{nat_lt, is_some, List, Option, Some, None, if◌then◌else◌}
-use Rattle.obj36_parts.specs.Halves.{offset_limit}
+use Rattle.m36_word.specs.Field.{offset_limit}
 use Rattle.obj36_parts.specs.ObjectSegment.{section_limit}
 use Rattle.alm_tokens.specs.declared.expression.Term.{Term}
 use Rattle.alm_parse.specs.Sources.{column_at}

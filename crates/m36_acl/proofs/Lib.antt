@@ -6,3 +6,4 @@ pub mod Firsts
 pub mod Rights
 pub mod AccessLoops
 pub mod PlaceLaws
+pub mod Modes

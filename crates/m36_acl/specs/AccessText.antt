@@ -4,11 +4,12 @@
 --     denied DIR NAME TERM      behind a run that ended for want of a right to it
 --
 -- MODE has the letters r, e and w, or is `null`. TERM is the term that decides, or `none`.
-use Rattle.std.specs.Prelude.{ℕ, Bool, true, false, List, [], ◌∷◌, ◌++◌, map, codes, slice_get}
+use Rattle.std.specs.Prelude.{ℕ, ◌≡◌, Bool, true, false, List, [], ◌∷◌, ◌++◌, map, codes, slice_get}
 use Rattle.std.specs.Prelude.{Option, Some, None}
 use Rattle.m36_text.specs.Lines.{as_line}
 use Rattle.m36_dir.specs.Fields.{SegmentFields}
 use Rattle.m36_dir.specs.Catalog.{CatalogFields}
+use Rattle.m36_dir.specs.BootLine.{mode_of as mode_read}
 use Rattle.m36_acl.specs.declared.policy.Decision.{Decision}
 use Rattle.m36_acl.specs.Fields.{TermFields}
 use Rattle.m36_acl.specs.AccessLists.{Lists}
@@ -28,6 +29,18 @@ mode_text true true true = codes "rew"
 
 abbrev pub mode_of : Decision → List ℕ
 mode_of d = mode_text d.readable d.executable d.writable
+
+-- A mode that is written is the one that is read of a line.
+abbrev pub ModesComeBack : Type 0
+ModesComeBack =
+    (readable executable writable : Bool)
+    → mode_read (mode_text readable executable writable)
+    ≡ Some (record {
+      readable = readable;
+      executable = executable;
+      writable = writable;
+      privileged = false;
+    })
 
 -- ---- the term that decides
 

@@ -1,9 +1,11 @@
 //! What holds of all access lists.
 
+ghost use Rattle.m36_acl.specs.AccessText.{ModesComeBack};
 ghost use Rattle.m36_acl.specs.Policy.{FirstMatchDecides};
 
 /// The first term of a segment's list that matches a user decides: none before it matches, and the rights are its. Where
-/// none matches, or the segment has no list, there is no right.
+/// none matches, or the segment has no list, there is no right. A mode that is written is the one that is read of a line.
 pub fn policy_laws()
-    ensures { FirstMatchDecides }
+    ensures first { FirstMatchDecides }
+    ensures modes { ModesComeBack }
 {}

@@ -14,7 +14,8 @@ use Rattle.obj36_parts.specs.ObjectSegment.{later_section, is_well_formed, defin
 use Rattle.obj36_parts.specs.ObjectSegment.{version_of, head_words, offset_part}
 use Rattle.obj36_parts.specs.ObjectSegment.{to_section, to_segment, to_entry, to_own_entry}
 use Rattle.obj36_parts.specs.declared.definition.Named.{Named}
-use Rattle.obj36_parts.specs.Halves.{left, right, offset_limit}
+use Rattle.m36_word.specs.Field.{offset_limit}
+use Rattle.obj36_parts.specs.Halves.{left, right}
 use Rattle.obj36_parts.specs.declared.section.Section.{Section}
 use Rattle.obj36_parts.specs.declared.section.Section.TheVariants.{Text}
 use Rattle.m36_bindfile.specs.declared.line.BindLine.{BindLine}

@@ -161,3 +161,7 @@ packed_of w ring =
       word = field w 18 18;
       bit = field w 0 6;
     }
+
+-- the packed pointer to a word, at its bit 0, of a segment whose number is below 2^12 - 1
+abbrev pub packed_word : ℕ → ℕ → ℕ
+packed_word seg word = seg * 2 ^ 18 + word

@@ -1,7 +1,7 @@
 -- Instruction words. Multics Processor Manual AL39, "Machine instruction format": address 0-17,
 -- operation code 18-26 with bit 27, interrupt inhibit 28, pointer register flag 29, tag 30-35.
 use Rattle.std.specs.Prelude.{ℕ, ◌+◌, ◌*◌, ◌/◌, ◌%◌, ◌^◌, ◌<◌, ◌≡◌, nat_lt, if◌then◌else◌}
-use Rattle.m36_word.specs.Field.{field}
+use Rattle.m36_word.specs.Field.{field, offset_limit}
 use Rattle.m36_word.specs.Bits.{is_on, of_bit}
 use Rattle.m36_inst.specs.Fields.{InstFields, IsInst}
 
@@ -28,7 +28,8 @@ pr_number i = i.y / 2 ^ 15
 
 abbrev pub pr_offset : InstFields → ℕ
 pr_offset i =
-    let offset = i.y % 2 ^ 15 in if nat_lt offset (2 ^ 14) then offset else offset + 7 * 2 ^ 15
+    let offset = i.y % 2 ^ 15 in
+    if nat_lt offset offset_limit then offset else offset + 7 * 2 ^ 15
 
 -- An instruction that is written to a word is read back, and a word is the word of the instruction
 -- that is read from it.

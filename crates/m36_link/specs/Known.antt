@@ -4,12 +4,13 @@
 -- Catalog segment i has segment number 64 + i, and the linkage segment of ring r has 16 + r. Its
 -- words 0 to 1023 are the linkage offset table of the ring; sections are laid from word 1024 on,
 -- one after another, each at an even word.
-use Rattle.std.specs.Prelude.{ℕ, ◌+◌, ◌-◌, ◌*◌, ◌^◌, Bool, ◌&&◌, nat_eq, nat_le, if◌then◌else◌}
+use Rattle.std.specs.Prelude.{ℕ, ◌+◌, ◌-◌, Bool, ◌&&◌, nat_eq, nat_le, if◌then◌else◌}
 use Rattle.std.specs.Prelude.{List, [], ◌∷◌, ◌++◌, find, slice_get, Option, Some, None}
 use Rattle.std.specs.Prelude.{option_and_then}
 use Rattle.std.specs.Map.{lookup}
 use Rattle.std.specs.Result.{result_ok}
 use Rattle.m36_text.specs.Texts.{are_same}
+use Rattle.m36_desc.specs.Descriptors.{packed_word}
 use Rattle.m36_dir.specs.Fields.{SegmentFields}
 use Rattle.m36_dir.specs.Catalog.{CatalogFields}
 use Rattle.obj36_parts.specs.PartsFields.{PartsFields}
@@ -92,4 +93,4 @@ laid_words o = linkage_section o ++ outer_statics o
 
 -- The word of the linkage offset table for a section: a packed pointer to its first word.
 unfoldable pub lot_word : LayFields → ℕ
-lot_word l = linkage_segment l.ring * 2 ^ 18 + l.base
+lot_word l = packed_word (linkage_segment l.ring) l.base

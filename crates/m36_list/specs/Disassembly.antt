@@ -5,7 +5,7 @@ use Rattle.m36_text.specs.Digits.{character, octal_text, decimal_text}
 use Rattle.m36_inst.specs.Fields.{InstFields}
 use Rattle.m36_inst.specs.Instruction.{inst_of, pr_number}
 use Rattle.m36_inst.specs.Lookup.{name_at}
-use Rattle.obj36_parts.specs.Halves.{offset_limit}
+use Rattle.m36_word.specs.Field.{offset_limit}
 use Rattle.m36_list.specs.Modifiers.{modifier_text}
 
 -- a number of 15 bits as a signed one

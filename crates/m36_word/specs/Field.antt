@@ -14,6 +14,11 @@ with_field w first len v =
 abbrev pub bit : ℕ → ℕ → ℕ
 bit w i = field w i 1
 
+-- Bits 3 to 17 of a word, the offset behind a pointer register, count as signed: an offset is below
+-- this, and at most as much below zero.
+abbrev pub offset_limit : ℕ
+offset_limit = 16384
+
 -- Getting after putting gives what was put.
 abbrev pub GetsWhatWasPut : Type 0
 GetsWhatWasPut =

@@ -23,8 +23,3 @@ quarter w (suc (suc (suc n))) = w % 2 ^ 9
 -- the word of four quarters, each below 2^9
 abbrev pub of_quarters : ℕ → ℕ → ℕ → ℕ → ℕ
 of_quarters a b c d = a * 2 ^ 27 + b * 2 ^ 18 + c * 2 ^ 9 + d
-
--- Bits 3 to 17 of a word, the offset behind a pointer register, count as signed: an offset is below
--- this, and at most as much below zero.
-abbrev pub offset_limit : ℕ
-offset_limit = 16384

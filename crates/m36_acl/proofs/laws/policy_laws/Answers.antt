@@ -1,5 +1,9 @@
 use Rattle.m36_acl.proofs.Firsts.{first_match_decides}
+use Rattle.m36_acl.proofs.Modes.{modes_come_back}
 use Rattle.m36_acl.proofs.laws.policy_laws.Goals as goal
 
-pub returns : goal.returns
-returns c = first_match_decides
+pub returns-clause-first : goal.returns-clause-first
+returns-clause-first c = first_match_decides
+
+pub returns-clause-modes : goal.returns-clause-modes
+returns-clause-modes c = modes_come_back
