@@ -1,5 +1,5 @@
 -- What the definitions say of places and symbols, without going over the lines.
-use Rattle.std.specs.Prelude.{ℕ, ◌≡◌, ◌^◌, Bool, true, false, ◌&&◌, ◌||◌, nat_le, List, [], ◌∷◌}
+use Rattle.std.specs.Prelude.{ℕ, ◌≡◌, Bool, true, false, ◌&&◌, ◌||◌, nat_le, List, [], ◌∷◌}
 use Rattle.std.specs.Prelude.{◌++◌, length, Option, Some, None, is_some, Ok}
 use Rattle.alm_tokens.specs.Tokens.{slice_of}
 use Rattle.alm_parse.specs.SourceFields.{Source}
@@ -12,7 +12,7 @@ use Rattle.alm_parse.specs.Bodies.{own_section}
 use Rattle.obj36_parts.specs.declared.section.Section.{Section}
 use Rattle.obj36_parts.specs.declared.section.Section.TheVariants.{Text, Linkage, Symbol, Static}
 use Rattle.obj36_parts.specs.Names.{is_name}
-use Rattle.obj36_parts.specs.ObjectSegment.{words_of, is_well_formed}
+use Rattle.obj36_parts.specs.ObjectSegment.{words_of, is_well_formed, segment_limit}
 use Rattle.alm_lines.specs.Arguments.{name_at}
 use Rattle.alm_asm.specs.Assembly.{parts_of, refusal_of}
 use Rattle.alm_lines.specs.Symbols.{sum_named}
@@ -83,8 +83,8 @@ lines_are_named text [] = true
 lines_are_named text (line ∷ lines) = args_are_named text line.args && lines_are_named text lines
 
 -- Where no line of a source that has been read is refused, the parts that the lines mean are those
--- of an object exactly where this has at most 2^18 words.
+-- of an object exactly where this has no more words than a segment may have.
 abbrev pub OnlyTooLong : Type 0
 OnlyTooLong =
     (text : List ℕ) (source : Source) → parsed text ≡ Ok source → refusal_of source ≡ None
-    → is_well_formed (parts_of source) ≡ nat_le (length (words_of (parts_of source))) (2 ^ 18)
+    → is_well_formed (parts_of source) ≡ nat_le (length (words_of (parts_of source))) segment_limit

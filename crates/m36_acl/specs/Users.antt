@@ -35,8 +35,12 @@ components_of text = three_of (parts_of text)
 abbrev pub is_component_character : ℕ → Bool
 is_component_character c = is_letter c || is_digit 10 c || (c == 95)
 
+-- the most characters of one
+abbrev pub component_limit : ℕ
+component_limit = 32
+
 abbrev pub is_component : List ℕ → Bool
-is_component text = is_run_of is_component_character 32 text
+is_component text = is_run_of is_component_character component_limit text
 
 abbrev pub is_tag_character : ℕ → Bool
 is_tag_character c = nat_le 97 c && nat_le c 122

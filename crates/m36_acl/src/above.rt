@@ -5,6 +5,7 @@ ghost use Rattle.std.specs.Vec.{vec_len, vec_capacity};
 ghost use Rattle.m36_dir.specs.BootOrder.{entry};
 ghost use Rattle.m36_acl.specs.AccessLists.{places_of, has_segment, with_term};
 ghost use Rattle.m36_text.specs.Lines.{last_of};
+ghost use Rattle.m36_dir.specs.BootLine.{directory_limit};
 
 use crate::segment::{AclSegment, Term};
 use arrayvec::ArrayVec;
@@ -54,7 +55,7 @@ impl Model for Above {
 impl Place {
     /// The segment of a name in a directory.
     pub(crate) fn new(dir: &[u8], name: Name) -> Place
-        requires { length dir.now ≤ 64 }
+        requires { length dir.now ≤ directory_limit }
         ensures { result ≡ entry dir.now name }
     {
         let mut items = ArrayVec::new();

@@ -4,6 +4,7 @@ ghost use Rattle.std.specs.Prelude.{◌≡◌, ◌≤◌, length, None, Some, If
 ghost use Rattle.m36_text.specs.Lines.{words_of};
 ghost use Rattle.m36_dir.specs.BootOrder.{entry};
 ghost use Rattle.m36_acl.specs.AccessLine.{rights_of, entry_of, term_of};
+ghost use Rattle.m36_dir.specs.BootLine.{directory_limit};
 
 use crate::matching::is_term;
 use crate::segment::Term;
@@ -14,7 +15,7 @@ use m36_text::{Name, first_word, only_word};
 pub(crate) fn entry_of(given: &[u8]) -> Option<(&[u8], Name)>
     ensures value { MatchOption result (entry_of (words_of given.now) ≡ None)
         (λ e. entry_of (words_of given.now) ≡ Some (entry e.0.now e.1)) }
-    ensures fits { IfSome result (λ e. length e.0.now ≤ 64) }
+    ensures fits { IfSome result (λ e. length e.0.now ≤ directory_limit) }
 {
     let (dir, rest) = first_word(given);
     let name = name_of(only_word(rest?)?)?;

@@ -2,7 +2,7 @@
 
 ghost use Rattle.std.specs.Prelude.{◌≡◌, ◌+◌, ◌≤◌, ◌&&◌, ◌||◌, true, length, ◌∷◌, [], Some, None, MatchOption, IfSome};
 ghost use Rattle.std.specs.List.{list_all};
-ghost use Rattle.m36_acl.specs.Users.{parts_of, components_of, is_component_character, is_component, is_tag_character, is_tag, is_any, is_user, is_term, admits, matches};
+ghost use Rattle.m36_acl.specs.Users.{parts_of, components_of, is_component_character, is_component, is_tag_character, is_tag, is_any, is_user, is_term, admits, matches, component_limit};
 
 use m36_text::{is_digit, is_letter, place_of};
 
@@ -50,7 +50,7 @@ fn has_component_characters(text: &[u8]) -> bool
 
 fn is_component(text: &[u8]) -> bool
     ensures value { result ≡ is_component text.now }
-    ensures fits { result ≡ true → length text.now ≤ 32 }
+    ensures fits { result ≡ true → length text.now ≤ component_limit }
 {
     if text.is_empty() || text.len() > LONGEST_COMPONENT {
         return false;
@@ -115,7 +115,7 @@ pub(crate) fn is_user(text: &[u8]) -> bool
 
 fn is_any_or_component(text: &[u8]) -> bool
     ensures value { result ≡ (is_any text.now || is_component text.now) }
-    ensures fits { result ≡ true → length text.now ≤ 32 }
+    ensures fits { result ≡ true → length text.now ≤ component_limit }
 {
     if is_any(text) {
         return true;

@@ -5,6 +5,7 @@ ghost use Rattle.m36_text.specs.Lines.{words_of, last_of};
 ghost use Rattle.m36_dir.specs.BootOrder.{entry};
 ghost use Rattle.m36_acl.specs.AccessLine.{Segment, Term as TermLine, entry_of, term_of, line_given};
 ghost use Rattle.m36_acl.specs.AccessLists.{segment_behind, has_term, term_behind, line_behind, lists_of, Told, Takes};
+ghost use Rattle.m36_dir.specs.BootLine.{directory_limit};
 
 use crate::above::{Above, Place};
 use crate::fault::AclFault;
@@ -24,7 +25,7 @@ fn add_segment(
     dir: &[u8],
     name: Name,
 ) -> Result<(), AclFault>
-    requires { length dir.now ≤ 64 }
+    requires { length dir.now ≤ directory_limit }
     ensures { Takes above.new result (segment_behind number above.old (entry dir.now name)) }
 {
     let place = Place::new(dir, name.copied());

@@ -28,8 +28,12 @@ use Rattle.m36_dir.specs.declared.boot_line.Brackets.{Brackets}
 abbrev pub is_directory_character : ℕ → Bool
 is_directory_character c = is_name_character c || (c == 62)
 
+-- the most characters of a directory
+abbrev pub directory_limit : ℕ
+directory_limit = 64
+
 abbrev pub is_directory : List ℕ → Bool
-is_directory word = is_run_of is_directory_character 64 word
+is_directory word = is_run_of is_directory_character directory_limit word
 
 abbrev pub directory_of : List ℕ → Option (List ℕ)
 directory_of word = if is_directory word then Some word else None

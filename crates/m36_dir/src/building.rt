@@ -5,6 +5,7 @@ ghost use Rattle.std.specs.List.{list_any, position};
 ghost use Rattle.m36_text.specs.Texts.{is_text};
 ghost use Rattle.m36_text.specs.Lines.{last_of};
 ghost use Rattle.m36_dir.specs.Catalog.{with_directory, with_directory_of, directories_from, number_in, names_behind, segment_with, segment_of, segments_in, library_of, libraries_in, frames_of, work_of, no_start, start_of};
+ghost use Rattle.m36_dir.specs.BootOrder.{most_segments};
 
 use crate::boot_line::{BootLine, SegmentLine};
 use crate::directory::Directory;
@@ -57,7 +58,7 @@ fn place_of(dirs: &[Directory], dir: &[u8]) -> Option<usize>
 /// The number of a directory, from 0 on; 0 too where it is not among them.
 #[tactic(auto, unfolding(crate::specs::Catalog::number_in))]
 pub(crate) fn number_in(dirs: &[Directory], dir: &[u8]) -> u16
-    requires { length dirs.now ≤ 512 }
+    requires { length dirs.now ≤ most_segments }
     ensures { result ≡ number_in dirs.now dir.now }
 {
     match place_of(dirs, dir) {
@@ -88,7 +89,7 @@ fn segment_with(
     given: &SegmentLine,
     behind: &[BootLine],
 ) -> Result<Segment, NoMemory>
-    requires { length dirs.now ≤ 512 }
+    requires { length dirs.now ≤ most_segments }
     ensures { IfOk result (λ s. s ≡ segment_with dirs.now given.now (names_behind behind.now)) }
 {
     let mut names = Names::new(alloc);
@@ -113,7 +114,7 @@ fn add_segment(
     line: &BootLine,
     behind: &[BootLine],
 ) -> Result<(), NoMemory>
-    requires { length dirs.now ≤ 512 }
+    requires { length dirs.now ≤ most_segments }
     ensures { OnOk result (segments.new.items ≡ segments.old.items ++ segment_of dirs.now line.now behind.now) }
 {
     match line {
@@ -139,7 +140,7 @@ pub(crate) fn segments_in(
     dirs: &[Directory],
     lines: &[BootLine],
 ) -> Result<Vec<Segment>, NoMemory>
-    requires { length dirs.now ≤ 512 }
+    requires { length dirs.now ≤ most_segments }
     ensures { IfOk result (λ segments. segments.items ≡ segments_in dirs.now lines.now) }
 {
     let mut segments = Vec::new(alloc);
@@ -156,7 +157,7 @@ fn add_library(
     dirs: &[Directory],
     line: &BootLine,
 ) -> Result<(), NoMemory>
-    requires { length dirs.now ≤ 512 }
+    requires { length dirs.now ≤ most_segments }
     ensures { OnOk result (libraries.new.items ≡ libraries.old.items ++ library_of dirs.now line.now) }
 {
     match line {
@@ -174,7 +175,7 @@ pub(crate) fn libraries_in(
     dirs: &[Directory],
     lines: &[BootLine],
 ) -> Result<Vec<u16>, NoMemory>
-    requires { length dirs.now ≤ 512 }
+    requires { length dirs.now ≤ most_segments }
     ensures { IfOk result (λ libraries. libraries.items ≡ libraries_in dirs.now lines.now) }
 {
     let mut libraries = Vec::new(alloc);

@@ -5,6 +5,8 @@ ghost use Rattle.std.specs.List.{list_any};
 ghost use Rattle.m36_text.specs.Texts.{is_text};
 ghost use Rattle.m36_dir.specs.Catalog.{catalog_in, catalog_of, ReadSays, has_name, found, SetsRights};
 ghost use Rattle.m36_dir.specs.IsCatalog.{IsCatalog, IsSegment};
+ghost use Rattle.m36_dir.specs.BootLine.{most_frames};
+ghost use Rattle.m36_dir.specs.BootOrder.{most_segments, most_libraries};
 
 use crate::boot_line::BootLine;
 use crate::building::{
@@ -95,7 +97,7 @@ impl Catalog {
     pub fn count(&self) -> usize
         ensures value { result ≡ length self.now.segments }
         ensures some { 1 ≤ result }
-        ensures most { result ≤ 512 }
+        ensures most { result ≤ most_segments }
     {
         self.segments.len()
     }
@@ -139,7 +141,7 @@ impl Catalog {
     /// The numbers of the libraries, in the order in which they are searched.
     pub fn libraries(&self) -> &[u16]
         ensures value { result.now ≡ self.now.libraries }
-        ensures most { length result.now ≤ 16 }
+        ensures most { length result.now ≤ most_libraries }
         ensures inside { All (λ d. d < length self.now.directories) result.now }
     {
         self.libraries.as_slice()
@@ -149,7 +151,7 @@ impl Catalog {
     pub fn frames(&self) -> u32
         ensures value { result ≡ self.now.frames }
         ensures some { 1 ≤ result }
-        ensures most { result ≤ 8192 }
+        ensures most { result ≤ most_frames }
     {
         self.frames
     }

@@ -2,6 +2,7 @@
 
 ghost use Rattle.std.specs.Prelude.{◌≡◌, ◌≤◌, length};
 ghost use Rattle.std.specs.Option.{SomeIff};
+ghost use Rattle.m36_dir.specs.BootLine.{directory_limit};
 
 use arrayvec::ArrayVec;
 use std::marker::Model;
@@ -23,7 +24,7 @@ impl Model for Directory {
 impl Directory {
     // None exactly where there are more than 64 bytes.
     pub(crate) fn new(text: &[u8]) -> Option<Directory>
-        ensures { SomeIff result (length text.now ≤ 64) text.now }
+        ensures { SomeIff result (length text.now ≤ directory_limit) text.now }
     {
         let mut items = ArrayVec::new();
         match items.try_extend_from_slice(text) {
@@ -34,7 +35,7 @@ impl Directory {
 
     pub(crate) fn bytes(&self) -> &[u8]
         ensures value { result.now ≡ self.now }
-        ensures fits { length self.now ≤ 64 }
+        ensures fits { length self.now ≤ directory_limit }
     {
         self.items.as_slice()
     }

@@ -2,7 +2,7 @@
 
 ghost use Rattle.std.specs.Prelude.{◌≡◌, ◌≤◌, true, length};
 ghost use Rattle.std.specs.List.{list_all};
-ghost use Rattle.m36_dir.specs.BootLine.{is_directory_character, is_directory, directory_of, name_of, kind_of, taken, mode_of_letters, mode_of};
+ghost use Rattle.m36_dir.specs.BootLine.{is_directory_character, is_directory, directory_of, name_of, kind_of, taken, mode_of_letters, mode_of, directory_limit};
 
 use crate::directory::Directory;
 use crate::segment::{Mode, SegKind};
@@ -26,7 +26,7 @@ fn has_directory_characters(word: &[u8]) -> bool
 /// Whether a word is of the form of a directory: 1 to 64 letters, digits, `_`, `.` and `>`.
 pub fn is_directory(word: &[u8]) -> bool
     ensures value { result ≡ is_directory word.now }
-    ensures fits { result ≡ true → length word.now ≤ 64 }
+    ensures fits { result ≡ true → length word.now ≤ directory_limit }
 {
     if word.is_empty() || word.len() > LONGEST_DIRECTORY {
         return false;

@@ -1,5 +1,5 @@
 -- Laws of links, of search and of laying.
-use Rattle.std.specs.Prelude.{ℕ, ◌≡◌, ◌<◌, ◌≤◌, ◌+◌, ◌^◌, List, length, All, Some}
+use Rattle.std.specs.Prelude.{ℕ, ◌≡◌, ◌<◌, ◌≤◌, ◌+◌, List, length, All, Some}
 use Rattle.std.specs.Prelude.{Ok}
 use Rattle.m36_model.specs.Fields.{AtFields}
 use Rattle.m36_model.specs.Chain.{indirect_tag}
@@ -8,7 +8,7 @@ use Rattle.m36_model.specs.Modification.{Point, Fails, fault_at, move_of_point}
 use Rattle.m36_model.specs.Registers.{RegsFields}
 use Rattle.m36_dir.specs.Catalog.{CatalogFields}
 use Rattle.obj36_parts.specs.Fields.{LinkFields}
-use Rattle.obj36_parts.specs.ObjectSegment.{link_head}
+use Rattle.obj36_parts.specs.ObjectSegment.{link_head, segment_limit}
 use Rattle.obj36_parts.specs.PartsFields.{PartsFields}
 use Rattle.m36_link.specs.Fields.{LaidFields, KnownFields, SnapFields}
 use Rattle.m36_link.specs.Known.{first_segment, object_in, laid_words}
@@ -33,7 +33,7 @@ pub record IsWhole (catalog : CatalogFields) (files : List (List ℕ)) (l : Laid
   pub object : PartsFields
   pub read : object_in files l.seg ≡ Some object
   pub size : l.size ≡ length (laid_words object)
-  pub end : l.base + l.size ≤ 2 ^ 18
+  pub end : l.base + l.size ≤ segment_limit
 
 -- what services make
 pub record IsMade (catalog : CatalogFields) (files : List (List ℕ))

@@ -10,6 +10,8 @@ ghost use Rattle.obj36_read.specs.Reading.{links_in, relocation_in, relocations_
 ghost use Rattle.obj36_read.specs.Reading.{version_in, told_length, told_count, from_definition};
 ghost use Rattle.obj36_read.specs.Reading.{from_linkage, from_statics, from_symbol, told_first};
 ghost use Rattle.obj36_read.specs.Reading.{statics_in, bound_index, bound_in, parts_of};
+ghost use Rattle.m36_text.specs.Texts.{name_limit};
+ghost use Rattle.obj36_parts.specs.ObjectSegment.{definition_head, symbol_head};
 
 use m36_text::{LONGEST_NAME, Name};
 use m36_word::{NoMemory, Word, Words};
@@ -92,7 +94,7 @@ pub(crate) fn unit(words: &[Word], at: u64, i: u64) -> u64
 
 fn put_characters(words: &[Word], at: u64, count: usize, bytes: &mut [u8; 32])
     requires at { at < 2 ^ 32 }
-    requires count { count ≤ 32 }
+    requires count { count ≤ name_limit }
     ensures { take count bytes.new ≡ characters words.now at 1 count }
 {
     for i in 0..count {
@@ -162,7 +164,7 @@ fn definition(words: &[Word], at: u64) -> Named
 
 fn definitions(alloc: Global, words: &[Word], count: u64) -> Result<Defs, NoMemory>
     requires { count < 2 ^ 32 }
-    ensures { IfOk result (λ ds. ds ≡ definitions_in words.now 2 count) }
+    ensures { IfOk result (λ ds. ds ≡ definitions_in words.now definition_head count) }
 {
     let mut found = Defs::new(alloc);
     let mut at = 2;
@@ -257,7 +259,7 @@ fn relocation(word: Word) -> Reloc
 
 fn relocations(alloc: Global, words: &[Word], count: u64) -> Result<Relocs, NoMemory>
     requires { count < 2 ^ 32 }
-    ensures { IfOk result (λ rs. rs ≡ relocations_in words.now 1 count) }
+    ensures { IfOk result (λ rs. rs ≡ relocations_in words.now symbol_head count) }
 {
     let mut found = Relocs::new(alloc);
     let mut at = 1;
