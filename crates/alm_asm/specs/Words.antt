@@ -3,6 +3,7 @@ use Rattle.std.specs.Prelude.{ℕ, ◌+◌, ◌*◌, ◌%◌, ◌^◌, Bool, tru
 use Rattle.std.specs.Prelude.{replicate, Option, Some, None, if◌then◌else◌}
 use Rattle.alm_tokens.specs.declared.span.Span.{Span}
 use Rattle.alm_tokens.specs.declared.expression.Term.{Term}
+use Rattle.alm_tokens.specs.Modifiers.{star_tag}
 use Rattle.alm_parse.specs.declared.args.Arg.{Arg}
 use Rattle.alm_parse.specs.declared.args.Arg.TheVariants as arg
 use Rattle.alm_parse.specs.declared.line.Line36.{Line36}
@@ -49,13 +50,13 @@ abbrev pub own_inst : ℕ → Bool → Option ℕ → ℕ → ℕ → ℕ → In
 own_inst code bit27 (Some pr) y offset tag = pointed_inst code bit27 pr offset tag
 own_inst code bit27 None y offset tag = plain_inst code bit27 y tag
 
--- An external operand is `pr4|link,*`: tag 20 in octal.
+-- An external operand is `pr4|link,*`.
 abbrev pub inst_by : List ℕ → Tables → Spot → ℕ → Bool → Option ℕ → Option Span → Option Span
     → List Term → ℕ → InstFields
 inst_by text tables spot code bit27 pr (Some segment) entry terms tag =
     pointed_inst code bit27 4
     (link_place tables.links tables.first_link
-    (link_of text tables.symbols spot segment entry terms tag) % 2 ^ 15) 16
+    (link_of text tables.symbols spot segment entry terms tag) % 2 ^ 15) star_tag
 inst_by text tables spot code bit27 pr None entry terms tag =
     own_inst code bit27 pr (half_of (sum_of text tables.symbols spot terms).value)
     (offset_of (sum_of text tables.symbols spot terms).value) tag

@@ -70,10 +70,14 @@ pr_name bytes = number_beside pointer_registers bytes
 unfoldable pub pr_number : List ℕ → Option ℕ
 pr_number bytes = option_or (pr_digit bytes) (pr_name bytes)
 
+-- the tag of *, which is indirect without a register
+abbrev pub star_tag : ℕ
+star_tag = 0x10
+
 -- * and the tally modifiers
 abbrev pub single_tags : List NumberedName
 single_tags =
-    numbered (codes "*") 0x10
+    numbered (codes "*") star_tag
     ∷ numbered (codes "sd") 0x24
     ∷ numbered (codes "i") 0x29
     ∷ numbered (codes "ad") 0x2b
@@ -92,7 +96,7 @@ indirect_first (b ∷ rest) = if b == 42 then option_map (λ n. 0x30 + n) (regis
 abbrev pub indirect_last : List ℕ → Option ℕ
 indirect_last bytes =
     if slice_index bytes (length bytes - 1) == 42
-    then option_map (λ n. 0x10 + n) (register_of (take (length bytes - 1) bytes))
+    then option_map (λ n. star_tag + n) (register_of (take (length bytes - 1) bytes))
     else None
 
 -- the tag of a modifier
