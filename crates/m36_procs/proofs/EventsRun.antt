@@ -16,7 +16,7 @@ use Rattle.m36_model.specs.declared.record.StepRecord.{StepRecord}
 use Rattle.m36_procs.specs.EventSays.{EventSays, IsEvent}
 use Rattle.m36_procs.specs.ProcsFile.{are_named}
 use Rattle.m36_procs.specs.RunSays.{IsRun, IsPartRun}
-use Rattle.m36_procs.specs.ScheduleText.{event_line, event_pieces, end_line, pieces_from, schedule_pieces, schedule_text, last_by, last_state}
+use Rattle.m36_procs.specs.ScheduleText.{event_line, event_pieces, end_line, pieces_from, schedule_pieces, schedule_text, state_behind, last_state}
 
 -- the events of a schedule that begins with a process
 pub events_first :
@@ -30,7 +30,7 @@ last_first :
     (i : ℕ) (schedule : List ℕ) (s : Processes (List ℕ)) (g : RegsFields)
     → slice_get s.regs i ≡ Some g → last_state (i ∷ schedule) s ≡ last_state schedule (stepped core_store s i g)
 unfolding last_state
-last_first i schedule s g there = ap (λ o. last_by s i o (last_state schedule)) there
+last_first i schedule s g there = ap (state_behind s) (events_first i schedule s g there)
 
 -- the pieces of a schedule that begins with a process
 piece_first :
@@ -67,7 +67,7 @@ text_last : (total n : ℕ) (s : Processes (List ℕ)) → text_from total n [] 
 text_last total n s = ap joined (pieces_last total n s) ∙ append-nil (end_line total)
 
 last_last : (s : Processes (List ℕ)) → last_state [] s ≡ s
-unfolding last_state
+unfolding last_state events
 last_last s = refl
 
 -- A run that began in state `first` with the schedule `all` has made n events, has the schedule `left`, stands in a

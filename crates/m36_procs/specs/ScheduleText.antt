@@ -1,13 +1,11 @@
 -- What a run of a schedule writes, in pieces, each line one: a line for each event, and the last
 -- line.
-use Rattle.std.specs.Prelude.{ℕ, ◌+◌, List, [], ◌∷◌, ◌++◌, length, slice_get, codes, Option, Some}
-use Rattle.std.specs.Prelude.{None}
+use Rattle.std.specs.Prelude.{ℕ, ◌+◌, List, [], ◌∷◌, ◌++◌, length, codes}
 use Rattle.m36_outside.specs.Passing.{joined}
 use Rattle.m36_text.specs.Digits.{decimal_text}
 use Rattle.m36_text.specs.Lines.{as_line}
 use Rattle.m36_model.specs.Core.{core_store}
-use Rattle.m36_model.specs.Registers.{RegsFields}
-use Rattle.m36_model.specs.Schedule.{Processes, Event, events, stepped}
+use Rattle.m36_model.specs.Schedule.{Processes, Event, events}
 use Rattle.m36_model.specs.declared.record.StepRecord.{StepRecord}
 use Rattle.m36_trace.specs.EndLine.{end_line_with}
 use Rattle.m36_trace.specs.TraceLine.{line_of}
@@ -35,13 +33,11 @@ schedule_pieces schedule s = pieces_from (length schedule) 1 schedule s
 unfoldable pub schedule_text : List ℕ → Processes (List ℕ) → List ℕ
 schedule_text schedule s = joined (schedule_pieces schedule s)
 
--- the state that a schedule leaves
-abbrev pub last_by :
-    Processes (List ℕ) → ℕ → Option RegsFields → (Processes (List ℕ) → Processes (List ℕ))
-    → Processes (List ℕ)
-last_by s i None rest = rest s
-last_by s i (Some g) rest = rest (stepped core_store s i g)
+-- the state that the last of some events leaves; the one before them where there is none
+abbrev pub state_behind : Processes (List ℕ) → List (Event (List ℕ)) → Processes (List ℕ)
+state_behind s [] = s
+state_behind s (e ∷ more) = state_behind e.after more
 
+-- the state that a schedule leaves
 unfoldable pub last_state : List ℕ → Processes (List ℕ) → Processes (List ℕ)
-last_state [] s = s
-last_state (i ∷ schedule) s = last_by s i (slice_get s.regs i) (last_state schedule)
+last_state schedule s = state_behind s (events core_store schedule s)
