@@ -2,6 +2,7 @@
 use Rattle.std.proofs.Common.{◌≡◌, ℕ, zero, suc, ◌+◌, ◌<◌, ◌≤◌, Bool, true, false, cond, ◌&&◌, List, [], ◌∷◌, ◌++◌, length, Option, Some, None, Result, Ok, Err, refl, sym, ap, ◌∙◌, arith}
 use Rattle.std.specs.Prelude.{nat_le, nat_lt, IfSome, codes}
 use Rattle.std.specs.List.{list_all, range_with_len}
+use Rattle.std.specs.Result.{result_err}
 use Rattle.std.proofs.lemmas.List.Folds.{list_all-append}
 use Rattle.std.proofs.lemmas.Bool.{le-leb, leb-true}
 use Rattle.std.proofs.lemmas.Bool.Decides.{nat_tests}
@@ -114,7 +115,7 @@ test_in_turn :
     → b ≡ (nat_le next p.first && nat_le (p.first + length p.words) size)
     → 0 < length p.words → EndsAt earlier next → Agrees size (n + 1) lines
     → fault_or n (cond b (Ok (p.first + length p.words)) (Err I3)) (fault_in_turn size (n + 1) (end_or next (cond b (Ok (p.first + length p.words)) (Err I3))) lines)
-    ≡ first_told n (cond b None (Some I3) ∷ at_codes size (earlier ++ range_with_len p.first (length p.words)) lines)
+    ≡ first_told n (result_err (cond b (Ok (p.first + length p.words)) (Err I3)) ∷ at_codes size (earlier ++ range_with_len p.first (length p.words)) lines)
 unfolding first_told
 test_in_turn true size n next earlier lines p test some ends later =
     later (p.first + length p.words) (earlier ++ range_with_len p.first (length p.words)) (ends_on earlier next p.first (length p.words) some (leb-true next p.first (and_left (nat_le next p.first) (nat_le (p.first + length p.words) size) test)) ends)
@@ -128,7 +129,7 @@ line_in_turn :
 unfolding first_told
 line_in_turn size n next earlier lines None some ends later = refl
 line_in_turn size n next earlier lines (Some p) some ends later =
-    test_in_turn (nat_le next p.first && nat_le (p.first + length p.words) size) size n next earlier lines p refl some ends later ∙ ap (λ b. first_told n (cond (b && nat_le (p.first + length p.words) size) None (Some I3) ∷ at_codes size (earlier ++ range_with_len p.first (length p.words)) lines)) (sym (ends p.first))
+    test_in_turn (nat_le next p.first && nat_le (p.first + length p.words) size) size n next earlier lines p refl some ends later ∙ ap (λ b. first_told n (result_err (cond (b && nat_le (p.first + length p.words) size) (Ok (p.first + length p.words)) (Err I3)) ∷ at_codes size (earlier ++ range_with_len p.first (length p.words)) lines)) (sym (ends p.first))
 
 pub turn_is_fault : (size n : ℕ) (lines : List (Option (List ℕ))) → Agrees size n lines
 unfolding fault_in_turn at_codes first_told

@@ -13,7 +13,7 @@
 -- I1 is a line not of its form, a missing line or a missing line feed. I2 is an N out of range. I3
 -- is an `at` whose first address is not above every earlier address, or whose last address is
 -- outside core. The first line with a fault counts, and in it the least code.
-use Rattle.std.specs.Prelude.{ℕ, ◌+◌, ◌*◌, ◌&&◌, nat_le, nat_lt, List, [], ◌∷◌, ◌++◌}
+use Rattle.std.specs.Prelude.{ℕ, ◌+◌, ◌*◌, ◌&&◌, Bool, nat_le, nat_lt, List, [], ◌∷◌, ◌++◌}
 use Rattle.std.specs.Prelude.{length, drop, codes, Option, Some, None, Result, Ok, Err, unwrap_or}
 use Rattle.std.specs.Prelude.{if◌then◌else◌}
 use Rattle.std.specs.List.{list_all, filter_map, range_with_len}
@@ -99,13 +99,18 @@ abbrev pub at_line : Option (List ℕ) → Option PlacedWords
 at_line (Some line) = at_words (words_of line)
 at_line None = None
 
--- The code of an `at` line in a core of so many words, with the addresses of the earlier ones: the
--- least that holds.
+-- An `at` line in a core of so many words, by the test that its first address is above the earlier
+-- ones: the least code that it has, or the address behind its last word.
+abbrev pub at_by : ℕ → (ℕ → Bool) → Option PlacedWords → Result ℕ ImageCode
+at_by size is_above None = Err I1
+at_by size is_above (Some p) =
+    if is_above p.first && nat_le (p.first + length p.words) size
+    then Ok (p.first + length p.words) else Err I3
+
+-- its code, by the addresses of the earlier ones
 abbrev pub at_code : ℕ → List ℕ → Option PlacedWords → Option ImageCode
-at_code size earlier None = Some I1
-at_code size earlier (Some p) =
-    if list_all (λ a. nat_lt a p.first) earlier && nat_le (p.first + length p.words) size
-    then None else Some I3
+at_code size earlier line =
+    result_err (at_by size (λ address. list_all (λ a. nat_lt a address) earlier) line)
 
 abbrev pub addresses : Option PlacedWords → List ℕ
 addresses None = []

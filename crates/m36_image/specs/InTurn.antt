@@ -1,22 +1,18 @@
 -- A bare image as it is read, line after line. That this comes to what the image is, is proved.
-use Rattle.std.specs.Prelude.{ℕ, ◌≡◌, ◌+◌, ◌&&◌, nat_le, List, [], length, Option, Some, None}
-use Rattle.std.specs.Prelude.{Result, Ok, Err, if◌then◌else◌}
+use Rattle.std.specs.Prelude.{ℕ, ◌≡◌, nat_le, List, [], length, Option, Some, None}
+use Rattle.std.specs.Prelude.{Result, Ok, Err}
 use Rattle.std.specs.List.{filter_map}
 use Rattle.m36_image.specs.declared.refusal.ImageCode.{ImageCode}
-use Rattle.m36_image.specs.declared.refusal.ImageCode.TheVariants.{I1, I3}
 use Rattle.m36_image.specs.declared.refusal.Refusal.{Refusal}
 use Rattle.m36_text.specs.Lines.{first_told}
 use Rattle.m36_image.specs.PlacedWords.{PlacedWords}
-use Rattle.m36_image.specs.BareImage.{at_line, at_codes}
+use Rattle.m36_image.specs.BareImage.{at_line, at_by, at_codes}
 use Rattle.m36_image.specs.ImageState.{written_at, written_all}
 
 -- An `at` line, where no address below `next` may be written again: its code, or the address behind
 -- its last word.
 abbrev pub at_end : ℕ → ℕ → Option PlacedWords → Result ℕ ImageCode
-at_end size next None = Err I1
-at_end size next (Some p) =
-    if nat_le next p.first && nat_le (p.first + length p.words) size
-    then Ok (p.first + length p.words) else Err I3
+at_end size next line = at_by size (nat_le next) line
 
 -- core with the words of a line
 abbrev pub with_placed : List ℕ → Option PlacedWords → List ℕ
