@@ -1,23 +1,22 @@
 -- What is said of a sink to which a text is put, in pieces.
-use Rattle.std.specs.Prelude.{ℕ, ◌≡◌, List, ◌++◌}
-use Rattle.m36_outside.specs.Counts.{Rose}
-use Rattle.m36_outside.specs.Passing.{joined, TakesSome}
+use Rattle.std.specs.Prelude.{ℕ, List}
+use Rattle.m36_outside.specs.Passing.{joined, TakesLines}
+use Rattle.m36_outside.specs.Put.{PutSays, PutHasCause}
 use Rattle.m36_outside.specs.SinkState.{SinkState}
-use Rattle.m36_outside.specs.Written.{Grew, GrewWithin}
 use Rattle.m36_outside.specs.declared.sink.Put.{Put}
 use Rattle.m36_outside.specs.declared.sink.Put.TheVariants.{Done, Failed}
 
 -- It is put whole.
 pub record PutsAll (bytes : List ℕ) (due : List (List ℕ)) (old new : SinkState) : Type 0 where
-  pub text : Grew old.written new.written bytes
-  pub pieces : new.taken ≡ old.taken ++ due
-  pub faults : new.faults ≡ old.faults
+  pub text : PutSays Done old.written new.written bytes
+  pub pieces : TakesLines Done old.taken new.taken due
+  pub faults : PutHasCause Done old.faults new.faults
 
 -- A first part of it is put, pieces of it and a first part of the next, and then a put failed.
 pub record PutsFirst (bytes : List ℕ) (due : List (List ℕ)) (old new : SinkState) : Type 0 where
-  pub text : GrewWithin old.written new.written bytes
-  pub pieces : TakesSome old.taken new.taken due
-  pub cause : Rose old.faults new.faults
+  pub text : PutSays Failed old.written new.written bytes
+  pub pieces : TakesLines Failed old.taken new.taken due
+  pub cause : PutHasCause Failed old.faults new.faults
 
 -- Pieces are put, or a first part of them where a put failed.
 abbrev pub PutsPieces : Put → List (List ℕ) → SinkState → SinkState → Type 0
