@@ -221,7 +221,7 @@ going_too_long o m m' before now after old new count left begun buffer sitting g
     let piece : List ℕ = take count buffer in
     let bytes : List ℕ = joined g.pieces in
     let all : joined (g.pieces ++ piece ∷ []) ≡ bytes ++ piece = joined_last g.pieces piece in
-    let one : length piece ≡ 1 = omega (arith, length-take count buffer, got.some, got.within, got.room) in
+    let one : length piece ≡ 1 = omega (arith, length-take count buffer, got.moved.some, got.within, got.moved.room) in
     let most : length bytes ≡ bytes_limit = omega (arith, g.count, full) in
     let first : take bytes_limit (joined (g.pieces ++ piece ∷ [])) ≡ bytes =
     ap (take bytes_limit) all
@@ -230,7 +230,7 @@ going_too_long o m m' before now after old new count left begun buffer sitting g
     ∙ take-length bytes in
     let size : length (joined (g.pieces ++ piece ∷ [])) ≡ bytes_limit + 1 = omega (arith, ap length all, length-append bytes piece, most, one) in
     says o (Err fault.TooLong) m m' before after old new (g.pieces ++ piece ∷ []) g.lines (standing sitting Waiting)
-    (came_more before now after g.pieces piece g.came got.gave got.came)
+    (came_more before now after g.pieces piece g.came got.gave got.moved.left)
     (omega (arith, size), omega (arith, size))
     (got.faults ∙ g.faults)
     (stops_going (g.pieces ++ piece ∷ []) before.faults after.faults (some_more g.pieces piece g.some (omega (arith, one))))
@@ -338,10 +338,10 @@ pub going_on :
     → Going o m m2 before after old new (left - count) begun' sitting'
 going_on o m m1 m2 before now after old mid new count left begun begun' buffer sitting sitting' g got said = record {
   pieces = g.pieces ++ take count buffer ∷ [];
-  came = came_more before now after g.pieces (take count buffer) g.came got.gave got.came;
-  some = got_some g.pieces buffer count g.some got.some got.room;
+  came = came_more before now after g.pieces (take count buffer) g.came got.gave got.moved.left;
+  some = got_some g.pieces buffer count g.some got.moved.some got.moved.room;
   faults = got.faults ∙ g.faults;
-  count = got_count g.pieces buffer count left g.count got.within got.room;
+  count = got_count g.pieces buffer count left g.count got.within got.moved.room;
   lines = g.lines ++ said.lines;
   is = got_lines g.pieces g.lines said.lines begun (take count buffer) begun' g.is said.is;
   unbroken = said.unbroken;
@@ -358,10 +358,10 @@ going_quit o m m1 m2 before now after old mid new count left begun buffer sittin
     let pieces : List (List ℕ) = g.pieces ++ take count buffer ∷ [] in
     let part = part_on o (standing new_sitting Waiting) m g.lines said.lines (standing sitting Waiting) m1 (standing sitting' Over) m2 old mid new g.part said.part in
     says o (Ok tt) m m2 before after old new pieces (g.lines ++ said.lines) (standing sitting' Over)
-    (came_more before now after g.pieces (take count buffer) g.came got.gave got.came)
-    (omega (arith, got_count g.pieces buffer count left g.count got.within got.room))
+    (came_more before now after g.pieces (take count buffer) g.came got.gave got.moved.left)
+    (omega (arith, got_count g.pieces buffer count left g.count got.within got.moved.room))
     (got.faults ∙ g.faults)
-    (stops_going pieces before.faults after.faults (got_some g.pieces buffer count g.some got.some got.room))
+    (stops_going pieces before.faults after.faults (got_some g.pieces buffer count g.some got.moved.some got.moved.room))
     (inl record {
       over = refl;
       some = inl (some_whole (joined pieces) said.rest (g.lines ++ said.lines) (got_lines g.pieces g.lines said.lines begun (take count buffer) said.rest g.is said.is));
@@ -378,10 +378,10 @@ pub going_starved :
 going_starved o m m1 m2 before now after old mid new count left begun buffer sitting g got said =
     let pieces : List (List ℕ) = g.pieces ++ take count buffer ∷ [] in
     says o (Err fault.NoMemory) m m2 before after old new pieces (g.lines ++ said.lines) said.stands
-    (came_more before now after g.pieces (take count buffer) g.came got.gave got.came)
-    (omega (arith, got_count g.pieces buffer count left g.count got.within got.room))
+    (came_more before now after g.pieces (take count buffer) g.came got.gave got.moved.left)
+    (omega (arith, got_count g.pieces buffer count left g.count got.within got.moved.room))
     (got.faults ∙ g.faults)
-    (stops_going pieces before.faults after.faults (got_some g.pieces buffer count g.some got.some got.room))
+    (stops_going pieces before.faults after.faults (got_some g.pieces buffer count g.some got.moved.some got.moved.room))
     (inl (some_whole (joined pieces) said.rest (g.lines ++ said.lines) (got_lines g.pieces g.lines said.lines begun (take count buffer) said.rest g.is said.is)))
     (part_on o (standing new_sitting Waiting) m g.lines said.lines (standing sitting Waiting) m1 said.stands m2 old mid new g.part said.part)
 
@@ -395,9 +395,9 @@ going_cut o m m1 m2 before now after old mid new count left begun buffer sitting
     let pieces : List (List ℕ) = g.pieces ++ take count buffer ∷ [] in
     let cut = part_cut o (standing new_sitting Waiting) m g.lines said.lines (standing sitting Waiting) m1 m2 old mid new g.part said.part in
     says o (Err fault.WriteFault) m m2 before after old new pieces (g.lines ++ said.lines) cut.stands
-    (came_more before now after g.pieces (take count buffer) g.came got.gave got.came)
-    (omega (arith, got_count g.pieces buffer count left g.count got.within got.room))
+    (came_more before now after g.pieces (take count buffer) g.came got.gave got.moved.left)
+    (omega (arith, got_count g.pieces buffer count left g.count got.within got.moved.room))
     (got.faults ∙ g.faults)
-    (stops_going pieces before.faults after.faults (got_some g.pieces buffer count g.some got.some got.room))
+    (stops_going pieces before.faults after.faults (got_some g.pieces buffer count g.some got.moved.some got.moved.room))
     (inl (some_whole (joined pieces) said.rest (g.lines ++ said.lines) (got_lines g.pieces g.lines said.lines begun (take count buffer) said.rest g.is said.is)))
     cut.part

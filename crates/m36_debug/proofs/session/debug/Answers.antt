@@ -26,7 +26,7 @@ pieces-preserved g c =
     let i = g.L.Lines in
     record {
       going = going_on (turning m.regs m.content m.next m.went) c.args.m.now c.pieces.m c.answer_piece.new.m (input (i.left c.args.lines.now) (i.given c.args.lines.now) (i.faults c.args.lines.now)) (input (i.left c.pieces.lines) (i.given c.pieces.lines) (i.faults c.pieces.lines)) (input (i.left c.take_piece.new.lines) (i.given c.take_piece.new.lines) (i.faults c.take_piece.new.lines)) (seen (s.written c.args.out.now) (s.taken c.args.out.now) (s.faults c.args.out.now)) (seen (s.written c.pieces.out) (s.taken c.pieces.out) (s.faults c.pieces.out)) (seen (s.written c.answer_piece.new.out) (s.taken c.answer_piece.new.out) (s.faults c.answer_piece.new.out)) c.in-Got.count c.pieces.left c.pieces.begun c.answer_piece.new.begun c.take_piece.new.buffer c.pieces.sitting c.answer_piece.new.sitting c.pieces.invariant.going c.in-Got.ensures c.in-Line.ensures.says;
-      taken = omega (arith, c.in-Line.ensures.taken, c.pieces.invariant.taken, c.in-Got.ensures.within, c.in-Got.ensures.room, length-take c.in-Got.count c.take_piece.new.buffer);
+      taken = omega (arith, c.in-Line.ensures.taken, c.pieces.invariant.taken, c.in-Got.ensures.within, c.in-Got.ensures.moved.room, length-take c.in-Got.count c.take_piece.new.buffer);
     }
 
 pub returns-in-Failed : goal.returns-in-Failed
