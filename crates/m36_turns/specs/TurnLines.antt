@@ -10,12 +10,13 @@ use Rattle.m36_model.specs.declared.endings.End.{End}
 use Rattle.m36_model.specs.declared.endings.End.TheVariants as end
 use Rattle.m36_model.specs.declared.endings.LinkCode.{LinkCode}
 use Rattle.m36_model.specs.declared.endings.LinkCode.TheVariants.{L1, L2, L3, L4, L5, L6}
+use Rattle.m36_model.specs.declared.outcome.Outcome.TheVariants.{Faulted, Stopped}
 use Rattle.m36_step.specs.LinkNoteFields.{LinkNoteFields}
 use Rattle.m36_step.specs.declared.turns.Turn.{Turn}
 use Rattle.m36_step.specs.declared.turns.Turn.TheVariants.{Stepped, Linked, Console, Ended, Full}
 use Rattle.m36_step.specs.declared.turns.Turn.TheVariants.{NoMemory}
-use Rattle.m36_trace.specs.EndLine.{end_line_with}
-use Rattle.m36_trace.specs.TraceLine.{line_of, word_of_segment, fault_text, stop_text}
+use Rattle.m36_trace.specs.EndLine.{ending_text, end_line_with}
+use Rattle.m36_trace.specs.TraceLine.{line_of, word_of_segment}
 
 -- ---- a link service: the ring, the word of the link, the link, and the pair or the code
 
@@ -56,8 +57,8 @@ console_line_of characters = codes "console " ++ flat_map console_character char
 -- ---- the end of a run: how it ended, and after how many steps
 
 abbrev pub end_text : End → List ℕ
-end_text (end.Fault fault) = fault_text fault
-end_text (end.Stop stop) = stop_text stop
+end_text (end.Fault fault) = ending_text (Faulted fault)
+end_text (end.Stop stop) = ending_text (Stopped stop)
 end_text (end.Link code) = codes "link " ++ link_code_text code
 end_text end.Console = codes "console"
 
