@@ -4,6 +4,7 @@ ghost use Rattle.std.specs.Prelude.{◌≡◌, ◌+◌, ◌<◌, ◌^◌, option
 ghost use Rattle.m36_boot.specs.Start.{start_link, start_answer, start_segment, may_start, section_base, start_regs};
 ghost use Rattle.m36_boot.specs.Refusals.{is_object, answer_if, start_of, StartSays};
 ghost use Rattle.m36_link.specs.Known.{nothing_known};
+ghost use Rattle.m36_model.specs.Pointers.{pointer};
 
 use crate::fault::BootFault;
 use crate::segments::FIRST_STACK;
@@ -104,7 +105,7 @@ fn pointer(seg: u16, ring: u8, word: u32) -> Ptr
     requires seg { seg < 2 ^ 15 }
     requires ring { ring < 8 }
     requires word { word < 2 ^ 18 }
-    ensures { result ≡ record { seg = seg; ring = ring; word = word; bit = 0 } }
+    ensures { result ≡ pointer seg ring word }
 {
     Ptr {
         word,

@@ -71,11 +71,14 @@ abbrev pub is_no_right : ℕ → Bool
 is_no_right acv =
     nat_eq acv no_execute_right || nat_eq acv no_read_right || nat_eq acv no_write_right
 
+-- a fault of these numbers is such an access violation
+abbrev pub is_want_of_right : ℕ → ℕ → Bool
+is_want_of_right number acv = nat_eq number access_violation && is_no_right acv
+
 -- a fault for want of a right to execute, read or write: the segment
 abbrev pub denied_at : Fault → Option ℕ
 denied_at fault =
-    if nat_eq fault.number access_violation && is_no_right fault.acv then Some fault.at.seg
-    else None
+    if is_want_of_right fault.number fault.acv then Some fault.at.seg else None
 
 abbrev pub denied_by : End → Option ℕ
 denied_by (end.Fault fault) = denied_at fault

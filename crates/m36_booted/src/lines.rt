@@ -1,12 +1,11 @@
 //! What is added to a block of a turn: a line, characters as they are, or nothing; and what stands at the end of a run.
 
-ghost use Rattle.std.specs.Prelude.{◌≡◌, ◌<◌, ◌+◌, ◌&&◌, nat_eq, [], ◌∷◌, ◌++◌, length, None, Some, MatchOption};
+ghost use Rattle.std.specs.Prelude.{◌≡◌, ◌<◌, ◌+◌, [], ◌∷◌, ◌++◌, length, None, Some, MatchOption};
 ghost use Rattle.m36_text.specs.Lines.{as_line};
-ghost use Rattle.m36_model.specs.Faults.{access_violation};
 ghost use Rattle.m36_step.specs.declared.turns.Turn.TheVariants as turn;
 ghost use Rattle.m36_reading.specs.Outside.{sink_of};
 ghost use Rattle.m36_booted.specs.RunText.{characters, pieces_of, finish_line};
-ghost use Rattle.m36_booted.specs.RunText.{is_no_right, denied_at, denied_by, denied_segment, line_for};
+ghost use Rattle.m36_booted.specs.RunText.{is_no_right, is_want_of_right, denied_at, denied_by, denied_segment, line_for};
 ghost use Rattle.m36_booted.specs.RunText.{denied_pieces, end_pieces};
 ghost use Rattle.m36_booted.specs.RunSays.{PutsPieces, AddsPieces, block_of};
 
@@ -146,7 +145,7 @@ fn is_no_right(acv: u8) -> bool
 
 // Whether a fault of these numbers is such an access violation.
 fn is_want_of_right(number: u8, acv: u8) -> bool
-    ensures { result ≡ (nat_eq number access_violation && is_no_right acv) }
+    ensures { result ≡ is_want_of_right number acv }
 {
     number == ACCESS_VIOLATION && is_no_right(acv)
 }

@@ -104,13 +104,17 @@ remembered s session.Quit = s
 remembered s session.Empty = s
 remembered s session.Unknown = s
 
+-- a break is told where there is room for it; else its line is told as an unknown one
+abbrev pub break_says : SittingFields → List ℕ → ℕ → ℕ → List (List ℕ)
+break_says s line seg word =
+    (if has_room s then break_line seg word else unknown_line line) ∷ []
+
 -- what is written then: a command whose run has ended tells the end again
 abbrev pub line_says :
     RegsFields → (ℕ → ℕ → Option ℕ) → SittingFields → List ℕ → SessionLine → List (List ℕ)
 line_says g content s line (session.Step n) = end_lines s.ended s.taken
 line_says g content s line session.Go = end_lines s.ended s.taken
-line_says g content s line (session.Break seg word) =
-    (if has_room s then break_line seg word else unknown_line line) ∷ []
+line_says g content s line (session.Break seg word) = break_says s line seg word
 line_says g content s line session.Regs = regs_lines g
 line_says g content s line (session.Seg seg word) = seg_line seg word (content seg word) ∷ []
 line_says g content s line session.Where = where_line g.ppr ∷ []

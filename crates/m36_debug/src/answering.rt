@@ -1,12 +1,11 @@
 //! Lines that are answered.
 
-ghost use Rattle.std.specs.Prelude.{ℕ, ◌≡◌, ◌≤◌, ◌<◌, ◌+◌, ◌-◌, ◌^◌, [], ◌∷◌, if◌then◌else◌};
+ghost use Rattle.std.specs.Prelude.{ℕ, ◌≡◌, ◌≤◌, ◌<◌, ◌+◌, ◌-◌, ◌^◌, [], ◌∷◌};
 ghost use Rattle.m36_debug.specs.Parts.{EndSays, CommandSays, BackSays, told};
 ghost use Rattle.m36_outside.specs.Putting.{PutsPieces};
 ghost use Rattle.m36_debug.specs.Putting.{seen};
-ghost use Rattle.m36_debug.specs.Session.{Waiting, Backing, standing, turning};
-ghost use Rattle.m36_debug.specs.SessionTexts.{unknown_line, break_line};
-ghost use Rattle.m36_debug.specs.Sitting.{sitting_with, has_taken, has_room};
+ghost use Rattle.m36_debug.specs.Session.{Waiting, Backing, standing, turning, break_says};
+ghost use Rattle.m36_debug.specs.Sitting.{sitting_with, has_taken};
 
 use crate::commands::{Command, GO_LIMIT, Run};
 use crate::registers::put_regs;
@@ -48,7 +47,7 @@ fn add_break<S: Sink>(line: &[u8], seg: u16, word: u32, sitting: &mut Sitting, o
     requires word { word < 2 ^ 18 }
     ensures sitting { sitting.new ≡ sitting_with sitting.old seg word }
     ensures taken { sitting.new.taken ≡ sitting.old.taken }
-    ensures puts { PutsPieces result ((if has_room sitting.old then break_line seg word else unknown_line line.now) ∷ [])
+    ensures puts { PutsPieces result (break_says sitting.old line.now seg word)
         (seen (S.written out.old) (S.taken out.old) (S.faults out.old))
         (seen (S.written out.new) (S.taken out.new) (S.faults out.new)) }
 {

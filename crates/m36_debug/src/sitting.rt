@@ -1,7 +1,7 @@
 //! What a session remembers.
 
 ghost use Rattle.std.specs.Prelude.{ℕ, ◌≡◌, ◌≤◌, ◌<◌, ◌-◌, ◌^◌};
-ghost use Rattle.m36_debug.specs.Commands.{is_at_break, after_turn};
+ghost use Rattle.m36_debug.specs.Session.{next_of};
 ghost use Rattle.m36_debug.specs.Sitting.{new_sitting, sitting_after, sitting_before, sitting_with, has_taken, has_room};
 
 use crate::commands::{Break, Further, Run, after_turn, is_at_break};
@@ -65,7 +65,7 @@ impl Sitting {
     /// What a command does after a turn that left these registers.
     #[inline(always)]
     pub(crate) fn further(&self, run: Run, regs: &Regs, turn: &Turn) -> Further
-        ensures { result ≡ after_turn run (is_at_break regs.now.ppr self.now.breaks) turn.now }
+        ensures { result ≡ next_of regs.now self.now run turn.now }
     {
         after_turn(run, is_at_break(regs.ppr, self.breaks.as_slice()), turn)
     }

@@ -107,15 +107,15 @@ kept_turns : (old new : Reader) (t : TurnsFields) → Fits old → TookLine old 
 unfolding judged
 kept_turns old new t fits took =
     let s : Stands = stands_of old in
-    let next : Stands = record s { stage = Turning; events = events_with s t } in
-    let test : nat_lt 0 s.processes && nat_le (events_with s t) 10000000 ≡ true = was_tested (nat_lt 0 s.processes && nat_le (events_with s t) 10000000) (cond (are_named s.processes t.order) (Ok next) (Err P2)) P1 (stands_of new) took.stands in
-    let inner = was_chosen (nat_lt 0 s.processes && nat_le (events_with s t) 10000000) (cond (are_named s.processes t.order) (Ok next) (Err P2)) P1 (stands_of new) took.stands in
+    let next : Stands = record s { stage = Turning; events = events_with s.events t } in
+    let test : nat_lt 0 s.processes && nat_le (events_with s.events t) 10000000 ≡ true = was_tested (nat_lt 0 s.processes && nat_le (events_with s.events t) 10000000) (cond (are_named s.processes t.order) (Ok next) (Err P2)) P1 (stands_of new) took.stands in
+    let inner = was_chosen (nat_lt 0 s.processes && nat_le (events_with s.events t) 10000000) (cond (are_named s.processes t.order) (Ok next) (Err P2)) P1 (stands_of new) took.stands in
     let named : are_named (length old.regs.items) t.order ≡ true = was_tested (are_named s.processes t.order) (Ok next) P2 (stands_of new) inner in
     let is : next ≡ stands_of new = ok_same next (stands_of new) (was_chosen (are_named s.processes t.order) (Ok next) P2 (stands_of new) inner) in
     let counted : length new.regs.items ≡ length old.regs.items = sym (ap (λ (u : Stands). u.processes) is) in
-    let events : length new.schedule.items ≡ events_with s t = sym (ap (λ (u : Stands). u.events) is) in
-    let most : events_with s t ≤ 10000000 = leb-true (events_with s t) 10000000 (and_parts (nat_lt 0 s.processes) (nat_le (events_with s t) 10000000) test).1 in
-    let some : 0 < length old.regs.items = ltb-true 0 (length old.regs.items) (and_parts (nat_lt 0 s.processes) (nat_le (events_with s t) 10000000) test).0 in
+    let events : length new.schedule.items ≡ events_with s.events t = sym (ap (λ (u : Stands). u.events) is) in
+    let most : events_with s.events t ≤ 10000000 = leb-true (events_with s.events t) 10000000 (and_parts (nat_lt 0 s.processes) (nat_le (events_with s.events t) 10000000) test).1 in
+    let some : 0 < length old.regs.items = ltb-true 0 (length old.regs.items) (and_parts (nat_lt 0 s.processes) (nat_le (events_with s.events t) 10000000) test).0 in
     record {
       few = omega (arith, counted, fits.few);
       short = rw events most;

@@ -30,11 +30,11 @@ chosen a b c x y z i j k = rw (i, j, k)
 -- a `turns` line is taken
 pub turns_taken :
     (s : Stands) (t : TurnsFields) (events : ℕ)
-    → 0 < s.processes → events_with s t ≤ 10000000 → are_named s.processes t.order ≡ true → events ≡ events_with s t
+    → 0 < s.processes → events_with s.events t ≤ 10000000 → are_named s.processes t.order ≡ true → events ≡ events_with s.events t
     → judged s (TurnsLine t) ≡ Ok (record s { stage = Turning; events = events })
 unfolding judged
 turns_taken s t events some most named count =
-    chosen (nat_lt 0 s.processes) (nat_le (events_with s t) 10000000) (are_named s.processes t.order) (Ok (record s { stage = Turning; events = events_with s t })) (Err P2) (Err P1) (lt-ltb 0 s.processes some) (le-leb (events_with s t) 10000000 most) named ∙ ap (λ n. in_order s n) (sym count)
+    chosen (nat_lt 0 s.processes) (nat_le (events_with s.events t) 10000000) (are_named s.processes t.order) (Ok (record s { stage = Turning; events = events_with s.events t })) (Err P2) (Err P1) (lt-ltb 0 s.processes some) (le-leb (events_with s.events t) 10000000 most) named ∙ ap (λ n. in_order s n) (sym count)
 
 -- a line that is neither a `process` nor a `turns` line, where words may be placed
 pub words_judged :

@@ -20,7 +20,7 @@
 -- first line with a fault counts, and in it P1 before P2. A missing line has the number that it
 -- would have.
 use Rattle.std.specs.Prelude.{ℕ, ◌+◌, ◌*◌, ◌&&◌, Bool, true, false, nat_le, nat_lt, List}
-use Rattle.std.specs.Prelude.{[], ◌∷◌, ◌++◌, length, drop, codes, Option, Some, None}
+use Rattle.std.specs.Prelude.{[], ◌∷◌, length, drop, codes, Option, Some, None}
 use Rattle.std.specs.Prelude.{Result, Ok, Err, if◌then◌else◌}
 use Rattle.std.specs.List.{list_all, flat_map, repeat}
 use Rattle.std.specs.Result.{result_err}
@@ -125,8 +125,9 @@ most_processes = 8
 abbrev pub most_events : ℕ
 most_events = 10000000
 
-abbrev pub events_with : Stands → TurnsFields → ℕ
-events_with s t = s.events + t.times * length t.order
+-- how many events there are with turns behind so many
+abbrev pub events_with : ℕ → TurnsFields → ℕ
+events_with events t = events + t.times * length t.order
 
 abbrev pub are_named : ℕ → List ℕ → Bool
 are_named count numbers = list_all (λ number. nat_lt number count) numbers
@@ -139,9 +140,9 @@ judged s (AtLine placed) =
     if may_place s.stage && nat_lt 0 s.processes
     then placed_from s (at_end s.size s.next (Some placed)) else Err P1
 judged s (TurnsLine t) =
-    if nat_lt 0 s.processes && nat_le (events_with s t) most_events
+    if nat_lt 0 s.processes && nat_le (events_with s.events t) most_events
     then if are_named s.processes t.order
-    then Ok (record s { stage = Turning; events = events_with s t }) else Err P2
+    then Ok (record s { stage = Turning; events = events_with s.events t }) else Err P2
     else Err P1
 judged s OtherLine = Err P1
 

@@ -1,9 +1,9 @@
 //! What a text of processes has said so far, and what its next line adds.
 
-ghost use Rattle.std.specs.Prelude.{◌≡◌, ◌+◌, ◌*◌, ◌<◌, ◌≤◌, [], ◌∷◌, ◌++◌, length, OnOk};
+ghost use Rattle.std.specs.Prelude.{◌≡◌, ◌<◌, ◌≤◌, [], ◌∷◌, ◌++◌, OnOk};
 ghost use Rattle.std.specs.List.{repeat};
 ghost use Rattle.m36_text.specs.Lines.{words_of};
-ghost use Rattle.m36_procs.specs.ProcsFile.{are_named, most_events, line_in, may_name, may_place, may_end};
+ghost use Rattle.m36_procs.specs.ProcsFile.{are_named, most_events, events_with, line_in, may_name, may_place, may_end};
 ghost use Rattle.m36_procs.specs.ProcsFile.Line.{ProcessLine, TurnsLine};
 ghost use Rattle.m36_procs.specs.ReaderSays.{Fits, TakeSays, rest_in};
 
@@ -90,7 +90,7 @@ fn have_processes(count: usize, turns: &Turns) -> bool
 #[tactic(auto, using(crate::proofs::Taking::few_events))]
 fn events_with(events: usize, turns: &Turns) -> u64
     requires { events ≤ most_events }
-    ensures { result ≡ events + turns.now.times * length turns.now.order }
+    ensures { result ≡ events_with events turns.now }
 {
     events as u64 + turns.times as u64 * turns.order.len() as u64
 }

@@ -1,14 +1,17 @@
 -- The text of an audit, in pieces, each line one: the line `audit yes`, or a line for each finding
 -- with its condition and its place in octal.
-use Rattle.std.specs.Prelude.{ℕ, ◌||◌, ◌==◌, List, [], ◌∷◌, ◌++◌, codes, if◌then◌else◌}
+use Rattle.std.specs.Prelude.{ℕ, Bool, ◌||◌, ◌==◌, List, [], ◌∷◌, ◌++◌, codes, if◌then◌else◌}
 use Rattle.m36_outside.specs.Passing.{joined}
 use Rattle.m36_text.specs.Digits.{octal_text, decimal_text}
 use Rattle.m36_text.specs.Lines.{as_line}
 
--- The first, the fifth and the sixth condition are broken by a segment, which is written in five
--- digits. The others are broken by a core word, which is written in eight.
+-- The first, the fifth and the sixth condition are broken by a segment, the others by a core word.
+abbrev pub is_of_segment : ℕ → Bool
+is_of_segment condition = condition == 1 || (condition == 5 || condition == 6)
+
+-- A segment is written in five digits, and a core word in eight.
 abbrev pub place_digits : ℕ → ℕ
-place_digits condition = if condition == 1 || (condition == 5 || condition == 6) then 5 else 8
+place_digits condition = if is_of_segment condition then 5 else 8
 
 -- a condition and its place of so many digits, as in `3 00000100`
 abbrev pub place_text : ℕ → ℕ → ℕ → List ℕ

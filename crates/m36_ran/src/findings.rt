@@ -1,12 +1,12 @@
 //! The text of an audit.
 
-ghost use Rattle.std.specs.Prelude.{◌≡◌, ◌≤◌, ◌<◌, ◌||◌, ◌==◌, [], ◌∷◌, length};
+ghost use Rattle.std.specs.Prelude.{◌≡◌, ◌≤◌, [], ◌∷◌, length};
 ghost use Rattle.m36_text.specs.Digits.{octal_text};
 ghost use Rattle.m36_text.specs.Lines.{as_line};
 ghost use Rattle.m36_outside.specs.Passing.{TakesLines, joined};
 ghost use Rattle.m36_outside.specs.Put.{PutSays, PutHasCause};
 ghost use Rattle.m36_audit.specs.Findings.{pairs};
-ghost use Rattle.m36_ran.specs.AuditText.{place_digits, finding_line, finding_pieces, yes_line, audit_text, audit_pieces};
+ghost use Rattle.m36_ran.specs.AuditText.{is_of_segment, place_digits, finding_line, finding_pieces, yes_line, audit_text, audit_pieces};
 
 use crate::running::put_line;
 use arrayvec::ArrayString;
@@ -16,7 +16,7 @@ use m36_text::{decimal, octal};
 
 /// The conditions that a segment breaks: the first, the fifth and the sixth.
 fn is_of_segment(condition: u8) -> bool
-    ensures { result ≡ (condition == 1 || (condition == 5 || condition == 6)) }
+    ensures { result ≡ is_of_segment condition }
 {
     condition == 1 || condition == 5 || condition == 6
 }

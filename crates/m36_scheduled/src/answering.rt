@@ -3,6 +3,7 @@
 ghost use Rattle.std.specs.Prelude.{◌≡◌, ◌≤◌, ◌<◌, [], Ok, IfOk, length};
 ghost use Rattle.m36_model.specs.JointAudit.{AreJointFindings};
 ghost use Rattle.m36_audit.specs.Joints.{all_found};
+ghost use Rattle.m36_procs.specs.ProcsFile.{most_processes};
 ghost use Rattle.m36_reading.specs.Ends.{end_of};
 ghost use Rattle.m36_reading.specs.Outside.{sink_of, outside_of};
 ghost use Rattle.m36_reading.specs.Doing.{Does};
@@ -84,7 +85,7 @@ fn dbr_of(regs: &Regs) -> Dbr
 fn dbrs_of(alloc: Global, procs: &Procs) -> Result<Vec<Dbr>, NoMemory>
     ensures value { IfOk result (λ dbrs. dbrs.items ≡ dbrs_of procs.now.state) }
     ensures some { IfOk result (λ dbrs. 1 ≤ length dbrs.items) }
-    ensures most { IfOk result (λ dbrs. length dbrs.items ≤ 8) }
+    ensures most { IfOk result (λ dbrs. length dbrs.items ≤ most_processes) }
 {
     let count = procs.count();
     let mut dbrs = Vec::with_capacity(alloc, count)?;

@@ -1,6 +1,6 @@
 //! A session over the machine of an image, or over a booted system.
 
-ghost use Rattle.std.specs.Prelude.{◌≡◌, codes, None, IfOk};
+ghost use Rattle.std.specs.Prelude.{◌≡◌, None, IfOk};
 ghost use Rattle.m36_reading.specs.Ends.{end_of};
 ghost use Rattle.m36_reading.specs.Outside.{sink_of, outside_of};
 ghost use Rattle.m36_reading.specs.Doing.{Does};
@@ -9,7 +9,7 @@ ghost use Rattle.m36_booted.specs.Folder.{folder_reads};
 ghost use Rattle.m36_booted.specs.Systems.{IsFresh};
 ghost use Rattle.m36_debug.specs.Session.{turning};
 ghost use Rattle.m36_sessions.specs.Held.{talk_of, IsHeld, HoldsImage, HoldsFolder};
-ghost use Rattle.m36_sessions.specs.Sessions.{PutsBy, InputStands, ImageTakes, FolderTakes, image_kind, folder_kind};
+ghost use Rattle.m36_sessions.specs.Sessions.{stdin_name, PutsBy, InputStands, ImageTakes, FolderTakes, image_kind, folder_kind};
 
 use crate::ending::{session_status, stdin_name};
 use m36_back::Past;
@@ -33,7 +33,7 @@ fn hold<M: Stepper, L: Lines, S: Sink>(
     lines: &mut L,
     out: &mut S,
 ) -> Status
-    requires { name ≡ codes "stdin" }
+    requires { name ≡ stdin_name }
     ensures puts { PutsBy (IsHeld (turning M.regs M.content M.next M.went) machine.old
         (talk_of L.left L.given L.faults lines.old lines.new)) (end_of result) result
         (talk_of L.left L.given L.faults lines.old lines.new)

@@ -1,7 +1,7 @@
 //! How a session ends, as a status.
 
-ghost use Rattle.std.specs.Prelude.{◌≡◌, codes, IfOk};
-ghost use Rattle.m36_sessions.specs.Sessions.{session_status};
+ghost use Rattle.std.specs.Prelude.{◌≡◌, IfOk};
+ghost use Rattle.m36_sessions.specs.Sessions.{stdin_name, session_status};
 
 use m36_debug::SessionFault;
 use m36_outside::Text;
@@ -11,7 +11,7 @@ use std::alloc::Global;
 
 /// The name of the standard input.
 pub(crate) fn stdin_name(alloc: Global) -> Result<Text, NoMemory>
-    ensures { IfOk result (λ name. name ≡ codes "stdin") }
+    ensures { IfOk result (λ name. name ≡ stdin_name) }
 {
     let name = Text::from_bytes(alloc, b"stdin")?;
     Ok(name)

@@ -5,6 +5,10 @@ use Rattle.std.specs.Prelude.{ℕ, List, codes}
 abbrev pub source_suffix : List ℕ
 source_suffix = codes ".alm"
 
+-- what the name of its bind file has there
+abbrev pub bindfile_suffix : List ℕ
+bindfile_suffix = codes ".bind"
+
 -- the boot text
 abbrev pub boot_name : List ℕ
 boot_name = codes "boot"

@@ -27,7 +27,7 @@
 use Rattle.std.specs.Prelude.{ℕ, Bool, true, false, not, ◌&&◌, nat_le, List, [], ◌∷◌, ◌++◌, length}
 use Rattle.std.specs.Prelude.{take, drop, codes, Option, Some, None, unwrap_or, if◌then◌else◌}
 use Rattle.std.specs.Option.{is_none, option_map, option_and_then}
-use Rattle.m36_text.specs.FileNames.{source_suffix}
+use Rattle.m36_text.specs.FileNames.{source_suffix, bindfile_suffix}
 use Rattle.m36_text.specs.Texts.{is_text}
 use Rattle.m36_text.specs.Numbers.{short_decimal_in}
 use Rattle.m36_booted.specs.declared.command.FolderRun.{FolderRun}
@@ -200,7 +200,7 @@ alm g = if has_no_option g then option_and_then alm_of (file_given g) else None
 abbrev pub bind_of : List ℕ → Option Command
 bind_of name =
     if may_be_longer name
-    then Some (Bind (record { bindfile = name ++ codes ".bind"; object = name })) else None
+    then Some (Bind (record { bindfile = name ++ bindfile_suffix; object = name })) else None
 
 abbrev pub bind : Given → Option Command
 bind g = if has_no_option g then option_and_then bind_of (file_given g) else None

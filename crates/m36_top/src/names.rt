@@ -1,7 +1,7 @@
 //! Operands, and names of files.
 
-ghost use Rattle.std.specs.Prelude.{◌≡◌, ◌≤◌, ◌++◌, length, codes, Some};
-ghost use Rattle.m36_text.specs.FileNames.{source_suffix};
+ghost use Rattle.std.specs.Prelude.{◌≡◌, ◌≤◌, ◌++◌, length, Some};
+ghost use Rattle.m36_text.specs.FileNames.{source_suffix, bindfile_suffix};
 ghost use Rattle.m36_top.specs.Words.{operand_by, operand_of};
 
 use arrayvec::ArrayVec;
@@ -46,7 +46,7 @@ pub fn source_of(object: &[u8]) -> Option<Name>
 /// The name of the bind file of an object: NAME.bind.
 pub fn bindfile_of(object: &[u8]) -> Option<Name>
     requires { length object.now ≤ 27 }
-    ensures { result ≡ Some (object.now ++ codes ".bind") }
+    ensures { result ≡ Some (object.now ++ bindfile_suffix) }
 {
     let mut name: ArrayVec<u8, 32> = ArrayVec::new();
     let _ = name.try_extend_from_slice(object);
