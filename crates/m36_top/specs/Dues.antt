@@ -54,45 +54,46 @@ on_folder command given = Folder (record { command = command; given = given })
 abbrev pub on_procs : Bool → ProcsFields → Due
 on_procs unaudited procs = Schedule (record { unaudited = unaudited; procs = procs })
 
--- which answer is due, by the input of the call
+-- what a kind says of one thing that is due
+pub record Case : Type 1 where
+  pub IsDue : Answer → Type 0
+  pub IsBegun : Answer → Type 0
+  pub Wants : Outside → Outside → Type 0
+  pub Fails : Outside → Outside → Type 0
+
+abbrev pub case : {D : Type 0} → Kind D → D → Case
+case kind d = record {
+  IsDue = kind.IsDue d;
+  IsBegun = kind.IsBegun d;
+  Wants = kind.Wants d;
+  Fails = kind.Fails d;
+}
+
+-- each by its kind, and by the input of the call
+abbrev pub case_of : Talk → Due → Case
+case_of talk (Told told) = case told_kind told
+case_of talk (Image image) = case (state_kind image.command) image.state
+case_of talk (Folder folder) = case (folder_kind folder.command) folder.given
+case_of talk (Schedule schedule) = case (procs_kind schedule.unaudited) schedule.procs
+case_of talk (ImageSession state) = case (image_kind talk) state
+case_of talk (FolderSession given) = case (session_kind talk) given
+case_of talk (Made sets) = case made_kind sets
+
+-- which answer is due
 abbrev pub IsDueOf : Talk → Due → Answer → Type 0
-IsDueOf talk (Told told) due = told_kind.IsDue told due
-IsDueOf talk (Image image) due = (state_kind image.command).IsDue image.state due
-IsDueOf talk (Folder folder) due = (folder_kind folder.command).IsDue folder.given due
-IsDueOf talk (Schedule schedule) due = (procs_kind schedule.unaudited).IsDue schedule.procs due
-IsDueOf talk (ImageSession state) due = (image_kind talk).IsDue state due
-IsDueOf talk (FolderSession given) due = (session_kind talk).IsDue given due
-IsDueOf talk (Made sets) due = made_kind.IsDue sets due
+IsDueOf talk d due = (case_of talk d).IsDue due
 
 -- of which a first part may be put
 abbrev pub IsBegunOf : Talk → Due → Answer → Type 0
-IsBegunOf talk (Told told) due = told_kind.IsBegun told due
-IsBegunOf talk (Image image) due = (state_kind image.command).IsBegun image.state due
-IsBegunOf talk (Folder folder) due = (folder_kind folder.command).IsBegun folder.given due
-IsBegunOf talk (Schedule schedule) due = (procs_kind schedule.unaudited).IsBegun schedule.procs due
-IsBegunOf talk (ImageSession state) due = (image_kind talk).IsBegun state due
-IsBegunOf talk (FolderSession given) due = (session_kind talk).IsBegun given due
-IsBegunOf talk (Made sets) due = made_kind.IsBegun sets due
+IsBegunOf talk d due = (case_of talk d).IsBegun due
 
 -- what may be written where memory is wanted
 abbrev pub WantsOf : Talk → Due → Outside → Outside → Type 0
-WantsOf talk (Told told) old new = told_kind.Wants told old new
-WantsOf talk (Image image) old new = (state_kind image.command).Wants image.state old new
-WantsOf talk (Folder folder) old new = (folder_kind folder.command).Wants folder.given old new
-WantsOf talk (Schedule schedule) old new = (procs_kind schedule.unaudited).Wants schedule.procs old new
-WantsOf talk (ImageSession state) old new = (image_kind talk).Wants state old new
-WantsOf talk (FolderSession given) old new = (session_kind talk).Wants given old new
-WantsOf talk (Made sets) old new = made_kind.Wants sets old new
+WantsOf talk d old new = (case_of talk d).Wants old new
 
 -- and where the input could not be read
 abbrev pub FailsOf : Talk → Due → Outside → Outside → Type 0
-FailsOf talk (Told told) old new = told_kind.Fails told old new
-FailsOf talk (Image image) old new = (state_kind image.command).Fails image.state old new
-FailsOf talk (Folder folder) old new = (folder_kind folder.command).Fails folder.given old new
-FailsOf talk (Schedule schedule) old new = (procs_kind schedule.unaudited).Fails schedule.procs old new
-FailsOf talk (ImageSession state) old new = (image_kind talk).Fails state old new
-FailsOf talk (FolderSession given) old new = (session_kind talk).Fails given old new
-FailsOf talk (Made sets) old new = made_kind.Fails sets old new
+FailsOf talk d old new = (case_of talk d).Fails old new
 
 abbrev pub due_kind : Talk → Kind Due
 due_kind talk = record {
