@@ -170,7 +170,7 @@ read_has_error read.NoMemory name old new before after error none noted =
 refusal_has_error :
     (kind : ErrorKind) (name : List ℕ) (old new : List ErrorKind)
     → new ≡ old ++ kind ∷ [] → ReadHasError (refusal_of kind) name old new
-refusal_has_error NotFound name old new noted = inr noted
+refusal_has_error NotFound name old new noted = inr (NotFound, refl, noted)
 refusal_has_error kind name old new noted = record { why = inr (kind, refl, noted) }
 
 pub refused_has_error :

@@ -60,11 +60,13 @@ pub record ReadsNot (old new : List ErrorKind) : Type 0 where
   pub why : GivesUp old new ⊎
       ((kind : ErrorKind) × (refusal_of kind ≡ read.Failed) × (new ≡ old ++ kind ∷ []))
 
--- Absent was answered to a name of no file, or behind the one error that there is no such file;
--- Failed where no file was read, and the other answers behind signals alone.
+-- Absent was answered to a name of no file, or behind the one error that is answered so; Failed
+-- where no file was read, and the other answers behind signals alone.
 abbrev pub ReadHasError : ReadAnswer → List ℕ → List ErrorKind → List ErrorKind → Type 0
 ReadHasError (read.Read bytes) name old new = Signals old new
-ReadHasError read.Absent name old new = NamesNoFile name ⊎ (new ≡ old ++ NotFound ∷ [])
+ReadHasError read.Absent name old new =
+    NamesNoFile name
+    ⊎ ((kind : ErrorKind) × (refusal_of kind ≡ read.Absent) × (new ≡ old ++ kind ∷ []))
 ReadHasError read.TooLarge name old new = Signals old new
 ReadHasError read.Failed name old new = ReadsNot old new
 ReadHasError read.NoMemory name old new = Signals old new
