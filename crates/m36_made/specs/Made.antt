@@ -1,7 +1,6 @@
--- What is due to `make SEED`: all the files that the seed makes are written, and then it is told what
--- the folder that they are comes to where it is booted.
+-- What is due to `make SEED`: all the files that the seed makes are written, and then it is told
+-- what the folder that they are comes to where it is booted.
 use Rattle.std.specs.Prelude.{ℕ, ◌≡◌, ◌⊎◌, List, [], None, Ok, Err}
-use Rattle.m36_text.specs.Lines.{as_line}
 use Rattle.m36_reading.specs.declared.setting.Set.{Set}
 use Rattle.m36_reading.specs.declared.status.Status.TheVariants as status
 use Rattle.m36_reading.specs.Reading.{Early, outcome_in}
@@ -13,7 +12,7 @@ use Rattle.m36_booted.specs.Folder.{FolderFields, folder_reads}
 use Rattle.m36_booted.specs.Promise.{PassesBooted}
 use Rattle.m36_booted.specs.Runs.{Extent, Whole, Begun, Starved}
 use Rattle.m36_made.specs.Making.{files_in}
-use Rattle.m36_made.specs.Summary.{segment_count, segments_line, IsSummary}
+use Rattle.m36_made.specs.Summary.{segment_count, head_line, IsSummary}
 
 -- what the files boot to, as `run` would boot a folder that has these and no others
 unfoldable pub boots_from : List Set → Early FolderFields
@@ -95,7 +94,7 @@ PassesMade sets = PassesBy (boots_from sets)
 
 -- the line with which such a folder is told of first
 abbrev pub head_by : Early FolderFields → List ℕ
-head_by (Ok given) = as_line (segments_line (segment_count given.lib))
+head_by (Ok given) = head_line (segment_count given.lib)
 head_by (Err refusal) = []
 
 abbrev pub head_of : List Set → List ℕ

@@ -28,13 +28,17 @@ run_limit = 100000
 unfoldable pub segments_line : ℕ → List ℕ
 segments_line count = codes "segments " ++ decimal_text count
 
+-- the line that is told first
+abbrev pub head_line : ℕ → List ℕ
+head_line count = as_line (segments_line count)
+
 -- as in `x1 130532`
 unfoldable pub sum_line : RegsFields → List ℕ
 sum_line regs = codes "x1 " ++ octal_text 6 (slice_index regs.x 1)
 
 -- those before the run
 abbrev pub head_pieces : ℕ → List (ℕ × ℕ) → List (List ℕ)
-head_pieces count findings = as_line (segments_line count) ∷ audit_pieces findings
+head_pieces count findings = head_line count ∷ audit_pieces findings
 
 -- and those behind it, where it has come to its end
 abbrev pub end_pieces : Option Finish → ℕ → RegsFields → List (List ℕ)
