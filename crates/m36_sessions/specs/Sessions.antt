@@ -4,10 +4,11 @@ use Rattle.m36_outside.specs.SinkState.{SinkState}
 use Rattle.m36_model.specs.Store.{State}
 use Rattle.m36_reading.specs.declared.status.Code.TheVariants.{S1}
 use Rattle.m36_reading.specs.declared.status.Status.{Status}
-use Rattle.m36_reading.specs.declared.status.Status.TheVariants.{Done, BadFile}
+use Rattle.m36_reading.specs.declared.status.Status.TheVariants.{Done}
 use Rattle.m36_reading.specs.declared.status.Status.TheVariants as status
-use Rattle.m36_reading.specs.Answers.{Answer, answer_with}
+use Rattle.m36_reading.specs.Answers.{Answer, answer_with, status_of}
 use Rattle.m36_reading.specs.Reading.{Reading, Early}
+use Rattle.m36_reading.specs.Readers.{refused}
 use Rattle.m36_reading.specs.Asking.{Asked, Came, Comes}
 use Rattle.m36_reading.specs.Puts.{IsNotPut}
 use Rattle.m36_reading.specs.Outside.{Outside, IsIdle}
@@ -28,7 +29,7 @@ Told = Result (Unit {0}) SessionFault → List (List ℕ) → Type 0
 
 -- S1: there is more input than a session takes
 abbrev pub too_long : List ℕ → Status
-too_long name = BadFile (record { name = name; code = S1; at = 0; column = 0 })
+too_long name = status_of (refused name S1 0)
 
 abbrev pub stdin_name : List ℕ
 stdin_name = codes "stdin"
