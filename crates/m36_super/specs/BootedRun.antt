@@ -1,6 +1,6 @@
 -- The booted run: what the next turn may be, and to which state it leads. Page services are silent,
 -- and free in which page gives way; all else is determined.
-use Rattle.std.specs.Prelude.{◌≡◌, ℕ, ◌≤◌, Bool, true, false, nat_lt, List, [], ◌∷◌}
+use Rattle.std.specs.Prelude.{◌≡◌, ℕ, ◌≤◌, Bool, true, false, List, [], ◌∷◌}
 use Rattle.std.specs.Prelude.{Result, Ok, Err}
 use Rattle.m36_model.specs.Fields.{AtFields}
 use Rattle.m36_model.specs.Results.{moved_on}
@@ -23,7 +23,7 @@ use Rattle.m36_step.specs.declared.turns.Turn.{Turn}
 use Rattle.m36_step.specs.declared.turns.Turn.TheVariants.{Stepped, Linked, Console, Ended}
 use Rattle.m36_step.specs.declared.turns.Turn.TheVariants.{NoMemory}
 use Rattle.m36_super.specs.Library.{Library}
-use Rattle.m36_super.specs.Services.{link_changes, note_snapped, note_refused, console_limit}
+use Rattle.m36_super.specs.Services.{link_changes, note_snapped, note_refused, is_too_much}
 use Rattle.m36_super.specs.Services.{console_text}
 use Rattle.m36_super.specs.Coming.{Coming, Step, Link, Print, Over, loaded_after, coming_behind}
 use Rattle.m36_super.specs.FlatRun.{FlatRun}
@@ -122,7 +122,7 @@ IsTurnBy (Link at) lib before turn after =
     IsLinkTurn (snap_of before.known lib.catalog lib.files at) lib.catalog.frames at before turn
     after
 IsTurnBy Print lib before turn after =
-    IsConsoleTurn (nat_lt console_limit before.state.regs.a)
+    IsConsoleTurn (is_too_much before.state.regs)
     (console_text before.state.regs (flat_of before.state.memory)) before turn after
 IsTurnBy (Over e) lib before turn after = (turn ≡ Ended e) × (after ≡ before)
 

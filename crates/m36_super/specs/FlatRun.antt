@@ -1,12 +1,11 @@
 -- The flat run: steps over the flat memory, with the link and the console service, and no pages.
-use Rattle.std.specs.Prelude.{ℕ, zero, suc, Bool, true, false, nat_lt, List, [], ◌∷◌}
+use Rattle.std.specs.Prelude.{ℕ, zero, suc, Bool, true, false, List, [], ◌∷◌}
 use Rattle.std.specs.Prelude.{Result, Ok, Err}
 use Rattle.m36_model.specs.Fields.{AtFields}
 use Rattle.m36_model.specs.Results.{moved_on}
 use Rattle.m36_model.specs.Store.{State}
 use Rattle.m36_model.specs.Step.{record_of, state_after}
 use Rattle.m36_model.specs.Flat.{Flat, flat_put, flat_store}
-use Rattle.m36_model.specs.declared.endings.End.{End}
 use Rattle.m36_model.specs.declared.endings.End.TheVariants as end
 use Rattle.m36_model.specs.declared.outcome.Fault.{Fault}
 use Rattle.m36_link.specs.Fields.{KnownFields, SnapFields}
@@ -15,7 +14,7 @@ use Rattle.m36_link.specs.Accepted.{accepted}
 use Rattle.m36_step.specs.declared.turns.Turn.{Turn}
 use Rattle.m36_step.specs.declared.turns.Turn.TheVariants.{Stepped, Linked, Console, Ended}
 use Rattle.m36_super.specs.Library.{Library}
-use Rattle.m36_super.specs.Services.{link_changes, note_snapped, note_refused, console_limit}
+use Rattle.m36_super.specs.Services.{link_changes, note_snapped, note_refused, is_too_much}
 use Rattle.m36_super.specs.Services.{console_text}
 use Rattle.m36_super.specs.Coming.{Coming, Step, Link, Print, Over, loaded_after, coming_behind}
 
@@ -87,8 +86,7 @@ abbrev pub flat_turn_by : Coming → Library → FlatRun → FlatTurn
 flat_turn_by Step lib r = flat_stepped r
 flat_turn_by (Link at) lib r = flat_linked_by (snap_of r.known lib.catalog lib.files at) r at
 flat_turn_by Print lib r =
-    flat_printed_by (nat_lt console_limit r.state.regs.a) (console_text r.state.regs r.state.store)
-    r
+    flat_printed_by (is_too_much r.state.regs) (console_text r.state.regs r.state.store) r
 flat_turn_by (Over e) lib r = record { turn = Ended e; after = r }
 
 -- one turn of the flat run

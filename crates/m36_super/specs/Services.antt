@@ -1,7 +1,7 @@
 -- The services that a booted run calls for: links and the console. Both see and change the content
 -- of segments, wherever the pages are.
 use Rattle.std.specs.Prelude.{ℕ, zero, suc, ◌+◌, ◌/◌, ◌%◌, ◌^◌, nat_lt, if◌then◌else◌, codes}
-use Rattle.std.specs.Prelude.{List, [], ◌∷◌, ◌++◌, take, slice_index, Option, None, Some}
+use Rattle.std.specs.Prelude.{Bool, List, [], ◌∷◌, ◌++◌, take, slice_index, Option, None, Some}
 use Rattle.std.specs.Prelude.{Result, Ok, Err}
 use Rattle.m36_word.specs.declared.pair.Pair.{Pair}
 use Rattle.m36_model.specs.Fields.{AtFields}
@@ -48,6 +48,9 @@ note_refused at why = note_of at why.link (Err why.code)
 -- The service writes as many characters as A says, and is refused above 256.
 abbrev pub console_limit : ℕ
 console_limit = 256
+
+abbrev pub is_too_much : RegsFields → Bool
+is_too_much g = nat_lt console_limit g.a
 
 -- a character below octal 200 is written as that byte, and any other as ?
 abbrev pub written_character : ℕ → ℕ

@@ -1,13 +1,13 @@
 //! Console services.
 
-ghost use Rattle.std.specs.Prelude.{◌≡◌, ◌≤◌, ◌<◌, ◌+◌, ◌*◌, ◌/◌, ◌++◌, ◌==◌, Bool, length, nat_lt, Ok, Err, MatchResult};
+ghost use Rattle.std.specs.Prelude.{◌≡◌, ◌≤◌, ◌<◌, ◌+◌, ◌*◌, ◌/◌, ◌++◌, ◌==◌, Bool, length, Ok, Err, MatchResult};
 ghost use Rattle.m36_model.specs.Flat.{flat_store};
 ghost use Rattle.m36_model.specs.Store.{fault_by, examined};
 ghost use Rattle.m36_model.specs.Place.{core_sdw};
 ghost use Rattle.m36_model.specs.BootedCore.{booted_dbr};
 ghost use Rattle.m36_link.specs.Fields.{KnownFields};
 ghost use Rattle.m36_super.specs.BootedRun.{IsConsoleTurn};
-ghost use Rattle.m36_super.specs.Services.{console_limit, written_character, characters_of};
+ghost use Rattle.m36_super.specs.Services.{is_too_much, written_character, characters_of};
 ghost use Rattle.m36_super.specs.Services.{console_at, console_words, console_text};
 ghost use Rattle.m36_super.specs.SuperFields.{run_of, IsManaged, IsRunning};
 ghost use Rattle.m36_super.specs.Writing.{flat_by};
@@ -186,7 +186,7 @@ pub(crate) fn print(machine: &mut Machine, pager: &Pager, coming: &mut Coming) -
     requires { IsRunning (length pager.now.holders) machine.old.state.regs machine.old.state.store
         pager.now }
     ensures turn { (known : KnownFields) (loaded : Bool) → IsConsoleTurn
-        (nat_lt console_limit machine.old.state.regs.a)
+        (is_too_much machine.old.state.regs)
         (console_text machine.old.state.regs (flat_by machine.old.state.store pager.now))
         (run_of machine.old.state pager.now known coming.old loaded) result
         (run_of machine.new.state pager.now known coming.new loaded) }
