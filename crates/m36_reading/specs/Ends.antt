@@ -9,7 +9,7 @@ pub data End : Type 0 where
   Answered : End
   -- a file could not be written, or the output not whole
   Cut : End
-  -- a file could not be read
+  -- a file or the input could not be read
   Unread : End
   -- memory was wanted
   Starved : End
