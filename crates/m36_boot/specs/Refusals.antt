@@ -1,6 +1,6 @@
 -- Whether a catalog and its files are booted, or the first code that says why not: U1, then U4 and
 -- U2 of the gates in the order of the catalog, and then U3 and U4 of the start.
-use Rattle.std.specs.Prelude.{ℕ, zero, suc, ◌≡◌, ◌+◌, ◌^◌, ◌<◌, Bool, true, false, not, ◌&&◌}
+use Rattle.std.specs.Prelude.{ℕ, zero, suc, ◌≡◌, ◌+◌, ◌-◌, ◌^◌, ◌<◌, Bool, true, false, not, ◌&&◌}
 use Rattle.std.specs.Prelude.{nat_lt, nat_le, if◌then◌else◌, List}
 use Rattle.std.specs.Prelude.{length, slice_get, slice_index, Option, Some, None, Result, Ok, Err}
 use Rattle.std.specs.Option.{option_or}
@@ -22,13 +22,16 @@ use Rattle.m36_boot.specs.Start.{start_answer, start_segment, may_start}
 abbrev pub least_frames : ℕ
 least_frames = 24
 
--- the greatest number that the call limiter of a descriptor holds
-abbrev pub most_entries : ℕ
-most_entries = 16383
+-- how many numbers the call limiter of a descriptor holds, in its 14 bits
+abbrev pub limit_count : ℕ
+limit_count = 2 ^ 14
 
--- a number that it holds, in its 14 bits
 abbrev pub IsLimit : ℕ → Type 0
-IsLimit limit = limit < 2 ^ 14
+IsLimit limit = limit < limit_count
+
+-- the greatest of them
+abbrev pub most_entries : ℕ
+most_entries = limit_count - 1
 
 -- ---- gates
 
