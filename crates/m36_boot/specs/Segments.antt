@@ -16,8 +16,8 @@ use Rattle.obj36_parts.specs.PartsFields.{PartsFields}
 use Rattle.obj36_parts.specs.ObjectSegment.{segment_limit}
 use Rattle.obj36.specs.ObjectOf.{value_of}
 use Rattle.m36_link.specs.Fields.{LayFields}
-use Rattle.m36_link.specs.Known.{first_segment, first_linkage, linkage_segment, lot_words}
-use Rattle.m36_link.specs.Known.{lot_word}
+use Rattle.m36_link.specs.Known.{first_segment, first_linkage, linkage_segment, catalog_index}
+use Rattle.m36_link.specs.Known.{lot_words, lot_word}
 
 -- Stacks are segments 8 to 15, linkage segments 16 to 23, and those of the catalog 64 and on.
 abbrev pub first_stack : ℕ
@@ -126,8 +126,8 @@ booted_sdw catalog files seg =
     else if nat_lt seg first_linkage then Some (ring_segment seg (seg - first_stack) stack_pages)
     else if nat_lt seg behind_rings then Some (ring_segment seg (seg - first_linkage) linkage_pages)
     else if nat_lt seg first_segment then None
-    else catalog_segment seg (slice_get catalog.segments (seg - first_segment))
-    (file_at files (seg - first_segment))
+    else catalog_segment seg (slice_get catalog.segments (catalog_index seg))
+    (file_at files (catalog_index seg))
 
 -- ---- words; those that are lacking up to the end of the last page are zero
 
@@ -154,4 +154,4 @@ unfoldable pub booted_words : List (List ℕ) → Option LayFields → ℕ → L
 booted_words files lay seg =
     if nat_lt seg first_linkage then stack_words (seg - first_stack)
     else if nat_lt seg behind_rings then linkage_words lay (seg - first_linkage)
-    else file_at files (seg - first_segment)
+    else file_at files (catalog_index seg)

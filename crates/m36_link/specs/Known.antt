@@ -35,9 +35,13 @@ linkage_segment ring = first_linkage + ring
 abbrev pub lot_words : ℕ
 lot_words = 1024
 
+-- the place in the catalog, counted from 0, that goes with a number from 64 on
+abbrev pub catalog_index : ℕ → ℕ
+catalog_index seg = seg - first_segment
+
 -- which segment of the catalog has a number
 unfoldable pub place_of : ℕ → Option ℕ
-place_of seg = if nat_le first_segment seg then Some (seg - first_segment) else None
+place_of seg = if nat_le first_segment seg then Some (catalog_index seg) else None
 
 unfoldable pub segment_of : CatalogFields → ℕ → Option SegmentFields
 segment_of catalog seg = option_and_then (slice_get catalog.segments) (place_of seg)
