@@ -56,8 +56,6 @@ puts_so effect.Ttf n g f o = puts_of_transfer (is_taken effect.Ttf g) f g
 puts_so effect.Tov n g f o = puts_of_overflow_transfer (is_taken effect.Tov g) f g
 puts_so effect.Div n g f o = puts_of_division (is_divide_check g.q (word o)) (word o) g
 puts_so effect.LprpN n g f o = puts_of_packed (field (word o) 0 2 == 3) n (word o) g f
-puts_so effect.Mme n g f o = omega arith
-puts_so effect.Drl n g f o = omega arith
 puts_so _ n g f o = refl
 
 -- words for claimed spots

@@ -1,9 +1,9 @@
 -- The effect of each instruction: the new registers and the words to write, by the instruction, the
 -- number in its name, the registers, the final address and the operand. Where it is refused, the
 -- number of the fault. One line an instruction, in the order of the instruction table; the parts
--- have the equations. Of MME, DRL and DIS, which form no address, no step asks the effect.
--- Indicators and registers that an instruction's equations do not name stay; which indicators it
--- sets is this project's choice.
+-- have the equations. Of MME, DRL and DIS, which form no address, no step asks the effect: their
+-- faults and the stop are told by `no_address` in `Step`. Indicators and registers that an
+-- instruction's equations do not name stay; which indicators it sets is this project's choice.
 --
 -- Beside each line stands what the manual says of the instruction. C(..) is the content of a
 -- register or of the operand Y, of which digits are bits, and the arrow says where a number goes;
@@ -15,7 +15,6 @@
 use Rattle.std.specs.Prelude.{ℕ, Bool, true, false, Result, Ok, Err}
 use Rattle.m36_inst.specs.declared.effect.Effect.{Effect}
 use Rattle.m36_inst.specs.declared.effect.Effect.TheVariants as effect
-use Rattle.m36_model.specs.Faults.{master_mode_entry, derail}
 use Rattle.m36_model.specs.Fields.{FinalFields}
 use Rattle.m36_model.specs.Registers.{RegsFields}
 use Rattle.m36_model.specs.declared.effects.Effect36.{Effect36}
@@ -179,9 +178,9 @@ exec effect.TspN n g f o = transfer_and_set_pointer n f g  -- PSR, PRR, IC + 1 �
 exec effect.Call6 n g f o = call f o.ring g  -- TSR, ring, CA → PPR
 exec effect.Rtcd n g f o = return_to f o g  -- C(Y-pair) → PPR
 exec effect.Nop n g f o = completes g  -- nothing
-exec effect.Mme n g f o = Err master_mode_entry
-exec effect.Drl n g f o = Err derail
-exec effect.Dis n g f o = completes g  -- stops
+exec effect.Mme n g f o = completes g  -- no step asks it
+exec effect.Drl n g f o = completes g  -- no step asks it
+exec effect.Dis n g f o = completes g  -- no step asks it
 exec effect.Ldbr n g f o = load_dbr o g  -- C(Y-pair) → C(DBR)
 exec effect.Sdbr n g f o = store_dbr g  -- C(DBR) → C(Y-pair)
 exec effect.Cams n g f o = completes g  -- nothing

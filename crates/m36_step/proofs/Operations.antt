@@ -131,8 +131,6 @@ refused_so effect.Tov n g f o = puts_none (exec effect.Tov n g f o)
 refused_so effect.Ttf n g f o = puts_none (exec effect.Ttf n g f o)
 refused_so effect.Div n g f o = puts_none (exec effect.Div n g f o)
 refused_so effect.LprpN n g f o = puts_none (exec effect.LprpN n g f o)
-refused_so effect.Mme n g f o = puts_none (exec effect.Mme n g f o)
-refused_so effect.Drl n g f o = puts_none (exec effect.Drl n g f o)
 refused_so _ n g f o = tt
 
 by_refusal : (k : ℕ) (g : RegsFields) (fault : Fault) (v : Result EffectFields ℕ) → answer_fields (Err fault) ≡ refused_here g v → RefusedSo k v → k ≡ 0
