@@ -1,7 +1,6 @@
--- The faults, by the manual's names: each number stands here alone. The store fault and the
--- directed faults, which places give, are in `Place`, but directed fault 1, which has its name here
--- too. Multics Processor Manual AL39, "Faults and interrupts".
-use Rattle.std.specs.Prelude.{ℕ}
+-- The faults, by the manual's names: each number stands here alone, but that of the store fault,
+-- which is in `Place`. Multics Processor Manual AL39, "Faults and interrupts".
+use Rattle.std.specs.Prelude.{ℕ, ◌+◌}
 
 -- MME
 abbrev pub master_mode_entry : ℕ
@@ -32,9 +31,13 @@ overflow_fault = 13
 abbrev pub divide_check : ℕ
 divide_check = 14
 
+-- the directed fault of a number, 0 to 3
+abbrev pub directed_fault : ℕ → ℕ
+directed_fault fc = 16 + fc
+
 -- directed fault 1, which in a booted image is a page that is in no frame
 abbrev pub missing_page : ℕ
-missing_page = 17
+missing_page = directed_fault 1
 
 abbrev pub access_violation : ℕ
 access_violation = 20

@@ -8,6 +8,7 @@ use Rattle.m36_word.specs.Bits.{is_on}
 use Rattle.m36_word.specs.Field.{field}
 use Rattle.m36_desc.specs.Fields.{SdwFields, PtwFields, DbrFields}
 use Rattle.m36_desc.specs.Descriptors.{sdw_of, ptw_of}
+use Rattle.m36_model.specs.Faults.{directed_fault}
 use Rattle.m36_model.specs.Act.{RequestKind}
 use Rattle.m36_desc.specs.Violations.{out_of_segment_bounds}
 use Rattle.m36_model.specs.Store.{Spot, Core_word, violation, claims_words}
@@ -19,7 +20,7 @@ store_fault = record { number = 1; acv = 0 }
 
 -- the directed fault that a descriptor with F off names
 abbrev pub directed : ℕ → Refusal
-directed fc = record { number = 16 + fc; acv = 0 }
+directed fc = record { number = directed_fault fc; acv = 0 }
 
 -- sums of addresses wrap
 abbrev pub wrapped : ℕ → ℕ

@@ -4,6 +4,7 @@ use Rattle.std.specs.Prelude.{◌≡◌, ℕ, ◌+◌, ◌*◌, ◌/◌, ◌%◌
 use Rattle.std.specs.Prelude.{length, take, slice_index, Option, Some, None, Result, Ok, Err}
 use Rattle.m36_model.specs.Faults.{missing_page}
 use Rattle.m36_model.specs.Store.{Spot, place}
+use Rattle.m36_model.specs.Place.{directed}
 use Rattle.m36_model.specs.Core.{core_store, core_word}
 use Rattle.m36_model.specs.Flat.{Flat}
 use Rattle.m36_model.specs.BootedCore.{descriptor_words, booted_dbr, wired_frames, resident_ptw}
@@ -17,7 +18,7 @@ pub record Paged : Type 0 where
 
 -- the refusal of a page that is in no frame
 abbrev pub absence : Refusal
-absence = record { number = missing_page; acv = 0 }
+absence = directed 1
 
 -- The content of a word: its frame's word where its page is resident, and else the word
 -- kept for it.
