@@ -16,7 +16,7 @@ use Rattle.m36_model.specs.Act.{Act, either}
 use Rattle.m36_model.specs.Modification.{here, fault_at}
 use Rattle.m36_model.specs.FirstPoint.{first_point, first_point_by}
 use Rattle.m36_model.specs.Chain.{ChainEnd, chain}
-use Rattle.m36_model.specs.Step.{Performed, Ending, outcome_by, halted, completed, operate, operated, indirect_words, addressed, no_address, started, admitted, decode, decoded, program}
+use Rattle.m36_model.specs.Step.{Performed, Ending, outcome_by, halted, completed, operate, operated, indirect_words, addressed, no_address, started, admitted, decode, decoded, has_right, program}
 use Rattle.m36_model.specs.Audit.{is_stack_of, IsGuarded}
 use Rattle.m36_model.specs.Isolation.{HasPointers}
 use Rattle.m36_model.specs.declared.outcome.Halt.{Halt}
@@ -179,4 +179,4 @@ module _ (sdws : ℕ → Result SdwFields Refusal) (r : ℕ) (g : RegsFields) wh
     pub program_meets : IsGuarded g.dbr sdws → MeetsEnd (program g)
     unfolding program
     program_meets guarded =
-        (record { some = omega arith; ring = tt }, (λ f. halted_meets None None (halt.Fault f)), (λ a known. decoded_meets guarded (fetch_sees a.sdw known.live (fetch_rights a.sdw g.ppr.prr g.ppr.prr (g.ppr.psr == g.ppr.psr) g.ppr.ic known.allowed)) (slice_index a.words 0) (a.sdw.privileged && (g.ppr.prr == 0)) (right_lowest a.sdw.privileged) (decode (slice_index a.words 0)) refl))
+        (record { some = omega arith; ring = tt }, (λ f. halted_meets None None (halt.Fault f)), (λ a known. decoded_meets guarded (fetch_sees a.sdw known.live (fetch_rights a.sdw g.ppr.prr g.ppr.prr (g.ppr.psr == g.ppr.psr) g.ppr.ic known.allowed)) (slice_index a.words 0) (has_right a.sdw g.ppr.prr) (right_lowest a.sdw.privileged) (decode (slice_index a.words 0)) refl))

@@ -1,5 +1,5 @@
 -- Each step has one of the cases.
-use Rattle.std.proofs.Common.{ℕ, ◌≡◌, refl, sym, ap, subst, ◌∙◌, ◌==◌, Option, Some, None, Bool, true, false, not, ◌&&◌, List, [], ◌++◌, map, length, slice_index, ◌⊎◌, Result, Ok, Err}
+use Rattle.std.proofs.Common.{ℕ, ◌≡◌, refl, sym, ap, subst, ◌∙◌, Option, Some, None, Bool, true, false, not, ◌&&◌, List, [], ◌++◌, map, length, slice_index, ◌⊎◌, Result, Ok, Err}
 use Rattle.m36_inst.specs.Instruction.{inst_of}
 use Rattle.m36_inst.specs.Operands.{operand_of, is_privileged}
 use Rattle.m36_inst.specs.declared.effect.Effect.{Effect}
@@ -15,7 +15,7 @@ use Rattle.m36_model.specs.FirstPoint.{first_point}
 use Rattle.m36_model.specs.Chain.{ChainEnd, chain}
 use Rattle.m36_model.specs.Results.{EffectFields}
 use Rattle.m36_model.specs.Effect.{exec}
-use Rattle.m36_model.specs.Step.{Performed, puts_from, tallied, operate, Ending, outcome_of, halted, completed, operated, addressed, no_address, started, admitted, decoded, fetched, indirect_words, decode, fetch_request, program, start, step_record, stepped, record_of, state_after}
+use Rattle.m36_model.specs.Step.{Performed, puts_from, tallied, operate, Ending, outcome_of, halted, completed, operated, addressed, no_address, started, admitted, decoded, has_right, fetched, indirect_words, decode, fetch_request, program, start, step_record, stepped, record_of, state_after}
 use Rattle.m36_model.specs.StepCases.{HasLeft, IsFetched, IsAdmitted, IsFormed, forms_address, Reached, IsOperand, at_spots, at_once, StepCase, fetch_refused, no_instruction, privilege_refused, no_address as no_address_case, address_refused, operation_refused, effected, StepHasACase}
 use Rattle.m36_model.proofs.PutLaw.{IsTallied, tally_changes, all_changes}
 use Rattle.m36_model.specs.declared.outcome.Fault.{Fault}
@@ -123,7 +123,7 @@ module _ {S : Type 0} (o : Store S) (quiet : (x : S) → o.put x [] ≡ x) (s : 
       let q = fetch_request s.regs in
       let t = serve o s.regs (start s) q in
       let w = slice_index a.words 0 in
-      let right = a.sdw.privileged && (s.regs.ppr.prr == 0) in
+      let right = has_right a.sdw s.regs.ppr.prr in
       let known : IsFetched o s w right t.mid = record { answer = a; served = served_as t (Ok a) h; word_is = refl; right_is = refl } in
       decoded_case w right t.mid known (same_claims o s.regs (start s) q (λ x. cc)) (decode w) refl
 

@@ -14,6 +14,7 @@
 use Rattle.std.specs.Prelude.{ℕ, zero, suc, ◌+◌, ◌-◌, ◌%◌, Bool, true, false, not, ◌&&◌, ◌==◌, List}
 use Rattle.std.specs.Prelude.{[], ◌∷◌, ◌++◌, Option, Some, None, option_map, Result, Ok, Err}
 use Rattle.std.specs.Prelude.{slice_index}
+use Rattle.m36_desc.specs.Fields.{SdwFields}
 use Rattle.m36_desc.specs.Access.{ring_called}
 use Rattle.m36_inst.specs.Instruction.{inst_of}
 use Rattle.m36_inst.specs.Operands.{operand_of, is_privileged, takes_direct}
@@ -261,11 +262,13 @@ decoded g w privileged None = halted g (Some w) None (halt.Stop stop.Operation)
 decoded g w privileged (Some row) = admitted row.0 row.1 g w (is_privileged row.0 && not privileged)
 
 -- The right to privileged instructions: that of the segment fetched from, in ring 0.
+abbrev pub has_right : SdwFields → ℕ → Bool
+has_right d ring = d.privileged && (ring == 0)
+
 abbrev pub fetched : RegsFields → Result Answer Fault → Act Ending
 fetched g (Err f) = halted g None None (halt.Fault f)
 fetched g (Ok a) =
-    decoded g (slice_index a.words 0) (a.sdw.privileged && (g.ppr.prr == 0))
-    (decode (slice_index a.words 0))
+    decoded g (slice_index a.words 0) (has_right a.sdw g.ppr.prr) (decode (slice_index a.words 0))
 
 abbrev pub fetch_request : RegsFields → Request
 fetch_request g = record { kind = Fetch; at = here g; count = 1; pending = [] }

@@ -9,7 +9,7 @@
 -- Where registers are as before no word is written. The full effect has the new tally word and the
 -- tally runout of the chain, the new registers, and the words that the instruction writes. Marks
 -- are those of the completed references.
-use Rattle.std.specs.Prelude.{ℕ, ◌≡◌, Bool, true, false, not, ◌&&◌, ◌==◌, List, [], ◌∷◌, ◌++◌, map}
+use Rattle.std.specs.Prelude.{ℕ, ◌≡◌, Bool, true, false, not, ◌&&◌, List, [], ◌∷◌, ◌++◌, map}
 use Rattle.std.specs.Prelude.{length, Option, Some, None, Ok, Err, slice_index}
 use Rattle.m36_inst.specs.Instruction.{inst_of}
 use Rattle.m36_inst.specs.Operands.{operand_of, is_privileged, takes_direct}
@@ -32,8 +32,8 @@ use Rattle.m36_model.specs.Results.{OperandFields, EffectFields, words_only}
 use Rattle.m36_model.specs.Transfers.{is_taken}
 use Rattle.m36_model.specs.Effect.{exec, is_absa}
 use Rattle.m36_model.specs.Step.{tallied, no_operand, request_at, direct_word, operate, outcome_of}
-use Rattle.m36_model.specs.Step.{outcome_by, indirect_words, decode, fetch_request, start}
-use Rattle.m36_model.specs.Step.{record_of, state_after}
+use Rattle.m36_model.specs.Step.{outcome_by, indirect_words, decode, has_right, fetch_request}
+use Rattle.m36_model.specs.Step.{start, record_of, state_after}
 use Rattle.m36_model.specs.declared.outcome.Fault.{Fault}
 use Rattle.m36_model.specs.declared.outcome.Halt.{Halt}
 use Rattle.m36_model.specs.declared.outcome.Halt.TheVariants as halt
@@ -64,7 +64,7 @@ pub record IsFetched {S : Type 0} (o : Store S) (s : State S) (word : ℕ) (righ
   pub served :
       serve o s.regs (start s) (fetch_request s.regs) ≡ record { reply = Ok answer; mid = m }
   pub word_is : slice_index answer.words 0 ≡ word
-  pub right_is : (answer.sdw.privileged && (s.regs.ppr.prr == 0)) ≡ right
+  pub right_is : has_right answer.sdw s.regs.ppr.prr ≡ right
 
 -- The instruction may be executed.
 pub record IsAdmitted {S : Type 0} (o : Store S) (s : State S) (word : ℕ) (e : Effect) (n : ℕ)

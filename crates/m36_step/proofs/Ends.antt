@@ -1,5 +1,5 @@
 -- How the program of a step ends over core, part by part.
-use Rattle.std.proofs.Common.{ℕ, ◌≡◌, refl, sym, ap, ◌∙◌, Bool, not, ◌&&◌, ◌==◌, List, [], ◌∷◌, ◌++◌, Option, Some, None, Result, Ok, Err, option_map}
+use Rattle.std.proofs.Common.{ℕ, ◌≡◌, refl, sym, ap, ◌∙◌, Bool, not, ◌&&◌, List, [], ◌∷◌, ◌++◌, Option, Some, None, Result, Ok, Err, option_map}
 use Rattle.m36_inst.specs.Fields.{InstFields}
 use Rattle.m36_inst.specs.Instruction.{inst_of}
 use Rattle.m36_inst.specs.Lookup.{row_at}
@@ -16,7 +16,7 @@ use Rattle.m36_model.specs.Core.{core_store, core_put}
 use Rattle.m36_model.specs.Modification.{here}
 use Rattle.m36_model.specs.FirstPoint.{first_point}
 use Rattle.m36_model.specs.Chain.{chain, chain_end_fields, claimed_by}
-use Rattle.m36_model.specs.Step.{Ending, outcome_of, outcome_by, halted, completed, operate, operated, indirect_words, addressed, no_address, started, admitted, effect_and_number, decode, decoded, fetched, program, record_of, state_after}
+use Rattle.m36_model.specs.Step.{Ending, outcome_of, outcome_by, halted, completed, operate, operated, indirect_words, addressed, no_address, started, admitted, effect_and_number, decode, decoded, has_right, fetched, program, record_of, state_after}
 use Rattle.m36_model.specs.declared.effects.Formed.{Formed}
 use Rattle.m36_model.specs.declared.effects.Held.{Held}
 use Rattle.m36_model.specs.declared.outcome.Fault.{Fault}
@@ -108,7 +108,7 @@ module _ (g : RegsFields) where
     fetch_refused f g' end served stay is =
         rw (stay, is) (ap (λ (t : Served (List ℕ)). end_of (run core_store g (fetched g t.reply) t.mid)) (served g same refl [] refs) ∙ halts None None (halt.Fault f) core' [] refs)
 
-    pub fetches : (w : ℕ) (privileged : Bool) (refs' : List Reference) (core'' : List ℕ) (refs'' : List Reference) (g' : RegsFields) (end : Ended) → ServesWord (λ x. x.ppr.prr ≡ g.ppr.prr) Fetch m core' (here g) (Ok w) → privileged ≡ ((sdw_in m g.ppr.psr).privileged && (g.ppr.prr == 0)) → refs' ≡ refs ++ record { kind = reference.Fetch; at = here g; count = 1 } ∷ [] → EndsSo g (decoded g w privileged (decode w)) core' refs' core'' refs'' g' end → EndsSo g (program g) m.core refs core'' refs'' g' end
+    pub fetches : (w : ℕ) (privileged : Bool) (refs' : List Reference) (core'' : List ℕ) (refs'' : List Reference) (g' : RegsFields) (end : Ended) → ServesWord (λ x. x.ppr.prr ≡ g.ppr.prr) Fetch m core' (here g) (Ok w) → privileged ≡ has_right (sdw_in m g.ppr.psr) g.ppr.prr → refs' ≡ refs ++ record { kind = reference.Fetch; at = here g; count = 1 } ∷ [] → EndsSo g (decoded g w privileged (decode w)) core' refs' core'' refs'' g' end → EndsSo g (program g) m.core refs core'' refs'' g' end
     unfolding program run
     fetches w privileged refs' core'' refs'' g' end served right one rest =
         ap (λ (t : Served (List ℕ)). end_of (run core_store g (fetched g t.reply) t.mid)) (served g same refl [] refs) ∙ rw (right, one) at rest

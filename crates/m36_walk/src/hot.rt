@@ -4,8 +4,9 @@
 //! has changed: the call beside it is made at the same word, and tells why. An answer that is a word or a place goes in
 //! registers, as one with a fault beside it does not.
 
-ghost use Rattle.std.specs.Prelude.{ℕ, ◌≡◌, ◌<◌, ◌^◌, [], ◌∷◌, None, Ok, Err, IfSome, IfNone, IsTrue, IsFalse, ◌&&◌, ◌==◌, length};
+ghost use Rattle.std.specs.Prelude.{ℕ, ◌≡◌, ◌<◌, ◌^◌, [], ◌∷◌, None, Ok, Err, IfSome, IfNone, IsTrue, IsFalse, length};
 ghost use Rattle.m36_model.specs.Act.{Fetch, Transfer};
+ghost use Rattle.m36_model.specs.Step.{has_right};
 ghost use Rattle.m36_model.specs.declared.outcome.Fault.{Fault};
 ghost use Rattle.m36_walk.specs.Runs.{LiesIn};
 ghost use Rattle.m36_walk.specs.Served.{sdw_in, at_target, ServesWord, ServesClaim, ServesAsked};
@@ -24,8 +25,7 @@ impl Walk {
     pub fn try_fetch(&mut self, at: At) -> Option<(Word, bool)>
         ensures serves { IfSome result (λ r. ServesWord (λ g. g.ppr.prr ≡ at.ring) Fetch self.old
             self.new.core at (Ok r.0)) }
-        ensures privileged { IfSome result (λ r. r.1
-            ≡ ((sdw_in self.old at.seg).privileged && (at.ring == 0))) }
+        ensures privileged { IfSome result (λ r. r.1 ≡ has_right (sdw_in self.old at.seg) at.ring) }
         ensures refused { IfNone result ((f : Fault)
             × ServesWord (λ g. g.ppr.prr ≡ at.ring) Fetch self.old self.old.core at (Err f)) }
         ensures none { IfNone result (self.new ≡ self.old) }

@@ -1,9 +1,9 @@
 //! References that read.
 
-ghost use Rattle.std.specs.Prelude.{ℕ, ◌≡◌, ◌+◌, ◌%◌, ◌<◌, ◌≤◌, ◌^◌, [], ◌∷◌, None, IfOk, ◌&&◌, ◌==◌, length};
+ghost use Rattle.std.specs.Prelude.{ℕ, ◌≡◌, ◌+◌, ◌%◌, ◌<◌, ◌≤◌, ◌^◌, [], ◌∷◌, None, IfOk, length};
 ghost use Rattle.m36_model.specs.Act.{Fetch, Indirect, Odd};
 ghost use Rattle.m36_model.specs.Results.{words_of_pairs};
-ghost use Rattle.m36_model.specs.Step.{aligned_at};
+ghost use Rattle.m36_model.specs.Step.{aligned_at, has_right};
 ghost use Rattle.m36_walk.specs.Served.{sdw_in, ok_map, ServesWord, Reads};
 ghost use Rattle.m36_walk.specs.Words.{pair_words};
 
@@ -43,8 +43,7 @@ impl Walk {
     pub fn fetch(&mut self, at: At) -> Result<(Word, bool), Fault>
         ensures serves { ServesWord (λ g. g.ppr.prr ≡ at.ring) Fetch self.old self.new.core at
             (ok_map (λ r. r.0) result) }
-        ensures privileged { IfOk result (λ r. r.1
-            ≡ ((sdw_in self.old at.seg).privileged && (at.ring == 0))) }
+        ensures privileged { IfOk result (λ r. r.1 ≡ has_right (sdw_in self.old at.seg) at.ring) }
         ensures dbr { self.new.dbr ≡ self.old.dbr }
         ensures len { length self.new.core ≡ length self.old.core }
     {
