@@ -258,27 +258,34 @@ abbrev pub located : RequestKind → List Spot → ℕ
 located Locate (Core_word a ∷ spots) = a
 located _ _ = 0
 
+-- A reference that is answered leaves this store, its claims behind those before it, and itself
+-- behind the references before it.
+abbrev pub answered_with :
+    {S : Type 0} → Store S → S → List Spot → List Reference → Request → SdwFields → List Spot
+    → Served S
+answered_with o s claims refs q d spots =
+    record {
+      reply = Ok (record {
+        sdw = d;
+        first = length claims;
+        place = located q.kind spots;
+        words =
+            if reads q.kind then map (o.word (o.put s (changes claims q.pending))) spots else [];
+      });
+      mid =
+          record {
+            store = s;
+            claims = with_claims q.kind spots claims;
+            refs = with_reference q.kind q refs;
+          };
+    }
+
 abbrev pub serve_places :
     {S : Type 0} → Store S → RegsFields → Mid S → Request → SdwFields
     → Result (List Spot) (ℕ × Refusal) → Served S
 serve_places o g m q d (Err e) = refused m q e.0 e.1
 serve_places o g m q d (Ok spots) =
-    let s = after_marks o m.store g.dbr q in
-    record {
-      reply = Ok (record {
-        sdw = d;
-        first = length m.claims;
-        place = located q.kind spots;
-        words =
-            if reads q.kind then map (o.word (o.put s (changes m.claims q.pending))) spots else [];
-      });
-      mid =
-          record {
-            store = s;
-            claims = with_claims q.kind spots m.claims;
-            refs = with_reference q.kind q m.refs;
-          };
-    }
+    answered_with o (after_marks o m.store g.dbr q) m.claims m.refs q d spots
 
 abbrev pub serve_rights :
     {S : Type 0} → Store S → RegsFields → Mid S → Request → SdwFields → Option ℕ → Served S

@@ -1,15 +1,14 @@
 -- What a call of the walk says of a request of a step's program: the store of core words serves it
 -- so.
-use Rattle.std.specs.Prelude.{ℕ, ◌≡◌, ◌⊎◌, if◌then◌else◌, List, [], ◌∷◌, map, length, Option}
-use Rattle.std.specs.Prelude.{Result, Ok, Err}
+use Rattle.std.specs.Prelude.{ℕ, ◌≡◌, ◌⊎◌, List, [], ◌∷◌, length, Option, Result, Ok, Err}
 use Rattle.m36_desc.specs.Fields.{SdwFields}
 use Rattle.m36_desc.specs.Descriptors.{sdw_of}
 use Rattle.m36_model.specs.Fields.{AtFields}
 use Rattle.m36_model.specs.Registers.{RegsFields}
 use Rattle.m36_model.specs.Act.{RequestKind, Read, Write, Whole, Put, Request}
-use Rattle.m36_model.specs.Store.{Spot, Change, Mid, Served, serve, changes, reads, located}
-use Rattle.m36_model.specs.Store.{with_claims, with_reference}
-use Rattle.m36_model.specs.Core.{core_store, core_word, core_put}
+use Rattle.m36_model.specs.Store.{Spot, Change, Mid, Served, serve, changes, answered_with}
+use Rattle.m36_model.specs.Store.{with_reference}
+use Rattle.m36_model.specs.Core.{core_store, core_put}
 use Rattle.m36_model.specs.Place.{core_sdw}
 use Rattle.m36_model.specs.Step.{puts_from}
 use Rattle.m36_model.specs.declared.outcome.Fault.{Fault}
@@ -47,23 +46,7 @@ sdw_in m seg = sdw_by (core_sdw m.core m.dbr seg)
 abbrev pub served_by : Request → List ℕ → List Spot → List Reference → Result Reached Fault
     → Served (List ℕ)
 served_by q new claims refs (Err f) = record { reply = Err f; mid = standing new claims refs }
-served_by q new claims refs (Ok r) =
-    record {
-      reply = Ok (record {
-        sdw = r.sdw;
-        first = length claims;
-        place = located q.kind r.spots;
-        words =
-            if reads q.kind
-            then map (core_word (core_put new (changes claims q.pending))) r.spots
-            else [];
-      });
-      mid = record {
-        store = new;
-        claims = with_claims q.kind r.spots claims;
-        refs = with_reference q.kind q refs;
-      };
-    }
+served_by q new claims refs (Ok r) = answered_with core_store new claims refs q r.sdw r.spots
 
 -- a reference that gives a place, by the descriptor that was found: a run of so many
 -- words from there
