@@ -19,7 +19,7 @@ use Rattle.m36_model.specs.Results.{OperandFields, EffectFields}
 use Rattle.m36_model.specs.Effect.{exec, is_absa}
 use Rattle.m36_model.specs.WordsPut.{words_written}
 use Rattle.m36_model.specs.Transfers.{is_taken}
-use Rattle.m36_model.specs.Step.{Performed, Operation, performed, tallied, no_operand, reading_word, reading_words, writing, changing, addressing, transferring, calling, by_kind, by_direct, operate_on, operate, Ending, outcome_of, outcome_by, halted, completed, operated, indirect_words, addressed, no_address, started, admitted, decode, decoded, program}
+use Rattle.m36_model.specs.Step.{Performed, Operation, performed, tallied, no_operand, reading_word, reading_words, writing, changing, addressing, transferring, calling, by_kind, by_direct, operate_on, operate, Ending, outcome_of, outcome_by, outcome_after, halted, completed, operated, indirect_words, addressed, no_address, started, admitted, decode, decoded, program}
 use Rattle.m36_model.specs.PagedStep.{DifferInA, IsPresent}
 use Rattle.m36_model.proofs.Computed.{everything}
 use Rattle.m36_model.proofs.PutLaw.{PutsSo, puts_so}
@@ -284,9 +284,9 @@ module _ (g : RegsFields) where
   overflow_present true = below 13 (omega arith)
   overflow_present false = tt
 
-  next_by : (overflow rest : Bool) → overflow ≡ false → outcome_by (overflow && rest) g ≡ Next
-  next_by true rest h = cc
-  next_by false rest h = refl
+  next_by : (overflow mask : Bool) → overflow ≡ false → outcome_after overflow mask g ≡ Next
+  next_by true mask h = cc
+  next_by false mask h = refl
 
   completed_asks : (e : Effect) (n w : ℕ) (c : ChainEnd) (p : Performed) → decode w ≡ Some (e, n) → LeavesDbr e p → AsksStep (completed g w c.last p)
   completed_asks e n w c p row h =

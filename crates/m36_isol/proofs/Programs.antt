@@ -16,7 +16,7 @@ use Rattle.m36_model.specs.Act.{Act, either}
 use Rattle.m36_model.specs.Modification.{here, fault_at}
 use Rattle.m36_model.specs.FirstPoint.{first_point, first_point_by}
 use Rattle.m36_model.specs.Chain.{ChainEnd, chain}
-use Rattle.m36_model.specs.Step.{Performed, Ending, outcome_by, halted, completed, operate, operated, indirect_words, addressed, no_address, started, admitted, decode, decoded, has_right, program}
+use Rattle.m36_model.specs.Step.{Performed, Ending, outcome_after, halted, completed, operate, operated, indirect_words, addressed, no_address, started, admitted, decode, decoded, has_right, program}
 use Rattle.m36_model.specs.Audit.{is_stack_of, IsGuarded}
 use Rattle.m36_model.specs.Isolation.{HasPointers}
 use Rattle.m36_model.specs.declared.outcome.Halt.{Halt}
@@ -69,9 +69,9 @@ module _ (sdws : ℕ → Result SdwFields Refusal) (r : ℕ) (g : RegsFields) wh
   abbrev MeetsEnd : Act Ending → Type 0
   MeetsEnd m = Meets (May sdws r g) (Known sdws g) IsEnded m
 
-  next_by : (overflow rest : Bool) → overflow ≡ false → outcome_by (overflow && rest) g ≡ Next
-  next_by true rest h = cc
-  next_by false rest h = refl
+  next_by : (overflow mask : Bool) → overflow ≡ false → outcome_after overflow mask g ≡ Next
+  next_by true mask h = cc
+  next_by false mask h = refl
 
   completed_meets : (e : Effect) (n w : ℕ) (c : ChainEnd) (p : Performed) → decode w ≡ Some (e, n) → (e ≡ effect.Ldbr → g.ppr.prr ≡ 0) → IsPerformed sdws r g e c p → MeetsEnd (completed g w c.last p)
   completed_meets e n w c p row lowest h =
@@ -82,7 +82,7 @@ module _ (sdws : ℕ → Result SdwFields Refusal) (r : ℕ) (g : RegsFields) wh
       }
     where
       ending : Ending
-      ending = record { word = Some w; at = Some c.last; after = p.regs; puts = p.puts; outcome = outcome_by (p.overflow && not p.regs.ind.mask) g }
+      ending = record { word = Some w; at = Some c.last; after = p.regs; puts = p.puts; outcome = outcome_after p.overflow p.regs.ind.mask g }
 
       gone : IsFallen sdws r g e c p → IsGone ending
       gone k =

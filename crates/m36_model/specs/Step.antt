@@ -210,6 +210,9 @@ abbrev pub outcome_by : Bool → RegsFields → Outcome
 outcome_by true g = Faulted (plain_fault overflow_fault (here g))
 outcome_by false g = Next
 
+abbrev pub outcome_after : Bool → Bool → RegsFields → Outcome
+outcome_after overflow mask g = outcome_by (overflow && not mask) g
+
 abbrev pub completed : RegsFields → ℕ → FinalFields → Performed → Act Ending
 completed g w last e =
     done (record {
@@ -217,7 +220,7 @@ completed g w last e =
       at = Some last;
       after = e.regs;
       puts = e.puts;
-      outcome = outcome_by (e.overflow && not e.regs.ind.mask) g;
+      outcome = outcome_after e.overflow e.regs.ind.mask g;
     })
 
 -- the operation, once the address is formed

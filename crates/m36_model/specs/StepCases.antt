@@ -32,7 +32,7 @@ use Rattle.m36_model.specs.Results.{OperandFields, EffectFields, words_only}
 use Rattle.m36_model.specs.Transfers.{is_taken}
 use Rattle.m36_model.specs.Effect.{exec, is_absa}
 use Rattle.m36_model.specs.Step.{tallied, no_operand, request_at, direct_word, operate, outcome_of}
-use Rattle.m36_model.specs.Step.{outcome_by, indirect_words, decode, has_right, fetch_request}
+use Rattle.m36_model.specs.Step.{outcome_after, indirect_words, decode, has_right, fetch_request}
 use Rattle.m36_model.specs.Step.{start, record_of, state_after}
 use Rattle.m36_model.specs.declared.outcome.Fault.{Fault}
 use Rattle.m36_model.specs.declared.outcome.Halt.{Halt}
@@ -209,7 +209,7 @@ pub record HasEffect {S : Type 0} (o : Store S) (s : State S) (e : StepRecord)
     at = Some end.last;
     refs = record { items = reached.mid.refs };
     after = result.regs;
-    outcome = outcome_by (result.overflow && not result.regs.ind.mask) s.regs;
+    outcome = outcome_after result.overflow result.regs.ind.mask s.regs;
   }
   pub left : t ≡ record {
     regs = result.regs;

@@ -16,7 +16,7 @@ use Rattle.m36_model.specs.Core.{core_store, core_put}
 use Rattle.m36_model.specs.Modification.{here}
 use Rattle.m36_model.specs.FirstPoint.{first_point}
 use Rattle.m36_model.specs.Chain.{chain, chain_end_fields, claimed_by}
-use Rattle.m36_model.specs.Step.{Ending, outcome_of, outcome_by, halted, completed, operate, operated, indirect_words, addressed, no_address, started, admitted, effect_and_number, decode, decoded, has_right, fetched, program, record_of, state_after}
+use Rattle.m36_model.specs.Step.{Ending, outcome_of, outcome_after, halted, completed, operate, operated, indirect_words, addressed, no_address, started, admitted, effect_and_number, decode, decoded, has_right, fetched, program, record_of, state_after}
 use Rattle.m36_model.specs.declared.effects.Formed.{Formed}
 use Rattle.m36_model.specs.declared.effects.Held.{Held}
 use Rattle.m36_model.specs.declared.outcome.Fault.{Fault}
@@ -67,7 +67,7 @@ module _ (g : RegsFields) where
     operation_refused h end o same is =
         rw (same, is) (ap end_of (operation_runs (Err h) o) ∙ halts (Some w) (Some f.last) h core' (claimed_by f.tally f.place) refs')
 
-    pub operation_performed : (o : Operated) (core'' : List ℕ) (end : Ended) → Operates (Ok o) → core'' ≡ core_put core' (changes (claims_of f put o) (puts_of f put o)) → end ≡ record { word = Some w; at = Some f.last; outcome = outcome_by (o.overflow && not g'.ind.mask) g } → EndsFormed g (operated e n g w (chain_end_fields f)) core f refs core'' refs' g' end
+    pub operation_performed : (o : Operated) (core'' : List ℕ) (end : Ended) → Operates (Ok o) → core'' ≡ core_put core' (changes (claims_of f put o) (puts_of f put o)) → end ≡ record { word = Some w; at = Some f.last; outcome = outcome_after o.overflow g'.ind.mask g } → EndsFormed g (operated e n g w (chain_end_fields f)) core f refs core'' refs' g' end
     unfolding run
     operation_performed o core'' end r written is =
         rw (is, written) (ap end_of (operation_runs (Ok o) r))

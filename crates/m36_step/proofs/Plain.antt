@@ -14,7 +14,7 @@ use Rattle.m36_model.specs.Effect.{exec, is_absa}
 use Rattle.m36_model.specs.Fields.{FinalFields}
 use Rattle.m36_model.specs.Registers.{RegsFields}
 use Rattle.m36_model.specs.Results.{OperandFields}
-use Rattle.m36_model.specs.Step.{Performed, no_operand, puts_from, performed, perform, tallied, operate, operate_on, operated, addressed, started, admitted, by_kind, by_direct, direct_word, addressing, transferring, request_at, outcome_by}
+use Rattle.m36_model.specs.Step.{Performed, no_operand, puts_from, performed, perform, tallied, operate, operate_on, operated, addressed, started, admitted, by_kind, by_direct, direct_word, addressing, transferring, request_at, outcome_after}
 use Rattle.m36_model.specs.Store.{Spot, serve, run, changes}
 use Rattle.m36_model.specs.Transfers.{is_taken}
 use Rattle.m36_model.specs.declared.effects.Formed.{Formed}
@@ -65,7 +65,7 @@ module _ (e : Effect) (n w : ℕ) (g : RegsFields) (last : FinalFields) where
 
   -- the end of the step, with the registers as the effect leaves them
   abbrev done_end : RegsFields → Bool → Ended
-  done_end g' overflow = record { word = Some w; at = Some last; outcome = outcome_by (overflow && not g'.ind.mask) g }
+  done_end g' overflow = record { word = Some w; at = Some last; outcome = outcome_after overflow g'.ind.mask g }
 
   -- what is written, and where the first word stands
   abbrev operated_at : ℕ → Bool → Operated

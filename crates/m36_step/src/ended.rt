@@ -1,9 +1,9 @@
 //! How a step ends.
 
-ghost use Rattle.std.specs.Prelude.{◌≡◌, ◌&&◌, not};
+ghost use Rattle.std.specs.Prelude.{◌≡◌};
 ghost use Rattle.m36_model.specs.Modification.{here, plain_fault};
 ghost use Rattle.m36_model.specs.Registers.{RegsFields};
-ghost use Rattle.m36_model.specs.Step.{outcome_of, outcome_by};
+ghost use Rattle.m36_model.specs.Step.{outcome_of, outcome_after};
 
 use m36_model::{At, Fault, Final, Halt, Outcome, Regs};
 use m36_word::Word;
@@ -52,7 +52,7 @@ pub(crate) fn halted(word: Option<Word>, at: Option<Final>, halt: Halt) -> Ended
 /// The outcome of a step that has its effect: an overflow is a fault, at the instruction, where the overflow mask is off.
 #[inline(always)]
 pub(crate) fn outcome_by(place: At, mask: bool, overflow: bool) -> Outcome
-    ensures { (g : RegsFields) → place ≡ here g → result ≡ outcome_by (overflow && not mask) g }
+    ensures { (g : RegsFields) → place ≡ here g → result ≡ outcome_after overflow mask g }
 {
     if overflow && !mask {
         Outcome::Faulted(Fault {

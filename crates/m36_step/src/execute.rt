@@ -12,7 +12,7 @@ ghost use Rattle.m36_model.specs.Chain.{chain_end_fields};
 ghost use Rattle.m36_model.specs.Modification.{here};
 ghost use Rattle.m36_model.specs.Registers.{RegsFields};
 ghost use Rattle.m36_model.specs.Step.{program, decoded, decode, admitted, started, no_address};
-ghost use Rattle.m36_model.specs.Step.{addressed, operated, halted, outcome_by};
+ghost use Rattle.m36_model.specs.Step.{addressed, operated, halted, outcome_after};
 ghost use Rattle.m36_step.specs.Ended.{EndsSo, EndsFormed, ended_of};
 
 use crate::ended::{Ended, fault_here, halted, outcome_by};
@@ -41,7 +41,7 @@ fn completed(
         ≡ record {
           word = Some word;
           at = Some last;
-          outcome = outcome_by (overflow && not regs.now.ind.mask) g;
+          outcome = outcome_after overflow regs.now.ind.mask g;
         } }
     ensures core { walk.new.core ≡ walk.old.core }
     ensures dbr { walk.new.dbr ≡ regs.now.dbr }

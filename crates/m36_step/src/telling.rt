@@ -1,9 +1,9 @@
 //! The end of a step, told in its record.
 
-ghost use Rattle.std.specs.Prelude.{◌≡◌, Some, ◌&&◌, not};
+ghost use Rattle.std.specs.Prelude.{◌≡◌, Some};
 ghost use Rattle.m36_model.specs.Modification.{here};
 ghost use Rattle.m36_model.specs.Registers.{RegsFields};
-ghost use Rattle.m36_model.specs.Step.{outcome_by};
+ghost use Rattle.m36_model.specs.Step.{outcome_after};
 ghost use Rattle.m36_model.specs.declared.outcome.Outcome.TheVariants.{Faulted};
 ghost use Rattle.m36_step.specs.Ended.{ended_of};
 
@@ -38,7 +38,7 @@ pub(crate) fn tell_done(
         ≡ record {
           word = Some word;
           at = Some last.now;
-          outcome = outcome_by (overflow && not regs.now.ind.mask) g;
+          outcome = outcome_after overflow regs.now.ind.mask g;
         } }
     ensures refs { told.new.refs ≡ told.old.refs }
     ensures ppr { told.new.ppr ≡ told.old.ppr }
