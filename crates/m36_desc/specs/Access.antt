@@ -25,29 +25,36 @@ first_of (row ∷ rows) = if row.0 then Some row.1 else first_of rows
 abbrev pub in_order : SdwFields → Bool
 in_order s = nat_le s.r1 s.r2 && nat_le s.r2 s.r3
 
+-- brackets that are not in order, and then more
+abbrev pub ordered_rows : SdwFields → List (Bool × ℕ) → List (Bool × ℕ)
+ordered_rows s more = (not (in_order s), illegal_ring_order) ∷ more
+
 -- A segment needs no right to be read by itself.
 abbrev pub read_rows : SdwFields → ℕ → Bool → List (Bool × ℕ)
 read_rows s trr same =
-    (not (in_order s), illegal_ring_order)
-    ∷ (nat_lt s.r2 trr, out_of_read_bracket)
+    ordered_rows s (
+    (nat_lt s.r2 trr, out_of_read_bracket)
     ∷ (not s.readable && not same, no_read_right)
     ∷ []
+    )
 
 abbrev pub write_rows : SdwFields → ℕ → List (Bool × ℕ)
 write_rows s trr =
-    (not (in_order s), illegal_ring_order)
-    ∷ (nat_lt s.r1 trr, out_of_write_bracket)
+    ordered_rows s (
+    (nat_lt s.r1 trr, out_of_write_bracket)
     ∷ (not s.writable, no_write_right)
     ∷ []
+    )
 
 -- a fetch in a ring, and then more: the execute bracket has a lower end too
 abbrev pub execute_rows : SdwFields → ℕ → List (Bool × ℕ) → List (Bool × ℕ)
 execute_rows s ring more =
-    (not (in_order s), illegal_ring_order)
-    ∷ (nat_lt ring s.r1, out_of_execute_bracket)
+    ordered_rows s (
+    (nat_lt ring s.r1, out_of_execute_bracket)
     ∷ (nat_lt s.r2 ring, out_of_execute_bracket)
     ∷ (not s.executable, no_execute_right)
     ∷ more
+    )
 
 abbrev pub fetch_rows : SdwFields → ℕ → List (Bool × ℕ)
 fetch_rows s prr = execute_rows s prr []
@@ -58,13 +65,14 @@ transfer_rows s trr prr = execute_rows s trr ((not (trr == prr), crossing_ring_t
 
 abbrev pub call_rows : SdwFields → ℕ → ℕ → Bool → ℕ → List (Bool × ℕ)
 call_rows s trr prr same word =
-    (not (in_order s), illegal_ring_order)
-    ∷ (not s.executable, no_execute_right)
+    ordered_rows s (
+    (not s.executable, no_execute_right)
     ∷ (not s.no_gate && (not same && nat_le s.limit word), not_a_gate)
     ∷ (nat_lt s.r3 trr, out_of_call_bracket)
     ∷ (nat_lt trr s.r1, outward_call)
     ∷ (nat_lt prr trr && nat_lt prr s.r2, bad_outward_call)
     ∷ []
+    )
 
 -- the ring after a call: R2 for a caller from above it, and else the ring of the reference
 abbrev pub ring_called : SdwFields → ℕ → ℕ

@@ -1,9 +1,8 @@
 //! The rights that a segment descriptor gives to a reference.
 
-ghost use Rattle.std.specs.Prelude.{◌≡◌, ◌<◌, ◌^◌, IfOk, not, [], ◌∷◌};
-ghost use Rattle.m36_desc.specs.Access.{first_of, allowed, read_rows, write_rows, fetch_rows};
-ghost use Rattle.m36_desc.specs.Access.{transfer_rows, call_rows, ring_called, in_order};
-ghost use Rattle.m36_desc.specs.Violations.{illegal_ring_order};
+ghost use Rattle.std.specs.Prelude.{◌≡◌, ◌<◌, ◌^◌, IfOk, []};
+ghost use Rattle.m36_desc.specs.Access.{first_of, allowed, ordered_rows, read_rows, write_rows};
+ghost use Rattle.m36_desc.specs.Access.{fetch_rows, transfer_rows, call_rows, ring_called};
 
 use crate::sdw::Sdw;
 
@@ -97,7 +96,7 @@ pub fn call_ring(s: &Sdw, trr: u8, prr: u8, same: bool, word: u32) -> Result<u8,
 
 #[inline(always)]
 fn brackets_in_order(s: &Sdw) -> Result<(), Acv>
-    ensures { result ≡ allowed tt (first_of ((not (in_order s.now), illegal_ring_order) ∷ [])) }
+    ensures { result ≡ allowed tt (first_of (ordered_rows s.now [])) }
 {
     if s.r1 <= s.r2 && s.r2 <= s.r3 {
         Ok(())

@@ -1,11 +1,11 @@
 -- A store, how it serves the requests of a step, and a run of a program over it.
 -- Multics Processor Manual AL39, "Address appending" and "Access control".
-use Rattle.std.specs.Prelude.{ℕ, zero, suc, ◌+◌, ◌-◌, ◌*◌, ◌/◌, ◌%◌, ◌^◌, Bool, true, false, not}
+use Rattle.std.specs.Prelude.{ℕ, zero, suc, ◌+◌, ◌-◌, ◌*◌, ◌/◌, ◌%◌, ◌^◌, Bool, true, false}
 use Rattle.std.specs.Prelude.{◌&&◌, ◌==◌, nat_le, if◌then◌else◌, List, [], ◌∷◌, ◌++◌, map, length}
 use Rattle.std.specs.Prelude.{slice_get, Option, Some, None, Result, Ok, Err}
 use Rattle.m36_desc.specs.Fields.{SdwFields, DbrFields}
-use Rattle.m36_desc.specs.Access.{first_of, in_order, read_rows, write_rows, fetch_rows}
-use Rattle.m36_desc.specs.Access.{transfer_rows, call_rows}
+use Rattle.m36_desc.specs.Access.{first_of, in_order, ordered_rows, read_rows, write_rows}
+use Rattle.m36_desc.specs.Access.{fetch_rows, transfer_rows, call_rows}
 use Rattle.m36_desc.specs.Violations.{illegal_ring_order, out_of_segment_bounds}
 use Rattle.m36_model.specs.Faults.{access_violation}
 use Rattle.m36_model.specs.Fields.{AtFields}
@@ -108,7 +108,7 @@ rows Read d trr prr same word = read_rows d trr same
 rows Write d trr prr same word = write_rows d trr
 rows Transfer d trr prr same word = transfer_rows d trr prr
 rows Call d trr prr same word = call_rows d trr prr same word
-rows Locate d trr prr same word = (not (in_order d), illegal_ring_order) ∷ []
+rows Locate d trr prr same word = ordered_rows d []
 
 -- brackets in order and rights: the violation, if any
 unfoldable pub denied : RequestKind → SdwFields → ℕ → ℕ → Bool → ℕ → Option ℕ

@@ -1,7 +1,7 @@
 -- Requests that touch no word: the target of a transfer or of a call, and the place of a word.
-use Rattle.std.proofs.Common.{ℕ, ◌≡◌, false, not, List, [], ◌∷◌, Option, Result, Ok, Err, ◌==◌, refl, ap, sym, subst, ◌∙◌}
+use Rattle.std.proofs.Common.{ℕ, ◌≡◌, false, List, [], Option, Result, Ok, Err, ◌==◌, refl, ap, sym, subst, ◌∙◌}
 use Rattle.m36_desc.specs.Fields.{SdwFields, DbrFields}
-use Rattle.m36_desc.specs.Access.{allowed, first_of, in_order, transfer_rows, call_rows}
+use Rattle.m36_desc.specs.Access.{allowed, first_of, ordered_rows, transfer_rows, call_rows}
 use Rattle.m36_model.specs.Fields.{AtFields}
 use Rattle.m36_model.specs.Registers.{RegsFields}
 use Rattle.m36_model.specs.Act.{Transfer, Call, Locate, Put, Request}
@@ -50,9 +50,9 @@ module _ (g : RegsFields) (dbr : DbrFields) (e : g.dbr ≡ dbr) (core : List ℕ
       (subst (λ (p : ℕ). AskedBy (λ d. first_of (call_rows d at.ring p (at.seg == psr) at.word)) (target_places at) core g.dbr at r) (sym k)
       (subst (λ (b : DbrFields). AskedBy (λ d. first_of (call_rows d at.ring prr (at.seg == psr) at.word)) (target_places at) core b at r) (sym e) h)))
 
-  pub locate_served : AskedBy (λ d. first_of ((not (in_order d), 0) ∷ [])) (word_places core at) core dbr at r
+  pub locate_served : AskedBy (λ d. first_of (ordered_rows d [])) (word_places core at) core dbr at r
       → serve core_store g (standing core claims refs) (request Locate at 1 puts) ≡ served_by (request Locate at 1 puts) core claims refs r
   unfolding denied places
   locate_served h =
-      asked (request Locate at 1 puts) (λ d. first_of ((not (in_order d), 0) ∷ [])) (word_places core at g.dbr) refl (λ d. refl) (λ d. refl)
-      (subst (λ (b : DbrFields). AskedBy (λ d. first_of ((not (in_order d), 0) ∷ [])) (word_places core at) core b at r) (sym e) h)
+      asked (request Locate at 1 puts) (λ d. first_of (ordered_rows d [])) (word_places core at g.dbr) refl (λ d. refl) (λ d. refl)
+      (subst (λ (b : DbrFields). AskedBy (λ d. first_of (ordered_rows d [])) (word_places core at) core b at r) (sym e) h)

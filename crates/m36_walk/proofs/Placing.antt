@@ -1,7 +1,7 @@
 -- The place of a word, whoever asks for it, is the place that a request for it is told.
 use Rattle.std.proofs.Common.{ℕ, ◌≡◌, Bool, true, false, not, List, [], ◌∷◌, Result, Ok, Err, ap}
 use Rattle.m36_desc.specs.Fields.{SdwFields, DbrFields}
-use Rattle.m36_desc.specs.Access.{allowed, first_of, in_order}
+use Rattle.m36_desc.specs.Access.{allowed, first_of, in_order, ordered_rows}
 use Rattle.m36_model.specs.Fields.{AtFields}
 use Rattle.m36_model.specs.Core.{core_store}
 use Rattle.m36_model.specs.Place.{core_sdw, core_spot}
@@ -45,13 +45,13 @@ module _ (core : List ℕ) (dbr : DbrFields) (at : AtFields) (d' : SdwFields) wh
   by_order d true b s result e = by_bound d b s result e
   by_order d false b s result e = refused (fault_by (violation 0) at) result e
 
-  by_descriptor : (s : Result SdwFields Refusal) (result : Result ℕ Fault) → reached_sdw (λ d. allowed tt (first_of ((not (in_order d), 0) ∷ []))) (λ d. spots_of core_store core dbr d at.seg at.word 1) at (told at s) ≡ at_place d' 1 result
+  by_descriptor : (s : Result SdwFields Refusal) (result : Result ℕ Fault) → reached_sdw (λ d. allowed tt (first_of (ordered_rows d []))) (λ d. spots_of core_store core dbr d at.seg at.word 1) at (told at s) ≡ at_place d' 1 result
       → Placed (told at (place_by s (λ d. core_spot core dbr d at.seg at.word) at.word)) result
   unfolding spots_of
   by_descriptor (Ok d) result e = by_order d (in_order d) (within d at.word) (core_spot core dbr d at.seg at.word) result e
   by_descriptor (Err why) result e = refused (fault_by why at) result e
 
-  pub place_told : (result : Result ℕ Fault) → reached (λ d. allowed tt (first_of ((not (in_order d), 0) ∷ []))) (λ d. spots_of core_store core dbr d at.seg at.word 1) (core_sdw core dbr at.seg) at ≡ at_place d' 1 result
+  pub place_told : (result : Result ℕ Fault) → reached (λ d. allowed tt (first_of (ordered_rows d []))) (λ d. spots_of core_store core dbr d at.seg at.word 1) (core_sdw core dbr at.seg) at ≡ at_place d' 1 result
       → told at (place core_store core dbr at.seg at.word) ≡ ok_map Core_word result
   unfolding reached place
   place_told result e = by_descriptor (core_sdw core dbr at.seg) result e

@@ -1,7 +1,7 @@
 //! References that touch no word: the target of a transfer or of a call, the place of a word, and a ring bracket.
 
-ghost use Rattle.std.specs.Prelude.{ℕ, ◌≡◌, ◌<◌, ◌^◌, ◌==◌, [], ◌∷◌, not, IfOk, length};
-ghost use Rattle.m36_desc.specs.Access.{allowed, first_of, in_order, transfer_rows, call_rows, ring_called};
+ghost use Rattle.std.specs.Prelude.{ℕ, ◌≡◌, ◌<◌, ◌^◌, ◌==◌, [], IfOk, length};
+ghost use Rattle.m36_desc.specs.Access.{allowed, first_of, in_order, ordered_rows, transfer_rows, call_rows, ring_called};
 ghost use Rattle.m36_associative.specs.Right.{AreRight};
 ghost use Rattle.m36_model.specs.Core.{core_store};
 ghost use Rattle.m36_model.specs.Place.{core_sdw};
@@ -111,7 +111,7 @@ fn ordered(sdw: &Sdw) -> Result<(), Refusal>
 /// The place of a word, whoever asks for it.
 #[tactic(auto, unfolding(crate::specs::Reached::reached))]
 pub(crate) fn find_place(core: &Core, dbr: Dbr, at: At) -> Result<u32, Fault>
-    ensures asked { reached (λ d. allowed tt (first_of ((not (in_order d), 0) ∷ [])))
+    ensures asked { reached (λ d. allowed tt (first_of (ordered_rows d [])))
         (λ d. spots_of core_store core.now dbr d at.seg at.word 1) (core_sdw core.now dbr at.seg) at
         ≡ at_place (sdw_in (record { core = core.now; dbr = dbr }) at.seg) 1 result }
     ensures inside { IfOk result (λ a. LiesIn (length core.now) a 1) }
