@@ -1,8 +1,9 @@
 -- What an effect is given and what it gives: operands, working registers, indicators.
 -- Multics Processor Manual AL39, "Processor registers" and "Indicator register".
-use Rattle.std.specs.Prelude.{ℕ, ◌+◌, ◌*◌, ◌/◌, ◌%◌, ◌^◌, Bool, false, ◌||◌, ◌==◌, List, [], ◌∷◌}
+use Rattle.std.specs.Prelude.{ℕ, ◌+◌, ◌/◌, ◌%◌, ◌^◌, Bool, false, ◌||◌, ◌==◌, List, [], ◌∷◌}
 use Rattle.std.specs.Prelude.{Result, Ok, slice_index, slice_set}
 use Rattle.m36_word.specs.Field.{field}
+use Rattle.m36_word.specs.Pairs.{number_of}
 use Rattle.m36_word.specs.declared.pair.Pair.{Pair}
 use Rattle.m36_model.specs.Registers.{RegsFields}
 use Rattle.m36_model.specs.Arithmetic.{SumFields, ComparisonFields, is_negative, negation}
@@ -58,7 +59,7 @@ abbrev pub lower : OperandFields → ℕ
 lower o = field (word o) 18 18
 
 abbrev pub pair : OperandFields → ℕ
-pair o = slice_index o.got 0 * 2 ^ 36 + slice_index o.got 1
+pair o = number_of (record { even = slice_index o.got 0; odd = slice_index o.got 1 })
 
 -- no indicator is on
 abbrev pub no_indicators : Ind
@@ -96,7 +97,7 @@ half (X n) = 2 ^ 17
 abbrev pub value : Working → RegsFields → ℕ
 value A g = g.a
 value Q g = g.q
-value AQ g = g.a * 2 ^ 36 + g.q
+value AQ g = number_of (record { even = g.a; odd = g.q })
 value (X n) g = slice_index g.x n
 
 unfoldable pub with_value : Working → ℕ → RegsFields → RegsFields
@@ -180,8 +181,8 @@ completes_with g put = completes_or_overflows g put false
 abbrev pub takes : Working → ℕ → Ind → RegsFields → RegsFields
 takes r v i g = with_indicators i (with_value r v g)
 
--- A register becomes a value, of which zero and negative tell; and the negative of a value, of which
--- overflow tells too.
+-- A register becomes a value, of which zero and negative tell; and the negative of a value, of
+-- which overflow tells too.
 abbrev pub becomes : Working → ℕ → RegsFields → Result EffectFields ℕ
 becomes r v g = completes (takes r v (zn (half r) v g.ind) g)
 
