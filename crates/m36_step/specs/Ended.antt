@@ -3,10 +3,10 @@ use Rattle.std.specs.Prelude.{ℕ, ◌≡◌, List, [], Option}
 use Rattle.m36_model.specs.Fields.{FinalFields}
 use Rattle.m36_model.specs.Registers.{RegsFields}
 use Rattle.m36_model.specs.Act.{Act}
-use Rattle.m36_model.specs.Store.{Ran, run, changes}
-use Rattle.m36_model.specs.Core.{core_store, core_put}
+use Rattle.m36_model.specs.Store.{Ran, run}
+use Rattle.m36_model.specs.Core.{core_store}
 use Rattle.m36_model.specs.Chain.{claimed_by}
-use Rattle.m36_model.specs.Step.{Ending}
+use Rattle.m36_model.specs.Step.{Ending, stepped}
 use Rattle.m36_model.specs.declared.effects.Formed.{Formed}
 use Rattle.m36_model.specs.declared.outcome.Outcome.{Outcome}
 use Rattle.m36_model.specs.declared.place.Reference.{Reference}
@@ -32,7 +32,7 @@ end_of t =
       after = t.value.after;
       outcome = t.value.outcome;
       refs = t.mid.refs;
-      core = core_put t.mid.store (changes t.mid.claims t.value.puts);
+      core = (stepped core_store t).store;
     }
 
 -- the end that the code gives, with the registers as it leaves them
