@@ -1,8 +1,8 @@
 -- How the laws name the words and the tables of a core list.
-use Rattle.std.specs.Prelude.{◌≡◌, ℕ, ◌⊎◌, List, length, slice_index}
+use Rattle.std.specs.Prelude.{◌≡◌, ℕ, ◌⊎◌, true, false, List, length, slice_index}
 use Rattle.m36_desc.specs.Fields.{DbrFields}
 use Rattle.m36_model.specs.Store.{Spot, Core_word, Segment_word}
-use Rattle.m36_model.specs.Place.{with_used, with_modified}
+use Rattle.m36_model.specs.Place.{marked_word}
 use Rattle.m36_model.specs.Core.{core_tables}
 use Rattle.m36_model.specs.Audit.{IsDirectoryWord, IsPageWord, IsSegmentWord}
 
@@ -23,7 +23,7 @@ IsPtwWord core dbr a =
 
 -- the word with its used bit put on, and perhaps its modified bit
 abbrev pub IsMarked : ℕ → ℕ → Type 0
-IsMarked old new = (new ≡ with_used old) ⊎ (new ≡ with_modified (with_used old))
+IsMarked old new = (new ≡ marked_word false old) ⊎ (new ≡ marked_word true old)
 
 -- a word that is as it was, or a page table word with marks put on
 abbrev pub IsButMarked : List ℕ → DbrFields → ℕ → ℕ → ℕ → Type 0
