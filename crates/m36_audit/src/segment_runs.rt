@@ -3,7 +3,7 @@
 ghost use Rattle.std.specs.Prelude.{ℕ, ◌≡◌, ◌+◌, ◌*◌, ◌/◌, ◌<◌, ◌≤◌, ◌^◌, true, false, Ok, length};
 ghost use Rattle.m36_desc.specs.Access.{in_order};
 ghost use Rattle.m36_model.specs.Place.{core_sdw, last_page};
-ghost use Rattle.m36_audit.specs.Runs.{whole_run, page_run, run, AreCounted};
+ghost use Rattle.m36_audit.specs.Runs.{words, whole_run, page_run, run, AreCounted};
 
 use crate::live::live;
 use crate::run::{Run, RunCounts};
@@ -18,7 +18,7 @@ const PAGE: u32 = 1024;
 
 /// How many words a segment has.
 fn words(sdw: &Sdw) -> u32
-    ensures value { result ≡ 16 * (sdw.now.bound + 1) }
+    ensures value { result ≡ words sdw.now }
     ensures most { result ≤ 2 ^ 18 }
 {
     16 * (sdw.bound as u32 + 1)

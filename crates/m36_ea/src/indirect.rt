@@ -1,10 +1,10 @@
 //! Indirect words: plain ones, pairs, and tally words.
 
-ghost use Rattle.std.specs.Prelude.{◌≡◌, ◌+◌, ◌<◌, ◌≤◌, ◌^◌, [], ◌∷◌, ◌++◌, None, IfOk, IfSome};
+ghost use Rattle.std.specs.Prelude.{◌≡◌, ◌+◌, ◌<◌, ◌≤◌, ◌^◌, [], ◌∷◌, ◌++◌, IfOk, IfSome};
 ghost use Rattle.std.specs.Prelude.{length};
 ghost use Rattle.m36_model.specs.Chain.{found};
 ghost use Rattle.m36_walk.specs.Served.{sdw_in, ok_map};
-ghost use Rattle.m36_ea.specs.Formed.{TallyLies};
+ghost use Rattle.m36_ea.specs.Formed.{plain, TallyLies};
 ghost use Rattle.m36_ea.specs.Points.{found_is, FollowsEven, ServesIndirect, ServesOdd, Follows};
 ghost use Rattle.m36_ea.specs.Points.{CountsTally};
 
@@ -137,7 +137,7 @@ pub(crate) fn follow(
 
 /// A formed address without a tally word.
 pub(crate) fn formed(last: Final) -> Formed
-    ensures { result ≡ record { last = last; tally = None; place = 0 } }
+    ensures { result ≡ plain last }
 {
     Formed {
         last,

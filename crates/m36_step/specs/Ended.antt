@@ -1,5 +1,5 @@
 -- How the code's step ends, and how the program of the step ends over core.
-use Rattle.std.specs.Prelude.{ℕ, ◌≡◌, List, [], Option}
+use Rattle.std.specs.Prelude.{ℕ, ◌≡◌, List, [], Option, None}
 use Rattle.m36_model.specs.Fields.{FinalFields}
 use Rattle.m36_model.specs.Registers.{RegsFields}
 use Rattle.m36_model.specs.Act.{Act}
@@ -9,6 +9,7 @@ use Rattle.m36_model.specs.Chain.{claimed_by}
 use Rattle.m36_model.specs.Step.{Ending, stepped}
 use Rattle.m36_model.specs.declared.effects.Formed.{Formed}
 use Rattle.m36_model.specs.declared.outcome.Outcome.{Outcome}
+use Rattle.m36_model.specs.declared.outcome.Outcome.TheVariants.{Next}
 use Rattle.m36_model.specs.declared.place.Reference.{Reference}
 use Rattle.m36_model.specs.declared.record.StepRecord.{StepRecord}
 use Rattle.m36_walk.specs.Served.{standing}
@@ -50,6 +51,18 @@ given_end core refs after e =
 -- the end that a record tells
 abbrev pub ended_of : StepRecord → Ended
 ended_of told = record { word = told.word; at = told.at; outcome = told.outcome }
+
+-- a record that tells of no step yet, and has these registers
+abbrev pub untold_record : RegsFields → StepRecord
+untold_record g =
+    record {
+      refs = record { items = [] };
+      after = g;
+      word = None;
+      at = None;
+      outcome = Next;
+      ppr = g.ppr;
+    }
 
 -- A program over core, in a step that has completed these references and claimed nothing, ends as
 -- the code does.

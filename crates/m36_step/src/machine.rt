@@ -1,13 +1,13 @@
 //! The machine.
 
-ghost use Rattle.std.specs.Prelude.{◌≡◌, [], ◌+◌, ◌%◌, ◌^◌, None, IfOk};
+ghost use Rattle.std.specs.Prelude.{◌≡◌, ◌+◌, ◌%◌, ◌^◌, None, IfOk};
 ghost use Rattle.std.specs.Borrow.{sem};
 ghost use Rattle.m36_model.specs.Audit.{IsAudited};
 ghost use Rattle.m36_model.specs.Core.{core_store};
 ghost use Rattle.m36_model.specs.Laws.{ExecutesLdbr};
 ghost use Rattle.m36_model.specs.Results.{moved_on};
 ghost use Rattle.m36_model.specs.Step.{record_of, state_after};
-ghost use Rattle.m36_model.specs.declared.outcome.Outcome.TheVariants.{Next};
+ghost use Rattle.m36_step.specs.Ended.{untold_record};
 ghost use Rattle.m36_step.specs.MachineTurn.{MachineTurns, ended_by};
 
 use crate::execute::execute;
@@ -62,15 +62,7 @@ fn take_step(walk: &mut Walk, regs: &mut Regs, told: &mut StepRecord)
 
 /// A record that tells of no step yet.
 fn untold(regs: &Regs) -> StepRecord
-    ensures { result
-        ≡ record {
-          refs = record { items = [] };
-          after = regs.now;
-          word = None;
-          at = None;
-          outcome = Next;
-          ppr = regs.now.ppr;
-        } }
+    ensures { result ≡ untold_record regs.now }
 {
     StepRecord {
         refs: Refs::new(),
@@ -173,15 +165,7 @@ impl Machine {
 
     /// A record for `step_into` to fill: it has the registers as they stand, and tells of no step.
     pub fn untold(&self) -> StepRecord
-        ensures { result
-            ≡ record {
-              refs = record { items = [] };
-              after = self.now.state.regs;
-              word = None;
-              at = None;
-              outcome = Next;
-              ppr = self.now.state.regs.ppr;
-            } }
+        ensures { result ≡ untold_record self.now.state.regs }
     {
         untold(&self.regs)
     }

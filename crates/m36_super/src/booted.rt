@@ -1,8 +1,8 @@
 //! Booted systems.
 
-ghost use Rattle.std.specs.Prelude.{◌≡◌, ◌<◌, [], None, length, false};
+ghost use Rattle.std.specs.Prelude.{◌≡◌, ◌<◌, length, false};
 ghost use Rattle.m36_link.specs.Laws.{IsMade};
-ghost use Rattle.m36_model.specs.declared.outcome.Outcome.TheVariants.{Next};
+ghost use Rattle.m36_step.specs.Ended.{untold_record};
 ghost use Rattle.m36_super.specs.SuperFields.{IsRunning, IsDue};
 ghost use Rattle.m36_super.specs.SuperTurn.{SuperTurns};
 
@@ -123,15 +123,7 @@ impl Super {
 
     /// A record for `step_told` to fill: it has the registers as they stand, and tells of no step.
     pub fn untold(&self) -> StepRecord
-        ensures { result
-            ≡ record {
-              refs = record { items = [] };
-              after = self.now.regs;
-              word = None;
-              at = None;
-              outcome = Next;
-              ppr = self.now.regs.ppr;
-            } }
+        ensures { result ≡ untold_record self.now.regs }
     {
         self.machine.untold()
     }

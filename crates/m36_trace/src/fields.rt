@@ -1,9 +1,9 @@
 //! The fields of a trace line, each put at the end of a line that has room for it.
 
-ghost use Rattle.std.specs.Prelude.{◌≡◌, ◌+◌, ◌≤◌, ◌<◌, ◌^◌, ◌++◌, length, codes, if◌then◌else◌};
+ghost use Rattle.std.specs.Prelude.{◌≡◌, ◌+◌, ◌≤◌, ◌<◌, ◌^◌, ◌++◌, length};
 ghost use Rattle.m36_text.specs.Digits.{octal_text, decimal_text};
 ghost use Rattle.m36_trace.specs.TraceLine.{word_of_segment, instruction_text, address_text};
-ghost use Rattle.m36_trace.specs.TraceLine.{operand_text, final_text, indicators_text, fault_text};
+ghost use Rattle.m36_trace.specs.TraceLine.{operand_text, final_text, letter, indicators_text, fault_text};
 ghost use Rattle.m36_trace.specs.TraceLine.{stop_text, outcome_text};
 
 use crate::digits::{place_digits, put_characters, ring_digit, word_digits};
@@ -100,9 +100,9 @@ pub fn put_operand(line: &mut ArrayString<160>, at: At, direct: Option<Word>)
 
 /// Puts the letter of an indicator that is on, and a point for one that is off.
 pub fn put_indicator<const CAP: usize>(line: &mut ArrayString<CAP>, name: &str, on: bool)
-    requires letter { length name.now ≡ 1 }
+    requires one { length name.now ≡ 1 }
     requires room { length line.old.bytes < CAP }
-    ensures text { line.new.bytes ≡ line.old.bytes ++ (if on then name.now else codes ".") }
+    ensures text { line.new.bytes ≡ line.old.bytes ++ letter name.now on }
     ensures len { length line.new.bytes ≡ length line.old.bytes + 1 }
 {
     line.push_str(if on { name } else { "." });

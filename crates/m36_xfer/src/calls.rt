@@ -1,6 +1,7 @@
 //! Call and return, which alone change the ring of execution.
 
-ghost use Rattle.std.specs.Prelude.{◌≡◌, ◌<◌, ◌^◌, Ok, IsTrue, map, max};
+ghost use Rattle.std.specs.Prelude.{◌≡◌, ◌<◌, ◌^◌, Ok, IsTrue, map};
+ghost use Rattle.m36_model.specs.Modification.{pair_ring};
 ghost use Rattle.m36_model.specs.OperandHeld.{is_pair};
 ghost use Rattle.m36_model.specs.Results.{effect_fields, operand_fields};
 ghost use Rattle.m36_model.specs.CallReturn.{call, return_to, stack_segment, stack_pointer};
@@ -91,7 +92,7 @@ fn return_ring(its: &Its, f: &Final, operand: &Operand36) -> u8
 #[inline(always)]
 pub(crate) fn greatest_ring(its: &Its, f: &Final, segment_ring: u8) -> u8
     requires { segment_ring < 2 ^ 3 }
-    ensures value { result ≡ max (max f.now.at.ring segment_ring) its.now.ring }
+    ensures value { result ≡ pair_ring f.now.at.ring segment_ring its.now.ring }
     ensures bound { result < 2 ^ 3 }
 {
     let at = f.at;
