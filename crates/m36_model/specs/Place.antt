@@ -4,8 +4,6 @@
 use Rattle.std.specs.Prelude.{ℕ, ◌+◌, ◌*◌, ◌/◌, ◌%◌, ◌^◌, Bool, true, false, ◌&&◌, nat_lt}
 use Rattle.std.specs.Prelude.{if◌then◌else◌, List, [], ◌∷◌, ◌++◌, length, slice_get, slice_index}
 use Rattle.std.specs.Prelude.{slice_set, Option, Some, None, option_map, Result, Ok, Err}
-use Rattle.m36_word.specs.Bits.{is_on}
-use Rattle.m36_word.specs.Field.{field}
 use Rattle.m36_desc.specs.Fields.{SdwFields, PtwFields, DbrFields}
 use Rattle.m36_desc.specs.Descriptors.{sdw_of, ptw_of}
 use Rattle.m36_model.specs.Faults.{directed_fault}
@@ -87,12 +85,12 @@ sdw_place core dbr seg =
 -- the descriptor in two words; both stand in core before F is looked at
 abbrev pub live_by : Bool → ℕ → ℕ → Result SdwFields Refusal
 live_by true even odd = Ok (sdw_of even odd)
-live_by false even odd = Err (directed (field even 34 2))
+live_by false even odd = Err (directed (sdw_of even odd).fc)
 
 abbrev pub sdw_words : Option ℕ → Option ℕ → Result SdwFields Refusal
 sdw_words None odd = Err store_fault
 sdw_words (Some even) None = Err store_fault
-sdw_words (Some even) (Some odd) = live_by (is_on even 33) even odd
+sdw_words (Some even) (Some odd) = live_by (sdw_of even odd).f even odd
 
 abbrev pub sdw_at : List ℕ → Result ℕ Refusal → Result SdwFields Refusal
 sdw_at core (Err e) = Err e

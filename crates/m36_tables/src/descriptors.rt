@@ -1,9 +1,9 @@
 //! How the descriptor of a segment is found.
 
 ghost use Rattle.std.specs.Prelude.{◌≡◌, ◌<◌, ◌^◌, IfOk, OnOk, length};
+ghost use Rattle.m36_desc.specs.Descriptors.{sdw_of};
 ghost use Rattle.m36_model.specs.Place.{directory_at, in_bounds, sdw_place, live_by, core_sdw};
 ghost use Rattle.m36_tables.specs.Tables.{TableIn};
-ghost use Rattle.m36_word.specs.Bits.{is_on};
 
 use crate::addresses::{directory_at, wrapped};
 use crate::pages::{in_frame, page_table_word};
@@ -46,7 +46,7 @@ pub fn descriptor_place(core: &Core, dbr: Dbr, seg: u16) -> Result<u32, Refusal>
 /// The descriptor in a pair, where the segment is there.
 #[inline(always)]
 fn live(pair: Pair) -> Result<Sdw, Refusal>
-    ensures { result ≡ live_by (is_on pair.even 33) pair.even pair.odd }
+    ensures { result ≡ live_by (sdw_of pair.even pair.odd).f pair.even pair.odd }
 {
     let sdw = Sdw::of_words(pair);
     if sdw.f {
