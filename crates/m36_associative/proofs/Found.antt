@@ -5,7 +5,7 @@ use Rattle.std.proofs.lemmas.Option.{slice_get_within}
 use Rattle.std.specs.Map.{lookup}
 use Rattle.m36_desc.specs.Fields.{SdwFields, PtwFields, DbrFields}
 use Rattle.m36_desc.specs.Descriptors.{ptw_of}
-use Rattle.m36_model.specs.Place.{wrapped, frame_at, in_frame, in_frame_by, ptw_at, directory_at, page_at, in_bounds, sdw_place_by, sdw_at, core_sdw, marked_word, with_mark, with_marks, directory_marks, page_marks}
+use Rattle.m36_model.specs.Place.{wrapped, frame_at, in_frame, in_frame_by, ptw_at, directory_at, page_at, in_bounds, sdw_place_by, sdw_at, core_sdw, marked_word, with_mark, with_marks, marks_by}
 use Rattle.m36_tables.specs.Tables.{TableIn}
 use Rattle.m36_associative.specs.Right.{IsMarked, IsPage, AreRight}
 use Rattle.m36_associative.specs.declared.front.Page.{Page}
@@ -42,7 +42,7 @@ module _ (core : List ℕ) (dbr : DbrFields) (m : Memories) (p : Page) (seg word
   page_of i h b e k l = h.pages p (i, b, e) seg (word / 1024) (omega arith) k
 
   -- its marks stand
-  pub marks_of : (write : Bool) → (write ≡ true → p.modified ≡ true) → IsPage core dbr m.words m.tables p seg (word / 1024) → with_marks core (directory_marks dbr seg ++ page_marks write word (Ok p.sdw)) ≡ core
+  pub marks_of : (write : Bool) → (write ≡ true → p.modified ≡ true) → IsPage core dbr m.words m.tables p seg (word / 1024) → with_marks core (marks_by dbr seg write word (Ok p.sdw)) ≡ core
   marks_of write h k = marks_stand core (directory_at dbr seg) (page_at p.sdw (word / 1024)) write dbr.unpaged p.sdw.unpaged k.passed (stands write h)
     where
       stands : (write : Bool) → (write ≡ true → p.modified ≡ true) → p.sdw.unpaged ≡ false → IsMarked core (page_at p.sdw (word / 1024)) write

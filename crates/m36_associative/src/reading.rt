@@ -1,8 +1,8 @@
 //! What is kept is asked first, and core only where nothing is kept.
 
-ghost use Rattle.std.specs.Prelude.{ℕ, ◌≡◌, ◌+◌, ◌*◌, ◌/◌, ◌%◌, ◌<◌, ◌^◌, ◌++◌, List, Some, Ok, true, false, IfOk, IfSome, OnOk, OnSome, IsTrue, length};
+ghost use Rattle.std.specs.Prelude.{ℕ, ◌≡◌, ◌+◌, ◌*◌, ◌/◌, ◌%◌, ◌<◌, ◌^◌, List, Some, Ok, true, false, IfOk, IfSome, OnOk, OnSome, IsTrue, length};
 ghost use Rattle.m36_desc.specs.Fields.{DbrFields};
-ghost use Rattle.m36_model.specs.Place.{wrapped, in_frame, ptw_at, directory_at, page_at, sdw_place, core_sdw, word_place_by, directory_marks, page_marks, with_marks};
+ghost use Rattle.m36_model.specs.Place.{wrapped, in_frame, ptw_at, directory_at, page_at, sdw_place, core_sdw, word_place_by, marks_by, with_marks};
 ghost use Rattle.m36_tables.specs.Tables.{TableIn};
 ghost use Rattle.m36_associative.specs.Right.{AreRight, IsWatched, IsPage, IsMarked};
 ghost use Rattle.m36_associative.specs.Watched.{watched};
@@ -197,7 +197,7 @@ pub fn page(
         (ptw_at _core.now (page_at p.sdw (word / 1024)))
         ≡ Ok (wrapped (p.base + word % 1024))) }
     ensures marked { IfSome result (λ p. with_marks _core.now
-        (directory_marks _dbr seg ++ page_marks write word (Ok p.sdw)) ≡ _core.now) }
+        (marks_by _dbr seg write word (Ok p.sdw)) ≡ _core.now) }
     ensures right { AreRight _core.now _dbr memories.new }
 {
     let i = slot_of(seg, word);

@@ -175,4 +175,4 @@ module _ (core : List ℕ) (dbr : DbrFields) where
   pub marks_are_ptws : (now : List ℕ) → Matches core dbr now → (kind : RequestKind) (seg w : ℕ) (d : SdwFields) → core_sdw core dbr seg ≡ Ok d → within d w ≡ true → Each (λ (m : Mark). IsPtwWord core dbr m.address) (marks now dbr kind seg w)
   unfolding marks
   marks_are_ptws now k kind seg w d live inside =
-      each_append (λ (m : Mark). IsPtwWord core dbr m.address) (directory_marks dbr seg) _ (directory_ptws seg (live_bounds seg d live) dbr.unpaged refl) (page_ptws_at (is_write kind) seg w d live inside (core_sdw now dbr seg) (sym (same_sdw core dbr now k seg ∙ live)))
+      each_append (λ (m : Mark). IsPtwWord core dbr m.address) (directory_marks dbr seg) (page_marks (is_write kind) w (core_sdw now dbr seg)) (directory_ptws seg (live_bounds seg d live) dbr.unpaged refl) (page_ptws_at (is_write kind) seg w d live inside (core_sdw now dbr seg) (sym (same_sdw core dbr now k seg ∙ live)))

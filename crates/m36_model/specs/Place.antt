@@ -150,9 +150,11 @@ page_marks write w (Ok d) =
     if d.unpaged then [] else record { address = page_at d (w / 1024); modified = write } ∷ []
 
 -- the marks of a reference: one for each PTW that it passes
+abbrev pub marks_by : DbrFields → ℕ → Bool → ℕ → Result SdwFields Refusal → List Mark
+marks_by dbr seg write w sdw = directory_marks dbr seg ++ page_marks write w sdw
+
 unfoldable pub marks : List ℕ → DbrFields → RequestKind → ℕ → ℕ → List Mark
-marks core dbr kind seg w =
-    directory_marks dbr seg ++ page_marks (is_write kind) w (core_sdw core dbr seg)
+marks core dbr kind seg w = marks_by dbr seg (is_write kind) w (core_sdw core dbr seg)
 
 abbrev pub with_mark : List ℕ → Mark → List ℕ
 with_mark core m = slice_set core m.address (marked_word m.modified (slice_index core m.address))

@@ -1,12 +1,12 @@
 -- What a reference to core gives: descriptor, rights and places in this order, or the first
 -- refusal, told at its word.
-use Rattle.std.specs.Prelude.{ℕ, Bool, true, false, ◌≡◌, ◌++◌, List, Result, Ok, Err}
+use Rattle.std.specs.Prelude.{ℕ, Bool, true, false, ◌≡◌, List, Result, Ok, Err}
 use Rattle.m36_desc.specs.Fields.{SdwFields, DbrFields}
 use Rattle.m36_desc.specs.Violations.{illegal_ring_order}
 use Rattle.m36_desc.specs.declared.access.Acv.{Acv}
 use Rattle.m36_model.specs.Fields.{AtFields}
 use Rattle.m36_model.specs.Store.{Spot, violation, fault_by}
-use Rattle.m36_model.specs.Place.{directory_marks, page_marks, with_marks}
+use Rattle.m36_model.specs.Place.{marks_by, with_marks}
 use Rattle.m36_model.specs.declared.outcome.Fault.{Fault}
 use Rattle.m36_model.specs.declared.outcome.Refusal.{Refusal}
 use Rattle.m36_walk.specs.Runs.{run_from, told_places}
@@ -61,6 +61,6 @@ found_run count (Err f) = Err f
 
 -- an answered reference has set its marks, and a refused one has changed nothing
 abbrev pub Marked : DbrFields → AtFields → Bool → List ℕ → List ℕ → Result Found Fault → Type 0
-Marked dbr at write old new (Ok f) = new
-    ≡ with_marks old (directory_marks dbr at.seg ++ page_marks write at.word (Ok f.sdw))
+Marked dbr at write old new (Ok f) =
+    new ≡ with_marks old (marks_by dbr at.seg write at.word (Ok f.sdw))
 Marked dbr at write old new (Err f) = new ≡ old

@@ -1,9 +1,9 @@
 //! The marks that a reference sets in the page table words that it passes.
 
-ghost use Rattle.std.specs.Prelude.{◌≡◌, ◌/◌, ◌<◌, ◌^◌, ◌++◌, Ok, length};
+ghost use Rattle.std.specs.Prelude.{◌≡◌, ◌/◌, ◌<◌, ◌^◌, Ok, length};
 ghost use Rattle.m36_associative.specs.Right.{AreRight};
 ghost use Rattle.m36_desc.specs.Fields.{DbrFields};
-ghost use Rattle.m36_model.specs.Place.{directory_at, page_at, with_marks, directory_marks, page_marks};
+ghost use Rattle.m36_model.specs.Place.{directory_at, page_at, with_marks, directory_marks, page_marks, marks_by};
 ghost use Rattle.m36_tables.specs.Tables.{TableIn};
 
 use m36_associative::{Memories, mark};
@@ -61,8 +61,7 @@ pub(crate) fn set_marks(
     requires word { word < 2 ^ 18 }
     requires directory { TableIn (length core.old) dbr.unpaged (directory_at dbr seg) }
     requires page { TableIn (length core.old) sdw.now.unpaged (page_at sdw.now (word / 1024)) }
-    ensures marked { core.new
-        ≡ with_marks core.old (directory_marks dbr seg ++ page_marks write word (Ok sdw.now)) }
+    ensures marked { core.new ≡ with_marks core.old (marks_by dbr seg write word (Ok sdw.now)) }
     ensures len { length core.new ≡ length core.old }
     ensures right { (other : DbrFields) → AreRight core.old other memories.old
         → AreRight core.new other memories.new }

@@ -6,11 +6,11 @@
 //! What is found by the tables is taken apart and put together again. Handed on as it is, it would stand in one place in
 //! memory with what is found in front, which is otherwise in processor registers.
 
-ghost use Rattle.std.specs.Prelude.{ℕ, ◌≡◌, ◌+◌, ◌/◌, ◌%◌, ◌<◌, ◌≤◌, ◌^◌, ◌++◌, ◌==◌, Ok, IfOk, OnOk, length, Result, true, false};
+ghost use Rattle.std.specs.Prelude.{ℕ, ◌≡◌, ◌+◌, ◌/◌, ◌%◌, ◌<◌, ◌≤◌, ◌^◌, ◌==◌, Ok, IfOk, OnOk, length, Result, true, false};
 ghost use Rattle.m36_desc.specs.Access.{allowed, first_of, read_rows, write_rows, fetch_rows};
 ghost use Rattle.m36_associative.specs.Right.{AreRight};
 ghost use Rattle.m36_model.specs.Core.{core_store};
-ghost use Rattle.m36_model.specs.Place.{wrapped, core_sdw, directory_at, page_at, ptw_at, word_place_by, directory_marks, page_marks, with_marks};
+ghost use Rattle.m36_model.specs.Place.{wrapped, core_sdw, directory_at, page_at, ptw_at, word_place_by, marks_by, with_marks};
 ghost use Rattle.m36_model.specs.Store.{spots_of};
 ghost use Rattle.m36_walk.specs.Reached.{told, told_acv, reached, found_run, Marked};
 ghost use Rattle.m36_walk.specs.Runs.{LiesIn};
@@ -104,7 +104,7 @@ fn read_in_page(
         (ptw_at core.now (page_at page.now.sdw (at.word / 1024)))
         ≡ Ok (wrapped (page.now.base + at.word % 1024)) }
     requires marked { with_marks core.now
-        (directory_marks dbr at.seg ++ page_marks false at.word (Ok page.now.sdw)) ≡ core.now }
+        (marks_by dbr at.seg false at.word (Ok page.now.sdw)) ≡ core.now }
     ensures examined { reached (λ d. allowed tt (first_of (read_rows d at.ring (at.seg == psr))))
         (λ d. spots_of core_store core.now dbr d at.seg at.word count)
         (core_sdw core.now dbr at.seg) at ≡ found_run count result }
@@ -201,7 +201,7 @@ fn write_in_page(core: &Core, dbr: Dbr, page: &Page, at: At, count: u32) -> Resu
         (ptw_at core.now (page_at page.now.sdw (at.word / 1024)))
         ≡ Ok (wrapped (page.now.base + at.word % 1024)) }
     requires marked { with_marks core.now
-        (directory_marks dbr at.seg ++ page_marks true at.word (Ok page.now.sdw)) ≡ core.now }
+        (marks_by dbr at.seg true at.word (Ok page.now.sdw)) ≡ core.now }
     ensures examined { reached (λ d. allowed tt (first_of (write_rows d at.ring)))
         (λ d. spots_of core_store core.now dbr d at.seg at.word count)
         (core_sdw core.now dbr at.seg) at ≡ found_run count result }
@@ -294,7 +294,7 @@ fn fetch_in_page(core: &Core, dbr: Dbr, page: &Page, at: At) -> Result<Found, Fa
         (ptw_at core.now (page_at page.now.sdw (at.word / 1024)))
         ≡ Ok (wrapped (page.now.base + at.word % 1024)) }
     requires marked { with_marks core.now
-        (directory_marks dbr at.seg ++ page_marks false at.word (Ok page.now.sdw)) ≡ core.now }
+        (marks_by dbr at.seg false at.word (Ok page.now.sdw)) ≡ core.now }
     ensures examined { reached (λ d. allowed tt (first_of (fetch_rows d at.ring)))
         (λ d. spots_of core_store core.now dbr d at.seg at.word 1)
         (core_sdw core.now dbr at.seg) at ≡ found_run 1 result }
