@@ -5,8 +5,8 @@ use Rattle.m36_model.specs.Registers.{RegsFields}
 use Rattle.m36_model.specs.Act.{Indirect, Odd, Write, Request, Answer, Act, done, ask}
 use Rattle.m36_model.specs.Store.{Mid, Served, Ran, serve, run, with_odd}
 use Rattle.m36_model.specs.Core.{core_store}
-use Rattle.m36_model.specs.Modification.{Point, Move, Ends, Fails, Reads, Counts, move_of_point}
-use Rattle.m36_model.specs.Chain.{ChainEnd, Formation, Found, Plain, Its, Itp, found, indirect, at_point, plain_point, its_point, itp_point, after_word, after_tally, chain, chain_by, chain_exhausted, lockup}
+use Rattle.m36_model.specs.Modification.{Point, Move, Ends, Fails, Reads, Counts, at_point, final_at, move_of_point}
+use Rattle.m36_model.specs.Chain.{ChainEnd, Formation, Found, Plain, Its, Itp, found, indirect, plain_point, its_point, itp_point, after_word, after_tally, chain, chain_by, chain_exhausted, lockup}
 use Rattle.m36_model.specs.Tally.{tally, tally_address, indirect_only}
 use Rattle.m36_model.specs.declared.outcome.Fault.{Fault}
 use Rattle.m36_model.specs.declared.outcome.Halt.{Halt}
@@ -16,7 +16,7 @@ use Rattle.m36_model.specs.declared.place.Kind.TheVariants as reference
 use Rattle.m36_walk.specs.Memory.{Memory}
 use Rattle.m36_walk.specs.Runs.{run_from}
 use Rattle.m36_walk.specs.Served.{standing, sdw_in, request, with_words, ServesClaim}
-use Rattle.m36_ea.specs.Points.{indirect_reference, ServesIndirect, ServesOdd, goes_on, counted_end, final_at}
+use Rattle.m36_ea.specs.Points.{indirect_reference, ServesIndirect, ServesOdd, goes_on, counted_end}
 
 -- an odd word joins the even one before it
 pub odd_joins : (q : Request) (refs : List Reference) (e : Reference) → with_odd q (refs ++ e ∷ []) ≡ refs ++ record { kind = reference.Indirect; at = record { seg = q.at.seg; word = q.at.word - 1; ring = q.at.ring }; count = 2 } ∷ []

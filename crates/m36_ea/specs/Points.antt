@@ -2,14 +2,12 @@
 use Rattle.std.specs.Prelude.{ℕ, ◌≡◌, ◌+◌, ◌%◌, ◌<◌, ◌^◌, IfSome, List, [], ◌∷◌, ◌++◌, Option}
 use Rattle.std.specs.Prelude.{Result, Ok, Err}
 use Rattle.m36_desc.specs.Fields.{SdwFields}
-use Rattle.m36_model.specs.Fields.{FinalFields}
 use Rattle.m36_model.specs.Registers.{RegsFields}
 use Rattle.m36_model.specs.Act.{Indirect, Odd, done}
 use Rattle.m36_model.specs.Store.{Served, Ran, serve, run}
 use Rattle.m36_model.specs.Core.{core_store}
-use Rattle.m36_model.specs.Modification.{Point, Move, Ends, Fails, Reads, Counts}
-use Rattle.m36_model.specs.Chain.{ChainEnd, Formation, Found, Plain, Its, Itp, at_point, indirect}
-use Rattle.m36_model.specs.Chain.{chain_by}
+use Rattle.m36_model.specs.Modification.{Point, Move, Ends, Fails, Reads, Counts, at_point}
+use Rattle.m36_model.specs.Chain.{ChainEnd, Formation, Found, Plain, Its, Itp, indirect, chain_by}
 use Rattle.m36_model.specs.declared.effects.Formed.{Formed}
 use Rattle.m36_model.specs.declared.outcome.Fault.{Fault}
 use Rattle.m36_model.specs.declared.outcome.Halt.{Halt}
@@ -23,10 +21,6 @@ use Rattle.m36_ea.specs.declared.modification.Action.{Action}
 use Rattle.m36_ea.specs.declared.modification.Action.TheVariants as action
 use Rattle.m36_ea.specs.declared.indirect.Format.{Format}
 use Rattle.m36_ea.specs.declared.indirect.Format.TheVariants as format
-
--- the end of a chain
-abbrev pub final_at : Point → ℕ → Option ℕ → FinalFields
-final_at p word direct = record { at = at_point p word; bit = p.bit; direct = direct }
 
 -- what a tag does
 abbrev pub move_is : Action → Move

@@ -1,8 +1,8 @@
 //! The temporary pointer register, which holds the point that an address chain has come to.
 
 ghost use Rattle.std.specs.Prelude.{◌≡◌, ◌+◌, ◌<◌, ◌^◌, Some, None, IfSome};
-ghost use Rattle.m36_model.specs.Chain.{at_point, plain_point, its_point, itp_point};
-ghost use Rattle.m36_ea.specs.Points.{final_at};
+ghost use Rattle.m36_model.specs.Chain.{plain_point, its_point, itp_point};
+ghost use Rattle.m36_model.specs.Modification.{at_point, final_at};
 ghost use Rattle.m36_model.specs.FirstPoint.{first_point};
 ghost use Rattle.m36_inst.specs.Instruction.{pr_offset};
 

@@ -13,10 +13,10 @@ use Rattle.m36_model.specs.Fields.{AtFields}
 use Rattle.m36_model.specs.Registers.{RegsFields}
 use Rattle.m36_model.specs.Act.{RequestKind, Fetch, Indirect, Odd, Read, Write, Transfer, Call, Locate, Part, Whole, Request, Answer, Act, done, ask, and_then, answered, refer, either}
 use Rattle.m36_model.specs.Act as act
-use Rattle.m36_model.specs.Modification.{Point, Move, Ends, Fails, Reads, Counts, move_of_point}
+use Rattle.m36_model.specs.Modification.{Point, Move, Ends, Fails, Reads, Counts, at_point, move_of_point}
 use Rattle.m36_model.specs.FirstPoint.{first_point}
 use Rattle.m36_model.specs.Tally.{indirect_only}
-use Rattle.m36_model.specs.Chain.{at_point, indirect, ChainEnd, Formation, Found, Its, Itp, Plain, found, found_by_tag, after_word, after_tally, chain_by, chain_exhausted, chain}
+use Rattle.m36_model.specs.Chain.{indirect, ChainEnd, Formation, Found, Its, Itp, Plain, found, found_by_tag, after_word, after_tally, chain_by, chain_exhausted, chain}
 use Rattle.m36_model.specs.Transfers.{is_taken}
 use Rattle.m36_model.specs.Effect.{is_absa}
 use Rattle.m36_model.specs.Step.{Performed, Operation, request_at, tallied, reading_word, changing, addressing, transferring, by_kind, by_direct, operate_on, operate, Ending, halted, completed, fetched, operated, indirect_words, addressed, no_address, started, admitted, decode, decoded, program}

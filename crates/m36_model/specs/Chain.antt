@@ -7,7 +7,7 @@ use Rattle.std.specs.Prelude.{slice_index}
 use Rattle.m36_word.specs.Field.{field}
 use Rattle.m36_desc.specs.Descriptors.{its_of, itp_of, its_tag, itp_tag}
 use Rattle.m36_model.specs.Faults.{lockup_fault}
-use Rattle.m36_model.specs.Fields.{AtFields, FinalFields}
+use Rattle.m36_model.specs.Fields.{FinalFields}
 use Rattle.m36_model.specs.Registers.{RegsFields}
 use Rattle.m36_model.specs.Store.{Spot, Core_word}
 use Rattle.m36_model.specs.declared.effects.Formed.{Formed}
@@ -16,7 +16,7 @@ use Rattle.m36_model.specs.declared.outcome.Halt.{Halt}
 use Rattle.m36_model.specs.Act.{RequestKind, Indirect, Odd, Write, Whole, Put, Request, Answer, Act}
 use Rattle.m36_model.specs.Act.{done, refer}
 use Rattle.m36_model.specs.Modification.{Point, Move, Ends, Fails, Reads, Counts, move_of_point}
-use Rattle.m36_model.specs.Modification.{ptr, pair_ring, fault_at}
+use Rattle.m36_model.specs.Modification.{ptr, pair_ring, fault_at, at_point, final_at}
 use Rattle.m36_model.specs.Tally.{Counted, tally, tally_address, indirect_only}
 
 -- What a chain gives: the final address, the tally word that is still to be written, and the tally
@@ -35,9 +35,6 @@ abbrev pub ends_plain : FinalFields → Formation
 ends_plain last = done (Ok (record { last = last; pending = []; runout = None }))
 
 -- an indirect word is referenced in the segment and the ring of its point
-abbrev pub at_point : Point → ℕ → AtFields
-at_point p word = record { seg = p.seg; word = word; ring = p.ring }
-
 abbrev pub indirect : RequestKind → Point → ℕ → Request
 indirect kind p word = record { kind = kind; at = at_point p word; count = 1; pending = [] }
 
@@ -118,7 +115,7 @@ after_word next g p word held a Itp =
 -- A tally word ends the chain at an address in the same segment and ring, with the bit number as it
 -- was. Any held register is dropped.
 abbrev pub tally_final : Point → ℕ → FinalFields
-tally_final p address = record { at = at_point p address; bit = p.bit; direct = None }
+tally_final p address = final_at p address None
 
 -- I leaves its word. The other four reference it as a Write at the same ring; its new value is
 -- written when the instruction completes.

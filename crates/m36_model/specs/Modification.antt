@@ -84,23 +84,20 @@ pub data Move : Type 0 where
   -- the tally word at y is read
   Counts : Move
 
+-- a word of the point's segment, in the ring of the point
+abbrev pub at_point : Point → ℕ → AtFields
+at_point p word = record { seg = p.seg; word = word; ring = p.ring }
+
 -- the end of a chain at a word of the point's segment, and at a direct operand: then the place is
 -- that of the point itself
+abbrev pub final_at : Point → ℕ → Option ℕ → FinalFields
+final_at p word direct = record { at = at_point p word; bit = p.bit; direct = direct }
+
 abbrev pub ends_at : Point → ℕ → Move
-ends_at p word =
-    Ends (record {
-      at = record { seg = p.seg; word = word; ring = p.ring };
-      bit = p.bit;
-      direct = None;
-    })
+ends_at p word = Ends (final_at p word None)
 
 abbrev pub ends_direct : Point → ℕ → Move
-ends_direct p operand =
-    Ends (record {
-      at = record { seg = p.seg; word = p.y; ring = p.ring };
-      bit = p.bit;
-      direct = Some operand;
-    })
+ends_direct p operand = Ends (final_at p p.y (Some operand))
 
 -- Register modification (R). With a held register the chain ends at y plus that register, whatever
 -- Td is. Without one, du ends it with y as bits 0 to 17 of a direct operand and dl with y as bits
