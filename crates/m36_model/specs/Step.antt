@@ -34,6 +34,7 @@ use Rattle.m36_model.specs.Modification.{here, plain_fault, fault_at}
 use Rattle.m36_model.specs.FirstPoint.{first_point}
 use Rattle.m36_model.specs.Chain.{ChainEnd, chain}
 use Rattle.m36_model.specs.Results.{OperandFields, EffectFields, words_only}
+use Rattle.m36_model.specs.WordsPut.{words_written}
 use Rattle.m36_model.specs.Transfers.{is_taken}
 use Rattle.m36_model.specs.Effect.{exec, is_absa}
 use Rattle.m36_model.specs.Store.{Store, Mid, Ran, State, begun, run, changes}
@@ -157,11 +158,11 @@ abbrev pub by_kind : Effect → ℕ → RegsFields → ChainEnd → Operand → 
 by_kind e n g c kind.R = reading_word e n g c
 by_kind e n g c kind.R2 = reading_words e n g c 2
 by_kind e n g c kind.R16 = reading_words e n g c 16
-by_kind e n g c kind.W = writing e n g c 1 Whole
-by_kind e n g c kind.W2 = writing e n g c 2 Whole
-by_kind e n g c kind.W16 = writing e n g c 16 Whole
-by_kind e n g c kind.Wl = writing e n g c 1 Left
-by_kind e n g c kind.Wr = writing e n g c 1 Right
+by_kind e n g c kind.W = writing e n g c (words_written kind.W) Whole
+by_kind e n g c kind.W2 = writing e n g c (words_written kind.W2) Whole
+by_kind e n g c kind.W16 = writing e n g c (words_written kind.W16) Whole
+by_kind e n g c kind.Wl = writing e n g c (words_written kind.Wl) Left
+by_kind e n g c kind.Wr = writing e n g c (words_written kind.Wr) Right
 by_kind e n g c kind.Rw = changing e n g c Whole
 by_kind e n g c kind.Rwl = changing e n g c Left
 by_kind e n g c kind.A = addressing e n g c (is_absa e)

@@ -11,6 +11,7 @@ use Rattle.m36_model.specs.Registers.{RegsFields}
 use Rattle.m36_model.specs.Modification.{here, plain_fault}
 use Rattle.m36_model.specs.Results.{OperandFields, words_only, operand_fields}
 use Rattle.m36_model.specs.Step.{Performed, Operation, perform, direct_word}
+use Rattle.m36_model.specs.WordsPut.{words_written}
 use Rattle.m36_model.specs.Store.{Ran, run}
 use Rattle.m36_model.specs.declared.effects.Formed.{Formed}
 use Rattle.m36_model.specs.declared.effects.Operand36.{Operand36}
@@ -60,13 +61,20 @@ written_end e n g f count core refs o (Err fault) = refused_end f core refs faul
 abbrev pub reached_end :
     Effect → ℕ → RegsFields → Formed → Operand → List ℕ → List Reference → Operand36
     → Result Reached Fault → Ran (Result Performed Halt) (List ℕ)
-reached_end e n g f kind.W core refs o u = written_end e n g f 1 core refs o u
-reached_end e n g f kind.W2 core refs o u = written_end e n g f 2 core refs o u
-reached_end e n g f kind.W16 core refs o u = written_end e n g f 16 core refs o u
-reached_end e n g f kind.Wl core refs o u = written_end e n g f 1 core refs o u
-reached_end e n g f kind.Wr core refs o u = written_end e n g f 1 core refs o u
-reached_end e n g f kind.Rw core refs o u = written_end e n g f 1 core refs o u
-reached_end e n g f kind.Rwl core refs o u = written_end e n g f 1 core refs o u
+reached_end e n g f kind.W core refs o u =
+    written_end e n g f (words_written kind.W) core refs o u
+reached_end e n g f kind.W2 core refs o u =
+    written_end e n g f (words_written kind.W2) core refs o u
+reached_end e n g f kind.W16 core refs o u =
+    written_end e n g f (words_written kind.W16) core refs o u
+reached_end e n g f kind.Wl core refs o u =
+    written_end e n g f (words_written kind.Wl) core refs o u
+reached_end e n g f kind.Wr core refs o u =
+    written_end e n g f (words_written kind.Wr) core refs o u
+reached_end e n g f kind.Rw core refs o u =
+    written_end e n g f (words_written kind.Rw) core refs o u
+reached_end e n g f kind.Rwl core refs o u =
+    written_end e n g f (words_written kind.Rwl) core refs o u
 reached_end e n g f _ core refs o u = unwritten_end e n g f core refs o u
 
 -- A program that references its operand goes on as the code does, whatever the instruction.
