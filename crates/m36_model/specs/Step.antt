@@ -176,9 +176,18 @@ abbrev pub direct_word : Operand → ℕ → List ℕ
 direct_word kind.R w = w ∷ []
 direct_word _ w = []
 
+-- A direct operand is given to the effect as it stands, where the instruction takes it.
+abbrev pub takes_word : Effect → RegsFields → ℕ → Bool → Result OperandFields Fault
+takes_word e g w true = Ok (words_only (direct_word (operand_of e) w))
+takes_word e g w false = Err (plain_fault illegal_procedure (here g))
+
+abbrev pub with_operand :
+    Effect → ℕ → RegsFields → ChainEnd → Result OperandFields Fault → Operation
+with_operand e n g c (Ok o) = perform e n g c Whole 0 o
+with_operand e n g c (Err f) = done (Err (halt.Fault f))
+
 abbrev pub by_direct : Effect → ℕ → RegsFields → ChainEnd → ℕ → Bool → Operation
-by_direct e n g c w true = perform e n g c Whole 0 (words_only (direct_word (operand_of e) w))
-by_direct e n g c w false = done (Err (fault_at illegal_procedure (here g)))
+by_direct e n g c w taken = with_operand e n g c (takes_word e g w taken)
 
 abbrev pub operate_on : Effect → ℕ → RegsFields → ChainEnd → Option ℕ → Operation
 operate_on e n g c None = by_kind e n g c (operand_of e)

@@ -10,14 +10,14 @@ use Rattle.m36_model.specs.WordsPut.{words_written}
 use Rattle.m36_model.specs.Modification.{here}
 use Rattle.m36_model.specs.Registers.{RegsFields}
 use Rattle.m36_model.specs.Results.{OperandFields, operand_fields}
-use Rattle.m36_model.specs.Step.{perform, by_direct, direct_word}
+use Rattle.m36_model.specs.Step.{perform, takes_word, by_direct, direct_word}
 use Rattle.m36_model.specs.Store.{run}
 use Rattle.m36_model.specs.declared.effects.Formed.{Formed}
 use Rattle.m36_model.specs.declared.effects.Operand36.{Operand36}
 use Rattle.m36_model.specs.declared.outcome.Fault.{Fault}
 use Rattle.m36_model.specs.declared.place.Reference.{Reference}
 use Rattle.m36_step.specs.Operated.{part_of}
-use Rattle.m36_step.specs.Reached.{ran_from, refused_end, unwritten_end, reached_end, takes_word, fields_reached, DirectOperand}
+use Rattle.m36_step.specs.Reached.{ran_from, refused_end, unwritten_end, reached_end, fields_reached, DirectOperand}
 use Rattle.m36_step.specs.declared.operated.Part as code
 use Rattle.m36_step.specs.declared.operated.Part.TheVariants as part
 use Rattle.m36_step.specs.declared.operated.Reached.{Reached}

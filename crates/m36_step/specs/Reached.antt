@@ -1,16 +1,14 @@
 -- An operand that is there, and how the program of an operation goes on from it.
-use Rattle.std.specs.Prelude.{ℕ, ◌≡◌, Bool, true, false, List, ◌++◌, length, Result, Ok, Err}
-use Rattle.m36_inst.specs.Operands.{operand_of, takes_direct}
+use Rattle.std.specs.Prelude.{ℕ, ◌≡◌, List, ◌++◌, length, Result, Ok, Err}
+use Rattle.m36_inst.specs.Operands.{takes_direct}
 use Rattle.m36_inst.specs.declared.effect.Effect.{Effect}
 use Rattle.m36_inst.specs.declared.operand.Operand.{Operand}
 use Rattle.m36_inst.specs.declared.operand.Operand.TheVariants as kind
-use Rattle.m36_model.specs.Faults.{illegal_procedure}
 use Rattle.m36_model.specs.Chain.{chain_end_fields, claimed_by}
 use Rattle.m36_model.specs.Core.{core_store}
 use Rattle.m36_model.specs.Registers.{RegsFields}
-use Rattle.m36_model.specs.Modification.{here, plain_fault}
-use Rattle.m36_model.specs.Results.{OperandFields, words_only, operand_fields}
-use Rattle.m36_model.specs.Step.{Performed, Operation, perform, direct_word}
+use Rattle.m36_model.specs.Results.{OperandFields, operand_fields}
+use Rattle.m36_model.specs.Step.{Performed, Operation, perform, takes_word}
 use Rattle.m36_model.specs.WordsPut.{words_written}
 use Rattle.m36_model.specs.Store.{Ran, run}
 use Rattle.m36_model.specs.declared.effects.Formed.{Formed}
@@ -99,11 +97,7 @@ part_for kind.Wr = part.Right
 part_for kind.Rwl = part.Left
 part_for _ = part.Whole
 
--- A direct operand is given to the effect as it stands, where the instruction takes it.
-abbrev pub takes_word : Effect → RegsFields → ℕ → Bool → Result OperandFields Fault
-takes_word e g w true = Ok (words_only (direct_word (operand_of e) w))
-takes_word e g w false = Err (plain_fault illegal_procedure (here g))
-
+-- A direct operand is given to the code's effect as to that of the definitions.
 abbrev pub fields_reached : Operand36 → Result Reached Fault → Result OperandFields Fault
 fields_reached o (Ok u) = Ok (operand_fields o)
 fields_reached o (Err fault) = Err fault
