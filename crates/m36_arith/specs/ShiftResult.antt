@@ -1,8 +1,8 @@
 -- What a shift gives: its number with zero and negative, and for a left shift the carry. Overflow
 -- is off, and so is the carry of every other shift. Multics Processor Manual AL39, "Fixed-point
 -- data movement shift instructions".
-use Rattle.std.specs.Prelude.{ℕ, ◌-◌, ◌^◌, Bool, false, ◌==◌}
-use Rattle.m36_model.specs.Arithmetic.{SumFields, is_negative}
+use Rattle.std.specs.Prelude.{ℕ, ◌-◌, ◌^◌, Bool, false}
+use Rattle.m36_model.specs.Arithmetic.{SumFields, result_of}
 use Rattle.m36_model.specs.Shifts.{left_shift, left_shift_carry, copying_right_shift}
 use Rattle.m36_model.specs.Shifts.{plain_right_shift, rotation}
 use Rattle.m36_arith.specs.declared.shifts.Shift.{Shift}
@@ -23,10 +23,4 @@ shift_carry shift.Rotate k v c = false
 
 unfoldable pub shift_result : Shift → ℕ → ℕ → ℕ → SumFields
 shift_result op k v c =
-    record {
-      value = shifted op k v c;
-      zero = shifted op k v c == 0;
-      negative = is_negative (2 ^ (k - 1)) (shifted op k v c);
-      carry = shift_carry op k v c;
-      overflow = false;
-    }
+    result_of (2 ^ (k - 1)) (shifted op k v c) (shift_carry op k v c) false

@@ -22,6 +22,17 @@ pub record SumFields : Type 0 where
 abbrev pub is_negative : ℕ → ℕ → Bool
 is_negative half v = nat_le half v
 
+-- a number, of which zero and the first bit tell, with this carry and this overflow
+abbrev pub result_of : ℕ → ℕ → Bool → Bool → SumFields
+result_of half v carry overflow =
+    record {
+      value = v;
+      zero = v == 0;
+      negative = is_negative half v;
+      carry = carry;
+      overflow = overflow;
+    }
+
 -- a signed number that k bits can hold
 abbrev pub in_range : ℕ → ℤ → Bool
 in_range half z = int_le (pos 0 -ℤ pos half) z && int_lt z (pos half)
@@ -44,13 +55,8 @@ sum_overflow half x y carry_in =
 
 unfoldable pub sum : ℕ → ℕ → ℕ → Bool → SumFields
 sum half x y carry_in =
-    record {
-      value = sum_value half x y carry_in;
-      zero = sum_value half x y carry_in == 0;
-      negative = is_negative half (sum_value half x y carry_in);
-      carry = sum_carry half x y carry_in;
-      overflow = sum_overflow half x y carry_in;
-    }
+    result_of half (sum_value half x y carry_in) (sum_carry half x y carry_in)
+    (sum_overflow half x y carry_in)
 
 -- A difference with a borrow: the true result modulo 2^k. Carry is on exactly where the unsigned
 -- minuend is at least the subtrahend plus the borrow.
@@ -66,13 +72,8 @@ difference_overflow half x y borrow =
 
 unfoldable pub difference : ℕ → ℕ → ℕ → Bool → SumFields
 difference half x y borrow =
-    record {
-      value = difference_value half x y borrow;
-      zero = difference_value half x y borrow == 0;
-      negative = is_negative half (difference_value half x y borrow);
-      carry = difference_carry half x y borrow;
-      overflow = difference_overflow half x y borrow;
-    }
+    result_of half (difference_value half x y borrow) (difference_carry half x y borrow)
+    (difference_overflow half x y borrow)
 
 -- a negative: the difference of 0 and the number, which overflows for the least number alone
 unfoldable pub negation : ℕ → ℕ → SumFields

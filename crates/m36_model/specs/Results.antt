@@ -1,12 +1,12 @@
 -- What an effect is given and what it gives: operands, working registers, indicators.
 -- Multics Processor Manual AL39, "Processor registers" and "Indicator register".
-use Rattle.std.specs.Prelude.{ℕ, ◌+◌, ◌/◌, ◌%◌, ◌^◌, Bool, false, ◌||◌, ◌==◌, List, [], ◌∷◌}
-use Rattle.std.specs.Prelude.{Result, Ok, slice_index, slice_set}
+use Rattle.std.specs.Prelude.{ℕ, ◌+◌, ◌/◌, ◌%◌, ◌^◌, Bool, false, ◌||◌, List, [], ◌∷◌, Result, Ok}
+use Rattle.std.specs.Prelude.{slice_index, slice_set}
 use Rattle.m36_word.specs.Field.{field}
 use Rattle.m36_word.specs.Pairs.{number_of}
 use Rattle.m36_word.specs.declared.pair.Pair.{Pair}
 use Rattle.m36_model.specs.Registers.{RegsFields}
-use Rattle.m36_model.specs.Arithmetic.{SumFields, ComparisonFields, is_negative, negation}
+use Rattle.m36_model.specs.Arithmetic.{SumFields, ComparisonFields, result_of, negation}
 use Rattle.m36_model.specs.declared.effects.Held.{Held}
 use Rattle.m36_model.specs.declared.effects.Held.TheVariants as held
 use Rattle.m36_model.specs.declared.effects.Operand36.{Operand36}
@@ -123,7 +123,9 @@ words (X n) v = v ∷ []
 -- Indicators. Zero is on where the result is 0 and negative where its first bit is on; an indicator
 -- that is not named stays. Overflow is put on and never off.
 unfoldable pub zn : ℕ → ℕ → Ind → Ind
-zn h v i = record i { zero = v == 0; negative = is_negative h v }
+zn h v i =
+    let s = result_of h v false false in
+    record i { zero = s.zero; negative = s.negative }
 
 abbrev pub with_zn_carry : Bool → Bool → Bool → Ind → Ind
 with_zn_carry z n c i = record i { zero = z; negative = n; carry = c }
