@@ -4,6 +4,7 @@ ghost use Rattle.std.specs.Prelude.{ℕ, ◌≡◌, ◌<◌, ◌^◌};
 ghost use Rattle.std.specs.Bool.{Decides};
 ghost use Rattle.m36_model.specs.Audit.{IsOutOfOrder};
 ghost use Rattle.m36_audit.specs.Live.{disordered};
+ghost use Rattle.m36_model.specs.Place.{core_sdw};
 
 use crate::live::live;
 use m36_core::Core;
@@ -24,7 +25,7 @@ fn disordered(found: Option<Sdw>) -> bool
 #[tactic(auto, using(crate::proofs::Segments::out_of_order))]
 pub(crate) fn is_out_of_order(core: &Core, dbr: Dbr, seg: u16) -> bool
     requires { seg < 2 ^ 15 }
-    ensures { Decides result (IsOutOfOrder core.now dbr seg) }
+    ensures { Decides result (IsOutOfOrder (core_sdw core.now dbr) seg) }
 {
     disordered(live(core, dbr, seg))
 }

@@ -5,6 +5,7 @@ ghost use Rattle.std.specs.Prelude.{ℕ, ◌≡◌, ◌<◌, ◌^◌};
 ghost use Rattle.std.specs.Bool.{Decides};
 ghost use Rattle.m36_model.specs.Audit.{IsNoGate, HasNoStack};
 ghost use Rattle.m36_audit.specs.Live.{callable, enterable, serves};
+ghost use Rattle.m36_model.specs.Place.{core_sdw};
 
 use crate::live::live;
 use m36_core::Core;
@@ -41,7 +42,7 @@ fn serves(ring: u8, found: Option<Sdw>) -> bool
 #[tactic(auto, using(crate::proofs::Segments::no_gate))]
 pub(crate) fn is_no_gate(core: &Core, dbr: Dbr, seg: u16) -> bool
     requires { seg < 2 ^ 15 }
-    ensures { Decides result (IsNoGate core.now dbr seg) }
+    ensures { Decides result (IsNoGate (core_sdw core.now dbr) seg) }
 {
     enterable(live(core, dbr, seg))
 }
@@ -49,7 +50,7 @@ pub(crate) fn is_no_gate(core: &Core, dbr: Dbr, seg: u16) -> bool
 /// Whether a segment breaks the sixth condition.
 pub(crate) fn has_no_stack(core: &Core, dbr: Dbr, seg: u16) -> bool
     requires { seg < 2 ^ 15 }
-    ensures { Decides result (HasNoStack core.now dbr seg) }
+    ensures { Decides result (HasNoStack dbr (core_sdw core.now dbr) seg) }
 {
     match live(core, dbr, seg) {
         Some(sdw) => {

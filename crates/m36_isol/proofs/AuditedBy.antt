@@ -32,7 +32,7 @@ module _ (core : List ℕ) (dbr : DbrFields) (now : List ℕ) (m : Matches core 
         found = sym (same_spot_of core dbr now m seg w k.sdw live (placed_within k.sdw w k.inside)) ∙ k.found;
       })
 
-  callable_before : (seg : ℕ) (d : SdwFields) → IsCallable now dbr seg d → IsCallable core dbr seg d
+  callable_before : (seg : ℕ) (d : SdwFields) → IsCallable (core_sdw now dbr) seg d → IsCallable (core_sdw core dbr) seg d
   callable_before seg d k = record { live = live_before seg d k.live; executable = k.executable; outer = k.outer }
 
   pub still_audited : IsAudited core dbr → IsAudited now dbr

@@ -1,8 +1,7 @@
 -- The laws over the list of core words.
 use Rattle.std.proofs.Common.{◌≡◌, refl, sym, ◌∙◌, ap, subst}
-use Rattle.std.specs.Prelude.{ℕ, ◌+◌, ◌*◌, ◌<◌, true, false, List, Ok}
-use Rattle.std.proofs.lemmas.Bool.{false_from_ne_true, true_from_ne_false}
-use Rattle.m36_desc.specs.Fields.{SdwFields, DbrFields}
+use Rattle.std.specs.Prelude.{ℕ, ◌+◌, ◌*◌, List}
+use Rattle.m36_desc.specs.Fields.{DbrFields}
 use Rattle.m36_model.specs.Store.{State}
 use Rattle.m36_model.specs.Place.{core_sdw}
 use Rattle.m36_model.specs.Core.{core_store, core_tables}
@@ -14,26 +13,15 @@ use Rattle.m36_model.specs.Isolation.{HasPointers, Isolated}
 use Rattle.m36_model.specs.Laws.{IsAbove, SightLaw, DependsLaw, ReachLaw, FallLaw, AgreeLaw, MarksLaw}
 use Rattle.m36_isol.proofs.CoreTables.{descriptor_of}
 use Rattle.m36_isol.proofs.CoreLaw.{are_apart, lawful}
+use Rattle.m36_isol.proofs.Guarded.{guards}
 use Rattle.m36_isol.proofs.StepLaws.{Backed, sight_law, depends_law, reach_law, fall_law, agree_law, marks_law, pointers_stay}
 use Rattle.m36_isol.proofs.AuditedBy.{same_dbr}
 use Rattle.m36_isol.proofs.Windows.{windows_kept}
 
 module _ (core : List ℕ) (dbr : DbrFields) (audited : IsAudited core dbr) where
   -- gates and stacks
-  gate_by : (seg : ℕ) (d : SdwFields) → core_sdw core dbr seg ≡ Ok d → d.executable ≡ true → d.r2 < d.r3 → d.no_gate ≡ false
-  gate_by seg d live executable outer =
-      false_from_ne_true d.no_gate (λ e. audited.fifth seg (record { sdw = d; callable = record { live = live; executable = executable; outer = outer }; open_everywhere = e }))
-
-  stack_by : (seg : ℕ) (d : SdwFields) → core_sdw core dbr seg ≡ Ok d → d.executable ≡ true → d.r2 < d.r3 → is_stack_of d.r2 (core_sdw core dbr (8 * dbr.stack + d.r2)) ≡ true
-  stack_by seg d live executable outer =
-      true_from_ne_false _ (λ e. audited.sixth seg (record { sdw = d; callable = record { live = live; executable = executable; outer = outer }; missing = e }))
-
   pub core_gates : IsGuarded dbr (core_sdw core dbr)
-  core_gates =
-      record {
-        gates = λ seg d live executable outer. let gate = gate_by seg d live executable outer in cc;
-        stacks = stack_by;
-      }
+  core_gates = guards dbr (core_sdw core dbr) audited.fifth audited.sixth
 
   -- the descriptors of which the store's law speaks are those in core
   descriptor : (seg : ℕ) → core_sdw core dbr seg ≡ (lawful core dbr (are_apart core dbr audited)).sdws seg

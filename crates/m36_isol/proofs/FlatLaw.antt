@@ -14,6 +14,7 @@ use Rattle.m36_model.specs.Laws.{IsAbove, ReachLaw, FallLaw, AgreeLaw}
 use Rattle.m36_model.specs.Flat.{Flat, flat_sdw_by, flat_sdw, flat_word, flat_put_one, flat_put, flat_table_by, flat_tables, flat_store, IsFlatAudited, HasDescriptors, IsFlatSpot, IsSameFlat}
 use Rattle.m36_model.specs.declared.outcome.Refusal.{Refusal}
 use Rattle.m36_model.specs.Audit.{IsGuarded}
+use Rattle.m36_isol.proofs.Guarded.{guards}
 use Rattle.m36_isol.proofs.Places.{content_placed}
 use Rattle.m36_isol.proofs.StepLaws.{Backed, reach_law, fall_law, agree_law, pointers_stay}
 use Rattle.m36_isol.proofs.Windows.{windows_kept}
@@ -113,7 +114,7 @@ module _ (s : Flat) (dbr : DbrFields) where
   module _ (audited : IsFlatAudited s dbr) where
     guarded : IsGuarded dbr flat_lawful.sdws
     unfolding flat_lawful
-    guarded = audited.guarded
+    guarded = guards dbr (flat_sdw s dbr) audited.fifth audited.sixth
 
     backed_here : Backed flat_store (flat_tables s dbr) dbr
     backed_here =

@@ -1,16 +1,13 @@
 -- The audit of a booted core is by its descriptors, whatever frames its pages are in.
 use Rattle.std.proofs.Common.{◌≡◌, refl, sym, ◌∙◌, ap}
 use Rattle.std.specs.Prelude.{ℕ, ◌+◌, ◌*◌, List, take, Ok}
-use Rattle.std.proofs.lemmas.Bool.{true_from_ne_false}
 use Rattle.m36_desc.specs.Fields.{SdwFields}
-use Rattle.m36_desc.specs.Access.{in_order}
 use Rattle.m36_model.specs.Place.{core_sdw, ring_stack}
 use Rattle.m36_model.specs.Audit.{IsCallable, is_stack_of, IsAudited}
 use Rattle.m36_model.specs.Flat.{flat_sdw, IsFlatAudited}
 use Rattle.m36_model.specs.BootedCore.{descriptor_words, booted_dbr, IsLaid}
 use Rattle.m36_model.specs.Residence.{Paged, flat_of}
 use Rattle.m36_model.specs.PagedStep.{SameAuditLaw, FlatAuditLaw}
-use Rattle.m36_isol.proofs.CoreIsolated.{core_gates}
 use Rattle.m36_isol.proofs.Laid.{laid_apart}
 use Rattle.m36_isol.proofs.Booted.{flat_descriptor}
 use Rattle.m36_isol.proofs.Moved.{same_descriptors}
@@ -19,7 +16,7 @@ module _ (core now : List ℕ) (low : take descriptor_words now ≡ take descrip
   live_before : (seg : ℕ) (d : SdwFields) → core_sdw now booted_dbr seg ≡ Ok d → core_sdw core booted_dbr seg ≡ Ok d
   live_before seg d live = sym (same_descriptors core now low seg) ∙ live
 
-  callable_before : (seg : ℕ) (d : SdwFields) → IsCallable now booted_dbr seg d → IsCallable core booted_dbr seg d
+  callable_before : (seg : ℕ) (d : SdwFields) → IsCallable (core_sdw now booted_dbr) seg d → IsCallable (core_sdw core booted_dbr) seg d
   callable_before seg d k = record { live = live_before seg d k.live; executable = k.executable; outer = k.outer }
 
   pub audited_by_descriptors : (frames : ℕ) → IsLaid now frames → IsAudited core booted_dbr → IsAudited now booted_dbr
@@ -46,15 +43,19 @@ module _ (frames : ℕ) (m : Paged) (laid : IsLaid m.core frames) (audited : IsA
   unfolding flat_of
   flat_is seg = flat_descriptor m.core (flat_of m) refl seg
 
+  callable_in : (seg : ℕ) (d : SdwFields) → IsCallable (flat_sdw (flat_of m) booted_dbr) seg d → IsCallable (core_sdw m.core booted_dbr) seg d
+  callable_in seg d k = record { live = flat_is seg ∙ k.live; executable = k.executable; outer = k.outer }
+
   flat_audited : IsFlatAudited (flat_of m) booted_dbr
   flat_audited =
-      let gates = core_gates m.core booted_dbr audited in
       record {
-        ordered = λ seg d live. true_from_ne_false (in_order d) (λ e. audited.first seg (record { sdw = d; live = flat_is seg ∙ live; out = e }));
-        guarded = record {
-          gates = λ seg d live executable outer. gates.gates seg d (flat_is seg ∙ live) executable outer;
-          stacks = λ seg d live executable outer. ap (is_stack_of d.r2) (sym (flat_is (ring_stack booted_dbr d.r2))) ∙ gates.stacks seg d (flat_is seg ∙ live) executable outer;
-        };
+        first = λ seg k. audited.first seg (record { sdw = k.sdw; live = flat_is seg ∙ k.live; out = k.out });
+        fifth = λ seg k. audited.fifth seg (record { sdw = k.sdw; callable = callable_in seg k.sdw k.callable; open_everywhere = k.open_everywhere });
+        sixth = λ seg k. audited.sixth seg (record {
+          sdw = k.sdw;
+          callable = callable_in seg k.sdw k.callable;
+          missing = ap (is_stack_of k.sdw.r2) (flat_is (ring_stack booted_dbr k.sdw.r2)) ∙ k.missing;
+        });
       }
 
 pub flat_audit : FlatAuditLaw

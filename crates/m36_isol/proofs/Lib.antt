@@ -19,6 +19,7 @@ pub mod OneStep
 pub mod StepLaws
 pub mod Windows
 pub mod AuditedBy
+pub mod Guarded
 pub mod CoreIsolated
 pub mod CoreReach
 pub mod Findings

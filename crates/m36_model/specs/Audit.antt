@@ -47,10 +47,11 @@ IsOf core dbr (Pages seg) a = (page : ℕ) × IsPageWord core dbr seg page a
 abbrev pub IsSegmentWord : List ℕ → DbrFields → ℕ → ℕ → ℕ → Type 0
 IsSegmentWord core dbr seg w a = place core_store core dbr seg w ≡ Ok (Core_word a)
 
--- First condition: each live segment has its ring brackets in order. A segment breaks it.
-pub record IsOutOfOrder (core : List ℕ) (dbr : DbrFields) (seg : ℕ) : Type 0 where
+-- First condition: each live segment has its ring brackets in order. A segment breaks it, by the
+-- descriptors that there are.
+pub record IsOutOfOrder (sdws : ℕ → Result SdwFields Refusal) (seg : ℕ) : Type 0 where
   pub sdw : SdwFields
-  pub live : core_sdw core dbr seg ≡ Ok sdw
+  pub live : sdws seg ≡ Ok sdw
   pub out : in_order sdw ≡ false
 
 -- Second condition: no core word is a word of two tables. A core word breaks it.
@@ -87,16 +88,17 @@ pub record AreApart (core : List ℕ) (dbr : DbrFields) : Type 0 where
   pub words : (a : ℕ) → IsInTwoSegments core dbr a → ⊥
 
 -- a live segment that rings outside its read bracket may call
-pub record IsCallable (core : List ℕ) (dbr : DbrFields) (seg : ℕ) (sdw : SdwFields) : Type 0 where
-  pub live : core_sdw core dbr seg ≡ Ok sdw
+pub record IsCallable (sdws : ℕ → Result SdwFields Refusal) (seg : ℕ) (sdw : SdwFields)
+    : Type 0 where
+  pub live : sdws seg ≡ Ok sdw
   pub executable : sdw.executable ≡ true
   pub outer : sdw.r2 < sdw.r3
 
 -- Fifth condition: each live segment with E on and R3 greater than R2 is a gate. A
 -- segment breaks it.
-pub record IsNoGate (core : List ℕ) (dbr : DbrFields) (seg : ℕ) : Type 0 where
+pub record IsNoGate (sdws : ℕ → Result SdwFields Refusal) (seg : ℕ) : Type 0 where
   pub sdw : SdwFields
-  pub callable : IsCallable core dbr seg sdw
+  pub callable : IsCallable sdws seg sdw
   pub open_everywhere : sdw.no_gate ≡ true
 
 -- the segment is live with R and W on, and its first two brackets are this ring
@@ -106,10 +108,11 @@ is_stack_of ring (Err e) = false
 
 -- Sixth condition: each live segment with E on and R3 greater than R2 has a stack in the ring that
 -- a call enters. A segment breaks it.
-pub record HasNoStack (core : List ℕ) (dbr : DbrFields) (seg : ℕ) : Type 0 where
+pub record HasNoStack (dbr : DbrFields) (sdws : ℕ → Result SdwFields Refusal) (seg : ℕ)
+    : Type 0 where
   pub sdw : SdwFields
-  pub callable : IsCallable core dbr seg sdw
-  pub missing : is_stack_of sdw.r2 (core_sdw core dbr (ring_stack dbr sdw.r2)) ≡ false
+  pub callable : IsCallable sdws seg sdw
+  pub missing : is_stack_of sdw.r2 (sdws (ring_stack dbr sdw.r2)) ≡ false
 
 -- What the fifth and the sixth condition say of descriptors, in plain terms: a segment that rings
 -- outside its read bracket may call is a gate, and the ring that a call enters has a stack.
@@ -123,12 +126,12 @@ pub record IsGuarded (dbr : DbrFields) (sdws : ℕ → Result SdwFields Refusal)
 
 -- all six conditions hold
 pub record IsAudited (core : List ℕ) (dbr : DbrFields) : Type 0 where
-  pub first : (seg : ℕ) → IsOutOfOrder core dbr seg → ⊥
+  pub first : (seg : ℕ) → IsOutOfOrder (core_sdw core dbr) seg → ⊥
   pub second : (a : ℕ) → IsInTwoTables core dbr a → ⊥
   pub third : (a : ℕ) → IsTableAndSegment core dbr a → ⊥
   pub fourth : (a : ℕ) → IsInTwoSegments core dbr a → ⊥
-  pub fifth : (seg : ℕ) → IsNoGate core dbr seg → ⊥
-  pub sixth : (seg : ℕ) → HasNoStack core dbr seg → ⊥
+  pub fifth : (seg : ℕ) → IsNoGate (core_sdw core dbr) seg → ⊥
+  pub sixth : (seg : ℕ) → HasNoStack dbr (core_sdw core dbr) seg → ⊥
 
 -- what is found of one condition: nothing where it holds, and else the least place that breaks it
 abbrev pub Finds : (ℕ → Type 0) → Option ℕ → Type 0
@@ -143,7 +146,7 @@ noted condition (Some p) = (condition, p) ∷ []
 -- the findings of an audit: one for each condition that fails, in order
 pub record AreFindings (core : List ℕ) (dbr : DbrFields) (findings : List (ℕ × ℕ)) : Type 0 where
   pub first : Option ℕ
-  pub finds_first : Finds (IsOutOfOrder core dbr) first
+  pub finds_first : Finds (IsOutOfOrder (core_sdw core dbr)) first
   pub second : Option ℕ
   pub finds_second : Finds (IsInTwoTables core dbr) second
   pub third : Option ℕ
@@ -151,9 +154,9 @@ pub record AreFindings (core : List ℕ) (dbr : DbrFields) (findings : List (ℕ
   pub fourth : Option ℕ
   pub finds_fourth : Finds (IsInTwoSegments core dbr) fourth
   pub fifth : Option ℕ
-  pub finds_fifth : Finds (IsNoGate core dbr) fifth
+  pub finds_fifth : Finds (IsNoGate (core_sdw core dbr)) fifth
   pub sixth : Option ℕ
-  pub finds_sixth : Finds (HasNoStack core dbr) sixth
+  pub finds_sixth : Finds (HasNoStack dbr (core_sdw core dbr)) sixth
   pub listed :
       findings
       ≡ noted 1 first ++ noted 2 second ++ noted 3 third ++ noted 4 fourth ++ noted 5 fifth

@@ -3,13 +3,12 @@
 use Rattle.std.specs.Prelude.{◌≡◌, ℕ, ◌+◌, ◌*◌, Bool, true, false, ◌&&◌, ◌==◌, if◌then◌else◌}
 use Rattle.std.specs.Prelude.{List, [], ◌∷◌, slice_get, Result, Ok, Err}
 use Rattle.m36_desc.specs.Fields.{SdwFields, DbrFields}
-use Rattle.m36_desc.specs.Access.{in_order}
 use Rattle.m36_desc.specs.Violations.{out_of_segment_bounds}
 use Rattle.m36_model.specs.Act.{RequestKind, Part}
 use Rattle.m36_model.specs.Store.{Spot, Core_word, Segment_word, Change, SegTable, Tables, Store}
 use Rattle.m36_model.specs.Store.{written, violation}
 use Rattle.m36_model.specs.Place.{in_bounds, sdw_words}
-use Rattle.m36_model.specs.Audit.{IsGuarded}
+use Rattle.m36_model.specs.Audit.{IsOutOfOrder, IsNoGate, HasNoStack}
 use Rattle.m36_model.specs.declared.outcome.Refusal.{Refusal}
 
 -- the words of the descriptor segment, and the content of each word of each segment
@@ -79,8 +78,9 @@ flat_store =
 
 -- The audit conditions that speak of descriptors alone: the first, the fifth and the sixth.
 pub record IsFlatAudited (s : Flat) (dbr : DbrFields) : Type 0 where
-  pub ordered : (seg : ℕ) (d : SdwFields) → flat_sdw s dbr seg ≡ Ok d → in_order d ≡ true
-  pub guarded : IsGuarded dbr (flat_sdw s dbr)
+  pub first : (seg : ℕ) → IsOutOfOrder (flat_sdw s dbr) seg → ⊥
+  pub fifth : (seg : ℕ) → IsNoGate (flat_sdw s dbr) seg → ⊥
+  pub sixth : (seg : ℕ) → HasNoStack dbr (flat_sdw s dbr) seg → ⊥
 
 -- the flat state has these descriptors
 abbrev pub HasDescriptors : Flat → DbrFields → Flat → Type 0

@@ -3,6 +3,7 @@ use Rattle.std.proofs.Common.{◌≡◌, ℕ, zero, suc, ◌<◌, List, [], ◌�
 use Rattle.std.proofs.lemmas.Bool.{cases_lt}
 use Rattle.m36_desc.specs.Fields.{DbrFields}
 use Rattle.m36_model.specs.Store.{State}
+use Rattle.m36_model.specs.Place.{core_sdw}
 use Rattle.m36_model.specs.Audit.{IsOutOfOrder, IsInTwoTables, IsTableAndSegment, IsInTwoSegments, IsNoGate, HasNoStack, Finds, noted, AreFindings, IsAudited}
 use Rattle.m36_isol.proofs.Findings.{findings_law}
 use Rattle.m36_isol.proofs.CoreIsolated.{core_isolated}
@@ -24,12 +25,12 @@ some_find Breaks none = none None (λ p breaks. none_below Breaks none (suc p) p
 
 pub some_findings : (core : List ℕ) (dbr : DbrFields) → ¬ ((findings : List (ℕ × ℕ)) → ¬ AreFindings core dbr findings)
 some_findings core dbr none =
-    some_find (IsOutOfOrder core dbr) (λ first finds_first.
+    some_find (IsOutOfOrder (core_sdw core dbr)) (λ first finds_first.
     some_find (IsInTwoTables core dbr) (λ second finds_second.
     some_find (IsTableAndSegment core dbr) (λ third finds_third.
     some_find (IsInTwoSegments core dbr) (λ fourth finds_fourth.
-    some_find (IsNoGate core dbr) (λ fifth finds_fifth.
-    some_find (HasNoStack core dbr) (λ sixth finds_sixth.
+    some_find (IsNoGate (core_sdw core dbr)) (λ fifth finds_fifth.
+    some_find (HasNoStack dbr (core_sdw core dbr)) (λ sixth finds_sixth.
     none (noted 1 first ++ noted 2 second ++ noted 3 third ++ noted 4 fourth ++ noted 5 fifth ++ noted 6 sixth) (record {
       first = first;
       finds_first = finds_first;
