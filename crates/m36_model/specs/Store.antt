@@ -15,6 +15,7 @@ use Rattle.m36_model.specs.Act.{Transfer, Call, Locate, Part, Put, Request, Answ
 use Rattle.m36_model.specs.declared.outcome.Fault.{Fault}
 use Rattle.m36_model.specs.declared.outcome.Refusal.{Refusal}
 use Rattle.m36_model.specs.declared.place.Reference.{Reference}
+use Rattle.m36_model.specs.declared.place.Kind.{Kind}
 use Rattle.m36_model.specs.declared.place.Kind.TheVariants as reference
 
 -- where a word lies in a store: its address in core, or in a flat store the word of
@@ -236,19 +237,21 @@ with_odd q (e ∷ []) =
     ∷ []
 with_odd q (e ∷ f ∷ refs) = e ∷ with_odd q (f ∷ refs)
 
+-- The kind under which a reference stands among those of the step. Of one that does not stand there
+-- it does not matter.
+abbrev pub recorded_kind : RequestKind → Kind
+recorded_kind Fetch = reference.Fetch
+recorded_kind Read = reference.Read
+recorded_kind Write = reference.Write
+recorded_kind _ = reference.Indirect
+
+abbrev pub with_touched : RequestKind → Request → List Reference → List Reference
+with_touched Odd q refs = with_odd q refs
+with_touched kind q refs =
+    refs ++ record { kind = recorded_kind kind; at = q.at; count = q.count } ∷ []
+
 abbrev pub with_reference : RequestKind → Request → List Reference → List Reference
-with_reference Fetch q refs =
-    refs ++ record { kind = reference.Fetch; at = q.at; count = q.count } ∷ []
-with_reference Indirect q refs =
-    refs ++ record { kind = reference.Indirect; at = q.at; count = q.count } ∷ []
-with_reference Odd q refs = with_odd q refs
-with_reference Read q refs =
-    refs ++ record { kind = reference.Read; at = q.at; count = q.count } ∷ []
-with_reference Write q refs =
-    refs ++ record { kind = reference.Write; at = q.at; count = q.count } ∷ []
-with_reference Transfer q refs = refs
-with_reference Call q refs = refs
-with_reference Locate q refs = refs
+with_reference kind q refs = if touches kind then with_touched kind q refs else refs
 
 abbrev pub with_claims : RequestKind → List Spot → List Spot → List Spot
 with_claims kind spots claims = if claims_words kind then claims ++ spots else claims
