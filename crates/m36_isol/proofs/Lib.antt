@@ -31,6 +31,7 @@ pub mod FlatLaw
 pub mod Mirror
 pub mod MirrorStep
 pub mod EffectRefusals
+pub mod BootedNumbers
 pub mod Laid
 pub mod Booted
 pub mod PagedStep

@@ -1,6 +1,7 @@
 pub mod Rights
 pub mod Gates
 pub mod MarkBits
+pub mod BootedNumbers
 pub mod Findings
 pub mod References
 pub mod PageServices

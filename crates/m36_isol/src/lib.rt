@@ -31,6 +31,7 @@ ghost use Rattle.m36_isol.specs.Findings.{FindingsLaw, JointFindingsLaw};
 ghost use Rattle.m36_isol.specs.Rights.{RightsLaw};
 ghost use Rattle.m36_isol.specs.Gates.{GatesLaw};
 ghost use Rattle.m36_isol.specs.MarkBits.{MarksKeepBits, MarksAreFields};
+ghost use Rattle.m36_isol.specs.BootedNumbers.{BootedNumbersLaw};
 ghost use Rattle.m36_isol.specs.PageServices.{PagesLaw};
 ghost use Rattle.m36_isol.specs.References.{FewReferencesLaw};
 ghost use Rattle.m36_model.specs.Laws.{EffectLaw, EffectRefusals, DependsLaw, SightLaw, ReachLaw, CoreReachLaw};
@@ -142,13 +143,15 @@ pub fn law_flat()
 /// Of the core of a booted image, whatever frames its pages are in, table words and words of segments are apart. A step
 /// over it is the step over the flat memory for which it stands, or ends at a page that is in no frame, or executes ABSA,
 /// and leaves the core that of the image. Moves of pages between frames and the words that are kept change nothing that
-/// the flat memory shows. The audit conditions hold of it as of its descriptors.
+/// the flat memory shows. The audit conditions hold of it as of its descriptors. The numbers of its layout are those of its
+/// parts.
 pub fn law_paged()
     ensures apart { (core : List ℕ) (frames : ℕ) → IsLaid core frames → AreApart core booted_dbr }
     ensures step { PagedStepLaw }
     ensures moved { MovedLaw }
     ensures audit { SameAuditLaw }
     ensures flat { FlatAuditLaw }
+    ensures numbers { BootedNumbersLaw }
 {}
 
 /// A step records at most 20 references. A booted image has at least 24 frames, so one of them holds no page that the step

@@ -1,3 +1,4 @@
+use Rattle.m36_isol.proofs.BootedNumbers.{booted_numbers}
 use Rattle.m36_isol.proofs.Laid.{laid_apart}
 use Rattle.m36_isol.proofs.PagedStep.{paged_step_law}
 use Rattle.m36_isol.proofs.Moved.{moved_law}
@@ -12,4 +13,5 @@ returns c =
       moved = moved_law;
       audit = same_audit;
       flat = flat_audit;
+      numbers = booted_numbers;
     }
