@@ -67,7 +67,7 @@ pub fn law_store()
 {}
 
 /// An effect changes the ring in CALL6 and RTCD alone and the DBR in LDBR alone, and puts as many words as its operand
-/// kind writes. None is refused with a directed fault, an access violation or a fault tag.
+/// kind writes. None is refused with a directed fault, an access violation, or fault tag 2 or 3.
 pub fn law_effect()
     ensures effects { EffectLaw }
     ensures refusals { EffectRefusals }

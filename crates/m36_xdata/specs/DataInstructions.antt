@@ -1,6 +1,7 @@
 -- The instructions of this crate: those that load, store, add, compare, combine and shift data.
--- They are all but those on pointer registers, those of control, and the privileged ones. Multics
--- Processor Manual AL39, "Fixed-point instructions", "Boolean operation instructions".
+-- They are all but those on pointer registers, those of control, the privileged ones, and those
+-- that form no address. Multics Processor Manual AL39, "Fixed-point instructions", "Boolean
+-- operation instructions".
 use Rattle.std.specs.Prelude.{Bool, true, false}
 use Rattle.m36_inst.specs.declared.effect.Effect.{Effect}
 use Rattle.m36_inst.specs.declared.effect.Effect.TheVariants as effect
