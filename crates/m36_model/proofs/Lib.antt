@@ -7,3 +7,4 @@ pub mod ChainClaims
 pub mod OperationLaw
 pub mod StepLaw
 pub mod OneStepLaw
+pub mod Indicators

@@ -1,10 +1,11 @@
 -- Stores. Multics Processor Manual AL39, "Fixed-point data movement store instructions", "Store
 -- indicator register".
-use Rattle.std.specs.Prelude.{ℕ, ◌+◌, ◌*◌, ◌^◌, ◌==◌, if◌then◌else◌, [], ◌∷◌, Result}
+use Rattle.std.specs.Prelude.{ℕ, ◌≡◌, ◌+◌, ◌*◌, ◌^◌, ◌==◌, if◌then◌else◌, [], ◌∷◌, Result}
 use Rattle.m36_word.specs.Bits.{of_bit}
 use Rattle.m36_model.specs.Registers.{RegsFields}
 use Rattle.m36_model.specs.Results.{EffectFields, Working, value, words, with_indicators, with_zero}
 use Rattle.m36_model.specs.Results.{completes_with}
+use Rattle.m36_model.specs.Loads.{indicators_of}
 use Rattle.m36_model.specs.declared.registers.Ind.{Ind}
 
 -- STA, STQ, STAQ, STX, SXL: the word, the pair or the half becomes the register
@@ -21,6 +22,10 @@ unfoldable pub indicators_half : Ind → ℕ
 indicators_half i =
     of_bit i.zero * 2 ^ 17 + of_bit i.negative * 2 ^ 16 + of_bit i.carry * 2 ^ 15
     + of_bit i.overflow * 2 ^ 14 + of_bit i.mask * 2 ^ 11 + of_bit i.tally * 2 ^ 10
+
+-- Indicators that are stored are loaded back.
+abbrev pub IndicatorsComeBack : Type 0
+IndicatorsComeBack = (i : Ind) → indicators_of (indicators_half i) ≡ i
 
 -- STI: bits 18 to 35 of the word become the indicators
 unfoldable pub store_indicators : RegsFields → Result EffectFields ℕ
