@@ -1,11 +1,11 @@
 -- The bits that marks put on are those that the fields of a page table word tell as used and modified.
-use Rattle.std.proofs.Common.{◌≡◌, ℕ, Bool, true, false, ap, ◌∙◌, arith}
+use Rattle.std.proofs.Common.{◌≡◌, ℕ, true, false, ap, ◌∙◌, arith}
 use Rattle.std.specs.Prelude.{◌==◌}
 use Rattle.m36_word.specs.Field.{field}
 use Rattle.m36_desc.specs.Fields.{PtwFields}
 use Rattle.m36_desc.specs.Descriptors.{ptw_of}
 use Rattle.m36_model.specs.Place.{with_used, with_modified}
-use Rattle.m36_isol.specs.MarkBits.{marked_fields, MarksAreFields}
+use Rattle.m36_isol.specs.MarkBits.{MarksAreFields}
 
 -- whether a bit is on, by its number
 on : {m n : ℕ} → m ≡ n → (m == 1) ≡ (n == 1)
