@@ -15,11 +15,11 @@ use Rattle.obj36_parts.specs.Fields.{LinkFields}
 use Rattle.obj36_parts.specs.PartsFields.{PartsFields}
 use Rattle.obj36_parts.specs.ObjectSegment.{definition_names, are_distinct, are_in_order}
 use Rattle.obj36_parts.specs.ObjectSegment.{version_of, evened, first_link, sections_fit}
+use Rattle.obj36_parts.specs.Indexes.{has_link}
 use Rattle.alm_lines.specs.Symbols.{sum_named}
 use Rattle.alm_lines.specs.Arguments.{name_at, first_arg, symbol_in, section_in}
 use Rattle.alm_lines.specs.Spots.{start, count_in, here, end_of}
 use Rattle.alm_asm.specs.Links.{operand_args, link_in, links_from}
-use Rattle.obj36_parts.specs.Indexes.{same_link}
 use Rattle.alm_asm.specs.Words.{words_by}
 use Rattle.alm_asm.specs.Marks.{marks_from}
 use Rattle.alm_lines.specs.Layout.{own_symbol, own_sum, labelled, symbols_from}
@@ -172,12 +172,12 @@ LinksStand source parts =
     × (link_in source.text (meaning_of source).symbols (spot_below source above)
     (first_arg (operand_args line.deed line.args))
     ≡ Some link)
-    × (list_any (same_link link) parts.links ≡ true)
+    × (has_link link parts.links ≡ true)
 
 -- No two links are the same; each stands in the order of its first use.
 unfoldable pub are_apart : List LinkFields → Bool
 are_apart [] = true
-are_apart (link ∷ links) = not (list_any (same_link link) links) && are_apart links
+are_apart (link ∷ links) = not (has_link link links) && are_apart links
 
 -- The entry bound is the place in the text at the last `entrybound` line, or 0.
 abbrev pub BoundIs : Source → PartsFields → Type 0

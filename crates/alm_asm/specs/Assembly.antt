@@ -1,6 +1,6 @@
 -- What lines mean: the parts of an object, or the first refusal in the order of the text.
-use Rattle.std.specs.Prelude.{ℕ, ◌+◌, ◌%◌, ◌^◌, Bool, true, false, List, [], ◌∷◌}
-use Rattle.std.specs.Prelude.{Option, Some, None, Result, Ok, Err, if◌then◌else◌}
+use Rattle.std.specs.Prelude.{ℕ, ◌%◌, ◌^◌, Bool, true, false, List, [], ◌∷◌}
+use Rattle.std.specs.Prelude.{Option, Some, None, Result, Ok, Err}
 use Rattle.alm_parse.specs.SourceFields.{Source}
 use Rattle.alm_parse.specs.declared.line.Line36.{Line36}
 use Rattle.alm_parse.specs.declared.fault.AlmFault.{AlmFault}
@@ -8,8 +8,8 @@ use Rattle.alm_parse.specs.declared.fault.AlmFault.TheVariants.{E8}
 use Rattle.obj36_parts.specs.declared.section.Section.{Section}
 use Rattle.obj36_parts.specs.declared.section.Section.TheVariants.{Text, Linkage, Static}
 use Rattle.obj36_parts.specs.PartsFields.{PartsFields}
-use Rattle.obj36_parts.specs.ObjectSegment.{head_words, links_behind, version_of, evened_words}
-use Rattle.obj36_parts.specs.ObjectSegment.{evened as even_number, is_well_formed}
+use Rattle.obj36_parts.specs.ObjectSegment.{version_of, evened_words}
+use Rattle.obj36_parts.specs.ObjectSegment.{evened as even_number, is_well_formed, first_link_by}
 use Rattle.alm_lines.specs.Spots.{start, below, end_of}
 use Rattle.alm_lines.specs.Refusals.{fault_of, sooner}
 use Rattle.alm_lines.specs.Layout.{symbols_from, layout_refusal}
@@ -30,8 +30,7 @@ use Rattle.alm_lines.specs.declared.refusal.Refusal.{Refusal}
 -- Links stand behind the words at the head of the linkage section and the static words there,
 -- an even number.
 abbrev pub first_link : Spot → ℕ
-first_link ending =
-    if ending.uses_outer then head_words else links_behind (even_number ending.inner)
+first_link ending = first_link_by ending.uses_outer (even_number ending.inner)
 
 unfoldable pub tables_of : List ℕ → List Line36 → Tables
 tables_of text lines =

@@ -1,7 +1,6 @@
 -- Definitions: the names of `entry` and `segdef` lines in order, and what is refused of them.
 use Rattle.std.specs.Prelude.{ℕ, Bool, true, false, not, ◌&&◌, List, [], ◌∷◌, ◌++◌, Option, Some}
 use Rattle.std.specs.Prelude.{None}
-use Rattle.std.specs.List.{list_any}
 use Rattle.alm_tokens.specs.declared.span.Span.{Span}
 use Rattle.alm_parse.specs.declared.args.Arg.{Arg}
 use Rattle.alm_parse.specs.declared.args.Arg.TheVariants as arg
@@ -9,8 +8,9 @@ use Rattle.alm_parse.specs.declared.line.Line36.{Line36}
 use Rattle.obj36_parts.specs.declared.section.Section.{Section}
 use Rattle.obj36_parts.specs.declared.section.Section.TheVariants.{Text, Linkage, Symbol, Static}
 use Rattle.obj36_parts.specs.declared.definition.Named.{Named}
+use Rattle.obj36_parts.specs.ObjectSegment.{has_definition}
 use Rattle.alm_lines.specs.Sums.{half_of, kind_of}
-use Rattle.alm_lines.specs.Symbols.{same_name, sum_named}
+use Rattle.alm_lines.specs.Symbols.{sum_named}
 use Rattle.alm_lines.specs.Arguments.{name_at}
 use Rattle.alm_lines.specs.Expressions.{symbol_sum}
 use Rattle.alm_lines.specs.Refusals.{sooner, refusal_at, has_room}
@@ -89,7 +89,7 @@ definitions_from text symbols done (line ∷ lines) =
 -- ---- what is refused of them
 
 unfoldable pub is_taken : List Named → List ℕ → Bool
-is_taken done name = list_any (λ d. same_name name d.name) done
+is_taken done name = has_definition name done
 
 -- an entry is a label of the text, another definition any label
 abbrev pub is_label_kind : Bool → Kind → Bool

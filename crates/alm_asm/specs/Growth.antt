@@ -1,9 +1,8 @@
 -- How the definition, linkage and symbol sections grow with the lines. Names, expressions, links
 -- and relocations stand in them, of which no line gives the words itself. The other sections have
 -- what the lines place there.
-use Rattle.std.specs.Prelude.{ℕ, ◌≡◌, ◌≤◌, ◌+◌, ◌*◌, Bool, true, false, ◌||◌, is_some}
+use Rattle.std.specs.Prelude.{ℕ, ◌≡◌, ◌≤◌, ◌+◌, Bool, true, false, ◌||◌, is_some}
 use Rattle.std.specs.Prelude.{if◌then◌else◌, List, [], ◌∷◌, ◌++◌, length, Option, Some, None}
-use Rattle.std.specs.List.{list_any}
 use Rattle.alm_tokens.specs.declared.span.Span.{Span}
 use Rattle.alm_tokens.specs.declared.expression.Term.{Term}
 use Rattle.alm_parse.specs.declared.args.Arg.{Arg}
@@ -11,14 +10,15 @@ use Rattle.alm_parse.specs.declared.args.Arg.TheVariants as arg
 use Rattle.alm_parse.specs.declared.line.Line36.{Line36}
 use Rattle.obj36_parts.specs.Fields.{LinkFields}
 use Rattle.obj36_parts.specs.Names.{name_length}
-use Rattle.obj36_parts.specs.ObjectSegment.{head_words, definition_head, symbol_head, link_names}
+use Rattle.obj36_parts.specs.ObjectSegment.{definition_head, symbol_head, link_names}
+use Rattle.obj36_parts.specs.ObjectSegment.{linkage_length}
+use Rattle.obj36_parts.specs.Indexes.{has_link}
 use Rattle.alm_lines.specs.Sums.{no_sum, kind_of}
 use Rattle.alm_lines.specs.Symbols.{sum_named, with_symbol}
 use Rattle.alm_lines.specs.Arguments.{name_at, first_arg, second_arg, terms_in}
 use Rattle.alm_lines.specs.Spots.{below}
 use Rattle.alm_lines.specs.Refusals.{refusal_at, has_value, is_over_limit}
 use Rattle.alm_asm.specs.Links.{operand_args, link_in}
-use Rattle.obj36_parts.specs.Indexes.{same_link}
 use Rattle.alm_lines.specs.Expressions.{sum_of}
 use Rattle.alm_asm.specs.Marks.{operand_kind}
 use Rattle.alm_asm.specs.Definitions.{gives_entries, sum_refusal}
@@ -103,7 +103,7 @@ with_new_link g link =
     (link_names link)
 
 unfoldable pub with_link_once : Growth → LinkFields → Growth
-with_link_once g link = if list_any (same_link link) g.links then g else with_new_link g link
+with_link_once g link = if has_link link g.links then g else with_new_link g link
 
 -- the link that an operand gives, if any
 abbrev pub with_link : Growth → Option LinkFields → Growth
@@ -176,7 +176,7 @@ grown_by text symbols spot g line =
 -- words is not counted: the limit is even, and so is all else there.
 unfoldable pub is_over : Spot → Growth → Bool
 is_over spot g =
-    is_over_limit g.definition || is_over_limit (head_words + spot.inner + 2 * length g.links)
+    is_over_limit g.definition || is_over_limit (linkage_length spot.inner (length g.links))
     || is_over_limit g.symbol
 
 -- the refusal of the first line with which one of these sections has more words

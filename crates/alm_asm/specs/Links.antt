@@ -1,7 +1,7 @@
 -- Links: the external operands of instructions, each once, in the order of their first use.
 use Rattle.std.specs.Prelude.{ℕ, ◌+◌, ◌*◌, ◌%◌, ◌^◌, List, [], ◌∷◌, ◌++◌, Option}
 use Rattle.std.specs.Prelude.{Some, None, unwrap_or, if◌then◌else◌}
-use Rattle.std.specs.List.{list_any, position}
+use Rattle.std.specs.List.{position}
 use Rattle.alm_tokens.specs.Tokens.{slice_of}
 use Rattle.alm_tokens.specs.declared.span.Span.{Span}
 use Rattle.alm_tokens.specs.declared.expression.Term.{Term}
@@ -13,7 +13,7 @@ use Rattle.obj36_parts.specs.declared.section.Section.{Section}
 use Rattle.obj36_parts.specs.declared.section.Section.TheVariants.{Text}
 use Rattle.obj36_parts.specs.Fields.{LinkFields}
 use Rattle.obj36_parts.specs.ObjectSegment.{to_section, to_segment, to_entry, to_own_entry}
-use Rattle.obj36_parts.specs.Indexes.{same_link}
+use Rattle.obj36_parts.specs.Indexes.{same_link, has_link}
 use Rattle.alm_lines.specs.Sums.{half_of}
 use Rattle.alm_lines.specs.Arguments.{name_at, first_arg}
 use Rattle.alm_lines.specs.Spots.{below}
@@ -93,7 +93,7 @@ link_in text symbols spot None = None
 -- the links with one at the end, where it is not among them
 abbrev pub with_link : List LinkFields → Option LinkFields → List LinkFields
 with_link links None = links
-with_link links (Some link) = if list_any (same_link link) links then links else links ++ link ∷ []
+with_link links (Some link) = if has_link link links then links else links ++ link ∷ []
 
 unfoldable pub links_after : List ℕ → List (List ℕ × Sum) → List LinkFields → Spot → Line36
     → List LinkFields

@@ -4,9 +4,8 @@
 --     B5   no component defines it
 use Rattle.std.specs.Prelude.{ℕ, ◌+◌, ◌||◌, if◌then◌else◌, List, [], ◌∷◌, ◌++◌, Option, Some}
 use Rattle.std.specs.Prelude.{None, Result, Ok, Err}
-use Rattle.std.specs.List.{list_any}
-use Rattle.obj36_parts.specs.Names.{same}
 use Rattle.obj36_parts.specs.declared.definition.Named.{Named}
+use Rattle.obj36_parts.specs.ObjectSegment.{has_definition}
 use Rattle.m36_bindfile.specs.declared.fault.BindFault.{BindFault}
 use Rattle.m36_bindfile.specs.declared.fault.BindFault.TheVariants as fault
 use Rattle.m36_bindfile.specs.declared.line.BindLine.{BindLine}
@@ -27,7 +26,7 @@ exports_from frame table (p ∷ all) =
 abbrev pub kept_one : List Named → ℕ → List ℕ → Option Export → Result (List Named) BindFault
 kept_one kept n name None = Err (fault.B5 n)
 kept_one kept n name (Some e) =
-    if list_any (λ d. same name d.name) kept || e.twice then Err (fault.B3 n)
+    if has_definition name kept || e.twice then Err (fault.B3 n)
     else Ok (kept ++ record { name = name; def = e.def } ∷ [])
 
 -- the definitions with that of line n

@@ -1,12 +1,11 @@
 //! The definitions of the bound object: the retained names.
 
 ghost use Rattle.std.specs.Prelude.{ℕ, ◌≡◌, ◌^◌, ◌<◌, ◌||◌, [], length, IfOk, OnOk};
-ghost use Rattle.std.specs.List.{list_any};
-ghost use Rattle.obj36_parts.specs.Names.{same};
 ghost use Rattle.m36_bindfile.specs.BindFile.{BindSays};
 ghost use Rattle.m36_bind.specs.Components.{Changes, moving};
 ghost use Rattle.m36_relocate.specs.Exports.{moved_from};
 ghost use Rattle.m36_bind.specs.Kept.{exports_from, kept_one, kept_line, kept_from};
+ghost use Rattle.obj36_parts.specs.ObjectSegment.{has_definition};
 
 use crate::placed::{Placed, moving};
 use m36_bindfile::{BindFault, BindLine};
@@ -41,7 +40,7 @@ pub(crate) fn exports(alloc: Global, frame: &Shape, all: &[Placed<'_>]) -> Resul
 
 // Whether a retained name stands above, or more than one component defines it.
 fn stands_twice(kept: &Defs, name: &Name, export: &Export) -> bool
-    ensures { result ≡ (list_any (λ d. same name.now d.name) kept.now || export.now.twice) }
+    ensures { result ≡ (has_definition name.now kept.now || export.now.twice) }
 {
     kept.has(name) || export.twice
 }

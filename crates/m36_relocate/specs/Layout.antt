@@ -4,10 +4,11 @@
 -- follow in the order of the components. A place that a component names is a word of its text, one
 -- of its static words, a word of its links, or one of the words at the head of its linkage
 -- section; the layout map sends each to a place of the bound object.
-use Rattle.std.specs.Prelude.{ℕ, ◌+◌, ◌-◌, ◌*◌, ◌%◌, ◌^◌, ◌<◌, ◌≤◌, Bool, nat_lt, if◌then◌else◌}
-use Rattle.std.specs.Prelude.{List, length}
+use Rattle.std.specs.Prelude.{ℕ, ◌+◌, ◌-◌, ◌*◌, ◌%◌, ◌^◌, ◌<◌, nat_lt, if◌then◌else◌}
+use Rattle.std.specs.Prelude.{length}
 use Rattle.obj36_parts.specs.PartsFields.{PartsFields}
 use Rattle.obj36_parts.specs.ObjectSegment.{is_newer, evened, head_words, links_behind}
+use Rattle.obj36_parts.specs.ObjectSegment.{first_link_by, linkage_length}
 use Rattle.obj36_parts.specs.declared.section.Section.{Section}
 use Rattle.obj36_parts.specs.declared.section.Section.TheVariants.{Text, Linkage, Symbol, Static}
 use Rattle.m36_relocate.specs.Fields.{ShapeFields, BasesFields}
@@ -29,9 +30,9 @@ meant_older statics v =
     if nat_lt v (links_behind statics)
     then StaticWord (v - head_words) else LinkWord (v - links_behind statics)
 
--- where they are laid behind so many links
+-- where static words are laid behind so many links
 abbrev pub statics_past : ℕ → ℕ
-statics_past links = head_words + 2 * links
+statics_past links = linkage_length 0 links
 
 abbrev pub meant_newer : ℕ → ℕ → Meant
 meant_newer links v =
@@ -75,7 +76,7 @@ bases_behind b c =
 
 -- where the first link of the bound object stands
 abbrev pub first_link : ShapeFields → ℕ
-first_link f = if f.newer then head_words else links_behind f.statics
+first_link f = first_link_by f.newer f.statics
 
 -- where its first static word stands, seen from the head of the linkage section
 abbrev pub first_static : ShapeFields → ℕ

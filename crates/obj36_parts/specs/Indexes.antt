@@ -2,6 +2,7 @@
 -- found at once.
 use Rattle.std.specs.Prelude.{ℕ, ◌≡◌, Bool, ◌&&◌, nat_eq, List, [], ◌∷◌, ◌++◌, position, is_some}
 use Rattle.std.specs.Prelude.{if◌then◌else◌}
+use Rattle.std.specs.List.{list_any}
 use Rattle.std.specs.Map.{lookup}
 use Rattle.obj36_parts.specs.Fields.{DefFields, LinkFields}
 use Rattle.obj36_parts.specs.declared.definition.Named.{Named}
@@ -25,6 +26,10 @@ same_link a b =
     nat_eq a.kind b.kind && nat_eq (place_number a.section) (place_number b.section)
     && same a.name b.name && same a.entry b.entry
     && nat_eq a.expr b.expr && nat_eq a.modifier b.modifier
+
+-- whether a link is among some
+abbrev pub has_link : LinkFields → List LinkFields → Bool
+has_link link links = list_any (same_link link) links
 
 -- the first places of links with that of one more, unless it has one
 unfoldable pub with_place : List (LinkFields × ℕ) → LinkFields → ℕ → List (LinkFields × ℕ)

@@ -214,6 +214,14 @@ link_words (l ∷ ls) at expression =
 abbrev pub links_behind : ℕ → ℕ
 links_behind statics = head_words + statics
 
+-- the same in an object of either version: in the newer no static words stand there
+abbrev pub first_link_by : Bool → ℕ → ℕ
+first_link_by newer statics = if newer then head_words else links_behind statics
+
+-- how many words the section has with so many static words and links
+abbrev pub linkage_length : ℕ → ℕ → ℕ
+linkage_length statics links = links_behind statics + 2 * links
+
 -- the words of the head, static words, and the links, whose expressions stand from a place on
 unfoldable pub linkage_part : List ℕ → List LinkFields → ℕ → List ℕ
 linkage_part statics ls expressions =
@@ -371,7 +379,7 @@ is_link version l =
 unfoldable pub is_place : ℕ → ℕ → ℕ → Section → ℕ → Bool
 is_place text inner outer Text offset = nat_lt offset text
 is_place text inner outer Linkage offset =
-    nat_le head_words offset && nat_lt offset (head_words + inner)
+    nat_le head_words offset && nat_lt offset (links_behind inner)
 is_place text inner outer Static offset = nat_lt offset outer
 is_place text inner outer Symbol offset = false
 
@@ -420,6 +428,10 @@ pub record Stands (p : PartsFields) (words : List ℕ) : Type 0 where
   pub spelled : words ≡ words_of p
 
 -- ---- what is found in the parts
+
+-- whether a definition has the name
+abbrev pub has_definition : List ℕ → List Named → Bool
+has_definition name ds = list_any (λ d. same name d.name) ds
 
 -- the first definition of a name
 unfoldable pub definition_named : List ℕ → List Named → Option DefFields

@@ -1,9 +1,9 @@
 -- How many words an object takes.
 use Rattle.std.specs.Prelude.{ℕ, ◌+◌, ◌^◌, ◌<◌, List, [], ◌∷◌, length, if◌then◌else◌}
-use Rattle.std.specs.List.{list_any}
 use Rattle.obj36_parts.specs.PartsFields.{PartsFields}
 use Rattle.obj36_parts.specs.declared.definition.Named.{Named}
-use Rattle.obj36_parts.specs.Names.{same, with_names, name_length, all_name_words}
+use Rattle.obj36_parts.specs.Names.{with_names, name_length, all_name_words}
+use Rattle.obj36_parts.specs.ObjectSegment.{has_definition}
 
 -- the words of each name once
 unfoldable pub names_length : List (List ℕ) → ℕ
@@ -16,7 +16,7 @@ all_length (name ∷ names) = name_length name + all_length names
 
 -- the words of a name that no definition has
 unfoldable pub other_length : List Named → List ℕ → ℕ
-other_length ds name = if list_any (λ d. same name d.name) ds then 0 else name_length name
+other_length ds name = if has_definition name ds then 0 else name_length name
 
 -- and of names, each as often as it stands
 unfoldable pub others_length : List Named → List (List ℕ) → ℕ

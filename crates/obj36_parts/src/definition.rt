@@ -1,10 +1,10 @@
 //! Definitions: the names by which others find places of an object.
 
 ghost use Rattle.std.specs.Prelude.{ℕ, List, [], ◌∷◌, ◌++◌, ◌≡◌, ◌<◌, OnOk, OnErr};
-ghost use Rattle.std.specs.List.{list_any};
 ghost use Rattle.std.specs.Vec.{vec_len, vec_capacity};
-ghost use Rattle.obj36_parts.specs.Names.{same, with_names};
+ghost use Rattle.obj36_parts.specs.Names.{with_names};
 ghost use Rattle.obj36_parts.specs.ObjectSegment.{definition_names, are_distinct, definition_named};
+ghost use Rattle.obj36_parts.specs.ObjectSegment.{has_definition};
 ghost use Rattle.obj36_parts.specs.Indexes.{with_first};
 
 use crate::section::Section;
@@ -98,7 +98,7 @@ impl Defs {
 
     /// Whether a definition has this name.
     pub fn has(&self, name: &Name) -> bool
-        ensures { result ≡ list_any (λ d. same name.now d.name) self.now }
+        ensures { result ≡ has_definition name.now self.now }
     {
         self.firsts.contains_key(name)
     }

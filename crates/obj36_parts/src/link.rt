@@ -2,12 +2,11 @@
 
 ghost use Rattle.std.specs.Prelude.{ℕ, List, [], ◌∷◌, ◌++◌, ◌≡◌, ◌+◌, ◌<◌, ◌≤◌, position, OnOk};
 ghost use Rattle.std.specs.Prelude.{OnErr};
-ghost use Rattle.std.specs.List.{list_any};
 ghost use Rattle.indexmap.specs.IndexSet.{spare};
 ghost use Rattle.obj36_parts.specs.Names.{with_name, with_names};
 ghost use Rattle.obj36_parts.specs.ObjectSegment.{name_used, entry_used, link_names};
 ghost use Rattle.obj36_parts.specs.ObjectSegment.{all_link_names};
-ghost use Rattle.obj36_parts.specs.Indexes.{same_link, with_place};
+ghost use Rattle.obj36_parts.specs.Indexes.{same_link, has_link, with_place};
 
 use crate::definition::put;
 use crate::names::{has_its_entry, has_its_name};
@@ -142,7 +141,7 @@ impl Links {
     /// Whether this link is there.
     #[tactic(auto, using(crate::proofs::IndexLaws::placed_has))]
     pub fn has(&self, link: &Link) -> bool
-        ensures { result ≡ list_any (same_link link.now) self.now }
+        ensures { result ≡ has_link link.now self.now }
     {
         self.place(link).is_some()
     }
