@@ -171,8 +171,19 @@ rising_bar least a (r ∷ rs) s e near (suc k, lt, same) is =
         omega (arith, whole, more, near, is, low)
     by false other go = go (ap (λ b. are_rising (order_of r + 1) (cond b (order_of r + 2) (4 * a + 2)) rs) (sym other) ∙ h.2)
 
+never_both : (j k m n : ℕ) → (j ≡ m → k ≡ n → ⊥) → (eqb j m && eqb k n) ≡ false
+never_both j k m n apart = by (eqb j m) (eqb k n) refl refl
+  where
+    by : (a b : Bool) → eqb j m ≡ a → eqb k n ≡ b → (a && b) ≡ false
+    by true true e f = absurd (apart (eqb-true j m e) (eqb-true k n f))
+    by true false e f = refl
+    by false b e f = refl
+
 parts_apart : (j k : ℕ) → (j ≡ k → ⊥) → (j + k ≡ 2 → ⊥) → overlap j k ≡ false
-parts_apart j k other sum = (λ i. ne_eqb j k other i || ne_eqb (j + k) 2 sum i)
+parts_apart j k other sum =
+    let whole = never_both j k 0 2 (λ a b. sum (omega (arith, a, b))) in
+    let low = never_both j k 2 0 (λ a b. sum (omega (arith, a, b))) in
+    (λ i. ne_eqb j k other i || whole i || low i)
 
 -- The relocations of a word have the numbers of its parts.
 abbrev pub AreOf : (RelocFields → Bool) → ℕ → List RelocFields → Type 0

@@ -49,6 +49,12 @@ put_below zero w v = joined_below v (right w)
 put_below (suc zero) w v = joined_below (left w) v
 put_below (suc (suc n)) w v = joined_below (left w / 2 ^ 15 * 2 ^ 15 + v % 2 ^ 15) (right w)
 
+later_part : (n w : ℕ) → part_of (suc (suc n)) w ≡ offset_in w
+unfolding part_of
+later_part n w =
+    cond-false (eqb (suc (suc n)) 0) (left w) (cond (eqb (suc (suc n)) 1) (right w) (offset_in w)) (ne_eqb (suc (suc n)) 0 (λ same. absurd (omega (arith, same))))
+    ∙ cond-false (eqb (suc (suc n)) 1) (right w) (offset_in w) (ne_eqb (suc (suc n)) 1 (λ same. absurd (omega (arith, same))))
+
 pub put_got : (n w v : ℕ) → part_of n (put_in n w v) ≡ cut_to n v
 unfolding put_in cut_to part_of with_offset offset_in
 put_got zero w v = left_is v (right w)
@@ -56,7 +62,7 @@ put_got (suc zero) w v = right_is (left w) v
 put_got (suc (suc n)) w v =
     let l : left (joined (left w / 2 ^ 15 * 2 ^ 15 + v % 2 ^ 15) (right w)) ≡ (left w / 2 ^ 15 * 2 ^ 15 + v % 2 ^ 15) % 2 ^ 18 =
     left_is (left w / 2 ^ 15 * 2 ^ 15 + v % 2 ^ 15) (right w) in
-    omega (arith, l)
+    later_part n (with_offset w v) ∙ (let k : offset_in (with_offset w v) ≡ v % 2 ^ 15 = omega (arith, l) in k)
 
 pub put_kept : (n k w v : ℕ) → n ≤ 2 → k ≤ 2 → overlap n k ≡ false → w < 2 ^ 36 → part_of k (put_in n w v) ≡ part_of k w
 unfolding put_in part_of with_offset offset_in
@@ -94,6 +100,7 @@ moved_puts m target (suc (suc n)) w =
     let low : ℕ = with_offset w (offset_raised m target (offset_in w)) in
     cond-false (eqb (suc (suc n)) 0) here (cond (eqb (suc (suc n)) 1) there low) (ne_eqb (suc (suc n)) 0 (λ same. absurd (omega (arith, same))))
     ∙ cond-false (eqb (suc (suc n)) 1) there low (ne_eqb (suc (suc n)) 1 (λ same. absurd (omega (arith, same))))
+    ∙ ap (λ v. with_offset w (offset_raised m target v)) (sym (later_part n w))
 
 pub word_puts : (m : Moving) (r : RelocFields) (w : ℕ) → word_moved m r w ≡ put_in r.part w (number_put m r.target r.part (part_of r.part w))
 unfolding word_moved moved_by

@@ -40,10 +40,13 @@ links_end n [] = n
 links_end n (p ∷ all) = links_end (p.bases.links + p.shape.links) all
 
 -- version 2 where it is asked for, or where a component has it
+abbrev pub is_newer_bound : Bool → List PlacedFields → Bool
+is_newer_bound asked all = asked || list_any is_newer_component all
+
 unfoldable pub frame_of : Bool → List PlacedFields → ShapeFields
 frame_of asked all =
     record {
-      newer = asked || list_any is_newer_component all;
+      newer = is_newer_bound asked all;
       statics = statics_end 0 all;
       links = links_end 0 all;
     }

@@ -1,6 +1,6 @@
 -- The links of the bound object: those of the components in their order, each as many times as it
 -- stands.
-use Rattle.std.specs.Prelude.{ℕ, ◌+◌, ◌%◌, ◌^◌, nat_eq, if◌then◌else◌, List, [], ◌∷◌, ◌++◌}
+use Rattle.std.specs.Prelude.{ℕ, ◌+◌, nat_eq, if◌then◌else◌, List, [], ◌∷◌, ◌++◌}
 use Rattle.std.specs.Prelude.{Option, Some, None}
 use Rattle.obj36_parts.specs.Fields.{LinkFields}
 use Rattle.obj36_parts.specs.ObjectSegment.{later_section}
@@ -25,8 +25,9 @@ own_link l s =
       modifier = l.modifier;
     }
 
+-- the place so much farther in a section
 abbrev pub farther : Spot → ℕ → Spot
-farther s n = record { section = s.section; offset = (s.offset + n) % 2 ^ 18 }
+farther s n = spot s.section (s.offset + n)
 
 -- to a segment: word 0 of the component's text, and the number of the link
 abbrev pub segment_link : LinkFields → Option PlacedFields → LinkFields

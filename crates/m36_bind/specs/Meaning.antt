@@ -4,15 +4,16 @@
 -- A part of a word that a relocation names, a link to a place and a definition name in the bound
 -- object the image of what they named in their component. All else is as it was, and nothing else
 -- stands there but the zero words that even.
-use Rattle.std.specs.Prelude.{ℕ, ◌≡◌, ◌+◌, ◌-◌, ◌*◌, ◌%◌, ◌^◌, ◌<◌, ◌≤◌, ◌⊎◌, zero, suc, Bool}
-use Rattle.std.specs.Prelude.{true, false, ◌||◌, nat_lt, nat_eq, if◌then◌else◌, List, [], ◌∷◌}
-use Rattle.std.specs.Prelude.{length, slice_index, slice_get, Some, None, Ok}
-use Rattle.std.specs.List.{Contains, list_any}
+use Rattle.std.specs.Prelude.{ℕ, ◌≡◌, ◌+◌, ◌-◌, ◌*◌, ◌%◌, ◌^◌, ◌<◌, ◌≤◌, ◌⊎◌, Bool}
+use Rattle.std.specs.Prelude.{true, false, ◌&&◌, ◌||◌, nat_lt, nat_eq, if◌then◌else◌, List, []}
+use Rattle.std.specs.Prelude.{◌∷◌, length, slice_index, slice_get, Some, None, Ok}
+use Rattle.std.specs.List.{Contains}
 use Rattle.obj36_parts.specs.Fields.{DefFields, RelocFields, LinkFields}
 use Rattle.obj36_parts.specs.PartsFields.{PartsFields}
 use Rattle.obj36_parts.specs.ObjectSegment.{later_section, is_well_formed, definition_names}
-use Rattle.obj36_parts.specs.ObjectSegment.{version_of, head_words, offset_part}
+use Rattle.obj36_parts.specs.ObjectSegment.{version_of, head_words, left_part, right_part}
 use Rattle.obj36_parts.specs.ObjectSegment.{to_section, to_segment, to_entry, to_own_entry}
+use Rattle.obj36_parts.specs.ObjectSegment.{offset_part}
 use Rattle.obj36_parts.specs.declared.definition.Named.{Named}
 use Rattle.m36_word.specs.Field.{offset_limit}
 use Rattle.obj36_parts.specs.Halves.{left, right}
@@ -29,7 +30,7 @@ use Rattle.m36_relocate.specs.Words.{offset_in, below_zero, stands_in, start_of,
 use Rattle.m36_relocate.specs.Exports.{export_named, is_symbol}
 use Rattle.m36_bind.specs.Components.{PlacedFields, component_named, picked_of}
 use Rattle.m36_bind.specs.Links.{own_link, farther}
-use Rattle.m36_bind.specs.Bound.{is_newer_component, links_end, first_bound}
+use Rattle.m36_bind.specs.Bound.{links_end, first_bound, is_newer_bound}
 use Rattle.m36_relocate.specs.declared.layout.Spot.{Spot}
 use Rattle.m36_relocate.specs.declared.exports.Export.{Export}
 
@@ -60,13 +61,16 @@ NamesImage bound p section old target new =
 
 -- the parts of a word that relocations name, by their numbers
 unfoldable pub part_of : ℕ → ℕ → ℕ
-part_of zero w = left w
-part_of (suc zero) w = right w
-part_of (suc (suc n)) w = offset_in w
+part_of part w =
+    if nat_eq part left_part then left w
+    else if nat_eq part right_part then right w
+    else offset_in w
 
--- whether two of these parts have bits in common
+-- whether two of these parts have bits in common: bits 3 to 17 are in the left half
 abbrev pub overlap : ℕ → ℕ → Bool
-overlap j k = nat_eq j k || nat_eq (j + k) 2
+overlap j k =
+    nat_eq j k || (nat_eq j left_part && nat_eq k offset_part)
+    || (nat_eq j offset_part && nat_eq k left_part)
 
 -- The relocation is the component's, and names a part of the word of this number of its text, or of
 -- its static words.
@@ -235,8 +239,7 @@ pub record BoundMeaning (text : List ℕ) (names : List (List ℕ)) (objects : L
   pub no_other_relocations : (r : RelocFields) → Contains bound.relocations r
       → RelocationSource bound components r
   pub entry_bound : bound.entry_bound ≡ first_bound components
-  pub version :
-      bound.version ≡ version_of (asks_newer lines || list_any is_newer_component components)
+  pub version : bound.version ≡ version_of (is_newer_bound (asks_newer lines) components)
 
 -- Each of these parts is that of an object.
 abbrev pub AreObjects : List PartsFields → Type 0

@@ -1,12 +1,12 @@
 //! The parts of the bound object.
 
-ghost use Rattle.std.specs.Prelude.{ℕ, ◌≡◌, ◌+◌, ◌++◌, ◌^◌, ◌<◌, ◌≤◌, ◌||◌, [], true, false, if◌then◌else◌, IfOk, OnOk};
+ghost use Rattle.std.specs.Prelude.{ℕ, ◌≡◌, ◌+◌, ◌++◌, ◌^◌, ◌<◌, ◌≤◌, [], true, false, if◌then◌else◌, IfOk, OnOk};
 ghost use Rattle.std.specs.List.{list_any};
 ghost use Rattle.m36_bind.specs.Components.{moving};
 ghost use Rattle.m36_bind.specs.Links.{links_from};
 ghost use Rattle.m36_relocate.specs.Words.{words_in, words_moved};
 ghost use Rattle.obj36_parts.specs.ObjectSegment.{evened_words};
-ghost use Rattle.m36_bind.specs.Bound.{is_newer_component, statics_end, links_end, frame_of, component_words, laid_from, relocation_moved, with_relocation, relocations_onto, relocations_from, first_bound, bound_parts};
+ghost use Rattle.m36_bind.specs.Bound.{is_newer_component, is_newer_bound, statics_end, links_end, frame_of, component_words, laid_from, relocation_moved, with_relocation, relocations_onto, relocations_from, first_bound, bound_parts};
 
 use crate::links::links;
 use crate::placed::{Components, Placed, moving};
@@ -84,7 +84,7 @@ pub(crate) fn frame_of(asked: bool, all: &[Placed<'_>]) -> Shape
 }
 
 fn is_newer_frame(asked: bool, all: &[Placed<'_>]) -> bool
-    ensures { result ≡ (asked || list_any is_newer_component all.now) }
+    ensures { result ≡ is_newer_bound asked all.now }
 {
     asked || is_some_newer(all)
 }

@@ -4,9 +4,9 @@ ghost use Rattle.std.specs.Prelude.{ℕ, true, ◌≡◌, ◌+◌, ◌*◌, ◌^
 ghost use Rattle.std.specs.Prelude.{◌&&◌, ◌||◌, not, nat_eq, nat_le, length, if◌then◌else◌};
 ghost use Rattle.std.specs.List.{list_all};
 ghost use Rattle.obj36_parts.specs.Names.{is_name};
-ghost use Rattle.obj36_parts.specs.ObjectSegment.{has_section, last_class, last_place};
+ghost use Rattle.obj36_parts.specs.ObjectSegment.{has_section, last_class, last_place, offset_part};
 ghost use Rattle.obj36_parts.specs.ObjectSegment.{is_definition, is_link, is_place, is_relocation};
-ghost use Rattle.obj36_parts.specs.ObjectSegment.{order_of, are_in_order, place_number};
+ghost use Rattle.obj36_parts.specs.ObjectSegment.{order_of, are_in_order, place_number, left_part};
 
 use crate::definition::Named;
 use crate::link::Link;
@@ -158,7 +158,7 @@ fn may_follow(least: u64, barred: u64, place: u64) -> bool
 // What is barred behind a relocation: behind part 0 part 2 of its word.
 fn barred_behind(part: u8, place: u64, barred: u64) -> u64
     requires { place < 2 ^ 40 }
-    ensures { result ≡ (if nat_eq part 0 then place + 2 else barred) }
+    ensures { result ≡ (if nat_eq part left_part then place + offset_part else barred) }
 {
     if part == 0 { place + 2 } else { barred }
 }
