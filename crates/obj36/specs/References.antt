@@ -4,7 +4,12 @@ use Rattle.std.specs.Prelude.{ℕ, List, [], ◌++◌, codes, if◌then◌else�
 use Rattle.obj36_parts.specs.Fields.{LinkFields}
 use Rattle.obj36_parts.specs.ObjectSegment.{own_name, has_name, has_entry}
 
+-- what it begins with, and what stands behind the dollar sign
+abbrev pub reference_subject : LinkFields → List ℕ
+reference_subject l = if has_name l.kind then l.name else own_name l.section
+
+abbrev pub reference_entry : LinkFields → List ℕ
+reference_entry l = if has_entry l.kind then l.entry else []
+
 unfoldable pub reference_text : LinkFields → List ℕ
-reference_text l =
-    (if has_name l.kind then l.name else own_name l.section) ++ codes "$"
-    ++ (if has_entry l.kind then l.entry else [])
+reference_text l = reference_subject l ++ codes "$" ++ reference_entry l

@@ -1,9 +1,9 @@
 //! The text of a reference.
 
-ghost use Rattle.std.specs.Prelude.{[], ◌++◌, ◌≡◌, ◌≤◌, length, OnOk, if◌then◌else◌};
+ghost use Rattle.std.specs.Prelude.{◌++◌, ◌≡◌, ◌≤◌, length, OnOk};
 ghost use Rattle.m36_text.specs.Texts.{name_limit};
-ghost use Rattle.obj36_parts.specs.ObjectSegment.{own_name, has_name, has_entry};
-ghost use Rattle.obj36.specs.References.{reference_text};
+ghost use Rattle.obj36_parts.specs.ObjectSegment.{own_name};
+ghost use Rattle.obj36.specs.References.{reference_subject, reference_entry, reference_text};
 
 use m36_outside::Text;
 use m36_word::NoMemory;
@@ -26,8 +26,7 @@ fn own_name(section: Section) -> &'static str
 
 /// What a link's reference begins with: a segment, or a section of the object itself, as `*text`. At most 32 bytes.
 pub fn subject(link: &Link) -> &[u8]
-    ensures text { result.now
-        ≡ (if has_name link.now.kind then link.now.name else own_name link.now.section) }
+    ensures text { result.now ≡ reference_subject link.now }
     ensures len { length result.now ≤ name_limit }
 {
     if has_its_name(link.kind as u64) {
@@ -39,7 +38,7 @@ pub fn subject(link: &Link) -> &[u8]
 
 /// The entry of a link's reference, or nothing. At most 32 bytes.
 pub fn entry(link: &Link) -> &[u8]
-    ensures text { result.now ≡ (if has_entry link.now.kind then link.now.entry else []) }
+    ensures text { result.now ≡ reference_entry link.now }
     ensures len { length result.now ≤ name_limit }
 {
     if has_its_entry(link.kind as u64) {
