@@ -11,6 +11,7 @@ use Rattle.alm_lines.specs.Refusals.{sooner, refusal_at}
 use Rattle.alm_lines.specs.Layout.{again, with_labels, labels_refused, own_symbol, own_refusal, own_sum, with_own, own_again, symbols_with, refused_with, over, labelled, symbols_after, refused_after, symbols_from, layout_refusal}
 use Rattle.alm_lines.specs.declared.sum.Sum.{Sum}
 use Rattle.alm_lines.specs.SpotFields.{Spot}
+use Rattle.alm_lines.specs.Expressions.{is_defined}
 use Rattle.alm_lines.specs.declared.refusal.Code.TheVariants.{E5}
 use Rattle.alm_lines.specs.declared.refusal.Refusal.{Refusal}
 use Rattle.alm_asm.proofs.Unrefused.{sooner_none}
@@ -23,7 +24,7 @@ some_none true refusal e = absurd (true≢false (ap is_some e))
 some_none false refusal e = refl
 
 fresh : (text : List ℕ) (line : Line36) (symbols : List (List ℕ × Sum)) (span : Span) → again text line symbols span ≡ None → is_some (sum_named (name_at text span) symbols) ≡ false
-unfolding again
+unfolding again is_defined
 fresh text line symbols span e = some_none (is_some (sum_named (name_at text span) symbols)) (refusal_at line span.from E5) e
 
 labels_first : (text : List ℕ) (line : Line36) (its : Sum) (symbols : List (List ℕ × Sum)) (first : Option Refusal) (spans : List Span) → labels_refused text line its symbols first spans ≡ None → first ≡ None

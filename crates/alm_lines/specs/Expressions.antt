@@ -36,7 +36,7 @@ added text symbols spot sum (term ∷ terms) =
 abbrev pub sum_of : List ℕ → List (List ℕ × Sum) → Spot → List Term → Sum
 sum_of text symbols spot terms = added text symbols spot no_sum terms
 
--- the place of the first symbol that is not defined
+-- whether a symbol is defined
 unfoldable pub is_defined : List ℕ → List (List ℕ × Sum) → Span → Bool
 is_defined text symbols span = is_some (sum_named (name_at text span) symbols)
 
@@ -49,6 +49,7 @@ unfoldable pub is_undefined : List ℕ → List (List ℕ × Sum) → Term → B
 is_undefined text symbols term =
     if is_symbol_atom term.what then not (is_defined text symbols term.span) else false
 
+-- the place of the first symbol that is not defined
 unfoldable pub place_undefined : List ℕ → List (List ℕ × Sum) → List Term → Option ℕ
 place_undefined text symbols terms =
     option_map (λ term. term.span.from) (find (is_undefined text symbols) terms)

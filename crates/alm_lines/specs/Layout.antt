@@ -1,19 +1,19 @@
 -- The symbols that lines define, and what is refused of their definitions and of the lengths of
 -- sections.
-use Rattle.std.specs.Prelude.{ℕ, Bool, true, false, is_some, List, [], ◌∷◌, Option, Some, None}
+use Rattle.std.specs.Prelude.{ℕ, Bool, true, false, List, [], ◌∷◌, Option, Some, None}
 use Rattle.std.specs.Prelude.{if◌then◌else◌}
 use Rattle.alm_tokens.specs.declared.span.Span.{Span}
 use Rattle.alm_parse.specs.declared.args.Arg.{Arg}
 use Rattle.alm_parse.specs.declared.line.Line36.{Line36}
 use Rattle.alm_lines.specs.Sums.{nothing, unknown_sum, settled}
-use Rattle.alm_lines.specs.Symbols.{sum_named, with_symbol}
+use Rattle.alm_lines.specs.Symbols.{with_symbol}
 use Rattle.alm_lines.specs.Arguments.{name_at, first_arg, second_arg, symbol_in, terms_in}
 use Rattle.alm_lines.specs.Spots.{count, here, below}
-use Rattle.alm_lines.specs.Expressions.{sum_of, expression_place}
 use Rattle.alm_lines.specs.Refusals.{sooner, refusal_at, number_refusal, has_number}
 use Rattle.alm_lines.specs.Refusals.{is_over_limit}
 use Rattle.alm_lines.specs.declared.sum.Sum.{Sum}
 use Rattle.alm_lines.specs.SpotFields.{Spot}
+use Rattle.alm_lines.specs.Expressions.{sum_of, is_defined, expression_place}
 use Rattle.alm_parse.specs.declared.deed.Deed.{Deed}
 use Rattle.alm_parse.specs.declared.deed.Deed.TheVariants as deed
 use Rattle.alm_lines.specs.declared.refusal.Code.TheVariants.{E5, E8}
@@ -24,9 +24,7 @@ use Rattle.alm_lines.specs.declared.refusal.Refusal.{Refusal}
 -- a symbol that is defined a second time
 unfoldable pub again : List ℕ → Line36 → List (List ℕ × Sum) → Span → Option Refusal
 again text line symbols span =
-    if is_some (sum_named (name_at text span) symbols)
-    then Some (refusal_at line span.from E5)
-    else None
+    if is_defined text symbols span then Some (refusal_at line span.from E5) else None
 
 -- the symbols with the labels of a line, each of which comes to this
 unfoldable pub with_labels : List ℕ → Sum → List (List ℕ × Sum) → List Span → List (List ℕ × Sum)

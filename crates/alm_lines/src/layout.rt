@@ -26,7 +26,7 @@ use alm_parse::{Arg, Deed, Line36, Span};
 use m36_word::NoMemory;
 use std::alloc::Global;
 
-#[tactic(auto, unfolding(crate::specs::Layout::again, crate::specs::Expressions::is_defined))]
+#[tactic(auto, unfolding(crate::specs::Layout::again))]
 fn again(text: &[u8], line: &Line36, symbols: &Symbols, span: Span) -> Option<Refusal>
     ensures { result ≡ again text.now line.now symbols.now span }
 {

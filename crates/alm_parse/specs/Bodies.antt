@@ -54,14 +54,18 @@ body_by text whole None = body_without_bar text whole (place_of text whole 36)
 unfoldable pub body_of : List ℕ → Span → Body
 body_of text whole = body_by text whole (place_of text whole 124)
 
+-- the section of a name, of those that a line may name
+abbrev pub section_by : (Section → List ℕ) → List ℕ → Option Section
+section_by named name =
+    if is_text (named Text) name
+    then Some Text
+    else (if is_text (named Linkage) name
+    then Some Linkage
+    else (if is_text (named Static) name then Some Static else None))
+
 -- the own section that a segment names
 unfoldable pub own_section : List ℕ → Option Section
-own_section name =
-    if is_text (own_name Text) name
-    then Some Text
-    else (if is_text (own_name Linkage) name
-    then Some Linkage
-    else (if is_text (own_name Static) name then Some Static else None))
+own_section name = section_by own_name name
 
 -- the forms of the parts
 abbrev pub is_segment : List ℕ → Bool

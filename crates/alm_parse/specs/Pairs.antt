@@ -1,10 +1,9 @@
 -- Operands of two parts between a comma, and names of sections.
-use Rattle.std.specs.Prelude.{ℕ, Bool, ◌&&◌, if◌then◌else◌, List, [], ◌∷◌, map}
-use Rattle.std.specs.Prelude.{Option, Some, None, is_some, Result, Err}
+use Rattle.std.specs.Prelude.{ℕ, Bool, ◌&&◌, List, [], ◌∷◌, map}
+use Rattle.std.specs.Prelude.{Option, None, is_some, Result, Err}
 use Rattle.std.specs.List.{list_all}
 use Rattle.std.specs.Option.{option_or}
 use Rattle.obj36_parts.specs.declared.section.Section.{Section}
-use Rattle.obj36_parts.specs.declared.section.Section.TheVariants.{Text, Linkage, Static}
 use Rattle.obj36_parts.specs.ObjectSegment.{section_name}
 use Rattle.alm_tokens.specs.declared.span.Span.{Span}
 use Rattle.alm_tokens.specs.declared.pieces.Piece.{Piece}
@@ -13,11 +12,12 @@ use Rattle.alm_parse.specs.declared.args.Arg.TheVariants.{Symbol, Plain}
 use Rattle.alm_tokens.specs.declared.numerals.Numeral.TheVariants.{Small}
 use Rattle.alm_parse.specs.declared.refusal.Code.TheVariants.{E2}
 use Rattle.alm_parse.specs.declared.refusal.Refusal.{Refusal}
-use Rattle.alm_tokens.specs.Tokens.{slice_of, is_text}
+use Rattle.alm_tokens.specs.Tokens.{slice_of}
 use Rattle.alm_tokens.specs.Expressions.{is_term_at, expression_pieces, term_of}
 use Rattle.alm_parse.specs.Members.{number_arg}
 use Rattle.alm_tokens.specs.Lists.{members, is_symbol_at, is_written_at, place_out}
 use Rattle.alm_parse.specs.Refusals.{told, refused, unless}
+use Rattle.alm_parse.specs.Bodies.{section_by}
 
 -- a symbol and an expression
 abbrev pub value_by : List ℕ → ℕ → Piece → List Piece → Result (List Arg) Refusal
@@ -65,12 +65,7 @@ block_given text operand = block_of_members text operand.from (members text oper
 
 -- the section that a name behind `use` names
 unfoldable pub used_section : List ℕ → Option Section
-used_section name =
-    if is_text (section_name Text) name
-    then Some Text
-    else (if is_text (section_name Linkage) name
-    then Some Linkage
-    else (if is_text (section_name Static) name then Some Static else None))
+used_section name = section_by section_name name
 
 -- whether it names one
 abbrev pub is_section : List ℕ → Bool
