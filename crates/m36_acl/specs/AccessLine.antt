@@ -8,7 +8,7 @@
 use Rattle.std.specs.Prelude.{ℕ, if◌then◌else◌, List, [], ◌∷◌, codes, Option, Some, None}
 use Rattle.std.specs.Prelude.{option_map, option_and_then}
 use Rattle.m36_text.specs.Texts.{is_text}
-use Rattle.m36_text.specs.Lines.{words_of}
+use Rattle.m36_text.specs.Lines.{by_words, by_first_word}
 use Rattle.m36_dir.specs.declared.segment.Mode.{Mode}
 use Rattle.m36_dir.specs.BootLine.{directory_of, name_of, mode_of}
 use Rattle.m36_dir.specs.BootOrder.{Entry, entry}
@@ -65,9 +65,7 @@ line_named word given =
     else None
 
 abbrev pub line_of_words : List (List ℕ) → Option Line
-line_of_words [] = None
-line_of_words (word ∷ given) = line_named word given
+line_of_words words = by_first_word line_named words
 
--- a line that lacks its line feed is of no form
 unfoldable pub line_given : Option (List ℕ) → Option Line
-line_given line = option_and_then (λ (l : List ℕ). line_of_words (words_of l)) line
+line_given line = by_words line_of_words None line

@@ -4,11 +4,10 @@
 --                            character of `a-z`
 --
 -- A term is as a user, but any of its three components may be `*`.
-use Rattle.std.specs.Prelude.{ℕ, Bool, false, ◌&&◌, ◌||◌, ◌==◌, nat_le, if◌then◌else◌, List, []}
-use Rattle.std.specs.Prelude.{◌∷◌, codes, Option, Some, None}
+use Rattle.std.specs.Prelude.{ℕ, Bool, false, ◌&&◌, ◌||◌, ◌==◌, if◌then◌else◌, List, []}
+use Rattle.std.specs.Prelude.{◌∷◌, codes, Option, Some, None, ◌+◌, ◌*◌}
 use Rattle.std.specs.List.{slice_split}
-use Rattle.m36_text.specs.Digits.{is_digit}
-use Rattle.m36_text.specs.Texts.{is_text, is_letter, is_run_of}
+use Rattle.m36_text.specs.Texts.{is_text, is_small_letter, is_word_character, is_run_of}
 
 -- ---- components
 
@@ -33,7 +32,7 @@ components_of text = three_of (parts_of text)
 
 -- A-Z a-z 0-9 _
 abbrev pub is_component_character : ℕ → Bool
-is_component_character c = is_letter c || is_digit 10 c || (c == 95)
+is_component_character c = is_word_character c
 
 -- the most characters of one
 abbrev pub component_limit : ℕ
@@ -43,7 +42,7 @@ abbrev pub is_component : List ℕ → Bool
 is_component text = is_run_of is_component_character component_limit text
 
 abbrev pub is_tag_character : ℕ → Bool
-is_tag_character c = nat_le 97 c && nat_le c 122
+is_tag_character c = is_small_letter c
 
 abbrev pub is_tag : List ℕ → Bool
 is_tag text = is_run_of is_tag_character 1 text
@@ -54,6 +53,10 @@ is_any text = is_text (codes "*") text
 abbrev pub have_form_of_user : Option Components → Bool
 have_form_of_user None = false
 have_form_of_user (Some u) = is_component u.person && is_component u.project && is_tag u.tag
+
+-- the most characters of a user or a term: two components, two points and a tag
+abbrev pub user_limit : ℕ
+user_limit = 2 * component_limit + 3
 
 unfoldable pub is_user : List ℕ → Bool
 is_user text = have_form_of_user (components_of text)

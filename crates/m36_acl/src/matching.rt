@@ -1,8 +1,8 @@
 //! The components of users and terms, and which term matches which user.
 
-ghost use Rattle.std.specs.Prelude.{◌≡◌, ◌+◌, ◌≤◌, ◌&&◌, ◌||◌, true, length, ◌∷◌, [], Some, None, MatchOption, IfSome};
+ghost use Rattle.std.specs.Prelude.{◌≡◌, ◌+◌, ◌*◌, ◌≤◌, ◌&&◌, ◌||◌, true, length, ◌∷◌, [], Some, None, MatchOption, IfSome};
 ghost use Rattle.std.specs.List.{list_all};
-ghost use Rattle.m36_acl.specs.Users.{parts_of, components_of, is_component_character, is_component, is_tag_character, is_tag, is_any, is_user, is_term, admits, matches, component_limit};
+ghost use Rattle.m36_acl.specs.Users.{parts_of, components_of, is_component_character, is_component, is_tag_character, is_tag, is_any, is_user, is_term, admits, matches, component_limit, user_limit};
 
 use m36_text::{is_digit, is_letter, place_of};
 
@@ -90,7 +90,7 @@ fn is_any(text: &[u8]) -> bool
 // Whether components are those of a user.
 fn have_form_of_user(person: &[u8], project: &[u8], tag: &[u8]) -> bool
     ensures value { result ≡ (is_component person.now && is_component project.now && is_tag tag.now) }
-    ensures fits { result ≡ true → length person.now + length project.now + length tag.now ≤ 65 }
+    ensures fits { result ≡ true → length person.now + length project.now + length tag.now ≤ 2 * component_limit + 1 }
 {
     if !is_component(person) {
         return false;
@@ -105,7 +105,7 @@ fn have_form_of_user(person: &[u8], project: &[u8], tag: &[u8]) -> bool
 #[tactic(auto, unfolding(crate::specs::Users::is_user))]
 pub(crate) fn is_user(text: &[u8]) -> bool
     ensures value { result ≡ is_user text.now }
-    ensures fits { result ≡ true → length text.now ≤ 67 }
+    ensures fits { result ≡ true → length text.now ≤ user_limit }
 {
     match components_of(text) {
         Some((person, project, tag)) => have_form_of_user(person, project, tag),
@@ -136,7 +136,7 @@ fn is_any_or_tag(text: &[u8]) -> bool
 // Whether components are those of a term.
 fn have_form_of_term(person: &[u8], project: &[u8], tag: &[u8]) -> bool
     ensures value { result ≡ ((is_any person.now || is_component person.now) && (is_any project.now || is_component project.now) && (is_any tag.now || is_tag tag.now)) }
-    ensures fits { result ≡ true → length person.now + length project.now + length tag.now ≤ 65 }
+    ensures fits { result ≡ true → length person.now + length project.now + length tag.now ≤ 2 * component_limit + 1 }
 {
     if !is_any_or_component(person) {
         return false;
@@ -151,7 +151,7 @@ fn have_form_of_term(person: &[u8], project: &[u8], tag: &[u8]) -> bool
 #[tactic(auto, unfolding(crate::specs::Users::is_term))]
 pub(crate) fn is_term(text: &[u8]) -> bool
     ensures value { result ≡ is_term text.now }
-    ensures fits { result ≡ true → length text.now ≤ 67 }
+    ensures fits { result ≡ true → length text.now ≤ user_limit }
 {
     match components_of(text) {
         Some((person, project, tag)) => have_form_of_term(person, project, tag),

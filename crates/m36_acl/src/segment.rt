@@ -4,6 +4,7 @@ ghost use Rattle.std.specs.Prelude.{◌≡◌, ◌≤◌, length, IfOk, OnOk};
 ghost use Rattle.m36_dir.specs.BootOrder.{entry};
 ghost use Rattle.m36_acl.specs.AccessLine.{term_with};
 ghost use Rattle.m36_acl.specs.AccessLists.{begun, with_term};
+ghost use Rattle.m36_acl.specs.Users.{user_limit};
 
 use crate::user::kept;
 use arrayvec::ArrayVec;
@@ -32,7 +33,7 @@ impl Model for Term {
 impl Term {
     // A term of a text and a mode, of which the right to be privileged is not looked at.
     pub(crate) fn new(text: &[u8], mode: Mode) -> Term
-        requires { length text.now ≤ 67 }
+        requires { length text.now ≤ user_limit }
         ensures { result ≡ term_with text.now mode }
     {
         Term {
@@ -44,7 +45,7 @@ impl Term {
     /// The term as it is written, without its mode: at most 67 bytes.
     pub fn bytes(&self) -> &[u8]
         ensures value { result.now ≡ self.now.text }
-        ensures fits { length self.now.text ≤ 67 }
+        ensures fits { length self.now.text ≤ user_limit }
     {
         self.text.as_slice()
     }

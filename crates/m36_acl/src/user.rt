@@ -1,7 +1,7 @@
 //! Users.
 
 ghost use Rattle.std.specs.Prelude.{◌≡◌, ◌≤◌, length};
-ghost use Rattle.m36_acl.specs.Users.{user_of};
+ghost use Rattle.m36_acl.specs.Users.{user_of, user_limit};
 
 use crate::matching::is_user;
 use arrayvec::ArrayVec;
@@ -24,7 +24,7 @@ impl Model for User {
 
 // The same bytes, which are few.
 pub(crate) fn kept(text: &[u8]) -> ArrayVec<u8, 67>
-    requires { length text.now ≤ 67 }
+    requires { length text.now ≤ user_limit }
     ensures { result.items ≡ text.now }
 {
     let mut items = ArrayVec::new();
@@ -49,7 +49,7 @@ impl User {
     /// The text of the user, at most 67 bytes.
     pub fn bytes(&self) -> &[u8]
         ensures value { result.now ≡ self.now }
-        ensures fits { length self.now ≤ 67 }
+        ensures fits { length self.now ≤ user_limit }
     {
         self.text.as_slice()
     }

@@ -9,12 +9,12 @@
 -- other line, or one that is out of order or lacks its line feed; of a file without an `object`
 -- line it is told at line 1, before any other; a last `object` line that lacks its line
 -- feed counts there.
-use Rattle.std.specs.Prelude.{ℕ, ◌≡◌, ◌+◌, Bool, true, false, ◌&&◌, if◌then◌else◌, List, []}
-use Rattle.std.specs.Prelude.{◌∷◌, ◌++◌, length, map, codes, Option, Some, None, option_and_then, Result}
+use Rattle.std.specs.Prelude.{ℕ, ◌≡◌, ◌+◌, Bool, true, false, if◌then◌else◌, List, []}
+use Rattle.std.specs.Prelude.{◌∷◌, ◌++◌, length, map, codes, Option, Some, None, Result}
 use Rattle.std.specs.Prelude.{Ok, Err}
 use Rattle.std.specs.List.{list_any}
 use Rattle.m36_text.specs.Texts.{is_text, is_file_name}
-use Rattle.m36_text.specs.Lines.{lines_of, open_lines_of, words_of, last_of}
+use Rattle.m36_text.specs.Lines.{lines_of, open_lines_of, by_words, last_of}
 use Rattle.m36_bindfile.specs.declared.line.BindLine.{BindLine}
 use Rattle.m36_bindfile.specs.declared.line.BindLine.TheVariants as line
 use Rattle.m36_bindfile.specs.declared.fault.BindFault.{BindFault}
@@ -42,9 +42,8 @@ abbrev pub line_of_words : List (List ℕ) → Option BindLine
 line_of_words (word ∷ given ∷ []) = two_words word given
 line_of_words _ = None
 
--- a line that lacks its line feed is of no form
 unfoldable pub line_given : Option (List ℕ) → Option BindLine
-line_given line = option_and_then (λ (l : List ℕ). line_of_words (words_of l)) line
+line_given line = by_words line_of_words None line
 
 unfoldable pub lines_given : List ℕ → List (Option BindLine)
 lines_given text = map line_given (lines_of text)

@@ -11,11 +11,11 @@
 -- in this order, or `null`. DIR is 1 to 64 characters of `A-Z a-z 0-9 _ . >`; NAME, FILE and ENTRY
 -- are names of files.
 use Rattle.std.specs.Prelude.{ℕ, ◌+◌, Bool, true, false, ◌||◌, ◌==◌, if◌then◌else◌, List, [], ◌∷◌}
-use Rattle.std.specs.Prelude.{take, drop, codes, Option, Some, None, option_map, option_and_then}
+use Rattle.std.specs.Prelude.{take, drop, codes, Option, Some, None, option_map}
 use Rattle.std.specs.List.{position}
 use Rattle.m36_text.specs.Texts.{is_text, is_name_character, is_run_of, is_file_name}
-use Rattle.m36_text.specs.Lines.{words_of}
 use Rattle.m36_text.specs.Numbers.{octal_in, decimal_in}
+use Rattle.m36_text.specs.Lines.{by_words, by_first_word}
 use Rattle.m36_dir.specs.declared.segment.SegKind.{SegKind}
 use Rattle.m36_dir.specs.declared.segment.SegKind.TheVariants.{Object, Gate, Plain}
 use Rattle.m36_dir.specs.declared.segment.Mode.{Mode}
@@ -165,9 +165,7 @@ line_named word given =
     else None
 
 abbrev pub line_of_words : List (List ℕ) → Option BootLine
-line_of_words [] = None
-line_of_words (word ∷ given) = line_named word given
+line_of_words words = by_first_word line_named words
 
--- a line that lacks its line feed is of no form
 unfoldable pub line_given : Option (List ℕ) → Option BootLine
-line_given line = option_and_then (λ (l : List ℕ). line_of_words (words_of l)) line
+line_given line = by_words line_of_words None line

@@ -20,7 +20,7 @@ use Rattle.std.specs.List.{list_all, filter_map, range_with_len}
 use Rattle.std.specs.Result.{result_err, result_unwrap_or}
 use Rattle.m36_word.specs.declared.pair.Pair.{Pair}
 use Rattle.m36_text.specs.Texts.{is_text}
-use Rattle.m36_text.specs.Lines.{lines_of, line_at, words_of, first_told}
+use Rattle.m36_text.specs.Lines.{lines_of, line_at, first_told, by_words}
 use Rattle.m36_text.specs.Numbers.{octal_in}
 use Rattle.m36_text.specs.Reading.{number_read}
 use Rattle.m36_text.specs.declared.reading.NumberFault.{NumberFault}
@@ -45,8 +45,7 @@ core_words (name ∷ n ∷ []) =
 core_words _ = Err I1
 
 abbrev pub core_line : Option (List ℕ) → Result ℕ ImageCode
-core_line (Some line) = core_words (words_of line)
-core_line None = Err I1
+core_line line = by_words core_words (Err I1) line
 
 -- Line 2.
 abbrev pub dbr_read : Option ℕ → Option ℕ → Option Pair
@@ -63,8 +62,7 @@ dbr_words (name ∷ even ∷ odd ∷ []) =
 dbr_words _ = None
 
 abbrev pub dbr_line : Option (List ℕ) → Option Pair
-dbr_line (Some line) = dbr_words (words_of line)
-dbr_line None = None
+dbr_line line = by_words dbr_words None line
 
 -- Line 3.
 abbrev pub start_read : Option ℕ → Option ℕ → Option ℕ → Option PprFields
@@ -81,8 +79,7 @@ start_words (name ∷ seg ∷ ring ∷ word ∷ []) =
 start_words _ = None
 
 abbrev pub start_line : Option (List ℕ) → Option PprFields
-start_line (Some line) = start_words (words_of line)
-start_line None = None
+start_line line = by_words start_words None line
 
 -- Each further line: one to eight words, and the core address of the first of them.
 abbrev pub at_read : Option ℕ → Option (List ℕ) → Option PlacedWords
@@ -96,8 +93,7 @@ at_words (name ∷ address ∷ texts) =
 at_words _ = None
 
 abbrev pub at_line : Option (List ℕ) → Option PlacedWords
-at_line (Some line) = at_words (words_of line)
-at_line None = None
+at_line line = by_words at_words None line
 
 -- An `at` line in a core of so many words, by the test that its first address is above the earlier
 -- ones: the least code that it has, or the address behind its last word.

@@ -25,7 +25,7 @@ use Rattle.std.specs.Prelude.{Result, Ok, Err, if◌then◌else◌}
 use Rattle.std.specs.List.{list_all, flat_map, repeat}
 use Rattle.std.specs.Result.{result_err}
 use Rattle.m36_text.specs.Texts.{is_text}
-use Rattle.m36_text.specs.Lines.{lines_of, line_at, words_of, first_told}
+use Rattle.m36_text.specs.Lines.{lines_of, line_at, first_told, by_words}
 use Rattle.m36_text.specs.Numbers.{decimal_in, short_decimal_in}
 use Rattle.m36_word.specs.declared.pair.Pair.{Pair}
 use Rattle.m36_model.specs.Fields.{PprFields}
@@ -81,10 +81,8 @@ line_by None None None = OtherLine
 abbrev pub line_in : List (List ℕ) → Line
 line_in words = line_by (process_words words) (turns_words words) (at_words words)
 
--- one that lacks its line feed is of no form
 abbrev pub line_of : Option (List ℕ) → Line
-line_of (Some line) = line_in (words_of line)
-line_of None = OtherLine
+line_of line = by_words line_in OtherLine line
 
 -- What stands before a line: which lines may follow, the words of core, the count of processes, the
 -- least address that an `at` line may have, and the count of events.

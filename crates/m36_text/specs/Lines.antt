@@ -43,6 +43,17 @@ open_lines_of text = open_ended (slice_split (λ b. b == 10) text)
 unfoldable pub words_of : List ℕ → List (List ℕ)
 words_of line = slice_split (λ b. b == 32) line
 
+-- what a line says, by its words; and one that lacks its line feed, which is of no form
+abbrev pub by_words : {A : Type 0} → (List (List ℕ) → A) → A → Option (List ℕ) → A
+by_words says of_no_form (Some line) = says (words_of line)
+by_words says of_no_form None = of_no_form
+
+-- what words say, by the first of them and those behind it
+abbrev pub by_first_word : {A : Type 0} → (List ℕ → List (List ℕ) → Option A) → List (List ℕ)
+    → Option A
+by_first_word says [] = None
+by_first_word says (word ∷ given) = says word given
+
 -- A line has two words at least.
 pub record HasMore (words : List (List ℕ)) : Type 0 where
   pub first : List ℕ

@@ -13,12 +13,19 @@ are_same text other = pointwise nat_eq text other
 abbrev pub is_text : List ℕ → List ℕ → Bool
 is_text name text = are_same text name
 
+abbrev pub is_small_letter : ℕ → Bool
+is_small_letter c = nat_le 97 c && nat_le c 122
+
 abbrev pub is_letter : ℕ → Bool
-is_letter c = (nat_le 65 c && nat_le c 90) || (nat_le 97 c && nat_le c 122)
+is_letter c = (nat_le 65 c && nat_le c 90) || is_small_letter c
+
+-- A-Z a-z 0-9 _
+abbrev pub is_word_character : ℕ → Bool
+is_word_character c = is_letter c || is_digit 10 c || (c == 95)
 
 -- A-Z a-z 0-9 _ .
 abbrev pub is_name_character : ℕ → Bool
-is_name_character c = is_letter c || is_digit 10 c || (c == 95) || (c == 46)
+is_name_character c = is_word_character c || (c == 46)
 
 -- so many such characters, one at least
 abbrev pub is_run_of : (ℕ → Bool) → ℕ → List ℕ → Bool
