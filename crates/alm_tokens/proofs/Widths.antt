@@ -3,15 +3,16 @@ use Rattle.std.proofs.Common.{◌≡◌, ℕ, ◌+◌, ◌-◌, ◌<◌, ◌≤�
 use Rattle.std.specs.Prelude.{IfSome, option_map, slice_index, nat_lt}
 use Rattle.std.proofs.lemmas.Bool.{and_parts, leb-true, ltb-true}
 use Rattle.std.specs.List.{list_all}
+use Rattle.std.specs.Result.{result_ok}
 use Rattle.m36_text.specs.Reading.{number_read, judged, first_other, number_of}
+use Rattle.m36_text.specs.Numbers.{octal_in}
 use Rattle.m36_text.specs.declared.reading.NumberFault.TheVariants.{T2}
 use Rattle.alm_tokens.specs.declared.expression.Atom.TheVariants.{Number, Symbol, Here}
-use Rattle.m36_text.specs.Digits.{is_digit}
 use Rattle.alm_tokens.specs.Tokens.{is_text, most_number, small_read, value_of}
 use Rattle.alm_tokens.specs.Numerals.{is_number}
 use Rattle.alm_tokens.specs.Expressions.{is_here, atom_of, IsSmall}
 use Rattle.std.specs.Option.{option_or}
-use Rattle.alm_tokens.specs.Modifiers.{NumberedName, octal_digit, after_x, register_of, pr_digit, pr_name, pr_number, single_tag, indirect_first, indirect_last, tag_of, registers, pointer_registers, single_tags, number_beside}
+use Rattle.alm_tokens.specs.Modifiers.{NumberedName, after_x, register_of, pr_digit, pr_name, pr_number, single_tag, indirect_first, indirect_last, tag_of, registers, pointer_registers, single_tags, number_beside}
 
 abbrev pub Below : ℕ → Option ℕ → Type 0
 Below bound o = IfSome o (λ n. n < bound)
@@ -32,17 +33,21 @@ cond_below : (bound : ℕ) (b : Bool) (o : Option ℕ) → Below bound o → Bel
 cond_below bound true o h = h
 cond_below bound false o h = tt
 
-digit_by : (d : ℕ) (b : Bool) → is_digit 8 d ≡ b → Below 8 (cond b (Some (d - 48)) None)
-digit_by d true e =
-    let parts = and_parts (leb 48 d) (leb d 55) e in
-    let high : d ≤ 55 = leb-true d 55 parts.1 in
+fits_below : (b : Bool) (v : ℕ) → leb v 7 ≡ b → Below 8 (result_ok (cond b (Ok v) (Err T2)))
+fits_below true v e =
+    let high : v ≤ 7 = leb-true v 7 e in
     omega (arith, high)
-digit_by d false e = tt
+fits_below false v e = tt
 
-digit_below : (bytes : List ℕ) → Below 8 (octal_digit bytes)
+judged_below : (o : Option ℕ) (v : ℕ) → Below 8 (result_ok (judged o v 7))
+judged_below (Some place) v = tt
+judged_below None v = fits_below (leb v 7) v refl
+
+digit_below : (bytes : List ℕ) → Below 8 (octal_in 1 bytes)
+unfolding octal_in number_read
 digit_below [] = tt
-digit_below (d ∷ []) = digit_by d (is_digit 8 d) refl
-digit_below (d ∷ b ∷ rest) = tt
+digit_below (d ∷ rest) =
+    cond_below 8 (length (d ∷ rest) == 1) (result_ok (judged (first_other 8 (d ∷ rest)) (number_of 8 (d ∷ rest)) 7)) (judged_below (first_other 8 (d ∷ rest)) (number_of 8 (d ∷ rest)))
 
 -- a table whose numbers are all below a bound
 beside_below :
@@ -60,12 +65,12 @@ wider low high None order h = tt
 register_below : (bytes : List ℕ) → Below 16 (register_of bytes)
 unfolding register_of
 register_below bytes =
-    or_below 16 (number_beside registers bytes) (option_map (λ n. 8 + n) (octal_digit (after_x bytes))) (wider 8 16 (number_beside registers bytes) (omega arith) (beside_below 8 registers bytes refl)) (plus_below 8 8 (octal_digit (after_x bytes)) (digit_below (after_x bytes)))
+    or_below 16 (number_beside registers bytes) (option_map (λ n. 8 + n) (octal_in 1 (after_x bytes))) (wider 8 16 (number_beside registers bytes) (omega arith) (beside_below 8 registers bytes refl)) (plus_below 8 8 (octal_in 1 (after_x bytes)) (digit_below (after_x bytes)))
 
 pr_digit_below : (bytes : List ℕ) → Below 8 (pr_digit bytes)
 pr_digit_below [] = tt
 pr_digit_below (p ∷ []) = tt
-pr_digit_below (p ∷ r ∷ rest) = cond_below 8 ((p == 112) && (r == 114)) (octal_digit rest) (digit_below rest)
+pr_digit_below (p ∷ r ∷ rest) = cond_below 8 ((p == 112) && (r == 114)) (octal_in 1 rest) (digit_below rest)
 
 pr_name_below : (bytes : List ℕ) → Below 8 (pr_name bytes)
 unfolding pr_name

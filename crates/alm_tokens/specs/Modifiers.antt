@@ -5,8 +5,8 @@
 use Rattle.std.specs.Prelude.{ℕ, ◌+◌, ◌-◌, ◌&&◌, ◌==◌, List, [], ◌∷◌, length, take, slice_index}
 use Rattle.std.specs.Prelude.{codes, Option, Some, None, option_map, if◌then◌else◌}
 use Rattle.std.specs.Option.{option_or}
-use Rattle.m36_text.specs.Digits.{is_digit, digit_of}
 use Rattle.alm_tokens.specs.Tokens.{is_text}
+use Rattle.m36_text.specs.Numbers.{octal_in}
 
 -- a name and its number
 pub record NumberedName : Type 0 where
@@ -21,10 +21,6 @@ abbrev pub number_beside : List NumberedName → List ℕ → Option ℕ
 number_beside [] bytes = None
 number_beside (row ∷ rows) bytes =
     if is_text row.name bytes then Some row.number else number_beside rows bytes
-
-abbrev pub octal_digit : List ℕ → Option ℕ
-octal_digit (d ∷ []) = if is_digit 8 d then Some (digit_of d) else None
-octal_digit _ = None
 
 -- x0 to x7, and the digits alone, are the index registers
 abbrev pub after_x : List ℕ → List ℕ
@@ -45,11 +41,11 @@ registers =
 
 unfoldable pub register_of : List ℕ → Option ℕ
 register_of bytes =
-    option_or (number_beside registers bytes) (option_map (λ n. 8 + n) (octal_digit (after_x bytes)))
+    option_or (number_beside registers bytes) (option_map (λ n. 8 + n) (octal_in 1 (after_x bytes)))
 
 -- the pointer registers: pr0 to pr7, and their names
 abbrev pub pr_digit : List ℕ → Option ℕ
-pr_digit (p ∷ r ∷ rest) = if (p == 112) && (r == 114) then octal_digit rest else None
+pr_digit (p ∷ r ∷ rest) = if (p == 112) && (r == 114) then octal_in 1 rest else None
 pr_digit _ = None
 
 abbrev pub pointer_registers : List NumberedName

@@ -1,19 +1,18 @@
 //! The names of registers and modifiers.
 
 ghost use Rattle.std.specs.Prelude.{ℕ, ◌≡◌, ◌<◌, IfSome};
-ghost use Rattle.alm_tokens.specs.Modifiers.{octal_digit, after_x, register_of, pr_digit, pr_name, pr_number, single_tag, indirect_first, indirect_last, tag_of};
+ghost use Rattle.m36_text.specs.Numbers.{octal_in};
+ghost use Rattle.alm_tokens.specs.Modifiers.{after_x, register_of, pr_digit, pr_name, pr_number, single_tag, indirect_first, indirect_last, tag_of};
 
-use m36_text::is_digit;
+use m36_text::octal_in;
 
 /// The value of a text that is one octal digit.
 fn octal_digit(bytes: &[u8]) -> Option<u8>
-    ensures value { result ≡ octal_digit bytes.now }
+    ensures value { result ≡ octal_in 1 bytes.now }
     ensures below { IfSome result (λ n. n < 8) }
 {
-    match bytes {
-        [digit] if is_digit(8, *digit) => Some(*digit - b'0'),
-        _ => None,
-    }
+    let digit = octal_in(bytes, 1)?;
+    Some(digit as u8)
 }
 
 fn after_x(bytes: &[u8]) -> &[u8]

@@ -4,6 +4,8 @@ use Rattle.std.specs.Prelude.{codes}
 use Rattle.std.proofs.lemmas.Bool.{ltb-true, ltb-false, ne_eqb, eqb-true}
 use Rattle.std.proofs.lemmas.List.{append-nil}
 use Rattle.m36_text.specs.Digits.{decimal_text}
+use Rattle.m36_text.specs.Reading.{first_other, number_of, number_read}
+use Rattle.m36_text.specs.Numbers.{octal_in}
 use Rattle.m36_inst.specs.Fields.{InstFields}
 use Rattle.alm_tokens.specs.declared.span.Span.{Span}
 use Rattle.alm_parse.specs.declared.args.Arg.TheVariants.{Operand}
@@ -35,7 +37,7 @@ comma_passes_none = record { digit = no_digit_below 44 (omega arith); minus = re
 
 -- a pointer register
 pointer_back : (n : ℕ) → n < 8 → pr_number (pointer_text n) ≡ Some n
-unfolding pr_number
+unfolding pr_number octal_in number_read first_other number_of
 pointer_back zero small = refl
 pointer_back (suc zero) small = refl
 pointer_back (suc (suc zero)) small = refl
