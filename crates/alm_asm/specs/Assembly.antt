@@ -8,7 +8,7 @@ use Rattle.alm_parse.specs.declared.fault.AlmFault.TheVariants.{E8}
 use Rattle.obj36_parts.specs.declared.section.Section.{Section}
 use Rattle.obj36_parts.specs.declared.section.Section.TheVariants.{Text, Linkage, Static}
 use Rattle.obj36_parts.specs.PartsFields.{PartsFields}
-use Rattle.obj36_parts.specs.ObjectSegment.{version_of, evened_words}
+use Rattle.obj36_parts.specs.ObjectSegment.{evened_words}
 use Rattle.obj36_parts.specs.ObjectSegment.{evened as even_number, is_well_formed, first_link_by}
 use Rattle.alm_lines.specs.Spots.{start, below, end_of}
 use Rattle.alm_lines.specs.Refusals.{fault_of, sooner}
@@ -18,6 +18,7 @@ use Rattle.alm_asm.specs.Words.{words_from}
 use Rattle.alm_asm.specs.Marks.{marks_from}
 use Rattle.alm_asm.specs.Definitions.{definitions_from}
 use Rattle.alm_asm.specs.LineRefusals.{lines_refusal}
+use Rattle.alm_asm.specs.Parts.{parts_by}
 use Rattle.alm_asm.specs.Growth.{at_first, growth_refusal}
 use Rattle.alm_lines.specs.SpotFields.{Spot}
 use Rattle.alm_asm.specs.declared.tables.Tables.{Tables}
@@ -76,17 +77,18 @@ evened false words = evened_words words
 
 unfoldable pub parts_with : List ℕ → Tables → List Line36 → PartsFields
 parts_with text tables lines =
-    record {
+    parts_by tables
+    (record {
       text = words_from text tables Text [] start lines;
       statics = evened tables.uses_outer
           (words_from text tables (static_section tables.uses_outer) [] start lines);
+    })
+    (record {
       definitions = definitions_from text tables.symbols [] lines;
-      links = tables.links;
       relocations = marks_from text tables.symbols (static_section tables.uses_outer)
           (marks_from text tables.symbols Text [] start lines) start lines;
-      entry_bound = bound_from text 0 start lines;
-      version = version_of tables.uses_outer;
-    }
+    })
+    (bound_from text 0 start lines)
 
 abbrev pub parts_of : Source → PartsFields
 parts_of source = parts_with source.text (tables_of source.text source.lines) source.lines

@@ -2,7 +2,7 @@
 -- or a segment, a dollar sign, perhaps an entry, and perhaps a sign and an expression; or an
 -- expression.
 use Rattle.std.specs.Prelude.{ℕ, ◌+◌, Bool, true, false, not, ◌&&◌, ◌||◌, ◌==◌, List, [], length}
-use Rattle.std.specs.Prelude.{slice_index, Option, Some, None, option_map, is_some}
+use Rattle.std.specs.Prelude.{slice_index, Option, Some, None, is_some}
 use Rattle.std.specs.Prelude.{if◌then◌else◌}
 use Rattle.std.specs.List.{position}
 use Rattle.alm_tokens.specs.declared.span.Span.{Span}
@@ -13,16 +13,15 @@ use Rattle.obj36_parts.specs.declared.section.Section.{Section}
 use Rattle.obj36_parts.specs.declared.section.Section.TheVariants.{Text, Linkage, Static}
 use Rattle.obj36_parts.specs.ObjectSegment.{own_name}
 use Rattle.m36_text.specs.Texts.{is_name_character}
-use Rattle.alm_tokens.specs.Bytes.{is_sign}
-use Rattle.alm_tokens.specs.Tokens.{span_at, slice_of, is_text, is_symbol}
+use Rattle.alm_tokens.specs.Tokens.{span_at, slice_of, is_text, is_symbol, first_in}
 use Rattle.alm_tokens.specs.Pieces.{piece_at}
 use Rattle.alm_tokens.specs.Expressions.{expression_pieces}
 use Rattle.alm_tokens.specs.Modifiers.{pr_number}
+use Rattle.alm_tokens.specs.Bytes.{is_minus, is_sign}
 
 -- the first place in a span where a byte stands
 unfoldable pub place_of : List ℕ → Span → ℕ → Option ℕ
-place_of text span byte =
-    option_map (λ i. span.from + i) (position (λ b. b == byte) (slice_of text span))
+place_of text span byte = first_in (λ b. b == byte) text span
 
 -- the place behind the bytes at the beginning of a span that may belong to a symbol
 abbrev pub end_by : Option ℕ → ℕ → ℕ → ℕ
@@ -90,7 +89,7 @@ tail_pieces text tail =
     if length (slice_of text tail) == 0
     then []
     else expression_pieces text
-    (piece_at (slice_index (slice_of text tail) 0 == 45) (tail.from + 1) tail.to)
+    (piece_at (is_minus (slice_index (slice_of text tail) 0)) (tail.from + 1) tail.to)
 
 abbrev pub body_pieces : List ℕ → Body → List Piece
 body_pieces text (Through pr offset) =

@@ -1,8 +1,8 @@
 -- Texts that are placed: characters between two delimiters, four in a word.
 use Rattle.std.specs.Prelude.{ℕ, ◌+◌, Bool, true, false, not, List, [], ◌∷◌}
-use Rattle.std.specs.Prelude.{slice_index, Option, Some, None, option_map, Result, Ok, Err}
+use Rattle.std.specs.Prelude.{slice_index, Option, Some, None, Result, Ok, Err}
 use Rattle.std.specs.Prelude.{if◌then◌else◌}
-use Rattle.std.specs.List.{find, position}
+use Rattle.std.specs.List.{find}
 use Rattle.obj36_parts.specs.Halves.{of_quarters}
 use Rattle.alm_tokens.specs.declared.span.Span.{Span}
 use Rattle.alm_parse.specs.declared.args.Arg.{Arg}
@@ -10,7 +10,7 @@ use Rattle.alm_parse.specs.declared.args.Arg.TheVariants.{Chars}
 use Rattle.alm_parse.specs.declared.refusal.Code.TheVariants.{E1, E2}
 use Rattle.alm_parse.specs.declared.refusal.Refusal.{Refusal}
 use Rattle.alm_tokens.specs.Bytes.{is_blank, begins_comment, is_character}
-use Rattle.alm_tokens.specs.Tokens.{slice_of, span_at}
+use Rattle.alm_tokens.specs.Tokens.{slice_of, span_at, first_in}
 use Rattle.alm_parse.specs.Bodies.{place_of}
 
 -- A character has nine bits, and zeros follow the last.
@@ -37,8 +37,7 @@ is_ended bytes = ended_by (find (λ b. not (is_blank b)) bytes)
 
 -- the first byte that is no character
 unfoldable pub place_bad : List ℕ → Span → Option ℕ
-place_bad text span =
-    option_map (λ i. span.from + i) (position (λ b. not (is_character b)) (slice_of text span))
+place_bad text span = first_in (λ b. not (is_character b)) text span
 
 abbrev pub characters_by : List ℕ → Span → Option ℕ → Result (List Arg) Refusal
 characters_by text span (Some place) = Err (record { place = place; code = E1 })

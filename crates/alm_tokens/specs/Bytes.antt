@@ -10,9 +10,12 @@ is_blank b = (b == 32) || (b == 9)
 abbrev pub begins_symbol : ℕ → Bool
 begins_symbol b = is_letter b || (b == 95)
 
+abbrev pub is_minus : ℕ → Bool
+is_minus b = b == 45
+
 -- + and -
 abbrev pub is_sign : ℕ → Bool
-is_sign b = (b == 43) || (b == 45)
+is_sign b = (b == 43) || is_minus b
 
 -- A quotation mark begins a comment.
 abbrev pub begins_comment : ℕ → Bool

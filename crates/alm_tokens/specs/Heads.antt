@@ -1,14 +1,13 @@
 -- The labels and the operation of a line, and where its operand stands. Blanks and tabs part
 -- tokens, a colon ends a label, and a quotation mark begins a comment.
 use Rattle.std.specs.Prelude.{ℕ, ◌+◌, ◌<◌, ◌≤◌, Bool, not, ◌==◌, List, [], ◌∷◌, ◌++◌, slice_index}
-use Rattle.std.specs.Prelude.{Option, Some, None, option_map, if◌then◌else◌}
-use Rattle.std.specs.List.{position}
+use Rattle.std.specs.Prelude.{Option, Some, None, if◌then◌else◌}
 use Rattle.alm_tokens.specs.declared.span.Span.{Span}
 use Rattle.alm_tokens.specs.declared.head.Turn.{Turn}
 use Rattle.alm_tokens.specs.declared.head.Turn.TheVariants.{Label, Skip, Stop, Go}
 use Rattle.alm_tokens.specs.declared.head.Head.{Head}
 use Rattle.alm_tokens.specs.Bytes.{is_blank, begins_comment}
-use Rattle.alm_tokens.specs.Tokens.{slice_of, span_at}
+use Rattle.alm_tokens.specs.Tokens.{slice_of, span_at, first_in}
 
 -- What a byte does to the tokens before the operand: `fresh` says that no byte of the token stands
 -- before it.
@@ -47,8 +46,7 @@ head_of text line = head_from [] line.from line.from (slice_of text line)
 
 -- An operand begins with the first byte that is no blank,
 unfoldable pub operand_start : List ℕ → Span → Option ℕ
-operand_start text rest =
-    option_map (λ i. rest.from + i) (position (λ b. not (is_blank b)) (slice_of text rest))
+operand_start text rest = first_in (λ b. not (is_blank b)) text rest
 
 -- and ends behind the last byte that is no blank, before a comment.
 unfoldable pub end_from : ℕ → ℕ → List ℕ → ℕ

@@ -1,15 +1,15 @@
 -- The numbers of words.
-use Rattle.std.specs.Prelude.{ℕ, ◌-◌, ◌%◌, ◌^◌, Bool, true, false, ◌&&◌, ◌==◌, List, [], ◌∷◌}
+use Rattle.std.specs.Prelude.{ℕ, ◌-◌, ◌%◌, ◌^◌, Bool, true, false, ◌&&◌, List, [], ◌∷◌}
 use Rattle.std.specs.Prelude.{slice_index, Result, if◌then◌else◌}
 use Rattle.m36_text.specs.Reading.{number_read}
 use Rattle.m36_text.specs.declared.reading.NumberFault.{NumberFault}
 use Rattle.alm_tokens.specs.declared.numerals.Numeral.{Numeral}
 use Rattle.alm_tokens.specs.declared.numerals.Numeral.TheVariants.{Decimal, Octal, Small}
-use Rattle.alm_tokens.specs.Bytes.{is_sign}
 use Rattle.alm_tokens.specs.Tokens.{has_digits, has_no_leading_zero, value_of, small_read}
+use Rattle.alm_tokens.specs.Bytes.{is_minus, is_sign}
 
 abbrev pub is_negative : List ℕ → Bool
-is_negative bytes = slice_index bytes 0 == 45
+is_negative bytes = is_minus (slice_index bytes 0)
 
 abbrev pub unsigned : List ℕ → List ℕ
 unsigned [] = []

@@ -3,8 +3,8 @@ use Rattle.std.specs.Prelude.{ℕ, ◌+◌, Bool, ◌==◌, List, [], ◌∷◌,
 use Rattle.alm_tokens.specs.declared.pieces.Parter.{Parter}
 use Rattle.alm_tokens.specs.declared.pieces.Parter.TheVariants.{Comma, Sign}
 use Rattle.alm_tokens.specs.declared.pieces.Piece.{Piece}
-use Rattle.alm_tokens.specs.Bytes.{is_sign}
 use Rattle.alm_tokens.specs.Tokens.{slice_of}
+use Rattle.alm_tokens.specs.Bytes.{is_minus, is_sign}
 
 abbrev pub parts : Parter → ℕ → Bool
 parts Comma b = b == 44
@@ -19,7 +19,7 @@ unfoldable pub cut : Parter → Bool → ℕ → ℕ → List ℕ → List Piece
 cut parter minus from at [] = piece_at minus from at ∷ []
 cut parter minus from at (b ∷ rest) =
     if parts parter b
-    then piece_at minus from at ∷ cut parter (b == 45) (at + 1) (at + 1) rest
+    then piece_at minus from at ∷ cut parter (is_minus b) (at + 1) (at + 1) rest
     else cut parter minus from (at + 1) rest
 
 unfoldable pub pieces_of : Parter → List ℕ → Piece → List Piece

@@ -1,6 +1,7 @@
 -- Tokens: the bytes that a span names, symbols and numbers.
 use Rattle.std.specs.Prelude.{ℕ, ◌-◌, Bool, true, false, ◌&&◌, List, take, drop, slice_index}
-use Rattle.std.specs.Prelude.{Result, Ok, Err}
+use Rattle.std.specs.Prelude.{Result, Ok, Err, ◌+◌, Option, option_map}
+use Rattle.std.specs.List.{position}
 use Rattle.std.specs.Result.{result_unwrap_or}
 use Rattle.m36_text.specs.Reading.{number_read}
 use Rattle.m36_text.specs.declared.reading.NumberFault.{NumberFault}
@@ -17,6 +18,10 @@ span_at from to = record { from = from; to = to }
 -- the bytes of a text that a span names
 unfoldable pub slice_of : List ℕ → Span → List ℕ
 slice_of text span = take (span.to - span.from) (drop span.from text)
+
+-- the place of the first byte in a span that is so
+abbrev pub first_in : (ℕ → Bool) → List ℕ → Span → Option ℕ
+first_in is_so text span = option_map (λ i. span.from + i) (position is_so (slice_of text span))
 
 -- a symbol is a name that begins with a letter or _
 unfoldable pub is_symbol : List ℕ → Bool
