@@ -1,9 +1,9 @@
 -- The print of an object: lines of fields, which one space parts. Numbers are octal, of six digits
 -- where nothing else is said.
 use Rattle.std.specs.Prelude.{ℕ, ◌+◌, List, [], ◌∷◌, ◌++◌, length, codes, if◌then◌else◌}
-use Rattle.std.specs.List.{join_with_byte, flat_map}
+use Rattle.std.specs.List.{flat_map}
 use Rattle.m36_text.specs.Digits.{octal_text, decimal_text}
-use Rattle.m36_text.specs.Lines.{as_line}
+use Rattle.m36_text.specs.Lines.{as_line, joined_by_spaces}
 use Rattle.obj36_parts.specs.Fields.{LinkFields}
 use Rattle.obj36_parts.specs.PartsFields.{PartsFields}
 use Rattle.obj36_parts.specs.ObjectSegment.{is_newer, outer_statics, first_link, words_of}
@@ -17,7 +17,7 @@ use Rattle.m36_list.specs.Disassembly.{disassembly}
 
 -- a line of fields
 unfoldable pub line : List (List ℕ) → List ℕ
-line fields = as_line (join_with_byte 32 fields)
+line fields = as_line (joined_by_spaces fields)
 
 -- the name and the count of the words, in decimal
 abbrev pub object_line : List ℕ → PartsFields → List ℕ

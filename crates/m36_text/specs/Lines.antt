@@ -2,7 +2,7 @@
 -- text as a line.
 use Rattle.std.specs.Prelude.{ℕ, ◌≡◌, ◌+◌, ◌-◌, ◌==◌, Bool, if◌then◌else◌, List, [], ◌∷◌, ◌++◌}
 use Rattle.std.specs.Prelude.{length, Option, Some, None, slice_get, unwrap_or}
-use Rattle.std.specs.List.{slice_split}
+use Rattle.std.specs.List.{slice_split, join_with_byte}
 
 -- a text as a line
 abbrev pub as_line : List ℕ → List ℕ
@@ -42,6 +42,10 @@ open_lines_of text = open_ended (slice_split (λ b. b == 10) text)
 -- The words of a line are parted by single spaces.
 unfoldable pub words_of : List ℕ → List (List ℕ)
 words_of line = slice_split (λ b. b == 32) line
+
+-- words with single spaces between them
+abbrev pub joined_by_spaces : List (List ℕ) → List ℕ
+joined_by_spaces words = join_with_byte 32 words
 
 -- what a line says, by its words; and one that lacks its line feed, which is of no form
 abbrev pub by_words : {A : Type 0} → (List (List ℕ) → A) → A → Option (List ℕ) → A

@@ -1,7 +1,7 @@
 -- The end line of a run: how it ended, and the count of its steps.
 use Rattle.std.specs.Prelude.{ℕ, List, [], ◌∷◌, codes}
-use Rattle.std.specs.List.{join_with_byte}
 use Rattle.m36_text.specs.Digits.{decimal_text}
+use Rattle.m36_text.specs.Lines.{joined_by_spaces}
 use Rattle.m36_model.specs.declared.outcome.Outcome.{Outcome}
 use Rattle.m36_model.specs.declared.outcome.Outcome.TheVariants.{Next, Faulted, Stopped}
 use Rattle.m36_trace.specs.TraceLine.{fault_text, stop_text}
@@ -14,7 +14,7 @@ ending_text (Stopped stop) = stop_text stop
 
 -- the line by how the run ended, without its line feed
 abbrev pub end_line_with : List ℕ → ℕ → List ℕ
-end_line_with how steps = join_with_byte 32 (codes "end" ∷ how ∷ decimal_text steps ∷ [])
+end_line_with how steps = joined_by_spaces (codes "end" ∷ how ∷ decimal_text steps ∷ [])
 
 unfoldable pub end_line_of : Outcome → ℕ → List ℕ
 end_line_of outcome steps = end_line_with (ending_text outcome) steps

@@ -1,8 +1,8 @@
 -- The trace line of a step: its fields in order, parted by one space.
 use Rattle.std.specs.Prelude.{ℕ, Bool, List, [], ◌∷◌, ◌++◌, Option, Some, None, codes}
 use Rattle.std.specs.Prelude.{if◌then◌else◌, ◌==◌}
-use Rattle.std.specs.List.{join_with_byte}
 use Rattle.m36_text.specs.Digits.{octal_text, decimal_text}
+use Rattle.m36_text.specs.Lines.{joined_by_spaces}
 use Rattle.m36_model.specs.Faults.{access_violation}
 use Rattle.m36_model.specs.Fields.{AtFields, FinalFields}
 use Rattle.m36_model.specs.declared.registers.Ind.{Ind}
@@ -78,4 +78,4 @@ fields n r =
     ∷ []
 
 unfoldable pub line_of : ℕ → StepRecord → List ℕ
-line_of n r = join_with_byte 32 (fields n r)
+line_of n r = joined_by_spaces (fields n r)

@@ -2,10 +2,10 @@
 -- turn: its line, with its line feed.
 use Rattle.std.specs.Prelude.{ℕ, ◌+◌, Bool, ◌||◌, nat_le, nat_eq, if◌then◌else◌, List, [], ◌∷◌}
 use Rattle.std.specs.Prelude.{◌++◌, codes, Result, Ok, Err}
-use Rattle.std.specs.List.{join_with_byte, flat_map}
+use Rattle.std.specs.List.{flat_map}
 use Rattle.m36_word.specs.declared.pair.Pair.{Pair}
 use Rattle.m36_text.specs.Digits.{octal_text}
-use Rattle.m36_text.specs.Lines.{as_line}
+use Rattle.m36_text.specs.Lines.{as_line, joined_by_spaces}
 use Rattle.m36_model.specs.declared.endings.End.{End}
 use Rattle.m36_model.specs.declared.endings.End.TheVariants as end
 use Rattle.m36_model.specs.declared.endings.LinkCode.{LinkCode}
@@ -37,7 +37,7 @@ link_answer_text (Err code) = link_code_text code
 
 unfoldable pub link_line_of : LinkNoteFields → List ℕ
 link_line_of n =
-    join_with_byte 32
+    joined_by_spaces
     (codes "link" ∷ octal_text 1 n.ring ∷ word_of_segment n.at.seg n.at.word ∷ n.name
     ∷ link_answer_text n.answer ∷ [])
 
