@@ -9,6 +9,7 @@ use Rattle.std.specs.List.{list_any}
 use Rattle.m36_text.specs.Results.{and_then}
 use Rattle.obj36_parts.specs.PartsFields.{PartsFields}
 use Rattle.obj36_parts.specs.Names.{same}
+use Rattle.obj36_parts.specs.ObjectSegment.{segment_limit}
 use Rattle.m36_bindfile.specs.declared.fault.BindFault.{BindFault}
 use Rattle.m36_bindfile.specs.declared.fault.BindFault.TheVariants as fault
 use Rattle.m36_bindfile.specs.declared.line.BindLine.{BindLine}
@@ -111,6 +112,6 @@ pub record AreNear (b : BasesFields) (n : ℕ) : Type 0 where
 
 -- the parts of an object are few
 pub record AreFew (p : PartsFields) : Type 0 where
-  pub text : length p.text ≤ 2 ^ 18
-  pub statics : length p.statics ≤ 2 ^ 18
-  pub links : length p.links ≤ 2 ^ 18
+  pub text : length p.text ≤ segment_limit
+  pub statics : length p.statics ≤ segment_limit
+  pub links : length p.links ≤ segment_limit

@@ -3,7 +3,7 @@
 ghost use Rattle.std.specs.Prelude.{ℕ, ◌≡◌, ◌+◌, ◌*◌, ◌^◌, ◌<◌, ◌≤◌, false, [], ◌∷◌, ◌++◌, length, Some, IfOk, OnOk, option_map};
 ghost use Rattle.std.specs.List.{list_any};
 ghost use Rattle.obj36_parts.specs.Names.{same};
-ghost use Rattle.obj36_parts.specs.ObjectSegment.{is_newer};
+ghost use Rattle.obj36_parts.specs.ObjectSegment.{is_newer, segment_limit};
 ghost use Rattle.m36_relocate.specs.Exports.{own_from};
 ghost use Rattle.m36_bindfile.specs.BindFile.{BindSays};
 ghost use Rattle.m36_relocate.specs.Layout.{shape_of, first_bases, bases_behind};
@@ -35,14 +35,15 @@ pub(crate) struct Placed<'a> {
 }
 
 impl<'a> Model for Placed<'a> {
-    ghost use Rattle.std.specs.Prelude.{◌≤◌, ◌^◌};
+    ghost use Rattle.std.specs.Prelude.{◌≤◌};
+    ghost use Rattle.obj36_parts.specs.ObjectSegment.{segment_limit};
     ghost use Rattle.m36_bind.specs.Components.{PlacedFields};
 
     ghost Value = { PlacedFields };
 
     ghost view = { λ p. record { name = p.name.now; parts = p.parts.now; shape = p.shape; bases = p.bases; entries = p.entries } };
 
-    ghost invariant = { λ p. (p.shape.statics ≤ 2 ^ 18) × (p.shape.links ≤ 2 ^ 18) };
+    ghost invariant = { λ p. (p.shape.statics ≤ segment_limit) × (p.shape.links ≤ segment_limit) };
 }
 
 // Components in their order.
@@ -122,8 +123,8 @@ fn bases_behind(b: &Bases, parts: &Parts, n: u64) -> Bases
 fn shape_of(parts: &Parts) -> Shape
     requires { AreFew parts.now }
     ensures value { result ≡ shape_of parts.now }
-    ensures statics { result.statics ≤ 2 ^ 18 }
-    ensures links { result.links ≤ 2 ^ 18 }
+    ensures statics { result.statics ≤ segment_limit }
+    ensures links { result.links ≤ segment_limit }
 {
     Shape {
         statics: statics_length(parts),

@@ -3,6 +3,7 @@
 ghost use Rattle.std.specs.Prelude.{ℕ, List, ◌≡◌, ◌-◌, ◌<◌, ◌≤◌, ◌^◌, Option, Some, None, Ok, Err, MatchResult, length, option_copied, IfOk, IfSome};
 ghost use Rattle.obj36.specs.ObjectOf.{object_of};
 ghost use Rattle.m36_link.specs.Known.{place_of, file_of, object_in, laid_words};
+ghost use Rattle.obj36_parts.specs.ObjectSegment.{segment_limit};
 
 use m36_word::{NoMemory, Word, Words};
 use obj36::{Object, ObjectFault};
@@ -53,7 +54,7 @@ impl File {
     #[tactic(auto, using(crate::proofs::Sizes::object_fits))]
     pub fn object(&self) -> Result<&Object, ObjectFault>
         ensures value { MatchResult result (λ o. object_of self.now ≡ Ok o.now) (λ f. object_of self.now ≡ Err f) }
-        ensures fits { IfOk result (λ o. length (laid_words o.now) ≤ 2 ^ 18) }
+        ensures fits { IfOk result (λ o. length (laid_words o.now) ≤ segment_limit) }
     {
         match &self.object {
             Ok(object) => Ok(object),
@@ -89,7 +90,7 @@ pub(crate) fn file_of(files: &[File], seg: u16) -> Option<&File>
 #[tactic(auto, unfolding(crate::specs::Known::object_in))]
 pub fn object_in(files: &[File], seg: u16) -> Option<&Object>
     ensures value { option_copied result ≡ object_in files.now seg }
-    ensures fits { IfSome result (λ o. length (laid_words o.now) ≤ 2 ^ 18) }
+    ensures fits { IfSome result (λ o. length (laid_words o.now) ≤ segment_limit) }
 {
     match file_of(files, seg) {
         Some(file) => file.object().ok(),

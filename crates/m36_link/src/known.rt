@@ -7,6 +7,7 @@ ghost use Rattle.m36_link.specs.Known.{nothing_known, initiated};
 ghost use Rattle.m36_link.specs.Names.{AreNames};
 ghost use Rattle.m36_link.specs.Search.{searched};
 ghost use Rattle.m36_link.specs.Accepted.{accepted, with_initiated, with_laid, MayBeLaid};
+ghost use Rattle.obj36_parts.specs.ObjectSegment.{segment_limit};
 
 use crate::laid::{Laid, Lay};
 use crate::names::RingName;
@@ -92,7 +93,7 @@ fn add_name(
 #[tactic(auto, unfolding(crate::specs::Accepted::with_laid))]
 fn add_section(laid: &mut Vec<Laid>, lay: &Option<Lay>)
     requires room { vec_len laid.old < vec_capacity laid.old }
-    requires fits { IfSome lay.now (λ l. l.base + length l.words ≤ 2 ^ 18) }
+    requires fits { IfSome lay.now (λ l. l.base + length l.words ≤ segment_limit) }
     ensures { laid.new.items ≡ with_laid laid.old.items lay.now }
 {
     if let Some(lay) = lay {

@@ -27,13 +27,14 @@ pub struct Laid {
 
 impl Model for Laid {
     ghost use Rattle.std.specs.Prelude.{◌<◌, ◌≤◌, ◌+◌, ◌^◌};
+    ghost use Rattle.obj36_parts.specs.ObjectSegment.{segment_limit};
     ghost use Rattle.m36_link.specs.Fields.{LaidFields};
 
     ghost Value = { LaidFields };
 
     ghost view = { λ l. record { ring = l.ring; seg = l.seg; base = l.base; size = l.size } };
 
-    ghost invariant = { λ l. (l.ring < 8) × (l.seg < 2 ^ 15) × (l.base < 2 ^ 18) × (l.base + l.size ≤ 2 ^ 18) };
+    ghost invariant = { λ l. (l.ring < 8) × (l.seg < 2 ^ 15) × (l.base < 2 ^ 18) × (l.base + l.size ≤ segment_limit) };
 
     ghost inverse = { λ l. record { base = l.base; size = l.size; seg = l.seg; ring = l.ring } };
 }

@@ -3,6 +3,7 @@
 ghost use Rattle.std.specs.Prelude.{◌≡◌, ◌<◌, ◌≤◌, ◌^◌, length};
 ghost use Rattle.m36_link.specs.Known.{section_ring, laid_words};
 ghost use Rattle.m36_link.specs.Landing.{own_landing, may_not_use, fault_number, plain_landing, lay_if, object_landing, target_landing};
+ghost use Rattle.obj36_parts.specs.ObjectSegment.{segment_limit};
 
 use crate::file::File;
 use crate::laid::Laid;
@@ -46,7 +47,7 @@ pub(crate) fn own_landing(
     link: &Link,
 ) -> Result<Landing, LinkCode>
     requires ring { ring < 8 }
-    requires size { length (laid_words object.now) ≤ 2 ^ 18 }
+    requires size { length (laid_words object.now) ≤ segment_limit }
     ensures { result ≡ own_landing ring section object.now link.now }
 {
     let point = point_of(link, object)?;
@@ -121,7 +122,7 @@ fn object_landing(
     requires ring { ring < 8 }
     requires section_ring { section_ring < 8 }
     requires seg { seg < 2 ^ 15 }
-    requires size { length (laid_words object.now) ≤ 2 ^ 18 }
+    requires size { length (laid_words object.now) ≤ segment_limit }
     ensures { result ≡ object_landing laid.now ring section_ring seg object.now link.now }
 {
     let point = point_of(link, object)?;

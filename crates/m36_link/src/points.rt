@@ -2,6 +2,7 @@
 
 ghost use Rattle.std.specs.Prelude.{◌≡◌, ◌+◌, ◌<◌, ◌≤◌, ◌^◌, IfOk};
 ghost use Rattle.m36_link.specs.Landing.{section_of, point_of, pair_to, pair_of};
+ghost use Rattle.obj36_parts.specs.ObjectSegment.{segment_limit};
 
 use crate::laid::{FIRST_LINKAGE, Laid};
 use m36_desc::Its;
@@ -69,7 +70,7 @@ pub(crate) fn pair_to(seg: u16, ring: u8, word: u32, link: &Link) -> Pair
 pub(crate) fn pair_of(point: Point, ring: u8, laid: Laid, linkage: u32, link: &Link) -> Pair
     requires point { point.value < 2 ^ 18 }
     requires ring { ring < 8 }
-    requires linkage { linkage ≤ 2 ^ 18 }
+    requires linkage { linkage ≤ segment_limit }
     ensures { result ≡ pair_of point ring laid linkage link.now }
 {
     let value = point.value + link.expr;

@@ -1,9 +1,10 @@
 //! The answer to a link.
 
-ghost use Rattle.std.specs.Prelude.{◌≡◌, ◌<◌, ◌≤◌, ◌^◌, find, length, option_copied, IfOk};
+ghost use Rattle.std.specs.Prelude.{◌≡◌, ◌<◌, ◌≤◌, find, length, option_copied, IfOk};
 ghost use Rattle.m36_link.specs.Known.{segment_of, object_in, laid_words};
 ghost use Rattle.m36_link.specs.Links.{link_from, link_in, holds_link, section_at};
 ghost use Rattle.m36_link.specs.Snap.{outer_landing, directory_of, landing_of, words_laid, lay_of, snap_by, outer_snap, snap_of, SnapSays};
+ghost use Rattle.obj36_parts.specs.ObjectSegment.{segment_limit};
 
 use crate::file::{File, file_of, object_in, place_of};
 use crate::known::Known;
@@ -134,7 +135,7 @@ fn landing_of(
     link: &Link,
 ) -> Result<Landing, LinkCode>
     requires ring { ring < 8 }
-    requires size { length (laid_words object.now) ≤ 2 ^ 18 }
+    requires size { length (laid_words object.now) ≤ segment_limit }
     ensures { result ≡ landing_of known.now catalog.now files.now ring section object.now link.now }
 {
     if has_its_name(link.kind as u64) {

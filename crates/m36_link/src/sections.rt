@@ -1,7 +1,7 @@
 //! Where sections are laid.
 
 ghost use Rattle.std.specs.Prelude.{◌≡◌, ◌+◌, ◌<◌, ◌≤◌, ◌^◌, ◌&&◌, find, length};
-ghost use Rattle.obj36_parts.specs.ObjectSegment.{linkage_section};
+ghost use Rattle.obj36_parts.specs.ObjectSegment.{linkage_section, segment_limit, head_words};
 ghost use Rattle.m36_link.specs.Known.{laid_in, behind, base_behind, base_of, laid_words};
 ghost use Rattle.m36_link.specs.Landing.{home_of};
 
@@ -20,9 +20,9 @@ pub(crate) struct Home {
 /// How many words the linkage section of an object has.
 #[tactic(auto, unfolding(crate::specs::Known::laid_words))]
 pub(crate) fn linkage_size(object: &Object) -> u32
-    requires { length (laid_words object.now) ≤ 2 ^ 18 }
+    requires { length (laid_words object.now) ≤ segment_limit }
     ensures value { result ≡ length (linkage_section object.now) }
-    ensures bound { result ≤ 2 ^ 18 }
+    ensures bound { result ≤ segment_limit }
 {
     object.section(Section::Linkage).len() as u32
 }
@@ -30,10 +30,10 @@ pub(crate) fn linkage_size(object: &Object) -> u32
 // How many words are laid for an object.
 #[tactic(auto, unfolding(crate::specs::Known::laid_words))]
 fn laid_size(object: &Object) -> u32
-    requires { length (laid_words object.now) ≤ 2 ^ 18 }
+    requires { length (laid_words object.now) ≤ segment_limit }
     ensures value { result ≡ length (laid_words object.now) }
-    ensures some { 8 ≤ result }
-    ensures bound { result ≤ 2 ^ 18 }
+    ensures some { head_words ≤ result }
+    ensures bound { result ≤ segment_limit }
 {
     linkage_size(object) + object.section(Section::Static).len() as u32
 }
@@ -52,7 +52,7 @@ pub(crate) fn laid_in(laid: &[Laid], ring: u8, seg: u16) -> Option<Laid>
 #[tactic(auto, unfolding(crate::specs::Known::behind))]
 fn behind(section: &Laid) -> u32
     ensures value { result ≡ behind section.now }
-    ensures bound { result ≤ 2 ^ 18 }
+    ensures bound { result ≤ segment_limit }
 {
     let end = section.base + section.size;
     end + end % 2
@@ -60,9 +60,9 @@ fn behind(section: &Laid) -> u32
 
 // Where the next section of a ring goes behind one more, where it would go to a word without it.
 fn base_behind(ring: u8, base: u32, section: &Laid) -> u32
-    requires { base ≤ 2 ^ 18 }
+    requires { base ≤ segment_limit }
     ensures value { result ≡ base_behind ring base section.now }
-    ensures bound { result ≤ 2 ^ 18 }
+    ensures bound { result ≤ segment_limit }
 {
     if section.ring == ring {
         behind(section)
@@ -75,7 +75,7 @@ fn base_behind(ring: u8, base: u32, section: &Laid) -> u32
 #[tactic(auto, unfolding(crate::specs::Known::next_base))]
 fn base_of(laid: &[Laid], ring: u8) -> u32
     ensures value { result ≡ base_of laid.now ring }
-    ensures bound { result ≤ 2 ^ 18 }
+    ensures bound { result ≤ segment_limit }
 {
     let mut base = LOT_WORDS;
     let mut rest = laid;
@@ -91,7 +91,7 @@ fn base_of(laid: &[Laid], ring: u8) -> u32
 pub(crate) fn home_of(laid: &[Laid], ring: u8, seg: u16, object: &Object) -> Result<Home, LinkCode>
     requires ring { ring < 8 }
     requires seg { seg < 2 ^ 15 }
-    requires size { length (laid_words object.now) ≤ 2 ^ 18 }
+    requires size { length (laid_words object.now) ≤ segment_limit }
     ensures { result ≡ home_of laid.now ring seg object.now }
 {
     if let Some(section) = laid_in(laid, ring, seg) {

@@ -3,6 +3,7 @@
 ghost use Rattle.std.specs.Prelude.{[], ◌∷◌, ◌+◌, ◌*◌, ◌++◌, ◌≡◌, ◌^◌, ◌<◌, ◌≤◌, length, OnOk};
 ghost use Rattle.obj36.specs.References.{reference_text};
 ghost use Rattle.m36_list.specs.Print.{link_line, link_lines};
+ghost use Rattle.obj36_parts.specs.ObjectSegment.{segment_limit};
 
 use crate::fields::{put_field, put_last, put_number};
 use m36_outside::Text;
@@ -34,7 +35,7 @@ fn put_link(text: &mut Text, at: u64, link: &Link) -> Result<(), NoMemory>
 
 /// Puts the lines of all links, of which the first stands at an offset of the linkage section.
 pub fn put_links(text: &mut Text, first: u64, links: &[Link]) -> Result<(), NoMemory>
-    requires { first + 2 * length links.now ≤ 2 ^ 18 }
+    requires { first + 2 * length links.now ≤ segment_limit }
     ensures { OnOk result (text.new ≡ text.old ++ link_lines first links.now) }
 {
     for (i, link) in links.iter().enumerate() {

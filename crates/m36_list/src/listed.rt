@@ -1,7 +1,7 @@
 //! The listing of a source.
 
-ghost use Rattle.std.specs.Prelude.{ℕ, ◌+◌, ◌++◌, ◌≡◌, ◌^◌, ◌≤◌, length, codes, IfOk, OnOk};
-ghost use Rattle.obj36_parts.specs.ObjectSegment.{inner_statics, head_words};
+ghost use Rattle.std.specs.Prelude.{ℕ, ◌+◌, ◌++◌, ◌≡◌, ◌≤◌, length, codes, IfOk, OnOk};
+ghost use Rattle.obj36_parts.specs.ObjectSegment.{inner_statics, head_words, segment_limit};
 ghost use Rattle.m36_list.specs.Counts.{IsCount};
 ghost use Rattle.alm_lines.specs.Spots.{start};
 ghost use Rattle.m36_list.specs.Listing.{size_in, section_words, listing_of};
@@ -47,7 +47,7 @@ fn put_section_words(
     first: u64,
     words: &[Word],
 ) -> Result<(), NoMemory>
-    requires { first + length words.now ≤ 2 ^ 18 }
+    requires { first + length words.now ≤ segment_limit }
     ensures { OnOk result
         (out.new
         ≡ out.old
@@ -73,7 +73,7 @@ fn put_section_words(
 fn inner_words(count: Counts, o: &Object) -> &[Word]
     requires { IsCount count o.now }
     ensures value { result.now ≡ inner_statics o.now }
-    ensures fits { head_words + length result.now ≤ 2 ^ 18 }
+    ensures fits { head_words + length result.now ≤ segment_limit }
 {
     let _count = count.linkage;
     o.parts().inner_statics()

@@ -2,6 +2,7 @@
 
 ghost use Rattle.std.specs.Prelude.{◌+◌, ◌++◌, ◌≡◌, ◌^◌, ◌<◌, ◌≤◌, length, OnOk};
 ghost use Rattle.m36_list.specs.Listing.{placed_line, placed_lines};
+ghost use Rattle.obj36_parts.specs.ObjectSegment.{segment_limit};
 
 use crate::fields::{put_field, put_last, put_number};
 use m36_outside::Text;
@@ -34,7 +35,7 @@ pub fn put_all_placed(
     first: u64,
     words: &[Word],
 ) -> Result<(), NoMemory>
-    requires { first + length words.now ≤ 2 ^ 18 }
+    requires { first + length words.now ≤ segment_limit }
     ensures { OnOk result (text.new ≡ text.old ++ placed_lines section.now line first words.now) }
 {
     for (i, word) in words.iter().enumerate() {

@@ -1,7 +1,7 @@
 //! The print of an object.
 
-ghost use Rattle.std.specs.Prelude.{◌+◌, ◌*◌, ◌++◌, ◌≡◌, ◌^◌, ◌≤◌, length, IfOk, OnOk};
-ghost use Rattle.obj36_parts.specs.ObjectSegment.{first_link};
+ghost use Rattle.std.specs.Prelude.{◌+◌, ◌*◌, ◌++◌, ◌≡◌, ◌≤◌, length, IfOk, OnOk};
+ghost use Rattle.obj36_parts.specs.ObjectSegment.{first_link, segment_limit};
 ghost use Rattle.m36_list.specs.Counts.{IsCount};
 ghost use Rattle.m36_list.specs.Print.{object_line, print_of};
 
@@ -57,7 +57,7 @@ fn put_object(text: &mut Text, name: &[u8], count: Counts, o: &Object) -> Result
 fn first_link(count: Counts, o: &Object) -> u64
     requires { IsCount count o.now }
     ensures value { result ≡ first_link o.now }
-    ensures fits { result + 2 * length o.now.links ≤ 2 ^ 18 }
+    ensures fits { result + 2 * length o.now.links ≤ segment_limit }
 {
     let _count = count.linkage;
     o.parts().first_link()

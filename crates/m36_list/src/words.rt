@@ -2,6 +2,7 @@
 
 ghost use Rattle.std.specs.Prelude.{◌++◌, ◌≡◌, ◌^◌, ◌<◌, ◌≤◌, length, OnOk};
 ghost use Rattle.m36_list.specs.Print.{word_line, word_lines};
+ghost use Rattle.obj36_parts.specs.ObjectSegment.{segment_limit};
 
 use crate::disassembly::disassemble;
 use crate::fields::{put_field, put_last, put_number};
@@ -22,7 +23,7 @@ fn put_word(text: &mut Text, at: u64, word: Word) -> Result<(), NoMemory>
 
 /// Puts the lines of all words of a text section.
 pub fn put_words(text: &mut Text, words: &[Word]) -> Result<(), NoMemory>
-    requires { length words.now ≤ 2 ^ 18 }
+    requires { length words.now ≤ segment_limit }
     ensures { OnOk result (text.new ≡ text.old ++ word_lines 0 words.now) }
 {
     for (at, word) in words.iter().enumerate() {

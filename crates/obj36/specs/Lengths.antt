@@ -1,10 +1,11 @@
 -- Lengths of sections that are small enough to be added.
-use Rattle.std.specs.Prelude.{◌≤◌, ◌^◌}
+use Rattle.std.specs.Prelude.{◌≤◌}
+use Rattle.obj36_parts.specs.ObjectSegment.{segment_limit}
 use Rattle.obj36.specs.declared.object.Lengths.{Lengths}
 
 pub record AreSmall (l : Lengths) : Type 0 where
-  pub text : l.text ≤ 2 ^ 18
-  pub definition : l.definition ≤ 2 ^ 18
-  pub linkage : l.linkage ≤ 2 ^ 18
-  pub statics : l.statics ≤ 2 ^ 18
-  pub symbol : l.symbol ≤ 2 ^ 18
+  pub text : l.text ≤ segment_limit
+  pub definition : l.definition ≤ segment_limit
+  pub linkage : l.linkage ≤ segment_limit
+  pub statics : l.statics ≤ segment_limit
+  pub symbol : l.symbol ≤ segment_limit
