@@ -8,17 +8,20 @@ unfoldable pub digits : ℕ → ℕ → ℕ → List ℕ
 digits base zero v = []
 digits base (suc places) v = v / base ^ places % base ∷ digits base places v
 
--- the digits 0 to 9 are the characters 60 to 71 (octal)
+-- The digits 0 to 9 are the characters 60 to 71 (octal): the character of 0, and that of a digit.
+abbrev pub zero_character : ℕ
+zero_character = 48
+
 abbrev pub character : ℕ → ℕ
-character digit = 48 + digit
+character digit = zero_character + digit
 
 -- whether a character is a digit of a base up to ten: one of so many, from that of 0 on
 abbrev pub is_digit : ℕ → ℕ → Bool
-is_digit base c = nat_le 48 c && nat_le c (47 + base)
+is_digit base c = nat_le zero_character c && nat_le c (47 + base)
 
 -- the digit that a character is
 abbrev pub digit_of : ℕ → ℕ
-digit_of c = c - 48
+digit_of c = c - zero_character
 
 -- a number in octal, with so many places
 unfoldable pub octal_text : ℕ → ℕ → List ℕ

@@ -2,6 +2,7 @@
 use Rattle.std.specs.Prelude.{ℕ, ◌-◌, ◌^◌, Bool, ◌||◌, not, ◌==◌, nat_le, if◌then◌else◌, List}
 use Rattle.std.specs.Prelude.{length, slice_index, Option, Some, None}
 use Rattle.std.specs.Result.{result_ok}
+use Rattle.m36_text.specs.Digits.{zero_character}
 use Rattle.m36_text.specs.Reading.{number_read}
 
 -- exactly so many octal digits
@@ -24,7 +25,7 @@ short_decimal_in digits least most text =
 
 -- no zero leads, but that of the number 0
 abbrev pub has_no_leading_zero : List ℕ → Bool
-has_no_leading_zero text = (length text == 1) || not (slice_index text 0 == 48)
+has_no_leading_zero text = (length text == 1) || not (slice_index text 0 == zero_character)
 
 -- what `decimal_in` gives, without a leading zero
 unfoldable pub plain_decimal_in : ℕ → ℕ → List ℕ → Option ℕ

@@ -1,10 +1,10 @@
 -- Texts of digits read as numbers.
-use Rattle.std.specs.Prelude.{ℕ, ◌+◌, ◌-◌, ◌^◌, ◌<◌, ◌≤◌, ◌≡◌, ◌≢◌, not, nat_le, if◌then◌else◌}
+use Rattle.std.specs.Prelude.{ℕ, ◌^◌, ◌<◌, ◌≤◌, ◌≡◌, ◌≢◌, not, nat_le, if◌then◌else◌}
 use Rattle.std.specs.Prelude.{List, [], ◌∷◌, map, length, slice_index, Option, Some, None, Result}
 use Rattle.std.specs.Prelude.{Ok, Err}
 use Rattle.std.specs.List.{position}
 use Rattle.std.specs.Int.Digits.{number_from_digits}
-use Rattle.m36_text.specs.Digits.{is_digit, digit_of, octal_text, decimal_text}
+use Rattle.m36_text.specs.Digits.{is_digit, digit_of, octal_text, decimal_text, zero_character}
 use Rattle.m36_text.specs.declared.reading.NumberFault.{NumberFault}
 use Rattle.m36_text.specs.declared.reading.NumberFault.TheVariants.{T1, T2}
 
@@ -47,4 +47,4 @@ HasPlaces = (places v : ℕ) → length (octal_text places v) ≡ places
 
 -- The decimal text of a number other than zero does not begin with a zero.
 abbrev pub HasNoLeadingZero : Type 0
-HasNoLeadingZero = (v : ℕ) → 1 ≤ v → slice_index (decimal_text v) 0 ≢ 48
+HasNoLeadingZero = (v : ℕ) → 1 ≤ v → slice_index (decimal_text v) 0 ≢ zero_character
