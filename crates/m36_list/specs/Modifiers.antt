@@ -3,6 +3,8 @@
 -- 40 to 57 IT and 60 to 77 IR (octal).
 use Rattle.std.specs.Prelude.{ℕ, ◌+◌, ◌==◌, Bool, List, [], ◌∷◌, ◌++◌, Option, option_map, codes}
 use Rattle.std.specs.List.{find}
+use Rattle.m36_model.specs.Tally.{subtract_delta, indirect_only, add_delta, decrement_increment}
+use Rattle.m36_model.specs.Tally.{increment_decrement}
 
 pub record Modifier : Type 0 where
   pub tag : ℕ
@@ -31,6 +33,10 @@ of_registers first before behind =
     ++ written (first + 14) (before ++ codes "x6" ++ behind)
     ++ written (first + 15) (before ++ codes "x7" ++ behind)
 
+-- one of IT, by its Td
+abbrev pub of_tally : ℕ → List ℕ → List Modifier
+of_tally td text = written (0o40 + td) text
+
 -- R with no register is not written, RI with none is the asterisk alone, and IR with none names it;
 -- of IT five are written
 abbrev pub modifiers : List Modifier
@@ -39,11 +45,11 @@ modifiers =
     ++ of_registers 0o00 (codes ",") []
     ++ written 0o20 (codes ",*")
     ++ of_registers 0o20 (codes ",") (codes "*")
-    ++ written 0o44 (codes ",sd")
-    ++ written 0o51 (codes ",i")
-    ++ written 0o53 (codes ",ad")
-    ++ written 0o54 (codes ",di")
-    ++ written 0o56 (codes ",id")
+    ++ of_tally subtract_delta (codes ",sd")
+    ++ of_tally indirect_only (codes ",i")
+    ++ of_tally add_delta (codes ",ad")
+    ++ of_tally decrement_increment (codes ",di")
+    ++ of_tally increment_decrement (codes ",id")
     ++ written 0o60 (codes ",*n")
     ++ of_registers 0o60 (codes ",*") []
 
