@@ -21,14 +21,17 @@ inst_word i =
     i.y * 2 ^ 18 + i.code * 2 ^ 9 + of_bit i.bit27 * 2 ^ 8 + of_bit i.inhibit * 2 ^ 7
     + of_bit i.by_pr * 2 ^ 6 + i.tag
 
--- where the address is through a pointer register: the register's number in bits 0-2, and the
--- signed offset in bits 3-17, as a word number modulo 2^18
+-- where the address is through a pointer register: the register's number in bits 0-2, and bits 3-17
 abbrev pub pr_number : InstFields → ℕ
 pr_number i = i.y / 2 ^ 15
 
+abbrev pub offset_field : InstFields → ℕ
+offset_field i = i.y % 2 ^ 15
+
+-- these bits as a signed offset, which is a word number modulo 2^18
 abbrev pub pr_offset : InstFields → ℕ
 pr_offset i =
-    let offset = i.y % 2 ^ 15 in
+    let offset = offset_field i in
     if nat_lt offset offset_limit then offset else offset + 7 * 2 ^ 15
 
 -- An instruction that is written to a word is read back, and a word is the word of the instruction

@@ -1,6 +1,6 @@
 -- What the assembler makes of the text of a word.
 use Rattle.std.specs.Prelude.{ℕ, ◌+◌, ◌^◌, ◌<◌, ◌≡◌, List, [], ◌∷◌, ◌++◌, length, Option, Some}
-use Rattle.std.specs.Prelude.{None, Result, Ok, Err}
+use Rattle.std.specs.Prelude.{None, Result, Ok, Err, false}
 use Rattle.m36_text.specs.Lines.{as_line}
 use Rattle.m36_text.specs.Results.{and_then}
 use Rattle.alm_parse.specs.declared.line.Line36.{Line36}
@@ -11,6 +11,7 @@ use Rattle.alm_parse.specs.Lines.{line_given}
 use Rattle.alm_parse.specs.SourceFields.{Source}
 use Rattle.alm_parse.specs.Sources.{parsed}
 use Rattle.obj36_parts.specs.PartsFields.{PartsFields}
+use Rattle.obj36_parts.specs.ObjectSegment.{version_of}
 use Rattle.alm_lines.specs.SpotFields.{Spot}
 use Rattle.alm_asm.specs.declared.tables.Tables.{Tables}
 use Rattle.alm_asm.specs.Words.{words_by}
@@ -56,7 +57,7 @@ object_of_word w =
       links = [];
       relocations = [];
       entry_bound = 0;
-      version = 1;
+      version = version_of false;
     }
 
 -- The text of each word, with its line feed and alone as a source, is not refused, and its object

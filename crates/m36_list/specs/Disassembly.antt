@@ -1,9 +1,9 @@
 -- The text of an instruction's word, as the assembler would read it.
-use Rattle.std.specs.Prelude.{ℕ, ◌-◌, ◌%◌, ◌^◌, nat_lt, List, [], ◌∷◌, ◌++◌, Option, Some, None}
+use Rattle.std.specs.Prelude.{ℕ, ◌-◌, ◌^◌, nat_lt, List, [], ◌∷◌, ◌++◌, Option, Some, None}
 use Rattle.std.specs.Prelude.{codes, if◌then◌else◌}
 use Rattle.m36_text.specs.Digits.{character, octal_text, decimal_text}
 use Rattle.m36_inst.specs.Fields.{InstFields}
-use Rattle.m36_inst.specs.Instruction.{inst_of, pr_number}
+use Rattle.m36_inst.specs.Instruction.{inst_of, pr_number, offset_field}
 use Rattle.m36_inst.specs.Lookup.{name_at}
 use Rattle.m36_word.specs.Field.{offset_limit}
 use Rattle.m36_list.specs.Modifiers.{modifier_text}
@@ -18,7 +18,7 @@ signed_text offset =
 abbrev pub address_text : InstFields → List ℕ
 address_text i =
     if i.by_pr then codes "pr" ++ character (pr_number i) ∷ [] ++ codes "|"
-    ++ signed_text (i.y % 2 ^ 15)
+    ++ signed_text (offset_field i)
     else decimal_text i.y
 
 -- a word that is no instruction with a text of its own
