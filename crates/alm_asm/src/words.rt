@@ -1,14 +1,14 @@
 //! The words that lines place.
 
 ghost use Rattle.std.specs.Prelude.{ℕ, [], ◌++◌, ◌≡◌, ◌+◌, ◌*◌, ◌%◌, ◌^◌, ◌<◌};
-ghost use Rattle.std.specs.Prelude.{◌≤◌, length, Option, OnOk, IfOk};
+ghost use Rattle.std.specs.Prelude.{◌≤◌, length, Option, OnOk, IfOk, Some, None};
 ghost use Rattle.alm_lines.specs.Arguments.{first_arg};
 ghost use Rattle.alm_lines.specs.Spots.{start};
 ghost use Rattle.alm_lines.specs.Sums.{half_of, offset_of};
 ghost use Rattle.alm_asm.specs.Links.{link_of, link_place};
 ghost use Rattle.alm_asm.specs.Words.{plain_inst, pointed_inst, own_inst, inst_in};
 ghost use Rattle.alm_asm.specs.Words.{instruction_word, halves_word, words_by, words_of_line};
-ghost use Rattle.alm_asm.specs.Words.{words_from};
+ghost use Rattle.alm_asm.specs.Words.{words_from, inst_by};
 
 use crate::links::{link_of, link_place, same_section};
 use crate::tables::Tables;
@@ -81,9 +81,8 @@ fn external_inst(
 ) -> Inst
     requires { length terms.now ≤ 2 ^ 32 }
     ensures { result
-        ≡ pointed_inst operation.code operation.bit27 4
-        (link_place tables.now.links tables.now.first_link
-        (link_of text.now tables.now.symbols spot segment entry terms.now tag) % 2 ^ 15) 16 }
+        ≡ inst_by text.now tables.now spot operation.code operation.bit27 None (Some segment) entry
+        terms.now tag }
 {
     let link = link_of(text, &tables.symbols, spot, segment, entry, terms, tag);
     let place = link_place(&tables.links, tables.first_link, &link);

@@ -11,7 +11,7 @@ ghost use Rattle.obj36_parts.specs.ObjectSegment.{class_of};
 ghost use Rattle.obj36_parts.specs.ObjectSegment.{definition_words, subject_of, entry_place};
 ghost use Rattle.obj36_parts.specs.ObjectSegment.{expression_words, definition_part, link_words};
 ghost use Rattle.obj36_parts.specs.ObjectSegment.{linkage_part, relocation_word};
-ghost use Rattle.obj36_parts.specs.ObjectSegment.{symbol_part};
+ghost use Rattle.obj36_parts.specs.ObjectSegment.{symbol_part, definition_head};
 
 use crate::definition::{Def, Named};
 use crate::halves::word_of;
@@ -185,7 +185,9 @@ fn push_definitions(
 ) -> Result<(), NoMemory>
     requires { length definitions.now < 2 ^ 32 }
     ensures { OnOk result
-        (out.new ≡ out.old ++ definition_words table.now.names table.now.base definitions.now 2) }
+        (out.new
+        ≡ out.old
+            ++ definition_words table.now.names table.now.base definitions.now definition_head) }
 {
     let mut at = 2;
     for (i, definition) in definitions.iter().enumerate() {

@@ -5,7 +5,7 @@ ghost use Rattle.std.specs.Prelude.{length, Option, Some, None};
 ghost use Rattle.std.specs.Prelude.{IfSome, if◌then◌else◌};
 ghost use Rattle.obj36_parts.specs.ObjectSegment.{is_newer_version};
 ghost use Rattle.obj36_read.specs.MapFaults.{extent_at, is_told, is_bound};
-ghost use Rattle.obj36_read.specs.Reading.{symbol_index};
+ghost use Rattle.obj36_read.specs.Reading.{symbol_index, statics_index, newer_map};
 ghost use Rattle.obj36_read.specs.MapFaults.{nowhere, fixed_fault, map_fault};
 ghost use Rattle.obj36_read.specs.MapFaults.{is_outside, section_fault, extents_of, covers};
 ghost use Rattle.obj36_read.specs.MapFaults.{covering, first_shared, shared_fault, extent_words};
@@ -41,7 +41,7 @@ pub struct Extents {
 
 #[tactic(auto, unfolding(crate::specs::MapFaults::extent_at, crate::specs::Reading::told_length))]
 fn extent_told(words: &[Word], i: u64) -> Extent
-    requires { i < 8 }
+    requires { i < newer_map }
     ensures value { result ≡ extent_at words.now i }
     ensures from { result.from < 2 ^ 18 }
     ensures count { result.count < 2 ^ 18 }
@@ -118,13 +118,13 @@ const SYMBOL_HEAD: u64 = 1;
 
 fn index_of_symbol(version: u8) -> u64
     ensures value { result ≡ symbol_index version }
-    ensures bound { result < 8 }
+    ensures bound { result < newer_map }
 {
     if version == 2 { 5 } else { 4 }
 }
 
 fn extent_of_statics(words: &[Word], version: u8) -> Extent
-    ensures value { result ≡ (if is_newer_version version then extent_at words.now 4 else nowhere) }
+    ensures value { result ≡ (if is_newer_version version then extent_at words.now statics_index else nowhere) }
     ensures from { result.from < 2 ^ 18 }
     ensures count { result.count < 2 ^ 18 }
 {

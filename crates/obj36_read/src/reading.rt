@@ -9,7 +9,7 @@ ghost use Rattle.obj36_read.specs.Reading.{section_with, definition_at, definiti
 ghost use Rattle.obj36_read.specs.Reading.{links_in, relocation_in, relocations_in, map_place};
 ghost use Rattle.obj36_read.specs.Reading.{version_in, told_length, told_count, from_definition};
 ghost use Rattle.obj36_read.specs.Reading.{from_linkage, from_statics, from_symbol, told_first};
-ghost use Rattle.obj36_read.specs.Reading.{statics_in, bound_index, bound_in, parts_of};
+ghost use Rattle.obj36_read.specs.Reading.{statics_in, bound_index, bound_in, parts_of, newer_map};
 ghost use Rattle.m36_text.specs.Texts.{name_limit};
 ghost use Rattle.obj36_parts.specs.ObjectSegment.{definition_head, symbol_head};
 
@@ -292,7 +292,7 @@ pub fn version(words: &[Word]) -> u8
 /// A length that a map word tells.
 #[tactic(auto, unfolding(crate::specs::Reading::told_length))]
 pub fn length_told(words: &[Word], i: u64) -> u64
-    requires { i < 8 }
+    requires { i < newer_map }
     ensures value { result ≡ told_length words.now i }
     ensures bound { result < 2 ^ 18 }
 {
@@ -362,7 +362,7 @@ fn statics(words: &[Word]) -> &[Word]
 /// How far behind map 0 the entry bound is.
 pub fn index_of_bound(version: u8) -> u64
     ensures value { result ≡ bound_index version }
-    ensures bound { result < 8 }
+    ensures bound { result < newer_map }
 {
     if version == 2 { 6 } else { 5 }
 }
