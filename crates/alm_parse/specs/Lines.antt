@@ -2,6 +2,7 @@
 use Rattle.std.specs.Prelude.{ℕ, Bool, not, List, [], Option, Some, None, option_map, Result, Ok}
 use Rattle.std.specs.Prelude.{Err}
 use Rattle.std.specs.List.{find}
+use Rattle.m36_text.specs.Results.{and_then}
 use Rattle.alm_tokens.specs.declared.span.Span.{Span}
 use Rattle.alm_parse.specs.declared.args.Arg.{Arg}
 use Rattle.alm_tokens.specs.declared.numerals.Numeral.TheVariants as numeral
@@ -95,8 +96,7 @@ line_of text row head arguments =
     }
 
 abbrev pub line_with : List ℕ → Row → Head → Result (List Arg) Refusal → Result Line36 Refusal
-line_with text row head (Ok arguments) = Ok (line_of text row head arguments)
-line_with text row head (Err refusal) = Err refusal
+line_with text row head given = and_then given (λ arguments. Ok (line_of text row head arguments))
 
 abbrev pub line_by : List ℕ → Row → Head → Span → Option Operation → Result Line36 Refusal
 line_by text row head op (Some operation) =

@@ -1,6 +1,7 @@
 -- A whole source: its lines, or the first refusal in the order of the text.
 use Rattle.std.specs.Prelude.{ℕ, ◌+◌, ◌-◌, ◌≡◌, ⊤, Bool, false, List, [], ◌∷◌, ◌++◌, Option}
 use Rattle.std.specs.Prelude.{Some, None, Result, Ok, Err, if◌then◌else◌}
+use Rattle.m36_text.specs.Results.{and_then}
 use Rattle.alm_tokens.specs.declared.span.Span.{Span}
 use Rattle.alm_parse.specs.declared.refusal.Code.{Code}
 use Rattle.alm_parse.specs.declared.refusal.Code.TheVariants as code
@@ -48,8 +49,7 @@ read_lines text before (row ∷ rows) =
     continued text row before (λ more. read_lines text more rows) (line_given text row)
 
 abbrev pub with_text : List ℕ → Result (List Line36) AlmFault → Result Source AlmFault
-with_text text (Ok lines) = Ok (record { text = text; lines = lines })
-with_text text (Err fault) = Err fault
+with_text text read = and_then read (λ lines. Ok (record { text = text; lines = lines }))
 
 unfoldable pub parsed : List ℕ → Result Source AlmFault
 parsed text = with_text text (read_lines text [] (rows_of text))

@@ -15,6 +15,7 @@ use Rattle.std.specs.Prelude.{Ok, Err}
 use Rattle.std.specs.List.{list_any}
 use Rattle.m36_text.specs.Texts.{is_text, is_file_name}
 use Rattle.m36_text.specs.Lines.{lines_of, open_lines_of, by_words, last_of}
+use Rattle.m36_text.specs.Results.{and_then}
 use Rattle.m36_bindfile.specs.declared.line.BindLine.{BindLine}
 use Rattle.m36_bindfile.specs.declared.line.BindLine.TheVariants as line
 use Rattle.m36_bindfile.specs.declared.fault.BindFault.{BindFault}
@@ -157,5 +158,4 @@ BindSays (Err told) definition = Refuses told definition
 
 -- the names of the components of a bind file, or B1
 abbrev pub names_by : Result (List BindLine) BindFault → Result (List (List ℕ)) BindFault
-names_by (Ok lines) = Ok (component_names lines)
-names_by (Err told) = Err told
+names_by read = and_then read (λ lines. Ok (component_names lines))

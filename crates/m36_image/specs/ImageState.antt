@@ -1,7 +1,7 @@
 -- The state of a machine that a bare image writes out.
 use Rattle.std.specs.Prelude.{ℕ, ◌+◌, ◌*◌, List, [], ◌∷◌, replicate, slice_set, Result, Ok}
-use Rattle.std.specs.Prelude.{Err}
 use Rattle.m36_word.specs.declared.pair.Pair.{Pair}
+use Rattle.m36_text.specs.Results.{and_then}
 use Rattle.m36_desc.specs.Descriptors.{dbr_of}
 use Rattle.m36_model.specs.Fields.{PprFields}
 use Rattle.m36_model.specs.Modification.{no_ptr}
@@ -49,8 +49,7 @@ state_of image = record { regs = regs_of image.dbr image.start; store = core_of 
 
 -- the state that a file writes out, or why it does not
 abbrev pub state_by : Result Image Refusal → Result (State (List ℕ)) Refusal
-state_by (Ok image) = Ok (state_of image)
-state_by (Err refusal) = Err refusal
+state_by read = and_then read (λ image. Ok (state_of image))
 
 unfoldable pub state_given : List ℕ → Result (State (List ℕ)) Refusal
 state_given text = state_by (image_of text)

@@ -3,6 +3,7 @@ use Rattle.std.specs.Prelude.{ℕ, ◌+◌, ◌%◌, ◌^◌, Bool, true, false,
 use Rattle.std.specs.Prelude.{nat_lt, if◌then◌else◌, List, length, Option, Some, None, Result, Ok}
 use Rattle.std.specs.Prelude.{Err}
 use Rattle.m36_word.specs.declared.pair.Pair.{Pair}
+use Rattle.m36_text.specs.Results.{and_then}
 use Rattle.m36_desc.specs.Fields.{ItsFields}
 use Rattle.m36_desc.specs.Descriptors.{its_even, its_odd}
 use Rattle.m36_model.specs.declared.endings.LinkCode.{LinkCode}
@@ -92,13 +93,14 @@ home_of laid ring seg o = home_by (laid_in laid ring seg) laid ring seg o
 
 abbrev pub own_by : ℕ → LaidFields → PartsFields → LinkFields → Result Point LinkCode
     → Result LandingFields LinkCode
-own_by ring l o link (Ok point) =
+own_by ring l o link found =
+    and_then found
+    (λ point.
     Ok (record {
       pair = pair_of point ring l (length (linkage_section o)) link;
       target = l.seg;
       lay = None;
-    })
-own_by ring l o link (Err code) = Err code
+    }))
 
 unfoldable pub own_landing : ℕ → LaidFields → PartsFields → LinkFields
     → Result LandingFields LinkCode
@@ -139,19 +141,19 @@ lay_if false l = None
 
 abbrev pub landing_in : ℕ → ℕ → PartsFields → LinkFields → Point → Result Home LinkCode
     → Result LandingFields LinkCode
-landing_in ring seg o link point (Err code) = Err code
-landing_in ring seg o link point (Ok home) =
+landing_in ring seg o link point found =
+    and_then found
+    (λ home.
     Ok (record {
       pair = pair_of point ring home.section (length (linkage_section o)) link;
       target = seg;
       lay = lay_if home.is_new home.section;
-    })
+    }))
 
 abbrev pub landing_at : List LaidFields → ℕ → ℕ → ℕ → PartsFields → LinkFields
     → Result Point LinkCode → Result LandingFields LinkCode
-landing_at laid ring section_ring seg o link (Err code) = Err code
-landing_at laid ring section_ring seg o link (Ok point) =
-    landing_in ring seg o link point (home_of laid section_ring seg o)
+landing_at laid ring section_ring seg o link found =
+    and_then found (λ point. landing_in ring seg o link point (home_of laid section_ring seg o))
 
 -- an object, whose section is in a ring, which may be another than that of the link
 unfoldable pub object_landing : List LaidFields → ℕ → ℕ → ℕ → PartsFields → LinkFields

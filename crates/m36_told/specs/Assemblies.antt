@@ -1,6 +1,7 @@
 -- What `alm` makes of a source.
-use Rattle.std.specs.Prelude.{ℕ, List, Result, Ok, Err}
+use Rattle.std.specs.Prelude.{ℕ, List, Result, Ok}
 use Rattle.m36_text.specs.Packing.{packed}
+use Rattle.m36_text.specs.Results.{and_then}
 use Rattle.alm_parse.specs.SourceFields.{Source}
 use Rattle.alm_parse.specs.Sources.{parsed}
 use Rattle.alm_parse.specs.declared.fault.AlmFault.{AlmFault}
@@ -15,13 +16,11 @@ pub record Assembly : Type 0 where
   pub parts : PartsFields
 
 abbrev pub with_parts : Source → Result PartsFields AlmFault → Result Assembly AlmFault
-with_parts source (Ok parts) = Ok (record { source = source; parts = parts })
-with_parts source (Err fault) = Err fault
+with_parts source made = and_then made (λ parts. Ok (record { source = source; parts = parts }))
 
 -- The text is read as a source first, and the source assembled then: the first refusal counts.
 abbrev pub assembly_by : Result Source AlmFault → Result Assembly AlmFault
-assembly_by (Ok source) = with_parts source (assembled source)
-assembly_by (Err fault) = Err fault
+assembly_by read = and_then read (λ source. with_parts source (assembled source))
 
 unfoldable pub assembly_of : List ℕ → Result Assembly AlmFault
 assembly_of bytes = assembly_by (parsed bytes)
