@@ -29,7 +29,7 @@ use Rattle.alm_asm.specs.Links.{operand_args, link_in, links_from}
 use Rattle.alm_asm.specs.Definitions.{named, named_by, gives_entries, definitions_by, definitions_after, definitions_from, is_taken, sum_refusal, taken_refusal, name_refusal, arg_refusal, names_refused, definitions_refused}
 use Rattle.alm_asm.specs.Definitions.{with_names as definitions_with}
 use Rattle.alm_asm.specs.LineRefusals.{lines_refusal}
-use Rattle.alm_asm.specs.Growth.{at_first, with_name, with_names, with_definition, with_unrefused, with_arg, with_args, with_definitions, with_new_link, with_link_once, with_link, marks_count, with_marks, grown_by}
+use Rattle.alm_asm.specs.Growth.{at_first, with_name, with_names, with_definition, with_unrefused, with_arg, with_args, with_definitions, with_new_link, with_link_once, with_link_given, marks_count, with_marks, grown_by}
 use Rattle.alm_asm.specs.declared.growth.Growth.{Growth}
 use Rattle.alm_asm.specs.declared.tables.Tables.{Tables}
 use Rattle.alm_asm.proofs.Unrefused.{sooner_none, names_first, line_parts, head_line, other_lines}
@@ -281,7 +281,7 @@ once_holds ds g link false at =
           ∙ ap (λ (l : List LinkFields). list_any (same other) (all_link_names l)) (sym links) ∙ e);
     }
 
-link_holds : (ds : List Named) (g : Growth) (given : Option LinkFields) → Holds ds g → Holds ds (with_link g given)
+link_holds : (ds : List Named) (g : Growth) (given : Option LinkFields) → Holds ds g → Holds ds (with_link_given g given)
 unfolding with_link_once
 link_holds ds g None at = at
 link_holds ds g (Some link) at = once_holds ds g link (list_any (same_link link) g.links) at
@@ -300,7 +300,7 @@ line_holds text symbols spot line ds g e at =
     let after = definitions_by text symbols ds line.args (gives_entries line.deed) in
     let named = with_definitions text symbols line g (gives_entries line.deed) in
     let given = link_in text symbols spot (first_arg (operand_args line.deed line.args)) in
-    let linked = with_link named given in
+    let linked = with_link_given named given in
     marked_holds after linked (linked.symbol + marks_count text symbols spot line.args line.deed)
     (link_holds after named given (hold_definitions text symbols line ds g (gives_entries line.deed) e at))
 

@@ -19,9 +19,9 @@ use Rattle.alm_lines.specs.declared.sum.Sum.{Sum}
 use Rattle.alm_lines.specs.declared.refusal.Code.TheVariants.{E8}
 use Rattle.alm_lines.specs.declared.refusal.Refusal.{Refusal}
 use Rattle.alm_asm.specs.Links.{operand_args, link_in, links_after, links_from}
-use Rattle.alm_asm.specs.Links.{with_link as link_with}
+use Rattle.alm_asm.specs.Links.{with_link}
 use Rattle.alm_asm.specs.Definitions.{gives_entries, sum_refusal}
-use Rattle.alm_asm.specs.Growth.{at_first, with_name, with_names, with_definition, with_unrefused, with_arg, with_args, with_definitions, with_new_link, with_link_once, with_link, marks_count, with_marks, grown_by, is_over, growth_refusal}
+use Rattle.alm_asm.specs.Growth.{at_first, with_name, with_names, with_definition, with_unrefused, with_arg, with_args, with_definitions, with_new_link, with_link_once, with_link_given, marks_count, with_marks, grown_by, is_over, growth_refusal}
 use Rattle.alm_asm.specs.declared.growth.Growth.{Growth}
 
 -- ---- the end
@@ -143,11 +143,11 @@ once_by false g link =
     let linked = names_follow (record g { links = g.links ++ link ∷ []; definition = g.definition + 2 }) (link_names link) in
     record { links = linked.links; symbol = linked.symbol }
 
-link_once : (g : Growth) (link : LinkFields) → Links (link_with g.links (Some link)) g (with_link_once g link)
+link_once : (g : Growth) (link : LinkFields) → Links (with_link g.links (Some link)) g (with_link_once g link)
 unfolding with_link_once
 link_once g link = once_by (list_any (same_link link) g.links) g link
 
-given_links : (g : Growth) (given : Option LinkFields) → Links (link_with g.links given) g (with_link g given)
+given_links : (g : Growth) (given : Option LinkFields) → Links (with_link g.links given) g (with_link_given g given)
 given_links g None = record { links = refl; symbol = refl }
 given_links g (Some link) = link_once g link
 
@@ -159,7 +159,7 @@ line_links text symbols spot g line =
     let given = link_in text symbols spot (first_arg (operand_args line.deed line.args)) in
     let named = with_definitions text symbols line g (gives_entries line.deed) in
     (given_links named given).links
-    ∙ ap (λ (links : List LinkFields). link_with links given) (definitions_follow text symbols line g (gives_entries line.deed)).links
+    ∙ ap (λ (links : List LinkFields). with_link links given) (definitions_follow text symbols line g (gives_entries line.deed)).links
 
 pub line_symbol : (text : List ℕ) (symbols : List (List ℕ × Sum)) (spot : Spot) (g : Growth) (line : Line36)
     → (grown_by text symbols spot g line).symbol ≡ g.symbol + marks_count text symbols spot line.args line.deed

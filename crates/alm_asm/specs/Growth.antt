@@ -106,9 +106,9 @@ unfoldable pub with_link_once : Growth → LinkFields → Growth
 with_link_once g link = if has_link link g.links then g else with_new_link g link
 
 -- the link that an operand gives, if any
-abbrev pub with_link : Growth → Option LinkFields → Growth
-with_link g None = g
-with_link g (Some link) = with_link_once g link
+abbrev pub with_link_given : Growth → Option LinkFields → Growth
+with_link_given g None = g
+with_link_given g (Some link) = with_link_once g link
 
 -- ---- relocations
 
@@ -169,7 +169,7 @@ with_marks text symbols spot line g =
 unfoldable pub grown_by : List ℕ → List (List ℕ × Sum) → Spot → Growth → Line36 → Growth
 grown_by text symbols spot g line =
     with_marks text symbols spot line
-    (with_link (with_definitions text symbols line g (gives_entries line.deed))
+    (with_link_given (with_definitions text symbols line g (gives_entries line.deed))
     (link_in text symbols spot (first_arg (operand_args line.deed line.args))))
 
 -- The linkage section has its head, static words and links. The zero behind an odd count of static

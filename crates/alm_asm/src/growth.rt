@@ -9,7 +9,7 @@ ghost use Rattle.alm_asm.specs.Links.{operand_args, link_by, link_in};
 ghost use Rattle.alm_asm.specs.Definitions.{gives_entries};
 ghost use Rattle.alm_asm.specs.Growth.{IsLarger, at_first, with_name, with_names, with_definition};
 ghost use Rattle.alm_asm.specs.Growth.{with_arg, with_args, with_definitions};
-ghost use Rattle.alm_asm.specs.Growth.{with_new_link, with_link_once, with_link};
+ghost use Rattle.alm_asm.specs.Growth.{with_new_link, with_link_once, with_link_given};
 ghost use Rattle.alm_asm.specs.Growth.{mark_count, operand_room, is_own, operand_count, half_count};
 ghost use Rattle.alm_asm.specs.Growth.{marks_count, with_marks, grown_by, is_over, growth_refusal};
 
@@ -214,7 +214,7 @@ fn take_external(
     ensures symbol { OnOk result (growth.new.symbol ≡ growth.old.symbol) }
     ensures value { OnOk result
         (growth.new
-        ≡ with_link growth.old
+        ≡ with_link_given growth.old
         (link_by text.now symbols.now spot (Option.Some segment) entry terms.now tag)) }
 {
     if !has_value(text, symbols, spot, terms, Room::Half, false) {
@@ -235,7 +235,7 @@ fn take_link(
     ensures symbol { OnOk result (growth.new.symbol ≡ growth.old.symbol) }
     ensures value { OnOk result
         (growth.new
-        ≡ with_link growth.old
+        ≡ with_link_given growth.old
         (link_in text.now symbols.now spot (first_arg (operand_args line.now.deed line.now.args)))) }
 {
     match operand_args(line.deed, line.args.items()) {

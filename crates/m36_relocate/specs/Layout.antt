@@ -31,13 +31,13 @@ meant_older statics v =
     then StaticWord (v - head_words) else LinkWord (v - links_behind statics)
 
 -- where static words are laid behind so many links
-abbrev pub statics_past : ℕ → ℕ
-statics_past links = linkage_length 0 links
+abbrev pub statics_behind_links : ℕ → ℕ
+statics_behind_links links = linkage_length 0 links
 
 abbrev pub meant_newer : ℕ → ℕ → Meant
 meant_newer links v =
-    if nat_lt v (statics_past links)
-    then LinkWord (v - head_words) else StaticWord (v - statics_past links)
+    if nat_lt v (statics_behind_links links)
+    then LinkWord (v - head_words) else StaticWord (v - statics_behind_links links)
 
 abbrev pub meant_past_head : ShapeFields → ℕ → Meant
 meant_past_head s v = if s.newer then meant_newer s.links v else meant_older s.statics v
@@ -80,7 +80,7 @@ first_link f = first_link_by f.newer f.statics
 
 -- where its first static word stands, seen from the head of the linkage section
 abbrev pub first_static : ShapeFields → ℕ
-first_static f = if f.newer then statics_past f.links else head_words
+first_static f = if f.newer then statics_behind_links f.links else head_words
 
 abbrev pub spot : Section → ℕ → Spot
 spot section offset = record { section = section; offset = offset % 2 ^ 18 }

@@ -5,7 +5,7 @@ use Rattle.std.specs.Prelude.{ℕ, List, codes}
 abbrev pub source_suffix : List ℕ
 source_suffix = codes ".alm"
 
--- what the name of its bind file has there
+-- what the name of the bind file of an object has there
 abbrev pub bindfile_suffix : List ℕ
 bindfile_suffix = codes ".bind"
 
