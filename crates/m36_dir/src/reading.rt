@@ -3,7 +3,6 @@
 ghost use Rattle.std.specs.Prelude.{◌≡◌, ◌<◌, ◌^◌, [], ◌∷◌, ◌++◌, length, Some, None, IfOk, IfErr, OnOk};
 ghost use Rattle.m36_dir.specs.BootLine.{line_given};
 ghost use Rattle.m36_dir.specs.BootOrder.{code_at_end, code_of_rest, Judges, all_lines, first_code};
-ghost use Rattle.m36_text.specs.Lines.{last_of};
 ghost use Rattle.m36_dir.specs.Catalog.{catalog_in, catalog_of, Told};
 ghost use Rattle.m36_dir.specs.IsCatalog.{IsCatalog};
 

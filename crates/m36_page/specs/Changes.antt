@@ -1,6 +1,6 @@
 -- What the calls of a pager change, and what they keep.
 use Rattle.std.specs.Prelude.{ℕ, ◌≡◌, ◌≢◌, ◌+◌, ◌*◌, ◌/◌, ◌%◌, ◌<◌, ◌≤◌, ◌⊎◌, Bool, true, false}
-use Rattle.std.specs.Prelude.{◌&&◌, nat_eq, if◌then◌else◌, List, length, slice_get, slice_index}
+use Rattle.std.specs.Prelude.{◌&&◌, nat_eq, List, length, slice_get, slice_index}
 use Rattle.std.specs.Prelude.{slice_index_or, slice_set, All, Option, Some, None, IsSome}
 use Rattle.std.specs.List.{list_any}
 use Rattle.m36_model.specs.declared.place.Reference.{Reference}

@@ -4,7 +4,7 @@ use Rattle.std.specs.Prelude.{ℕ, ◌≡◌, ◌+◌, ◌*◌, ◌/◌, ◌%◌
 use Rattle.std.specs.Prelude.{nat_eq, nat_lt, if◌then◌else◌, List, length, position, slice_get}
 use Rattle.std.specs.Prelude.{slice_index, slice_index_or, All, Option, Some, None, option_and_then}
 use Rattle.std.specs.Bool.{then_some}
-use Rattle.m36_desc.specs.Descriptors.{ptw_of, ptw_word}
+use Rattle.m36_desc.specs.Descriptors.{ptw_of}
 use Rattle.m36_desc.specs.Fields.{PtwFields}
 use Rattle.m36_model.specs.Place.{frame_named}
 use Rattle.m36_model.specs.Core.{unmarked}
