@@ -10,7 +10,8 @@ use Rattle.alm_parse.specs.declared.line.Line36.{Line36}
 use Rattle.obj36_parts.specs.declared.section.Section.TheVariants.{Text, Linkage, Symbol, Static}
 use Rattle.obj36_parts.specs.declared.definition.Named.{Named}
 use Rattle.obj36_parts.specs.Names.{is_name}
-use Rattle.obj36_parts.specs.ObjectSegment.{version_of, class_number, last_class, is_definition}
+use Rattle.obj36_parts.specs.Sections.{class_number}
+use Rattle.obj36_parts.specs.ObjectSegment.{version_of, last_class, is_definition}
 use Rattle.alm_lines.specs.Sums.{half_of, kind_of}
 use Rattle.alm_lines.specs.Arguments.{name_at}
 use Rattle.alm_lines.specs.Expressions.{symbol_sum}

@@ -15,7 +15,8 @@ use Rattle.obj36_parts.specs.declared.section.Section.TheVariants.{Text, Linkage
 use Rattle.obj36_parts.specs.declared.definition.Named.{Named}
 use Rattle.obj36_parts.specs.Fields.{LinkFields}
 use Rattle.obj36_parts.specs.Names.{is_name}
-use Rattle.obj36_parts.specs.ObjectSegment.{version_of, is_text_section, is_link}
+use Rattle.obj36_parts.specs.Sections.{is_text_section}
+use Rattle.obj36_parts.specs.ObjectSegment.{version_of, is_link}
 use Rattle.std.specs.Prelude.{codes}
 use Rattle.alm_lines.specs.Sums.{half_of}
 use Rattle.alm_lines.specs.Arguments.{name_at, first_arg}

@@ -11,7 +11,8 @@ use Rattle.alm_parse.specs.declared.line.Line36.{Line36}
 use Rattle.obj36_parts.specs.declared.section.Section.{Section}
 use Rattle.obj36_parts.specs.declared.section.Section.TheVariants.{Text, Linkage, Symbol, Static}
 use Rattle.obj36_parts.specs.Fields.{RelocFields}
-use Rattle.obj36_parts.specs.ObjectSegment.{version_of, place_number, last_place, is_place, is_relocation, order_of, are_rising}
+use Rattle.obj36_parts.specs.Sections.{place_number}
+use Rattle.obj36_parts.specs.ObjectSegment.{version_of, last_place, is_place, is_relocation, order_of, are_rising}
 use Rattle.alm_lines.specs.Sums.{kind_of}
 use Rattle.alm_lines.specs.Arguments.{first_arg, second_arg, terms_in}
 use Rattle.alm_lines.specs.Spots.{count_in, place_in, place, grown_in, moved_by, below, end_of}

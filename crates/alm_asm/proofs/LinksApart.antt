@@ -6,7 +6,7 @@ use Rattle.std.proofs.lemmas.Cmp.{nat_eq_equiv, nat_list_eq_equiv}
 use Rattle.std.proofs.lemmas.List.Folds.{list_any-append}
 use Rattle.alm_parse.specs.declared.line.Line36.{Line36}
 use Rattle.obj36_parts.specs.Fields.{LinkFields}
-use Rattle.obj36_parts.specs.ObjectSegment.{place_number}
+use Rattle.obj36_parts.specs.Sections.{place_number}
 use Rattle.alm_lines.specs.Arguments.{first_arg}
 use Rattle.alm_lines.specs.Spots.{below}
 use Rattle.alm_asm.specs.Links.{operand_args, link_in, with_link, links_after, links_from}

@@ -17,7 +17,7 @@ use Rattle.obj36_parts.specs.Fields.{LinkFields}
 use Rattle.obj36_parts.specs.declared.definition.Named.{Named}
 use Rattle.m36_word.specs.Field.{offset_limit}
 use Rattle.obj36_parts.specs.Indexes.{same_link}
-use Rattle.obj36_parts.specs.ObjectSegment.{is_text_section}
+use Rattle.obj36_parts.specs.Sections.{is_text_section}
 use Rattle.alm_lines.specs.Arguments.{first_arg}
 use Rattle.alm_lines.specs.Spots.{below}
 use Rattle.alm_lines.specs.SpotFields.{Spot}

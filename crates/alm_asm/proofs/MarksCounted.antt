@@ -10,7 +10,7 @@ use Rattle.obj36_parts.specs.declared.section.Section.{Section}
 use Rattle.obj36_parts.specs.declared.section.Section.TheVariants.{Text, Linkage, Symbol, Static}
 use Rattle.obj36_parts.specs.declared.definition.Named.{Named}
 use Rattle.obj36_parts.specs.Fields.{RelocFields}
-use Rattle.obj36_parts.specs.ObjectSegment.{is_text_section}
+use Rattle.obj36_parts.specs.Sections.{is_text_section}
 use Rattle.alm_lines.specs.Sums.{kind_of}
 use Rattle.alm_lines.specs.Arguments.{first_arg, second_arg, terms_in}
 use Rattle.alm_lines.specs.Spots.{below}

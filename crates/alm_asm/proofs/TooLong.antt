@@ -9,7 +9,8 @@ use Rattle.obj36_parts.specs.declared.section.Section.TheVariants.{Text}
 use Rattle.obj36_parts.specs.declared.definition.Named.{Named}
 use Rattle.obj36_parts.specs.Fields.{LinkFields, RelocFields}
 use Rattle.obj36_parts.specs.PartsFields.{PartsFields}
-use Rattle.obj36_parts.specs.ObjectSegment.{is_newer, version_of, inner_statics, outer_statics, words_of, definition_names, are_distinct, is_definition, is_link, is_relocation, are_rising, is_well_formed, place_number}
+use Rattle.obj36_parts.specs.Sections.{place_number}
+use Rattle.obj36_parts.specs.ObjectSegment.{is_newer, version_of, inner_statics, outer_statics, words_of, definition_names, are_distinct, is_definition, is_link, is_relocation, are_rising, is_well_formed}
 use Rattle.obj36_parts.proofs.Formed.{is_formed}
 use Rattle.obj36_parts.proofs.LengthLaws.{length-words_of, least_size}
 use Rattle.alm_lines.specs.Spots.{start, count_in, below, end_of}

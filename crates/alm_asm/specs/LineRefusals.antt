@@ -10,7 +10,7 @@ use Rattle.alm_parse.specs.declared.args.Arg.TheVariants as arg
 use Rattle.alm_parse.specs.declared.line.Line36.{Line36}
 use Rattle.alm_parse.specs.Bodies.{own_section}
 use Rattle.m36_word.specs.Field.{offset_limit}
-use Rattle.obj36_parts.specs.ObjectSegment.{is_text_section}
+use Rattle.obj36_parts.specs.Sections.{is_text_section}
 use Rattle.obj36_parts.specs.declared.section.Section.{Section}
 use Rattle.obj36_parts.specs.declared.section.Section.TheVariants.{Text, Linkage, Symbol, Static}
 use Rattle.obj36_parts.specs.declared.definition.Named.{Named}

@@ -10,7 +10,7 @@ use Rattle.alm_parse.specs.declared.line.Line36.{Line36}
 use Rattle.m36_inst.specs.Fields.{InstFields}
 use Rattle.m36_inst.specs.Instruction.{inst_word}
 use Rattle.obj36_parts.specs.declared.section.Section.{Section}
-use Rattle.obj36_parts.specs.ObjectSegment.{place_number}
+use Rattle.obj36_parts.specs.Sections.{place_number}
 use Rattle.alm_lines.specs.Sums.{half_of, offset_of}
 use Rattle.alm_lines.specs.Arguments.{first_arg, second_arg, terms_in, words_of_args}
 use Rattle.alm_lines.specs.Spots.{place, size_of, below}

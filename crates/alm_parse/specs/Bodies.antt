@@ -11,7 +11,7 @@ use Rattle.alm_parse.specs.declared.body.Body.{Body}
 use Rattle.alm_parse.specs.declared.body.Body.TheVariants.{Through, External, Plain}
 use Rattle.obj36_parts.specs.declared.section.Section.{Section}
 use Rattle.obj36_parts.specs.declared.section.Section.TheVariants.{Text, Linkage, Static}
-use Rattle.obj36_parts.specs.ObjectSegment.{own_name}
+use Rattle.obj36_parts.specs.Sections.{own_name}
 use Rattle.m36_text.specs.Texts.{is_name_character}
 use Rattle.alm_tokens.specs.Tokens.{span_at, slice_of, is_text, is_symbol, first_in}
 use Rattle.alm_tokens.specs.Pieces.{piece_at}

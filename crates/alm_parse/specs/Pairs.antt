@@ -4,7 +4,7 @@ use Rattle.std.specs.Prelude.{Option, None, is_some, Result, Err}
 use Rattle.std.specs.List.{list_all}
 use Rattle.std.specs.Option.{option_or}
 use Rattle.obj36_parts.specs.declared.section.Section.{Section}
-use Rattle.obj36_parts.specs.ObjectSegment.{section_name}
+use Rattle.obj36_parts.specs.Sections.{section_name}
 use Rattle.alm_tokens.specs.declared.span.Span.{Span}
 use Rattle.alm_tokens.specs.declared.pieces.Piece.{Piece}
 use Rattle.alm_parse.specs.declared.args.Arg.{Arg}

@@ -6,7 +6,7 @@ use Rattle.std.proofs.lemmas.List.{length-append}
 use Rattle.obj36_parts.specs.Fields.{LinkFields}
 use Rattle.obj36_parts.specs.PartsFields.{PartsFields}
 use Rattle.obj36_parts.specs.Names.{same}
-use Rattle.obj36_parts.specs.ObjectSegment.{later_section}
+use Rattle.obj36_parts.specs.Sections.{later_section}
 use Rattle.m36_relocate.specs.Fields.{ShapeFields, BasesFields}
 use Rattle.m36_relocate.specs.Layout.{shape_of, bases_behind, spot_moved}
 use Rattle.m36_relocate.specs.Exports.{export_named}

@@ -5,7 +5,8 @@ use Rattle.std.specs.List.{Contains}
 use Rattle.std.proofs.lemmas.List.{length-set, get_or-set_same, get_or-set_other}
 use Rattle.std.proofs.lemmas.Bool.{and_parts, eqb-true, eq-eqb, ne_eqb, lt-ltb, leb-true}
 use Rattle.obj36_parts.specs.Fields.{RelocFields}
-use Rattle.obj36_parts.specs.ObjectSegment.{order_of, are_rising, place_number}
+use Rattle.obj36_parts.specs.Sections.{place_number}
+use Rattle.obj36_parts.specs.ObjectSegment.{order_of, are_rising}
 use Rattle.m36_relocate.specs.Words.{stands_in, place_in, moved_at, one_moved, words_moved, word_moved}
 use Rattle.m36_bind.specs.Meaning.{part_of, overlap}
 use Rattle.m36_relocate.specs.declared.layout.Moving.{Moving}

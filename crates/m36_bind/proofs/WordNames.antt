@@ -5,7 +5,8 @@ use Rattle.std.specs.List.{list_all, Contains}
 use Rattle.std.proofs.lemmas.Bool.{and_parts, eqb-true, ltb-true, leb-true, eq-eqb, lt-ltb, le-ltb, cond-true, cond-false}
 use Rattle.obj36_parts.specs.Fields.{RelocFields}
 use Rattle.obj36_parts.specs.PartsFields.{PartsFields}
-use Rattle.obj36_parts.specs.ObjectSegment.{is_text_section, is_newer, inner_statics, outer_statics, place_number, last_place, is_place, is_relocation, order_of, is_well_formed}
+use Rattle.obj36_parts.specs.Sections.{is_text_section, place_number}
+use Rattle.obj36_parts.specs.ObjectSegment.{is_newer, inner_statics, outer_statics, last_place, is_place, is_relocation, order_of, is_well_formed}
 use Rattle.obj36_parts.specs.declared.section.Section.{Section}
 use Rattle.obj36_parts.specs.declared.section.Section.TheVariants.{Text, Linkage, Symbol, Static}
 use Rattle.obj36_parts.proofs.Formed.{is_formed}

@@ -3,7 +3,7 @@
 use Rattle.std.specs.Prelude.{ℕ, ◌+◌, nat_eq, if◌then◌else◌, List, [], ◌∷◌, ◌++◌}
 use Rattle.std.specs.Prelude.{Option, Some, None}
 use Rattle.obj36_parts.specs.Fields.{LinkFields}
-use Rattle.obj36_parts.specs.ObjectSegment.{later_section}
+use Rattle.obj36_parts.specs.Sections.{later_section}
 use Rattle.obj36_parts.specs.ObjectSegment.{to_section, to_segment, to_entry, to_own_entry}
 use Rattle.obj36_parts.specs.declared.section.Section.TheVariants.{Text}
 use Rattle.m36_relocate.specs.Fields.{ShapeFields}

@@ -10,7 +10,8 @@ use Rattle.std.specs.Prelude.{◌∷◌, length, slice_index, slice_get, Some, N
 use Rattle.std.specs.List.{Contains}
 use Rattle.obj36_parts.specs.Fields.{DefFields, RelocFields, LinkFields}
 use Rattle.obj36_parts.specs.PartsFields.{PartsFields}
-use Rattle.obj36_parts.specs.ObjectSegment.{later_section, is_well_formed, definition_names}
+use Rattle.obj36_parts.specs.Sections.{later_section}
+use Rattle.obj36_parts.specs.ObjectSegment.{is_well_formed, definition_names}
 use Rattle.obj36_parts.specs.ObjectSegment.{version_of, head_words, left_part, right_part}
 use Rattle.obj36_parts.specs.ObjectSegment.{to_section, to_segment, to_entry, to_own_entry}
 use Rattle.obj36_parts.specs.ObjectSegment.{offset_part}

@@ -13,7 +13,8 @@ use Rattle.m36_dir.specs.declared.segment.SegKind.{SegKind}
 use Rattle.m36_dir.specs.declared.segment.SegKind.TheVariants.{Object, Gate, Plain}
 use Rattle.obj36_parts.specs.Fields.{DefFields, LinkFields}
 use Rattle.obj36_parts.specs.PartsFields.{PartsFields}
-use Rattle.obj36_parts.specs.ObjectSegment.{later_section, has_name, has_entry, linkage_section}
+use Rattle.obj36_parts.specs.Sections.{later_section}
+use Rattle.obj36_parts.specs.ObjectSegment.{has_name, has_entry, linkage_section}
 use Rattle.obj36_parts.specs.ObjectSegment.{definition_named, segment_limit}
 use Rattle.obj36_parts.specs.declared.section.Section.{Section}
 use Rattle.obj36_parts.specs.declared.section.Section.TheVariants.{Text, Linkage, Symbol, Static}

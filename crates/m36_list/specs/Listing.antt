@@ -7,7 +7,8 @@ use Rattle.alm_parse.specs.SourceFields.{Source}
 use Rattle.obj36_parts.specs.declared.section.Section.{Section}
 use Rattle.obj36_parts.specs.declared.section.Section.TheVariants.{Text, Linkage, Static}
 use Rattle.obj36_parts.specs.PartsFields.{PartsFields}
-use Rattle.obj36_parts.specs.ObjectSegment.{section_name, inner_statics, outer_statics}
+use Rattle.obj36_parts.specs.Sections.{section_name}
+use Rattle.obj36_parts.specs.ObjectSegment.{inner_statics, outer_statics}
 use Rattle.alm_lines.specs.SpotFields.{Spot}
 use Rattle.alm_lines.specs.Spots.{start, place_in, place, size_of, below}
 use Rattle.alm_asm.specs.Words.{same_section}

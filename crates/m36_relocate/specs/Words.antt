@@ -7,7 +7,8 @@ use Rattle.obj36_parts.specs.Fields.{RelocFields}
 use Rattle.obj36_parts.specs.PartsFields.{PartsFields}
 use Rattle.m36_word.specs.Field.{offset_limit}
 use Rattle.obj36_parts.specs.Halves.{left, right, joined}
-use Rattle.obj36_parts.specs.ObjectSegment.{is_text_section, head_words, left_part, right_part}
+use Rattle.obj36_parts.specs.Sections.{is_text_section}
+use Rattle.obj36_parts.specs.ObjectSegment.{head_words, left_part, right_part}
 use Rattle.obj36_parts.specs.declared.section.Section.{Section}
 use Rattle.obj36_parts.specs.declared.section.Section.TheVariants.{Text, Linkage, Symbol, Static}
 use Rattle.m36_relocate.specs.Fields.{ShapeFields, BasesFields}

@@ -4,7 +4,8 @@ use Rattle.std.specs.List.{list_all}
 use Rattle.std.proofs.lemmas.Bool.{and_parts}
 use Rattle.obj36_parts.specs.declared.definition.Named.{Named}
 use Rattle.obj36_parts.specs.Names.{same, is_name}
-use Rattle.obj36_parts.specs.ObjectSegment.{class_number, last_class, is_definition, definition_named}
+use Rattle.obj36_parts.specs.Sections.{class_number}
+use Rattle.obj36_parts.specs.ObjectSegment.{last_class, is_definition, definition_named}
 use Rattle.obj36_parts.proofs.SizeLaws.{same_is}
 use Rattle.obj36.proofs.NameReading.{good_name}
 

@@ -9,7 +9,8 @@ use Rattle.obj36_parts.specs.declared.definition.Named.{Named}
 use Rattle.obj36_parts.specs.Fields.{LinkFields, RelocFields}
 use Rattle.obj36_parts.specs.Halves.{left, right, joined}
 use Rattle.obj36_parts.specs.Names.{place_of}
-use Rattle.obj36_parts.specs.ObjectSegment.{class_number, place_number, has_name, has_entry, place_if_any, class_of, definition_words, subject_of, entry_place, expression_words, link_words, relocation_word, relocation_words}
+use Rattle.obj36_parts.specs.Sections.{class_number, place_number}
+use Rattle.obj36_parts.specs.ObjectSegment.{has_name, has_entry, place_if_any, class_of, definition_words, subject_of, entry_place, expression_words, link_words, relocation_word, relocation_words}
 use Rattle.obj36_read.specs.Reading.{name_at, class_with, section_with, definition_at, definitions_in, link_at, links_in, relocation_in, relocations_in}
 
 -- ---- halves

@@ -10,7 +10,8 @@ use Rattle.obj36_parts.specs.declared.section.Section.TheVariants.{Text, Linkage
 use Rattle.obj36_parts.specs.declared.definition.Named.{Named}
 use Rattle.obj36_parts.specs.Fields.{LinkFields, RelocFields}
 use Rattle.obj36_parts.specs.Names.{same, is_name, place_of}
-use Rattle.obj36_parts.specs.ObjectSegment.{class_number, place_number, has_name, has_entry, has_section, last_class, last_place, subject_of, entry_place, link_names, name_used, entry_used, definition_names, all_link_names, is_definition, is_link, is_place, is_relocation, relocation_word}
+use Rattle.obj36_parts.specs.Sections.{class_number, place_number}
+use Rattle.obj36_parts.specs.ObjectSegment.{has_name, has_entry, has_section, last_class, last_place, subject_of, entry_place, link_names, name_used, entry_used, definition_names, all_link_names, is_definition, is_link, is_place, is_relocation, relocation_word}
 use Rattle.obj36_read.specs.Reading.{name_at, section_with, relocation_in}
 use Rattle.obj36_parts.proofs.SizeLaws.{same_self}
 use Rattle.obj36.proofs.NameReading.{IsGood, good_name, IsRead}

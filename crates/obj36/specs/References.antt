@@ -2,7 +2,8 @@
 -- object, and the entry.
 use Rattle.std.specs.Prelude.{ℕ, List, [], ◌++◌, codes, if◌then◌else◌}
 use Rattle.obj36_parts.specs.Fields.{LinkFields}
-use Rattle.obj36_parts.specs.ObjectSegment.{own_name, has_name, has_entry}
+use Rattle.obj36_parts.specs.Sections.{own_name}
+use Rattle.obj36_parts.specs.ObjectSegment.{has_name, has_entry}
 
 -- what it begins with, and what stands behind the dollar sign
 abbrev pub reference_subject : LinkFields → List ℕ

@@ -2,7 +2,7 @@
 
 ghost use Rattle.std.specs.Prelude.{◌++◌, ◌≡◌, ◌≤◌, length, OnOk};
 ghost use Rattle.m36_text.specs.Texts.{name_limit};
-ghost use Rattle.obj36_parts.specs.ObjectSegment.{own_name};
+ghost use Rattle.obj36_parts.specs.Sections.{own_name};
 ghost use Rattle.obj36.specs.References.{reference_subject, reference_entry, reference_text};
 
 use m36_outside::Text;

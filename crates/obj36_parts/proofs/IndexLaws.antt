@@ -14,7 +14,8 @@ use Rattle.obj36_parts.specs.declared.definition.Named.{Named}
 use Rattle.obj36_parts.specs.declared.section.Section.{Section}
 use Rattle.obj36_parts.specs.declared.section.Section.TheVariants.{Text, Linkage, Symbol, Static}
 use Rattle.obj36_parts.specs.Names.{same, with_name, with_names, names_in}
-use Rattle.obj36_parts.specs.ObjectSegment.{place_number, definition_names, link_names, all_link_names, are_distinct}
+use Rattle.obj36_parts.specs.Sections.{place_number}
+use Rattle.obj36_parts.specs.ObjectSegment.{definition_names, link_names, all_link_names, are_distinct}
 use Rattle.obj36_parts.specs.Indexes.{same_link, with_place, AreIndexed}
 use Rattle.obj36_parts.proofs.NameTables.{with_names-append, few_with, few_definitions}
 use Rattle.obj36_parts.proofs.SizeLaws.{same_is, same_self, all_link_names-append}

@@ -3,7 +3,7 @@ use Rattle.std.proofs.Common.{◌≡◌, Bool, true, false, ◌&&◌, eqb, refl,
 use Rattle.obj36_parts.specs.Fields.{LinkFields}
 use Rattle.obj36_parts.specs.declared.section.Section.{Section}
 use Rattle.obj36_parts.specs.declared.section.Section.TheVariants.{Text, Linkage, Symbol, Static}
-use Rattle.obj36_parts.specs.ObjectSegment.{place_number}
+use Rattle.obj36_parts.specs.Sections.{place_number}
 use Rattle.obj36_parts.specs.Names.{same}
 use Rattle.obj36_parts.specs.Indexes.{same_link}
 use Rattle.obj36_parts.specs.contracts.link.LinkPartialEq.TheImpl as linkeq

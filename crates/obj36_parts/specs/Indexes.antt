@@ -7,7 +7,8 @@ use Rattle.std.specs.Map.{lookup}
 use Rattle.obj36_parts.specs.Fields.{DefFields, LinkFields}
 use Rattle.obj36_parts.specs.declared.definition.Named.{Named}
 use Rattle.obj36_parts.specs.Names.{same, with_names, names_in}
-use Rattle.obj36_parts.specs.ObjectSegment.{place_number, definition_names, all_link_names}
+use Rattle.obj36_parts.specs.Sections.{place_number}
+use Rattle.obj36_parts.specs.ObjectSegment.{definition_names, all_link_names}
 use Rattle.obj36_parts.specs.ObjectSegment.{definition_named}
 
 -- where the first definition of each name lies, with one more, unless its name has one

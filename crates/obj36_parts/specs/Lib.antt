@@ -2,6 +2,7 @@ pub mod Fields
 pub mod PartsFields
 pub mod Halves
 pub mod Names
+pub mod Sections
 pub mod ObjectSegment
 pub mod Sizes
 pub mod Indexes

@@ -2,67 +2,16 @@
 -- static words in the linkage section, version 2 in a section of their own.
 use Rattle.std.specs.Prelude.{ℕ, zero, suc, ◌≡◌, ◌+◌, ◌-◌, ◌*◌, ◌%◌, ◌^◌, Bool, true, false, ◌&&◌}
 use Rattle.std.specs.Prelude.{◌||◌, not, nat_eq, nat_lt, nat_le, if◌then◌else◌, List, [], ◌∷◌, ◌++◌}
-use Rattle.std.specs.Prelude.{length, codes, Option, Some, None}
+use Rattle.std.specs.Prelude.{length, Option, Some, None}
 use Rattle.std.specs.List.{list_any, list_all}
 use Rattle.obj36_parts.specs.Fields.{DefFields, LinkFields, RelocFields}
 use Rattle.obj36_parts.specs.PartsFields.{PartsFields}
 use Rattle.obj36_parts.specs.Halves.{joined}
 use Rattle.obj36_parts.specs.Names.{same, is_name, with_names, place_of, all_name_words}
+use Rattle.obj36_parts.specs.Sections.{class_number, entry_mark, place_number}
 use Rattle.obj36_parts.specs.declared.section.Section.{Section}
 use Rattle.obj36_parts.specs.declared.section.Section.TheVariants.{Text, Linkage, Symbol, Static}
 use Rattle.obj36_parts.specs.declared.definition.Named.{Named}
-
--- ---- numbers of sections
-
--- the class of a definition in a section
-abbrev pub class_number : Section → ℕ
-class_number Text = 0
-class_number Linkage = 1
-class_number Symbol = 2
-class_number Static = 3
-
--- what is added to the class of an entry
-abbrev pub entry_mark : ℕ
-entry_mark = 8
-
--- the number of a section in links and relocations, where the symbol section never stands
-abbrev pub place_number : Section → ℕ
-place_number Text = 0
-place_number Linkage = 1
-place_number Static = 2
-place_number Symbol = 3
-
--- the name of a section behind `use`, and before its lines in a listing
-abbrev pub section_name : Section → List ℕ
-section_name Text = codes "text"
-section_name Linkage = codes "link"
-section_name Symbol = codes "symbol"
-section_name Static = codes "static"
-
--- and as the segment of an operand
-abbrev pub own_name : Section → List ℕ
-own_name Text = codes "*text"
-own_name Linkage = codes "*link"
-own_name Symbol = codes "*symbol"
-own_name Static = codes "*static"
-
--- whether a section is the text
-abbrev pub is_text_section : Section → Bool
-is_text_section Text = true
-is_text_section Linkage = false
-is_text_section Symbol = false
-is_text_section Static = false
-
--- the order of sections, as values count in them: text and symbol, then linkage, then static
-abbrev pub rank : Section → ℕ
-rank Text = 0
-rank Symbol = 0
-rank Linkage = 1
-rank Static = 2
-
--- Of the section of a link and that of the definition that it names, a value counts in the later.
-abbrev pub later_section : Section → Section → Section
-later_section a b = if nat_le (rank a) (rank b) then b else a
 
 -- ---- what is written where
 
@@ -336,7 +285,7 @@ segment_limit = 2 ^ 18
 abbrev pub section_limit : ℕ
 section_limit = 258048
 
--- whether a section has no more words than it may, and whether none of an object has
+-- whether a section has no more words than it may, and whether each of an object has
 abbrev pub section_fits : List ℕ → Bool
 section_fits words = nat_le (length words) section_limit
 

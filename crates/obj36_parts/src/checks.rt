@@ -6,7 +6,8 @@ ghost use Rattle.std.specs.List.{list_all};
 ghost use Rattle.obj36_parts.specs.Names.{is_name};
 ghost use Rattle.obj36_parts.specs.ObjectSegment.{has_section, last_class, last_place, offset_part};
 ghost use Rattle.obj36_parts.specs.ObjectSegment.{is_definition, is_link, is_place, is_relocation};
-ghost use Rattle.obj36_parts.specs.ObjectSegment.{order_of, are_in_order, place_number, left_part};
+ghost use Rattle.obj36_parts.specs.Sections.{place_number};
+ghost use Rattle.obj36_parts.specs.ObjectSegment.{order_of, are_in_order, left_part};
 
 use crate::definition::Named;
 use crate::link::Link;

@@ -4,9 +4,10 @@ ghost use Rattle.std.specs.Prelude.{ℕ, [], ◌∷◌, ◌++◌, ◌≡◌, ◌
 ghost use Rattle.std.specs.Prelude.{length, replicate, OnOk, IfOk};
 ghost use Rattle.obj36_parts.specs.Halves.{joined};
 ghost use Rattle.obj36_parts.specs.Names.{place_of};
-ghost use Rattle.obj36_parts.specs.ObjectSegment.{class_number, place_number, is_text_section};
+ghost use Rattle.obj36_parts.specs.Sections.{class_number, place_number, is_text_section, rank};
+ghost use Rattle.obj36_parts.specs.Sections.{later_section};
 ghost use Rattle.obj36_parts.specs.ObjectSegment.{version_of, evened_words};
-ghost use Rattle.obj36_parts.specs.ObjectSegment.{rank, later_section, place_if_any};
+ghost use Rattle.obj36_parts.specs.ObjectSegment.{place_if_any};
 ghost use Rattle.obj36_parts.specs.ObjectSegment.{class_of};
 ghost use Rattle.obj36_parts.specs.ObjectSegment.{definition_words, subject_of, entry_place};
 ghost use Rattle.obj36_parts.specs.ObjectSegment.{expression_words, definition_part, link_words};

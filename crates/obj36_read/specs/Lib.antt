@@ -2,6 +2,7 @@ pub use Rattle.obj36_parts.specs.Fields
 pub use Rattle.obj36_parts.specs.PartsFields
 pub use Rattle.obj36_parts.specs.Halves
 pub use Rattle.obj36_parts.specs.Names
+pub use Rattle.obj36_parts.specs.Sections
 pub use Rattle.obj36_parts.specs.ObjectSegment
 pub mod Reading
 pub mod MapFaults

@@ -9,7 +9,8 @@ use Rattle.obj36_parts.specs.PartsFields.{PartsFields}
 use Rattle.obj36_parts.specs.Halves.{left, right, quarter}
 use Rattle.obj36_parts.specs.ObjectSegment.{is_newer_version, version_of, has_name, has_entry}
 use Rattle.obj36_parts.specs.ObjectSegment.{head_words, definition_head, symbol_head}
-use Rattle.obj36_parts.specs.ObjectSegment.{expressions_behind, entry_mark, section_unit}
+use Rattle.obj36_parts.specs.Sections.{entry_mark}
+use Rattle.obj36_parts.specs.ObjectSegment.{expressions_behind, section_unit}
 use Rattle.obj36_parts.specs.ObjectSegment.{part_unit, target_unit}
 use Rattle.obj36_parts.specs.declared.section.Section.{Section}
 use Rattle.obj36_parts.specs.declared.section.Section.TheVariants.{Text, Linkage, Symbol, Static}

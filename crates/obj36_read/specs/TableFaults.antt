@@ -6,7 +6,8 @@ use Rattle.m36_text.specs.Texts.{name_limit}
 use Rattle.obj36_parts.specs.Halves.{left, right}
 use Rattle.obj36_parts.specs.Names.{is_name_character}
 use Rattle.obj36_parts.specs.ObjectSegment.{has_name, has_entry, last_class}
-use Rattle.obj36_parts.specs.ObjectSegment.{expressions_behind, entry_mark}
+use Rattle.obj36_parts.specs.Sections.{entry_mark}
+use Rattle.obj36_parts.specs.ObjectSegment.{expressions_behind}
 use Rattle.obj36_read.specs.Reading.{unit_at}
 
 -- the lesser of two places, where there are any

@@ -1,0 +1,54 @@
+-- The sections of an object: their numbers and names, and the order in which values count in them.
+use Rattle.std.specs.Prelude.{ℕ, Bool, true, false, nat_le, if◌then◌else◌, List, codes}
+use Rattle.obj36_parts.specs.declared.section.Section.{Section}
+use Rattle.obj36_parts.specs.declared.section.Section.TheVariants.{Text, Linkage, Symbol, Static}
+
+-- the class of a definition in a section
+abbrev pub class_number : Section → ℕ
+class_number Text = 0
+class_number Linkage = 1
+class_number Symbol = 2
+class_number Static = 3
+
+-- what is added to the class of an entry
+abbrev pub entry_mark : ℕ
+entry_mark = 8
+
+-- the number of a section in links and relocations, where the symbol section never stands
+abbrev pub place_number : Section → ℕ
+place_number Text = 0
+place_number Linkage = 1
+place_number Static = 2
+place_number Symbol = 3
+
+-- the name of a section behind `use`, and before its lines in a listing
+abbrev pub section_name : Section → List ℕ
+section_name Text = codes "text"
+section_name Linkage = codes "link"
+section_name Symbol = codes "symbol"
+section_name Static = codes "static"
+
+-- and as the segment of an operand
+abbrev pub own_name : Section → List ℕ
+own_name Text = codes "*text"
+own_name Linkage = codes "*link"
+own_name Symbol = codes "*symbol"
+own_name Static = codes "*static"
+
+-- whether a section is the text
+abbrev pub is_text_section : Section → Bool
+is_text_section Text = true
+is_text_section Linkage = false
+is_text_section Symbol = false
+is_text_section Static = false
+
+-- the order of sections, as values count in them: text and symbol, then linkage, then static
+abbrev pub rank : Section → ℕ
+rank Text = 0
+rank Symbol = 0
+rank Linkage = 1
+rank Static = 2
+
+-- Of the section of a link and that of the definition that it names, a value counts in the later.
+abbrev pub later_section : Section → Section → Section
+later_section a b = if nat_le (rank a) (rank b) then b else a
