@@ -5,10 +5,11 @@
 -- of its static words, a word of its links, or one of the words at the head of its linkage
 -- section; the layout map sends each to a place of the bound object.
 use Rattle.std.specs.Prelude.{ℕ, ◌+◌, ◌-◌, ◌*◌, ◌%◌, ◌^◌, ◌<◌, nat_lt, if◌then◌else◌}
-use Rattle.std.specs.Prelude.{length}
+use Rattle.std.specs.Prelude.{length, ◌≡◌}
 use Rattle.obj36_parts.specs.PartsFields.{PartsFields}
 use Rattle.obj36_parts.specs.ObjectSegment.{is_newer, evened, head_words, links_behind}
 use Rattle.obj36_parts.specs.ObjectSegment.{first_link_by, linkage_length}
+use Rattle.obj36_parts.specs.ObjectSegment.{first_link as first_link_of}
 use Rattle.obj36_parts.specs.declared.section.Section.{Section}
 use Rattle.obj36_parts.specs.declared.section.Section.TheVariants.{Text, Linkage, Symbol, Static}
 use Rattle.m36_relocate.specs.Fields.{ShapeFields, BasesFields}
@@ -74,7 +75,7 @@ bases_behind b c =
 
 -- ---- the layout map
 
--- where the first link of the bound object stands
+-- where the first link of an object of this shape stands
 abbrev pub first_link : ShapeFields → ℕ
 first_link f = first_link_by f.newer f.statics
 
@@ -115,3 +116,7 @@ image_number f b target (HeadWord v) = v
 -- the number of the image of what a number of a component names
 unfoldable pub number_moved : Moving → Section → ℕ → ℕ
 number_moved m target v = image_number m.frame m.bases target (meant m.shape target v)
+
+-- In an object of a shape the first link stands where the parts of the object have it.
+abbrev pub FirstLinkStands : Type 0
+FirstLinkStands = (p : PartsFields) → first_link (shape_of p) ≡ first_link_of p
