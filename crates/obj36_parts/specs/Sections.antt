@@ -1,5 +1,5 @@
 -- The sections of an object: their numbers and names, and the order in which values count in them.
-use Rattle.std.specs.Prelude.{ℕ, Bool, true, false, nat_le, if◌then◌else◌, List, codes}
+use Rattle.std.specs.Prelude.{ℕ, Bool, true, false, nat_le, if◌then◌else◌, List, codes, ◌++◌}
 use Rattle.obj36_parts.specs.declared.section.Section.{Section}
 use Rattle.obj36_parts.specs.declared.section.Section.TheVariants.{Text, Linkage, Symbol, Static}
 
@@ -30,10 +30,7 @@ section_name Static = codes "static"
 
 -- and as the segment of an operand
 abbrev pub own_name : Section → List ℕ
-own_name Text = codes "*text"
-own_name Linkage = codes "*link"
-own_name Symbol = codes "*symbol"
-own_name Static = codes "*static"
+own_name section = codes "*" ++ section_name section
 
 -- whether a section is the text
 abbrev pub is_text_section : Section → Bool
