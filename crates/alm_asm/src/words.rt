@@ -1,7 +1,7 @@
 //! The words that lines place.
 
 ghost use Rattle.std.specs.Prelude.{ℕ, [], ◌++◌, ◌≡◌, ◌+◌, ◌*◌, ◌%◌, ◌^◌, ◌<◌};
-ghost use Rattle.std.specs.Prelude.{◌≤◌, length, Option, OnOk, IfOk, Some, None};
+ghost use Rattle.std.specs.Prelude.{◌≤◌, length, Option, Some, None, OnOk, IfOk};
 ghost use Rattle.alm_lines.specs.Arguments.{first_arg};
 ghost use Rattle.alm_lines.specs.Spots.{start};
 ghost use Rattle.alm_lines.specs.Sums.{half_of, offset_of};

@@ -1,6 +1,6 @@
 -- Tokens: the bytes that a span names, symbols and numbers.
-use Rattle.std.specs.Prelude.{ℕ, ◌-◌, Bool, true, false, ◌&&◌, List, take, drop, slice_index}
-use Rattle.std.specs.Prelude.{Result, Ok, Err, ◌+◌, Option, option_map}
+use Rattle.std.specs.Prelude.{ℕ, ◌+◌, ◌-◌, Bool, true, false, ◌&&◌, List, take, drop, slice_index}
+use Rattle.std.specs.Prelude.{Option, option_map, Result, Ok, Err}
 use Rattle.std.specs.List.{position}
 use Rattle.std.specs.Result.{result_unwrap_or}
 use Rattle.m36_text.specs.Reading.{number_read}

@@ -4,8 +4,8 @@
 --                            character of `a-z`
 --
 -- A term is as a user, but any of its three components may be `*`.
-use Rattle.std.specs.Prelude.{ℕ, Bool, false, ◌&&◌, ◌||◌, ◌==◌, if◌then◌else◌, List, []}
-use Rattle.std.specs.Prelude.{◌∷◌, codes, Option, Some, None, ◌+◌, ◌*◌}
+use Rattle.std.specs.Prelude.{ℕ, ◌+◌, ◌*◌, Bool, false, ◌&&◌, ◌||◌, ◌==◌, if◌then◌else◌, List, []}
+use Rattle.std.specs.Prelude.{◌∷◌, codes, Option, Some, None}
 use Rattle.std.specs.List.{slice_split}
 use Rattle.m36_text.specs.Texts.{is_text, is_small_letter, is_word_character, is_run_of}
 

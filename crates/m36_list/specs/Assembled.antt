@@ -1,6 +1,6 @@
 -- What the assembler makes of the text of a word.
-use Rattle.std.specs.Prelude.{ℕ, ◌+◌, ◌^◌, ◌<◌, ◌≡◌, List, [], ◌∷◌, ◌++◌, length, Option, Some}
-use Rattle.std.specs.Prelude.{None, Result, Ok, Err, false}
+use Rattle.std.specs.Prelude.{ℕ, ◌+◌, ◌^◌, ◌<◌, ◌≡◌, false, List, [], ◌∷◌, ◌++◌, length, Option}
+use Rattle.std.specs.Prelude.{Some, None, Result, Ok, Err}
 use Rattle.m36_text.specs.Lines.{as_line}
 use Rattle.m36_text.specs.Results.{and_then}
 use Rattle.alm_parse.specs.declared.line.Line36.{Line36}

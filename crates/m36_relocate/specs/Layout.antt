@@ -4,8 +4,7 @@
 -- follow in the order of the components. A place that a component names is a word of its text, one
 -- of its static words, a word of its links, or one of the words at the head of its linkage
 -- section; the layout map sends each to a place of the bound object.
-use Rattle.std.specs.Prelude.{ℕ, ◌+◌, ◌-◌, ◌*◌, ◌%◌, ◌^◌, ◌<◌, nat_lt, if◌then◌else◌}
-use Rattle.std.specs.Prelude.{length, ◌≡◌}
+use Rattle.std.specs.Prelude.{ℕ, ◌≡◌, ◌+◌, ◌-◌, ◌*◌, ◌%◌, ◌^◌, ◌<◌, nat_lt, if◌then◌else◌, length}
 use Rattle.obj36_parts.specs.PartsFields.{PartsFields}
 use Rattle.obj36_parts.specs.ObjectSegment.{is_newer, evened, head_words, links_behind}
 use Rattle.obj36_parts.specs.ObjectSegment.{first_link_by, linkage_length}

@@ -47,7 +47,8 @@ words_of line = slice_split (λ b. b == 32) line
 abbrev pub joined_by_spaces : List (List ℕ) → List ℕ
 joined_by_spaces words = join_with_byte 32 words
 
--- what a line says, by its words; and one that lacks its line feed, which is of no form
+-- What a line says, by its words. One that lacks its line feed is of no form, and says what is
+-- given for that.
 abbrev pub by_words : {A : Type 0} → (List (List ℕ) → A) → A → Option (List ℕ) → A
 by_words says of_no_form (Some line) = says (words_of line)
 by_words says of_no_form None = of_no_form
