@@ -60,16 +60,16 @@ pub record ReadsNot (old new : List ErrorKind) : Type 0 where
   pub why : GivesUp old new ⊎
       ((kind : ErrorKind) × (refusal_of kind ≡ read.Failed) × (new ≡ old ++ kind ∷ []))
 
--- Absent was answered to a name of no file, or behind the one error that is answered so; Failed
--- where no file was read, and the other answers behind signals alone.
+-- Absent was answered to a name of no file, or behind one error that is answered so, which is that
+-- there is no such file; Failed where no file was read, and the other answers as of an opened file.
 abbrev pub ReadHasError : ReadAnswer → List ℕ → List ErrorKind → List ErrorKind → Type 0
-ReadHasError (read.Read bytes) name old new = Signals old new
+ReadHasError (read.Read bytes) name old new = OpenHasError (read.Read bytes) old new
 ReadHasError read.Absent name old new =
     NamesNoFile name
     ⊎ ((kind : ErrorKind) × (refusal_of kind ≡ read.Absent) × (new ≡ old ++ kind ∷ []))
-ReadHasError read.TooLarge name old new = Signals old new
+ReadHasError read.TooLarge name old new = OpenHasError read.TooLarge old new
 ReadHasError read.Failed name old new = ReadsNot old new
-ReadHasError read.NoMemory name old new = Signals old new
+ReadHasError read.NoMemory name old new = OpenHasError read.NoMemory old new
 
 -- No file was written: it has the name of none, or a write gave up, or one error came by which no
 -- file was made.
@@ -81,13 +81,13 @@ abbrev pub FileHasError : Put → List ℕ → List ErrorKind → List ErrorKind
 FileHasError Done name old new = Signals old new
 FileHasError Failed name old new = WritesNot name old new
 
--- the answers of a folder, where a file took the content
+-- the answers of a folder, where a file took the content: Written is Done of the file that was made
 abbrev pub WriteTakes : WriteAnswer → List (List ℕ) → List (List ℕ) → List ℕ → Type 0
-WriteTakes write.Written old new content = new ≡ old ++ content ∷ []
-WriteTakes write.Failed old new content = ⊤
+WriteTakes write.Written old new content = NotesDone Done old new content
+WriteTakes write.Failed old new content = NotesDone Failed old new content
 WriteTakes write.NoMemory old new content = ⊤
 
 abbrev pub WriteHasError : WriteAnswer → List ℕ → List ErrorKind → List ErrorKind → Type 0
-WriteHasError write.Written name old new = Signals old new
-WriteHasError write.Failed name old new = WritesNot name old new
+WriteHasError write.Written name old new = FileHasError Done name old new
+WriteHasError write.Failed name old new = FileHasError Failed name old new
 WriteHasError write.NoMemory name old new = ⊤
