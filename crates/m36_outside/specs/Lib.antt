@@ -20,5 +20,6 @@ pub mod SinkState
 pub mod SureFields
 pub mod System
 pub mod Told
+pub mod Unread
 pub mod WriteAnswer
 pub mod Written

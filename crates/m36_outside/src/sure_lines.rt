@@ -1,8 +1,9 @@
 //! Input in memory that never fails.
 
-ghost use Rattle.std.specs.Prelude.{[], ◌∷◌, ◌++◌, ◌≡◌, ◌≤◌, Some, IfOk, length, min, take, drop};
+ghost use Rattle.std.specs.Prelude.{[], ◌∷◌, ◌++◌, ◌≡◌, ◌≤◌, Some, IfOk, length, take, drop};
 ghost use Rattle.m36_outside.specs.Passing.{PieceGives};
 ghost use Rattle.m36_outside.specs.Piece.{PieceSays, PieceHasCause};
+ghost use Rattle.m36_outside.specs.Unread.{piece_length};
 
 use crate::lines::{Lines, Piece};
 use crate::passed::Passed;
@@ -52,7 +53,7 @@ impl Lines for SureLines {
         ensures says { PieceSays result (Some self.old.left) (Some self.new.left) into.new }
         ensures gives { PieceGives result self.old.given self.new.given into.new }
         ensures cause { PieceHasCause result 0 0 }
-        ensures rest { self.new.left ≡ drop (min (length into.old) (length self.old.left)) self.old.left }
+        ensures rest { self.new.left ≡ drop (piece_length (length into.old) self.old.left) self.old.left }
     {
         let count = self.unread.take(into);
         self.given.note(&&into[..count]);

@@ -1,6 +1,7 @@
 //! Bytes in memory that are taken from the beginning on.
 
-ghost use Rattle.std.specs.Prelude.{◌≡◌, ◌≤◌, ◌++◌, IfOk, length, min, take, drop};
+ghost use Rattle.std.specs.Prelude.{◌≡◌, ◌≤◌, ◌++◌, IfOk, length, take, drop};
+ghost use Rattle.m36_outside.specs.Unread.{piece_length};
 
 use crate::text::Text;
 use m36_word::NoMemory;
@@ -38,7 +39,7 @@ impl Unread {
     /// Moves the next bytes to the beginning of a buffer: as many as are left and as there is room for. It tells how many.
     #[tactic(auto, using(crate::proofs::Taken::taken))]
     pub fn take(&mut self, into: &mut [u8]) -> usize
-        ensures count { result ≡ min (length into.old) (length self.old) }
+        ensures count { result ≡ piece_length (length into.old) self.old }
         ensures moved { self.old ≡ take result into.new ++ self.new }
         ensures rest { self.new ≡ drop result self.old }
     {
@@ -52,7 +53,7 @@ impl Unread {
 /// room for. It tells how many.
 fn copy_from(from: &[u8], place: usize, into: &mut [u8]) -> usize
     requires { place ≤ length from.now }
-    ensures count { result ≡ min (length into.old) (length (drop place from.now)) }
+    ensures count { result ≡ piece_length (length into.old) (drop place from.now) }
     ensures same { take result into.new ≡ take result (drop place from.now) }
 {
     let left = &from[place..];
