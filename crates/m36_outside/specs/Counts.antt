@@ -1,11 +1,15 @@
 -- Counts of faults.
 use Rattle.std.specs.Prelude.{ℕ, ◌≡◌, ◌<◌, ◌+◌, ◌-◌, ◌^◌, ◌⊎◌, min}
 
--- A count rose in a call: it is greater after the call than before, or it stands at 2^64 - 1, where
--- every count ends.
+-- where every count ends
+abbrev pub last_count : ℕ
+last_count = 2 ^ 64 - 1
+
+-- A count rose in a call: it is greater after the call than before, or it stands where every count
+-- ends.
 abbrev pub Rose : ℕ → ℕ → Type 0
-Rose old new = (old < new) ⊎ (new ≡ 2 ^ 64 - 1)
+Rose old new = (old < new) ⊎ (new ≡ last_count)
 
 -- a count after one more fault
 abbrev pub raised : ℕ → ℕ
-raised count = min (count + 1) (2 ^ 64 - 1)
+raised count = min (count + 1) last_count
