@@ -15,10 +15,14 @@ pub record Moves (old new : Option (List ℕ)) (before after : List ℕ) : Type 
   pub taken : Consumes old new got
   pub added : after ≡ before ++ got
 
+-- More was read, and all that was read is within the limit.
+pub record GrowsWithinLimit (before after : List ℕ) : Type 0 where
+  pub limit : length after ≤ file_limit
+  pub more : length before < length after
+
 -- what the answer says of what is left and of what was read, before and after
 abbrev pub ChunkSays : Chunk → Option (List ℕ) → Option (List ℕ) → List ℕ → List ℕ → Type 0
-ChunkSays More old new before after =
-    Moves old new before after × (length after ≤ file_limit) × (length before < length after)
+ChunkSays More old new before after = Moves old new before after × GrowsWithinLimit before after
 ChunkSays End old new before after = Moves old new before after × IsAtEnd new × (after ≡ before)
 ChunkSays TooLarge old new before after = Moves old new before after × (file_limit < length after)
 ChunkSays Failed old new before after = ⊤
@@ -26,8 +30,7 @@ ChunkSays NoMemory old new before after = ⊤
 
 -- what the answer says where these bytes were read and are added
 abbrev pub AddSays : Chunk → List ℕ → List ℕ → List ℕ → Type 0
-AddSays More before after got =
-    (after ≡ before ++ got) × (length after ≤ file_limit) × (length before < length after)
+AddSays More before after got = (after ≡ before ++ got) × GrowsWithinLimit before after
 AddSays End before after got = ⊥
 AddSays TooLarge before after got = (after ≡ before ++ got) × (file_limit < length after)
 AddSays Failed before after got = ⊥
