@@ -259,7 +259,7 @@ ends_put command given Cut result f s s' p = record {
 ends_put command given ends.Starved result f s s' (inl p) = inr (record {
   given = given;
   came = refl;
-  wants = inl (record { files = refl; wrote = refl; write_faults = refl; none_put = p });
+  wants = inl (record { kept = record { files = refl; wrote = refl }; write_faults = refl; none_put = p });
   read_faults = refl;
 })
 ends_put command given ends.Starved result f s s' (inr p) = inr (record {

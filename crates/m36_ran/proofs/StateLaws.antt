@@ -86,7 +86,7 @@ ends_put command state Cut result f s s' p = record {
 ends_put command state Starved result f s s' p = inr (record {
   given = state;
   came = refl;
-  wants = record { files = refl; wrote = refl; write_faults = refl; none_put = p };
+  wants = record { kept = record { files = refl; wrote = refl }; write_faults = refl; none_put = p };
   read_faults = refl;
 })
 ends_put command state Unread result f s s' p = absurd p

@@ -49,7 +49,7 @@ does_on kind p d result old now sink new before after reads performs = record {
   passed = reads.passed;
   told = reads.told;
   ends =
-      subst (λ f. EndsBy kind (Comes p reads.asked) (end_of result) result (record { folder = f; sink = sink }) new) (same_folder old now reads.files reads.wrote reads.cause reads.write_faults)
+      subst (λ f. EndsBy kind (Comes p reads.asked) (end_of result) result (record { folder = f; sink = sink }) new) (same_folder old now reads.kept.files reads.kept.wrote reads.cause reads.write_faults)
       (ends_more kind (λ c. c ≡ Came (Ok d)) (Comes p reads.asked) (end_of result) result (record { folder = now; sink = sink }) new (λ c is. subst (Comes p reads.asked) (sym is) reads.comes) performs);
 }
 
@@ -63,7 +63,7 @@ does_told kind p d result old now sink new before after last reads performs same
 
 -- the reading has ended early
 idle_after : {D : Type 0} (p : Reading (Early D)) (r : Refusal) (old now : FolderState) (sink : SinkState) (before after : List Asked) → Reads p (Err r) old now before after → IsIdle (record { folder = old; sink = sink }) (record { folder = now; sink = sink })
-idle_after p r old now sink before after reads = record { files = reads.files; wrote = reads.wrote; write_faults = reads.write_faults; none_put = record { written = refl; taken = refl; faults = refl } }
+idle_after p r old now sink before after reads = record { kept = reads.kept; write_faults = reads.write_faults; none_put = record { written = refl; taken = refl; faults = refl } }
 
 pub does_stop :
     {D : Type 0} (kind : Kind D) (p : Reading (Early D)) (r : Refusal) (old now : FolderState) (sink : SinkState) (before after : List Asked)
@@ -81,7 +81,7 @@ does_stop kind p (BadFile bad) old now sink before after reads = record {
     made = record {
       status = refl;
       whole = record {
-        set = record { files = reads.files; wrote = reads.wrote ∙ sym (append-nil old.wrote); write_faults = reads.write_faults };
+        set = record { files = reads.kept.files; wrote = reads.kept.wrote ∙ sym (append-nil old.wrote); write_faults = reads.write_faults };
         put = record { text = grew_by_nothing sink.written; pieces = sym (append-nil sink.taken); faults = refl };
       };
       read_faults = reads.cause;

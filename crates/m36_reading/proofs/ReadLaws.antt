@@ -52,8 +52,7 @@ bytes_read name bytes old new before after told limit files wrote stands writes 
   passed = passed;
   told = (record { told = told; limit = limit }, tt);
   comes = (refl, refl);
-  files = files;
-  wrote = wrote;
+  kept = record { files = files; wrote = wrote };
   cause = stands;
   write_faults = writes;
 }
@@ -70,8 +69,7 @@ bytes_absent name r old new before after told is files wrote stands writes passe
   passed = passed;
   told = (record { told = told; limit = tt }, tt);
   comes = (refl, gives_refusal (List ℕ) r (refused name code.F1 0) is);
-  files = files;
-  wrote = wrote;
+  kept = record { files = files; wrote = wrote };
   cause = refused_cause (List ℕ) r (refused name code.F1 0) _ _ is stands;
   write_faults = writes;
 }
@@ -88,8 +86,7 @@ bytes_large name r old new before after told is files wrote stands writes passed
   passed = passed;
   told = (record { told = told; limit = tt }, tt);
   comes = (refl, gives_refusal (List ℕ) r (refused name code.F2 0) is);
-  files = files;
-  wrote = wrote;
+  kept = record { files = files; wrote = wrote };
   cause = refused_cause (List ℕ) r (refused name code.F2 0) _ _ is stands;
   write_faults = writes;
 }
@@ -106,8 +103,7 @@ bytes_failed name old new before after told files wrote rose writes passed = rec
   passed = passed;
   told = (record { told = told; limit = tt }, tt);
   comes = (refl, (refl, tt));
-  files = files;
-  wrote = wrote;
+  kept = record { files = files; wrote = wrote };
   cause = rose;
   write_faults = writes;
 }
@@ -124,8 +120,7 @@ bytes_starved name old new before after told files wrote stands writes passed = 
   passed = passed;
   told = (record { told = told; limit = tt }, tt);
   comes = (refl, (refl, tt));
-  files = files;
-  wrote = wrote;
+  kept = record { files = files; wrote = wrote };
   cause = stands;
   write_faults = writes;
 }
@@ -148,10 +143,9 @@ pub reads_then :
 reads_then p next a result old now new before middle after first then = record {
   asked = first.asked ++ then.asked;
   passed = then.passed ∙ ap (λ l. l ++ then.asked) first.passed ∙ append_assoc before first.asked then.asked;
-  told = told_both old.files first.asked then.asked first.told (subst (λ f. AreTold f then.asked) first.files then.told);
+  told = told_both old.files first.asked then.asked first.told (subst (λ f. AreTold f then.asked) first.kept.files then.told);
   comes = comes_then p next first.asked then.asked a (coming result) first.comes then.comes;
-  files = then.files ∙ first.files;
-  wrote = then.wrote ∙ first.wrote;
+  kept = record { files = then.kept.files ∙ first.kept.files; wrote = then.kept.wrote ∙ first.kept.wrote };
   cause = cause_on result old.read_faults now.read_faults new.read_faults first.cause then.cause;
   write_faults = then.write_faults ∙ first.write_faults;
 }
@@ -171,8 +165,7 @@ reads_nothing definition result old before gives = record {
   passed = sym (append-nil before);
   told = tt;
   comes = gives;
-  files = refl;
-  wrote = refl;
+  kept = record { files = refl; wrote = refl };
   cause = gives_cause result definition old.read_faults gives;
   write_faults = refl;
 }
@@ -199,8 +192,7 @@ reads_stop A B p next r old new before after first = record {
   passed = first.passed;
   told = first.told;
   comes = comes_stop A B p next first.asked r first.comes;
-  files = first.files;
-  wrote = first.wrote;
+  kept = first.kept;
   cause = stop_cause A B r old.read_faults new.read_faults first.cause;
   write_faults = first.write_faults;
 }

@@ -9,7 +9,7 @@ use Rattle.m36_reading.specs.Asking.{Asked, AreTold, Coming, Came, Failed, Wanti
 use Rattle.m36_reading.specs.Answers.{Answer, IsDueBy}
 use Rattle.m36_reading.specs.Setting.{AllSet, SetFailed}
 use Rattle.m36_reading.specs.Puts.{IsPutWhole, IsPutPart, IsNotPut}
-use Rattle.m36_reading.specs.Outside.{FolderState, Outside, IsIdle, NoneUnread}
+use Rattle.m36_reading.specs.Outside.{FolderState, Outside, IsKept, IsIdle, NoneUnread}
 use Rattle.m36_reading.specs.Ends.{End, Answered, Cut, Unread, Starved, Unasked, end_of}
 
 -- A kind of what is due: which answers are; of which a first part may be put where the output
@@ -45,8 +45,7 @@ pub record Reads
   pub passed : after ≡ before ++ asked
   pub told : AreTold old.files asked
   pub comes : Comes p asked (coming result)
-  pub files : new.files ≡ old.files
-  pub wrote : new.wrote ≡ old.wrote
+  pub kept : IsKept old new
   pub cause : ReadCause result old.read_faults new.read_faults
   pub write_faults : new.write_faults ≡ old.write_faults
 

@@ -30,10 +30,15 @@ abbrev pub sink_of :
 sink_of written taken faults sink =
     record { written = written sink; taken = taken sink; faults = faults sink }
 
+-- No file changes, where the folder tells its files, and nothing is written to it, whether it tells
+-- them or not.
+pub record IsKept (old new : FolderState) : Type 0 where
+  pub files : new.files ≡ old.files
+  pub wrote : new.wrote ≡ old.wrote
+
 -- nothing but the count of reads that failed may differ
 pub record IsIdle (old new : Outside) : Type 0 where
-  pub files : new.folder.files ≡ old.folder.files
-  pub wrote : new.folder.wrote ≡ old.folder.wrote
+  pub kept : IsKept old.folder new.folder
   pub write_faults : new.folder.write_faults ≡ old.folder.write_faults
   pub none_put : IsNotPut old.sink new.sink
 

@@ -77,7 +77,7 @@ ends_put unaudited p Cut result f s s' puts = record {
 ends_put unaudited p Starved result f s s' puts = inr (record {
   given = p;
   came = refl;
-  wants = record { files = refl; wrote = refl; write_faults = refl; none_put = puts };
+  wants = record { kept = record { files = refl; wrote = refl }; write_faults = refl; none_put = puts };
   read_faults = refl;
 })
 ends_put unaudited p Unread result f s s' puts = absurd puts

@@ -183,8 +183,7 @@ ends_put Holds d Starved result talk f s s' (inl p) = inr (record {
   came = refl;
   wants = inl (record {
     idle = record {
-      files = refl;
-      wrote = refl;
+      kept = record { files = refl; wrote = refl };
       write_faults = refl;
       none_put = p.none_put;
     };

@@ -10,7 +10,7 @@ use Rattle.m36_reading.specs.Reading.{Found, Content, Absent, TooLarge, Reading,
 use Rattle.m36_reading.specs.Asking.{Asked, Came, GoesOn, Comes}
 use Rattle.m36_reading.specs.Readers.{file_object}
 use Rattle.m36_reading.specs.Answers.{Answer, IsDueBy, with_sets, writes_of}
-use Rattle.m36_reading.specs.Outside.{Outside, IsIdle}
+use Rattle.m36_reading.specs.Outside.{Outside, IsKept, IsIdle}
 use Rattle.m36_reading.specs.Ends.{End, Answered, Cut, Unread, Starved, Unasked, end_of}
 use Rattle.m36_reading.specs.Doing.{IsMade, IsUnset, IsUnput, EndsBy, Does}
 use Rattle.m36_reading.proofs.WriteLaws.{writes_none}
@@ -37,7 +37,7 @@ use Rattle.m36_sessions.specs.Held.{Talk, HoldsImage, HoldsFolder}
 use Rattle.m36_sessions.specs.Sessions.{Told as Holding, IsSessionDue, SessionWants}
 use Rattle.m36_top.specs.Dues.{Due, Told, Image, Folder, Schedule, ImageSession, FolderSession, Made, on_image, on_folder, on_procs, IsDueOf, IsBegunOf, WantsOf, FailsOf, due_kind}
 use Rattle.m36_top.specs.Commands.{reads, writes_files}
-use Rattle.m36_top.specs.TopCall.{WriteRose, WritesStand, WriteCauseBy, IsKept, KeepsBy}
+use Rattle.m36_top.specs.TopCall.{WriteRose, WritesStand, WriteCauseBy, KeepsBy}
 
 -- ---- what holds of all that a reading can come to
 
@@ -242,7 +242,7 @@ does_cause talk command result old new before after does = cause_by talk command
 unset_keeps :
     (sets : List Set) (old new : Outside)
     → sets ≡ [] → new.folder.files ≡ with_sets sets old.folder.files → new.folder.wrote ≡ old.folder.wrote ++ writes_of sets
-    → IsKept old new
+    → IsKept old.folder new.folder
 unset_keeps sets old new none files wrote = record {
   files = files ∙ ap (λ (s : List Set). with_sets s old.folder.files) none;
   wrote = wrote ∙ writes_none old.folder.wrote sets none;
@@ -250,22 +250,22 @@ unset_keeps sets old new none files wrote = record {
 
 made_keeps :
     (talk : Talk) (given : Early Due) (due : Answer) (result : Status) (old new : Outside)
-    → NoSets talk given → IsDueBy (IsDueOf talk) given due → IsMade due result old new → IsKept old new
+    → NoSets talk given → IsDueBy (IsDueOf talk) given due → IsMade due result old new → IsKept old.folder new.folder
 made_keeps talk (Ok d) due result old new none is made = unset_keeps due.sets old new (none.0 due is) made.whole.set.files made.whole.set.wrote
 made_keeps talk (Err r) due result old new none is made = unset_keeps due.sets old new (ap (λ (d : Answer). d.sets) is) made.whole.set.files made.whole.set.wrote
 
-cut_keeps : (due : Answer) (old new : Outside) → due.sets ≡ [] → IsUnset due old new ⊎ IsUnput due old new → IsKept old new
+cut_keeps : (due : Answer) (old new : Outside) → due.sets ≡ [] → IsUnset due old new ⊎ IsUnput due old new → IsKept old.folder new.folder
 cut_keeps due old new none (inl is) = absurd (none_unset due old new none is)
 cut_keeps due old new none (inr is) = unset_keeps due.sets old new none is.set.files is.set.wrote
 
-idle_keeps : (old new : Outside) → IsIdle old new → IsKept old new
-idle_keeps old new idle = record { files = idle.files; wrote = idle.wrote }
+idle_keeps : (old new : Outside) → IsIdle old new → IsKept old.folder new.folder
+idle_keeps old new idle = idle.kept
 
-session_keeps : (Holds : Holding) (talk : Talk) (old new : Outside) → SessionWants Holds talk old new → IsKept old new
+session_keeps : (Holds : Holding) (talk : Talk) (old new : Outside) → SessionWants Holds talk old new → IsKept old.folder new.folder
 session_keeps Holds talk old new (inl w) = idle_keeps old new w.idle
 session_keeps Holds talk old new (inr w) = unset_keeps [] old new refl w.whole.set.files w.whole.set.wrote
 
-wants_keeps : (talk : Talk) (d : Due) (old new : Outside) → NoSets talk (Ok d) → WantsOf talk d old new → IsKept old new
+wants_keeps : (talk : Talk) (d : Due) (old new : Outside) → NoSets talk (Ok d) → WantsOf talk d old new → IsKept old.folder new.folder
 wants_keeps talk (Told told) old new none w = absurd (empty_parts w.set.before w.set.next w.set.others (sym (none.0 (told_answer told) refl) ∙ w.set.are))
 wants_keeps talk (Image image) old new none w = idle_keeps old new w
 wants_keeps talk (Folder folder) old new none (inl w) = idle_keeps old new w
@@ -280,7 +280,7 @@ wants_keeps talk (Made sets) old new none (inr (inl w)) = unset_keeps sets old n
 wants_keeps talk (Made sets) old new none (inr (inr w)) =
     unset_keeps sets old new (none.1 (files_alone sets) (inr refl)) w.so_far.set.files w.so_far.set.wrote
 
-fails_keeps : (talk : Talk) (d : Due) (old new : Outside) → FailsOf talk d old new → IsKept old new
+fails_keeps : (talk : Talk) (d : Due) (old new : Outside) → FailsOf talk d old new → IsKept old.folder new.folder
 fails_keeps talk (Told told) old new f = absurd f
 fails_keeps talk (Image image) old new f = absurd f
 fails_keeps talk (Folder folder) old new f = absurd f
@@ -291,7 +291,7 @@ fails_keeps talk (Made sets) old new f = absurd f
 
 keeps_by :
     (talk : Talk) (command : Command) (asked : List Asked) (end : End) (result : Status) (old new : Outside) → writes_files command ≡ false
-    → EndsBy (due_kind talk) (Comes (reads command) asked) end result old new → IsKept old new
+    → EndsBy (due_kind talk) (Comes (reads command) asked) end result old new → IsKept old.folder new.folder
 keeps_by talk command asked Answered result old new none e = made_keeps talk e.given e.due result old new (no_sets talk command asked e.given none e.came) e.is_due e.made
 keeps_by talk command asked Cut result old new none e = cut_keeps e.due old new ((no_sets talk command asked (Ok e.given) none e.came).1 e.due e.begun) e.cut
 keeps_by talk command asked Unread result old new none (inl e) = idle_keeps old new e.idle
@@ -300,7 +300,7 @@ keeps_by talk command asked Starved result old new none (inl e) = idle_keeps old
 keeps_by talk command asked Starved result old new none (inr e) = wants_keeps talk e.given old new (no_sets talk command asked (Ok e.given) none e.came) e.wants
 keeps_by talk command asked Unasked result old new none e = absurd e
 
-keeps_where : (writes : Bool) (old new : Outside) → (writes ≡ false → IsKept old new) → KeepsBy writes old new
+keeps_where : (writes : Bool) (old new : Outside) → (writes ≡ false → IsKept old.folder new.folder) → KeepsBy writes old new
 keeps_where true old new keeps = tt
 keeps_where false old new keeps = keeps refl
 

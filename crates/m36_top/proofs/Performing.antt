@@ -205,7 +205,7 @@ pub none_through :
 none_through talk asked old before is =
     let idle : IsUnasked Usage old old = record {
       usage = refl;
-      idle = record { files = refl; wrote = refl; write_faults = refl; none_put = record { written = refl; taken = refl; faults = refl } };
+      idle = record { kept = record { files = refl; wrote = refl }; write_faults = refl; none_put = record { written = refl; taken = refl; faults = refl } };
       read_faults = refl;
     } in
     subst (λ a. Through a Usage talk old old before before) is (idle, refl)

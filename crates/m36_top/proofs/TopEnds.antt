@@ -47,7 +47,7 @@ top_write talk (Some command) result old new before after says = does_cause talk
 
 pub top_keeps :
     (talk : Talk) (command : Option Command) (result : Status) (old new : Outside) (before after : List Asked) → Through command result talk old new before after → KeepsFiles command old new
-top_keeps talk None result old new before after says = record { files = says.0.idle.files; wrote = says.0.idle.wrote }
+top_keeps talk None result old new before after says = says.0.idle.kept
 top_keeps talk (Some command) result old new before after says = does_keep talk command result old new before after says
 
 -- ---- completeness

@@ -8,7 +8,7 @@ use Rattle.m36_reading.specs.declared.status.Status.{Status}
 use Rattle.m36_reading.specs.declared.status.Status.TheVariants.{Usage, NoMemory}
 use Rattle.m36_reading.specs.Reading.{Early, outcome_in}
 use Rattle.m36_reading.specs.Asking.{Came, Comes, ComesIn}
-use Rattle.m36_reading.specs.Outside.{Outside, IsIdle, NoneUnread}
+use Rattle.m36_reading.specs.Outside.{Outside, IsKept, IsIdle, NoneUnread}
 use Rattle.m36_reading.specs.Ends.{End, Answered, Cut, Unread, Starved, Unasked, end_of}
 use Rattle.m36_reading.specs.Doing.{IsAnswered, EndsBy, Does}
 use Rattle.m36_ran.specs.AuditText.{yes_line}
@@ -130,16 +130,10 @@ Completes (Some command) files result talk old new =
 
 -- ---- files
 
--- No file changes, where the folder tells its files, and nothing is written to it, whether it tells
--- them or not.
-pub record IsKept (old new : Outside) : Type 0 where
-  pub files : new.folder.files ≡ old.folder.files
-  pub wrote : new.folder.wrote ≡ old.folder.wrote
-
 -- Only the commands that write files write any.
 abbrev pub KeepsBy : Bool → Outside → Outside → Type 0
 KeepsBy true old new = ⊤
-KeepsBy false old new = IsKept old new
+KeepsBy false old new = IsKept old.folder new.folder
 
 abbrev pub KeepsFiles : Option Command → Outside → Outside → Type 0
 KeepsFiles command old new = KeepsBy (may_write command) old new
