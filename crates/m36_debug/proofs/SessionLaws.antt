@@ -71,7 +71,7 @@ came_end :
     (before now after : LinesSeen) (pieces : List (List ℕ))
     → Came before now pieces → GotEnd now after → Came before after (pieces ++ [] ∷ [])
 came_end before now after pieces came end =
-    came_more before now after pieces [] came end.gave (sym end.stays ∙ preceded_none after.left)
+    came_more before now after pieces [] came end.gave (sym end.left.1 ∙ preceded_none after.left)
 
 -- nothing
 came_still :
@@ -205,7 +205,7 @@ pub going_unread :
     → SessionSays o (Err fault.ReadFault) m m' before after old new
 going_unread o m m' before now after old new left begun sitting g got =
     says o (Err fault.ReadFault) m m' before after old new g.pieces g.lines (standing sitting Waiting)
-    (came_still before now after g.pieces g.came got.gave got.stays)
+    (came_still before now after g.pieces g.came got.gave got.left)
     (omega (arith, g.count))
     (subst (λ n. Rose n after.faults) g.faults got.cause)
     (stops_going g.pieces before.faults after.faults g.some)
@@ -241,7 +241,7 @@ going_too_long o m m' before now after old new count left begun buffer sitting g
 told_end :
     (now after : LinesSeen) (pieces : List (List ℕ)) → GotEnd now after → HasEnded (pieces ++ [] ∷ []) after
 told_end now after pieces got =
-    record { before = pieces; last = refl; none = subst (λ l. IfSome l (λ left. left ≡ [])) (sym got.stays) got.none }
+    record { before = pieces; last = refl; none = subst (λ l. IfSome l (λ left. left ≡ [])) (sym got.left.1) got.left.0 }
 
 -- all its lines are a first part of all
 took_open :

@@ -1,7 +1,7 @@
 -- What is said of a piece of input that is taken.
-use Rattle.std.specs.Prelude.{ℕ, ◌≡◌, ◌≤◌, List, [], IfSome}
+use Rattle.std.specs.Prelude.{ℕ, ◌≤◌, List, []}
 use Rattle.m36_outside.specs.Passing.{PieceGives}
-use Rattle.m36_outside.specs.Piece.{Moved, PieceHasCause}
+use Rattle.m36_outside.specs.Piece.{PieceSays, PieceHasCause}
 use Rattle.m36_outside.specs.declared.lines.Piece.{Piece}
 use Rattle.m36_outside.specs.declared.lines.Piece.TheVariants.{Got, End, Failed}
 use Rattle.m36_debug.specs.SessionSays.{LinesSeen}
@@ -9,20 +9,19 @@ use Rattle.m36_debug.specs.SessionSays.{LinesSeen}
 -- So many bytes were taken, of so many at most: they stand at the beginning of the buffer.
 pub record GotPiece (count most : ℕ) (old new : LinesSeen) (buffer : List ℕ) : Type 0 where
   pub within : count ≤ most
-  pub moved : Moved old.left new.left count buffer
+  pub moved : PieceSays (Got count) old.left new.left buffer
   pub gave : PieceGives (Got count) old.given new.given buffer
   pub faults : PieceHasCause (Got count) old.faults new.faults
 
 -- The input has ended: it gave an empty piece.
 pub record GotEnd (old new : LinesSeen) : Type 0 where
-  pub none : IfSome old.left (λ left. left ≡ [])
-  pub stays : new.left ≡ old.left
+  pub left : PieceSays End old.left new.left []
   pub gave : PieceGives End old.given new.given []
   pub faults : PieceHasCause End old.faults new.faults
 
 -- Nothing could be read.
 pub record GotNothing (old new : LinesSeen) : Type 0 where
-  pub stays : new.left ≡ old.left
+  pub left : PieceSays Failed old.left new.left []
   pub gave : PieceGives Failed old.given new.given []
   pub cause : PieceHasCause Failed old.faults new.faults
 
