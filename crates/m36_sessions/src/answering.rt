@@ -8,7 +8,7 @@ ghost use Rattle.m36_ran.specs.Ran.{state_reads};
 ghost use Rattle.m36_booted.specs.Folder.{folder_reads};
 ghost use Rattle.m36_booted.specs.Systems.{IsFresh};
 ghost use Rattle.m36_debug.specs.Session.{turning};
-ghost use Rattle.m36_sessions.specs.Held.{talk_of, IsHeld, HoldsImage, HoldsFolder};
+ghost use Rattle.m36_sessions.specs.Held.{talk_of, new_history, IsHeld, HoldsImage, HoldsFolder};
 ghost use Rattle.m36_sessions.specs.Sessions.{stdin_name, PutsBy, InputStands, ImageTakes, FolderTakes, image_kind, folder_kind};
 
 use crate::ending::{session_status, stdin_name};
@@ -46,8 +46,7 @@ fn hold<M: Stepper, L: Lines, S: Sink>(
 
 // The machine of an image, which goes back. Core is handed on, and not copied.
 fn past_of(alloc: Global, image: Image) -> Result<Past<Machine>, NoMemory>
-    ensures { IfOk result
-        (λ past. past ≡ record { first = record { state = image; ended = None }; taken = 0 }) }
+    ensures { IfOk result (λ past. past ≡ new_history image) }
 {
     let machine = machine_of(alloc, image)?;
     match Past::new(alloc, machine) {
