@@ -24,11 +24,11 @@
 --     N            1 to 8 decimal digits, at most 10,000,000; without `--steps` 100,000
 --     SEED         1 to 18 decimal digits
 --     USER         Person.Project.tag: two times 1 to 32 of `A-Z a-z 0-9 _`, and one of `a-z`
-use Rattle.std.specs.Prelude.{ℕ, Bool, true, false, not, ◌&&◌, nat_le, List, [], ◌∷◌, ◌++◌, length}
-use Rattle.std.specs.Prelude.{take, drop, codes, Option, Some, None, unwrap_or, if◌then◌else◌}
+use Rattle.std.specs.Prelude.{ℕ, ◌-◌, Bool, true, false, not, ◌&&◌, nat_le, List, [], ◌∷◌, ◌++◌}
+use Rattle.std.specs.Prelude.{length, take, drop, codes, Option, Some, None, unwrap_or, if◌then◌else◌}
 use Rattle.std.specs.Option.{is_none, option_map, option_and_then}
 use Rattle.m36_text.specs.FileNames.{source_suffix, bindfile_suffix}
-use Rattle.m36_text.specs.Texts.{is_text}
+use Rattle.m36_text.specs.Texts.{name_limit, is_text}
 use Rattle.m36_text.specs.Numbers.{short_decimal_in}
 use Rattle.m36_booted.specs.declared.command.FolderRun.{FolderRun}
 use Rattle.m36_booted.specs.declared.command.FolderCommand.TheVariants as folder
@@ -52,9 +52,16 @@ operand_by file user =
 abbrev pub operand_of : List ℕ → Option Operand
 operand_of word = operand_by (name_of word) (user_of word)
 
+-- the most steps that can be asked for, and how many there are without `--steps`
+abbrev pub steps_limit : ℕ
+steps_limit = 10000000
+
+abbrev pub default_steps : ℕ
+default_steps = 100000
+
 -- N: one to eight digits
 abbrev pub steps_of : List ℕ → Option ℕ
-steps_of text = short_decimal_in 8 0 10000000 text
+steps_of text = short_decimal_in 8 0 steps_limit text
 
 -- what is given once at most, and is of its form
 abbrev pub given_once : {A : Type 0} → Option A → Option A → Option A
@@ -81,13 +88,24 @@ with_unaudited g = if g.unaudited then None else Some (record g { unaudited = tr
 abbrev pub expecting : Given → Expects → Given
 expecting g e = record g { expects = e }
 
+-- what stands before the value of an option that has it in the same word
+abbrev pub steps_before : List ℕ
+steps_before = codes "--steps="
+
+abbrev pub user_before : List ℕ
+user_before = codes "--user="
+
+-- a word begins with a text
+abbrev pub begins_with : List ℕ → List ℕ → Bool
+begins_with text word = nat_le (length text) (length word) && is_text text (take (length text) word)
+
 -- `--steps=` and a value
 abbrev pub is_steps_with_value : List ℕ → Bool
-is_steps_with_value word = nat_le 8 (length word) && is_text (codes "--steps=") (take 8 word)
+is_steps_with_value word = begins_with steps_before word
 
 -- `--user=` and a value
 abbrev pub is_user_with_value : List ℕ → Bool
-is_user_with_value word = nat_le 7 (length word) && is_text (codes "--user=") (take 7 word)
+is_user_with_value word = begins_with user_before word
 
 -- options by their words, and operands
 abbrev pub with_any : Given → List ℕ → Option Given
@@ -96,8 +114,8 @@ with_any g word =
     else if is_text (codes "--steps") word then Some (expecting g expects.Steps)
     else if is_text (codes "--user") word then Some (expecting g expects.User)
     else if is_text (codes "--unaudited") word then with_unaudited g
-    else if is_steps_with_value word then with_steps g (drop 8 word)
-    else if is_user_with_value word then with_user g (drop 7 word)
+    else if is_steps_with_value word then with_steps g (drop (length steps_before) word)
+    else if is_user_with_value word then with_user g (drop (length user_before) word)
     else with_operand g word
 
 abbrev pub word_by : Expects → Given → List ℕ → Option Given
@@ -136,9 +154,8 @@ file_given g = option_and_then (λ (o : Operand). o.file) g.operand
 abbrev pub user_given : Given → Option (List ℕ)
 user_given g = option_and_then (λ (o : Operand). o.user) g.operand
 
--- without `--steps` 100,000
 abbrev pub steps_given : Given → ℕ
-steps_given g = unwrap_or g.steps 100000
+steps_given g = unwrap_or g.steps default_steps
 
 -- The commands by their words, each with what it makes of its operands and options. All options go
 -- with `run` and `trace`, all but `--user` with `bare`, `--user` with `audit` of the folder,
@@ -185,9 +202,14 @@ access g = if has_no_option g then option_map Access (user_given g) else None
 abbrev pub print : Given → Option Command
 print g = if has_no_option g then option_map (λ name. Print name) (file_given g) else None
 
+-- the most characters of the name of an object that is made: that of its bind file has no more than
+-- a name may have, nor has that of its source, which is shorter
+abbrev pub made_name_limit : ℕ
+made_name_limit = name_limit - length bindfile_suffix
+
 -- the names of which a file with a longer name is read too
 abbrev pub may_be_longer : List ℕ → Bool
-may_be_longer name = nat_le (length name) 27
+may_be_longer name = nat_le (length name) made_name_limit
 
 abbrev pub alm_of : List ℕ → Option Command
 alm_of name =

@@ -2,7 +2,7 @@
 
 ghost use Rattle.std.specs.Prelude.{◌≡◌, ◌≤◌, ◌++◌, length, Some};
 ghost use Rattle.m36_text.specs.FileNames.{source_suffix, bindfile_suffix};
-ghost use Rattle.m36_top.specs.Words.{operand_by, operand_of};
+ghost use Rattle.m36_top.specs.Words.{operand_by, operand_of, made_name_limit};
 
 use arrayvec::ArrayVec;
 use m36_acl::User;
@@ -34,7 +34,7 @@ pub fn operand_of(word: &[u8]) -> Option<Operand>
 
 /// The name of the source of an object: NAME.alm.
 pub fn source_of(object: &[u8]) -> Option<Name>
-    requires { length object.now ≤ 27 }
+    requires { length object.now ≤ made_name_limit }
     ensures { result ≡ Some (object.now ++ source_suffix) }
 {
     let mut name: ArrayVec<u8, 32> = ArrayVec::new();
@@ -45,7 +45,7 @@ pub fn source_of(object: &[u8]) -> Option<Name>
 
 /// The name of the bind file of an object: NAME.bind.
 pub fn bindfile_of(object: &[u8]) -> Option<Name>
-    requires { length object.now ≤ 27 }
+    requires { length object.now ≤ made_name_limit }
     ensures { result ≡ Some (object.now ++ bindfile_suffix) }
 {
     let mut name: ArrayVec<u8, 32> = ArrayVec::new();

@@ -1,7 +1,7 @@
 //! The words of the command line.
 
 ghost use Rattle.std.specs.Prelude.{◌≡◌, ◌≤◌, true, length, drop, IfSome};
-ghost use Rattle.m36_top.specs.Words.{steps_of, with_operand, with_steps, with_user, with_unaudited, expecting, is_steps_with_value, is_user_with_value, with_any, with_word, ended_by, with_words, nothing, command_of};
+ghost use Rattle.m36_top.specs.Words.{steps_limit, steps_of, with_operand, with_steps, with_user, with_unaudited, expecting, steps_before, user_before, is_steps_with_value, is_user_with_value, with_any, with_word, ended_by, with_words, nothing, command_of};
 
 use crate::command::Command;
 use crate::names::{Operand, operand_of};
@@ -46,7 +46,7 @@ pub struct Given {
 /// The value of `--steps`; none where it is not of its form.
 pub fn steps_of(text: &[u8]) -> Option<u32>
     ensures value { result ≡ steps_of text.now }
-    ensures most { IfSome result (λ n. n ≤ 10000000) }
+    ensures most { IfSome result (λ n. n ≤ steps_limit) }
 {
     let steps = short_decimal_in(text, MOST_DIGITS, 0, MOST_STEPS)?;
     Some(steps as u32)
@@ -121,7 +121,7 @@ fn expecting(mut given: Given, expects: Expects) -> Given
 
 fn is_steps_with_value(word: &[u8]) -> bool
     ensures value { result ≡ is_steps_with_value word.now }
-    ensures long { result ≡ true → 8 ≤ length word.now }
+    ensures long { result ≡ true → length steps_before ≤ length word.now }
 {
     word.len() >= 8 && &word[..8] == b"--steps=".as_slice()
 }
@@ -129,15 +129,15 @@ fn is_steps_with_value(word: &[u8]) -> bool
 // What stands behind `--steps=`.
 #[tactic(auto, using(m36_text::proofs::Splitting::rest_whole))]
 fn value_of_steps(word: &[u8]) -> &[u8]
-    requires { 8 ≤ length word.now }
-    ensures { result.now ≡ drop 8 word.now }
+    requires { length steps_before ≤ length word.now }
+    ensures { result.now ≡ drop (length steps_before) word.now }
 {
     &word[8..]
 }
 
 fn is_user_with_value(word: &[u8]) -> bool
     ensures value { result ≡ is_user_with_value word.now }
-    ensures long { result ≡ true → 7 ≤ length word.now }
+    ensures long { result ≡ true → length user_before ≤ length word.now }
 {
     word.len() >= 7 && &word[..7] == b"--user=".as_slice()
 }
@@ -145,8 +145,8 @@ fn is_user_with_value(word: &[u8]) -> bool
 // What stands behind `--user=`.
 #[tactic(auto, using(m36_text::proofs::Splitting::rest_whole))]
 fn value_of_user(word: &[u8]) -> &[u8]
-    requires { 7 ≤ length word.now }
-    ensures { result.now ≡ drop 7 word.now }
+    requires { length user_before ≤ length word.now }
+    ensures { result.now ≡ drop (length user_before) word.now }
 {
     &word[7..]
 }
