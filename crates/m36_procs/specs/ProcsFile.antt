@@ -53,6 +53,14 @@ process_words (name ∷ even ∷ odd ∷ seg ∷ ring ∷ word ∷ []) =
     then process_read (dbr_in even odd) (start_in seg ring word) else None
 process_words _ = None
 
+-- the most times that a line gives its turns
+abbrev pub most_times : ℕ
+most_times = 1000000
+
+-- one to sixteen numbers of processes
+abbrev pub process_numbers : List (List ℕ) → Option (List ℕ)
+process_numbers texts = one_to 16 (short_decimal_in 1 0 9) texts
+
 -- A `turns` line: one to sixteen numbers of processes, and how many times.
 abbrev pub turns_read : Option ℕ → Option (List ℕ) → Option TurnsFields
 turns_read (Some times) (Some order) = Some (record { times = times; order = order })
@@ -61,8 +69,7 @@ turns_read _ _ = None
 abbrev pub turns_words : List (List ℕ) → Option TurnsFields
 turns_words (name ∷ times ∷ texts) =
     if is_text (codes "turns") name
-    then turns_read (decimal_in 1 1000000 times) (one_to 16 (short_decimal_in 1 0 9) texts)
-    else None
+    then turns_read (decimal_in 1 most_times times) (process_numbers texts) else None
 turns_words _ = None
 
 -- A line behind the first, by its form.

@@ -3,9 +3,7 @@
 ghost use Rattle.std.specs.Prelude.{◌≡◌};
 ghost use Rattle.std.specs.Option.{option_map};
 ghost use Rattle.m36_text.specs.Lines.{words_of};
-ghost use Rattle.m36_text.specs.Numbers.{short_decimal_in};
-ghost use Rattle.m36_image.specs.Several.{one_to};
-ghost use Rattle.m36_procs.specs.ProcsFile.{process_words, turns_words};
+ghost use Rattle.m36_procs.specs.ProcsFile.{process_words, process_numbers, turns_words};
 
 use arrayvec::ArrayVec;
 use m36_image::forms::word_of;
@@ -30,12 +28,13 @@ pub(crate) struct Turns {
 impl Model for Turns {
     ghost use Rattle.std.specs.Prelude.{◌≤◌};
     ghost use Rattle.m36_procs.specs.ProcsFields.{TurnsFields};
+    ghost use Rattle.m36_procs.specs.ProcsFile.{most_times};
 
     ghost Value = { TurnsFields };
 
     ghost view = { λ t. record { times = t.times; order = t.order.items } };
 
-    ghost invariant = { λ t. t.times ≤ 1000000 };
+    ghost invariant = { λ t. t.times ≤ most_times };
 }
 
 /// The line `process E O S R I`: the registers of a process; none where it is not of its form.
@@ -67,7 +66,7 @@ pub(crate) fn process_line(line: &[u8]) -> Option<Regs>
 // One to sixteen numbers of one digit; none where there are more, or one is of another form.
 #[tactic(auto, using(m36_image::proofs::SeveralLaws::reading_several))]
 fn sixteen_numbers(line: &[u8]) -> Option<ArrayVec<u8, 16>>
-    ensures { option_map (λ v. v.items) result ≡ one_to 16 (short_decimal_in 1 0 9) (words_of line.now) }
+    ensures { option_map (λ v. v.items) result ≡ process_numbers (words_of line.now) }
 {
     let mut order = ArrayVec::new();
     let mut rest = line;
