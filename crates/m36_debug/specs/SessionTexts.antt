@@ -12,9 +12,15 @@ use Rattle.m36_step.specs.declared.turns.Turn.TheVariants.{Ended}
 use Rattle.m36_trace.specs.TraceLine.{word_of_segment, address_text, indicators_text}
 use Rattle.m36_turns.specs.TurnLines.{run_end_line_of, turn_pieces}
 
--- an unknown line is shown up to its 64th byte
+-- how many bytes of an unknown line are shown
+abbrev pub shown_limit : ℕ
+shown_limit = 64
+
+abbrev pub shown : List ℕ → List ℕ
+shown line = take shown_limit line
+
 unfoldable pub unknown_line : List ℕ → List ℕ
-unknown_line line = as_line (codes "? " ++ take 64 line)
+unknown_line line = as_line (codes "? " ++ shown line)
 
 -- where the machine stands: the ring of execution, and the segment and the word of the next
 -- instruction

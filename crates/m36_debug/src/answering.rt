@@ -5,6 +5,7 @@ ghost use Rattle.m36_debug.specs.Parts.{EndSays, CommandSays, BackSays, told};
 ghost use Rattle.m36_outside.specs.Putting.{PutsPieces};
 ghost use Rattle.m36_debug.specs.Putting.{seen};
 ghost use Rattle.m36_debug.specs.Session.{Waiting, Backing, standing, turning, break_says};
+ghost use Rattle.m36_debug.specs.SessionLines.{most_steps};
 ghost use Rattle.m36_debug.specs.Sitting.{sitting_with, has_taken};
 
 use crate::commands::{Command, GO_LIMIT, Run};
@@ -118,7 +119,7 @@ pub(crate) fn answer<M: Stepper, S: Sink>(
         (standing sitting.old Waiting) m.old (line.now ∷ []) sitting.new m.new
         (seen (S.written out.old) (S.taken out.old) (S.faults out.old))
         (seen (S.written out.new) (S.taken out.new) (S.faults out.new)) }
-    ensures taken { sitting.new.taken ≤ sitting.old.taken + 1000001 }
+    ensures taken { sitting.new.taken ≤ sitting.old.taken + (most_steps + 1) }
 {
     match session_line(line) {
         SessionLine::Step(left) => {

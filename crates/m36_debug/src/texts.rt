@@ -1,9 +1,9 @@
 //! Lines that tell one thing, each put to the output.
 
-ghost use Rattle.std.specs.Prelude.{ℕ, ◌≡◌, ◌≤◌, ◌<◌, ◌-◌, ◌^◌, [], ◌∷◌, length, take};
+ghost use Rattle.std.specs.Prelude.{ℕ, ◌≡◌, ◌≤◌, ◌<◌, ◌-◌, ◌^◌, [], ◌∷◌, length};
 ghost use Rattle.m36_outside.specs.Putting.{PutsPieces};
 ghost use Rattle.m36_debug.specs.Putting.{seen};
-ghost use Rattle.m36_debug.specs.SessionTexts.{where_line, break_line, seg_line, end_line, unknown_line, turn_lines};
+ghost use Rattle.m36_debug.specs.SessionTexts.{where_line, break_line, seg_line, end_line, shown_limit, shown, unknown_line, turn_lines};
 
 use crate::putting::{put_characters, put_text};
 use arrayvec::{ArrayString, ArrayVec};
@@ -81,8 +81,8 @@ pub(crate) fn put_end<S: Sink>(out: &mut S, end: End, taken: u64) -> Put
 // What is shown of an unknown line.
 #[tactic(auto, using(crate::proofs::PutLaws::shown_whole))]
 fn shown(line: &[u8]) -> &[u8]
-    ensures value { result.now ≡ take 64 line.now }
-    ensures len { length result.now ≤ 64 }
+    ensures value { result.now ≡ shown line.now }
+    ensures len { length result.now ≤ shown_limit }
 {
     if line.len() <= SHOWN {
         line

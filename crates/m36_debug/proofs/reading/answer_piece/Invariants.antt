@@ -2,6 +2,7 @@ use Rattle.std.proofs.Common.{◌+◌, ◌*◌, ◌≤◌, ◌++◌, length}
 use Rattle.m36_debug.specs.LinesTaken.{IsUnbroken}
 use Rattle.m36_debug.specs.Putting.{seen}
 use Rattle.m36_debug.specs.Session.{turning, standing, Waiting}
+use Rattle.m36_debug.specs.SessionLines.{most_steps}
 use Rattle.m36_debug.proofs.PieceLaws.{SoFar}
 use Rattle.m36_debug.proofs.reading.answer_piece.Given as goal
 
@@ -17,5 +18,5 @@ invariant-lines g l =
     record {
       told : SoFar o (standing l.fn.sitting Waiting) l.fn.m (l.fn.begun ++ l.piece) (l.begun ++ l.rest) l.sitting l.m (seen (s.written l.fn.out) (s.taken l.fn.out) (s.faults l.fn.out)) (seen (s.written l.out) (s.taken l.out) (s.faults l.out));
       unbroken : IsUnbroken l.begun;
-      count : l.sitting.taken + 1000001 * length l.rest ≤ l.fn.sitting.taken + 1000001 * length l.piece;
+      count : l.sitting.taken + (most_steps + 1) * length l.rest ≤ l.fn.sitting.taken + (most_steps + 1) * length l.piece;
     }

@@ -1,6 +1,7 @@
 use Rattle.std.proofs.Common.{◌+◌, ◌*◌, ◌≤◌}
 use Rattle.m36_debug.specs.Putting.{seen}
 use Rattle.m36_debug.specs.Session.{turning}
+use Rattle.m36_debug.specs.SessionLines.{most_steps}
 use Rattle.m36_debug.specs.SessionSays.{input, bytes_limit}
 use Rattle.m36_debug.proofs.SessionLaws.{Going}
 use Rattle.m36_debug.proofs.session.debug.Given as goal
@@ -17,5 +18,5 @@ invariant-pieces g l =
     let o = turning m.regs m.content m.next m.went in
     record {
       going : Going o l.fn.m l.m (input (i.left l.fn.lines) (i.given l.fn.lines) (i.faults l.fn.lines)) (input (i.left l.lines) (i.given l.lines) (i.faults l.lines)) (seen (s.written l.fn.out) (s.taken l.fn.out) (s.faults l.fn.out)) (seen (s.written l.out) (s.taken l.out) (s.faults l.out)) l.left l.begun l.sitting;
-      taken : l.sitting.taken + 1000001 * l.left ≤ 1000001 * bytes_limit;
+      taken : l.sitting.taken + (most_steps + 1) * l.left ≤ (most_steps + 1) * bytes_limit;
     }
