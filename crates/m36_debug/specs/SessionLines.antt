@@ -16,7 +16,7 @@ use Rattle.std.specs.Prelude.{length, Option, Some}
 use Rattle.std.specs.Prelude.{None, option_map, unwrap_or}
 use Rattle.m36_text.specs.Texts.{is_text}
 use Rattle.m36_text.specs.Lines.{words_of}
-use Rattle.m36_text.specs.Numbers.{octal_in, plain_decimal_in}
+use Rattle.m36_text.specs.Numbers.{segment_number_in, word_number_in, plain_decimal_in}
 use Rattle.m36_debug.specs.declared.session_line.SessionLine.{SessionLine}
 use Rattle.m36_debug.specs.declared.session_line.SessionLine.TheVariants.{Step, Go, Break, Regs}
 use Rattle.m36_debug.specs.declared.session_line.SessionLine.TheVariants.{Seg, Where, Back, Quit}
@@ -51,10 +51,14 @@ placed line (Some seg) (Some word) = line seg word
 placed line (Some seg) None = Unknown
 placed line None word = Unknown
 
+-- from a segment and a word
+abbrev pub placed_in : (ℕ → ℕ → SessionLine) → List ℕ → List ℕ → SessionLine
+placed_in line s w = placed line (segment_number_in s) (word_number_in w)
+
 abbrev pub three_words : List ℕ → List ℕ → List ℕ → SessionLine
 three_words word s w =
-    if is_text (codes "break") word then placed Break (octal_in 5 s) (octal_in 6 w)
-    else if is_text (codes "seg") word then placed Seg (octal_in 5 s) (octal_in 6 w)
+    if is_text (codes "break") word then placed_in Break s w
+    else if is_text (codes "seg") word then placed_in Seg s w
     else Unknown
 
 abbrev pub line_of_words : List (List ℕ) → SessionLine

@@ -1,7 +1,7 @@
 -- The lines that a session writes, each with its line feed.
 use Rattle.std.specs.Prelude.{ℕ, ◌+◌, List, [], ◌∷◌, ◌++◌, codes, take, Option, Some, None}
 use Rattle.std.specs.List.{flat_map}
-use Rattle.m36_text.specs.Digits.{octal_text}
+use Rattle.m36_text.specs.Digits.{octal_text, word_text, half_text}
 use Rattle.m36_text.specs.Lines.{as_line}
 use Rattle.m36_desc.specs.Fields.{PtrFields}
 use Rattle.m36_model.specs.Fields.{PprFields}
@@ -33,7 +33,7 @@ break_line seg word = as_line (codes "break " ++ word_of_segment seg word)
 
 -- a word of a segment, where it has a place
 abbrev pub content_text : Option ℕ → List ℕ
-content_text (Some word) = octal_text 12 word
+content_text (Some word) = word_text word
 content_text None = codes "absent"
 
 unfoldable pub seg_line : ℕ → ℕ → Option ℕ → List ℕ
@@ -45,11 +45,11 @@ seg_line seg word content =
 unfoldable pub a_line : RegsFields → List ℕ
 a_line g =
     as_line
-    (codes "a " ++ octal_text 12 g.a ++ codes " q " ++ octal_text 12 g.q ++ codes " ind "
+    (codes "a " ++ word_text g.a ++ codes " q " ++ word_text g.q ++ codes " ind "
     ++ indicators_text g.ind)
 
 abbrev pub index_text : ℕ → List ℕ
-index_text x = codes " " ++ octal_text 6 x
+index_text x = codes " " ++ half_text x
 
 unfoldable pub x_line : RegsFields → List ℕ
 x_line g = as_line (codes "x" ++ flat_map index_text g.x)

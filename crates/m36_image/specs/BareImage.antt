@@ -21,7 +21,7 @@ use Rattle.std.specs.Result.{result_err, result_unwrap_or}
 use Rattle.m36_word.specs.declared.pair.Pair.{Pair}
 use Rattle.m36_text.specs.Texts.{is_text}
 use Rattle.m36_text.specs.Lines.{lines_of, line_at, first_told, by_words}
-use Rattle.m36_text.specs.Numbers.{octal_in}
+use Rattle.m36_text.specs.Numbers.{octal_in, octal_word_in, segment_number_in, word_number_in}
 use Rattle.m36_text.specs.Reading.{number_read}
 use Rattle.m36_text.specs.declared.reading.NumberFault.{NumberFault}
 use Rattle.m36_text.specs.declared.reading.NumberFault.TheVariants.{T1, T2}
@@ -54,7 +54,7 @@ dbr_read _ _ = None
 
 -- from its two words
 abbrev pub dbr_in : List ℕ → List ℕ → Option Pair
-dbr_in even odd = dbr_read (octal_in 12 even) (octal_in 12 odd)
+dbr_in even odd = dbr_read (octal_word_in even) (octal_word_in odd)
 
 abbrev pub dbr_words : List (List ℕ) → Option Pair
 dbr_words (name ∷ even ∷ odd ∷ []) =
@@ -71,7 +71,8 @@ start_read _ _ _ = None
 
 -- from a segment, a ring and a word
 abbrev pub start_in : List ℕ → List ℕ → List ℕ → Option PprFields
-start_in seg ring word = start_read (octal_in 5 seg) (octal_in 1 ring) (octal_in 6 word)
+start_in seg ring word =
+    start_read (segment_number_in seg) (octal_in 1 ring) (word_number_in word)
 
 abbrev pub start_words : List (List ℕ) → Option PprFields
 start_words (name ∷ seg ∷ ring ∷ word ∷ []) =
@@ -86,10 +87,13 @@ abbrev pub at_read : Option ℕ → Option (List ℕ) → Option PlacedWords
 at_read (Some first) (Some words) = Some (record { first = first; words = words })
 at_read _ _ = None
 
+abbrev pub words_given : List (List ℕ) → Option (List ℕ)
+words_given texts = one_to 8 octal_word_in texts
+
 abbrev pub at_words : List (List ℕ) → Option PlacedWords
 at_words (name ∷ address ∷ texts) =
     if is_text (codes "at") name
-    then at_read (octal_in 8 address) (one_to 8 (octal_in 12) texts) else None
+    then at_read (octal_in 8 address) (words_given texts) else None
 at_words _ = None
 
 abbrev pub at_line : Option (List ℕ) → Option PlacedWords

@@ -2,7 +2,7 @@
 
 ghost use Rattle.std.specs.Prelude.{ℕ, ◌≡◌, ◌≤◌, IfOk};
 ghost use Rattle.m36_text.specs.Lines.{words_of};
-ghost use Rattle.m36_text.specs.Numbers.{octal_in};
+ghost use Rattle.m36_text.specs.Numbers.{octal_word_in};
 ghost use Rattle.m36_model.specs.Place.{frames_reached};
 ghost use Rattle.m36_image.specs.BareImage.{core_words, frames_read, dbr_words, start_words};
 
@@ -16,7 +16,7 @@ const MOST_FRAMES: u64 = 16384;
 
 /// Twelve octal digits as a word.
 pub fn word_of(text: &[u8]) -> Option<Word>
-    ensures { result ≡ octal_in 12 text.now }
+    ensures { result ≡ octal_word_in text.now }
 {
     let value = octal_in(text, 12)?;
     Some(Word::low(value))

@@ -3,9 +3,7 @@
 ghost use Rattle.std.specs.Prelude.{ℕ, ◌≡◌, ◌<◌, ◌≤◌, ◌^◌};
 ghost use Rattle.std.specs.Option.{option_map};
 ghost use Rattle.m36_text.specs.Lines.{words_of};
-ghost use Rattle.m36_text.specs.Numbers.{octal_in};
-ghost use Rattle.m36_image.specs.Several.{one_to};
-ghost use Rattle.m36_image.specs.BareImage.{at_words};
+ghost use Rattle.m36_image.specs.BareImage.{words_given, at_words};
 
 use crate::forms::word_of;
 use arrayvec::ArrayVec;
@@ -35,7 +33,7 @@ impl Model for Placed {
 // One to eight words; none where there are more, or one is not of twelve digits.
 #[tactic(auto, using(crate::proofs::SeveralLaws::reading_several))]
 fn eight_words(line: &[u8]) -> Option<ArrayVec<Word, 8>>
-    ensures { option_map (λ v. v.items) result ≡ one_to 8 (octal_in 12) (words_of line.now) }
+    ensures { option_map (λ v. v.items) result ≡ words_given (words_of line.now) }
 {
     let mut words = ArrayVec::new();
     let mut rest = line;

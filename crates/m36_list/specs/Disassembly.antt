@@ -1,7 +1,7 @@
 -- The text of an instruction's word, as the assembler would read it.
 use Rattle.std.specs.Prelude.{ℕ, ◌-◌, ◌^◌, nat_lt, List, [], ◌∷◌, ◌++◌, Option, Some, None}
 use Rattle.std.specs.Prelude.{codes, if◌then◌else◌}
-use Rattle.m36_text.specs.Digits.{character, octal_text, decimal_text}
+use Rattle.m36_text.specs.Digits.{character, decimal_text, word_text}
 use Rattle.m36_inst.specs.Fields.{InstFields}
 use Rattle.m36_inst.specs.Instruction.{inst_of, pr_number, offset_field}
 use Rattle.m36_inst.specs.Lookup.{name_at}
@@ -23,7 +23,7 @@ address_text i =
 
 -- a word that is no instruction with a text of its own
 abbrev pub octal_constant : ℕ → List ℕ
-octal_constant w = codes "oct " ++ octal_text 12 w
+octal_constant w = codes "oct " ++ word_text w
 
 -- with the name, a blank, the address and the modifier, where there are a name and a modifier
 abbrev pub by_parts : ℕ → InstFields → Option (List ℕ) → Option (List ℕ) → List ℕ

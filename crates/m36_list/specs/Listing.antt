@@ -1,7 +1,7 @@
 -- The listing of a source: a line for each word that the source places, and then the print of the
 -- object.
 use Rattle.std.specs.Prelude.{ℕ, ◌+◌, List, [], ◌∷◌, ◌++◌, length, take, drop, if◌then◌else◌}
-use Rattle.m36_text.specs.Digits.{octal_text, decimal_text}
+use Rattle.m36_text.specs.Digits.{decimal_text, word_text, half_text}
 use Rattle.alm_parse.specs.declared.line.Line36.{Line36}
 use Rattle.alm_parse.specs.SourceFields.{Source}
 use Rattle.obj36_parts.specs.declared.section.Section.{Section}
@@ -18,7 +18,7 @@ use Rattle.m36_list.specs.Print.{line, print_of}
 -- decimal.
 unfoldable pub placed_line : List ℕ → ℕ → ℕ → ℕ → List ℕ
 placed_line name number at w =
-    line (name ∷ octal_text 6 at ∷ octal_text 12 w ∷ decimal_text number ∷ [])
+    line (name ∷ half_text at ∷ word_text w ∷ decimal_text number ∷ [])
 
 -- the words that one line of the source places, from a place on
 unfoldable pub placed_lines : List ℕ → ℕ → ℕ → List ℕ → List ℕ

@@ -2,7 +2,7 @@
 -- where nothing else is said.
 use Rattle.std.specs.Prelude.{ℕ, ◌+◌, List, [], ◌∷◌, ◌++◌, length, codes, if◌then◌else◌}
 use Rattle.std.specs.List.{flat_map}
-use Rattle.m36_text.specs.Digits.{octal_text, decimal_text}
+use Rattle.m36_text.specs.Digits.{octal_text, decimal_text, word_text, half_text}
 use Rattle.m36_text.specs.Lines.{as_line, joined_by_spaces}
 use Rattle.obj36_parts.specs.Fields.{LinkFields}
 use Rattle.obj36_parts.specs.PartsFields.{PartsFields}
@@ -32,7 +32,7 @@ section_text Static = codes "static"
 
 -- where a section begins, and how many words it has
 abbrev pub section_line : List ℕ → ℕ → ℕ → List ℕ
-section_line name at len = line (name ∷ octal_text 6 at ∷ octal_text 6 len ∷ [])
+section_line name at len = line (name ∷ half_text at ∷ half_text len ∷ [])
 
 -- where the sections begin
 abbrev pub linkage_at : PartsFields → ℕ
@@ -53,7 +53,7 @@ static_line p =
     if is_newer p then section_line (section_text Static) (statics_at p) (length p.statics) else []
 
 abbrev pub value_line : List ℕ → ℕ → List ℕ
-value_line name v = line (name ∷ octal_text 6 v ∷ [])
+value_line name v = line (name ∷ half_text v ∷ [])
 
 unfoldable pub section_lines : PartsFields → List ℕ
 section_lines p =
@@ -67,7 +67,7 @@ section_lines p =
 -- a definition: its name, the section of its class and its value, and that it is an entry
 abbrev pub definition_fields : Named → List (List ℕ)
 definition_fields d =
-    codes "def" ∷ d.name ∷ section_text d.def.section ∷ octal_text 6 d.def.value ∷ []
+    codes "def" ∷ d.name ∷ section_text d.def.section ∷ half_text d.def.value ∷ []
 
 unfoldable pub definition_line : Named → List ℕ
 definition_line d =
@@ -78,7 +78,7 @@ definition_line d =
 unfoldable pub link_line : ℕ → LinkFields → List ℕ
 link_line at l =
     line
-    (codes "link" ∷ octal_text 6 at ∷ reference_text l ∷ octal_text 6 l.expr
+    (codes "link" ∷ half_text at ∷ reference_text l ∷ half_text l.expr
     ∷ octal_text 2 l.modifier ∷ [])
 
 -- links from an offset on, of two words each
@@ -88,7 +88,7 @@ link_lines at (l ∷ ls) = link_line at l ++ link_lines (at + 2) ls
 
 -- a word of the text at an offset, and its disassembly
 unfoldable pub word_line : ℕ → ℕ → List ℕ
-word_line at w = line (octal_text 6 at ∷ octal_text 12 w ∷ disassembly w ∷ [])
+word_line at w = line (half_text at ∷ word_text w ∷ disassembly w ∷ [])
 
 unfoldable pub word_lines : ℕ → List ℕ → List ℕ
 word_lines at [] = []

@@ -1,7 +1,7 @@
 //! Lines of fields, put at the end of a text.
 
 ghost use Rattle.std.specs.Prelude.{[], ◌∷◌, ◌++◌, ◌≡◌, ◌^◌, ◌<◌, OnOk};
-ghost use Rattle.m36_text.specs.Digits.{octal_text};
+ghost use Rattle.m36_text.specs.Digits.{half_text};
 ghost use Rattle.m36_text.specs.Lines.{as_line};
 
 use m36_outside::Text;
@@ -27,7 +27,7 @@ pub fn put_last(text: &mut Text, field: &[u8]) -> Result<(), NoMemory>
 /// Puts a number of six octal digits as a field that others follow.
 pub fn put_number(text: &mut Text, v: u64) -> Result<(), NoMemory>
     requires { v < 2 ^ 18 }
-    ensures { OnOk result (text.new ≡ text.old ++ (octal_text 6 v ++ 32 ∷ [])) }
+    ensures { OnOk result (text.new ≡ text.old ++ (half_text v ++ 32 ∷ [])) }
 {
     put_field(text, octal(v, 6).as_str().as_bytes())
 }
@@ -35,7 +35,7 @@ pub fn put_number(text: &mut Text, v: u64) -> Result<(), NoMemory>
 /// Puts a number of six octal digits as the last field of a line.
 pub fn put_last_number(text: &mut Text, v: u64) -> Result<(), NoMemory>
     requires { v < 2 ^ 18 }
-    ensures { OnOk result (text.new ≡ text.old ++ as_line (octal_text 6 v)) }
+    ensures { OnOk result (text.new ≡ text.old ++ as_line (half_text v)) }
 {
     put_last(text, octal(v, 6).as_str().as_bytes())
 }

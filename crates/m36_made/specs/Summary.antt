@@ -2,7 +2,7 @@
 -- core finds, and, where nothing is found, how the run ended and what it left in X1.
 use Rattle.std.specs.Prelude.{ℕ, Bool, List, [], ◌∷◌, ◌++◌, codes, slice_index}
 use Rattle.std.specs.Prelude.{Option, Some, None, length}
-use Rattle.m36_text.specs.Digits.{octal_text, decimal_text}
+use Rattle.m36_text.specs.Digits.{decimal_text, half_text}
 use Rattle.m36_text.specs.Lines.{as_line}
 use Rattle.m36_model.specs.Audit.{AreFindings}
 use Rattle.m36_model.specs.BootedCore.{booted_dbr}
@@ -34,7 +34,7 @@ head_line count = as_line (segments_line count)
 
 -- as in `x1 130532`
 unfoldable pub sum_line : RegsFields → List ℕ
-sum_line regs = codes "x1 " ++ octal_text 6 (slice_index regs.x 1)
+sum_line regs = codes "x1 " ++ half_text (slice_index regs.x 1)
 
 -- those before the run
 abbrev pub head_pieces : ℕ → List (ℕ × ℕ) → List (List ℕ)

@@ -27,6 +27,23 @@ digit_of c = c - zero_character
 unfoldable pub octal_text : ℕ → ℕ → List ℕ
 octal_text places v = map character (digits 8 places v)
 
+-- how many octal digits a word has, how many a half of it, and how many the number of a segment
+abbrev pub word_digits : ℕ
+word_digits = 12
+
+abbrev pub half_digits : ℕ
+half_digits = 6
+
+abbrev pub segment_digits : ℕ
+segment_digits = 5
+
+-- a word in octal, and a half of one or another number of 18 bits
+abbrev pub word_text : ℕ → List ℕ
+word_text w = octal_text word_digits w
+
+abbrev pub half_text : ℕ → List ℕ
+half_text h = octal_text half_digits h
+
 -- a number in decimal, without leading zeros; the number zero is one digit
 unfoldable pub decimal_text : ℕ → List ℕ
 decimal_text zero = character 0 ∷ []

@@ -1,7 +1,7 @@
 -- The trace line of a step: its fields in order, parted by one space.
 use Rattle.std.specs.Prelude.{ℕ, Bool, List, [], ◌∷◌, ◌++◌, Option, Some, None, codes}
 use Rattle.std.specs.Prelude.{if◌then◌else◌, ◌==◌}
-use Rattle.m36_text.specs.Digits.{octal_text, decimal_text}
+use Rattle.m36_text.specs.Digits.{octal_text, decimal_text, segment_digits, word_text, half_text}
 use Rattle.m36_text.specs.Lines.{joined_by_spaces}
 use Rattle.m36_model.specs.Faults.{access_violation}
 use Rattle.m36_model.specs.Fields.{AtFields, FinalFields}
@@ -15,11 +15,11 @@ use Rattle.m36_model.specs.declared.record.StepRecord.{StepRecord}
 
 -- a segment and a word of it
 abbrev pub word_of_segment : ℕ → ℕ → List ℕ
-word_of_segment seg word = octal_text 5 seg ++ codes "|" ++ octal_text 6 word
+word_of_segment seg word = octal_text segment_digits seg ++ codes "|" ++ half_text word
 
 -- the instruction's word, or a dash where the fetch failed
 abbrev pub instruction_text : Option ℕ → List ℕ
-instruction_text (Some word) = octal_text 12 word
+instruction_text (Some word) = word_text word
 instruction_text None = codes "-"
 
 -- the ring and the address
@@ -28,7 +28,7 @@ address_text at = octal_text 1 at.ring ++ codes ":" ++ word_of_segment at.seg at
 
 -- an address, or the operand that the address itself is
 abbrev pub operand_text : AtFields → Option ℕ → List ℕ
-operand_text at (Some word) = codes "=" ++ octal_text 12 word
+operand_text at (Some word) = codes "=" ++ word_text word
 operand_text at None = address_text at
 
 -- the final address, or a dash where none was formed
@@ -71,8 +71,8 @@ fields n r =
     ∷ word_of_segment r.ppr.psr r.ppr.ic
     ∷ instruction_text r.word
     ∷ final_text r.at
-    ∷ octal_text 12 r.after.a
-    ∷ octal_text 12 r.after.q
+    ∷ word_text r.after.a
+    ∷ word_text r.after.q
     ∷ indicators_text r.after.ind
     ∷ outcome_text r.outcome
     ∷ []

@@ -3,7 +3,7 @@
 //! They are written out digit by digit, since a line has about fifty of them and is made for every step.
 
 ghost use Rattle.std.specs.Prelude.{◌≡◌, ◌+◌, ◌≤◌, ◌<◌, ◌%◌, ◌^◌, ◌++◌, length, IsAscii};
-ghost use Rattle.m36_text.specs.Digits.{octal_text};
+ghost use Rattle.m36_text.specs.Digits.{octal_text, word_text};
 ghost use Rattle.m36_trace.specs.TraceLine.{word_of_segment};
 
 use arrayvec::ArrayString;
@@ -30,7 +30,7 @@ pub fn ring_digit(ring: u8) -> [u8; 1]
 /// A word in twelve digits.
 #[tactic(auto, unfolding(m36_text::specs::Digits::octal_text, m36_text::specs::Digits::digits))]
 pub fn word_digits(word: Word) -> [u8; 12]
-    ensures { result ≡ octal_text 12 word }
+    ensures { result ≡ word_text word }
 {
     let v = word.value();
     [

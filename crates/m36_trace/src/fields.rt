@@ -1,7 +1,7 @@
 //! The fields of a trace line, each put at the end of a line that has room for it.
 
 ghost use Rattle.std.specs.Prelude.{◌≡◌, ◌+◌, ◌≤◌, ◌<◌, ◌^◌, ◌++◌, length};
-ghost use Rattle.m36_text.specs.Digits.{octal_text, decimal_text};
+ghost use Rattle.m36_text.specs.Digits.{octal_text, decimal_text, word_text};
 ghost use Rattle.m36_trace.specs.TraceLine.{word_of_segment, instruction_text, address_text};
 ghost use Rattle.m36_trace.specs.TraceLine.{operand_text, final_text, letter, indicators_text, fault_text};
 ghost use Rattle.m36_trace.specs.TraceLine.{stop_text, outcome_text};
@@ -30,7 +30,7 @@ pub fn put_ring<const CAP: usize>(line: &mut ArrayString<CAP>, ring: u8)
 #[tactic(auto, using(m36_text::proofs::DigitLaws::octal_ascii))]
 pub fn put_word(line: &mut ArrayString<160>, word: Word)
     requires room { length line.old.bytes + 12 ≤ 160 }
-    ensures text { line.new.bytes ≡ line.old.bytes ++ octal_text 12 word }
+    ensures text { line.new.bytes ≡ line.old.bytes ++ word_text word }
     ensures len { length line.new.bytes ≡ length line.old.bytes + 12 }
 {
     put_characters(line, &word_digits(word));

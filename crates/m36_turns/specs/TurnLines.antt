@@ -4,7 +4,7 @@ use Rattle.std.specs.Prelude.{ℕ, ◌+◌, Bool, ◌||◌, nat_le, nat_eq, if�
 use Rattle.std.specs.Prelude.{◌++◌, codes, Result, Ok, Err}
 use Rattle.std.specs.List.{flat_map}
 use Rattle.m36_word.specs.declared.pair.Pair.{Pair}
-use Rattle.m36_text.specs.Digits.{octal_text}
+use Rattle.m36_text.specs.Digits.{octal_text, word_text}
 use Rattle.m36_text.specs.Lines.{as_line, joined_by_spaces}
 use Rattle.m36_model.specs.declared.endings.End.{End}
 use Rattle.m36_model.specs.declared.endings.End.TheVariants as end
@@ -29,7 +29,7 @@ link_code_text (L5 code) = codes "L5"
 link_code_text (L6 place count) = codes "L6"
 
 abbrev pub pair_text : Pair → List ℕ
-pair_text p = octal_text 12 p.even ++ codes " " ++ octal_text 12 p.odd
+pair_text p = word_text p.even ++ codes " " ++ word_text p.odd
 
 abbrev pub link_answer_text : Result Pair LinkCode → List ℕ
 link_answer_text (Ok pair) = pair_text pair

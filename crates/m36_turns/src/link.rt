@@ -1,7 +1,7 @@
 //! The line of a link service.
 
 ghost use Rattle.std.specs.Prelude.{◌≡◌, ◌+◌, ◌≤◌, ◌<◌, ◌^◌, ◌++◌, length};
-ghost use Rattle.m36_text.specs.Digits.{octal_text};
+ghost use Rattle.m36_text.specs.Digits.{word_text};
 ghost use Rattle.m36_trace.specs.TraceLine.{word_of_segment};
 ghost use Rattle.m36_turns.specs.TurnLines.{link_code_text, pair_text, link_answer_text, link_line_of};
 
@@ -40,7 +40,7 @@ fn put_place(line: &mut ArrayVec<u8, 160>, at: At)
 
 fn put_word(line: &mut ArrayVec<u8, 160>, word: Word)
     requires { length line.old.items + 12 ≤ 160 }
-    ensures text { line.new.items ≡ line.old.items ++ octal_text 12 word }
+    ensures text { line.new.items ≡ line.old.items ++ word_text word }
     ensures len { length line.new.items ≡ length line.old.items + 12 }
 {
     put(line, octal(word.value(), 12).as_str().as_bytes());
