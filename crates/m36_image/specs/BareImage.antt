@@ -121,6 +121,10 @@ at_codes size earlier [] = []
 at_codes size earlier (line ∷ lines) =
     at_code size earlier (at_line line) ∷ at_codes size (earlier ++ addresses (at_line line)) lines
 
+-- how many lines stand before the `at` lines
+abbrev pub header_count : ℕ
+header_count = 3
+
 -- the code of each line, in order; a file has three lines at least
 abbrev pub form_code : {A : Type 0} → Option A → Option ImageCode
 form_code (Some value) = None
@@ -137,7 +141,8 @@ header_codes lines =
     ∷ []
 
 abbrev pub line_codes : List (Option (List ℕ)) → List (Option ImageCode)
-line_codes lines = header_codes lines ++ at_codes (1024 * frames_of lines) [] (drop 3 lines)
+line_codes lines =
+    header_codes lines ++ at_codes (1024 * frames_of lines) [] (drop header_count lines)
 
 -- What an image says.
 pub record Image : Type 0 where
@@ -153,7 +158,7 @@ image_in lines =
       frames = frames_of lines;
       dbr = unwrap_or (dbr_line (line_at lines 2)) (record { even = 0; odd = 0 });
       start = unwrap_or (start_line (line_at lines 3)) (record { psr = 0; prr = 0; ic = 0 });
-      placed = filter_map at_line (drop 3 lines);
+      placed = filter_map at_line (drop header_count lines);
     }
 
 abbrev pub refusal_of : ℕ × ImageCode → Refusal

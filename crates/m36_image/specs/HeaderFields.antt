@@ -4,7 +4,7 @@ use Rattle.std.specs.Borrow.{Bor}
 use Rattle.m36_image.specs.declared.refusal.Refusal.{Refusal}
 use Rattle.m36_image.specs.declared.header.Header.{Header}
 use Rattle.m36_text.specs.Lines.{lines_of, line_at, first_told}
-use Rattle.m36_image.specs.BareImage.{core_line, dbr_line, start_line, header_codes}
+use Rattle.m36_image.specs.BareImage.{core_line, dbr_line, start_line, header_count, header_codes}
 
 -- what a header and the text behind it tell of the lines of their file
 pub record IsHeader (header : Header) (rest : List ℕ)
@@ -12,7 +12,7 @@ pub record IsHeader (header : Header) (rest : List ℕ)
   pub frames : core_line (line_at lines 1) ≡ Ok header.frames
   pub dbr : dbr_line (line_at lines 2) ≡ Some header.dbr
   pub start : start_line (line_at lines 3) ≡ Some header.start
-  pub others : drop 3 lines ≡ lines_of rest
+  pub others : drop header_count lines ≡ lines_of rest
 
 -- What reading the header answers: what the lines say, or the first of them with a fault.
 abbrev pub HeaderSays : Result (Header × Bor (List ℕ)) Refusal → List (Option (List ℕ)) → Type 0

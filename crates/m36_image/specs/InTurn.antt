@@ -1,12 +1,12 @@
 -- A bare image as it is read, line after line. That this comes to what the image is, is proved.
-use Rattle.std.specs.Prelude.{ℕ, ◌≡◌, nat_le, List, [], length, Option, Some, None}
+use Rattle.std.specs.Prelude.{ℕ, ◌≡◌, ◌+◌, nat_le, List, [], length, Option, Some, None}
 use Rattle.std.specs.Prelude.{Result, Ok, Err}
 use Rattle.std.specs.List.{filter_map}
 use Rattle.m36_image.specs.declared.refusal.ImageCode.{ImageCode}
 use Rattle.m36_image.specs.declared.refusal.Refusal.{Refusal}
 use Rattle.m36_text.specs.Lines.{first_told}
 use Rattle.m36_image.specs.PlacedWords.{PlacedWords}
-use Rattle.m36_image.specs.BareImage.{at_line, at_by, at_codes}
+use Rattle.m36_image.specs.BareImage.{at_line, at_by, at_codes, header_count}
 use Rattle.m36_image.specs.ImageState.{written_at, written_all}
 
 -- An `at` line, where no address below `next` may be written again: its code, or the address behind
@@ -24,7 +24,8 @@ with_placed core (Some p) = written_at core p.first p.words
 abbrev pub AtLinesSay : Result (Unit {0}) Refusal → List ℕ → List ℕ → List (Option (List ℕ))
     → Type 0
 AtLinesSay (Ok done) old new lines =
-    (first_told 4 (at_codes (length old) [] lines) ≡ None)
+    (first_told (header_count + 1) (at_codes (length old) [] lines) ≡ None)
     × (new ≡ written_all old (filter_map at_line lines))
 AtLinesSay (Err refusal) old new lines =
-    first_told 4 (at_codes (length old) [] lines) ≡ Some (refusal.line, refusal.code)
+    first_told (header_count + 1) (at_codes (length old) [] lines)
+    ≡ Some (refusal.line, refusal.code)
