@@ -1,25 +1,27 @@
 //! The files of the segments of a catalog.
 
-ghost use Rattle.std.specs.Prelude.{ℕ, ◌≡◌, ◌≤◌, ◌^◌, [], ◌∷◌, ◌++◌, length, OnOk, OnErr};
+ghost use Rattle.std.specs.Prelude.{ℕ, ◌≡◌, ◌≤◌, [], ◌∷◌, ◌++◌, length, OnOk, OnErr};
+ghost use Rattle.obj36_parts.specs.ObjectSegment.{segment_limit};
 
 use m36_word::{NoMemory, Words};
 use std::alloc::Global;
 use std::marker::Model;
 
-/// The words of files, each of at most 2^18, in the order in which they were read.
+/// The words of files, each of no more than a segment may have, in the order in which they were read.
 #[derive(Drop)]
 pub struct SegmentFiles {
     pub(crate) items: Vec<Words>,
 }
 
 impl Model for SegmentFiles {
-    ghost use Rattle.std.specs.Prelude.{ℕ, List, All, ◌≤◌, ◌^◌, length};
+    ghost use Rattle.std.specs.Prelude.{ℕ, List, All, ◌≤◌, length};
+    ghost use Rattle.obj36_parts.specs.ObjectSegment.{segment_limit};
 
     ghost Value = { List (List ℕ) };
 
     ghost view = { λ f. f.items.items };
 
-    ghost invariant = { λ f. All (λ w. length w ≤ 2 ^ 18) f.items.items };
+    ghost invariant = { λ f. All (λ w. length w ≤ segment_limit) f.items.items };
 }
 
 impl SegmentFiles {
@@ -34,7 +36,7 @@ impl SegmentFiles {
 
     /// Adds the words of a file at the end. Where no memory is found, nothing changes.
     pub fn push(&mut self, words: Words) -> Result<(), NoMemory>
-        requires { length words ≤ 2 ^ 18 }
+        requires { length words ≤ segment_limit }
         ensures ok { OnOk result (self.new ≡ self.old ++ words ∷ []) }
         ensures err { OnErr result (self.new ≡ self.old) }
     {

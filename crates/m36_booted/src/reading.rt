@@ -1,6 +1,7 @@
 //! The boot text of a folder and the files of its segments, and the system that they boot to.
 
-ghost use Rattle.std.specs.Prelude.{ℕ, ◌≡◌, ◌≤◌, ◌+◌, ◌^◌, List, [], ◌∷◌, ◌++◌, Ok, length, IfOk};
+ghost use Rattle.std.specs.Prelude.{ℕ, ◌≡◌, ◌≤◌, ◌+◌, List, [], ◌∷◌, ◌++◌, Ok, length, IfOk};
+ghost use Rattle.obj36_parts.specs.ObjectSegment.{segment_limit};
 ghost use Rattle.m36_reading.specs.Reading.{Early};
 ghost use Rattle.m36_reading.specs.Asking.{Gives, Refuses};
 ghost use Rattle.m36_reading.specs.Outside.{folder_of};
@@ -33,7 +34,7 @@ pub struct BootedFolder {
 
 // The files, and one more.
 fn with_file(mut files: SegmentFiles, words: Words) -> Result<SegmentFiles, Refusal>
-    requires { length words ≤ 2 ^ 18 }
+    requires { length words ≤ segment_limit }
     ensures gives { Gives result
         (let more : Early (List (List ℕ)) = Ok (files ++ words ∷ []) in more) }
     ensures more { IfOk result (λ more. more ≡ files ++ words ∷ []) }

@@ -1,6 +1,7 @@
 //! Link services.
 
 ghost use Rattle.std.specs.Prelude.{◌≡◌, ◌≤◌, ◌<◌, ◌+◌, ◌^◌, ◌⊎◌, length, IfSome, option_copied, ◌∷◌, [], Bool, Ok, Err, Some};
+ghost use Rattle.obj36_parts.specs.ObjectSegment.{segment_limit};
 ghost use Rattle.m36_link.specs.Known.{linkage_segment};
 ghost use Rattle.m36_link.specs.Snap.{snap_of};
 ghost use Rattle.m36_link.specs.Accepted.{accepted, MayBeLaid};
@@ -40,7 +41,7 @@ fn write_word(core: &mut Core, pager: &mut Pager, ring: u8, word: u32, w: Word)
 fn write_words(core: &mut Core, pager: &mut Pager, ring: u8, word: u32, words: &[Word])
     requires managed { IsManaged (length pager.old.holders) core.old pager.old }
     requires ring { ring < 8 }
-    requires fits { word + length words.now ≤ 2 ^ 18 }
+    requires fits { word + length words.now ≤ segment_limit }
     ensures { ArePut core.old pager.old core.new pager.new
         (written_from (linkage_segment ring) word words.now) }
 {
@@ -55,7 +56,7 @@ fn write_words(core: &mut Core, pager: &mut Pager, ring: u8, word: u32, words: &
 #[tactic(auto, using(crate::proofs::LinkTurns::put_section))]
 fn write_section(core: &mut Core, pager: &mut Pager, lay: &Lay)
     requires managed { IsManaged (length pager.old.holders) core.old pager.old }
-    requires fits { lay.now.base + length lay.now.words ≤ 2 ^ 18 }
+    requires fits { lay.now.base + length lay.now.words ≤ segment_limit }
     ensures { ArePut core.old pager.old core.new pager.new (laying (Some lay.now)) }
 {
     write_words(core, pager, lay.ring, lay.base, lay.words.slice());
@@ -66,7 +67,7 @@ fn write_section(core: &mut Core, pager: &mut Pager, lay: &Lay)
 #[tactic(auto, using(crate::proofs::LinkTurns::put_nothing))]
 fn write_lay(core: &mut Core, pager: &mut Pager, lay: &Option<Lay>)
     requires managed { IsManaged (length pager.old.holders) core.old pager.old }
-    requires fits { IfSome lay.now (λ l. l.base + length l.words ≤ 2 ^ 18) }
+    requires fits { IfSome lay.now (λ l. l.base + length l.words ≤ segment_limit) }
     ensures { ArePut core.old pager.old core.new pager.new (laying lay.now) }
 {
     match lay {
@@ -81,7 +82,7 @@ fn write_changes(core: &mut Core, pager: &mut Pager, at: At, snap: &Snap)
     requires managed { IsManaged (length pager.old.holders) core.old pager.old }
     requires seg { at.seg ≡ linkage_segment at.ring }
     requires even { at.word + 1 < 2 ^ 18 }
-    requires fits { IfSome snap.now.lay (λ l. l.base + length l.words ≤ 2 ^ 18) }
+    requires fits { IfSome snap.now.lay (λ l. l.base + length l.words ≤ segment_limit) }
     ensures { ArePut core.old pager.old core.new pager.new (link_changes at snap.now) }
 {
     write_words(
