@@ -52,6 +52,10 @@ console_limit = 256
 abbrev pub is_too_much : RegsFields → Bool
 is_too_much g = nat_lt console_limit g.a
 
+-- how many words have so many characters, four in each
+abbrev pub console_word_limit : ℕ
+console_word_limit = console_limit / 4
+
 -- a character below octal 200 is written as that byte, and any other as ?
 abbrev pub written_character : ℕ → ℕ
 written_character c = if nat_lt c 128 then c else 63

@@ -7,7 +7,7 @@ ghost use Rattle.m36_model.specs.Place.{core_sdw};
 ghost use Rattle.m36_model.specs.BootedCore.{booted_dbr};
 ghost use Rattle.m36_link.specs.Fields.{KnownFields};
 ghost use Rattle.m36_super.specs.BootedRun.{IsConsoleTurn};
-ghost use Rattle.m36_super.specs.Services.{is_too_much, written_character, characters_of};
+ghost use Rattle.m36_super.specs.Services.{console_limit, console_word_limit, is_too_much, written_character, characters_of};
 ghost use Rattle.m36_super.specs.Services.{console_at, console_words, console_text};
 ghost use Rattle.m36_super.specs.SuperFields.{run_of, IsManaged, IsRunning};
 ghost use Rattle.m36_super.specs.Writing.{flat_by};
@@ -96,7 +96,7 @@ fn written(character: u64) -> u8
 // Puts the four characters of a word.
 #[tactic(auto, unfolding(crate::specs::Services::characters_of, obj36_parts::specs::Halves::quarter))]
 fn put_characters(text: &mut ArrayVec<u8, 256>, word: Word)
-    requires { length text.old.items + 4 ≤ 256 }
+    requires { length text.old.items + 4 ≤ console_limit }
     ensures { text.new.items ≡ text.old.items ++ characters_of word }
 {
     let v = word.value();
@@ -114,7 +114,7 @@ fn put_characters(text: &mut ArrayVec<u8, 256>, word: Word)
 
 // The place of a word of the text.
 fn place(regs: &Regs, k: u32) -> At
-    requires { k ≤ 64 }
+    requires { k ≤ console_word_limit }
     ensures { result ≡ console_at regs.now k }
 {
     let pointer = regs.pointer(TEXT);
@@ -135,7 +135,7 @@ fn text_words(
 ) -> Result<ArrayVec<u8, 256>, Fault>
     requires managed { IsManaged (length pager.now.holders) core.now pager.now }
     requires dbr { regs.now.dbr ≡ booted_dbr }
-    requires count { count ≤ 64 }
+    requires count { count ≤ console_word_limit }
     ensures { MatchResult result
         (λ t. console_words regs.now (flat_by core.now pager.now) 0 count ≡ Ok t.items)
         (λ f. console_words regs.now (flat_by core.now pager.now) 0 count ≡ Err f) }
@@ -161,7 +161,7 @@ fn text(core: &Core, pager: &Pager, regs: &Regs, count: u32) -> Result<ConsoleNo
     requires managed { IsManaged (length pager.now.holders) core.now pager.now }
     requires dbr { regs.now.dbr ≡ booted_dbr }
     requires count { count ≡ regs.now.a }
-    requires most { count ≤ 256 }
+    requires most { count ≤ console_limit }
     ensures { MatchResult result
         (λ note. console_text regs.now (flat_by core.now pager.now) ≡ Ok note)
         (λ f. console_text regs.now (flat_by core.now pager.now) ≡ Err f) }
