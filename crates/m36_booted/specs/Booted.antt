@@ -9,7 +9,7 @@ use Rattle.m36_super.specs.SuperFields.{SuperFields, booted_of}
 use Rattle.m36_super.specs.BootSays.{IsBooted}
 use Rattle.m36_reading.specs.Answers.{Answer}
 use Rattle.m36_reading.specs.Outside.{Outside, IsIdle}
-use Rattle.m36_reading.specs.Doing.{Kind, IsWhole, fails_never}
+use Rattle.m36_reading.specs.Doing.{Kind, IsWrittenBy, fails_never}
 use Rattle.m36_ran.specs.Ran.{is_run, behind, audit_answer}
 use Rattle.m36_booted.specs.declared.command.FolderCommand.{FolderCommand}
 use Rattle.m36_booted.specs.declared.command.FolderCommand.TheVariants.{Audit, Run, Trace}
@@ -64,11 +64,8 @@ pub record IsFolderAnswer
   pub answer : IsAnswerOf command extent given.denied given.lib (booted_of system) findings due
 
 -- Memory was wanted by a link service, and the run up to it is written whole.
-pub record IsStarvedRun
-    (command : FolderCommand) (given : FolderFields) (old new : Outside) : Type 0 where
-  pub due : Answer
-  pub is : IsFolderAnswer Starved command given due
-  pub whole : IsWhole due old new
+abbrev pub IsStarvedRun : FolderCommand → FolderFields → Outside → Outside → Type 0
+IsStarvedRun command given old new = IsWrittenBy (IsFolderAnswer Starved command given) old new
 
 -- Memory is wanted before anything is written, or by a link service.
 abbrev pub FolderWants : FolderCommand → FolderFields → Outside → Outside → Type 0

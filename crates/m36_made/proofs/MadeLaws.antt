@@ -115,7 +115,7 @@ told_passes extent sets told rest is says =
     subst PassesBy (sym is.boots)
     (summary_passes extent is.given told rest is.is (says ∙ ap (λ g. (head_by g ++ yes_line) ++ rest) is.boots))
 
-pub yes_told :
+yes_told :
     (extent : Extent) (sets : List Set) (told : Answer) (rest : List ℕ)
     → IsToldIn sets extent told → told.text ≡ (head_of sets ++ yes_line) ++ rest → PassesMade sets
 yes_told Whole sets told rest is says = due_by_passes (boots_from sets) told rest is says

@@ -109,9 +109,9 @@ ends_told sets ends.Starved result f f' s s' set unread (inr p) = inr (record {
   given = sets;
   came = refl;
   wants = inr (inr (record {
-    told = p.due;
-    is = p.is;
-    so_far = record { set = set; put = record { text = p.whole.text; pieces = p.whole.pieces; faults = p.whole.faults } };
+    due = behind_files sets p.due;
+    is = record { told = p.due; is = p.is; answer = refl };
+    whole = record { set = set; put = record { text = p.whole.text; pieces = p.whole.pieces; faults = p.whole.faults } };
   }));
   read_faults = unread;
 })

@@ -6,7 +6,7 @@ use Rattle.m36_reading.specs.declared.status.Status.TheVariants as status
 use Rattle.m36_reading.specs.Reading.{Early, outcome_in}
 use Rattle.m36_reading.specs.Answers.{Answer, unwritten, IsDueBy}
 use Rattle.m36_reading.specs.Outside.{Outside}
-use Rattle.m36_reading.specs.Doing.{Kind, IsWhole, fails_never}
+use Rattle.m36_reading.specs.Doing.{Kind, IsWhole, IsWrittenBy, fails_never}
 use Rattle.m36_told.specs.Told.{ToldWants}
 use Rattle.m36_booted.specs.Folder.{FolderFields, folder_reads}
 use Rattle.m36_booted.specs.Promise.{PassesBooted}
@@ -53,19 +53,13 @@ IsMadeBegun sets due = IsMadeAnswer Begun sets due ⊎ (due ≡ files_alone sets
 
 -- ---- want of memory
 
--- All files are written, and this is put.
-abbrev pub IsToldSoFar : List Set → Answer → Outside → Outside → Type 0
-IsToldSoFar sets told old new = IsWhole (behind_files sets told) old new
-
--- Behind the files, and before a step is taken, nothing is put.
+-- All files are written, and behind them, before a step is taken, nothing is put.
 abbrev pub IsUntold : List Set → Outside → Outside → Type 0
-IsUntold sets old new = IsToldSoFar sets (unwritten status.NoMemory) old new
+IsUntold sets old new = IsWhole (behind_files sets (unwritten status.NoMemory)) old new
 
--- A link service of the run wants memory, and what goes before the run is put.
-pub record IsStarvedRun (sets : List Set) (old new : Outside) : Type 0 where
-  pub told : Answer
-  pub is : IsToldIn sets Starved told
-  pub so_far : IsToldSoFar sets told old new
+-- A link service of the run wants memory, and what goes before the run is put behind all files.
+abbrev pub IsStarvedRun : List Set → Outside → Outside → Type 0
+IsStarvedRun sets old new = IsWrittenBy (IsMadeAnswer Starved sets) old new
 
 -- Memory is wanted for the writing of a file; or behind the files; or in the run.
 abbrev pub MadeWants : List Set → Outside → Outside → Type 0

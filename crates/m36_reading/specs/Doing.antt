@@ -57,6 +57,12 @@ pub record IsWhole (due : Answer) (old new : Outside) : Type 0 where
   pub set : AllSet due.sets old.folder new.folder
   pub put : IsPutWhole due old.sink new.sink
 
+-- An answer that is so is written whole.
+pub record IsWrittenBy (Is : Answer → Type 0) (old new : Outside) : Type 0 where
+  pub due : Answer
+  pub is : Is due
+  pub whole : IsWhole due old new
+
 -- The status is the one that is due, and all else of the answer is written and put.
 pub record IsMade (due : Answer) (result : Status) (old new : Outside) : Type 0 where
   pub status : due.status ≡ result

@@ -209,7 +209,7 @@ wants_stand talk (ImageSession state) old new w = session_stands (HoldsImage tal
 wants_stand talk (FolderSession given) old new w = session_stands (HoldsFolder talk given.lib) talk old new w
 wants_stand talk (Made sets) old new (inl w) = (w.none_put.faults, w.set.write_faults)
 wants_stand talk (Made sets) old new (inr (inl w)) = (w.put.faults, w.set.write_faults)
-wants_stand talk (Made sets) old new (inr (inr w)) = (w.so_far.put.faults, w.so_far.set.write_faults)
+wants_stand talk (Made sets) old new (inr (inr w)) = (w.whole.put.faults, w.whole.set.write_faults)
 
 fails_stand : (talk : Talk) (d : Due) (old new : Outside) → FailsOf talk d old new → WritesStand old new
 fails_stand talk (Told told) old new f = absurd f
@@ -278,7 +278,7 @@ wants_keeps talk (Made sets) old new none (inl w) =
     absurd (empty_parts w.set.before w.set.next w.set.others (sym (none.1 (files_alone sets) (inr refl)) ∙ w.set.are))
 wants_keeps talk (Made sets) old new none (inr (inl w)) = unset_keeps sets old new (none.1 (files_alone sets) (inr refl)) w.set.files w.set.wrote
 wants_keeps talk (Made sets) old new none (inr (inr w)) =
-    unset_keeps sets old new (none.1 (files_alone sets) (inr refl)) w.so_far.set.files w.so_far.set.wrote
+    unset_keeps w.due.sets old new (ap (λ (d : Answer). d.sets) w.is.answer ∙ none.1 (files_alone sets) (inr refl)) w.whole.set.files w.whole.set.wrote
 
 fails_keeps : (talk : Talk) (d : Due) (old new : Outside) → FailsOf talk d old new → IsKept old.folder new.folder
 fails_keeps talk (Told told) old new f = absurd f

@@ -18,7 +18,7 @@ use Rattle.m36_booted.specs.Runs.{Whole, Begun}
 use Rattle.m36_booted.specs.Runs as runs
 use Rattle.m36_booted.proofs.YesAnswers.{yes_passes as folder_passes}
 use Rattle.m36_made.specs.Made.{files_alone}
-use Rattle.m36_made.proofs.MadeLaws.{yes_told, yes_made, yes_begun, yes_some}
+use Rattle.m36_made.proofs.MadeLaws.{yes_made, yes_begun, yes_some}
 use Rattle.m36_top.specs.declared.command.Command.{Command}
 use Rattle.m36_sessions.specs.Held.{Talk}
 use Rattle.m36_top.specs.Dues.{Due, Told, Image, Folder, Schedule, ImageSession, FolderSession, Made, IsDueOf, IsBegunOf, WantsOf, FailsOf, due_kind, Promises, yes_of}
@@ -126,8 +126,8 @@ wants_passes talk (Made sets) old new (inr (inl w)) = λ told_yes.
     let b = yes_grew (yes_of (Made sets)) old.sink.written new.sink.written [] w.put.text told_yes in
     yes_begun sets (files_alone sets) b.0 (inr refl) b.1
 wants_passes talk (Made sets) old new (inr (inr w)) = λ told_yes.
-    let b = yes_grew (yes_of (Made sets)) old.sink.written new.sink.written w.told.text w.so_far.put.text told_yes in
-    yes_told runs.Starved sets w.told b.0 w.is b.1
+    let b = yes_grew (yes_of (Made sets)) old.sink.written new.sink.written w.due.text w.whole.put.text told_yes in
+    yes_made runs.Starved sets w.due b.0 w.is b.1
 
 fails_passes : (talk : Talk) (d : Due) (old new : Outside) → FailsOf talk d old new → YesPasses (Ok d) old new
 fails_passes talk (Told told) old new f = absurd f
