@@ -1,4 +1,4 @@
--- What is said of a sink to which an answer is put.
+-- What is said of a sink to which an answer is put, or nothing.
 use Rattle.std.specs.Prelude.{◌≡◌}
 use Rattle.m36_outside.specs.Putting.{PutsAll, PutsFirst}
 use Rattle.m36_outside.specs.SinkState.{SinkState}

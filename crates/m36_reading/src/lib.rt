@@ -7,8 +7,8 @@
 //!
 //! What a command that is performed owes is said once (`Does` in `specs/Doing.antt`), by the kind of what is due: which
 //! answers are, and what may be written where memory is wanted. The statuses are sorted into ends (`specs/Ends.antt`): what
-//! is due is done whole; or a file could not be written, or the output not whole; or a file could not be read; or memory was
-//! wanted.
+//! is due is done whole; or a file could not be written, or the output not whole; or a file or the input could not be read;
+//! or memory was wanted.
 //!
 //! Packed words are those of `m36_text`, and objects those of `obj36`. No part of the manual speaks of this.
 #![tactic(auto)]
