@@ -4,6 +4,7 @@ use Rattle.std.specs.Prelude.{ℕ, ◌+◌, ◌-◌, ◌*◌, ◌/◌, Bool, tru
 use Rattle.std.specs.Prelude.{nat_lt, nat_le}
 use Rattle.std.specs.Prelude.{if◌then◌else◌, List, [], ◌∷◌, ◌++◌, length, replicate, slice_get}
 use Rattle.std.specs.Prelude.{slice_index_or, Option, Some, None}
+use Rattle.std.specs.Prelude.{◌≤◌, All}
 use Rattle.m36_desc.specs.Fields.{SdwFields}
 use Rattle.m36_desc.specs.Descriptors.{ptr_even, ptr_odd}
 use Rattle.m36_model.specs.Pointers.{pointer}
@@ -40,6 +41,10 @@ linkage_pages = table_words
 -- a file has no more words than a segment
 abbrev pub is_short : List ℕ → Bool
 is_short words = nat_le (length words) segment_limit
+
+-- the same of each of several files
+abbrev pub AreShort : List (List ℕ) → Type 0
+AreShort files = All (λ w. length w ≤ segment_limit) files
 
 -- the file of a segment of the catalog, both counted from 0
 unfoldable pub file_at : List (List ℕ) → ℕ → List ℕ

@@ -1,10 +1,10 @@
 //! The descriptor segment of the image.
 
-ghost use Rattle.std.specs.Prelude.{◌≡◌, ◌+◌, ◌*◌, ◌≤◌, ◌<◌, length, All, IfSome, slice_set};
+ghost use Rattle.std.specs.Prelude.{◌≡◌, ◌+◌, ◌*◌, ◌≤◌, ◌<◌, length, IfSome, slice_set};
 ghost use Rattle.m36_desc.specs.Descriptors.{sdw_of, sdw_even, sdw_odd};
 ghost use Rattle.m36_model.specs.BootedCore.{descriptor_words};
-ghost use Rattle.obj36_parts.specs.ObjectSegment.{segment_limit};
 ghost use Rattle.m36_link.specs.Known.{first_segment};
+ghost use Rattle.m36_boot.specs.Segments.{AreShort};
 ghost use Rattle.m36_boot.specs.Refusals.{AreLimits};
 ghost use Rattle.m36_boot.specs.Image.{descriptor_word, AreDescribed};
 
@@ -43,7 +43,7 @@ fn put_pair(core: &mut Core, seg: u16, pair: Pair)
 /// Writes the descriptors of all segments into core that is zero.
 pub(crate) fn put_descriptors(core: &mut Core, catalog: &Catalog, files: &[File], limits: &[u16])
     requires files { length files.now ≡ length catalog.now.segments }
-    requires short { All (λ w. length w ≤ segment_limit) files.now }
+    requires short { AreShort files.now }
     requires limits { AreLimits catalog.now files.now (length catalog.now.segments) limits.now }
     requires core { descriptor_words ≤ length core.old }
     ensures { AreDescribed catalog.now files.now (first_segment + length catalog.now.segments) core.old core.new }

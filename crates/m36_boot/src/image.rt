@@ -1,8 +1,8 @@
 //! The booted image.
 
-ghost use Rattle.std.specs.Prelude.{◌≡◌, ◌<◌, ◌≤◌, length, All, None, Ok, IfOk};
-ghost use Rattle.obj36_parts.specs.ObjectSegment.{segment_limit};
+ghost use Rattle.std.specs.Prelude.{◌≡◌, ◌<◌, ◌≤◌, length, None, Ok, IfOk};
 ghost use Rattle.m36_page.specs.Residence.{Reads, HasFrames};
+ghost use Rattle.m36_boot.specs.Segments.{AreShort};
 ghost use Rattle.m36_boot.specs.Start.{start_answer};
 ghost use Rattle.m36_boot.specs.Refusals.{least_frames, AreLimits, first_gate_fault};
 ghost use Rattle.m36_boot.specs.Image.{IsImage, IsRunnable, LaySays};
@@ -46,7 +46,7 @@ fn image_at(
     snap: Snap,
 ) -> Result<Image, NoMemory>
     requires files { length files.now ≡ length catalog.now.segments }
-    requires short { All (λ w. length w ≤ segment_limit) files.now }
+    requires short { AreShort files.now }
     requires limits { AreLimits catalog.now files.now (length catalog.now.segments) limits.now }
     requires frames { least_frames ≤ catalog.now.frames }
     requires snap { start_answer catalog.now files.now ≡ Ok snap }
@@ -80,7 +80,7 @@ fn started(
     limits: &[u16],
 ) -> Result<Image, BootFault>
     requires files { length files.now ≡ length catalog.now.segments }
-    requires short { All (λ w. length w ≤ segment_limit) files.now }
+    requires short { AreShort files.now }
     requires limits { AreLimits catalog.now files.now (length catalog.now.segments) limits.now }
     requires frames { least_frames ≤ catalog.now.frames }
     requires gates { first_gate_fault catalog.now files.now 0 (length catalog.now.segments) ≡ None }
@@ -101,7 +101,7 @@ fn started(
 #[tactic(auto, using(crate::proofs::LayAnswers::answers))]
 pub fn lay(alloc: Global, catalog: &Catalog, files: &[File]) -> Result<Image, BootFault>
     requires files { length files.now ≡ length catalog.now.segments }
-    requires short { All (λ w. length w ≤ segment_limit) files.now }
+    requires short { AreShort files.now }
     ensures says { LaySays catalog.now files.now result }
     ensures answer { IfOk result (λ image. start_answer catalog.now files.now ≡ Ok image.snap) }
     ensures runnable { IfOk result (IsRunnable catalog.now.frames) }

@@ -1,7 +1,7 @@
 //! The call limiters of the segments, and what is wrong with gates.
 
-ghost use Rattle.std.specs.Prelude.{◌≡◌, ◌+◌, ◌<◌, ◌≤◌, ◌++◌, ◌∷◌, [], true, length, All, OnOk, IfOk, IfErr, None};
-ghost use Rattle.obj36_parts.specs.ObjectSegment.{segment_limit};
+ghost use Rattle.std.specs.Prelude.{◌≡◌, ◌+◌, ◌<◌, ◌++◌, ◌∷◌, [], true, length, OnOk, IfOk, IfErr, None};
+ghost use Rattle.m36_boot.specs.Segments.{AreShort};
 ghost use Rattle.m36_boot.specs.Refusals.{is_entry_count, IsLimit, GateSays, LimitSays, AreLimits, ToldOfGates, first_gate_fault};
 
 use crate::fault::BootFault;
@@ -62,7 +62,7 @@ pub(crate) fn limits_of(
     files: &[File],
 ) -> Result<Vec<u16>, BootFault>
     requires files { length files.now ≡ length catalog.now.segments }
-    requires short { All (λ w. length w ≤ segment_limit) files.now }
+    requires short { AreShort files.now }
     ensures none { IfOk result (λ limits. first_gate_fault catalog.now files.now 0 (length catalog.now.segments) ≡ None) }
     ensures limits { IfOk result (λ limits. AreLimits catalog.now files.now (length catalog.now.segments) limits.items) }
     ensures told { IfErr result (λ told. ToldOfGates told (first_gate_fault catalog.now files.now 0 (length catalog.now.segments))) }

@@ -1,9 +1,9 @@
 //! The files of segments, and the objects that they are.
 
-ghost use Rattle.std.specs.Prelude.{◌≡◌, ◌<◌, ◌≤◌, length, All, option_copied};
+ghost use Rattle.std.specs.Prelude.{◌≡◌, ◌<◌, ◌≤◌, length, option_copied};
 ghost use Rattle.obj36_parts.specs.ObjectSegment.{segment_limit};
 ghost use Rattle.obj36.specs.ObjectOf.{value_of};
-ghost use Rattle.m36_boot.specs.Segments.{file_at};
+ghost use Rattle.m36_boot.specs.Segments.{AreShort, file_at};
 
 use m36_link::File;
 use obj36::Object;
@@ -12,7 +12,7 @@ use obj36::Object;
 #[tactic(auto, using(crate::proofs::Files::file_is), unfolding(crate::specs::Segments::file_at))]
 pub(crate) fn file(files: &[File], i: usize) -> &File
     requires inside { i < length files.now }
-    requires short { All (λ w. length w ≤ segment_limit) files.now }
+    requires short { AreShort files.now }
     ensures value { result.now ≡ file_at files.now i }
     ensures short { length result.now ≤ segment_limit }
 {

@@ -1,11 +1,11 @@
 //! The descriptors and the words of segments.
 
-ghost use Rattle.std.specs.Prelude.{◌≡◌, ◌+◌, ◌*◌, ◌/◌, ◌<◌, ◌≤◌, ◌^◌, ◌⊎◌, length, All, IfOk, IfSome, true};
+ghost use Rattle.std.specs.Prelude.{◌≡◌, ◌+◌, ◌*◌, ◌/◌, ◌<◌, ◌≤◌, ◌^◌, ◌⊎◌, length, IfOk, IfSome, true};
 ghost use Rattle.m36_desc.specs.Access.{in_order};
 ghost use Rattle.m36_model.specs.BootedCore.{table_words, table_at, booted_segments};
 ghost use Rattle.obj36_parts.specs.ObjectSegment.{segment_limit};
 ghost use Rattle.m36_link.specs.Known.{first_segment};
-ghost use Rattle.m36_boot.specs.Segments.{first_stack, behind_rings, paged_segment, ring_segment, limited_segment, booted_sdw, stack_words, lot_of, linkage_words, booted_words};
+ghost use Rattle.m36_boot.specs.Segments.{AreShort, first_stack, behind_rings, paged_segment, ring_segment, limited_segment, booted_sdw, stack_words, lot_of, linkage_words, booted_words};
 ghost use Rattle.m36_boot.specs.Refusals.{IsLimit, AreLimits};
 
 use crate::objects::file;
@@ -104,7 +104,7 @@ fn limited_segment(seg: u16, segment: &Segment, words: &[Word], limit: u16) -> S
 #[tactic(auto, unfolding(crate::specs::Segments::booted_sdw))]
 pub(crate) fn descriptor(catalog: &Catalog, files: &[File], limits: &[u16], seg: u16) -> Option<Sdw>
     requires files { length files.now ≡ length catalog.now.segments }
-    requires short { All (λ w. length w ≤ segment_limit) files.now }
+    requires short { AreShort files.now }
     requires limits { AreLimits catalog.now files.now (length catalog.now.segments) limits.now }
     requires seg { seg < first_segment + length catalog.now.segments }
     ensures value { result ≡ booted_sdw catalog.now files.now seg }
@@ -190,7 +190,7 @@ pub(crate) fn words_of(
     lay: &Option<Lay>,
     seg: u16,
 ) -> Result<Words, NoMemory>
-    requires short { All (λ w. length w ≤ segment_limit) files.now }
+    requires short { AreShort files.now }
     requires seg { seg < first_segment + length files.now }
     requires rings { first_stack ≤ seg }
     requires given { (seg < behind_rings) ⊎ (first_segment ≤ seg) }

@@ -1,8 +1,7 @@
 //! The page tables of the image, with the words of their segments.
 
-ghost use Rattle.std.specs.Prelude.{◌≡◌, ◌+◌, ◌/◌, ◌<◌, ◌≤◌, ◌++◌, length, All, Some, IfOk, OnOk};
-ghost use Rattle.obj36_parts.specs.ObjectSegment.{segment_limit};
-ghost use Rattle.m36_boot.specs.Segments.{booted_sdw, booted_words};
+ghost use Rattle.std.specs.Prelude.{◌≡◌, ◌+◌, ◌/◌, ◌<◌, ◌++◌, length, Some, IfOk, OnOk};
+ghost use Rattle.m36_boot.specs.Segments.{AreShort, booted_sdw, booted_words};
 ghost use Rattle.m36_link.specs.Known.{first_segment};
 ghost use Rattle.m36_boot.specs.Refusals.{AreLimits};
 ghost use Rattle.m36_boot.specs.Image.{table_of_segment, booted_tables};
@@ -25,7 +24,7 @@ fn add_table(
     seg: u16,
 ) -> Result<(), NoMemory>
     requires files { length files.now ≡ length catalog.now.segments }
-    requires short { All (λ w. length w ≤ segment_limit) files.now }
+    requires short { AreShort files.now }
     requires limits { AreLimits catalog.now files.now (length catalog.now.segments) limits.now }
     requires seg { seg < first_segment + length catalog.now.segments }
     ensures { OnOk result (tables.new.items ≡ tables.old.items ++ table_of_segment seg (booted_sdw catalog.now files.now seg) (booted_words files.now lay.now seg)) }
@@ -55,7 +54,7 @@ pub(crate) fn booted_tables(
     lay: &Option<Lay>,
 ) -> Result<Vec<PageTable>, NoMemory>
     requires files { length files.now ≡ length catalog.now.segments }
-    requires short { All (λ w. length w ≤ segment_limit) files.now }
+    requires short { AreShort files.now }
     requires limits { AreLimits catalog.now files.now (length catalog.now.segments) limits.now }
     ensures { IfOk result (λ tables. tables.items ≡ booted_tables catalog.now files.now lay.now) }
 {

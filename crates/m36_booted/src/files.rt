@@ -14,14 +14,14 @@ pub struct SegmentFiles {
 }
 
 impl Model for SegmentFiles {
-    ghost use Rattle.std.specs.Prelude.{ℕ, List, All, ◌≤◌, length};
-    ghost use Rattle.obj36_parts.specs.ObjectSegment.{segment_limit};
+    ghost use Rattle.std.specs.Prelude.{ℕ, List};
+    ghost use Rattle.m36_boot.specs.Segments.{AreShort};
 
     ghost Value = { List (List ℕ) };
 
     ghost view = { λ f. f.items.items };
 
-    ghost invariant = { λ f. All (λ w. length w ≤ segment_limit) f.items.items };
+    ghost invariant = { λ f. AreShort f.items.items };
 }
 
 impl SegmentFiles {

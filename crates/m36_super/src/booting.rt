@@ -1,9 +1,8 @@
 //! Booting.
 
-ghost use Rattle.std.specs.Prelude.{◌≡◌, ◌≤◌, All, length, IfOk, Ok, true};
+ghost use Rattle.std.specs.Prelude.{◌≡◌, length, IfOk, Ok, true};
 ghost use Rattle.std.specs.List.{list_all};
-ghost use Rattle.obj36_parts.specs.ObjectSegment.{segment_limit};
-ghost use Rattle.m36_boot.specs.Segments.{is_short};
+ghost use Rattle.m36_boot.specs.Segments.{is_short, AreShort};
 ghost use Rattle.m36_boot.specs.Image.{IsRunnable};
 ghost use Rattle.m36_boot.specs.Start.{start_answer};
 ghost use Rattle.m36_link.specs.Known.{nothing_known};
@@ -30,14 +29,14 @@ fn is_short(file: &Words) -> bool
 /// Whether each file has at most 2^18 words, as many as a segment.
 pub fn are_short(files: &[Words]) -> bool
     ensures value { result ≡ list_all is_short files.now }
-    ensures short { result ≡ true → All (λ w. length w ≤ segment_limit) files.now }
+    ensures short { result ≡ true → AreShort files.now }
 {
     files.iter().all(|file| is_short(file))
 }
 
 /// The files, each read once. The error is want of memory alone.
 pub fn files_of(alloc: Global, words: Vec<Words>) -> Result<Vec<File>, NoMemory>
-    requires { All (λ w. length w ≤ segment_limit) words.items }
+    requires { AreShort words.items }
     ensures { IfOk result (λ files. files.items ≡ words.items) }
 {
     let mut files = Vec::with_capacity(alloc, words.len())?;
@@ -96,7 +95,7 @@ impl Super {
     #[tactic(auto, using(crate::proofs::BootTurns::booted))]
     pub fn boot(alloc: Global, catalog: Catalog, words: Vec<Words>) -> Result<Super, BootFault>
         requires files { length words.items ≡ length catalog.segments }
-        requires short { All (λ w. length w ≤ segment_limit) words.items }
+        requires short { AreShort words.items }
         ensures says { BootSays (record { catalog = catalog; files = words.items }) result }
     {
         let files = files_of(alloc, words)?;
