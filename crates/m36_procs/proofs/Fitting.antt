@@ -79,10 +79,12 @@ kept_process old new g fits took =
     let events : length new.schedule.items ≡ length old.schedule.items = sym (ap (λ (t : Stands). t.events) is) in
     let below : length old.regs.items < 8 = ltb-true (length old.regs.items) 8 (and_parts (may_name s.stage) (nat_lt s.processes 8) test).1 in
     record {
-      few = omega (arith, counted, below);
-      short = omega (arith, events, fits.short);
+      are = record {
+        few = omega (arith, counted, below);
+        short = omega (arith, events, fits.are.short);
+        named = named_still old new (length old.regs.items + 1) took.schedule counted (named_more old.schedule.items (length old.regs.items) fits.are.named);
+      };
       some = λ e. omega (arith, counted);
-      named = named_still old new (length old.regs.items + 1) took.schedule counted (named_more old.schedule.items (length old.regs.items) fits.named);
     }
 
 kept_words : (old new : Reader) (p : PlacedWords) → Fits old → TookLine old new (AtLine p) → Fits new
@@ -94,10 +96,12 @@ kept_words old new p fits took =
     let events : length new.schedule.items ≡ length old.schedule.items = sym (ap (λ (t : Stands). t.events) placed.1) in
     let stage : false ≡ may_end new.stage = ap (λ (t : Stands). may_end t.stage) placed.1 in
     record {
-      few = omega (arith, counted, fits.few);
-      short = omega (arith, events, fits.short);
+      are = record {
+        few = omega (arith, counted, fits.are.few);
+        short = omega (arith, events, fits.are.short);
+        named = named_still old new (length old.regs.items) took.schedule counted fits.are.named;
+      };
       some = λ e. no_end (stage ∙ e);
-      named = named_still old new (length old.regs.items) took.schedule counted fits.named;
     }
   where
     no_end : {P : Type 0} → false ≡ true → P
@@ -117,10 +121,12 @@ kept_turns old new t fits took =
     let most : events_with s.events t ≤ 10000000 = leb-true (events_with s.events t) 10000000 (and_parts (nat_lt 0 s.processes) (nat_le (events_with s.events t) 10000000) test).1 in
     let some : 0 < length old.regs.items = ltb-true 0 (length old.regs.items) (and_parts (nat_lt 0 s.processes) (nat_le (events_with s.events t) 10000000) test).0 in
     record {
-      few = omega (arith, counted, fits.few);
-      short = rw events most;
+      are = record {
+        few = omega (arith, counted, fits.are.few);
+        short = rw events most;
+        named = ap (are_named (length new.regs.items)) took.schedule ∙ ap (λ n. are_named n (old.schedule.items ++ repeat t.times t.order)) counted ∙ named_both (length old.regs.items) old.schedule.items (repeat t.times t.order) fits.are.named (named_repeated t.times (length old.regs.items) t.order named);
+      };
       some = λ e. omega (arith, counted, some);
-      named = ap (are_named (length new.regs.items)) took.schedule ∙ ap (λ n. are_named n (old.schedule.items ++ repeat t.times t.order)) counted ∙ named_both (length old.regs.items) old.schedule.items (repeat t.times t.order) fits.named (named_repeated t.times (length old.regs.items) t.order named);
     }
 
 kept_other : (old new : Reader) → TookLine old new OtherLine → Fits new

@@ -1,11 +1,12 @@
 -- A text of processes as it is read, line after line. That this comes to what the text says is
 -- proved.
-use Rattle.std.specs.Prelude.{ℕ, ◌≡◌, ◌<◌, ◌≤◌, ⊤, true, List, ◌++◌, length, None, Result, Ok, Err}
+use Rattle.std.specs.Prelude.{ℕ, ◌≡◌, ◌<◌, ⊤, true, List, ◌++◌, length, None, Result, Ok, Err}
 use Rattle.m36_image.specs.BareImage.{at_words}
 use Rattle.m36_image.specs.ImageState.{written_all}
 use Rattle.m36_procs.specs.ProcsFields.{ProcsFields}
-use Rattle.m36_procs.specs.ProcsFile.{Line, line_by, Stands, judged, may_end, are_named, process_of}
-use Rattle.m36_procs.specs.ProcsFile.{placed_of, turns_of, most_processes, most_events}
+use Rattle.m36_procs.specs.ProcsFile.{Line, line_by, Stands, judged, may_end, process_of}
+use Rattle.m36_procs.specs.ProcsFile.{placed_of, turns_of}
+use Rattle.m36_procs.specs.IsProcs.{IsFew}
 use Rattle.m36_procs.specs.declared.fault.LineFault.{LineFault}
 use Rattle.m36_procs.specs.declared.fault.LineFault.TheVariants.{Refused, NoMemory}
 use Rattle.m36_procs.specs.declared.reader.Reader.{Reader}
@@ -35,10 +36,8 @@ procs_read r =
 
 -- what is known of what was read, whatever the lines
 pub record Fits (r : Reader) : Type 0 where
-  pub few : length r.regs.items ≤ most_processes
-  pub short : length r.schedule.items ≤ most_events
+  pub are : IsFew (length r.regs.items) r.schedule.items
   pub some : may_end r.stage ≡ true → 0 < length r.regs.items
-  pub named : are_named (length r.regs.items) r.schedule.items ≡ true
 
 -- A line was taken.
 pub record TookLine (old new : Reader) (line : Line) : Type 0 where
