@@ -14,21 +14,21 @@ use Rattle.m36_reading.specs.declared.setting.Set.{Set}
 use Rattle.m36_reading.specs.Reading.{Early}
 use Rattle.m36_reading.specs.Asking as asking
 use Rattle.m36_reading.proofs.ReadLaws.{gives_by, memory_given}
-use Rattle.m36_told.specs.Assemblies.{Assembly, with_parts, assembly_by, assembly_of, object_bytes}
+use Rattle.m36_told.specs.Assemblies.{Assembly, with_parts, assembly_by, assembly_of, object_bytes, IsMadeOf}
 use Rattle.m36_told.specs.Telling.{source_refused}
 use Rattle.m36_told.proofs.AlmLaws.{made_refused, read_refused}
 use Rattle.m36_text.specs.Results.{and_then}
-use Rattle.m36_made.specs.Making.{object_name, object_by, object_of, with_objects, IsObject, ObjectSays}
+use Rattle.m36_made.specs.Making.{object_name, object_by, object_of, with_objects, assembly_bytes, ObjectSays}
 
 -- ---- one object
 
 pub content_made :
     (source : Source) (given : Result PartsFields AlmFault) (parts : PartsFields) (content : List ℕ)
-    → given ≡ Ok parts → content ≡ object_bytes parts → IsObject content (with_parts source given)
+    → given ≡ Ok parts → content ≡ object_bytes parts → IsMadeOf assembly_bytes content (with_parts source given)
 content_made source given parts content is packs = record {
   assembly = record { source = source; parts = parts };
   is = ap (with_parts source) is;
-  content_is = packs;
+  made_is = packs;
 }
 
 pub ruleset made = (content_made, made_refused)
@@ -43,11 +43,11 @@ pub ruleset parsing = (content_read, read_refused)
 
 pub object_given :
     (source name content : List ℕ) (given : Result Assembly AlmFault)
-    → name ≡ object_name source → IsObject content given
+    → name ≡ object_name source → IsMadeOf assembly_bytes content given
     → asking.Gives (Ok (record { name = name; content = content })) (object_by source given)
 object_given source name content given named is =
     ap (object_by source) is.is
-    ∙ (λ i. Ok (record { name = sym named i; content = sym is.content_is i }))
+    ∙ (λ i. Ok (record { name = sym named i; content = sym is.made_is i }))
 
 -- or the source is refused
 refused_by :

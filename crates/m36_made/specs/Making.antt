@@ -1,11 +1,10 @@
 -- The files that are made from a seed: the sources, the object of each of them, the data and the
 -- boot text, in this order.
-use Rattle.std.specs.Prelude.{ℕ, ◌≡◌, ◌-◌, List, [], ◌∷◌, ◌++◌, length, map, take}
+use Rattle.std.specs.Prelude.{ℕ, ◌-◌, List, [], ◌∷◌, ◌++◌, length, map, take}
 use Rattle.std.specs.Prelude.{Some, None, unwrap_or, Result, Ok, Err}
 use Rattle.m36_outside.specs.Files.{Files}
 use Rattle.m36_text.specs.FileNames.{source_suffix}
 use Rattle.m36_text.specs.Results.{and_then}
-use Rattle.alm_parse.specs.Sources.{Refuses}
 use Rattle.alm_parse.specs.declared.fault.AlmFault.{AlmFault}
 use Rattle.m36_gen.specs.declared.files.File.{File}
 use Rattle.m36_gen.specs.Folder.{sources_of, other_files}
@@ -13,7 +12,7 @@ use Rattle.m36_reading.specs.declared.setting.Set.{Set}
 use Rattle.m36_reading.specs.Answers.{with_sets}
 use Rattle.m36_reading.specs.Reading.{found_in, Reading, decided, Early}
 use Rattle.m36_reading.specs.Readers.{bytes_of}
-use Rattle.m36_told.specs.Assemblies.{Assembly, assembly_of, object_bytes, object_set}
+use Rattle.m36_told.specs.Assemblies.{Assembly, assembly_of, object_bytes, object_set, MakingSays}
 use Rattle.m36_told.specs.Telling.{source_refused}
 
 abbrev pub set_of : File → Set
@@ -69,11 +68,8 @@ files_in sets = with_files sets no_files
 -- ---- what the making of an object says
 
 -- the packed words of the object that is meant
-pub record IsObject (content : List ℕ) (given : Result Assembly AlmFault) : Type 0 where
-  pub assembly : Assembly
-  pub is : given ≡ Ok assembly
-  pub content_is : content ≡ object_bytes assembly.parts
+abbrev pub assembly_bytes : Assembly → List ℕ
+assembly_bytes a = object_bytes a.parts
 
 abbrev pub ObjectSays : Result (List ℕ) AlmFault → Result Assembly AlmFault → Type 0
-ObjectSays (Ok content) given = IsObject content given
-ObjectSays (Err fault) given = Refuses fault given
+ObjectSays result given = MakingSays assembly_bytes result given

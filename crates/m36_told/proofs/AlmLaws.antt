@@ -11,8 +11,8 @@ use Rattle.m36_reading.specs.Asking as asking
 use Rattle.m36_reading.proofs.ReadLaws.{gives_by, memory_given}
 use Rattle.m36_told.specs.declared.assembling.AlmFiles.{AlmFiles}
 use Rattle.m36_told.specs.Told.{ToldFields}
-use Rattle.m36_told.specs.Assemblies.{Assembly, with_parts, assembly_by, assembly_of}
-use Rattle.m36_told.specs.Telling.{source_refused, told_by, IsMade, MadeSays}
+use Rattle.m36_told.specs.Assemblies.{Assembly, with_parts, assembly_by, assembly_of, IsMadeOf}
+use Rattle.m36_told.specs.Telling.{source_refused, assembly_told, told_by, MadeSays}
 
 -- lines that are assembled
 pub made_parts :
@@ -60,8 +60,8 @@ pub ruleset parsing = (made_read, read_refused)
 
 -- the object and the listing are made
 pub told_given :
-    (files : AlmFiles) (given : Result Assembly AlmFault) (told : ToldFields) → IsMade files.object told given → asking.Gives (Ok told) (told_by files given)
-told_given files given told is = ap (told_by files) is.is ∙ ap (λ (t : ToldFields). Ok t) (sym is.told_is)
+    (files : AlmFiles) (given : Result Assembly AlmFault) (told : ToldFields) → IsMadeOf (assembly_told files.object) told given → asking.Gives (Ok told) (told_by files given)
+told_given files given told is = ap (told_by files) is.is ∙ ap (λ (t : ToldFields). Ok t) (sym is.made_is)
 
 -- or the source is refused
 refused_by :

@@ -1,9 +1,9 @@
 -- What `alm` makes of a source.
-use Rattle.std.specs.Prelude.{ℕ, List, Result, Ok}
+use Rattle.std.specs.Prelude.{ℕ, List, Result, Ok, Err, ◌≡◌}
 use Rattle.m36_text.specs.Packing.{packed}
 use Rattle.m36_text.specs.Results.{and_then}
 use Rattle.alm_parse.specs.SourceFields.{Source}
-use Rattle.alm_parse.specs.Sources.{parsed}
+use Rattle.alm_parse.specs.Sources.{parsed, Refuses}
 use Rattle.alm_parse.specs.declared.fault.AlmFault.{AlmFault}
 use Rattle.alm_asm.specs.Assembly.{assembled}
 use Rattle.obj36_parts.specs.PartsFields.{PartsFields}
@@ -32,3 +32,18 @@ object_bytes parts = packed (words_of parts)
 -- the file that an object is
 abbrev pub object_set : List ℕ → PartsFields → Set
 object_set name parts = record { name = name; content = object_bytes parts }
+
+-- ---- what the making of something of a source says
+
+-- this is made of the assembly, of which there is one
+pub record IsMadeOf {A : Type 0} (make : Assembly → A) (made : A)
+    (given : Result Assembly AlmFault) : Type 0 where
+  pub assembly : Assembly
+  pub is : given ≡ Ok assembly
+  pub made_is : made ≡ make assembly
+
+-- or the source is refused
+abbrev pub MakingSays :
+    {A : Type 0} → (Assembly → A) → Result A AlmFault → Result Assembly AlmFault → Type 0
+MakingSays make (Ok made) given = IsMadeOf make made given
+MakingSays make (Err fault) given = Refuses fault given

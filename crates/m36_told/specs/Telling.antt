@@ -1,6 +1,5 @@
 -- What the commands `print NAME` and `alm NAME` tell, by what they read.
-use Rattle.std.specs.Prelude.{ℕ, ◌≡◌, List, [], ◌∷◌, Result, Ok, Err}
-use Rattle.alm_parse.specs.Sources.{Refuses}
+use Rattle.std.specs.Prelude.{ℕ, List, [], ◌∷◌, Result, Ok, Err}
 use Rattle.alm_parse.specs.declared.fault.AlmFault.{AlmFault}
 use Rattle.alm_parse.specs.declared.fault.AlmFault.TheVariants as alm
 use Rattle.obj36_parts.specs.PartsFields.{PartsFields}
@@ -13,7 +12,7 @@ use Rattle.m36_reading.specs.Reading.{Reading, decided, Early, then_with}
 use Rattle.m36_reading.specs.Readers.{refused_at, file_bytes, file_object}
 use Rattle.m36_told.specs.declared.assembling.AlmFiles.{AlmFiles}
 use Rattle.m36_told.specs.Told.{ToldFields}
-use Rattle.m36_told.specs.Assemblies.{Assembly, assembly_of, object_set}
+use Rattle.m36_told.specs.Assemblies.{Assembly, assembly_of, object_set, MakingSays}
 
 -- ---- `print NAME`
 
@@ -53,12 +52,5 @@ alm_reads files =
 -- ---- what the parts of `alm` say
 
 -- the object and the listing of what a source means
-pub record IsMade (name : List ℕ) (told : ToldFields)
-    (given : Result Assembly AlmFault) : Type 0 where
-  pub assembly : Assembly
-  pub is : given ≡ Ok assembly
-  pub told_is : told ≡ assembly_told name assembly
-
 abbrev pub MadeSays : List ℕ → Result ToldFields AlmFault → Result Assembly AlmFault → Type 0
-MadeSays name (Ok told) given = IsMade name told given
-MadeSays name (Err fault) given = Refuses fault given
+MadeSays name result given = MakingSays (assembly_told name) result given

@@ -11,7 +11,7 @@ returns c =
     record {
       assembly = record { source = lines; parts = object };
       is = refl;
-      told_is =
+      made_is =
           c.in_ok-told.ensures
           ∙ (λ i. record { sets = record { name = name; content = c.in_ok-content.ensures i } ∷ []; text = (c.in_ok-listing.ensures ∙ ap (λ n. listing_of n lines object) c.bytes.ensures.value) i });
     }
