@@ -169,7 +169,7 @@ passes_booted :
     (lib : Library) (system : SuperFields) → IsBooted lib system → IsAudited system.core booted_dbr → PassesBooted lib
 passes_booted lib system booted audited = record {
   conditions = λ now reached. (reached_kept lib system now booted audited reached).audited;
-  isolates = λ now reached. core_isolated now.state.memory.core booted_dbr (reached_kept lib system now booted audited reached).audited;
+  isolates = λ now reached. record { isolates = core_isolated now.state.memory.core booted_dbr (reached_kept lib system now booted audited reached).audited };
   flat = λ now reached.
       let kept = reached_kept lib system now booted audited reached in
       flat_isolated (flat_of now.state.memory) booted_dbr (flat_audit lib.catalog.frames now.state.memory kept.stands.laid kept.audited);

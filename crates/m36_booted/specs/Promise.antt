@@ -1,6 +1,5 @@
 -- What `audit yes` promises of a booted system.
 use Rattle.std.specs.Prelude.{◌≡◌, false, List}
-use Rattle.m36_model.specs.Core.{core_store, core_tables}
 use Rattle.m36_model.specs.Flat.{flat_store, flat_tables}
 use Rattle.m36_model.specs.Residence.{flat_of}
 use Rattle.m36_model.specs.BootedCore.{booted_dbr}
@@ -11,6 +10,7 @@ use Rattle.m36_super.specs.Library.{Library}
 use Rattle.m36_super.specs.BootedRun.{Booted, AreTurns}
 use Rattle.m36_super.specs.SuperFields.{SuperFields, booted_of}
 use Rattle.m36_super.specs.BootSays.{IsBooted}
+use Rattle.m36_ran.specs.Ran.{IsIsolated}
 
 -- a state of a booted run in which no LDBR has been executed yet
 pub record IsReached (lib : Library) (now : Booted) : Type 0 where
@@ -26,9 +26,7 @@ pub record IsReached (lib : Library) (now : Booted) : Type 0 where
 -- pages included.
 pub record PassesBooted (lib : Library) : Type 0 where
   pub conditions : (now : Booted) → IsReached lib now → IsAudited now.state.memory.core booted_dbr
-  pub isolates :
-      (now : Booted) → IsReached lib now
-      → Isolated core_store (core_tables now.state.memory.core booted_dbr)
+  pub isolates : (now : Booted) → IsReached lib now → IsIsolated now.state.memory.core booted_dbr
   pub flat :
       (now : Booted) → IsReached lib now
       → Isolated flat_store (flat_tables (flat_of now.state.memory) booted_dbr)

@@ -1,8 +1,7 @@
 -- What a run of a schedule answers.
 use Rattle.std.specs.Prelude.{ℕ, ◌≡◌, List, ◌++◌, Option, Result, Ok, Err}
 use Rattle.m36_outside.specs.Passing.{TakesLines}
-use Rattle.m36_outside.specs.Put.{PutHasCause}
-use Rattle.m36_outside.specs.Written.{Grew, GrewWithin}
+use Rattle.m36_outside.specs.Put.{PutSays, PutHasCause}
 use Rattle.m36_outside.specs.declared.sink.Put.{Put}
 use Rattle.m36_outside.specs.declared.sink.Put.TheVariants as put
 use Rattle.m36_model.specs.Schedule.{Processes}
@@ -14,7 +13,7 @@ pub record IsRun
     (schedule : List ℕ) (old new : Processes (List ℕ)) (before now : Option (List ℕ))
     : Type 0 where
   pub state : new ≡ last_state schedule old
-  pub grew : Grew before now (schedule_text schedule old)
+  pub grew : PutSays put.Done before now (schedule_text schedule old)
 
 -- or else the events of a first part of the schedule, and a first part of the text is written
 pub record IsPartRun
@@ -24,7 +23,7 @@ pub record IsPartRun
   pub rest : List ℕ
   pub schedule_is : schedule ≡ made ++ rest
   pub state : new ≡ last_state made old
-  pub grew : GrewWithin before now (schedule_text schedule old)
+  pub grew : PutSays put.Failed before now (schedule_text schedule old)
 
 abbrev pub RunSays :
     Result (Unit {0}) WriteFault → List ℕ → Processes (List ℕ) → Processes (List ℕ)

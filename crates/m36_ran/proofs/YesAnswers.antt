@@ -49,5 +49,5 @@ yes_passes command state due rest is begins =
     let none : is.findings ≡ [] = none_found is.findings a.0 rest (sym a.1 ∙ sym (ap (λ d. d.text) is.answer) ∙ begins) in
     record {
       conditions = findings_law.sound state.store state.regs.dbr (subst (AreFindings state.store state.regs.dbr) none is.found);
-      isolates = (is.isolated none).isolates;
+      isolates = is.isolated none;
     }

@@ -108,4 +108,4 @@ state_kind command = record {
 -- All six conditions of the audit hold, and the tables isolate each ring.
 pub record PassesAudit (state : State (List ℕ)) : Type 0 where
   pub conditions : IsAudited state.store state.regs.dbr
-  pub isolates : Isolated core_store (core_tables state.store state.regs.dbr)
+  pub isolates : IsIsolated state.store state.regs.dbr

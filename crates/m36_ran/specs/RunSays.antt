@@ -1,10 +1,8 @@
 -- What the parts of a run answer.
 use Rattle.std.specs.Prelude.{ℕ, ◌≡◌, ◌≤◌, false, List, [], ◌∷◌, ◌++◌, Option}
-use Rattle.m36_outside.specs.Counts.{Rose}
 use Rattle.m36_outside.specs.Gathered.{Gathers, Loses}
 use Rattle.m36_outside.specs.Passing.{joined, TakesLines}
-use Rattle.m36_outside.specs.Put.{PutHasCause}
-use Rattle.m36_outside.specs.Written.{Grew, GrewWithin}
+use Rattle.m36_outside.specs.Put.{PutSays, PutHasCause}
 use Rattle.m36_outside.specs.declared.sink.Put.{Put}
 use Rattle.m36_outside.specs.declared.sink.Put.TheVariants as put
 use Rattle.m36_text.specs.Lines.{as_line}
@@ -50,9 +48,9 @@ TurnSays turn.Cut n old gathered gathered' before now taken taken' =
     Loses (gathered ++ as_line (line_of n (told old)) ∷ []) before now taken taken'
 
 abbrev pub TurnHasCause : Turn → ℕ → ℕ → Type 0
-TurnHasCause turn.Next old new = new ≡ old
-TurnHasCause (turn.Last outcome) old new = new ≡ old
-TurnHasCause turn.Cut old new = Rose old new
+TurnHasCause turn.Next old new = PutHasCause put.Done old new
+TurnHasCause (turn.Last outcome) old new = PutHasCause put.Done old new
+TurnHasCause turn.Cut old new = PutHasCause put.Failed old new
 
 -- what the last put of a run answered
 abbrev pub put_by : Ended → Put
@@ -62,8 +60,9 @@ put_by Cut = put.Failed
 -- what putting the lines that are gathered and the end line of a run answers
 abbrev pub EndSays :
     Ended → Outcome → List (List ℕ) → Option (List ℕ) → Option (List ℕ) → Type 0
-EndSays (Whole last) outcome due before now = (last ≡ outcome) × Grew before now (joined due)
-EndSays Cut outcome due before now = GrewWithin before now (joined due)
+EndSays (Whole last) outcome due before now =
+    (last ≡ outcome) × PutSays put.Done before now (joined due)
+EndSays Cut outcome due before now = PutSays put.Failed before now (joined due)
 
 abbrev pub EndTakes : Ended → List (List ℕ) → List (List ℕ) → List (List ℕ) → Type 0
 EndTakes ended due before now = TakesLines (put_by ended) before now due
@@ -71,8 +70,8 @@ EndTakes ended due before now = TakesLines (put_by ended) before now due
 -- what a run answers: its last outcome, with its whole output written, or else a first part of it
 abbrev pub RunSays : Ended → ℕ → State (List ℕ) → Option (List ℕ) → Option (List ℕ) → Type 0
 RunSays (Whole last) steps state before now =
-    (last_outcome (run steps state) ≡ last) × Grew before now (run_text steps state)
-RunSays Cut steps state before now = GrewWithin before now (run_text steps state)
+    (last_outcome (run steps state) ≡ last) × PutSays put.Done before now (run_text steps state)
+RunSays Cut steps state before now = PutSays put.Failed before now (run_text steps state)
 
 -- which pieces the sink took by it: a line in each
 abbrev pub RunTakes : Ended → ℕ → State (List ℕ) → List (List ℕ) → List (List ℕ) → Type 0

@@ -44,7 +44,7 @@ yes_passes unaudited p due rest is begins =
     let none : is.findings ≡ [] = none_found is.findings a.0 rest (sym a.1 ∙ sym (ap (λ d. d.text) is.answer) ∙ begins) in
     record {
       conditions = joint_findings_law.sound p.state.store (dbrs_of p.state) (subst (AreJointFindings p.state.store (dbrs_of p.state)) none is.found);
-      isolates = (is.isolated none).isolates;
+      isolates = is.isolated none;
     }
 
 answer_sets : (b : Bool) (findings : List JointFound) (p : ProcsFields) → (answer_by b findings p).sets ≡ []

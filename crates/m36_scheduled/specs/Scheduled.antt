@@ -90,4 +90,4 @@ procs_kind unaudited = record {
 -- ring from 1.
 pub record PassesJoint (s : Processes (List ℕ)) : Type 0 where
   pub conditions : IsJointlyAudited s.store (dbrs_of s)
-  pub isolates : JointlyIsolated core_store (map (core_tables s.store) (dbrs_of s))
+  pub isolates : AreIsolated s
