@@ -18,7 +18,7 @@ use Rattle.m36_booted.specs.declared.command.RunOutput.TheVariants as output
 use Rattle.m36_booted.specs.Folder.{FolderFields}
 use Rattle.m36_booted.specs.RunText.{run_answer}
 use Rattle.m36_booted.specs.Runs.{Extent, Whole, Begun, Starved}
-use Rattle.m36_booted.specs.Runs.{Telling, IsRunTold, IsUnrunTold, IsToldBy}
+use Rattle.m36_booted.specs.Runs.{Telling, IsRunTold, IsUnrunTold, IsRunToldBy}
 
 -- the audit text, and what is written of a run behind it
 abbrev pub run_behind : List (ℕ × ℕ) → List (List ℕ) → RunOutput → Telling
@@ -39,7 +39,7 @@ abbrev pub IsRunBy :
     Bool → Extent → List (List ℕ) → RunOutput → ℕ → Library → Booted → List (ℕ × ℕ) → Answer
     → Type 0
 IsRunBy runs extent denied output limit lib first findings due =
-    IsToldBy runs extent lib limit first (run_behind findings denied output)
+    IsRunToldBy runs extent lib limit first (run_behind findings denied output)
     (audit_answer findings) due
 
 abbrev pub IsAnswerOf :
@@ -52,16 +52,21 @@ IsAnswerOf (Trace run) extent denied lib first findings due =
     IsRunBy (is_run findings run.unaudited) extent denied output.Trace run.steps lib first
     findings due
 
--- The answer is by the system to which the folder boots, and by what the audit of its core finds,
--- of which there is one list.
-pub record IsFolderAnswer
-    (extent : Extent) (command : FolderCommand) (given : FolderFields) (due : Answer)
+-- An answer is by the system to which a folder boots, and by what the audit of its core finds, of
+-- which there is one list.
+pub record IsSystemAnswer
+    (lib : Library) (IsBy : Booted → List (ℕ × ℕ) → Answer → Type 0) (due : Answer)
     : Type 0 where
   pub system : SuperFields
-  pub booted : IsBooted given.lib system
+  pub booted : IsBooted lib system
   pub findings : List (ℕ × ℕ)
   pub found : AreFindings system.core booted_dbr findings
-  pub answer : IsAnswerOf command extent given.denied given.lib (booted_of system) findings due
+  pub answer : IsBy (booted_of system) findings due
+
+-- the answer to a command
+abbrev pub IsFolderAnswer : Extent → FolderCommand → FolderFields → Answer → Type 0
+IsFolderAnswer extent command given due =
+    IsSystemAnswer given.lib (IsAnswerOf command extent given.denied given.lib) due
 
 -- Memory was wanted by a link service, and the run up to it is written whole.
 abbrev pub IsStarvedRun : FolderCommand → FolderFields → Outside → Outside → Type 0

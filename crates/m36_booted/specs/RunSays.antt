@@ -8,14 +8,14 @@ use Rattle.m36_outside.specs.declared.sink.Put.TheVariants as put
 use Rattle.m36_outside.specs.SinkState.{SinkState}
 use Rattle.m36_model.specs.StoreLaw.{Each}
 use Rattle.m36_step.specs.declared.turns.Turn.{Turn}
-use Rattle.m36_step.specs.declared.turns.Turn.TheVariants.{Ended}
 use Rattle.m36_super.specs.Library.{Library}
 use Rattle.m36_super.specs.declared.coming.Coming.{Coming}
 use Rattle.m36_super.specs.declared.coming.Coming.TheVariants.{Step, Over}
-use Rattle.m36_super.specs.BootedRun.{Booted, IsTurn, AreTurns}
+use Rattle.m36_super.specs.BootedRun.{Booted, AreTurns}
 use Rattle.m36_super.specs.SuperFields.{SuperFields, booted_of}
 use Rattle.m36_booted.specs.declared.command.RunOutput.{RunOutput}
 use Rattle.m36_booted.specs.declared.running.Finish.{Finish}
+use Rattle.m36_booted.specs.declared.running.Finish.TheVariants as finish
 use Rattle.m36_booted.specs.declared.running.Progress.{Progress}
 use Rattle.m36_booted.specs.declared.running.Progress.TheVariants as progress
 use Rattle.m36_booted.specs.declared.running.Ran.{Ran}
@@ -87,8 +87,8 @@ abbrev pub Progresses :
 Progresses progress.On output taken steps before after old new =
     GoesOn output taken steps before after old new
 Progresses (progress.Over e) output taken steps before after old new =
-    Leaves put.Done (λ last later. IsTurn before.lib last (Ended e) later) output taken steps
-    before after old new
+    Leaves put.Done (λ last later. StandsBehind (Some (finish.Over e)) before.lib last later)
+    output taken steps before after old new
 Progresses progress.Cut output taken steps before after old new =
     Leaves put.Failed (λ last later. later ≡ last) output taken steps before after old new
 Progresses progress.Starved output taken steps before after old new =

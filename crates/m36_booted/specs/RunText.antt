@@ -98,10 +98,14 @@ line_for denied seg =
 unfoldable pub denied_pieces : List (List ℕ) → Finish → List (List ℕ)
 denied_pieces denied how = option_to_list (line_for denied (denied_segment how))
 
--- a run that has not come to its end has no end line
+-- the end line of a run with so many steps, and what goes behind it; a run that has not come to its
+-- end has none
+abbrev pub ended_with : Option Finish → ℕ → (Finish → List (List ℕ)) → List (List ℕ)
+ended_with None steps rest = []
+ended_with (Some how) steps rest = as_line (finish_line how steps) ∷ rest how
+
 abbrev pub end_pieces : List (List ℕ) → Option Finish → ℕ → List (List ℕ)
-end_pieces denied None steps = []
-end_pieces denied (Some how) steps = as_line (finish_line how steps) ∷ denied_pieces denied how
+end_pieces denied how steps = ended_with how steps (denied_pieces denied)
 
 -- a run that has not come to its end wants memory, if it is told at all
 abbrev pub finish_status : Option Finish → Status

@@ -1,4 +1,4 @@
--- Booted runs with a limit of steps, as lists of turns.
+-- Booted runs with a limit of steps, as lists of turns, and what is told of one, or without one.
 use Rattle.std.specs.Prelude.{◌≡◌, ℕ, ⊤, ◌≤◌, Bool, true, false, List, Option, Some, None}
 use Rattle.m36_model.specs.StoreLaw.{Each}
 use Rattle.m36_step.specs.declared.turns.Turn.{Turn}
@@ -32,17 +32,18 @@ pub record Goes
   pub events : Each IsEvent turns
   pub few : steps_in turns ≤ limit
 
--- The run has ended; or as many steps as are allowed were taken, the service that the last one
--- calls for was made, and a step would be next.
-abbrev pub Finishes : Finish → Library → ℕ → List Turn → Booted → Type 0
-Finishes (Over e) lib limit turns last = (after : Booted) × IsTurn lib last (Ended e) after
-Finishes Limit lib limit turns last = (steps_in turns ≡ limit) × (last.coming ≡ Step)
-
 -- where a run that has come to this end, or to none, leaves the system behind its last turn
 abbrev pub StandsBehind : Option Finish → Library → Booted → Booted → Type 0
 StandsBehind (Some (Over e)) lib last after = IsTurn lib last (Ended e) after
 StandsBehind (Some Limit) lib last after = after ≡ last
 StandsBehind None lib last after = after ≡ last
+
+-- The run has ended; or as many steps as are allowed were taken, the service that the last one
+-- calls for was made, and a step would be next.
+abbrev pub Finishes : Finish → Library → ℕ → List Turn → Booted → Type 0
+Finishes (Over e) lib limit turns last =
+    (after : Booted) × StandsBehind (Some (Over e)) lib last after
+Finishes Limit lib limit turns last = (steps_in turns ≡ limit) × (last.coming ≡ Step)
 
 abbrev pub AwaitsLink : Coming → Type 0
 AwaitsLink (Link at) = ⊤
@@ -92,6 +93,7 @@ IsUnrunTold Begun unrun due = due ≡ unrun
 IsUnrunTold Starved unrun due = ⊥
 
 -- by whether it is run
-abbrev pub IsToldBy : Bool → Extent → Library → ℕ → Booted → Telling → Answer → Answer → Type 0
-IsToldBy true extent lib limit first told unrun due = IsRunTold extent lib limit first told due
-IsToldBy false extent lib limit first told unrun due = IsUnrunTold extent unrun due
+abbrev pub IsRunToldBy :
+    Bool → Extent → Library → ℕ → Booted → Telling → Answer → Answer → Type 0
+IsRunToldBy true extent lib limit first told unrun due = IsRunTold extent lib limit first told due
+IsRunToldBy false extent lib limit first told unrun due = IsUnrunTold extent unrun due

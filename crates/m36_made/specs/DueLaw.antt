@@ -26,7 +26,7 @@ pub record BootsTo (sets : List Set) (given : FolderFields) (system : SuperField
 
 -- what is told by these findings of the audit of a system
 abbrev pub IsToldBy : Library → SuperFields → List (ℕ × ℕ) → Answer → Type 0
-IsToldBy lib system findings told = IsSummaryBy Whole lib system findings told
+IsToldBy lib system findings told = IsSummaryBy Whole lib (booted_of system) findings told
 
 -- all files, and what is told by these findings behind them
 pub record IsMadeBy

@@ -1,22 +1,19 @@
 -- What is told of a folder that was made: the count of its segments, what the audit of its booted
 -- core finds, and, where nothing is found, how the run ended and what it left in X1.
 use Rattle.std.specs.Prelude.{ℕ, Bool, List, [], ◌∷◌, ◌++◌, codes, slice_index}
-use Rattle.std.specs.Prelude.{Option, Some, None, length}
+use Rattle.std.specs.Prelude.{Option, length}
 use Rattle.m36_text.specs.Digits.{decimal_text, half_text}
 use Rattle.m36_text.specs.Lines.{as_line}
-use Rattle.m36_model.specs.Audit.{AreFindings}
-use Rattle.m36_model.specs.BootedCore.{booted_dbr}
 use Rattle.m36_model.specs.Registers.{RegsFields}
 use Rattle.m36_super.specs.Library.{Library}
 use Rattle.m36_super.specs.BootedRun.{Booted}
-use Rattle.m36_super.specs.SuperFields.{SuperFields, booted_of}
-use Rattle.m36_super.specs.BootSays.{IsBooted}
 use Rattle.m36_reading.specs.Answers.{Answer, answer_with}
 use Rattle.m36_ran.specs.AuditText.{audit_pieces}
 use Rattle.m36_ran.specs.Ran.{passes, audit_status}
 use Rattle.m36_booted.specs.declared.running.Finish.{Finish}
-use Rattle.m36_booted.specs.RunText.{steps_in, finish_line, finish_status}
-use Rattle.m36_booted.specs.Runs.{Extent, Telling, IsRunTold, IsUnrunTold, IsToldBy}
+use Rattle.m36_booted.specs.RunText.{steps_in, ended_with, finish_status}
+use Rattle.m36_booted.specs.Runs.{Extent, Telling, IsRunTold, IsUnrunTold, IsRunToldBy}
+use Rattle.m36_booted.specs.Booted.{IsSystemAnswer}
 
 -- the most steps of the run
 abbrev pub run_limit : ℕ
@@ -42,9 +39,7 @@ head_pieces count findings = head_line count ∷ audit_pieces findings
 
 -- and those behind it, where it has come to its end
 abbrev pub end_pieces : Option Finish → ℕ → RegsFields → List (List ℕ)
-end_pieces None steps regs = []
-end_pieces (Some how) steps regs =
-    as_line (finish_line how steps) ∷ as_line (sum_line regs) ∷ []
+end_pieces how steps regs = ended_with how steps (λ (last : Finish). as_line (sum_line regs) ∷ [])
 
 -- ---- answers, beside the files
 
@@ -72,7 +67,7 @@ IsUnrunAnswer extent count findings due = IsUnrunTold extent (unrun_answer count
 abbrev pub IsFoundAnswer :
     Bool → Extent → ℕ → Library → Booted → List (ℕ × ℕ) → Answer → Type 0
 IsFoundAnswer runs extent count lib first findings due =
-    IsToldBy runs extent lib run_limit first (run_told count findings)
+    IsRunToldBy runs extent lib run_limit first (run_told count findings)
     (unrun_answer count findings) due
 
 -- how many segments a system has
@@ -81,15 +76,10 @@ segment_count lib = length lib.catalog.segments
 
 -- What is told of a system, by these findings of the audit of its core: it is run exactly where
 -- nothing is found.
-abbrev pub IsSummaryBy : Extent → Library → SuperFields → List (ℕ × ℕ) → Answer → Type 0
-IsSummaryBy extent lib system findings told =
-    IsFoundAnswer (passes findings) extent (segment_count lib) lib (booted_of system) findings told
+abbrev pub IsSummaryBy : Extent → Library → Booted → List (ℕ × ℕ) → Answer → Type 0
+IsSummaryBy extent lib first findings told =
+    IsFoundAnswer (passes findings) extent (segment_count lib) lib first findings told
 
--- The answer is by the system to which the folder boots, and by what the audit of its core finds,
--- of which there is one list.
-pub record IsSummary (extent : Extent) (lib : Library) (told : Answer) : Type 0 where
-  pub system : SuperFields
-  pub booted : IsBooted lib system
-  pub findings : List (ℕ × ℕ)
-  pub found : AreFindings system.core booted_dbr findings
-  pub answer : IsSummaryBy extent lib system findings told
+-- what is told of the system to which the folder boots
+abbrev pub IsSummary : Extent → Library → Answer → Type 0
+IsSummary extent lib told = IsSystemAnswer lib (IsSummaryBy extent lib) told

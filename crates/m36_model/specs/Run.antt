@@ -30,6 +30,11 @@ visits o zero s = []
 visits o (suc n) s =
     visit o s ∷ only_if (is_next (record_of o s).outcome) (visits o n (state_after o s))
 
+-- the state that the last of some steps or events leaves; the one before them where there is none
+abbrev pub state_behind : {S A : Type 0} → (A → S) → S → List A → S
+state_behind after s [] = s
+state_behind after s (x ∷ more) = state_behind after (after x) more
+
 -- the records of a run
 abbrev pub told : {S : Type 0} → Store S → ℕ → State S → List StepRecord
 told o n s = map (λ v. v.told) (visits o n s)

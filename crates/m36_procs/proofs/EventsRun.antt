@@ -16,7 +16,7 @@ use Rattle.m36_model.specs.declared.record.StepRecord.{StepRecord}
 use Rattle.m36_procs.specs.EventSays.{EventSays, IsEvent}
 use Rattle.m36_procs.specs.ProcsFile.{are_named}
 use Rattle.m36_procs.specs.RunSays.{IsRun, IsPartRun}
-use Rattle.m36_procs.specs.ScheduleText.{event_line, event_pieces, end_line, pieces_from, schedule_pieces, schedule_text, state_behind, last_state}
+use Rattle.m36_procs.specs.ScheduleText.{event_line, event_pieces, end_line, pieces_from, schedule_pieces, schedule_text, behind_events, last_state}
 
 -- the events of a schedule that begins with a process
 pub events_first :
@@ -30,7 +30,7 @@ last_first :
     (i : ℕ) (schedule : List ℕ) (s : Processes (List ℕ)) (g : RegsFields)
     → slice_get s.regs i ≡ Some g → last_state (i ∷ schedule) s ≡ last_state schedule (stepped core_store s i g)
 unfolding last_state
-last_first i schedule s g there = ap (state_behind s) (events_first i schedule s g there)
+last_first i schedule s g there = ap (behind_events s) (events_first i schedule s g there)
 
 -- the pieces of a schedule that begins with a process
 piece_first :

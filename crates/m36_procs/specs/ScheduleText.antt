@@ -5,6 +5,7 @@ use Rattle.m36_outside.specs.Passing.{joined}
 use Rattle.m36_text.specs.Digits.{decimal_text}
 use Rattle.m36_text.specs.Lines.{as_line}
 use Rattle.m36_model.specs.Core.{core_store}
+use Rattle.m36_model.specs.Run.{state_behind}
 use Rattle.m36_model.specs.Schedule.{Processes, Event, events}
 use Rattle.m36_model.specs.declared.record.StepRecord.{StepRecord}
 use Rattle.m36_trace.specs.EndLine.{end_line_with}
@@ -33,11 +34,10 @@ schedule_pieces schedule s = pieces_from (length schedule) 1 schedule s
 unfoldable pub schedule_text : List ℕ → Processes (List ℕ) → List ℕ
 schedule_text schedule s = joined (schedule_pieces schedule s)
 
--- the state that the last of some events leaves; the one before them where there is none
-abbrev pub state_behind : Processes (List ℕ) → List (Event (List ℕ)) → Processes (List ℕ)
-state_behind s [] = s
-state_behind s (e ∷ more) = state_behind e.after more
+-- the state that some events leave; the one before them where there is none
+abbrev pub behind_events : Processes (List ℕ) → List (Event (List ℕ)) → Processes (List ℕ)
+behind_events s made = state_behind (λ (e : Event (List ℕ)). e.after) s made
 
 -- the state that a schedule leaves
 unfoldable pub last_state : List ℕ → Processes (List ℕ) → Processes (List ℕ)
-last_state schedule s = state_behind s (events core_store schedule s)
+last_state schedule s = behind_events s (events core_store schedule s)

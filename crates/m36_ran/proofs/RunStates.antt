@@ -6,7 +6,7 @@ use Rattle.m36_model.specs.Run.{visits, is_next, only_if}
 use Rattle.m36_model.specs.declared.outcome.Outcome.{Outcome}
 use Rattle.m36_model.specs.declared.outcome.Outcome.TheVariants.{Next}
 use Rattle.m36_ran.specs.Machine.{told, after}
-use Rattle.m36_ran.specs.Run.{state_behind, last_state}
+use Rattle.m36_ran.specs.Run.{behind_steps, last_state}
 use Rattle.m36_ran.specs.RunSays.{RunLeaves}
 use Rattle.m36_ran.specs.declared.running.Ended.{Ended}
 use Rattle.m36_ran.specs.declared.running.Ended.TheVariants.{Whole, Cut}
@@ -19,7 +19,7 @@ state_none s = refl
 -- a step, and others behind it
 state_more :
     (left : ℕ) (s : State (List ℕ))
-    → last_state (suc left) s ≡ state_behind (after s) (only_if (is_next (told s).outcome) (visits core_store left (after s)))
+    → last_state (suc left) s ≡ behind_steps (after s) (only_if (is_next (told s).outcome) (visits core_store left (after s)))
 unfolding last_state visits
 state_more left s = refl
 
@@ -27,17 +27,17 @@ state_more left s = refl
 state_next : (left : ℕ) (s : State (List ℕ)) → (told s).outcome ≡ Next → last_state (suc left) s ≡ last_state left (after s)
 unfolding last_state
 state_next left s next =
-    state_more left s ∙ ap (λ o. state_behind (after s) (only_if (is_next o) (visits core_store left (after s)))) next
+    state_more left s ∙ ap (λ o. behind_steps (after s) (only_if (is_next o) (visits core_store left (after s)))) next
 
 -- after any other outcome nothing does
 state_last :
     (left : ℕ) (s : State (List ℕ)) → 0 < left → is_next (told s).outcome ≡ false → last_state left s ≡ after s
 state_last zero s some last = absurd (omega arith)
 state_last (suc left) s some last =
-    state_more left s ∙ ap (λ b. state_behind (after s) (only_if b (visits core_store left (after s)))) last
+    state_more left s ∙ ap (λ b. behind_steps (after s) (only_if b (visits core_store left (after s)))) last
 
 -- one step
-one_by : (b : Bool) (s : State (List ℕ)) → state_behind (after s) (only_if b (visits core_store 0 (after s))) ≡ after s
+one_by : (b : Bool) (s : State (List ℕ)) → behind_steps (after s) (only_if b (visits core_store 0 (after s))) ≡ after s
 unfolding visits
 one_by true s = refl
 one_by false s = refl

@@ -10,17 +10,24 @@ abbrev pub is_of_segment : ℕ → Bool
 is_of_segment condition = condition == 1 || (condition == 5 || condition == 6)
 
 -- A segment is written in five digits, and a core word in eight.
+abbrev pub core_word_digits : ℕ
+core_word_digits = 8
+
 abbrev pub place_digits : ℕ → ℕ
-place_digits condition = if is_of_segment condition then 5 else 8
+place_digits condition = if is_of_segment condition then 5 else core_word_digits
 
 -- a condition and its place of so many digits, as in `3 00000100`
 abbrev pub place_text : ℕ → ℕ → ℕ → List ℕ
 place_text condition digits place =
     decimal_text condition ++ codes " " ++ octal_text digits place
 
+-- that of a finding
+abbrev pub found_text : ℕ → ℕ → List ℕ
+found_text condition place = place_text condition (place_digits condition) place
+
 -- as in `audit no A3 00000100`
 unfoldable pub finding_line : ℕ × ℕ → List ℕ
-finding_line f = codes "audit no A" ++ place_text f.0 (place_digits f.0) f.1
+finding_line f = codes "audit no A" ++ found_text f.0 f.1
 
 unfoldable pub finding_pieces : List (ℕ × ℕ) → List (List ℕ)
 finding_pieces [] = []

@@ -2,7 +2,7 @@
 use Rattle.std.specs.Prelude.{ℕ, List, [], ◌∷◌}
 use Rattle.m36_model.specs.Store.{State}
 use Rattle.m36_model.specs.Core.{core_store}
-use Rattle.m36_model.specs.Run.{Visited, visits, told}
+use Rattle.m36_model.specs.Run.{Visited, visits, state_behind, told}
 use Rattle.m36_model.specs.declared.outcome.Outcome.{Outcome}
 use Rattle.m36_model.specs.declared.outcome.Outcome.TheVariants.{Next}
 use Rattle.m36_model.specs.declared.record.StepRecord.{StepRecord}
@@ -18,11 +18,10 @@ last_outcome [] = Next
 last_outcome (step ∷ []) = step.outcome
 last_outcome (step ∷ next ∷ steps) = last_outcome (next ∷ steps)
 
--- the state that the last of some steps leaves; the one before them where no step is taken
-abbrev pub state_behind : State (List ℕ) → List (Visited (List ℕ)) → State (List ℕ)
-state_behind state [] = state
-state_behind state (step ∷ steps) = state_behind step.after steps
+-- the state that some steps leave; the one before them where no step is taken
+abbrev pub behind_steps : State (List ℕ) → List (Visited (List ℕ)) → State (List ℕ)
+behind_steps state steps = state_behind (λ (v : Visited (List ℕ)). v.after) state steps
 
 -- the state that a run of at most so many steps leaves
 unfoldable pub last_state : ℕ → State (List ℕ) → State (List ℕ)
-last_state steps state = state_behind state (visits core_store steps state)
+last_state steps state = behind_steps state (visits core_store steps state)

@@ -5,7 +5,7 @@ ghost use Rattle.m36_text.specs.Digits.{octal_text};
 ghost use Rattle.m36_text.specs.Lines.{as_line};
 ghost use Rattle.m36_outside.specs.Passing.{TakesLines, joined};
 ghost use Rattle.m36_outside.specs.Put.{PutSays, PutHasCause};
-ghost use Rattle.m36_audit.specs.Findings.{pairs};
+ghost use Rattle.m36_audit.specs.Findings.{pair_of, pairs};
 ghost use Rattle.m36_ran.specs.AuditText.{is_of_segment, place_digits, finding_line, finding_pieces, yes_line, audit_text, audit_pieces};
 
 use crate::running::put_line;
@@ -37,7 +37,7 @@ pub fn place_text(condition: u8, place: u32) -> ArrayString<22>
 /// The line of a finding, without its line feed.
 #[tactic(auto, unfolding(crate::specs::AuditText::finding_line))]
 fn finding_line(finding: &Finding) -> ArrayString<160>
-    ensures text { result.bytes ≡ finding_line (finding.now.condition, finding.now.place) }
+    ensures text { result.bytes ≡ finding_line (pair_of finding.now) }
     ensures len { length result.bytes ≤ 39 }
 {
     let mut line = ArrayString::new();
@@ -50,8 +50,8 @@ fn finding_line(finding: &Finding) -> ArrayString<160>
 
 // Puts the line of a finding.
 fn put_finding<S: Sink>(finding: &Finding, out: &mut S) -> Put
-    ensures says { PutSays result (S.written out.old) (S.written out.new) (as_line (finding_line (finding.now.condition, finding.now.place))) }
-    ensures through { TakesLines result (S.taken out.old) (S.taken out.new) (as_line (finding_line (finding.now.condition, finding.now.place)) ∷ []) }
+    ensures says { PutSays result (S.written out.old) (S.written out.new) (as_line (finding_line (pair_of finding.now))) }
+    ensures through { TakesLines result (S.taken out.old) (S.taken out.new) (as_line (finding_line (pair_of finding.now)) ∷ []) }
     ensures cause { PutHasCause result (S.faults out.old) (S.faults out.new) }
 {
     put_line(out, finding_line(finding))

@@ -7,17 +7,16 @@ use Rattle.m36_outside.specs.Passing.{joined}
 use Rattle.m36_text.specs.Digits.{decimal_text}
 use Rattle.m36_text.specs.Lines.{as_line}
 use Rattle.m36_model.specs.JointAudit.{JointFound}
-use Rattle.m36_ran.specs.AuditText.{place_digits, place_text, yes_or}
+use Rattle.m36_ran.specs.AuditText.{core_word_digits, place_text, found_text, yes_or}
 
 -- of a process
 unfoldable pub process_line : ℕ → ℕ → ℕ → List ℕ
 process_line process condition place =
-    codes "audit no " ++ decimal_text process ++ codes " A"
-    ++ place_text condition (place_digits condition) place
+    codes "audit no " ++ decimal_text process ++ codes " A" ++ found_text condition place
 
 -- between processes
 unfoldable pub between_line : ℕ → ℕ → List ℕ
-between_line condition place = codes "audit no J" ++ place_text condition 8 place
+between_line condition place = codes "audit no J" ++ place_text condition core_word_digits place
 
 abbrev pub line_by : Option ℕ → ℕ → ℕ → List ℕ
 line_by (Some process) condition place = process_line process condition place
