@@ -152,25 +152,27 @@ runnable catalog files s core pager regs snap are few first some most made given
     let room : 2048 ≤ 1024 * (wired_frames + catalog.frames) = omega arith in
     record {
       dbr = ap (λ (r : RegsFields). r.dbr) at ∙ regs_dbr catalog.start.ring s;
-      some = some;
-      laid = laid_image catalog files s.lay (1024 * (wired_frames + catalog.frames)) core are few made room catalog.frames refl (omega (arith, most));
+      pages = record {
+        some = some;
+        laid = laid_image catalog files s.lay (1024 * (wired_frames + catalog.frames)) core are few made room catalog.frames refl (omega (arith, most));
+        first = ap (λ (x : PagerFields). x.first) given;
+        count = ap (λ (x : PagerFields). length x.holders) given ∙ length-replicate catalog.frames (let o : Option (ℕ × ℕ) = None in o);
+        pager = pager_is catalog files s.lay pager are few given first empty;
+        serves = λ seg page is.
+            let has = sdw_live catalog files s.lay (1024 * (wired_frames + catalog.frames)) core are few made room seg is.sdw is.live in
+            let begins = is.begins in
+            has_live catalog files s.lay pager are few given seg page is.sdw has ∙ lt-ltb page (page_count is.sdw) (omega (arith, begins));
+        exact = λ seg page has.
+            let is = page_is catalog files s.lay pager are few given seg page has in
+            let inside = is.inside in
+            record {
+              sdw = is.sdw;
+              live = live_sdw catalog files s.lay (1024 * (wired_frames + catalog.frames)) core are few made room seg is.sdw is.has;
+              begins = omega (arith, inside);
+            };
+        at = spot_is catalog files s.lay pager are few given;
+      };
       linkage = λ ring lt.
           live_sdw catalog files s.lay (1024 * (wired_frames + catalog.frames)) core are few made room (linkage_segment ring)
           (ring_segment (linkage_segment ring) ring linkage_pages) (linkage_sdw catalog files ring lt);
-      first = ap (λ (x : PagerFields). x.first) given;
-      count = ap (λ (x : PagerFields). length x.holders) given ∙ length-replicate catalog.frames (let o : Option (ℕ × ℕ) = None in o);
-      pager = pager_is catalog files s.lay pager are few given first empty;
-      serves = λ seg page is.
-          let has = sdw_live catalog files s.lay (1024 * (wired_frames + catalog.frames)) core are few made room seg is.sdw is.live in
-          let begins = is.begins in
-          has_live catalog files s.lay pager are few given seg page is.sdw has ∙ lt-ltb page (page_count is.sdw) (omega (arith, begins));
-      exact = λ seg page has.
-          let is = page_is catalog files s.lay pager are few given seg page has in
-          let inside = is.inside in
-          record {
-            sdw = is.sdw;
-            live = live_sdw catalog files s.lay (1024 * (wired_frames + catalog.frames)) core are few made room seg is.sdw is.has;
-            begins = omega (arith, inside);
-          };
-      at = spot_is catalog files s.lay pager are few given;
     }

@@ -13,6 +13,7 @@ use Rattle.m36_model.specs.Flat.{Flat}
 use Rattle.m36_model.specs.Residence.{Paged, flat_of}
 use Rattle.m36_dir.specs.Catalog.{CatalogFields}
 use Rattle.m36_page.specs.declared.table.PageTable.{PageTable}
+use Rattle.m36_page.specs.Fields.{PagerFields}
 use Rattle.m36_page.specs.Given.{pager_given}
 use Rattle.m36_page.specs.Residence.{content_of, paged_by, has_page, spot_of, IsPager}
 use Rattle.m36_boot.specs.declared.fault.BootFault.{BootFault}
@@ -130,26 +131,26 @@ pub record IsImage
   pub flat : flat_of (paged_of image) ≡ booted_flat catalog files s
   pub regs : image.regs ≡ start_regs catalog.start.ring s
 
--- The core of the image is laid, and its pager has the pages of its segments and no others. It has
--- pageable frames enough for each instruction.
+-- A core is laid, and its pager has the pages of its segments and no others, each at its word of a
+-- page table. It has pageable frames enough for each instruction.
+pub record HasPages (frames : ℕ) (core : List ℕ) (p : PagerFields) : Type 0 where
+  pub some : least_frames ≤ frames
+  pub laid : IsLaid core frames
+  pub first : p.first ≡ wired_frames
+  pub count : length p.holders ≡ frames
+  pub pager : IsPager p
+  pub serves : (seg page : ℕ) → IsPage core seg page → has_page p seg page ≡ true
+  pub exact : (seg page : ℕ) → has_page p seg page ≡ true → IsPage core seg page
+  pub at : (seg page : ℕ) → has_page p seg page ≡ true → spot_of p seg page ≡ table_at seg + page
+
+-- The image can be run: it has its pages, and a whole linkage segment for each ring.
 pub record IsRunnable (frames : ℕ) (image : Image) : Type 0 where
   pub dbr : image.regs.dbr ≡ booted_dbr
-  pub some : least_frames ≤ frames
-  pub laid : IsLaid image.core frames
+  pub pages : HasPages frames image.core image.pager
   pub linkage :
       (ring : ℕ) → ring < 8
       → core_sdw image.core booted_dbr (linkage_segment ring)
       ≡ Ok (ring_segment (linkage_segment ring) ring linkage_pages)
-  pub first : image.pager.first ≡ wired_frames
-  pub count : length image.pager.holders ≡ frames
-  pub pager : IsPager image.pager
-  pub serves :
-      (seg page : ℕ) → IsPage image.core seg page → has_page image.pager seg page ≡ true
-  pub exact :
-      (seg page : ℕ) → has_page image.pager seg page ≡ true → IsPage image.core seg page
-  pub at :
-      (seg page : ℕ) → has_page image.pager seg page ≡ true
-      → spot_of image.pager seg page ≡ table_at seg + page
 
 -- What laying answers: the image of the start, or the first code; want of memory may come
 -- at any time.

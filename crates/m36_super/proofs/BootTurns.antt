@@ -20,16 +20,9 @@ pub image_runs : (frames : ℕ) (image : Image) → IsRunnable frames image → 
 image_runs frames image r reads =
     record {
       dbr = r.dbr;
-      managed = subst (λ (n : ℕ). IsManaged n image.core image.pager) (sym r.count) (record {
-        laid = r.laid;
-        first = r.first;
-        frames_are = r.count;
-        some = r.some;
-        pager = r.pager;
+      managed = subst (λ (n : ℕ). IsManaged n image.core image.pager) (sym r.pages.count) (record {
+        pages = r.pages;
         reads = reads;
-        serves = r.serves;
-        exact = r.exact;
-        at = r.at;
         linkage = λ ring low. record { sdw = ring_segment (linkage_segment ring) ring linkage_pages; live = r.linkage ring low; whole = refl };
       });
     }
@@ -54,5 +47,5 @@ booted lib image s e answer is r =
       known = refl;
       coming = refl;
       loaded = refl;
-      stands = record { dbr = r.dbr; laid = r.laid };
+      stands = record { dbr = r.dbr; laid = r.pages.laid };
     })

@@ -167,7 +167,7 @@ module _ (core : List ℕ) (p : PagerFields) (g : RegsFields) (at : AtFields) (d
   pub read_word : (d : SdwFields) (w : ℕ) → IsManaged (length p.holders) core p → core_sdw core booted_dbr at.seg ≡ Ok d → allowed_answer ≡ allowed tt (first_of (read_rows d at.ring (at.seg == g.ppr.psr))) → within d at.word ≡ true → content_of p core at.seg at.word ≡ Some w → ExaminedSays (Ok w) (examined flat_store g (flat_by core p) at)
   read_word d w m e h inside found =
       let r = bounds_read (flat_by core p) g at d true (descriptor_is (Ok d) e) (allowed_as d at.ring g.ppr.prr at.word (at.seg == g.ppr.psr) h) inside in
-      (r.0, r.1, r.2 ∙ found_content core p at.seg at.word d w m e (m.laid.segments at.seg d e).ordered inside found)
+      (r.0, r.1, r.2 ∙ found_content core p at.seg at.word d w m e (m.pages.laid.segments at.seg d e).ordered inside found)
 
 -- ---- words of the text, one after another
 

@@ -107,7 +107,7 @@ linked old new p q known later coming next loaded at s turn put regs accepts ste
     subst (λ (t : Turn). IsLinkTurn (Ok s) (length p.holders) at (run_of old p known coming loaded) t (run_of new q later next loaded)) (sym told) (record {
       told = refl;
       regs = regs;
-      written = record { laid = subst (IsLaid new.store) put.frames put.managed.laid; flat = put.flat };
+      written = record { laid = subst (IsLaid new.store) put.frames put.managed.pages.laid; flat = put.flat };
       known = accepts;
       coming = step;
       loaded = refl;

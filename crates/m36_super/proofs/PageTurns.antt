@@ -120,7 +120,7 @@ module _ (old : State (List ℕ)) (p q : PagerFields) (now : List ℕ) (runs : I
 
   has : has_page p seg page ≡ true
   has =
-      runs.managed.serves seg page (lacking_page old.store frames seg fault.fault.at.word runs.managed.laid fault.lacks)
+      runs.managed.pages.serves seg page (lacking_page old.store frames seg fault.fault.at.word runs.managed.pages.laid fault.lacks)
 
   module _ (brought : IsBrought p mid q now seg page refs) (reads : Reads q now) (pager : IsPager q) where
     paging : IsPaging frames mid now p q
@@ -173,7 +173,7 @@ bring_few old told told_is =
 
 fault_at : (old : State (List ℕ)) (p : PagerFields) (told : StepRecord) (at : AtFields) → told ≡ record_of core_store old → IsRunning (length p.holders) old.regs old.store p → IsLacked told.outcome at → IsFaultAt (kept_word p) old at
 fault_at old p told at told_is runs lacked =
-    page_fault (length p.holders) (kept_word p) old at runs.dbr runs.managed.laid (subst (λ (e : StepRecord). IsLacked e.outcome at) told_is lacked)
+    page_fault (length p.holders) (kept_word p) old at runs.dbr runs.managed.pages.laid (subst (λ (e : StepRecord). IsLacked e.outcome at) told_is lacked)
 
 pub bring_page : (old : State (List ℕ)) (p : PagerFields) (told : StepRecord) (at : AtFields) → told ≡ record_of core_store old → IsRunning (length p.holders) old.regs old.store p → IsLacked told.outcome at → has_page p at.seg (at.word / 1024) ≡ true
 bring_page old p told at told_is runs lacked =

@@ -45,8 +45,8 @@ found_at false v e = cc
 -- the core has the pageable frames
 pub has_frames : (core : List ℕ) (p : PagerFields) → IsManaged (length p.holders) core p → HasFrames p core
 has_frames core p m =
-    let first : p.first ≡ 146 = m.first in
-    let size : length core ≡ 1024 * (146 + length p.holders) = m.laid.size in
+    let first : p.first ≡ 146 = m.pages.first in
+    let size : length core ≡ 1024 * (146 + length p.holders) = m.pages.laid.size in
     omega arith
 
 module _ (frames : ℕ) (core : List ℕ) (p : PagerFields) (m : IsManaged frames core p) where
@@ -54,22 +54,22 @@ module _ (frames : ℕ) (core : List ℕ) (p : PagerFields) (m : IsManaged frame
   memory = record { core = core; kept = kept_word p }
 
   here : IsResidence core frames (held_in p core)
-  here = residence frames core p m.laid.most m.first m.frames_are m.pager m.reads m.serves m.at
+  here = residence frames core p m.pages.laid.most m.pages.first m.pages.count m.pages.pager m.reads m.pages.serves m.pages.at
 
   -- a word within the bound of a live segment is of a page
   pub page_there : (seg w : ℕ) (d : SdwFields) → core_sdw core booted_dbr seg ≡ Ok d → within d w ≡ true → has_page p seg (w / 1024) ≡ true
   page_there seg w d live inside =
-      m.serves seg (w / 1024) (page_of_word core frames m.laid seg w d live inside)
+      m.pages.serves seg (w / 1024) (page_of_word core frames m.pages.laid seg w d live inside)
 
   spot_word : (seg w : ℕ) (d : SdwFields) → core_sdw core booted_dbr seg ≡ Ok d → within d w ≡ true → (v : Option ℕ) → held_in p core seg (w / 1024) ≡ v → word_at memory seg w (core_spot core booted_dbr d seg w) ≡ resident_word memory v seg w
   spot_word seg w d live inside None e =
-      let is = page_of_word core frames m.laid seg w d live inside in
-      ap (word_at memory seg w) (absent_spot core frames m.laid seg w d live inside (here.words seg (w / 1024) is ∙ ap ptw_of_page e))
+      let is = page_of_word core frames m.pages.laid seg w d live inside in
+      ap (word_at memory seg w) (absent_spot core frames m.pages.laid seg w d live inside (here.words seg (w / 1024) is ∙ ap ptw_of_page e))
   spot_word seg w d live inside (Some frame) e =
-      let is = page_of_word core frames m.laid seg w d live inside in
+      let is = page_of_word core frames m.pages.laid seg w d live inside in
       let k = here.range seg (w / 1024) frame e in
       let same : frame * 1024 + w % 1024 ≡ 1024 * frame + w % 1024 = omega arith in
-      ap (word_at memory seg w) (resident_spot core frames m.laid seg w frame d live inside (record { word = here.words seg (w / 1024) is ∙ ap ptw_of_page e; low = k.0; high = k.1 }))
+      ap (word_at memory seg w) (resident_spot core frames m.pages.laid seg w frame d live inside (record { word = here.words seg (w / 1024) is ∙ ap ptw_of_page e; low = k.0; high = k.1 }))
       ∙ ap (slice_index core) same
 
   found_of : (seg w : ℕ) → has_page p seg (w / 1024) ≡ true → found_word (content_of p core seg w) ≡ word_in (frame_of p core seg (w / 1024)) core w (kept_word p seg w)
@@ -93,7 +93,7 @@ module _ (frames : ℕ) (core : List ℕ) (p : PagerFields) (m : IsManaged frame
   by_parts seg w d live false b inside = refl
 
   by_sdw : (seg w : ℕ) (v : Result SdwFields Refusal) → core_sdw core booted_dbr seg ≡ v → word_at memory seg w (place_by v (λ d. core_spot core booted_dbr d seg w) w) ≡ shown v (content_of p core seg w) w
-  by_sdw seg w (Err why) live = dead_word seg w why (m.laid.dead seg why live) _ refl
+  by_sdw seg w (Err why) live = dead_word seg w why (m.pages.laid.dead seg why live) _ refl
   by_sdw seg w (Ok d) live = by_parts seg w d live (in_order d) (within d w) refl
 
   pub content_shown : (seg w : ℕ) → paged_content memory seg w ≡ shown (core_sdw core booted_dbr seg) (content_of p core seg w) w
@@ -144,7 +144,7 @@ module _ (frames : ℕ) (core now : List ℕ) (p q : PagerFields) (ring word v :
   shown_here : shown (core_sdw core booted_dbr seg) (content_of q now seg word) word ≡ v
   shown_here =
       let l = m.linkage ring low in
-      let ordered = (m.laid.segments seg l.sdw l.live).ordered in
+      let ordered = (m.pages.laid.segments seg l.sdw l.live).ordered in
       let inside = within_whole l.sdw l.whole in
       ap (λ (x : Result SdwFields Refusal). shown x (content_of q now seg word) word) l.live
       ∙ (λ i. shown_by (ordered i) (inside i) (s.here i))
@@ -186,7 +186,7 @@ linkage_page core p ring word m low fits =
     let l = m.linkage ring low in
     let whole = l.whole in
     let begins : word / 1024 ≤ l.sdw.bound / 64 = omega arith in
-    m.serves (linkage_segment ring) (word / 1024) (record { sdw = l.sdw; live = l.live; begins = begins })
+    m.pages.serves (linkage_segment ring) (word / 1024) (record { sdw = l.sdw; live = l.live; begins = begins })
 
 pub ruleset words_put = (word_put, linkage_page, has_frames)
 

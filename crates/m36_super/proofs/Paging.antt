@@ -134,11 +134,11 @@ module _ (frames : ℕ) (core now : List ℕ) (p q : PagerFields) (m : IsManaged
   -- the descriptors stay
   not_paged : (a : ℕ) → a < 2048 → IsPaged p a → ⊥
   not_paged a low (inl h) =
-      let at : spot_of p h.seg h.page ≡ (2048 + 256 * h.seg) + h.page = m.at h.seg h.page h.has in
+      let at : spot_of p h.seg h.page ≡ (2048 + 256 * h.seg) + h.page = m.pages.at h.seg h.page h.has in
       let is = h.is in
       omega arith
   not_paged a low (inr h) =
-      let first : p.first ≡ 146 = m.first in
+      let first : p.first ≡ 146 = m.pages.first in
       let from = h.0 in
       omega arith
 
@@ -154,48 +154,51 @@ module _ (frames : ℕ) (core now : List ℕ) (p q : PagerFields) (m : IsManaged
       record { sdw = h.sdw; live = sym (same_descriptors core now descriptors seg) ∙ h.live; begins = h.begins }
 
   serves : (seg page : ℕ) → IsPage now seg page → has_page q seg page ≡ true
-  serves seg page h = shape.pages seg page ∙ m.serves seg page (page_before seg page h)
+  serves seg page h = shape.pages seg page ∙ m.pages.serves seg page (page_before seg page h)
 
   has_before : (seg page : ℕ) → has_page q seg page ≡ true → has_page p seg page ≡ true
   has_before seg page h = sym (shape.pages seg page) ∙ h
 
   at : (seg page : ℕ) → has_page q seg page ≡ true → spot_of q seg page ≡ table_at seg + page
-  at seg page h = shape.spots seg page ∙ m.at seg page (has_before seg page h)
+  at seg page h = shape.spots seg page ∙ m.pages.at seg page (has_before seg page h)
 
   first : q.first ≡ wired_frames
-  first = shape.first ∙ m.first
+  first = shape.first ∙ m.pages.first
 
   frames_are : length q.holders ≡ frames
-  frames_are = shape.frames ∙ m.frames_are
+  frames_are = shape.frames ∙ m.pages.count
 
   before_residence : IsResidence core frames (held_in p core)
-  before_residence = residence frames core p m.laid.most m.first m.frames_are m.pager m.reads m.serves m.at
+  before_residence = residence frames core p m.pages.laid.most m.pages.first m.pages.count m.pages.pager m.reads m.pages.serves m.pages.at
 
   after_residence : IsResidence now frames (held_in q now)
-  after_residence = residence frames now q m.laid.most first frames_are pager reads serves at
+  after_residence = residence frames now q m.pages.laid.most first frames_are pager reads serves at
 
   now_laid : IsLaid now frames
-  now_laid = laid_by core frames m.laid now size descriptors (held_in q now) after_residence
+  now_laid = laid_by core frames m.pages.laid now size descriptors (held_in q now) after_residence
 
   pub now_managed : IsManaged frames now q
   now_managed =
       record {
-        laid = now_laid;
-        first = first;
-        frames_are = frames_are;
-        some = m.some;
-        pager = pager;
+        pages =
+            record {
+              some = m.pages.some;
+              laid = now_laid;
+              first = first;
+              count = frames_are;
+              pager = pager;
+              serves = serves;
+              exact = λ seg page h. page_now seg page (m.pages.exact seg page (has_before seg page h));
+              at = at;
+            };
         reads = reads;
-        serves = serves;
-        exact = λ seg page h. page_now seg page (m.exact seg page (has_before seg page h));
-        at = at;
         linkage = λ ring low. linkage_kept core now (same_descriptors core now descriptors) (linkage_segment ring) (m.linkage ring low);
       }
 
   module _ (content : (seg w : ℕ) → content_of q now seg w ≡ content_of p core seg w) where
     words : (seg w : ℕ) → IsPage core seg (w / 1024) → resident_word (record { core = now; kept = kept_word q }) (held_in q now seg (w / 1024)) seg w ≡ resident_word (record { core = core; kept = kept_word p }) (held_in p core seg (w / 1024)) seg w
     words seg w is =
-        let has = m.serves seg (w / 1024) is in
+        let has = m.pages.serves seg (w / 1024) is in
         let other = shape.pages seg (w / 1024) ∙ has in
         let here = frame_true _ (frame_of q now seg (w / 1024)) other in
         let there = frame_true _ (frame_of p core seg (w / 1024)) has in
@@ -234,18 +237,21 @@ tells_as p seg page x y same (inr h) = inr (h.0, h.1, same ∙ h.2)
 pub step_managed : StepManagedLaw
 step_managed frames s p dbr m =
     let now = (state_after core_store s).store in
-    let step = paged_step_law frames (kept_word p) s dbr m.laid in
+    let step = paged_step_law frames (kept_word p) s dbr m.pages.laid in
     let live : (seg : ℕ) → core_sdw now booted_dbr seg ≡ core_sdw s.store booted_dbr seg = same_descriptors s.store now step.descriptors in
-    let same : (seg page : ℕ) → has_page p seg page ≡ true → unmarked (slice_index now (spot_of p seg page)) ≡ unmarked (slice_index s.store (spot_of p seg page)) = λ seg page has. let at = m.at seg page has in ap (λ (n : ℕ). unmarked (slice_index now n)) at ∙ step.pages seg page (m.exact seg page has) ∙ sym (ap (λ (n : ℕ). unmarked (slice_index s.store n)) at) in
+    let same : (seg page : ℕ) → has_page p seg page ≡ true → unmarked (slice_index now (spot_of p seg page)) ≡ unmarked (slice_index s.store (spot_of p seg page)) = λ seg page has. let at = m.pages.at seg page has in ap (λ (n : ℕ). unmarked (slice_index now n)) at ∙ step.pages seg page (m.pages.exact seg page has) ∙ sym (ap (λ (n : ℕ). unmarked (slice_index s.store n)) at) in
     record {
-      laid = step.laid;
-      first = m.first;
-      frames_are = m.frames_are;
-      some = m.some;
-      pager = m.pager;
-      reads = record { pages = λ seg page has. tells_as p seg page _ _ (same seg page has) (m.reads.pages seg page has); frames = λ k seg page holds. same seg page (m.pager.held k seg page holds) ∙ m.reads.frames k seg page holds };
-      serves = λ seg page h. m.serves seg page (record { sdw = h.sdw; live = sym (live seg) ∙ h.live; begins = h.begins });
-      exact = λ seg page has. let h = m.exact seg page has in record { sdw = h.sdw; live = live seg ∙ h.live; begins = h.begins };
-      at = m.at;
+      pages =
+          record {
+            some = m.pages.some;
+            laid = step.laid;
+            first = m.pages.first;
+            count = m.pages.count;
+            pager = m.pages.pager;
+            serves = λ seg page h. m.pages.serves seg page (record { sdw = h.sdw; live = sym (live seg) ∙ h.live; begins = h.begins });
+            exact = λ seg page has. let h = m.pages.exact seg page has in record { sdw = h.sdw; live = live seg ∙ h.live; begins = h.begins };
+            at = m.pages.at;
+          };
+      reads = record { pages = λ seg page has. tells_as p seg page _ _ (same seg page has) (m.reads.pages seg page has); frames = λ k seg page holds. same seg page (m.pages.pager.held k seg page holds) ∙ m.reads.frames k seg page holds };
       linkage = λ ring low. linkage_kept s.store now live (linkage_segment ring) (m.linkage ring low);
     }

@@ -84,7 +84,7 @@ serving_last old mid now p q r told left none h told_is state same =
     let count = h.count in
     let all : h.services ≡ 18 = omega arith in
     let served = subst (λ (n : ℕ). AreServed (length p.holders) n (paged_of old p) (paged_of mid q)) all h.served in
-    let present : IsPresent (record_of core_store mid).outcome = pages_law (length p.holders) (paged_of old p) (paged_of mid q) h.first.dbr h.first.managed.laid served in
+    let present : IsPresent (record_of core_store mid).outcome = pages_law (length p.holders) (paged_of old p) (paged_of mid q) h.first.dbr h.first.managed.pages.laid served in
     serving_done old mid now p q r told left h (record {
       told_is = told_is;
       state = state;
@@ -138,7 +138,7 @@ step_turn true after old new p q told known coming next h after_is next_is =
 
 running_after : (last : State (List ℕ)) (q : PagerFields) (told : StepRecord) → IsRunning (length q.holders) last.regs last.store q → told ≡ record_of core_store last → IsPresent told.outcome → loaded_after false told ≡ false → (state_after core_store last).regs.dbr ≡ booted_dbr
 running_after last q told runs told_is present none =
-    by_cases (paged_step_law (length q.holders) (kept_word q) last runs.dbr runs.managed.laid).cases
+    by_cases (paged_step_law (length q.holders) (kept_word q) last runs.dbr runs.managed.pages.laid).cases
   where
     by_dbr : ((state_after core_store last).regs.dbr ≡ booted_dbr) ⊎ ExecutesLdbr (record_of core_store last) → (state_after core_store last).regs.dbr ≡ booted_dbr
     by_dbr (inl same) = same

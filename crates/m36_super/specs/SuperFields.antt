@@ -1,5 +1,5 @@
 -- What a booted system shows.
-use Rattle.std.specs.Prelude.{◌≡◌, ℕ, ◌≤◌, ◌+◌, Bool, true, false, List, length}
+use Rattle.std.specs.Prelude.{◌≡◌, ℕ, Bool, true, false, List, length}
 use Rattle.std.specs.Prelude.{Option, None, ◌<◌, Ok}
 use Rattle.m36_desc.specs.Fields.{SdwFields}
 use Rattle.m36_model.specs.Place.{core_sdw}
@@ -7,16 +7,16 @@ use Rattle.m36_model.specs.Registers.{RegsFields}
 use Rattle.m36_model.specs.Store.{State}
 use Rattle.m36_model.specs.Core.{core_store}
 use Rattle.m36_model.specs.Step.{state_after}
-use Rattle.m36_model.specs.BootedCore.{booted_dbr, table_at, wired_frames, IsLaid, IsPage}
+use Rattle.m36_model.specs.BootedCore.{booted_dbr}
 use Rattle.m36_model.specs.Residence.{IsMoved}
 use Rattle.m36_isol.specs.PageServices.{PagedState}
 use Rattle.m36_page.specs.Fields.{PagerFields}
-use Rattle.m36_page.specs.Residence.{has_page, spot_of, frame_of, paged_by, IsPager, Reads}
+use Rattle.m36_page.specs.Residence.{has_page, frame_of, paged_by, IsPager, Reads}
 use Rattle.m36_page.specs.Changes.{IsKept}
 use Rattle.m36_link.specs.Fields.{KnownFields}
 use Rattle.m36_link.specs.Known.{linkage_segment}
-use Rattle.m36_boot.specs.Refusals.{least_frames}
 use Rattle.m36_boot.specs.Segments.{linkage_pages, bound_of_pages}
+use Rattle.m36_boot.specs.Image.{HasPages}
 use Rattle.m36_link.specs.Laws.{IsMade}
 use Rattle.m36_super.specs.Library.{Library}
 use Rattle.m36_super.specs.Coming.{Coming, Step, Link, Print, Over}
@@ -55,15 +55,8 @@ pub record IsLinkage (core : List ℕ) (seg : ℕ) : Type 0 where
 -- The core is that of the image, the pager has the page tables of the image and no others, and the
 -- page table words are as it left them.
 pub record IsManaged (frames : ℕ) (core : List ℕ) (p : PagerFields) : Type 0 where
-  pub laid : IsLaid core frames
-  pub first : p.first ≡ wired_frames
-  pub frames_are : length p.holders ≡ frames
-  pub some : least_frames ≤ frames
-  pub pager : IsPager p
+  pub pages : HasPages frames core p
   pub reads : Reads p core
-  pub serves : (seg page : ℕ) → IsPage core seg page → has_page p seg page ≡ true
-  pub exact : (seg page : ℕ) → has_page p seg page ≡ true → IsPage core seg page
-  pub at : (seg page : ℕ) → has_page p seg page ≡ true → spot_of p seg page ≡ table_at seg + page
   pub linkage : (ring : ℕ) → ring < 8 → IsLinkage core (linkage_segment ring)
 
 -- Until an LDBR has been executed, segments are found by the descriptors of the image.
