@@ -11,6 +11,7 @@ use Rattle.m36_super.specs.BootedRun.{Booted, AreTurns, flat_run_of}
 use Rattle.m36_super.specs.SuperFields.{SuperFields, booted_of}
 use Rattle.m36_super.specs.TurnLaws.{IsPlainTurn}
 use Rattle.m36_super.specs.BootSays.{IsBooted}
+use Rattle.m36_super.proofs.BootTurns.{start_unloaded}
 use Rattle.m36_reading.specs.Answers.{Answer}
 use Rattle.m36_ran.specs.Ran.{passes, behind, audit_answer}
 use Rattle.m36_ran.proofs.DueLaws.{some_findings}
@@ -162,7 +163,7 @@ run_due command given system limit turns last how booted has goes ends =
 -- ---- the same turns
 
 fresh_of : (lib : Library) (system : SuperFields) → IsBooted lib system → IsFresh lib (booted_of system)
-fresh_of lib system booted = record { loaded = booted.loaded; stands = booted.stands }
+fresh_of lib system booted = record { loaded = start_unloaded lib system booted; stands = booted.stands }
 
 same_turns :
     (lib : Library) (frames : ℕ) (system other : SuperFields) (turns same : List Turn) (last end : Booted)

@@ -9,7 +9,9 @@ use Rattle.m36_boot.specs.declared.fault.BootFault.{BootFault}
 use Rattle.m36_boot.specs.declared.fault.BootFault.TheVariants as boot
 use Rattle.m36_super.specs.Library.{Library}
 use Rattle.m36_super.specs.SuperFields.{SuperFields}
+use Rattle.m36_super.specs.declared.coming.Coming.TheVariants.{Step}
 use Rattle.m36_super.specs.BootSays.{IsBooted}
+use Rattle.m36_super.proofs.BootTurns.{start_lib, start_next}
 use Rattle.m36_reading.specs.declared.refusal.Refusal.{Refusal}
 use Rattle.m36_reading.specs.Reading.{decided}
 use Rattle.m36_reading.specs.Asking.{Asked, Gives, Refuses}
@@ -89,7 +91,7 @@ pub booted_given :
 unfolding boots
 booted_given given b is same =
     ap (booted_by given) is.answer
-    ∙ ap (λ (l : Library). Ok (record { lib = l; denied = given.denied })) (sym is.library)
+    ∙ ap (λ (l : Library). Ok (record { lib = l; denied = given.denied })) (sym (start_lib given.lib b.system is))
     ∙ ap (λ (d : List (List ℕ)). Ok (record { lib = b.system.lib; denied = d })) (sym same)
 
 pub booted_not :
@@ -104,7 +106,11 @@ booted_not given (boot.U4 seg) r told refuses = gives_by FolderFields r (fault_r
 booted_not given boot.NoMemory r told refuses = memory_given FolderFields r (boots given) refuses
 
 pub booted_fresh : (lib : Library) (s : SuperFields) → IsBooted lib s → IsFresh s
-booted_fresh lib s is = subst (λ (l : Library). IsBooted l s) (sym is.library) is
+booted_fresh lib s is = subst (λ (l : Library). IsBooted l s) (sym (start_lib lib s is)) is
+
+-- its next turn is a step
+pub fresh_next : (s : SuperFields) → IsFresh s → s.coming ≡ Step
+fresh_next s fresh = start_next s.lib s fresh
 
 pub ruleset booting = (booted_given, booted_not, booted_fresh)
 

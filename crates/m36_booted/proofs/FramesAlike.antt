@@ -15,13 +15,14 @@ use Rattle.m36_boot.specs.declared.fault.BootFault.TheVariants as fault
 use Rattle.m36_boot.specs.Segments.{booted_sdw}
 use Rattle.m36_boot.specs.Start.{start_answer, start_segment, start_regs}
 use Rattle.m36_boot.specs.Refusals.{Answer, unless, start_of, boot_answer}
-use Rattle.m36_boot.specs.Image.{booted_word, booted_content, words_from, booted_flat}
+use Rattle.m36_boot.specs.Image.{booted_word, booted_content, words_from, booted_flat, paged_of}
 use Rattle.m36_super.specs.Library.{Library}
 use Rattle.m36_super.specs.declared.coming.Coming.{Coming}
 use Rattle.m36_super.specs.declared.coming.Coming.TheVariants.{Step, Link, Print, Over}
 use Rattle.m36_super.specs.FlatRun.{FlatRun, flat_linked_by, flat_turn_by, flat_turn}
 use Rattle.m36_super.specs.SuperFields.{SuperFields, booted_of}
-use Rattle.m36_super.specs.BootSays.{IsBooted}
+use Rattle.m36_super.specs.BootedRun.{flat_run_of}
+use Rattle.m36_super.specs.BootSays.{IsBooted, at_start}
 use Rattle.m36_booted.specs.DueLaw.{with_frames}
 use Rattle.m36_booted.proofs.OneRun.{AreAlike, Look}
 
@@ -93,18 +94,17 @@ pub booted_alike :
     (lib : Library) (n : ℕ) (system other : SuperFields) → IsBooted lib system → IsBooted (with_frames lib n) other
     → Look (booted_of system) (booted_of other)
 booted_alike lib n system other a b =
-    let snap : a.snap ≡ b.snap =
-    ok_same a.snap b.snap (sym (started lib.catalog lib.files a.snap a.answer) ∙ same_start lib.catalog lib.files n ∙ started (framed lib.catalog n) lib.files b.snap b.answer) in
-    let regs : system.regs ≡ other.regs =
-    a.image.regs ∙ ap (start_regs lib.catalog.start.ring) snap ∙ sym b.image.regs in
-    let store : flat_of (booted_of system).state.memory ≡ flat_of (booted_of other).state.memory =
-    a.image.flat ∙ ap (booted_flat lib.catalog lib.files) snap ∙ same_flat lib.catalog lib.files b.snap n ∙ sym b.image.flat in
-    let known : system.known ≡ other.known = a.known ∙ ap (accepted nothing_known) snap ∙ sym b.known in
-    let coming : system.coming ≡ other.coming = a.coming ∙ sym b.coming in
-    let loaded : system.loaded ≡ other.loaded = a.loaded ∙ sym b.loaded in
-    λ i. record {
+    let snap : a.image.snap ≡ b.image.snap =
+    ok_same a.image.snap b.image.snap
+    (sym (started lib.catalog lib.files a.image.snap a.answer) ∙ same_start lib.catalog lib.files n ∙ started (framed lib.catalog n) lib.files b.image.snap b.answer) in
+    let regs : a.image.regs ≡ b.image.regs =
+    a.laid.regs ∙ ap (start_regs lib.catalog.start.ring) snap ∙ sym b.laid.regs in
+    let store : flat_of (paged_of a.image) ≡ flat_of (paged_of b.image) =
+    a.laid.flat ∙ ap (booted_flat lib.catalog lib.files) snap ∙ same_flat lib.catalog lib.files b.image.snap n ∙ sym b.laid.flat in
+    let same : flat_run_of (booted_of (at_start lib a.image)) ≡ flat_run_of (booted_of (at_start (with_frames lib n) b.image)) = λ i. record {
       state = record { regs = regs i; store = store i };
-      known = known i;
-      coming = coming i;
-      loaded = loaded i;
-    }
+      known = accepted nothing_known (snap i);
+      coming = Step;
+      loaded = false;
+    } in
+    ap (λ (s : SuperFields). flat_run_of (booted_of s)) a.system ∙ same ∙ sym (ap (λ (s : SuperFields). flat_run_of (booted_of s)) b.system)

@@ -1,5 +1,5 @@
 -- Segments boot to one system at most.
-use Rattle.std.proofs.Common.{◌≡◌, ℕ, suc, List, [], ◌∷◌, length, Result, Ok, refl, sym, ap, ◌∙◌, arith}
+use Rattle.std.proofs.Common.{◌≡◌, ℕ, suc, false, List, [], ◌∷◌, length, Result, Ok, refl, sym, ap, ◌∙◌, arith}
 use Rattle.std.specs.Prelude.{slice_index}
 use Rattle.m36_model.specs.BootedCore.{wired_frames}
 use Rattle.m36_page.specs.Given.{pager_given}
@@ -10,8 +10,9 @@ use Rattle.m36_link.specs.Fields.{SnapFields}
 use Rattle.m36_link.specs.Known.{nothing_known}
 use Rattle.m36_link.specs.Accepted.{accepted}
 use Rattle.m36_super.specs.Library.{Library}
+use Rattle.m36_super.specs.declared.coming.Coming.TheVariants.{Step}
 use Rattle.m36_super.specs.SuperFields.{SuperFields}
-use Rattle.m36_super.specs.BootSays.{IsBooted}
+use Rattle.m36_super.specs.BootSays.{IsBooted, at_start}
 
 same_words : (xs ys : List ℕ) → length xs ≡ length ys → ((a : ℕ) → slice_index xs a ≡ slice_index ys a) → xs ≡ ys
 same_words [] [] size at = refl
@@ -28,21 +29,18 @@ ok_same s t e = cc
 pub one_system :
     (lib : Library) (s t : SuperFields) → IsBooted lib s → IsBooted lib t → s ≡ t
 one_system lib s t a b =
-    let snap : a.snap ≡ b.snap = ok_same a.snap b.snap (sym a.answer ∙ b.answer) in
-    let library : s.lib ≡ t.lib = a.library ∙ sym b.library in
-    let core : s.core ≡ t.core =
-    same_words s.core t.core (a.image.size ∙ sym b.image.size) (λ w. a.image.core w ∙ sym (b.image.core w)) in
-    let regs : s.regs ≡ t.regs = a.image.regs ∙ ap (λ p. start_regs lib.catalog.start.ring p) snap ∙ sym b.image.regs in
-    let pager : s.pager ≡ t.pager = a.image.pager ∙ ap (λ (p : SnapFields). pager_given wired_frames lib.catalog.frames (booted_tables lib.catalog lib.files p.lay)) snap ∙ sym b.image.pager in
-    let known : s.known ≡ t.known = a.known ∙ ap (λ p. accepted nothing_known p) snap ∙ sym b.known in
-    let coming : s.coming ≡ t.coming = a.coming ∙ sym b.coming in
-    let loaded : s.loaded ≡ t.loaded = a.loaded ∙ sym b.loaded in
-    λ i. record {
-      lib = library i;
+    let snap : a.image.snap ≡ b.image.snap = ok_same a.image.snap b.image.snap (sym a.answer ∙ b.answer) in
+    let core : a.image.core ≡ b.image.core =
+    same_words a.image.core b.image.core (a.laid.size ∙ sym b.laid.size) (λ w. a.laid.core w ∙ sym (b.laid.core w)) in
+    let regs : a.image.regs ≡ b.image.regs = a.laid.regs ∙ ap (λ p. start_regs lib.catalog.start.ring p) snap ∙ sym b.laid.regs in
+    let pager : a.image.pager ≡ b.image.pager = a.laid.pager ∙ ap (λ (p : SnapFields). pager_given wired_frames lib.catalog.frames (booted_tables lib.catalog lib.files p.lay)) snap ∙ sym b.laid.pager in
+    let same : at_start lib a.image ≡ at_start lib b.image = λ i. record {
+      lib = lib;
       regs = regs i;
       core = core i;
       pager = pager i;
-      known = known i;
-      coming = coming i;
-      loaded = loaded i;
-    }
+      known = accepted nothing_known (snap i);
+      coming = Step;
+      loaded = false;
+    } in
+    a.system ∙ same ∙ sym b.system

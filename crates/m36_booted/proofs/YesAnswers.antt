@@ -23,6 +23,7 @@ use Rattle.m36_super.specs.Coming.{loaded_after}
 use Rattle.m36_super.specs.BootedRun.{Booted, told_of, IsStepTurn, IsLinkTurn, IsConsoleTurn, IsTurnBy, IsTurn, AreTurns, IsStanding, Stands}
 use Rattle.m36_super.specs.SuperFields.{SuperFields, booted_of}
 use Rattle.m36_super.specs.BootSays.{IsBooted}
+use Rattle.m36_super.proofs.BootTurns.{start_unloaded}
 use Rattle.m36_super.proofs.Turns.{turn_law}
 use Rattle.m36_super.proofs.Audited.{turn_audit}
 use Rattle.m36_reading.specs.Answers.{Answer}
@@ -162,7 +163,7 @@ reached_kept :
 reached_kept lib system now booted audited reached =
     let same : system ≡ reached.system = one_system lib system reached.system booted reached.booted in
     let start : IsKept lib (booted_of system) = record { stands = booted.stands; audited = audited } in
-    turns_keep lib reached.turns (booted_of reached.system) now reached.booted.loaded reached.turns_are reached.unloaded
+    turns_keep lib reached.turns (booted_of reached.system) now (start_unloaded lib reached.system reached.booted) reached.turns_are reached.unloaded
     (subst (λ (s : SuperFields). IsKept lib (booted_of s)) same start)
 
 passes_booted :

@@ -133,7 +133,7 @@ pub fn audited(alloc: Global, system: &Super) -> Result<Verdict, NoMemory>
 }
 
 // Audits a booted system, and does what a command says with it.
-#[tactic(auto, using(crate::proofs::FolderAnswers::dues))]
+#[tactic(auto, using(crate::proofs::FolderAnswers::dues, crate::proofs::FolderReads::fresh_next))]
 fn with_system<S: Sink>(
     alloc: Global,
     command: FolderCommand,

@@ -182,7 +182,7 @@ fn answer_found<S: Sink>(
 }
 
 // Audits a booted system, runs it where nothing is found, and tells of it.
-#[tactic(auto, using(m36_booted::proofs::FolderAnswers::nothing_put))]
+#[tactic(auto, using(m36_booted::proofs::FolderAnswers::nothing_put, m36_booted::proofs::FolderReads::fresh_next))]
 fn answer_system<S: Sink>(alloc: Global, system: &mut Super, out: &mut S) -> Status
     requires { IsFresh system.old }
     ensures { Puts (λ extent. IsSummary extent system.old.lib) (end_of result) result

@@ -1,6 +1,6 @@
 -- A booted image is where a run starts.
-use Rattle.std.proofs.Common.{◌≡◌, refl, sym, subst, arith}
-use Rattle.std.specs.Prelude.{ℕ, List, length, Ok}
+use Rattle.std.proofs.Common.{◌≡◌, refl, sym, ap, subst, arith}
+use Rattle.std.specs.Prelude.{ℕ, false, List, length, Ok}
 use Rattle.m36_dir.specs.Catalog.{CatalogFields}
 use Rattle.m36_boot.specs.declared.image.Image.{Image}
 use Rattle.m36_boot.specs.Image.{IsImage, IsRunnable}
@@ -13,6 +13,7 @@ use Rattle.m36_link.specs.Accepted.{accepted, MayBeLaid}
 use Rattle.m36_link.specs.Laws.{IsMade, MayBeAcceptedFrom, KeepsMadeFrom}
 use Rattle.m36_page.specs.Residence.{Reads}
 use Rattle.m36_super.specs.Library.{Library}
+use Rattle.m36_super.specs.Coming.{Step}
 use Rattle.m36_super.specs.SuperFields.{SuperFields, IsManaged, IsRunning}
 use Rattle.m36_super.specs.BootSays.{IsBooted, at_start}
 
@@ -40,12 +41,20 @@ start_laid catalog files s may e =
 pub booted : (lib : Library) (image : Image) (s : SuperFields) → s ≡ at_start lib image → boot_answer lib.catalog lib.files ≡ Ok image.snap → IsImage lib.catalog lib.files image.snap image → IsRunnable lib.catalog.frames image → IsBooted lib s
 booted lib image s e answer is r =
     subst (IsBooted lib) (sym e) (record {
-      library = refl;
-      snap = image.snap;
+      image = image;
       answer = answer;
-      image = is;
-      known = refl;
-      coming = refl;
-      loaded = refl;
+      laid = is;
+      system = refl;
       stands = record { dbr = r.dbr; laid = r.pages.laid };
     })
+
+-- ---- what holds of a system at its start
+
+pub start_lib : (lib : Library) (s : SuperFields) → IsBooted lib s → s.lib ≡ lib
+start_lib lib s is = ap (λ (x : SuperFields). x.lib) is.system
+
+pub start_next : (lib : Library) (s : SuperFields) → IsBooted lib s → s.coming ≡ Step
+start_next lib s is = ap (λ (x : SuperFields). x.coming) is.system
+
+pub start_unloaded : (lib : Library) (s : SuperFields) → IsBooted lib s → s.loaded ≡ false
+start_unloaded lib s is = ap (λ (x : SuperFields). x.loaded) is.system
