@@ -54,7 +54,7 @@ IsPrint NoMemory = ⊥
 step_is :
     (loaded : Bool) (frames : ℕ) (before : Booted) (turn : Turn) (after : Booted)
     → IsStepTurn loaded frames before turn after → IsStep turn
-step_is false frames before turn after is = subst IsStep (sym is.told) tt
+step_is false frames before turn after is = subst IsStep (sym is.takes.told) tt
 step_is true frames before turn after is = subst IsStep (sym is.told) tt
 
 link_is :

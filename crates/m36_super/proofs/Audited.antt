@@ -16,7 +16,7 @@ use Rattle.m36_link.specs.Snap.{RefusedFields, snap_of}
 use Rattle.m36_step.specs.declared.turns.Turn.{Turn}
 use Rattle.m36_step.specs.declared.turns.Turn.TheVariants.{Stepped, Linked, Console, Ended, Full, NoMemory}
 use Rattle.m36_super.specs.Library.{Library}
-use Rattle.m36_super.specs.Services.{is_too_much, console_text, link_changes}
+use Rattle.m36_super.specs.Services.{asks_too_much, console_text, link_changes}
 use Rattle.m36_super.specs.Coming.{Coming, Step, Link, Print, Over, loaded_after}
 use Rattle.m36_super.specs.FlatRun.{FlatRun, flat_stepped, flat_linked_by, flat_printed_by, flat_turn_by, flat_turn, flat_turns}
 use Rattle.m36_super.specs.BootedRun.{Booted, IsStep, IsStepTurn, IsLinkTurn, IsConsoleTurn, IsTurnBy, IsTurn, AreTurns, IsStanding, Stands, flat_run_of}
@@ -46,7 +46,7 @@ step_low : (frames : ℕ) (before : Booted) (turn : Turn) (after : Booted) → I
 step_low frames before turn after stands h =
     let alike = services_alike frames h.services before.state h.last stands h.served in
     let step = paged_step_law frames h.last.memory.kept (core_state h.last) alike.standing.dbr alike.standing.laid in
-    ap (λ (r : Booted). take descriptor_words r.state.memory.core) h.after_is ∙ step.descriptors ∙ alike.low
+    ap (λ (r : Booted). take descriptor_words r.state.memory.core) h.takes.after_is ∙ step.descriptors ∙ alike.low
 
 link_low : (frames : ℕ) (at : AtFields) (answer : Result SnapFields RefusedFields) (before : Booted) (turn : Turn) (after : Booted) → IsLinkTurn answer frames at before turn after → IsLow before after
 link_low frames at (Ok s) before NoMemory after h = ap (λ (r : Booted). take descriptor_words r.state.memory.core) h
@@ -67,7 +67,7 @@ turn_low_by Step lib before turn after false e loaded stands h =
 turn_low_by (Link at) lib before turn after b e loaded stands h =
     link_low lib.catalog.frames at (snap_of before.known lib.catalog lib.files at) before turn after h
 turn_low_by Print lib before turn after b e loaded stands h =
-    console_low (is_too_much before.state.regs) (console_text before.state.regs (flat_of before.state.memory)) before turn after h
+    console_low (asks_too_much before.state.regs) (console_text before.state.regs (flat_of before.state.memory)) before turn after h
 turn_low_by (Over end) lib before turn after b e loaded stands h =
     ap (λ (r : Booted). take descriptor_words r.state.memory.core) h.1
 
@@ -102,7 +102,7 @@ loaded_by : (coming : Coming) (lib : Library) (r : FlatRun) → r.loaded ≡ fal
 loaded_by Step lib r loaded plain = step_loaded r loaded plain
 loaded_by (Link at) lib r loaded plain = link_loaded (snap_of r.known lib.catalog lib.files at) r at ∙ loaded
 loaded_by Print lib r loaded plain =
-    print_loaded (is_too_much r.state.regs) (console_text r.state.regs r.state.store) r ∙ loaded
+    print_loaded (asks_too_much r.state.regs) (console_text r.state.regs r.state.store) r ∙ loaded
 loaded_by (Over e) lib r loaded plain = loaded
 
 pub flat_loaded : (lib : Library) (r : FlatRun) → r.loaded ≡ false → IsPlainTurn (flat_turn lib r).turn → (flat_turn lib r).after.loaded ≡ false

@@ -190,6 +190,6 @@ tried old mid new p q told at told_is mid_is runs lacked regs brought reads page
 
 pub taken : (old new : State (List ℕ)) (p q : PagerFields) (told : StepRecord) → told ≡ record_of core_store old → new ≡ state_after core_store old → IsPresent told.outcome → q ≡ p → IsTaken old p new q told
 taken old new p q told told_is state present same =
-    record { told_is = told_is; state = state; pager = same; present = present }
+    record { step = record { told_is = told_is; state = state; pager = same }; present = present }
 
 pub ruleset attempts = (bring_managed, bring_few, bring_page, tried, taken)

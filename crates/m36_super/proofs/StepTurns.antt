@@ -62,12 +62,12 @@ serving_more old mid now p q r left some h t =
 
 taken_again : (mid now : State (List ℕ)) (q r : PagerFields) (told : StepRecord) → IsTaken mid q now r told → IsTaken mid r now r told
 taken_again mid now q r told t =
-    record { told_is = t.told_is; state = t.state; pager = refl; present = t.present }
+    record { step = record { told_is = t.step.told_is; state = t.step.state; pager = refl }; present = t.present }
 
 pub serving_done : (old mid now : State (List ℕ)) (p q r : PagerFields) (told : StepRecord) (left : ℕ) → IsServing old p mid q left → IsTaken mid q now r told → IsStepped old p now r told
 serving_done old mid now p q r told left h t =
     let count = h.count in
-    let same = sym t.pager in
+    let same = sym t.step.pager in
     record {
       last = mid;
       services = h.services;
@@ -86,9 +86,7 @@ serving_last old mid now p q r told left none h told_is state same =
     let served = subst (λ (n : ℕ). AreServed (length p.holders) n (paged_of old p) (paged_of mid q)) all h.served in
     let present : IsPresent (record_of core_store mid).outcome = pages_law (length p.holders) (paged_of old p) (paged_of mid q) h.first.dbr h.first.managed.pages.laid served in
     serving_done old mid now p q r told left h (record {
-      told_is = told_is;
-      state = state;
-      pager = same;
+      step = record { told_is = told_is; state = state; pager = same };
       present = subst (λ (e : StepRecord). IsPresent e.outcome) (sym told_is) present;
     })
 
@@ -100,8 +98,8 @@ frames_kept true old new p q told h = ap (λ (x : PagerFields). length x.holders
 
 pub step_turn : (loaded after : Bool) (old new : State (List ℕ)) (p q : PagerFields) (told : StepRecord) (known : KnownFields) (coming next : Coming) → StepSays loaded old p new q told → after ≡ loaded_after loaded told → next ≡ coming_after after told.ppr.prr told.outcome → IsStepTurn loaded (length p.holders) (run_of old p known coming loaded) (Stepped told) (run_of new q known next after)
 step_turn false after old new p q told known coming next h after_is next_is =
-    let e = h.taken.told_is in
-    let s = h.taken.state in
+    let e = h.taken.step.told_is in
+    let s = h.taken.step.state in
     let loaded : after ≡ loaded_after false (record_of core_store h.last) = after_is ∙ ap (loaded_after false) e in
     let comes : next ≡ coming_after (loaded_after false (record_of core_store h.last)) (record_of core_store h.last).ppr.prr (record_of core_store h.last).outcome = next_is ∙ (λ i. coming_after (loaded i) (e i).ppr.prr (e i).outcome) in
     record {
@@ -110,12 +108,14 @@ step_turn false after old new p q told known coming next h after_is next_is =
       last = paged_of h.last q;
       served = h.served;
       present = subst (λ (x : StepRecord). IsPresent x.outcome) e h.taken.present;
-      told = ap Stepped e;
-      after_is = λ i. record {
-        state = record { regs = (s i).regs; memory = record { core = (s i).store; kept = kept_word q } };
-        known = known;
-        coming = comes i;
-        loaded = loaded i;
+      takes = record {
+        told = ap Stepped e;
+        after_is = λ i. record {
+          state = record { regs = (s i).regs; memory = record { core = (s i).store; kept = kept_word q } };
+          known = known;
+          coming = comes i;
+          loaded = loaded i;
+        };
       };
     }
 step_turn true after old new p q told known coming next h after_is next_is =
@@ -154,8 +154,8 @@ running_after last q told runs told_is present none =
 manages_by : (after : Bool) (new : State (List ℕ)) (q : PagerFields) (told : StepRecord) (last : State (List ℕ)) → loaded_after false told ≡ after → IsRunning (length q.holders) last.regs last.store q → IsTaken last q new q told → Manages after (length q.holders) new.regs new.store q
 manages_by true new q told last e runs t = tt
 manages_by false new q told last e runs t =
-    let dbr = running_after last q told runs t.told_is t.present e in
-    subst (λ (s : State (List ℕ)). IsRunning (length q.holders) s.regs s.store q) (sym t.state) (record { dbr = dbr; managed = step_managed (length q.holders) last q runs.dbr runs.managed })
+    let dbr = running_after last q told runs t.step.told_is t.present e in
+    subst (λ (s : State (List ℕ)). IsRunning (length q.holders) s.regs s.store q) (sym t.step.state) (record { dbr = dbr; managed = step_managed (length q.holders) last q runs.dbr runs.managed })
 
 pub step_manages : (loaded after : Bool) (old new : State (List ℕ)) (p q : PagerFields) (told : StepRecord) → StepSays loaded old p new q told → after ≡ loaded_after loaded told → Manages after (length q.holders) new.regs new.store q
 step_manages false after old new p q told h after_is =

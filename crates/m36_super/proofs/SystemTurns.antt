@@ -14,7 +14,7 @@ use Rattle.m36_step.specs.declared.turns.Turn.{Turn}
 use Rattle.m36_step.specs.declared.turns.Turn.TheVariants.{Console, Ended}
 use Rattle.m36_super.specs.Library.{Library}
 use Rattle.m36_super.specs.Coming.{Coming, Step, Link, Print, Over, coming_in, coming_on, coming_after}
-use Rattle.m36_super.specs.Services.{is_too_much, console_text}
+use Rattle.m36_super.specs.Services.{asks_too_much, console_text}
 use Rattle.m36_super.specs.BootedRun.{Booted, IsStepTurn, IsLinkTurn, IsConsoleTurn, IsTurnBy, IsTurn}
 use Rattle.m36_super.specs.SuperFields.{SuperFields, booted_of, IsDue, IsRunning}
 use Rattle.m36_super.proofs.Turns.{moved_dbr}
@@ -68,7 +68,7 @@ link_turns now inside later turn at frames files same e count all kept h =
     let P : SuperFields → Type 0 = λ s. IsTurn s.lib (booted_of s) turn (booted_of later) × (later.lib ≡ s.lib) in
     subst P same (link_is_turn inside.lib (booted_of inside) turn (booted_of later) frames at files coming count all h, kept)
 
-pub print_is_turn : (lib : Library) (before : Booted) (turn : Turn) (after : Booted) → before.coming ≡ Print → IsConsoleTurn (is_too_much before.state.regs) (console_text before.state.regs (flat_of before.state.memory)) before turn after → IsTurn lib before turn after
+pub print_is_turn : (lib : Library) (before : Booted) (turn : Turn) (after : Booted) → before.coming ≡ Print → IsConsoleTurn (asks_too_much before.state.regs) (console_text before.state.regs (flat_of before.state.memory)) before turn after → IsTurn lib before turn after
 print_is_turn lib before turn after e h = turn_by lib before turn after Print e h
 
 pub end_is_turn : (lib : Library) (before : Booted) (turn : Turn) (e : End) → before.coming ≡ Over e → turn ≡ Ended e → IsTurn lib before turn before

@@ -24,7 +24,7 @@ use Rattle.m36_link.specs.Snap.{RefusedFields, snap_of}
 use Rattle.m36_step.specs.declared.turns.Turn.{Turn}
 use Rattle.m36_step.specs.declared.turns.Turn.TheVariants.{Stepped, NoMemory}
 use Rattle.m36_super.specs.Library.{Library}
-use Rattle.m36_super.specs.Services.{is_too_much, console_text}
+use Rattle.m36_super.specs.Services.{asks_too_much, console_text}
 use Rattle.m36_super.specs.Coming.{Coming, Step, Link, Print, Over, coming_after, is_ldbr, loads, loaded_after}
 use Rattle.m36_super.specs.FlatRun.{FlatTurn, flat_stepped, flat_linked_by, flat_printed_by, flat_turn_by, flat_turn}
 use Rattle.m36_super.specs.BootedRun.{Booted, told_of, with_step, IsStep, IsLinkTurn, IsConsoleTurn, IsTurnBy, IsTurn, IsStanding, Stands, flat_run_of}
@@ -119,7 +119,7 @@ module _ (lib : Library) (state : PagedState) (known : KnownFields) where
   step_kept turn after stands h =
       let alike = services_alike frames h.services state h.last stands h.served in
       let step = paged_step_law frames h.last.memory.kept (core_state h.last) alike.standing.dbr alike.standing.laid in
-      subst (IsTurnKept lib (before Step) turn) (sym h.after_is) (step_cases h.last alike turn h.told h.present step step.cases)
+      subst (IsTurnKept lib (before Step) turn) (sym h.takes.after_is) (step_cases h.last alike turn h.takes.told h.present step step.cases)
 
   -- ---- services
   stands_as : (after : Booted) → after.loaded ≡ false → IsStanding frames after.state → Stands after.loaded frames after.state
@@ -156,9 +156,9 @@ module _ (lib : Library) (state : PagedState) (known : KnownFields) where
   console_cases false (Ok text) turn after stands h =
       ((h.0, ap flat_run_of h.1), subst (λ (r : Booted). Stands r.loaded frames r.state) (sym h.1) (record { dbr = moved_dbr state.regs ∙ stands.dbr; laid = stands.laid }))
 
-  print_kept : (turn : Turn) (after : Booted) → IsStanding frames state → IsConsoleTurn (is_too_much state.regs) (console_text state.regs (flat_of state.memory)) (before Print) turn after → IsTurnKept lib (before Print) turn after
+  print_kept : (turn : Turn) (after : Booted) → IsStanding frames state → IsConsoleTurn (asks_too_much state.regs) (console_text state.regs (flat_of state.memory)) (before Print) turn after → IsTurnKept lib (before Print) turn after
   print_kept turn after stands h =
-      let k = console_cases (is_too_much state.regs) (console_text state.regs (flat_of state.memory)) turn after stands h in
+      let k = console_cases (asks_too_much state.regs) (console_text state.regs (flat_of state.memory)) turn after stands h in
       flat_kept Print turn after (flat_by Print turn after k.0) k.1
 
   turn_by : (coming : Coming) (turn : Turn) (after : Booted) → IsStanding frames state → IsTurnBy coming lib (before coming) turn after → IsTurnKept lib (before coming) turn after

@@ -23,7 +23,7 @@ use Rattle.m36_step.specs.declared.turns.Turn.{Turn}
 use Rattle.m36_step.specs.declared.turns.Turn.TheVariants.{Stepped, Linked, Console, Ended}
 use Rattle.m36_step.specs.declared.turns.Turn.TheVariants.{NoMemory}
 use Rattle.m36_super.specs.Library.{Library}
-use Rattle.m36_super.specs.Services.{link_changes, note_snapped, note_refused, is_too_much}
+use Rattle.m36_super.specs.Services.{link_changes, note_snapped, note_refused, asks_too_much}
 use Rattle.m36_super.specs.Services.{console_text}
 use Rattle.m36_super.specs.Coming.{Coming, Step, Link, Print, Over, loaded_after, coming_behind}
 use Rattle.m36_super.specs.FlatRun.{FlatRun}
@@ -53,6 +53,11 @@ with_step r s =
       loaded = loaded_after r.loaded (told_of s);
     }
 
+-- The turn is the step of a paged state, and leads behind it.
+pub record Takes (s : PagedState) (before : Booted) (turn : Turn) (after : Booted) : Type 0 where
+  pub told : turn ≡ Stepped (told_of s)
+  pub after_is : after ≡ with_step before s
+
 -- Pages are served until the step meets none that is absent.
 pub record IsStep (frames : ℕ) (before : Booted) (turn : Turn) (after : Booted) : Type 0 where
   pub services : ℕ
@@ -60,17 +65,12 @@ pub record IsStep (frames : ℕ) (before : Booted) (turn : Turn) (after : Booted
   pub last : PagedState
   pub served : AreServed frames services before.state last
   pub present : IsPresent (told_of last).outcome
-  pub told : turn ≡ Stepped (told_of last)
-  pub after_is : after ≡ with_step before last
+  pub takes : Takes last before turn after
 
 -- once an LDBR has been executed no page is served
-pub record IsLoadedStep (before : Booted) (turn : Turn) (after : Booted) : Type 0 where
-  pub told : turn ≡ Stepped (told_of before.state)
-  pub after_is : after ≡ with_step before before.state
-
 abbrev pub IsStepTurn : Bool → ℕ → Booted → Turn → Booted → Type 0
 IsStepTurn false frames before turn after = IsStep frames before turn after
-IsStepTurn true frames before turn after = IsLoadedStep before turn after
+IsStepTurn true frames before turn after = Takes before.state before turn after
 
 -- ---- services
 
@@ -122,7 +122,7 @@ IsTurnBy (Link at) lib before turn after =
     IsLinkTurn (snap_of before.known lib.catalog lib.files at) lib.catalog.frames at before turn
     after
 IsTurnBy Print lib before turn after =
-    IsConsoleTurn (is_too_much before.state.regs)
+    IsConsoleTurn (asks_too_much before.state.regs)
     (console_text before.state.regs (flat_of before.state.memory)) before turn after
 IsTurnBy (Over e) lib before turn after = (turn ≡ Ended e) × (after ≡ before)
 

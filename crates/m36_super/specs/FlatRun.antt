@@ -14,7 +14,7 @@ use Rattle.m36_link.specs.Accepted.{accepted}
 use Rattle.m36_step.specs.declared.turns.Turn.{Turn}
 use Rattle.m36_step.specs.declared.turns.Turn.TheVariants.{Stepped, Linked, Console, Ended}
 use Rattle.m36_super.specs.Library.{Library}
-use Rattle.m36_super.specs.Services.{link_changes, note_snapped, note_refused, is_too_much}
+use Rattle.m36_super.specs.Services.{link_changes, note_snapped, note_refused, asks_too_much}
 use Rattle.m36_super.specs.Services.{console_text}
 use Rattle.m36_super.specs.Coming.{Coming, Step, Link, Print, Over, loaded_after, coming_behind}
 
@@ -86,7 +86,7 @@ abbrev pub flat_turn_by : Coming → Library → FlatRun → FlatTurn
 flat_turn_by Step lib r = flat_stepped r
 flat_turn_by (Link at) lib r = flat_linked_by (snap_of r.known lib.catalog lib.files at) r at
 flat_turn_by Print lib r =
-    flat_printed_by (is_too_much r.state.regs) (console_text r.state.regs r.state.store) r
+    flat_printed_by (asks_too_much r.state.regs) (console_text r.state.regs r.state.store) r
 flat_turn_by (Over e) lib r = record { turn = Ended e; after = r }
 
 -- one turn of the flat run

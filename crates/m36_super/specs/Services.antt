@@ -49,8 +49,9 @@ note_refused at why = note_of at why.link (Err why.code)
 abbrev pub console_limit : ℕ
 console_limit = 256
 
-abbrev pub is_too_much : RegsFields → Bool
-is_too_much g = nat_lt console_limit g.a
+-- whether it is asked for more
+abbrev pub asks_too_much : RegsFields → Bool
+asks_too_much g = nat_lt console_limit g.a
 
 -- how many words have so many characters, four in each
 abbrev pub console_word_limit : ℕ

@@ -33,13 +33,19 @@ pub record IsTried
     pub frames : length q.holders ≡ length p.holders
     pub runs : IsRunning (length q.holders) new.regs new.store q
 
--- A step lacked none.
-pub record IsTaken
+-- A step over core as it stands: once an LDBR has been executed no page is served.
+pub record IsBareStep
     (old : State (List ℕ)) (p : PagerFields) (new : State (List ℕ)) (q : PagerFields)
     (told : StepRecord) : Type 0 where
   pub told_is : told ≡ record_of core_store old
   pub state : new ≡ state_after core_store old
   pub pager : q ≡ p
+
+-- A step lacked none.
+pub record IsTaken
+    (old : State (List ℕ)) (p : PagerFields) (new : State (List ℕ)) (q : PagerFields)
+    (told : StepRecord) : Type 0 where
+  pub step : IsBareStep old p new q told
   pub present : IsPresent told.outcome
 
 abbrev pub AttemptSays :
@@ -58,14 +64,6 @@ pub record IsStepped
   pub frames : length q.holders ≡ length p.holders
   pub runs : IsRunning (length q.holders) last.regs last.store q
   pub taken : IsTaken last q new q told
-
--- once an LDBR has been executed no page is served
-pub record IsBareStep
-    (old : State (List ℕ)) (p : PagerFields) (new : State (List ℕ)) (q : PagerFields)
-    (told : StepRecord) : Type 0 where
-  pub told_is : told ≡ record_of core_store old
-  pub state : new ≡ state_after core_store old
-  pub pager : q ≡ p
 
 abbrev pub StepSays :
     Bool → State (List ℕ) → PagerFields → State (List ℕ) → PagerFields → StepRecord → Type 0

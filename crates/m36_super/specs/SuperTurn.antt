@@ -56,7 +56,7 @@ IsQuiet (Over e) = Unit {0}
 step_no_service :
     (loaded : Bool) (frames : ℕ) (before : Booted) (turn : Turn) (after : Booted)
     → IsStepTurn loaded frames before turn after → IsService turn → ⊥
-step_no_service false frames before turn after h service = subst IsService h.told service
+step_no_service false frames before turn after h service = subst IsService h.takes.told service
 step_no_service true frames before turn after h service = subst IsService h.told service
 
 pub link_quiet :

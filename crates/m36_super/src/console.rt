@@ -7,7 +7,8 @@ ghost use Rattle.m36_model.specs.Place.{core_sdw};
 ghost use Rattle.m36_model.specs.BootedCore.{booted_dbr};
 ghost use Rattle.m36_link.specs.Fields.{KnownFields};
 ghost use Rattle.m36_super.specs.BootedRun.{IsConsoleTurn};
-ghost use Rattle.m36_super.specs.Services.{console_limit, console_word_limit, is_too_much, written_character, characters_of};
+ghost use Rattle.m36_super.specs.Services.{console_limit, console_word_limit, written_character}
+ghost use Rattle.m36_super.specs.Services.{characters_of, asks_too_much}
 ghost use Rattle.m36_super.specs.Services.{console_at, console_words, console_text};
 ghost use Rattle.m36_super.specs.SuperFields.{run_of, IsManaged, IsRunning};
 ghost use Rattle.m36_super.specs.Writing.{flat_by};
@@ -186,7 +187,7 @@ pub(crate) fn print(machine: &mut Machine, pager: &Pager, coming: &mut Coming) -
     requires { IsRunning (length pager.now.holders) machine.old.state.regs machine.old.state.store
         pager.now }
     ensures turn { (known : KnownFields) (loaded : Bool) → IsConsoleTurn
-        (is_too_much machine.old.state.regs)
+        (asks_too_much machine.old.state.regs)
         (console_text machine.old.state.regs (flat_by machine.old.state.store pager.now))
         (run_of machine.old.state pager.now known coming.old loaded) result
         (run_of machine.new.state pager.now known coming.new loaded) }
