@@ -15,7 +15,7 @@ nothing_made catalog files = record {
   laid = All-nil (λ (l : LaidFields). IsWhole catalog files l);
 }
 
-base_first : (ring : ℕ) → base_of [] ring ≡ lot_words
+pub base_first : (ring : ℕ) → base_of [] ring ≡ lot_words
 unfolding next_base
 base_first ring = refl
 

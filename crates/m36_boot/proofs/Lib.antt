@@ -1,4 +1,5 @@
 pub mod Orders
+pub mod ImageLaw
 pub mod Files
 pub mod ReadObjects
 pub mod LimitLoops

@@ -109,7 +109,7 @@ stack_size ring =
     let all = length-append (replicate 22 nought) (ptr_even (pointer (linkage_segment ring) ring 0) ∷ ptr_odd (pointer (linkage_segment ring) ring 0) ∷ []) in
     omega (arith, zeros, all)
 
-lot_size : (l : LayFields) → l.seg < 1024 → length (lot_of l) ≡ 1024
+pub lot_size : (l : LayFields) → l.seg < 1024 → length (lot_of l) ≡ 1024
 lot_size l lt =
     let nought : ℕ = 0 in
     let before = length-replicate l.seg nought in

@@ -1,4 +1,5 @@
 pub mod Segments
 pub mod Start
+pub mod ImageLaw
 pub mod Refusals
 pub mod Image

@@ -29,7 +29,7 @@ stack_segment ring = first_stack + ring
 
 -- the number behind those of the rings
 abbrev pub behind_rings : ℕ
-behind_rings = 24
+behind_rings = linkage_segment 8
 
 abbrev pub stack_pages : ℕ
 stack_pages = 16

@@ -9,5 +9,6 @@ pub mod PagedContents
 pub mod ConsoleReads
 pub mod LinkPlaces
 pub mod LinkTurns
+pub mod LaidSections
 pub mod SystemTurns
 pub mod BootTurns

@@ -70,7 +70,7 @@ pub writing_done : (core now : List ℕ) (p q : PagerFields) (ring at word i : �
 writing_done core now p q ring at word i words past h =
     writing_end core now p q ring at word words (subst (λ (x : List ℕ). IsWriting core p now q ring at x word words) (drop_past i words past) h)
 
-put-append : (f : Flat) (a b : List Change) → flat_put f (a ++ b) ≡ flat_put (flat_put f a) b
+pub put-append : (f : Flat) (a b : List Change) → flat_put f (a ++ b) ≡ flat_put (flat_put f a) b
 unfolding flat_put
 put-append f [] b = refl
 put-append f (c ∷ a) b = put-append (flat_put_one f c.spot c.part c.value) a b

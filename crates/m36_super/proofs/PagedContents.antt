@@ -110,10 +110,10 @@ pair_cases a b x y = by_tests (a == x) (b == y) refl refl
     by_tests false t e f = inr (ap (λ (s : Bool). s && (b == y)) e)
     by_tests true false e f = inr (ap (λ (s : Bool). s && (b == y)) e ∙ f)
 
-same_test : (a : ℕ) → (a == a) ≡ true
+pub same_test : (a : ℕ) → (a == a) ≡ true
 same_test a = grind arith
 
-both_same : (a b : ℕ) → ((a == a) && (b == b)) ≡ true
+pub both_same : (a b : ℕ) → ((a == a) && (b == b)) ≡ true
 both_same a b = ap (λ (s : Bool). s && (b == b)) (same_test a) ∙ same_test b
 
 not_both : (a b x y : ℕ) → ((a == x) && (b == y)) ≡ false → (x ≡ a) × (y ≡ b) → ⊥

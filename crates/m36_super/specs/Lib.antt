@@ -1,5 +1,6 @@
 pub mod Library
 pub mod Laying
+pub mod LayingLaw
 pub mod Services
 pub mod Coming
 pub mod FlatRun

@@ -1,0 +1,21 @@
+-- A section that a link service lays is the one that stands in the image of a start.
+use Rattle.std.specs.Prelude.{◌≡◌, ◌≢◌, ℕ, ◌<◌, Some, slice_index}
+use Rattle.m36_model.specs.Flat.{Flat, flat_put}
+use Rattle.m36_link.specs.Fields.{LayFields}
+use Rattle.m36_link.specs.Known.{nothing_known, linkage_segment, lot_words}
+use Rattle.m36_link.specs.Accepted.{IsNext}
+use Rattle.m36_boot.specs.Segments.{linkage_words}
+use Rattle.m36_super.specs.Laying.{laying}
+
+-- Where the first section of a ring is laid among zeros, the linkage segment of the ring reads as
+-- the words with which the image lays it: the word of the linkage offset table for it, and behind
+-- the table its words. No word of another segment changes.
+pub record LayingLaw : Type 0 where
+  pub here :
+      (l : LayFields) (f : Flat) → IsNext nothing_known l → l.seg < lot_words
+      → ((seg w : ℕ) → f.content seg w ≡ 0) → (w : ℕ)
+      → (flat_put f (laying (Some l))).content (linkage_segment l.ring) w
+      ≡ slice_index (linkage_words (Some l) l.ring) w
+  pub elsewhere :
+      (l : LayFields) (f : Flat) (seg w : ℕ) → seg ≢ linkage_segment l.ring
+      → (flat_put f (laying (Some l))).content seg w ≡ f.content seg w
