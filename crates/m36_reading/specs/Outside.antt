@@ -2,7 +2,7 @@
 use Rattle.std.specs.Prelude.{ℕ, ◌≡◌, List, Option}
 use Rattle.m36_outside.specs.Files.{Files}
 use Rattle.m36_outside.specs.FolderCalls.{Wrote}
-use Rattle.m36_outside.specs.SinkState.{SinkState}
+use Rattle.m36_outside.specs.SinkState.{SinkState, seen}
 use Rattle.m36_reading.specs.Puts.{IsNotPut}
 
 pub record FolderState : Type 0 where
@@ -27,8 +27,7 @@ folder_of files wrote read_faults write_faults folder = record {
 
 abbrev pub sink_of :
     {S : Type 0} → (S → Option (List ℕ)) → (S → List (List ℕ)) → (S → ℕ) → S → SinkState
-sink_of written taken faults sink =
-    record { written = written sink; taken = taken sink; faults = faults sink }
+sink_of written taken faults sink = seen (written sink) (taken sink) (faults sink)
 
 -- No file changes, where the folder tells its files, and nothing is written to it, whether it tells
 -- them or not.
