@@ -132,7 +132,7 @@ module _ (core : List ℕ) (frames : ℕ) (laid : IsLaid core frames) where
         most = laid.most;
         segments = λ seg d live. laid.segments seg d (sym (same_sdw core booted_dbr now m seg) ∙ live);
         dead = λ seg why e. laid.dead seg why (sym (same_sdw core booted_dbr now m seg) ∙ e);
-        pages = λ seg page p. let before = page_before now m seg page p in let same = same_page_word now m seg page before in ⊎_elim (λ e. inl (same ∙ e)) (λ k. inr (k.0, record { word = same ∙ k.1.word; low = k.1.low; high = k.1.high })) (laid.pages seg page before);
+        pages = λ seg page p. let before = page_before now m seg page p in let same = same_page_word now m seg page before in ⊎_elim (λ e. inl (same ∙ e)) (λ k. inr (k.0, record { word = same ∙ k.1.word; pageable = k.1.pageable })) (laid.pages seg page before);
         apart = λ seg page seg' page' frame p q e f. let before = page_before now m seg page p in let before' = page_before now m seg' page' q in laid.apart seg page seg' page' frame before before' (sym (same_page_word now m seg page before) ∙ e) (sym (same_page_word now m seg' page' before') ∙ f);
       }
 

@@ -96,7 +96,7 @@ module _ (core : List ℕ) (frames : ℕ) (laid : IsLaid core frames) where
   resident_spot seg w frame d live inside h =
       let all : length core ≡ 1024 * (146 + frames) = laid.size in
       let most : 146 + frames ≤ 16384 = laid.most in
-      let high : frame < 146 + frames = h.high in
+      let high : frame < 146 + frames = h.pageable.1 in
       spot_by seg w d live inside (Ok (frame * 1024 + w % 1024)) (resident_as (slice_index core (table_at seg + w / 1024)) frame (w % 1024) h.word (omega arith) (omega arith)) ∙ inside_at (length core) (frame * 1024 + w % 1024) (omega arith)
 
   -- where a word of a segment lies
@@ -154,7 +154,7 @@ module _ (core : List ℕ) (frames : ℕ) (laid : IsLaid core frames) where
   pub word_high : (seg w a : ℕ) → IsSegmentWord core booted_dbr seg w a → 149504 ≤ a
   word_high seg w a h =
       let k = lies_in seg w a h in
-      let low : 146 ≤ k.frame = k.resident.low in
+      let low : 146 ≤ k.frame = k.resident.pageable.0 in
       let at = k.address in
       omega arith
 

@@ -52,7 +52,7 @@ laid_by core frames laid now size low frame_of r =
     by_frame seg page p None e = inl (frame_as now frames frame_of r seg page p None e)
     by_frame seg page p (Some frame) e =
         let k = r.range seg page frame e in
-        inr (frame, record { word = frame_as now frames frame_of r seg page p (Some frame) e; low = k.0; high = k.1 })
+        inr (frame, record { word = frame_as now frames frame_of r seg page p (Some frame) e; pageable = k })
 
 module _ (m : Paged) (frames : ℕ) (laid : IsLaid m.core frames) (frame_of : ℕ → ℕ → Option ℕ) (r : IsResidence m.core frames frame_of) where
   spot_word : (seg w : ℕ) (d : SdwFields) → core_sdw m.core booted_dbr seg ≡ Ok d → within d w ≡ true → (v : Option ℕ) → frame_of seg (w / 1024) ≡ v → word_at m seg w (core_spot m.core booted_dbr d seg w) ≡ resident_word m v seg w
@@ -63,7 +63,7 @@ module _ (m : Paged) (frames : ℕ) (laid : IsLaid m.core frames) (frame_of : �
       let p = page_of_word m.core frames laid seg w d live inside in
       let k = r.range seg (w / 1024) frame e in
       let same : frame * 1024 + w % 1024 ≡ 1024 * frame + w % 1024 = omega arith in
-      ap (word_at m seg w) (resident_spot m.core frames laid seg w frame d live inside (record { word = frame_as m.core frames frame_of r seg (w / 1024) p (Some frame) e; low = k.0; high = k.1 }))
+      ap (word_at m seg w) (resident_spot m.core frames laid seg w frame d live inside (record { word = frame_as m.core frames frame_of r seg (w / 1024) p (Some frame) e; pageable = k }))
       ∙ ap (slice_index m.core) same
 
 -- the word at a place, by the descriptor

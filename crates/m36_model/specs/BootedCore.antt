@@ -56,11 +56,14 @@ pub record IsPage (core : List ℕ) (seg page : ℕ) : Type 0 where
 abbrev pub page_word : List ℕ → ℕ → ℕ → ℕ
 page_word core seg page = unmarked (slice_index core (table_at seg + page))
 
+-- it is one of so many pageable frames
+abbrev pub IsPageable : ℕ → ℕ → Type 0
+IsPageable frames frame = (wired_frames ≤ frame) × (frame < wired_frames + frames)
+
 -- the page is in a pageable frame
 pub record IsInFrame (core : List ℕ) (frames seg page frame : ℕ) : Type 0 where
   pub word : page_word core seg page ≡ resident_ptw frame
-  pub low : wired_frames ≤ frame
-  pub high : frame < wired_frames + frames
+  pub pageable : IsPageable frames frame
 
 -- the core of a booted image with so many pageable frames, at any point of its run until ring 0
 -- loads another DBR

@@ -1,13 +1,13 @@
 -- Residence: pages of a booted image are in frames of core, or their words are kept elsewhere. What
 -- the image holds is the same either way.
-use Rattle.std.specs.Prelude.{◌≡◌, ℕ, ◌+◌, ◌*◌, ◌/◌, ◌%◌, ◌<◌, ◌≤◌, ◌==◌, if◌then◌else◌, List}
+use Rattle.std.specs.Prelude.{◌≡◌, ℕ, ◌+◌, ◌*◌, ◌/◌, ◌%◌, ◌==◌, if◌then◌else◌, List}
 use Rattle.std.specs.Prelude.{length, take, slice_index, Option, Some, None, Result, Ok, Err}
 use Rattle.m36_model.specs.Faults.{missing_page}
 use Rattle.m36_model.specs.Store.{Spot, place}
 use Rattle.m36_model.specs.Place.{directed}
 use Rattle.m36_model.specs.Core.{core_store, core_word}
 use Rattle.m36_model.specs.Flat.{Flat}
-use Rattle.m36_model.specs.BootedCore.{descriptor_words, booted_dbr, wired_frames, resident_ptw}
+use Rattle.m36_model.specs.BootedCore.{descriptor_words, booted_dbr, IsPageable, resident_ptw}
 use Rattle.m36_model.specs.BootedCore.{absent_ptw, IsPage, page_word}
 use Rattle.m36_model.specs.declared.outcome.Refusal.{Refusal}
 
@@ -49,8 +49,7 @@ pub record IsResidence (core : List ℕ) (frames : ℕ) (frame_of : ℕ → ℕ 
       (seg page : ℕ) → IsPage core seg page
       → page_word core seg page ≡ ptw_of_page (frame_of seg page)
   pub range :
-      (seg page frame : ℕ) → frame_of seg page ≡ Some frame
-      → (wired_frames ≤ frame) × (frame < wired_frames + frames)
+      (seg page frame : ℕ) → frame_of seg page ≡ Some frame → IsPageable frames frame
   pub one :
       (seg page seg' page' frame : ℕ) → frame_of seg page ≡ Some frame
       → frame_of seg' page' ≡ Some frame → (seg ≡ seg') × (page ≡ page')

@@ -69,7 +69,7 @@ module _ (frames : ℕ) (core : List ℕ) (p : PagerFields) (m : IsManaged frame
       let is = page_of_word core frames m.pages.laid seg w d live inside in
       let k = here.range seg (w / 1024) frame e in
       let same : frame * 1024 + w % 1024 ≡ 1024 * frame + w % 1024 = omega arith in
-      ap (word_at memory seg w) (resident_spot core frames m.pages.laid seg w frame d live inside (record { word = here.words seg (w / 1024) is ∙ ap ptw_of_page e; low = k.0; high = k.1 }))
+      ap (word_at memory seg w) (resident_spot core frames m.pages.laid seg w frame d live inside (record { word = here.words seg (w / 1024) is ∙ ap ptw_of_page e; pageable = k }))
       ∙ ap (slice_index core) same
 
   found_of : (seg w : ℕ) → has_page p seg (w / 1024) ≡ true → found_word (content_of p core seg w) ≡ word_in (frame_of p core seg (w / 1024)) core w (kept_word p seg w)

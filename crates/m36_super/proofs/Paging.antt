@@ -4,7 +4,7 @@ use Rattle.std.specs.Prelude.{ℕ, zero, suc, ◌+◌, ◌*◌, ◌/◌, ◌<◌
 use Rattle.m36_model.specs.Core.{core_store, unmarked}
 use Rattle.m36_model.specs.Place.{core_sdw}
 use Rattle.m36_model.specs.Step.{state_after}
-use Rattle.m36_model.specs.BootedCore.{descriptor_words, booted_dbr, table_at, wired_frames, absent_ptw, resident_ptw, IsPage, page_word, IsLaid}
+use Rattle.m36_model.specs.BootedCore.{descriptor_words, booted_dbr, table_at, wired_frames, absent_ptw, resident_ptw, IsPage, page_word, IsPageable, IsLaid}
 use Rattle.m36_model.specs.Residence.{ptw_of_page, IsResidence, resident_word}
 use Rattle.m36_isol.proofs.PagedStep.{paged_step_law}
 use Rattle.m36_isol.proofs.Moved.{same_descriptors, laid_by}
@@ -96,7 +96,7 @@ module _ (frames : ℕ) (core : List ℕ) (p : PagerFields) (most : wired_frames
         one = λ seg page seg' page' frame e f. one_of frame (held_by seg page frame _ refl e) (held_by seg' page' frame _ refl f);
       }
     where
-      range_of : {seg page : ℕ} (frame : ℕ) → IsHeld seg page frame → (wired_frames ≤ frame) × (frame < wired_frames + frames)
+      range_of : {seg page : ℕ} (frame : ℕ) → IsHeld seg page frame → IsPageable frames frame
       range_of {seg = seg} {page = page} frame h =
           let within = get_within p.holders h.k (seg, page) h.holds in
           let low : p.first ≡ 146 = first in

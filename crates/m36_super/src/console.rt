@@ -7,8 +7,7 @@ ghost use Rattle.m36_model.specs.Place.{core_sdw};
 ghost use Rattle.m36_model.specs.BootedCore.{booted_dbr};
 ghost use Rattle.m36_link.specs.Fields.{KnownFields};
 ghost use Rattle.m36_super.specs.BootedRun.{IsConsoleTurn};
-ghost use Rattle.m36_super.specs.Services.{console_limit, console_word_limit, written_character}
-ghost use Rattle.m36_super.specs.Services.{characters_of, asks_too_much}
+ghost use Rattle.m36_super.specs.Services.{console_limit, console_word_limit, asks_too_much, written_character, characters_of};
 ghost use Rattle.m36_super.specs.Services.{console_at, console_words, console_text};
 ghost use Rattle.m36_super.specs.SuperFields.{run_of, IsManaged, IsRunning};
 ghost use Rattle.m36_super.specs.Writing.{flat_by};
