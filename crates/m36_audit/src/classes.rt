@@ -2,6 +2,7 @@
 
 ghost use Rattle.std.specs.Prelude.{ℕ, ◌≡◌, ◌+◌, ◌*◌, ◌<◌, ◌≤◌, ◌^◌, Some, IfOk, OnOk, MatchOption, length, slice_get, slice_set, slice_index, nat_eq};
 ghost use Rattle.std.specs.HashMap.{get};
+ghost use Rattle.m36_model.specs.JointAudit.{most_processes};
 ghost use Rattle.m36_audit.specs.Classes.{IsKey, KeyAt, AreClasses, AreNoted, AreNotedSo};
 
 use crate::run::zeros;
@@ -66,7 +67,7 @@ fn note_process(
     k: usize,
 ) -> Result<(), NoMemory>
     requires process { k < length dbrs.now }
-    requires few { length dbrs.now ≤ 8 }
+    requires few { length dbrs.now ≤ most_processes }
     requires before { AreNotedSo core.now dbrs.now (2 ^ 15 * k) (get nat_eq places.old) firsts.old.items }
     ensures { OnOk result (AreNotedSo core.now dbrs.now (2 ^ 15 * (k + 1)) (get nat_eq places.new) firsts.new.items) }
 {
@@ -80,7 +81,7 @@ fn note_process(
 
 /// For each descriptor of each process the number of the first one with its words. The error is want of memory alone.
 pub(crate) fn classes(alloc: Global, core: &Core, dbrs: &[Dbr]) -> Result<Vec<u32>, NoMemory>
-    requires { length dbrs.now ≤ 8 }
+    requires { length dbrs.now ≤ most_processes }
     ensures { IfOk result (λ firsts. AreClasses core.now dbrs.now (2 ^ 15 * length dbrs.now) firsts.items) }
 {
     let mut firsts = zeros(alloc, dbrs.len() as u32 * SEGMENTS as u32)?;

@@ -2,6 +2,7 @@
 
 ghost use Rattle.std.specs.Prelude.{ℕ, ◌≡◌, ◌+◌, ◌*◌, ◌/◌, ◌<◌, ◌≤◌, ◌^◌, IfOk, OnSome, length, slice_index};
 ghost use Rattle.m36_desc.specs.Fields.{SdwFields};
+ghost use Rattle.m36_model.specs.JointAudit.{most_processes};
 ghost use Rattle.m36_model.specs.Place.{directory_at, sdw_place, core_sdw};
 ghost use Rattle.m36_audit.specs.Shares.{descriptor_told, directory_told, pages_told, page_table_told, live_told, segment_told, segments_told, IsSegmentCount};
 
@@ -71,7 +72,7 @@ fn tell_live(told: &mut Told, found: Result<Sdw, Refusal>, number: u32)
 #[tactic(auto, unfolding(crate::specs::Shares::segment_told))]
 fn tell_segment(told: &mut Told, core: &Core, dbr: Dbr, firsts: &Vec<u32>, k: u32, seg: u16)
     requires seg { seg < 2 ^ 15 }
-    requires process { k < 8 }
+    requires process { k < most_processes }
     requires there { 2 ^ 15 * k + seg < length firsts.now.items }
     requires below { slice_index firsts.now.items (2 ^ 15 * k + seg) < 2 ^ 18 }
     ensures { told.new.values.items
@@ -86,7 +87,7 @@ fn tell_segment(told: &mut Told, core: &Core, dbr: Dbr, firsts: &Vec<u32>, k: u3
 /// Tells the table words of process k.
 #[tactic(auto, unfolding(crate::specs::Shares::segments_told))]
 pub(crate) fn tell_tables(told: &mut Told, core: &Core, dbr: Dbr, firsts: &Vec<u32>, k: u32)
-    requires process { k < 8 }
+    requires process { k < most_processes }
     requires there { 2 ^ 15 * (k + 1) ≤ length firsts.now.items }
     requires below { (i : ℕ) → slice_index firsts.now.items i < 2 ^ 18 }
     ensures { (n : ℕ) × IsSegmentCount dbr n × (told.new.values.items

@@ -5,7 +5,7 @@ ghost use Rattle.arrayvec.specs.ArrayVec.{array_vec_len};
 ghost use Rattle.m36_desc.specs.Fields.{DbrFields};
 ghost use Rattle.m36_model.specs.Audit.{AreFindings};
 ghost use Rattle.m36_model.specs.Core.{core_store, core_tables};
-ghost use Rattle.m36_model.specs.JointAudit.{AreFindingsFrom, AreJointFindings, IsJointlyAudited};
+ghost use Rattle.m36_model.specs.JointAudit.{AreFindingsFrom, AreJointFindings, IsJointlyAudited, most_processes};
 ghost use Rattle.m36_model.specs.JointIsolation.{JointlyIsolated};
 ghost use Rattle.m36_audit.specs.Findings.{pairs};
 ghost use Rattle.m36_audit.specs.Classes.{AreClasses};
@@ -70,7 +70,7 @@ fn judged(
     firsts: &Vec<u32>,
     k: usize,
 ) -> Verdict
-    requires few { length dbrs.now ≤ 8 }
+    requires few { length dbrs.now ≤ most_processes }
     requires process { k < length dbrs.now }
     requires marks_len { length marks.old.tables.items ≡ length core.now }
     requires starts_len { length counts.old.starts.items ≡ length core.now }
@@ -116,7 +116,7 @@ fn judged_all(
     dbrs: &[Dbr],
     firsts: &Vec<u32>,
 ) -> ArrayVec<JointFinding, 50>
-    requires few { length dbrs.now ≤ 8 }
+    requires few { length dbrs.now ≤ most_processes }
     requires marks_len { length marks.old.tables.items ≡ length core.now }
     requires starts_len { length counts.old.starts.items ≡ length core.now }
     requires stops_len { length counts.old.stops.items ≡ length core.now }
@@ -149,7 +149,7 @@ fn jointly_judged(
     dbrs: &[Dbr],
     firsts: &Vec<u32>,
 ) -> Joint
-    requires few { length dbrs.now ≤ 8 }
+    requires few { length dbrs.now ≤ most_processes }
     requires marks_len { length marks.old.tables.items ≡ length core.now }
     requires starts_len { length counts.old.starts.items ≡ length core.now }
     requires stops_len { length counts.old.stops.items ≡ length core.now }
@@ -184,7 +184,7 @@ fn jointly_judged(
 /// error is want of memory alone, and that is taken before any finding is made.
 pub fn joint(alloc: Global, core: &Core, dbrs: &[Dbr]) -> Result<Joint, NoMemory>
     requires some { 1 ≤ length dbrs.now }
-    requires few { length dbrs.now ≤ 8 }
+    requires few { length dbrs.now ≤ most_processes }
     ensures findings { IfOk result (λ j. AreJointFindings core.now dbrs.now (all_found j.findings.items)) }
     ensures audited { IfOk result (λ j. (j.findings.items ≡ []) ↔ IsJointlyAudited core.now dbrs.now) }
     ensures isolated { IfOk result (λ j. j.findings.items ≡ []

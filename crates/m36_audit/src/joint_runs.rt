@@ -2,6 +2,7 @@
 
 ghost use Rattle.std.specs.Prelude.{ℕ, ◌≡◌, ◌+◌, ◌*◌, ◌/◌, ◌<◌, ◌≤◌, ◌^◌, Ok, Some, true, length, slice_get, slice_index};
 ghost use Rattle.m36_desc.specs.Access.{in_order};
+ghost use Rattle.m36_model.specs.JointAudit.{most_processes};
 ghost use Rattle.m36_model.specs.Place.{core_sdw};
 ghost use Rattle.m36_audit.specs.Runs.{run_by, AreCounted};
 ghost use Rattle.m36_audit.specs.Shares.{joint_run, piece_count, starts_with, stops_with, HasRoom};
@@ -65,7 +66,7 @@ fn count_pieces(
     number: u32,
     sdw: &Sdw,
 )
-    requires few { length dbrs.now ≤ 8 }
+    requires few { length dbrs.now ≤ most_processes }
     requires small { number < 2 ^ 18 }
     requires runs { (piece : ℕ) → piece < 256
         → joint_run core.now dbrs.now firsts.now.items (256 * number + piece)
@@ -89,7 +90,7 @@ fn count_first(
     k: usize,
     seg: u16,
 )
-    requires few { length dbrs.now ≤ 8 }
+    requires few { length dbrs.now ≤ most_processes }
     requires process { k < length dbrs.now }
     requires seg { seg < 2 ^ 15 }
     requires there { length firsts.now.items ≡ 2 ^ 15 * length dbrs.now }
@@ -116,7 +117,7 @@ fn count_first(
 
 /// Counts the runs of the segments of process k.
 fn count_process(counts: &mut RunCounts, core: &Core, dbrs: &[Dbr], firsts: &Vec<u32>, k: usize)
-    requires few { length dbrs.now ≤ 8 }
+    requires few { length dbrs.now ≤ most_processes }
     requires process { k < length dbrs.now }
     requires there { length firsts.now.items ≡ 2 ^ 15 * length dbrs.now }
     requires before { AreCounted (joint_run core.now dbrs.now firsts.now.items)
@@ -133,7 +134,7 @@ fn count_process(counts: &mut RunCounts, core: &Core, dbrs: &[Dbr], firsts: &Vec
 
 /// Counts the runs of all processes. None is counted before.
 pub(crate) fn count_processes(counts: &mut RunCounts, core: &Core, dbrs: &[Dbr], firsts: &Vec<u32>)
-    requires few { length dbrs.now ≤ 8 }
+    requires few { length dbrs.now ≤ most_processes }
     requires there { length firsts.now.items ≡ 2 ^ 15 * length dbrs.now }
     requires before { AreCounted (joint_run core.now dbrs.now firsts.now.items) 0 (length core.now)
         counts.old.starts.items counts.old.stops.items }

@@ -5,7 +5,7 @@
 ghost use Rattle.std.specs.Prelude.{ℕ, ◌≡◌, ◌*◌, ◌<◌, ◌≤◌, ◌^◌, ◌+◌, ◌==◌, ◌&&◌, ◌||◌, not, nat_lt, length, slice_index};
 ghost use Rattle.std.specs.Bool.{Decides};
 ghost use Rattle.m36_model.specs.Audit.{Finds};
-ghost use Rattle.m36_model.specs.JointAudit.{IsJointTable, IsJointSegment};
+ghost use Rattle.m36_model.specs.JointAudit.{IsJointTable, IsJointSegment, most_processes};
 ghost use Rattle.m36_audit.specs.Runs.{AreCounted, AreOpen, count_below, covers};
 ghost use Rattle.m36_audit.specs.Classes.{AreClasses};
 ghost use Rattle.m36_audit.specs.Told.{AreTold, several};
@@ -42,7 +42,7 @@ pub(crate) fn on_joint_table(
         (length core.now) segments.now.values.items }
     requires identities { AreTold (Below (Identified core.now dbrs.now firsts.now.items)
         (length dbrs.now)) (length core.now) identities.now.values.items }
-    requires few { length dbrs.now ≤ 8 }
+    requires few { length dbrs.now ≤ most_processes }
     ensures { Finds (IsJointTable core.now dbrs.now) result }
 {
     for a in 0..core.len() {
@@ -62,7 +62,7 @@ fn open_joint(
     a: u32,
     open_runs: u32,
 ) -> u32
-    requires few { length dbrs.now ≤ 8 }
+    requires few { length dbrs.now ≤ most_processes }
     requires counted { AreCounted (joint_run core.now dbrs.now firsts.now.items)
         (2 ^ 23 * length dbrs.now) (length core.now) counts.now.starts.items
         counts.now.stops.items }
@@ -94,7 +94,7 @@ pub(crate) fn on_joint_segment(
     dbrs: &[Dbr],
     firsts: &Vec<u32>,
 ) -> Option<u32>
-    requires few { length dbrs.now ≤ 8 }
+    requires few { length dbrs.now ≤ most_processes }
     requires classes { AreClasses core.now dbrs.now (2 ^ 15 * length dbrs.now) firsts.now.items }
     requires segments { AreTold (Below (SegmentOwned core.now dbrs.now) (length dbrs.now))
         (length core.now) segments.now.values.items }

@@ -2,6 +2,7 @@
 
 ghost use Rattle.std.specs.Prelude.{ℕ, ◌≡◌, ◌+◌, ◌<◌, ◌≤◌, ◌^◌, ◌==◌, not, nat_lt, length, slice_index, slice_set};
 ghost use Rattle.m36_model.specs.Audit.{IsOf};
+ghost use Rattle.m36_model.specs.JointAudit.{most_processes};
 ghost use Rattle.m36_audit.specs.TableMarks.{AreMarked};
 ghost use Rattle.m36_audit.specs.Runs.{run, coverage, AreCounted};
 ghost use Rattle.m36_audit.specs.Told.{joined_at};
@@ -33,7 +34,7 @@ pub(crate) fn tell_owners(
     dbr: Dbr,
     k: u32,
 )
-    requires process { k < 8 }
+    requires process { k < most_processes }
     requires marked { length marks.now.tables.items ≡ length core.now }
     requires counted { AreCounted (run core.now dbr) (2 ^ 23) (length core.now)
         counts.now.starts.items counts.now.stops.items }

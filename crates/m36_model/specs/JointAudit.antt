@@ -7,6 +7,10 @@ use Rattle.m36_model.specs.Place.{wrapped, sdw_place}
 use Rattle.m36_model.specs.Audit.{Table, Sdws, Directory, Pages, IsOf, IsSegmentWord, IsAudited}
 use Rattle.m36_model.specs.Audit.{Finds, AreFindings}
 
+-- at most so many processes
+abbrev pub most_processes : ℕ
+most_processes = 8
+
 -- two segments of two processes are the same: their descriptors are equal words
 pub record AreSame (core : List ℕ) (dbr other : DbrFields) (seg other_seg : ℕ) : Type 0 where
   pub at : ℕ

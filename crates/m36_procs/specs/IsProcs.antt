@@ -1,7 +1,8 @@
 -- What is known of processes with their schedule.
 use Rattle.std.specs.Prelude.{ℕ, ◌≡◌, ◌<◌, ◌≤◌, true, List, length}
+use Rattle.m36_model.specs.JointAudit.{most_processes}
 use Rattle.m36_model.specs.Schedule.{Processes}
-use Rattle.m36_procs.specs.ProcsFile.{are_named, most_processes, most_events}
+use Rattle.m36_procs.specs.ProcsFile.{are_named, most_events}
 
 -- So many processes are no more than there may be, nor are the events of their schedule, and each
 -- number in it is that of one of them.

@@ -29,6 +29,7 @@ use Rattle.m36_text.specs.Lines.{lines_of, line_at, first_told, by_words}
 use Rattle.m36_text.specs.Numbers.{decimal_in, short_decimal_in}
 use Rattle.m36_word.specs.declared.pair.Pair.{Pair}
 use Rattle.m36_model.specs.Fields.{PprFields}
+use Rattle.m36_model.specs.JointAudit.{most_processes}
 use Rattle.m36_model.specs.Registers.{RegsFields}
 use Rattle.m36_image.specs.PlacedWords.{PlacedWords}
 use Rattle.m36_image.specs.Several.{one_to}
@@ -123,10 +124,7 @@ abbrev pub placed_from : Stands → Result ℕ ImageCode → Result Stands Code
 placed_from s (Ok end) = Ok (record s { stage = Placing; next = end })
 placed_from s (Err code) = Err P1
 
--- at most so many processes, and so many events of a schedule
-abbrev pub most_processes : ℕ
-most_processes = 8
-
+-- at most so many events of a schedule
 abbrev pub most_events : ℕ
 most_events = 10000000
 

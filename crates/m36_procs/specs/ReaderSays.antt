@@ -1,11 +1,12 @@
 -- A text of processes as it is read, line after line. That this comes to what the text says is
 -- proved.
 use Rattle.std.specs.Prelude.{ℕ, ◌≡◌, ◌<◌, ⊤, true, List, ◌++◌, length, None, Result, Ok, Err}
+use Rattle.m36_model.specs.JointAudit.{most_processes}
 use Rattle.m36_image.specs.BareImage.{at_words}
 use Rattle.m36_image.specs.ImageState.{written_all}
 use Rattle.m36_procs.specs.ProcsFields.{ProcsFields}
-use Rattle.m36_procs.specs.ProcsFile.{Line, line_by, Stands, judged, may_end, process_of}
-use Rattle.m36_procs.specs.ProcsFile.{placed_of, turns_of}
+use Rattle.m36_procs.specs.ProcsFile.{Line, line_by, Stands, judged, may_end, process_of, placed_of}
+use Rattle.m36_procs.specs.ProcsFile.{turns_of}
 use Rattle.m36_procs.specs.IsProcs.{IsFew}
 use Rattle.m36_procs.specs.declared.fault.LineFault.{LineFault}
 use Rattle.m36_procs.specs.declared.fault.LineFault.TheVariants.{Refused, NoMemory}

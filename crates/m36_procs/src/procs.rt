@@ -1,8 +1,9 @@
 //! Processes with their schedule.
 
 ghost use Rattle.std.specs.Prelude.{◌≡◌, ◌<◌, ◌≤◌, ◌^◌, length, slice_get, IfOk, Some};
+ghost use Rattle.m36_model.specs.JointAudit.{most_processes};
 ghost use Rattle.m36_procs.specs.EventSays.{EventSays};
-ghost use Rattle.m36_procs.specs.ProcsFile.{procs_given, most_processes};
+ghost use Rattle.m36_procs.specs.ProcsFile.{procs_given};
 ghost use Rattle.m36_procs.specs.ProcsSays.{ProcsSays};
 ghost use Rattle.m36_procs.specs.ReaderSays.{Fits, procs_read};
 ghost use Rattle.m36_procs.specs.RunSays.{RunSays, RunTakes, RunHasCause};

@@ -1,9 +1,8 @@
 //! The joint audit of processes, and their schedule.
 
 ghost use Rattle.std.specs.Prelude.{◌≡◌, ◌≤◌, ◌<◌, [], Ok, IfOk, length};
-ghost use Rattle.m36_model.specs.JointAudit.{AreJointFindings};
+ghost use Rattle.m36_model.specs.JointAudit.{AreJointFindings, most_processes};
 ghost use Rattle.m36_audit.specs.Joints.{all_found};
-ghost use Rattle.m36_procs.specs.ProcsFile.{most_processes};
 ghost use Rattle.m36_reading.specs.Ends.{end_of};
 ghost use Rattle.m36_reading.specs.Outside.{sink_of, outside_of};
 ghost use Rattle.m36_reading.specs.Doing.{Does};
