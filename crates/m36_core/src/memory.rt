@@ -2,6 +2,7 @@
 
 ghost use Rattle.std.specs.Prelude.{ℕ, List, ◌≡◌, ◌+◌, ◌*◌, ◌%◌, ◌<◌, ◌≤◌, ◌^◌, IfOk, Some, length, map, replicate, slice_index, slice_set};
 ghost use Rattle.std.specs.Borrow.{sem};
+ghost use Rattle.m36_word.specs.Field.{frames_reached};
 ghost use Rattle.m36_core.specs.Frames.{frame_words};
 
 use crate::cells::{Base, Cells, Deed, allocate, deallocate};
@@ -81,7 +82,7 @@ impl Core {
     /// Core of so many frames, with every word zero. The error is want of memory alone.
     pub fn new(alloc: Global, frames: u32) -> Result<Core, NoMemory>
         requires some { 1 ≤ frames }
-        requires most { frames ≤ 16384 }
+        requires most { frames ≤ frames_reached }
         ensures { IfOk result (λ core. core ≡ replicate (1024 * frames) 0) }
     {
         let count = frames as usize * FRAME;

@@ -19,6 +19,7 @@ use Rattle.std.specs.Prelude.{if◌then◌else◌}
 use Rattle.std.specs.List.{list_all, filter_map, range_with_len}
 use Rattle.std.specs.Result.{result_err, result_unwrap_or}
 use Rattle.m36_word.specs.declared.pair.Pair.{Pair}
+use Rattle.m36_word.specs.Field.{frames_reached}
 use Rattle.m36_text.specs.Texts.{is_text}
 use Rattle.m36_text.specs.Lines.{lines_of, line_at, first_told, by_words}
 use Rattle.m36_text.specs.Numbers.{octal_in, octal_word_in, segment_number_in, word_number_in}
@@ -26,7 +27,6 @@ use Rattle.m36_text.specs.Reading.{number_read}
 use Rattle.m36_text.specs.declared.reading.NumberFault.{NumberFault}
 use Rattle.m36_text.specs.declared.reading.NumberFault.TheVariants.{T1, T2}
 use Rattle.m36_model.specs.Fields.{PprFields}
-use Rattle.m36_model.specs.Place.{frames_reached}
 use Rattle.m36_image.specs.declared.refusal.ImageCode.{ImageCode}
 use Rattle.m36_image.specs.declared.refusal.ImageCode.TheVariants.{I1, I2, I3}
 use Rattle.m36_image.specs.declared.refusal.Refusal.{Refusal}

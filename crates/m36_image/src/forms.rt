@@ -3,7 +3,7 @@
 ghost use Rattle.std.specs.Prelude.{ℕ, ◌≡◌, ◌≤◌, IfOk};
 ghost use Rattle.m36_text.specs.Lines.{words_of};
 ghost use Rattle.m36_text.specs.Numbers.{octal_word_in};
-ghost use Rattle.m36_model.specs.Place.{frames_reached};
+ghost use Rattle.m36_word.specs.Field.{frames_reached};
 ghost use Rattle.m36_image.specs.BareImage.{core_words, frames_read, dbr_words, start_words};
 
 use crate::refusal::ImageCode;

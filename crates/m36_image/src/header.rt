@@ -2,7 +2,7 @@
 
 ghost use Rattle.std.specs.Prelude.{ℕ, ◌≡◌, ◌≤◌, IfOk, length};
 ghost use Rattle.m36_text.specs.Lines.{lines_of};
-ghost use Rattle.m36_model.specs.Place.{frames_reached};
+ghost use Rattle.m36_word.specs.Field.{frames_reached};
 ghost use Rattle.m36_image.specs.HeaderFields.{HeaderSays};
 
 use crate::forms::{core_line, dbr_line, start_line};

@@ -2,10 +2,11 @@
 -- behind it, and then frames, each of which holds one page of one segment or none.
 use Rattle.std.specs.Prelude.{◌≡◌, ◌≢◌, ℕ, ◌+◌, ◌*◌, ◌^◌, ◌<◌, ◌≤◌, ◌⊎◌, true, false, List}
 use Rattle.std.specs.Prelude.{length, slice_index, Ok, Err}
+use Rattle.m36_word.specs.Field.{frames_reached}
 use Rattle.m36_desc.specs.Fields.{SdwFields, DbrFields}
 use Rattle.m36_desc.specs.Access.{in_order}
 use Rattle.m36_model.specs.Faults.{missing_page}
-use Rattle.m36_model.specs.Place.{frames_reached, core_sdw, last_page}
+use Rattle.m36_model.specs.Place.{core_sdw, last_page}
 use Rattle.m36_model.specs.Core.{unmarked}
 use Rattle.m36_model.specs.declared.outcome.Refusal.{Refusal}
 

@@ -24,10 +24,6 @@ directed fc = record { number = directed_fault fc; acv = 0 }
 abbrev pub wrapped : ℕ → ℕ
 wrapped a = a % 2 ^ 24
 
--- how many frames of 1024 words addresses reach
-abbrev pub frames_reached : ℕ
-frames_reached = 16384
-
 -- the frame that a PTW names: its address counts blocks of 64 words, and its low four bits are not
 -- looked at
 abbrev pub frame_named : PtwFields → ℕ

@@ -1,6 +1,7 @@
 //! Page table words: which frame a page is in.
 
 ghost use Rattle.std.specs.Prelude.{◌≡◌, ◌+◌, ◌<◌, ◌≤◌, ◌^◌, slice_index, slice_set, length};
+ghost use Rattle.m36_word.specs.Field.{frames_reached};
 ghost use Rattle.m36_desc.specs.Descriptors.{ptw_of};
 ghost use Rattle.m36_model.specs.Core.{unmarked};
 ghost use Rattle.m36_page.specs.Copied.{IsFilled};
@@ -53,7 +54,7 @@ pub(crate) fn put_absent(core: &mut Core, spot: u32)
 /// Writes the page table word of a page in a frame.
 pub(crate) fn put_resident(core: &mut Core, spot: u32, frame: u32)
     requires spot { spot < length core.old }
-    requires frame { frame < 16384 }
+    requires frame { frame < frames_reached }
     ensures { core.new ≡ slice_set core.old spot (resident_ptw frame) }
 {
     let resident = Ptw {

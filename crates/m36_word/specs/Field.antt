@@ -1,4 +1,4 @@
--- Fields of a word.
+-- Fields of a word, how far the offset in one reaches, and how far addresses do.
 use Rattle.std.specs.Prelude.{ℕ, ◌≡◌, ◌+◌, ◌-◌, ◌*◌, ◌/◌, ◌%◌, ◌^◌, ◌<◌, ◌≤◌, ◌⊎◌}
 
 -- the field of so many bits from a bit on, where bit 0 is the most significant of 36
@@ -18,6 +18,10 @@ bit w i = field w i 1
 -- this, and at most as much below zero.
 abbrev pub offset_limit : ℕ
 offset_limit = 16384
+
+-- how many frames of 1024 words addresses reach
+abbrev pub frames_reached : ℕ
+frames_reached = 16384
 
 -- Getting after putting gives what was put.
 abbrev pub GetsWhatWasPut : Type 0
