@@ -74,9 +74,14 @@ call_rows s trr prr same word =
     ∷ []
     )
 
+-- the ring in which a segment runs for a caller of a ring: that ring, but at most the second end of
+-- its brackets
+abbrev pub ring_under : ℕ → ℕ → ℕ
+ring_under r2 ring = if nat_lt r2 ring then r2 else ring
+
 -- the ring after a call: R2 for a caller from above it, and else the ring of the reference
 abbrev pub ring_called : SdwFields → ℕ → ℕ
-ring_called s trr = if nat_lt s.r2 trr then s.r2 else trr
+ring_called s trr = ring_under s.r2 trr
 
 -- a reference that nothing refuses gives what it is for; else the access violation
 abbrev pub allowed : {A : Type 0} → A → Option ℕ → Result A Acv

@@ -10,6 +10,7 @@ use Rattle.std.specs.Prelude.{option_and_then}
 use Rattle.std.specs.Map.{lookup}
 use Rattle.std.specs.Result.{result_ok}
 use Rattle.m36_text.specs.Texts.{are_same}
+use Rattle.m36_desc.specs.Access.{ring_under}
 use Rattle.m36_desc.specs.Descriptors.{packed_word}
 use Rattle.m36_dir.specs.Fields.{SegmentFields}
 use Rattle.m36_dir.specs.Catalog.{CatalogFields}
@@ -64,10 +65,10 @@ initiated names ring name = lookup (is_same_name (record { ring = ring; name = n
 
 -- ---- sections
 
--- The ring in whose linkage segment a section goes: that of the link, but at most the second end of
--- the segment's ring brackets.
+-- The ring in whose linkage segment a section goes: that in which its segment runs for a caller of
+-- the ring of the link.
 abbrev pub section_ring : ℕ → SegmentFields → ℕ
-section_ring ring s = if nat_le ring s.r2 then ring else s.r2
+section_ring ring s = ring_under s.r2 ring
 
 abbrev pub is_laid_of : ℕ → ℕ → LaidFields → Bool
 is_laid_of ring seg l = nat_eq l.ring ring && nat_eq l.seg seg

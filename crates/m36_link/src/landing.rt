@@ -69,7 +69,7 @@ fn section_ring(ring: u8, segment: &Segment) -> u8
     ensures value { result ≡ section_ring ring segment.now }
     ensures bound { result < 8 }
 {
-    if ring <= segment.r2 { ring } else { segment.r2 }
+    if segment.r2 < ring { segment.r2 } else { ring }
 }
 
 fn fault_number(fault: ObjectFault) -> u8
