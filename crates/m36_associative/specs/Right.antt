@@ -8,6 +8,10 @@ use Rattle.m36_associative.specs.Watched.{watched}
 use Rattle.m36_associative.specs.declared.front.Page.{Page}
 use Rattle.m36_associative.specs.declared.memories.Memories.{Memories}
 
+-- the key under which a page of a segment is kept in front
+abbrev pub page_key : ℕ → ℕ → ℕ
+page_key seg page = seg * 256 + page + 1
+
 -- a page table word has its used bit on, and its modified bit too where modified is on
 abbrev pub IsMarked : List ℕ → ℕ → Bool → Type 0
 IsMarked core a modified = marked_word modified (slice_index core a) ≡ slice_index core a
@@ -48,7 +52,7 @@ module _ (core : List ℕ) (dbr : DbrFields) (words tables : List ℕ) where
 
   -- by its key, which tells segment and page; key 0 is of no page
   abbrev pub IsPageInFront : Page → Type 0
-  IsPageInFront p = (seg page : ℕ) → page < 256 → p.key ≡ seg * 256 + page + 1 → IsPage p seg page
+  IsPageInFront p = (seg page : ℕ) → page < 256 → p.key ≡ page_key seg page → IsPage p seg page
 
 -- all that is kept
 pub record AreRight (core : List ℕ) (dbr : DbrFields) (m : Memories) : Type 0 where

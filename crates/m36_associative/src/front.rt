@@ -1,6 +1,7 @@
 //! The pages in front.
 
-ghost use Rattle.std.specs.Prelude.{ℕ, Contains, ◌≡◌, ◌+◌, ◌*◌, ◌/◌, ◌%◌, ◌<◌, ◌^◌};
+ghost use Rattle.std.specs.Prelude.{ℕ, Contains, ◌≡◌, ◌/◌, ◌<◌, ◌^◌};
+ghost use Rattle.m36_associative.specs.Right.{page_key};
 ghost use Rattle.m36_associative.specs.declared.front.Page.{Page};
 
 use m36_desc::Sdw;
@@ -67,7 +68,7 @@ const NO_SDW: Sdw = Sdw {
 pub(crate) fn key_of(seg: u16, word: u32) -> u32
     requires seg { seg < 2 ^ 15 }
     requires word { word < 2 ^ 18 }
-    ensures { result ≡ seg * 256 + word / 1024 + 1 }
+    ensures { result ≡ page_key seg (word / 1024) }
 {
     seg as u32 * 256 + word / 1024 + 1
 }

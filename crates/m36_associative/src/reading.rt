@@ -1,10 +1,10 @@
 //! What is kept is asked first, and core only where nothing is kept.
 
-ghost use Rattle.std.specs.Prelude.{ℕ, ◌≡◌, ◌+◌, ◌*◌, ◌/◌, ◌%◌, ◌<◌, ◌^◌, List, Some, Ok, true, false, IfOk, IfSome, OnOk, OnSome, IsTrue, length};
+ghost use Rattle.std.specs.Prelude.{ℕ, ◌≡◌, ◌+◌, ◌/◌, ◌%◌, ◌<◌, ◌^◌, List, Some, Ok, true, false, IfOk, IfSome, OnOk, OnSome, IsTrue, length};
 ghost use Rattle.m36_desc.specs.Fields.{DbrFields};
 ghost use Rattle.m36_model.specs.Place.{wrapped, in_frame, ptw_at, directory_at, page_at, sdw_place, core_sdw, word_place_by, marks_by, with_marks};
 ghost use Rattle.m36_tables.specs.Tables.{TableIn};
-ghost use Rattle.m36_associative.specs.Right.{AreRight, IsWatched, IsPage, IsMarked};
+ghost use Rattle.m36_associative.specs.Right.{AreRight, IsWatched, IsPage, IsMarked, page_key};
 ghost use Rattle.m36_associative.specs.Watched.{watched};
 
 use crate::front::{Page, key_of, slot_of};
@@ -259,7 +259,7 @@ fn found_page(core: &Core, dbr: Dbr, memories: &Memories, seg: u16, word: u32) -
     requires right { AreRight core.now dbr memories.now }
     ensures page { IfSome result (λ p. IsPage core.now dbr memories.now.words memories.now.tables
         p seg (word / 1024)) }
-    ensures key { IfSome result (λ p. p.key ≡ seg * 256 + word / 1024 + 1) }
+    ensures key { IfSome result (λ p. p.key ≡ page_key seg (word / 1024)) }
 {
     let sdw = seen_sdw(&memories.sdws, seg)?;
     if !is_passed(core, dbr, seg) {
