@@ -5,9 +5,8 @@ use Rattle.m36_model.specs.Fields.{FinalFields}
 use Rattle.m36_model.specs.Registers.{RegsFields}
 use Rattle.m36_model.specs.Store.{Ran, run}
 use Rattle.m36_model.specs.Core.{core_store}
-use Rattle.m36_model.specs.Chain.{ChainEnd, Formation, chain, chain_end_fields, claimed_by}
-use Rattle.m36_model.specs.FirstPoint.{first_point}
-use Rattle.m36_model.specs.Step.{indirect_words}
+use Rattle.m36_model.specs.Chain.{ChainEnd, chain_end_fields, claimed_by}
+use Rattle.m36_model.specs.Step.{formation}
 use Rattle.m36_model.specs.declared.effects.Formed.{Formed}
 use Rattle.m36_model.specs.declared.effects.Tally.{Tally}
 use Rattle.m36_model.specs.declared.outcome.Halt.{Halt}
@@ -15,11 +14,8 @@ use Rattle.m36_model.specs.declared.place.Reference.{Reference}
 use Rattle.m36_model.specs.declared.place.Kind.TheVariants as reference
 use Rattle.m36_walk.specs.Served.{standing}
 
--- the program that forms the address of an instruction
-abbrev pub formation : RegsFields → InstFields → Formation
-formation g i = chain indirect_words g (first_point g i)
-
--- that program over core, in a step that has completed these references and claimed nothing
+-- the program that forms the address of an instruction, over core, in a step that has completed
+-- these references and claimed nothing
 abbrev pub formed_from :
     RegsFields → InstFields → List ℕ → List Reference → Ran (Result ChainEnd Halt) (List ℕ)
 formed_from g i core refs = run core_store g (formation g i) (standing core [] refs)

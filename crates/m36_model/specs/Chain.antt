@@ -31,8 +31,11 @@ abbrev pub Formation : Type 0
 Formation = Act (Result ChainEnd Halt)
 
 -- a chain that ends without a tally word
+abbrev pub without_tally : FinalFields → ChainEnd
+without_tally last = record { last = last; pending = []; runout = None }
+
 abbrev pub ends_plain : FinalFields → Formation
-ends_plain last = done (Ok (record { last = last; pending = []; runout = None }))
+ends_plain last = done (Ok (without_tally last))
 
 -- an indirect word is referenced in the segment and the ring of its point
 abbrev pub indirect : RequestKind → Point → ℕ → Request

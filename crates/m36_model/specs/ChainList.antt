@@ -3,16 +3,16 @@
 -- its answer is the answer of the chain. Each point stands with the count of indirect words that
 -- were read to reach it.
 use Rattle.std.specs.Prelude.{ℕ, ◌≡◌, ◌+◌, ◌%◌, ◌≤◌, Bool, true, false, ◌==◌, nat_lt, List, [], ◌∷◌}
-use Rattle.std.specs.Prelude.{length, Option, None, Result, Ok, Err, slice_index}
-use Rattle.m36_model.specs.Fields.{FinalFields}
+use Rattle.std.specs.Prelude.{length, Option, Result, Ok, Err, slice_index}
 use Rattle.m36_model.specs.Registers.{RegsFields}
 use Rattle.m36_model.specs.Act.{Indirect, Odd, Write, Answer}
 use Rattle.m36_model.specs.Store.{Store, Mid, Ran, serve, run}
 use Rattle.m36_model.specs.Core.{core_store}
 use Rattle.m36_model.specs.Modification.{Point, Move, Ends, Fails, Reads, Counts, move_of_point}
 use Rattle.m36_model.specs.Tally.{tally, tally_address, indirect_only}
-use Rattle.m36_model.specs.Chain.{ChainEnd, Found, Its, Itp, Plain, found, indirect, plain_point}
-use Rattle.m36_model.specs.Chain.{its_point, itp_point, tally_final, tally_end, lockup, chain}
+use Rattle.m36_model.specs.Chain.{ChainEnd, without_tally, Found, Its, Itp, Plain, found, indirect}
+use Rattle.m36_model.specs.Chain.{plain_point, its_point, itp_point, tally_final, tally_end, lockup}
+use Rattle.m36_model.specs.Chain.{chain}
 use Rattle.m36_model.specs.Step.{indirect_words}
 use Rattle.m36_model.specs.declared.outcome.Fault.{Fault}
 use Rattle.m36_model.specs.declared.outcome.Halt.{Halt}
@@ -37,9 +37,6 @@ ends_with end m = Closes (record { value = Ok end; mid = m })
 
 abbrev pub refused_with : {S : Type 0} → Halt → Mid S → Turn S
 refused_with h m = Closes (record { value = Err h; mid = m })
-
-abbrev pub without_tally : FinalFields → ChainEnd
-without_tally last = record { last = last; pending = []; runout = None }
 
 -- the odd word of a pair: the next point by it, or its refusal
 abbrev pub turn_odd : {S : Type 0} → Stage S → (ℕ → Point) → Mid S → Result Answer Fault → Turn S

@@ -16,6 +16,7 @@ use Rattle.std.specs.Prelude.{[], ◌∷◌, ◌++◌, Option, Some, None, optio
 use Rattle.std.specs.Prelude.{slice_index}
 use Rattle.m36_desc.specs.Fields.{SdwFields}
 use Rattle.m36_desc.specs.Access.{ring_called}
+use Rattle.m36_inst.specs.Fields.{InstFields}
 use Rattle.m36_inst.specs.Instruction.{inst_of}
 use Rattle.m36_inst.specs.Operands.{operand_of, is_privileged, takes_direct}
 use Rattle.m36_inst.specs.Lookup.{row_at}
@@ -32,7 +33,7 @@ use Rattle.m36_model.specs.Act.{Whole, Left, Right, Put, Request, Answer, Act, d
 use Rattle.m36_model.specs.Act.{otherwise}
 use Rattle.m36_model.specs.Modification.{here, plain_fault, fault_at}
 use Rattle.m36_model.specs.FirstPoint.{first_point}
-use Rattle.m36_model.specs.Chain.{ChainEnd, chain}
+use Rattle.m36_model.specs.Chain.{ChainEnd, Formation, chain}
 use Rattle.m36_model.specs.Results.{OperandFields, EffectFields, words_only}
 use Rattle.m36_model.specs.WordsPut.{words_written}
 use Rattle.m36_model.specs.Transfers.{is_taken}
@@ -242,11 +243,14 @@ operated e n g w c =
 abbrev pub indirect_words : ℕ
 indirect_words = 16
 
+-- the program that forms the address of an instruction
+abbrev pub formation : RegsFields → InstFields → Formation
+formation g i = chain indirect_words g (first_point g i)
+
 -- the address, and then the operation
 abbrev pub addressed : Effect → ℕ → RegsFields → ℕ → Act Ending
 addressed e n g w =
-    otherwise (chain indirect_words g (first_point g (inst_of w))) (operated e n g w)
-    (halted g (Some w) None)
+    otherwise (formation g (inst_of w)) (operated e n g w) (halted g (Some w) None)
 
 -- MME, DRL and DIS form no address (this project's choice).
 abbrev pub no_address : Effect → RegsFields → ℕ → Act Ending

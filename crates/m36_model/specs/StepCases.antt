@@ -26,13 +26,12 @@ use Rattle.m36_model.specs.Act.{Request, Answer}
 use Rattle.m36_model.specs.Store.{Spot, Change, Store, Mid, State, serve, run}
 use Rattle.m36_model.specs.Core.{core_store}
 use Rattle.m36_model.specs.Modification.{here, fault_at}
-use Rattle.m36_model.specs.FirstPoint.{first_point}
-use Rattle.m36_model.specs.Chain.{ChainEnd, chain}
+use Rattle.m36_model.specs.Chain.{ChainEnd}
 use Rattle.m36_model.specs.Results.{OperandFields, EffectFields, words_only}
 use Rattle.m36_model.specs.Transfers.{is_taken}
 use Rattle.m36_model.specs.Effect.{exec, is_absa}
 use Rattle.m36_model.specs.Step.{tallied, no_operand, request_at, direct_word, operate, outcome_of}
-use Rattle.m36_model.specs.Step.{outcome_after, indirect_words, decode, has_right, fetch_request}
+use Rattle.m36_model.specs.Step.{outcome_after, formation, decode, has_right, fetch_request}
 use Rattle.m36_model.specs.Step.{start, record_of, state_after}
 use Rattle.m36_model.specs.declared.outcome.Fault.{Fault}
 use Rattle.m36_model.specs.declared.outcome.Halt.{Halt}
@@ -86,8 +85,7 @@ pub record IsFormed {S : Type 0} (o : Store S) (s : State S) (word : ℕ) (e : E
   pub admitted : IsAdmitted o s word e n before
   pub forms : forms_address (operand_of e) ≡ true
   pub formed :
-      run o s.regs (chain indirect_words s.regs (first_point s.regs (inst_of word))) before
-      ≡ record { value = Ok c; mid = m }
+      run o s.regs (formation s.regs (inst_of word)) before ≡ record { value = Ok c; mid = m }
 
 -- An operand that is there: what the effect is given, which part of words it writes, the spots of
 -- these words, and where the step stands.
@@ -246,8 +244,7 @@ pub data StepCase {S : Type 0} (o : Store S) (s : State S) (e : StepRecord)
   address_refused :
       (word : ℕ) (before m : Mid S) (i : Effect) (n : ℕ) (h : Halt) → IsAdmitted o s word i n before
       → forms_address (operand_of i) ≡ true
-      → run o s.regs (chain indirect_words s.regs (first_point s.regs (inst_of word))) before
-      ≡ record { value = Err h; mid = m }
+      → run o s.regs (formation s.regs (inst_of word)) before ≡ record { value = Err h; mid = m }
       → HasLeft s e t m (Some word) None (outcome_of h) → StepCase o s e t
   operation_refused :
       (word : ℕ) (before m : Mid S) (i : Effect) (n : ℕ) (c : ChainEnd) (h : Halt)
