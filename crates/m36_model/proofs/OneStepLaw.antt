@@ -17,8 +17,8 @@ use Rattle.m36_model.specs.Chain.{ChainEnd, chain}
 use Rattle.m36_model.specs.Results.{OperandFields, EffectFields, words_only}
 use Rattle.m36_model.specs.Transfers.{is_taken}
 use Rattle.m36_model.specs.Effect.{exec, is_absa}
-use Rattle.m36_model.specs.Step.{Performed, performed, puts_from, tallied, perform, no_operand, request_at, direct_word, addressing, transferring, by_kind, by_direct, operate_on, operate, Ending, outcome_of, halted, completed, operated, addressed, no_address, started, admitted, decoded, fetched, indirect_words, decode, fetch_request, program, start, step_record, stepped, ran, record_of, state_after}
-use Rattle.m36_model.specs.StepCases.{HasLeft, IsFetched, IsAdmitted, forms_address, IsFormed, Reached, IsUnreferenced, IsReferenced, IsClaimed, IsChanged, got_word, got_words, got_place, got_nothing, got_ring, IsAddressed, IsTargeted, IsOperandOf, IsOperand, at_spots, at_once, HasEffect, StepCase, fetch_refused, no_instruction, privilege_refused, no_address as no_address_case, address_refused, operation_refused, effected, CaseIsTheStep}
+use Rattle.m36_model.specs.Step.{Performed, performed, puts_from, tallied, perform, no_operand, request_at, direct_word, addressing, transferring, by_kind, by_direct, operate_on, operate, Ending, outcome_of, halted, completed, operated, addressed, at_once, no_address, started, admitted, decoded, fetched, indirect_words, decode, fetch_request, program, start, step_record, stepped, ran, record_of, state_after}
+use Rattle.m36_model.specs.StepCases.{HasLeft, IsFetched, IsAdmitted, forms_address, IsFormed, Reached, IsUnreferenced, IsReferenced, IsClaimed, IsChanged, got_word, got_words, got_place, got_nothing, got_ring, IsAddressed, IsTargeted, IsOperandOf, IsOperand, at_spots, HasEffect, StepCase, fetch_refused, no_instruction, privilege_refused, no_address as no_address_case, address_refused, operation_refused, effected, CaseIsTheStep}
 use Rattle.m36_model.proofs.PutLaw.{IsTallied, all_changes}
 use Rattle.m36_model.proofs.OperandWordsLaw.{written_words}
 use Rattle.m36_model.specs.declared.outcome.Halt.{Halt}
@@ -156,7 +156,7 @@ module _ {S : Type 0} (o : Store S) (quiet : (x : S) → o.put x [] ≡ x) (s : 
   on_admitted w i n m a told =
       on_decoded w a.right m a.fetched (Some (i, n)) a.decoded (subst (λ (b : Bool). Tells (run o s.regs (admitted i n s.regs w b) m)) (sym a.allowed) told)
 
-  at_once_tells : (i : Effect) (w : ℕ) (m : Mid S) → HasLeft s e t m (Some w) None (at_once i s.regs) → Tells (run o s.regs (no_address i s.regs w) m)
+  at_once_tells : (i : Effect) (w : ℕ) (m : Mid S) → HasLeft s e t m (Some w) None (outcome_of (at_once i s.regs)) → Tells (run o s.regs (no_address i s.regs w) m)
   at_once_tells effect.Mme w m l = halts m (Some w) None (fault_at 2 (here s.regs)) l
   at_once_tells effect.Drl w m l = halts m (Some w) None (fault_at 6 (here s.regs)) l
   at_once_tells _ w m l = halts m (Some w) None (halt.Stop stop.Dis) l

@@ -15,8 +15,8 @@ use Rattle.m36_model.specs.FirstPoint.{first_point}
 use Rattle.m36_model.specs.Chain.{ChainEnd, chain}
 use Rattle.m36_model.specs.Results.{EffectFields}
 use Rattle.m36_model.specs.Effect.{exec}
-use Rattle.m36_model.specs.Step.{Performed, puts_from, tallied, operate, Ending, outcome_of, halted, completed, operated, addressed, no_address, started, admitted, decoded, has_right, fetched, indirect_words, decode, fetch_request, program, start, step_record, stepped, record_of, state_after}
-use Rattle.m36_model.specs.StepCases.{HasLeft, IsFetched, IsAdmitted, IsFormed, forms_address, Reached, IsOperand, at_spots, at_once, StepCase, fetch_refused, no_instruction, privilege_refused, no_address as no_address_case, address_refused, operation_refused, effected, StepHasACase}
+use Rattle.m36_model.specs.Step.{Performed, puts_from, tallied, operate, Ending, outcome_of, halted, completed, operated, addressed, at_once, no_address, started, admitted, decoded, has_right, fetched, indirect_words, decode, fetch_request, program, start, step_record, stepped, record_of, state_after}
+use Rattle.m36_model.specs.StepCases.{HasLeft, IsFetched, IsAdmitted, IsFormed, forms_address, Reached, IsOperand, at_spots, StepCase, fetch_refused, no_instruction, privilege_refused, no_address as no_address_case, address_refused, operation_refused, effected, StepHasACase}
 use Rattle.m36_model.proofs.PutLaw.{IsTallied, tally_changes, all_changes}
 use Rattle.m36_model.specs.declared.outcome.Fault.{Fault}
 use Rattle.m36_model.specs.declared.outcome.Halt.{Halt}
@@ -45,7 +45,7 @@ module _ {S : Type 0} (o : Store S) (quiet : (x : S) → o.put x [] ≡ x) (s : 
   has_left m word at h =
       record { told = refl; left = λ i. record { regs = s.regs; store = quiet m.store i } }
 
-  at_once_left : (i : Effect) (w : ℕ) (m : Mid S) → let x = run o s.regs (no_address i s.regs w) m in HasLeft s (step_record s.regs x) (stepped o x) m (Some w) None (at_once i s.regs)
+  at_once_left : (i : Effect) (w : ℕ) (m : Mid S) → let x = run o s.regs (no_address i s.regs w) m in HasLeft s (step_record s.regs x) (stepped o x) m (Some w) None (outcome_of (at_once i s.regs))
   at_once_left effect.Mme w m = has_left m (Some w) None (fault_at 2 (here s.regs))
   at_once_left effect.Drl w m = has_left m (Some w) None (fault_at 6 (here s.regs))
   at_once_left _ w m = has_left m (Some w) None (halt.Stop stop.Dis)

@@ -252,11 +252,14 @@ abbrev pub addressed : Effect → ℕ → RegsFields → ℕ → Act Ending
 addressed e n g w =
     otherwise (formation g (inst_of w)) (operated e n g w) (halted g (Some w) None)
 
--- MME, DRL and DIS form no address (this project's choice).
+-- MME, DRL and DIS form no address (this project's choice): they end at once.
+abbrev pub at_once : Effect → RegsFields → Halt
+at_once effect.Mme g = fault_at master_mode_entry (here g)
+at_once effect.Drl g = fault_at derail (here g)
+at_once _ g = halt.Stop stop.Dis
+
 abbrev pub no_address : Effect → RegsFields → ℕ → Act Ending
-no_address effect.Mme g w = halted g (Some w) None (fault_at master_mode_entry (here g))
-no_address effect.Drl g w = halted g (Some w) None (fault_at derail (here g))
-no_address _ g w = halted g (Some w) None (halt.Stop stop.Dis)
+no_address e g w = halted g (Some w) None (at_once e g)
 
 abbrev pub started : Effect → ℕ → RegsFields → ℕ → Operand → Act Ending
 started e n g w kind.N = no_address e g w

@@ -14,11 +14,10 @@ use Rattle.std.specs.Prelude.{length, Option, Some, None, Ok, Err, slice_index}
 use Rattle.m36_inst.specs.Instruction.{inst_of}
 use Rattle.m36_inst.specs.Operands.{operand_of, is_privileged, takes_direct}
 use Rattle.m36_inst.specs.declared.effect.Effect.{Effect}
-use Rattle.m36_inst.specs.declared.effect.Effect.TheVariants as effect
 use Rattle.m36_inst.specs.declared.operand.Operand.{Operand}
 use Rattle.m36_inst.specs.declared.operand.Operand.TheVariants as kind
 use Rattle.m36_desc.specs.Access.{ring_called}
-use Rattle.m36_model.specs.Faults.{master_mode_entry, derail, illegal_procedure}
+use Rattle.m36_model.specs.Faults.{illegal_procedure}
 use Rattle.m36_model.specs.Fields.{FinalFields}
 use Rattle.m36_model.specs.Registers.{RegsFields}
 use Rattle.m36_model.specs.Act.{Read, Write, Transfer, Call, Locate, Part, Whole, Left, Right}
@@ -32,7 +31,7 @@ use Rattle.m36_model.specs.Transfers.{is_taken}
 use Rattle.m36_model.specs.Effect.{exec, is_absa}
 use Rattle.m36_model.specs.Step.{tallied, no_operand, request_at, direct_word, operate, outcome_of}
 use Rattle.m36_model.specs.Step.{outcome_after, formation, decode, has_right, fetch_request}
-use Rattle.m36_model.specs.Step.{start, record_of, state_after}
+use Rattle.m36_model.specs.Step.{at_once, start, record_of, state_after}
 use Rattle.m36_model.specs.declared.outcome.Fault.{Fault}
 use Rattle.m36_model.specs.declared.outcome.Halt.{Halt}
 use Rattle.m36_model.specs.declared.outcome.Halt.TheVariants as halt
@@ -217,12 +216,6 @@ pub record HasEffect {S : Type 0} (o : Store S) (s : State S) (e : StepRecord)
         ++ at_spots reached.part reached.spots result.put);
   }
 
--- MME, DRL and DIS
-abbrev pub at_once : Effect → RegsFields → Outcome
-at_once effect.Mme g = outcome_of (fault_at master_mode_entry (here g))
-at_once effect.Drl g = outcome_of (fault_at derail (here g))
-at_once _ g = outcome_of (halt.Stop stop.Dis)
-
 pub data StepCase {S : Type 0} (o : Store S) (s : State S) (e : StepRecord)
     (t : State S) : Type 0 where
   fetch_refused :
@@ -239,7 +232,7 @@ pub data StepCase {S : Type 0} (o : Store S) (s : State S) (e : StepRecord)
       → StepCase o s e t
   no_address :
       (word : ℕ) (m : Mid S) (i : Effect) (n : ℕ) → IsAdmitted o s word i n m
-      → operand_of i ≡ kind.N → HasLeft s e t m (Some word) None (at_once i s.regs)
+      → operand_of i ≡ kind.N → HasLeft s e t m (Some word) None (outcome_of (at_once i s.regs))
       → StepCase o s e t
   address_refused :
       (word : ℕ) (before m : Mid S) (i : Effect) (n : ℕ) (h : Halt) → IsAdmitted o s word i n before

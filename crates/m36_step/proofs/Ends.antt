@@ -16,7 +16,7 @@ use Rattle.m36_model.specs.Core.{core_store, core_put}
 use Rattle.m36_model.specs.Modification.{here}
 use Rattle.m36_model.specs.FirstPoint.{first_point}
 use Rattle.m36_model.specs.Chain.{chain, chain_end_fields, claimed_by}
-use Rattle.m36_model.specs.Step.{Ending, outcome_of, outcome_after, halted, completed, operate, operated, indirect_words, addressed, no_address, started, admitted, effect_and_number, decode, decoded, has_right, fetched, program, record_of, state_after}
+use Rattle.m36_model.specs.Step.{Ending, outcome_of, outcome_after, halted, completed, operate, operated, indirect_words, addressed, at_once, started, admitted, effect_and_number, decode, decoded, has_right, fetched, program, record_of, state_after}
 use Rattle.m36_model.specs.declared.effects.Formed.{Formed}
 use Rattle.m36_model.specs.declared.effects.Held.{Held}
 use Rattle.m36_model.specs.declared.outcome.Fault.{Fault}
@@ -86,9 +86,9 @@ module _ (g : RegsFields) where
     address_formed f core'' refs'' g' end r rest = ap end_of (forms (Ok f) r) ∙ rest
 
   -- MME, DRL and DIS.
-  pub starts_nothing : (e : Effect) (n w : ℕ) (k : Operand) (h : Halt) → k ≡ operand_of e → k ≡ kind.N → no_address e g w ≡ halted g (Some w) None h → started e n g w (operand_of e) ≡ halted g (Some w) None h
+  pub starts_nothing : (e : Effect) (n w : ℕ) (k : Operand) (h : Halt) → k ≡ operand_of e → k ≡ kind.N → h ≡ at_once e g → started e n g w (operand_of e) ≡ halted g (Some w) None h
   starts_nothing e n w k h row none end =
-      ap (λ (x : Operand). started e n g w x) (sym row ∙ none) ∙ end
+      ap (λ (x : Operand). started e n g w x) (sym row ∙ none) ∙ ap (λ (x : Halt). halted g (Some w) None x) (sym end)
 
   -- The row of an instruction.
   pub no_row : (w : ℕ) (privileged : Bool) (i : InstFields) → i ≡ inst_of w → None ≡ row_at i.code i.bit27 → decoded g w privileged (decode w) ≡ halted g (Some w) None (halt.Stop stop.Operation)

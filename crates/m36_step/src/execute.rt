@@ -1,7 +1,7 @@
 //! The parts of a step, in order: the fetch, the instruction's row, the right to it, its address, its operation, and its
 //! words.
 
-ghost use Rattle.std.specs.Prelude.{ℕ, Some, None, ◌≡◌, ◌≢◌, ◌+◌, ◌<◌, ◌≤◌, [], ◌∷◌, ◌++◌, ◌&&◌};
+ghost use Rattle.std.specs.Prelude.{Some, ◌≡◌, ◌≢◌, ◌+◌, ◌<◌, ◌≤◌, [], ◌∷◌, ◌++◌, ◌&&◌};
 ghost use Rattle.std.specs.Prelude.{◌==◌, not, length};
 ghost use Rattle.m36_inst.specs.Instruction.{inst_of};
 ghost use Rattle.m36_inst.specs.Lookup.{IsRow};
@@ -11,8 +11,8 @@ ghost use Rattle.m36_inst.specs.Operands.{operand_of, is_privileged};
 ghost use Rattle.m36_model.specs.Chain.{chain_end_fields};
 ghost use Rattle.m36_model.specs.Modification.{here};
 ghost use Rattle.m36_model.specs.Registers.{RegsFields};
-ghost use Rattle.m36_model.specs.Step.{program, decoded, decode, admitted, started, no_address};
-ghost use Rattle.m36_model.specs.Step.{addressed, operated, halted, outcome_after};
+ghost use Rattle.m36_model.specs.Step.{program, decoded, decode, admitted, started, at_once};
+ghost use Rattle.m36_model.specs.Step.{addressed, operated, outcome_after};
 ghost use Rattle.m36_step.specs.Ended.{EndsSo, EndsFormed, ended_of};
 
 use crate::ended::{Ended, fault_here, halted, outcome_by};
@@ -116,8 +116,7 @@ fn addressed(
 
 /// MME, DRL and DIS form no address.
 fn no_address(regs: &Regs, effect: Effect) -> Halt
-    ensures { (word : ℕ)
-        → no_address effect regs.now word ≡ halted regs.now (Some word) None result }
+    ensures { result ≡ at_once effect regs.now }
 {
     match effect {
         Effect::Mme => Halt::Fault(fault_here(regs, 2)),
