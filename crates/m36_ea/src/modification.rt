@@ -2,7 +2,7 @@
 
 ghost use Rattle.std.specs.Prelude.{◌≡◌, ◌<◌, ◌≤◌, ◌%◌, ◌^◌, IfSome, IfNone};
 ghost use Rattle.m36_model.specs.Faults.{illegal_procedure};
-ghost use Rattle.m36_model.specs.Modification.{Ends, Fails, here, plain_fault, fault_at, is_direct};
+ghost use Rattle.m36_model.specs.Modification.{Ends, Fails, plain_fault, halt_here, is_direct};
 ghost use Rattle.m36_model.specs.Modification.{move_register, move_register_then_indirect};
 ghost use Rattle.m36_model.specs.Modification.{move_indirect_then_tally};
 ghost use Rattle.m36_model.specs.Modification.{move_indirect_then_register, move_of_point};
@@ -63,7 +63,7 @@ pub(crate) fn fault(number: u8, at: At) -> Fault
 
 /// An illegal procedure, told at the instruction.
 fn illegal(regs: &Regs) -> Action
-    ensures { move_is result ≡ Fails (fault_at illegal_procedure (here regs.now)) }
+    ensures { move_is result ≡ Fails (halt_here illegal_procedure regs.now) }
 {
     Action::Fails(Halt::Fault(fault(10, regs.here())))
 }

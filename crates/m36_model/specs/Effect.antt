@@ -19,7 +19,7 @@ use Rattle.m36_model.specs.Fields.{FinalFields}
 use Rattle.m36_model.specs.Registers.{RegsFields}
 use Rattle.m36_model.specs.declared.effects.Effect36.{Effect36}
 use Rattle.m36_model.specs.declared.outcome.Fault.{Fault}
-use Rattle.m36_model.specs.Modification.{here, plain_fault}
+use Rattle.m36_model.specs.Modification.{fault_here}
 use Rattle.m36_model.specs.Results.{OperandFields, EffectFields, effect_fields, A, Q, AQ, X}
 use Rattle.m36_model.specs.Results.{operand, word, lower, completes}
 use Rattle.m36_model.specs.Loads.{load, load_complement, load_and_clear, address_in_upper}
@@ -194,4 +194,4 @@ answer_fields (Err f) = Err f
 
 abbrev pub refused_here : RegsFields → Result EffectFields ℕ → Result EffectFields Fault
 refused_here g (Ok e) = Ok e
-refused_here g (Err number) = Err (plain_fault number (here g))
+refused_here g (Err number) = Err (fault_here number g)

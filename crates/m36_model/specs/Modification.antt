@@ -38,6 +38,13 @@ plain_fault number at = record { at = at; number = number; acv = 0 }
 abbrev pub fault_at : ℕ → AtFields → Halt
 fault_at number at = halt.Fault (plain_fault number at)
 
+-- at the instruction itself
+abbrev pub fault_here : ℕ → RegsFields → Fault
+fault_here number g = plain_fault number (here g)
+
+abbrev pub halt_here : ℕ → RegsFields → Halt
+halt_here number g = halt.Fault (fault_here number g)
+
 -- The ring after a pair is the greatest of TRR, R1 of the segment that holds the pair, and the ring
 -- that the pair names: its own, or of an ITP pair that of its pointer register.
 abbrev pub pair_ring : ℕ → ℕ → ℕ → ℕ
@@ -114,7 +121,7 @@ move_register g p td None =
 abbrev pub move_register_then_indirect : RegsFields → Point → ℕ → Move
 move_register_then_indirect g p td =
     if is_direct td
-    then Fails (fault_at illegal_procedure (here g))
+    then Fails (halt_here illegal_procedure g)
     else Reads ((p.y + index_of g td) % 2 ^ 18) p.held
 
 -- Indirect then register (IR). The indirect word is at y; the register is held in place of any
@@ -122,7 +129,7 @@ move_register_then_indirect g p td =
 abbrev pub move_indirect_then_register : RegsFields → Point → ℕ → Move
 move_indirect_then_register g p td =
     if is_direct td
-    then Fails (fault_at illegal_procedure (here g))
+    then Fails (halt_here illegal_procedure g)
     else Reads p.y (Some (index_of g td))
 
 -- Td of the three fault tags, of Tm IT
@@ -148,7 +155,7 @@ move_indirect_then_tally g p td =
     if td == first_fault_tag then Fails (fault_at fault_tag_1 p.carrier)
     else if td == second_fault_tag then Fails (fault_at fault_tag_2 p.carrier)
     else if td == third_fault_tag then Fails (fault_at fault_tag_3 p.carrier)
-    else if is_pair_tag td then Fails (fault_at illegal_procedure (here g))
+    else if is_pair_tag td then Fails (halt_here illegal_procedure g)
     else if is_tally_tag td then Counts
     else Fails (halt.Stop stop.Tag)
 

@@ -31,7 +31,7 @@ use Rattle.m36_model.specs.Registers.{RegsFields}
 use Rattle.m36_model.specs.Act.{RequestKind, Fetch, Read, Write, Transfer, Call, Locate, Part}
 use Rattle.m36_model.specs.Act.{Whole, Left, Right, Put, Request, Answer, Act, done, ask, refer}
 use Rattle.m36_model.specs.Act.{otherwise}
-use Rattle.m36_model.specs.Modification.{here, plain_fault, fault_at}
+use Rattle.m36_model.specs.Modification.{here, fault_here, halt_here}
 use Rattle.m36_model.specs.FirstPoint.{first_point}
 use Rattle.m36_model.specs.Chain.{ChainEnd, Formation, chain}
 use Rattle.m36_model.specs.Results.{OperandFields, EffectFields, words_only}
@@ -72,7 +72,7 @@ performed g c part first (Ok e) =
       puts = c.pending ++ puts_from part first e.put;
       overflow = e.overflow;
     })
-performed g c part first (Err number) = Err (fault_at number (here g))
+performed g c part first (Err number) = Err (halt_here number g)
 
 -- tally runout as the chain has set it
 abbrev pub tally_by : Bool → Option Bool → Bool
@@ -180,7 +180,7 @@ direct_word _ w = []
 -- A direct operand is given to the effect as it stands, where the instruction takes it.
 abbrev pub takes_word : Effect → RegsFields → ℕ → Bool → Result OperandFields Fault
 takes_word e g w true = Ok (words_only (direct_word (operand_of e) w))
-takes_word e g w false = Err (plain_fault illegal_procedure (here g))
+takes_word e g w false = Err (fault_here illegal_procedure g)
 
 abbrev pub with_operand :
     Effect → ℕ → RegsFields → ChainEnd → Result OperandFields Fault → Operation
@@ -218,7 +218,7 @@ halted g word at h =
 -- A step that has put overflow on gives its fault where the overflow mask is off. Its effect
 -- stands.
 abbrev pub outcome_by : Bool → RegsFields → Outcome
-outcome_by true g = Faulted (plain_fault overflow_fault (here g))
+outcome_by true g = Faulted (fault_here overflow_fault g)
 outcome_by false g = Next
 
 abbrev pub outcome_after : Bool → Bool → RegsFields → Outcome
@@ -254,8 +254,8 @@ addressed e n g w =
 
 -- MME, DRL and DIS form no address (this project's choice): they end at once.
 abbrev pub at_once : Effect → RegsFields → Halt
-at_once effect.Mme g = fault_at master_mode_entry (here g)
-at_once effect.Drl g = fault_at derail (here g)
+at_once effect.Mme g = halt_here master_mode_entry g
+at_once effect.Drl g = halt_here derail g
 at_once _ g = halt.Stop stop.Dis
 
 abbrev pub no_address : Effect → RegsFields → ℕ → Act Ending
@@ -266,8 +266,11 @@ started e n g w kind.N = no_address e g w
 started e n g w _ = addressed e n g w
 
 -- a privileged instruction without the right to it
+abbrev pub is_barred : Effect → Bool → Bool
+is_barred e right = is_privileged e && not right
+
 abbrev pub admitted : Effect → ℕ → RegsFields → ℕ → Bool → Act Ending
-admitted e n g w true = halted g (Some w) None (fault_at illegal_procedure (here g))
+admitted e n g w true = halted g (Some w) None (halt_here illegal_procedure g)
 admitted e n g w false = started e n g w (operand_of e)
 
 -- The instruction that a word is, with the number in its name. The inhibit bit is ignored.
@@ -279,7 +282,7 @@ decode w = option_map effect_and_number (row_at (inst_of w).code (inst_of w).bit
 
 abbrev pub decoded : RegsFields → ℕ → Bool → Option (Effect × ℕ) → Act Ending
 decoded g w privileged None = halted g (Some w) None (halt.Stop stop.Operation)
-decoded g w privileged (Some row) = admitted row.0 row.1 g w (is_privileged row.0 && not privileged)
+decoded g w privileged (Some row) = admitted row.0 row.1 g w (is_barred row.0 privileged)
 
 -- The right to privileged instructions: that of the segment fetched from, in ring 0.
 abbrev pub has_right : SdwFields → ℕ → Bool

@@ -9,8 +9,8 @@
 -- Where registers are as before no word is written. The full effect has the new tally word and the
 -- tally runout of the chain, the new registers, and the words that the instruction writes. Marks
 -- are those of the completed references.
-use Rattle.std.specs.Prelude.{ℕ, ◌≡◌, Bool, true, false, not, ◌&&◌, List, [], ◌∷◌, ◌++◌, map}
-use Rattle.std.specs.Prelude.{length, Option, Some, None, Ok, Err, slice_index}
+use Rattle.std.specs.Prelude.{ℕ, ◌≡◌, Bool, true, false, List, [], ◌∷◌, ◌++◌, map, length, Option}
+use Rattle.std.specs.Prelude.{Some, None, Ok, Err, slice_index}
 use Rattle.m36_inst.specs.Instruction.{inst_of}
 use Rattle.m36_inst.specs.Operands.{operand_of, is_privileged, takes_direct}
 use Rattle.m36_inst.specs.declared.effect.Effect.{Effect}
@@ -24,14 +24,14 @@ use Rattle.m36_model.specs.Act.{Read, Write, Transfer, Call, Locate, Part, Whole
 use Rattle.m36_model.specs.Act.{Request, Answer}
 use Rattle.m36_model.specs.Store.{Spot, Change, Store, Mid, State, serve, run}
 use Rattle.m36_model.specs.Core.{core_store}
-use Rattle.m36_model.specs.Modification.{here, fault_at}
+use Rattle.m36_model.specs.Modification.{halt_here}
 use Rattle.m36_model.specs.Chain.{ChainEnd}
 use Rattle.m36_model.specs.Results.{OperandFields, EffectFields, words_only}
 use Rattle.m36_model.specs.Transfers.{is_taken}
 use Rattle.m36_model.specs.Effect.{exec, is_absa}
 use Rattle.m36_model.specs.Step.{tallied, no_operand, request_at, direct_word, operate, outcome_of}
 use Rattle.m36_model.specs.Step.{outcome_after, formation, decode, has_right, fetch_request}
-use Rattle.m36_model.specs.Step.{at_once, start, record_of, state_after}
+use Rattle.m36_model.specs.Step.{at_once, is_barred, start, record_of, state_after}
 use Rattle.m36_model.specs.declared.outcome.Fault.{Fault}
 use Rattle.m36_model.specs.declared.outcome.Halt.{Halt}
 use Rattle.m36_model.specs.declared.outcome.Halt.TheVariants as halt
@@ -70,7 +70,7 @@ pub record IsAdmitted {S : Type 0} (o : Store S) (s : State S) (word : ℕ) (e :
   pub right : Bool
   pub fetched : IsFetched o s word right m
   pub decoded : decode word ≡ Some (e, n)
-  pub allowed : (is_privileged e && not right) ≡ false
+  pub allowed : is_barred e right ≡ false
 
 -- MME, DRL and DIS form no address.
 abbrev pub forms_address : Operand → Bool
@@ -228,7 +228,7 @@ pub data StepCase {S : Type 0} (o : Store S) (s : State S) (e : StepRecord)
   privilege_refused :
       (word : ℕ) (m : Mid S) (i : Effect) (n : ℕ) → IsFetched o s word false m
       → decode word ≡ Some (i, n) → is_privileged i ≡ true
-      → HasLeft s e t m (Some word) None (outcome_of (fault_at illegal_procedure (here s.regs)))
+      → HasLeft s e t m (Some word) None (outcome_of (halt_here illegal_procedure s.regs))
       → StepCase o s e t
   no_address :
       (word : ℕ) (m : Mid S) (i : Effect) (n : ℕ) → IsAdmitted o s word i n m

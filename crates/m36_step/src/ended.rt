@@ -1,7 +1,7 @@
 //! How a step ends.
 
 ghost use Rattle.std.specs.Prelude.{◌≡◌};
-ghost use Rattle.m36_model.specs.Modification.{here, plain_fault};
+ghost use Rattle.m36_model.specs.Modification.{here, fault_here};
 ghost use Rattle.m36_model.specs.Registers.{RegsFields};
 ghost use Rattle.m36_model.specs.Step.{outcome_of, outcome_after};
 
@@ -20,7 +20,7 @@ pub(crate) struct Ended {
 
 /// A fault other than an access violation, at the instruction.
 pub(crate) fn fault_here(regs: &Regs, number: u8) -> Fault
-    ensures { result ≡ plain_fault number (here regs.now) }
+    ensures { result ≡ fault_here number regs.now }
 {
     Fault {
         at: regs.here(),

@@ -1,17 +1,17 @@
 //! The parts of a step, in order: the fetch, the instruction's row, the right to it, its address, its operation, and its
 //! words.
 
-ghost use Rattle.std.specs.Prelude.{Some, ◌≡◌, ◌≢◌, ◌+◌, ◌<◌, ◌≤◌, [], ◌∷◌, ◌++◌, ◌&&◌};
-ghost use Rattle.std.specs.Prelude.{◌==◌, not, length};
+ghost use Rattle.std.specs.Prelude.{Some, ◌≡◌, ◌≢◌, ◌+◌, ◌<◌, ◌≤◌, [], ◌∷◌, ◌++◌, length};
+ghost use Rattle.std.specs.Prelude.{◌==◌};
 ghost use Rattle.m36_inst.specs.Instruction.{inst_of};
 ghost use Rattle.m36_inst.specs.Lookup.{IsRow};
 ghost use Rattle.m36_inst.specs.declared.operand.Operand.TheVariants.{N};
 ghost use Rattle.m36_ea.specs.Formed.{TallyLies};
-ghost use Rattle.m36_inst.specs.Operands.{operand_of, is_privileged};
+ghost use Rattle.m36_inst.specs.Operands.{operand_of};
 ghost use Rattle.m36_model.specs.Chain.{chain_end_fields};
 ghost use Rattle.m36_model.specs.Modification.{here};
 ghost use Rattle.m36_model.specs.Registers.{RegsFields};
-ghost use Rattle.m36_model.specs.Step.{program, decoded, decode, admitted, started, at_once};
+ghost use Rattle.m36_model.specs.Step.{program, decoded, decode, admitted, is_barred, started, at_once};
 ghost use Rattle.m36_model.specs.Step.{addressed, operated, outcome_after};
 ghost use Rattle.m36_step.specs.Ended.{EndsSo, EndsFormed, ended_of};
 
@@ -165,8 +165,8 @@ fn admitted(
     requires room { length refs.old.items ≤ 4 }
     ensures ends { EndsSo regs.old
         (admitted row.now.effect row.now.reg regs.old word
-        (is_privileged row.now.effect && not privileged)) walk.old.core refs.old.items
-        walk.new.core refs.new.items regs.new result }
+        (is_barred row.now.effect privileged)) walk.old.core refs.old.items walk.new.core
+        refs.new.items regs.new result }
     ensures dbr { walk.new.dbr ≡ regs.new.dbr }
 {
     if row.privileged && !privileged {

@@ -3,7 +3,7 @@
 ghost use Rattle.std.specs.Prelude.{◌≡◌, ◌<◌, ◌^◌, max, Ok, IsTrue};
 ghost use Rattle.m36_desc.specs.Descriptors.{packed_of};
 ghost use Rattle.m36_model.specs.Faults.{command};
-ghost use Rattle.m36_model.specs.Modification.{here, plain_fault};
+ghost use Rattle.m36_model.specs.Modification.{fault_here};
 ghost use Rattle.m36_model.specs.Effect.{answer_fields, refused_here};
 ghost use Rattle.m36_model.specs.OperandHeld.{is_block};
 ghost use Rattle.m36_model.specs.Results.{operand_fields, effect_fields};
@@ -105,7 +105,7 @@ pub fn load_address_pair(regs: &Regs, f: &Final) -> Effect36
 
 /// The fault of an operand that the instruction does not take.
 fn command_fault(regs: &Regs) -> Fault
-    ensures { result ≡ plain_fault command (here regs.now) }
+    ensures { result ≡ fault_here command regs.now }
 {
     Fault {
         at: regs.here(),
