@@ -1,13 +1,15 @@
--- How the code's step ends, and how the program of the step ends over core.
-use Rattle.std.specs.Prelude.{ℕ, ◌≡◌, List, [], Option, None}
+-- How the code's step ends, how the program of the step ends over core, and a record before it is
+-- told.
+use Rattle.std.specs.Prelude.{ℕ, ◌≡◌, Bool, List, [], Option, Some, None}
 use Rattle.m36_model.specs.Fields.{FinalFields}
 use Rattle.m36_model.specs.Registers.{RegsFields}
 use Rattle.m36_model.specs.Act.{Act}
 use Rattle.m36_model.specs.Store.{Ran, run}
 use Rattle.m36_model.specs.Core.{core_store}
 use Rattle.m36_model.specs.Chain.{claimed_by}
-use Rattle.m36_model.specs.Step.{Ending, stepped}
+use Rattle.m36_model.specs.Step.{Ending, stepped, outcome_of, outcome_after}
 use Rattle.m36_model.specs.declared.effects.Formed.{Formed}
+use Rattle.m36_model.specs.declared.outcome.Halt.{Halt}
 use Rattle.m36_model.specs.declared.outcome.Outcome.{Outcome}
 use Rattle.m36_model.specs.declared.outcome.Outcome.TheVariants.{Next}
 use Rattle.m36_model.specs.declared.place.Reference.{Reference}
@@ -47,6 +49,15 @@ given_end core refs after e =
       refs = refs;
       core = core;
     }
+
+-- the end of a step that is refused
+abbrev pub halted_end : Option ℕ → Option FinalFields → Halt → Ended
+halted_end word at h = record { word = word; at = at; outcome = outcome_of h }
+
+-- the end of a step that has its effect
+abbrev pub completed_end : ℕ → FinalFields → Bool → Bool → RegsFields → Ended
+completed_end word last overflow mask g =
+    record { word = Some word; at = Some last; outcome = outcome_after overflow mask g }
 
 -- the end that a record tells
 abbrev pub ended_of : StepRecord → Ended

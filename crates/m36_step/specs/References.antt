@@ -14,10 +14,11 @@ use Rattle.m36_model.specs.declared.place.Reference.{Reference}
 use Rattle.m36_walk.specs.Memory.{Memory}
 use Rattle.m36_walk.specs.Runs.{run_from}
 use Rattle.m36_walk.specs.Served.{standing, sdw_in}
-use Rattle.m36_model.specs.declared.outcome.Outcome.TheVariants.{Faulted}
+use Rattle.m36_model.specs.declared.outcome.Halt.TheVariants as halt
 use Rattle.m36_model.specs.Fields.{FinalFields}
 use Rattle.m36_ea.specs.Formed.{plain}
 use Rattle.m36_step.specs.Operated.{formed_mid}
+use Rattle.m36_step.specs.Ended.{halted_end}
 use Rattle.m36_step.specs.declared.ended.Ended.{Ended}
 
 -- words that are read, or the refusal
@@ -73,4 +74,4 @@ pub record HoldRefused (g : RegsFields) (w : ℕ) (last : FinalFields) (m : Memo
     (refs : List Reference) (core : List ℕ) (refs' : List Reference) (end : Ended) : Type 0 where
   pub fault : Fault
   pub serves : ServesWrite g (plain last) 1 m refs core refs' (Err fault)
-  pub told : end ≡ record { word = Some w; at = Some last; outcome = Faulted fault }
+  pub told : end ≡ halted_end (Some w) (Some last) (halt.Fault fault)

@@ -4,6 +4,7 @@ ghost use Rattle.std.specs.Prelude.{◌≡◌};
 ghost use Rattle.m36_model.specs.Modification.{here, fault_here};
 ghost use Rattle.m36_model.specs.Registers.{RegsFields};
 ghost use Rattle.m36_model.specs.Step.{outcome_of, outcome_after};
+ghost use Rattle.m36_step.specs.Ended.{halted_end};
 
 use m36_model::{At, Fault, Final, Halt, Outcome, Regs};
 use m36_word::Word;
@@ -40,7 +41,7 @@ fn outcome_of(halt: Halt) -> Outcome
 
 /// A step that is refused.
 pub(crate) fn halted(word: Option<Word>, at: Option<Final>, halt: Halt) -> Ended
-    ensures { result ≡ record { word = word; at = at; outcome = outcome_of halt } }
+    ensures { result ≡ halted_end word at halt }
 {
     Ended {
         word,

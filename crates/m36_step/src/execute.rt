@@ -1,7 +1,7 @@
 //! The parts of a step, in order: the fetch, the instruction's row, the right to it, its address, its operation, and its
 //! words.
 
-ghost use Rattle.std.specs.Prelude.{Some, ◌≡◌, ◌≢◌, ◌+◌, ◌<◌, ◌≤◌, [], ◌∷◌, ◌++◌, length};
+ghost use Rattle.std.specs.Prelude.{◌≡◌, ◌≢◌, ◌+◌, ◌<◌, ◌≤◌, [], ◌∷◌, ◌++◌, length};
 ghost use Rattle.std.specs.Prelude.{◌==◌};
 ghost use Rattle.m36_inst.specs.Instruction.{inst_of};
 ghost use Rattle.m36_inst.specs.Lookup.{IsRow};
@@ -12,8 +12,8 @@ ghost use Rattle.m36_model.specs.Chain.{chain_end_fields};
 ghost use Rattle.m36_model.specs.Modification.{here};
 ghost use Rattle.m36_model.specs.Registers.{RegsFields};
 ghost use Rattle.m36_model.specs.Step.{program, decoded, decode, admitted, is_barred, started, at_once};
-ghost use Rattle.m36_model.specs.Step.{addressed, operated, outcome_after};
-ghost use Rattle.m36_step.specs.Ended.{EndsSo, EndsFormed, ended_of};
+ghost use Rattle.m36_model.specs.Step.{addressed, operated};
+ghost use Rattle.m36_step.specs.Ended.{EndsSo, EndsFormed, completed_end, ended_of};
 
 use crate::ended::{Ended, fault_here, halted, outcome_by};
 use crate::frequent::operated_plain;
@@ -37,12 +37,7 @@ fn completed(
     overflow: bool,
 ) -> Ended
     ensures end { (g : RegsFields) → place ≡ here g
-        → result
-        ≡ record {
-          word = Some word;
-          at = Some last;
-          outcome = outcome_after overflow regs.now.ind.mask g;
-        } }
+        → result ≡ completed_end word last overflow regs.now.ind.mask g }
     ensures core { walk.new.core ≡ walk.old.core }
     ensures dbr { walk.new.dbr ≡ regs.now.dbr }
 {

@@ -3,9 +3,8 @@
 ghost use Rattle.std.specs.Prelude.{◌≡◌, Some};
 ghost use Rattle.m36_model.specs.Modification.{here};
 ghost use Rattle.m36_model.specs.Registers.{RegsFields};
-ghost use Rattle.m36_model.specs.Step.{outcome_after};
-ghost use Rattle.m36_model.specs.declared.outcome.Outcome.TheVariants.{Faulted};
-ghost use Rattle.m36_step.specs.Ended.{ended_of};
+ghost use Rattle.m36_model.specs.declared.outcome.Halt.TheVariants as halt;
+ghost use Rattle.m36_step.specs.Ended.{halted_end, completed_end, ended_of};
 
 use crate::ended::{Ended, outcome_by};
 use m36_model::{At, Fault, Final, Outcome, Regs, StepRecord};
@@ -34,12 +33,7 @@ pub(crate) fn tell_done(
     overflow: bool,
 )
     ensures ended { (g : RegsFields) → place ≡ here g
-        → ended_of told.new
-        ≡ record {
-          word = Some word;
-          at = Some last.now;
-          outcome = outcome_after overflow regs.now.ind.mask g;
-        } }
+        → ended_of told.new ≡ completed_end word last.now overflow regs.now.ind.mask g }
     ensures refs { told.new.refs ≡ told.old.refs }
     ensures ppr { told.new.ppr ≡ told.old.ppr }
 {
@@ -52,7 +46,7 @@ pub(crate) fn tell_done(
 /// Tells a step whose operand is refused.
 pub(crate) fn tell_refused(told: &mut StepRecord, word: Word, last: &Final, fault: Fault)
     ensures ended { ended_of told.new
-        ≡ record { word = Some word; at = Some last.now; outcome = Faulted fault } }
+        ≡ halted_end (Some word) (Some last.now) (halt.Fault fault) }
     ensures refs { told.new.refs ≡ told.old.refs }
     ensures ppr { told.new.ppr ≡ told.old.ppr }
 {
