@@ -1,9 +1,10 @@
 -- The instructions that are done field by field: they are met most often.
 use Rattle.std.specs.Prelude.{ℕ, Bool, true, false, [], ◌∷◌}
 use Rattle.m36_word.specs.declared.pair.Pair.{Pair}
+use Rattle.m36_word.specs.Pairs.{pair_words}
 use Rattle.m36_inst.specs.declared.effect.Effect.{Effect}
 use Rattle.m36_inst.specs.declared.effect.Effect.TheVariants as effect
-use Rattle.m36_model.specs.Results.{OperandFields, words_only}
+use Rattle.m36_model.specs.Results.{OperandFields, words_only, words_in_ring}
 
 -- those that read a word
 abbrev pub reads_word : Effect → Bool
@@ -83,4 +84,4 @@ abbrev pub word_read : ℕ → OperandFields
 word_read w = words_only (w ∷ [])
 
 abbrev pub pair_read : Pair → ℕ → OperandFields
-pair_read p ring = record { got = p.even ∷ p.odd ∷ []; ring = ring; place = 0 }
+pair_read p ring = words_in_ring (pair_words p) ring

@@ -3,8 +3,8 @@
 //! They do what `exec_in_place` does, and take and give a pair in registers, as the frequent instructions on single
 //! words do.
 
-ghost use Rattle.std.specs.Prelude.{ℕ, ◌≡◌, ◌^◌, ◌<◌, false, [], ◌∷◌, Ok, IsTrue};
-ghost use Rattle.m36_word.specs.Pairs.{number_of};
+ghost use Rattle.std.specs.Prelude.{ℕ, ◌≡◌, ◌^◌, ◌<◌, false, [], Ok, IsTrue};
+ghost use Rattle.m36_word.specs.Pairs.{number_of, pair_words};
 ghost use Rattle.m36_model.specs.Effect.{exec};
 ghost use Rattle.m36_model.specs.Fields.{FinalFields};
 ghost use Rattle.m36_model.specs.Loads.{load};
@@ -138,7 +138,7 @@ pub fn stores_pair(effect: Effect) -> bool
 pub fn store_pair(row: &Row, regs: &mut Regs) -> Pair
     requires { IsTrue (stores_pair row.now.effect) }
     ensures value { (f : FinalFields)
-        → Ok (record { regs = regs.new; put = result.even ∷ result.odd ∷ []; overflow = false })
+        → Ok (record { regs = regs.new; put = pair_words result; overflow = false })
         ≡ exec row.now.effect row.now.reg regs.old f no_operand }
     ensures dbr { regs.new.dbr ≡ regs.old.dbr }
 {

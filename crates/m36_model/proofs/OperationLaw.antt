@@ -14,8 +14,8 @@ use Rattle.m36_model.specs.Results.{OperandFields, EffectFields, words_only}
 use Rattle.m36_model.specs.Transfers.{is_taken}
 use Rattle.m36_model.specs.Effect.{exec, is_absa}
 use Rattle.m36_model.specs.WordsPut.{words_written}
-use Rattle.m36_model.specs.Step.{Performed, puts_from, performed, tallied, perform, no_operand, request_at, direct_word, addressing, transferring, by_kind, by_direct, operate_on, operate}
-use Rattle.m36_model.specs.StepCases.{Reached, IsUnreferenced, IsReferenced, IsClaimed, IsChanged, got_word, got_words, got_place, got_nothing, got_ring, IsAddressed, IsTargeted, IsOperandOf, IsOperand}
+use Rattle.m36_model.specs.Step.{Performed, puts_from, performed, tallied, perform, no_operand, request_at, got_word, got_words, got_place, got_nothing, got_ring, direct_word, addressing, transferring, by_kind, by_direct, operate_on, operate}
+use Rattle.m36_model.specs.StepCases.{Reached, IsUnreferenced, IsReferenced, IsClaimed, IsChanged, IsAddressed, IsTargeted, IsOperandOf, IsOperand}
 use Rattle.m36_model.proofs.PutLaw.{PutsSo, puts_so}
 use Rattle.m36_model.proofs.OperandWordsLaw.{written_words}
 use Rattle.m36_model.specs.declared.outcome.Fault.{Fault}

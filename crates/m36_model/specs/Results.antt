@@ -3,7 +3,7 @@
 use Rattle.std.specs.Prelude.{ℕ, ◌+◌, ◌/◌, ◌%◌, ◌^◌, Bool, false, ◌||◌, List, [], ◌∷◌, Result, Ok}
 use Rattle.std.specs.Prelude.{slice_index, slice_set}
 use Rattle.m36_word.specs.Field.{field}
-use Rattle.m36_word.specs.Pairs.{number_of}
+use Rattle.m36_word.specs.Pairs.{number_of, pair_words}
 use Rattle.m36_word.specs.declared.pair.Pair.{Pair}
 use Rattle.m36_model.specs.Registers.{RegsFields}
 use Rattle.m36_model.specs.Arithmetic.{SumFields, ComparisonFields, result_of, negation}
@@ -20,9 +20,19 @@ pub record OperandFields : Type 0 where
   pub ring : ℕ
   pub place : ℕ
 
--- an operand of words alone
+-- an operand of words alone, and of words with the first ring bracket of their segment
 abbrev pub words_only : List ℕ → OperandFields
 words_only got = record { got = got; ring = 0; place = 0 }
+
+abbrev pub words_in_ring : List ℕ → ℕ → OperandFields
+words_in_ring got ring = record { got = got; ring = ring; place = 0 }
+
+-- an operand of a new ring alone, and of a place in core alone
+abbrev pub ring_only : ℕ → OperandFields
+ring_only ring = words_in_ring [] ring
+
+abbrev pub place_only : ℕ → OperandFields
+place_only place = record { got = []; ring = 0; place = place }
 
 -- What an effect gives: the new registers, the words to write, and whether it has put overflow on.
 -- A half to write stands right-justified in its word.
@@ -39,7 +49,7 @@ words_of_pairs (p ∷ pairs) = p.even ∷ p.odd ∷ words_of_pairs pairs
 abbrev pub words_of_held : Held → List ℕ
 words_of_held held.Empty = []
 words_of_held (held.One w) = w ∷ []
-words_of_held (held.Two p) = p.even ∷ p.odd ∷ []
+words_of_held (held.Two p) = pair_words p
 words_of_held (held.Block b) = words_of_pairs b
 
 abbrev pub operand_fields : Operand36 → OperandFields
@@ -94,10 +104,14 @@ half Q = 2 ^ 35
 half AQ = 2 ^ 71
 half (X n) = 2 ^ 17
 
+-- the accumulator and the quotient register as a pair, and the number that a register holds
+abbrev pub aq_pair : RegsFields → Pair
+aq_pair g = record { even = g.a; odd = g.q }
+
 abbrev pub value : Working → RegsFields → ℕ
 value A g = g.a
 value Q g = g.q
-value AQ g = number_of (record { even = g.a; odd = g.q })
+value AQ g = number_of (aq_pair g)
 value (X n) g = slice_index g.x n
 
 unfoldable pub with_value : Working → ℕ → RegsFields → RegsFields

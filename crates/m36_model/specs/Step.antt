@@ -29,13 +29,14 @@ use Rattle.m36_model.specs.Faults.{master_mode_entry, derail, illegal_procedure,
 use Rattle.m36_model.specs.Fields.{AtFields, FinalFields}
 use Rattle.m36_model.specs.Registers.{RegsFields}
 use Rattle.m36_model.specs.Act.{RequestKind, Fetch, Read, Write, Transfer, Call, Locate, Part}
-use Rattle.m36_model.specs.Act.{Whole, Left, Right, Put, Request, Answer, Act, done, ask, refer}
+use Rattle.m36_model.specs.Act.{Whole, Put, Request, Answer, Act, done, ask, refer}
 use Rattle.m36_model.specs.Act.{otherwise}
 use Rattle.m36_model.specs.Modification.{here, fault_here, halt_here}
 use Rattle.m36_model.specs.FirstPoint.{first_point}
 use Rattle.m36_model.specs.Chain.{ChainEnd, Formation, chain}
-use Rattle.m36_model.specs.Results.{OperandFields, EffectFields, words_only}
-use Rattle.m36_model.specs.WordsPut.{words_written}
+use Rattle.m36_model.specs.Results.{OperandFields, EffectFields, words_only, words_in_ring}
+use Rattle.m36_model.specs.Results.{ring_only, place_only}
+use Rattle.m36_model.specs.WordsPut.{words_written, part_written}
 use Rattle.m36_model.specs.Transfers.{is_taken}
 use Rattle.m36_model.specs.Effect.{exec, is_absa}
 use Rattle.m36_model.specs.Store.{Store, Mid, Ran, State, begun, run, changes}
@@ -64,12 +65,15 @@ puts_from part first (w ∷ words) =
     record { claim = first; part = part; value = w } ∷ puts_from part (first + 1) words
 
 -- the tally word is written first, and then the words of the operand
+abbrev pub puts_with : List Put → Part → ℕ → List ℕ → List Put
+puts_with pending part first words = pending ++ puts_from part first words
+
 abbrev pub performed :
     RegsFields → ChainEnd → Part → ℕ → Result EffectFields ℕ → Result Performed Halt
 performed g c part first (Ok e) =
     Ok (record {
       regs = e.regs;
-      puts = c.pending ++ puts_from part first e.put;
+      puts = puts_with c.pending part first e.put;
       overflow = e.overflow;
     })
 performed g c part first (Err number) = Err (halt_here number g)
@@ -108,16 +112,32 @@ request_at kind c count =
       at = aligned_at count c.last.at;
     }
 
--- a word is read; and a pair or a block, whose segment's R1 goes with it
+-- What an effect is given of an answer: of a word that is read the word; of a pair or a block its
+-- words, and R1 of their segment; of a place that is asked for the place; of a transfer nothing; of
+-- a call the new ring.
+abbrev pub got_word : Answer → OperandFields
+got_word a = words_only a.words
+
+abbrev pub got_words : Answer → OperandFields
+got_words a = words_in_ring a.words a.sdw.r1
+
+abbrev pub got_place : Answer → OperandFields
+got_place a = place_only a.place
+
+abbrev pub got_nothing : Answer → OperandFields
+got_nothing a = no_operand
+
+abbrev pub got_ring : ℕ → Answer → OperandFields
+got_ring trr a = ring_only (ring_called a.sdw trr)
+
+-- a word is read; and a pair or a block
 abbrev pub reading_word : Effect → ℕ → RegsFields → ChainEnd → Operation
 reading_word e n g c =
-    refer (request_at Read c 1) (λ a.
-    perform e n g c Whole 0 (words_only a.words))
+    refer (request_at Read c 1) (λ a. perform e n g c Whole 0 (got_word a))
 
 abbrev pub reading_words : Effect → ℕ → RegsFields → ChainEnd → ℕ → Operation
 reading_words e n g c count =
-    refer (request_at Read c count) (λ a.
-    perform e n g c Whole 0 (record { got = a.words; ring = a.sdw.r1; place = 0 }))
+    refer (request_at Read c count) (λ a. perform e n g c Whole 0 (got_words a))
 
 -- words are written, or a half of one word
 abbrev pub writing : Effect → ℕ → RegsFields → ChainEnd → ℕ → Part → Operation
@@ -129,43 +149,37 @@ abbrev pub changing : Effect → ℕ → RegsFields → ChainEnd → Part → Op
 changing e n g c part =
     refer (request_at Read c 1) (λ a.
     refer (request_at Write c 1) (λ b.
-    perform e n g c part b.first (words_only a.words)))
+    perform e n g c part b.first (got_word a)))
 
 -- the address alone is used; ABSA asks for its place
 abbrev pub addressing : Effect → ℕ → RegsFields → ChainEnd → Bool → Operation
 addressing e n g c false = perform e n g c Whole 0 no_operand
 addressing e n g c true =
-    refer (request_at Locate c 1) (λ a.
-    perform e n g c Whole 0 (record { got = []; ring = 0; place = a.place }))
+    refer (request_at Locate c 1) (λ a. perform e n g c Whole 0 (got_place a))
 
 -- a transfer that is taken examines its target, and one that is not taken does not
 abbrev pub transferring : Effect → ℕ → RegsFields → ChainEnd → Bool → Operation
 transferring e n g c false = perform e n g c Whole 0 no_operand
 transferring e n g c true =
-    refer (request_at Transfer c 1) (λ a. perform e n g c Whole 0 no_operand)
+    refer (request_at Transfer c 1) (λ a. perform e n g c Whole 0 (got_nothing a))
 
 -- CALL6 examines its target, and the target gives the new ring
 abbrev pub calling : Effect → ℕ → RegsFields → ChainEnd → Operation
 calling e n g c =
-    refer (request_at Call c 1) (λ a.
-    perform e n g c Whole 0 (record {
-      got = [];
-      ring = ring_called a.sdw c.last.at.ring;
-      place = 0;
-    }))
+    refer (request_at Call c 1) (λ a. perform e n g c Whole 0 (got_ring c.last.at.ring a))
 
 -- by operand kind, where the operand is not direct
 abbrev pub by_kind : Effect → ℕ → RegsFields → ChainEnd → Operand → Operation
 by_kind e n g c kind.R = reading_word e n g c
 by_kind e n g c kind.R2 = reading_words e n g c 2
 by_kind e n g c kind.R16 = reading_words e n g c 16
-by_kind e n g c kind.W = writing e n g c (words_written kind.W) Whole
-by_kind e n g c kind.W2 = writing e n g c (words_written kind.W2) Whole
-by_kind e n g c kind.W16 = writing e n g c (words_written kind.W16) Whole
-by_kind e n g c kind.Wl = writing e n g c (words_written kind.Wl) Left
-by_kind e n g c kind.Wr = writing e n g c (words_written kind.Wr) Right
-by_kind e n g c kind.Rw = changing e n g c Whole
-by_kind e n g c kind.Rwl = changing e n g c Left
+by_kind e n g c kind.W = writing e n g c (words_written kind.W) (part_written kind.W)
+by_kind e n g c kind.W2 = writing e n g c (words_written kind.W2) (part_written kind.W2)
+by_kind e n g c kind.W16 = writing e n g c (words_written kind.W16) (part_written kind.W16)
+by_kind e n g c kind.Wl = writing e n g c (words_written kind.Wl) (part_written kind.Wl)
+by_kind e n g c kind.Wr = writing e n g c (words_written kind.Wr) (part_written kind.Wr)
+by_kind e n g c kind.Rw = changing e n g c (part_written kind.Rw)
+by_kind e n g c kind.Rwl = changing e n g c (part_written kind.Rwl)
 by_kind e n g c kind.A = addressing e n g c (is_absa e)
 by_kind e n g c kind.T = transferring e n g c (is_taken e (tallied g c))
 by_kind e n g c kind.N = perform e n g c Whole 0 no_operand

@@ -16,12 +16,10 @@ use Rattle.m36_inst.specs.Operands.{operand_of, is_privileged, takes_direct}
 use Rattle.m36_inst.specs.declared.effect.Effect.{Effect}
 use Rattle.m36_inst.specs.declared.operand.Operand.{Operand}
 use Rattle.m36_inst.specs.declared.operand.Operand.TheVariants as kind
-use Rattle.m36_desc.specs.Access.{ring_called}
 use Rattle.m36_model.specs.Faults.{illegal_procedure}
 use Rattle.m36_model.specs.Fields.{FinalFields}
 use Rattle.m36_model.specs.Registers.{RegsFields}
-use Rattle.m36_model.specs.Act.{Read, Write, Transfer, Call, Locate, Part, Whole, Left, Right}
-use Rattle.m36_model.specs.Act.{Request, Answer}
+use Rattle.m36_model.specs.Act.{Read, Write, Transfer, Call, Locate, Part, Whole, Request, Answer}
 use Rattle.m36_model.specs.Store.{Spot, Change, Store, Mid, State, serve, run}
 use Rattle.m36_model.specs.Core.{core_store}
 use Rattle.m36_model.specs.Modification.{halt_here}
@@ -29,7 +27,9 @@ use Rattle.m36_model.specs.Chain.{ChainEnd}
 use Rattle.m36_model.specs.Results.{OperandFields, EffectFields, words_only}
 use Rattle.m36_model.specs.Transfers.{is_taken}
 use Rattle.m36_model.specs.Effect.{exec, is_absa}
-use Rattle.m36_model.specs.Step.{tallied, no_operand, request_at, direct_word, operate, outcome_of}
+use Rattle.m36_model.specs.WordsPut.{words_written, part_written}
+use Rattle.m36_model.specs.Step.{tallied, no_operand, request_at, got_word, got_words, got_place}
+use Rattle.m36_model.specs.Step.{got_nothing, got_ring, direct_word, operate, outcome_of}
 use Rattle.m36_model.specs.Step.{outcome_after, formation, decode, has_right, fetch_request}
 use Rattle.m36_model.specs.Step.{at_once, is_barred, start, record_of, state_after}
 use Rattle.m36_model.specs.declared.outcome.Fault.{Fault}
@@ -124,22 +124,7 @@ pub record IsChanged {S : Type 0} (o : Store S) (g : RegsFields) (c : ChainEnd) 
   pub answer : Answer
   pub between : Mid S
   pub read : serve o g m (request_at Read c 1) ≡ record { reply = Ok answer; mid = between }
-  pub write : IsClaimed o g (request_at Write c 1) part (words_only answer.words) between u
-
-abbrev pub got_word : Answer → OperandFields
-got_word a = words_only a.words
-
-abbrev pub got_words : Answer → OperandFields
-got_words a = record { got = a.words; ring = a.sdw.r1; place = 0 }
-
-abbrev pub got_place : Answer → OperandFields
-got_place a = record { got = []; ring = 0; place = a.place }
-
-abbrev pub got_nothing : Answer → OperandFields
-got_nothing a = no_operand
-
-abbrev pub got_ring : ℕ → Answer → OperandFields
-got_ring trr a = record { got = []; ring = ring_called a.sdw trr; place = 0 }
+  pub write : IsClaimed o g (request_at Write c 1) part (got_word answer) between u
 
 abbrev pub IsAddressed :
     {S : Type 0} → Store S → RegsFields → ChainEnd → Bool → Mid S → Reached S → Type 0
@@ -151,19 +136,25 @@ abbrev pub IsTargeted :
 IsTargeted o g c false m u = IsUnreferenced m no_operand u
 IsTargeted o g c true m u = IsReferenced o g (request_at Transfer c 1) got_nothing m u
 
+-- the words that an operand kind writes
+abbrev pub IsClaimedFor :
+    {S : Type 0} → Store S → RegsFields → ChainEnd → Operand → Mid S → Reached S → Type 0
+IsClaimedFor o g c k m u =
+    IsClaimed o g (request_at Write c (words_written k)) (part_written k) no_operand m u
+
 -- by operand kind
 abbrev pub IsOperandOf :
     {S : Type 0} → Store S → RegsFields → Effect → ChainEnd → Operand → Mid S → Reached S → Type 0
 IsOperandOf o g e c kind.R m u = IsReferenced o g (request_at Read c 1) got_word m u
 IsOperandOf o g e c kind.R2 m u = IsReferenced o g (request_at Read c 2) got_words m u
 IsOperandOf o g e c kind.R16 m u = IsReferenced o g (request_at Read c 16) got_words m u
-IsOperandOf o g e c kind.W m u = IsClaimed o g (request_at Write c 1) Whole no_operand m u
-IsOperandOf o g e c kind.W2 m u = IsClaimed o g (request_at Write c 2) Whole no_operand m u
-IsOperandOf o g e c kind.W16 m u = IsClaimed o g (request_at Write c 16) Whole no_operand m u
-IsOperandOf o g e c kind.Wl m u = IsClaimed o g (request_at Write c 1) Left no_operand m u
-IsOperandOf o g e c kind.Wr m u = IsClaimed o g (request_at Write c 1) Right no_operand m u
-IsOperandOf o g e c kind.Rw m u = IsChanged o g c Whole m u
-IsOperandOf o g e c kind.Rwl m u = IsChanged o g c Left m u
+IsOperandOf o g e c kind.W m u = IsClaimedFor o g c kind.W m u
+IsOperandOf o g e c kind.W2 m u = IsClaimedFor o g c kind.W2 m u
+IsOperandOf o g e c kind.W16 m u = IsClaimedFor o g c kind.W16 m u
+IsOperandOf o g e c kind.Wl m u = IsClaimedFor o g c kind.Wl m u
+IsOperandOf o g e c kind.Wr m u = IsClaimedFor o g c kind.Wr m u
+IsOperandOf o g e c kind.Rw m u = IsChanged o g c (part_written kind.Rw) m u
+IsOperandOf o g e c kind.Rwl m u = IsChanged o g c (part_written kind.Rwl) m u
 IsOperandOf o g e c kind.A m u = IsAddressed o g c (is_absa e) m u
 IsOperandOf o g e c kind.T m u = IsTargeted o g c (is_taken e (tallied g c)) m u
 IsOperandOf o g e c kind.N m u = IsUnreferenced m no_operand u

@@ -1,9 +1,10 @@
--- Which words an effect gives to be written, by how its instruction references its operand. A half
--- stands right-justified in a word.
+-- Which words an effect gives to be written, and which part of a word, by how its instruction
+-- references its operand. A half stands right-justified in a word.
 use Rattle.std.specs.Prelude.{ℕ, ◌≡◌, ◌^◌, ◌<◌, List, length}
 use Rattle.std.specs.List.{All}
 use Rattle.m36_inst.specs.declared.operand.Operand.{Operand}
 use Rattle.m36_inst.specs.declared.operand.Operand.TheVariants as kind
+use Rattle.m36_model.specs.Act.{Part, Whole, Left, Right}
 
 -- how many words an instruction writes
 abbrev pub words_written : Operand → ℕ
@@ -15,6 +16,13 @@ words_written kind.Wr = 1
 words_written kind.Rw = 1
 words_written kind.Rwl = 1
 words_written _ = 0
+
+-- and which part of a word
+abbrev pub part_written : Operand → Part
+part_written kind.Wl = Left
+part_written kind.Wr = Right
+part_written kind.Rwl = Left
+part_written _ = Whole
 
 abbrev pub IsHalf : List ℕ → Type 0
 IsHalf words = (length words ≡ 1) × All (λ w. w < 2 ^ 18) words

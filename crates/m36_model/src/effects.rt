@@ -17,6 +17,7 @@ pub enum Held {
 }
 
 impl Held {
+    ghost use Rattle.m36_word.specs.Pairs.{pair_words};
     ghost use Rattle.m36_model.specs.Results.{words_of_held, words_of_pairs};
     ghost use Rattle.m36_model.specs.OperandHeld.{is_word, is_pair, is_block};
 
@@ -34,7 +35,7 @@ impl Held {
     /// The pair, where it is one.
     pub fn pair(&self) -> Pair
         requires { IsTrue (is_pair self.now) }
-        ensures { words_of_held self.now ≡ result.even ∷ result.odd ∷ [] }
+        ensures { words_of_held self.now ≡ pair_words result }
     {
         match self {
             Held::Two(pair) => *pair,

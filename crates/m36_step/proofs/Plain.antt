@@ -28,7 +28,8 @@ use Rattle.m36_model.specs.declared.place.Reference.{Reference}
 use Rattle.m36_walk.specs.Memory.{Memory}
 use Rattle.m36_walk.specs.Runs.{run_from}
 use Rattle.m36_walk.specs.Served.{standing, sdw_in, request, served_by, at_target}
-use Rattle.m36_walk.specs.Words.{pair_words, run_changes}
+use Rattle.m36_word.specs.Pairs.{pair_words}
+use Rattle.m36_walk.specs.Words.{run_changes}
 use Rattle.m36_walk.proofs.Claims.{changes_of_run, put_one_word}
 use Rattle.m36_word.specs.declared.pair.Pair.{Pair}
 use Rattle.m36_frequent.specs.Frequent.{loads_address, is_shift, word_read, pair_read}

@@ -7,7 +7,7 @@ use Rattle.m36_model.specs.Chain.{chain_end_fields, pending_of, claimed_by}
 use Rattle.m36_model.specs.Core.{core_store}
 use Rattle.m36_model.specs.Registers.{RegsFields}
 use Rattle.m36_model.specs.Results.{words_of_held}
-use Rattle.m36_model.specs.Step.{Performed, puts_from, operate}
+use Rattle.m36_model.specs.Step.{Performed, puts_with, operate}
 use Rattle.m36_model.specs.Store.{Spot, Mid, Ran, run}
 use Rattle.m36_model.specs.WordsPut.{IsHalf}
 use Rattle.m36_model.specs.declared.effects.Formed.{Formed}
@@ -38,8 +38,8 @@ claims_of f put o = claimed_by f.tally f.place ++ run_from o.place (length (word
 -- what is written there
 abbrev pub puts_of : Formed → Held → Operated → List Put
 puts_of f put o =
-    pending_of f.tally
-    ++ puts_from (part_of o.part) (length (claimed_by f.tally f.place)) (words_of_held put)
+    puts_with (pending_of f.tally) (part_of o.part) (length (claimed_by f.tally f.place))
+    (words_of_held put)
 
 -- with the registers as the effect leaves them
 abbrev pub performed_by : Formed → RegsFields → Held → Operated → Performed

@@ -3,7 +3,7 @@
 ghost use Rattle.std.specs.Prelude.{ℕ, ◌≡◌, ◌+◌, ◌<◌, ◌≤◌, ◌^◌, IfOk, IsTrue, length};
 ghost use Rattle.m36_model.specs.OperandHeld.{is_empty, is_word, is_pair, is_block};
 ghost use Rattle.m36_model.specs.Chain.{chain_end_fields};
-ghost use Rattle.m36_model.specs.Results.{operand_fields, words_of_held};
+ghost use Rattle.m36_model.specs.Results.{operand_fields, words_of_held, words_in_ring};
 ghost use Rattle.m36_model.specs.Step.{reading_word, reading_words, writing, changing};
 ghost use Rattle.m36_walk.specs.Runs.{LiesIn};
 ghost use Rattle.m36_walk.specs.Served.{IsCount};
@@ -20,8 +20,7 @@ use m36_walk::Walk;
 #[inline(always)]
 pub(crate) fn give(got: Held, ring: u8, operand: &mut Operand36)
     requires { ring < 2 ^ 3 }
-    ensures operand { operand_fields operand.new
-        ≡ record { got = words_of_held got; ring = ring; place = 0 } }
+    ensures operand { operand_fields operand.new ≡ words_in_ring (words_of_held got) ring }
     ensures got { operand.new.got ≡ got }
 {
     *operand = Operand36 {

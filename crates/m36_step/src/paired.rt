@@ -4,6 +4,7 @@
 //! not be read or written, and a target that may not be called, is told with its fault at once.
 
 ghost use Rattle.std.specs.Prelude.{ℕ, ◌≡◌, ◌+◌, ◌<◌, ◌≤◌, ◌^◌, IfOk, length};
+ghost use Rattle.m36_word.specs.Pairs.{pair_words};
 ghost use Rattle.m36_inst.specs.Lookup.{IsRow};
 ghost use Rattle.m36_inst.specs.declared.operand.Operand.TheVariants as kind;
 ghost use Rattle.m36_ea.specs.Formed.{plain};
@@ -11,7 +12,6 @@ ghost use Rattle.m36_model.specs.Chain.{chain_end_fields};
 ghost use Rattle.m36_model.specs.Step.{operated};
 ghost use Rattle.m36_walk.specs.Runs.{LiesIn};
 ghost use Rattle.m36_walk.specs.Served.{ok_map, sdw_in};
-ghost use Rattle.m36_walk.specs.Words.{pair_words};
 ghost use Rattle.m36_step.specs.Ended.{EndsFormed, ended_of};
 ghost use Rattle.m36_step.specs.References.{ServesRead, ServesWrite};
 

@@ -1,12 +1,12 @@
 //! The references of an operand: words that are read, and words that are to be written.
 
 ghost use Rattle.std.specs.Prelude.{ℕ, ◌≡◌, ◌+◌, ◌<◌, ◌≤◌, ◌^◌, [], ◌∷◌, ◌++◌, Ok, IfOk, IfSome, IfNone, length};
+ghost use Rattle.m36_word.specs.Pairs.{pair_words};
 ghost use Rattle.m36_ea.specs.Formed.{plain};
 ghost use Rattle.m36_model.specs.Results.{words_of_pairs};
 ghost use Rattle.m36_model.specs.Step.{aligned_at};
 ghost use Rattle.m36_walk.specs.Runs.{LiesIn};
 ghost use Rattle.m36_walk.specs.Served.{IsCount, sdw_in, ok_map};
-ghost use Rattle.m36_walk.specs.Words.{pair_words};
 ghost use Rattle.m36_step.specs.References.{ServesRead, ServesWrite};
 
 use m36_ea::{pending, procedure_segment};

@@ -1,9 +1,9 @@
 //! Operands whose words are not referenced: addresses, and the targets of transfers and calls.
 
-ghost use Rattle.std.specs.Prelude.{ℕ, ◌≡◌, ◌<◌, ◌≤◌, ◌^◌, [], List, IfOk, IsTrue, length};
+ghost use Rattle.std.specs.Prelude.{ℕ, ◌≡◌, ◌<◌, ◌≤◌, ◌^◌, List, IfOk, IsTrue, length};
 ghost use Rattle.m36_model.specs.Chain.{chain_end_fields};
 ghost use Rattle.m36_model.specs.OperandHeld.{is_empty};
-ghost use Rattle.m36_model.specs.Results.{operand_fields};
+ghost use Rattle.m36_model.specs.Results.{operand_fields, place_only};
 ghost use Rattle.m36_model.specs.Step.{addressing, transferring, calling};
 ghost use Rattle.m36_model.specs.declared.place.Reference.{Reference};
 ghost use Rattle.m36_walk.specs.Runs.{LiesIn};
@@ -19,7 +19,7 @@ use m36_walk::Walk;
 /// A place in core. Core has at most 2^24 words.
 fn give_place(walk: &Walk, place: u32, operand: &mut Operand36)
     requires { place < length walk.now.core }
-    ensures operand { operand_fields operand.new ≡ record { got = []; ring = 0; place = place } }
+    ensures operand { operand_fields operand.new ≡ place_only place }
     ensures got { IsTrue (is_empty operand.new.got) }
 {
     let _size = walk.core().len();

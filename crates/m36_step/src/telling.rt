@@ -45,8 +45,7 @@ pub(crate) fn tell_done(
 
 /// Tells a step whose operand is refused.
 pub(crate) fn tell_refused(told: &mut StepRecord, word: Word, last: &Final, fault: Fault)
-    ensures ended { ended_of told.new
-        ≡ halted_end (Some word) (Some last.now) (halt.Fault fault) }
+    ensures ended { ended_of told.new ≡ halted_end (Some word) (Some last.now) (halt.Fault fault) }
     ensures refs { told.new.refs ≡ told.old.refs }
     ensures ppr { told.new.ppr ≡ told.old.ppr }
 {

@@ -4,6 +4,7 @@ use Rattle.std.specs.Prelude.{ℕ, zero, suc, ◌+◌, ◌/◌, ◌%◌, ◌^◌
 use Rattle.std.specs.Prelude.{Bool, List, [], ◌∷◌, ◌++◌, take, slice_index, Option, None, Some}
 use Rattle.std.specs.Prelude.{Result, Ok, Err}
 use Rattle.m36_word.specs.declared.pair.Pair.{Pair}
+use Rattle.m36_word.specs.Pairs.{pair_words}
 use Rattle.m36_model.specs.Fields.{AtFields}
 use Rattle.m36_model.specs.Registers.{RegsFields}
 use Rattle.m36_model.specs.Act.{Answer}
@@ -25,8 +26,7 @@ use Rattle.m36_super.specs.Laying.{written_from, laying}
 -- A link service that succeeds writes the pair, the section that it lays and the word of the
 -- linkage offset table for it, and no other word.
 unfoldable pub link_changes : AtFields → SnapFields → List Change
-link_changes at s =
-    written_from at.seg at.word (s.pair.even ∷ s.pair.odd ∷ []) ++ laying s.lay
+link_changes at s = written_from at.seg at.word (pair_words s.pair) ++ laying s.lay
 
 -- the link as it is told: ? where the word is none
 abbrev pub link_text : Option LinkFields → List ℕ

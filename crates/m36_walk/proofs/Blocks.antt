@@ -9,7 +9,8 @@ use Rattle.m36_model.specs.Place.{wrapped}
 use Rattle.m36_model.specs.Results.{words_of_pairs}
 use Rattle.m36_model.proofs.StepLaw.{core_quiet}
 use Rattle.m36_walk.specs.Runs.{LiesIn, words_from}
-use Rattle.m36_walk.specs.Words.{run_changes, pair_words}
+use Rattle.m36_word.specs.Pairs.{pair_words}
+use Rattle.m36_walk.specs.Words.{run_changes}
 
 -- the place of the next pair
 abbrev pub pair_after : ℕ → ℕ

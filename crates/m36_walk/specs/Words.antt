@@ -1,6 +1,5 @@
 -- Words as a reference sees them, and words as they are written.
 use Rattle.std.specs.Prelude.{ℕ, ◌+◌, List, [], ◌∷◌, Option, Some, None}
-use Rattle.m36_word.specs.declared.pair.Pair.{Pair}
 use Rattle.m36_model.specs.Act.{Whole}
 use Rattle.m36_model.specs.Store.{Change, Core_word}
 use Rattle.m36_model.specs.Core.{core_put}
@@ -21,7 +20,3 @@ abbrev pub run_changes : ℕ → List ℕ → List Change
 run_changes a [] = []
 run_changes a (w ∷ words) = record { spot = Core_word a; part = Whole; value = w }
     ∷ run_changes (wrapped (a + 1)) words
-
--- the words of a pair in order
-abbrev pub pair_words : Pair → List ℕ
-pair_words p = p.even ∷ p.odd ∷ []

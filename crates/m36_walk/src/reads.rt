@@ -1,11 +1,11 @@
 //! References that read.
 
 ghost use Rattle.std.specs.Prelude.{ℕ, ◌≡◌, ◌+◌, ◌%◌, ◌<◌, ◌≤◌, ◌^◌, [], ◌∷◌, None, IfOk, length};
+ghost use Rattle.m36_word.specs.Pairs.{pair_words};
 ghost use Rattle.m36_model.specs.Act.{Fetch, Indirect, Odd};
 ghost use Rattle.m36_model.specs.Results.{words_of_pairs};
 ghost use Rattle.m36_model.specs.Step.{aligned_at, has_right};
 ghost use Rattle.m36_walk.specs.Served.{sdw_in, ok_map, ServesWord, Reads};
-ghost use Rattle.m36_walk.specs.Words.{pair_words};
 
 use crate::refer::{refer_fetch, refer_read};
 use crate::walk::Walk;

@@ -1,13 +1,14 @@
 //! The words at places that were found: one, a pair, or a block of 16.
 
 ghost use Rattle.std.specs.Prelude.{ℕ, ◌≡◌, ◌+◌, ◌<◌, ◌^◌, length, slice_index};
+ghost use Rattle.m36_word.specs.Pairs.{pair_words};
 ghost use Rattle.m36_associative.specs.Right.{AreRight};
 ghost use Rattle.m36_desc.specs.Fields.{DbrFields};
 ghost use Rattle.m36_model.specs.Core.{core_put};
 ghost use Rattle.m36_model.specs.Place.{wrapped};
 ghost use Rattle.m36_model.specs.Results.{words_of_pairs};
 ghost use Rattle.m36_walk.specs.Runs.{LiesIn, words_from};
-ghost use Rattle.m36_walk.specs.Words.{seen, run_changes, pair_words};
+ghost use Rattle.m36_walk.specs.Words.{seen, run_changes};
 
 use m36_associative::{Memories, store};
 use m36_core::Core;

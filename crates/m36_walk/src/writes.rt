@@ -1,12 +1,13 @@
 //! References that write.
 
 ghost use Rattle.std.specs.Prelude.{ℕ, ◌≡◌, ◌+◌, ◌%◌, ◌<◌, ◌≤◌, ◌^◌, [], ◌∷◌, IfOk, length, slice_set};
+ghost use Rattle.m36_word.specs.Pairs.{pair_words};
 ghost use Rattle.m36_model.specs.Core.{core_put};
 ghost use Rattle.m36_model.specs.Results.{words_of_pairs};
 ghost use Rattle.m36_model.specs.Step.{aligned_at};
 ghost use Rattle.m36_walk.specs.Runs.{LiesIn};
 ghost use Rattle.m36_walk.specs.Served.{IsCount, ok_map, ServesClaim, Writes};
-ghost use Rattle.m36_walk.specs.Words.{run_changes, pair_words};
+ghost use Rattle.m36_walk.specs.Words.{run_changes};
 
 use crate::reads::{block_at, pair_at};
 use crate::refer::refer_write;

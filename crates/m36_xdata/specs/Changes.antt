@@ -1,6 +1,7 @@
 -- What the code's changes are: the effects of the definitions, on the registers that the
 -- instruction began with.
 use Rattle.std.specs.Prelude.{◌≡◌, ℕ, Bool, List, [], ◌∷◌, Result, Ok, Err}
+use Rattle.m36_word.specs.Pairs.{pair_words}
 use Rattle.m36_model.specs.Registers.{RegsFields}
 use Rattle.m36_model.specs.Results.{EffectFields, A, Q, X, with_value, with_indicators, moved_on}
 use Rattle.m36_model.specs.Results.{words_of_held}
@@ -23,7 +24,7 @@ taken (taken_by.X i) g = with_value (X i.n) i.value g
 abbrev pub stored : Stored → List ℕ
 stored put_as.Nothing = []
 stored (put_as.One w) = w ∷ []
-stored (put_as.Two p) = p.even ∷ p.odd ∷ []
+stored (put_as.Two p) = pair_words p
 
 -- the effect of a change on these registers
 abbrev pub changed : Change → RegsFields → EffectFields

@@ -1,7 +1,7 @@
 //! The registers that data instructions work on, as numbers of their widths.
 
 ghost use Rattle.std.specs.Prelude.{◌≡◌, ◌*◌, ◌^◌, ◌<◌};
-ghost use Rattle.m36_model.specs.Results.{half, value};
+ghost use Rattle.m36_model.specs.Results.{aq_pair, half, value};
 ghost use Rattle.m36_xdata.specs.Registers.{working, IsRegister};
 
 use m36_model::{Ind, Regs};
@@ -43,7 +43,7 @@ pub fn quotient(regs: &Regs) -> Word
 /// The accumulator and the quotient register, as a pair.
 #[inline(always)]
 pub fn pair(regs: &Regs) -> Pair
-    ensures { result ≡ record { even = regs.now.a; odd = regs.now.q } }
+    ensures { result ≡ aq_pair regs.now }
 {
     Pair {
         even: regs.a,

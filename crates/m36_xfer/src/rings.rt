@@ -1,8 +1,10 @@
 //! Call and return, done in the registers as they are.
 
-ghost use Rattle.std.specs.Prelude.{ℕ, ◌≡◌, ◌<◌, ◌^◌, [], ◌∷◌, false, Ok};
+ghost use Rattle.std.specs.Prelude.{ℕ, ◌≡◌, ◌<◌, ◌^◌, [], false, Ok};
 ghost use Rattle.m36_inst.specs.declared.effect.Effect.TheVariants as effect;
+ghost use Rattle.m36_word.specs.Pairs.{pair_words};
 ghost use Rattle.m36_model.specs.Effect.{exec};
+ghost use Rattle.m36_model.specs.Results.{ring_only, words_in_ring};
 
 use crate::calls::{all_in_ring, greatest_ring, stack_pointer};
 use m36_desc::Its;
@@ -17,7 +19,7 @@ pub fn enter(regs: &mut Regs, f: &Final, ring: u8)
     requires { ring < 2 ^ 3 }
     ensures value { (n : ℕ)
         → Ok (record { regs = regs.new; put = []; overflow = false })
-        ≡ exec effect.Call6 n regs.old f.now (record { got = []; ring = ring; place = 0 }) }
+        ≡ exec effect.Call6 n regs.old f.now (ring_only ring) }
     ensures dbr { regs.new.dbr ≡ regs.old.dbr }
 {
     let at = f.at;
@@ -35,8 +37,7 @@ pub fn leave(regs: &mut Regs, f: &Final, pair: Pair, segment_ring: u8)
     requires { segment_ring < 2 ^ 3 }
     ensures value { (n : ℕ)
         → Ok (record { regs = regs.new; put = []; overflow = false })
-        ≡ exec effect.Rtcd n regs.old f.now
-        (record { got = pair.even ∷ pair.odd ∷ []; ring = segment_ring; place = 0 }) }
+        ≡ exec effect.Rtcd n regs.old f.now (words_in_ring (pair_words pair) segment_ring) }
     ensures dbr { regs.new.dbr ≡ regs.old.dbr }
 {
     let its = Its::of_words(pair);

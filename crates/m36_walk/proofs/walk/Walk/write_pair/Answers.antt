@@ -1,7 +1,7 @@
 use Rattle.std.proofs.Common.{[], refl}
 use Rattle.m36_model.specs.Step.{aligned_at}
 use Rattle.m36_walk.specs.Served.{sdw_in}
-use Rattle.m36_walk.specs.Words.{pair_words}
+use Rattle.m36_word.specs.Pairs.{pair_words}
 use Rattle.m36_walk.proofs.Claims.{written_refused, written_answered}
 use Rattle.m36_walk.proofs.walk.Walk.write_pair.Goals as goal
 
