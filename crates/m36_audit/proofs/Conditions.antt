@@ -10,12 +10,11 @@ use Rattle.m36_desc.specs.Widths.{IsSdw}
 use Rattle.m36_model.specs.Place.{in_frame, ptw_at, page_at, in_bounds, core_sdw}
 use Rattle.m36_model.specs.Audit.{IsSegmentWord, IsOf, IsInTwoTables, IsTableAndSegment, IsInTwoSegments, Finds}
 use Rattle.m36_model.specs.declared.outcome.Refusal.{Refusal}
-use Rattle.m36_audit.specs.TableMarks.{InTwo, AreMarked}
+use Rattle.m36_audit.specs.TableMarks.{AreMarked}
 use Rattle.m36_audit.specs.declared.run.Run.{Run}
 use Rattle.m36_audit.specs.Runs.{words, whole_run, frame_run, page_run_by, run_by, run_ordered, run_of, run, covers, coverage, InOrder}
 use Rattle.m36_audit.proofs.Bounds.{live_fits, live_in_bounds}
 use Rattle.m36_audit.proofs.Counting.{PassTwice, one, two, at_least_one, at_least_two}
-use Rattle.m36_audit.proofs.Marking.{finds_same}
 use Rattle.m36_audit.proofs.RunWords.{Covers}
 use Rattle.m36_audit.proofs.SegmentWords.{number_of, WordOf, word_covered, word_inside, word_once, word_number, word_live, covered_word}
 
@@ -98,11 +97,7 @@ counted_table core dbr tables least a m inside h some =
 
 -- Second condition: as the marks tell
 pub two_tables : (core : List ℕ) (dbr : DbrFields) (tables : List ℕ) (least : Option ℕ) → AreMarked (IsOf core dbr) (length core) tables least → Finds (IsInTwoTables core dbr) least
-two_tables core dbr tables least m =
-    finds_same (InTwo (IsOf core dbr) (length core)) (IsInTwoTables core dbr) least
-    (λ a k. record { inside = k.inside; table = k.table; other = k.other; of = k.of; of_other = k.of_other; differ = k.differ })
-    (λ a k. record { inside = k.inside; table = k.table; other = k.other; of = k.of; of_other = k.of_other; differ = k.differ })
-    m.least_two
+two_tables core dbr tables least m = m.least_two
 
 -- no run ends before it begins
 whole_order : (d : SdwFields) (t : ℕ) (r : Run) → IsSdw d → whole_run d t ≡ Some r → r.first ≤ r.end

@@ -3,8 +3,8 @@ use Rattle.std.proofs.Common.{◌≡◌, ◌≢◌, ℕ, ◌<◌, ◌≤◌, len
 use Rattle.std.specs.Prelude.{◌⊎◌, Bool, true, false, ◌||◌, ◌==◌, List, Option, Some, None, slice_index, slice_set}
 use Rattle.std.proofs.lemmas.Bool.{cases_eq, cases_lt, eqb-true, eqb-false}
 use Rattle.std.proofs.lemmas.List.{get_or-set_same, get_or-set_other, length-set, set_past, get_or_past}
-use Rattle.m36_model.specs.Audit.{Table, Sdws, Directory, Pages, Finds}
-use Rattle.m36_audit.specs.TableMarks.{number, tables_by, tables_marked, lesser, least_by, least_marked, InTwo, HasMark, AreMarked}
+use Rattle.m36_model.specs.Audit.{Table, Sdws, Directory, Pages, InTwo, Finds}
+use Rattle.m36_audit.specs.TableMarks.{number, tables_by, tables_marked, lesser, least_by, least_marked, HasMark, AreMarked}
 
 -- what is found of one condition is found of another that is the same
 pub finds_same : (A B : ℕ → Type 0) (found : Option ℕ) → ((a : ℕ) → A a → B a) → ((a : ℕ) → B a → A a) → Finds A found → Finds B found

@@ -6,8 +6,8 @@ use Rattle.std.proofs.lemmas.List.{length-replicate, get_or-replicate, get_or_pa
 use Rattle.m36_desc.specs.Fields.{SdwFields, DbrFields}
 use Rattle.m36_desc.specs.Widths.{IsSdw}
 use Rattle.m36_model.specs.Place.{wrapped, in_bounds, directory_at, page_at, sdw_place, core_sdw}
-use Rattle.m36_model.specs.Audit.{IsSdwWord, IsPageWord, IsOf, Table, Sdws, Directory, Pages}
-use Rattle.m36_audit.specs.TableMarks.{tables_marked, least_marked, AreMarked, SoFar, InTwo}
+use Rattle.m36_model.specs.Audit.{IsSdwWord, IsPageWord, IsOf, Table, Sdws, Directory, Pages, InTwo}
+use Rattle.m36_audit.specs.TableMarks.{tables_marked, least_marked, AreMarked, SoFar}
 use Rattle.m36_audit.proofs.Bounds.{live_fits, live_in_bounds, sdw_place_in_bounds}
 use Rattle.m36_audit.proofs.Marking.{marked_more, finds_same}
 

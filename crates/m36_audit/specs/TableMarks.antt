@@ -3,7 +3,7 @@ use Rattle.std.specs.Prelude.{◌≡◌, ◌≢◌, ℕ, ◌+◌, ◌*◌, ◌<�
 use Rattle.std.specs.Prelude.{length, slice_index, slice_set, Option, Some, None}
 use Rattle.m36_desc.specs.Fields.{DbrFields}
 use Rattle.m36_model.specs.Audit.{IsSdwWord, IsDirectoryWord, IsPageWord, Table, Sdws, Directory}
-use Rattle.m36_model.specs.Audit.{Pages, Finds}
+use Rattle.m36_model.specs.Audit.{Pages, InTwo, Finds}
 
 -- the number that stands for a table in the marks; 0 stands for none
 abbrev pub number : Table → ℕ
@@ -31,15 +31,6 @@ least_by false least a = lesser least a
 unfoldable pub least_marked : List ℕ → Option ℕ → ℕ → ℕ → Option ℕ
 least_marked tables least table a = least_by
     (slice_index tables a == 0 || slice_index tables a == table) least a
-
--- a core word is a word of two of the tables that were looked at
-pub record InTwo (Of : Table → ℕ → Type 0) (size a : ℕ) : Type 0 where
-  pub inside : a < size
-  pub table : Table
-  pub other : Table
-  pub of : Of table a
-  pub of_other : Of other a
-  pub differ : table ≢ other
 
 -- a core word has the number of a table that it is a word of
 pub record HasMark (Of : Table → ℕ → Type 0) (a mark : ℕ) : Type 0 where

@@ -47,21 +47,26 @@ IsOf core dbr (Pages seg) a = (page : ℕ) × IsPageWord core dbr seg page a
 abbrev pub IsSegmentWord : List ℕ → DbrFields → ℕ → ℕ → ℕ → Type 0
 IsSegmentWord core dbr seg w a = place core_store core dbr seg w ≡ Ok (Core_word a)
 
--- First condition: each live segment has its ring brackets in order. A segment breaks it, by the
--- descriptors that there are.
+-- First condition: each live segment has its ring brackets in order. A segment breaks it. This
+-- condition, the fifth and the sixth are on the descriptors of segments alone, of a core or of a
+-- flat memory.
 pub record IsOutOfOrder (sdws : ℕ → Result SdwFields Refusal) (seg : ℕ) : Type 0 where
   pub sdw : SdwFields
   pub live : sdws seg ≡ Ok sdw
   pub out : in_order sdw ≡ false
 
--- Second condition: no core word is a word of two tables. A core word breaks it.
-pub record IsInTwoTables (core : List ℕ) (dbr : DbrFields) (a : ℕ) : Type 0 where
-  pub inside : a < length core
+-- a core word, of so many, is a word of two tables, by what is a word of each
+pub record InTwo (Of : Table → ℕ → Type 0) (size a : ℕ) : Type 0 where
+  pub inside : a < size
   pub table : Table
   pub other : Table
-  pub of : IsOf core dbr table a
-  pub of_other : IsOf core dbr other a
+  pub of : Of table a
+  pub of_other : Of other a
   pub differ : table ≢ other
+
+-- Second condition: no core word is a word of two tables. A core word breaks it.
+abbrev pub IsInTwoTables : List ℕ → DbrFields → ℕ → Type 0
+IsInTwoTables core dbr = InTwo (IsOf core dbr) (length core)
 
 -- Third condition: no word of a segment lies on a table word. A core word breaks it.
 pub record IsTableAndSegment (core : List ℕ) (dbr : DbrFields) (a : ℕ) : Type 0 where
