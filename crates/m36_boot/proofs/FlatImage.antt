@@ -5,7 +5,7 @@ use Rattle.std.proofs.lemmas.Bool.{lt-ltb, leb-true, leb-false, cases_lt}
 use Rattle.std.proofs.lemmas.List.{get_or_past}
 use Rattle.m36_desc.specs.Fields.{SdwFields}
 use Rattle.m36_desc.specs.Access.{in_order}
-use Rattle.m36_model.specs.Store.{Spot, within, place_within, place_ordered, place_by, place}
+use Rattle.m36_model.specs.Store.{Spot, within, place_within, when_ordered, place_by, place}
 use Rattle.m36_model.specs.Place.{core_sdw, core_spot, page_count}
 use Rattle.m36_model.specs.BootedCore.{booted_dbr, descriptor_words, wired_frames, IsLaid}
 use Rattle.m36_model.specs.Residence.{Paged, word_at, paged_content, flat_of}
@@ -45,8 +45,8 @@ take_is catalog files (suc n) a (x ∷ xs) le h =
 -- ---- a word
 
 place_open : (d : SdwFields) (spot : Result Spot Refusal) (w : ℕ) → in_order d ≡ true
-    → place_ordered (in_order d) (place_within (within d w) spot) ≡ place_within (within d w) spot
-place_open d spot w e = ap (λ (b : Bool). place_ordered b (place_within (within d w) spot)) e
+    → when_ordered (in_order d) (place_within (within d w) spot) ≡ place_within (within d w) spot
+place_open d spot w e = ap (λ (b : Bool). when_ordered b (place_within (within d w) spot)) e
 
 past_pages : (b : Bool) (v : ℕ) → v ≡ 0 → 0 ≡ unwrap_or (cond b (Some v) None) 0
 past_pages true v e = sym e

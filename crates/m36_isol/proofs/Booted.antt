@@ -7,7 +7,7 @@ use Rattle.std.proofs.lemmas.List.{take-set-le}
 use Rattle.m36_desc.specs.Fields.{SdwFields}
 use Rattle.m36_desc.specs.Access.{in_order}
 use Rattle.m36_model.specs.Act.{RequestKind, Part}
-use Rattle.m36_model.specs.Store.{Spot, Core_word, Segment_word, Change, within, place, place_by, place_within, place_ordered, written}
+use Rattle.m36_model.specs.Store.{Spot, Core_word, Segment_word, Change, within, place, place_by, place_within, when_ordered, written}
 use Rattle.m36_model.specs.Place.{wrapped, in_bounds, directory_at, ptw_at, sdw_place_by, sdw_at, sdw_words, core_sdw, core_spot, core_marked, Mark, marks, with_mark, with_marks}
 use Rattle.m36_model.specs.Core.{core_store, core_word, put_one, core_put, unmarked}
 use Rattle.m36_model.specs.Audit.{IsSegmentWord, IsPageWord, AreApart}
@@ -179,7 +179,7 @@ module _ (core : List ℕ) (frames : ℕ) (laid : IsLaid core frames) where
     placed_as : (seg w : ℕ) (d : SdwFields) → core_sdw core booted_dbr seg ≡ Ok d → in_order d ≡ true → within d w ≡ true → place core_store core booted_dbr seg w ≡ core_spot core booted_dbr d seg w
     unfolding place
     placed_as seg w d live ordered inside =
-        ap (λ (v : Result SdwFields Refusal). place_by v (λ x. core_spot core booted_dbr x seg w) w) live ∙ ap (λ (b : Bool). place_ordered b (place_within (within d w) (core_spot core booted_dbr d seg w))) ordered ∙ ap (λ (b : Bool). place_within b (core_spot core booted_dbr d seg w)) inside
+        ap (λ (v : Result SdwFields Refusal). place_by v (λ x. core_spot core booted_dbr x seg w) w) live ∙ ap (λ (b : Bool). when_ordered b (place_within (within d w) (core_spot core booted_dbr d seg w))) ordered ∙ ap (λ (b : Bool). place_within b (core_spot core booted_dbr d seg w)) inside
 
     spotted_by : (now : List ℕ) → Matches core booted_dbr now → (seg w : ℕ) (d : SdwFields) → core_sdw core booted_dbr seg ≡ Ok d → in_order d ≡ true → within d w ≡ true → (page_word core seg (w / 1024) ≡ absent_ptw) ⊎ ((frame : ℕ) × IsInFrame core frames seg (w / 1024) frame) → IsSpotted IsPair (Lacks core) seg w (core_spot now booted_dbr d seg w) (Ok (Segment_word seg w))
     spotted_by now m seg w d live ordered inside (inl e) =

@@ -3,7 +3,7 @@ use Rattle.std.proofs.Common.{◌≡◌, refl, sym, ◌∙◌, ap}
 use Rattle.std.specs.Prelude.{ℕ, Bool, true, false, ◌&&◌, if◌then◌else◌, List, [], ◌∷◌, Some, Result, Ok, Err}
 use Rattle.m36_desc.specs.Fields.{SdwFields, DbrFields}
 use Rattle.m36_desc.specs.Access.{in_order}
-use Rattle.m36_model.specs.Store.{Spot, Change, Store, within, place, place_by, place_ordered, place_within, written}
+use Rattle.m36_model.specs.Store.{Spot, Change, Store, within, place, place_by, when_ordered, place_within, written}
 use Rattle.m36_model.specs.Sight.{content_in, word_of}
 use Rattle.m36_model.specs.StoreLaw.{Each, same_spot, overlay, IsWord, Lawful}
 use Rattle.m36_model.specs.declared.outcome.Refusal.{Refusal}
@@ -20,7 +20,7 @@ module _ {S : Type 0} (o : Store S) (dbr : DbrFields) (Has : S → Type 0) (Lies
   abbrev by_tables : ℕ → ℕ → Result Spot Refusal
   by_tables seg w = place_by (L.sdws seg) (λ d. L.spots d seg w) w
 
-  ordered_place : (a b : Bool) (x y : Result Spot Refusal) → ((a && b) ≡ true → x ≡ y) → place_ordered a (place_within b x) ≡ place_ordered a (place_within b y)
+  ordered_place : (a b : Bool) (x y : Result Spot Refusal) → ((a && b) ≡ true → x ≡ y) → when_ordered a (place_within b x) ≡ when_ordered a (place_within b y)
   ordered_place true true x y h = h refl
   ordered_place true false x y h = refl
   ordered_place false b x y h = refl
@@ -35,7 +35,7 @@ module _ {S : Type 0} (o : Store S) (dbr : DbrFields) (Has : S → Type 0) (Lies
   place_tables s h seg w =
       ap (λ (v : Result SdwFields Refusal). place_by v (λ d. o.spot s dbr d seg w) w) (L.sdw_is s h seg) ∙ place_same s h seg w (L.sdws seg) refl
 
-  ordered_parts : (a b : Bool) (x : Result Spot Refusal) (p : Spot) → place_ordered a (place_within b x) ≡ Ok p → ((a && b) ≡ true) × (x ≡ Ok p)
+  ordered_parts : (a b : Bool) (x : Result Spot Refusal) (p : Spot) → when_ordered a (place_within b x) ≡ Ok p → ((a && b) ≡ true) × (x ≡ Ok p)
   ordered_parts true true x p h = (refl, h)
   ordered_parts true false x p h = cc
   ordered_parts false b x p h = cc

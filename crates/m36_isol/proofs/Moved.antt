@@ -4,7 +4,7 @@ use Rattle.std.proofs.Common.{◌≡◌, refl, sym, ◌∙◌, ap, inl, inr, ari
 use Rattle.std.specs.Prelude.{ℕ, ◌+◌, ◌*◌, ◌/◌, ◌%◌, ◌⊎◌, Bool, true, false, ◌==◌, if◌then◌else◌, List, length, take, slice_index, Option, Some, None, Result, Ok, Err}
 use Rattle.m36_desc.specs.Fields.{SdwFields}
 use Rattle.m36_desc.specs.Access.{in_order}
-use Rattle.m36_model.specs.Store.{Spot, within, place, place_by, place_within, place_ordered}
+use Rattle.m36_model.specs.Store.{Spot, within, place, place_by, place_within, when_ordered}
 use Rattle.m36_model.specs.Place.{core_sdw, core_spot}
 use Rattle.m36_model.specs.Flat.{Flat}
 use Rattle.m36_model.specs.BootedCore.{descriptor_words, booted_dbr, resident_ptw, absent_ptw, IsPage, page_word, IsInFrame, IsLaid}
@@ -67,7 +67,7 @@ module _ (m : Paged) (frames : ℕ) (laid : IsLaid m.core frames) (frame_of : �
       ∙ ap (slice_index m.core) same
 
 -- the word at a place, by the descriptor
-word_by : (m n : Paged) (seg w : ℕ) (a b : Bool) (x y : Result Spot Refusal) → ((a ≡ true) → (b ≡ true) → word_at m seg w x ≡ word_at n seg w y) → word_at m seg w (place_ordered a (place_within b x)) ≡ word_at n seg w (place_ordered a (place_within b y))
+word_by : (m n : Paged) (seg w : ℕ) (a b : Bool) (x y : Result Spot Refusal) → ((a ≡ true) → (b ≡ true) → word_at m seg w x ≡ word_at n seg w y) → word_at m seg w (when_ordered a (place_within b x)) ≡ word_at n seg w (when_ordered a (place_within b y))
 word_by m n seg w true true x y h = h refl refl
 word_by m n seg w true false x y h = refl
 word_by m n seg w false b x y h = refl

@@ -4,12 +4,12 @@ use Rattle.std.specs.Prelude.{ℕ, ◌<◌, Bool, true, false, ◌&&◌, List, l
 use Rattle.std.proofs.lemmas.Bool.{ltb-true}
 use Rattle.m36_desc.specs.Fields.{SdwFields, DbrFields}
 use Rattle.m36_desc.specs.Access.{in_order}
-use Rattle.m36_model.specs.Store.{Spot, Core_word, Store, within, placed, place, place_by, place_ordered, place_within}
+use Rattle.m36_model.specs.Store.{Spot, Core_word, Store, within, placed, place, place_by, when_ordered, place_within}
 use Rattle.m36_model.specs.Place.{core_spot, inside_core, inside_core_by}
 use Rattle.m36_model.specs.Sight.{content_in, word_of}
 use Rattle.m36_model.specs.declared.outcome.Refusal.{Refusal}
 
-place_joined : (a b : Bool) (spot : Result Spot Refusal) → (a && b) ≡ true → place_ordered a (place_within b spot) ≡ spot
+place_joined : (a b : Bool) (spot : Result Spot Refusal) → (a && b) ≡ true → when_ordered a (place_within b spot) ≡ spot
 place_joined true true spot h = refl
 place_joined true false spot h = cc
 place_joined false b spot h = cc
@@ -26,7 +26,7 @@ unfolding place
 place_is o s dbr seg w p h =
     ap (λ (v : Result SdwFields Refusal). place_by v (λ d. o.spot s dbr d seg w) w) h.live ∙ place_joined (in_order h.sdw) (within h.sdw w) (o.spot s dbr h.sdw seg w) h.inside ∙ h.found
 
-placed_parts : (a b : Bool) (spot : Result Spot Refusal) (p : Spot) → place_ordered a (place_within b spot) ≡ Ok p → ((a && b) ≡ true) × (spot ≡ Ok p)
+placed_parts : (a b : Bool) (spot : Result Spot Refusal) (p : Spot) → when_ordered a (place_within b spot) ≡ Ok p → ((a && b) ≡ true) × (spot ≡ Ok p)
 placed_parts true true spot p h = (refl, h)
 placed_parts true false spot p h = cc
 placed_parts false b spot p h = cc

@@ -7,7 +7,7 @@ use Rattle.m36_desc.specs.Access.{in_order}
 use Rattle.m36_model.specs.Fields.{AtFields}
 use Rattle.m36_model.specs.Registers.{RegsFields}
 use Rattle.m36_model.specs.Act.{RequestKind, Fetch, Indirect, Odd, Read, Write, Transfer, Call, Locate, Request, Answer, Act, done, ask}
-use Rattle.m36_model.specs.Store.{Spot, Mid, Served, violation, fault_by, within, place, place_by, place_within, place_ordered, places, is_target, touches, with_reference, serve}
+use Rattle.m36_model.specs.Store.{Spot, Mid, Served, violation, fault_by, within, place, place_by, place_within, when_ordered, places, is_target, touches, with_reference, serve}
 use Rattle.m36_model.specs.Core.{core_store}
 use Rattle.m36_model.specs.Place.{core_sdw, core_spot}
 use Rattle.m36_model.specs.Flat.{Flat, flat_store}
@@ -123,7 +123,7 @@ not_lacking : (v : Result Spot Refusal) (spot : Spot) → v ≡ Ok spot → v �
 not_lacking v spot e f = cc
 
 module _ (core : List ℕ) (frames : ℕ) (laid : IsLaid core frames) where
-  by_tests : (seg w : ℕ) (d : SdwFields) → core_sdw core booted_dbr seg ≡ Ok d → (a b : Bool) → within d w ≡ b → place_ordered a (place_within b (core_spot core booted_dbr d seg w)) ≡ Err absence → IsAbsent core seg (w / 1024)
+  by_tests : (seg w : ℕ) (d : SdwFields) → core_sdw core booted_dbr seg ≡ Ok d → (a b : Bool) → within d w ≡ b → when_ordered a (place_within b (core_spot core booted_dbr d seg w)) ≡ Err absence → IsAbsent core seg (w / 1024)
   by_tests seg w d live true true inside h =
       let p = page_of_word core frames laid seg w d live inside in
       ⊎_elim (λ e. record { page_is = p; word = e }) (λ k. absurd (not_lacking _ _ (resident_spot core frames laid seg w k.0 d live inside k.1) h)) (laid.pages seg (w / 1024) p)

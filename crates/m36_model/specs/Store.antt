@@ -44,6 +44,10 @@ violation acv = record { number = access_violation; acv = acv }
 abbrev pub fault_by : Refusal → AtFields → Fault
 fault_by why at = record { at = at; number = why.number; acv = why.acv }
 
+-- the fault of a refused word, told at it, by the segment and the ring of its reference
+abbrev pub fault_in : AtFields → ℕ → Refusal → Fault
+fault_in at word why = fault_by why (record { seg = at.seg; word = word; ring = at.ring })
+
 -- the table words by which one segment is found: the PTW of the descriptor segment's page, the SDW,
 -- and the PTWs of its pages within its bound. Each is an address and the word there, of a PTW but
 -- for its marks; none past the end of core
@@ -119,6 +123,10 @@ denied kind d trr prr same word = first_of (rows kind d trr prr same word)
 abbrev pub within : SdwFields → ℕ → Bool
 within d word = nat_le (word / 16) d.bound
 
+-- the refusal of a word past it
+abbrev pub past_bound : Refusal
+past_bound = violation out_of_segment_bounds
+
 -- the descriptor gives the word a place: its brackets are in order, and the word is
 -- within its bound
 abbrev pub placed : SdwFields → ℕ → Bool
@@ -128,27 +136,24 @@ placed d word = in_order d && within d word
 -- where it lies
 abbrev pub place_within : Bool → Result Spot Refusal → Result Spot Refusal
 place_within true spot = spot
-place_within false spot = Err (violation out_of_segment_bounds)
+place_within false spot = Err past_bound
 
-abbrev pub place_ordered : Bool → Result Spot Refusal → Result Spot Refusal
-place_ordered true spot = spot
-place_ordered false spot = Err (violation illegal_ring_order)
+-- what a descriptor gives, where its brackets are in order
+abbrev pub when_ordered : {A : Type 0} → Bool → Result A Refusal → Result A Refusal
+when_ordered true given = given
+when_ordered false given = Err (violation illegal_ring_order)
 
 abbrev pub place_by :
     Result SdwFields Refusal → (SdwFields → Result Spot Refusal) → ℕ → Result Spot Refusal
-place_by (Ok d) spot word = place_ordered (in_order d) (place_within (within d word) (spot d))
+place_by (Ok d) spot word = when_ordered (in_order d) (place_within (within d word) (spot d))
 place_by (Err e) spot word = Err e
 
 unfoldable pub place : {S : Type 0} → Store S → S → DbrFields → ℕ → ℕ → Result Spot Refusal
 place o s dbr seg word = place_by (o.sdw s dbr seg) (λ d. o.spot s dbr d seg word) word
 
 -- the first ring bracket of a segment: descriptor, and brackets in order
-abbrev pub first_ring_of : Bool → SdwFields → Result ℕ Refusal
-first_ring_of true d = Ok d.r1
-first_ring_of false d = Err (violation illegal_ring_order)
-
 abbrev pub first_ring_by : Result SdwFields Refusal → Result ℕ Refusal
-first_ring_by (Ok d) = first_ring_of (in_order d) d
+first_ring_by (Ok d) = when_ordered (in_order d) (Ok d.r1)
 first_ring_by (Err e) = Err e
 
 unfoldable pub first_ring : {S : Type 0} → Store S → S → DbrFields → ℕ → Result ℕ Refusal
@@ -162,7 +167,7 @@ placed_next (Err e) spot = Err e
 abbrev pub placed_one :
     Bool → ℕ → Result Spot Refusal → Result (List Spot) (ℕ × Refusal)
     → Result (List Spot) (ℕ × Refusal)
-placed_one false word spot rest = Err (word, violation out_of_segment_bounds)
+placed_one false word spot rest = Err (word, past_bound)
 placed_one true word (Err e) rest = Err (word, e)
 placed_one true word (Ok spot) rest = placed_next rest spot
 
@@ -176,7 +181,7 @@ spots_of o s dbr d seg word (suc n) =
 -- a Transfer and a CALL6 touch no page of the target
 abbrev pub bound_only : Bool → ℕ → Result (List Spot) (ℕ × Refusal)
 bound_only true word = Ok []
-bound_only false word = Err (word, violation out_of_segment_bounds)
+bound_only false word = Err (word, past_bound)
 
 abbrev pub places_by :
     Bool → Result (List Spot) (ℕ × Refusal) → Result (List Spot) (ℕ × Refusal)
@@ -216,11 +221,7 @@ pub record Served (S : Type 0) : Type 0 where
   pub mid : Mid S
 
 abbrev pub refused : {S : Type 0} → Mid S → Request → ℕ → Refusal → Served S
-refused m q word why =
-    record {
-      reply = Err (fault_by why (record { seg = q.at.seg; word = word; ring = q.at.ring }));
-      mid = m;
-    }
+refused m q word why = record { reply = Err (fault_in q.at word why); mid = m }
 
 abbrev pub after_marks : {S : Type 0} → Store S → S → DbrFields → Request → S
 after_marks o s dbr q = if touches q.kind then o.marked s dbr q.kind q.at.seg q.at.word else s

@@ -9,7 +9,7 @@ use Rattle.m36_desc.specs.declared.access.Acv.{Acv}
 use Rattle.m36_model.specs.Fields.{AtFields}
 use Rattle.m36_model.specs.Registers.{RegsFields}
 use Rattle.m36_model.specs.Act.{Answer, Read, Request}
-use Rattle.m36_model.specs.Store.{Spot, Segment_word, Mid, violation, within, fault_by, denied, serve_sdw, serve_rights, serve_places, placed_one, serve, place, place_by, place_within, place_ordered, places, spots_of, changes, without_marks, examined}
+use Rattle.m36_model.specs.Store.{Spot, Segment_word, Mid, violation, within, fault_by, denied, serve_sdw, serve_rights, serve_places, placed_one, serve, place, place_by, place_within, when_ordered, places, spots_of, changes, without_marks, examined}
 use Rattle.m36_model.specs.Place.{core_sdw}
 use Rattle.m36_model.specs.Sight.{word_of, content_in}
 use Rattle.m36_model.specs.Flat.{Flat, flat_sdw, flat_put, flat_store}
@@ -99,11 +99,11 @@ module _ (core : List ℕ) (p : PagerFields) (seg w : ℕ) where
 
   pub disordered_content : (d : SdwFields) → core_sdw core booted_dbr seg ≡ Ok d → in_order d ≡ false → None ≡ content_in flat_store (flat_by core p) booted_dbr seg w
   disordered_content d live apart =
-      sym (content_as (Ok d) live ∙ ap (λ (b : Bool). word_of flat_store (flat_by core p) (place_ordered b (place_within (within d w) (Ok (Segment_word seg w))))) apart)
+      sym (content_as (Ok d) live ∙ ap (λ (b : Bool). word_of flat_store (flat_by core p) (when_ordered b (place_within (within d w) (Ok (Segment_word seg w))))) apart)
 
   pub beyond_content : (d : SdwFields) → core_sdw core booted_dbr seg ≡ Ok d → in_order d ≡ true → within d w ≡ false → None ≡ content_in flat_store (flat_by core p) booted_dbr seg w
   beyond_content d live ordered past =
-      sym (content_as (Ok d) live ∙ (λ i. word_of flat_store (flat_by core p) (place_ordered (ordered i) (place_within (past i) (Ok (Segment_word seg w))))))
+      sym (content_as (Ok d) live ∙ (λ i. word_of flat_store (flat_by core p) (when_ordered (ordered i) (place_within (past i) (Ok (Segment_word seg w))))))
 
   found_content : (d : SdwFields) (v : ℕ) → IsManaged (length p.holders) core p → core_sdw core booted_dbr seg ≡ Ok d → in_order d ≡ true → within d w ≡ true → content_of p core seg w ≡ Some v → (flat_by core p).content seg w ≡ v
   unfolding flat_of
@@ -114,7 +114,7 @@ module _ (core : List ℕ) (p : PagerFields) (seg w : ℕ) where
 
   pub placed_content : (d : SdwFields) (v : ℕ) → IsManaged (length p.holders) core p → core_sdw core booted_dbr seg ≡ Ok d → in_order d ≡ true → within d w ≡ true → content_of p core seg w ≡ Some v → Some v ≡ content_in flat_store (flat_by core p) booted_dbr seg w
   placed_content d v m live ordered inside found =
-      sym (content_as (Ok d) live ∙ (λ i. word_of flat_store (flat_by core p) (place_ordered (ordered i) (place_within (inside i) (Ok (Segment_word seg w))))) ∙ ap Some (found_content d v m live ordered inside found))
+      sym (content_as (Ok d) live ∙ (λ i. word_of flat_store (flat_by core p) (when_ordered (ordered i) (place_within (inside i) (Ok (Segment_word seg w))))) ∙ ap Some (found_content d v m live ordered inside found))
 
 -- ---- over the memory of a booted system
 

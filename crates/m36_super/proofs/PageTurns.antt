@@ -6,7 +6,7 @@ use Rattle.m36_desc.specs.Access.{in_order}
 use Rattle.m36_desc.specs.Violations.{out_of_segment_bounds, illegal_ring_order}
 use Rattle.m36_model.specs.Fields.{AtFields}
 use Rattle.m36_model.specs.Registers.{RegsFields}
-use Rattle.m36_model.specs.Store.{Spot, State, violation, within, place, place_by, place_within, place_ordered}
+use Rattle.m36_model.specs.Store.{Spot, State, violation, within, place, place_by, place_within, when_ordered}
 use Rattle.m36_model.specs.StoreLaw.{Each}
 use Rattle.m36_model.specs.Core.{core_store}
 use Rattle.m36_model.specs.Place.{core_sdw, core_spot}
@@ -48,7 +48,7 @@ pub lacking_page : (core : List ℕ) (frames seg w : ℕ) → IsLaid core frames
 unfolding place
 lacking_page core frames seg w laid lacks = by_sdw (core_sdw core booted_dbr seg) refl lacks
   where
-    by_parts : (d : SdwFields) → core_sdw core booted_dbr seg ≡ Ok d → (a b : Bool) → within d w ≡ b → place_ordered a (place_within b (core_spot core booted_dbr d seg w)) ≡ Err absence → IsPage core seg (w / 1024)
+    by_parts : (d : SdwFields) → core_sdw core booted_dbr seg ≡ Ok d → (a b : Bool) → within d w ≡ b → when_ordered a (place_within b (core_spot core booted_dbr d seg w)) ≡ Err absence → IsPage core seg (w / 1024)
     by_parts d live true true inside e = page_of_word core frames laid seg w d live inside
     by_parts d live true false inside e = absurd (not_absence (Err (violation out_of_segment_bounds)) 20 e refl refl)
     by_parts d live false b inside e = absurd (not_absence (Err (violation illegal_ring_order)) 20 e refl refl)

@@ -4,7 +4,7 @@ use Rattle.std.proofs.lemmas.Bool.{eqb-true, le-leb}
 use Rattle.std.specs.Prelude.{ℕ, ◌+◌, ◌*◌, ◌/◌, ◌^◌, ◌<◌, ◌≤◌, ◌%◌, ◌⊎◌, Bool, true, false, ◌&&◌, ◌==◌, if◌then◌else◌, List, [], ◌∷◌, length, take, slice_index, Option, Some, None, Result, Ok, Err}
 use Rattle.m36_desc.specs.Fields.{SdwFields}
 use Rattle.m36_desc.specs.Access.{in_order}
-use Rattle.m36_model.specs.Store.{within, place, place_by, place_within, place_ordered}
+use Rattle.m36_model.specs.Store.{within, place, place_by, place_within, when_ordered}
 use Rattle.m36_model.specs.Place.{core_sdw, core_spot}
 use Rattle.m36_model.specs.Flat.{flat_put}
 use Rattle.m36_model.specs.BootedCore.{descriptor_words, booted_dbr}
@@ -87,7 +87,7 @@ module _ (frames : ℕ) (core : List ℕ) (p : PagerFields) (m : IsManaged frame
   dead_word seg w why other true e = absurd (other (eqb-true why.number 17 e))
   dead_word seg w why other false e = ap (λ (b : Bool). if b then memory.kept seg w else 0) e
 
-  by_parts : (seg w : ℕ) (d : SdwFields) → core_sdw core booted_dbr seg ≡ Ok d → (a b : Bool) → within d w ≡ b → word_at memory seg w (place_ordered a (place_within b (core_spot core booted_dbr d seg w))) ≡ shown_by a b (content_of p core seg w)
+  by_parts : (seg w : ℕ) (d : SdwFields) → core_sdw core booted_dbr seg ≡ Ok d → (a b : Bool) → within d w ≡ b → word_at memory seg w (when_ordered a (place_within b (core_spot core booted_dbr d seg w))) ≡ shown_by a b (content_of p core seg w)
   by_parts seg w d live true true inside = word_there seg w d live inside
   by_parts seg w d live true false inside = refl
   by_parts seg w d live false b inside = refl

@@ -5,7 +5,7 @@ use Rattle.m36_desc.specs.Access.{allowed, first_of, in_order, ordered_rows}
 use Rattle.m36_model.specs.Fields.{AtFields}
 use Rattle.m36_model.specs.Core.{core_store}
 use Rattle.m36_model.specs.Place.{core_sdw, core_spot}
-use Rattle.m36_model.specs.Store.{Spot, Core_word, within, placed_one, place_within, place_ordered, place_by, place, spots_of, violation, fault_by}
+use Rattle.m36_model.specs.Store.{Spot, Core_word, within, placed_one, place_within, when_ordered, place_by, place, spots_of, violation, fault_by}
 use Rattle.m36_model.specs.declared.outcome.Fault.{Fault}
 use Rattle.m36_model.specs.declared.outcome.Refusal.{Refusal}
 use Rattle.m36_walk.specs.Reached.{Reached, told, told_acv, reached, reached_sdw, reached_rights, reached_places}
@@ -41,7 +41,7 @@ module _ (core : List ℕ) (dbr : DbrFields) (at : AtFields) (d' : SdwFields) wh
   by_bound d false s result e = refused (fault_by (violation 15) at) result e
 
   by_order : (d : SdwFields) (o b : Bool) (s : Result Spot Refusal) (result : Result ℕ Fault) → reached_rights d (told_acv at (allowed tt (first_of ((not o, 0) ∷ [])))) (told_places at (placed_one b at.word s (Ok []))) ≡ at_place d' 1 result
-      → Placed (told at (place_ordered o (place_within b s))) result
+      → Placed (told at (when_ordered o (place_within b s))) result
   by_order d true b s result e = by_bound d b s result e
   by_order d false b s result e = refused (fault_by (violation 0) at) result e
 

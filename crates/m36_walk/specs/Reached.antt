@@ -1,8 +1,7 @@
 -- What a reference to core gives: descriptor, rights and places in this order, or the first
 -- refusal, told at its word.
-use Rattle.std.specs.Prelude.{ℕ, Bool, true, false, ◌≡◌, List, Result, Ok, Err}
+use Rattle.std.specs.Prelude.{ℕ, Bool, ◌≡◌, List, Result, Ok, Err}
 use Rattle.m36_desc.specs.Fields.{SdwFields, DbrFields}
-use Rattle.m36_desc.specs.Violations.{illegal_ring_order}
 use Rattle.m36_desc.specs.declared.access.Acv.{Acv}
 use Rattle.m36_model.specs.Fields.{AtFields}
 use Rattle.m36_model.specs.Store.{Spot, violation, fault_by}
@@ -21,11 +20,6 @@ told at (Err why) = Err (fault_by why at)
 abbrev pub told_acv : {A : Type 0} → AtFields → Result A Acv → Result A Fault
 told_acv at (Ok a) = Ok a
 told_acv at (Err acv) = Err (fault_by (violation acv.0) at)
-
--- brackets out of order are a refusal
-abbrev pub told_order : Bool → Result Unit Refusal
-told_order true = Ok tt
-told_order false = Err (violation illegal_ring_order)
 
 -- a reference that is answered: the descriptor by which its words were found, and where they lie
 pub record Reached : Type 0 where

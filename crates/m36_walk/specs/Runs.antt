@@ -2,7 +2,7 @@
 use Rattle.std.specs.Prelude.{ℕ, zero, suc, ◌+◌, ◌<◌, true, List, [], ◌∷◌, Result, Ok, Err, nat_lt}
 use Rattle.std.specs.Prelude.{slice_index}
 use Rattle.m36_model.specs.Fields.{AtFields}
-use Rattle.m36_model.specs.Store.{Spot, Core_word, placed_one, fault_by}
+use Rattle.m36_model.specs.Store.{Spot, Core_word, placed_one, fault_in}
 use Rattle.m36_model.specs.Place.{wrapped, inside_core_by}
 use Rattle.m36_model.specs.declared.outcome.Fault.{Fault}
 use Rattle.m36_model.specs.declared.outcome.Refusal.{Refusal}
@@ -34,7 +34,7 @@ LiesIn size a (suc n) = (a < size) × LiesIn size (wrapped (a + 1)) n
 -- a refusal of one of the words, told at it
 abbrev pub told_places : AtFields → Result (List Spot) (ℕ × Refusal) → Result (List Spot) Fault
 told_places at (Ok spots) = Ok spots
-told_places at (Err e) = Err (fault_by e.1 (record { seg = at.seg; word = e.0; ring = at.ring }))
+told_places at (Err e) = Err (fault_in at e.0 e.1)
 
 -- the run whose first place was found, or the word that is refused; word is the word number
 -- of the first

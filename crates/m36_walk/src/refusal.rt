@@ -1,7 +1,7 @@
 //! Why a reference is refused.
 
 ghost use Rattle.std.specs.Prelude.{◌≡◌, ◌+◌, ◌%◌, ◌<◌};
-ghost use Rattle.m36_model.specs.Store.{fault_by};
+ghost use Rattle.m36_model.specs.Store.{fault_by, fault_in};
 
 use m36_model::{At, Fault, Refusal};
 
@@ -28,9 +28,7 @@ pub(crate) struct Refused {
 #[inline(always)]
 pub(crate) fn fault_further(refused: Refused, at: At) -> Fault
     requires { at.word % 16 + refused.further < 16 }
-    ensures { result
-        ≡ fault_by refused.why (record
-        { seg = at.seg; word = at.word + refused.further; ring = at.ring }) }
+    ensures { result ≡ fault_in at (at.word + refused.further) refused.why }
 {
     fault(
         refused.why,

@@ -1,12 +1,12 @@
 //! References that touch no word: the target of a transfer or of a call, the place of a word, and a ring bracket.
 
-ghost use Rattle.std.specs.Prelude.{ℕ, ◌≡◌, ◌<◌, ◌^◌, ◌==◌, [], IfOk, length};
+ghost use Rattle.std.specs.Prelude.{ℕ, ◌≡◌, ◌<◌, ◌^◌, ◌==◌, [], Ok, IfOk, length};
 ghost use Rattle.m36_desc.specs.Access.{allowed, first_of, in_order, ordered_rows, transfer_rows, call_rows, ring_called};
 ghost use Rattle.m36_associative.specs.Right.{AreRight};
 ghost use Rattle.m36_model.specs.Core.{core_store};
 ghost use Rattle.m36_model.specs.Place.{core_sdw};
-ghost use Rattle.m36_model.specs.Store.{Core_word, within, bound_only, spots_of, place, first_ring};
-ghost use Rattle.m36_walk.specs.Reached.{told, told_acv, told_order, reached};
+ghost use Rattle.m36_model.specs.Store.{Core_word, within, when_ordered, bound_only, spots_of, place, first_ring};
+ghost use Rattle.m36_walk.specs.Reached.{told, told_acv, reached};
 ghost use Rattle.m36_walk.specs.Runs.{LiesIn, told_places};
 ghost use Rattle.m36_walk.specs.Served.{sdw_in, at_place, at_target, ok_map};
 
@@ -99,7 +99,7 @@ pub(crate) fn find_call(core: &Core, dbr: Dbr, at: At, ppr: Ppr) -> Result<u8, F
 
 /// The brackets of a segment are in order.
 fn ordered(sdw: &Sdw) -> Result<(), Refusal>
-    ensures { result ≡ told_order (in_order sdw.now) }
+    ensures { result ≡ when_ordered (in_order sdw.now) (Ok tt) }
 {
     if in_order(sdw) {
         Ok(())
