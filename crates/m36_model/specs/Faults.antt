@@ -35,9 +35,12 @@ divide_check = 14
 abbrev pub directed_fault : ℕ → ℕ
 directed_fault fc = 16 + fc
 
--- directed fault 1, which in a booted image is a page that is in no frame
+-- which directed fault is, in a booted image, a page that is in no frame; and its number
+abbrev pub missing_page_code : ℕ
+missing_page_code = 1
+
 abbrev pub missing_page : ℕ
-missing_page = directed_fault 1
+missing_page = directed_fault missing_page_code
 
 abbrev pub access_violation : ℕ
 access_violation = 20

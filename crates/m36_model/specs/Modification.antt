@@ -10,6 +10,7 @@ use Rattle.m36_model.specs.Faults.{fault_tag_1, fault_tag_2, fault_tag_3, illega
 use Rattle.m36_model.specs.Tally.{is_tally_tag}
 use Rattle.m36_model.specs.Fields.{AtFields, FinalFields}
 use Rattle.m36_model.specs.Registers.{RegsFields}
+use Rattle.m36_model.specs.Store.{plain_refusal, fault_by}
 use Rattle.m36_model.specs.declared.outcome.Fault.{Fault}
 use Rattle.m36_model.specs.declared.outcome.Halt.{Halt}
 use Rattle.m36_model.specs.declared.outcome.Halt.TheVariants as halt
@@ -33,7 +34,7 @@ here g = record { seg = g.ppr.psr; word = g.ppr.ic; ring = g.ppr.prr }
 
 -- a fault other than an access violation, at a place
 abbrev pub plain_fault : ℕ → AtFields → Fault
-plain_fault number at = record { at = at; number = number; acv = 0 }
+plain_fault number at = fault_by (plain_refusal number) at
 
 abbrev pub fault_at : ℕ → AtFields → Halt
 fault_at number at = halt.Fault (plain_fault number at)

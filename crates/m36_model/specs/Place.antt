@@ -9,16 +9,16 @@ use Rattle.m36_desc.specs.Descriptors.{sdw_of, ptw_of}
 use Rattle.m36_model.specs.Faults.{directed_fault}
 use Rattle.m36_model.specs.Act.{RequestKind}
 use Rattle.m36_desc.specs.Violations.{out_of_segment_bounds}
-use Rattle.m36_model.specs.Store.{Spot, Core_word, violation, claims_words}
+use Rattle.m36_model.specs.Store.{Spot, Core_word, violation, plain_refusal, claims_words}
 use Rattle.m36_model.specs.declared.outcome.Refusal.{Refusal}
 
 -- a table word or a place at or past the end of core
 abbrev pub store_fault : Refusal
-store_fault = record { number = 1; acv = 0 }
+store_fault = plain_refusal 1
 
 -- the directed fault that a descriptor with F off names
 abbrev pub directed : ℕ → Refusal
-directed fc = record { number = directed_fault fc; acv = 0 }
+directed fc = plain_refusal (directed_fault fc)
 
 -- sums of addresses wrap
 abbrev pub wrapped : ℕ → ℕ

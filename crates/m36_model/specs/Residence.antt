@@ -2,7 +2,7 @@
 -- the image holds is the same either way.
 use Rattle.std.specs.Prelude.{◌≡◌, ℕ, ◌+◌, ◌*◌, ◌/◌, ◌%◌, ◌==◌, if◌then◌else◌, List}
 use Rattle.std.specs.Prelude.{length, take, slice_index, Option, Some, None, Result, Ok, Err}
-use Rattle.m36_model.specs.Faults.{missing_page}
+use Rattle.m36_model.specs.Faults.{missing_page_code, missing_page}
 use Rattle.m36_model.specs.Store.{Spot, place}
 use Rattle.m36_model.specs.Place.{directed}
 use Rattle.m36_model.specs.Core.{core_store, core_word}
@@ -18,7 +18,7 @@ pub record Paged : Type 0 where
 
 -- the refusal of a page that is in no frame
 abbrev pub absence : Refusal
-absence = directed 1
+absence = directed missing_page_code
 
 -- The content of a word: its frame's word where its page is resident, and else the word
 -- kept for it.

@@ -36,9 +36,12 @@ written Whole old v = v
 written Left old v = v * 2 ^ 18 + old % 2 ^ 18
 written Right old v = (old / 2 ^ 18) * 2 ^ 18 + v
 
--- the access violation of this number
+-- the refusal by the access violation of this number, and by another fault of this number
 abbrev pub violation : ℕ → Refusal
 violation acv = record { number = access_violation; acv = acv }
+
+abbrev pub plain_refusal : ℕ → Refusal
+plain_refusal number = record { number = number; acv = 0 }
 
 -- the fault of a refusal, at a word
 abbrev pub fault_by : Refusal → AtFields → Fault

@@ -4,12 +4,11 @@ use Rattle.std.specs.Prelude.{ℕ, ◌+◌, ◌*◌, false, true, List, [], ◌�
 use Rattle.std.specs.Prelude.{slice_index, Option, None}
 use Rattle.m36_desc.specs.Fields.{SdwFields}
 use Rattle.m36_desc.specs.Descriptors.{sdw_even, sdw_odd}
-use Rattle.m36_model.specs.Faults.{access_violation}
 use Rattle.m36_model.specs.Fields.{AtFields, FinalFields}
 use Rattle.m36_model.specs.Registers.{RegsFields}
-use Rattle.m36_model.specs.Store.{State}
+use Rattle.m36_model.specs.Store.{State, violation, fault_by}
 use Rattle.m36_model.specs.Core.{core_store}
-use Rattle.m36_model.specs.Modification.{no_ptr}
+use Rattle.m36_model.specs.Modification.{plain_fault, no_ptr}
 use Rattle.m36_model.specs.Results.{no_indicators}
 use Rattle.m36_model.specs.Step.{record_of, state_after}
 use Rattle.m36_model.specs.declared.place.Kind.{Kind}
@@ -107,10 +106,10 @@ referred kind seg word ring count =
 
 -- faults, and access violations
 abbrev pub faults : ℕ → AtFields → Outcome
-faults number at = Faulted (record { at = at; number = number; acv = 0 })
+faults number at = Faulted (plain_fault number at)
 
 abbrev pub violates : ℕ → AtFields → Outcome
-violates acv at = Faulted (record { at = at; number = access_violation; acv = acv })
+violates acv at = Faulted (fault_by (violation acv) at)
 
 -- what one step does: how it ends, the end of its chain, the registers afterwards, the core
 -- afterwards
