@@ -2,6 +2,7 @@
 -- words. The descriptor of a segment of process k has number 2^15 * k + the segment.
 use Rattle.std.specs.Prelude.{◌≡◌, ℕ, ◌+◌, ◌*◌, ◌/◌, ◌%◌, ◌^◌, ◌<◌, List, length}
 use Rattle.std.specs.Prelude.{◌==◌, cond, slice_get, slice_index, slice_set, Option, Some, None, Ok}
+use Rattle.m36_word.specs.Pairs.{number_of}
 use Rattle.m36_desc.specs.Fields.{DbrFields}
 use Rattle.m36_model.specs.Place.{wrapped, sdw_place}
 
@@ -13,7 +14,7 @@ pub record IsKey (core : List ℕ) (dbr : DbrFields) (seg key : ℕ) : Type 0 wh
   pub odd : ℕ
   pub even_is : slice_get core at ≡ Some even
   pub odd_is : slice_get core (wrapped (at + 1)) ≡ Some odd
-  pub key_is : key ≡ even * 2 ^ 36 + odd
+  pub key_is : key ≡ number_of (record { even = even; odd = odd })
 
 -- the descriptor of this number has these words
 pub record KeyAt (core : List ℕ) (dbrs : List DbrFields) (i key : ℕ) : Type 0 where

@@ -4,6 +4,7 @@ use Rattle.std.specs.Prelude.{if◌then◌else◌, List, [], ◌∷◌, ◌++◌
 use Rattle.std.specs.Prelude.{Result, Ok, Err}
 use Rattle.std.specs.List.{All}
 use Rattle.std.specs.Int.Digits.{number_from_digits}
+use Rattle.m36_word.specs.Pairs.{number_of}
 use Rattle.m36_text.specs.Digits.{digits}
 use Rattle.m36_text.specs.declared.packing.PackFault.{PackFault}
 use Rattle.m36_text.specs.declared.packing.PackFault.TheVariants.{T3, T4, NoMemory}
@@ -13,7 +14,8 @@ use Rattle.m36_text.specs.declared.packing.PackFault.TheVariants.{T3, T4, NoMemo
 unfoldable pub packed : List ℕ → List ℕ
 packed [] = []
 packed (last ∷ []) = digits 256 5 (last * 2 ^ 4)
-packed (even ∷ odd ∷ words) = digits 256 9 (even * 2 ^ 36 + odd) ++ packed words
+packed (even ∷ odd ∷ words) =
+    digits 256 9 (number_of (record { even = even; odd = odd })) ++ packed words
 
 -- the number that bytes write, the most significant first
 unfoldable pub bits_of : List ℕ → ℕ
