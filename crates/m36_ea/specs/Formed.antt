@@ -3,7 +3,7 @@ use Rattle.std.specs.Prelude.{ℕ, ◌≡◌, ◌<◌, List, [], ◌∷◌, ◌+
 use Rattle.m36_inst.specs.Fields.{InstFields}
 use Rattle.m36_model.specs.Fields.{FinalFields}
 use Rattle.m36_model.specs.Registers.{RegsFields}
-use Rattle.m36_model.specs.Store.{Ran, run}
+use Rattle.m36_model.specs.Store.{Mid, Ran, run}
 use Rattle.m36_model.specs.Core.{core_store}
 use Rattle.m36_model.specs.Chain.{ChainEnd, chain_end_fields, claimed_by}
 use Rattle.m36_model.specs.Step.{formation}
@@ -20,15 +20,15 @@ abbrev pub formed_from :
     RegsFields → InstFields → List ℕ → List Reference → Ran (Result ChainEnd Halt) (List ℕ)
 formed_from g i core refs = run core_store g (formation g i) (standing core [] refs)
 
+-- where a step stands that has claimed the tally word of its address alone, if there is one
+abbrev pub formed_mid : List ℕ → Formed → List Reference → Mid (List ℕ)
+formed_mid core f refs = standing core (claimed_by f.tally f.place) refs
+
 -- how an answer of the code ends it: the address, the place of the tally word, if there is one, as
 -- the step's first claim, and core and the references as they stand
 abbrev pub ended :
     List ℕ → List Reference → Result Formed Halt → Ran (Result ChainEnd Halt) (List ℕ)
-ended core refs (Ok f) =
-    record {
-      value = Ok (chain_end_fields f);
-      mid = standing core (claimed_by f.tally f.place) refs;
-    }
+ended core refs (Ok f) = record { value = Ok (chain_end_fields f); mid = formed_mid core f refs }
 ended core refs (Err h) = record { value = Err h; mid = standing core [] refs }
 
 -- an address without a tally word

@@ -15,7 +15,7 @@ use Rattle.m36_model.specs.declared.outcome.Halt.TheVariants as halt
 use Rattle.m36_model.specs.declared.place.Reference.{Reference}
 use Rattle.m36_model.specs.declared.place.Kind.TheVariants as reference
 use Rattle.m36_walk.specs.Memory.{Memory}
-use Rattle.m36_walk.specs.Served.{standing, sdw_in}
+use Rattle.m36_walk.specs.Served.{standing, sdw_in, answer_of_words}
 use Rattle.m36_ea.specs.Formed.{ended}
 use Rattle.m36_ea.specs.declared.modification.Action.{Action}
 use Rattle.m36_ea.specs.declared.modification.Action.TheVariants as action
@@ -58,10 +58,7 @@ indirect_reference p word count =
 abbrev pub told_word :
     SdwFields → List ℕ → List Reference → List Reference → Result ℕ Fault → Served (List ℕ)
 told_word d core answered refused (Ok w) =
-    record {
-      reply = Ok (record { sdw = d; words = w ∷ []; first = 0; place = 0 });
-      mid = standing core [] answered;
-    }
+    record { reply = Ok (answer_of_words d [] (w ∷ [])); mid = standing core [] answered }
 told_word d core answered refused (Err f) = record { reply = Err f; mid = standing core [] refused }
 
 -- The word of a point at a word number, whatever was referenced before it.

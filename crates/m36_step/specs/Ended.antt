@@ -6,7 +6,6 @@ use Rattle.m36_model.specs.Registers.{RegsFields}
 use Rattle.m36_model.specs.Act.{Act}
 use Rattle.m36_model.specs.Store.{Ran, run}
 use Rattle.m36_model.specs.Core.{core_store}
-use Rattle.m36_model.specs.Chain.{claimed_by}
 use Rattle.m36_model.specs.Step.{Ending, stepped, outcome_of, outcome_after}
 use Rattle.m36_model.specs.declared.effects.Formed.{Formed}
 use Rattle.m36_model.specs.declared.outcome.Halt.{Halt}
@@ -15,6 +14,7 @@ use Rattle.m36_model.specs.declared.outcome.Outcome.TheVariants.{Next}
 use Rattle.m36_model.specs.declared.place.Reference.{Reference}
 use Rattle.m36_model.specs.declared.record.StepRecord.{StepRecord}
 use Rattle.m36_walk.specs.Served.{standing}
+use Rattle.m36_ea.specs.Formed.{formed_mid}
 use Rattle.m36_step.specs.declared.ended.Ended.{Ended}
 
 -- what a step tells of its end, with its references and core as it leaves it
@@ -88,5 +88,4 @@ abbrev pub EndsFormed :
     RegsFields → Act Ending → List ℕ → Formed → List Reference → List ℕ → List Reference
     → RegsFields → Ended → Type 0
 EndsFormed g program core f refs core' refs' g' e =
-    end_of (run core_store g program (standing core (claimed_by f.tally f.place) refs))
-    ≡ given_end core' refs' g' e
+    end_of (run core_store g program (formed_mid core f refs)) ≡ given_end core' refs' g' e

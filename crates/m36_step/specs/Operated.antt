@@ -8,7 +8,7 @@ use Rattle.m36_model.specs.Core.{core_store}
 use Rattle.m36_model.specs.Registers.{RegsFields}
 use Rattle.m36_model.specs.Results.{words_of_held}
 use Rattle.m36_model.specs.Step.{Performed, puts_with, operate}
-use Rattle.m36_model.specs.Store.{Spot, Mid, Ran, run}
+use Rattle.m36_model.specs.Store.{Spot, Ran, run}
 use Rattle.m36_model.specs.WordsPut.{IsHalf}
 use Rattle.m36_model.specs.declared.effects.Formed.{Formed}
 use Rattle.m36_model.specs.declared.effects.Held.{Held}
@@ -17,6 +17,7 @@ use Rattle.m36_model.specs.declared.outcome.Halt.{Halt}
 use Rattle.m36_model.specs.declared.place.Reference.{Reference}
 use Rattle.m36_walk.specs.Runs.{run_from, LiesIn}
 use Rattle.m36_walk.specs.Served.{standing}
+use Rattle.m36_ea.specs.Formed.{formed_mid}
 use Rattle.m36_step.specs.declared.operated.Part as code
 use Rattle.m36_step.specs.declared.operated.Part.TheVariants as part
 use Rattle.m36_step.specs.declared.operated.Operated.{Operated}
@@ -26,10 +27,6 @@ abbrev pub part_of : code.Part → Part
 part_of part.Whole = Whole
 part_of part.Left = Left
 part_of part.Right = Right
-
--- where a step stands that has claimed the tally word of its address alone
-abbrev pub formed_mid : List ℕ → Formed → List Reference → Mid (List ℕ)
-formed_mid core f refs = standing core (claimed_by f.tally f.place) refs
 
 -- where words are written: the tally word first, and then those that the effect gives
 abbrev pub claims_of : Formed → Held → Operated → List Spot

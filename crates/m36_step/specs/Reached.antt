@@ -19,7 +19,8 @@ use Rattle.m36_model.specs.declared.outcome.Halt.TheVariants as halt
 use Rattle.m36_model.specs.declared.place.Reference.{Reference}
 use Rattle.m36_walk.specs.Runs.{run_from}
 use Rattle.m36_walk.specs.Served.{standing}
-use Rattle.m36_step.specs.Operated.{formed_mid, part_of}
+use Rattle.m36_ea.specs.Formed.{formed_mid}
+use Rattle.m36_step.specs.Operated.{part_of}
 use Rattle.m36_step.specs.declared.operated.Part as code
 use Rattle.m36_step.specs.declared.operated.Part.TheVariants as part
 use Rattle.m36_step.specs.declared.operated.Reached.{Reached}

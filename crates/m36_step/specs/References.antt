@@ -1,6 +1,6 @@
 -- How core serves the references of an operand, at the end of an address chain that has claimed its
 -- tally word alone.
-use Rattle.std.specs.Prelude.{ℕ, ◌≡◌, List, [], ◌++◌, length, Some, Result, Ok, Err}
+use Rattle.std.specs.Prelude.{ℕ, ◌≡◌, List, [], ◌++◌, Some, Result, Ok, Err}
 use Rattle.m36_desc.specs.Fields.{SdwFields}
 use Rattle.m36_model.specs.Act.{Read, Write}
 use Rattle.m36_model.specs.Chain.{chain_end_fields, claimed_by}
@@ -13,11 +13,10 @@ use Rattle.m36_model.specs.declared.outcome.Fault.{Fault}
 use Rattle.m36_model.specs.declared.place.Reference.{Reference}
 use Rattle.m36_walk.specs.Memory.{Memory}
 use Rattle.m36_walk.specs.Runs.{run_from}
-use Rattle.m36_walk.specs.Served.{standing, sdw_in}
+use Rattle.m36_walk.specs.Served.{standing, sdw_in, answer_of_words}
 use Rattle.m36_model.specs.declared.outcome.Halt.TheVariants as halt
 use Rattle.m36_model.specs.Fields.{FinalFields}
-use Rattle.m36_ea.specs.Formed.{plain}
-use Rattle.m36_step.specs.Operated.{formed_mid}
+use Rattle.m36_ea.specs.Formed.{formed_mid, plain}
 use Rattle.m36_step.specs.Ended.{halted_end}
 use Rattle.m36_step.specs.declared.ended.Ended.{Ended}
 
@@ -26,13 +25,7 @@ abbrev pub read_served :
     SdwFields → List ℕ → Formed → List Reference → Result (List ℕ) Fault → Served (List ℕ)
 read_served d core f refs (Ok words) =
     record {
-      reply =
-          Ok (record {
-            sdw = d;
-            words = words;
-            first = length (claimed_by f.tally f.place);
-            place = 0;
-          });
+      reply = Ok (answer_of_words d (claimed_by f.tally f.place) words);
       mid = formed_mid core f refs;
     }
 read_served d core f refs (Err fault) = record { reply = Err fault; mid = formed_mid core f refs }
@@ -49,13 +42,7 @@ abbrev pub write_served :
     SdwFields → List ℕ → Formed → ℕ → List Reference → Result ℕ Fault → Served (List ℕ)
 write_served d core f count refs (Ok place) =
     record {
-      reply =
-          Ok (record {
-            sdw = d;
-            words = [];
-            first = length (claimed_by f.tally f.place);
-            place = 0;
-          });
+      reply = Ok (answer_of_words d (claimed_by f.tally f.place) []);
       mid = standing core (claimed_by f.tally f.place ++ run_from place count) refs;
     }
 write_served d core f count refs (Err fault) =

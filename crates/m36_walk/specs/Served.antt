@@ -5,7 +5,7 @@ use Rattle.m36_desc.specs.Fields.{SdwFields}
 use Rattle.m36_desc.specs.Descriptors.{sdw_of}
 use Rattle.m36_model.specs.Fields.{AtFields}
 use Rattle.m36_model.specs.Registers.{RegsFields}
-use Rattle.m36_model.specs.Act.{RequestKind, Read, Write, Whole, Put, Request}
+use Rattle.m36_model.specs.Act.{RequestKind, Read, Write, Whole, Put, Request, Answer}
 use Rattle.m36_model.specs.Store.{Spot, Change, Mid, Served, serve, changes, answered_with}
 use Rattle.m36_model.specs.Store.{with_reference}
 use Rattle.m36_model.specs.Core.{core_store, core_put}
@@ -59,13 +59,18 @@ abbrev pub at_target : {A : Type 0} → SdwFields → Result A Fault → Result 
 at_target d (Ok a) = Ok (record { sdw = d; spots = [] })
 at_target d (Err f) = Err f
 
+-- an answer that tells words, and no place
+abbrev pub answer_of_words : SdwFields → List Spot → List ℕ → Answer
+answer_of_words d claims words =
+    record { sdw = d; first = length claims; place = 0; words = words }
+
 -- a reference whose words are told
 abbrev pub with_words : Request → SdwFields → List ℕ → List Spot → List Reference
     → Result (List ℕ) Fault → Served (List ℕ)
 with_words q d new claims refs (Err f) = record { reply = Err f; mid = standing new claims refs }
 with_words q d new claims refs (Ok words) =
     record {
-      reply = Ok (record { sdw = d; first = length claims; place = 0; words = words });
+      reply = Ok (answer_of_words d claims words);
       mid = record { store = new; claims = claims; refs = with_reference q.kind q refs };
     }
 
