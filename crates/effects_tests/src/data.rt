@@ -1,9 +1,9 @@
 //! Effects worked out by hand. Each begins at word 5 of segment 1 in ring 4, with all that is not named 0.
 
 ghost use Rattle.std.specs.Prelude.{◌<◌, IsTrue};
+ghost use Rattle.m36_inst.specs.Groups.{is_data};
 ghost use Rattle.m36_inst.specs.Operands.{operand_of};
 ghost use Rattle.m36_model.specs.OperandHeld.{HoldsFor};
-ghost use Rattle.m36_xdata.specs.DataInstructions.{is_data};
 
 use m36_desc::{Dbr, Ptr};
 use m36_inst::{Effect, Operand, Row};

@@ -1,10 +1,10 @@
 //! Worked pointer instructions. Words are octal, as the manual lays out ITS pairs and packed pointers.
 
 ghost use Rattle.std.specs.Prelude.{◌<◌, IsTrue};
+ghost use Rattle.m36_inst.specs.Groups.{is_pointer};
 ghost use Rattle.m36_inst.specs.Operands.{operand_of};
 ghost use Rattle.m36_model.specs.OperandHeld.{HoldsFor};
 ghost use Rattle.m36_model.specs.declared.effects.Held.TheVariants as held;
-ghost use Rattle.m36_xptr.specs.PointerInstructions.{is_pointer};
 
 use m36_desc::{Dbr, Ptr};
 use m36_inst::{Effect, Operand, Row};

@@ -1,9 +1,9 @@
 //! Worked control instructions. Words are octal, as the manual lays out ITS pairs and descriptors.
 
 ghost use Rattle.std.specs.Prelude.{◌<◌, ◌^◌, IsTrue};
+ghost use Rattle.m36_inst.specs.Groups.{is_control};
 ghost use Rattle.m36_inst.specs.Operands.{operand_of};
 ghost use Rattle.m36_model.specs.OperandHeld.{HoldsFor};
-ghost use Rattle.m36_xfer.specs.ControlInstructions.{is_control};
 
 use m36_desc::{Dbr, Ptr};
 use m36_inst::{Effect, Operand, Row};

@@ -1,5 +1,5 @@
--- How an instruction gets its operand, whether it is privileged, and whether its operand may stand
--- in its address, each as a function of what the instruction does. Multics Processor Manual AL39,
+-- How an instruction gets its operand, whether it forms an address, whether it is privileged, and
+-- whether its operand may stand in its address, each as a function of what the instruction does. Multics Processor Manual AL39,
 -- "Machine instructions", from the summary of each instruction.
 use Rattle.std.specs.Prelude.{Bool, true, false}
 use Rattle.m36_inst.specs.declared.effect.Effect.{Effect}
@@ -145,6 +145,11 @@ operand_of effect.Sdbr = operand.W2
 operand_of effect.Cams = operand.A
 operand_of effect.Camp = operand.A
 operand_of effect.Absa = operand.A
+
+-- MME, DRL and DIS form no address.
+abbrev pub forms_address : Operand → Bool
+forms_address operand.N = false
+forms_address _ = true
 
 -- the instructions that only a privileged segment may execute, in ring 0
 abbrev pub is_privileged : Effect → Bool

@@ -1,7 +1,7 @@
 -- A case of a step is the step: of no other record and no other state is there a case.
 use Rattle.std.proofs.Common.{ℕ, ◌≡◌, refl, sym, ap, subst, ◌∙◌, Option, Some, None, Bool, true, false, not, ◌&&◌, List, [], ◌∷◌, ◌++◌, map, length, append-nil, slice_index, ◌⊎◌, inl, inr, Result, Ok, Err, arith}
 use Rattle.m36_inst.specs.Instruction.{inst_of}
-use Rattle.m36_inst.specs.Operands.{operand_of, is_privileged}
+use Rattle.m36_inst.specs.Operands.{operand_of, forms_address, is_privileged}
 use Rattle.m36_inst.specs.declared.effect.Effect.{Effect}
 use Rattle.m36_inst.specs.declared.effect.Effect.TheVariants as effect
 use Rattle.m36_inst.specs.declared.operand.Operand.{Operand}
@@ -18,7 +18,7 @@ use Rattle.m36_model.specs.Results.{OperandFields, EffectFields, words_only}
 use Rattle.m36_model.specs.Transfers.{is_taken}
 use Rattle.m36_model.specs.Effect.{exec, is_absa}
 use Rattle.m36_model.specs.Step.{Performed, performed, puts_from, tallied, perform, no_operand, request_at, got_word, got_words, got_place, got_nothing, got_ring, direct_word, addressing, transferring, by_kind, by_direct, operate_on, operate, Ending, outcome_of, halted, completed, operated, addressed, at_once, no_address, started, admitted, decoded, fetched, indirect_words, decode, fetch_request, program, start, step_record, stepped, ran, record_of, state_after}
-use Rattle.m36_model.specs.StepCases.{HasLeft, IsFetched, IsAdmitted, forms_address, IsFormed, Reached, IsUnreferenced, IsReferenced, IsClaimed, IsChanged, IsAddressed, IsTargeted, IsOperandOf, IsOperand, at_spots, HasEffect, StepCase, fetch_refused, no_instruction, privilege_refused, no_address as no_address_case, address_refused, operation_refused, effected, CaseIsTheStep}
+use Rattle.m36_model.specs.StepCases.{HasLeft, IsFetched, IsAdmitted, IsFormed, Reached, IsUnreferenced, IsReferenced, IsClaimed, IsChanged, IsAddressed, IsTargeted, IsOperandOf, IsOperand, at_spots, HasEffect, StepCase, fetch_refused, no_instruction, privilege_refused, no_address as no_address_case, address_refused, operation_refused, effected, CaseIsTheStep}
 use Rattle.m36_model.proofs.PutLaw.{IsTallied, all_changes}
 use Rattle.m36_model.proofs.OperandWordsLaw.{written_words}
 use Rattle.m36_model.specs.declared.outcome.Halt.{Halt}

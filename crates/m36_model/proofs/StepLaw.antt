@@ -1,7 +1,7 @@
 -- Each step has one of the cases.
 use Rattle.std.proofs.Common.{ℕ, ◌≡◌, refl, sym, ap, subst, ◌∙◌, Option, Some, None, Bool, true, false, not, ◌&&◌, List, [], ◌++◌, map, length, slice_index, ◌⊎◌, Result, Ok, Err}
 use Rattle.m36_inst.specs.Instruction.{inst_of}
-use Rattle.m36_inst.specs.Operands.{operand_of, is_privileged}
+use Rattle.m36_inst.specs.Operands.{operand_of, forms_address, is_privileged}
 use Rattle.m36_inst.specs.declared.effect.Effect.{Effect}
 use Rattle.m36_inst.specs.declared.effect.Effect.TheVariants as effect
 use Rattle.m36_inst.specs.declared.operand.Operand.{Operand}
@@ -16,7 +16,7 @@ use Rattle.m36_model.specs.Chain.{ChainEnd, chain}
 use Rattle.m36_model.specs.Results.{EffectFields}
 use Rattle.m36_model.specs.Effect.{exec}
 use Rattle.m36_model.specs.Step.{Performed, puts_from, tallied, operate, Ending, outcome_of, halted, completed, operated, addressed, at_once, no_address, started, admitted, decoded, has_right, fetched, indirect_words, decode, fetch_request, program, start, step_record, stepped, record_of, state_after}
-use Rattle.m36_model.specs.StepCases.{HasLeft, IsFetched, IsAdmitted, IsFormed, forms_address, Reached, IsOperand, at_spots, StepCase, fetch_refused, no_instruction, privilege_refused, no_address as no_address_case, address_refused, operation_refused, effected, StepHasACase}
+use Rattle.m36_model.specs.StepCases.{HasLeft, IsFetched, IsAdmitted, IsFormed, Reached, IsOperand, at_spots, StepCase, fetch_refused, no_instruction, privilege_refused, no_address as no_address_case, address_refused, operation_refused, effected, StepHasACase}
 use Rattle.m36_model.proofs.PutLaw.{IsTallied, tally_changes, all_changes}
 use Rattle.m36_model.specs.declared.outcome.Fault.{Fault}
 use Rattle.m36_model.specs.declared.outcome.Halt.{Halt}

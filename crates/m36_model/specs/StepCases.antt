@@ -12,7 +12,7 @@
 use Rattle.std.specs.Prelude.{ℕ, ◌≡◌, Bool, true, false, List, [], ◌∷◌, ◌++◌, map, length, Option}
 use Rattle.std.specs.Prelude.{Some, None, Ok, Err, slice_index}
 use Rattle.m36_inst.specs.Instruction.{inst_of}
-use Rattle.m36_inst.specs.Operands.{operand_of, is_privileged, takes_direct}
+use Rattle.m36_inst.specs.Operands.{operand_of, forms_address, is_privileged, takes_direct}
 use Rattle.m36_inst.specs.declared.effect.Effect.{Effect}
 use Rattle.m36_inst.specs.declared.operand.Operand.{Operand}
 use Rattle.m36_inst.specs.declared.operand.Operand.TheVariants as kind
@@ -71,11 +71,6 @@ pub record IsAdmitted {S : Type 0} (o : Store S) (s : State S) (word : ℕ) (e :
   pub fetched : IsFetched o s word right m
   pub decoded : decode word ≡ Some (e, n)
   pub allowed : is_barred e right ≡ false
-
--- MME, DRL and DIS form no address.
-abbrev pub forms_address : Operand → Bool
-forms_address kind.N = false
-forms_address _ = true
 
 -- Its address is formed.
 pub record IsFormed {S : Type 0} (o : Store S) (s : State S) (word : ℕ) (e : Effect) (n : ℕ)

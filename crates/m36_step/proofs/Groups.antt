@@ -1,12 +1,10 @@
 -- Each instruction that has an address is one of three groups.
 use Rattle.std.proofs.Common.{◌≡◌, refl, false, IsTrue}
+use Rattle.m36_inst.specs.Groups.{is_pointer, is_control, is_data}
 use Rattle.m36_inst.specs.Operands.{operand_of}
 use Rattle.m36_inst.specs.declared.effect.Effect.{Effect}
 use Rattle.m36_inst.specs.declared.effect.Effect.TheVariants as effect
 use Rattle.m36_inst.specs.declared.operand.Operand.TheVariants.{N}
-use Rattle.m36_xdata.specs.DataInstructions.{is_data}
-use Rattle.m36_xptr.specs.PointerInstructions.{is_pointer}
-use Rattle.m36_xfer.specs.ControlInstructions.{is_control}
 
 pub data_else : (e : Effect) → is_pointer e ≡ false → is_control e ≡ false → (operand_of e ≡ N → ⊥) → IsTrue (is_data e)
 data_else effect.EppN p c a = cc

@@ -1,6 +1,7 @@
 //! The effect of an instruction on an operand that is there.
 
 ghost use Rattle.std.specs.Prelude.{ℕ, ◌≡◌, ◌≢◌, ◌<◌, Ok, IfOk, IfErr, IsTrue};
+ghost use Rattle.m36_inst.specs.Groups.{is_pointer, is_control};
 ghost use Rattle.m36_inst.specs.Operands.{operand_of};
 ghost use Rattle.m36_inst.specs.declared.operand.Operand.TheVariants.{N};
 ghost use Rattle.m36_model.specs.Chain.{chain_end_fields};
@@ -11,8 +12,7 @@ ghost use Rattle.m36_model.specs.Step.{tallied};
 ghost use Rattle.m36_model.specs.Transfers.{is_taken};
 ghost use Rattle.m36_model.specs.WordsPut.{PutsFor};
 ghost use Rattle.m36_xdata.specs.Changes.{LeavesSo};
-ghost use Rattle.m36_xptr.specs.PointerInstructions.{is_pointer};
-ghost use Rattle.m36_xfer.specs.ControlInstructions.{is_control, is_transfer};
+ghost use Rattle.m36_xfer.specs.ControlInstructions.{is_transfer};
 
 use m36_inst::{Effect, Row};
 use m36_model::{Fault, Final, Formed, Held, Operand36, Regs};

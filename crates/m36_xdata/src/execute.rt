@@ -1,12 +1,13 @@
 //! The instructions by what they do.
 
 ghost use Rattle.std.specs.Prelude.{◌≡◌, ◌<◌, IsTrue, IfOk};
+ghost use Rattle.m36_inst.specs.Groups.{is_data};
 ghost use Rattle.m36_inst.specs.Operands.{operand_of};
 ghost use Rattle.m36_model.specs.OperandHeld.{HoldsFor};
 ghost use Rattle.m36_model.specs.Results.{operand_fields, words_of_held};
 ghost use Rattle.m36_model.specs.Effect.{exec, answer_fields, refused_here};
 ghost use Rattle.m36_xdata.specs.Changes.{Gives, LeavesSo, stored};
-ghost use Rattle.m36_xdata.specs.DataInstructions.{is_data, is_never_refused};
+ghost use Rattle.m36_xdata.specs.DataInstructions.{is_never_refused};
 ghost use Rattle.m36_model.specs.WordsPut.{PutsFor};
 
 use crate::apply::applied;

@@ -1,5 +1,6 @@
 -- How many words a control instruction puts, by the effect that it has.
 use Rattle.std.proofs.Common.{ℕ, ◌≡◌, ◌∙◌, ap, List, Result, Ok, Err, IfOk, IsTrue, length}
+use Rattle.m36_inst.specs.Groups.{is_control}
 use Rattle.m36_inst.specs.Operands.{operand_of}
 use Rattle.m36_inst.specs.declared.effect.Effect.{Effect}
 use Rattle.m36_inst.specs.declared.effect.Effect.TheVariants as effect
@@ -11,7 +12,6 @@ use Rattle.m36_model.specs.WordsPut.{words_written, PutsFor}
 use Rattle.m36_model.specs.declared.effects.Effect36.{Effect36}
 use Rattle.m36_model.specs.declared.outcome.Fault.{Fault}
 use Rattle.m36_model.proofs.PutLaw.{PutsSo, puts_so}
-use Rattle.m36_xfer.specs.ControlInstructions.{is_control}
 
 -- as many as are put, by what is put
 same_count : (n : ℕ) (g : RegsFields) (x : Effect36) (v : Result EffectFields ℕ) → answer_fields (Ok x) ≡ refused_here g v → PutsSo n v → length (words_of_held x.put) ≡ n

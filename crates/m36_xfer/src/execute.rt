@@ -1,12 +1,12 @@
 //! The instructions by what they do.
 
 ghost use Rattle.std.specs.Prelude.{◌≡◌, ◌<◌, IsTrue, IfOk};
+ghost use Rattle.m36_inst.specs.Groups.{is_control};
 ghost use Rattle.m36_inst.specs.Operands.{operand_of};
 ghost use Rattle.m36_model.specs.OperandHeld.{HoldsFor};
 ghost use Rattle.m36_model.specs.Results.{operand_fields, words_of_held};
 ghost use Rattle.m36_model.specs.WordsPut.{PutsFor};
 ghost use Rattle.m36_model.specs.Effect.{exec, answer_fields, refused_here};
-ghost use Rattle.m36_xfer.specs.ControlInstructions.{is_control};
 
 use crate::calls::{call, return_to};
 use crate::privileged::{load_absolute_address, load_dbr, store_dbr};

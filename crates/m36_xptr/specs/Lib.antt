@@ -1,2 +1,1 @@
-pub mod PointerInstructions
 pub mod PointerPairs

@@ -1,12 +1,12 @@
 //! The instructions by what they do.
 
 ghost use Rattle.std.specs.Prelude.{◌≡◌, ◌<◌, IsTrue, IfOk};
+ghost use Rattle.m36_inst.specs.Groups.{is_pointer};
 ghost use Rattle.m36_inst.specs.Operands.{operand_of};
 ghost use Rattle.m36_model.specs.OperandHeld.{HoldsFor};
 ghost use Rattle.m36_model.specs.Results.{operand_fields, words_of_held};
 ghost use Rattle.m36_model.specs.WordsPut.{PutsFor};
 ghost use Rattle.m36_model.specs.Effect.{exec, answer_fields, refused_here};
-ghost use Rattle.m36_xptr.specs.PointerInstructions.{is_pointer};
 
 use crate::loads::{
     load_address_pair, load_base_pointer, load_packed, load_pointer, load_pointers,
