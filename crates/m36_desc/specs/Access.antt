@@ -21,9 +21,13 @@ abbrev pub first_of : List (Bool × ℕ) → Option ℕ
 first_of [] = None
 first_of (row ∷ rows) = if row.0 then Some row.1 else first_of rows
 
--- the ring brackets are in order; where they are not, that comes before every other refusal
+-- three ring brackets are in order
+abbrev pub are_in_order : ℕ → ℕ → ℕ → Bool
+are_in_order r1 r2 r3 = nat_le r1 r2 && nat_le r2 r3
+
+-- those of a segment; where they are not, that comes before every other refusal
 abbrev pub in_order : SdwFields → Bool
-in_order s = nat_le s.r1 s.r2 && nat_le s.r2 s.r3
+in_order s = are_in_order s.r1 s.r2 s.r3
 
 -- brackets that are not in order, and then more
 abbrev pub ordered_rows : SdwFields → List (Bool × ℕ) → List (Bool × ℕ)

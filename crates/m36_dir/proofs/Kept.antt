@@ -11,7 +11,7 @@ use Rattle.m36_dir.specs.declared.boot_code.BootCode.{BootCode}
 use Rattle.m36_dir.specs.declared.boot_line.BootLine.{BootLine}
 use Rattle.m36_dir.specs.declared.boot_line.BootLine.TheVariants as line
 use Rattle.m36_dir.specs.Fields.{SegmentGiven}
-use Rattle.m36_dir.specs.BootOrder.{is_segment, is_library, is_in_directory, has_directory, are_in_order, is_no_gate, code_of, lines_given, all_lines, first_code}
+use Rattle.m36_dir.specs.BootOrder.{is_segment, is_library, is_in_directory, has_directory, brackets_in_order, is_no_gate, code_of, lines_given, all_lines, first_code}
 use Rattle.m36_dir.specs.Catalog.{CatalogFields, with_directory, with_directory_of, directories_from, number_in, names_behind, segment_with, segments_in, libraries_in, frames_of, work_of, catalog_in, catalog_by, catalog_of}
 use Rattle.m36_dir.specs.IsCatalog.{IsSegment, IsCatalog, ReadsIntoCatalogs}
 use Rattle.m36_dir.proofs.CleanLines.{Clean, clean_from, passed, segments_counted, libraries_counted, names_snoc, names_few, count_cons, Begins, clean_begins}
@@ -251,8 +251,8 @@ is_segment_given : (all above lines : List BootLine) (dirs : List (List ℕ)) (g
     → list_any (is_text given.dir) dirs ≡ true
     → IsSegment (length dirs) (segment_with dirs given (names_behind lines))
 is_segment_given all above lines dirs given none clean has =
-    let right = or_parts (not (are_in_order given)) (is_no_gate given.kind given) (passed all above (line.Segment given) none).brackets in
-    let order = and_parts (nat_le given.r1 given.r2) (nat_le given.r2 given.r3) (not-false (are_in_order given) right.0) in
+    let right = or_parts (not (brackets_in_order given)) (is_no_gate given.kind given) (passed all above (line.Segment given) none).brackets in
+    let order = and_parts (nat_le given.r1 given.r2) (nat_le given.r2 given.r3) (not-false (brackets_in_order given) right.0) in
     let e = names_snoc 0 above (line.Segment given) in
     let few = names_few all (above ++ line.Segment given ∷ []) lines clean (omega (arith, e)) in
     record {

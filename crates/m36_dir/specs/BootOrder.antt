@@ -15,6 +15,7 @@ use Rattle.std.specs.Prelude.{filter_map, map, Option, Some, None, Result, Ok, E
 use Rattle.std.specs.List.{list_any}
 use Rattle.m36_text.specs.Texts.{is_text}
 use Rattle.m36_text.specs.Lines.{lines_of, last_of, first_met, first_told}
+use Rattle.m36_desc.specs.Access.{are_in_order}
 use Rattle.m36_dir.specs.declared.segment.SegKind.{SegKind}
 use Rattle.m36_dir.specs.declared.segment.SegKind.TheVariants.{Gate}
 use Rattle.m36_dir.specs.declared.boot_line.BootLine.{BootLine}
@@ -132,11 +133,11 @@ abbrev pub is_no_gate : SegKind → SegmentGiven → Bool
 is_no_gate Gate given = not given.mode.executable || nat_eq given.r2 given.r3
 is_no_gate _ given = false
 
-abbrev pub are_in_order : SegmentGiven → Bool
-are_in_order given = nat_le given.r1 given.r2 && nat_le given.r2 given.r3
+abbrev pub brackets_in_order : SegmentGiven → Bool
+brackets_in_order given = are_in_order given.r1 given.r2 given.r3
 
 abbrev pub has_wrong_brackets : BootLine → Bool
-has_wrong_brackets (line.Segment given) = not (are_in_order given) || is_no_gate given.kind given
+has_wrong_brackets (line.Segment given) = not (brackets_in_order given) || is_no_gate given.kind given
 has_wrong_brackets _ = false
 
 -- ---- counts: D5

@@ -3,7 +3,7 @@
 ghost use Rattle.std.specs.Prelude.{ℕ, ◌≡◌, ◌+◌, ◌<◌, ◌≤◌, ◌^◌, [], Some, count_by};
 ghost use Rattle.std.specs.List.{list_any};
 ghost use Rattle.m36_dir.specs.BootLine.{line_given};
-ghost use Rattle.m36_dir.specs.BootOrder.{is_frames, is_start, is_library, is_segment, is_work_or_library, is_segment_or_name, may_follow, is_in_order_behind, is_entry, entry, directory_behind, directory_at_end, entries_of_line, entries_from, has_entry, stands_twice, is_in_directory, is_given_in_directory, has_directory, names_no_directory, is_no_gate, are_in_order, has_wrong_brackets, names_with, names_at_end, is_too_many, code_of, ends, lines_given, formed, all_lines};
+ghost use Rattle.m36_dir.specs.BootOrder.{is_frames, is_start, is_library, is_segment, is_work_or_library, is_segment_or_name, may_follow, is_in_order_behind, is_entry, entry, directory_behind, directory_at_end, entries_of_line, entries_from, has_entry, stands_twice, is_in_directory, is_given_in_directory, has_directory, names_no_directory, is_no_gate, brackets_in_order, has_wrong_brackets, names_with, names_at_end, is_too_many, code_of, ends, lines_given, formed, all_lines};
 ghost use Rattle.m36_text.specs.Lines.{last_of};
 
 use crate::boot_code::BootCode;
@@ -183,8 +183,8 @@ fn is_no_gate(given: &SegmentLine) -> bool
     }
 }
 
-fn are_in_order(given: &SegmentLine) -> bool
-    ensures { result ≡ are_in_order given.now }
+fn brackets_in_order(given: &SegmentLine) -> bool
+    ensures { result ≡ brackets_in_order given.now }
 {
     given.r1 <= given.r2 && given.r2 <= given.r3
 }
@@ -193,7 +193,7 @@ fn has_wrong_brackets(line: &BootLine) -> bool
     ensures { result ≡ has_wrong_brackets line.now }
 {
     match line {
-        BootLine::Segment(given) => !are_in_order(given) || is_no_gate(given),
+        BootLine::Segment(given) => !brackets_in_order(given) || is_no_gate(given),
         _ => false,
     }
 }
