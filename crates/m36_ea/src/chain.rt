@@ -2,6 +2,7 @@
 
 ghost use Rattle.std.specs.Prelude.{◌≡◌, ◌+◌, ◌<◌, ◌≤◌, ◌^◌, Ok, IfOk, IfSome, IfNone, List, length, option_map, ℕ};
 ghost use Rattle.m36_model.specs.Chain.{lockup, pending_of, claimed_by};
+ghost use Rattle.m36_model.specs.Step.{indirect_words};
 ghost use Rattle.m36_model.specs.Store.{changes};
 ghost use Rattle.m36_model.specs.declared.place.Reference.{Reference};
 ghost use Rattle.m36_walk.specs.Words.{pending_changes};
@@ -40,7 +41,7 @@ pub fn effective(walk: &mut Walk, regs: &Regs, inst: &Inst, refs: &mut Refs) -> 
         (λ f. TallyLies f.tally f.place (length walk.new.core) refs.new.items) }
     ensures dbr { walk.new.dbr ≡ walk.old.dbr }
     ensures len { length walk.new.core ≡ length walk.old.core }
-    ensures count { length refs.new.items ≤ length refs.old.items + 17 }
+    ensures count { length refs.new.items ≤ length refs.old.items + (indirect_words + 1) }
 {
     let mut tpr = first(regs, inst);
     let mut left = INDIRECT_WORDS;

@@ -1,11 +1,11 @@
 -- Page services: an instruction that ends at a page in no frame is started again once the page is
 -- in a frame. How often that is at most.
-use Rattle.std.specs.Prelude.{◌≡◌, ◌≢◌, ℕ, zero, suc, ◌/◌, List, Option, Some, None}
+use Rattle.std.specs.Prelude.{◌≡◌, ◌≢◌, ℕ, zero, suc, ◌+◌, ◌/◌, List, Option, Some, None}
 use Rattle.m36_model.specs.Registers.{RegsFields}
 use Rattle.m36_model.specs.Store.{State}
 use Rattle.m36_model.specs.StoreLaw.{Each}
 use Rattle.m36_model.specs.Core.{core_store}
-use Rattle.m36_model.specs.Step.{record_of, state_after}
+use Rattle.m36_model.specs.Step.{indirect_words, record_of, state_after}
 use Rattle.m36_model.specs.BootedCore.{booted_dbr, IsLaid}
 use Rattle.m36_model.specs.Residence.{Paged, IsMoved}
 use Rattle.m36_model.specs.PagedStep.{IsPageFault, IsPresent}
@@ -52,9 +52,10 @@ AreServed frames zero old new = new ≡ old
 AreServed frames (suc n) old new =
     (mid : PagedState) × IsServed frames old mid × AreServed frames n mid new
 
--- an instruction references at most so many pages
+-- an instruction references at most so many pages: its own, one for each indirect word, and that of
+-- its operand
 abbrev pub pages_of_an_instruction : ℕ
-pages_of_an_instruction = 18
+pages_of_an_instruction = indirect_words + 2
 
 -- After as many page services as an instruction references pages, it meets no absent page.
 abbrev pub PagesLaw : Type 0
