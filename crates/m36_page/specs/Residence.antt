@@ -104,6 +104,10 @@ pub record Reads (p : PagerFields) (core : List ℕ) : Type 0 where
   pub frames : (k seg page : ℕ) → Holds p k seg page
       → unmarked (slice_index core (spot_of p seg page)) ≡ resident_ptw (p.first + k)
 
+-- each table ends below a frame
+abbrev pub EndBelow : ℕ → List TableFields → Type 0
+EndBelow first tables = All (λ t. t.at + t.pages ≤ 1024 * first) tables
+
 -- the core has the pageable frames
 abbrev pub HasFrames : PagerFields → List ℕ → Type 0
 HasFrames p core = 1024 * (p.first + length p.holders) ≤ length core

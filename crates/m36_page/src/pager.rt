@@ -1,8 +1,8 @@
 //! Pagers.
 
-ghost use Rattle.std.specs.Prelude.{ℕ, ◌≡◌, ◌≢◌, ◌+◌, ◌-◌, ◌^◌, ◌*◌, ◌/◌, ◌<◌, ◌≤◌, ◌⊎◌, Bool, true, false, ◌&&◌, nat_eq, if◌then◌else◌, length, slice_index_or, replicate, All, IfOk, Some, None, IsSome, IfSome, IfNone, OnOk, OnErr};
+ghost use Rattle.std.specs.Prelude.{ℕ, ◌≡◌, ◌≢◌, ◌+◌, ◌-◌, ◌^◌, ◌*◌, ◌/◌, ◌<◌, ◌≤◌, ◌⊎◌, Bool, true, false, ◌&&◌, nat_eq, if◌then◌else◌, length, slice_index_or, replicate, IfOk, Some, None, IsSome, IfSome, IfNone, OnOk, OnErr};
 ghost use Rattle.m36_model.specs.Core.{unmarked};
-ghost use Rattle.m36_page.specs.Residence.{has_page, spot_of, kept_word, frame_of, content_of, Holds, IsPager, Reads, HasFrames, IsSettled};
+ghost use Rattle.m36_page.specs.Residence.{has_page, spot_of, kept_word, frame_of, content_of, Holds, IsPager, Reads, EndBelow, HasFrames, IsSettled};
 ghost use Rattle.m36_page.specs.Changes.{IsBrought, IsKept, IsSet, IsFreeSpot, OthersStay, AllPinned, AllEmpty, AreAbsent};
 ghost use Rattle.m36_page.specs.Choice.{IsFree, IsMarked, AreInCore};
 ghost use Rattle.m36_page.specs.Given.{are_placed, pager_given};
@@ -94,7 +94,7 @@ impl Pager {
         requires { are_placed first tables.now ≡ true }
         ensures given { IfOk result (λ p. p ≡ pager_given first frames tables.now) }
         ensures empty { IfOk result AllEmpty }
-        ensures room { IfOk result (λ p. All (λ t. t.at + t.pages ≤ 1024 * first) p.tables) }
+        ensures room { IfOk result (λ p. EndBelow first p.tables) }
     {
         Ok(Pager {
             holders: empty_frames(alloc, frames as usize)?,
@@ -110,7 +110,7 @@ impl Pager {
     pub fn lay(&self, core: &mut Core)
         requires frames { HasFrames self.now core.old }
         requires empty { AllEmpty self.now }
-        requires room { All (λ t. t.at + t.pages ≤ 1024 * self.now.first) self.now.tables }
+        requires room { EndBelow self.now.first self.now.tables }
         ensures reads { Reads self.now core.new }
         ensures others { AreAbsent self.now.tables (length self.now.tables) core.old core.new }
     {
