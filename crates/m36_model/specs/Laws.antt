@@ -147,9 +147,11 @@ pub record Executes (instruction : Effect) (e : StepRecord) : Type 0 where
 abbrev pub ExecutesLdbr : StepRecord → Type 0
 ExecutesLdbr e = Executes effect.Ldbr e
 
--- A step in any ring that executes no LDBR keeps the audit conditions.
+-- A step of this record, if it executes no LDBR, keeps the audit conditions.
+abbrev pub Keeps : State (List ℕ) → State (List ℕ) → StepRecord → Type 0
+Keeps old new e =
+    IsAudited old.store old.regs.dbr → (ExecutesLdbr e → ⊥) → IsAudited new.store new.regs.dbr
+
+-- Each step does so, in any ring.
 abbrev pub KeptLaw : Type 0
-KeptLaw =
-    (s : State (List ℕ)) → IsAudited s.store s.regs.dbr
-    → (ExecutesLdbr (record_of core_store s) → ⊥)
-    → IsAudited (state_after core_store s).store (state_after core_store s).regs.dbr
+KeptLaw = (s : State (List ℕ)) → Keeps s (state_after core_store s) (record_of core_store s)

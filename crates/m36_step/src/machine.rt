@@ -2,9 +2,8 @@
 
 ghost use Rattle.std.specs.Prelude.{◌≡◌, ◌+◌, ◌%◌, ◌^◌, None, IfOk};
 ghost use Rattle.std.specs.Borrow.{sem};
-ghost use Rattle.m36_model.specs.Audit.{IsAudited};
 ghost use Rattle.m36_model.specs.Core.{core_store};
-ghost use Rattle.m36_model.specs.Laws.{ExecutesLdbr};
+ghost use Rattle.m36_model.specs.Laws.{Keeps};
 ghost use Rattle.m36_model.specs.Results.{moved_on};
 ghost use Rattle.m36_model.specs.Step.{record_of, state_after};
 ghost use Rattle.m36_step.specs.Ended.{untold_record};
@@ -107,9 +106,7 @@ impl Machine {
         ensures told { result ≡ record_of core_store self.old.state }
         ensures state { self.new.state ≡ state_after core_store self.old.state }
         ensures ended { self.new.ended ≡ self.old.ended }
-        ensures kept { IsAudited self.old.state.store self.old.state.regs.dbr
-            → (ExecutesLdbr (record_of core_store self.old.state) → ⊥)
-            → IsAudited self.new.state.store self.new.state.regs.dbr }
+        ensures kept { Keeps self.old.state self.new.state (record_of core_store self.old.state) }
     {
         let mut told = self.untold();
         self.step_into(&mut told);
@@ -123,9 +120,7 @@ impl Machine {
         ensures told { told.new ≡ record_of core_store self.old.state }
         ensures state { self.new.state ≡ state_after core_store self.old.state }
         ensures ended { self.new.ended ≡ self.old.ended }
-        ensures kept { IsAudited self.old.state.store self.old.state.regs.dbr
-            → (ExecutesLdbr (record_of core_store self.old.state) → ⊥)
-            → IsAudited self.new.state.store self.new.state.regs.dbr }
+        ensures kept { Keeps self.old.state self.new.state (record_of core_store self.old.state) }
     {
         law_kept();
         let Machine { walk, regs, .. } = self;
