@@ -22,7 +22,7 @@ pub record SumFields : Type 0 where
 abbrev pub is_negative : ℕ → ℕ → Bool
 is_negative half v = nat_le half v
 
--- a number, of which zero and the first bit tell, with this carry and this overflow
+-- a number with zero and negative as it has them, and with this carry and this overflow
 abbrev pub result_of : ℕ → ℕ → Bool → Bool → SumFields
 result_of half v carry overflow =
     record {

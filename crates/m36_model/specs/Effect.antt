@@ -2,14 +2,14 @@
 -- number in its name, the registers, the final address and the operand. Where it is refused, the
 -- number of the fault. One line an instruction, in the order of the instruction table; the parts
 -- have the equations. Of MME, DRL and DIS, which form no address, no step asks the effect: their
--- faults and the stop are told by `no_address` in `Step`. Indicators and registers that an
+-- faults and the stop are told by `at_once` in `Step`. Indicators and registers that an
 -- instruction's equations do not name stay; which indicators it sets is this project's choice.
 --
--- Beside each line stands what the manual says of the instruction. C(..) is the content of a
--- register or of the operand Y, of which digits are bits, and the arrow says where a number goes;
--- `::` compares; `&`, `|`, `⊕` and `~` go bit by bit. TSR, TRR, CA and TBR are segment, ring, word
--- and bit number of the final address, PSR, PRR and IC segment, ring and word of the instruction,
--- and PPR all three.
+-- Beside each line, but those of MME, DRL and DIS, stands what the manual says of the instruction.
+-- C(..) is the content of a register or of the operand Y, of which digits are bits, and the arrow
+-- says where a number goes; `::` compares; `&`, `|`, `⊕` and `~` go bit by bit. TSR, TRR, CA and TBR
+-- are segment, ring, word and bit number of the final address, PSR, PRR and IC segment, ring and
+-- word of the instruction, and PPR all three.
 --
 -- Multics Processor Manual AL39, "Machine instructions".
 use Rattle.std.specs.Prelude.{ℕ, Bool, true, false, Result, Ok, Err}

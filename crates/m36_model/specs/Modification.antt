@@ -96,14 +96,14 @@ pub data Move : Type 0 where
 abbrev pub at_point : Point → ℕ → AtFields
 at_point p word = record { seg = p.seg; word = word; ring = p.ring }
 
--- the end of a chain at a word of the point's segment, and at a direct operand: then the place is
--- that of the point itself
+-- the end of a chain at a word of the point's segment, perhaps with a direct operand
 abbrev pub final_at : Point → ℕ → Option ℕ → FinalFields
 final_at p word direct = record { at = at_point p word; bit = p.bit; direct = direct }
 
 abbrev pub ends_at : Point → ℕ → Move
 ends_at p word = Ends (final_at p word None)
 
+-- at a direct operand the place is that of the point itself
 abbrev pub ends_direct : Point → ℕ → Move
 ends_direct p operand = Ends (final_at p p.y (Some operand))
 

@@ -181,8 +181,8 @@ moved_on g = record g { ppr = record g.ppr { ic = next_word g } }
 abbrev pub leaves : RegsFields → Result EffectFields ℕ
 leaves g = Ok (record { regs = g; put = []; overflow = false })
 
--- An effect on registers that moves on to the next instruction: alone, with words to write, and
--- with overflow.
+-- An effect that moves on to the next instruction: on registers alone, with words to write and
+-- overflow as it may be, and with words to write.
 abbrev pub completes : RegsFields → Result EffectFields ℕ
 completes g = leaves (moved_on g)
 

@@ -247,6 +247,7 @@ abbrev pub recorded_kind : RequestKind → Kind
 recorded_kind Fetch = reference.Fetch
 recorded_kind Read = reference.Read
 recorded_kind Write = reference.Write
+recorded_kind Indirect = reference.Indirect
 recorded_kind _ = reference.Indirect
 
 abbrev pub with_touched : RequestKind → Request → List Reference → List Reference

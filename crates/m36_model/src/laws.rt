@@ -13,15 +13,18 @@ pub fn one_chain()
 {}
 
 /// Each step is one of the cases of its definition, of no other record and no other state is there a case, and the step
-/// leaves what its case says: after a refusal or a stop the
-/// registers and all words but for marks, and else the full effect. The marks are exactly those of the completed
-/// references. The words of a pair or a block are those at word numbers that follow one another. Indicators that are
-/// stored are loaded back.
+/// leaves what its case says: after a refusal or a stop the registers and all words but for marks, and else the full effect.
+/// The marks are exactly those of the completed references. The words of a pair or a block are those at word numbers that
+/// follow one another.
 pub fn step_cases()
     ensures cases { StepHasACase }
     ensures only { CaseIsTheStep }
     ensures marks { MarksOfCompletedReferences }
     ensures reads { ReadsWordsInOrder }
     ensures writes { WritesWordsInOrder }
-    ensures indicators { IndicatorsComeBack }
+{}
+
+/// Indicators that are stored are loaded back.
+pub fn indicator_law()
+    ensures { IndicatorsComeBack }
 {}

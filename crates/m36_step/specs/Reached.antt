@@ -98,10 +98,11 @@ part_for kind.Wr = part.Right
 part_for kind.Rwl = part.Left
 part_for _ = part.Whole
 
--- A direct operand is given to the code's effect as to that of the definitions.
+-- what the code's effect is given, or the fault
 abbrev pub fields_reached : Operand36 → Result Reached Fault → Result OperandFields Fault
 fields_reached o (Ok u) = Ok (operand_fields o)
 fields_reached o (Err fault) = Err fault
 
+-- A direct operand is given to the code's effect as to that of the definitions.
 abbrev pub DirectOperand : Effect → RegsFields → ℕ → Operand36 → Result Reached Fault → Type 0
 DirectOperand e g w o u = fields_reached o u ≡ takes_word e g w (takes_direct e)

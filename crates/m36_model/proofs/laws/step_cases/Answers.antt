@@ -3,7 +3,6 @@ use Rattle.m36_model.proofs.CompletedLaw.{marks_of_completed_references}
 use Rattle.m36_model.proofs.OperandWordsLaw.{reads_words_in_order, writes_words_in_order}
 use Rattle.m36_model.proofs.StepLaw.{step_has_a_case}
 use Rattle.m36_model.proofs.OneStepLaw.{case_is_the_step}
-use Rattle.m36_model.proofs.Indicators.{indicators_come_back}
 
 pub returns : goal.returns
 returns c =
@@ -13,5 +12,4 @@ returns c =
       marks = marks_of_completed_references;
       reads = reads_words_in_order;
       writes = writes_words_in_order;
-      indicators = indicators_come_back;
     }
