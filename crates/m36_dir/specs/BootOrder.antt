@@ -137,7 +137,8 @@ abbrev pub brackets_in_order : SegmentGiven → Bool
 brackets_in_order given = are_in_order given.r1 given.r2 given.r3
 
 abbrev pub has_wrong_brackets : BootLine → Bool
-has_wrong_brackets (line.Segment given) = not (brackets_in_order given) || is_no_gate given.kind given
+has_wrong_brackets (line.Segment given) =
+    not (brackets_in_order given) || is_no_gate given.kind given
 has_wrong_brackets _ = false
 
 -- ---- counts: D5

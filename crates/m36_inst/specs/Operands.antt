@@ -1,6 +1,6 @@
 -- How an instruction gets its operand, whether it forms an address, whether it is privileged, and
--- whether its operand may stand in its address, each as a function of what the instruction does. Multics Processor Manual AL39,
--- "Machine instructions", from the summary of each instruction.
+-- whether its operand may stand in its address, each as a function of what the instruction does.
+-- Multics Processor Manual AL39, "Machine instructions", from the summary of each instruction.
 use Rattle.std.specs.Prelude.{Bool, true, false}
 use Rattle.m36_inst.specs.declared.effect.Effect.{Effect}
 use Rattle.m36_inst.specs.declared.effect.Effect.TheVariants as effect

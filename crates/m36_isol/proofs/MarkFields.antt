@@ -4,8 +4,8 @@ use Rattle.std.specs.Prelude.{◌==◌}
 use Rattle.m36_word.specs.Field.{field}
 use Rattle.m36_desc.specs.Fields.{PtwFields}
 use Rattle.m36_desc.specs.Descriptors.{ptw_of}
-use Rattle.m36_model.specs.Place.{with_used, with_modified}
-use Rattle.m36_isol.specs.MarkBits.{MarksAreFields}
+use Rattle.m36_model.specs.Place.{with_used, with_modified, without_used}
+use Rattle.m36_isol.specs.MarkBits.{MarksAreFields, UnusedIsField}
 
 -- whether a bit is on, by its number
 on : {m n : ℕ} → m ≡ n → (m == 1) ≡ (n == 1)
@@ -60,3 +60,26 @@ modified_fields w = λ i. record { addr = modified_addr w i; used = on (modified
 pub marks_are_fields : MarksAreFields
 marks_are_fields true w = modified_fields (with_used w) ∙ ap (λ (p : PtwFields). let q : PtwFields = record p { modified = true } in q) (used_fields w)
 marks_are_fields false w = used_fields w
+
+unused_addr : (w : ℕ) → field (without_used w) 0 18 ≡ field w 0 18
+unfolding without_used
+unused_addr w = omega arith
+
+unused_used : (w : ℕ) → field (without_used w) 26 1 ≡ 0
+unfolding without_used
+unused_used w = omega arith
+
+unused_modified : (w : ℕ) → field (without_used w) 29 1 ≡ field w 29 1
+unfolding without_used
+unused_modified w = omega arith
+
+unused_f : (w : ℕ) → field (without_used w) 33 1 ≡ field w 33 1
+unfolding without_used
+unused_f w = omega arith
+
+unused_fc : (w : ℕ) → field (without_used w) 34 2 ≡ field w 34 2
+unfolding without_used
+unused_fc w = omega arith
+
+pub unused_is_field : UnusedIsField
+unused_is_field w = λ i. record { addr = unused_addr w i; used = on (unused_used w) i; modified = on (unused_modified w) i; f = on (unused_f w) i; fc = unused_fc w i }

@@ -1,8 +1,8 @@
 -- Marks in plain terms, which the laws use.
-use Rattle.std.specs.Prelude.{◌≡◌, ℕ, Bool, true, ◌||◌}
+use Rattle.std.specs.Prelude.{◌≡◌, ℕ, Bool, true, false, ◌||◌}
 use Rattle.m36_desc.specs.Fields.{PtwFields}
 use Rattle.m36_desc.specs.Descriptors.{ptw_of}
-use Rattle.m36_model.specs.Place.{marked_word}
+use Rattle.m36_model.specs.Place.{marked_word, without_used}
 use Rattle.m36_model.specs.Core.{unmarked}
 
 -- A mark changes no bit of a page table word but the two marks.
@@ -17,3 +17,7 @@ marked_fields modified p = record p { used = true; modified = modified || p.modi
 abbrev pub MarksAreFields : Type 0
 MarksAreFields =
     (modified : Bool) (w : ℕ) → ptw_of (marked_word modified w) ≡ marked_fields modified (ptw_of w)
+
+-- A page table word whose used mark is put off has its used field off, and no other field changes.
+abbrev pub UnusedIsField : Type 0
+UnusedIsField = (w : ℕ) → ptw_of (without_used w) ≡ record (ptw_of w) { used = false }

@@ -30,7 +30,7 @@ ghost use Rattle.m36_model.specs.JointIsolation.{JointlyIsolated};
 ghost use Rattle.m36_isol.specs.Findings.{FindingsLaw, JointFindingsLaw};
 ghost use Rattle.m36_isol.specs.Rights.{RightsLaw};
 ghost use Rattle.m36_isol.specs.Gates.{GatesLaw};
-ghost use Rattle.m36_isol.specs.MarkBits.{MarksKeepBits, MarksAreFields};
+ghost use Rattle.m36_isol.specs.MarkBits.{MarksKeepBits, MarksAreFields, UnusedIsField};
 ghost use Rattle.m36_isol.specs.BootedNumbers.{BootedNumbersLaw};
 ghost use Rattle.m36_isol.specs.PageServices.{PagesLaw};
 ghost use Rattle.m36_isol.specs.References.{FewReferencesLaw};
@@ -57,10 +57,11 @@ pub fn law_gates()
 /// conditions say: descriptors and places are by the tables
 /// but for marks; a word at the place of a segment word is its content; marks and words written at segment words change
 /// neither tables nor other words. A mark changes no other bit of its page table word, and the bits that it puts on are
-/// those that the fields of the word tell as used and modified.
+/// those that the fields of the word tell as used and modified. A used mark that is put off changes that field alone.
 pub fn law_store()
     ensures marks { MarksKeepBits }
     ensures fields { MarksAreFields }
+    ensures unused { UnusedIsField }
     ensures store { (core : List ℕ) (dbr : DbrFields) → AreApart core dbr
         → Lawful core_store dbr (HasTables core dbr) (IsSegmentSpot core dbr)
         (IsMarkedFrom core dbr) }

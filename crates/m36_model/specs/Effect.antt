@@ -7,9 +7,9 @@
 --
 -- Beside each line, but those of MME, DRL and DIS, stands what the manual says of the instruction.
 -- C(..) is the content of a register or of the operand Y, of which digits are bits, and the arrow
--- says where a number goes; `::` compares; `&`, `|`, `⊕` and `~` go bit by bit. TSR, TRR, CA and TBR
--- are segment, ring, word and bit number of the final address, PSR, PRR and IC segment, ring and
--- word of the instruction, and PPR all three.
+-- says where a number goes; `::` compares; `&`, `|`, `⊕` and `~` go bit by bit. TSR, TRR, CA and
+-- TBR are segment, ring, word and bit number of the final address, PSR, PRR and IC segment, ring
+-- and word of the instruction, and PPR all three.
 --
 -- Multics Processor Manual AL39, "Machine instructions".
 use Rattle.std.specs.Prelude.{ℕ, Bool, true, false, Result, Ok, Err}

@@ -128,6 +128,10 @@ with_used w = (w / 1024 * 1024 + 512) + w % 512
 unfoldable pub with_modified : ℕ → ℕ
 with_modified w = (w / 128 * 128 + 64) + w % 64
 
+-- a PTW with its used bit off
+unfoldable pub without_used : ℕ → ℕ
+without_used w = w / 1024 * 1024 + w % 512
+
 abbrev pub marked_word : Bool → ℕ → ℕ
 marked_word true w = with_modified (with_used w)
 marked_word false w = with_used w

@@ -4,12 +4,13 @@ use Rattle.std.specs.Prelude.{nat_eq, IsSome}
 use Rattle.std.proofs.lemmas.Bool.{eq-eqb, eqb-true, ne_eqb, cases_Bool, cases_eq, cases_lt}
 use Rattle.std.proofs.lemmas.List.{get_or_past, get_or-set_same, get_or-set_other, length-set}
 use Rattle.m36_model.specs.Core.{unmarked}
+use Rattle.m36_model.specs.Place.{without_used}
 use Rattle.m36_model.specs.declared.place.Reference.{Reference}
 use Rattle.m36_page.specs.Fields.{TableFields, PagerFields}
 use Rattle.m36_page.specs.Changes.{is_pinned, IsPassed}
 use Rattle.m36_page.specs.Choice.{IsMarked, IsHeldSpot, AreInCore}
 use Rattle.std.specs.Bool.{then_some}
-use Rattle.m36_page.specs.Residence.{has_page, spot_of, kept_word, absent_ptw, resident_ptw, frame_in, without_used, frame_of, word_in, page_word, content_of, Holds, IsPager, TellsPage, Reads, HasFrames, IsSettled}
+use Rattle.m36_page.specs.Residence.{has_page, spot_of, kept_word, absent_ptw, resident_ptw, frame_in, frame_of, word_in, page_word, content_of, Holds, IsPager, TellsPage, Reads, HasFrames, IsSettled}
 
 -- ---- page table words
 

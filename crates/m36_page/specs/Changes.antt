@@ -3,11 +3,12 @@ use Rattle.std.specs.Prelude.{ℕ, ◌≡◌, ◌≢◌, ◌+◌, ◌*◌, ◌/�
 use Rattle.std.specs.Prelude.{◌&&◌, nat_eq, List, length, slice_get, slice_index}
 use Rattle.std.specs.Prelude.{slice_index_or, slice_set, All, Option, Some, None, IsSome}
 use Rattle.std.specs.List.{list_any}
+use Rattle.m36_model.specs.Place.{without_used}
 use Rattle.m36_model.specs.declared.place.Reference.{Reference}
 use Rattle.m36_page.specs.Copied.{IsOutside}
 use Rattle.m36_page.specs.Fields.{TableFields, PagerFields}
 use Rattle.m36_page.specs.Residence.{has_page, spot_of, kept_word, absent_ptw, resident_ptw}
-use Rattle.m36_page.specs.Residence.{without_used, frame_of, content_of, Holds}
+use Rattle.m36_page.specs.Residence.{frame_of, content_of, Holds}
 
 -- the same frames, and the same pages at the same places
 pub record IsSameShape (old new : PagerFields) : Type 0 where

@@ -1,6 +1,6 @@
 -- Which frame each page is in, and what the words of the pages are: those of the frame where a page
 -- is in one, and else those that are kept. A page table word tells the frame.
-use Rattle.std.specs.Prelude.{ℕ, ◌≡◌, ◌+◌, ◌*◌, ◌/◌, ◌%◌, ◌^◌, ◌<◌, ◌≤◌, ◌⊎◌, Bool, true, false}
+use Rattle.std.specs.Prelude.{ℕ, ◌≡◌, ◌+◌, ◌*◌, ◌/◌, ◌^◌, ◌<◌, ◌≤◌, ◌⊎◌, Bool, true, false}
 use Rattle.std.specs.Prelude.{nat_eq, nat_lt, if◌then◌else◌, List, length, position, slice_get}
 use Rattle.std.specs.Prelude.{slice_index, slice_index_or, All, Option, Some, None, option_and_then}
 use Rattle.std.specs.Bool.{then_some}
@@ -56,10 +56,6 @@ frame_by ptw = if ptw.f then Some (frame_named ptw) else None
 
 unfoldable pub frame_in : ℕ → Option ℕ
 frame_in w = frame_by (ptw_of w)
-
--- a page table word with its used mark off
-unfoldable pub without_used : ℕ → ℕ
-without_used w = w / 1024 * 1024 + w % 512
 
 -- the frame of core that a page is in, if any
 unfoldable pub frame_of : PagerFields → List ℕ → ℕ → ℕ → Option ℕ

@@ -1,4 +1,5 @@
--- Which data instructions may be refused. Multics Processor Manual AL39, "Fixed-point instructions".
+-- Which data instructions may be refused. Multics Processor Manual AL39, "Fixed-point
+-- instructions".
 use Rattle.std.specs.Prelude.{Bool, true, false}
 use Rattle.m36_inst.specs.declared.effect.Effect.{Effect}
 use Rattle.m36_inst.specs.declared.effect.Effect.TheVariants as effect
