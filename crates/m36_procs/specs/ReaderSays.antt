@@ -1,7 +1,6 @@
 -- A text of processes as it is read, line after line. That this comes to what the text says is
 -- proved.
 use Rattle.std.specs.Prelude.{ℕ, ◌≡◌, ◌<◌, ⊤, true, List, ◌++◌, length, None, Result, Ok, Err}
-use Rattle.m36_model.specs.JointAudit.{most_processes}
 use Rattle.m36_image.specs.BareImage.{at_words}
 use Rattle.m36_image.specs.ImageState.{written_all}
 use Rattle.m36_procs.specs.ProcsFields.{ProcsFields}

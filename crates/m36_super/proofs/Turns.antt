@@ -1,6 +1,7 @@
 -- A turn of a booted run is that of the flat run.
 use Rattle.std.proofs.Common.{◌≡◌, refl, sym, ◌∙◌, ap, subst, inl, inr}
-use Rattle.std.specs.Prelude.{ℕ, ◌⊎◌, Bool, true, false, List, Option, Some, Result, Ok, Err}
+use Rattle.std.specs.Prelude.{ℕ, ◌⊎◌, Bool, true, false, List, Option, Some, None, Result, Ok, Err}
+use Rattle.m36_inst.specs.declared.effect.Effect.{Effect}
 use Rattle.m36_inst.specs.declared.effect.Effect.TheVariants as effect
 use Rattle.m36_model.specs.Fields.{AtFields}
 use Rattle.m36_model.specs.Registers.{RegsFields}
@@ -15,7 +16,7 @@ use Rattle.m36_model.specs.Residence.{flat_of}
 use Rattle.m36_model.specs.PagedStep.{flat_state, ExecutesAbsa, IsPresent, IsFlatStep, IsPageFault, IsAbsaStep, IsPagedStep}
 use Rattle.m36_model.specs.declared.outcome.Fault.{Fault}
 use Rattle.m36_model.specs.declared.outcome.Outcome.{Outcome}
-use Rattle.m36_model.specs.declared.outcome.Outcome.TheVariants.{Next}
+use Rattle.m36_model.specs.declared.outcome.Outcome.TheVariants.{Next, Faulted, Stopped}
 use Rattle.m36_model.specs.declared.record.StepRecord.{StepRecord}
 use Rattle.m36_isol.specs.PageServices.{PagedState, core_state, stepped_memory}
 use Rattle.m36_isol.proofs.PagedStep.{paged_step_law}
@@ -28,7 +29,7 @@ use Rattle.m36_super.specs.Services.{asks_too_much, console_text}
 use Rattle.m36_super.specs.Coming.{Coming, Step, Link, Print, Over, coming_after, is_ldbr, loads, loaded_after}
 use Rattle.m36_super.specs.FlatRun.{FlatTurn, flat_stepped, flat_linked_by, flat_printed_by, flat_turn_by, flat_turn}
 use Rattle.m36_super.specs.BootedRun.{Booted, told_of, with_step, IsStep, IsLinkTurn, IsConsoleTurn, IsTurnBy, IsTurn, IsStanding, Stands, flat_run_of}
-use Rattle.m36_super.specs.TurnLaws.{LocatesInTurn, IsFlatTurn, IsTurnKept, TurnLaw}
+use Rattle.m36_super.specs.TurnLaws.{LoadsLaw, LocatesInTurn, IsFlatTurn, IsTurnKept, TurnLaw}
 use Rattle.m36_super.proofs.AbsaSteps.{absa_law}
 use Rattle.m36_super.proofs.Served.{IsAlike, services_alike}
 
@@ -43,6 +44,26 @@ pub not_loaded : (e : StepRecord) → loaded_after false e ≡ false → Execute
 not_loaded e none k =
     let loaded = loads_ldbr e.word e.outcome k.word k.number k.fetched k.does k.next in
     cc
+
+ldbr_by : (e : Effect) (n : ℕ) → is_ldbr (Some (e, n)) ≡ true → e ≡ effect.Ldbr
+ldbr_by effect.Ldbr n h = refl
+ldbr_by _ n h = cc
+
+ldbr_in : (row : Option (Effect × ℕ)) → is_ldbr row ≡ true → (n : ℕ) × (row ≡ Some (effect.Ldbr, n))
+ldbr_in None h = cc
+ldbr_in (Some (e, n)) h = (n, ap (λ (x : Effect). Some (x, n)) (ldbr_by e n h))
+
+executes_by : (e : StepRecord) (word : Option ℕ) (outcome : Outcome) → e.word ≡ word → e.outcome ≡ outcome → loads word outcome ≡ true → ExecutesLdbr e
+executes_by e None outcome fetched next h = cc
+executes_by e (Some w) Next fetched next h =
+    let row = ldbr_in (decode w) h in
+    record { word = w; fetched = fetched; number = row.0; does = row.1; next = next }
+executes_by e (Some w) (Faulted f) fetched next h = cc
+executes_by e (Some w) (Stopped s) fetched next h = cc
+
+pub loads_law : LoadsLaw
+loads_law e =
+    (executes_by e e.word e.outcome refl refl, λ k. loads_ldbr e.word e.outcome k.word k.number k.fetched k.does k.next)
 
 -- an instruction counter that moves on leaves the DBR
 pub moved_dbr : (g : RegsFields) → (moved_on g).dbr ≡ g.dbr

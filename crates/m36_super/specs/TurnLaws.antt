@@ -1,17 +1,23 @@
 -- What holds of every booted run: the core stays that of the image until an LDBR is executed, and
 -- until then each turn that is no ABSA is the turn of the flat run.
-use Rattle.std.specs.Prelude.{◌≡◌, ◌⊎◌, false, List, length}
+use Rattle.std.specs.Prelude.{◌≡◌, ◌⊎◌, ◌↔◌, true, false, List, length}
 use Rattle.m36_model.specs.StoreLaw.{Each}
 use Rattle.m36_model.specs.Audit.{IsAudited}
+use Rattle.m36_model.specs.Laws.{ExecutesLdbr}
 use Rattle.m36_model.specs.BootedCore.{booted_dbr}
 use Rattle.m36_model.specs.PagedStep.{ExecutesAbsa}
+use Rattle.m36_model.specs.declared.record.StepRecord.{StepRecord}
 use Rattle.m36_step.specs.declared.turns.Turn.{Turn}
 use Rattle.m36_step.specs.declared.turns.Turn.TheVariants.{Stepped, Linked, Console, Ended, Full}
 use Rattle.m36_step.specs.declared.turns.Turn.TheVariants.{NoMemory}
 use Rattle.m36_super.specs.Library.{Library}
-use Rattle.m36_super.specs.Coming.{loaded_after}
+use Rattle.m36_super.specs.Coming.{loads, loaded_after}
 use Rattle.m36_super.specs.FlatRun.{flat_turn, flat_turns}
 use Rattle.m36_super.specs.BootedRun.{Booted, IsTurn, AreTurns, Stands, flat_run_of}
+
+-- A step counts as one that loads the DBR exactly where it executes an LDBR.
+abbrev pub LoadsLaw : Type 0
+LoadsLaw = (e : StepRecord) → (loads e.word e.outcome ≡ true) ↔ ExecutesLdbr e
 
 -- the turn executes ABSA
 abbrev pub LocatesInTurn : Turn → Type 0

@@ -28,7 +28,7 @@ mod linking;
 mod naming;
 mod stepping;
 
-ghost use Rattle.m36_super.specs.TurnLaws.{TurnLaw, TurnAuditLaw, FunctionLaw};
+ghost use Rattle.m36_super.specs.TurnLaws.{LoadsLaw, TurnLaw, TurnAuditLaw, FunctionLaw};
 ghost use Rattle.m36_super.specs.SuperFields.{PagingLaw, StepManagedLaw};
 ghost use Rattle.m36_super.specs.LayingLaw.{LayingLaw};
 
@@ -38,8 +38,10 @@ pub use coming::Coming;
 
 /// Until an LDBR is executed a turn of a booted run is that of the flat run, or wants memory, or executes ABSA as the turn of
 /// the flat run does, and the core stays that of the booted image; it keeps the audit conditions. So the turns up to the first
-/// that executes ABSA or LDBR, or wants memory, are those of the flat run, which knows of no frames.
+/// that executes ABSA or LDBR, or wants memory, are those of the flat run, which knows of no frames. A step counts as one that
+/// loads the descriptor segment base register exactly where it executes an LDBR.
 pub fn law_turn()
+    ensures loads { LoadsLaw }
     ensures turn { TurnLaw }
     ensures audit { TurnAuditLaw }
     ensures function { FunctionLaw }
