@@ -4,12 +4,13 @@ use Rattle.m36_inst.specs.Operands.{takes_direct}
 use Rattle.m36_inst.specs.declared.effect.Effect.{Effect}
 use Rattle.m36_inst.specs.declared.operand.Operand.{Operand}
 use Rattle.m36_inst.specs.declared.operand.Operand.TheVariants as kind
+use Rattle.m36_model.specs.Act.{Part, Whole, Left, Right}
 use Rattle.m36_model.specs.Chain.{chain_end_fields, claimed_by}
 use Rattle.m36_model.specs.Core.{core_store}
 use Rattle.m36_model.specs.Registers.{RegsFields}
 use Rattle.m36_model.specs.Results.{OperandFields, operand_fields}
 use Rattle.m36_model.specs.Step.{Performed, Operation, perform, takes_word}
-use Rattle.m36_model.specs.WordsPut.{words_written}
+use Rattle.m36_model.specs.WordsPut.{words_written, part_written}
 use Rattle.m36_model.specs.Store.{Ran, run}
 use Rattle.m36_model.specs.declared.effects.Formed.{Formed}
 use Rattle.m36_model.specs.declared.effects.Operand36.{Operand36}
@@ -91,12 +92,14 @@ Writes program g f count core refs core' refs' o u =
     (e : Effect) (n : ℕ)
     → ran_from g (program e n) f core refs ≡ written_end e n g f count core' refs' o u
 
--- which part an operand kind writes
+-- the code's part for one of the definitions, and for that which an operand kind writes
+abbrev pub code_part : Part → code.Part
+code_part Whole = part.Whole
+code_part Left = part.Left
+code_part Right = part.Right
+
 abbrev pub part_for : Operand → code.Part
-part_for kind.Wl = part.Left
-part_for kind.Wr = part.Right
-part_for kind.Rwl = part.Left
-part_for _ = part.Whole
+part_for operand = code_part (part_written operand)
 
 -- what the code's effect is given, or the fault
 abbrev pub fields_reached : Operand36 → Result Reached Fault → Result OperandFields Fault
