@@ -13,7 +13,7 @@ use Rattle.m36_model.specs.Core.{core_store, core_put}
 use Rattle.m36_model.specs.Effect.{exec, is_absa}
 use Rattle.m36_model.specs.Fields.{FinalFields}
 use Rattle.m36_model.specs.Registers.{RegsFields}
-use Rattle.m36_model.specs.Results.{OperandFields}
+use Rattle.m36_model.specs.Results.{OperandFields, ring_only}
 use Rattle.m36_model.specs.Step.{Performed, no_operand, puts_from, performed, perform, tallied, operate, operate_on, operated, addressed, started, admitted, by_kind, by_direct, direct_word, addressing, transferring, request_at, outcome_after}
 use Rattle.m36_model.specs.Store.{Spot, serve, run, changes}
 use Rattle.m36_model.specs.Transfers.{is_taken}
@@ -52,10 +52,6 @@ not_absa _ h = refl
 pub shift_not_absa : (e : Effect) → IsTrue (is_shift e) → is_absa e ≡ false
 shift_not_absa effect.Absa h = cc
 shift_not_absa _ h = refl
-
--- what a call is given: the ring in which it goes on
-abbrev called_in : ℕ → OperandFields
-called_in ring = record { got = []; ring = ring; place = 0 }
 
 module _ (e : Effect) (n w : ℕ) (g : RegsFields) (last : FinalFields) where
   abbrev f : Formed
@@ -249,14 +245,14 @@ module _ (e : Effect) (n w : ℕ) (g : RegsFields) (last : FinalFields) where
     -- A call is allowed, in the ring that its target gives.
     pub call_ends : (d : SdwFields) (ring : ℕ) → operand_of e ≡ kind.Call6 → last.direct ≡ None
         → serve core_store g (standing core [] refs) (request Call last.at 1 []) ≡ served_by (request Call last.at 1 []) core [] refs (at_target d (Ok ring)) → ring ≡ ring_called d last.at.ring
-        → Ok (record { regs = g'; put = []; overflow = overflow }) ≡ exec e n g last (called_in ring)
+        → Ok (record { regs = g'; put = []; overflow = overflow }) ≡ exec e n g last (ring_only ring)
         → EndsFormed g (operated e n g w c) core f refs core refs g' end
     call_ends d ring k none served is_ring effect =
         ends_unwritten core refs core refs g' overflow end is
         (ap (λ p. run core_store g p (standing core [] refs)) (operates_by kind.Call6 k none)
         ∙ run_ask g (request_at Call c 1) _ (standing core [] refs) _ served
-        ∙ ap (λ (x : ℕ). run core_store g (perform e n g c Whole 0 (called_in x)) (standing core [] refs)) (sym is_ring)
-        ∙ performs (called_in ring) g' [] overflow core [] refs effect)
+        ∙ ap (λ (x : ℕ). run core_store g (perform e n g c Whole 0 (ring_only x)) (standing core [] refs)) (sym is_ring)
+        ∙ performs (ring_only ring) g' [] overflow core [] refs effect)
 
   -- A target may not be called.
   pub call_refused : (d : SdwFields) (core : List ℕ) (refs : List Reference) (fault : Fault) (end : Ended) → operand_of e ≡ kind.Call6 → last.direct ≡ None
