@@ -139,9 +139,13 @@ ReadSays (Err told) definition = Told told definition
 abbrev pub has_name : List ℕ → SegmentFields → Bool
 has_name name segment = list_any (is_text name) segment.names
 
+-- whether a segment stands in a directory under a name
+abbrev pub stands_as : ℕ → List ℕ → SegmentFields → Bool
+stands_as dir name segment = nat_eq segment.dir dir && has_name name segment
+
 -- the segment of a directory that has a name, if there is one
 unfoldable pub found : CatalogFields → ℕ → List ℕ → Option ℕ
-found catalog dir name = position (λ s. nat_eq s.dir dir && has_name name s) catalog.segments
+found catalog dir name = position (stands_as dir name) catalog.segments
 
 -- A segment may be read, executed and written, or not, as is given; all else stays.
 abbrev pub with_rights : SegmentFields → Bool → Bool → Bool → SegmentFields

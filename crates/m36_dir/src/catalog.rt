@@ -3,7 +3,7 @@
 ghost use Rattle.std.specs.Prelude.{ℕ, ◌≡◌, ◌<◌, ◌≤◌, ◌^◌, Bool, ◌&&◌, nat_eq, length, slice_get, Some, IfOk, IfSome, All};
 ghost use Rattle.std.specs.List.{list_any};
 ghost use Rattle.m36_text.specs.Texts.{is_text};
-ghost use Rattle.m36_dir.specs.Catalog.{catalog_in, catalog_of, ReadSays, has_name, found, SetsRights};
+ghost use Rattle.m36_dir.specs.Catalog.{catalog_in, catalog_of, ReadSays, has_name, stands_as, found, SetsRights};
 ghost use Rattle.m36_dir.specs.IsCatalog.{IsCatalog, IsSegment};
 ghost use Rattle.m36_dir.specs.BootLine.{most_frames};
 ghost use Rattle.m36_dir.specs.BootOrder.{most_segments, most_libraries};
@@ -76,7 +76,7 @@ fn has_name(name: &[u8], segment: &Segment) -> bool
 }
 
 fn is_at(segment: &Segment, dir: u16, name: &[u8]) -> bool
-    ensures { result ≡ (nat_eq segment.now.dir dir && has_name name.now segment.now) }
+    ensures { result ≡ stands_as dir name.now segment.now }
 {
     segment.dir == dir && has_name(name, segment)
 }
