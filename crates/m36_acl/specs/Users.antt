@@ -50,9 +50,13 @@ is_tag text = is_run_of is_tag_character 1 text
 abbrev pub is_any : List ℕ → Bool
 is_any text = is_text (codes "*") text
 
+-- whether components are those of a user
+abbrev pub are_of_user : Components → Bool
+are_of_user u = is_component u.person && is_component u.project && is_tag u.tag
+
 abbrev pub have_form_of_user : Option Components → Bool
 have_form_of_user None = false
-have_form_of_user (Some u) = is_component u.person && is_component u.project && is_tag u.tag
+have_form_of_user (Some u) = are_of_user u
 
 -- the most characters of a user or a term: two components, two points and a tag
 abbrev pub user_limit : ℕ
@@ -61,11 +65,20 @@ user_limit = 2 * component_limit + 3
 unfoldable pub is_user : List ℕ → Bool
 is_user text = have_form_of_user (components_of text)
 
+-- in a term, each may be `*`
+abbrev pub may_be_component : List ℕ → Bool
+may_be_component text = is_any text || is_component text
+
+abbrev pub may_be_tag : List ℕ → Bool
+may_be_tag text = is_any text || is_tag text
+
+-- whether components are those of a term
+abbrev pub are_of_term : Components → Bool
+are_of_term t = may_be_component t.person && may_be_component t.project && may_be_tag t.tag
+
 abbrev pub have_form_of_term : Option Components → Bool
 have_form_of_term None = false
-have_form_of_term (Some t) =
-    (is_any t.person || is_component t.person) && (is_any t.project || is_component t.project)
-    && (is_any t.tag || is_tag t.tag)
+have_form_of_term (Some t) = are_of_term t
 
 unfoldable pub is_term : List ℕ → Bool
 is_term text = have_form_of_term (components_of text)

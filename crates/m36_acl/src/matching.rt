@@ -2,7 +2,8 @@
 
 ghost use Rattle.std.specs.Prelude.{◌≡◌, ◌+◌, ◌*◌, ◌≤◌, ◌&&◌, ◌||◌, true, length, ◌∷◌, [], Some, None, MatchOption, IfSome};
 ghost use Rattle.std.specs.List.{list_all};
-ghost use Rattle.m36_acl.specs.Users.{parts_of, components_of, is_component_character, is_component, is_tag_character, is_tag, is_any, is_user, is_term, admits, matches, component_limit, user_limit};
+ghost use Rattle.m36_acl.specs.Users.{parts_of, components_of, is_component_character, is_component, is_tag_character, is_tag, is_any};
+ghost use Rattle.m36_acl.specs.Users.{are_of_user, is_user, may_be_component, may_be_tag, are_of_term, is_term, admits, matches, component_limit, user_limit};
 
 use m36_text::{is_digit, is_letter, place_of};
 
@@ -89,7 +90,7 @@ fn is_any(text: &[u8]) -> bool
 
 // Whether components are those of a user.
 fn have_form_of_user(person: &[u8], project: &[u8], tag: &[u8]) -> bool
-    ensures value { result ≡ (is_component person.now && is_component project.now && is_tag tag.now) }
+    ensures value { result ≡ are_of_user (record { person = person.now; project = project.now; tag = tag.now }) }
     ensures fits { result ≡ true → length person.now + length project.now + length tag.now ≤ 2 * component_limit + 1 }
 {
     if !is_component(person) {
@@ -114,7 +115,7 @@ pub(crate) fn is_user(text: &[u8]) -> bool
 }
 
 fn is_any_or_component(text: &[u8]) -> bool
-    ensures value { result ≡ (is_any text.now || is_component text.now) }
+    ensures value { result ≡ may_be_component text.now }
     ensures fits { result ≡ true → length text.now ≤ component_limit }
 {
     if is_any(text) {
@@ -124,7 +125,7 @@ fn is_any_or_component(text: &[u8]) -> bool
 }
 
 fn is_any_or_tag(text: &[u8]) -> bool
-    ensures value { result ≡ (is_any text.now || is_tag text.now) }
+    ensures value { result ≡ may_be_tag text.now }
     ensures fits { result ≡ true → length text.now ≤ 1 }
 {
     if is_any(text) {
@@ -135,7 +136,7 @@ fn is_any_or_tag(text: &[u8]) -> bool
 
 // Whether components are those of a term.
 fn have_form_of_term(person: &[u8], project: &[u8], tag: &[u8]) -> bool
-    ensures value { result ≡ ((is_any person.now || is_component person.now) && (is_any project.now || is_component project.now) && (is_any tag.now || is_tag tag.now)) }
+    ensures value { result ≡ are_of_term (record { person = person.now; project = project.now; tag = tag.now }) }
     ensures fits { result ≡ true → length person.now + length project.now + length tag.now ≤ 2 * component_limit + 1 }
 {
     if !is_any_or_component(person) {
