@@ -5,8 +5,8 @@ ghost use Rattle.m36_word.specs.Pairs.{number_of};
 ghost use Rattle.m36_arith.specs.ShiftResult.{shifted};
 ghost use Rattle.m36_model.specs.Effect.{exec};
 ghost use Rattle.m36_model.specs.Shifts.{count_of};
-ghost use Rattle.m36_model.specs.ShiftEffects.{shift_left};
-ghost use Rattle.m36_model.specs.Results.{A, Q, AQ};
+ghost use Rattle.m36_model.specs.ShiftEffects.{shift_left, with_carry};
+ghost use Rattle.m36_model.specs.Results.{A, Q, AQ, with_indicators};
 ghost use Rattle.m36_model.specs.Step.{no_operand};
 ghost use Rattle.m36_frequent.specs.Frequent.{is_shift};
 
@@ -41,7 +41,7 @@ fn moved_pair(op: Shift, p: Pair, n: u32) -> Pair
 /// Puts carry on or off.
 #[inline(always)]
 fn tell_carry(carry: bool, regs: &mut Regs)
-    ensures { regs.new ≡ record regs.old { ind = record regs.old.ind { carry = carry } } }
+    ensures { regs.new ≡ with_indicators (with_carry carry regs.old.ind) regs.old }
 {
     regs.ind.carry = carry;
 }

@@ -1,10 +1,10 @@
 //! Call and return, done in the registers as they are.
 
-ghost use Rattle.std.specs.Prelude.{ℕ, ◌≡◌, ◌<◌, ◌^◌, [], false, Ok};
+ghost use Rattle.std.specs.Prelude.{ℕ, ◌≡◌, ◌<◌, ◌^◌};
 ghost use Rattle.m36_inst.specs.declared.effect.Effect.TheVariants as effect;
 ghost use Rattle.m36_word.specs.Pairs.{pair_words};
 ghost use Rattle.m36_model.specs.Effect.{exec};
-ghost use Rattle.m36_model.specs.Results.{ring_only, words_in_ring};
+ghost use Rattle.m36_model.specs.Results.{ring_only, words_in_ring, leaves};
 
 use crate::calls::{all_in_ring, greatest_ring, stack_pointer};
 use m36_desc::Its;
@@ -18,7 +18,7 @@ use m36_word::Pair;
 pub fn enter(regs: &mut Regs, f: &Final, ring: u8)
     requires { ring < 2 ^ 3 }
     ensures value { (n : ℕ)
-        → Ok (record { regs = regs.new; put = []; overflow = false })
+        → leaves regs.new
         ≡ exec effect.Call6 n regs.old f.now (ring_only ring) }
     ensures dbr { regs.new.dbr ≡ regs.old.dbr }
 {
@@ -36,7 +36,7 @@ pub fn enter(regs: &mut Regs, f: &Final, ring: u8)
 pub fn leave(regs: &mut Regs, f: &Final, pair: Pair, segment_ring: u8)
     requires { segment_ring < 2 ^ 3 }
     ensures value { (n : ℕ)
-        → Ok (record { regs = regs.new; put = []; overflow = false })
+        → leaves regs.new
         ≡ exec effect.Rtcd n regs.old f.now (words_in_ring (pair_words pair) segment_ring) }
     ensures dbr { regs.new.dbr ≡ regs.old.dbr }
 {

@@ -4,7 +4,7 @@ ghost use Rattle.std.specs.Prelude.{ℕ, ◌≡◌, ◌+◌, ◌%◌, ◌<◌, �
 ghost use Rattle.m36_inst.specs.Operands.{operand_of};
 ghost use Rattle.m36_inst.specs.declared.operand.Operand.TheVariants.{T};
 ghost use Rattle.m36_model.specs.Effect.{exec};
-ghost use Rattle.m36_model.specs.Results.{OperandFields, effect_fields};
+ghost use Rattle.m36_model.specs.Results.{OperandFields, effect_fields, leaves};
 ghost use Rattle.m36_model.specs.Transfers.{is_taken, gone_to, goes_to, transfer_where};
 ghost use Rattle.m36_model.specs.Transfers.{transfer_on_overflow, transfer_and_set_index};
 ghost use Rattle.m36_model.specs.Transfers.{transfer_and_set_pointer, without_overflow};
@@ -62,8 +62,7 @@ pub fn is_transfer(effect: Effect) -> bool
 #[tactic(auto, unfolding(m36_model::specs::Transfers::transfer_where, m36_model::specs::Transfers::gone_to, m36_model::specs::Results::moved_on))]
 #[inline(always)]
 fn go(taken: bool, regs: &mut Regs, f: &Final)
-    ensures value { transfer_where taken f.now regs.old
-        ≡ Ok (record { regs = regs.new; put = []; overflow = false }) }
+    ensures value { transfer_where taken f.now regs.old ≡ leaves regs.new }
     ensures dbr { regs.new.dbr ≡ regs.old.dbr }
 {
     if taken {
@@ -81,8 +80,7 @@ fn go(taken: bool, regs: &mut Regs, f: &Final)
 pub fn transfer(effect: Effect, regs: &mut Regs, f: &Final)
     requires { IsTrue (is_transfer effect) }
     ensures value { (n : ℕ) (o : OperandFields)
-        → exec effect n regs.old f.now o
-        ≡ Ok (record { regs = regs.new; put = []; overflow = false }) }
+        → exec effect n regs.old f.now o ≡ leaves regs.new }
     ensures kind { operand_of effect ≡ T }
     ensures dbr { regs.new.dbr ≡ regs.old.dbr }
 {
