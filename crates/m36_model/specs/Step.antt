@@ -83,8 +83,12 @@ abbrev pub tally_by : Bool → Option Bool → Bool
 tally_by old None = old
 tally_by old (Some b) = b
 
+-- the registers with tally runout on or off
+abbrev pub with_tally : Bool → RegsFields → RegsFields
+with_tally runout g = record g { ind = record g.ind { tally = runout } }
+
 unfoldable pub tallied : RegsFields → ChainEnd → RegsFields
-tallied g c = record g { ind = record g.ind { tally = tally_by g.ind.tally c.runout } }
+tallied g c = with_tally (tally_by g.ind.tally c.runout) g
 
 -- the effect, once the operand is there; tally runout is set before it
 abbrev pub perform : Effect → ℕ → RegsFields → ChainEnd → Part → ℕ → OperandFields → Operation

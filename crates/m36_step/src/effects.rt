@@ -8,7 +8,7 @@ ghost use Rattle.m36_model.specs.Chain.{chain_end_fields};
 ghost use Rattle.m36_model.specs.Effect.{exec, refused_here};
 ghost use Rattle.m36_model.specs.OperandHeld.{HoldsFor};
 ghost use Rattle.m36_model.specs.Results.{OperandFields, operand_fields, words_of_held};
-ghost use Rattle.m36_model.specs.Step.{tallied};
+ghost use Rattle.m36_model.specs.Step.{with_tally, tallied};
 ghost use Rattle.m36_model.specs.Transfers.{is_taken};
 ghost use Rattle.m36_model.specs.WordsPut.{PutsFor};
 ghost use Rattle.m36_xdata.specs.Changes.{LeavesSo};
@@ -19,7 +19,7 @@ use m36_model::{Fault, Final, Formed, Held, Operand36, Regs};
 
 /// The registers with tally runout as a tally word has set it.
 fn with_runout(regs: &Regs, runout: bool) -> Regs
-    ensures { result ≡ record regs.now { ind = record regs.now.ind { tally = runout } } }
+    ensures { result ≡ with_tally runout regs.now }
 {
     let mut after = *regs;
     after.ind.tally = runout;
