@@ -3,7 +3,7 @@
 //! They are written out digit by digit, since a line has about fifty of them and is made for every step.
 
 ghost use Rattle.std.specs.Prelude.{◌≡◌, ◌+◌, ◌≤◌, ◌<◌, ◌%◌, ◌^◌, ◌++◌, length, IsAscii};
-ghost use Rattle.m36_text.specs.Digits.{octal_text, word_text};
+ghost use Rattle.m36_text.specs.Digits.{octal_text, word_text, character};
 ghost use Rattle.m36_trace.specs.TraceLine.{word_of_segment};
 
 use arrayvec::ArrayString;
@@ -13,7 +13,7 @@ use std::str;
 /// The character of the last octal digit.
 #[inline]
 pub fn last_digit(v: u64) -> u8
-    ensures { result ≡ 48 + v % 8 }
+    ensures { result ≡ character (v % 8) }
 {
     b'0' + (v % 8) as u8
 }
