@@ -314,12 +314,19 @@ is_definition version d =
     && nat_le (class_number d.def.section) (last_class version)
 
 -- The fields that a link's type does not use are the section text or an empty name.
+abbrev pub is_section_where : Bool → ℕ → Section → Bool
+is_section_where used version section =
+    nat_le (place_number section) (if used then last_place version else 0)
+
+abbrev pub is_name_where : Bool → List ℕ → Bool
+is_name_where used name = if used then is_name name else nat_eq (length name) 0
+
 unfoldable pub is_link : ℕ → LinkFields → Bool
 is_link version l =
     (has_name l.kind || has_section l.kind)
-    && nat_le (place_number l.section) (if has_section l.kind then last_place version else 0)
-    && (if has_name l.kind then is_name l.name else nat_eq (length l.name) 0)
-    && (if has_entry l.kind then is_name l.entry else nat_eq (length l.entry) 0)
+    && is_section_where (has_section l.kind) version l.section
+    && is_name_where (has_name l.kind) l.name
+    && is_name_where (has_entry l.kind) l.entry
     && nat_lt l.expr (2 ^ 18)
     && nat_lt l.modifier (2 ^ 6)
 

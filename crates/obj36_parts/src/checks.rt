@@ -5,6 +5,7 @@ ghost use Rattle.std.specs.Prelude.{◌&&◌, ◌||◌, not, nat_eq, nat_le, len
 ghost use Rattle.std.specs.List.{list_all};
 ghost use Rattle.obj36_parts.specs.Names.{is_name};
 ghost use Rattle.obj36_parts.specs.ObjectSegment.{has_section, last_class, last_place, offset_part};
+ghost use Rattle.obj36_parts.specs.ObjectSegment.{is_section_where, is_name_where};
 ghost use Rattle.obj36_parts.specs.ObjectSegment.{is_definition, is_link, is_place, is_relocation};
 ghost use Rattle.obj36_parts.specs.Sections.{place_number};
 ghost use Rattle.obj36_parts.specs.ObjectSegment.{order_of, are_in_order, left_part};
@@ -58,7 +59,7 @@ pub fn has_its_section(kind: u64) -> bool
 }
 
 fn is_good_text(used: bool, name: &Name) -> bool
-    ensures { result ≡ (if used then is_name name.now else nat_eq (length name.now) 0) }
+    ensures { result ≡ is_name_where used name.now }
 {
     if used {
         is_name(name.bytes())
@@ -68,7 +69,7 @@ fn is_good_text(used: bool, name: &Name) -> bool
 }
 
 fn is_good_section(used: bool, version: u8, section: Section) -> bool
-    ensures { result ≡ nat_le (place_number section) (if used then last_place version else 0) }
+    ensures { result ≡ is_section_where used version section }
 {
     if used {
         number(section) <= greatest_place(version)
