@@ -1,5 +1,5 @@
 -- Laws of lines that are cut from bytes.
-use Rattle.std.proofs.Common.{◌≡◌, ◌+◌, ◌-◌, ◌<◌, ◌≤◌, ◌==◌, ℕ, Bool, false, List, [], ◌∷◌, ◌++◌, length, take, drop, map, Some, None, All, refl, sym, ap, subst, ◌∙◌, arith, length-take}
+use Rattle.std.proofs.Common.{◌≡◌, ◌+◌, ◌-◌, ◌<◌, ◌≤◌, ◌==◌, ℕ, Bool, false, List, [], ◌∷◌, ◌++◌, length, take, drop, map, Option, Some, None, All, refl, sym, ap, subst, ◌∙◌, arith, length-take}
 use Rattle.std.specs.List.{slice_split, position, position_or_len, before_first, after_first}
 use Rattle.std.proofs.lemmas.Bool.{ltb-true, ltb-false, eqb-true}
 use Rattle.std.proofs.lemmas.Option.{cond_some}
@@ -11,8 +11,8 @@ use Rattle.std.proofs.lemmas.List.Sums.{split_at_first, fails_before_first, pass
 use Rattle.std.proofs.Math.Dec.{ltb}
 use Rattle.m36_text.proofs.Splitting.{cond_none, ended_line, open_line, rest_whole}
 use Rattle.m36_outside.specs.Passing.{joined}
-use Rattle.m36_text.specs.Lines.{as_line, cut_line, ended, lines_of, open_rest, open_ended, open_lines_of}
-use Rattle.m36_debug.specs.LinesTaken.{whole, whole_lines, IsUnbroken, IsLines, IsFirstPart}
+use Rattle.m36_text.specs.Lines.{as_line, cut_line, ended, lines_of, those_read, open_rest, open_ended, open_lines_of}
+use Rattle.m36_debug.specs.LinesTaken.{whole_lines, IsUnbroken, IsLines, IsFirstPart}
 
 -- ---- a line feed in a text
 
@@ -129,22 +129,22 @@ unfolding lines_of
 whole_lines_on [] rest unbroken = refl
 whole_lines_on (line ∷ lines) rest unbroken =
     let behind : List ℕ = joined (map as_line lines) ++ rest in
-    ap (λ t. whole (ended (slice_split (λ b. b == 10) t))) (append_assoc (as_line line) (joined (map as_line lines)) rest)
-    ∙ ap (λ l. whole (ended l)) (split_line line behind (All-head IsUnbroken line lines unbroken))
-    ∙ ap whole (ended_line line (slice_split (λ b. b == 10) behind) (omega (arith, length-slice_split (λ b. b == 10) behind)))
+    ap (λ t. those_read (ended (slice_split (λ b. b == 10) t))) (append_assoc (as_line line) (joined (map as_line lines)) rest)
+    ∙ ap (λ l. those_read (ended l)) (split_line line behind (All-head IsUnbroken line lines unbroken))
+    ∙ ap (λ (l : List (Option (List ℕ))). those_read l) (ended_line line (slice_split (λ b. b == 10) behind) (omega (arith, length-slice_split (λ b. b == 10) behind)))
     ∙ ap (λ l. line ∷ l) (whole_lines_on lines rest (All-tail IsUnbroken line lines unbroken))
 
 open_last : (rest : List ℕ) → IsUnbroken rest → open_lines_of rest ≡ open_rest rest
 unfolding open_lines_of
 open_last rest unbroken = ap open_ended (slice_split_none (λ b. b == 10) rest unbroken)
 
-no_whole : (rest : List ℕ) → whole (cut_line rest) ≡ []
+no_whole : (rest : List ℕ) → those_read (cut_line rest) ≡ []
 no_whole [] = refl
 no_whole (b ∷ rest) = refl
 
 whole_last : (rest : List ℕ) → IsUnbroken rest → whole_lines rest ≡ []
 unfolding lines_of
-whole_last rest unbroken = ap (λ l. whole (ended l)) (slice_split_none (λ b. b == 10) rest unbroken) ∙ no_whole rest
+whole_last rest unbroken = ap (λ l. those_read (ended l)) (slice_split_none (λ b. b == 10) rest unbroken) ∙ no_whole rest
 
 -- All lines of a text, of which the last is not whole.
 pub all_open :

@@ -1,17 +1,11 @@
 -- How the lines of a session come from the bytes that are taken.
-use Rattle.std.specs.Prelude.{ℕ, ◌≡◌, ◌==◌, ◌++◌, false, List, [], ◌∷◌, map, Option, Some}
-use Rattle.std.specs.Prelude.{None, All}
+use Rattle.std.specs.Prelude.{ℕ, ◌≡◌, ◌==◌, ◌++◌, false, List, map, All}
 use Rattle.m36_outside.specs.Passing.{joined}
-use Rattle.m36_text.specs.Lines.{as_line, lines_of}
+use Rattle.m36_text.specs.Lines.{as_line, lines_of, those_read}
 
 -- the whole lines: those that have their line feeds
-abbrev pub whole : List (Option (List ℕ)) → List (List ℕ)
-whole [] = []
-whole (Some line ∷ lines) = line ∷ whole lines
-whole (None ∷ lines) = whole lines
-
 abbrev pub whole_lines : List ℕ → List (List ℕ)
-whole_lines text = whole (lines_of text)
+whole_lines text = those_read (lines_of text)
 
 -- a first part of some lines
 pub record IsFirstPart (lines all : List (List ℕ)) : Type 0 where

@@ -3,11 +3,11 @@ use Rattle.std.proofs.Common.{ℕ, ◌≡◌, ◌+◌, ◌<◌, ◌≤◌, Bool,
 use Rattle.std.specs.Prelude.{not, count_by}
 use Rattle.std.proofs.lemmas.Bool.{leb-false, not-false}
 use Rattle.std.proofs.lemmas.List.Sums.{sum_by-append, sum_by-cons}
-use Rattle.m36_text.specs.Lines.{first_met, first_told, last_of}
+use Rattle.m36_text.specs.Lines.{first_met, first_told, last_of, those_read}
 use Rattle.m36_dir.specs.declared.boot_line.BootLine.{BootLine}
 use Rattle.m36_dir.specs.declared.boot_line.BootLine.TheVariants as line
 use Rattle.m36_dir.specs.declared.boot_code.BootCode.TheVariants.{D1, D2, D3, D4, D5}
-use Rattle.m36_dir.specs.BootOrder.{is_segment, is_library, is_in_order_behind, stands_twice, names_no_directory, has_wrong_brackets, is_too_many, code_of, code_at_end, codes_from, formed, names_at_end, names_with, has_directory}
+use Rattle.m36_dir.specs.BootOrder.{is_segment, is_library, is_in_order_behind, stands_twice, names_no_directory, has_wrong_brackets, is_too_many, code_of, code_at_end, codes_from, names_at_end, names_with, has_directory}
 use Rattle.m36_dir.specs.Catalog.{names_behind}
 
 -- ---- none is told
@@ -23,7 +23,7 @@ told_none n None cs e = (refl, e)
 told_none n (Some x) cs e = absurd (cc)
 
 pub clean_from : (all above : List BootLine) (given : List (Option BootLine)) (n : ℕ)
-    → first_told n (codes_from all above given) ≡ None → Clean all above (formed given)
+    → first_told n (codes_from all above given) ≡ None → Clean all above (those_read given)
 unfolding codes_from
 clean_from all above [] n e = (told_none n (code_at_end (last_of above)) [] e).0
 clean_from all above (None ∷ more) n e = let h = told_none n (Some D1) (codes_from all above more) e in absurd (cc)

@@ -5,7 +5,7 @@ use Rattle.std.specs.List.{position}
 use Rattle.std.specs.Result.{result_ok}
 use Rattle.std.proofs.lemmas.Bool.{leb-true}
 use Rattle.m36_text.specs.Texts.{is_text}
-use Rattle.m36_text.specs.Lines.{words_of}
+use Rattle.m36_text.specs.Lines.{words_of, those_read}
 use Rattle.m36_text.specs.Reading.{number_read, judged, first_other, number_of}
 use Rattle.m36_text.specs.Numbers.{octal_in, decimal_in, at_least}
 use Rattle.m36_text.specs.declared.reading.NumberFault.{NumberFault}
@@ -16,7 +16,6 @@ use Rattle.m36_dir.specs.declared.boot_line.Brackets.{Brackets}
 use Rattle.m36_dir.specs.declared.boot_line.BootLine.{BootLine}
 use Rattle.m36_dir.specs.declared.boot_line.BootLine.TheVariants as line
 use Rattle.m36_dir.specs.BootLine.{line_given, line_of_words, frames_line, work_line, library_line, name_line, start_line, start_parts, start_read, segment_line, segment_read, brackets_of, brackets_read, directory_of, name_of, kind_of, mode_of}
-use Rattle.m36_dir.specs.BootOrder.{formed}
 
 -- ---- numbers
 
@@ -206,10 +205,10 @@ EachLine [] = Unit {0}
 EachLine (l ∷ lines) = IsLine l × EachLine lines
 
 each_step : (given : Option BootLine) (more : List (Option BootLine)) → ((l : BootLine) → given ≡ Some l → IsLine l)
-    → EachLine (formed more) → EachLine (formed (given ∷ more))
+    → EachLine (those_read more) → EachLine (those_read (given ∷ more))
 each_step None more is rest = rest
 each_step (Some l) more is rest = (is l refl, rest)
 
-pub each_line : (texts : List (Option (List ℕ))) → EachLine (formed (map line_given texts))
+pub each_line : (texts : List (Option (List ℕ))) → EachLine (those_read (map line_given texts))
 each_line [] = tt
 each_line (text ∷ texts) = each_step (line_given text) (map line_given texts) (λ l e. given_in text l e) (each_line texts)

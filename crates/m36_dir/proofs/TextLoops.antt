@@ -4,13 +4,13 @@ use Rattle.std.specs.Prelude.{◌||◌}
 use Rattle.std.specs.List.{list_any, slice_split, onto_first}
 use Rattle.std.proofs.lemmas.List.{append-nil}
 use Rattle.std.proofs.lemmas.List.Splits.{length-slice_split}
-use Rattle.m36_text.specs.Lines.{lines_of, cut_line, ended, first_told, words_of}
+use Rattle.m36_text.specs.Lines.{lines_of, cut_line, ended, those_read, first_told, words_of}
 use Rattle.m36_dir.specs.declared.boot_line.BootLine.{BootLine}
 use Rattle.m36_dir.specs.declared.boot_code.BootCode.{BootCode}
 use Rattle.m36_dir.specs.declared.boot_code.BootCode.TheVariants.{D1, D2, D3, D4, D5, D6}
 use Rattle.m36_dir.specs.declared.fault.CatalogFault.{CatalogFault}
 use Rattle.m36_dir.specs.BootLine.{line_given}
-use Rattle.m36_dir.specs.BootOrder.{lines_given, formed, all_lines, is_in_directory, is_given_in_directory, has_directory, codes_from, code_of, code_given, with_line, code_of_rest, first_code, Judges}
+use Rattle.m36_dir.specs.BootOrder.{lines_given, all_lines, is_in_directory, is_given_in_directory, has_directory, codes_from, code_of, code_given, with_line, code_of_rest, first_code, Judges}
 use Rattle.m36_dir.specs.Catalog.{CatalogFields, catalog_by, catalog_in, catalog_of, fault_at, Told}
 use Rattle.m36_dir.proofs.LineForms.{no_words}
 
@@ -26,20 +26,21 @@ unfolding lines_given
 given_cut rest e = ap (map line_given) e
 
 formed_some : (l : BootLine) (more : List (Option BootLine)) (given : Option BootLine) → given ≡ Some l
-    → formed (given ∷ more) ≡ l ∷ formed more
-formed_some l more given e = ap (λ (g : Option BootLine). formed (g ∷ more)) e
+    → those_read (given ∷ more) ≡ l ∷ those_read more
+formed_some l more given e = ap (λ (g : Option BootLine). those_read (g ∷ more)) e
 
 all_more : (rest line behind : List ℕ) (l : BootLine) → lines_of rest ≡ Some line ∷ lines_of behind
     → line_given (Some line) ≡ Some l → all_lines rest ≡ l ∷ all_lines behind
 unfolding all_lines
 all_more rest line behind l e given =
-    ap formed (given_more rest line behind e) ∙ formed_some l (lines_given behind) (line_given (Some line)) given
+    ap (λ (ls : List (Option BootLine)). those_read ls) (given_more rest line behind e)
+    ∙ formed_some l (lines_given behind) (line_given (Some line)) given
 
 -- ---- a segment line of a directory
 
 directory_given : (dir : List ℕ) (given : Option BootLine) (more : List (Option BootLine))
-    → list_any (is_in_directory dir) (formed (given ∷ more))
-    ≡ (is_given_in_directory dir given || list_any (is_in_directory dir) (formed more))
+    → list_any (is_in_directory dir) (those_read (given ∷ more))
+    ≡ (is_given_in_directory dir given || list_any (is_in_directory dir) (those_read more))
 directory_given dir (Some l) more = refl
 directory_given dir None more = refl
 
@@ -48,7 +49,7 @@ directory_line : (dir rest line behind : List ℕ) → lines_of rest ≡ Some li
     ≡ (is_given_in_directory dir (line_given (Some line)) || has_directory (all_lines behind) dir)
 unfolding has_directory all_lines
 directory_line dir rest line behind e =
-    ap (λ (ls : List (Option BootLine)). list_any (is_in_directory dir) (formed ls)) (given_more rest line behind e)
+    ap (λ (ls : List (Option BootLine)). list_any (is_in_directory dir) (those_read ls)) (given_more rest line behind e)
     ∙ directory_given dir (line_given (Some line)) (lines_given behind)
 
 pub text_found : (dir rest line behind : List ℕ) (total : Bool) → lines_of rest ≡ Some line ∷ lines_of behind
@@ -63,14 +64,14 @@ pub text_more : (dir rest line behind : List ℕ) (total : Bool) → lines_of re
 text_more dir rest line behind total e here so_far =
     ap (λ (b : Bool). (b || has_directory (all_lines behind) dir)) here ∙ sym (directory_line dir rest line behind e) ∙ so_far
 
-cut_none : (rest : List ℕ) → formed (map line_given (cut_line rest)) ≡ []
+cut_none : (rest : List ℕ) → those_read (map line_given (cut_line rest)) ≡ []
 unfolding line_given
 cut_none [] = refl
 cut_none (c ∷ rest) = refl
 
 all_cut : (rest : List ℕ) → lines_of rest ≡ cut_line rest → all_lines rest ≡ []
 unfolding all_lines
-all_cut rest e = ap formed (given_cut rest e) ∙ cut_none rest
+all_cut rest e = ap (λ (ls : List (Option BootLine)). those_read ls) (given_cut rest e) ∙ cut_none rest
 
 pub text_all : (dir rest : List ℕ) (total : Bool) → lines_of rest ≡ cut_line rest
     → has_directory (all_lines rest) dir ≡ total → false ≡ total

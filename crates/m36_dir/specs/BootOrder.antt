@@ -11,10 +11,10 @@
 -- The least line that has a code is told, and its least code.
 use Rattle.std.specs.Prelude.{ℕ, ◌≡◌, ◌+◌, ◌-◌, Bool, true, false, not, ◌&&◌, ◌||◌, nat_eq, nat_le}
 use Rattle.std.specs.Prelude.{if◌then◌else◌, List, [], ◌∷◌, ◌++◌, count_by}
-use Rattle.std.specs.Prelude.{filter_map, map, Option, Some, None, Result, Ok, Err}
+use Rattle.std.specs.Prelude.{map, Option, Some, None, Result, Ok, Err}
 use Rattle.std.specs.List.{list_any}
 use Rattle.m36_text.specs.Texts.{is_text}
-use Rattle.m36_text.specs.Lines.{lines_of, last_of, first_met, first_told}
+use Rattle.m36_text.specs.Lines.{lines_of, last_of, first_met, first_told, those_read}
 use Rattle.m36_desc.specs.Access.{are_in_order}
 use Rattle.m36_dir.specs.declared.segment.SegKind.{SegKind}
 use Rattle.m36_dir.specs.declared.segment.SegKind.TheVariants.{Gate}
@@ -221,11 +221,8 @@ codes_from all above (next ∷ lines) =
 unfoldable pub lines_given : List ℕ → List (Option BootLine)
 lines_given text = map line_given (lines_of text)
 
-abbrev pub formed : List (Option BootLine) → List BootLine
-formed lines = filter_map (λ next. next) lines
-
 unfoldable pub all_lines : List ℕ → List BootLine
-all_lines text = formed (lines_given text)
+all_lines text = those_read (lines_given text)
 
 -- the first line that has a code, counted from 1, and its code
 unfoldable pub first_code : List ℕ → Option (ℕ × BootCode)

@@ -1,7 +1,7 @@
 -- The lines of a text, the words of a line, and the first line of which something is told; and a
 -- text as a line.
 use Rattle.std.specs.Prelude.{ℕ, ◌≡◌, ◌+◌, ◌-◌, ◌==◌, Bool, if◌then◌else◌, List, [], ◌∷◌, ◌++◌}
-use Rattle.std.specs.Prelude.{length, Option, Some, None, slice_get, unwrap_or}
+use Rattle.std.specs.Prelude.{length, Option, Some, None, slice_get, unwrap_or, filter_map}
 use Rattle.std.specs.List.{slice_split, join_with_byte}
 
 -- a text as a line
@@ -65,6 +65,10 @@ pub record HasMore (words : List (List ℕ)) : Type 0 where
   pub second : List ℕ
   pub others : List (List ℕ)
   pub are : words ≡ first ∷ second ∷ others
+
+-- those of some lines that are there, or of what they mean
+abbrev pub those_read : {A : Type 0} → List (Option A) → List A
+those_read lines = filter_map (λ next. next) lines
 
 -- the last of some lines, or of what they mean
 abbrev pub last_of : {A : Type 0} → List A → Option A
