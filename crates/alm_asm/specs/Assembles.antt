@@ -1,9 +1,10 @@
 -- What an object is of lines, by what stands where. A line is told by the lines above it: it stands
 -- at the spot that these end at, in the section that the last `use` line among them names, behind
 -- the words that they place there.
-use Rattle.std.specs.Prelude.{ℕ, ◌≡◌, ◌+◌, ◌%◌, Bool, true, false, not, ◌&&◌, ◌⊎◌, List, []}
+use Rattle.std.specs.Prelude.{ℕ, ◌≡◌, ◌+◌, ◌%◌, Bool, true, false, ◌⊎◌, List, []}
 use Rattle.std.specs.Prelude.{◌∷◌, ◌++◌, length, replicate, Option, Some, None, is_some}
 use Rattle.std.specs.List.{list_any}
+use Rattle.m36_text.specs.Once.{are_distinct_by}
 use Rattle.alm_parse.specs.SourceFields.{Source}
 use Rattle.alm_tokens.specs.declared.span.Span.{Span}
 use Rattle.alm_parse.specs.declared.args.Arg.{Arg}
@@ -15,7 +16,7 @@ use Rattle.obj36_parts.specs.Fields.{LinkFields}
 use Rattle.obj36_parts.specs.PartsFields.{PartsFields}
 use Rattle.obj36_parts.specs.ObjectSegment.{definition_names, are_distinct, are_in_order}
 use Rattle.obj36_parts.specs.ObjectSegment.{version_of, evened, first_link, sections_fit}
-use Rattle.obj36_parts.specs.Indexes.{has_link}
+use Rattle.obj36_parts.specs.Indexes.{same_link, has_link}
 use Rattle.alm_lines.specs.Symbols.{sum_named}
 use Rattle.alm_lines.specs.Arguments.{name_at, first_arg, symbol_in, section_in}
 use Rattle.alm_lines.specs.Spots.{start, count_in, here, end_of}
@@ -176,8 +177,7 @@ LinksStand source parts =
 
 -- No two links are the same; each stands in the order of its first use.
 unfoldable pub are_apart : List LinkFields → Bool
-are_apart [] = true
-are_apart (link ∷ links) = not (has_link link links) && are_apart links
+are_apart links = are_distinct_by same_link links
 
 -- The entry bound is the place in the text at the last `entrybound` line, or 0.
 abbrev pub BoundIs : Source → PartsFields → Type 0

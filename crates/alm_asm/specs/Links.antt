@@ -1,7 +1,8 @@
 -- Links: the external operands of instructions, each once, in the order of their first use.
-use Rattle.std.specs.Prelude.{ℕ, ◌+◌, ◌*◌, ◌%◌, ◌^◌, List, [], ◌∷◌, ◌++◌, Option}
+use Rattle.std.specs.Prelude.{ℕ, ◌+◌, ◌*◌, ◌%◌, ◌^◌, List, [], ◌∷◌, Option}
 use Rattle.std.specs.Prelude.{Some, None, unwrap_or, if◌then◌else◌}
 use Rattle.std.specs.List.{position}
+use Rattle.m36_text.specs.Once.{with_unless}
 use Rattle.alm_tokens.specs.Tokens.{slice_of}
 use Rattle.alm_tokens.specs.declared.span.Span.{Span}
 use Rattle.alm_tokens.specs.declared.expression.Term.{Term}
@@ -93,7 +94,7 @@ link_in text symbols spot None = None
 -- the links with one at the end, where it is not among them
 abbrev pub with_link : List LinkFields → Option LinkFields → List LinkFields
 with_link links None = links
-with_link links (Some link) = if has_link link links then links else links ++ link ∷ []
+with_link links (Some link) = with_unless (has_link link links) links link
 
 unfoldable pub links_after : List ℕ → List (List ℕ × Sum) → List LinkFields → Spot → Line36
     → List LinkFields

@@ -1,9 +1,10 @@
 -- The catalog that a boot text writes out, or why it does not.
-use Rattle.std.specs.Prelude.{ℕ, ◌≡◌, Bool, ◌&&◌, nat_eq, if◌then◌else◌, List, [], ◌∷◌, ◌++◌}
+use Rattle.std.specs.Prelude.{ℕ, ◌≡◌, Bool, ◌&&◌, nat_eq, List, [], ◌∷◌, ◌++◌}
 use Rattle.std.specs.Prelude.{position, slice_get, slice_set, Option, Some, None, unwrap_or, Result}
 use Rattle.std.specs.Prelude.{Ok, Err, IfSome}
 use Rattle.std.specs.List.{list_any}
 use Rattle.m36_text.specs.Texts.{is_text}
+use Rattle.m36_text.specs.Once.{with_once}
 use Rattle.m36_dir.specs.declared.fault.CatalogFault.{CatalogFault}
 use Rattle.m36_dir.specs.declared.fault.CatalogFault.TheVariants as fault
 use Rattle.m36_dir.specs.declared.boot_line.BootLine.{BootLine}
@@ -27,7 +28,7 @@ pub record CatalogFields : Type 0 where
 -- ---- directories, in the order of the segment lines that first have them
 
 abbrev pub with_directory : List (List ℕ) → List ℕ → List (List ℕ)
-with_directory dirs dir = if list_any (is_text dir) dirs then dirs else dirs ++ dir ∷ []
+with_directory dirs dir = with_once (is_text dir) dirs dir
 
 abbrev pub with_directory_of : List (List ℕ) → BootLine → List (List ℕ)
 with_directory_of dirs (line.Segment given) = with_directory dirs given.dir

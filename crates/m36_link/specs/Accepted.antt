@@ -2,6 +2,7 @@
 -- that was laid.
 use Rattle.std.specs.Prelude.{ℕ, ◌≡◌, ◌+◌, ◌≤◌, if◌then◌else◌, List, [], ◌∷◌, ◌++◌, length}
 use Rattle.std.specs.Prelude.{Option, Some, None, is_some}
+use Rattle.m36_text.specs.Once.{with_unless}
 use Rattle.obj36_parts.specs.Fields.{LinkFields}
 use Rattle.obj36_parts.specs.ObjectSegment.{has_name, segment_limit}
 use Rattle.m36_link.specs.Fields.{RingNameFields, LaidFields, LayFields, KnownFields, SnapFields}
@@ -18,8 +19,8 @@ unfoldable pub with_initiated : List (RingNameFields × ℕ) → ℕ → LinkFie
     → List (RingNameFields × ℕ)
 with_initiated names ring link target =
     if has_name link.kind then
-    (if is_some (initiated names ring link.name) then names
-    else names ++ (record { ring = ring; name = link.name }, target) ∷ [])
+    with_unless (is_some (initiated names ring link.name)) names
+    (record { ring = ring; name = link.name }, target)
     else names
 
 unfoldable pub accepted : KnownFields → SnapFields → KnownFields

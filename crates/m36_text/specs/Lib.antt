@@ -4,5 +4,6 @@ pub mod Reading
 pub mod Texts
 pub mod FileNames
 pub mod Lines
+pub mod Once
 pub mod Numbers
 pub mod Results

@@ -1,9 +1,9 @@
 -- What the tables of definitions and links keep beside their lists, so that a name or a link is
 -- found at once.
-use Rattle.std.specs.Prelude.{ℕ, ◌≡◌, Bool, ◌&&◌, nat_eq, List, [], ◌∷◌, ◌++◌, position, is_some}
-use Rattle.std.specs.Prelude.{if◌then◌else◌}
+use Rattle.std.specs.Prelude.{ℕ, ◌≡◌, Bool, ◌&&◌, nat_eq, List, [], position, is_some}
 use Rattle.std.specs.List.{list_any}
 use Rattle.std.specs.Map.{lookup}
+use Rattle.m36_text.specs.Once.{with_unless}
 use Rattle.obj36_parts.specs.Fields.{DefFields, LinkFields}
 use Rattle.obj36_parts.specs.declared.definition.Named.{Named}
 use Rattle.obj36_parts.specs.Names.{same, with_names, names_in}
@@ -13,8 +13,7 @@ use Rattle.obj36_parts.specs.ObjectSegment.{definition_named}
 
 -- where the first definition of each name lies, with one more, unless its name has one
 unfoldable pub with_first : List (List ℕ × DefFields) → Named → List (List ℕ × DefFields)
-with_first firsts d =
-    if is_some (lookup (same d.name) firsts) then firsts else firsts ++ (d.name, d.def) ∷ []
+with_first firsts d = with_unless (is_some (lookup (same d.name) firsts)) firsts (d.name, d.def)
 
 -- These are the names of the definitions, each once, and where the first definition of each lies.
 pub record AreFirsts (definitions : List Named) (firsts : List (List ℕ × DefFields)) : Type 0 where
@@ -35,7 +34,7 @@ has_link link links = list_any (same_link link) links
 -- the first places of links with that of one more, unless it has one
 unfoldable pub with_place : List (LinkFields × ℕ) → LinkFields → ℕ → List (LinkFields × ℕ)
 with_place places link place =
-    if is_some (lookup (same_link link) places) then places else places ++ (link, place) ∷ []
+    with_unless (is_some (lookup (same_link link) places)) places (link, place)
 
 -- These are the first places of the links, and the names that they use.
 pub record AreIndexed (links : List LinkFields) (places : List (LinkFields × ℕ))

@@ -1,16 +1,16 @@
 -- Names in a definition section: each stands there once, in order of first use.
 use Rattle.std.specs.Prelude.{ℕ, zero, suc, ◌+◌, ◌*◌, ◌/◌, if◌then◌else◌, List, [], ◌∷◌, ◌++◌}
 use Rattle.std.specs.Prelude.{length, map, slice_index}
-use Rattle.std.specs.List.{list_any}
 pub use Rattle.m36_text.specs.Texts.{are_same as same, is_name_character}
 unfoldable pub use Rattle.m36_text.specs.Texts.{is_name}
+use Rattle.m36_text.specs.Once.{with_once}
 use Rattle.obj36_parts.specs.Halves.{of_quarters}
 
 -- ---- which names stand, and where
 
 -- the names with one at the end, where it is not among them
 unfoldable pub with_name : List (List ℕ) → List ℕ → List (List ℕ)
-with_name names name = if list_any (same name) names then names else names ++ name ∷ []
+with_name names name = with_once (same name) names name
 
 -- the names with further ones as they come
 unfoldable pub with_names : List (List ℕ) → List (List ℕ) → List (List ℕ)

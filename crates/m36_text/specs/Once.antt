@@ -1,0 +1,17 @@
+-- Lists in which each stands once.
+use Rattle.std.specs.Prelude.{Bool, true, not, ◌&&◌, if◌then◌else◌, List, [], ◌∷◌, ◌++◌}
+use Rattle.std.specs.List.{list_any}
+
+-- a list with one more at its end, unless it has it
+abbrev pub with_unless : {A : Type 0} → Bool → List A → A → List A
+with_unless has list next = if has then list else list ++ next ∷ []
+
+-- the same, where a test tells which it is
+abbrev pub with_once : {A : Type 0} → (A → Bool) → List A → A → List A
+with_once is_it list next = with_unless (list_any is_it list) list next
+
+-- whether no two of a list are the same
+abbrev pub are_distinct_by : {A : Type 0} → (A → A → Bool) → List A → Bool
+are_distinct_by same [] = true
+are_distinct_by same (first ∷ others) =
+    not (list_any (same first) others) && are_distinct_by same others
