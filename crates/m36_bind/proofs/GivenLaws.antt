@@ -1,6 +1,6 @@
 -- Where the first object of each name stands.
 use Rattle.std.proofs.Common.{ℕ, ◌≡◌, ◌+◌, Bool, true, false, cond, List, [], ◌∷◌, ◌++◌, Option, Some, None, is_some, refl, sym, ap, subst, ◌∙◌, true≢false, ◌<◌, ◌≤◌, length, get_or, drop}
-use Rattle.std.specs.Prelude.{position}
+use Rattle.std.specs.Prelude.{position, slice_get, option_and_then}
 use Rattle.std.specs.List.{position_from}
 use Rattle.std.specs.Map.{lookup}
 use Rattle.std.proofs.lemmas.Cmp.{nat_list_eq_equiv}
@@ -11,7 +11,7 @@ use Rattle.obj36_parts.specs.PartsFields.{PartsFields}
 use Rattle.obj36_parts.specs.Names.{same}
 use Rattle.obj36_parts.proofs.SizeLaws.{same_is}
 use Rattle.obj36_parts.proofs.IndexLaws.{or_else, or_nothing, lookup_last, goes_last}
-use Rattle.m36_bind.specs.Given.{GivenFields, object_at, object_named, with_place, ArePlaces}
+use Rattle.m36_bind.specs.Given.{GivenFields, object_named, with_place, ArePlaces}
 
 -- what is found in a table, or among the names that follow
 abbrev pub found_in : List ℕ → List (List ℕ × ℕ) → ℕ → List (List ℕ) → Option ℕ
@@ -78,10 +78,10 @@ no_name_left names i le = at_drop_all (λ (ns : List (List ℕ)). ns) names i le
 -- what is found
 
 pub found_at : (given : GivenFields) (names : List (List ℕ)) (objects : List PartsFields) (places : List (List ℕ × ℕ)) (name : List ℕ) (place : Option ℕ) (found : Option PartsFields)
-    → record { names = names; objects = objects } ≡ given → ArePlaces names places → place ≡ lookup (same name) places → found ≡ object_at objects place
+    → record { names = names; objects = objects } ≡ given → ArePlaces names places → place ≡ lookup (same name) places → found ≡ option_and_then (slice_get objects) place
     → found ≡ object_named given name
 unfolding object_named
 found_at given names objects places name place found view h is at =
     let all : GivenFields = record { names = names; objects = objects } in
-    let P : GivenFields → Type 0 = λ g. found ≡ object_at g.objects (position (same name) g.names) in
-    subst P view (at ∙ ap (object_at objects) (is ∙ h.each name))
+    let P : GivenFields → Type 0 = λ g. found ≡ option_and_then (slice_get g.objects) (position (same name) g.names) in
+    subst P view (at ∙ ap (λ (o : Option ℕ). option_and_then (slice_get objects) o) (is ∙ h.each name))

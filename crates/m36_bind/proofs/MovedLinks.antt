@@ -1,6 +1,6 @@
 -- The links of the bound object are those of its components, each in its place.
 use Rattle.std.proofs.Common.{ℕ, zero, suc, ◌≡◌, ◌+◌, cond, eqb, List, [], ◌∷◌, ◌++◌, length, Option, Some, None, refl, sym, ap, ◌∙◌, arith}
-use Rattle.std.specs.Prelude.{slice_get, position}
+use Rattle.std.specs.Prelude.{slice_get, position, option_and_then}
 use Rattle.std.specs.List.{Contains}
 use Rattle.std.proofs.lemmas.List.{length-append}
 use Rattle.obj36_parts.specs.Fields.{LinkFields}
@@ -10,7 +10,7 @@ use Rattle.obj36_parts.specs.Sections.{later_section}
 use Rattle.m36_relocate.specs.Fields.{ShapeFields, BasesFields}
 use Rattle.m36_relocate.specs.Layout.{shape_of, bases_behind, spot_moved}
 use Rattle.m36_relocate.specs.Exports.{export_named}
-use Rattle.m36_bind.specs.Components.{PlacedFields, moving, names_of, placed_at, component_named}
+use Rattle.m36_bind.specs.Components.{PlacedFields, moving, names_of, component_named}
 use Rattle.m36_bind.specs.Links.{own_link, segment_link, entry_link, outer_link, inner_link, link_moved, links_onto, links_from}
 use Rattle.m36_bind.specs.Bound.{links_end}
 use Rattle.m36_bind.specs.Meaning.{AreInOrder, IsMovedLink}
@@ -35,7 +35,7 @@ found_among : (name : List ℕ) (all : List PlacedFields) (q : PlacedFields) →
 unfolding component_named
 found_among name all q e = by (position (same name) (names_of all)) e
   where
-    by : (o : Option ℕ) → placed_at all o ≡ Some q → Contains all q
+    by : (o : Option ℕ) → option_and_then (slice_get all) o ≡ Some q → Contains all q
     by None e = absurd cc
     by (Some i) e = got all i q e
 

@@ -1,6 +1,6 @@
 -- The components that lines name stand in order, and each is an object.
 use Rattle.std.proofs.Common.{ℕ, zero, suc, ◌≡◌, ◌+◌, Bool, true, false, cond, List, [], ◌∷◌, ◌++◌, Option, Some, None, Result, Ok, Err, refl, sym, ap, subst, ◌∙◌, arith}
-use Rattle.std.specs.Prelude.{position, slice_get}
+use Rattle.std.specs.Prelude.{position, slice_get, option_and_then}
 use Rattle.std.specs.List.{list_any, Contains}
 use Rattle.obj36_parts.specs.PartsFields.{PartsFields}
 use Rattle.obj36_parts.specs.ObjectSegment.{is_well_formed}
@@ -10,7 +10,7 @@ use Rattle.m36_bindfile.specs.declared.fault.BindFault.TheVariants as fault
 use Rattle.m36_bindfile.specs.declared.line.BindLine.{BindLine}
 use Rattle.m36_bindfile.specs.declared.line.BindLine.TheVariants as line
 use Rattle.m36_relocate.specs.Fields.{BasesFields}
-use Rattle.m36_bind.specs.Given.{GivenFields, object_at, object_named}
+use Rattle.m36_bind.specs.Given.{GivenFields, object_named}
 use Rattle.m36_relocate.specs.Layout.{shape_of, bases_behind, first_bases}
 use Rattle.m36_relocate.specs.Exports.{own_from}
 use Rattle.m36_text.specs.Results.{and_then}
@@ -81,7 +81,7 @@ given_formed : (given : GivenFields) (name : List ℕ) (p : PartsFields) → ((o
 unfolding object_named
 given_formed given name p formed e = by (position (same name) given.names) e
   where
-    by : (o : Option ℕ) → object_at given.objects o ≡ Some p → is_well_formed p ≡ true
+    by : (o : Option ℕ) → option_and_then (slice_get given.objects) o ≡ Some p → is_well_formed p ≡ true
     by None e = absurd cc
     by (Some i) e = formed p (got given.objects i p e)
 

@@ -4,7 +4,7 @@
 --     B3   an object of the name stands above
 use Rattle.std.specs.Prelude.{ℕ, ◌≡◌, ◌+◌, ◌*◌, ◌^◌, ◌≤◌, if◌then◌else◌, List, [], ◌∷◌}
 use Rattle.std.specs.Prelude.{◌++◌, length, map, position, slice_get, Option, Some, None, Result}
-use Rattle.std.specs.Prelude.{Ok, Err}
+use Rattle.std.specs.Prelude.{Ok, Err, option_and_then}
 use Rattle.std.specs.List.{list_any}
 use Rattle.m36_text.specs.Results.{and_then}
 use Rattle.obj36_parts.specs.PartsFields.{PartsFields}
@@ -56,12 +56,9 @@ with_component all p =
 
 -- ---- the component of a name
 
-abbrev pub placed_at : List PlacedFields → Option ℕ → Option PlacedFields
-placed_at all None = None
-placed_at all (Some i) = slice_get all i
-
 unfoldable pub component_named : List ℕ → List PlacedFields → Option PlacedFields
-component_named name all = placed_at all (position (same name) (names_of all))
+component_named name all =
+    option_and_then (slice_get all) (position (same name) (names_of all))
 
 -- ---- the lines in turn
 

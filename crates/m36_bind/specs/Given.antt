@@ -1,6 +1,6 @@
 -- The objects that are given by name; of two of one name the first counts.
-use Rattle.std.specs.Prelude.{ℕ, ◌≡◌, List, position, slice_get, is_some, if◌then◌else◌}
-use Rattle.std.specs.Prelude.{Option, Some, None}
+use Rattle.std.specs.Prelude.{ℕ, ◌≡◌, List, position, slice_get, is_some, if◌then◌else◌, Option}
+use Rattle.std.specs.Prelude.{option_and_then}
 use Rattle.std.specs.Map.{lookup}
 use Rattle.indexmap.specs.IndexMap.{insert_entry}
 use Rattle.obj36_parts.specs.PartsFields.{PartsFields}
@@ -12,13 +12,10 @@ pub record GivenFields : Type 0 where
   pub names : List (List ℕ)
   pub objects : List PartsFields
 
-abbrev pub object_at : List PartsFields → Option ℕ → Option PartsFields
-object_at objects None = None
-object_at objects (Some i) = slice_get objects i
-
 -- the object of a name
 unfoldable pub object_named : GivenFields → List ℕ → Option PartsFields
-object_named given name = object_at given.objects (position (same name) given.names)
+object_named given name =
+    option_and_then (slice_get given.objects) (position (same name) given.names)
 
 -- ---- how an object is found
 

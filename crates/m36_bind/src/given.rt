@@ -1,9 +1,9 @@
 //! The objects that are given, each found by its name.
 
-ghost use Rattle.std.specs.Prelude.{ℕ, ◌≡◌, IfOk, OnOk, option_map};
+ghost use Rattle.std.specs.Prelude.{ℕ, ◌≡◌, IfOk, OnOk, slice_get, option_map, option_and_then};
 ghost use Rattle.std.specs.Map.{lookup};
 ghost use Rattle.obj36_parts.specs.Names.{same};
-ghost use Rattle.m36_bind.specs.Given.{object_at, object_named, with_place, ArePlaces};
+ghost use Rattle.m36_bind.specs.Given.{object_named, with_place, ArePlaces};
 
 use indexmap::IndexMap;
 use m36_text::Name;
@@ -63,7 +63,7 @@ fn places_of(alloc: Global, names: &[Name]) -> Result<IndexMap<Name, u64>, NoMem
 }
 
 fn object_at(objects: &[Object], place: Option<u64>) -> Option<&Object>
-    ensures { option_map (λ o. o.now) result ≡ object_at objects.now place }
+    ensures { option_map (λ o. o.now) result ≡ option_and_then (slice_get objects.now) place }
 {
     let place = place?;
     objects.get(place as usize)
