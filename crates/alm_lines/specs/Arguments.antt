@@ -1,5 +1,5 @@
 -- The arguments of operations.
-use Rattle.std.specs.Prelude.{ℕ, List, [], ◌∷◌, ◌++◌, take, Option, Some, None, unwrap_or}
+use Rattle.std.specs.Prelude.{ℕ, List, [], ◌∷◌, ◌++◌, take, slice_get, Option, Some, None, unwrap_or}
 use Rattle.m36_text.specs.Texts.{name_limit}
 use Rattle.alm_tokens.specs.Tokens.{slice_of}
 use Rattle.alm_tokens.specs.declared.span.Span.{Span}
@@ -17,12 +17,10 @@ name_at text span = take name_limit (slice_of text span)
 -- ---- arguments
 
 abbrev pub first_arg : List Arg → Option Arg
-first_arg [] = None
-first_arg (arg ∷ more) = Some arg
+first_arg arguments = slice_get arguments 0
 
 abbrev pub second_arg : List Arg → Option Arg
-second_arg [] = None
-second_arg (arg ∷ more) = first_arg more
+second_arg arguments = slice_get arguments 1
 
 abbrev pub symbol_in : Option Arg → Option Span
 symbol_in (Some (Symbol span)) = Some span

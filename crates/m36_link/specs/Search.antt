@@ -1,6 +1,6 @@
 -- The search for a segment by a reference name.
-use Rattle.std.specs.Prelude.{ℕ, ◌+◌, List, [], ◌∷◌, ◌++◌, Option, Some, None, option_map}
-use Rattle.std.specs.Prelude.{filter_map, option_to_list}
+use Rattle.std.specs.Prelude.{ℕ, ◌+◌, List, ◌∷◌, ◌++◌, Option, option_map}
+use Rattle.std.specs.Prelude.{filter_map, option_to_list, slice_get}
 use Rattle.m36_dir.specs.Catalog.{CatalogFields, found}
 use Rattle.m36_link.specs.Fields.{KnownFields}
 use Rattle.m36_link.specs.Known.{initiated, first_segment}
@@ -20,10 +20,6 @@ candidates known catalog ring name from =
     option_to_list (initiated known.names ring name)
     ++ filter_map (found_in catalog name) (directories_searched catalog from)
 
-abbrev pub head_of : List ℕ → Option ℕ
-head_of [] = None
-head_of (seg ∷ others) = Some seg
-
 -- The first is taken, and the search never goes past it.
 unfoldable pub searched : KnownFields → CatalogFields → ℕ → List ℕ → ℕ → Option ℕ
-searched known catalog ring name from = head_of (candidates known catalog ring name from)
+searched known catalog ring name from = slice_get (candidates known catalog ring name from) 0

@@ -1,9 +1,9 @@
 //! The search for a segment by a reference name.
 
-ghost use Rattle.std.specs.Prelude.{◌≡◌, ◌<◌, ◌^◌, filter_map, IfSome};
+ghost use Rattle.std.specs.Prelude.{◌≡◌, ◌<◌, ◌^◌, filter_map, slice_get, IfSome};
 ghost use Rattle.m36_link.specs.Names.{AreNames};
 ghost use Rattle.m36_link.specs.Known.{initiated};
-ghost use Rattle.m36_link.specs.Search.{found_in, directories_searched, head_of};
+ghost use Rattle.m36_link.specs.Search.{found_in, directories_searched};
 
 use crate::file::FIRST_SEGMENT;
 use crate::names::RingName;
@@ -39,7 +39,7 @@ fn found_in(catalog: &Catalog, name: &[u8], dir: u16) -> Option<u16>
 
 // The first of the directories that has the name.
 fn first_in(catalog: &Catalog, name: &[u8], directories: &[u16]) -> Option<u16>
-    ensures value { result ≡ head_of (filter_map (found_in catalog.now name.now) directories.now) }
+    ensures value { result ≡ slice_get (filter_map (found_in catalog.now name.now) directories.now) 0 }
     ensures bound { IfSome result (λ seg. seg < 2 ^ 15) }
 {
     let mut rest = directories;
@@ -55,7 +55,7 @@ fn first_in(catalog: &Catalog, name: &[u8], directories: &[u16]) -> Option<u16>
 /// The number of the segment of a name: of the directory that refers, else of the working directory, else of the first
 /// library that has the name.
 pub(crate) fn searched_in_directories(catalog: &Catalog, name: &[u8], from: u16) -> Option<u16>
-    ensures value { result ≡ head_of (filter_map (found_in catalog.now name.now) (directories_searched catalog.now from)) }
+    ensures value { result ≡ slice_get (filter_map (found_in catalog.now name.now) (directories_searched catalog.now from)) 0 }
     ensures bound { IfSome result (λ seg. seg < 2 ^ 15) }
 {
     if let Some(seg) = found_in(catalog, name, from) {

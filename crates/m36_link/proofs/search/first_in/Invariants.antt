@@ -1,12 +1,12 @@
 use Rattle.std.proofs.Common.{◌≡◌, length}
-use Rattle.std.specs.Prelude.{filter_map}
-use Rattle.m36_link.specs.Search.{found_in, head_of}
+use Rattle.std.specs.Prelude.{filter_map, slice_get}
+use Rattle.m36_link.specs.Search.{found_in}
 use Rattle.m36_link.proofs.search.first_in.Given as goal
 
 -- the first of the rest is the first of all
 abbrev pub invariant-loop-rest : goal.invariant-loop-rest
 invariant-loop-rest l =
-    head_of (filter_map (found_in l.catalog l.name) l.rest) ≡ head_of (filter_map (found_in l.catalog l.name) l.directories)
+    slice_get (filter_map (found_in l.catalog l.name) l.rest) 0 ≡ slice_get (filter_map (found_in l.catalog l.name) l.directories) 0
 
 abbrev pub decreases-loop-rest : goal.decreases-loop-rest
 decreases-loop-rest l = length l.rest
