@@ -9,12 +9,12 @@ use Rattle.m36_model.specs.Core.{core_store}
 use Rattle.m36_model.specs.Step.{Ending, program, record_of}
 use Rattle.m36_model.specs.Flat.{Flat}
 use Rattle.m36_model.specs.BootedCore.{booted_dbr, resident_ptw, absent_ptw, IsPage, IsLaid}
-use Rattle.m36_model.specs.Residence.{Paged, flat_of, ptw_of_page, IsMoved}
+use Rattle.m36_model.specs.Residence.{Paged, flat_of, ptw_of_page, IsMoved, StaysIn}
 use Rattle.m36_model.specs.PagedStep.{IsPresent}
 use Rattle.m36_model.specs.declared.outcome.Fault.{Fault}
 use Rattle.m36_model.specs.declared.outcome.Outcome.{Outcome}
 use Rattle.m36_model.specs.declared.outcome.Outcome.TheVariants.{Faulted}
-use Rattle.m36_isol.specs.PageServices.{StaysIn, PagedState, core_state, stepped_memory, IsServed, AreServed, PagesLaw}
+use Rattle.m36_isol.specs.PageServices.{PagedState, core_state, stepped_memory, IsServed, AreServed, PagesLaw}
 use Rattle.m36_isol.proofs.MirrorStep.{EndsSo, StopsSo, EndPlaced, present_at, program_asks}
 use Rattle.m36_isol.proofs.Booted.{StandsFor, stands_first}
 use Rattle.m36_isol.proofs.PagedStep.{paged_step_law}

@@ -1,21 +1,15 @@
 -- Page services: an instruction that ends at a page in no frame is started again once the page is
 -- in a frame. How often that is at most.
-use Rattle.std.specs.Prelude.{◌≡◌, ◌≢◌, ℕ, zero, suc, ◌+◌, ◌/◌, List, Option, Some, None}
+use Rattle.std.specs.Prelude.{◌≡◌, ◌≢◌, ℕ, zero, suc, ◌+◌, ◌/◌, List, None}
 use Rattle.m36_model.specs.Registers.{RegsFields}
 use Rattle.m36_model.specs.Store.{State}
 use Rattle.m36_model.specs.StoreLaw.{Each}
 use Rattle.m36_model.specs.Core.{core_store}
 use Rattle.m36_model.specs.Step.{indirect_words, record_of, state_after}
 use Rattle.m36_model.specs.BootedCore.{booted_dbr, IsLaid}
-use Rattle.m36_model.specs.Residence.{Paged, IsMoved}
+use Rattle.m36_model.specs.Residence.{Paged, IsMoved, StaysIn}
 use Rattle.m36_model.specs.PagedStep.{IsPageFault, IsPresent}
 use Rattle.m36_model.specs.declared.place.Reference.{Reference}
-
--- a page that the instruction has referenced keeps its frame
-abbrev pub StaysIn : (ℕ → ℕ → Option ℕ) → (ℕ → ℕ → Option ℕ) → Reference → Type 0
-StaysIn before after e =
-    (frame : ℕ) → before e.at.seg (e.at.word / 1024) ≡ Some frame
-    → after e.at.seg (e.at.word / 1024) ≡ Some frame
 
 -- The page comes into a frame. Any page may give way, but for those that the instruction has
 -- referenced; no content changes.

@@ -10,6 +10,7 @@ use Rattle.m36_model.specs.Flat.{Flat}
 use Rattle.m36_model.specs.BootedCore.{descriptor_words, booted_dbr, IsPageable, resident_ptw}
 use Rattle.m36_model.specs.BootedCore.{absent_ptw, IsPage, page_word}
 use Rattle.m36_model.specs.declared.outcome.Refusal.{Refusal}
+use Rattle.m36_model.specs.declared.place.Reference.{Reference}
 
 -- core, and the words that are kept for pages in no frame
 pub record Paged : Type 0 where
@@ -75,3 +76,10 @@ pub record IsMoved (frames : ℕ) (old new : Paged) : Type 0 where
       (seg w : ℕ) → IsPage old.core seg (w / 1024)
       → resident_word new (after seg (w / 1024)) seg w ≡ resident_word old (before seg (w / 1024))
       seg w
+
+-- A page that is referenced stays in its frame, where these tell which frame each page was in and
+-- is in.
+abbrev pub StaysIn : (ℕ → ℕ → Option ℕ) → (ℕ → ℕ → Option ℕ) → Reference → Type 0
+StaysIn before after e =
+    (frame : ℕ) → before e.at.seg (e.at.word / 1024) ≡ Some frame
+    → after e.at.seg (e.at.word / 1024) ≡ Some frame

@@ -173,7 +173,7 @@ pub brought_same : (p : PagerFields) (core : List ℕ) (seg page : ℕ) (refs : 
 brought_same p core seg page refs resident = record {
   kept = kept_same p core;
   resident = resident;
-  stays = all_stay p core p core refs (λ i d below frame has e. e);
+  stays = all_stay p core p core refs (λ i d below has frame e. e);
   k = 0;
   holders = λ j other. refl;
   spot = λ out. absurd (was_out (frame_of p core seg page) out resident);
@@ -251,7 +251,7 @@ brought p core mid gone left new now k seg page refs s marks emptied taken free 
       kept = kept_then p core p mid new now (marks_kept p core mid s m)
           (kept_then p mid gone left new now emptied.kept (taken_kept gone left new now k seg page emptied.settled taken));
       resident = ap is_some (taken_in gone left new now k seg page emptied.settled taken);
-      stays = all_stay p core new now refs (λ i d below frame has e.
+      stays = all_stay p core new now refs (λ i d below has frame e.
           let x : ℕ = (get_or refs i d).at.seg in
           let q : ℕ = (get_or refs i d).at.word / 1024 in
           let range = frame_range p core x q frame s has e in

@@ -5,6 +5,7 @@ use Rattle.std.specs.Prelude.{slice_index_or, slice_set, All, Option, Some, None
 use Rattle.std.specs.List.{list_any}
 use Rattle.m36_model.specs.Place.{without_used}
 use Rattle.m36_model.specs.declared.place.Reference.{Reference}
+use Rattle.m36_model.specs.Residence.{StaysIn}
 use Rattle.m36_page.specs.Copied.{IsOutside}
 use Rattle.m36_page.specs.Fields.{TableFields, PagerFields}
 use Rattle.m36_page.specs.Residence.{has_page, spot_of, kept_word, absent_ptw, resident_ptw}
@@ -98,12 +99,11 @@ is_pinned refs (Some held) = list_any (is_to held) refs
 abbrev pub AllPinned : PagerFields → List Reference → Type 0
 AllPinned p refs = All (λ h. is_pinned refs h ≡ true) p.holders
 
--- a page that is referenced stays in its frame
+-- a page that is referenced, and that the pager has, stays in its frame
 abbrev pub Stays : PagerFields → List ℕ → PagerFields → List ℕ → Reference → Type 0
 Stays old core new now e =
-    (frame : ℕ) → has_page old e.at.seg (e.at.word / 1024) ≡ true
-    → frame_of old core e.at.seg (e.at.word / 1024) ≡ Some frame
-    → frame_of new now e.at.seg (e.at.word / 1024) ≡ Some frame
+    has_page old e.at.seg (e.at.word / 1024) ≡ true
+    → StaysIn (frame_of old core) (frame_of new now) e
 
 -- A core word holds a page table word of a pager: that of a page which is in a frame, and which the
 -- references do not pin.

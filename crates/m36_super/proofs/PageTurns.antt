@@ -13,7 +13,7 @@ use Rattle.m36_model.specs.Place.{core_sdw, core_spot}
 use Rattle.m36_model.specs.Step.{record_of, state_after}
 use Rattle.m36_model.specs.Flat.{Flat}
 use Rattle.m36_model.specs.BootedCore.{booted_dbr, IsPage, IsLaid}
-use Rattle.m36_model.specs.Residence.{Lacks, absence}
+use Rattle.m36_model.specs.Residence.{Lacks, absence, StaysIn}
 use Rattle.m36_model.specs.PagedStep.{IsPresent, IsFlatStep, IsPageFault, IsAbsaStep}
 use Rattle.m36_model.specs.declared.outcome.Fault.{Fault}
 use Rattle.m36_model.specs.declared.outcome.Outcome.{Outcome}
@@ -21,7 +21,6 @@ use Rattle.m36_model.specs.declared.outcome.Outcome.TheVariants.{Next, Faulted}
 use Rattle.m36_model.specs.declared.outcome.Refusal.{Refusal}
 use Rattle.m36_model.specs.declared.place.Reference.{Reference}
 use Rattle.m36_model.specs.declared.record.StepRecord.{StepRecord}
-use Rattle.m36_isol.specs.PageServices.{StaysIn}
 use Rattle.m36_isol.specs.References.{references_of_a_step}
 use Rattle.m36_isol.proofs.Laid.{page_of_word}
 use Rattle.m36_isol.proofs.PagedStep.{paged_step_law}
@@ -135,7 +134,7 @@ module _ (old : State (List ℕ)) (p q : PagerFields) (now : List ℕ) (runs : I
         let held = held_page _ _ frame (sym (paging.before_is e.at.seg (e.at.word / 1024)) ∙ before) in
         paging.after_is e.at.seg (e.at.word / 1024)
         ∙ frame_true _ (frame_of q now e.at.seg (e.at.word / 1024)) (brought.kept.shape.pages e.at.seg (e.at.word / 1024) ∙ held.0)
-        ∙ stays frame held.0 held.1
+        ∙ stays held.0 frame held.1
 
     tried_at : (regs : RegsFields) → regs ≡ (state_after core_store old).regs → IsTried old p (record { regs = regs; store = now }) q
     tried_at regs same =
