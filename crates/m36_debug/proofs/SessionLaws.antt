@@ -1,6 +1,7 @@
 -- Laws of a session that goes on piece by piece.
 use Rattle.std.proofs.Common.{◌≡◌, ◌+◌, ◌-◌, ◌≤◌, ℕ, List, [], ◌∷◌, ◌++◌, length, take, All, Option, Some, None, inl, inr, refl, sym, ap, subst, ◌∙◌, arith, length-append, length-take}
-use Rattle.std.specs.Prelude.{IfSome, Result, Ok, Err}
+use Rattle.std.specs.Prelude.{Result, Ok, Err}
+use Rattle.std.specs.Io.KnownBytes.{IsAtEnd}
 use Rattle.std.proofs.Math.Seq.{take-length}
 use Rattle.std.proofs.lemmas.List.Folds.{concat-append}
 use Rattle.std.proofs.lemmas.List.{append-nil, append_assoc, take-append-le}
@@ -241,7 +242,7 @@ going_too_long o m m' before now after old new count left begun buffer sitting g
 told_end :
     (now after : LinesSeen) (pieces : List (List ℕ)) → GotEnd now after → HasEnded (pieces ++ [] ∷ []) after
 told_end now after pieces got =
-    record { before = pieces; last = refl; none = subst (λ l. IfSome l (λ left. left ≡ [])) (sym got.left.1) got.left.0 }
+    record { before = pieces; last = refl; none = subst IsAtEnd (sym got.left.1) got.left.0 }
 
 -- all its lines are a first part of all
 took_open :

@@ -1,7 +1,8 @@
 -- What a session says by its answer.
 use Rattle.std.specs.Prelude.{ℕ, ◌≡◌, ◌+◌, ◌≤◌, ◌<◌, ◌⊎◌, List, [], ◌∷◌, ◌++◌, All, length}
 use Rattle.std.specs.Prelude.{take, Option}
-use Rattle.std.specs.Prelude.{IfSome, Result, Ok, Err}
+use Rattle.std.specs.Prelude.{Result, Ok, Err}
+use Rattle.std.specs.Io.KnownBytes.{IsAtEnd}
 use Rattle.m36_outside.specs.Counts.{Rose}
 use Rattle.m36_outside.specs.Passing.{joined}
 use Rattle.m36_outside.specs.Piece.{preceded}
@@ -38,7 +39,7 @@ input left given faults = record { left = left; given = given; faults = faults }
 pub record HasEnded (pieces : List (List ℕ)) (new : LinesSeen) : Type 0 where
   pub before : List (List ℕ)
   pub last : pieces ≡ before ++ [] ∷ []
-  pub none : IfSome new.left (λ left. left ≡ [])
+  pub none : IsAtEnd new.left
 
 -- Nothing is asked of the input behind its end, which an empty piece tells: no piece follows that
 -- one, and the count of faults stands.

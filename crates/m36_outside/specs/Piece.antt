@@ -1,5 +1,6 @@
 -- What the answers of a call for the next piece of input say.
-use Rattle.std.specs.Prelude.{ℕ, ◌≡◌, ◌≤◌, List, [], ◌++◌, length, take, Option, Some, None, IfSome}
+use Rattle.std.specs.Prelude.{ℕ, ◌≡◌, ◌≤◌, List, ◌++◌, length, take, Option, Some, None}
+use Rattle.std.specs.Io.KnownBytes.{IsAtEnd}
 use Rattle.m36_outside.specs.Counts.{Rose}
 use Rattle.m36_outside.specs.declared.lines.Piece.{Piece}
 use Rattle.m36_outside.specs.declared.lines.Piece.TheVariants.{Got, End, Failed}
@@ -18,7 +19,7 @@ pub record Moved (old new : Option (List ℕ)) (count : ℕ) (into : List ℕ) :
 -- what the answer says of what is left before and after, and of the buffer after the call
 abbrev pub PieceSays : Piece → Option (List ℕ) → Option (List ℕ) → List ℕ → Type 0
 PieceSays (Got count) old new into = Moved old new count into
-PieceSays End old new into = IfSome old (λ left. left ≡ []) × (new ≡ old)
+PieceSays End old new into = IsAtEnd old × (new ≡ old)
 PieceSays Failed old new into = new ≡ old
 
 -- A failed call made the count of faults rise, and every other call left it.
