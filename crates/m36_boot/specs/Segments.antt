@@ -6,7 +6,7 @@ use Rattle.std.specs.Prelude.{if◌then◌else◌, List, [], ◌∷◌, ◌++◌
 use Rattle.std.specs.Prelude.{slice_index_or, Option, Some, None}
 use Rattle.std.specs.Prelude.{◌≤◌, All}
 use Rattle.m36_desc.specs.Fields.{SdwFields}
-use Rattle.m36_desc.specs.Descriptors.{ptr_even, ptr_odd}
+use Rattle.m36_model.specs.Pointers.{pair_before}
 use Rattle.m36_model.specs.Pointers.{pointer}
 use Rattle.m36_model.specs.BootedCore.{table_words, table_at}
 use Rattle.m36_dir.specs.declared.segment.SegKind.{SegKind}
@@ -139,8 +139,7 @@ booted_sdw catalog files seg =
 -- Words 22 and 23 of a stack are an ITS pair to word 0 of the linkage segment of its ring.
 unfoldable pub stack_words : ℕ → List ℕ
 stack_words ring =
-    replicate 22 0 ++ ptr_even (pointer (linkage_segment ring) ring 0)
-    ∷ ptr_odd (pointer (linkage_segment ring) ring 0) ∷ []
+    replicate 22 0 ++ pair_before (pointer (linkage_segment ring) ring 0) []
 
 -- the LOT in which one section is laid
 abbrev pub lot_of : LayFields → List ℕ

@@ -5,6 +5,7 @@
 use Rattle.std.specs.Prelude.{ℕ, ◌+◌, ◌-◌, ◌*◌, ◌^◌, ◌==◌, if◌then◌else◌}
 use Rattle.m36_word.specs.Field.{field}
 use Rattle.m36_word.specs.Bits.{is_on, of_bit}
+use Rattle.m36_word.specs.declared.pair.Pair.{Pair}
 use Rattle.m36_desc.specs.Fields.{SdwFields, PtwFields, DbrFields, PtrFields, ItsFields, ItpFields}
 
 -- Segment descriptor word. Even word: ADDR 0-23, R1 24-26, R2 27-29, R3 30-32, F 33, FC 34-35.
@@ -108,6 +109,9 @@ its_even p = p.seg * 2 ^ 18 + p.ring * 2 ^ 15 + its_tag
 
 abbrev pub its_odd : ItsFields → ℕ
 its_odd p = odd_of p.word p.bit p.tag
+
+abbrev pub its_pair : ItsFields → Pair
+its_pair p = record { even = its_even p; odd = its_odd p }
 
 -- Indirect through a pointer register. Even word: PRNUM 0-2, tag 41 octal in 30-35.
 abbrev pub itp_tag : ℕ

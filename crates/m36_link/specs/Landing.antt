@@ -4,8 +4,7 @@ use Rattle.std.specs.Prelude.{nat_lt, if◌then◌else◌, List, length, Option,
 use Rattle.std.specs.Prelude.{Err}
 use Rattle.m36_word.specs.declared.pair.Pair.{Pair}
 use Rattle.m36_text.specs.Results.{and_then}
-use Rattle.m36_desc.specs.Fields.{ItsFields}
-use Rattle.m36_desc.specs.Descriptors.{its_even, its_odd}
+use Rattle.m36_desc.specs.Descriptors.{its_pair}
 use Rattle.m36_model.specs.declared.endings.LinkCode.{LinkCode}
 use Rattle.m36_model.specs.declared.endings.LinkCode.TheVariants.{L3, L4, L5, L6}
 use Rattle.m36_dir.specs.Fields.{SegmentFields}
@@ -46,9 +45,6 @@ point_of link o =
     else Ok (record { section = section_of link; value = 0 })
 
 -- ---- the pair
-
-abbrev pub its_pair : ItsFields → Pair
-its_pair p = record { even = its_even p; odd = its_odd p }
 
 -- the pair to a word of a segment, with the ring and the modifier of the link
 unfoldable pub pair_to : ℕ → ℕ → ℕ → LinkFields → Pair

@@ -35,18 +35,19 @@ load_pointer n g f = completes (with_pr n (pointer_to f) g)
 unfoldable pub load_base_pointer : ℕ → RegsFields → FinalFields → Result EffectFields ℕ
 load_base_pointer n g f = completes (with_pr n (base_of f) g)
 
+-- the ITS pair of a pointer, and further words
+abbrev pub pair_before : PtrFields → List ℕ → List ℕ
+pair_before p words = ptr_even p ∷ ptr_odd p ∷ words
+
 -- SPRI0 to SPRI7: the pair becomes the ITS form of the pointer register with tag 0
 unfoldable pub store_pointer : ℕ → RegsFields → Result EffectFields ℕ
-store_pointer n g = completes_with g (ptr_even (ptr g n) ∷ ptr_odd (ptr g n) ∷ [])
+store_pointer n g = completes_with g (pair_before (ptr g n) [])
 
 -- SPBP: the same with an odd word of 0
 unfoldable pub store_base_pointer : ℕ → RegsFields → Result EffectFields ℕ
 store_base_pointer n g = completes_with g (ptr_even (ptr g n) ∷ 0 ∷ [])
 
 -- SPRI: the block becomes the eight pairs, PR0 first
-abbrev pub pair_before : PtrFields → List ℕ → List ℕ
-pair_before p words = ptr_even p ∷ ptr_odd p ∷ words
-
 abbrev pub pointer_block : RegsFields → List ℕ
 pointer_block g =
     pair_before (ptr g 0)
@@ -105,4 +106,4 @@ abbrev pub control_pointer : RegsFields → PtrFields
 control_pointer g = pointer g.ppr.psr g.ppr.prr ((g.ppr.ic + 2) % 2 ^ 18)
 
 unfoldable pub store_control : RegsFields → Result EffectFields ℕ
-store_control g = completes_with g (ptr_even (control_pointer g) ∷ ptr_odd (control_pointer g) ∷ [])
+store_control g = completes_with g (pair_before (control_pointer g) [])

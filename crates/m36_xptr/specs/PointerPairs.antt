@@ -2,11 +2,11 @@
 use Rattle.std.specs.Prelude.{ℕ, max}
 use Rattle.m36_word.specs.declared.pair.Pair.{Pair}
 use Rattle.m36_desc.specs.Fields.{PtrFields}
-use Rattle.m36_desc.specs.Descriptors.{ptr_of, ptr_even, ptr_odd}
+use Rattle.m36_desc.specs.Descriptors.{ptr_of, its_of_ptr, its_pair}
 
 -- the ITS pair of a pointer
 abbrev pub pair_of_pointer : PtrFields → Pair
-pair_of_pointer p = record { even = ptr_even p; odd = ptr_odd p }
+pair_of_pointer p = its_pair (its_of_ptr p)
 
 -- the pointer of a pair, in its ring or another, whichever is greater
 abbrev pub pointer_of_pair : ℕ → Pair → PtrFields
