@@ -1,6 +1,7 @@
 -- What lines mean: the parts of an object, or the first refusal in the order of the text.
-use Rattle.std.specs.Prelude.{ℕ, ◌%◌, ◌^◌, Bool, true, false, List, [], ◌∷◌}
-use Rattle.std.specs.Prelude.{Option, Some, None, Result, Ok, Err}
+use Rattle.std.specs.Prelude.{ℕ, ◌%◌, ◌^◌, Bool, true, false, List, [], ◌∷◌, Option, Some, None}
+use Rattle.std.specs.Prelude.{Result, Ok, Err, option_map}
+use Rattle.m36_text.specs.Results.{unless}
 use Rattle.alm_parse.specs.SourceFields.{Source}
 use Rattle.alm_parse.specs.declared.line.Line36.{Line36}
 use Rattle.alm_parse.specs.declared.fault.AlmFault.{AlmFault}
@@ -110,8 +111,7 @@ refusal_of source = refusal_in source.text source.lines
 
 -- the tables of lines, unless one is refused
 abbrev pub unless_refused : List ℕ → List Line36 → Option Refusal → Result Tables AlmFault
-unless_refused text lines (Some refusal) = Err (fault_of refusal)
-unless_refused text lines None = Ok (tables_of text lines)
+unless_refused text lines refusal = unless (option_map fault_of refusal) (tables_of text lines)
 
 -- the number of the last line, or 1
 unfoldable pub last_line : ℕ → List Line36 → ℕ

@@ -22,7 +22,7 @@ use Rattle.alm_tokens.specs.declared.pieces.Parter.TheVariants.{Comma}
 use Rattle.alm_parse.specs.SourceFields.{Source}
 use Rattle.alm_tokens.specs.Bytes.{is_character}
 use Rattle.alm_tokens.specs.Tokens.{slice_of, span_at}
-use Rattle.alm_parse.specs.Refusals.{unless}
+use Rattle.m36_text.specs.Results.{unless}
 use Rattle.alm_tokens.specs.Expressions.{expression_pieces, term_of}
 use Rattle.alm_parse.specs.Bodies.{place_of, body_of, body_pieces}
 use Rattle.alm_parse.specs.Operands.{body_span, tag_given, operand_of, operand_given}

@@ -17,7 +17,8 @@ use Rattle.alm_tokens.specs.declared.head.Head.{Head}
 use Rattle.alm_tokens.specs.declared.rows.Row.{Row}
 use Rattle.alm_parse.specs.declared.line.Line36.{Line36}
 use Rattle.alm_tokens.specs.Tokens.{slice_of, is_symbol, span_at}
-use Rattle.alm_parse.specs.Refusals.{told, unless}
+use Rattle.m36_text.specs.Results.{unless}
+use Rattle.alm_parse.specs.Refusals.{told}
 use Rattle.alm_parse.specs.Operands.{operand_given}
 use Rattle.alm_parse.specs.Members.{symbols_given, numbers_given}
 use Rattle.alm_parse.specs.Pairs.{value_given, halves_given, block_given, section_given}

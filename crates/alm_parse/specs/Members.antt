@@ -10,7 +10,8 @@ use Rattle.alm_parse.specs.declared.refusal.Refusal.{Refusal}
 use Rattle.alm_tokens.specs.Tokens.{slice_of}
 use Rattle.alm_tokens.specs.Lists.{members, is_symbol_at, is_written_at, place_out}
 use Rattle.alm_tokens.specs.Numerals.{word_as}
-use Rattle.alm_parse.specs.Refusals.{refused, unless}
+use Rattle.m36_text.specs.Results.{unless}
+use Rattle.alm_parse.specs.Refusals.{refused}
 
 abbrev pub symbol_arg : Piece → Arg
 symbol_arg member = Symbol member.span

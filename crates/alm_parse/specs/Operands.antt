@@ -16,7 +16,8 @@ use Rattle.alm_tokens.specs.Expressions.{is_term_at, term_of}
 use Rattle.alm_tokens.specs.Lists.{place_out}
 use Rattle.alm_tokens.specs.Modifiers.{pr_number, tag_of}
 use Rattle.alm_parse.specs.Bodies.{place_of, body_of, is_body, body_pieces}
-use Rattle.alm_parse.specs.Refusals.{refused, unless}
+use Rattle.m36_text.specs.Results.{unless}
+use Rattle.alm_parse.specs.Refusals.{refused}
 
 -- what stands before the comma, and the tag of what stands behind it
 abbrev pub body_span : Span → Option ℕ → Span

@@ -20,11 +20,6 @@ refused text operand false over = Some (told text operand E2)
 refused text operand true (Some place) = Some (record { place = place; code = E4 })
 refused text operand true None = None
 
--- what is read where nothing is refused
-abbrev pub unless : {A : Type 0} → Option Refusal → A → Result A Refusal
-unless None value = Ok value
-unless (Some refusal) value = Err refusal
-
 -- What a reader answers is what the definition says, where want of memory may come at any time.
 abbrev pub Reads : {A : Type 0} → Result A Halt → Result A Refusal → Type 0
 Reads (Ok value) definition = definition ≡ Ok value

@@ -1,10 +1,11 @@
 -- The catalog that a boot text writes out, or why it does not.
 use Rattle.std.specs.Prelude.{ℕ, ◌≡◌, Bool, ◌&&◌, nat_eq, List, [], ◌∷◌, ◌++◌}
-use Rattle.std.specs.Prelude.{position, slice_get, slice_set, Option, Some, None, unwrap_or, Result}
+use Rattle.std.specs.Prelude.{position, slice_get, slice_set, Option, Some, unwrap_or, option_map, Result}
 use Rattle.std.specs.Prelude.{Ok, Err, IfSome}
 use Rattle.std.specs.List.{list_any}
 use Rattle.m36_text.specs.Texts.{is_text}
 use Rattle.m36_text.specs.Once.{with_once}
+use Rattle.m36_text.specs.Results.{unless}
 use Rattle.m36_dir.specs.declared.fault.CatalogFault.{CatalogFault}
 use Rattle.m36_dir.specs.declared.fault.CatalogFault.TheVariants as fault
 use Rattle.m36_dir.specs.declared.boot_line.BootLine.{BootLine}
@@ -120,8 +121,8 @@ fault_at n D5 = fault.D5 n
 fault_at n D6 = fault.D6 n
 
 abbrev pub catalog_by : Option (ℕ × BootCode) → CatalogFields → Result CatalogFields CatalogFault
-catalog_by None catalog = Ok catalog
-catalog_by (Some first) catalog = Err (fault_at first.0 first.1)
+catalog_by told catalog =
+    unless (option_map (λ (first : ℕ × BootCode). fault_at first.0 first.1) told) catalog
 
 unfoldable pub catalog_of : List ℕ → Result CatalogFields CatalogFault
 catalog_of text = catalog_by (first_code text) (catalog_in (all_lines text))

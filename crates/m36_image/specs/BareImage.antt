@@ -15,7 +15,7 @@
 -- outside core. The first line with a fault counts, and in it the least code.
 use Rattle.std.specs.Prelude.{ℕ, ◌+◌, ◌*◌, ◌&&◌, Bool, nat_le, nat_lt, List, [], ◌∷◌, ◌++◌}
 use Rattle.std.specs.Prelude.{length, drop, codes, Option, Some, None, Result, Ok, Err, unwrap_or}
-use Rattle.std.specs.Prelude.{if◌then◌else◌}
+use Rattle.std.specs.Prelude.{if◌then◌else◌, option_map}
 use Rattle.std.specs.List.{list_all, filter_map, range_with_len}
 use Rattle.std.specs.Result.{result_err, result_unwrap_or}
 use Rattle.m36_word.specs.declared.pair.Pair.{Pair}
@@ -24,6 +24,7 @@ use Rattle.m36_text.specs.Texts.{is_text}
 use Rattle.m36_text.specs.Lines.{lines_of, line_at, first_told, by_words}
 use Rattle.m36_text.specs.Numbers.{octal_in, octal_word_in, segment_number_in, word_number_in}
 use Rattle.m36_text.specs.Reading.{number_read}
+use Rattle.m36_text.specs.Results.{unless}
 use Rattle.m36_text.specs.declared.reading.NumberFault.{NumberFault}
 use Rattle.m36_text.specs.declared.reading.NumberFault.TheVariants.{T1, T2}
 use Rattle.m36_model.specs.Fields.{PprFields}
@@ -165,8 +166,7 @@ abbrev pub refusal_of : ℕ × ImageCode → Refusal
 refusal_of told = record { line = told.0; code = told.1 }
 
 abbrev pub image_by : Option (ℕ × ImageCode) → Image → Result Image Refusal
-image_by None image = Ok image
-image_by (Some told) image = Err (refusal_of told)
+image_by told image = unless (option_map refusal_of told) image
 
 -- the image that a file writes out, or why it does not
 unfoldable pub image_of : List ℕ → Result Image Refusal

@@ -2,13 +2,14 @@
 use Rattle.std.proofs.Common.{◌≡◌, ℕ, ◌*◌, List, [], ◌∷◌, ◌++◌, drop, replicate, Option, Some, Result, Ok, Err, sym, ap, ◌∙◌}
 use Rattle.m36_model.specs.Registers.{RegsFields}
 use Rattle.m36_text.specs.Lines.{lines_of, line_at, first_told}
+use Rattle.m36_text.specs.Results.{unless}
 use Rattle.m36_text.proofs.Telling.{told_earlier}
 use Rattle.m36_image.proofs.Images.{frames_are}
 use Rattle.m36_image.specs.BareImage.{core_line, frames_of}
 use Rattle.m36_image.specs.ImageState.{written_all}
 use Rattle.m36_image.specs.declared.refusal.ImageCode.{ImageCode}
 use Rattle.m36_procs.specs.ProcsFields.{ProcsFields}
-use Rattle.m36_procs.specs.ProcsFile.{codes_from, core_code, at_start, line_codes, processes_in, placed_in, turns_in, procs_in, procs_by, procs_given}
+use Rattle.m36_procs.specs.ProcsFile.{codes_from, core_code, at_start, line_codes, processes_in, placed_in, turns_in, procs_in, procs_given}
 use Rattle.m36_procs.specs.ProcsSays.{ProcsSays}
 use Rattle.m36_procs.specs.ReaderSays.{stands_of}
 use Rattle.m36_procs.specs.ReadingSays.{FaultSays, Begun, TookLines}
@@ -23,7 +24,7 @@ given_told :
     → first_told 1 (line_codes (lines_of text)) ≡ Some told → procs_given text ≡ Err told
 unfolding procs_given
 given_told text told e =
-    ap (λ f. procs_by f (procs_in (1024 * frames_of (lines_of text)) (drop 1 (lines_of text)))) e
+    ap (λ f. unless f (procs_in (1024 * frames_of (lines_of text)) (drop 1 (lines_of text)))) e
 
 says_told :
     (text : List ℕ) (fault : ProcsFault) (n : ℕ) (codes : List (Option Code))
@@ -79,6 +80,6 @@ procs_accepted text rest r new begun took =
     let regs : processes_in (drop 1 (lines_of text)) ≡ new.regs.items = ap processes_in begun.others ∙ ap (λ x. x ++ processes_in (lines_of rest)) (sym begun.regs) ∙ sym took.regs in
     let core : written_all (replicate (1024 * frames_of (lines_of text)) 0) (placed_in (drop 1 (lines_of text))) ≡ new.core = ap (λ n. written_all (replicate n 0) (placed_in (drop 1 (lines_of text)))) size ∙ ap (λ l. written_all (replicate (1024 * begun.frames) 0) (placed_in l)) begun.others ∙ ap (λ c. written_all c (placed_in (lines_of rest))) (sym begun.core) ∙ sym took.core in
     let schedule : turns_in (drop 1 (lines_of text)) ≡ new.schedule.items = ap turns_in begun.others ∙ ap (λ x. x ++ turns_in (lines_of rest)) (sym begun.schedule) ∙ sym took.schedule in
-    ap (λ f. procs_by f (procs_in (1024 * frames_of (lines_of text)) (drop 1 (lines_of text)))) (codes_behind text rest r begun ∙ took.fine) ∙ (λ k. Ok (procs_of (regs k) (core k) (schedule k)))
+    ap (λ f. unless f (procs_in (1024 * frames_of (lines_of text)) (drop 1 (lines_of text)))) (codes_behind text rest r begun ∙ took.fine) ∙ (λ k. Ok (procs_of (regs k) (core k) (schedule k)))
 
 pub ruleset accepting = (first_refused, later_refused, procs_accepted)

@@ -27,6 +27,7 @@ use Rattle.std.specs.Result.{result_err}
 use Rattle.m36_text.specs.Texts.{is_text}
 use Rattle.m36_text.specs.Lines.{lines_of, line_at, first_told, by_words}
 use Rattle.m36_text.specs.Numbers.{decimal_in, short_decimal_in}
+use Rattle.m36_text.specs.Results.{unless}
 use Rattle.m36_word.specs.declared.pair.Pair.{Pair}
 use Rattle.m36_model.specs.Fields.{PprFields}
 use Rattle.m36_model.specs.JointAudit.{most_processes}
@@ -209,14 +210,10 @@ procs_in size lines =
       schedule = turns_in lines;
     }
 
-abbrev pub procs_by : Option (ℕ × Code) → ProcsFields → Result ProcsFields (ℕ × Code)
-procs_by None procs = Ok procs
-procs_by (Some told) procs = Err told
-
 -- the processes and the schedule that a text writes out, or its first line that has a code, with
 -- the least code of that line
 unfoldable pub procs_given : List ℕ → Result ProcsFields (ℕ × Code)
 procs_given text =
-    procs_by
+    unless
     (first_told 1 (line_codes (lines_of text)))
     (procs_in (1024 * frames_of (lines_of text)) (drop 1 (lines_of text)))
