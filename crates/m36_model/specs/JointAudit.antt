@@ -5,7 +5,7 @@ use Rattle.std.specs.Prelude.{slice_get, Option, Some, None, Ok}
 use Rattle.m36_desc.specs.Fields.{DbrFields}
 use Rattle.m36_model.specs.Place.{wrapped, sdw_place}
 use Rattle.m36_model.specs.Audit.{Table, Sdws, Directory, Pages, IsOf, IsSegmentWord, IsAudited}
-use Rattle.m36_model.specs.Audit.{Finds, AreFindings}
+use Rattle.m36_model.specs.Audit.{Finds, noted, AreFindings}
 
 -- at most so many processes
 abbrev pub most_processes : ℕ
@@ -88,13 +88,16 @@ pub record JointFound : Type 0 where
   pub condition : ℕ
   pub place : ℕ
 
-abbrev pub of_process : ℕ → List (ℕ × ℕ) → List JointFound
-of_process i findings =
-    map (λ f. record { process = Some i; condition = f.0; place = f.1 }) findings
+abbrev pub found_of : Option ℕ → List (ℕ × ℕ) → List JointFound
+found_of process findings =
+    map (λ f. record { process = process; condition = f.0; place = f.1 }) findings
 
+abbrev pub of_process : ℕ → List (ℕ × ℕ) → List JointFound
+of_process i findings = found_of (Some i) findings
+
+-- what is found of a condition between processes
 abbrev pub between : ℕ → Option ℕ → List JointFound
-between condition None = []
-between condition (Some p) = record { process = None; condition = condition; place = p } ∷ []
+between condition place = found_of None (noted condition place)
 
 -- the findings of the processes from number i on, in order
 abbrev pub AreFindingsFrom : ℕ → List ℕ → List DbrFields → List JointFound → Type 0
