@@ -2,15 +2,14 @@
 use Rattle.std.specs.Prelude.{ℕ, ◌≡◌, List, slice_get, Some}
 use Rattle.m36_model.specs.Core.{core_store}
 use Rattle.m36_model.specs.Registers.{RegsFields}
-use Rattle.m36_model.specs.Schedule.{Processes, process_of, stepped}
-use Rattle.m36_model.specs.Step.{record_of}
+use Rattle.m36_model.specs.Schedule.{Processes, event}
 use Rattle.m36_model.specs.declared.record.StepRecord.{StepRecord}
 
 -- the event was a step of process i, which had the registers g
 pub record IsEvent (i : ℕ) (old new : Processes (List ℕ)) (told : StepRecord) (g : RegsFields)
     : Type 0 where
-  pub told_is : told ≡ record_of core_store (process_of old g)
-  pub state : new ≡ stepped core_store old i g
+  pub told_is : told ≡ (event core_store old i g).told
+  pub state : new ≡ (event core_store old i g).after
 
 abbrev pub EventSays : ℕ → Processes (List ℕ) → Processes (List ℕ) → StepRecord → Type 0
 EventSays i old new told =
