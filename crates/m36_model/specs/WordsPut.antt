@@ -24,8 +24,12 @@ part_written kind.Wr = Right
 part_written kind.Rwl = Left
 part_written _ = Whole
 
+-- a half has 18 bits
+abbrev pub FitsHalf : ℕ → Type 0
+FitsHalf w = w < 2 ^ 18
+
 abbrev pub IsHalf : List ℕ → Type 0
-IsHalf words = (length words ≡ 1) × All (λ w. w < 2 ^ 18) words
+IsHalf words = (length words ≡ 1) × All (λ w. FitsHalf w) words
 
 abbrev pub PutsFor : Operand → List ℕ → Type 0
 PutsFor kind.Wl words = IsHalf words

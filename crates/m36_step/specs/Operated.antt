@@ -9,7 +9,7 @@ use Rattle.m36_model.specs.Registers.{RegsFields}
 use Rattle.m36_model.specs.Results.{words_of_held}
 use Rattle.m36_model.specs.Step.{Performed, puts_with, operate}
 use Rattle.m36_model.specs.Store.{Spot, Ran, run}
-use Rattle.m36_model.specs.WordsPut.{IsHalf}
+use Rattle.m36_model.specs.WordsPut.{IsHalf, FitsHalf}
 use Rattle.m36_model.specs.declared.effects.Formed.{Formed}
 use Rattle.m36_model.specs.declared.effects.Held.{Held}
 use Rattle.m36_model.specs.declared.effects.Tally.{Tally}
@@ -69,11 +69,11 @@ PartFits part.Whole words = Unit {0}
 PartFits part.Left words = IsHalf words
 PartFits part.Right words = IsHalf words
 
--- a half has 18 bits
+-- a half has 18 bits, and a word whatever it has
 abbrev pub PartHolds : code.Part → ℕ → Type 0
 PartHolds part.Whole w = Unit {0}
-PartHolds part.Left w = w < 2 ^ 18
-PartHolds part.Right w = w < 2 ^ 18
+PartHolds part.Left w = FitsHalf w
+PartHolds part.Right w = FitsHalf w
 
 -- the words to be written lie in a core of this size
 pub record Lies (size : ℕ) (f : Formed) (put : Held) (o : Operated) : Type 0 where
