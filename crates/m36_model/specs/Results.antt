@@ -114,10 +114,17 @@ value Q g = g.q
 value AQ g = number_of (aq_pair g)
 value (X n) g = slice_index g.x n
 
+-- a number of 72 bits in two words
+abbrev pub upper_word : ℕ → ℕ
+upper_word v = v / 2 ^ 36
+
+abbrev pub lower_word : ℕ → ℕ
+lower_word v = v % 2 ^ 36
+
 unfoldable pub with_value : Working → ℕ → RegsFields → RegsFields
 with_value A v g = record g { a = v }
 with_value Q v g = record g { q = v }
-with_value AQ v g = record g { a = v / 2 ^ 36; q = v % 2 ^ 36 }
+with_value AQ v g = record g { a = upper_word v; q = lower_word v }
 with_value (X n) v g = record g { x = slice_set g.x n v }
 
 -- the operand in the register's width: the word, the pair, or bits 0 to 17 of the word
@@ -131,7 +138,7 @@ operand (X n) o = upper o
 abbrev pub words : Working → ℕ → List ℕ
 words A v = v ∷ []
 words Q v = v ∷ []
-words AQ v = v / 2 ^ 36 ∷ v % 2 ^ 36 ∷ []
+words AQ v = upper_word v ∷ lower_word v ∷ []
 words (X n) v = v ∷ []
 
 -- Indicators. Zero is on where the result is 0 and negative where its first bit is on; an indicator
