@@ -1,7 +1,7 @@
 -- The history of a machine whose turns are a function of its state: the first state, the state
 -- after the one turn from it, the state after the one turn from that, and so on.
-use Rattle.std.specs.Prelude.{ℕ, zero, suc, ◌≡◌, ◌-◌, ◌<◌, ◌≤◌, ◌^◌, ◌==◌, if◌then◌else◌}
-use Rattle.m36_step.specs.Counting.{counted}
+use Rattle.std.specs.Prelude.{ℕ, zero, suc, ◌≡◌, ◌-◌, ◌<◌, ◌≤◌, ◌==◌, if◌then◌else◌}
+use Rattle.m36_step.specs.Counting.{most_taken, counted}
 use Rattle.m36_step.specs.declared.turns.Turn.{Turn}
 use Rattle.m36_step.specs.declared.turns.Turn.TheVariants.{Full}
 use Rattle.m36_step.specs.declared.turns.BackAnswer.{BackAnswer}
@@ -26,7 +26,7 @@ standing_at after h = state_at after h.first h.taken
 -- A turn is that of the machine, but where no more steps can be counted.
 abbrev pub past_answer : {M : Type 0} → (M → Turn) → (M → M) → History M → Turn
 past_answer answer after h =
-    if h.taken == 2 ^ 64 - 1 then Full else answer (standing_at after h)
+    if h.taken == most_taken then Full else answer (standing_at after h)
 
 abbrev pub past_after : {M : Type 0} → (M → Turn) → (M → M) → History M → History M
 past_after answer after h =

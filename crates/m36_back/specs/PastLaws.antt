@@ -1,7 +1,8 @@
 -- Laws of a machine that goes back.
-use Rattle.std.specs.Prelude.{ℕ, ◌≡◌, ◌-◌, ◌^◌, ◌==◌, ◌⊎◌, Bool, true, false, if◌then◌else◌}
+use Rattle.std.specs.Prelude.{ℕ, ◌≡◌, ◌==◌, ◌⊎◌, Bool, true, false, if◌then◌else◌}
 use Rattle.std.proofs.Common.{inl, inr, subst}
 use Rattle.m36_step.specs.Answers.{IsDone, IsService, IsStepOrEnd}
+use Rattle.m36_step.specs.Counting.{most_taken}
 use Rattle.m36_step.specs.declared.turns.Turn.{Turn}
 use Rattle.m36_step.specs.declared.turns.Turn.TheVariants.{Stepped, Linked, Console, Ended, Full}
 use Rattle.m36_step.specs.declared.turns.Turn.TheVariants.{NoMemory}
@@ -41,5 +42,5 @@ pub past_apart :
     → IsService one → IsService two → ⊥
 past_apart answer after kept first second third one two turns further service other =
     no_service_if (after (standing_at after first) ≡ standing_at after first)
-    (first.taken == 2 ^ 64 - 1) (answer (standing_at after first))
+    (first.taken == most_taken) (answer (standing_at after first))
     (kept (standing_at after first)) (subst IsService turns.0 service)

@@ -1,7 +1,7 @@
 //! A machine that goes back.
 
 ghost use Rattle.std.specs.Prelude.{ℕ, ◌≡◌, ◌-◌, ◌<◌, ◌^◌, MatchResult};
-ghost use Rattle.m36_step.specs.Counting.{counted};
+ghost use Rattle.m36_step.specs.Counting.{most_taken, counted};
 
 use crate::kept::{Kept, drop_later, keep, nearest};
 use crate::replaying::replay;
@@ -67,7 +67,7 @@ impl<M: Replay + Drop> Past<M> {
 
 // The count of steps after a turn.
 fn count(taken: u64, turn: &Turn) -> u64
-    requires { taken < 2 ^ 64 - 1 }
+    requires { taken < most_taken }
     ensures { result ≡ counted taken turn.now }
 {
     match turn {

@@ -1,6 +1,7 @@
 //! What a session remembers.
 
 ghost use Rattle.std.specs.Prelude.{ℕ, ◌≡◌, ◌≤◌, ◌<◌, ◌-◌, ◌^◌};
+ghost use Rattle.m36_step.specs.Counting.{most_taken};
 ghost use Rattle.m36_debug.specs.Session.{next_of};
 ghost use Rattle.m36_debug.specs.Sitting.{new_sitting, sitting_after, sitting_before, sitting_with, has_taken, has_room};
 
@@ -73,7 +74,7 @@ impl Sitting {
     /// Notes a turn.
     #[tactic(auto, unfolding(crate::specs::Sitting::sitting_after))]
     pub(crate) fn note(&mut self, turn: &Turn)
-        requires { self.old.taken < 2 ^ 64 - 1 }
+        requires { self.old.taken < most_taken }
         ensures { self.new ≡ sitting_after self.old turn.now }
     {
         match turn {

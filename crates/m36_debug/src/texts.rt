@@ -1,6 +1,7 @@
 //! Lines that tell one thing, each put to the output.
 
 ghost use Rattle.std.specs.Prelude.{ℕ, ◌≡◌, ◌≤◌, ◌<◌, ◌-◌, ◌^◌, [], ◌∷◌, length};
+ghost use Rattle.m36_step.specs.Counting.{most_taken};
 ghost use Rattle.m36_outside.specs.Putting.{PutsPieces};
 ghost use Rattle.m36_debug.specs.Putting.{seen};
 ghost use Rattle.m36_debug.specs.SessionTexts.{where_line, break_line, seg_line, end_line, shown_limit, shown, unknown_line, turn_lines};
@@ -108,7 +109,7 @@ pub(crate) fn put_unknown<S: Sink>(out: &mut S, line: &[u8]) -> Put
 #[inline(never)]
 #[tactic(auto, unfolding(crate::specs::SessionTexts::turn_lines), using(crate::proofs::PutLaws::puts_nothing))]
 pub(crate) fn put_turn<S: Sink>(out: &mut S, taken: u64, turn: &Turn) -> Put
-    requires { taken < 2 ^ 64 - 1 }
+    requires { taken < most_taken }
     ensures { PutsPieces result (turn_lines taken turn.now)
         (seen (S.written out.old) (S.taken out.old) (S.faults out.old))
         (seen (S.written out.new) (S.taken out.new) (S.faults out.new)) }

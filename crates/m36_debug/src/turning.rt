@@ -3,6 +3,7 @@
 ghost use Rattle.std.specs.Prelude.{ℕ, ◌≡◌, ◌≤◌, ◌<◌, ◌+◌, ◌-◌, ◌^◌, [], ◌∷◌};
 ghost use Rattle.m36_debug.specs.Parts.{CameSays, CameServed, CameCounts, EndSays, came_of, told_turn};
 ghost use Rattle.m36_step.specs.Answers.{is_service};
+ghost use Rattle.m36_step.specs.Counting.{most_taken};
 ghost use Rattle.m36_outside.specs.Putting.{PutsPieces};
 ghost use Rattle.m36_debug.specs.Putting.{seen};
 ghost use Rattle.m36_debug.specs.Session.{Running, standing, turning, go_says, command_says};
@@ -68,7 +69,7 @@ fn put_command<S: Sink>(
     turn: &Turn,
     next: Further,
 ) -> Put
-    requires { taken < 2 ^ 64 - 1 }
+    requires { taken < most_taken }
     ensures { PutsPieces result (command_says command regs.now taken sitting.now turn.now next)
         (seen (S.written out.old) (S.taken out.old) (S.faults out.old))
         (seen (S.written out.new) (S.taken out.new) (S.faults out.new)) }
@@ -115,7 +116,7 @@ pub(crate) fn take_turn<M: Stepper, S: Sink>(
     turn: &mut Turn,
     out: &mut S,
 ) -> Came
-    requires { sitting.old.taken < 2 ^ 64 - 1 }
+    requires { sitting.old.taken < most_taken }
     ensures says { CameSays (turning M.regs M.content M.next M.went) result
         (standing sitting.old (Running run)) m.old sitting.new m.new
         (seen (S.written out.old) (S.taken out.old) (S.faults out.old))
