@@ -1,7 +1,7 @@
 -- Faults of links and of the linkage section.
 use Rattle.std.specs.Prelude.{ℕ, zero, suc, ◌+◌, ◌*◌, ◌%◌, ◌^◌, Bool, ◌&&◌, ◌||◌, not, nat_eq}
 use Rattle.std.specs.Prelude.{nat_lt, nat_le, if◌then◌else◌, List, length, slice_index, Option}
-use Rattle.std.specs.Prelude.{Some, None}
+use Rattle.std.specs.Prelude.{Some, None, option_map}
 use Rattle.obj36_parts.specs.Halves.{left, right}
 use Rattle.obj36_parts.specs.ObjectSegment.{is_newer_version, has_name, has_section, last_place}
 use Rattle.obj36_parts.specs.ObjectSegment.{head_words, link_head}
@@ -60,8 +60,7 @@ linkage_fault version d k =
 -- ---- O7, whose places count from the list's word 0
 
 abbrev pub behind : ℕ → Option ℕ → Option ℕ
-behind from None = None
-behind from (Some p) = Some (from + p)
+behind from place = option_map (λ p. from + p) place
 
 unfoldable pub links_fault : ℕ → ℕ → List ℕ → ℕ → List ℕ → Option ℕ
 links_fault version d_from d k_from k =
