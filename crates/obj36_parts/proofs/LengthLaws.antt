@@ -6,7 +6,7 @@ use Rattle.obj36_parts.specs.PartsFields.{PartsFields}
 use Rattle.obj36_parts.specs.declared.definition.Named.{Named}
 use Rattle.obj36_parts.specs.Names.{with_names, all_name_words}
 use Rattle.obj36_parts.specs.ObjectSegment.{is_newer, inner_statics, outer_statics, definition_names, all_link_names, definition_words, expression_words, definition_part, definition_section, head_words, definition_head, expressions_behind, link_words, linkage_part, linkage_section, relocation_words, symbol_part, symbol_section, map_part, map_words, words_of, is_well_formed}
-use Rattle.obj36_parts.specs.Sizes.{names_length, HasShortLists}
+use Rattle.obj36_parts.specs.Sizes.{names_length, HasShortLists, StaticsPastLinks}
 use Rattle.obj36_parts.proofs.Formed.{is_formed}
 
 pub length-definition_words : (names : List (List ℕ)) (base : ℕ) (ds : List Named) (at : ℕ) → length (definition_words names base ds at) ≡ 2 * length ds
@@ -41,6 +41,20 @@ pub length-linkage_part : (statics : List ℕ) (ls : List LinkFields) (expressio
 unfolding linkage_part
 length-linkage_part statics ls expressions =
     omega (arith, length-append statics (link_words ls (head_words + length statics) expressions), length-link_words ls (head_words + length statics) expressions)
+
+-- an object with a static section has no static words in the linkage section
+no_inner : (newer : Bool) (statics : List ℕ) → newer ≡ true → length (cond newer [] statics) ≡ 0
+no_inner true statics e = refl
+no_inner false statics e = absurd (true≢false (sym e))
+
+pub statics_past_links : StaticsPastLinks
+unfolding linkage_section
+statics_past_links p newer =
+    omega (
+      arith,
+      length-linkage_part (inner_statics p) p.links (expressions_behind (length p.definitions)),
+      no_inner (is_newer p) p.statics newer,
+    )
 
 pub length-relocation_words : (rs : List RelocFields) → length (relocation_words rs) ≡ length rs
 unfolding relocation_words

@@ -186,6 +186,10 @@ linkage_section p =
 abbrev pub first_link : PartsFields → ℕ
 first_link p = links_behind (length (inner_statics p))
 
+-- where the static section is laid, seen from the linkage section, which has so many links
+abbrev pub statics_past : ℕ → ℕ
+statics_past links = head_words + 2 * links
+
 -- ---- the symbol section
 
 -- the parts of a word that a relocation may name: its left half, its right half, and bits 3 to 17

@@ -1,9 +1,10 @@
--- How many words an object takes.
-use Rattle.std.specs.Prelude.{ℕ, ◌+◌, ◌^◌, ◌<◌, List, [], ◌∷◌, length, if◌then◌else◌}
+-- How many words an object takes, and its linkage section.
+use Rattle.std.specs.Prelude.{ℕ, ◌≡◌, ◌+◌, ◌^◌, ◌<◌, true, List, [], ◌∷◌, length, if◌then◌else◌}
 use Rattle.obj36_parts.specs.PartsFields.{PartsFields}
 use Rattle.obj36_parts.specs.declared.definition.Named.{Named}
 use Rattle.obj36_parts.specs.Names.{with_names, name_length, all_name_words}
-use Rattle.obj36_parts.specs.ObjectSegment.{has_definition}
+use Rattle.obj36_parts.specs.ObjectSegment.{has_definition, is_newer, linkage_section}
+use Rattle.obj36_parts.specs.ObjectSegment.{linkage_length}
 
 -- the words of each name once
 unfoldable pub names_length : List (List ℕ) → ℕ
@@ -30,3 +31,9 @@ pub record HasShortLists (p : PartsFields) : Type 0 where
   pub definitions : length p.definitions < 2 ^ 32
   pub links : length p.links < 2 ^ 32
   pub relocations : length p.relocations < 2 ^ 32
+
+-- The linkage section of an object that has a static section ends where that one is laid.
+abbrev pub StaticsPastLinks : Type 0
+StaticsPastLinks =
+    (p : PartsFields) → is_newer p ≡ true
+    → length (linkage_section p) ≡ linkage_length 0 (length p.links)
