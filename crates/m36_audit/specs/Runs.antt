@@ -48,9 +48,21 @@ abbrev pub run_of : List ℕ → Result SdwFields Refusal → ℕ → Option Run
 run_of core (Err e) piece = None
 run_of core (Ok d) piece = run_ordered (in_order d) core d piece
 
--- the runs of all segments by numbers, 256 of them for each segment
+-- The most pages of a segment. Each segment has as many numbers of runs, so that those of a process,
+-- in which segment numbers have 15 bits, are 2^23.
+abbrev pub pages_of_segment : ℕ
+pages_of_segment = 256
+
+abbrev pub runs_of_segment : ℕ
+runs_of_segment = pages_of_segment
+
+abbrev pub runs_of_process : ℕ
+runs_of_process = 2 ^ 23
+
+-- the runs of all segments by these numbers
 unfoldable pub run : List ℕ → DbrFields → ℕ → Option Run
-run core dbr k = run_of core (core_sdw core dbr (k / 256)) (k % 256)
+run core dbr k =
+    run_of core (core_sdw core dbr (k / runs_of_segment)) (k % runs_of_segment)
 
 -- how many numbers below n pass a test
 unfoldable pub count_below : (ℕ → Bool) → ℕ → ℕ
@@ -97,7 +109,6 @@ pub record AreOpen (runs : ℕ → Option Run) (n a open_runs : ℕ) : Type 0 wh
 pub record InOrder (runs : ℕ → Option Run) : Type 0 where
   pub each : (i : ℕ) (r : Run) → runs i ≡ Some r → r.first ≤ r.end
 
--- how many of the runs of all segments cover a word; segment numbers have 15 bits, so there are
--- 2^23 numbers of runs
+-- how many of the runs of all segments cover a word
 abbrev pub coverage : List ℕ → DbrFields → ℕ → ℕ
-coverage core dbr a = count_below (λ i. covers a (run core dbr i)) (2 ^ 23)
+coverage core dbr a = count_below (λ i. covers a (run core dbr i)) runs_of_process

@@ -10,7 +10,7 @@ use Rattle.m36_model.specs.Place.{in_bounds}
 use Rattle.m36_model.specs.Audit.{Table, Sdws, Directory, Pages, IsOf, IsSegmentWord}
 use Rattle.m36_model.specs.declared.outcome.Refusal.{Refusal}
 use Rattle.m36_audit.specs.declared.run.Run.{Run}
-use Rattle.m36_audit.specs.Runs.{run, counted, count_below, covers}
+use Rattle.m36_audit.specs.Runs.{runs_of_segment, runs_of_process, run, counted, count_below, covers}
 use Rattle.m36_audit.specs.Told.{several, joined, joined_at}
 
 -- The number of a table among those of all processes: two processes have the same one exactly where
@@ -97,8 +97,8 @@ pub record AreOwned (test : ℕ → Bool) (number a : ℕ) (old new : List ℕ) 
   pub before : (q : ℕ) → q < a → slice_index new q ≡ owned (test q) (slice_index old q) number
   pub after : (q : ℕ) → a ≤ q → slice_index new q ≡ slice_index old q
 
--- The runs of all segments of all processes whose descriptors are the first with their words: 2^23
--- numbers for each process.
+-- The runs of all segments of all processes whose descriptors are the first with their words, by
+-- numbers: those of each process follow those of the one before.
 abbrev pub first_run : Bool → Option Run → Option Run
 first_run true r = r
 first_run false r = None
@@ -109,8 +109,8 @@ run_of_process core (Some dbr) n = run core dbr n
 
 unfoldable pub joint_run : List ℕ → List DbrFields → List ℕ → ℕ → Option Run
 joint_run core dbrs firsts n =
-    first_run (slice_index firsts (n / 256) == n / 256)
-    (run_of_process core (slice_get dbrs (n / 2 ^ 23)) (n % 2 ^ 23))
+    first_run (slice_index firsts (n / runs_of_segment) == n / runs_of_segment)
+    (run_of_process core (slice_get dbrs (n / runs_of_process)) (n % runs_of_process))
 
 -- the descriptor segment has descriptors for so many segments
 pub record IsSegmentCount (dbr : DbrFields) (n : ℕ) : Type 0 where
@@ -150,4 +150,4 @@ is_between tables segments identities =
 -- how many runs of first segments cover a word
 abbrev pub joint_coverage : List ℕ → List DbrFields → List ℕ → ℕ → ℕ
 joint_coverage core dbrs firsts a =
-    count_below (λ i. covers a (joint_run core dbrs firsts i)) (2 ^ 23 * length dbrs)
+    count_below (λ i. covers a (joint_run core dbrs firsts i)) (runs_of_process * length dbrs)

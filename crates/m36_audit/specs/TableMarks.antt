@@ -4,6 +4,7 @@ use Rattle.std.specs.Prelude.{length, slice_index, slice_set, Option, Some, None
 use Rattle.m36_desc.specs.Fields.{DbrFields}
 use Rattle.m36_model.specs.Audit.{IsSdwWord, IsDirectoryWord, IsPageWord, Table, Sdws, Directory}
 use Rattle.m36_model.specs.Audit.{Pages, InTwo, Finds}
+use Rattle.m36_audit.specs.Runs.{pages_of_segment}
 
 -- the number that stands for a table in the marks; 0 stands for none
 abbrev pub number : Table → ℕ
@@ -48,11 +49,11 @@ pub record AreMarked (Of : Table → ℕ → Type 0) (size : ℕ) (tables : List
   pub least_two : Finds (InTwo Of size) least
 
 -- The table words that were marked so far: of the descriptors of so many segments, of the
--- descriptor segment's page table for so many segments, and of so many pages, 256 of them for each
--- segment.
+-- descriptor segment's page table for so many segments, and of so many pages, as many of them for
+-- each segment as one may have.
 abbrev pub SoFar : List ℕ → DbrFields → ℕ → ℕ → ℕ → Table → ℕ → Type 0
 SoFar core dbr sdws directories pages Sdws a = (seg : ℕ) × (seg < sdws) × IsSdwWord core dbr seg a
 SoFar core dbr sdws directories pages Directory a = (seg : ℕ) × (seg < directories)
     × IsDirectoryWord dbr seg a
-SoFar core dbr sdws directories pages (Pages seg) a = (page : ℕ) × (256 * seg + page < pages)
-    × IsPageWord core dbr seg page a
+SoFar core dbr sdws directories pages (Pages seg) a = (page : ℕ)
+    × (pages_of_segment * seg + page < pages) × IsPageWord core dbr seg page a

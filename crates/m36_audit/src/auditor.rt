@@ -6,7 +6,7 @@ ghost use Rattle.m36_model.specs.Core.{core_store, core_tables};
 ghost use Rattle.m36_model.specs.Isolation.{Isolated};
 ghost use Rattle.m36_audit.specs.Findings.{pairs};
 ghost use Rattle.m36_audit.specs.TableMarks.{AreMarked};
-ghost use Rattle.m36_audit.specs.Runs.{run, AreCounted};
+ghost use Rattle.m36_audit.specs.Runs.{runs_of_process, run, AreCounted};
 
 use crate::breaking::{Condition, first_segment};
 use crate::run::RunCounts;
@@ -26,7 +26,7 @@ use std::alloc::Global;
 pub(crate) fn found(marks: &TableMarks, counts: &RunCounts, core: &Core, dbr: Dbr) -> Verdict
     requires marked { AreMarked (IsOf core.now dbr) (length core.now) marks.now.tables.items
         marks.now.least }
-    requires counted { AreCounted (run core.now dbr) (2 ^ 23) (length core.now)
+    requires counted { AreCounted (run core.now dbr) runs_of_process (length core.now)
         counts.now.starts.items counts.now.stops.items }
     ensures { AreFindings core.now dbr (pairs result.findings.items) }
 {

@@ -4,6 +4,7 @@ ghost use Rattle.std.specs.Prelude.{ℕ, ◌≡◌, ◌+◌, ◌*◌, ◌/◌, �
 ghost use Rattle.m36_desc.specs.Fields.{SdwFields};
 ghost use Rattle.m36_model.specs.JointAudit.{most_processes};
 ghost use Rattle.m36_model.specs.Place.{directory_at, sdw_place, core_sdw};
+ghost use Rattle.m36_audit.specs.Runs.{pages_of_segment};
 ghost use Rattle.m36_audit.specs.Shares.{descriptor_told, directory_told, pages_told, page_table_told, live_told, segment_told, segments_told, IsSegmentCount};
 
 use crate::told::Told;
@@ -40,7 +41,7 @@ fn tell_directory(told: &mut Told, dbr: Dbr, seg: u16, number: u32)
 /// Tells so many words of a segment's page table.
 #[tactic(auto, unfolding(crate::specs::Shares::pages_told))]
 fn tell_pages(told: &mut Told, sdw: &Sdw, pages: u32, number: u32)
-    requires { pages ≤ 256 }
+    requires { pages ≤ pages_of_segment }
     ensures { told.new.values.items ≡ pages_told number sdw.now pages told.old.values.items }
 {
     for page in 0..pages {

@@ -4,7 +4,7 @@ ghost use Rattle.std.specs.Prelude.{ℕ, ◌≡◌, ◌+◌, ◌*◌, ◌/◌, �
 ghost use Rattle.m36_desc.specs.Access.{in_order};
 ghost use Rattle.m36_model.specs.JointAudit.{most_processes};
 ghost use Rattle.m36_model.specs.Place.{core_sdw};
-ghost use Rattle.m36_audit.specs.Runs.{run_by, AreCounted};
+ghost use Rattle.m36_audit.specs.Runs.{runs_of_segment, runs_of_process, run_by, AreCounted};
 ghost use Rattle.m36_audit.specs.Shares.{joint_run, piece_count, starts_with, stops_with, HasRoom};
 
 use crate::live::live;
@@ -16,7 +16,7 @@ use m36_tables::{in_order, segment_count};
 
 /// How many runs a segment may have.
 fn pieces(sdw: &Sdw) -> u32
-    ensures most { result ≤ 256 }
+    ensures most { result ≤ runs_of_segment }
     ensures value { result ≡ piece_count sdw.now }
 {
     if sdw.unpaged {
@@ -68,12 +68,12 @@ fn count_pieces(
 )
     requires few { length dbrs.now ≤ most_processes }
     requires small { number < 2 ^ 18 }
-    requires runs { (piece : ℕ) → piece < 256
-        → joint_run core.now dbrs.now firsts.now.items (256 * number + piece)
+    requires runs { (piece : ℕ) → piece < runs_of_segment
+        → joint_run core.now dbrs.now firsts.now.items (runs_of_segment * number + piece)
         ≡ run_by sdw.now.unpaged core.now sdw.now piece }
-    requires before { AreCounted (joint_run core.now dbrs.now firsts.now.items) (256 * number)
+    requires before { AreCounted (joint_run core.now dbrs.now firsts.now.items) (runs_of_segment * number)
         (length core.now) counts.old.starts.items counts.old.stops.items }
-    ensures { AreCounted (joint_run core.now dbrs.now firsts.now.items) (256 * (number + 1))
+    ensures { AreCounted (joint_run core.now dbrs.now firsts.now.items) (runs_of_segment * (number + 1))
         (length core.now) counts.new.starts.items counts.new.stops.items }
 {
     for piece in 0..pieces(sdw) {
@@ -95,10 +95,10 @@ fn count_first(
     requires seg { seg < 2 ^ 15 }
     requires there { length firsts.now.items ≡ 2 ^ 15 * length dbrs.now }
     requires before { AreCounted (joint_run core.now dbrs.now firsts.now.items)
-        (256 * (2 ^ 15 * k + seg)) (length core.now) counts.old.starts.items
+        (runs_of_segment * (2 ^ 15 * k + seg)) (length core.now) counts.old.starts.items
         counts.old.stops.items }
     ensures { AreCounted (joint_run core.now dbrs.now firsts.now.items)
-        (256 * (2 ^ 15 * k + seg + 1)) (length core.now) counts.new.starts.items
+        (runs_of_segment * (2 ^ 15 * k + seg + 1)) (length core.now) counts.new.starts.items
         counts.new.stops.items }
 {
     let number = (1 << 15) * k as u32 + seg as u32;
@@ -121,10 +121,10 @@ fn count_process(counts: &mut RunCounts, core: &Core, dbrs: &[Dbr], firsts: &Vec
     requires process { k < length dbrs.now }
     requires there { length firsts.now.items ≡ 2 ^ 15 * length dbrs.now }
     requires before { AreCounted (joint_run core.now dbrs.now firsts.now.items)
-        (256 * (2 ^ 15 * k)) (length core.now) counts.old.starts.items
+        (runs_of_segment * (2 ^ 15 * k)) (length core.now) counts.old.starts.items
         counts.old.stops.items }
     ensures { AreCounted (joint_run core.now dbrs.now firsts.now.items)
-        (256 * (2 ^ 15 * (k + 1))) (length core.now) counts.new.starts.items
+        (runs_of_segment * (2 ^ 15 * (k + 1))) (length core.now) counts.new.starts.items
         counts.new.stops.items }
 {
     for seg in 0..segment_count(dbrs[k]) {
@@ -139,7 +139,7 @@ pub(crate) fn count_processes(counts: &mut RunCounts, core: &Core, dbrs: &[Dbr],
     requires before { AreCounted (joint_run core.now dbrs.now firsts.now.items) 0 (length core.now)
         counts.old.starts.items counts.old.stops.items }
     ensures { AreCounted (joint_run core.now dbrs.now firsts.now.items)
-        (2 ^ 23 * length dbrs.now) (length core.now) counts.new.starts.items
+        (runs_of_process * length dbrs.now) (length core.now) counts.new.starts.items
         counts.new.stops.items }
 {
     for k in 0..dbrs.len() {

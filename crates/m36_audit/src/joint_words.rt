@@ -6,7 +6,7 @@ ghost use Rattle.std.specs.Prelude.{ℕ, ◌≡◌, ◌*◌, ◌<◌, ◌≤◌,
 ghost use Rattle.std.specs.Bool.{Decides};
 ghost use Rattle.m36_model.specs.Audit.{Finds};
 ghost use Rattle.m36_model.specs.JointAudit.{IsJointTable, IsJointSegment, most_processes};
-ghost use Rattle.m36_audit.specs.Runs.{AreCounted, AreOpen, count_below, covers};
+ghost use Rattle.m36_audit.specs.Runs.{AreCounted, AreOpen, count_below, covers, runs_of_process};
 ghost use Rattle.m36_audit.specs.Classes.{AreClasses};
 ghost use Rattle.m36_audit.specs.Told.{AreTold, several};
 ghost use Rattle.m36_audit.specs.Shares.{joint_run, Below, Identified, TableOwned, SegmentOwned, is_between, joint_coverage};
@@ -64,14 +64,14 @@ fn open_joint(
 ) -> u32
     requires few { length dbrs.now ≤ most_processes }
     requires counted { AreCounted (joint_run core.now dbrs.now firsts.now.items)
-        (2 ^ 23 * length dbrs.now) (length core.now) counts.now.starts.items
+        (runs_of_process * length dbrs.now) (length core.now) counts.now.starts.items
         counts.now.stops.items }
     requires before { AreOpen (joint_run core.now dbrs.now firsts.now.items)
-        (2 ^ 23 * length dbrs.now) a open_runs }
+        (runs_of_process * length dbrs.now) a open_runs }
     requires inside { a < length core.now }
     ensures value { result ≡ joint_coverage core.now dbrs.now firsts.now.items a }
     ensures after { AreOpen (joint_run core.now dbrs.now firsts.now.items)
-        (2 ^ 23 * length dbrs.now) (a + 1) result }
+        (runs_of_process * length dbrs.now) (a + 1) result }
 {
     let begin = count_at(&counts.starts, a);
     let end = count_at(&counts.stops, a);
@@ -99,7 +99,7 @@ pub(crate) fn on_joint_segment(
     requires segments { AreTold (Below (SegmentOwned core.now dbrs.now) (length dbrs.now))
         (length core.now) segments.now.values.items }
     requires counted { AreCounted (joint_run core.now dbrs.now firsts.now.items)
-        (2 ^ 23 * length dbrs.now) (length core.now) counts.now.starts.items
+        (runs_of_process * length dbrs.now) (length core.now) counts.now.starts.items
         counts.now.stops.items }
     ensures { Finds (IsJointSegment core.now dbrs.now) result }
 {

@@ -4,7 +4,7 @@ ghost use Rattle.std.specs.Prelude.{ℕ, ◌≡◌, ◌+◌, ◌<◌, ◌≤◌,
 ghost use Rattle.m36_model.specs.Audit.{IsOf};
 ghost use Rattle.m36_model.specs.JointAudit.{most_processes};
 ghost use Rattle.m36_audit.specs.TableMarks.{AreMarked};
-ghost use Rattle.m36_audit.specs.Runs.{run, coverage, AreCounted};
+ghost use Rattle.m36_audit.specs.Runs.{runs_of_process, run, coverage, AreCounted};
 ghost use Rattle.m36_audit.specs.Told.{joined_at};
 ghost use Rattle.m36_audit.specs.Shares.{owned_at, AreOwned};
 
@@ -36,7 +36,7 @@ pub(crate) fn tell_owners(
 )
     requires process { k < most_processes }
     requires marked { length marks.now.tables.items ≡ length core.now }
-    requires counted { AreCounted (run core.now dbr) (2 ^ 23) (length core.now)
+    requires counted { AreCounted (run core.now dbr) runs_of_process (length core.now)
         counts.now.starts.items counts.now.stops.items }
     requires tables_len { length tables.old.values.items ≡ length core.now }
     requires segments_len { length segments.old.values.items ≡ length core.now }

@@ -3,7 +3,7 @@
 ghost use Rattle.std.specs.Prelude.{ℕ, ◌≡◌, ◌+◌, ◌*◌, ◌/◌, ◌<◌, ◌≤◌, ◌^◌, true, false, Ok, length};
 ghost use Rattle.m36_desc.specs.Access.{in_order};
 ghost use Rattle.m36_model.specs.Place.{core_sdw, last_page};
-ghost use Rattle.m36_audit.specs.Runs.{words, whole_run, page_run, run, AreCounted};
+ghost use Rattle.m36_audit.specs.Runs.{words, whole_run, page_run, runs_of_segment, runs_of_process, run, AreCounted};
 
 use crate::live::live;
 use crate::run::{Run, RunCounts};
@@ -65,9 +65,9 @@ fn count_whole(counts: &mut RunCounts, core: &Core, dbr: Dbr, seg: u16, sdw: &Sd
     requires live { core_sdw core.now dbr seg ≡ Ok sdw.now }
     requires order { in_order sdw.now ≡ true }
     requires whole { sdw.now.unpaged ≡ true }
-    requires before { AreCounted (run core.now dbr) (256 * seg) (length core.now)
+    requires before { AreCounted (run core.now dbr) (runs_of_segment * seg) (length core.now)
         counts.old.starts.items counts.old.stops.items }
-    ensures { AreCounted (run core.now dbr) (256 * (seg + 1)) (length core.now)
+    ensures { AreCounted (run core.now dbr) (runs_of_segment * (seg + 1)) (length core.now)
         counts.new.starts.items counts.new.stops.items }
 {
     counts.add(first_run(sdw));
@@ -81,10 +81,10 @@ fn count_page(counts: &mut RunCounts, core: &Core, dbr: Dbr, seg: u16, sdw: &Sdw
     requires order { in_order sdw.now ≡ true }
     requires paged { sdw.now.unpaged ≡ false }
     requires page { page ≤ last_page sdw.now }
-    requires few { page < 256 }
-    requires before { AreCounted (run core.now dbr) (256 * seg + page) (length core.now)
+    requires few { page < runs_of_segment }
+    requires before { AreCounted (run core.now dbr) (runs_of_segment * seg + page) (length core.now)
         counts.old.starts.items counts.old.stops.items }
-    ensures { AreCounted (run core.now dbr) (256 * seg + page + 1) (length core.now)
+    ensures { AreCounted (run core.now dbr) (runs_of_segment * seg + page + 1) (length core.now)
         counts.new.starts.items counts.new.stops.items }
 {
     match page_run(core, sdw, page) {
@@ -99,9 +99,9 @@ fn count_pages(counts: &mut RunCounts, core: &Core, dbr: Dbr, seg: u16, sdw: &Sd
     requires live { core_sdw core.now dbr seg ≡ Ok sdw.now }
     requires order { in_order sdw.now ≡ true }
     requires paged { sdw.now.unpaged ≡ false }
-    requires before { AreCounted (run core.now dbr) (256 * seg) (length core.now)
+    requires before { AreCounted (run core.now dbr) (runs_of_segment * seg) (length core.now)
         counts.old.starts.items counts.old.stops.items }
-    ensures { AreCounted (run core.now dbr) (256 * (seg + 1)) (length core.now)
+    ensures { AreCounted (run core.now dbr) (runs_of_segment * (seg + 1)) (length core.now)
         counts.new.starts.items counts.new.stops.items }
 {
     let pages = sdw.bound as u32 / 64 + 1;
@@ -113,9 +113,9 @@ fn count_pages(counts: &mut RunCounts, core: &Core, dbr: Dbr, seg: u16, sdw: &Sd
 /// Counts the runs of a segment, if it is live and its brackets are in order.
 fn count_segment(counts: &mut RunCounts, core: &Core, dbr: Dbr, seg: u16)
     requires seg { seg < 2 ^ 15 }
-    requires before { AreCounted (run core.now dbr) (256 * seg) (length core.now)
+    requires before { AreCounted (run core.now dbr) (runs_of_segment * seg) (length core.now)
         counts.old.starts.items counts.old.stops.items }
-    ensures { AreCounted (run core.now dbr) (256 * (seg + 1)) (length core.now)
+    ensures { AreCounted (run core.now dbr) (runs_of_segment * (seg + 1)) (length core.now)
         counts.new.starts.items counts.new.stops.items }
 {
     match live(core, dbr, seg) {
@@ -136,7 +136,7 @@ fn count_segment(counts: &mut RunCounts, core: &Core, dbr: Dbr, seg: u16)
 pub(crate) fn count_segments(counts: &mut RunCounts, core: &Core, dbr: Dbr)
     requires before { AreCounted (run core.now dbr) 0 (length core.now) counts.old.starts.items
         counts.old.stops.items }
-    ensures { AreCounted (run core.now dbr) (2 ^ 23) (length core.now) counts.new.starts.items
+    ensures { AreCounted (run core.now dbr) runs_of_process (length core.now) counts.new.starts.items
         counts.new.stops.items }
 {
     for seg in 0..segment_count(dbr) {

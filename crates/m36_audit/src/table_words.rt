@@ -4,6 +4,7 @@
 ghost use Rattle.std.specs.Prelude.{ℕ, ◌≡◌, ◌+◌, ◌*◌, ◌/◌, ◌<◌, ◌≤◌, ◌^◌, true, false, Ok, length};
 ghost use Rattle.m36_model.specs.Audit.{IsOf};
 ghost use Rattle.m36_model.specs.Place.{core_sdw, page_at, in_bounds};
+ghost use Rattle.m36_audit.specs.Runs.{pages_of_segment};
 ghost use Rattle.m36_audit.specs.TableMarks.{AreMarked, SoFar};
 
 use crate::live::live;
@@ -15,9 +16,9 @@ use m36_tables::{descriptor_place, directory_at, page_at, segment_count, wrapped
 /// Marks the two words of a segment's descriptor.
 fn mark_descriptor(marks: &mut TableMarks, core: &Core, dbr: Dbr, seg: u16)
     requires seg { seg < 2 ^ 15 }
-    requires before { AreMarked (SoFar core.now dbr seg seg (256 * seg)) (length core.now)
+    requires before { AreMarked (SoFar core.now dbr seg seg (pages_of_segment * seg)) (length core.now)
         marks.old.tables.items marks.old.least }
-    ensures { AreMarked (SoFar core.now dbr (seg + 1) seg (256 * seg)) (length core.now)
+    ensures { AreMarked (SoFar core.now dbr (seg + 1) seg (pages_of_segment * seg)) (length core.now)
         marks.new.tables.items marks.new.least }
 {
     match descriptor_place(core, dbr, seg) {
@@ -33,9 +34,9 @@ fn mark_descriptor(marks: &mut TableMarks, core: &Core, dbr: Dbr, seg: u16)
 fn mark_directory(marks: &mut TableMarks, core: &Core, dbr: Dbr, seg: u16)
     requires seg { seg < 2 ^ 15 }
     requires bounds { in_bounds dbr seg ≡ true }
-    requires before { AreMarked (SoFar core.now dbr (seg + 1) seg (256 * seg)) (length core.now)
+    requires before { AreMarked (SoFar core.now dbr (seg + 1) seg (pages_of_segment * seg)) (length core.now)
         marks.old.tables.items marks.old.least }
-    ensures { AreMarked (SoFar core.now dbr (seg + 1) (seg + 1) (256 * seg)) (length core.now)
+    ensures { AreMarked (SoFar core.now dbr (seg + 1) (seg + 1) (pages_of_segment * seg)) (length core.now)
         marks.new.tables.items marks.new.least }
 {
     if !dbr.unpaged {
@@ -48,9 +49,9 @@ fn mark_page_table(marks: &mut TableMarks, core: &Core, dbr: Dbr, seg: u16, sdw:
     requires seg { seg < 2 ^ 15 }
     requires live { core_sdw core.now dbr seg ≡ Ok sdw.now }
     requires paged { sdw.now.unpaged ≡ false }
-    requires before { AreMarked (SoFar core.now dbr (seg + 1) (seg + 1) (256 * seg))
+    requires before { AreMarked (SoFar core.now dbr (seg + 1) (seg + 1) (pages_of_segment * seg))
         (length core.now) marks.old.tables.items marks.old.least }
-    ensures { AreMarked (SoFar core.now dbr (seg + 1) (seg + 1) (256 * (seg + 1))) (length core.now)
+    ensures { AreMarked (SoFar core.now dbr (seg + 1) (seg + 1) (pages_of_segment * (seg + 1))) (length core.now)
         marks.new.tables.items marks.new.least }
 {
     let pages = sdw.bound as u32 / 64 + 1;
@@ -62,9 +63,9 @@ fn mark_page_table(marks: &mut TableMarks, core: &Core, dbr: Dbr, seg: u16, sdw:
 /// Marks the words of a segment's page table, if it has one.
 fn mark_pages(marks: &mut TableMarks, core: &Core, dbr: Dbr, seg: u16)
     requires seg { seg < 2 ^ 15 }
-    requires before { AreMarked (SoFar core.now dbr (seg + 1) (seg + 1) (256 * seg))
+    requires before { AreMarked (SoFar core.now dbr (seg + 1) (seg + 1) (pages_of_segment * seg))
         (length core.now) marks.old.tables.items marks.old.least }
-    ensures { AreMarked (SoFar core.now dbr (seg + 1) (seg + 1) (256 * (seg + 1))) (length core.now)
+    ensures { AreMarked (SoFar core.now dbr (seg + 1) (seg + 1) (pages_of_segment * (seg + 1))) (length core.now)
         marks.new.tables.items marks.new.least }
 {
     match live(core, dbr, seg) {

@@ -5,7 +5,7 @@ ghost use Rattle.std.specs.Prelude.{ℕ, ◌≡◌, ◌<◌, ◌^◌, ◌+◌, �
 ghost use Rattle.std.specs.Bool.{Decides};
 ghost use Rattle.m36_model.specs.Audit.{Finds, IsOf, IsTableAndSegment, IsInTwoSegments};
 ghost use Rattle.m36_audit.specs.TableMarks.{AreMarked};
-ghost use Rattle.m36_audit.specs.Runs.{run, coverage, AreCounted, AreOpen};
+ghost use Rattle.m36_audit.specs.Runs.{runs_of_process, run, coverage, AreCounted, AreOpen};
 
 use crate::run::RunCounts;
 use crate::tables::TableMarks;
@@ -30,12 +30,12 @@ pub(crate) fn mark_at(marks: &TableMarks, a: u32) -> u16
 
 /// How many runs cover a word, from how many were open before it.
 pub(crate) fn open_at(counts: &RunCounts, core: &Core, dbr: Dbr, a: u32, open_runs: u32) -> u32
-    requires counted { AreCounted (run core.now dbr) (2 ^ 23) (length core.now)
+    requires counted { AreCounted (run core.now dbr) runs_of_process (length core.now)
         counts.now.starts.items counts.now.stops.items }
-    requires before { AreOpen (run core.now dbr) (2 ^ 23) a open_runs }
+    requires before { AreOpen (run core.now dbr) runs_of_process a open_runs }
     requires inside { a < length core.now }
     ensures value { result ≡ coverage core.now dbr a }
-    ensures after { AreOpen (run core.now dbr) (2 ^ 23) (a + 1) result }
+    ensures after { AreOpen (run core.now dbr) runs_of_process (a + 1) result }
 {
     let begin = count_at(&counts.starts, a);
     let end = count_at(&counts.stops, a);
@@ -73,7 +73,7 @@ fn is_on_segment(core: &Core, dbr: Dbr, a: u32, open_runs: u32) -> bool
 pub(crate) fn on_table(marks: &TableMarks, counts: &RunCounts, core: &Core, dbr: Dbr) -> Option<u32>
     requires marked { AreMarked (IsOf core.now dbr) (length core.now) marks.now.tables.items
         marks.now.least }
-    requires counted { AreCounted (run core.now dbr) (2 ^ 23) (length core.now)
+    requires counted { AreCounted (run core.now dbr) runs_of_process (length core.now)
         counts.now.starts.items counts.now.stops.items }
     ensures { Finds (IsTableAndSegment core.now dbr) result }
 {
@@ -89,7 +89,7 @@ pub(crate) fn on_table(marks: &TableMarks, counts: &RunCounts, core: &Core, dbr:
 
 /// The first core word on which two segment words lie.
 pub(crate) fn on_segment(counts: &RunCounts, core: &Core, dbr: Dbr) -> Option<u32>
-    requires counted { AreCounted (run core.now dbr) (2 ^ 23) (length core.now)
+    requires counted { AreCounted (run core.now dbr) runs_of_process (length core.now)
         counts.now.starts.items counts.now.stops.items }
     ensures { Finds (IsInTwoSegments core.now dbr) result }
 {
