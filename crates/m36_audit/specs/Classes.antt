@@ -1,10 +1,17 @@
 -- Equal descriptors of several processes: each has the number of the first descriptor with its
--- words. The descriptor of a segment of process k has number 2^15 * k + the segment.
+-- words. The numbers of the descriptors of a process, by its segments, follow those of the one before.
 use Rattle.std.specs.Prelude.{◌≡◌, ℕ, ◌+◌, ◌*◌, ◌/◌, ◌%◌, ◌^◌, ◌<◌, List, length}
 use Rattle.std.specs.Prelude.{◌==◌, cond, slice_get, slice_index, slice_set, Option, Some, None, Ok}
 use Rattle.m36_word.specs.Pairs.{number_of}
 use Rattle.m36_desc.specs.Fields.{DbrFields}
 use Rattle.m36_model.specs.Place.{wrapped, sdw_place}
+
+-- a process has so many of them, and all processes at most so many
+abbrev pub descriptors_of_process : ℕ
+descriptors_of_process = 2 ^ 15
+
+abbrev pub most_descriptors : ℕ
+most_descriptors = 2 ^ 18
 
 -- the two words of a segment's descriptor stand in core, and make this number
 pub record IsKey (core : List ℕ) (dbr : DbrFields) (seg key : ℕ) : Type 0 where
@@ -19,14 +26,14 @@ pub record IsKey (core : List ℕ) (dbr : DbrFields) (seg key : ℕ) : Type 0 wh
 -- the descriptor of this number has these words
 pub record KeyAt (core : List ℕ) (dbrs : List DbrFields) (i key : ℕ) : Type 0 where
   pub dbr : DbrFields
-  pub process : slice_get dbrs (i / 2 ^ 15) ≡ Some dbr
-  pub is : IsKey core dbr (i % 2 ^ 15) key
+  pub process : slice_get dbrs (i / descriptors_of_process) ≡ Some dbr
+  pub is : IsKey core dbr (i % descriptors_of_process) key
 
 -- the first n descriptors have the numbers of the first ones with their words
 pub record AreClasses (core : List ℕ) (dbrs : List DbrFields) (n : ℕ) (firsts : List ℕ)
     : Type 0 where
-  pub len : length firsts ≡ 2 ^ 15 * length dbrs
-  pub below : (i : ℕ) → slice_index firsts i < 2 ^ 18
+  pub len : length firsts ≡ descriptors_of_process * length dbrs
+  pub below : (i : ℕ) → slice_index firsts i < most_descriptors
   pub each : (i key : ℕ) → i < n → KeyAt core dbrs i key
       → KeyAt core dbrs (slice_index firsts i) key
   pub before : (i key : ℕ) → i < n → KeyAt core dbrs i key → slice_index firsts i < n
@@ -54,8 +61,8 @@ AreNoted old new firsts after (Some key) number =
 -- for each of them, and no others.
 pub record AreNotedSo (core : List ℕ) (dbrs : List DbrFields) (n : ℕ) (places : ℕ → Option ℕ)
     (firsts : List ℕ) : Type 0 where
-  pub len : length firsts ≡ 2 ^ 15 * length dbrs
-  pub below : (i : ℕ) → slice_index firsts i < 2 ^ 18
+  pub len : length firsts ≡ descriptors_of_process * length dbrs
+  pub below : (i : ℕ) → slice_index firsts i < most_descriptors
   pub listed : (i key : ℕ) → i < n → KeyAt core dbrs i key
       → places key ≡ Some (slice_index firsts i)
   pub known : (key f : ℕ) → places key ≡ Some f → KeyAt core dbrs f key

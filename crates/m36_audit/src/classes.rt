@@ -3,7 +3,7 @@
 ghost use Rattle.std.specs.Prelude.{ℕ, ◌≡◌, ◌+◌, ◌*◌, ◌<◌, ◌≤◌, ◌^◌, Some, IfOk, OnOk, MatchOption, length, slice_get, slice_set, slice_index, nat_eq};
 ghost use Rattle.std.specs.HashMap.{get};
 ghost use Rattle.m36_model.specs.JointAudit.{most_processes};
-ghost use Rattle.m36_audit.specs.Classes.{IsKey, KeyAt, AreClasses, AreNoted, AreNotedSo};
+ghost use Rattle.m36_audit.specs.Classes.{descriptors_of_process, IsKey, KeyAt, AreClasses, AreNoted, AreNotedSo};
 
 use crate::run::zeros;
 use m36_core::Core;
@@ -68,8 +68,8 @@ fn note_process(
 ) -> Result<(), NoMemory>
     requires process { k < length dbrs.now }
     requires few { length dbrs.now ≤ most_processes }
-    requires before { AreNotedSo core.now dbrs.now (2 ^ 15 * k) (get nat_eq places.old) firsts.old.items }
-    ensures { OnOk result (AreNotedSo core.now dbrs.now (2 ^ 15 * (k + 1)) (get nat_eq places.new) firsts.new.items) }
+    requires before { AreNotedSo core.now dbrs.now (descriptors_of_process * k) (get nat_eq places.old) firsts.old.items }
+    ensures { OnOk result (AreNotedSo core.now dbrs.now (descriptors_of_process * (k + 1)) (get nat_eq places.new) firsts.new.items) }
 {
     let dbr = dbrs[k];
     let first = k as u32 * SEGMENTS as u32;
@@ -82,7 +82,7 @@ fn note_process(
 /// For each descriptor of each process the number of the first one with its words. The error is want of memory alone.
 pub(crate) fn classes(alloc: Global, core: &Core, dbrs: &[Dbr]) -> Result<Vec<u32>, NoMemory>
     requires { length dbrs.now ≤ most_processes }
-    ensures { IfOk result (λ firsts. AreClasses core.now dbrs.now (2 ^ 15 * length dbrs.now) firsts.items) }
+    ensures { IfOk result (λ firsts. AreClasses core.now dbrs.now (descriptors_of_process * length dbrs.now) firsts.items) }
 {
     let mut firsts = zeros(alloc, dbrs.len() as u32 * SEGMENTS as u32)?;
     let mut places = HashMap::new(alloc);

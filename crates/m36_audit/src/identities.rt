@@ -5,6 +5,7 @@ ghost use Rattle.m36_desc.specs.Fields.{SdwFields};
 ghost use Rattle.m36_model.specs.JointAudit.{most_processes};
 ghost use Rattle.m36_model.specs.Place.{directory_at, sdw_place, core_sdw};
 ghost use Rattle.m36_audit.specs.Runs.{pages_of_segment};
+ghost use Rattle.m36_audit.specs.Classes.{descriptors_of_process, most_descriptors};
 ghost use Rattle.m36_audit.specs.Shares.{descriptor_told, directory_told, pages_told, page_table_told, live_told, segment_told, segments_told, IsSegmentCount};
 
 use crate::told::Told;
@@ -74,8 +75,8 @@ fn tell_live(told: &mut Told, found: Result<Sdw, Refusal>, number: u32)
 fn tell_segment(told: &mut Told, core: &Core, dbr: Dbr, firsts: &Vec<u32>, k: u32, seg: u16)
     requires seg { seg < 2 ^ 15 }
     requires process { k < most_processes }
-    requires there { 2 ^ 15 * k + seg < length firsts.now.items }
-    requires below { slice_index firsts.now.items (2 ^ 15 * k + seg) < 2 ^ 18 }
+    requires there { descriptors_of_process * k + seg < length firsts.now.items }
+    requires below { slice_index firsts.now.items (descriptors_of_process * k + seg) < most_descriptors }
     ensures { told.new.values.items
         ≡ segment_told core.now dbr firsts.now.items k seg told.old.values.items }
 {
@@ -89,8 +90,8 @@ fn tell_segment(told: &mut Told, core: &Core, dbr: Dbr, firsts: &Vec<u32>, k: u3
 #[tactic(auto, unfolding(crate::specs::Shares::segments_told))]
 pub(crate) fn tell_tables(told: &mut Told, core: &Core, dbr: Dbr, firsts: &Vec<u32>, k: u32)
     requires process { k < most_processes }
-    requires there { 2 ^ 15 * (k + 1) ≤ length firsts.now.items }
-    requires below { (i : ℕ) → slice_index firsts.now.items i < 2 ^ 18 }
+    requires there { descriptors_of_process * (k + 1) ≤ length firsts.now.items }
+    requires below { (i : ℕ) → slice_index firsts.now.items i < most_descriptors }
     ensures { (n : ℕ) × IsSegmentCount dbr n × (told.new.values.items
         ≡ segments_told core.now dbr firsts.now.items k n told.old.values.items) }
 {

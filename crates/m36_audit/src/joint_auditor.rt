@@ -8,7 +8,7 @@ ghost use Rattle.m36_model.specs.Core.{core_store, core_tables};
 ghost use Rattle.m36_model.specs.JointAudit.{AreFindingsFrom, AreJointFindings, IsJointlyAudited, most_processes};
 ghost use Rattle.m36_model.specs.JointIsolation.{JointlyIsolated};
 ghost use Rattle.m36_audit.specs.Findings.{pairs};
-ghost use Rattle.m36_audit.specs.Classes.{AreClasses};
+ghost use Rattle.m36_audit.specs.Classes.{descriptors_of_process, AreClasses};
 ghost use Rattle.m36_audit.specs.Joints.{all_found, AreShares};
 
 use crate::auditor::found;
@@ -75,7 +75,7 @@ fn judged(
     requires marks_len { length marks.old.tables.items ≡ length core.now }
     requires starts_len { length counts.old.starts.items ≡ length core.now }
     requires stops_len { length counts.old.stops.items ≡ length core.now }
-    requires classes { AreClasses core.now dbrs.now (2 ^ 15 * length dbrs.now) firsts.now.items }
+    requires classes { AreClasses core.now dbrs.now (descriptors_of_process * length dbrs.now) firsts.now.items }
     requires before { AreShares core.now dbrs.now firsts.now.items k
         shares.old.tables.values.items shares.old.segments.values.items
         shares.old.identities.values.items }
@@ -120,7 +120,7 @@ fn judged_all(
     requires marks_len { length marks.old.tables.items ≡ length core.now }
     requires starts_len { length counts.old.starts.items ≡ length core.now }
     requires stops_len { length counts.old.stops.items ≡ length core.now }
-    requires classes { AreClasses core.now dbrs.now (2 ^ 15 * length dbrs.now) firsts.now.items }
+    requires classes { AreClasses core.now dbrs.now (descriptors_of_process * length dbrs.now) firsts.now.items }
     requires before { AreShares core.now dbrs.now firsts.now.items 0
         shares.old.tables.values.items shares.old.segments.values.items
         shares.old.identities.values.items }
@@ -153,7 +153,7 @@ fn jointly_judged(
     requires marks_len { length marks.old.tables.items ≡ length core.now }
     requires starts_len { length counts.old.starts.items ≡ length core.now }
     requires stops_len { length counts.old.stops.items ≡ length core.now }
-    requires classes { AreClasses core.now dbrs.now (2 ^ 15 * length dbrs.now) firsts.now.items }
+    requires classes { AreClasses core.now dbrs.now (descriptors_of_process * length dbrs.now) firsts.now.items }
     requires before { AreShares core.now dbrs.now firsts.now.items 0
         shares.old.tables.values.items shares.old.segments.values.items
         shares.old.identities.values.items }

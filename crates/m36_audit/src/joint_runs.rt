@@ -5,6 +5,7 @@ ghost use Rattle.m36_desc.specs.Access.{in_order};
 ghost use Rattle.m36_model.specs.JointAudit.{most_processes};
 ghost use Rattle.m36_model.specs.Place.{core_sdw};
 ghost use Rattle.m36_audit.specs.Runs.{runs_of_segment, runs_of_process, run_by, AreCounted};
+ghost use Rattle.m36_audit.specs.Classes.{descriptors_of_process, most_descriptors};
 ghost use Rattle.m36_audit.specs.Shares.{joint_run, piece_count, starts_with, stops_with, HasRoom};
 
 use crate::live::live;
@@ -67,7 +68,7 @@ fn count_pieces(
     sdw: &Sdw,
 )
     requires few { length dbrs.now ≤ most_processes }
-    requires small { number < 2 ^ 18 }
+    requires small { number < most_descriptors }
     requires runs { (piece : ℕ) → piece < runs_of_segment
         → joint_run core.now dbrs.now firsts.now.items (runs_of_segment * number + piece)
         ≡ run_by sdw.now.unpaged core.now sdw.now piece }
@@ -93,12 +94,12 @@ fn count_first(
     requires few { length dbrs.now ≤ most_processes }
     requires process { k < length dbrs.now }
     requires seg { seg < 2 ^ 15 }
-    requires there { length firsts.now.items ≡ 2 ^ 15 * length dbrs.now }
+    requires there { length firsts.now.items ≡ descriptors_of_process * length dbrs.now }
     requires before { AreCounted (joint_run core.now dbrs.now firsts.now.items)
-        (runs_of_segment * (2 ^ 15 * k + seg)) (length core.now) counts.old.starts.items
+        (runs_of_segment * (descriptors_of_process * k + seg)) (length core.now) counts.old.starts.items
         counts.old.stops.items }
     ensures { AreCounted (joint_run core.now dbrs.now firsts.now.items)
-        (runs_of_segment * (2 ^ 15 * k + seg + 1)) (length core.now) counts.new.starts.items
+        (runs_of_segment * (descriptors_of_process * k + seg + 1)) (length core.now) counts.new.starts.items
         counts.new.stops.items }
 {
     let number = (1 << 15) * k as u32 + seg as u32;
@@ -119,12 +120,12 @@ fn count_first(
 fn count_process(counts: &mut RunCounts, core: &Core, dbrs: &[Dbr], firsts: &Vec<u32>, k: usize)
     requires few { length dbrs.now ≤ most_processes }
     requires process { k < length dbrs.now }
-    requires there { length firsts.now.items ≡ 2 ^ 15 * length dbrs.now }
+    requires there { length firsts.now.items ≡ descriptors_of_process * length dbrs.now }
     requires before { AreCounted (joint_run core.now dbrs.now firsts.now.items)
-        (runs_of_segment * (2 ^ 15 * k)) (length core.now) counts.old.starts.items
+        (runs_of_segment * (descriptors_of_process * k)) (length core.now) counts.old.starts.items
         counts.old.stops.items }
     ensures { AreCounted (joint_run core.now dbrs.now firsts.now.items)
-        (runs_of_segment * (2 ^ 15 * (k + 1))) (length core.now) counts.new.starts.items
+        (runs_of_segment * (descriptors_of_process * (k + 1))) (length core.now) counts.new.starts.items
         counts.new.stops.items }
 {
     for seg in 0..segment_count(dbrs[k]) {
@@ -135,7 +136,7 @@ fn count_process(counts: &mut RunCounts, core: &Core, dbrs: &[Dbr], firsts: &Vec
 /// Counts the runs of all processes. None is counted before.
 pub(crate) fn count_processes(counts: &mut RunCounts, core: &Core, dbrs: &[Dbr], firsts: &Vec<u32>)
     requires few { length dbrs.now ≤ most_processes }
-    requires there { length firsts.now.items ≡ 2 ^ 15 * length dbrs.now }
+    requires there { length firsts.now.items ≡ descriptors_of_process * length dbrs.now }
     requires before { AreCounted (joint_run core.now dbrs.now firsts.now.items) 0 (length core.now)
         counts.old.starts.items counts.old.stops.items }
     ensures { AreCounted (joint_run core.now dbrs.now firsts.now.items)

@@ -6,8 +6,8 @@ ghost use Rattle.std.specs.Prelude.{ℕ, ◌≡◌, ◌*◌, ◌<◌, ◌≤◌,
 ghost use Rattle.std.specs.Bool.{Decides};
 ghost use Rattle.m36_model.specs.Audit.{Finds};
 ghost use Rattle.m36_model.specs.JointAudit.{IsJointTable, IsJointSegment, most_processes};
-ghost use Rattle.m36_audit.specs.Runs.{AreCounted, AreOpen, count_below, covers, runs_of_process};
-ghost use Rattle.m36_audit.specs.Classes.{AreClasses};
+ghost use Rattle.m36_audit.specs.Runs.{runs_of_process, AreCounted, AreOpen, count_below, covers};
+ghost use Rattle.m36_audit.specs.Classes.{descriptors_of_process, AreClasses};
 ghost use Rattle.m36_audit.specs.Told.{AreTold, several};
 ghost use Rattle.m36_audit.specs.Shares.{joint_run, Below, Identified, TableOwned, SegmentOwned, is_between, joint_coverage};
 
@@ -35,7 +35,7 @@ pub(crate) fn on_joint_table(
     dbrs: &[Dbr],
     firsts: &Vec<u32>,
 ) -> Option<u32>
-    requires classes { AreClasses core.now dbrs.now (2 ^ 15 * length dbrs.now) firsts.now.items }
+    requires classes { AreClasses core.now dbrs.now (descriptors_of_process * length dbrs.now) firsts.now.items }
     requires tables { AreTold (Below (TableOwned core.now dbrs.now) (length dbrs.now))
         (length core.now) tables.now.values.items }
     requires segments { AreTold (Below (SegmentOwned core.now dbrs.now) (length dbrs.now))
@@ -95,7 +95,7 @@ pub(crate) fn on_joint_segment(
     firsts: &Vec<u32>,
 ) -> Option<u32>
     requires few { length dbrs.now ≤ most_processes }
-    requires classes { AreClasses core.now dbrs.now (2 ^ 15 * length dbrs.now) firsts.now.items }
+    requires classes { AreClasses core.now dbrs.now (descriptors_of_process * length dbrs.now) firsts.now.items }
     requires segments { AreTold (Below (SegmentOwned core.now dbrs.now) (length dbrs.now))
         (length core.now) segments.now.values.items }
     requires counted { AreCounted (joint_run core.now dbrs.now firsts.now.items)
