@@ -10,6 +10,7 @@ use Rattle.m36_model.specs.Place.{in_bounds}
 use Rattle.m36_model.specs.Audit.{Table, Sdws, Directory, Pages, IsOf, IsSegmentWord}
 use Rattle.m36_model.specs.declared.outcome.Refusal.{Refusal}
 use Rattle.m36_audit.specs.declared.run.Run.{Run}
+use Rattle.m36_audit.specs.Classes.{descriptors_of_process}
 use Rattle.m36_audit.specs.Runs.{runs_of_segment, runs_of_process, run, counted, count_below, covers}
 use Rattle.m36_audit.specs.Told.{several, joined, joined_at}
 
@@ -18,7 +19,7 @@ use Rattle.m36_audit.specs.Told.{several, joined, joined_at}
 abbrev pub identity : List ℕ → ℕ → Table → ℕ
 identity firsts k Sdws = 2 * k + 1
 identity firsts k Directory = 2 * k + 2
-identity firsts k (Pages seg) = 17 + slice_index firsts (2 ^ 15 * k + seg)
+identity firsts k (Pages seg) = 17 + slice_index firsts (descriptors_of_process * k + seg)
 
 -- The numbers told of the table words of process k: of one descriptor, ..
 abbrev pub descriptor_told : ℕ → Result ℕ Refusal → List ℕ → List ℕ
