@@ -25,7 +25,8 @@ use Rattle.alm_parse.specs.declared.refusal.Code.TheVariants.{E1}
 use Rattle.alm_parse.specs.declared.fault.AlmFault.{AlmFault}
 use Rattle.alm_tokens.specs.Bytes.{begins_symbol, is_character}
 use Rattle.alm_tokens.specs.Tokens.{slice_of, is_text, is_symbol, span_at}
-use Rattle.alm_parse.specs.Refusals.{refused, unless}
+use Rattle.m36_text.specs.Results.{unless}
+use Rattle.alm_parse.specs.Refusals.{refused}
 use Rattle.alm_tokens.specs.Expressions.{is_term_at, expression_pieces, term_of}
 use Rattle.alm_parse.specs.Bodies.{place_of, body_of, own_section, is_segment, is_entry, is_tail, is_body, body_pieces}
 use Rattle.alm_parse.specs.Operands.{body_span, tag_given, entry_given, operand_of, is_operand, operand_given}
