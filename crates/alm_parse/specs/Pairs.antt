@@ -16,9 +16,9 @@ use Rattle.alm_tokens.specs.Tokens.{slice_of}
 use Rattle.alm_tokens.specs.Expressions.{is_term_at, expression_pieces, term_of}
 use Rattle.alm_parse.specs.Members.{number_arg}
 use Rattle.alm_tokens.specs.Lists.{members, is_symbol_at, is_written_at, place_out}
+use Rattle.m36_text.specs.Results.{unless}
 use Rattle.alm_parse.specs.Refusals.{told, refused}
 use Rattle.alm_parse.specs.Bodies.{section_by}
-use Rattle.m36_text.specs.Results.{unless}
 
 -- a symbol and an expression
 abbrev pub value_by : List ℕ → ℕ → Piece → List Piece → Result (List Arg) Refusal

@@ -1,6 +1,6 @@
 -- The objects that are given by name; of two of one name the first counts.
-use Rattle.std.specs.Prelude.{ℕ, ◌≡◌, List, position, slice_get, is_some, if◌then◌else◌, Option}
-use Rattle.std.specs.Prelude.{option_and_then}
+use Rattle.std.specs.Prelude.{ℕ, ◌≡◌, List, position, slice_get, is_some, if◌then◌else◌}
+use Rattle.std.specs.Prelude.{Option, option_and_then}
 use Rattle.std.specs.Map.{lookup}
 use Rattle.indexmap.specs.IndexMap.{insert_entry}
 use Rattle.obj36_parts.specs.PartsFields.{PartsFields}

@@ -14,7 +14,7 @@ use Rattle.std.specs.Prelude.{if◌then◌else◌, List, [], ◌∷◌, ◌++◌
 use Rattle.std.specs.Prelude.{map, Option, Some, None, Result, Ok, Err}
 use Rattle.std.specs.List.{list_any}
 use Rattle.m36_text.specs.Texts.{is_text}
-use Rattle.m36_text.specs.Lines.{lines_of, last_of, first_met, first_told, those_read}
+use Rattle.m36_text.specs.Lines.{lines_of, those_read, last_of, first_met, first_told}
 use Rattle.m36_desc.specs.Access.{are_in_order}
 use Rattle.m36_dir.specs.declared.segment.SegKind.{SegKind}
 use Rattle.m36_dir.specs.declared.segment.SegKind.TheVariants.{Gate}

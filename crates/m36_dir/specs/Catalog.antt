@@ -147,7 +147,7 @@ stands_as dir name segment = nat_eq segment.dir dir && has_name name segment
 
 -- the segment of a directory that has a name, if there is one
 unfoldable pub found : CatalogFields → ℕ → List ℕ → Option ℕ
-found catalog dir name = position (stands_as dir name) catalog.segments
+found catalog dir name = position (λ s. stands_as dir name s) catalog.segments
 
 -- A segment may be read, executed and written, or not, as is given; all else stays.
 abbrev pub with_rights : SegmentFields → Bool → Bool → Bool → SegmentFields

@@ -3,16 +3,8 @@
 ghost use Rattle.std.specs.Prelude.{ℕ, ◌≡◌, ◌+◌, ◌<◌, ◌≤◌, ◌^◌, [], Some, count_by};
 ghost use Rattle.std.specs.List.{list_any};
 ghost use Rattle.m36_dir.specs.BootLine.{line_given};
-ghost use Rattle.m36_dir.specs.BootOrder.{is_frames, is_start, is_library, is_segment};
-ghost use Rattle.m36_dir.specs.BootOrder.{is_work_or_library, is_segment_or_name, may_follow};
-ghost use Rattle.m36_dir.specs.BootOrder.{is_in_order_behind, is_entry, entry, directory_behind};
-ghost use Rattle.m36_dir.specs.BootOrder.{directory_at_end, entries_of_line, entries_from};
-ghost use Rattle.m36_dir.specs.BootOrder.{has_entry, stands_twice, is_in_directory};
-ghost use Rattle.m36_dir.specs.BootOrder.{is_given_in_directory, has_directory, names_no_directory};
-ghost use Rattle.m36_dir.specs.BootOrder.{is_no_gate, brackets_in_order, has_wrong_brackets};
-ghost use Rattle.m36_dir.specs.BootOrder.{names_with, names_at_end, is_too_many, code_of, ends};
-ghost use Rattle.m36_dir.specs.BootOrder.{lines_given, all_lines};
-ghost use Rattle.m36_text.specs.Lines.{last_of, those_read};
+ghost use Rattle.m36_dir.specs.BootOrder.{is_frames, is_start, is_library, is_segment, is_work_or_library, is_segment_or_name, may_follow, is_in_order_behind, is_entry, entry, directory_behind, directory_at_end, entries_of_line, entries_from, has_entry, stands_twice, is_in_directory, is_given_in_directory, has_directory, names_no_directory, is_no_gate, brackets_in_order, has_wrong_brackets, names_with, names_at_end, is_too_many, code_of, ends, lines_given, all_lines};
+ghost use Rattle.m36_text.specs.Lines.{those_read, last_of};
 
 use crate::boot_code::BootCode;
 use crate::boot_line::{BootLine, SegmentLine};

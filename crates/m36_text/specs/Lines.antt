@@ -1,7 +1,7 @@
 -- The lines of a text, the words of a line, and the first line of which something is told; and a
 -- text as a line.
 use Rattle.std.specs.Prelude.{ℕ, ◌≡◌, ◌+◌, ◌-◌, ◌==◌, Bool, if◌then◌else◌, List, [], ◌∷◌, ◌++◌}
-use Rattle.std.specs.Prelude.{length, Option, Some, None, slice_get, unwrap_or, filter_map}
+use Rattle.std.specs.Prelude.{length, filter_map, Option, Some, None, slice_get, unwrap_or}
 use Rattle.std.specs.List.{slice_split, join_with_byte}
 
 -- a text as a line

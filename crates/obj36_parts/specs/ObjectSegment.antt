@@ -3,7 +3,7 @@
 use Rattle.std.specs.Prelude.{ℕ, zero, suc, ◌≡◌, ◌+◌, ◌-◌, ◌*◌, ◌%◌, ◌^◌, Bool, true, false, ◌&&◌}
 use Rattle.std.specs.Prelude.{◌||◌, not, nat_eq, nat_lt, nat_le, if◌then◌else◌, List, [], ◌∷◌, ◌++◌}
 use Rattle.std.specs.Prelude.{length, Option, Some, None}
-use Rattle.std.specs.List.{list_all}
+use Rattle.std.specs.List.{list_any, list_all}
 use Rattle.m36_text.specs.Once.{are_distinct_by}
 use Rattle.obj36_parts.specs.Fields.{DefFields, LinkFields, RelocFields}
 use Rattle.obj36_parts.specs.PartsFields.{PartsFields}
@@ -185,10 +185,6 @@ linkage_section p =
 -- where the first link stands in it
 abbrev pub first_link : PartsFields → ℕ
 first_link p = links_behind (length (inner_statics p))
-
--- where the static section is laid, seen from the linkage section, which has so many links
-abbrev pub statics_past : ℕ → ℕ
-statics_past links = head_words + 2 * links
 
 -- ---- the symbol section
 

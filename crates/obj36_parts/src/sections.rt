@@ -188,7 +188,7 @@ fn push_definitions(
     ensures { OnOk result
         (out.new
         ≡ out.old
-            ++ definition_words table.now.names table.now.base definitions.now definition_head) }
+        ++ definition_words table.now.names table.now.base definitions.now definition_head) }
 {
     let mut at = 2;
     for (i, definition) in definitions.iter().enumerate() {
