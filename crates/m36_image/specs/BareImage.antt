@@ -23,6 +23,7 @@ use Rattle.m36_word.specs.Field.{frames_reached}
 use Rattle.m36_text.specs.Texts.{is_text}
 use Rattle.m36_text.specs.Lines.{lines_of, line_at, first_told, by_words}
 use Rattle.m36_text.specs.Numbers.{octal_in, octal_word_in, segment_number_in, word_number_in}
+use Rattle.m36_text.specs.Numbers.{core_address_in}
 use Rattle.m36_text.specs.Reading.{number_read}
 use Rattle.m36_text.specs.Results.{unless}
 use Rattle.m36_text.specs.declared.reading.NumberFault.{NumberFault}
@@ -94,7 +95,7 @@ words_given texts = one_to 8 octal_word_in texts
 abbrev pub at_words : List (List ℕ) → Option PlacedWords
 at_words (name ∷ address ∷ texts) =
     if is_text (codes "at") name
-    then at_read (octal_in 8 address) (words_given texts) else None
+    then at_read (core_address_in address) (words_given texts) else None
 at_words _ = None
 
 abbrev pub at_line : Option (List ℕ) → Option PlacedWords

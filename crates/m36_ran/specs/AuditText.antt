@@ -2,19 +2,17 @@
 -- with its condition and its place in octal.
 use Rattle.std.specs.Prelude.{ℕ, Bool, ◌||◌, ◌==◌, List, [], ◌∷◌, ◌++◌, codes, if◌then◌else◌}
 use Rattle.m36_outside.specs.Passing.{joined}
-use Rattle.m36_text.specs.Digits.{octal_text, decimal_text}
+use Rattle.m36_text.specs.Digits.{octal_text, decimal_text, segment_digits, core_word_digits}
 use Rattle.m36_text.specs.Lines.{as_line}
 
 -- The first, the fifth and the sixth condition are broken by a segment, the others by a core word.
 abbrev pub is_of_segment : ℕ → Bool
 is_of_segment condition = condition == 1 || (condition == 5 || condition == 6)
 
--- A segment is written in five digits, and a core word in eight.
-abbrev pub core_word_digits : ℕ
-core_word_digits = 8
-
+-- in how many digits the place of a finding is written: the number of a segment, or the address of
+-- a core word
 abbrev pub place_digits : ℕ → ℕ
-place_digits condition = if is_of_segment condition then 5 else core_word_digits
+place_digits condition = if is_of_segment condition then segment_digits else core_word_digits
 
 -- a condition and its place of so many digits, as in `3 00000100`
 abbrev pub place_text : ℕ → ℕ → ℕ → List ℕ

@@ -4,10 +4,10 @@
 -- `audit no J2 00000060`.
 use Rattle.std.specs.Prelude.{ℕ, List, [], ◌∷◌, ◌++◌, codes, Option, Some, None}
 use Rattle.m36_outside.specs.Passing.{joined}
-use Rattle.m36_text.specs.Digits.{decimal_text}
+use Rattle.m36_text.specs.Digits.{decimal_text, core_word_digits}
 use Rattle.m36_text.specs.Lines.{as_line}
 use Rattle.m36_model.specs.JointAudit.{JointFound}
-use Rattle.m36_ran.specs.AuditText.{core_word_digits, place_text, found_text, yes_or}
+use Rattle.m36_ran.specs.AuditText.{place_text, found_text, yes_or}
 
 -- of a process
 unfoldable pub process_line : ℕ → ℕ → ℕ → List ℕ

@@ -172,8 +172,8 @@ ends_put Holds d Unread result talk f s s' p = inr (record {
   given = d;
   came = refl;
   fails = record {
-    lines = p.lines;
-    holds = p.holds;
+    due = answer_with p.lines (session_status (Err fault.ReadFault) stdin_name);
+    is = record { lines = p.lines; holds = p.holds; answer = refl };
     whole = record { set = none_set f [] refl; put = record { text = p.puts.text; pieces = p.puts.pieces; faults = p.puts.faults } };
   };
   read_faults = refl;
@@ -195,8 +195,8 @@ ends_put Holds d Starved result talk f s s' (inr p) = inr (record {
   given = d;
   came = refl;
   wants = inr (record {
-    lines = p.lines;
-    holds = p.holds;
+    due = answer_with p.lines (session_status (Err fault.NoMemory) stdin_name);
+    is = record { lines = p.lines; holds = p.holds; answer = refl };
     whole = record { set = none_set f [] refl; put = record { text = p.puts.text; pieces = p.puts.pieces; faults = p.puts.faults } };
   });
   read_faults = refl;

@@ -13,7 +13,7 @@ use Rattle.m36_reading.specs.Asking.{Asked, Came, Comes}
 use Rattle.m36_reading.specs.Puts.{IsNotPut}
 use Rattle.m36_reading.specs.Outside.{Outside, IsIdle}
 use Rattle.m36_reading.specs.Ends.{End, Answered, Cut, Unread, Starved, Unasked}
-use Rattle.m36_reading.specs.Doing.{Kind, IsWhole}
+use Rattle.m36_reading.specs.Doing.{Kind, IsWrittenBy}
 use Rattle.m36_ran.specs.Ran.{state_reads}
 use Rattle.m36_booted.specs.Folder.{FolderFields, folder_reads}
 use Rattle.m36_debug.specs.declared.fault.SessionFault.{SessionFault}
@@ -62,11 +62,9 @@ IsSessionBegun Holds due =
     IsAnswerOf Holds (Err fault.WriteFault) (session_status (Err fault.WriteFault) stdin_name) due
 
 -- What is said of a session that ended so is written whole; the status is not looked at here.
-pub record IsWritten (Holds : Told) (ended : Result (Unit {0}) SessionFault) (old new : Outside)
-    : Type 0 where
-  pub lines : List (List ℕ)
-  pub holds : Holds ended lines
-  pub whole : IsWhole (answer_with lines (session_status ended stdin_name)) old new
+abbrev pub IsWritten : Told → Result (Unit {0}) SessionFault → Outside → Outside → Type 0
+IsWritten Holds ended old new =
+    IsWrittenBy (IsAnswerOf Holds ended (session_status ended stdin_name)) old new
 
 -- Memory is wanted before a session, of which nothing is taken or written then; or in it.
 pub record IsNotHeld (talk : Talk) (old new : Outside) : Type 0 where

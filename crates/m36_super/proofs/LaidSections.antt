@@ -1,4 +1,4 @@
--- A section that a link service lays is the one that stands in the image of a start.
+-- The first section of a ring that a link service lays is as that in the image of a start.
 use Rattle.std.proofs.Common.{◌≡◌, refl, sym, ◌∙◌, ap, subst, inl, inr, arith}
 use Rattle.std.proofs.lemmas.Bool.{eqb-true, cases_lt}
 use Rattle.std.proofs.lemmas.List.{length-replicate, get_or_past, get_or_append_left, get_or-append_right}

@@ -67,7 +67,7 @@ pub record IsStep (frames : ℕ) (before : Booted) (turn : Turn) (after : Booted
   pub present : IsPresent (told_of last).outcome
   pub takes : Takes last before turn after
 
--- once an LDBR has been executed no page is served
+-- Before an LDBR has been executed pages are served, and from then on none.
 abbrev pub IsStepTurn : Bool → ℕ → Booted → Turn → Booted → Type 0
 IsStepTurn false frames before turn after = IsStep frames before turn after
 IsStepTurn true frames before turn after = Takes before.state before turn after

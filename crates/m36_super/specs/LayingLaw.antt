@@ -1,4 +1,4 @@
--- A section that a link service lays is the one that stands in the image of a start.
+-- The first section of a ring that a link service lays is as that in the image of a start.
 use Rattle.std.specs.Prelude.{◌≡◌, ◌≢◌, ℕ, ◌<◌, Some, slice_index}
 use Rattle.m36_model.specs.Flat.{Flat, flat_put}
 use Rattle.m36_link.specs.Fields.{LayFields}

@@ -9,8 +9,8 @@
 //! The laws say how the booted run and the flat run, which has no pages and is a function of the catalog and the files,
 //! belong together. Until an LDBR is executed each turn that executes no ABSA and wants no memory is the turn of the
 //! flat run, one that executes ABSA stands where the flat run executes one too, the core stays that of the booted image,
-//! and the audit conditions are kept, services included. A section that a link service lays stands as one that the image of
-//! a start has.
+//! and the audit conditions are kept, services included. The first section of a ring that a link service lays stands, among
+//! zeros, as the section that the image of a start has.
 //!
 //! `specs/` says what the next turn of a run may be (`BootedRun`), what a service does (`Services`), and what the flat
 //! run is (`FlatRun`); the booted image is that of `m36_boot`.
@@ -54,8 +54,8 @@ pub fn law_paging()
     ensures step { StepManagedLaw }
 {}
 
-/// The first section of a ring that a link service lays stands in the linkage segment as the image of a start has it there,
-/// with its word of the linkage offset table, and no word of another segment changes.
+/// The first section of a ring that a link service lays among zeros stands in the linkage segment as the image of a start
+/// has it there, with its word of the linkage offset table, and no word of another segment changes.
 pub fn law_laying()
     ensures { LayingLaw }
 {}

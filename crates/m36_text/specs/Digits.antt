@@ -27,7 +27,8 @@ digit_of c = c - zero_character
 unfoldable pub octal_text : ℕ → ℕ → List ℕ
 octal_text places v = map character (digits 8 places v)
 
--- how many octal digits a word has, how many a half of it, and how many the number of a segment
+-- how many octal digits a word has, how many a half of it, how many the number of a segment, and
+-- how many the address of a core word
 abbrev pub word_digits : ℕ
 word_digits = 12
 
@@ -36,6 +37,9 @@ half_digits = 6
 
 abbrev pub segment_digits : ℕ
 segment_digits = 5
+
+abbrev pub core_word_digits : ℕ
+core_word_digits = 8
 
 -- a word in octal, and a half of one or another number of 18 bits
 abbrev pub word_text : ℕ → List ℕ

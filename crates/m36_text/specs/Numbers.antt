@@ -3,6 +3,7 @@ use Rattle.std.specs.Prelude.{ℕ, ◌-◌, ◌^◌, Bool, ◌||◌, not, ◌==�
 use Rattle.std.specs.Prelude.{length, slice_index, Option, Some, None}
 use Rattle.std.specs.Result.{result_ok}
 use Rattle.m36_text.specs.Digits.{zero_character, word_digits, half_digits, segment_digits}
+use Rattle.m36_text.specs.Digits.{core_word_digits}
 use Rattle.m36_text.specs.Reading.{number_read}
 
 -- exactly so many octal digits
@@ -10,7 +11,8 @@ unfoldable pub octal_in : ℕ → List ℕ → Option ℕ
 octal_in places text =
     if length text == places then result_ok (number_read 8 text (8 ^ places - 1)) else None
 
--- exactly the digits of a word, of the number of a segment, and of the number of a word in it
+-- exactly the digits of a word, of the number of a segment, of the number of a word in it, and of
+-- the address of a core word
 abbrev pub octal_word_in : List ℕ → Option ℕ
 octal_word_in = octal_in word_digits
 
@@ -19,6 +21,9 @@ segment_number_in = octal_in segment_digits
 
 abbrev pub word_number_in : List ℕ → Option ℕ
 word_number_in = octal_in half_digits
+
+abbrev pub core_address_in : List ℕ → Option ℕ
+core_address_in = octal_in core_word_digits
 
 abbrev pub at_least : ℕ → Option ℕ → Option ℕ
 at_least least None = None

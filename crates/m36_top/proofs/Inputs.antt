@@ -102,8 +102,8 @@ fails_rose talk (Told told) old new f = absurd f
 fails_rose talk (Image image) old new f = absurd f
 fails_rose talk (Folder folder) old new f = absurd f
 fails_rose talk (Schedule s) old new f = absurd f
-fails_rose talk (ImageSession state) old new f = f.holds.session.read_cause
-fails_rose talk (FolderSession given) old new f = f.holds.held.session.read_cause
+fails_rose talk (ImageSession state) old new f = f.is.holds.session.read_cause
+fails_rose talk (FolderSession given) old new f = f.is.holds.held.session.read_cause
 fails_rose talk (Made sets) old new f = absurd f
 
 folder_rose : (takes : Bool) (talk : Talk) (old new : Outside) → Rose old.folder.read_faults new.folder.read_faults → ReadRose takes talk old new

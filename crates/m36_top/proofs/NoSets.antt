@@ -263,7 +263,8 @@ idle_keeps old new idle = idle.kept
 
 session_keeps : (Holds : Holding) (talk : Talk) (old new : Outside) → SessionWants Holds talk old new → IsKept old.folder new.folder
 session_keeps Holds talk old new (inl w) = idle_keeps old new w.idle
-session_keeps Holds talk old new (inr w) = unset_keeps [] old new refl w.whole.set.files w.whole.set.wrote
+session_keeps Holds talk old new (inr w) =
+    unset_keeps w.due.sets old new (ap (λ (d : Answer). d.sets) w.is.answer) w.whole.set.files w.whole.set.wrote
 
 wants_keeps : (talk : Talk) (d : Due) (old new : Outside) → NoSets talk (Ok d) → WantsOf talk d old new → IsKept old.folder new.folder
 wants_keeps talk (Told told) old new none w = absurd (empty_parts w.set.before w.set.next w.set.others (sym (none.0 (told_answer told) refl) ∙ w.set.are))
@@ -285,8 +286,8 @@ fails_keeps talk (Told told) old new f = absurd f
 fails_keeps talk (Image image) old new f = absurd f
 fails_keeps talk (Folder folder) old new f = absurd f
 fails_keeps talk (Schedule s) old new f = absurd f
-fails_keeps talk (ImageSession state) old new f = unset_keeps [] old new refl f.whole.set.files f.whole.set.wrote
-fails_keeps talk (FolderSession given) old new f = unset_keeps [] old new refl f.whole.set.files f.whole.set.wrote
+fails_keeps talk (ImageSession state) old new f = unset_keeps f.due.sets old new (ap (λ (d : Answer). d.sets) f.is.answer) f.whole.set.files f.whole.set.wrote
+fails_keeps talk (FolderSession given) old new f = unset_keeps f.due.sets old new (ap (λ (d : Answer). d.sets) f.is.answer) f.whole.set.files f.whole.set.wrote
 fails_keeps talk (Made sets) old new f = absurd f
 
 keeps_by :
