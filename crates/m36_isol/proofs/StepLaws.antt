@@ -121,11 +121,7 @@ module _ {S : Type 0} (o : Store S) (T : Tables) (g : RegsFields) (B : Backed o 
       call k =
           let stack = stack_parts B.law.sdws k.sdw.r2 (8 * g.dbr.stack + k.sdw.r2) k.stack in
           record {
-            word = k.word;
-            fetched = k.fetched;
-            number = k.number;
-            called = k.called;
-            next = k.next;
+            executes = record { word = k.word; fetched = k.fetched; number = k.number; does = k.called; next = k.next };
             final = k.final;
             formed = k.formed;
             target = k.target;

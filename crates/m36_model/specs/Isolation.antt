@@ -3,6 +3,7 @@
 use Rattle.std.specs.Prelude.{◌≡◌, ℕ, ◌<◌, ◌≤◌, true, false, List, [], ◌∷◌, map, length}
 use Rattle.std.specs.Prelude.{slice_get, Some, Ok}
 use Rattle.m36_desc.specs.Fields.{SdwFields}
+use Rattle.m36_inst.specs.declared.effect.Effect.{Effect}
 use Rattle.m36_inst.specs.declared.effect.Effect.TheVariants as effect
 use Rattle.m36_model.specs.Fields.{FinalFields}
 use Rattle.m36_model.specs.Pointers.{pointer}
@@ -17,16 +18,20 @@ use Rattle.m36_model.specs.StoreLaw.{Each}
 use Rattle.m36_model.specs.declared.outcome.Outcome.TheVariants.{Next}
 use Rattle.m36_model.specs.declared.record.StepRecord.{StepRecord}
 
+-- the step was this instruction, and completed
+pub record Executes (instruction : Effect) (e : StepRecord) : Type 0 where
+  pub word : ℕ
+  pub fetched : e.word ≡ Some word
+  pub number : ℕ
+  pub does : decode word ≡ Some (instruction, number)
+  pub next : e.outcome ≡ Next
+
 -- A gate call out of ring r: a CALL6 that went to a word below the call limiter of a live gate,
 -- whose second bracket is below r and whose third is not. The new ring is the second bracket, and
 -- PR7 is the base of a stack of the new ring.
 pub record IsGateCall {S : Type 0} (o : Store S) (s : State S) (r : ℕ)
     (e : StepRecord) : Type 0 where
-  pub word : ℕ
-  pub fetched : e.word ≡ Some word
-  pub number : ℕ
-  pub called : decode word ≡ Some (effect.Call6, number)
-  pub next : e.outcome ≡ Next
+  pub executes : Executes effect.Call6 e
   pub final : FinalFields
   pub formed : e.at ≡ Some final
   pub target : (e.after.ppr.psr ≡ final.at.seg) × (e.after.ppr.ic ≡ final.at.word)

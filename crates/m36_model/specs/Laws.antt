@@ -11,16 +11,15 @@ use Rattle.m36_model.specs.Results.{OperandFields, EffectFields}
 use Rattle.m36_model.specs.Effect.{exec}
 use Rattle.m36_model.specs.WordsPut.{words_written}
 use Rattle.m36_model.specs.CallReturn.{stack_pointer}
-use Rattle.m36_model.specs.Step.{decode, record_of, state_after}
+use Rattle.m36_model.specs.Step.{record_of, state_after}
 use Rattle.m36_model.specs.Store.{Store, State, Tables, place}
 use Rattle.m36_model.specs.Core.{core_store, core_tables}
 use Rattle.m36_model.specs.Sight.{InSight, InReach, Unreached, content, tables_of}
 use Rattle.m36_model.specs.Agree.{Agree}
 use Rattle.m36_model.specs.Audit.{IsAudited, IsSegmentWord}
 use Rattle.m36_model.specs.CoreLaw.{IsButMarked}
-use Rattle.m36_model.specs.Isolation.{IsGateCall, HasPointers}
+use Rattle.m36_model.specs.Isolation.{Executes, IsGateCall, HasPointers}
 use Rattle.m36_model.specs.StoreLaw.{Each}
-use Rattle.m36_model.specs.declared.outcome.Outcome.TheVariants.{Next}
 use Rattle.m36_model.specs.declared.place.Kind.{Kind}
 use Rattle.m36_model.specs.declared.place.Kind.TheVariants as reference
 use Rattle.m36_model.specs.declared.place.Reference.{Reference}
@@ -135,14 +134,6 @@ pub record IsAlike {S : Type 0} (o : Store S) (T : Tables) (r : ℕ) (a b : Stat
 abbrev pub AgreeLaw : {S : Type 0} → Store S → Tables → Type 0
 AgreeLaw {S} o T =
     (r : ℕ) (a b : State S) → 1 ≤ r → IsAbove o T r a → Agree o r a b → IsAlike o T r a b
-
--- the step was this instruction, and completed
-pub record Executes (instruction : Effect) (e : StepRecord) : Type 0 where
-  pub word : ℕ
-  pub fetched : e.word ≡ Some word
-  pub number : ℕ
-  pub does : decode word ≡ Some (instruction, number)
-  pub next : e.outcome ≡ Next
 
 abbrev pub ExecutesLdbr : StepRecord → Type 0
 ExecutesLdbr e = Executes effect.Ldbr e

@@ -8,7 +8,8 @@ use Rattle.m36_model.specs.Store.{State}
 use Rattle.m36_model.specs.Core.{core_store}
 use Rattle.m36_model.specs.Step.{record_of, state_after}
 use Rattle.m36_model.specs.Audit.{IsAudited}
-use Rattle.m36_model.specs.Laws.{Executes, ExecutesLdbr}
+use Rattle.m36_model.specs.Laws.{ExecutesLdbr}
+use Rattle.m36_model.specs.Isolation.{Executes}
 use Rattle.m36_model.specs.Flat.{Flat, flat_store, IsFlatAudited}
 use Rattle.m36_model.specs.BootedCore.{booted_dbr, descriptor_words, IsLaid, IsPage, page_word}
 use Rattle.m36_model.specs.Residence.{Paged, flat_of, Lacks, IsMoved}

@@ -53,9 +53,12 @@ console_limit = 256
 abbrev pub asks_too_much : RegsFields → Bool
 asks_too_much g = nat_lt console_limit g.a
 
--- how many words have so many characters, four in each
+-- in how many words so many characters stand, four in each, and the most of them
+abbrev pub console_word_count : ℕ → ℕ
+console_word_count count = (count + 3) / 4
+
 abbrev pub console_word_limit : ℕ
-console_word_limit = console_limit / 4
+console_word_limit = console_word_count console_limit
 
 -- a character below octal 200 is written as that byte, and any other as ?
 abbrev pub written_character : ℕ → ℕ
@@ -90,4 +93,4 @@ cut_to n (Ok characters) = Ok (take n characters)
 
 -- what the console writes, or the first fault of its reading
 unfoldable pub console_text : RegsFields → Flat → Result (List ℕ) Fault
-console_text g f = cut_to g.a (console_words g f 0 ((g.a + 3) / 4))
+console_text g f = cut_to g.a (console_words g f 0 (console_word_count g.a))
